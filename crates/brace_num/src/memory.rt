@@ -1,0 +1,17 @@
+use std::alloc::{AllocError, AllocFailed};
+
+/// The allocator refused memory.
+#[derive(Debug, Clone, Copy, PartialEq, Eq, Drop)]
+pub struct NoMemory;
+
+impl From<AllocError> for NoMemory {
+    fn from(_: AllocError) -> NoMemory {
+        NoMemory
+    }
+}
+
+impl<T: Drop> From<AllocFailed<T>> for NoMemory {
+    fn from(_: AllocFailed<T>) -> NoMemory {
+        NoMemory
+    }
+}

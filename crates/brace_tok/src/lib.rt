@@ -1,0 +1,6 @@
+//! The tokens of a script.
+#![tactic(auto)]
+
+mod kinds;
+
+pub use kinds::{TokKind, Token};
