@@ -1,5 +1,5 @@
 -- What the query of an agent says, and where it faults.
-use Rattle.std.specs.Prelude.{ℕ, ℤ, List, [], ◌∷◌, ◌++◌, map, filter, flat_map, Bool, true, false, is_none, if◌then◌else◌, Option, Some, None, Result, Ok, Err, option_map, slice_set, replicate, ◌==◌, ◌&&◌, ◌+◌, sum}
+use Rattle.std.specs.Prelude.{ℕ, ℤ, List, [], ◌∷◌, ◌++◌, map, filter, flat_map, Bool, true, false, is_none, if◌then◌else◌, Option, Some, None, Ok, Err, option_map, slice_set, replicate, ◌==◌, ◌&&◌, ◌+◌, sum}
 use Rattle.brace_model.specs.declared.program.Value.{Value}
 use Rattle.brace_model.specs.declared.program.Value.TheVariants.{Flag}
 use Rattle.brace_model.specs.declared.program.Class.{Class}

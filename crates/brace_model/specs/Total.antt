@@ -1,5 +1,5 @@
 -- The total of an effect: the fold of its combinator over all values said to it.
-use Rattle.std.specs.Prelude.{ℕ, suc, ℤ, pos, negsuc, ◌+ℤ◌, List, [], ◌∷◌, map, filter, fold, Bool, ◌==◌, ◌&&◌}
+use Rattle.std.specs.Prelude.{ℕ, suc, ℤ, pos, negsuc, ◌+ℤ◌, List, [], ◌∷◌, map, filter, fold, ◌==◌, ◌&&◌}
 use Rattle.std.specs.Int.{int_min, int_max}
 use Rattle.brace_model.specs.declared.program.Comb.{Comb}
 use Rattle.brace_model.specs.declared.program.Comb.TheVariants.{Sum, Min, Max, Count, Or}

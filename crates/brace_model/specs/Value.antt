@@ -1,8 +1,7 @@
 -- What an expression is worth: a value, or the first fault met from left to right.
-use Rattle.std.specs.Prelude.{ℕ, ℤ, pos, List, Bool, true, false, not, int_lt, int_le, Option, Some, None, Result, Ok, Err, unwrap_or, option_map, slice_index_or, if◌then◌else◌}
+use Rattle.std.specs.Prelude.{ℕ, ℤ, pos, List, true, false, not, int_lt, int_le, Option, Some, None, Result, Ok, Err, unwrap_or, slice_index_or}
 use Rattle.std.specs.Ordering.{int_eq}
 use Rattle.std.specs.Int.{int_min, int_max}
-use Rattle.std.specs.declared.option.Option.TheVariants as maybe
 use Rattle.brace_num.specs.declared.kinds.Kind.{Kind}
 use Rattle.brace_num.specs.Exact.{fitting, exact_add, exact_sub, exact_neg, exact_abs, exact_int_mul, exact_int_div, exact_int_rem, exact_fixed_mul, exact_fixed_div, exact_sqrt, exact_to_fixed, exact_trunc}
 use Rattle.brace_draw.specs.Draw.{draw_value}

@@ -1,5 +1,5 @@
 -- A world: agents by rising id, each with its states; and which agents see which.
-use Rattle.std.specs.Prelude.{List, ℕ, map, slice_get, unwrap_or, option_map, ℤ, pos, nat_abs, ◌-ℤ◌, int_le, Bool, true, false, not, ◌&&◌, ◌==◌, if◌then◌else◌, Option, Some, None}
+use Rattle.std.specs.Prelude.{List, ℕ, map, slice_get, unwrap_or, ℤ, pos, nat_abs, ◌-ℤ◌, int_le, Bool, false, not, ◌&&◌, ◌==◌, if◌then◌else◌, Option, Some}
 use Rattle.std.specs.List.Sorted.{IsStrictlyIncreasing}
 use Rattle.brace_model.specs.declared.program.Value.{Value}
 use Rattle.brace_model.specs.declared.program.Value.TheVariants.{Int, Fixed, Flag}

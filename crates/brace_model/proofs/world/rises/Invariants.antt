@@ -1,4 +1,4 @@
-use Rattle.std.proofs.Common.{◌≡◌, ℕ, ◌+◌, ◌<◌, get_or}
+use Rattle.std.proofs.Common.{ℕ, ◌+◌, ◌<◌, get_or}
 use Rattle.brace_model.specs.declared.world.Agent.{Agent}
 use Rattle.brace_model.proofs.world.rises.Given as goal
 
