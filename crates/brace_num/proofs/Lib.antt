@@ -1,3 +1,4 @@
 pub mod Exactness
 pub mod Printings
 pub mod Readings
+pub mod Spellings

@@ -4,7 +4,7 @@ use Rattle.std.specs.Fmt.{decimal}
 use Rattle.std.proofs.lemmas.List.{take-take, drop-replicate, take_all, length-replicate}
 use Rattle.std.proofs.lemmas.Fmt.{length-decimal-le}
 use Rattle.std.proofs.Math.Seq.{take-append_seam}
-use Rattle.brace_num.specs.Printing.{six_digits}
+use Rattle.brace_num.specs.Spelling.{six_digits}
 
 -- what begins with a list begins with the first part of it
 pub starts_more : (a b r : List ℕ) → take (length (a ++ b)) r ≡ a ++ b → take (length a) r ≡ a

@@ -1,6 +1,8 @@
--- What texts spell numbers: a relation between bytes and numbers, and the reading of a text that goes with it.
+-- What texts spell numbers: a relation between bytes and numbers, the reading of a text that goes with it,
+-- and the one canonical spelling of each number.
 -- A fixed number is a whole number of millionths. Byte 45 is the minus sign, byte 46 the point, and 48 to 57 are the digits.
-use Rattle.std.specs.Prelude.{◌≡◌, ℕ, ◌+◌, ◌-◌, ◌*◌, ◌^◌, ◌<◌, ◌≤◌, nat_lt, nat_le, ◌==◌, Bool, true, false, ◌&&◌, if◌then◌else◌, List, ◌∷◌, ◌++◌, length, take, drop, slice_index, ℤ, pos, neg_ℤ, Option, Some, None, IsTrue, position}
+use Rattle.std.specs.Prelude.{◌≡◌, ℕ, ◌+◌, ◌-◌, ◌*◌, ◌/◌, ◌%◌, ◌^◌, ◌<◌, ◌≤◌, nat_lt, nat_le, ◌==◌, Bool, true, false, ◌&&◌, if◌then◌else◌, List, [], ◌∷◌, ◌++◌, length, take, drop, replicate, slice_index, ℤ, pos, negsuc, neg_ℤ, unsigned_abs, Option, Some, None, IsTrue, position}
+use Rattle.std.specs.Fmt.{decimal, signed_decimal}
 use Rattle.std.specs.Str.{all_ascii_digits}
 use Rattle.std.specs.Str.Parse.{IsNumeral, digits_value}
 use Rattle.brace_num.specs.Exact.{fits}
@@ -81,3 +83,24 @@ int_of text = signed_of count_of text
 -- the millionths of the fixed number that the text spells, if any
 abbrev pub fixed_of : List ℕ → Option ℤ
 fixed_of text = signed_of decimals_of text
+
+-- a count: its digits, with no leading zero but for 0 itself
+abbrev pub canonical_count : ℕ → List ℕ
+canonical_count n = decimal n
+
+-- an int: a minus sign where it is negative, and its digits
+abbrev pub canonical_int : ℤ → List ℕ
+canonical_int z = signed_decimal z
+
+-- a minus sign where the number is negative
+abbrev pub sign_of : ℤ → List ℕ
+sign_of (pos n) = []
+sign_of (negsuc n) = 45 ∷ []
+
+-- the digits of a number below a million, with zeros in front up to six
+abbrev pub six_digits : ℕ → List ℕ
+six_digits n = replicate (6 - length (decimal n)) 48 ++ decimal n
+
+-- a number of millionths: its sign, the digits of its whole part, a point, and six digits
+abbrev pub canonical_fixed : ℤ → List ℕ
+canonical_fixed z = sign_of z ++ decimal (unsigned_abs z / 1000000) ++ 46 ∷ six_digits (unsigned_abs z % 1000000)

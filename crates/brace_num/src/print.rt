@@ -1,5 +1,5 @@
 ghost use Rattle.std.specs.Prelude.{◌≡◌, ◌++◌, OnOk, OnErr, ◌<◌, length, take};
-ghost use Rattle.brace_num.specs.Printing.{canonical_count, canonical_int, canonical_fixed, sign_of, six_digits};
+ghost use Rattle.brace_num.specs.Spelling.{canonical_count, canonical_int, canonical_fixed, sign_of, six_digits};
 
 use crate::NoMemory;
 use itoa::Buffer;
