@@ -4,6 +4,7 @@
 mod boxed;
 mod exact;
 mod kinds;
+pub mod laws;
 mod list;
 mod memory;
 mod print;

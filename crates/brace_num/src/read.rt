@@ -1,5 +1,36 @@
-ghost use Rattle.std.specs.Prelude.{◌≡◌, ◌==◌, position, slice_index};
-ghost use Rattle.brace_num.specs.Spelling.{count_of, part_of, joined, decimals_of, signed_fitting, int_of, fixed_of};
+ghost use Rattle.std.specs.Prelude.{◌≡◌, ◌==◌, ◌↔◌, ℕ, ℤ, position, slice_index};
+ghost use Rattle.brace_num.specs.Spelling.{count_of, part_of, joined, decimals_of, signed_fitting, int_of, fixed_of, SpellsCount, SpellsInt, SpellsFixed};
+
+/// The number that decimal digits spell: one digit or more, at most 2^64-1.
+///
+/// `None` exactly where the text spells none.
+pub fn read_count(text: &[u8]) -> Option<u64>
+    ensures reading { result ≡ count_of text.now }
+    ensures spelled { (v : ℕ) → SpellsCount text.now v ↔ result ≡ Some v }
+{
+    unsigned(text)
+}
+
+/// The int that the text spells: perhaps a minus sign, and digits, within 64 signed bits.
+///
+/// `None` exactly where the text spells none.
+pub fn read_int(text: &[u8]) -> Option<i64>
+    ensures reading { result ≡ int_of text.now }
+    ensures spelled { (v : ℤ) → SpellsInt text.now v ↔ result ≡ Some v }
+{
+    signed_int(text)
+}
+
+/// The millionths of the fixed number that the text spells: perhaps a minus sign, digits, and perhaps
+/// a point and one to six digits, within 64 signed bits of millionths.
+///
+/// `None` exactly where the text spells none.
+pub fn read_fixed(text: &[u8]) -> Option<i64>
+    ensures reading { result ≡ fixed_of text.now }
+    ensures spelled { (v : ℤ) → SpellsFixed text.now v ↔ result ≡ Some v }
+{
+    signed_fixed(text)
+}
 
 // std's `parse` takes a plus sign, which no number here has.
 fn starts_with_plus(text: &[u8]) -> bool
@@ -11,10 +42,7 @@ fn starts_with_plus(text: &[u8]) -> bool
     }
 }
 
-/// The number that decimal digits spell: one digit or more, at most 2^64-1.
-///
-/// `None` exactly where the text spells none.
-pub fn read_count(text: &[u8]) -> Option<u64>
+fn unsigned(text: &[u8]) -> Option<u64>
     ensures { result ≡ count_of text.now }
 {
     if starts_with_plus(text) {
@@ -27,13 +55,13 @@ pub fn read_count(text: &[u8]) -> Option<u64>
 }
 
 // The millionths that one to six digits after a point spell.
-fn read_part(text: &[u8]) -> Option<u64>
+fn part(text: &[u8]) -> Option<u64>
     ensures { result ≡ part_of text.now }
 {
     if text.len() > 6 {
         return None;
     }
-    match read_count(text) {
+    match unsigned(text) {
         Some(digits) => Some(digits * 10_u64.pow(6 - text.len() as u32)),
         None => None,
     }
@@ -53,21 +81,21 @@ fn find_point(text: &[u8]) -> Option<usize>
 }
 
 // The millionths that digits spell, perhaps with a point.
-fn read_decimals(text: &[u8]) -> Option<u64>
+fn decimals(text: &[u8]) -> Option<u64>
     ensures { result ≡ decimals_of text.now }
 {
     match find_point(text) {
-        None => join(read_count(text)?, 0),
+        None => join(unsigned(text)?, 0),
         Some(point) => {
-            let whole = read_count(&text[..point])?;
-            let part = read_part(&text[point + 1..])?;
+            let whole = unsigned(&text[..point])?;
+            let part = part(&text[point + 1..])?;
             join(whole, part)
         }
     }
 }
 
 // The magnitude with its sign, where it fits.
-fn signed(minus: bool, magnitude: u64) -> Option<i64>
+fn with_sign(minus: bool, magnitude: u64) -> Option<i64>
     ensures { result ≡ signed_fitting minus magnitude }
 {
     let wide = if minus {
@@ -78,27 +106,20 @@ fn signed(minus: bool, magnitude: u64) -> Option<i64>
     i64::try_from(wide).ok()
 }
 
-/// The int that the text spells: perhaps a minus sign, and digits, within 64 signed bits.
-///
-/// `None` exactly where the text spells none.
-pub fn read_int(text: &[u8]) -> Option<i64>
+fn signed_int(text: &[u8]) -> Option<i64>
     ensures { result ≡ int_of text.now }
 {
     match text {
-        [b'-', rest @ ..] => signed(true, read_count(rest)?),
-        _ => signed(false, read_count(text)?),
+        [b'-', rest @ ..] => with_sign(true, unsigned(rest)?),
+        _ => with_sign(false, unsigned(text)?),
     }
 }
 
-/// The millionths of the fixed number that the text spells: perhaps a minus sign, digits, and perhaps
-/// a point and one to six digits, within 64 signed bits of millionths.
-///
-/// `None` exactly where the text spells none.
-pub fn read_fixed(text: &[u8]) -> Option<i64>
+fn signed_fixed(text: &[u8]) -> Option<i64>
     ensures { result ≡ fixed_of text.now }
 {
     match text {
-        [b'-', rest @ ..] => signed(true, read_decimals(rest)?),
-        _ => signed(false, read_decimals(text)?),
+        [b'-', rest @ ..] => with_sign(true, decimals(rest)?),
+        _ => with_sign(false, decimals(text)?),
     }
 }

@@ -1,6 +1,6 @@
 use Rattle.std.proofs.Common.{arith, rules}
 use Rattle.brace_num.proofs.Readings.{part_none, part_small}
-use Rattle.brace_num.proofs.read.read_part.Goals as goal
+use Rattle.brace_num.proofs.read.part.Goals as goal
 
 pub overflow_mul-result : goal.overflow_mul-result
 overflow_mul-result c = grind (arith, rules, part_small, c.pow.ensures)
