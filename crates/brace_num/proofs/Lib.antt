@@ -1,3 +1,4 @@
+pub mod Canonical
 pub mod Exactness
 pub mod Printings
 pub mod Readings
