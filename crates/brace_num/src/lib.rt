@@ -2,15 +2,22 @@
 #![tactic(auto)]
 
 mod boxed;
+mod exact;
 mod kinds;
+pub mod laws;
 mod list;
 mod memory;
+mod print;
+mod read;
 mod steps;
 mod text;
 
 pub use boxed::Boxed;
+pub use exact::{add, clamp, sub};
 pub use kinds::{Area, Kind};
 pub use list::List;
 pub use memory::NoMemory;
+pub use print::{print_count, print_fixed, print_int};
+pub use read::{read_count, read_fixed, read_int};
 pub use steps::Steps;
 pub use text::Text;

@@ -1,0 +1,5 @@
+pub mod Canonical
+pub mod Exactness
+pub mod Printings
+pub mod Readings
+pub mod Spellings
