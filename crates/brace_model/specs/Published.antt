@@ -1,7 +1,7 @@
 -- The published text: a row for each agent of each published tick that the run reaches.
 use Rattle.std.specs.Prelude.{ℕ, ◌+◌, ◌-◌, ◌%◌, ◌==◌, nat_lt, List, [], ◌∷◌, ◌++◌, map, flat_map, codes, Bool, true, false, ◌&&◌, ◌||◌, if◌then◌else◌, Result, Ok, Err, unwrap_or, option_map}
 use Rattle.std.specs.List.{join_with_byte, range_with_len}
-use Rattle.brace_num.specs.Printing.{canonical_int, canonical_fixed, canonical_count}
+use Rattle.brace_num.specs.Spelling.{canonical_int, canonical_fixed, canonical_count}
 use Rattle.brace_model.specs.declared.program.Value.{Value}
 use Rattle.brace_model.specs.declared.program.Value.TheVariants.{Int, Fixed, Flag}
 use Rattle.brace_model.specs.declared.program.Program.{Program}
