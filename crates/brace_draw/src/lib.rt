@@ -24,8 +24,7 @@ fn seed_array(seed: u64) -> [u8; 32]
 
 #[tactic(auto, unfolding(crate::specs::Draw::draw_word))]
 fn word(seed: u64, tick: u64, agent: u64, site: u32) -> u32
-    requires ticks { tick ≤ 2 ^ 32 }
-    requires sites { site < 4096 }
+    requires { tick ≤ 2 ^ 32 }
     ensures { result ≡ draw_word seed tick agent site }
 {
     let mut rng = ChaCha8Rng::from_seed(seed_array(seed));
@@ -42,10 +41,9 @@ impl Drawer {
         Drawer { seed }
     }
 
-    /// The draw of an agent's site in a tick, in millionths: from 0 to 999,999. No draw depends on another.
+    /// The draw of an agent's site in a tick, in millionths: from 0 to 999,999. No draw depends on another. The tick is at most 2^32.
     pub fn draw(&mut self, tick: u64, agent: u64, site: u32) -> i64
-        requires ticks { tick ≤ 2 ^ 32 }
-        requires sites { site < 4096 }
+        requires { tick ≤ 2 ^ 32 }
         ensures drawn { result ≡ pos (draw_value self.old.seed tick agent site) }
         ensures seed { self.new.seed ≡ self.old.seed }
     {

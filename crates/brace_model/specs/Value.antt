@@ -2,6 +2,7 @@
 use Rattle.std.specs.Prelude.{ℕ, ℤ, pos, List, true, false, not, int_lt, int_le, Option, Some, None, Result, Ok, Err, unwrap_or, slice_index_or}
 use Rattle.std.specs.Ordering.{int_eq}
 use Rattle.std.specs.Int.{int_min, int_max}
+use Rattle.std.specs.Result.{result_unwrap_or}
 use Rattle.brace_num.specs.declared.kinds.Kind.{Kind}
 use Rattle.brace_num.specs.Exact.{fitting, exact_add, exact_sub, exact_neg, exact_abs, exact_int_mul, exact_int_div, exact_int_rem, exact_fixed_mul, exact_fixed_div, exact_sqrt, exact_to_fixed, exact_trunc}
 use Rattle.brace_draw.specs.Draw.{draw_value}
@@ -111,9 +112,9 @@ binary bin.And site a b = with_value a (λ x. choose x b (Ok (Flag false)))
 binary bin.Or site a b = with_value a (λ x. choose x (Ok (Flag true)) b)
 binary op site a b = with_value a (λ x. with_value b (strict op site x))
 
--- a total, read as a value of the effect's type; with a site it faults where it does not fit
+-- a total, read as a value of the effect's type: with a site it faults where it does not fit; one without a site always fits
 abbrev pub total_read : Ty → Option ℕ → ℤ → Outcome
-total_read type None n = Ok (typed type n)
+total_read type None n = Ok (typed type (result_unwrap_or (fitting n) (pos 0)))
 total_read type (Some site) n = made (typed type) (Some site) (fitting n)
 
 -- one operation, whose operands are outcomes in a scope
