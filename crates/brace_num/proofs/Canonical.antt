@@ -50,8 +50,8 @@ printed_decimals m h =
     let long = six_long (m % 1000000) f in
     let one : 10 ^ (6 - length (six_digits (m % 1000000))) ≡ 1 = ap (λ k. 10 ^ (6 - k)) long in
     pointed (decimal (m / 1000000)) (six_digits (m % 1000000)) (m / 1000000) (m % 1000000) refl
-        (decimal_digits (m / 1000000) (omega arith)) (six_spelled (m % 1000000) f) (omega arith)
-        (rw one (omega arith))
+    (decimal_digits (m / 1000000) (omega arith)) (six_spelled (m % 1000000) f) (omega arith)
+    (rw one (omega arith))
 
 pub fixed_printed : (z : ℤ) → IsTrue (fits z) → SpellsFixed (canonical_fixed z) z
 fixed_printed (pos n) f = let h = pos_small n f in (plain n (printed_decimals n (omega arith)) refl, f)
