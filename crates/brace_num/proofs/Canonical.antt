@@ -1,13 +1,13 @@
 -- What is printed is a spelling of the number.
-use Rattle.std.proofs.Common.{◌≡◌, ◌∙◌, ℕ, zero, suc, ◌+◌, ◌-◌, ◌*◌, ◌/◌, ◌%◌, ◌^◌, ◌<◌, ◌≤◌, List, [], ◌∷◌, ◌++◌, length, replicate, arith, rules, refl, sym, ap, lit<, length-append}
-use Rattle.std.specs.Prelude.{ℤ, pos, negsuc, neg_ℤ, IsTrue, unsigned_abs}
-use Rattle.std.specs.Str.Parse.{IsNumeral, AllDigits, digits_value}
+use Rattle.std.proofs.Common.{◌≡◌, ◌∙◌, ℕ, zero, suc, ◌-◌, ◌/◌, ◌%◌, ◌^◌, ◌<◌, List, ◌∷◌, ◌++◌, length, replicate, arith, refl, sym, ap, lit<, length-append}
+use Rattle.std.specs.Prelude.{ℤ, pos, negsuc, IsTrue}
+use Rattle.std.specs.Str.Parse.{AllDigits, digits_value}
 use Rattle.std.specs.Fmt.{decimal}
 use Rattle.std.proofs.lemmas.Fmt.{decimal_is_IsNumeral}
 use Rattle.std.proofs.lemmas.List.{length-replicate}
 use Rattle.std.proofs.lemmas.Int.{ints}
 use Rattle.brace_num.specs.Exact.{fits}
-use Rattle.brace_num.specs.Spelling.{Digits, Decimals, Signed, SpellsCount, SpellsInt, SpellsFixed, plain, negated, pointed, canonical_count, canonical_int, canonical_fixed, six_digits}
+use Rattle.brace_num.specs.Spelling.{Digits, Decimals, SpellsCount, SpellsInt, SpellsFixed, plain, negated, pointed, canonical_count, canonical_int, canonical_fixed, six_digits}
 use Rattle.brace_num.proofs.Printings.{short_decimal}
 
 decimal_digits : (n : ℕ) → n < 2 ^ 64 → Digits (decimal n) n

@@ -1,6 +1,5 @@
-use Rattle.std.proofs.Common.{arith, rules, ◌≡◌, ◌*◌, ◌+◌, ◌<◌, ◌≤◌, ◌^◌, ◌∙◌, ap, pos, w64}
+use Rattle.std.proofs.Common.{arith, ◌≡◌, ◌*◌, ◌+◌, ◌<◌, ◌≤◌, ◌^◌, ◌∙◌, ap, pos, w64}
 use Rattle.std.proofs.lemmas.Int.{to_z_pos}
-use Rattle.brace_num.specs.Exact.{root}
 use Rattle.brace_num.proofs.Roots.{root_only, root_small}
 use Rattle.brace_num.proofs.exact.fixed_root.Goals as goal
 
