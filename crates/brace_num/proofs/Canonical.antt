@@ -1,13 +1,13 @@
 -- What is printed is a spelling of the number.
-use Rattle.std.proofs.Common.{◌≡◌, ◌∙◌, ℕ, zero, suc, ◌+◌, ◌-◌, ◌*◌, ◌/◌, ◌%◌, ◌^◌, ◌<◌, ◌≤◌, List, [], ◌∷◌, ◌++◌, length, replicate, arith, rules, refl, sym, ap, lit<, length-append}
-use Rattle.std.specs.Prelude.{ℤ, pos, negsuc, neg_ℤ, IsTrue, unsigned_abs}
-use Rattle.std.specs.Str.Parse.{IsNumeral, AllDigits, digits_value}
+use Rattle.std.proofs.Common.{◌≡◌, ◌∙◌, ℕ, zero, suc, ◌-◌, ◌/◌, ◌%◌, ◌^◌, ◌<◌, List, ◌∷◌, ◌++◌, length, replicate, arith, refl, sym, ap, lit<, length-append}
+use Rattle.std.specs.Prelude.{ℤ, pos, negsuc, IsTrue}
+use Rattle.std.specs.Str.Parse.{AllDigits, digits_value}
 use Rattle.std.specs.Fmt.{decimal}
 use Rattle.std.proofs.lemmas.Fmt.{decimal_is_IsNumeral}
 use Rattle.std.proofs.lemmas.List.{length-replicate}
 use Rattle.std.proofs.lemmas.Int.{ints}
 use Rattle.brace_num.specs.Exact.{fits}
-use Rattle.brace_num.specs.Spelling.{Digits, Decimals, Signed, SpellsCount, SpellsInt, SpellsFixed, plain, negated, pointed, canonical_count, canonical_int, canonical_fixed, six_digits}
+use Rattle.brace_num.specs.Spelling.{Digits, Decimals, SpellsCount, SpellsInt, SpellsFixed, plain, negated, pointed, canonical_count, canonical_int, canonical_fixed, six_digits}
 use Rattle.brace_num.proofs.Printings.{short_decimal}
 
 decimal_digits : (n : ℕ) → n < 2 ^ 64 → Digits (decimal n) n
@@ -50,8 +50,8 @@ printed_decimals m h =
     let long = six_long (m % 1000000) f in
     let one : 10 ^ (6 - length (six_digits (m % 1000000))) ≡ 1 = ap (λ k. 10 ^ (6 - k)) long in
     pointed (decimal (m / 1000000)) (six_digits (m % 1000000)) (m / 1000000) (m % 1000000) refl
-        (decimal_digits (m / 1000000) (omega arith)) (six_spelled (m % 1000000) f) (omega arith)
-        (rw one (omega arith))
+    (decimal_digits (m / 1000000) (omega arith)) (six_spelled (m % 1000000) f) (omega arith)
+    (rw one (omega arith))
 
 pub fixed_printed : (z : ℤ) → IsTrue (fits z) → SpellsFixed (canonical_fixed z) z
 fixed_printed (pos n) f = let h = pos_small n f in (plain n (printed_decimals n (omega arith)) refl, f)

@@ -1,5 +1,5 @@
 -- Facts on exact arithmetic over plain numbers.
-use Rattle.std.proofs.Common.{◌≡◌, arith, refl, subst, sym, rules}
+use Rattle.std.proofs.Common.{◌≡◌, arith}
 use Rattle.std.specs.Prelude.{ℤ, pos, ◌+ℤ◌, ◌-ℤ◌, ◌≤ℤ◌, FitsSigned}
 use Rattle.std.specs.Int.{w64, w128, int_max, int_min, cast_signed, cast_unsigned}
 use Rattle.std.proofs.lemmas.Int.{ints, clamps, to_z-of_z}

@@ -2,4 +2,5 @@ pub mod Canonical
 pub mod Exactness
 pub mod Printings
 pub mod Readings
+pub mod Roots
 pub mod Spellings

@@ -1,6 +1,6 @@
 -- The readings of texts agree with the relation of spellings.
-use Rattle.std.proofs.Common.{◌≡◌, ◌≢◌, ◌∙◌, ℕ, suc, add-one, length-append, drop-cons, inl, inr, ◌⊎◌, ◌+◌, ◌-◌, ◌*◌, ◌^◌, ◌<◌, ◌≤◌, List, [], ◌∷◌, ◌++◌, length, take, drop, get_or, Bool, true, false, arith, rules, refl, sym, ap, subst}
-use Rattle.std.specs.Prelude.{ℤ, pos, negsuc, neg_ℤ, Option, Some, None, position, ◌==◌, IsTrue, slice_index, ◌↔◌}
+use Rattle.std.proofs.Common.{◌≡◌, ◌∙◌, ℕ, suc, add-one, length-append, drop-cons, inl, inr, ◌⊎◌, ◌+◌, ◌-◌, ◌*◌, ◌^◌, ◌<◌, ◌≤◌, List, [], ◌∷◌, ◌++◌, length, take, drop, get_or, Bool, true, false, arith, refl, sym, ap, subst}
+use Rattle.std.specs.Prelude.{ℤ, pos, neg_ℤ, Option, Some, None, position, ◌==◌, IsTrue, slice_index, ◌↔◌}
 use Rattle.std.specs.List.{position_or_len}
 use Rattle.std.specs.Char.{digit_value}
 use Rattle.std.proofs.lemmas.Str.Parse.{digit_from_value}
@@ -10,7 +10,7 @@ use Rattle.std.proofs.lemmas.List.Quantifiers.{position-Some}
 use Rattle.std.specs.Str.Parse.{IsNumeral, AllDigits, digits_value}
 use Rattle.std.proofs.lemmas.Int.{ints}
 use Rattle.brace_num.specs.Exact.{fits}
-use Rattle.brace_num.specs.Spelling.{Digits, Decimals, Signed, SpellsCount, SpellsInt, SpellsFixed, plain, negated, whole, pointed, are_digits, counted, count_of, part_of, joined, decimals_at, decimals_of, signed_fitting, with_sign, signed_of, int_of, fixed_of}
+use Rattle.brace_num.specs.Spelling.{Digits, Decimals, Signed, SpellsCount, SpellsInt, SpellsFixed, plain, negated, whole, pointed, are_digits, count_of, part_of, joined, decimals_at, decimals_of, signed_fitting, with_sign, signed_of, int_of, fixed_of}
 use Rattle.brace_num.proofs.Readings.{digits_numeral, numeral_digits}
 
 -- a count that is read is spelled, and one that is spelled is read

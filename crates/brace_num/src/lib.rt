@@ -10,10 +10,15 @@ mod memory;
 mod print;
 mod read;
 mod steps;
+#[cfg(test)]
+mod tests;
 mod text;
 
 pub use boxed::Boxed;
-pub use exact::{add, clamp, sub};
+pub use exact::{
+    abs, add, clamp, fixed_div, fixed_mul, int_div, int_mul, int_rem, neg, sqrt, sub, to_fixed,
+    trunc,
+};
 pub use kinds::{Area, Kind};
 pub use list::List;
 pub use memory::NoMemory;

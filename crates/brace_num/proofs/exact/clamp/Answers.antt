@@ -1,5 +1,4 @@
-use Rattle.std.proofs.Common.{rules, arith, ◌≡◌, sym, subst, FitsSigned, to_z, of_z, ℤ, w64}
-use Rattle.std.specs.Int.{w128}
+use Rattle.std.proofs.Common.{arith, ◌≡◌, sym, subst, FitsSigned, ℤ, w64}
 use Rattle.std.proofs.lemmas.Int.{ints}
 use Rattle.brace_num.specs.Exact.{clamped}
 use Rattle.brace_num.proofs.Exactness.{clamped_fits, clamped_by_wide}

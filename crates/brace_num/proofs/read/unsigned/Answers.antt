@@ -1,5 +1,4 @@
-use Rattle.std.proofs.Common.{arith, sym, ◌∙◌, ap, ◌≢◌, get_or}
-use Rattle.brace_num.specs.Spelling.{count_of}
+use Rattle.std.proofs.Common.{arith, sym, ◌∙◌, ◌≢◌, get_or}
 use Rattle.brace_num.proofs.Readings.{not_text, parsed}
 use Rattle.brace_num.proofs.read.unsigned.Goals as goal
 
