@@ -1,8 +1,8 @@
 -- What two writes in turn add.
-use Rattle.std.proofs.Common.{◌≡◌, ◌≤◌, ◌<◌, ◌+◌, ◌-◌, ◌∙◌, ◌++◌, ℕ, List, [], Option, Some, None, Bool, cond, take, drop, length, sym, refl, ap, subst, arith, append_assoc, length-drop, length-take}
+use Rattle.std.proofs.Common.{◌≡◌, ◌≤◌, ◌+◌, ◌-◌, ◌∙◌, ◌++◌, ℕ, List, [], Option, Some, None, Bool, cond, take, drop, length, sym, refl, ap, arith, append_assoc, length-drop}
 use Rattle.std.proofs.lemmas.List.{append-nil, take_all}
 use Rattle.std.proofs.Math.Seq.{take-add}
-use Rattle.brace_io.specs.Shelves.{Files, Stage, Writing, held_at, tells, Holds, Adds, OnlyAt, WritesTo}
+use Rattle.brace_io.specs.Shelves.{Files, Stage, Writing, tells, Holds, Adds, OnlyAt, WritesTo}
 use Rattle.brace_io.specs.Sinks.{with_piece, Gains}
 
 pub Gains-none : (a : Option (List ℕ)) → Gains a a []

@@ -1,5 +1,5 @@
 -- What a shelf of files holds, where it tells that, and where it stands between two calls.
-use Rattle.std.specs.Prelude.{◌≡◌, ◌≢◌, ◌≤◌, ◌<◌, ◌+◌, ◌⊎◌, ℕ, List, [], ◌++◌, Option, Some, None, Bool, true, false, cond, is_some, length, take, drop}
+use Rattle.std.specs.Prelude.{◌≡◌, ◌≢◌, ◌≤◌, ◌<◌, ◌⊎◌, ℕ, List, [], ◌++◌, Option, Some, None, Bool, true, false, cond, is_some, length, take, drop}
 
 -- files by name: the bytes of a name that is held
 abbrev pub Files : Type 0

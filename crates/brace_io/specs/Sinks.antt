@@ -1,5 +1,5 @@
 -- What was written to a sink, where it tells that.
-use Rattle.std.specs.Prelude.{◌≡◌, ◌≤◌, ◌<◌, ℕ, List, ◌++◌, Option, Some, None, length, take}
+use Rattle.std.specs.Prelude.{◌≡◌, ◌≤◌, ℕ, List, ◌++◌, Option, Some, None, length, take}
 
 -- all that was written, with a piece behind it
 abbrev pub with_piece : Option (List ℕ) → List ℕ → Option (List ℕ)

@@ -1,5 +1,5 @@
-use Rattle.std.proofs.Common.{◌≡◌, ◌≤◌, ◌<◌, ◌+◌, ◌-◌, ℕ, List, take, drop, length, rules, arith}
-use Rattle.brace_io.specs.Shelves.{HoldsFront, Adds, OnlyAt}
+use Rattle.std.proofs.Common.{◌+◌, rules, arith}
+use Rattle.brace_io.specs.Shelves.{HoldsFront}
 use Rattle.brace_io.proofs.WholeLemmas.{holds-then, only-then, writes-still, to_end, rest-within}
 use Rattle.brace_io.proofs.write.append_whole.Goals as goal
 

@@ -1,4 +1,4 @@
-use Rattle.std.proofs.Common.{◌≡◌, ◌<◌, ◌≤◌, ◌-◌, length, take}
+use Rattle.std.proofs.Common.{◌≤◌, ◌-◌, length, take}
 use Rattle.brace_io.specs.Shelves.{Holds, WritesTo, OnlyAt}
 use Rattle.brace_io.proofs.write.append_whole.Given as goal
 

@@ -1,5 +1,5 @@
-use Rattle.std.proofs.Common.{◌≡◌, ◌≤◌, ◌<◌, ◌+◌, ◌-◌, ℕ, List, take, drop, length, rules, arith}
-use Rattle.brace_io.specs.Sinks.{Gains, GainsFront}
+use Rattle.std.proofs.Common.{◌+◌, rules, arith}
+use Rattle.brace_io.specs.Sinks.{GainsFront}
 use Rattle.brace_io.proofs.WholeLemmas.{front-then, to_end, rest-within}
 use Rattle.brace_io.proofs.write.write_whole.Goals as goal
 
