@@ -1,3 +1,4 @@
 mod Examples
 pub mod ValueEquations
+pub mod StepLemmas
 pub mod WorldLemmas

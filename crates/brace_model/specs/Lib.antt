@@ -7,3 +7,4 @@ pub mod Next
 pub mod Step
 pub mod Run
 pub mod Published
+pub mod Rules

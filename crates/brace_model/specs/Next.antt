@@ -21,15 +21,16 @@ abbrev pub ruled : Scope → Option Expr → Value → Outcome
 ruled scope None old = Ok old
 ruled scope (Some rule) old = value rule scope
 
+-- a value before others, or the fault that stands in their place
+abbrev pub before : Value → Result (List Value) Stop → Result (List Value) Stop
+before v (Ok vs) = Ok (v ∷ vs)
+before v (Err stop) = Err stop
+
 -- all values, or the first fault
 abbrev pub collected : List Outcome → Result (List Value) Stop
 collected [] = Ok []
 collected (Err stop ∷ rest) = Err stop
-collected (Ok v ∷ rest) = after v (collected rest)
-  where
-    after : Value → Result (List Value) Stop → Result (List Value) Stop
-    after v (Ok vs) = Ok (v ∷ vs)
-    after v (Err stop) = Err stop
+collected (Ok v ∷ rest) = before v (collected rest)
 
 -- what the rules of a class give over an agent's states
 abbrev pub ruled_states : Scope → List State → List Value → Result (List Value) Stop
