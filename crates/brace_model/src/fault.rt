@@ -1,4 +1,8 @@
+ghost use Rattle.std.specs.Prelude.{◌≡◌};
+ghost use Rattle.brace_model.specs.FaultOrder.{compared, comes_before, earlier, phase_rank, kind_rank};
+
 use brace_num::Kind;
+use std::cmp::Ordering;
 
 /// The two halves of a tick. The query comes first.
 #[derive(Debug, Clone, Copy, PartialEq, Eq, PartialOrd, Ord, Drop)]
@@ -29,4 +33,54 @@ pub struct Stop {
     /// The number of the site.
     pub site: u32,
     pub kind: Kind,
+}
+
+/// The place of a phase in the order of phases.
+fn phase_number(phase: Phase) -> u8
+    ensures { result ≡ phase_rank phase }
+{
+    match phase {
+        Phase::Query => 0,
+        Phase::Update => 1,
+    }
+}
+
+/// The place of a kind in the order of kinds.
+fn kind_number(kind: Kind) -> u8
+    ensures { result ≡ kind_rank kind }
+{
+    match kind {
+        Kind::Overflow => 0,
+        Kind::DivZero => 1,
+        Kind::NegRoot => 2,
+    }
+}
+
+/// How two faults compare: by tick, phase (the query first), agent, site, outer agent, inner agent (none first) and kind.
+fn compare(a: &Fault, b: &Fault) -> Ordering
+    ensures { result ≡ compared a.now b.now }
+{
+    a.tick
+        .cmp(&b.tick)
+        .then(phase_number(a.phase).cmp(&phase_number(b.phase)))
+        .then(a.agent.cmp(&b.agent))
+        .then(a.site.cmp(&b.site))
+        .then(a.outer.cmp(&b.outer))
+        .then(a.inner.cmp(&b.inner))
+        .then(kind_number(a.kind).cmp(&kind_number(b.kind)))
+}
+
+/// Whether one fault comes before another: by tick, phase (the query first), agent, site, outer agent and inner agent, where no
+/// loop agent comes before every agent; faults that agree in all of these are ordered by their kinds.
+pub fn fault_less(a: &Fault, b: &Fault) -> bool
+    ensures { result ≡ comes_before a.now b.now }
+{
+    compare(a, b).is_lt()
+}
+
+/// The earlier of two faults.
+pub fn earlier(a: Fault, b: Fault) -> Fault
+    ensures { result ≡ earlier a b }
+{
+    if fault_less(&b, &a) { b } else { a }
 }

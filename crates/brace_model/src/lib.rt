@@ -7,7 +7,7 @@ mod program;
 mod world;
 
 pub use brace_num::Area;
-pub use fault::{Fault, Phase, Stop};
+pub use fault::{Fault, Phase, Stop, earlier, fault_less};
 pub use job::{Env, Job};
 pub use program::{BinOp, Class, Comb, Effect, Expr, Program, State, Stmt, Ty, UnOp, Value, Who};
 pub use world::{Agent, Values, World};
