@@ -1,0 +1,6 @@
+use Rattle.std.proofs.Common.{◌≡◌, ◌++◌, take}
+use Rattle.brace_model.specs.Published.{rows}
+use Rattle.brace_rows.proofs.tick.append_rows.Given as goal
+
+abbrev pub invariant-loop-agent : goal.invariant-loop-agent
+invariant-loop-agent l = l.out.items ≡ l.initial.out.items ++ rows l.program l.tick (take l.agent-index l.agents)
