@@ -1,0 +1,7 @@
+//! The evaluator of expressions, straight over their trees.
+#![tactic(auto)]
+
+mod expression;
+mod operations;
+
+pub use expression::eval;

@@ -1,0 +1,3 @@
+pub mod Counts
+pub mod Shelves
+pub mod Sinks

@@ -1,0 +1,9 @@
+pub mod World
+pub mod Value
+pub mod FaultOrder
+pub mod Query
+pub mod Total
+pub mod Next
+pub mod Step
+pub mod Run
+pub mod Published

@@ -1,0 +1,13 @@
+//! Programs, agents, worlds, jobs and faults, and the meaning of scripts.
+#![tactic(auto)]
+
+mod fault;
+mod job;
+mod program;
+mod world;
+
+pub use brace_num::Area;
+pub use fault::{Fault, Phase, Stop};
+pub use job::{Env, Job};
+pub use program::{BinOp, Class, Comb, Effect, Expr, Program, State, Stmt, Ty, UnOp, Value, Who};
+pub use world::{Agent, Values, World};
