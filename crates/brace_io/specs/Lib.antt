@@ -1,3 +1,5 @@
 pub mod Counts
+pub mod HostStages
+pub mod MemSinks
 pub mod Shelves
 pub mod Sinks

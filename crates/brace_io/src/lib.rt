@@ -1,15 +1,22 @@
 //! The outside of a run: a shelf of files, sinks of bytes and a gate, and reading, writing and saving whole.
 #![tactic(auto)]
 
+mod count;
+mod dir_shelf;
 mod fault;
 mod gate;
+mod host_sink;
+mod mem_sink;
 mod read;
 mod shelf;
 mod sink;
 mod write;
 
+pub use dir_shelf::{DirShelf, DirStage};
 pub use fault::{Failed, ReadFault, WholeFault};
 pub use gate::{Gate, OpenGate};
+pub use host_sink::{ErrSink, HostSink, OutSink};
+pub use mem_sink::MemSink;
 pub use read::read_whole;
 pub use shelf::Shelf;
 pub use sink::Sink;
