@@ -1,0 +1,5 @@
+pub mod Bytes
+pub mod Tables
+pub mod Pieces
+pub mod Sayings
+pub mod Spells
