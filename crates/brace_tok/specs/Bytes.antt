@@ -25,7 +25,7 @@ begins kind (b ∷ bytes) = kind b
 
 -- one digit or more, and nothing else
 abbrev pub are_digits : List ℕ → Bool
-are_digits bytes = nat_lt 0 (length bytes) && list_all is_digit bytes
+are_digits bytes = begins is_digit bytes && list_all is_digit bytes
 
 -- a letter, then letters and digits
 abbrev pub is_word : List ℕ → Bool

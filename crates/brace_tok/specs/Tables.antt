@@ -1,5 +1,6 @@
 -- The reserved words, the directives and the symbols, each with the kind of its token.
-use Rattle.std.specs.Prelude.{List, [], ◌∷◌, ℕ, Option, Some, None, if◌then◌else◌, codes}
+use Rattle.std.specs.Prelude.{List, [], ◌∷◌, length, ◌==◌, ℕ, Option, Some, None, if◌then◌else◌, codes}
+use Rattle.std.specs.List.{filter}
 use Rattle.std.specs.Str.{bytes_eq}
 use Rattle.brace_tok.specs.declared.kinds.TokKind.{TokKind}
 use Rattle.brace_tok.specs.declared.kinds.TokKind.TheVariants as kind
@@ -9,9 +10,9 @@ abbrev pub found : List (List ℕ × TokKind) → List ℕ → Option TokKind
 found [] text = None
 found (entry ∷ table) text = if bytes_eq entry.0 text then Some entry.1 else found table text
 
--- a reserved word is never a name
-abbrev pub reserved : List ℕ → Option TokKind
-reserved = found (
+-- the reserved words
+abbrev pub words : List (List ℕ × TokKind)
+words =
     (codes "class", kind.KwClass) ∷ (codes "public", kind.KwPublic) ∷ (codes "private", kind.KwPrivate) ∷
     (codes "state", kind.KwState) ∷ (codes "effect", kind.KwEffect) ∷ (codes "void", kind.KwVoid) ∷
     (codes "run", kind.KwRun) ∷ (codes "foreach", kind.KwForeach) ∷ (codes "Extent", kind.KwExtent) ∷
@@ -21,7 +22,15 @@ reserved = found (
     (codes "abs", kind.KwAbs) ∷ (codes "min", kind.KwMin) ∷ (codes "max", kind.KwMax) ∷
     (codes "sqrt", kind.KwSqrt) ∷ (codes "trunc", kind.KwTrunc) ∷ (codes "rand", kind.KwRand) ∷
     (codes "sum", kind.KwSum) ∷ (codes "count", kind.KwCount) ∷ (codes "or", kind.KwOr) ∷
-    (codes "die", kind.KwDie) ∷ (codes "spawn", kind.KwSpawn) ∷ (codes "when", kind.KwWhen) ∷ [])
+    (codes "die", kind.KwDie) ∷ (codes "spawn", kind.KwSpawn) ∷ (codes "when", kind.KwWhen) ∷ []
+
+-- a reserved word is never a name
+abbrev pub reserved : List ℕ → Option TokKind
+reserved = found words
+
+-- the same, among the reserved words of n bytes
+abbrev pub reserved_of : ℕ → List ℕ → Option TokKind
+reserved_of n = found (filter (λ entry. length entry.0 == n) words)
 
 -- the word behind a `#`
 abbrev pub directive : List ℕ → Option TokKind
