@@ -1,5 +1,5 @@
 -- Kinds of bytes, and tests of a text by them.
-use Rattle.std.specs.Prelude.{ℕ, Bool, false, ◌&&◌, ◌||◌, List, [], ◌∷◌, length, ◌==◌, nat_lt, nat_le}
+use Rattle.std.specs.Prelude.{ℕ, Bool, false, ◌&&◌, ◌||◌, List, [], ◌∷◌, ◌==◌, nat_le}
 use Rattle.std.specs.List.{list_all}
 
 -- space, tab, carriage return or line feed

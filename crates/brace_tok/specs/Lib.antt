@@ -3,3 +3,5 @@ pub mod Tables
 pub mod Pieces
 pub mod Sayings
 pub mod Spells
+pub mod Steps
+pub mod Answers

@@ -25,19 +25,19 @@ words =
     (codes "die", kind.KwDie) ∷ (codes "spawn", kind.KwSpawn) ∷ (codes "when", kind.KwWhen) ∷ []
 
 -- a reserved word is never a name
-abbrev pub reserved : List ℕ → Option TokKind
+unfoldable pub reserved : List ℕ → Option TokKind
 reserved = found words
 
 -- the same, among the reserved words of n bytes
-abbrev pub reserved_of : ℕ → List ℕ → Option TokKind
+unfoldable pub reserved_of : ℕ → List ℕ → Option TokKind
 reserved_of n = found (filter (λ entry. length entry.0 == n) words)
 
 -- the word behind a `#`
-abbrev pub directive : List ℕ → Option TokKind
+unfoldable pub directive : List ℕ → Option TokKind
 directive = found ((codes "visible", kind.Visible) ∷ (codes "reach", kind.Reach) ∷ [])
 
 -- a symbol has one byte or two
-abbrev pub symbol : List ℕ → Option TokKind
+unfoldable pub symbol : List ℕ → Option TokKind
 symbol = found (
     (codes "{", kind.OpenBrace) ∷ (codes "}", kind.CloseBrace) ∷ (codes "(", kind.OpenParen) ∷
     (codes ")", kind.CloseParen) ∷ (codes "[", kind.OpenBracket) ∷ (codes "]", kind.CloseBracket) ∷

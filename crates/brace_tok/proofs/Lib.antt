@@ -1,0 +1,5 @@
+pub mod Scans
+pub mod Digits
+pub mod Standing
+pub mod Lengths
+pub mod Rows

@@ -1,0 +1,50 @@
+ghost use Rattle.std.specs.Prelude.{◌≡◌, ◌⊎◌, ◌≤◌, length, IfOk, IfErr};
+ghost use Rattle.brace_tok.specs.Answers.{IsFault};
+ghost use Rattle.brace_tok.specs.Spells.{Spells};
+ghost use Rattle.brace_tok.specs.Steps.{HasEnd, Passes};
+
+use crate::step::{Step, step_at};
+use crate::{TokFault, Token};
+use std::alloc::Global;
+
+/// The tokens of a text of at most 1,048,576 bytes, or its first fault.
+pub fn tokens(alloc: Global, src: &[u8]) -> Result<Vec<Token>, TokFault>
+    requires { length src.now ≤ 1048576 }
+    ensures spelled { IfOk result (λ toks. Spells src.now toks.items) }
+    ensures refused { IfErr result (IsFault src.now) }
+{
+    let mut toks = Vec::new(alloc);
+    let mut rest = src;
+    while !rest.is_empty() {
+        let at = (src.len() - rest.len()) as u32;
+        let length = match pass(step_at(rest, at), at, &mut toks) {
+            Ok(length) => length,
+            Err(fault) => return Err(fault),
+        };
+        rest = rest.split_at(length).1;
+    }
+    Ok(toks)
+}
+
+/// Puts the token of a step behind the others, and gives the length of the step.
+fn pass(step: Step, at: u32, toks: &mut Vec<Token>) -> Result<usize, TokFault>
+    requires { HasEnd at step }
+    ensures ok { IfOk result (Passes at step toks.old.items toks.new.items) }
+    ensures err { IfErr result (λ fault. (fault ≡ TokFault.NoMemory) ⊎ (step ≡ Step.Fault fault)) }
+{
+    match step {
+        Step::Gap(length) => Ok(length),
+        Step::Token(kind, length) => {
+            let token = Token {
+                kind,
+                from: at,
+                to: at + length as u32,
+            };
+            match toks.push(token) {
+                Ok(()) => Ok(length),
+                Err(_) => Err(TokFault::NoMemory),
+            }
+        }
+        Step::Fault(fault) => Err(fault),
+    }
+}
