@@ -3,3 +3,5 @@ pub mod Digits
 pub mod Standing
 pub mod Lengths
 pub mod Rows
+pub mod Heads
+pub mod Unique

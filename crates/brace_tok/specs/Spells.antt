@@ -1,5 +1,5 @@
 -- The tokens of a text: the text is a row of blanks, comments and tokens, each the longest at its place.
-use Rattle.std.specs.Prelude.{◌≡◌, ℕ, ◌+◌, Bool, true, false, ◌&&◌, List, [], ◌∷◌, ◌++◌, length, IsTrue}
+use Rattle.std.specs.Prelude.{◌≡◌, ℕ, ◌+◌, ◌<◌, ◌≤◌, Bool, true, false, ◌&&◌, List, [], ◌∷◌, ◌++◌, length, IsTrue}
 use Rattle.brace_tok.specs.Pieces.{Piece, bytes_of, is_formed, ends_before}
 use Rattle.brace_tok.specs.Sayings.{Saying, nothing, token, refused, says}
 use Rattle.brace_tok.specs.declared.kinds.Token.{Token}
@@ -46,3 +46,8 @@ abbrev pub FirstFault : List ℕ → TokFault → Type 0
 FirstFault src f =
     (row : List Piece) × (bad : Piece) × (after : List ℕ) × (src ≡ text_of row ++ (bytes_of bad ++ after))
     × IsTrue (is_row row (bytes_of bad ++ after)) × IsTrue (is_longest bad after) × (says (length (text_of row)) bad ≡ refused f)
+
+-- the tokens stand one behind another from the first place on, and end at the second or before it
+abbrev pub Rises : ℕ → ℕ → List Token → Type 0
+Rises low high [] = low ≤ high
+Rises low high (tok ∷ toks) = (low ≤ tok.from) × (tok.from < tok.to) × Rises tok.to high toks

@@ -36,9 +36,9 @@ reserved_of n = found (filter (λ entry. length entry.0 == n) words)
 unfoldable pub directive : List ℕ → Option TokKind
 directive = found ((codes "visible", kind.Visible) ∷ (codes "reach", kind.Reach) ∷ [])
 
--- a symbol has one byte or two
-unfoldable pub symbol : List ℕ → Option TokKind
-symbol = found (
+-- the symbols, of one byte or two
+abbrev pub symbols : List (List ℕ × TokKind)
+symbols =
     (codes "{", kind.OpenBrace) ∷ (codes "}", kind.CloseBrace) ∷ (codes "(", kind.OpenParen) ∷
     (codes ")", kind.CloseParen) ∷ (codes "[", kind.OpenBracket) ∷ (codes "]", kind.CloseBracket) ∷
     (codes ";", kind.Semicolon) ∷ (codes ":", kind.Colon) ∷ (codes ",", kind.Comma) ∷ (codes ".", kind.Dot) ∷
@@ -46,4 +46,8 @@ symbol = found (
     (codes "<=", kind.LessEq) ∷ (codes ">", kind.Greater) ∷ (codes ">=", kind.GreaterEq) ∷
     (codes "==", kind.EqEq) ∷ (codes "!=", kind.NotEq) ∷ (codes "!", kind.Not) ∷ (codes "&&", kind.AndAnd) ∷
     (codes "||", kind.OrOr) ∷ (codes "+", kind.Plus) ∷ (codes "-", kind.Minus) ∷ (codes "*", kind.Star) ∷
-    (codes "/", kind.Slash) ∷ (codes "%", kind.Percent) ∷ [])
+    (codes "/", kind.Slash) ∷ (codes "%", kind.Percent) ∷ []
+
+-- a symbol
+unfoldable pub symbol : List ℕ → Option TokKind
+symbol = found symbols

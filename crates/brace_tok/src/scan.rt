@@ -1,6 +1,8 @@
-ghost use Rattle.std.specs.Prelude.{◌≡◌, ◌⊎◌, ◌≤◌, length, IfOk, IfErr};
+ghost use Rattle.std.specs.Prelude.{◌≡◌, ◌⊎◌, ◌≤◌, List, length, IfOk, IfErr, MatchResult};
 ghost use Rattle.brace_tok.specs.Answers.{IsFault};
-ghost use Rattle.brace_tok.specs.Spells.{Spells};
+ghost use Rattle.brace_tok.specs.Spells.{FirstFault, Rises, Spells};
+ghost use Rattle.brace_tok.specs.declared.fault.TokFault.{TokFault};
+ghost use Rattle.brace_tok.specs.declared.kinds.Token.{Token};
 ghost use Rattle.brace_tok.specs.Steps.{HasEnd, Passes};
 
 use crate::step::{Step, step_at};
@@ -12,6 +14,9 @@ pub fn tokens(alloc: Global, src: &[u8]) -> Result<Vec<Token>, TokFault>
     requires { length src.now ≤ 1048576 }
     ensures spelled { IfOk result (λ toks. Spells src.now toks.items) }
     ensures refused { IfErr result (IsFault src.now) }
+    ensures listed { (toks : List Token) → Spells src.now toks → MatchResult result (λ list. list.items ≡ toks) (λ fault. fault ≡ TokFault.NoMemory) }
+    ensures faulted { (first : TokFault) → FirstFault src.now first → MatchResult result (λ _. ⊥) (λ fault. (fault ≡ first) ⊎ (fault ≡ TokFault.NoMemory)) }
+    ensures rising { IfOk result (λ toks. Rises 0 (length src.now) toks.items) }
 {
     let mut toks = Vec::new(alloc);
     let mut rest = src;
