@@ -1,0 +1,7 @@
+pub mod Bytes
+pub mod Tables
+pub mod Pieces
+pub mod Sayings
+pub mod Spells
+pub mod Steps
+pub mod Answers
