@@ -18,8 +18,8 @@ fn agent_of<'a>(env: &Env<'a>, drawer: &Drawer, who: Who) -> &'a Agent
     }
 }
 
-/// The value at a place.
-fn value_at(values: &[Value], place: u32) -> Value
+/// The value at a place of an agent's states or of the constants; `false` where there is none.
+pub fn value_at(values: &[Value], place: u32) -> Value
     ensures { result ≡ value_at values.now place }
 {
     values

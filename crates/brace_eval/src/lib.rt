@@ -4,4 +4,5 @@
 mod expression;
 mod operations;
 
-pub use expression::eval;
+pub use expression::{eval, value_at};
+pub use operations::number;

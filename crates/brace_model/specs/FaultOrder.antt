@@ -1,6 +1,6 @@
 -- The order of faults: by tick, the query before the update, agent, site, outer agent, inner agent; no loop agent comes before every agent.
 -- Faults of one tick that agree in all of these are one fault; so that any two faults are ordered, the kind decides last.
-use Rattle.std.specs.Prelude.{ℕ, List, Bool, Option, if◌then◌else◌}
+use Rattle.std.specs.Prelude.{ℕ, List, Bool, Option, if◌then◌else◌, Some, None}
 use Rattle.std.specs.declared.cmp.Ordering.{Ordering}
 use Rattle.std.specs.Ordering.{nat_cmp, ordering_then, is_lt}
 use Rattle.std.specs.Option.{option_cmp}
@@ -43,3 +43,8 @@ earlier a b = if comes_before b a then b else a
 -- the least of some faults, if there are any
 abbrev pub least : List Fault → Option Fault
 least = reduce earlier
+
+-- the earlier of a fault and one that may be there before it
+abbrev pub with_earlier : Option Fault → Fault → Fault
+with_earlier None g = g
+with_earlier (Some f) g = earlier f g

@@ -1,0 +1,6 @@
+pub mod Answer
+pub mod Line
+pub mod Lines
+pub mod Outcome
+pub mod Thin
+pub mod ThinAgents

@@ -1,0 +1,40 @@
+-- The lines on standard error: one with a line feed for each status that is not 0.
+use Rattle.std.specs.Prelude.{ℕ, List, [], ◌∷◌, ◌++◌, codes, Option, Some, None}
+use Rattle.brace_num.specs.declared.kinds.Kind.{Kind}
+use Rattle.brace_num.specs.declared.kinds.Kind.TheVariants.{Overflow, DivZero, NegRoot}
+use Rattle.brace_num.specs.Spelling.{canonical_count}
+use Rattle.brace_model.specs.declared.fault.Fault.{Fault}
+use Rattle.brace_model.specs.declared.fault.Phase.{Phase}
+use Rattle.brace_model.specs.declared.fault.Phase.TheVariants.{Query, Update}
+
+-- the line that begins with a file's name
+abbrev pub named_line : List ℕ → List ℕ → List ℕ
+named_line name rest = codes "brace: " ++ (name ++ (rest ++ 10 ∷ []))
+
+abbrev pub usage_line : List ℕ
+usage_line = codes "brace: usage\n"
+
+abbrev pub write_fault_line : List ℕ
+write_fault_line = codes "brace: write fault\n"
+
+abbrev pub no_memory_line : List ℕ
+no_memory_line = codes "brace: no memory\n"
+
+abbrev pub phase_word : Phase → List ℕ
+phase_word Query = codes " query agent "
+phase_word Update = codes " update agent "
+
+abbrev pub kind_word : Kind → List ℕ
+kind_word Overflow = codes "Overflow\n"
+kind_word DivZero = codes "DivZero\n"
+kind_word NegRoot = codes "NegRoot\n"
+
+-- a loop's agent behind a word, where there is one
+abbrev pub loop_text : List ℕ → Option ℕ → List ℕ
+loop_text word None = []
+loop_text word (Some id) = word ++ canonical_count id
+
+-- the line of a fault of the run: `brace: tick T PHASE agent A site S: KIND`, with the loops' agents behind A
+abbrev pub fault_line : Fault → List ℕ
+fault_line f = codes "brace: tick " ++ (canonical_count f.tick ++ (phase_word f.phase ++ (canonical_count f.agent ++ (loop_text (codes " with ") f.outer ++ (loop_text (codes " and ") f.inner
+    ++ (codes " site " ++ (canonical_count f.site ++ (codes ": " ++ kind_word f.kind))))))))

@@ -1,0 +1,78 @@
+-- What a command comes to with no fault of the outside and with ample memory: its status and its texts.
+use Rattle.std.specs.Prelude.{ℕ, List, [], ◌∷◌, ◌++◌, length, nat_lt, codes, true, if◌then◌else◌, Option, Some, None, Result, Ok, Err}
+use Rattle.brace_io.specs.Shelves.{Files}
+use Rattle.brace_model.specs.declared.program.Program.{Program}
+use Rattle.brace_model.specs.declared.fault.Fault.{Fault}
+use Rattle.brace_model.specs.declared.job.Job.{Job}
+use Rattle.brace_model.specs.declared.world.Agent.{Agent}
+use Rattle.brace_model.specs.Run.{first_fault}
+use Rattle.brace_model.specs.Published.{published}
+use Rattle.brace_top.specs.Line.{Line, line_of}
+use Rattle.brace_top.specs.Lines.{named_line, usage_line, fault_line}
+use Rattle.brace_top.specs.Thin.{thin_program}
+use Rattle.brace_top.specs.ThinAgents.{thin_agents}
+
+-- the status, all of the text on standard output, and the text on standard error
+pub record Outcome : Type 0 where
+  pub status : ℕ
+  pub out : List ℕ
+  pub err : List ℕ
+
+-- why a named file is refused: the status and the line
+pub record Refusal : Type 0 where
+  pub status : ℕ
+  pub line : List ℕ
+
+-- a named file within its limit, and what its bytes stand for; or why not: it is absent, or too long, or not thin
+abbrev pub thin_file : {A : Type 0} → ℕ → List ℕ → Option A → Result A Refusal
+thin_file status name None = Err (record { status = status; line = named_line name (codes ": NotThin") })
+thin_file status name (Some a) = Ok a
+
+abbrev pub loaded : {A : Type 0} → ℕ → ℕ → (List ℕ → Option A) → List ℕ → Option (List ℕ) → Result A Refusal
+loaded status limit meaning name None = Err (record { status = 12; line = named_line name (codes ": absent") })
+loaded status limit meaning name (Some bytes) =
+    if nat_lt limit (length bytes) then Err (record { status = status; line = named_line name (codes ": TooLong") }) else thin_file status name (meaning bytes)
+
+-- the program of a script of at most 1 MiB
+abbrev pub script_of : Files → List ℕ → Result Program Refusal
+script_of files name = loaded 3 1048576 thin_program name (files name)
+
+-- the world of an agent file of at most 256 MiB
+abbrev pub agents_of : Files → Program → List ℕ → Result (List Agent) Refusal
+agents_of files program name = loaded 4 268435456 (thin_agents program) name (files name)
+
+-- the job of a line: from tick 0, each tick published
+abbrev pub job_of : Line → Program → List Agent → Job
+job_of line program world = record { program = program; seed = 0; first = 0; last = line.ticks; every = 1; start = world }
+
+abbrev pub refused : Refusal → Outcome
+refused r = record { status = r.status; out = []; err = r.line }
+
+-- a run that reaches its last tick, or ends in its first fault
+abbrev pub ended : List ℕ → Option Fault → Outcome
+ended text None = record { status = 0; out = text; err = [] }
+ended text (Some f) = record { status = 7; out = text; err = fault_line f }
+
+-- the outcome of a job
+abbrev pub ran : Job → Outcome
+ran job = ended (published job true) (first_fault job)
+
+abbrev pub with_world : Line → Program → Result (List Agent) Refusal → Outcome
+with_world line program (Err r) = refused r
+with_world line program (Ok world) = ran (job_of line program world)
+
+abbrev pub with_program : Files → Line → Result Program Refusal → Outcome
+with_program files line (Err r) = refused r
+with_program files line (Ok program) = with_world line program (agents_of files program line.agents)
+
+-- the outcome of a line
+abbrev pub line_outcome : Files → Line → Outcome
+line_outcome files line = with_program files line (script_of files line.script)
+
+abbrev pub outcome_of : Files → Option Line → Outcome
+outcome_of files None = record { status = 2; out = []; err = usage_line }
+outcome_of files (Some line) = line_outcome files line
+
+-- the outcome of words over the files that a shelf holds
+abbrev pub outcome : List (List ℕ) → Files → Outcome
+outcome words files = outcome_of files (line_of words)

@@ -1,0 +1,141 @@
+ghost use Rattle.std.specs.Prelude.{◌≡◌, ◌≤◌, ◌<◌, ◌^◌, IfOk, IfErr, Ok, Err, Some, [], pos, ◌≤ℤ◌};
+ghost use Rattle.brace_model.specs.Next.{ruled, ruled_states, moved, within_reach, next_in};
+ghost use Rattle.brace_eval.specs.Scopes.{scope_of};
+
+use brace_draw::Drawer;
+use brace_eval::{eval, number, value_at};
+use brace_model::{Agent, Class, Env, Expr, Fault, Phase, State, Stop, Value};
+use brace_num::{List, clamp};
+use std::alloc::{AllocFailed, Global};
+
+/// Why the rules of an agent give no states.
+#[derive(Debug, Drop)]
+pub enum RuleFault {
+    Stop(Stop),
+    NoMemory,
+}
+
+/// Why a tick has no next world.
+#[derive(Debug, Drop)]
+pub enum StepFault {
+    Fault(Fault),
+    NoMemory,
+}
+
+impl<T: Drop> From<AllocFailed<T>> for RuleFault {
+    ghost use Rattle.brace_top.specs.declared.step.RuleFault.TheVariants as rule_fault;
+
+    ghost from_gives = { λ _ fault. fault ≡ rule_fault.NoMemory };
+
+    fn from(_: AllocFailed<T>) -> RuleFault {
+        RuleFault::NoMemory
+    }
+}
+
+/// The value of a rule; without one a state keeps its value.
+fn ruled(rule: &Option<Expr>, old: Value, env: &Env, drawer: &mut Drawer) -> Result<Value, Stop>
+    requires { env.now.tick ≤ 2 ^ 32 }
+    ensures value { result ≡ ruled (scope_of env.now drawer.old) rule.now old }
+    ensures seed { drawer.new.seed ≡ drawer.old.seed }
+{
+    match rule {
+        None => Ok(old),
+        Some(rule) => eval(rule, env, drawer),
+    }
+}
+
+/// The values of all rules over an agent's states; a state without a rule keeps its value.
+fn ruled_states(
+    alloc: Global,
+    states: &[State],
+    values: &[Value],
+    env: &Env,
+    drawer: &mut Drawer,
+) -> Result<Vec<Value>, RuleFault>
+    requires { env.now.tick ≤ 2 ^ 32 }
+    ensures ruled { IfOk result (λ new. ruled_states (scope_of env.now drawer.old) states.now values.now ≡ Ok new.items) }
+    ensures stopped { IfErr result (λ fault. (stop : Stop) → fault ≡ RuleFault.Stop stop → ruled_states (scope_of env.now drawer.old) states.now values.now ≡ Err stop) }
+    ensures seed { drawer.new.seed ≡ drawer.old.seed }
+{
+    let mut new = Vec::new(alloc);
+    for i in 0..states.len().min(values.len()) {
+        match ruled(&states[i].rule, values[i], env, drawer) {
+            Ok(value) => new.push(value)?,
+            Err(stop) => return Err(RuleFault::Stop(stop)),
+        }
+    }
+    Ok(new)
+}
+
+/// A coordinate's new value, moved into reach of its old one.
+fn move_within(new: &mut [Value], old: &[Value], place: u32, reach: i64)
+    requires { pos 0 ≤ℤ reach }
+    ensures { new.new ≡ moved reach old.now place new.old }
+{
+    let at = place as usize;
+    if at < new.len() {
+        new[at] = Value::Fixed(clamp(
+            number(value_at(old, place)),
+            number(value_at(new, place)),
+            reach,
+        ));
+    }
+}
+
+/// An agent of a class with its new states, both coordinates moved into reach.
+fn updated(a: &Agent, class: &Class, mut new: Vec<Value>) -> Agent
+    requires { pos 0 ≤ℤ class.now.reach }
+    ensures { result ≡ record a.now { states = within_reach class.now a.now.states new.items } }
+{
+    let old = a.states.as_slice();
+    move_within(&mut new, old, class.x, class.reach);
+    move_within(&mut new, old, class.y, class.reach);
+    Agent {
+        class: a.class,
+        id: a.id,
+        states: List::from_vec(new),
+    }
+}
+
+/// The next agent of an agent of a class, from its own states.
+fn next_of(
+    alloc: Global,
+    class: &Class,
+    tick: u64,
+    a: &Agent,
+    drawer: &mut Drawer,
+) -> Result<Agent, StepFault>
+    requires ticks { tick ≤ 2 ^ 32 }
+    requires reach { pos 0 ≤ℤ class.now.reach }
+    ensures next { IfOk result (λ next. next_in drawer.old.seed tick (Some class.now) [] a.now ≡ Ok next) }
+    ensures fault { IfErr result (λ e. (fault : Fault) → e ≡ StepFault.Fault fault → next_in drawer.old.seed tick (Some class.now) [] a.now ≡ Err fault) }
+    ensures seed { drawer.new.seed ≡ drawer.old.seed }
+{
+    let env = Env {
+        tick,
+        this: a,
+        outer: None,
+        inner: None,
+        locals: &[],
+        totals: &[],
+    };
+    match ruled_states(
+        alloc,
+        class.states.as_slice(),
+        a.states.as_slice(),
+        &env,
+        drawer,
+    ) {
+        Ok(new) => Ok(updated(a, class, new)),
+        Err(RuleFault::Stop(stop)) => Err(StepFault::Fault(Fault {
+            tick,
+            phase: Phase::Update,
+            agent: a.id,
+            site: stop.site,
+            outer: None,
+            inner: None,
+            kind: stop.kind,
+        })),
+        Err(RuleFault::NoMemory) => Err(StepFault::NoMemory),
+    }
+}
