@@ -1,3 +1,4 @@
 mod Examples
+pub mod FaultLemmas
 pub mod ValueEquations
 pub mod WorldLemmas

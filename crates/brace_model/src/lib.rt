@@ -4,6 +4,7 @@
 mod copy;
 mod fault;
 mod job;
+pub mod laws;
 mod program;
 mod sight;
 mod world;
