@@ -1,4 +1,6 @@
 mod Examples
 pub mod FaultLemmas
+pub mod LawEquations
+mod LawfulExamples
 pub mod ValueEquations
 pub mod WorldLemmas

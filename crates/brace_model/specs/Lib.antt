@@ -7,3 +7,6 @@ pub mod Next
 pub mod Step
 pub mod Run
 pub mod Published
+pub mod Sites
+pub mod Typing
+pub mod Lawful
