@@ -26,17 +26,17 @@ use Rattle.brace_model.specs.declared.world.Agent.{Agent}
 use Rattle.brace_model.specs.Step.{step}
 use Rattle.brace_model.proofs.ValueEquations.{value-Lit, value-Field, value-Total, value-Binary, statement-If, statement-Foreach, statement-Assign, constants-If, constants-Foreach, constants-Assign}
 
-abbrev state : List ℕ → Ty → Option Expr → State
+abbrev pub state : List ℕ → Ty → Option Expr → State
 state name type rule = record { name = name; ty = type; shared = true; rule = rule }
 
-abbrev effect : List ℕ → Ty → Comb → Effect
+abbrev pub effect : List ℕ → Ty → Comb → Effect
 effect name type how = record { name = name; ty = type; shared = true; comb = how }
 
 -- a class of that name, with these states behind x and y
-abbrev class : List ℕ → ℤ → ℤ → Option Expr → Option Expr → List State → List Effect → List Stmt → Class
+abbrev pub class : List ℕ → ℤ → ℤ → Option Expr → Option Expr → List State → List Effect → List Stmt → Class
 class name visible reach x y states effects query = record { name = name; visible = visible; reach = reach; x = 0; y = 1; states = state (codes "x") ty.Fixed x ∷ state (codes "y") ty.Fixed y ∷ states; effects = effects; query = query }
 
-abbrev script : List Class → Program
+abbrev pub script : List Class → Program
 script classes = record { classes = classes; sites = [] }
 
 -- an agent of a class, its id, its place, and its other states
@@ -44,7 +44,7 @@ abbrev agent : ℕ → ℕ → ℤ → ℤ → List Value → Agent
 agent number id x y states = record { class = number; id = id; states = Fixed x ∷ Fixed y ∷ states }
 
 -- an agent that moves by 1.5 in each tick, with a reach of 2.0
-abbrev drifting : Program
+abbrev pub drifting : Program
 drifting = script (class (codes "P") (pos 0) (pos 2000000) (Some (Binary op.Add (Some 0) (Field who.This 0) (Lit (Fixed (pos 1500000))))) None [] [] [] ∷ [])
 
 abbrev drifter : ℤ → List Agent
@@ -107,7 +107,7 @@ exchanges : step exchanging 0 0 (agent 0 1 (pos 0) (pos 0) (Int (pos 3) ∷ Int 
 exchanges = simp (value-Lit, value-Field, value-Total, value-Binary, statement-If, statement-Foreach, statement-Assign, constants-If, constants-Foreach, constants-Assign)
 
 -- each agent counts itself with those that see it; agents exactly the visible range apart see each other
-abbrev counting : Program
+abbrev pub counting : Program
 counting = script (class (codes "F") (pos 2000000) (pos 0) None None (state (codes "n") ty.Int (Some (Total 0 ty.Int None)) ∷ []) (effect (codes "c") ty.Int comb.Count ∷ []) (Foreach 0 (Assign who.Outer 0 (Lit (Int (pos 1))) 0 ∷ []) 0 ∷ []) ∷ [])
 
 counts : step counting 0 0 (agent 0 1 (pos 0) (pos 0) (Int (pos 0) ∷ []) ∷ agent 0 2 (pos 2000000) (pos 0) (Int (pos 0) ∷ []) ∷ agent 0 3 (pos 2000001) (pos 0) (Int (pos 0) ∷ []) ∷ [])

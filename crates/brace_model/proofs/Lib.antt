@@ -1,4 +1,7 @@
 mod Examples
+pub mod FaultLemmas
+pub mod LawEquations
+mod LawfulExamples
 pub mod ValueEquations
 pub mod RunLemmas
 pub mod StepLemmas

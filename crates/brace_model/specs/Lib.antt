@@ -8,3 +8,6 @@ pub mod Step
 pub mod Run
 pub mod Published
 pub mod Rules
+pub mod Sites
+pub mod Typing
+pub mod Lawful

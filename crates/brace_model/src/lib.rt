@@ -1,13 +1,17 @@
 //! Programs, agents, worlds, jobs and faults, and the meaning of scripts.
 #![tactic(auto)]
 
+mod copy;
 mod fault;
 mod job;
+pub mod laws;
 mod program;
+mod sight;
 mod world;
 
 pub use brace_num::Area;
 pub use fault::{Fault, Phase, Stop, earlier, fault_less};
 pub use job::{Env, Job};
 pub use program::{BinOp, Class, Comb, Effect, Expr, Program, State, Stmt, Ty, UnOp, Value, Who};
+pub use sight::sees;
 pub use world::{Agent, Values, World};

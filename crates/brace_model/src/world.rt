@@ -1,8 +1,9 @@
-ghost use Rattle.std.specs.Prelude.{◌≡◌, IfSome, IfNone, MatchBool};
+ghost use Rattle.std.specs.Prelude.{◌≡◌, IfOk, IfSome, IfNone, MatchBool};
 ghost use Rattle.brace_model.specs.World.{RisesById};
 
 use crate::Value;
-use brace_num::List;
+use brace_num::{List, NoMemory};
+use std::alloc::Global;
 use std::marker::Model;
 
 /// The values of an agent's states, in the order of declaration.
@@ -66,4 +67,22 @@ impl World {
     {
         self.agents.as_slice()
     }
+    /// A world equal to this one.
+    pub fn copy(&self, alloc: Global) -> Result<World, NoMemory>
+        ensures { IfOk result (λ copy. copy ≡ self.now) }
+    {
+        let agents = copy_agents(alloc, self.agents())?;
+        Ok(World { agents })
+    }
+}
+
+/// Agents equal to these.
+fn copy_agents(alloc: Global, agents: &[Agent]) -> Result<Vec<Agent>, NoMemory>
+    ensures { IfOk result (λ copy. copy.items ≡ agents.now) }
+{
+    let mut copy = Vec::with_capacity(alloc, agents.len())?;
+    for agent in agents {
+        copy.push(agent.copy(alloc)?)?;
+    }
+    Ok(copy)
 }

@@ -1,0 +1,81 @@
+-- Small scripts that are lawful, and some that are not.
+use Rattle.std.proofs.Common.{◌≡◌, refl, sym, ap, subst, ℕ, zero, suc, pos, List, [], ◌∷◌, true, false, Option, Some, None, codes, arith}
+use Rattle.std.specs.Prelude.{slice_get}
+use Rattle.std.specs.List.{IsDistinct}
+use Rattle.std.specs.List.Sorted.{IsStrictlyIncreasing}
+use Rattle.std.proofs.lemmas.Bool.{true≢false}
+use Rattle.brace_model.specs.declared.program.Value.TheVariants.{Int, Fixed}
+use Rattle.brace_model.specs.declared.program.BinOp.TheVariants as op
+use Rattle.brace_model.specs.declared.program.Who.TheVariants as who
+use Rattle.brace_model.specs.declared.program.Expr.{Expr}
+use Rattle.brace_model.specs.declared.program.Expr.TheVariants.{Lit, Field, Binary}
+use Rattle.brace_model.specs.declared.program.Class.{Class}
+use Rattle.brace_model.specs.declared.program.Program.{Program}
+use Rattle.brace_model.specs.Lawful.{LawfulClass, LawfulProgram}
+use Rattle.brace_model.proofs.Examples.{class, script, drifting}
+use Rattle.brace_model.proofs.LawEquations.{type_of-Lit, type_of-Field, type_of-Binary, sites_of-Lit, sites_of-Field, sites_of-Binary}
+
+-- what a program of one class owes is that the class is lawful
+only_class : (c : Class) → LawfulClass (script (c ∷ [])) 0 c → (number : ℕ) (d : Class) → slice_get (c ∷ []) number ≡ Some d → LawfulClass (script (c ∷ [])) number d
+only_class c h zero d is = let same : c ≡ d = cc in subst (LawfulClass (script (c ∷ [])) 0) same h
+only_class c h (suc n) d is = absurd (cc)
+
+-- a class of agents whose x goes by a rule
+abbrev moving : Expr → Class
+moving rule = class (codes "P") (pos 0) (pos 2000000) (Some rule) None [] [] []
+
+abbrev one_and_a_half : Expr
+one_and_a_half = Lit (Fixed (pos 1500000))
+
+abbrev drift_rule : Expr
+drift_rule = Binary op.Add (Some 0) (Field who.This 0) one_and_a_half
+
+one_rises : IsStrictlyIncreasing (0 ∷ [])
+one_rises k below = absurd (omega arith)
+
+none_rise : IsStrictlyIncreasing []
+none_rise k below = absurd (omega arith)
+
+drifting_class : LawfulClass (script (moving drift_rule ∷ [])) 0 (moving drift_rule)
+unfolding IsDistinct
+drifting_class = record {
+  class_is_named = refl;
+  fields_are_named = refl;
+  field_names_differ = ((refl, tt), (tt, tt));
+  few_fields = omega arith;
+  visible_is_distance = refl;
+  reach_is_distance = refl;
+  x_is_position = refl;
+  y_is_position = refl;
+  effects_combine = refl;
+  rules_are_typed = simp (type_of-Lit, type_of-Field, type_of-Binary);
+  query_is_typed = refl;
+  constants_in_range = refl;
+  constants_differ = tt;
+  rule_sites_rise = simp (sites_of-Lit, sites_of-Field, sites_of-Binary) one_rises;
+  query_sites_rise = none_rise;
+}
+
+drifting_is_lawful : LawfulProgram drifting
+unfolding IsDistinct
+drifting_is_lawful = record {
+  few_classes = omega arith;
+  class_names_differ = (tt, tt);
+  classes_are_lawful = only_class (moving drift_rule) drifting_class;
+  sites_in_range = simp (sites_of-Lit, sites_of-Field, sites_of-Binary);
+  sites_differ = simp (sites_of-Lit, sites_of-Field, sites_of-Binary) (tt, tt);
+  few_assignments = omega arith;
+  loops_differ = tt;
+}
+
+-- an int is not added to a fixed number
+mistyped : LawfulProgram (script (moving (Binary op.Add (Some 0) (Field who.This 0) (Lit (Int (pos 1)))) ∷ [])) → ⊥
+mistyped lawful =
+    let typed = (lawful.classes_are_lawful 0 (moving (Binary op.Add (Some 0) (Field who.This 0) (Lit (Int (pos 1))))) refl).rules_are_typed in
+    true≢false (sym (simp (type_of-Lit, type_of-Field, type_of-Binary) at typed))
+
+-- a sum has a site
+siteless : LawfulProgram (script (moving (Binary op.Add None (Field who.This 0) one_and_a_half) ∷ [])) → ⊥
+siteless lawful =
+    let typed = (lawful.classes_are_lawful 0 (moving (Binary op.Add None (Field who.This 0) one_and_a_half)) refl).rules_are_typed in
+    true≢false (sym (simp (type_of-Lit, type_of-Field, type_of-Binary) at typed))
