@@ -1,0 +1,4 @@
+//! Runs of a script over an agent file.
+#![tactic(auto)]
+
+mod agents;
