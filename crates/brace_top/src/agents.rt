@@ -299,3 +299,135 @@ fn read_flag(text: &[u8]) -> Option<bool>
         None
     }
 }
+
+#[cfg(test)]
+mod tests {
+    use super::*;
+    use brace_model::Class;
+    use brace_num::Text;
+    use std::test::Fail;
+
+    fn class_of(alloc: Global, name: &str, types: &[Ty]) -> Result<Class, NoMemory> {
+        let mut states = List::new(alloc);
+        for ty in types {
+            states.push(State {
+                name: Text::from_string(String::new(alloc)),
+                ty: *ty,
+                shared: true,
+                rule: None,
+            })?;
+        }
+        let mut string = String::new(alloc);
+        string.push_str(name)?;
+        Ok(Class {
+            name: Text::from_string(string),
+            visible: 0,
+            reach: 0,
+            x: 0,
+            y: 1,
+            states,
+            effects: List::new(alloc),
+            query: List::new(alloc),
+        })
+    }
+
+    fn program_of(alloc: Global) -> Result<Program, NoMemory> {
+        let mut classes = List::new(alloc);
+        classes.push(class_of(alloc, "P", &[Ty::Fixed, Ty::Fixed])?)?;
+        classes.push(class_of(alloc, "F", &[Ty::Fixed, Ty::Fixed, Ty::Int])?)?;
+        classes.push(class_of(alloc, "Both", &[Ty::Bool, Ty::Bool])?)?;
+        Ok(Program {
+            classes,
+            sites: List::new(alloc),
+        })
+    }
+
+    const REFUSED: [&[u8]; 15] = [
+        b"\"P\",7,0,0\r\n",
+        b"P,7,0\n",
+        b"P,7,0,0,0\n",
+        b"P\n",
+        b"R,7,0,0\n",
+        b"P,7,0,x\n",
+        b"P,7,0,0\nP,7,0,0\n",
+        b"P,8,0,0\nP,7,0,0\n",
+        b"P,7,0,0\n\nP,8,0,0\n",
+        b"\n",
+        b"P,7,0,0,\n",
+        b"P,7,0,0\t\n",
+        b"P,9223372036854775808,0,0\n",
+        b"P,-1,0,0\n",
+        b"F,1,0,0,9223372036854775808\n",
+    ];
+
+    #[test]
+    fn refuses_what_is_no_thin_file(rt: HostRuntime) -> Result<(), Fail> {
+        let program = program_of(rt.alloc())?;
+        for file in REFUSED {
+            let refused = match read_thin_agents(rt.alloc(), &program, file) {
+                Err(fault) => fault == AgentsFault::NotThin,
+                Ok(_) => false,
+            };
+            assert!(rt; refused, "{file:?}");
+        }
+        Ok(())
+    }
+
+    #[test]
+    fn reads_agents_of_thin_files(rt: HostRuntime) -> Result<(), Fail> {
+        let program = program_of(rt.alloc())?;
+        let files: [(&[u8], usize, u32, u64, &[Value]); 6] = [
+            (b"P,7,0,0\n", 1, 0, 7, &[Value::Fixed(0), Value::Fixed(0)]),
+            (
+                b"P,1,0,9223372036854",
+                1,
+                0,
+                1,
+                &[Value::Fixed(0), Value::Fixed(9_223_372_036_854_000_000)],
+            ),
+            (
+                b"F,1,0,0,0\nF,2,2.5,-0,-3\n",
+                2,
+                1,
+                2,
+                &[Value::Fixed(2_500_000), Value::Fixed(0), Value::Int(-3)],
+            ),
+            (
+                b"P,007,-0,01.50\n",
+                1,
+                0,
+                7,
+                &[Value::Fixed(0), Value::Fixed(1_500_000)],
+            ),
+            (
+                b"Both,9223372036854775807,true,false\n",
+                1,
+                2,
+                9_223_372_036_854_775_807,
+                &[Value::Flag(true), Value::Flag(false)],
+            ),
+            (
+                b"P,0,1,2\nF,3,0,0,0\nP,20,-1,-0.000001",
+                3,
+                0,
+                20,
+                &[Value::Fixed(-1_000_000), Value::Fixed(-1)],
+            ),
+        ];
+        for (file, count, class, id, states) in files {
+            let world = read_thin_agents(rt.alloc(), &program, file)
+                .ok()
+                .ok_or("refused")?;
+            let last = world.agents().last().ok_or("no agents")?;
+            assert_eq!(rt; world.agents().len(), count);
+            assert_eq!(rt; last.class, class);
+            assert_eq!(rt; last.id, id);
+            assert_eq!(rt; last.states.as_slice(), states);
+        }
+        let empty = read_thin_agents(rt.alloc(), &program, b"")
+            .ok()
+            .ok_or("refused")?;
+        assert_eq!(rt; empty.agents().len(), 0);
+        Ok(())
+    }
+}

@@ -2,3 +2,5 @@
 #![tactic(auto)]
 
 mod agents;
+
+pub use agents::{AgentsFault, read_thin_agents};
