@@ -1,0 +1,3 @@
+pub mod ThinSteps
+pub mod ThinTokens
+pub mod Thin
