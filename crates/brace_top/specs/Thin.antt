@@ -186,7 +186,7 @@ sum_from src tokens headings t at sites first count = steps (longer src tokens h
 abbrev pub sum_at : List ℕ → List Token → List Heading → Ty → ℕ → Option Expr
 sum_at src tokens headings t at =
     let n = length_at tokens at in
-    if n % 2 == 1 && nat_le n 513 
+    if n % 2 == 1 && nat_le n 513
     then part_of src headings t (token_at tokens at) >>= (λ first. sum_from src tokens headings t at (sites_before tokens at) first (n / 2)) else None
 
 -- the rule of a state whose heading ends before a place: none, or a sum behind a `:`

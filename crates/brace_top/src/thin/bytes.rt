@@ -104,10 +104,7 @@ pub fn same(a: &[u8], b: &[u8]) -> bool
 fn reserved_a(text: &[u8]) -> bool
     ensures { result ≡ reserved_a text.now }
 {
-    same(text, b"class")
-        || same(text, b"public")
-        || same(text, b"private")
-        || same(text, b"state")
+    same(text, b"class") || same(text, b"public") || same(text, b"private") || same(text, b"state")
 }
 
 #[tactic(auto, unfolding(crate::specs::ThinTokens::reserved_e))]
@@ -154,10 +151,7 @@ fn reserved_c(text: &[u8]) -> bool
 fn reserved_d(text: &[u8]) -> bool
     ensures { result ≡ reserved_d text.now }
 {
-    same(text, b"or")
-        || same(text, b"die")
-        || same(text, b"spawn")
-        || same(text, b"when")
+    same(text, b"or") || same(text, b"die") || same(text, b"spawn") || same(text, b"when")
 }
 
 #[tactic(auto, unfolding(crate::specs::ThinTokens::is_reserved))]
@@ -186,8 +180,5 @@ fn are_word_bytes(text: &[u8]) -> bool
 pub fn is_name(text: &[u8]) -> bool
     ensures { result ≡ is_name text.now }
 {
-    text.len() <= 64
-        && first_is_letter(text)
-        && are_word_bytes(text)
-        && !is_reserved(text)
+    text.len() <= 64 && first_is_letter(text) && are_word_bytes(text) && !is_reserved(text)
 }

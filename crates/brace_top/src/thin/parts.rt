@@ -120,7 +120,10 @@ pub fn type_of(token: Token) -> Option<Ty>
 fn same_type(a: Ty, b: Ty) -> bool
     ensures { result ≡ same_type a b }
 {
-    matches!((a, b), (Ty::Int, Ty::Int) | (Ty::Fixed, Ty::Fixed) | (Ty::Bool, Ty::Bool))
+    matches!(
+        (a, b),
+        (Ty::Int, Ty::Int) | (Ty::Fixed, Ty::Fixed) | (Ty::Bool, Ty::Bool)
+    )
 }
 
 fn named(alloc: Global, text: &[u8]) -> Result<Text, ThinFault>
@@ -153,7 +156,8 @@ fn find_state(headings: &[Heading], ty: Ty, name: &[u8]) -> Option<usize>
     ensures place { result ≡ state_of headings.now ty name.now }
     ensures within { IfSome result (λ n. n < length headings.now) }
 {
-    headings.iter().position(|heading| same(heading.name.as_bytes(), name) && same_type(heading.ty, ty))
+    headings.iter().position(|heading| same(heading.name.as_bytes(), name)
+        && same_type(heading.ty, ty))
 }
 
 /// The place among at most 64 states of the first with a type and a name.
@@ -171,7 +175,11 @@ pub fn state_of(headings: &[Heading], ty: Ty, name: &[u8]) -> Option<u32>
 pub fn is_only(headings: &[Heading], name: &[u8]) -> bool
     ensures { result ≡ is_only headings.now name.now }
 {
-    headings.iter().filter(|heading| same(heading.name.as_bytes(), name)).count() == 1
+    headings
+        .iter()
+        .filter(|heading| same(heading.name.as_bytes(), name))
+        .count()
+        == 1
 }
 
 /// A part of a sum of a type.
@@ -220,7 +228,10 @@ pub fn sites_before(tokens: &[Token], at: usize) -> usize
     ensures value { result ≡ sites_before tokens.now at }
     ensures within { result ≤ length tokens.now }
 {
-    tokens[..at].iter().filter(|token| is_operator(**token)).count()
+    tokens[..at]
+        .iter()
+        .filter(|token| is_operator(**token))
+        .count()
 }
 
 /// The byte offsets of all sites.
@@ -228,5 +239,11 @@ pub fn sites_of(alloc: Global, tokens: &[Token]) -> Result<Vec<u32>, ThinFault>
     ensures sites { IfOk result (λ sites. sites.items ≡ sites_of tokens.now) }
     ensures thin { result ≡ Err ThinFault.NotThin → ⊥ }
 {
-    Ok(tokens.iter().filter(|token| is_operator(**token)).map(|token| place_of(*token)).collect(alloc)?)
+    Ok(
+        tokens
+            .iter()
+            .filter(|token| is_operator(**token))
+            .map(|token| place_of(*token))
+            .collect(alloc)?,
+    )
 }

@@ -3,7 +3,9 @@ ghost use Rattle.brace_top.specs.ThinSteps.{Gives};
 ghost use Rattle.brace_top.specs.Thin.{is_framed, class_of, program_of, thin_program};
 
 use crate::thin::fault::ThinFault;
-use crate::thin::parts::{is_class, is_close_brace, is_open_brace, is_semicolon, name_of, sites_of, state_of, token_at};
+use crate::thin::parts::{
+    is_class, is_close_brace, is_open_brace, is_semicolon, name_of, sites_of, state_of, token_at,
+};
 use crate::thin::states::{headings_of, only_reach, reaches_of, states_of};
 use crate::thin::token::{Heading, Token};
 use crate::thin::tokens::tokens_of;
@@ -21,7 +23,13 @@ fn is_framed(tokens: &[Token]) -> bool
         && is_close_brace(token_at(tokens, tokens.len() - 1))
 }
 
-fn class_of(alloc: Global, src: &[u8], tokens: &[Token], name: Text, headings: &[Heading]) -> Result<Class, ThinFault>
+fn class_of(
+    alloc: Global,
+    src: &[u8],
+    tokens: &[Token],
+    name: Text,
+    headings: &[Heading],
+) -> Result<Class, ThinFault>
     requires { 1 ≤ length tokens.now }
     ensures { Gives (λ class. class) result (class_of src.now tokens.now name headings.now) }
 {

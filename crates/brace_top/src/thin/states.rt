@@ -3,7 +3,10 @@ ghost use Rattle.brace_top.specs.ThinSteps.{Gives, more};
 ghost use Rattle.brace_top.specs.Thin.{item_begins, reach_begins, state_begins, reach_of, reach_at, only_reach, heading_at, longer, joined, sum_from, sum_at, rule_at, state_at, headings_of, reaches_of, states_of};
 
 use crate::thin::fault::ThinFault;
-use crate::thin::parts::{is_close_bracket, is_colon, is_only, is_open_bracket, is_public, is_reach, is_semicolon, is_state, length_at, name_of, operator_of, part_of, sites_before, token_at, type_of};
+use crate::thin::parts::{
+    is_close_bracket, is_colon, is_only, is_open_bracket, is_public, is_reach, is_semicolon,
+    is_state, length_at, name_of, operator_of, part_of, sites_before, token_at, type_of,
+};
 use crate::thin::token::{Heading, Token};
 use brace_model::{BinOp, Expr, State, Ty};
 use brace_num::Boxed;
@@ -12,7 +15,11 @@ use std::alloc::Global;
 fn item_begins(tokens: &[Token], at: usize) -> bool
     ensures { result ≡ item_begins tokens.now at }
 {
-    if at == 3 { true } else { 3 < at && is_semicolon(token_at(tokens, at - 1)) }
+    if at == 3 {
+        true
+    } else {
+        3 < at && is_semicolon(token_at(tokens, at - 1))
+    }
 }
 
 fn reach_begins(tokens: &[Token], at: usize) -> bool
@@ -90,7 +97,13 @@ fn heading_at(alloc: Global, src: &[u8], tokens: &[Token], at: usize) -> Result<
     }
 }
 
-fn joined(alloc: Global, left: Expr, op: Option<BinOp>, site: usize, right: Option<Expr>) -> Result<Expr, ThinFault>
+fn joined(
+    alloc: Global,
+    left: Expr,
+    op: Option<BinOp>,
+    site: usize,
+    right: Option<Expr>,
+) -> Result<Expr, ThinFault>
     ensures { Gives (λ sum. sum) result (joined left op site right) }
 {
     match (op, right) {
@@ -153,7 +166,14 @@ fn sum_from(
     Ok(sum)
 }
 
-fn sum_at(alloc: Global, src: &[u8], tokens: &[Token], headings: &[Heading], ty: Ty, at: usize) -> Result<Expr, ThinFault>
+fn sum_at(
+    alloc: Global,
+    src: &[u8],
+    tokens: &[Token],
+    headings: &[Heading],
+    ty: Ty,
+    at: usize,
+) -> Result<Expr, ThinFault>
     requires few { length headings.now ≤ 64 }
     requires inside { at ≤ length tokens.now }
     ensures { Gives (λ sum. sum) result (sum_at src.now tokens.now headings.now ty at) }
@@ -163,12 +183,29 @@ fn sum_at(alloc: Global, src: &[u8], tokens: &[Token], headings: &[Heading], ty:
         return Err(ThinFault::NotThin);
     }
     match part_of(src, headings, ty, token_at(tokens, at)) {
-        Some(first) => sum_from(alloc, src, tokens, headings, ty, at, sites_before(tokens, at), first, n / 2),
+        Some(first) => sum_from(
+            alloc,
+            src,
+            tokens,
+            headings,
+            ty,
+            at,
+            sites_before(tokens, at),
+            first,
+            n / 2,
+        ),
         None => Err(ThinFault::NotThin),
     }
 }
 
-fn rule_at(alloc: Global, src: &[u8], tokens: &[Token], headings: &[Heading], ty: Ty, at: usize) -> Result<Option<Expr>, ThinFault>
+fn rule_at(
+    alloc: Global,
+    src: &[u8],
+    tokens: &[Token],
+    headings: &[Heading],
+    ty: Ty,
+    at: usize,
+) -> Result<Option<Expr>, ThinFault>
     requires few { length headings.now ≤ 64 }
     requires inside { at ≤ length tokens.now + 4 }
     ensures { Gives (λ rule. rule) result (rule_at src.now tokens.now headings.now ty at) }
@@ -183,7 +220,13 @@ fn rule_at(alloc: Global, src: &[u8], tokens: &[Token], headings: &[Heading], ty
     }
 }
 
-fn state_at(alloc: Global, src: &[u8], tokens: &[Token], headings: &[Heading], at: usize) -> Result<State, ThinFault>
+fn state_at(
+    alloc: Global,
+    src: &[u8],
+    tokens: &[Token],
+    headings: &[Heading],
+    at: usize,
+) -> Result<State, ThinFault>
     requires few { length headings.now ≤ 64 }
     requires inside { at < length tokens.now }
     ensures { Gives (λ state. state) result (state_at src.now tokens.now headings.now at) }
@@ -201,7 +244,13 @@ fn state_at(alloc: Global, src: &[u8], tokens: &[Token], headings: &[Heading], a
     })
 }
 
-fn push_heading(alloc: Global, src: &[u8], tokens: &[Token], at: usize, headings: &mut Vec<Heading>) -> Result<(), ThinFault>
+fn push_heading(
+    alloc: Global,
+    src: &[u8],
+    tokens: &[Token],
+    at: usize,
+    headings: &mut Vec<Heading>,
+) -> Result<(), ThinFault>
     requires { at < length tokens.now }
     ensures { Gives (λ _. headings.new.items) result (more (state_begins tokens.now) (heading_at src.now tokens.now) at headings.old.items) }
 {
@@ -267,7 +316,12 @@ fn push_state(
 }
 
 /// All states, with their rules.
-pub fn states_of(alloc: Global, src: &[u8], tokens: &[Token], headings: &[Heading]) -> Result<Vec<State>, ThinFault>
+pub fn states_of(
+    alloc: Global,
+    src: &[u8],
+    tokens: &[Token],
+    headings: &[Heading],
+) -> Result<Vec<State>, ThinFault>
     requires few { length headings.now ≤ 64 }
     requires some { 1 ≤ length tokens.now }
     ensures { Gives (λ states. states.items) result (states_of src.now tokens.now headings.now) }

@@ -1,5 +1,5 @@
-use brace_num::Text;
 use brace_model::Ty;
+use brace_num::Text;
 
 /// A token of a thin script.
 #[derive(Debug, Clone, Copy, PartialEq, Eq, Drop)]
