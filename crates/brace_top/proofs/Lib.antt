@@ -1,3 +1,5 @@
 pub mod RuleLemmas
 pub mod Cuts
 pub mod AgentLines
+pub mod ThinLemmas
+pub mod ThinNames

@@ -4,3 +4,5 @@ pub mod Lines
 pub mod Outcome
 pub mod Thin
 pub mod ThinAgents
+pub mod ThinSteps
+pub mod ThinTokens
