@@ -1,2 +1,3 @@
+pub mod MemLemmas
 pub mod ReadLemmas
 pub mod WholeLemmas
