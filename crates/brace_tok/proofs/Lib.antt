@@ -5,3 +5,4 @@ pub mod Lengths
 pub mod Rows
 pub mod Heads
 pub mod Unique
+pub mod Named

@@ -16,16 +16,16 @@ use Rattle.brace_tok.proofs.Rows.{Read, sound_anywhere, formed_some}
 abbrev pub Ends : List ℕ → Type 0
 Ends text = (text ≡ []) ⊎ ((bad : Piece) × (after : List ℕ) × (text ≡ bytes_of bad ++ after) × (is_longest bad after ≡ true) × (is_sound (says 0 bad) ≡ false))
 
-row_longest : (p : Piece) (row : List Piece) (after : List ℕ) → is_row (p ∷ row) after ≡ true → is_longest p (text_of row ++ after) ≡ true
+pub row_longest : (p : Piece) (row : List Piece) (after : List ℕ) → is_row (p ∷ row) after ≡ true → is_longest p (text_of row ++ after) ≡ true
 row_longest p row after e = first_of_both (is_longest p (text_of row ++ after)) (is_sound (says 0 p)) (first_of_both _ (is_row row after) e)
 
-row_sound : (p : Piece) (row : List Piece) (after : List ℕ) → is_row (p ∷ row) after ≡ true → is_sound (says 0 p) ≡ true
+pub row_sound : (p : Piece) (row : List Piece) (after : List ℕ) → is_row (p ∷ row) after ≡ true → is_sound (says 0 p) ≡ true
 row_sound p row after e = second_of_both (is_longest p (text_of row ++ after)) (is_sound (says 0 p)) (first_of_both _ (is_row row after) e)
 
-row_rest : (p : Piece) (row : List Piece) (after : List ℕ) → is_row (p ∷ row) after ≡ true → is_row row after ≡ true
+pub row_rest : (p : Piece) (row : List Piece) (after : List ℕ) → is_row (p ∷ row) after ≡ true → is_row row after ≡ true
 row_rest p row after e = second_of_both (is_longest p (text_of row ++ after) && is_sound (says 0 p)) (is_row row after) e
 
-longest_some : (p : Piece) (after : List ℕ) → is_longest p after ≡ true → 0 < length (bytes_of p)
+pub longest_some : (p : Piece) (after : List ℕ) → is_longest p after ≡ true → 0 < length (bytes_of p)
 longest_some p after e = formed_some p (first_of_both (is_formed p) (ends_before p after) e)
 
 no_start : (text : List ℕ) (q : Piece) (s : List ℕ) → Ends text → text ≡ bytes_of q ++ s → is_longest q s ≡ true → is_sound (says 0 q) ≡ true → ⊥
@@ -35,7 +35,7 @@ no_start text q s (inr (bad, after, cut, longest, unsound)) e l sound =
     let both_ways : true ≡ false = sym sound ∙ ap (λ p. is_sound (says 0 p)) (sym same) ∙ unsound in
     cc
 
-same_rows : (row other : List Piece) (a b : List ℕ) → Ends a → Ends b → text_of row ++ a ≡ text_of other ++ b → is_row row a ≡ true → is_row other b ≡ true
+pub same_rows : (row other : List Piece) (a b : List ℕ) → Ends a → Ends b → text_of row ++ a ≡ text_of other ++ b → is_row row a ≡ true → is_row other b ≡ true
     → (row ≡ other) × (a ≡ b)
 same_rows [] [] a b s t e f g = (refl, e)
 same_rows [] (q ∷ other) a b s t e f g =

@@ -3,5 +3,6 @@ pub mod Tables
 pub mod Pieces
 pub mod Sayings
 pub mod Spells
+pub mod Names
 pub mod Steps
 pub mod Answers

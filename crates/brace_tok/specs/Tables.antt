@@ -32,9 +32,13 @@ reserved = found words
 unfoldable pub reserved_of : ℕ → List ℕ → Option TokKind
 reserved_of n = found (filter (λ entry. length entry.0 == n) words)
 
+-- the directives
+abbrev pub directives : List (List ℕ × TokKind)
+directives = (codes "visible", kind.Visible) ∷ (codes "reach", kind.Reach) ∷ []
+
 -- the word behind a `#`
 unfoldable pub directive : List ℕ → Option TokKind
-directive = found ((codes "visible", kind.Visible) ∷ (codes "reach", kind.Reach) ∷ [])
+directive = found directives
 
 -- the symbols, of one byte or two
 abbrev pub symbols : List (List ℕ × TokKind)

@@ -1,5 +1,6 @@
-ghost use Rattle.std.specs.Prelude.{◌≡◌, ◌⊎◌, ◌≤◌, List, length, IfOk, IfErr, MatchResult};
+ghost use Rattle.std.specs.Prelude.{◌≡◌, ◌⊎◌, ◌≤◌, All, List, length, IfOk, IfErr, MatchResult};
 ghost use Rattle.brace_tok.specs.Answers.{IsFault};
+ghost use Rattle.brace_tok.specs.Names.{IsNamed};
 ghost use Rattle.brace_tok.specs.Spells.{FirstFault, Rises, Spells};
 ghost use Rattle.brace_tok.specs.declared.fault.TokFault.{TokFault};
 ghost use Rattle.brace_tok.specs.declared.kinds.Token.{Token};
@@ -16,6 +17,7 @@ pub fn tokens(alloc: Global, src: &[u8]) -> Result<Vec<Token>, TokFault>
     ensures refused { IfErr result (IsFault src.now) }
     ensures listed { (toks : List Token) → Spells src.now toks → MatchResult result (λ list. list.items ≡ toks) (λ fault. fault ≡ TokFault.NoMemory) }
     ensures faulted { (first : TokFault) → FirstFault src.now first → MatchResult result (λ _. ⊥) (λ fault. (fault ≡ first) ⊎ (fault ≡ TokFault.NoMemory)) }
+    ensures names { IfOk result (λ toks. All (IsNamed src.now) toks.items) }
     ensures rising { IfOk result (λ toks. Rises 0 (length src.now) toks.items) }
 {
     let mut toks = Vec::new(alloc);

@@ -2,6 +2,7 @@ use Rattle.std.proofs.Common.{sym, subst, refl, arith, List, ℕ}
 use Rattle.std.proofs.lemmas.Bool.{eqb-true}
 use Rattle.brace_tok.proofs.Rows.{Read, read_step, step_bounds, fault_of}
 use Rattle.brace_tok.proofs.Unique.{read_all, one_list, no_list, only_memory, that_fault, spells_rises}
+use Rattle.brace_tok.proofs.Named.{spells_names}
 use Rattle.brace_tok.proofs.scan.tokens.Goals as goal
 
 pub returns-in-Err-clause-refused : goal.returns-in-Err-clause-refused
@@ -21,6 +22,9 @@ returns-clause-faulted c first s = no_list _ _ first (read_all _ _ _ (eqb-true _
 
 pub returns-clause-rising : goal.returns-clause-rising
 returns-clause-rising c = spells_rises _ _ (read_all _ _ _ (eqb-true _ _ (sym c.loop-rest-test.ensures)) c.loop-rest.invariant)
+
+pub returns-clause-names : goal.returns-clause-names
+returns-clause-names c = spells_names _ _ (read_all _ _ _ (eqb-true _ _ (sym c.loop-rest-test.ensures)) c.loop-rest.invariant)
 
 pub loop-rest-smaller : goal.loop-rest-smaller
 loop-rest-smaller c =
