@@ -41,7 +41,7 @@ pub text-ended : (job : Job) (fresh : Bool) (n k : ℕ) (fault : Fault) → worl
 text-ended job fresh n zero fault e = rw add-zero refl
 text-ended job fresh n (suc k) fault e =
     let more : text_of_ticks job fresh (n + k + 1) ≡ text_of_ticks job fresh (n + k) ++ tick_text job fresh (job.first + (n + k)) (Err fault) =
-        text-next job fresh (n + k) ∙ ap (λ (r : Result (List Agent) Fault). text_of_ticks job fresh (n + k) ++ tick_text job fresh (job.first + (n + k)) r) (world_after-ended job n k fault e) in
+    text-next job fresh (n + k) ∙ ap (λ (r : Result (List Agent) Fault). text_of_ticks job fresh (n + k) ++ tick_text job fresh (job.first + (n + k)) r) (world_after-ended job n k fault e) in
     ap (λ (m : ℕ). text_of_ticks job fresh m) (add-suc n k ∙ sym (add-one (n + k))) ∙ more ∙ append-nil _ ∙ text-ended job fresh n k fault e
 
 -- the text so far begins the text of more ticks
