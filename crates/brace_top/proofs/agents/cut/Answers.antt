@@ -1,4 +1,4 @@
-use Rattle.std.proofs.Common.{◌≡◌, ◌∷◌, ◌+◌, eqb, take, drop, ap, sym, ◌∙◌}
+use Rattle.std.proofs.Common.{◌∷◌, ◌+◌, eqb, take, ap, sym, ◌∙◌}
 use Rattle.std.specs.List.{slice_split}
 use Rattle.std.proofs.lemmas.List.{take_rest}
 use Rattle.brace_top.proofs.Cuts.{cut_some, cut_none}

@@ -1,4 +1,4 @@
-use Rattle.std.proofs.Common.{◌≡◌, [], ◌∷◌, ap, sym, ◌∙◌}
+use Rattle.std.proofs.Common.{[], ◌∷◌, ap, sym, ◌∙◌}
 use Rattle.std.specs.Option.{option_copied}
 use Rattle.brace_top.specs.ThinAgents.{parts_after}
 use Rattle.brace_top.proofs.Cuts.{line_first, line_last}

@@ -2,7 +2,7 @@ use Rattle.std.proofs.Common.{sym, subst}
 use Rattle.std.specs.Option.{option_copied}
 use Rattle.std.proofs.lemmas.List.{drop_all}
 use Rattle.brace_top.specs.ThinAgents.{parts_after}
-use Rattle.brace_top.proofs.AgentLines.{ValuesSoFar, values_start, values_end, values_extra}
+use Rattle.brace_top.proofs.AgentLines.{ValuesSoFar, values_start, values_extra}
 use Rattle.brace_top.proofs.agents.read_values.Goals as goal
 
 pub loop-state-init : goal.loop-state-init
