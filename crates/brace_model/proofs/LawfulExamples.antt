@@ -1,5 +1,5 @@
 -- Small scripts that are lawful, and some that are not.
-use Rattle.std.proofs.Common.{◌≡◌, refl, sym, ap, subst, ℕ, zero, suc, pos, List, [], ◌∷◌, true, false, Option, Some, None, codes, arith}
+use Rattle.std.proofs.Common.{◌≡◌, refl, sym, subst, ℕ, zero, suc, pos, List, [], ◌∷◌, true, Some, None, codes, arith}
 use Rattle.std.specs.Prelude.{slice_get}
 use Rattle.std.specs.List.{IsDistinct}
 use Rattle.std.specs.List.Sorted.{IsStrictlyIncreasing}
@@ -14,10 +14,9 @@ use Rattle.brace_model.specs.declared.program.Expr.TheVariants.{Lit, Field, Tota
 use Rattle.brace_model.specs.declared.program.Stmt.{Stmt}
 use Rattle.brace_model.specs.declared.program.Stmt.TheVariants.{Const, If, Foreach, Assign}
 use Rattle.brace_model.specs.declared.program.Class.{Class}
-use Rattle.brace_model.specs.declared.program.Program.{Program}
 use Rattle.brace_model.specs.Lawful.{LawfulClass, LawfulProgram, LawfulJob}
 use Rattle.brace_model.proofs.Examples.{state, effect, class, script, drifting, drift}
-use Rattle.brace_model.proofs.LawEquations.{type_of-Lit, type_of-Field, type_of-Total, type_of-Local, type_of-Binary, sites_of-Lit, sites_of-Field, sites_of-Total, sites_of-Binary, scope_after-Const, scope_after-If, scope_after-Foreach, scope_after-Assign, sites_in-Foreach, sites_in-Assign, constant_numbers-Foreach, constant_numbers-Assign, loop_offsets-Foreach, loop_offsets-Assign, assignments-Foreach, assignments-Assign}
+use Rattle.brace_model.proofs.LawEquations.{type_of-Lit, type_of-Field, type_of-Total, type_of-Local, type_of-Binary, sites_of-Lit, sites_of-Field, sites_of-Total, sites_of-Binary, scope_after-Const, scope_after-If, scope_after-Foreach, scope_after-Assign, sites_in-Foreach, sites_in-Assign, constant_numbers-Foreach, constant_numbers-Assign}
 
 -- what a program of one class owes is that the class is lawful
 only_class : (c : Class) → LawfulClass (script (c ∷ [])) 0 c → (number : ℕ) (d : Class) → slice_get (c ∷ []) number ≡ Some d → LawfulClass (script (c ∷ [])) number d
