@@ -40,18 +40,18 @@ abbrev pub script : List Class → Program
 script classes = record { classes = classes; sites = [] }
 
 -- an agent of a class, its id, its place, and its other states
-abbrev agent : ℕ → ℕ → ℤ → ℤ → List Value → Agent
+abbrev pub agent : ℕ → ℕ → ℤ → ℤ → List Value → Agent
 agent number id x y states = record { class = number; id = id; states = Fixed x ∷ Fixed y ∷ states }
 
 -- an agent that moves by 1.5 in each tick, with a reach of 2.0
 abbrev pub drifting : Program
 drifting = script (class (codes "P") (pos 0) (pos 2000000) (Some (Binary op.Add (Some 0) (Field who.This 0) (Lit (Fixed (pos 1500000))))) None [] [] [] ∷ [])
 
-abbrev drifter : ℤ → List Agent
+abbrev pub drifter : ℤ → List Agent
 drifter x = agent 0 7 x (pos 0) [] ∷ []
 
 -- a job of one drifter from a tick, which publishes every third tick
-abbrev drift : ℕ → ℕ → ℕ → ℤ → Job
+abbrev pub drift : ℕ → ℕ → ℕ → ℤ → Job
 drift first last every x = record { program = drifting; seed = 0; first = first; last = last; every = every; start = drifter x }
 
 drift_step : (tick : ℕ) → step drifting 0 tick (drifter (pos 0)) ≡ Ok (drifter (pos 1500000))

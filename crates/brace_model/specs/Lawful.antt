@@ -1,6 +1,6 @@
 -- Lawful programs, agents and jobs: what a checked script, the agents that fit it, and a run of it keep to.
-use Rattle.std.specs.Prelude.{ℕ, ℤ, pos, int_le, ◌+◌, ◌<◌, ◌≤◌, ◌^◌, ◌≡◌, nat_eq, nat_lt, List, [], ◌∷◌, ◌++◌, map, flat_map, sum, sum_by, length, slice_get, codes, Bool, true, false, not, ◌&&◌, ◌||◌, IsTrue, Option, Some, None, is_some}
-use Rattle.std.specs.List.{All, IsDistinct, list_all, list_any}
+use Rattle.std.specs.Prelude.{ℕ, ℤ, pos, int_le, ◌+◌, ◌≤◌, ◌^◌, ◌≡◌, nat_eq, nat_lt, List, [], ◌∷◌, ◌++◌, map, flat_map, sum, sum_by, length, slice_get, codes, Bool, true, false, not, ◌&&◌, ◌||◌, IsTrue, Option, Some, None, is_some}
+use Rattle.std.specs.List.{IsDistinct, list_all, list_any}
 use Rattle.std.specs.List.Sorted.{IsStrictlyIncreasing}
 use Rattle.std.specs.Cmp.Lexicographic.{pointwise}
 use Rattle.std.specs.Str.{bytes_eq}
@@ -75,7 +75,7 @@ abbrev pub is_ruled : Names → Ty → Option Expr → Bool
 is_ruled names t None = true
 is_ruled names t (Some rule) = is_of_type t (type_of rule names)
 
--- the class of a number in a program
+-- the class of that number in a program: names, limits, position, types, and numbers of constants and sites
 pub record LawfulClass (program : Program) (number : ℕ) (class : Class) : Type 0 where
   pub class_is_named : IsTrue (is_name class.name)
   pub fields_are_named : IsTrue (list_all is_name (field_names class))
@@ -93,6 +93,7 @@ pub record LawfulClass (program : Program) (number : ℕ) (class : Class) : Type
   pub rule_sites_rise : IsStrictlyIncreasing (rule_sites class)
   pub query_sites_rise : IsStrictlyIncreasing (query_sites class)
 
+-- at most 16 classes of different names, each of which is lawful, and limits and numbers that hold over the whole script
 pub record LawfulProgram (program : Program) : Type 0 where
   pub few_classes : length program.classes ≤ 16
   pub class_names_differ : IsDistinct bytes_eq (map (λ c. c.name) program.classes)
@@ -117,6 +118,7 @@ pub record LawfulAgents (program : Program) (agents : List Agent) : Type 0 where
   pub few_agents : length agents ≤ 1048576
   pub few_values : sum_by (λ a. length a.states) agents ≤ 4194304
 
+-- a run of a lawful program from lawful agents, whose ticks are at most 2^32 and which publishes every so many ticks
 pub record LawfulJob (job : Job) : Type 0 where
   pub program_is_lawful : LawfulProgram job.program
   pub start_is_lawful : LawfulAgents job.program job.start

@@ -1,8 +1,7 @@
 -- The numbers that a script carries: its sites in finishing order, its constants, its loops' offsets, and how many assignments it has.
-use Rattle.std.specs.Prelude.{ℕ, ◌+◌, List, [], ◌∷◌, ◌++◌, map, flat_map, sum}
+use Rattle.std.specs.Prelude.{ℕ, ◌+◌, List, [], ◌∷◌, ◌++◌, flat_map, sum}
 use Rattle.std.specs.List.{concat}
 use Rattle.std.specs.Option.{option_to_list}
-use Rattle.brace_model.specs.declared.program.State.{State}
 use Rattle.brace_model.specs.declared.program.Class.{Class}
 use Rattle.brace_model.specs.declared.program.Program.{Program}
 use Rattle.brace_model.specs.declared.program.Expr.{Expr}
@@ -27,6 +26,7 @@ sites_step (expr.Rand site) = site ∷ []
 abbrev pub sites_of : Expr → List ℕ
 sites_of = fold-Expr (List ℕ) sites_step
 
+-- the sites of one statement: those of its expressions and blocks in text order
 abbrev pub query_sites_step : Stmt-F (List ℕ) → List ℕ
 query_sites_step (Const n e) = sites_of e
 query_sites_step (If c a b) = sites_of c ++ (concat a ++ concat b)
@@ -37,6 +37,7 @@ query_sites_step (Assign who effect e at) = sites_of e
 abbrev pub sites_in : Stmt → List ℕ
 sites_in = fold-Stmt (List ℕ) query_sites_step
 
+-- the numbers of the constants of one statement and of its blocks
 abbrev pub constant_numbers_step : Stmt-F (List ℕ) → List ℕ
 constant_numbers_step (Const n e) = n ∷ []
 constant_numbers_step (If c a b) = concat a ++ concat b
@@ -47,6 +48,7 @@ constant_numbers_step (Assign who effect e at) = []
 abbrev pub constant_numbers : Stmt → List ℕ
 constant_numbers = fold-Stmt (List ℕ) constant_numbers_step
 
+-- the offsets of one statement, if it is a loop, and of its blocks
 abbrev pub loop_offsets_step : Stmt-F (List ℕ) → List ℕ
 loop_offsets_step (Const n e) = []
 loop_offsets_step (If c a b) = concat a ++ concat b
@@ -57,6 +59,7 @@ loop_offsets_step (Assign who effect e at) = []
 abbrev pub loop_offsets : Stmt → List ℕ
 loop_offsets = fold-Stmt (List ℕ) loop_offsets_step
 
+-- the assignments of one statement and of its blocks
 abbrev pub assignments_step : Stmt-F ℕ → ℕ
 assignments_step (Const n e) = 0
 assignments_step (If c a b) = sum a + sum b

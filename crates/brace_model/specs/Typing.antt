@@ -31,16 +31,19 @@ pub record Names : Type 0 where
   pub in_rule : Bool
   pub known : List (ℕ × Ty)
 
+-- two types are one
 abbrev pub same_type : Ty → Ty → Bool
 same_type ty.Int ty.Int = true
 same_type ty.Fixed ty.Fixed = true
 same_type ty.Bool ty.Bool = true
 same_type _ _ = false
 
+-- a type that counts: int or fixed
 abbrev pub is_number : Ty → Bool
 is_number ty.Bool = false
 is_number _ = true
 
+-- the type that a value has
 abbrev pub type_of_value : Value → Ty
 type_of_value (val.Int n) = ty.Int
 type_of_value (val.Fixed n) = ty.Fixed
@@ -78,11 +81,13 @@ abbrev pub is_sited : Bool → Option ℕ → Bool
 is_sited true site = is_some site
 is_sited false site = is_none site
 
+-- an operation on one operand that can fault
 abbrev pub unary_faults : UnOp → Bool
 unary_faults un.Not = false
 unary_faults un.Trunc = false
 unary_faults _ = true
 
+-- an operation on two operands that can fault
 abbrev pub binary_faults : BinOp → Bool
 binary_faults bin.Add = true
 binary_faults bin.Sub = true
@@ -91,6 +96,7 @@ binary_faults bin.Div = true
 binary_faults bin.Rem = true
 binary_faults _ = false
 
+-- the one combinator whose total may not fit 64 bits
 abbrev pub is_sum : Comb → Bool
 is_sum comb.Sum = true
 is_sum _ = false
@@ -129,6 +135,7 @@ choice_type c a b = only (same_type c ty.Bool && same_type a b) a
 abbrev pub total_type : Names → ℕ → Ty → Option ℕ → Option Ty
 total_type names effect type site = if names.in_rule then option_and_then (λ e. only (same_type e.ty type && is_sited (is_sum e.comb) site) type) (effect_named names This effect) else None
 
+-- the type of one operation, whose operands have types in a scope
 abbrev pub type_step : Expr-F (Names → Option Ty) → Names → Option Ty
 type_step (Lit v) names = Some (type_of_value v)
 type_step (Field who i) names = state_type names who i
@@ -143,6 +150,7 @@ type_step (Rand site) names = Some ty.Fixed
 abbrev pub type_of : Expr → Names → Option Ty
 type_of = fold-Expr (Names → Option Ty) type_step
 
+-- a well-formed expression has a type
 abbrev pub is_of_type : Ty → Option Ty → Bool
 is_of_type t None = false
 is_of_type t (Some s) = same_type t s
@@ -167,6 +175,7 @@ abbrev pub in_turn : List (Names → Option Names) → Names → Option Names
 in_turn [] names = Some names
 in_turn (s ∷ rest) names = option_and_then (in_turn rest) (s names)
 
+-- what is in scope after one statement, whose blocks are lists of such
 abbrev pub scope_step : Stmt-F (Names → Option Names) → Names → Option Names
 scope_step (Const n e) names = option_map (λ t. record names { known = (n, t) ∷ names.known }) (type_of e names)
 scope_step (If c a b) names = only (is_of_type ty.Bool (type_of c names) && (is_some (in_turn a names) && is_some (in_turn b names))) names
