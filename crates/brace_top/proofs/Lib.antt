@@ -3,3 +3,4 @@ pub mod Cuts
 pub mod AgentLines
 pub mod ThinLemmas
 pub mod ThinNames
+pub mod WorldLemmas

@@ -1,11 +1,17 @@
 ghost use Rattle.std.specs.Prelude.{◌≡◌, ◌≤◌, ◌<◌, ◌^◌, IfOk, IfErr, Ok, Err, Some, [], pos, ◌≤ℤ◌};
 ghost use Rattle.brace_model.specs.Next.{ruled, ruled_states, moved, within_reach, next_in};
+ghost use Rattle.brace_model.specs.World.{class_of};
+ghost use Rattle.brace_model.specs.FaultOrder.{with_earlier};
+ghost use Rattle.brace_model.specs.Step.{step};
+ghost use Rattle.brace_model.specs.Rules.{RulesAlone};
 ghost use Rattle.brace_eval.specs.Scopes.{scope_of};
 
 use brace_draw::Drawer;
 use brace_eval::{eval, number, value_at};
-use brace_model::{Agent, Class, Env, Expr, Fault, Phase, State, Stop, Value};
-use brace_num::{List, clamp};
+use brace_model::{
+    Agent, Class, Env, Expr, Fault, Phase, Program, State, Stop, Value, World, earlier,
+};
+use brace_num::{List, NoMemory, clamp};
 use std::alloc::{AllocFailed, Global};
 
 /// Why the rules of an agent give no states.
@@ -29,6 +35,26 @@ impl<T: Drop> From<AllocFailed<T>> for RuleFault {
 
     fn from(_: AllocFailed<T>) -> RuleFault {
         RuleFault::NoMemory
+    }
+}
+
+impl<T: Drop> From<AllocFailed<T>> for StepFault {
+    ghost use Rattle.brace_top.specs.declared.step.StepFault.TheVariants as step_fault;
+
+    ghost from_gives = { λ _ fault. fault ≡ step_fault.NoMemory };
+
+    fn from(_: AllocFailed<T>) -> StepFault {
+        StepFault::NoMemory
+    }
+}
+
+/// The earlier of a fault and one that was found before it, if any was.
+fn with_earlier(found: Option<Fault>, fault: Fault) -> Fault
+    ensures { result ≡ with_earlier found fault }
+{
+    match found {
+        None => fault,
+        Some(found) => earlier(found, fault),
     }
 }
 
@@ -137,5 +163,61 @@ fn next_of(
             kind: stop.kind,
         })),
         Err(RuleFault::NoMemory) => Err(StepFault::NoMemory),
+    }
+}
+
+/// The next agent of an agent of a program of rules alone.
+fn next_agent(
+    alloc: Global,
+    program: &Program,
+    tick: u64,
+    a: &Agent,
+    drawer: &mut Drawer,
+) -> Result<Agent, StepFault>
+    requires ticks { tick ≤ 2 ^ 32 }
+    requires rules { RulesAlone program.now }
+    ensures next { IfOk result (λ next. next_in drawer.old.seed tick (class_of program.now a.now) [] a.now ≡ Ok next) }
+    ensures fault { IfErr result (λ e. (fault : Fault) → e ≡ StepFault.Fault fault → next_in drawer.old.seed tick (class_of program.now a.now) [] a.now ≡ Err fault) }
+    ensures seed { drawer.new.seed ≡ drawer.old.seed }
+{
+    match program.classes.as_slice().get(a.class as usize) {
+        Some(class) => next_of(alloc, class, tick, a, drawer),
+        None => match a.copy(alloc) {
+            Ok(same) => Ok(same),
+            Err(NoMemory) => Err(StepFault::NoMemory),
+        },
+    }
+}
+
+/// The next world of a world in a tick of at most 2^32, or the tick's least fault, for a program of rules alone.
+pub fn step(
+    alloc: Global,
+    program: &Program,
+    tick: u64,
+    world: &World,
+    drawer: &mut Drawer,
+) -> Result<World, StepFault>
+    requires ticks { tick ≤ 2 ^ 32 }
+    requires rules { RulesAlone program.now }
+    ensures next { IfOk result (λ next. step program.now drawer.old.seed tick world.now ≡ Ok next) }
+    ensures fault { IfErr result (λ e. (fault : Fault) → e ≡ StepFault.Fault fault → step program.now drawer.old.seed tick world.now ≡ Err fault) }
+    ensures seed { drawer.new.seed ≡ drawer.old.seed }
+{
+    let agents = world.agents();
+    let mut nexts = Vec::new(alloc);
+    let mut least = None;
+    for i in 0..agents.len() {
+        match next_agent(alloc, program, tick, &agents[i], drawer) {
+            Ok(next) => nexts.push(next)?,
+            Err(StepFault::Fault(fault)) => least = Some(with_earlier(least, fault)),
+            Err(StepFault::NoMemory) => return Err(StepFault::NoMemory),
+        }
+    }
+    if let Some(fault) = least {
+        return Err(StepFault::Fault(fault));
+    }
+    match World::from_rising(nexts) {
+        Some(next) => Ok(next),
+        None => unreachable!(),
     }
 }
