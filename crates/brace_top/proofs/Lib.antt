@@ -4,3 +4,4 @@ pub mod AgentLines
 pub mod ThinLemmas
 pub mod ThinNames
 pub mod WorldLemmas
+pub mod ThinRules

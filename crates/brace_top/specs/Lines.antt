@@ -34,7 +34,14 @@ abbrev pub loop_text : List ℕ → Option ℕ → List ℕ
 loop_text word None = []
 loop_text word (Some id) = word ++ canonical_count id
 
+-- the phase, the agent and the loops' agents of a fault
+abbrev pub agents_text : Fault → List ℕ
+agents_text f = phase_word f.phase ++ (canonical_count f.agent ++ (loop_text (codes " with ") f.outer ++ loop_text (codes " and ") f.inner))
+
+-- the site and the kind of a fault
+abbrev pub site_text : Fault → List ℕ
+site_text f = codes " site " ++ (canonical_count f.site ++ (codes ": " ++ kind_word f.kind))
+
 -- the line of a fault of the run: `brace: tick T PHASE agent A site S: KIND`, with the loops' agents behind A
 abbrev pub fault_line : Fault → List ℕ
-fault_line f = codes "brace: tick " ++ (canonical_count f.tick ++ (phase_word f.phase ++ (canonical_count f.agent ++ (loop_text (codes " with ") f.outer ++ (loop_text (codes " and ") f.inner
-    ++ (codes " site " ++ (canonical_count f.site ++ (codes ": " ++ kind_word f.kind))))))))
+fault_line f = codes "brace: tick " ++ (canonical_count f.tick ++ (agents_text f ++ site_text f))

@@ -2,6 +2,8 @@
 #![tactic(auto)]
 
 mod agents;
+mod lines;
+mod load;
 mod step;
 mod thin;
 mod words;

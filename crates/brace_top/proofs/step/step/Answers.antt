@@ -10,12 +10,12 @@ use Rattle.brace_top.proofs.step.step.Goals.{in-Ok+in_ok-push-in-Ok, in-Err-Faul
 pub loop-i-preserved : goal.loop-i-preserved
 loop-i-preserved c =
     elim c.match-next_agent.branch [
-      in-Ok+in_ok-push-in-Ok w ↦
-        let (nexts, found) = more_updated c.args.program.now _ c.args.tick c.agents-agents.result.now c.loop-i.i _ _ _ _ _ (omega arith) c.index-agents-i.is w.in-Ok.ensures.next c.loop-i.invariant.seed c.loop-i.invariant.updated c.loop-i.invariant.first in
-        record { seed = w.in-Ok.ensures.seed ∙ c.loop-i.invariant.seed; updated = rw (w.nexts-is, w.in_ok-push-in-Ok.ensures.items) nexts; first = w.least-is ∙ found }
-    | in-Err-Fault w ↦
-        let (nexts, found) = more_faults c.args.program.now _ c.args.tick c.agents-agents.result.now c.loop-i.i _ _ _ _ _ (omega arith) c.index-agents-i.is (w.in-Err-Fault.ensures.fault w.in-Err-Fault.fault w.in-Err-Fault.field-0-is) c.loop-i.invariant.seed c.loop-i.invariant.updated c.loop-i.invariant.first in
-        record { seed = w.in-Err-Fault.ensures.seed ∙ c.loop-i.invariant.seed; updated = rw w.nexts-is nexts; first = w.least-is ∙ ap (λ (f : Fault). Some f) w.with_earlier.ensures ∙ found }
+      | in-Ok+in_ok-push-in-Ok w ↦
+          let (nexts, found) = more_updated c.args.program.now _ c.args.tick c.agents-agents.result.now c.loop-i.i _ _ _ _ _ (omega arith) c.index-agents-i.is w.in-Ok.ensures.next c.loop-i.invariant.seed c.loop-i.invariant.updated c.loop-i.invariant.first in
+          record { seed = w.in-Ok.ensures.seed ∙ c.loop-i.invariant.seed; updated = rw (w.nexts-is, w.in_ok-push-in-Ok.ensures.items) nexts; first = w.least-is ∙ found }
+      | in-Err-Fault w ↦
+          let (nexts, found) = more_faults c.args.program.now _ c.args.tick c.agents-agents.result.now c.loop-i.i _ _ _ _ _ (omega arith) c.index-agents-i.is (w.in-Err-Fault.ensures.fault w.in-Err-Fault.fault w.in-Err-Fault.field-0-is) c.loop-i.invariant.seed c.loop-i.invariant.updated c.loop-i.invariant.first in
+          record { seed = w.in-Err-Fault.ensures.seed ∙ c.loop-i.invariant.seed; updated = rw w.nexts-is nexts; first = w.least-is ∙ ap (λ (f : Fault). Some f) w.with_earlier.ensures ∙ found }
     ]
 
 pub returns-in-Some-clause-fault : goal.returns-in-Some-clause-fault
