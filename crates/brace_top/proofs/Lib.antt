@@ -5,3 +5,4 @@ pub mod ThinLemmas
 pub mod ThinNames
 pub mod WorldLemmas
 pub mod ThinRules
+pub mod JobLemmas

@@ -41,9 +41,9 @@ script_of files name = loaded 3 1048576 thin_program name (files name)
 abbrev pub agents_of : Files → Program → List ℕ → Result (List Agent) Refusal
 agents_of files program name = loaded 4 268435456 (thin_agents program) name (files name)
 
--- the job of a line: from tick 0, each tick published
-abbrev pub job_of : Line → Program → List Agent → Job
-job_of line program world = record { program = program; seed = 0; first = 0; last = line.ticks; every = 1; start = world }
+-- a job from tick 0 whose ticks are all published, with the seed 0
+abbrev pub every_tick : Program → ℕ → List Agent → Job
+every_tick program last start = record { program = program; seed = 0; first = 0; last = last; every = 1; start = start }
 
 abbrev pub refused : Refusal → Outcome
 refused r = record { status = r.status; out = []; err = r.line }
@@ -59,7 +59,7 @@ ran job = ended (published job true) (first_fault job)
 
 abbrev pub with_world : Line → Program → Result (List Agent) Refusal → Outcome
 with_world line program (Err r) = refused r
-with_world line program (Ok world) = ran (job_of line program world)
+with_world line program (Ok world) = ran (every_tick program line.ticks world)
 
 abbrev pub with_program : Files → Line → Result Program Refusal → Outcome
 with_program files line (Err r) = refused r
