@@ -1,10 +1,10 @@
 -- How the answer of a call stands to the outcome of its command.
-use Rattle.std.specs.Prelude.{◌≡◌, ℕ, ◌==◌, List, [], ◌∷◌, ◌⊎◌, Bool, true, false, ◌||◌, not, if◌then◌else◌, codes, Option, Some, None, MatchBool, ⊤}
+use Rattle.std.specs.Prelude.{◌≡◌, ℕ, ◌==◌, List, [], ◌∷◌, ◌⊎◌, Bool, true, false, ◌||◌, not, if◌then◌else◌, codes, Option, Some, None, Result, Err, MatchBool, ⊤}
 use Rattle.brace_io.specs.Counts.{Rose}
 use Rattle.brace_io.specs.Shelves.{Files, Stage, StoppedAt}
 use Rattle.brace_io.specs.Sinks.{Gains, GainsFront}
 use Rattle.brace_top.specs.Lines.{named_line, write_fault_line, no_memory_line}
-use Rattle.brace_top.specs.Outcome.{Outcome}
+use Rattle.brace_top.specs.Outcome.{Outcome, Refusal}
 
 -- a run was begun: it reached its last tick or ended in a fault
 abbrev pub has_run : ℕ → Bool
@@ -34,6 +34,17 @@ abbrev pub IsLine : Outcome → Option Files → Stage → ℕ → List ℕ → 
 IsLine o held stage status line =
     MatchBool (status == 8) ((name : List ℕ) × (StoppedAt held stage name × (line ≡ named_line name (codes ": read fault"))))
     (line ≡ plain_line o status)
+
+-- a status that refuses before a run begins
+abbrev pub is_refusal : ℕ → Bool
+is_refusal status = (status == 3) || ((status == 4) || ((status == 8) || (status == 12)))
+
+-- a named file was refused: by a read that failed, at which the shelf stopped, or as it is refused with no fault of the outside
+abbrev pub IsRefused : {A : Type 0} → (Files → Result A Refusal) → List ℕ → Option Files → Stage → Type 0 → ℕ → List ℕ → Type 0
+IsRefused loading name held stage rose status line =
+    (is_refusal status ≡ true) ×
+    MatchBool (status == 8) (rose × (StoppedAt held stage name × (line ≡ named_line name (codes ": read fault"))))
+    ((files : Files) → held ≡ Some files → loading files ≡ Err (record { status = status; line = line }))
 
 -- the line was written, or a front of it where the sink failed
 abbrev pub IsSaid : List ℕ → Option (List ℕ) → Option (List ℕ) → ℕ → ℕ → Type 0

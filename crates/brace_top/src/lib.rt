@@ -2,6 +2,7 @@
 #![tactic(auto)]
 
 mod agents;
+mod answer;
 mod job;
 mod lines;
 mod load;
