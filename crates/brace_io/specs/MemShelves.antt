@@ -1,5 +1,5 @@
 -- A shelf in memory, and when its calls fail.
-use Rattle.std.specs.Prelude.{◌≡◌, ◌≢◌, ℕ, List, [], Option, None, Some, Bool, true, ◌&&◌, ◌||◌, not, cond, is_some, nat_lt, nat_le, length}
+use Rattle.std.specs.Prelude.{◌≡◌, ◌≢◌, ℕ, List, [], Option, None, Some, Bool, nat_le, length}
 use Rattle.std.specs.List.{find}
 use Rattle.std.specs.Str.{bytes_eq}
 use Rattle.brace_io.specs.Counts.{next_count, listed}

@@ -1,5 +1,5 @@
 -- A sink in memory, and when its calls fail.
-use Rattle.std.specs.Prelude.{ℕ, List, Bool, ◌&&◌, ◌||◌, ◌==◌, nat_lt, nat_le, length}
+use Rattle.std.specs.Prelude.{ℕ, List, Bool, ◌&&◌, ◌||◌, nat_lt, nat_le, length}
 use Rattle.brace_io.specs.Counts.{next_count, listed}
 
 -- what was written, the room in bytes, the numbers of the calls that fail, the numbers of calls and of failures so far, and whether nothing was written since the last flush

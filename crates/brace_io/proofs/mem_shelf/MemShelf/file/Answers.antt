@@ -1,5 +1,5 @@
-use Rattle.std.proofs.Common.{◌≡◌, ◌<◌, ◌≤◌, ◌∙◌, ℕ, List, None, Some, length, ap, sym, arith, rules}
-use Rattle.brace_io.specs.MemShelves.{Entry, Shelved, files_of}
+use Rattle.std.proofs.Common.{◌≡◌, ◌<◌, ◌≤◌, length, ap, sym, arith}
+use Rattle.brace_io.specs.MemShelves.{Shelved, files_of}
 use Rattle.brace_io.proofs.MemLemmas.{file_in_place, file_missing}
 use Rattle.brace_io.proofs.mem_shelf.MemShelf.file.Goals as goal
 

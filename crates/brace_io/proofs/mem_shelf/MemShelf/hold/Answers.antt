@@ -1,4 +1,4 @@
-use Rattle.std.proofs.Common.{◌≡◌, ◌≢◌, ◌<◌, ◌≤◌, ◌∙◌, ◌++◌, ◌∷◌, [], ℕ, List, Some, length, get_or, ap, sym, arith, rules}
+use Rattle.std.proofs.Common.{◌≡◌, ◌<◌, ◌≤◌, ◌∙◌, ◌++◌, ℕ, List, Some, length, ap, sym, arith}
 use Rattle.std.proofs.Math.ListN.{set}
 use Rattle.brace_io.specs.MemShelves.{Entry, Shelved, entry_of, OthersAlone}
 use Rattle.brace_io.proofs.MemLemmas.{entry, entry_eq, in_place, at_end, old_name_in}

@@ -1,8 +1,5 @@
-use Rattle.std.proofs.Common.{◌≡◌, ◌≢◌, ◌<◌, ◌≤◌, ◌+◌, ◌∙◌, ◌++◌, ◌∷◌, [], ℕ, List, Some, None, length, get_or, take, drop, ap, sym, refl, arith, rules}
-use Rattle.std.specs.List.{position_or_len}
-use Rattle.brace_io.specs.Shelves.{Stage, Reading, Writing}
-use Rattle.brace_io.specs.MemStages.{mem_stage, IsAt}
-use Rattle.brace_io.specs.MemShelves.{Entry, Shelved, named, entry_of, files_of, file_in, bytes_in, OthersAlone}
+use Rattle.std.proofs.Common.{◌≡◌, ◌∙◌, ap, sym}
+use Rattle.brace_io.specs.MemShelves.{Shelved, files_of, bytes_in}
 use Rattle.brace_io.proofs.MemLemmas.{file_in_place, reading_at, is_at}
 use Rattle.brace_io.proofs.mem_shelf.MemShelf.open_bytes.Goals as goal
 

@@ -1,6 +1,6 @@
-use Rattle.std.proofs.Common.{◌≡◌, ◌≢◌, ◌<◌, ◌≤◌, ◌∙◌, ◌++◌, ◌∷◌, [], ℕ, List, Some, None, length, get_or, ap, sym, refl, arith, rules}
+use Rattle.std.proofs.Common.{◌≡◌, ◌<◌, ◌≤◌, ◌∙◌, Some, None, length, ap, sym, refl, arith}
 use Rattle.std.proofs.Math.ListN.{set}
-use Rattle.brace_io.specs.MemShelves.{Entry, Shelved, entry_of, files_of, OthersAlone}
+use Rattle.brace_io.specs.MemShelves.{Shelved, entry_of, files_of, OthersAlone}
 use Rattle.brace_io.proofs.MemLemmas.{entry, entry_eq, in_place, at_end, old_name_in, file_in_place, file_missing}
 use Rattle.brace_io.proofs.mem_shelf.MemShelf.prepare.Goals as goal
 

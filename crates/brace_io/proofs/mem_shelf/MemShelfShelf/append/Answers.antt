@@ -1,8 +1,8 @@
-use Rattle.std.proofs.Common.{◌≡◌, ◌≢◌, ◌<◌, ◌≤◌, ◌+◌, ◌∙◌, ◌++◌, ◌∷◌, [], ℕ, List, Some, None, length, get_or, take, drop, ap, sym, refl, arith, rules}
+use Rattle.std.proofs.Common.{◌≡◌, ◌∙◌, ◌++◌, ℕ, List, Some, take, ap, sym, refl}
 use Rattle.std.specs.List.{position_or_len}
-use Rattle.brace_io.specs.Shelves.{Stage, Reading, Writing}
+use Rattle.brace_io.specs.Shelves.{Writing}
 use Rattle.brace_io.specs.MemStages.{mem_stage, IsAt}
-use Rattle.brace_io.specs.MemShelves.{Entry, Shelved, named, entry_of, files_of, file_in, bytes_in, OthersAlone}
+use Rattle.brace_io.specs.MemShelves.{Shelved, named, entry_of, files_of, file_in, bytes_in, OthersAlone}
 use Rattle.brace_io.proofs.MemLemmas.{entry, entry_eq, in_place, old_name_in, file_in_place, writing_at, is_at}
 use Rattle.std.proofs.Math.ListN.{set}
 use Rattle.brace_io.proofs.mem_shelf.MemShelfShelf.append.Goals as goal

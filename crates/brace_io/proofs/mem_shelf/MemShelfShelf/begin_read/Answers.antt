@@ -1,8 +1,6 @@
-use Rattle.std.proofs.Common.{◌≡◌, ◌≢◌, ◌<◌, ◌≤◌, ◌+◌, ◌∙◌, ◌++◌, ◌∷◌, [], ℕ, List, Some, None, length, get_or, take, drop, ap, sym, refl, arith, rules}
+use Rattle.std.proofs.Common.{◌≡◌, ◌∙◌, ℕ, List, ap, sym, rules}
 use Rattle.std.specs.List.{position_or_len}
-use Rattle.brace_io.specs.Shelves.{Stage, Reading, Writing}
-use Rattle.brace_io.specs.MemStages.{mem_stage, IsAt}
-use Rattle.brace_io.specs.MemShelves.{Entry, Shelved, named, entry_of, files_of, file_in, bytes_in, OthersAlone}
+use Rattle.brace_io.specs.MemShelves.{Entry, Shelved, named}
 use Rattle.brace_io.proofs.MemLemmas.{held_below}
 use Rattle.brace_io.proofs.mem_shelf.MemShelfShelf.begin_read.Goals as goal
 

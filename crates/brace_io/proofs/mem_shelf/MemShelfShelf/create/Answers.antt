@@ -1,10 +1,7 @@
-use Rattle.std.proofs.Common.{◌≡◌, ◌≢◌, ◌<◌, ◌≤◌, ◌+◌, ◌∙◌, ◌++◌, ◌∷◌, [], ℕ, List, Some, None, length, get_or, take, drop, ap, sym, refl, arith, rules}
+use Rattle.std.proofs.Common.{◌≡◌, ◌<◌, ◌∙◌, [], List, Some, length, ap, sym, refl, arith}
 use Rattle.std.specs.List.{position_or_len}
-use Rattle.brace_io.specs.Shelves.{Stage, Reading, Writing}
-use Rattle.brace_io.specs.MemStages.{mem_stage, IsAt}
-use Rattle.brace_io.specs.MemShelves.{Entry, Shelved, named, entry_of, files_of, file_in, bytes_in, OthersAlone}
-use Rattle.brace_io.proofs.MemLemmas.{entry, entry_eq, in_place, old_name_in}
-use Rattle.std.proofs.Math.ListN.{set}
+use Rattle.brace_io.specs.MemShelves.{Entry, Shelved, named, file_in}
+use Rattle.brace_io.proofs.MemLemmas.{entry_eq, in_place, old_name_in}
 use Rattle.brace_io.proofs.mem_shelf.MemShelfShelf.create.Goals as goal
 
 pub returns-clause-only : goal.returns-clause-only

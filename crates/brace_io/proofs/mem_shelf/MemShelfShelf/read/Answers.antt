@@ -1,8 +1,6 @@
-use Rattle.std.proofs.Common.{◌≡◌, ◌≢◌, ◌<◌, ◌≤◌, ◌+◌, ◌∙◌, ◌++◌, ◌∷◌, [], ℕ, List, Some, None, length, get_or, take, drop, ap, sym, refl, arith, rules}
-use Rattle.std.specs.List.{position_or_len}
-use Rattle.brace_io.specs.Shelves.{Stage, Reading, Writing}
-use Rattle.brace_io.specs.MemStages.{mem_stage, IsAt}
-use Rattle.brace_io.specs.MemShelves.{Entry, Shelved, named, entry_of, files_of, file_in, bytes_in, OthersAlone}
+use Rattle.std.proofs.Common.{◌≡◌, ◌∙◌, List, Some, ap}
+use Rattle.brace_io.specs.Shelves.{Reading}
+use Rattle.brace_io.specs.MemShelves.{Entry, Shelved, files_of, bytes_in}
 use Rattle.brace_io.proofs.MemLemmas.{reading_at, next_of}
 use Rattle.brace_io.proofs.mem_shelf.MemShelfShelf.read.Goals as goal
 

@@ -1,0 +1,100 @@
+use super::*;
+use std::test::Fail;
+
+#[test]
+fn reads_a_held_file_whole(rt: HostRuntime) -> Result<(), Fail> {
+    let mut shelf = MemShelf::make(rt.alloc(), Vec::new(rt.alloc()));
+    shelf.hold("s", b"abcde")?;
+    let bytes = read_whole(rt.alloc(), &mut shelf, "s", 5)?;
+    assert_eq!(rt; bytes.as_slice(), b"abcde".as_slice());
+    Ok(())
+}
+
+#[test]
+fn refuses_a_byte_past_the_limit(rt: HostRuntime) -> Result<(), Fail> {
+    let mut shelf = MemShelf::make(rt.alloc(), Vec::new(rt.alloc()));
+    shelf.hold("s", b"abcde")?;
+    let long = read_whole(rt.alloc(), &mut shelf, "s", 4);
+    assert!(rt; long == Err(WholeFault::TooLong));
+    Ok(())
+}
+
+#[test]
+fn fails_at_the_second_call(rt: HostRuntime) -> Result<(), Fail> {
+    let mut shelf = MemShelf::make(rt.alloc(), vec![in rt.alloc(); 2]?);
+    shelf.hold("s", b"abcde")?;
+    let failed = read_whole(rt.alloc(), &mut shelf, "s", 5);
+    assert!(rt; failed == Err(WholeFault::Failed));
+    Ok(())
+}
+
+#[test]
+fn saves_where_room_is_prepared(rt: HostRuntime) -> Result<(), Fail> {
+    let mut shelf = MemShelf::make(rt.alloc(), Vec::new(rt.alloc()));
+    shelf.prepare("n", 3)?;
+    save_whole(&mut shelf, "n", b"abc")?;
+    assert!(rt; shelf.file("n") == Some(b"abc".as_slice()));
+    Ok(())
+}
+
+#[test]
+fn saves_no_name_that_is_not_prepared(rt: HostRuntime) -> Result<(), Fail> {
+    let mut shelf = MemShelf::make(rt.alloc(), Vec::new(rt.alloc()));
+    let failed = save_whole(&mut shelf, "n", b"abc");
+    assert!(rt; failed == Err(Failed));
+    assert!(rt; shelf.file("n").is_none());
+    Ok(())
+}
+
+#[test]
+fn writes_until_the_room_is_spent(rt: HostRuntime) -> Result<(), Fail> {
+    let mut sink = MemSink::make(rt.alloc(), 3, Vec::new(rt.alloc()))?;
+    let failed = write_whole(&mut sink, b"abcd");
+    assert!(rt; failed == Err(Failed));
+    assert_eq!(rt; sink.bytes(), b"abc".as_slice());
+    Ok(())
+}
+
+#[test]
+fn writes_nothing_at_a_call_that_fails(rt: HostRuntime) -> Result<(), Fail> {
+    let mut sink = MemSink::make(rt.alloc(), 9, vec![in rt.alloc(); 2]?)?;
+    write_whole(&mut sink, b"ab")?;
+    let failed = write_whole(&mut sink, b"cd");
+    assert!(rt; failed == Err(Failed));
+    assert_eq!(rt; sink.bytes(), b"ab".as_slice());
+    Ok(())
+}
+
+#[test]
+fn saves_and_reads_a_host_file(rt: HostRuntime) -> Result<(), Fail> {
+    let mut shelf = DirShelf::make(&rt);
+    save_whole(&mut shelf, "brace_io_saved", b"abc")?;
+    let bytes = read_whole(rt.alloc(), &mut shelf, "brace_io_saved", 3)?;
+    assert_eq!(rt; bytes.as_slice(), b"abc".as_slice());
+    Ok(())
+}
+
+#[test]
+fn finds_no_host_file_that_is_absent(rt: HostRuntime) -> Result<(), Fail> {
+    let mut shelf = DirShelf::make(&rt);
+    let absent = read_whole(rt.alloc(), &mut shelf, "brace_io_absent", 9);
+    assert!(rt; absent == Err(WholeFault::Absent));
+    Ok(())
+}
+
+#[test]
+fn writes_to_standard_output(rt: HostRuntime) -> Result<(), Fail> {
+    let mut out: OutSink = HostSink::make(rt.stdout());
+    write_whole(&mut out, b"out\n")?;
+    out.flush()?;
+    Ok(())
+}
+
+#[test]
+fn writes_to_standard_error(rt: HostRuntime) -> Result<(), Fail> {
+    let mut err: ErrSink = HostSink::make(rt.stderr());
+    write_whole(&mut err, b"err\n")?;
+    err.flush()?;
+    OpenGate.pass(0, 0);
+    Ok(())
+}
