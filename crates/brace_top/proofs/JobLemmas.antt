@@ -37,6 +37,10 @@ front_whole a b p rest h = (length p, (simp length-append (omega arith), h ∙ a
 divides : (n : ℕ) → n % 1 ≡ 0
 divides n = omega arith
 
+-- a whole piece is a front of itself
+pub front_all : (a b : Option (List ℕ)) (p : List ℕ) → Gains a b p → GainsFront a b p
+front_all a b p h = (length p, (omega arith, h ∙ ap (with_piece a) (sym (take_all (length p) p (omega arith)))))
+
 -- each tick of such a job is published
 pub published-every : (program : Program) (last : ℕ) (start : List Agent) (n : ℕ) (world : List Agent) → world_after (every_tick program last start) n ≡ Ok world
     → tick_text (every_tick program last start) true (0 + n) (world_after (every_tick program last start) n) ≡ rows program n world

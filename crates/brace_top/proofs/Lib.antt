@@ -6,3 +6,4 @@ pub mod ThinNames
 pub mod WorldLemmas
 pub mod ThinRules
 pub mod JobLemmas
+pub mod RunAnswers

@@ -2,6 +2,7 @@ pub mod Answer
 pub mod Line
 pub mod Lines
 pub mod Outcome
+pub mod Status
 pub mod Thin
 pub mod ThinAgents
 pub mod ThinSteps

@@ -7,6 +7,9 @@ use Rattle.brace_model.specs.declared.job.Job.{Job}
 use Rattle.brace_model.specs.declared.world.Agent.{Agent}
 use Rattle.brace_model.specs.Run.{first_fault}
 use Rattle.brace_model.specs.Published.{published}
+use Rattle.brace_top.specs.declared.status.Status.{Status}
+use Rattle.brace_top.specs.declared.status.Status.TheVariants.{Done, Usage, Script, Agents, Absent}
+use Rattle.brace_top.specs.declared.status.Status.TheVariants as ended_by
 use Rattle.brace_top.specs.Line.{Line, line_of}
 use Rattle.brace_top.specs.Lines.{named_line, usage_line, fault_line}
 use Rattle.brace_top.specs.Thin.{thin_program}
@@ -14,32 +17,32 @@ use Rattle.brace_top.specs.ThinAgents.{thin_agents}
 
 -- the status, all of the text on standard output, and the text on standard error
 pub record Outcome : Type 0 where
-  pub status : ℕ
+  pub status : Status
   pub out : List ℕ
   pub err : List ℕ
 
 -- why a named file is refused: the status and the line
 pub record Refusal : Type 0 where
-  pub status : ℕ
+  pub status : Status
   pub line : List ℕ
 
 -- a named file within its limit, and what its bytes stand for; or why not: it is absent, or too long, or not thin
-abbrev pub thin_file : {A : Type 0} → ℕ → List ℕ → Option A → Result A Refusal
+abbrev pub thin_file : {A : Type 0} → Status → List ℕ → Option A → Result A Refusal
 thin_file status name None = Err (record { status = status; line = named_line name (codes ": NotThin") })
 thin_file status name (Some a) = Ok a
 
-abbrev pub loaded : {A : Type 0} → ℕ → ℕ → (List ℕ → Option A) → List ℕ → Option (List ℕ) → Result A Refusal
-loaded status limit meaning name None = Err (record { status = 12; line = named_line name (codes ": absent") })
+abbrev pub loaded : {A : Type 0} → Status → ℕ → (List ℕ → Option A) → List ℕ → Option (List ℕ) → Result A Refusal
+loaded status limit meaning name None = Err (record { status = Absent; line = named_line name (codes ": absent") })
 loaded status limit meaning name (Some bytes) =
     if nat_lt limit (length bytes) then Err (record { status = status; line = named_line name (codes ": TooLong") }) else thin_file status name (meaning bytes)
 
 -- the program of a script of at most 1 MiB
 abbrev pub script_of : Files → List ℕ → Result Program Refusal
-script_of files name = loaded 3 1048576 thin_program name (files name)
+script_of files name = loaded Script 1048576 thin_program name (files name)
 
 -- the world of an agent file of at most 256 MiB
 abbrev pub agents_of : Files → Program → List ℕ → Result (List Agent) Refusal
-agents_of files program name = loaded 4 268435456 (thin_agents program) name (files name)
+agents_of files program name = loaded Agents 268435456 (thin_agents program) name (files name)
 
 -- a job from tick 0 whose ticks are all published, with the seed 0
 abbrev pub every_tick : Program → ℕ → List Agent → Job
@@ -48,10 +51,18 @@ every_tick program last start = record { program = program; seed = 0; first = 0;
 abbrev pub refused : Refusal → Outcome
 refused r = record { status = r.status; out = []; err = r.line }
 
--- a run that reaches its last tick, or ends in its first fault
+-- the status and the line of a run that reaches its last tick, or ends in its first fault
+abbrev pub end_status : Option Fault → Status
+end_status None = Done
+end_status (Some f) = ended_by.Fault
+
+abbrev pub end_line : Option Fault → List ℕ
+end_line None = []
+end_line (Some f) = fault_line f
+
+-- a run that ended, with the text that it published
 abbrev pub ended : List ℕ → Option Fault → Outcome
-ended text None = record { status = 0; out = text; err = [] }
-ended text (Some f) = record { status = 7; out = text; err = fault_line f }
+ended text found = record { status = end_status found; out = text; err = end_line found }
 
 -- the outcome of a job
 abbrev pub ran : Job → Outcome
@@ -70,7 +81,7 @@ abbrev pub line_outcome : Files → Line → Outcome
 line_outcome files line = with_program files line (script_of files line.script)
 
 abbrev pub outcome_of : Files → Option Line → Outcome
-outcome_of files None = record { status = 2; out = []; err = usage_line }
+outcome_of files None = record { status = Usage; out = []; err = usage_line }
 outcome_of files (Some line) = line_outcome files line
 
 -- the outcome of words over the files that a shelf holds

@@ -4,6 +4,7 @@ ghost use Rattle.brace_top.specs.Lines.{named_line};
 ghost use Rattle.brace_top.specs.declared.answer.Answer.{Answer};
 
 use crate::lines::named_line;
+use crate::status::Status;
 use brace_io::{Sink, write_whole};
 use brace_num::NoMemory;
 use std::alloc::Global;
@@ -11,7 +12,7 @@ use std::alloc::Global;
 /// What a command answers: its status, and the line on standard error.
 #[derive(Debug, Drop)]
 pub struct Answer {
-    pub status: u8,
+    pub status: Status,
     pub line: Vec<u8>,
 }
 
@@ -25,7 +26,7 @@ pub enum Stopped {
 }
 
 /// The answer that refuses a file of a name.
-pub fn refused(alloc: Global, name: &str, status: u8, rest: &[u8]) -> Stopped
+pub fn refused(alloc: Global, name: &str, status: Status, rest: &[u8]) -> Stopped
     ensures { (answer : Answer) → result ≡ Stopped.Answer answer → (answer.status ≡ status) × (answer.line.items ≡ named_line name.now rest.now) }
 {
     match named_line(alloc, name, rest) {

@@ -6,6 +6,8 @@ mod answer;
 mod job;
 mod lines;
 mod load;
+mod run;
+mod status;
 mod step;
 mod thin;
 mod words;

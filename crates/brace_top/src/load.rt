@@ -9,6 +9,7 @@ ghost use Rattle.brace_top.specs.declared.answer.Answer.{Answer};
 
 use crate::agents::{AgentsFault, read_thin_agents};
 use crate::answer::{Stopped, refused};
+use crate::status::Status;
 use crate::thin::{ThinFault, read_thin};
 use brace_io::{Shelf, WholeFault, read_whole};
 use brace_model::{Program, World};
@@ -47,12 +48,12 @@ pub fn load_program<S: Shelf>(alloc: Global, shelf: &mut S, name: &str) -> Resul
     match read_whole(alloc, shelf, name, SCRIPT_LIMIT) {
         Ok(src) => match read_program(alloc, src.as_slice()) {
             Ok(program) => Ok(program),
-            Err(ThinFault::NotThin) => Err(refused(alloc, name, 3, b": NotThin")),
+            Err(ThinFault::NotThin) => Err(refused(alloc, name, Status::Script, b": NotThin")),
             Err(ThinFault::NoMemory) => Err(Stopped::NoMemory),
         },
-        Err(WholeFault::Absent) => Err(refused(alloc, name, 12, b": absent")),
-        Err(WholeFault::TooLong) => Err(refused(alloc, name, 3, b": TooLong")),
-        Err(WholeFault::Failed) => Err(refused(alloc, name, 8, b": read fault")),
+        Err(WholeFault::Absent) => Err(refused(alloc, name, Status::Absent, b": absent")),
+        Err(WholeFault::TooLong) => Err(refused(alloc, name, Status::Script, b": TooLong")),
+        Err(WholeFault::Failed) => Err(refused(alloc, name, Status::ReadFault, b": read fault")),
         Err(WholeFault::NoMemory) => Err(Stopped::NoMemory),
     }
 }
@@ -75,12 +76,12 @@ pub fn load_world<S: Shelf>(
     match read_whole(alloc, shelf, name, AGENTS_LIMIT) {
         Ok(bytes) => match read_thin_agents(alloc, program, bytes.as_slice()) {
             Ok(world) => Ok(world),
-            Err(AgentsFault::NotThin) => Err(refused(alloc, name, 4, b": NotThin")),
+            Err(AgentsFault::NotThin) => Err(refused(alloc, name, Status::Agents, b": NotThin")),
             Err(AgentsFault::NoMemory) => Err(Stopped::NoMemory),
         },
-        Err(WholeFault::Absent) => Err(refused(alloc, name, 12, b": absent")),
-        Err(WholeFault::TooLong) => Err(refused(alloc, name, 4, b": TooLong")),
-        Err(WholeFault::Failed) => Err(refused(alloc, name, 8, b": read fault")),
+        Err(WholeFault::Absent) => Err(refused(alloc, name, Status::Absent, b": absent")),
+        Err(WholeFault::TooLong) => Err(refused(alloc, name, Status::Agents, b": TooLong")),
+        Err(WholeFault::Failed) => Err(refused(alloc, name, Status::ReadFault, b": read fault")),
         Err(WholeFault::NoMemory) => Err(Stopped::NoMemory),
     }
 }

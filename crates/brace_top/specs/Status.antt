@@ -1,0 +1,30 @@
+-- How a command ends, and the number of each way.
+use Rattle.std.specs.Prelude.{ℕ, ◌==◌, Bool, true, false, if◌then◌else◌}
+use Rattle.brace_top.specs.declared.status.Status.{Status}
+use Rattle.brace_top.specs.declared.status.Status.TheVariants.{Done, Usage, Script, Agents, Fault, ReadFault, WriteFault, NoMemory, Absent}
+
+-- the number with which the program ends
+abbrev pub code_of : Status → ℕ
+code_of Done = 0
+code_of Usage = 2
+code_of Script = 3
+code_of Agents = 4
+code_of Fault = 7
+code_of ReadFault = 8
+code_of WriteFault = 9
+code_of NoMemory = 11
+code_of Absent = 12
+
+-- a run was begun: it reached its last tick or ended in a fault
+abbrev pub has_run : Status → Bool
+has_run Done = true
+has_run Fault = true
+has_run _ = false
+
+-- a named file is refused before a run begins
+abbrev pub is_refusal : Status → Bool
+is_refusal Script = true
+is_refusal Agents = true
+is_refusal ReadFault = true
+is_refusal Absent = true
+is_refusal _ = false

@@ -1,0 +1,44 @@
+ghost use Rattle.std.specs.Prelude.{◌≡◌};
+ghost use Rattle.brace_top.specs.Status.{code_of};
+
+/// How a command ends.
+#[derive(Debug, Clone, Copy, PartialEq, Eq, Drop)]
+pub enum Status {
+    /// All was written.
+    Done,
+    /// The words are no line.
+    Usage,
+    /// The script is refused.
+    Script,
+    /// The agent file is refused.
+    Agents,
+    /// The run ended in a fault before its last tick.
+    Fault,
+    /// A read failed.
+    ReadFault,
+    /// A write to standard output failed.
+    WriteFault,
+    /// The allocator refused memory.
+    NoMemory,
+    /// A named file is not held.
+    Absent,
+}
+
+impl Status {
+    /// The number with which the program ends.
+    pub fn code(self) -> u8
+        ensures { result ≡ code_of self }
+    {
+        match self {
+            Status::Done => 0,
+            Status::Usage => 2,
+            Status::Script => 3,
+            Status::Agents => 4,
+            Status::Fault => 7,
+            Status::ReadFault => 8,
+            Status::WriteFault => 9,
+            Status::NoMemory => 11,
+            Status::Absent => 12,
+        }
+    }
+}
