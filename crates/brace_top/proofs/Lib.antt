@@ -7,3 +7,4 @@ pub mod WorldLemmas
 pub mod ThinRules
 pub mod JobLemmas
 pub mod RunAnswers
+pub mod LineLemmas

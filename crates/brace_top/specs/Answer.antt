@@ -7,7 +7,7 @@ use Rattle.brace_top.specs.declared.status.Status.{Status}
 use Rattle.brace_top.specs.declared.status.Status.TheVariants.{Done, Usage, Script, Agents, Fault, ReadFault, WriteFault, NoMemory, Absent}
 use Rattle.brace_top.specs.Status.{has_run, is_refusal}
 use Rattle.brace_top.specs.Lines.{named_line, write_fault_line, no_memory_line}
-use Rattle.brace_top.specs.Outcome.{Outcome, Refusal}
+use Rattle.brace_top.specs.Outcome.{Outcome, Refusal, refused}
 
 -- the status is the outcome's; a read fault comes in its place only where a read failed, a write fault only where a write of a run's text failed, and want of memory is free
 abbrev pub IsCaused : Outcome → Status → Type 0 → Type 0 → Type 0
@@ -35,6 +35,11 @@ IsLine o held stage status line = line ≡ o.err
 abbrev pub IsRefused : {A : Type 0} → (Files → Result A Refusal) → List ℕ → Option Files → Stage → Type 0 → Status → List ℕ → Type 0
 IsRefused loading name held stage rose ReadFault line = rose × (StoppedAt held stage name × (line ≡ named_line name (codes ": read fault")))
 IsRefused loading name held stage rose status line = (is_refusal status ≡ true) × ((files : Files) → held ≡ Some files → loading files ≡ Err (record { status = status; line = line }))
+
+-- a line went no further than its files: a read failed, at the name at which the shelf stopped, or the outcome is this refusal
+abbrev pub IsStopped : (Files → Outcome) → Option Files → Stage → Type 0 → Status → List ℕ → Type 0
+IsStopped o held stage rose ReadFault line = rose × ((name : List ℕ) × (StoppedAt held stage name × (line ≡ named_line name (codes ": read fault"))))
+IsStopped o held stage rose status line = (is_refusal status ≡ true) × ((files : Files) → held ≡ Some files → o files ≡ refused (record { status = status; line = line }))
 
 -- the line was written, or a front of it where the sink failed
 abbrev pub IsSaid : List ℕ → Option (List ℕ) → Option (List ℕ) → ℕ → ℕ → Type 0

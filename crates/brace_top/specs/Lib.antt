@@ -3,6 +3,7 @@ pub mod Line
 pub mod Lines
 pub mod Outcome
 pub mod Status
+pub mod Words
 pub mod Thin
 pub mod ThinAgents
 pub mod ThinSteps

@@ -1,4 +1,4 @@
-ghost use Rattle.std.specs.Prelude.{◌≡◌, ◌==◌, ◌≤◌, ◌^◌, ◌↔◌, [], ℕ, List, Option, map, string_bytes, MatchBool, IfOk, IfErr, OnOk, OnErr, IfSome, Some, None, IsSome, true, false};
+ghost use Rattle.std.specs.Prelude.{◌≡◌, ◌≢◌, ◌≤◌, ◌^◌, ◌↔◌, [], ℕ, List, Option, map, string_bytes, MatchBool, IfOk, IfErr, OnOk, OnErr, IfSome, Some, None, IsSome, true, false};
 ghost use Rattle.brace_io.specs.Counts.{Rose};
 ghost use Rattle.brace_io.specs.Shelves.{Files, Stage, Idle, writes};
 ghost use Rattle.brace_io.specs.Sinks.{GainsFront};
@@ -6,8 +6,10 @@ ghost use Rattle.brace_model.specs.Rules.{RulesAlone};
 ghost use Rattle.brace_top.specs.Line.{line_of};
 ghost use Rattle.brace_top.specs.Lines.{write_fault_line};
 ghost use Rattle.brace_top.specs.Outcome.{every_tick, end_status, end_line, ran, line_outcome, outcome};
-ghost use Rattle.brace_top.specs.Status.{has_run};
-ghost use Rattle.brace_top.specs.Answer.{IsCaused, IsWritten, IsLine, IsSaid};
+ghost use Rattle.brace_top.specs.Status.{has_run, is_refusal};
+ghost use Rattle.brace_top.specs.Words.{said};
+ghost use Rattle.brace_top.specs.Answer.{IsCaused, IsWritten, IsLine, IsStopped, IsSaid};
+ghost use Rattle.brace_top.specs.declared.answer.Answer.{Answer};
 
 use crate::answer::{Answer, Stopped, tell};
 use crate::job::{RunFault, run_ticks};
@@ -72,5 +74,67 @@ fn run_world<O: Sink>(
         },
         Err(RunFault::Write) => unwritten(alloc),
         Err(RunFault::NoMemory) => Err(NoMemory),
+    }
+}
+
+/// The program and the start world of a line.
+fn load<S: Shelf>(alloc: Global, shelf: &mut S, line: &Line) -> Result<(Program, World), Stopped>
+    requires { writes (S.stage shelf.old) ≡ false }
+    ensures loaded { IfOk result (λ both. (files : Files) → S.held shelf.old ≡ Some files → line_outcome files (said line.now) ≡ ran (every_tick both.0 line.now.ticks both.1)) }
+    ensures rules { IfOk result (λ both. RulesAlone both.0) }
+    ensures stopped { IfErr result (λ e. (answer : Answer) → e ≡ Stopped.Answer answer
+        → IsStopped (λ files. line_outcome files (said line.now)) (S.held shelf.old) (S.stage shelf.new) (Rose (S.faults shelf.old) (S.faults shelf.new)) answer.status answer.line.items) }
+    ensures held { S.held shelf.new ≡ S.held shelf.old }
+    ensures not_writing { writes (S.stage shelf.new) ≡ false }
+    ensures never_falls { S.faults shelf.old ≤ S.faults shelf.new }
+{
+    match load_program(alloc, shelf, line.script) {
+        Ok(program) => match load_world(alloc, shelf, &program, line.agents) {
+            Ok(world) => Ok((program, world)),
+            Err(stopped) => Err(stopped),
+        },
+        Err(stopped) => Err(stopped),
+    }
+}
+
+/// The answer with which a line was stopped.
+fn answered(stopped: Stopped) -> Result<Answer, NoMemory>
+    ensures { IfOk result (λ answer. stopped ≡ Stopped.Answer answer) }
+{
+    match stopped {
+        Stopped::Answer(answer) => Ok(answer),
+        Stopped::NoMemory => Err(NoMemory),
+    }
+}
+
+/// Carries a line out: reads the script, then the agents, then runs.
+fn run_line<S: Shelf, O: Sink>(
+    alloc: Global,
+    line: &Line,
+    shelf: &mut S,
+    out: &mut O,
+) -> Result<Answer, NoMemory>
+    requires stage { writes (S.stage shelf.old) ≡ false }
+    requires ticks { line.now.ticks ≤ 2 ^ 32 }
+    ensures caused { IfOk result (λ answer. (files : Files) → S.held shelf.old ≡ Some files
+        → IsCaused (line_outcome files (said line.now)) answer.status (Rose (S.faults shelf.old) (S.faults shelf.new)) (Rose (O.faults out.old) (O.faults out.new))) }
+    ensures written { IfOk result (λ answer. (files : Files) → S.held shelf.old ≡ Some files
+        → IsWritten answer.status (line_outcome files (said line.now)).out (O.written out.old) (O.written out.new)) }
+    ensures line { IfOk result (λ answer. (files : Files) → S.held shelf.old ≡ Some files
+        → IsLine (line_outcome files (said line.now)) (S.held shelf.new) (S.stage shelf.new) answer.status answer.line.items) }
+    ensures read_fault { IfOk result (λ answer. answer.status ≡ Status.ReadFault → Rose (S.faults shelf.old) (S.faults shelf.new)) }
+    ensures write_fault { IfOk result (λ answer. answer.status ≡ Status.WriteFault → Rose (O.faults out.old) (O.faults out.new)) }
+    ensures untouched { IfOk result (λ answer. is_refusal answer.status ≡ true → out.new ≡ out.old) }
+    ensures clean { IfOk result (λ answer. has_run answer.status ≡ true → O.clean out.new ≡ true) }
+    ensures known { IfOk result (λ answer. answer.status ≢ Status.Usage) }
+    ensures front { OnErr result ((files : Files) → S.held shelf.old ≡ Some files → GainsFront (O.written out.old) (O.written out.new) (line_outcome files (said line.now)).out) }
+    ensures held { S.held shelf.new ≡ S.held shelf.old }
+    ensures not_writing { writes (S.stage shelf.new) ≡ false }
+    ensures shelf_never_falls { S.faults shelf.old ≤ S.faults shelf.new }
+    ensures out_never_falls { O.faults out.old ≤ O.faults out.new }
+{
+    match load(alloc, shelf, line) {
+        Ok((program, world)) => run_world(alloc, &program, line.ticks, world, out),
+        Err(stopped) => answered(stopped),
     }
 }
