@@ -28,3 +28,9 @@ is_refusal Agents = true
 is_refusal ReadFault = true
 is_refusal Absent = true
 is_refusal _ = false
+
+-- the way that a number stands for
+abbrev pub status_of : ℕ → Status
+status_of code =
+    if code == 0 then Done else if code == 2 then Usage else if code == 3 then Script else if code == 4 then Agents else if code == 7 then Fault
+    else if code == 8 then ReadFault else if code == 9 then WriteFault else if code == 12 then Absent else NoMemory

@@ -3,6 +3,7 @@
 
 mod agents;
 mod answer;
+mod command;
 mod job;
 mod lines;
 mod load;

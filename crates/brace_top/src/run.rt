@@ -108,7 +108,7 @@ fn answered(stopped: Stopped) -> Result<Answer, NoMemory>
 }
 
 /// Carries a line out: reads the script, then the agents, then runs.
-fn run_line<S: Shelf, O: Sink>(
+pub fn run_line<S: Shelf, O: Sink>(
     alloc: Global,
     line: &Line,
     shelf: &mut S,

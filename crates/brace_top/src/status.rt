@@ -1,5 +1,5 @@
 ghost use Rattle.std.specs.Prelude.{◌≡◌};
-ghost use Rattle.brace_top.specs.Status.{code_of};
+ghost use Rattle.brace_top.specs.Status.{code_of, status_of};
 
 /// How a command ends.
 #[derive(Debug, Clone, Copy, PartialEq, Eq, Drop)]
@@ -27,7 +27,8 @@ pub enum Status {
 impl Status {
     /// The number with which the program ends.
     pub fn code(self) -> u8
-        ensures { result ≡ code_of self }
+        ensures code { result ≡ code_of self }
+        ensures back { status_of result ≡ self }
     {
         match self {
             Status::Done => 0,

@@ -1,5 +1,6 @@
-ghost use Rattle.std.specs.Prelude.{◌≡◌, map, string_bytes, MatchOption, None, Some, ◌≤◌, ◌^◌};
+ghost use Rattle.std.specs.Prelude.{◌≡◌, map, string_bytes, MatchOption, IfSome, None, Some, ◌≤◌, ◌^◌};
 ghost use Rattle.brace_top.specs.Line.{line_of, is_name};
+ghost use Rattle.brace_top.specs.Words.{said};
 
 use brace_num::read_count;
 
@@ -24,7 +25,8 @@ fn is_name(word: &str) -> bool
 
 /// The line that the words are, or None where they are none.
 pub fn read_line(words: &[String]) -> Option<Line<'_>>
-    ensures { MatchOption result (line_of (map string_bytes words.now) ≡ None) (λ line. line_of (map string_bytes words.now) ≡ Some (record { script = line.script.now; agents = line.agents.now; ticks = line.ticks })) }
+    ensures line { MatchOption result (line_of (map string_bytes words.now) ≡ None) (λ line. line_of (map string_bytes words.now) ≡ Some (said line)) }
+    ensures ticks { IfSome result (λ line. line.ticks ≤ 2 ^ 32) }
 {
     let [mode, s, script, a, agents, t, ticks] = words else {
         return None;
