@@ -7,12 +7,14 @@ ghost use Rattle.brace_top.specs.Status.{has_run, is_refusal, status_of, code_of
 ghost use Rattle.brace_top.specs.Answer.{IsCaused, IsWritten, IsLine, IsSaid};
 
 use crate::answer::tell;
-use crate::run::run_line;
+use crate::flow::run_line;
 use crate::status::Status;
 use crate::words::read_line;
-use brace_io::{Shelf, Sink};
+use brace_io::{Gate, Shelf, Sink};
 use brace_num::NoMemory;
 use std::alloc::Global;
+use std::sync::Wait;
+use std::thread::Threads;
 
 /// Carries a command out.
 fn carry_out<S: Shelf, O: Sink, E: Sink>(
@@ -97,4 +99,36 @@ pub fn run_alone<S: Shelf, O: Sink, E: Sink>(
     ensures not_writing { writes (S.stage shelf.new) ≡ false }
 {
     Some(carry_out(alloc, words, shelf, out, err).code())
+}
+
+/// Carries a command out, and answers its status, as [`run_alone`] does; commands with several workers will use `rt` and `gate`.
+pub fn run<R: Threads + Wait + Sync, S: Shelf + Send, O: Sink + Send, E: Sink, G: Gate + Sync>(
+    _rt: &R,
+    alloc: Global,
+    words: &[String],
+    shelf: &mut S,
+    out: &mut O,
+    err: &mut E,
+    _gate: &G,
+) -> u8
+    requires { S.stage shelf.old ≡ Idle }
+    ensures known { code_of (status_of result) ≡ result }
+    ensures caused { (files : Files) → S.held shelf.old ≡ Some files
+        → IsCaused (outcome (map string_bytes words.now) files) (status_of result) (Rose (S.faults shelf.old) (S.faults shelf.new)) (Rose (O.faults out.old) (O.faults out.new)) }
+    ensures written { (files : Files) → S.held shelf.old ≡ Some files → IsWritten (status_of result) (outcome (map string_bytes words.now) files).out (O.written out.old) (O.written out.new) }
+    ensures said { (files : Files) → S.held shelf.old ≡ Some files
+        → (line : List ℕ) × (IsLine (outcome (map string_bytes words.now) files) (S.held shelf.new) (S.stage shelf.new) (status_of result) line × IsSaid line (E.written err.old) (E.written err.new) (E.faults err.old) (E.faults err.new)) }
+    ensures usage { (result ≡ 2) ↔ (line_of (map string_bytes words.now) ≡ None) }
+    ensures read_fault { result ≡ 8 → Rose (S.faults shelf.old) (S.faults shelf.new) }
+    ensures write_fault { result ≡ 9 → Rose (O.faults out.old) (O.faults out.new) }
+    ensures untouched { is_refusal (status_of result) ≡ true → out.new ≡ out.old }
+    ensures untouched_by_usage { result ≡ 2 → out.new ≡ out.old }
+    ensures clean { has_run (status_of result) ≡ true → O.clean out.new ≡ true }
+    ensures held { S.held shelf.new ≡ S.held shelf.old }
+    ensures not_writing { writes (S.stage shelf.new) ≡ false }
+{
+    match run_alone(alloc, words, shelf, out, err) {
+        Some(code) => code,
+        None => unreachable!(),
+    }
 }

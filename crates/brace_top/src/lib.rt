@@ -4,13 +4,14 @@
 mod agents;
 mod answer;
 mod command;
+mod flow;
 mod job;
 mod lines;
 mod load;
-mod run;
 mod status;
 mod step;
 mod thin;
 mod words;
 
+pub use command::{run, run_alone};
 pub use thin::{ThinFault, read_thin};

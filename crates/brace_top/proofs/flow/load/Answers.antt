@@ -1,7 +1,7 @@
 use Rattle.std.proofs.Common.{◌≡◌, ◌∙◌, sym}
 use Rattle.brace_top.specs.Words.{said}
 use Rattle.brace_top.proofs.LineLemmas.{stops, outcome_script, outcome_agents, rose_before}
-use Rattle.brace_top.proofs.run.load.Goals as goal
+use Rattle.brace_top.proofs.flow.load.Goals as goal
 
 pub returns-in-Err-load_world-clause-stopped : goal.returns-in-Err-load_world-clause-stopped
 returns-in-Err-load_world-clause-stopped g c answer e =

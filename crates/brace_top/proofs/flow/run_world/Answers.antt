@@ -1,7 +1,7 @@
 use Rattle.std.proofs.Common.{◌≡◌, ◌∙◌, sym}
 use Rattle.brace_top.proofs.JobLemmas.{front_all}
 use Rattle.brace_top.proofs.RunAnswers.{on_err, written_front}
-use Rattle.brace_top.proofs.run.run_world.Goals as goal
+use Rattle.brace_top.proofs.flow.run_world.Goals as goal
 
 pub returns-in-Ok-flush-clause-front : goal.returns-in-Ok-flush-clause-front
 returns-in-Ok-flush-clause-front g c = on_err _ _ (front_all _ _ _ (c.in-Ok-flush.ensures.same ∙ c.in-Ok.ensures.all))
