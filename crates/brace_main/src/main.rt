@@ -1,13 +1,11 @@
 //! The program: the host's files, standard output and standard error, and the words of the command line.
 #![tactic(auto)]
 
-use std::alloc::Global;
-use std::env;
-use std::io;
-use std::process::ExitCode;
-
 use brace_io::{DirShelf, ErrSink, OpenGate, OutSink};
 use brace_top::run;
+use std::alloc::Global;
+use std::process::ExitCode;
+use std::{env, io};
 
 /// The words after the program's name.
 fn words(rt: &HostRuntime, alloc: Global) -> io::Result<Vec<String>> {
