@@ -1,6 +1,7 @@
 ghost use Rattle.std.specs.Prelude.{IfOk, IfErr};
 ghost use Rattle.brace_syntax.specs.Cursor.{AreSpelled};
 ghost use Rattle.brace_syntax.specs.Depth.{NowhereDeep};
+ghost use Rattle.brace_syntax.specs.Reads.{Reads};
 ghost use Rattle.brace_syntax.specs.Sayings.{DepthOf};
 
 use crate::class::script;
@@ -16,6 +17,7 @@ use std::alloc::Global;
 /// only where it finds none.
 pub fn parse(alloc: Global, src: &[u8], toks: &[Token]) -> Result<Tree, SynFault>
     requires { AreSpelled src.now toks.now }
+    ensures reads { IfOk result (λ tree. Reads src.now toks.now tree) }
     ensures shallow { IfOk result (λ tree. NowhereDeep toks.now) }
     ensures fault { IfErr result (λ fault. DepthOf toks.now fault) }
 {
