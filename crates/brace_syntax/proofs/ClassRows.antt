@@ -1,33 +1,26 @@
 -- The rows of members, classes and scripts read what the grammar does.
-use Rattle.std.proofs.Common.{◌≡◌, refl, sym, ap, ◌∙◌, subst, ℕ, zero, suc, List, [], ◌∷◌, ◌++◌, Bool, true, false, length, nat_eq, rules, arith}
-use Rattle.std.specs.Prelude.{Option, Some, None, Result, Ok, Err, if◌then◌else◌}
+use Rattle.std.proofs.Common.{◌≡◌, refl, sym, ap, ◌∙◌, subst, ℕ, zero, suc, List, [], ◌∷◌, ◌++◌, Bool, true, false, length, nat_eq, arith}
+use Rattle.std.specs.Prelude.{Option, Some, None, Ok, if◌then◌else◌}
 use Rattle.std.proofs.lemmas.List.{append_assoc, append-nil}
 use Rattle.brace_tok.specs.declared.kinds.Token.{Token}
 use Rattle.brace_tok.specs.declared.kinds.TokKind.{TokKind}
 use Rattle.brace_tok.specs.declared.kinds.TokKind.TheVariants as k
-use Rattle.brace_syntax.specs.declared.mark.Mark.{Mark}
 use Rattle.brace_syntax.specs.declared.mark.Mark.TheVariants as m
-use Rattle.brace_syntax.specs.declared.tree.Ident.{Ident}
 use Rattle.brace_syntax.specs.declared.tree.Number.{Number}
 use Rattle.brace_syntax.specs.declared.tree.TyName.{TyName}
 use Rattle.brace_syntax.specs.declared.tree.ExprTree.{ExprTree}
-use Rattle.brace_syntax.specs.declared.tree.StmtTree.{StmtTree}
-use Rattle.brace_syntax.specs.declared.tree.StmtTree.TheVariants as stmt
 use Rattle.brace_syntax.specs.declared.tree.MemberTree.{MemberTree}
 use Rattle.brace_syntax.specs.declared.tree.MemberTree.TheVariants as v
 use Rattle.brace_syntax.specs.declared.tree.ClassTree.{ClassTree}
 use Rattle.brace_syntax.specs.declared.tree.Tree.{Tree}
-use Rattle.brace_syntax.specs.declared.stmt.Heading.{Heading}
 use Rattle.brace_syntax.specs.Tables.{Is, ident, type_name}
 use Rattle.brace_syntax.specs.Tables as tables
-use Rattle.brace_syntax.specs.Cursor.{Input, Parser, kind, next, place, sees, after, name, pass, expect, pure, ◌>>=◌}
-use Rattle.brace_syntax.specs.Cursor as c
+use Rattle.brace_syntax.specs.Cursor.{Input, Parser, kind, next, place, sees, after, name, expect, pure, ◌>>=◌}
 use Rattle.brace_syntax.specs.Reads as g
 use Rattle.brace_syntax.specs.Reads.{ReadsExpr, ReadsStmt, ReadsStmts, ReadsBlock, ReadsField, ReadsMember, ReadsMembers, ReadsClass, ReadsClasses, Reads}
 use Rattle.brace_syntax.specs.Descent as d
-use Rattle.brace_syntax.proofs.Inversions.{One, Bound, bound, same_value, same_input, no_fault, passed, seen, expected, eaten, not_eaten, named_one, number_one, type_one, combined_one}
+use Rattle.brace_syntax.proofs.Inversions.{bound, same_value, same_input, no_fault, passed, expected, eaten, not_eaten, named_one, number_one, type_one, combined_one}
 use Rattle.brace_syntax.proofs.Took.{Took, Sound}
-use Rattle.brace_syntax.specs.declared.tree.CombName.{CombName}
 use Rattle.std.proofs.lemmas.Bool.Decides.{nat_tests}
 use Rattle.brace_syntax.proofs.ExprRows.{expression-sound}
 use Rattle.brace_syntax.proofs.StmtRows.{block-sound}
@@ -51,9 +44,9 @@ pub data RuleOf (src : List ℕ) : List Token → Option ExprTree → Type 0 whe
 abbrev pub PublicRest : List ℕ → ℕ → List Token → MemberTree → Type 0
 PublicRest src at toks x = (word : Token) → Is k.KwPublic word → at ≡ word.from → ReadsMember src (word ∷ toks) x
 
-pub range-sound : (src : List ℕ)  (i j : Input) (x : Number) → i.src ≡ src → d.range i ≡ Ok (x, j) → Took src (Bracketed src) x i j
+pub range-sound : (src : List ℕ) (i j : Input) (x : Number) → i.src ≡ src → d.range i ≡ Ok (x, j) → Took src (Bracketed src) x i j
 unfolding d.range
-range-sound src  i j x s e =
+range-sound src i j x s e =
     let b1 = bound _ _ _ e in
     let t1 = expected m.OpenBracket i b1.input b1.value b1.first in
     let s1 : b1.input.src ≡ src = t1.src ∙ s in
@@ -73,9 +66,9 @@ range-sound src  i j x s e =
     let ec : i.rest ≡ (t1.token ∷ t2.token ∷ t3.token ∷ t4.token ∷ []) ++ j.rest = (t1.cut ∙ ap (λ (z : List Token). t1.token ∷ z) (t2.cut ∙ ap (λ (z : List Token). t2.token ∷ z) (t3.cut ∙ ap (λ (z : List Token). t3.token ∷ z) (t4.cut ∙ ap (λ (z : List Token). t4.token ∷ z) er)))) in
     record { taken = t1.token ∷ t2.token ∷ t3.token ∷ t4.token ∷ []; cut = ec; kept = sym (ap (λ (z : Input). z.src) ej) ∙ s4; reads = subst (λ (z : Number). Bracketed src (t1.token ∷ t2.token ∷ t3.token ∷ t4.token ∷ []) z) ex (record { opening = t1.token; range = t2.token; closing = t3.token; semicolon = t4.token; whole = refl; kinds = (t1.says.0, t2.says, t3.says.0, t4.says.0) }) }
 
-pub visible-sound : (src : List ℕ)  (i j : Input) (x : MemberTree) → i.src ≡ src → kind i ≡ Some k.Visible → d.visible i ≡ Ok (x, j) → Took src (ReadsMember src) x i j
+pub visible-sound : (src : List ℕ) (i j : Input) (x : MemberTree) → i.src ≡ src → kind i ≡ Some k.Visible → d.visible i ≡ Ok (x, j) → Took src (ReadsMember src) x i j
 unfolding d.visible
-visible-sound src  i j x s h e =
+visible-sound src i j x s h e =
     let t1 = passed i k.Visible h in
     let s1 : (next i).src ≡ src = t1.src ∙ s in
     let b2 = bound _ _ _ e in
@@ -89,9 +82,9 @@ visible-sound src  i j x s h e =
     let ec : i.rest ≡ (t1.token ∷ t2.taken) ++ j.rest = (t1.cut ∙ ap (λ (z : List Token). t1.token ∷ z) (t2.cut ∙ ap (λ (z : List Token). t2.taken ++ z) er)) in
     record { taken = t1.token ∷ t2.taken; cut = ec; kept = sym (ap (λ (z : Input). z.src) ej) ∙ s2; reads = subst (λ (z : MemberTree). ReadsMember src (t1.token ∷ t2.taken) z) ex (subst (λ (z : List Token). ReadsMember src (t1.token ∷ z) (v.Visible b2.value t1.token.from)) (sym t2.reads.whole) (g.visible t1.token t2.reads.opening t2.reads.range t2.reads.closing t2.reads.semicolon b2.value t1.says.0 t2.reads.kinds.0 t2.reads.kinds.1 t2.reads.kinds.2 t2.reads.kinds.3)) }
 
-pub reach-sound : (src : List ℕ)  (i j : Input) (x : MemberTree) → i.src ≡ src → kind i ≡ Some k.Reach → d.reach i ≡ Ok (x, j) → Took src (ReadsMember src) x i j
+pub reach-sound : (src : List ℕ) (i j : Input) (x : MemberTree) → i.src ≡ src → kind i ≡ Some k.Reach → d.reach i ≡ Ok (x, j) → Took src (ReadsMember src) x i j
 unfolding d.reach
-reach-sound src  i j x s h e =
+reach-sound src i j x s h e =
     let t1 = passed i k.Reach h in
     let s1 : (next i).src ≡ src = t1.src ∙ s in
     let b2 = bound _ _ _ e in
@@ -270,11 +263,11 @@ class_of : (src : List ℕ) (word name opening : Token) (toks : List Token) (all
 class_of src word name opening toks all a b c q =
     let tree = λ (z : List MemberTree). let r : ClassTree = record { name = ident src name; members = z; at = word.from } in r in
     subst (λ (z : List Token). ReadsClass src (word ∷ name ∷ opening ∷ z) (tree all)) (sym q.whole)
-      (subst (λ (z : List MemberTree). ReadsClass src (word ∷ name ∷ opening ∷ q.body ++ (q.closing ∷ [])) (tree z)) (sym q.found_is) (g.class q.body word name opening q.closing q.more a b c q.is_closing q.reads))
+    (subst (λ (z : List MemberTree). ReadsClass src (word ∷ name ∷ opening ∷ q.body ++ (q.closing ∷ [])) (tree z)) (sym q.found_is) (g.class q.body word name opening q.closing q.more a b c q.is_closing q.reads))
 
-pub class-sound : (src : List ℕ)  (i j : Input) (x : ClassTree) → i.src ≡ src → d.class i ≡ Ok (x, j) → Took src (ReadsClass src) x i j
+pub class-sound : (src : List ℕ) (i j : Input) (x : ClassTree) → i.src ≡ src → d.class i ≡ Ok (x, j) → Took src (ReadsClass src) x i j
 unfolding d.class
-class-sound src  i j x s e =
+class-sound src i j x s e =
     let b1 = bound _ _ _ e in
     let t1 = expected m.Class i b1.input b1.value b1.first in
     let s1 : b1.input.src ≡ src = t1.src ∙ s in
@@ -345,4 +338,4 @@ script-sound src i j tree s e =
     let ex : all ≡ tree = same_value _ _ _ _ b1.then_ in
     let ec : w.taken ≡ i.rest = sym (w.cut ∙ (ap (λ (z : List Token). w.taken ++ z) u.1 ∙ append-nil w.taken)) in
     subst (λ (z : List Token). ReadsClasses src z tree.classes) ec
-      (subst (λ (z : List ClassTree). ReadsClasses src w.taken z) (sym qf ∙ ap (λ (z : Tree). z.classes) ex) q.reads)
+    (subst (λ (z : List ClassTree). ReadsClasses src w.taken z) (sym qf ∙ ap (λ (z : Tree). z.classes) ex) q.reads)

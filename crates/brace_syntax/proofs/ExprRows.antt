@@ -1,6 +1,6 @@
 -- The rows of expressions read what the grammar does.
-use Rattle.std.proofs.Common.{◌≡◌, refl, sym, ap, ◌∙◌, subst, ℕ, zero, suc, List, [], ◌∷◌, ◌++◌, Bool, true, false, rules, arith}
-use Rattle.std.specs.Prelude.{Option, Some, None, Result, Ok, Err, if◌then◌else◌, option_and_then}
+use Rattle.std.proofs.Common.{◌≡◌, refl, sym, ap, ◌∙◌, subst, ℕ, zero, suc, List, [], ◌∷◌, ◌++◌, Bool, true, false}
+use Rattle.std.specs.Prelude.{Option, Some, None, Ok, if◌then◌else◌, option_and_then}
 use Rattle.std.proofs.lemmas.List.{append_assoc, append-nil}
 use Rattle.brace_tok.specs.declared.kinds.Token.{Token}
 use Rattle.brace_tok.specs.declared.kinds.TokKind.{TokKind}
@@ -19,7 +19,7 @@ use Rattle.brace_syntax.specs.Reads as g
 use Rattle.brace_syntax.specs.Reads.{Row, ReadsExpr, operands, repeats}
 use Rattle.brace_syntax.specs.Descent as d
 use Rattle.brace_syntax.specs.Descent.{climb, where_some}
-use Rattle.brace_syntax.proofs.Inversions.{One, Bound, bound, same_value, same_input, no_fault, passed, seen, expected, eaten, not_eaten, named_one}
+use Rattle.brace_syntax.proofs.Inversions.{One, bound, same_value, same_input, no_fault, passed, seen, expected, eaten, not_eaten, named_one}
 use Rattle.brace_syntax.proofs.Took.{Took, Sound}
 use Rattle.brace_syntax.proofs.PrimaryRows as p
 
@@ -151,7 +151,7 @@ module _ (src : List ℕ) (f : Start → Parser ExprTree) (hf : Sound src (f Who
       let t2 = hop (next i) b2.input b2.value (t1.src ∙ s) b2.first in
       let named_op : repeats row t1.token.kind ≡ Some op = ap (repeats row) t1.says.0 ∙ (hrep q.0 ∙ q.2) in
       let whole : ReadsExpr src row (before ++ t1.token ∷ t2.taken) (node.Binary op left b2.value (place i)) =
-          subst (λ (z : ℕ). ReadsExpr src row (before ++ t1.token ∷ t2.taken) (node.Binary op left b2.value z)) (sym t1.says.1) (g.joined row inner before t2.taken t1.token op left b2.value hin named_op r t2.reads) in
+      subst (λ (z : ℕ). ReadsExpr src row (before ++ t1.token ∷ t2.taken) (node.Binary op left b2.value z)) (sym t1.says.1) (g.joined row inner before t2.taken t1.token op left b2.value hin named_op r t2.reads) in
       let t3 = hag (node.Binary op left b2.value (place i)) (before ++ t1.token ∷ t2.taken) b2.input j x whole t2.kept b2.then_ in
       let ec : i.rest ≡ (t1.token ∷ t2.taken ++ t3.taken) ++ j.rest = t1.cut ∙ ap (λ (z : List Token). t1.token ∷ z) (t2.cut ∙ (ap (λ (z : List Token). t2.taken ++ z) t3.cut ∙ sym (append_assoc t2.taken t3.taken j.rest))) in
       record { taken = t1.token ∷ t2.taken ++ t3.taken; cut = ec; kept = t3.kept; reads = subst (λ (z : List Token). ReadsExpr src row z x) (append_assoc before (t1.token ∷ t2.taken) t3.taken) t3.reads }

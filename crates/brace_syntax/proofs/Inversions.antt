@@ -1,6 +1,6 @@
 -- What a step that succeeded took from the front of the tokens.
-use Rattle.std.proofs.Common.{◌≡◌, refl, sym, ap, ◌∙◌, subst, ℕ, List, [], ◌∷◌, ◌++◌, Bool, true, false, length, rules, arith}
-use Rattle.std.specs.Prelude.{Option, Some, None, Result, Ok, Err, option_and_then, if◌then◌else◌}
+use Rattle.std.proofs.Common.{◌≡◌, refl, sym, ap, ◌∙◌, ℕ, List, [], ◌∷◌, Bool, true, false, rules}
+use Rattle.std.specs.Prelude.{Option, Some, None, Ok, Err, option_and_then, if◌then◌else◌}
 use Rattle.std.proofs.lemmas.Option.{same_Some, none-some}
 use denote.Enum.Bare.{same_true}
 use Rattle.brace_tok.specs.declared.kinds.Token.{Token}
@@ -156,6 +156,7 @@ said_of says src rest tok (Some y) x j s e =
     let h : left ≡ j = same_input _ _ _ _ e in
     let v : y ≡ x = same_value _ _ _ _ e in
     record { token = tok; cut = ap (λ (z : Input). tok ∷ z.rest) h; src = sym (ap (λ (z : Input). z.src) h); says = s ∙ ap Some v }
+
 said_by : {A : Type 0} (says : Token → Option A) (src : List ℕ) (rest : List Token) (x : A) (j : Input)
     → said (option_and_then says (first (record { src = src; rest = rest }))) (record { src = src; rest = rest }) ≡ Ok (x, j)
     → One (λ tok. says tok ≡ Some x) (record { src = src; rest = rest }) j

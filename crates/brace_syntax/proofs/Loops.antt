@@ -1,31 +1,13 @@
 -- Rows that repeat up to a closing brace read what the grammar does.
-use Rattle.std.proofs.Common.{◌≡◌, refl, sym, ap, ◌∙◌, subst, ℕ, zero, suc, List, [], ◌∷◌, ◌++◌, Bool, true, false, length, nat_eq, rules, arith}
-use Rattle.std.specs.Prelude.{Option, Some, None, Result, Ok, Err, if◌then◌else◌}
+use Rattle.std.proofs.Common.{◌≡◌, refl, sym, ap, ◌∙◌, ℕ, List, [], ◌∷◌, ◌++◌, Bool, true, false}
+use Rattle.std.specs.Prelude.{Ok, if◌then◌else◌}
 use Rattle.std.proofs.lemmas.List.{append_assoc, append-nil}
 use Rattle.brace_tok.specs.declared.kinds.Token.{Token}
-use Rattle.brace_tok.specs.declared.kinds.TokKind.{TokKind}
 use Rattle.brace_tok.specs.declared.kinds.TokKind.TheVariants as k
-use Rattle.brace_syntax.specs.declared.mark.Mark.{Mark}
 use Rattle.brace_syntax.specs.declared.mark.Mark.TheVariants as m
-use Rattle.brace_syntax.specs.declared.tree.Ident.{Ident}
-use Rattle.brace_syntax.specs.declared.tree.Number.{Number}
-use Rattle.brace_syntax.specs.declared.tree.TyName.{TyName}
-use Rattle.brace_syntax.specs.declared.tree.ExprTree.{ExprTree}
-use Rattle.brace_syntax.specs.declared.tree.StmtTree.{StmtTree}
-use Rattle.brace_syntax.specs.declared.tree.StmtTree.TheVariants as stmt
-use Rattle.brace_syntax.specs.declared.tree.MemberTree.{MemberTree}
-use Rattle.brace_syntax.specs.declared.tree.MemberTree.TheVariants as v
-use Rattle.brace_syntax.specs.declared.tree.ClassTree.{ClassTree}
-use Rattle.brace_syntax.specs.declared.tree.Tree.{Tree}
-use Rattle.brace_syntax.specs.declared.stmt.Heading.{Heading}
-use Rattle.brace_syntax.specs.Tables.{Is, ident, type_name}
-use Rattle.brace_syntax.specs.Tables as tables
-use Rattle.brace_syntax.specs.Cursor.{Input, Parser, kind, next, place, sees, after, name, pass, expect, pure, ◌>>=◌}
-use Rattle.brace_syntax.specs.Cursor as c
-use Rattle.brace_syntax.specs.Reads as g
-use Rattle.brace_syntax.specs.Reads.{ReadsExpr, ReadsStmt, ReadsStmts, ReadsBlock, ReadsField, ReadsMember, ReadsMembers, ReadsClass, ReadsClasses, Reads}
-use Rattle.brace_syntax.specs.Descent as d
-use Rattle.brace_syntax.proofs.Inversions.{One, Bound, bound, same_value, same_input, no_fault, passed, seen, expected, eaten, not_eaten, named_one, number_one, type_one, combined_one}
+use Rattle.brace_syntax.specs.Tables.{Is}
+use Rattle.brace_syntax.specs.Cursor.{Input, Parser, sees, after, pure, ◌>>=◌}
+use Rattle.brace_syntax.proofs.Inversions.{bound, same_value, same_input, eaten, not_eaten}
 use Rattle.brace_syntax.proofs.Took.{Took, Sound}
 
 -- the items that are read now come after those found before, and a closing brace ends them

@@ -1,6 +1,6 @@
 -- The rows of primary expressions read what the grammar does.
-use Rattle.std.proofs.Common.{◌≡◌, refl, sym, ap, ◌∙◌, subst, ℕ, List, [], ◌∷◌, ◌++◌, Bool, true, false, rules, arith}
-use Rattle.std.specs.Prelude.{Option, Some, None, Result, Ok, Err, if◌then◌else◌, option_and_then}
+use Rattle.std.proofs.Common.{◌≡◌, sym, ap, ◌∙◌, subst, ℕ, List, [], ◌∷◌, ◌++◌}
+use Rattle.std.specs.Prelude.{Some, Ok}
 use Rattle.std.proofs.lemmas.List.{append_assoc}
 use Rattle.brace_tok.specs.declared.kinds.Token.{Token}
 use Rattle.brace_tok.specs.declared.kinds.TokKind.{TokKind}
@@ -11,13 +11,13 @@ use Rattle.brace_syntax.specs.declared.tree.BinName.{BinName}
 use Rattle.brace_syntax.specs.declared.tree.ExprTree.{ExprTree}
 use Rattle.brace_syntax.specs.declared.tree.ExprTree.TheVariants as node
 use Rattle.brace_syntax.specs.declared.expr.Start.{Start}
-use Rattle.brace_syntax.specs.declared.expr.Start.TheVariants.{Whole, Operand}
-use Rattle.brace_syntax.specs.Tables.{ident, calls_one, calls_two, prefixes}
-use Rattle.brace_syntax.specs.Cursor.{Input, Parser, kind, next, place, sees, after}
-use Rattle.brace_syntax.specs.Reads.{ReadsExpr, choices, primaries, prefixed, called_one, called_two, enclosed, of_this, of_loop, named, literal, random, truth, falsity}
+use Rattle.brace_syntax.specs.declared.expr.Start.TheVariants.{Whole}
+use Rattle.brace_syntax.specs.Tables.{ident, calls_one, calls_two}
+use Rattle.brace_syntax.specs.Cursor.{Input, Parser, kind, next, place}
+use Rattle.brace_syntax.specs.Reads.{ReadsExpr, choices, primaries, called_one, called_two, enclosed, of_this, literal, random}
 use Rattle.brace_syntax.specs.Descent as d
 use Rattle.brace_syntax.specs.Descent.{one_argument, two_arguments}
-use Rattle.brace_syntax.proofs.Inversions.{One, Bound, bound, same_value, same_input, no_fault, passed, expected, eaten, not_eaten, named_one, number_one, type_one, combined_one}
+use Rattle.brace_syntax.proofs.Inversions.{bound, same_value, same_input, passed, expected, named_one, number_one}
 use Rattle.brace_syntax.proofs.Took.{Took, Sound}
 
 pub one_argument-sound : (src : List ℕ) (f : Start → Parser ExprTree) → Sound src (f Whole) (ReadsExpr src choices) → (word : TokKind) (called : UnName) → calls_one word ≡ Some called → (i j : Input) (x : ExprTree) → i.src ≡ src → kind i ≡ Some word → one_argument f called i ≡ Ok (x, j) → Took src (ReadsExpr src primaries) x i j
@@ -70,7 +70,7 @@ two_arguments-sound src f hf word called hc i j x s h e =
     let ec : i.rest ≡ (t1.token ∷ t2.token ∷ t3.taken ++ (t4.token ∷ t5.taken ++ (t6.token ∷ []))) ++ j.rest = (t1.cut ∙ ap (λ (z : List Token). t1.token ∷ z) (t2.cut ∙ ap (λ (z : List Token). t2.token ∷ z) (t3.cut ∙ (ap (λ (z : List Token). t3.taken ++ z) (t4.cut ∙ ap (λ (z : List Token). t4.token ∷ z) (t5.cut ∙ (ap (λ (z : List Token). t5.taken ++ z) (t6.cut ∙ ap (λ (z : List Token). t6.token ∷ z) er) ∙ sym (append_assoc t5.taken (t6.token ∷ []) j.rest)))) ∙ sym (append_assoc t3.taken (t4.token ∷ t5.taken ++ (t6.token ∷ [])) j.rest))))) in
     record { taken = t1.token ∷ t2.token ∷ t3.taken ++ (t4.token ∷ t5.taken ++ (t6.token ∷ [])); cut = ec; kept = sym (ap (λ (z : Input). z.src) ej) ∙ s6; reads = subst (λ (z : ExprTree). ReadsExpr src primaries (t1.token ∷ t2.token ∷ t3.taken ++ (t4.token ∷ t5.taken ++ (t6.token ∷ []))) z) ex (subst (λ (z : List Token). ReadsExpr src primaries (t1.token ∷ t2.token ∷ z) (node.Binary called b3.value b5.value t1.token.from)) (append_assoc t3.taken (t4.token ∷ t5.taken) (t6.token ∷ [])) (called_two t3.taken t5.taken t1.token t2.token t4.token t6.token called b3.value b5.value (ap calls_two t1.says.0 ∙ hc) t2.says.0 t4.says.0 t6.says.0 t3.reads t5.reads)) }
 
-pub enclosed-sound : (src : List ℕ) (f : Start → Parser ExprTree) → Sound src (f Whole) (ReadsExpr src choices) →  (i j : Input) (x : ExprTree) → i.src ≡ src → kind i ≡ Some k.OpenParen → d.enclosed f i ≡ Ok (x, j) → Took src (ReadsExpr src primaries) x i j
+pub enclosed-sound : (src : List ℕ) (f : Start → Parser ExprTree) → Sound src (f Whole) (ReadsExpr src choices) → (i j : Input) (x : ExprTree) → i.src ≡ src → kind i ≡ Some k.OpenParen → d.enclosed f i ≡ Ok (x, j) → Took src (ReadsExpr src primaries) x i j
 unfolding d.enclosed
 enclosed-sound src f hf i j x s h e =
     let t1 = passed i k.OpenParen h in
@@ -88,9 +88,9 @@ enclosed-sound src f hf i j x s h e =
     let ec : i.rest ≡ (t1.token ∷ t2.taken ++ (t3.token ∷ [])) ++ j.rest = (t1.cut ∙ ap (λ (z : List Token). t1.token ∷ z) (t2.cut ∙ (ap (λ (z : List Token). t2.taken ++ z) (t3.cut ∙ ap (λ (z : List Token). t3.token ∷ z) er) ∙ sym (append_assoc t2.taken (t3.token ∷ []) j.rest)))) in
     record { taken = t1.token ∷ t2.taken ++ (t3.token ∷ []); cut = ec; kept = sym (ap (λ (z : Input). z.src) ej) ∙ s3; reads = subst (λ (z : ExprTree). ReadsExpr src primaries (t1.token ∷ t2.taken ++ (t3.token ∷ [])) z) ex (enclosed t2.taken t1.token t3.token b2.value t1.says.0 t3.says.0 t2.reads) }
 
-pub random-sound : (src : List ℕ)  (i j : Input) (x : ExprTree) → i.src ≡ src → kind i ≡ Some k.KwRand → d.random i ≡ Ok (x, j) → Took src (ReadsExpr src primaries) x i j
+pub random-sound : (src : List ℕ) (i j : Input) (x : ExprTree) → i.src ≡ src → kind i ≡ Some k.KwRand → d.random i ≡ Ok (x, j) → Took src (ReadsExpr src primaries) x i j
 unfolding d.random
-random-sound src  i j x s h e =
+random-sound src i j x s h e =
     let t1 = passed i k.KwRand h in
     let s1 : (next i).src ≡ src = t1.src ∙ s in
     let b2 = bound _ _ _ e in
@@ -107,9 +107,9 @@ random-sound src  i j x s h e =
     let ec : i.rest ≡ (t1.token ∷ t2.token ∷ t3.token ∷ []) ++ j.rest = (t1.cut ∙ ap (λ (z : List Token). t1.token ∷ z) (t2.cut ∙ ap (λ (z : List Token). t2.token ∷ z) (t3.cut ∙ ap (λ (z : List Token). t3.token ∷ z) er))) in
     record { taken = t1.token ∷ t2.token ∷ t3.token ∷ []; cut = ec; kept = sym (ap (λ (z : Input). z.src) ej) ∙ s3; reads = subst (λ (z : ExprTree). ReadsExpr src primaries (t1.token ∷ t2.token ∷ t3.token ∷ []) z) ex (random t1.token t2.token t3.token t1.says.0 t2.says.0 t3.says.0) }
 
-pub literal-sound : (src : List ℕ)  (i j : Input) (x : ExprTree) → i.src ≡ src → d.literal i ≡ Ok (x, j) → Took src (ReadsExpr src primaries) x i j
+pub literal-sound : (src : List ℕ) (i j : Input) (x : ExprTree) → i.src ≡ src → d.literal i ≡ Ok (x, j) → Took src (ReadsExpr src primaries) x i j
 unfolding d.literal
-literal-sound src  i j x s e =
+literal-sound src i j x s e =
     let b1 = bound _ _ _ e in
     let t1 = number_one i b1.input b1.value b1.first in
     let s1 : b1.input.src ≡ src = t1.src ∙ s in
@@ -120,9 +120,9 @@ literal-sound src  i j x s e =
     let ec : i.rest ≡ (t1.token ∷ []) ++ j.rest = (t1.cut ∙ ap (λ (z : List Token). t1.token ∷ z) er) in
     record { taken = t1.token ∷ []; cut = ec; kept = sym (ap (λ (z : Input). z.src) ej) ∙ s1; reads = subst (λ (z : ExprTree). ReadsExpr src primaries (t1.token ∷ []) z) ex (literal t1.token b1.value t1.says) }
 
-pub of_this-sound : (src : List ℕ)  (i j : Input) (x : ExprTree) → i.src ≡ src → kind i ≡ Some k.KwThis → d.of_this i ≡ Ok (x, j) → Took src (ReadsExpr src primaries) x i j
+pub of_this-sound : (src : List ℕ) (i j : Input) (x : ExprTree) → i.src ≡ src → kind i ≡ Some k.KwThis → d.of_this i ≡ Ok (x, j) → Took src (ReadsExpr src primaries) x i j
 unfolding d.of_this
-of_this-sound src  i j x s h e =
+of_this-sound src i j x s h e =
     let t1 = passed i k.KwThis h in
     let s1 : (next i).src ≡ src = t1.src ∙ s in
     let b2 = bound _ _ _ e in

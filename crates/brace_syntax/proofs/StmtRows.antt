@@ -1,31 +1,22 @@
 -- The rows of statements read what the grammar does.
-use Rattle.std.proofs.Common.{◌≡◌, refl, sym, ap, ◌∙◌, subst, ℕ, zero, suc, List, [], ◌∷◌, ◌++◌, Bool, true, false, length, nat_eq, rules, arith}
-use Rattle.std.specs.Prelude.{Option, Some, None, Result, Ok, Err, if◌then◌else◌}
-use Rattle.std.proofs.lemmas.List.{append_assoc, append-nil}
+use Rattle.std.proofs.Common.{◌≡◌, refl, sym, ap, ◌∙◌, subst, ℕ, zero, suc, List, [], ◌∷◌, ◌++◌, Bool, true, false}
+use Rattle.std.specs.Prelude.{Option, Some, None, Ok, if◌then◌else◌}
+use Rattle.std.proofs.lemmas.List.{append_assoc}
 use Rattle.brace_tok.specs.declared.kinds.Token.{Token}
 use Rattle.brace_tok.specs.declared.kinds.TokKind.{TokKind}
 use Rattle.brace_tok.specs.declared.kinds.TokKind.TheVariants as k
-use Rattle.brace_syntax.specs.declared.mark.Mark.{Mark}
 use Rattle.brace_syntax.specs.declared.mark.Mark.TheVariants as m
 use Rattle.brace_syntax.specs.declared.tree.Ident.{Ident}
-use Rattle.brace_syntax.specs.declared.tree.Number.{Number}
-use Rattle.brace_syntax.specs.declared.tree.TyName.{TyName}
 use Rattle.brace_syntax.specs.declared.tree.ExprTree.{ExprTree}
 use Rattle.brace_syntax.specs.declared.tree.StmtTree.{StmtTree}
 use Rattle.brace_syntax.specs.declared.tree.StmtTree.TheVariants as stmt
-use Rattle.brace_syntax.specs.declared.tree.MemberTree.{MemberTree}
-use Rattle.brace_syntax.specs.declared.tree.MemberTree.TheVariants as v
-use Rattle.brace_syntax.specs.declared.tree.ClassTree.{ClassTree}
-use Rattle.brace_syntax.specs.declared.tree.Tree.{Tree}
 use Rattle.brace_syntax.specs.declared.stmt.Heading.{Heading}
 use Rattle.brace_syntax.specs.Tables.{Is, ident, type_name}
-use Rattle.brace_syntax.specs.Tables as tables
-use Rattle.brace_syntax.specs.Cursor.{Input, Parser, kind, next, place, sees, after, name, pass, expect, pure, ◌>>=◌}
-use Rattle.brace_syntax.specs.Cursor as c
+use Rattle.brace_syntax.specs.Cursor.{Input, Parser, kind, next, place, sees, after, name, pure, ◌>>=◌}
 use Rattle.brace_syntax.specs.Reads as g
 use Rattle.brace_syntax.specs.Reads.{ReadsExpr, ReadsStmt, ReadsStmts, ReadsBlock, ReadsField, ReadsMember, ReadsMembers, ReadsClass, ReadsClasses, Reads}
 use Rattle.brace_syntax.specs.Descent as d
-use Rattle.brace_syntax.proofs.Inversions.{One, Bound, bound, same_value, same_input, no_fault, passed, seen, expected, eaten, not_eaten, named_one, number_one, type_one, combined_one}
+use Rattle.brace_syntax.proofs.Inversions.{One, bound, same_value, same_input, no_fault, passed, expected, eaten, not_eaten, named_one, type_one}
 use Rattle.brace_syntax.proofs.Took.{Took, Sound}
 use Rattle.brace_syntax.proofs.ExprRows.{expression-sound}
 use Rattle.brace_syntax.proofs.Loops.{Ended, ended_by}
@@ -66,9 +57,9 @@ pub record Ranged (src : List ℕ) (toks : List Token) (h : Heading) : Type 0 wh
   pub kinds : Is k.KwForeach word × Is k.OpenParen opening × Is k.Word class_ × Is k.Word variable × Is k.Colon colon × Is k.KwExtent extent × Is k.Less less × Is k.Word other × Is k.Greater greater × Is k.CloseParen closing
   pub says : h ≡ record { class = ident src class_; variable = ident src variable; other = ident src other; at = word.from }
 
-pub assigned-sound : (src : List ℕ)  (i j : Input) (x : ExprTree) → i.src ≡ src → d.assigned i ≡ Ok (x, j) → Took src (Assigned src) x i j
+pub assigned-sound : (src : List ℕ) (i j : Input) (x : ExprTree) → i.src ≡ src → d.assigned i ≡ Ok (x, j) → Took src (Assigned src) x i j
 unfolding d.assigned
-assigned-sound src  i j x s e =
+assigned-sound src i j x s e =
     let b1 = bound _ _ _ e in
     let t1 = expected m.Arrow i b1.input b1.value b1.first in
     let s1 : b1.input.src ≡ src = t1.src ∙ s in
@@ -85,9 +76,9 @@ assigned-sound src  i j x s e =
     let ec : i.rest ≡ (t1.token ∷ t2.taken ++ (t3.token ∷ [])) ++ j.rest = (t1.cut ∙ ap (λ (z : List Token). t1.token ∷ z) (t2.cut ∙ (ap (λ (z : List Token). t2.taken ++ z) (t3.cut ∙ ap (λ (z : List Token). t3.token ∷ z) er) ∙ sym (append_assoc t2.taken (t3.token ∷ []) j.rest)))) in
     record { taken = t1.token ∷ t2.taken ++ (t3.token ∷ []); cut = ec; kept = sym (ap (λ (z : Input). z.src) ej) ∙ s3; reads = subst (λ (z : ExprTree). Assigned src (t1.token ∷ t2.taken ++ (t3.token ∷ [])) z) ex (record { arrow = t1.token; inner = t2.taken; semicolon = t3.token; whole = refl; is_arrow = t1.says.0; is_semicolon = t3.says.0; reads = t2.reads }) }
 
-pub condition-sound : (src : List ℕ)  (i j : Input) (x : ExprTree) → i.src ≡ src → d.condition i ≡ Ok (x, j) → Took src (Enclosed src) x i j
+pub condition-sound : (src : List ℕ) (i j : Input) (x : ExprTree) → i.src ≡ src → d.condition i ≡ Ok (x, j) → Took src (Enclosed src) x i j
 unfolding d.condition
-condition-sound src  i j x s e =
+condition-sound src i j x s e =
     let b1 = bound _ _ _ e in
     let t1 = expected m.OpenParen i b1.input b1.value b1.first in
     let s1 : b1.input.src ≡ src = t1.src ∙ s in
@@ -104,9 +95,9 @@ condition-sound src  i j x s e =
     let ec : i.rest ≡ (t1.token ∷ t2.taken ++ (t3.token ∷ [])) ++ j.rest = (t1.cut ∙ ap (λ (z : List Token). t1.token ∷ z) (t2.cut ∙ (ap (λ (z : List Token). t2.taken ++ z) (t3.cut ∙ ap (λ (z : List Token). t3.token ∷ z) er) ∙ sym (append_assoc t2.taken (t3.token ∷ []) j.rest)))) in
     record { taken = t1.token ∷ t2.taken ++ (t3.token ∷ []); cut = ec; kept = sym (ap (λ (z : Input). z.src) ej) ∙ s3; reads = subst (λ (z : ExprTree). Enclosed src (t1.token ∷ t2.taken ++ (t3.token ∷ [])) z) ex (record { opening = t1.token; inner = t2.taken; closing = t3.token; whole = refl; is_opening = t1.says.0; is_closing = t3.says.0; reads = t2.reads }) }
 
-pub constant-sound : (src : List ℕ)  (i j : Input) (x : StmtTree) → i.src ≡ src → kind i ≡ Some k.KwConst → d.constant i ≡ Ok (x, j) → Took src (ReadsStmt src) x i j
+pub constant-sound : (src : List ℕ) (i j : Input) (x : StmtTree) → i.src ≡ src → kind i ≡ Some k.KwConst → d.constant i ≡ Ok (x, j) → Took src (ReadsStmt src) x i j
 unfolding d.constant
-constant-sound src  i j x s h e =
+constant-sound src i j x s h e =
     let t1 = passed i k.KwConst h in
     let s1 : (next i).src ≡ src = t1.src ∙ s in
     let b2 = bound _ _ _ e in
@@ -133,9 +124,9 @@ constant-sound src  i j x s h e =
     let ec : i.rest ≡ (t1.token ∷ t2.token ∷ t3.token ∷ t4.token ∷ t5.taken ++ (t6.token ∷ [])) ++ j.rest = (t1.cut ∙ ap (λ (z : List Token). t1.token ∷ z) (t2.cut ∙ ap (λ (z : List Token). t2.token ∷ z) (t3.cut ∙ ap (λ (z : List Token). t3.token ∷ z) (t4.cut ∙ ap (λ (z : List Token). t4.token ∷ z) (t5.cut ∙ (ap (λ (z : List Token). t5.taken ++ z) (t6.cut ∙ ap (λ (z : List Token). t6.token ∷ z) er) ∙ sym (append_assoc t5.taken (t6.token ∷ []) j.rest))))))) in
     record { taken = t1.token ∷ t2.token ∷ t3.token ∷ t4.token ∷ t5.taken ++ (t6.token ∷ []); cut = ec; kept = sym (ap (λ (z : Input). z.src) ej) ∙ s6; reads = subst (λ (z : StmtTree). ReadsStmt src (t1.token ∷ t2.token ∷ t3.token ∷ t4.token ∷ t5.taken ++ (t6.token ∷ [])) z) ex (g.const t5.taken t1.token t2.token t3.token t4.token t6.token b2.value b5.value t1.says.0 (subst (λ (z : List ℕ). type_name z t2.token ≡ Some b2.value) s1 t2.says) t3.says.0 t4.says.0 t6.says.0 t5.reads) }
 
-pub assign_this-sound : (src : List ℕ)  (i j : Input) (x : StmtTree) → i.src ≡ src → kind i ≡ Some k.KwThis → d.assign_this i ≡ Ok (x, j) → Took src (ReadsStmt src) x i j
+pub assign_this-sound : (src : List ℕ) (i j : Input) (x : StmtTree) → i.src ≡ src → kind i ≡ Some k.KwThis → d.assign_this i ≡ Ok (x, j) → Took src (ReadsStmt src) x i j
 unfolding d.assign_this
-assign_this-sound src  i j x s h e =
+assign_this-sound src i j x s h e =
     let t1 = passed i k.KwThis h in
     let s1 : (next i).src ≡ src = t1.src ∙ s in
     let b2 = bound _ _ _ e in
@@ -174,9 +165,14 @@ assign_by src true i i1 j first x t1 s h e =
     let ev : stmt.AssignLoop first b3.value b4.value ≡ x = same_value _ _ _ _ b4.then_ in
     let ex : stmt.AssignLoop (ident src t1.token) (ident src t3.token) b4.value ≡ x = cc in
     let ec : i.rest ≡ (t1.token ∷ t2.token ∷ t3.token ∷ t4.taken) ++ j.rest = (t1.cut ∙ ap (λ (z : List Token). t1.token ∷ z) (t2.cut ∙ ap (λ (z : List Token). t2.token ∷ z) (t3.cut ∙ ap (λ (z : List Token). t3.token ∷ z) (t4.cut ∙ ap (λ (z : List Token). t4.taken ++ z) er)))) in
-    record { taken = t1.token ∷ t2.token ∷ t3.token ∷ t4.taken; cut = ec; kept = sym (ap (λ (z : Input). z.src) ej) ∙ t4.kept; reads = subst (λ (z : StmtTree). ReadsStmt src (t1.token ∷ t2.token ∷ t3.token ∷ t4.taken) z) ex
-        (subst (λ (z : List Token). ReadsStmt src (t1.token ∷ t2.token ∷ t3.token ∷ z) (stmt.AssignLoop (ident src t1.token) (ident src t3.token) b4.value)) (sym t4.reads.whole)
-          (g.assign_loop t4.reads.inner t1.token t2.token t3.token t4.reads.arrow t4.reads.semicolon b4.value t1.says.0 t2.says t3.says.0 t4.reads.is_arrow t4.reads.is_semicolon t4.reads.reads)) }
+    record {
+      taken = t1.token ∷ t2.token ∷ t3.token ∷ t4.taken;
+      cut = ec;
+      kept = sym (ap (λ (z : Input). z.src) ej) ∙ t4.kept;
+      reads = subst (λ (z : StmtTree). ReadsStmt src (t1.token ∷ t2.token ∷ t3.token ∷ t4.taken) z) ex
+          (subst (λ (z : List Token). ReadsStmt src (t1.token ∷ t2.token ∷ t3.token ∷ z) (stmt.AssignLoop (ident src t1.token) (ident src t3.token) b4.value)) (sym t4.reads.whole)
+          (g.assign_loop t4.reads.inner t1.token t2.token t3.token t4.reads.arrow t4.reads.semicolon b4.value t1.says.0 t2.says t3.says.0 t4.reads.is_arrow t4.reads.is_semicolon t4.reads.reads));
+    }
 assign_by src false i i1 j first x t1 s h e =
     let s1 : i1.src ≡ src = t1.src ∙ s in
     let en = not_eaten m.Dot i1 h in
@@ -190,9 +186,14 @@ assign_by src false i i1 j first x t1 s h e =
     let ex : stmt.Assign (ident src t1.token) b4.value ≡ x = cc in
     let ea : i1.rest ≡ (after m.Dot i1).rest = ap (λ (z : Input). z.rest) (sym en) in
     let ec : i.rest ≡ (t1.token ∷ t4.taken) ++ j.rest = t1.cut ∙ ap (λ (z : List Token). t1.token ∷ z) (ea ∙ (t4.cut ∙ ap (λ (z : List Token). t4.taken ++ z) er)) in
-    record { taken = t1.token ∷ t4.taken; cut = ec; kept = sym (ap (λ (z : Input). z.src) ej) ∙ t4.kept; reads = subst (λ (z : StmtTree). ReadsStmt src (t1.token ∷ t4.taken) z) ex
-        (subst (λ (z : List Token). ReadsStmt src (t1.token ∷ z) (stmt.Assign (ident src t1.token) b4.value)) (sym t4.reads.whole)
-          (g.assign t4.reads.inner t1.token t4.reads.arrow t4.reads.semicolon b4.value t1.says.0 t4.reads.is_arrow t4.reads.is_semicolon t4.reads.reads)) }
+    record {
+      taken = t1.token ∷ t4.taken;
+      cut = ec;
+      kept = sym (ap (λ (z : Input). z.src) ej) ∙ t4.kept;
+      reads = subst (λ (z : StmtTree). ReadsStmt src (t1.token ∷ t4.taken) z) ex
+          (subst (λ (z : List Token). ReadsStmt src (t1.token ∷ z) (stmt.Assign (ident src t1.token) b4.value)) (sym t4.reads.whole)
+          (g.assign t4.reads.inner t1.token t4.reads.arrow t4.reads.semicolon b4.value t1.says.0 t4.reads.is_arrow t4.reads.is_semicolon t4.reads.reads));
+    }
 
 assign-sound : (src : List ℕ) → Sound src d.assign (ReadsStmt src)
 unfolding d.assign
@@ -200,9 +201,9 @@ assign-sound src i j x s e =
     let b1 = bound _ _ _ e in
     assign_by src (sees m.Dot b1.input) i b1.input j b1.value x (named_one i b1.input b1.value b1.first) s refl b1.then_
 
-pub ranging-sound : (src : List ℕ)  (i j : Input) (x : Heading) → i.src ≡ src → kind i ≡ Some k.KwForeach → d.ranging i ≡ Ok (x, j) → Took src (Ranged src) x i j
+pub ranging-sound : (src : List ℕ) (i j : Input) (x : Heading) → i.src ≡ src → kind i ≡ Some k.KwForeach → d.ranging i ≡ Ok (x, j) → Took src (Ranged src) x i j
 unfolding d.ranging
-ranging-sound src  i j x s h e =
+ranging-sound src i j x s h e =
     let t1 = passed i k.KwForeach h in
     let s1 : (next i).src ≡ src = t1.src ∙ s in
     let b2 = bound _ _ _ e in
@@ -258,9 +259,14 @@ module _ (src : List ℕ) (block : Parser (List StmtTree)) (hb : Sound src block
       let tail : i1.rest ≡ (t1.token ∷ t2.taken) ++ j.rest = (t1.cut ∙ ap (λ (z : List Token). t1.token ∷ z) (t2.cut ∙ ap (λ (z : List Token). t2.taken ++ z) er)) in
       let ec : i.rest ≡ (word ∷ (cond ++ (body ++ (t1.token ∷ t2.taken)))) ++ j.rest = cut ∙ ap (λ (z : List Token). word ∷ z) (ap (λ (z : List Token). cond ++ z) (ap (λ (z : List Token). body ++ z) tail ∙ sym (append_assoc body (t1.token ∷ t2.taken) j.rest)) ∙ sym (append_assoc cond (body ++ (t1.token ∷ t2.taken)) j.rest)) in
       let ew : word ∷ q.opening ∷ q.inner ++ (q.closing ∷ body ++ (t1.token ∷ t2.taken)) ≡ word ∷ (cond ++ (body ++ (t1.token ∷ t2.taken))) = ap (λ (z : List Token). word ∷ q.opening ∷ z) (sym (append_assoc q.inner (q.closing ∷ []) (body ++ (t1.token ∷ t2.taken)))) ∙ ap (λ (z : List Token). word ∷ (z ++ (body ++ (t1.token ∷ t2.taken)))) (sym q.whole) in
-      record { taken = word ∷ (cond ++ (body ++ (t1.token ∷ t2.taken))); cut = ec; kept = sym (ap (λ (z : Input). z.src) ej) ∙ t2.kept; reads = subst (λ (z : StmtTree). ReadsStmt src (word ∷ (cond ++ (body ++ (t1.token ∷ t2.taken)))) z) ex
-          (subst (λ (z : List Token). ReadsStmt src z (stmt.If y first (Some b2.value) word.from)) ew
-            (subst (λ (z : List Token). ReadsStmt src (word ∷ q.opening ∷ z) (stmt.If y first (Some b2.value) word.from)) (append_assoc q.inner (q.closing ∷ body) (t1.token ∷ t2.taken)) (g.either_way q.inner body t2.taken word q.opening q.closing t1.token y first b2.value is_if q.is_opening q.is_closing t1.says q.reads r t2.reads))) }
+      record {
+        taken = word ∷ (cond ++ (body ++ (t1.token ∷ t2.taken)));
+        cut = ec;
+        kept = sym (ap (λ (z : Input). z.src) ej) ∙ t2.kept;
+        reads = subst (λ (z : StmtTree). ReadsStmt src (word ∷ (cond ++ (body ++ (t1.token ∷ t2.taken)))) z) ex
+            (subst (λ (z : List Token). ReadsStmt src z (stmt.If y first (Some b2.value) word.from)) ew
+            (subst (λ (z : List Token). ReadsStmt src (word ∷ q.opening ∷ z) (stmt.If y first (Some b2.value) word.from)) (append_assoc q.inner (q.closing ∷ body) (t1.token ∷ t2.taken)) (g.either_way q.inner body t2.taken word q.opening q.closing t1.token y first b2.value is_if q.is_opening q.is_closing t1.says q.reads r t2.reads)));
+      }
   when_by false i i1 j at y first x word cond body is_if is_at q r cut s1 h e =
       let en = not_eaten m.Else i1 h in
       let ea : after m.Else i1 ≡ j = same_input _ _ _ _ e in
@@ -270,9 +276,14 @@ module _ (src : List ℕ) (block : Parser (List StmtTree)) (hb : Sound src block
       let ex : stmt.If y first None word.from ≡ x = cc in
       let ec : i.rest ≡ (word ∷ (cond ++ body)) ++ j.rest = cut ∙ ap (λ (z : List Token). word ∷ z) (ap (λ (z : List Token). cond ++ (body ++ z)) er ∙ sym (append_assoc cond body j.rest)) in
       let ew : word ∷ q.opening ∷ q.inner ++ (q.closing ∷ body) ≡ word ∷ (cond ++ body) = ap (λ (z : List Token). word ∷ q.opening ∷ z) (sym (append_assoc q.inner (q.closing ∷ []) body)) ∙ ap (λ (z : List Token). word ∷ (z ++ body)) (sym q.whole) in
-      record { taken = word ∷ (cond ++ body); cut = ec; kept = sym (ap (λ (z : Input). z.src) ej) ∙ s1; reads = subst (λ (z : StmtTree). ReadsStmt src (word ∷ (cond ++ body)) z) ex
-          (subst (λ (z : List Token). ReadsStmt src z (stmt.If y first None word.from)) ew
-            (g.when q.inner body word q.opening q.closing y first is_if q.is_opening q.is_closing q.reads r)) }
+      record {
+        taken = word ∷ (cond ++ body);
+        cut = ec;
+        kept = sym (ap (λ (z : Input). z.src) ej) ∙ s1;
+        reads = subst (λ (z : StmtTree). ReadsStmt src (word ∷ (cond ++ body)) z) ex
+            (subst (λ (z : List Token). ReadsStmt src z (stmt.If y first None word.from)) ew
+            (g.when q.inner body word q.opening q.closing y first is_if q.is_opening q.is_closing q.reads r));
+      }
 
   when-sound : (i j : Input) (x : StmtTree) → i.src ≡ src → kind i ≡ Some k.KwIf → d.when block i ≡ Ok (x, j) → Took src (ReadsStmt src) x i j
   unfolding d.when
@@ -298,12 +309,17 @@ module _ (src : List ℕ) (block : Parser (List StmtTree)) (hb : Sound src block
       let ej : b2.input ≡ j = same_input _ _ _ _ b2.then_ in
       let er : b2.input.rest ≡ j.rest = ap (λ (z : Input). z.rest) ej in
       let ex : stmt.Foreach (ident src q.class_) (ident src q.variable) (ident src q.other) b2.value q.word.from ≡ x =
-          subst (λ (z : Heading). stmt.Foreach z.class z.variable z.other b2.value z.at ≡ x) qs (same_value _ _ _ _ b2.then_) in
+      subst (λ (z : Heading). stmt.Foreach z.class z.variable z.other b2.value z.at ≡ x) qs (same_value _ _ _ _ b2.then_) in
       let ec : i.rest ≡ (t1.taken ++ t2.taken) ++ j.rest = t1.cut ∙ (ap (λ (z : List Token). t1.taken ++ z) (t2.cut ∙ ap (λ (z : List Token). t2.taken ++ z) er) ∙ sym (append_assoc t1.taken t2.taken j.rest)) in
       let ew : (q.word ∷ q.opening ∷ q.class_ ∷ q.variable ∷ q.colon ∷ q.extent ∷ q.less ∷ q.other ∷ q.greater ∷ q.closing ∷ t2.taken) ≡ t1.taken ++ t2.taken = ap (λ (z : List Token). z ++ t2.taken) (sym qw) in
-      record { taken = t1.taken ++ t2.taken; cut = ec; kept = sym (ap (λ (z : Input). z.src) ej) ∙ t2.kept; reads = subst (λ (z : StmtTree). ReadsStmt src (t1.taken ++ t2.taken) z) ex
-          (subst (λ (z : List Token). ReadsStmt src z (stmt.Foreach (ident src q.class_) (ident src q.variable) (ident src q.other) b2.value q.word.from)) ew
-            (g.foreach t2.taken q.word q.opening q.class_ q.variable q.colon q.extent q.less q.other q.greater q.closing b2.value q.kinds.0 q.kinds.1 q.kinds.2 q.kinds.3 q.kinds.4 q.kinds.5 q.kinds.6 q.kinds.7 q.kinds.8 q.kinds.9 t2.reads)) }
+      record {
+        taken = t1.taken ++ t2.taken;
+        cut = ec;
+        kept = sym (ap (λ (z : Input). z.src) ej) ∙ t2.kept;
+        reads = subst (λ (z : StmtTree). ReadsStmt src (t1.taken ++ t2.taken) z) ex
+            (subst (λ (z : List Token). ReadsStmt src z (stmt.Foreach (ident src q.class_) (ident src q.variable) (ident src q.other) b2.value q.word.from)) ew
+            (g.foreach t2.taken q.word q.opening q.class_ q.variable q.colon q.extent q.less q.other q.greater q.closing b2.value q.kinds.0 q.kinds.1 q.kinds.2 q.kinds.3 q.kinds.4 q.kinds.5 q.kinds.6 q.kinds.7 q.kinds.8 q.kinds.9 t2.reads));
+      }
 
   statement_by-sound : (o : Option TokKind) (i j : Input) (x : StmtTree) → i.src ≡ src → kind i ≡ o → d.statement_by block o i ≡ Ok (x, j) → Took src (ReadsStmt src) x i j
   statement_by-sound (Some k.KwConst) i j x s h e = constant-sound src i j x s h e

@@ -1,5 +1,5 @@
 -- What is left to read, and the steps that every row is made of. Only the crate's own functions cite this.
-use Rattle.std.specs.Prelude.{◌≡◌, ◌≢◌, ◌≤◌, ◌<◌, ◌^◌, ℕ, Bool, true, false, if◌then◌else◌, List, [], ◌∷◌, length, drop, Option, Some, None, Result, Ok, Err, All, option_and_then, option_map, slice_get}
+use Rattle.std.specs.Prelude.{◌≡◌, ◌≢◌, ◌≤◌, ◌<◌, ◌^◌, ℕ, Bool, false, if◌then◌else◌, List, length, drop, Option, Some, None, Result, Ok, Err, All, option_and_then, option_map, slice_get}
 use Rattle.std.specs.Str.{IsUtf8}
 use denote.Enum.Bare.{sameb}
 use Rattle.brace_tok.specs.declared.kinds.Token.{Token}

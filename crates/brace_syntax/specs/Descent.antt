@@ -1,10 +1,9 @@
 -- What each function of the parser computes. Only the crate's own functions cite this.
-use Rattle.std.specs.Prelude.{◌≡◌, ℕ, zero, suc, List, [], ◌∷◌, ◌++◌, length, Bool, true, false, if◌then◌else◌, Option, Some, None, Ok, nat_eq, option_and_then}
+use Rattle.std.specs.Prelude.{ℕ, zero, suc, List, [], ◌∷◌, ◌++◌, length, Bool, true, false, if◌then◌else◌, Option, Some, None, Ok, nat_eq, option_and_then}
 use Rattle.brace_tok.specs.declared.kinds.TokKind.{TokKind}
 use Rattle.brace_tok.specs.declared.kinds.TokKind.TheVariants as k
 use Rattle.brace_syntax.specs.Tables.{either, both, compares, adds, multiplies, prefixes}
 use Rattle.brace_syntax.specs.Cursor.{Input, kind, Parser, ◌>>=◌, ◌>>◌, pure, refuse, peek, pass, eat, sees, expect, name, number, type_name, combinator}
-use Rattle.brace_syntax.specs.declared.tree.Ident.{Ident}
 use Rattle.brace_syntax.specs.declared.tree.Number.{Number}
 use Rattle.brace_syntax.specs.declared.tree.UnName.{UnName}
 use Rattle.brace_syntax.specs.declared.tree.BinName.{BinName}

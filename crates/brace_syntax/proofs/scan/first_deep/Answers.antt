@@ -1,4 +1,4 @@
-use Rattle.std.proofs.Common.{◌≡◌, ◌∙◌, ◌<◌, ◌+◌, length, take, arith}
+use Rattle.std.proofs.Common.{◌∙◌, ◌<◌, ◌+◌, length, take, arith}
 use Rattle.brace_syntax.proofs.DepthLemmas.{opened_more, counted_more, tested, few, shallow_more, deep_at}
 use Rattle.brace_syntax.proofs.scan.first_deep.Goals as goal
 
