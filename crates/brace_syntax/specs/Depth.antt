@@ -1,5 +1,5 @@
 -- How deep a script nests, told by its tokens alone.
-use Rattle.std.specs.Prelude.{◌≡◌, ◌+◌, ◌-◌, ◌||◌, ℕ, nat_lt, Bool, true, false, List, [], ◌∷◌, ◌++◌, fold, take}
+use Rattle.std.specs.Prelude.{◌≡◌, ◌+◌, ◌-◌, ◌≤◌, ◌||◌, ℕ, nat_lt, Bool, true, false, List, fold, take, slice_get, Some}
 use Rattle.brace_tok.specs.declared.kinds.Token.{Token}
 use Rattle.brace_tok.specs.declared.kinds.TokKind.{TokKind}
 use Rattle.brace_tok.specs.declared.kinds.TokKind.TheVariants as k
@@ -51,6 +51,10 @@ abbrev pub NowhereDeep : List Token → Type 0
 NowhereDeep toks = (n : ℕ) → is_deep (take n toks) ≡ false
 
 -- at this place stands the first token up to and including which the tokens are too deep
-abbrev pub FirstDeepAt : List Token → ℕ → Type 0
-FirstDeepAt toks at = (before after : List Token) × (tok : Token) × (toks ≡ before ++ tok ∷ after) × (tok.from ≡ at)
-    × (is_deep (before ++ tok ∷ []) ≡ true) × ((n : ℕ) → is_deep (take n before) ≡ false)
+pub record FirstDeepAt (toks : List Token) (at : ℕ) : Type 0 where
+  pub number : ℕ
+  pub token : Token
+  pub stands : slice_get toks number ≡ Some token
+  pub place : token.from ≡ at
+  pub deep : is_deep (take (number + 1) toks) ≡ true
+  pub first : (n : ℕ) → n ≤ number → is_deep (take n toks) ≡ false

@@ -1,8 +1,19 @@
 //! The grammar of scripts: trees, and the parser that reads them from tokens.
 #![tactic(auto)]
 
+mod class;
+mod entry;
+mod expr;
+mod fault;
+mod mark;
+mod operators;
+mod scan;
+mod stmt;
+mod tokens;
 mod tree;
 
+pub use entry::parse;
+pub use fault::SynFault;
 pub use tree::{
     BinName, ClassTree, CombName, Digits, ExprTree, Ident, MemberTree, Number, StmtTree, Tree,
     TyName, UnName,

@@ -1,0 +1,10 @@
+pub mod Spelled
+pub mod Turns
+pub mod DepthLemmas
+pub mod Inversions
+pub mod Took
+pub mod PrimaryRows
+pub mod ExprRows
+pub mod Loops
+pub mod StmtRows
+pub mod ClassRows

@@ -1,0 +1,191 @@
+//! Members, classes and scripts.
+
+ghost use Rattle.std.specs.Prelude.{◌≡◌};
+ghost use Rattle.brace_syntax.specs.Cursor.{Follows};
+ghost use Rattle.brace_syntax.specs.Descent as spec;
+
+use crate::expr::expression;
+use crate::fault::Stop;
+use crate::mark::Mark;
+use crate::stmt::block;
+use crate::tokens::Tokens;
+use crate::tree::{ClassTree, ExprTree, MemberTree, Number, Tree};
+use brace_num::List;
+use brace_tok::TokKind;
+use std::alloc::Global;
+
+#[tactic(auto, unfolding(crate::specs::Descent::range))]
+fn range(tokens: &mut Tokens<'_>) -> Result<Number, Stop>
+    ensures { Follows (spec.range tokens.old) result tokens.new }
+{
+    tokens.expect(Mark::OpenBracket)?;
+    let n = tokens.number()?;
+    tokens.expect(Mark::CloseBracket)?;
+    tokens.expect(Mark::Semicolon)?;
+    Ok(n)
+}
+
+#[tactic(auto, unfolding(crate::specs::Descent::visible))]
+fn visible(tokens: &mut Tokens<'_>) -> Result<MemberTree, Stop>
+    ensures { Follows (spec.visible tokens.old) result tokens.new }
+{
+    let at = tokens.pass();
+    let n = range(tokens)?;
+    Ok(MemberTree::Visible(n, at))
+}
+
+#[tactic(auto, unfolding(crate::specs::Descent::reach))]
+fn reach(tokens: &mut Tokens<'_>) -> Result<MemberTree, Stop>
+    ensures { Follows (spec.reach tokens.old) result tokens.new }
+{
+    let at = tokens.pass();
+    let n = range(tokens)?;
+    Ok(MemberTree::Reach(n, at))
+}
+
+#[tactic(auto, unfolding(crate::specs::Descent::ruled))]
+fn ruled(alloc: Global, tokens: &mut Tokens<'_>) -> Result<Option<ExprTree>, Stop>
+    ensures { Follows (spec.ruled tokens.old) result tokens.new }
+{
+    if tokens.eat(Mark::Colon) {
+        let x = expression(alloc, tokens)?;
+        tokens.expect(Mark::Semicolon)?;
+        Ok(Some(x))
+    } else {
+        tokens.expect(Mark::Semicolon)?;
+        Ok(None)
+    }
+}
+
+#[tactic(auto, unfolding(crate::specs::Descent::state))]
+fn state(
+    alloc: Global,
+    tokens: &mut Tokens<'_>,
+    is_public: bool,
+    at: u32,
+) -> Result<MemberTree, Stop>
+    ensures { Follows (spec.state is_public at tokens.old) result tokens.new }
+{
+    tokens.pass();
+    let t = tokens.type_name(alloc)?;
+    let name = tokens.name(alloc)?;
+    let x = ruled(alloc, tokens)?;
+    Ok(MemberTree::State(is_public, t, name, x, at))
+}
+
+#[tactic(auto, unfolding(crate::specs::Descent::effect))]
+fn effect(
+    alloc: Global,
+    tokens: &mut Tokens<'_>,
+    is_public: bool,
+    at: u32,
+) -> Result<MemberTree, Stop>
+    ensures { Follows (spec.effect is_public at tokens.old) result tokens.new }
+{
+    tokens.pass();
+    let t = tokens.type_name(alloc)?;
+    let name = tokens.name(alloc)?;
+    tokens.expect(Mark::Colon)?;
+    let c = tokens.combinator()?;
+    tokens.expect(Mark::Semicolon)?;
+    Ok(MemberTree::Effect(is_public, t, name, c, at))
+}
+
+#[tactic(auto, unfolding(crate::specs::Descent::field))]
+fn field(
+    alloc: Global,
+    tokens: &mut Tokens<'_>,
+    is_public: bool,
+    at: u32,
+) -> Result<MemberTree, Stop>
+    ensures { Follows (spec.field is_public at tokens.old) result tokens.new }
+{
+    match tokens.peek() {
+        Some(TokKind::KwState) => state(alloc, tokens, is_public, at),
+        Some(TokKind::KwEffect) => effect(alloc, tokens, is_public, at),
+        _ => Err(tokens.refuse()),
+    }
+}
+
+#[tactic(auto, unfolding(crate::specs::Descent::run))]
+fn run(alloc: Global, tokens: &mut Tokens<'_>, at: u32) -> Result<MemberTree, Stop>
+    ensures { Follows (spec.run at tokens.old) result tokens.new }
+{
+    tokens.pass();
+    tokens.expect(Mark::Run)?;
+    tokens.expect(Mark::OpenParen)?;
+    tokens.expect(Mark::CloseParen)?;
+    let body = block(alloc, tokens)?;
+    Ok(MemberTree::Run(body, at))
+}
+
+#[tactic(auto, unfolding(crate::specs::Descent::public))]
+fn public(alloc: Global, tokens: &mut Tokens<'_>) -> Result<MemberTree, Stop>
+    ensures { Follows (spec.public tokens.old) result tokens.new }
+{
+    let at = tokens.pass();
+    match tokens.peek() {
+        Some(TokKind::KwVoid) => run(alloc, tokens, at),
+        _ => field(alloc, tokens, true, at),
+    }
+}
+
+#[tactic(auto, unfolding(crate::specs::Descent::private))]
+fn private(alloc: Global, tokens: &mut Tokens<'_>) -> Result<MemberTree, Stop>
+    ensures { Follows (spec.private tokens.old) result tokens.new }
+{
+    let at = tokens.pass();
+    field(alloc, tokens, false, at)
+}
+
+#[tactic(auto, unfolding(crate::specs::Descent::member))]
+fn member(alloc: Global, tokens: &mut Tokens<'_>) -> Result<MemberTree, Stop>
+    ensures { Follows (spec.member tokens.old) result tokens.new }
+{
+    match tokens.peek() {
+        Some(TokKind::Visible) => visible(tokens),
+        Some(TokKind::Reach) => reach(tokens),
+        Some(TokKind::KwPublic) => public(alloc, tokens),
+        Some(TokKind::KwPrivate) => private(alloc, tokens),
+        _ => Err(tokens.refuse()),
+    }
+}
+
+#[tactic(auto, unfolding(crate::specs::Descent::members, crate::specs::Descent::members_from))]
+fn members(alloc: Global, tokens: &mut Tokens<'_>) -> Result<List<MemberTree>, Stop>
+    ensures { Follows (spec.members tokens.old) result tokens.new }
+{
+    let mut found = List::new(alloc);
+    for _turn in 0..tokens.left() {
+        if tokens.eat(Mark::CloseBrace) {
+            return Ok(found);
+        }
+        found.push(member(alloc, tokens)?)?;
+    }
+    Err(tokens.refuse())
+}
+
+#[tactic(auto, unfolding(crate::specs::Descent::class))]
+fn class(alloc: Global, tokens: &mut Tokens<'_>) -> Result<ClassTree, Stop>
+    ensures { Follows (spec.class tokens.old) result tokens.new }
+{
+    let at = tokens.expect(Mark::Class)?;
+    let name = tokens.name(alloc)?;
+    tokens.expect(Mark::OpenBrace)?;
+    let members = members(alloc, tokens)?;
+    Ok(ClassTree { name, members, at })
+}
+
+#[tactic(auto, unfolding(crate::specs::Descent::script, crate::specs::Descent::classes_from))]
+pub fn script(alloc: Global, tokens: &mut Tokens<'_>) -> Result<Tree, Stop>
+    ensures { Follows (spec.script tokens.old) result tokens.new }
+{
+    let mut classes = List::new(alloc);
+    for _turn in 0..tokens.left() {
+        classes.push(class(alloc, tokens)?)?;
+        if tokens.left() == 0 {
+            return Ok(Tree { classes });
+        }
+    }
+    Err(tokens.refuse())
+}

@@ -1,0 +1,323 @@
+//! Expressions, a function for each row.
+
+ghost use Rattle.std.specs.Prelude.{◌≡◌, IfOk};
+ghost use Rattle.brace_syntax.specs.Cursor.{Follows};
+ghost use Rattle.brace_syntax.specs.Descent as spec;
+ghost use Rattle.brace_syntax.specs.Nests.{Nests};
+ghost use Rattle.brace_syntax.specs.declared.tree.ExprTree.TheVariants as e;
+
+use crate::fault::Stop;
+use crate::mark::Mark;
+use crate::operators::{adds, both, compares, either, multiplies, prefixes};
+use crate::tokens::Tokens;
+use crate::tree::{BinName, ExprTree, UnName};
+use brace_num::{Boxed, NoMemory};
+use brace_tok::TokKind;
+use std::alloc::Global;
+
+/// Where an expression is begun: at its first row, or at that of prefixes.
+#[derive(Debug, Clone, Copy, PartialEq, Eq, Drop)]
+pub enum Start {
+    Whole,
+    Operand,
+}
+
+fn unary(alloc: Global, name: UnName, x: ExprTree, at: u32) -> Result<ExprTree, NoMemory>
+    ensures { IfOk result (λ tree. tree ≡ e.Unary name x at) }
+{
+    Ok(ExprTree::Unary(name, Boxed::new(alloc, x)?, at))
+}
+
+fn binary(
+    alloc: Global,
+    name: BinName,
+    x: ExprTree,
+    y: ExprTree,
+    at: u32,
+) -> Result<ExprTree, NoMemory>
+    ensures { IfOk result (λ tree. tree ≡ e.Binary name x y at) }
+{
+    let x = Boxed::new(alloc, x)?;
+    let y = Boxed::new(alloc, y)?;
+    Ok(ExprTree::Binary(name, x, y, at))
+}
+
+fn choice(
+    alloc: Global,
+    w: ExprTree,
+    x: ExprTree,
+    y: ExprTree,
+    at: u32,
+) -> Result<ExprTree, NoMemory>
+    ensures { IfOk result (λ tree. tree ≡ e.Choice w x y at) }
+{
+    let w = Boxed::new(alloc, w)?;
+    let x = Boxed::new(alloc, x)?;
+    let y = Boxed::new(alloc, y)?;
+    Ok(ExprTree::Choice(w, x, y, at))
+}
+
+#[tactic(auto, unfolding(crate::specs::Descent::of_this))]
+fn of_this(alloc: Global, tokens: &mut Tokens<'_>) -> Result<ExprTree, Stop>
+    ensures { Follows (spec.of_this tokens.old) result tokens.new }
+{
+    let at = tokens.pass();
+    tokens.expect(Mark::Dot)?;
+    Ok(ExprTree::OfThis(tokens.name(alloc)?, at))
+}
+
+#[tactic(auto, unfolding(crate::specs::Descent::named))]
+fn named(alloc: Global, tokens: &mut Tokens<'_>) -> Result<ExprTree, Stop>
+    ensures { Follows (spec.named tokens.old) result tokens.new }
+{
+    let first = tokens.name(alloc)?;
+    if tokens.eat(Mark::Dot) {
+        Ok(ExprTree::OfLoop(first, tokens.name(alloc)?))
+    } else {
+        Ok(ExprTree::Name(first))
+    }
+}
+
+#[tactic(auto, unfolding(crate::specs::Descent::literal))]
+fn literal(tokens: &mut Tokens<'_>) -> Result<ExprTree, Stop>
+    ensures { Follows (spec.literal tokens.old) result tokens.new }
+{
+    Ok(ExprTree::Lit(tokens.number()?))
+}
+
+#[tactic(auto, unfolding(crate::specs::Descent::random))]
+fn random(tokens: &mut Tokens<'_>) -> Result<ExprTree, Stop>
+    ensures { Follows (spec.random tokens.old) result tokens.new }
+{
+    let at = tokens.pass();
+    tokens.expect(Mark::OpenParen)?;
+    tokens.expect(Mark::CloseParen)?;
+    Ok(ExprTree::Rand(at))
+}
+
+/// The rows of expressions. The rows that lead back to the first are given a function for that, so that each is proved by itself.
+#[derive(Clone, Copy)]
+pub struct Exprs<F> {
+    pub alloc: Global,
+    /// How deep expressions may still nest.
+    pub depth: usize,
+    pub expr: F,
+}
+
+impl<F: Fn(Global, &mut Tokens<'_>, usize, Start) -> Result<ExprTree, Stop>> Exprs<F> {
+    fn nested(&self, tokens: &mut Tokens<'_>, start: Start) -> Result<ExprTree, Stop>
+        requires { Nests self.now.depth (F.pre self.now.expr) (F.post self.now.expr) }
+        ensures { Follows (spec.expr self.now.depth start tokens.old) result tokens.new }
+    {
+        (self.expr)(self.alloc, tokens, self.depth, start)
+    }
+
+    #[tactic(auto, unfolding(crate::specs::Descent::one_argument))]
+    fn one_argument(&self, tokens: &mut Tokens<'_>, name: UnName) -> Result<ExprTree, Stop>
+        requires { Nests self.now.depth (F.pre self.now.expr) (F.post self.now.expr) }
+        ensures { Follows (spec.one_argument (spec.expr self.now.depth) name tokens.old) result tokens.new }
+    {
+        let at = tokens.pass();
+        tokens.expect(Mark::OpenParen)?;
+        let x = self.nested(tokens, Start::Whole)?;
+        tokens.expect(Mark::CloseParen)?;
+        Ok(unary(self.alloc, name, x, at)?)
+    }
+
+    #[tactic(auto, unfolding(crate::specs::Descent::two_arguments))]
+    fn two_arguments(&self, tokens: &mut Tokens<'_>, name: BinName) -> Result<ExprTree, Stop>
+        requires { Nests self.now.depth (F.pre self.now.expr) (F.post self.now.expr) }
+        ensures { Follows (spec.two_arguments (spec.expr self.now.depth) name tokens.old) result tokens.new }
+    {
+        let at = tokens.pass();
+        tokens.expect(Mark::OpenParen)?;
+        let x = self.nested(tokens, Start::Whole)?;
+        tokens.expect(Mark::Comma)?;
+        let y = self.nested(tokens, Start::Whole)?;
+        tokens.expect(Mark::CloseParen)?;
+        Ok(binary(self.alloc, name, x, y, at)?)
+    }
+
+    #[tactic(auto, unfolding(crate::specs::Descent::enclosed))]
+    fn enclosed(&self, tokens: &mut Tokens<'_>) -> Result<ExprTree, Stop>
+        requires { Nests self.now.depth (F.pre self.now.expr) (F.post self.now.expr) }
+        ensures { Follows (spec.enclosed (spec.expr self.now.depth) tokens.old) result tokens.new }
+    {
+        tokens.pass();
+        let x = self.nested(tokens, Start::Whole)?;
+        tokens.expect(Mark::CloseParen)?;
+        Ok(x)
+    }
+
+    #[tactic(auto, unfolding(crate::specs::Descent::primary))]
+    fn primary(&self, tokens: &mut Tokens<'_>) -> Result<ExprTree, Stop>
+        requires { Nests self.now.depth (F.pre self.now.expr) (F.post self.now.expr) }
+        ensures { Follows (spec.primary (spec.expr self.now.depth) tokens.old) result tokens.new }
+    {
+        match tokens.peek() {
+            Some(TokKind::KwTrue) => Ok(ExprTree::True(tokens.pass())),
+            Some(TokKind::KwFalse) => Ok(ExprTree::False(tokens.pass())),
+            Some(TokKind::OpenParen) => self.enclosed(tokens),
+            Some(TokKind::KwThis) => of_this(self.alloc, tokens),
+            Some(TokKind::Word) => named(self.alloc, tokens),
+            Some(TokKind::KwAbs) => self.one_argument(tokens, UnName::Abs),
+            Some(TokKind::KwSqrt) => self.one_argument(tokens, UnName::Sqrt),
+            Some(TokKind::KwFixed) => self.one_argument(tokens, UnName::ToFixed),
+            Some(TokKind::KwTrunc) => self.one_argument(tokens, UnName::Trunc),
+            Some(TokKind::KwMin) => self.two_arguments(tokens, BinName::Min),
+            Some(TokKind::KwMax) => self.two_arguments(tokens, BinName::Max),
+            Some(TokKind::KwRand) => random(tokens),
+            _ => literal(tokens),
+        }
+    }
+
+    #[tactic(auto, unfolding(crate::specs::Descent::prefixed))]
+    fn prefixed(&self, tokens: &mut Tokens<'_>) -> Result<ExprTree, Stop>
+        requires { Nests self.now.depth (F.pre self.now.expr) (F.post self.now.expr) }
+        ensures { Follows (spec.prefixed (spec.expr self.now.depth) tokens.old) result tokens.new }
+    {
+        let Some(name) = prefixes(tokens.peek()) else {
+            return self.primary(tokens);
+        };
+        let at = tokens.pass();
+        let x = self.nested(tokens, Start::Operand)?;
+        Ok(unary(self.alloc, name, x, at)?)
+    }
+
+    #[tactic(auto, unfolding(crate::specs::Descent::product, crate::specs::Descent::climb))]
+    fn product(&self, tokens: &mut Tokens<'_>) -> Result<ExprTree, Stop>
+        requires { Nests self.now.depth (F.pre self.now.expr) (F.post self.now.expr) }
+        ensures { Follows (spec.product (spec.expr self.now.depth) tokens.old) result tokens.new }
+    {
+        let mut left = self.prefixed(tokens)?;
+        for _turn in 0..tokens.left() {
+            let Some(name) = multiplies(tokens.peek()) else {
+                return Ok(left);
+            };
+            let at = tokens.pass();
+            let right = self.prefixed(tokens)?;
+            left = binary(self.alloc, name, left, right, at)?;
+        }
+        Ok(left)
+    }
+
+    #[tactic(auto, unfolding(crate::specs::Descent::total, crate::specs::Descent::climb))]
+    fn total(&self, tokens: &mut Tokens<'_>) -> Result<ExprTree, Stop>
+        requires { Nests self.now.depth (F.pre self.now.expr) (F.post self.now.expr) }
+        ensures { Follows (spec.total (spec.expr self.now.depth) tokens.old) result tokens.new }
+    {
+        let mut left = self.product(tokens)?;
+        for _turn in 0..tokens.left() {
+            let Some(name) = adds(tokens.peek()) else {
+                return Ok(left);
+            };
+            let at = tokens.pass();
+            let right = self.product(tokens)?;
+            left = binary(self.alloc, name, left, right, at)?;
+        }
+        Ok(left)
+    }
+
+    #[tactic(auto, unfolding(crate::specs::Descent::comparison))]
+    fn comparison(&self, tokens: &mut Tokens<'_>) -> Result<ExprTree, Stop>
+        requires { Nests self.now.depth (F.pre self.now.expr) (F.post self.now.expr) }
+        ensures { Follows (spec.comparison (spec.expr self.now.depth) tokens.old) result tokens.new }
+    {
+        let left = self.total(tokens)?;
+        let Some(name) = compares(tokens.peek()) else {
+            return Ok(left);
+        };
+        let at = tokens.pass();
+        let right = self.total(tokens)?;
+        Ok(binary(self.alloc, name, left, right, at)?)
+    }
+
+    #[tactic(auto, unfolding(crate::specs::Descent::conjunction, crate::specs::Descent::climb))]
+    fn conjunction(&self, tokens: &mut Tokens<'_>) -> Result<ExprTree, Stop>
+        requires { Nests self.now.depth (F.pre self.now.expr) (F.post self.now.expr) }
+        ensures { Follows (spec.conjunction (spec.expr self.now.depth) tokens.old) result tokens.new }
+    {
+        let mut left = self.comparison(tokens)?;
+        for _turn in 0..tokens.left() {
+            let Some(name) = both(tokens.peek()) else {
+                return Ok(left);
+            };
+            let at = tokens.pass();
+            let right = self.comparison(tokens)?;
+            left = binary(self.alloc, name, left, right, at)?;
+        }
+        Ok(left)
+    }
+
+    #[tactic(auto, unfolding(crate::specs::Descent::disjunction, crate::specs::Descent::climb))]
+    fn disjunction(&self, tokens: &mut Tokens<'_>) -> Result<ExprTree, Stop>
+        requires { Nests self.now.depth (F.pre self.now.expr) (F.post self.now.expr) }
+        ensures { Follows (spec.disjunction (spec.expr self.now.depth) tokens.old) result tokens.new }
+    {
+        let mut left = self.conjunction(tokens)?;
+        for _turn in 0..tokens.left() {
+            let Some(name) = either(tokens.peek()) else {
+                return Ok(left);
+            };
+            let at = tokens.pass();
+            let right = self.conjunction(tokens)?;
+            left = binary(self.alloc, name, left, right, at)?;
+        }
+        Ok(left)
+    }
+
+    #[tactic(auto, unfolding(crate::specs::Descent::choice))]
+    fn choice(&self, tokens: &mut Tokens<'_>) -> Result<ExprTree, Stop>
+        requires { Nests self.now.depth (F.pre self.now.expr) (F.post self.now.expr) }
+        ensures { Follows (spec.choice (spec.expr self.now.depth) tokens.old) result tokens.new }
+    {
+        let w = self.disjunction(tokens)?;
+        if !tokens.sees(Mark::Question) {
+            return Ok(w);
+        }
+        let at = tokens.pass();
+        let x = self.nested(tokens, Start::Whole)?;
+        tokens.expect(Mark::Colon)?;
+        let y = self.nested(tokens, Start::Whole)?;
+        Ok(choice(self.alloc, w, x, y, at)?)
+    }
+
+    fn level(&self, tokens: &mut Tokens<'_>, start: Start) -> Result<ExprTree, Stop>
+        requires { Nests self.now.depth (F.pre self.now.expr) (F.post self.now.expr) }
+        ensures { Follows (spec.level (spec.expr self.now.depth) start tokens.old) result tokens.new }
+    {
+        match start {
+            Start::Whole => self.choice(tokens),
+            Start::Operand => self.prefixed(tokens),
+        }
+    }
+}
+
+/// An expression from its start, with expressions nested no deeper than `depth`.
+pub fn expr(
+    alloc: Global,
+    tokens: &mut Tokens<'_>,
+    depth: usize,
+    start: Start,
+) -> Result<ExprTree, Stop>
+    ensures { Follows (spec.expr depth start tokens.old) result tokens.new }
+{
+    if depth == 0 {
+        return Err(tokens.refuse());
+    }
+    Exprs {
+        alloc,
+        depth: depth - 1,
+        expr,
+    }
+    .level(tokens, start)
+}
+
+/// An expression. Each nested expression has fewer tokens, so their count is deep enough.
+#[tactic(auto, unfolding(crate::specs::Descent::expression))]
+pub fn expression(alloc: Global, tokens: &mut Tokens<'_>) -> Result<ExprTree, Stop>
+    ensures { Follows (spec.expression tokens.old) result tokens.new }
+{
+    let depth = tokens.left();
+    expr(alloc, tokens, depth, Start::Whole)
+}
