@@ -1,18 +1,16 @@
 -- The run of a job tick by tick, and what its text adds to a sink.
-use Rattle.std.proofs.Common.{◌≡◌, ◌∙◌, sym, refl, ap, subst, ℕ, ◌+◌, ◌-◌, ◌%◌, ◌≤◌, ◌<◌, List, [], ◌∷◌, ◌++◌, Bool, true, false, length, length-append, take, Option, Some, None, Result, Ok, Err, arith, zero-add, append_assoc}
-use Rattle.std.specs.Prelude.{◌==◌, ◌&&◌, ◌||◌, nat_lt, if◌then◌else◌}
+use Rattle.std.proofs.Common.{◌≡◌, ◌∙◌, sym, refl, ap, subst, ℕ, ◌+◌, ◌-◌, ◌%◌, ◌≤◌, ◌<◌, List, ◌++◌, true, length, length-append, take, Option, Some, None, Ok, Err, arith, zero-add, append_assoc}
 use Rattle.std.specs.Result.{result_err}
-use Rattle.std.proofs.lemmas.List.{append-nil, take_all, take-append-le}
+use Rattle.std.proofs.lemmas.List.{take_all, take-append-le}
 use Rattle.std.proofs.Math.Seq.{take-append-add}
 use Rattle.brace_io.specs.Sinks.{with_piece, Gains, GainsFront}
 use Rattle.brace_io.proofs.WholeLemmas.{Gains-none, with_piece-twice}
 use Rattle.brace_model.specs.declared.program.Program.{Program}
 use Rattle.brace_model.specs.declared.fault.Fault.{Fault}
-use Rattle.brace_model.specs.declared.job.Job.{Job}
 use Rattle.brace_model.specs.declared.world.Agent.{Agent}
 use Rattle.brace_model.specs.Step.{step}
 use Rattle.brace_model.specs.Run.{world_after, first_fault}
-use Rattle.brace_model.specs.Published.{rows, is_published, tick_text, text_of_ticks, published}
+use Rattle.brace_model.specs.Published.{rows, tick_text, text_of_ticks, published}
 use Rattle.brace_top.specs.Outcome.{every_tick}
 use Rattle.brace_model.proofs.RunLemmas.{world_after-zero, world_after-next, world_after-ended, text-next, text-ended, text-front}
 

@@ -1,5 +1,5 @@
 -- The outcome of a line, from what its files come to.
-use Rattle.std.proofs.Common.{◌≡◌, ◌∙◌, sym, refl, ap, subst, ℕ, ◌≤◌, Bool, true, false, List, [], Option, Some, None, Result, Ok, Err, arith}
+use Rattle.std.proofs.Common.{◌≡◌, ◌∙◌, sym, refl, ap, subst, ℕ, ◌≤◌, true, List, Option, Some, Result, Ok, Err, arith}
 use Rattle.brace_io.specs.Counts.{Rose}
 use Rattle.brace_io.specs.Shelves.{Files, Stage}
 use Rattle.brace_model.specs.declared.program.Program.{Program}

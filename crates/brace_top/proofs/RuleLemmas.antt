@@ -1,5 +1,5 @@
 -- The values of rules, one state after another.
-use Rattle.std.proofs.Common.{◌≡◌, ◌∙◌, sym, refl, ap, subst, ℕ, suc, ◌+◌, ◌<◌, ◌≤◌, List, [], ◌∷◌, ◌++◌, length, take, drop, get_or, map, zip, Result, Ok, Err, arith, add-one, drop-cons, min}
+use Rattle.std.proofs.Common.{◌≡◌, ◌∙◌, sym, ap, ℕ, suc, ◌+◌, ◌<◌, ◌≤◌, List, [], ◌∷◌, ◌++◌, length, take, drop, get_or, map, zip, Ok, Err, arith, add-one, drop-cons, min}
 use Rattle.std.proofs.lemmas.Slice.Zip.{get_or-zip, length-zip}
 use Rattle.std.proofs.lemmas.List.{take_all, map-append, take-append-drop}
 use Rattle.std.proofs.Math.Seq.{take-suc}

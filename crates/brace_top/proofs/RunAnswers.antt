@@ -1,5 +1,5 @@
 -- What holds of an answer whatever a call gives.
-use Rattle.std.proofs.Common.{◌≡◌, sym, subst, ℕ, Bool, true, List, Result, Ok, Err, MatchResult, OnErr, IfOk, Option, Some}
+use Rattle.std.proofs.Common.{◌≡◌, sym, subst, ℕ, true, List, Result, Ok, Err, OnErr, IfOk, Option, Some}
 use Rattle.brace_io.specs.Shelves.{Files, Stage}
 use Rattle.brace_num.specs.declared.memory.NoMemory.{NoMemory}
 use Rattle.brace_io.specs.Sinks.{GainsFront}

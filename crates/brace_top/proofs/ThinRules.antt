@@ -1,8 +1,7 @@
 -- The program of a thin script is one of rules alone.
-use Rattle.std.proofs.Common.{◌≡◌, ◌∙◌, sym, refl, ap, subst, ℕ, zero, suc, ◌+◌, ◌≤◌, ℤ, pos, negsuc, Bool, true, false, cond, List, [], ◌∷◌, ◌++◌, length, Option, Some, None, arith, rules}
-use Rattle.std.specs.Prelude.{◌≤ℤ◌, ◌*ℤ◌, ◌&&◌, int_le, slice_get, nat_le, codes}
+use Rattle.std.proofs.Common.{◌≡◌, ◌∙◌, sym, refl, ap, subst, ℕ, zero, suc, ◌+◌, ℤ, pos, negsuc, Bool, true, false, cond, List, [], ◌∷◌, ◌++◌, length, Option, Some, None, rules}
+use Rattle.std.specs.Prelude.{◌≤ℤ◌, ◌*ℤ◌, slice_get, nat_le, codes}
 use Rattle.brace_model.specs.declared.program.Ty.TheVariants as ty
-use Rattle.brace_model.specs.declared.program.State.{State}
 use Rattle.brace_model.specs.declared.program.Class.{Class}
 use Rattle.brace_model.specs.declared.program.Program.{Program}
 use Rattle.brace_model.specs.Rules.{RulesAlone, HasRulesAlone}

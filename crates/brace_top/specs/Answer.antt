@@ -1,10 +1,10 @@
 -- How the answer of a call stands to the outcome of its command.
-use Rattle.std.specs.Prelude.{◌≡◌, ℕ, List, [], ◌∷◌, ◌⊎◌, Bool, true, false, codes, Option, Some, None, Result, Err, ⊤}
+use Rattle.std.specs.Prelude.{◌≡◌, ℕ, List, ◌⊎◌, true, codes, Option, Some, Result, Err, ⊤}
 use Rattle.brace_io.specs.Counts.{Rose}
 use Rattle.brace_io.specs.Shelves.{Files, Stage, StoppedAt}
 use Rattle.brace_io.specs.Sinks.{Gains, GainsFront}
 use Rattle.brace_top.specs.declared.status.Status.{Status}
-use Rattle.brace_top.specs.declared.status.Status.TheVariants.{Done, Usage, Script, Agents, Fault, ReadFault, WriteFault, NoMemory, Absent}
+use Rattle.brace_top.specs.declared.status.Status.TheVariants.{Done, Fault, ReadFault, WriteFault, NoMemory}
 use Rattle.brace_top.specs.Status.{has_run, is_refusal}
 use Rattle.brace_top.specs.Lines.{named_line, write_fault_line, no_memory_line}
 use Rattle.brace_top.specs.Outcome.{Outcome, Refusal, refused}

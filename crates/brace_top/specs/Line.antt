@@ -1,5 +1,5 @@
 -- The words of the command line, and the line that they are.
-use Rattle.std.specs.Prelude.{ℕ, List, [], ◌∷◌, Bool, true, false, not, ◌&&◌, ◌||◌, ◌==◌, nat_le, bytes_eq, slice_index, length, codes, if◌then◌else◌, Option, Some, None}
+use Rattle.std.specs.Prelude.{ℕ, List, [], ◌∷◌, Bool, false, not, ◌&&◌, ◌||◌, ◌==◌, nat_le, bytes_eq, length, codes, if◌then◌else◌, Option, Some, None}
 use Rattle.brace_num.specs.Spelling.{count_of}
 
 -- a run from the agent file up to a last tick

@@ -1,5 +1,5 @@
 -- What a command comes to with no fault of the outside and with ample memory: its status and its texts.
-use Rattle.std.specs.Prelude.{ℕ, List, [], ◌∷◌, ◌++◌, length, nat_lt, codes, true, if◌then◌else◌, Option, Some, None, Result, Ok, Err}
+use Rattle.std.specs.Prelude.{ℕ, List, [], length, nat_lt, codes, true, if◌then◌else◌, Option, Some, None, Result, Ok, Err}
 use Rattle.brace_io.specs.Shelves.{Files}
 use Rattle.brace_model.specs.declared.program.Program.{Program}
 use Rattle.brace_model.specs.declared.fault.Fault.{Fault}

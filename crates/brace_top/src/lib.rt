@@ -15,3 +15,6 @@ mod words;
 
 pub use command::{run, run_alone};
 pub use thin::{ThinFault, read_thin};
+
+#[cfg(test)]
+mod tests;

@@ -1,4 +1,4 @@
-use Rattle.std.proofs.Common.{◌≡◌, sym, ap}
+use Rattle.std.proofs.Common.{ap}
 use Rattle.brace_top.specs.Outcome.{outcome_of}
 use Rattle.brace_top.proofs.LineLemmas.{line_as}
 use Rattle.brace_top.proofs.command.carry_out.Goals as goal

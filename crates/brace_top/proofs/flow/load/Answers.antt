@@ -1,4 +1,3 @@
-use Rattle.std.proofs.Common.{◌≡◌, ◌∙◌, sym}
 use Rattle.brace_top.specs.Words.{said}
 use Rattle.brace_top.proofs.LineLemmas.{stops, outcome_script, outcome_agents, rose_before}
 use Rattle.brace_top.proofs.flow.load.Goals as goal

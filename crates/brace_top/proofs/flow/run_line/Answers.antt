@@ -1,4 +1,3 @@
-use Rattle.std.proofs.Common.{◌≡◌, sym}
 use Rattle.brace_top.proofs.RunAnswers.{line_of_run, front_of_outcome, stopped_caused, stopped_written, stopped_line, stopped_read, stopped_write, stopped_clean, stopped_known}
 use Rattle.brace_top.proofs.flow.run_line.Goals as goal
 

@@ -1,4 +1,4 @@
-use Rattle.std.proofs.Common.{◌≡◌, ◌∙◌, sym}
+use Rattle.std.proofs.Common.{◌∙◌}
 use Rattle.brace_top.proofs.JobLemmas.{front_all}
 use Rattle.brace_top.proofs.RunAnswers.{on_err, written_front}
 use Rattle.brace_top.proofs.flow.run_world.Goals as goal

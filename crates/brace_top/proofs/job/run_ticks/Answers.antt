@@ -1,8 +1,8 @@
-use Rattle.std.proofs.Common.{◌≡◌, ◌∙◌, sym, ap, subst, refl, ℕ, ◌+◌, ◌≤◌, ◌<◌, List, Option, Some, None, Ok, Err, true, arith}
+use Rattle.std.proofs.Common.{◌∙◌, sym, ap, ◌+◌, Some, arith}
 use Rattle.brace_model.specs.declared.fault.Fault.{Fault}
 use Rattle.brace_model.proofs.RunLemmas.{world_after-zero}
 use Rattle.brace_top.specs.Outcome.{every_tick}
-use Rattle.brace_top.proofs.JobLemmas.{front_of_run, front_so_far, gains_run, gains_first, world_next, fault_next, reached, text-reached, first-faulted, text-faulted}
+use Rattle.brace_top.proofs.JobLemmas.{front_of_run, front_so_far, gains_run, gains_first, world_next, fault_next, first-faulted, text-faulted}
 use Rattle.brace_io.proofs.WholeLemmas.{Gains-none}
 use Rattle.brace_top.proofs.job.run_ticks.Goals as goal
 

@@ -1,11 +1,6 @@
-use Rattle.std.proofs.Common.{rules, ◌≡◌, ◌∙◌, sym, ℕ, ◌≤◌, ◌<◌, length, get_or, map, take, zip, min, Ok, Err, ap, arith}
-use Rattle.brace_model.specs.declared.program.State.{State}
-use Rattle.brace_model.specs.declared.program.Value.{Value}
+use Rattle.std.proofs.Common.{◌≡◌, ◌∙◌, sym, Err, ap, arith}
 use Rattle.brace_model.specs.declared.fault.Stop.{Stop}
-use Rattle.brace_model.specs.Value.{Outcome}
-use Rattle.brace_model.specs.Next.{ruled, ruled_states}
-use Rattle.brace_eval.specs.Scopes.{scope_of}
-use Rattle.brace_top.proofs.RuleLemmas.{Pair, okay, ruled-more, ruled-stop, ruled-all}
+use Rattle.brace_top.proofs.RuleLemmas.{ruled-more, ruled-stop, ruled-all}
 use Rattle.brace_top.proofs.step.ruled_states.Goals as goal
 
 pub returns-in-Err-clause-stopped : goal.returns-in-Err-clause-stopped

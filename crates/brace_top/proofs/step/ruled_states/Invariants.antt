@@ -1,4 +1,4 @@
-use Rattle.std.proofs.Common.{◌≡◌, map, take, zip, Ok}
+use Rattle.std.proofs.Common.{◌≡◌, map, take, zip}
 use Rattle.brace_model.specs.declared.program.State.{State}
 use Rattle.brace_model.specs.declared.program.Value.{Value}
 use Rattle.brace_top.proofs.RuleLemmas.{okay}
