@@ -6,3 +6,6 @@ mod operations;
 
 pub use expression::{eval, value_at};
 pub use operations::number;
+
+#[cfg(test)]
+mod tests;
