@@ -1,0 +1,6 @@
+//! The canonical text of a script.
+#![tactic(auto)]
+
+mod expr;
+mod frame;
+mod literal;
