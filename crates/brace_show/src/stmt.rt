@@ -26,11 +26,21 @@ pub fn append_type(out: &mut Vec<u8>, ty: &TyName) -> Result<(), NoMemory>
     Ok(())
 }
 
-// What an assignment says behind its target.
-fn append_value(out: &mut Vec<u8>, x: &ExprTree) -> Result<(), NoMemory>
-    ensures printed { OnOk result (out.new.items ≡ out.old.items ++ (codes " <- " ++ expression x.now ++ codes ";\n")) }
+/// Appends a type and the name that has it.
+pub fn append_declared(out: &mut Vec<u8>, ty: &TyName, name: &Ident) -> Result<(), NoMemory>
+    ensures printed { OnOk result (out.new.items ≡ out.old.items ++ (type_text ty.now ++ codes " " ++ name.now.text)) }
 {
-    out.extend_from_slice(b" <- ")?;
+    append_type(out, ty)?;
+    out.extend_from_slice(b" ")?;
+    out.extend_from_slice(name.text.as_bytes())?;
+    Ok(())
+}
+
+// Appends a value behind its mark, and the end of its line.
+fn append_value(out: &mut Vec<u8>, mark: &[u8], x: &ExprTree) -> Result<(), NoMemory>
+    ensures printed { OnOk result (out.new.items ≡ out.old.items ++ (mark.now ++ expression x.now ++ codes ";\n")) }
+{
+    out.extend_from_slice(mark)?;
     append_expression(out, x)?;
     out.extend_from_slice(b";\n")?;
     Ok(())
@@ -47,13 +57,8 @@ fn append_constant(
 {
     out.extend_from_slice(margin)?;
     out.extend_from_slice(b"const ")?;
-    append_type(out, ty)?;
-    out.extend_from_slice(b" ")?;
-    out.extend_from_slice(name.text.as_bytes())?;
-    out.extend_from_slice(b" = ")?;
-    append_expression(out, x)?;
-    out.extend_from_slice(b";\n")?;
-    Ok(())
+    append_declared(out, ty, name)?;
+    append_value(out, b" = ", x)
 }
 
 fn append_condition(out: &mut Vec<u8>, margin: &[u8], x: &ExprTree) -> Result<(), NoMemory>
@@ -63,6 +68,26 @@ fn append_condition(out: &mut Vec<u8>, margin: &[u8], x: &ExprTree) -> Result<()
     out.extend_from_slice(b"if (")?;
     append_expression(out, x)?;
     out.extend_from_slice(b") {\n")?;
+    Ok(())
+}
+
+// Appends the class and the variable of a loop.
+fn append_variable(out: &mut Vec<u8>, class: &Ident, variable: &Ident) -> Result<(), NoMemory>
+    ensures printed { OnOk result (out.new.items ≡ out.old.items ++ (class.now.text ++ codes " " ++ variable.now.text)) }
+{
+    out.extend_from_slice(class.text.as_bytes())?;
+    out.extend_from_slice(b" ")?;
+    out.extend_from_slice(variable.text.as_bytes())?;
+    Ok(())
+}
+
+// Appends the class whose agents a loop is over, and the end of its line.
+fn append_extent(out: &mut Vec<u8>, class: &Ident) -> Result<(), NoMemory>
+    ensures printed { OnOk result (out.new.items ≡ out.old.items ++ (codes " : Extent<" ++ class.now.text ++ codes ">) {\n")) }
+{
+    out.extend_from_slice(b" : Extent<")?;
+    out.extend_from_slice(class.text.as_bytes())?;
+    out.extend_from_slice(b">) {\n")?;
     Ok(())
 }
 
@@ -77,13 +102,8 @@ fn append_loop(
 {
     out.extend_from_slice(margin)?;
     out.extend_from_slice(b"foreach (")?;
-    out.extend_from_slice(class.text.as_bytes())?;
-    out.extend_from_slice(b" ")?;
-    out.extend_from_slice(variable.text.as_bytes())?;
-    out.extend_from_slice(b" : Extent<")?;
-    out.extend_from_slice(other.text.as_bytes())?;
-    out.extend_from_slice(b">) {\n")?;
-    Ok(())
+    append_variable(out, class, variable)?;
+    append_extent(out, other)
 }
 
 /// Appends a line of fixed text.
@@ -96,13 +116,33 @@ pub fn append_line(out: &mut Vec<u8>, margin: &[u8], text: &[u8]) -> Result<(), 
     Ok(())
 }
 
-fn append_target(out: &mut Vec<u8>, margin: &[u8], owner: &[u8], name: &Ident) -> Result<(), NoMemory>
-    ensures printed { OnOk result (out.new.items ≡ out.old.items ++ (margin.now ++ owner.now ++ name.now.text)) }
+fn append_assignment(
+    out: &mut Vec<u8>,
+    margin: &[u8],
+    name: &Ident,
+    x: &ExprTree,
+) -> Result<(), NoMemory>
+    ensures printed { OnOk result (out.new.items ≡ out.old.items ++ line margin.now (name.now.text ++ codes " <- " ++ expression x.now ++ codes ";")) }
+{
+    out.extend_from_slice(margin)?;
+    out.extend_from_slice(name.text.as_bytes())?;
+    append_value(out, b" <- ", x)
+}
+
+fn append_assignment_of(
+    out: &mut Vec<u8>,
+    margin: &[u8],
+    owner: &[u8],
+    name: &Ident,
+    x: &ExprTree,
+) -> Result<(), NoMemory>
+    ensures printed { OnOk result (out.new.items ≡ out.old.items ++ line margin.now (owner.now ++ codes "." ++ name.now.text ++ codes " <- " ++ expression x.now ++ codes ";")) }
 {
     out.extend_from_slice(margin)?;
     out.extend_from_slice(owner)?;
+    out.extend_from_slice(b".")?;
     out.extend_from_slice(name.text.as_bytes())?;
-    Ok(())
+    append_value(out, b" <- ", x)
 }
 
 #[cycle(statements)]
@@ -130,17 +170,12 @@ fn append_statement(
             append_block(out, margin, statements)?;
             append_line(out, margin.as_slice(), b"}")?;
         }
-        StmtTree::Assign(name, x) => {
-            append_target(out, margin.as_slice(), b"", name)?;
-            append_value(out, x)?;
-        }
+        StmtTree::Assign(name, x) => append_assignment(out, margin.as_slice(), name, x)?,
         StmtTree::AssignThis(name, x, _) => {
-            append_target(out, margin.as_slice(), b"this.", name)?;
-            append_value(out, x)?;
+            append_assignment_of(out, margin.as_slice(), b"this", name, x)?
         }
         StmtTree::AssignLoop(variable, name, x) => {
-            append_target(out, margin.as_slice(), variable.text.as_bytes(), name)?;
-            append_value(out, x)?;
+            append_assignment_of(out, margin.as_slice(), variable.text.as_bytes(), name, x)?
         }
     }
     Ok(())
