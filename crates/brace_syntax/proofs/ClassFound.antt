@@ -1,6 +1,6 @@
 -- The rows of members, classes and scripts find what the grammar reads.
-use Rattle.std.proofs.Common.{◌≡◌, refl, sym, ap, ◌∙◌, ℕ, zero, suc, ◌+◌, ◌<◌, ◌≤◌, List, [], ◌∷◌, ◌++◌, length, Bool, true, false, nat_eq, arith, append_assoc, length-append}
-use Rattle.std.specs.Prelude.{Some, None, Ok}
+use Rattle.std.proofs.Common.{◌≡◌, refl, sym, ap, ◌∙◌, subst, ℕ, zero, suc, ◌+◌, ◌<◌, ◌≤◌, List, [], ◌∷◌, ◌++◌, length, Bool, true, false, nat_eq, arith, append_assoc, length-append}
+use Rattle.std.specs.Prelude.{◌≢◌, Some, None, Ok, Err}
 use Rattle.std.proofs.lemmas.Bool.Decides.{nat_tests}
 use Rattle.std.proofs.lemmas.List.{append-nil}
 use Rattle.std.proofs.lemmas.Option.{same_Some}
@@ -18,12 +18,14 @@ use Rattle.brace_syntax.specs.declared.tree.MemberTree.{MemberTree}
 use Rattle.brace_syntax.specs.declared.tree.MemberTree.TheVariants as v
 use Rattle.brace_syntax.specs.declared.tree.ClassTree.{ClassTree}
 use Rattle.brace_syntax.specs.declared.tree.Tree.{Tree}
+use Rattle.brace_syntax.specs.declared.fault.Stop.{Stop}
+use Rattle.brace_syntax.specs.declared.fault.Stop.TheVariants as stop
 use Rattle.brace_syntax.specs.Tables.{Is, ident, type_name, combines, number}
-use Rattle.brace_syntax.specs.Cursor.{Outcome, kind, next, place, first, sees, mark_of, pure}
+use Rattle.brace_syntax.specs.Cursor.{Input, Outcome, kind, next, place, first, sees, mark_of, pure}
 use Rattle.brace_syntax.specs.Reads as g
 use Rattle.brace_syntax.specs.Reads.{ReadsExpr, ReadsBlock, ReadsField, ReadsMember, ReadsMembers, ReadsClass, ReadsClasses, Reads}
 use Rattle.brace_syntax.specs.Descent as d
-use Rattle.brace_syntax.proofs.Inversions.{not_eaten, same_value}
+use Rattle.brace_syntax.proofs.Inversions.{not_eaten, same_value, no_fault}
 use Rattle.brace_syntax.proofs.Forward.{at, then_, if_true, if_false, sees_it, sees_no_mark, after_it, expects, names, numbers, types, combinators}
 use Rattle.brace_syntax.proofs.Levels.{begins, not_seen}
 use Rattle.brace_syntax.proofs.ExprFound.{shut, expression-found}
@@ -211,3 +213,10 @@ script-found src toks tree r = then_ _ _ _ _ _ (classes_from-found src (length t
 -- tokens are at most one script
 pub one_tree : (src : List ℕ) (toks : List Token) (a b : Tree) → Reads src toks a → Reads src toks b → a ≡ b
 one_tree src toks a b r r' = same_value _ _ _ _ (sym (script-found src toks a r) ∙ script-found src toks b r')
+
+-- tokens at which the parser stops are no script
+pub no_script : (src : List ℕ) (toks : List Token) (i : Input) (e : Stop) (at_ : ℕ) → e ≡ stop.NoReading at_ → i.src ≡ src → i.rest ≡ toks → (e ≢ stop.NoMemory → d.script i ≡ Err e) → (tree : Tree) → Reads src toks tree → ⊥
+no_script src toks i e at_ q s r h tree reads =
+    let stopped : d.script i ≡ Err e = h (λ (n : e ≡ stop.NoMemory). cc) in
+    let here : Reads i.src i.rest tree = subst (λ (z : List ℕ). Reads z i.rest tree) (sym s) (subst (λ (z : List Token). Reads src z tree) (sym r) reads) in
+    no_fault _ _ (sym stopped ∙ script-found i.src i.rest tree here)
