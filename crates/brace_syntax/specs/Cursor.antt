@@ -5,7 +5,7 @@ use denote.Enum.Bare.{sameb}
 use Rattle.brace_tok.specs.declared.kinds.Token.{Token}
 use Rattle.brace_tok.specs.declared.kinds.TokKind.{TokKind}
 use Rattle.brace_tok.specs.declared.kinds.TokKind.TheVariants as k
-use Rattle.brace_syntax.specs.Tables.{spelling, ident}
+use Rattle.brace_syntax.specs.Tables.{Is, spelling, ident}
 use Rattle.brace_syntax.specs.Tables as tables
 use Rattle.brace_syntax.specs.declared.tree.Ident.{Ident}
 use Rattle.brace_syntax.specs.declared.tree.Number.{Number}
@@ -22,9 +22,9 @@ pub record Input : Type 0 where
   pub src : List ℕ
   pub rest : List Token
 
--- the token's bytes stand in the source, and are text
+-- the token's bytes stand in the source, and those of a word are text
 abbrev pub IsSpelled : List ℕ → Token → Type 0
-IsSpelled src tok = (tok.from ≤ tok.to) × (tok.to ≤ length src) × IsUtf8 (spelling src tok)
+IsSpelled src tok = (tok.from ≤ tok.to) × (tok.to ≤ length src) × (Is k.Word tok → IsUtf8 (spelling src tok))
 
 -- offsets fit 32 bits, and each token is spelled in the source
 abbrev pub AreSpelled : List ℕ → List Token → Type 0

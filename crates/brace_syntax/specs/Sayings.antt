@@ -1,12 +1,24 @@
 -- What an answer of the parser says of the tokens.
-use Rattle.std.specs.Prelude.{List, ⊤}
+use Rattle.std.specs.Prelude.{List, ℕ, ⊤}
 use Rattle.brace_tok.specs.declared.kinds.Token.{Token}
 use Rattle.brace_syntax.specs.Depth.{NowhereDeep, FirstDeepAt}
+use Rattle.brace_syntax.specs.Reads.{Reads}
+use Rattle.brace_syntax.specs.declared.tree.Tree.{Tree}
 use Rattle.brace_syntax.specs.declared.fault.SynFault.{SynFault}
 use Rattle.brace_syntax.specs.declared.fault.SynFault.TheVariants.{NoReading, TooDeep, NoMemory}
 
--- what the fault says of how deep the tokens nest
-abbrev pub DepthOf : List Token → SynFault → Type 0
-DepthOf toks NoMemory = ⊤
-DepthOf toks (TooDeep at) = FirstDeepAt toks at
-DepthOf toks (NoReading at) = NowhereDeep toks
+-- the tokens are no script
+abbrev pub NoScript : List ℕ → List Token → Type 0
+NoScript src toks = (tree : Tree) → Reads src toks tree → ⊥
+
+-- what the fault says of the tokens
+abbrev pub Refuses : List ℕ → List Token → SynFault → Type 0
+Refuses src toks NoMemory = ⊤
+Refuses src toks (TooDeep at) = FirstDeepAt toks at
+Refuses src toks (NoReading at) = NowhereDeep toks × NoScript src toks
+
+-- the fault is that of tokens that are no script, or memory was refused
+abbrev pub IsUnread : SynFault → Type 0
+IsUnread NoMemory = ⊤
+IsUnread (TooDeep at) = ⊥
+IsUnread (NoReading at) = ⊤

@@ -1,8 +1,10 @@
-ghost use Rattle.std.specs.Prelude.{IfOk, IfErr};
-ghost use Rattle.brace_syntax.specs.Cursor.{AreSpelled};
-ghost use Rattle.brace_syntax.specs.Depth.{NowhereDeep};
+ghost use Rattle.std.specs.Prelude.{◌≡◌, ◌≤◌, ℕ, length, IfOk, IfErr, MatchResult};
+ghost use Rattle.brace_tok.specs.Spells.{Spells};
+ghost use Rattle.brace_syntax.specs.Depth.{NowhereDeep, FirstDeepAt};
 ghost use Rattle.brace_syntax.specs.Reads.{Reads};
-ghost use Rattle.brace_syntax.specs.Sayings.{DepthOf};
+ghost use Rattle.brace_syntax.specs.Sayings.{NoScript, Refuses, IsUnread};
+ghost use Rattle.brace_syntax.specs.declared.tree.Tree.{Tree};
+ghost use Rattle.brace_syntax.specs.declared.fault.SynFault.{SynFault};
 
 use crate::class::script;
 use crate::fault::{Stop, SynFault};
@@ -12,14 +14,18 @@ use crate::tree::Tree;
 use brace_tok::Token;
 use std::alloc::Global;
 
-/// The script that the tokens of a source spell. It asks that offsets fit 32 bits and that each token's bytes
-/// stand in the source and are text. Gives `TooDeep` where the scan for depth finds a token, and `NoReading`
-/// only where it finds none.
+/// The script that the tokens of a source of at most 1,048,576 bytes are. Gives `TooDeep` exactly where the scan for depth
+/// finds a token, `NoReading` where it finds none and the tokens are no script, and `NoMemory` only where the allocator
+/// refused.
 pub fn parse(alloc: Global, src: &[u8], toks: &[Token]) -> Result<Tree, SynFault>
-    requires { AreSpelled src.now toks.now }
+    requires sized { length src.now ≤ 1048576 }
+    requires spelled { Spells src.now toks.now }
     ensures reads { IfOk result (λ tree. Reads src.now toks.now tree) }
-    ensures shallow { IfOk result (λ tree. NowhereDeep toks.now) }
-    ensures fault { IfErr result (λ fault. DepthOf toks.now fault) }
+    ensures shallow { IfOk result (λ _. NowhereDeep toks.now) }
+    ensures refused { IfErr result (Refuses src.now toks.now) }
+    ensures read { (tree : Tree) → Reads src.now toks.now tree → NowhereDeep toks.now → MatchResult result (λ found. found ≡ tree) (λ fault. fault ≡ SynFault.NoMemory) }
+    ensures deep { (at : ℕ) → FirstDeepAt toks.now at → MatchResult result (λ _. ⊥) (λ fault. fault ≡ SynFault.TooDeep at) }
+    ensures unread { NowhereDeep toks.now → NoScript src.now toks.now → MatchResult result (λ _. ⊥) IsUnread }
 {
     if let Some(at) = first_deep(toks) {
         return Err(SynFault::TooDeep(at));

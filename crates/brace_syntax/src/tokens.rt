@@ -202,7 +202,8 @@ impl<'a> Tokens<'a> {
 }
 
 fn ident(alloc: Global, src: &[u8], tok: Token) -> Result<Ident, NoMemory>
-    requires { spec.IsSpelled src.now tok }
+    requires spelled { spec.IsSpelled src.now tok }
+    requires word { tok.kind ≡ TokKind.Word }
     ensures { IfOk result (λ name. name ≡ tables.ident src.now tok) }
 {
     let bytes = Vec::from_slice(alloc, &src[tok.from as usize..tok.to as usize])?;
