@@ -1,6 +1,6 @@
 -- The canonical text of a script: each member, statement and closing brace has a line of its own, indented by two spaces
 -- for each brace that is open.
-use Rattle.std.specs.Prelude.{ℕ, Bool, true, false, List, [], ◌++◌, map, flat_map, Option, Some, None, codes}
+use Rattle.std.specs.Prelude.{ℕ, Bool, true, false, List, [], ◌++◌, flat_map, Option, Some, None, codes}
 use Rattle.brace_syntax.specs.declared.tree.TyName.{TyName}
 use Rattle.brace_syntax.specs.declared.tree.TyName.TheVariants as ty
 use Rattle.brace_syntax.specs.declared.tree.CombName.{CombName}
@@ -72,24 +72,20 @@ abbrev pub rule : Option ExprTree → List ℕ
 rule None = []
 rule (Some x) = codes " : " ++ expression x
 
--- the margin of members
-abbrev pub inside_class : List ℕ
-inside_class = deeper []
-
--- the lines of a member
-abbrev pub member_text : MemberTree → List ℕ
-member_text (member.Visible range at) = line inside_class (codes "#visible[" ++ literal range.digits ++ codes "];")
-member_text (member.Reach range at) = line inside_class (codes "#reach[" ++ literal range.digits ++ codes "];")
-member_text (member.State shared type name x at) =
-    line inside_class (sharing shared ++ codes " state " ++ type_text type ++ codes " " ++ name.text ++ rule x ++ codes ";")
-member_text (member.Effect shared type name comb at) =
-    line inside_class (sharing shared ++ codes " effect " ++ type_text type ++ codes " " ++ name.text ++ codes " : " ++ combinator comb ++ codes ";")
-member_text (member.Run statements at) =
-    line inside_class (codes "public void run() {") ++ block (map statement statements) inside_class ++ line inside_class (codes "}")
+-- the lines of a member behind a margin
+abbrev pub member_text : List ℕ → MemberTree → List ℕ
+member_text margin (member.Visible range at) = line margin (codes "#visible[" ++ literal range.digits ++ codes "];")
+member_text margin (member.Reach range at) = line margin (codes "#reach[" ++ literal range.digits ++ codes "];")
+member_text margin (member.State shared type name x at) =
+    line margin (sharing shared ++ codes " state " ++ type_text type ++ codes " " ++ name.text ++ rule x ++ codes ";")
+member_text margin (member.Effect shared type name comb at) =
+    line margin (sharing shared ++ codes " effect " ++ type_text type ++ codes " " ++ name.text ++ codes " : " ++ combinator comb ++ codes ";")
+member_text margin (member.Run statements at) =
+    line margin (codes "public void run() {") ++ flat_map (λ s. statement s (deeper margin)) statements ++ line margin (codes "}")
 
 -- the lines of a class
 abbrev pub class_text : ClassTree → List ℕ
-class_text class = line [] (codes "class " ++ class.name.text ++ codes " {") ++ flat_map member_text class.members ++ line [] (codes "}")
+class_text class = line [] (codes "class " ++ class.name.text ++ codes " {") ++ flat_map (member_text (deeper [])) class.members ++ line [] (codes "}")
 
 -- the lines of a script
 abbrev pub canonical : Tree → List ℕ

@@ -1,6 +1,6 @@
-ghost use Rattle.std.specs.Prelude.{◌≡◌, [], ◌++◌, map, flat_map, codes, OnOk};
+ghost use Rattle.std.specs.Prelude.{◌≡◌, [], ◌++◌, flat_map, codes, OnOk};
 ghost use Rattle.brace_show.specs.Literals.{literal};
-ghost use Rattle.brace_show.specs.Canonical.{line, inside_class, type_text, combinator, sharing, rule, block, statement, member_text, class_text};
+ghost use Rattle.brace_show.specs.Canonical.{line, deeper, type_text, combinator, sharing, rule, statement, member_text, class_text};
 
 use crate::literal::append_literal;
 use crate::stmt::{append_block, append_declared, append_expression, append_line};
@@ -28,7 +28,7 @@ fn sharing(shared: bool) -> &'static [u8]
 
 // Appends a directive, from its name to the bracket.
 fn append_directive(out: &mut Vec<u8>, name: &[u8], digits: Digits) -> Result<(), NoMemory>
-    ensures printed { OnOk result (out.new.items ≡ out.old.items ++ line inside_class (name.now ++ literal digits ++ codes "];")) }
+    ensures printed { OnOk result (out.new.items ≡ out.old.items ++ line (deeper []) (name.now ++ literal digits ++ codes "];")) }
 {
     out.extend_from_slice(b"  ")?;
     out.extend_from_slice(name)?;
@@ -52,7 +52,7 @@ fn append_rule(out: &mut Vec<u8>, x: &Option<ExprTree>) -> Result<(), NoMemory>
 
 // Appends the words that a field begins with.
 fn append_sharing(out: &mut Vec<u8>, shared: bool, word: &[u8]) -> Result<(), NoMemory>
-    ensures printed { OnOk result (out.new.items ≡ out.old.items ++ (inside_class ++ sharing shared ++ word.now)) }
+    ensures printed { OnOk result (out.new.items ≡ out.old.items ++ ((deeper []) ++ sharing shared ++ word.now)) }
 {
     out.extend_from_slice(b"  ")?;
     out.extend_from_slice(sharing(shared))?;
@@ -67,7 +67,7 @@ fn append_state(
     name: &Ident,
     x: &Option<ExprTree>,
 ) -> Result<(), NoMemory>
-    ensures printed { OnOk result (out.new.items ≡ out.old.items ++ line inside_class (sharing shared ++ codes " state " ++ type_text ty.now ++ codes " " ++ name.now.text ++ rule x.now ++ codes ";")) }
+    ensures printed { OnOk result (out.new.items ≡ out.old.items ++ line (deeper []) (sharing shared ++ codes " state " ++ type_text ty.now ++ codes " " ++ name.now.text ++ rule x.now ++ codes ";")) }
 {
     append_sharing(out, shared, b" state ")?;
     append_declared(out, ty, name)?;
@@ -93,11 +93,23 @@ fn append_effect(
     name: &Ident,
     comb: CombName,
 ) -> Result<(), NoMemory>
-    ensures printed { OnOk result (out.new.items ≡ out.old.items ++ line inside_class (sharing shared ++ codes " effect " ++ type_text ty.now ++ codes " " ++ name.now.text ++ codes " : " ++ combinator comb ++ codes ";")) }
+    ensures printed { OnOk result (out.new.items ≡ out.old.items ++ line (deeper []) (sharing shared ++ codes " effect " ++ type_text ty.now ++ codes " " ++ name.now.text ++ codes " : " ++ combinator comb ++ codes ";")) }
 {
     append_sharing(out, shared, b" effect ")?;
     append_declared(out, ty, name)?;
     append_combinator(out, comb)
+}
+
+#[tactic(auto, using(crate::proofs::Blocks::block_of_texts))]
+fn append_statements(
+    out: &mut Vec<u8>,
+    margin: &mut Vec<u8>,
+    statements: &List<StmtTree>,
+) -> Result<(), NoMemory>
+    ensures printed { OnOk result (out.new.items ≡ out.old.items ++ flat_map (λ s. statement s (deeper margin.old.items)) statements.now) }
+    ensures margin { OnOk result (margin.new.items ≡ margin.old.items) }
+{
+    append_block(out, margin, statements)
 }
 
 // Appends a block behind the line that opens it.
@@ -107,16 +119,29 @@ fn append_braced(
     head: &[u8],
     statements: &List<StmtTree>,
 ) -> Result<(), NoMemory>
-    ensures printed { OnOk result (out.new.items ≡ out.old.items ++ (line margin.old.items head.now ++ block (map statement statements.now) margin.old.items ++ line margin.old.items (codes "}"))) }
+    ensures printed { OnOk result (out.new.items ≡ out.old.items ++ (line margin.old.items head.now ++ flat_map (λ s. statement s (deeper margin.old.items)) statements.now ++ line margin.old.items (codes "}"))) }
 {
     append_line(out, margin.as_slice(), head)?;
-    append_block(out, margin, statements)?;
+    append_statements(out, margin, statements)?;
     append_line(out, margin.as_slice(), b"}")?;
     Ok(())
 }
 
+#[tactic(auto, using(crate::proofs::Blocks::run_lines))]
+fn append_run(
+    alloc: Global,
+    out: &mut Vec<u8>,
+    statements: &List<StmtTree>,
+) -> Result<(), NoMemory>
+    ensures printed { OnOk result (out.new.items ≡ out.old.items ++ (line (deeper []) (codes "public void run() {") ++ flat_map (λ s. statement s (deeper (deeper []))) statements.now ++ line (deeper []) (codes "}"))) }
+{
+    let mut margin = Vec::from_slice(alloc, b"  ")?;
+    append_braced(out, &mut margin, b"public void run() {", statements)?;
+    Ok(())
+}
+
 fn append_member(alloc: Global, out: &mut Vec<u8>, member: &MemberTree) -> Result<(), NoMemory>
-    ensures printed { OnOk result (out.new.items ≡ out.old.items ++ member_text member.now) }
+    ensures printed { OnOk result (out.new.items ≡ out.old.items ++ member_text (deeper []) member.now) }
 {
     match member {
         MemberTree::Visible(range, _) => append_directive(out, b"#visible[", range.digits),
@@ -125,10 +150,7 @@ fn append_member(alloc: Global, out: &mut Vec<u8>, member: &MemberTree) -> Resul
         MemberTree::Effect(shared, ty, name, comb, _) => {
             append_effect(out, *shared, ty, name, *comb)
         }
-        MemberTree::Run(statements, _) => {
-            let mut margin = Vec::from_slice(alloc, b"  ")?;
-            append_braced(out, &mut margin, b"public void run() {", statements)
-        }
+        MemberTree::Run(statements, _) => append_run(alloc, out, statements),
     }
 }
 
@@ -137,7 +159,7 @@ fn append_members(
     out: &mut Vec<u8>,
     members: &List<MemberTree>,
 ) -> Result<(), NoMemory>
-    ensures printed { OnOk result (out.new.items ≡ out.old.items ++ flat_map member_text members.now) }
+    ensures printed { OnOk result (out.new.items ≡ out.old.items ++ flat_map (member_text (deeper [])) members.now) }
 {
     for member in members.as_slice() {
         append_member(alloc, out, member)?;
