@@ -1,5 +1,5 @@
 -- When two trees are the same apart from the places that they record.
-use Rattle.std.specs.Prelude.{◌≡◌, List, map, option_map, Option}
+use Rattle.std.specs.Prelude.{◌≡◌, map, option_map}
 use Rattle.brace_syntax.specs.declared.tree.Ident.{Ident}
 use Rattle.brace_syntax.specs.declared.tree.Number.{Number}
 use Rattle.brace_syntax.specs.declared.tree.TyName.{TyName}

@@ -9,3 +9,6 @@ mod literal;
 mod stmt;
 
 pub use entry::show;
+
+#[cfg(test)]
+mod tests;
