@@ -23,7 +23,7 @@ use Rattle.brace_syntax.proofs.Inversions.{One, bound, same_value, same_input, n
 use Rattle.brace_syntax.proofs.Took.{Took, Sound}
 use Rattle.brace_syntax.proofs.PrimaryRows as p
 
-abbrev row_at : Start → Row
+abbrev pub row_at : Start → Row
 row_at Whole = g.choices
 row_at Operand = g.prefixed
 

@@ -8,3 +8,8 @@ pub mod ExprRows
 pub mod Loops
 pub mod StmtRows
 pub mod ClassRows
+pub mod Forward
+pub mod Levels
+pub mod ExprFound
+pub mod StmtFound
+pub mod ClassFound

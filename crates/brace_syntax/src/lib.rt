@@ -5,6 +5,7 @@ mod class;
 mod entry;
 mod expr;
 mod fault;
+pub mod laws;
 mod mark;
 mod operators;
 mod scan;
