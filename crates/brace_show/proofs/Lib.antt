@@ -1,1 +1,3 @@
 pub mod Zeros
+pub mod Rows
+pub mod Sound

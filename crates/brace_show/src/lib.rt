@@ -3,4 +3,5 @@
 
 mod expr;
 mod frame;
+pub mod laws;
 mod literal;
