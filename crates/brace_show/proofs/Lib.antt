@@ -1,3 +1,5 @@
 pub mod Zeros
 pub mod Rows
 pub mod Sound
+pub mod Laid
+pub mod RowReads
