@@ -1,3 +1,4 @@
 pub mod Zeros
 pub mod Rows
 pub mod Sound
+pub mod RowSays

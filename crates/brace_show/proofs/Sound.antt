@@ -19,24 +19,24 @@ use Rattle.brace_syntax.specs.declared.tree.MemberTree.TheVariants as member
 use Rattle.brace_syntax.specs.declared.tree.ClassTree.{ClassTree}
 use Rattle.brace_syntax.specs.declared.tree.Tree.{Tree}
 
-pub name_is : List ℕ → Bool
+abbrev pub name_is : List ℕ → Bool
 name_is text = is_word text && nat_le (length text) 64 && not (is_some (reserved text))
 
-pub fits_word : ℤ → Bool
+abbrev pub fits_word : ℤ → Bool
 fits_word (pos n) = nat_le n 9223372036854775807
 fits_word (negsuc n) = false
 
-pub digits_are : Digits → Bool
+abbrev pub digits_are : Digits → Bool
 digits_are (Int z) = fits_word z
 digits_are (Fixed z) = fits_word z
 
-pub type_is : TyName → Bool
+abbrev pub type_is : TyName → Bool
 type_is ty.Int = true
 type_is ty.Fixed = true
 type_is ty.Bool = true
 type_is (ty.Other name) = name_is name.text
 
-pub expr_sound_step : ExprTree-F Bool → Bool
+abbrev pub expr_sound_step : ExprTree-F Bool → Bool
 expr_sound_step (Lit number) = digits_are number.digits
 expr_sound_step (True at) = true
 expr_sound_step (False at) = true
@@ -48,17 +48,17 @@ expr_sound_step (Binary op x y at) = x && y
 expr_sound_step (Choice c x y at) = c && x && y
 expr_sound_step (Rand at) = true
 
-pub expr_sound : ExprTree → Bool
+abbrev pub expr_sound : ExprTree → Bool
 expr_sound = fold-ExprTree Bool expr_sound_step
 
-pub all_sound : List Bool → Bool
+abbrev pub all_sound : List Bool → Bool
 all_sound = list_all (λ b. b)
 
-pub other_sound : Option (List Bool) → Bool
+abbrev pub other_sound : Option (List Bool) → Bool
 other_sound None = true
 other_sound (Some xs) = all_sound xs
 
-pub stmt_sound_step : StmtTree-F Bool → Bool
+abbrev pub stmt_sound_step : StmtTree-F Bool → Bool
 stmt_sound_step (Const type name x at) = type_is type && name_is name.text && expr_sound x
 stmt_sound_step (If c xs other at) = expr_sound c && all_sound xs && other_sound other
 stmt_sound_step (Foreach class variable other xs at) = name_is class.text && name_is variable.text && name_is other.text && all_sound xs
@@ -66,23 +66,23 @@ stmt_sound_step (Assign name x) = name_is name.text && expr_sound x
 stmt_sound_step (AssignThis name x at) = name_is name.text && expr_sound x
 stmt_sound_step (AssignLoop loop name x) = name_is loop.text && name_is name.text && expr_sound x
 
-pub stmt_sound : StmtTree → Bool
+abbrev pub stmt_sound : StmtTree → Bool
 stmt_sound = fold-StmtTree Bool stmt_sound_step
 
-pub rule_sound : Option ExprTree → Bool
+abbrev pub rule_sound : Option ExprTree → Bool
 rule_sound None = true
 rule_sound (Some x) = expr_sound x
 
-pub member_sound : MemberTree → Bool
+abbrev pub member_sound : MemberTree → Bool
 member_sound (member.Visible range at) = digits_are range.digits
 member_sound (member.Reach range at) = digits_are range.digits
 member_sound (member.State shared type name x at) = type_is type && name_is name.text && rule_sound x
 member_sound (member.Effect shared type name comb at) = type_is type && name_is name.text
 member_sound (member.Run xs at) = list_all stmt_sound xs
 
-pub class_sound : ClassTree → Bool
+abbrev pub class_sound : ClassTree → Bool
 class_sound class = name_is class.name.text && list_all member_sound class.members
 
 -- a script has one class or more
-pub script_sound : Tree → Bool
+abbrev pub script_sound : Tree → Bool
 script_sound tree = nat_le 1 (length tree.classes) && list_all class_sound tree.classes
