@@ -1,5 +1,6 @@
 pub mod Zeros
 pub mod Rows
 pub mod Sound
+pub mod RowSays
 pub mod Laid
 pub mod RowReads

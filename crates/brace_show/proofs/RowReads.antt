@@ -34,18 +34,6 @@ use Rattle.brace_show.proofs.Rows.{Row, space, mark, letters, sign_row, literal_
 use Rattle.brace_show.proofs.Sound.{name_is, fits_word, digits_are, expr_sound_step, expr_sound}
 use Rattle.brace_show.proofs.Laid.{Laid, split, say, past, laid_as, done}
 
--- what pieces say
-
-none_of : (o : Option TokKind) → not (is_some o) ≡ true → o ≡ None
-none_of None e = refl
-none_of (Some x) e = absurd (cc)
-
-pub name_says : (text : List ℕ) → name_is text ≡ true → (from : ℕ) → says from (word text) ≡ token k.Word
-name_says text e from =
-    let short : nat_le (length text) 64 ≡ true = second_of_both (is_word text) (nat_le (length text) 64) (first_of_both (is_word text && nat_le (length text) 64) (not (is_some (reserved text))) e) in
-    let free : reserved text ≡ None = none_of (reserved text) (second_of_both (is_word text && nat_le (length text) 64) (not (is_some (reserved text))) e) in
-    ap (λ b. token_or (fault.LongWord from) (cond b (Some (name_or (reserved text))) None)) short ∙ ap (λ o. token_or (fault.LongWord from) (Some (name_or o))) free
-
 -- the rows of the grammar by the levels of phrases
 
 abbrev pub need : g.Row → ℕ
@@ -278,13 +266,6 @@ binary_good bin.Div p q v w = joined_good g.products g.prefixed k.Slash bin.Div 
 binary_good bin.Rem p q v w = joined_good g.products g.prefixed k.Percent bin.Rem (codes "%") p q v w refl refl (λ from. refl)
 binary_good bin.Min p q v w = called_two_good k.KwMin bin.Min (codes "min") p q v w refl (λ from. refl)
 binary_good bin.Max p q v w = called_two_good k.KwMax bin.Max (codes "max") p q v w refl (λ from. refl)
-
--- the kinds of literals
-pub whole_says : (n : ℕ) → nat_le n 9223372036854775807 ≡ true → (from : ℕ) → says from (whole (decimal n)) ≡ token (k.Int (pos n))
-whole_says n h from = ?
-
-pub fraction_says : (n : ℕ) → nat_le n 9223372036854775807 ≡ true → (from : ℕ) → says from (fraction (decimal (n / 1000000)) (shortened (six_digits (n % 1000000)))) ≡ token (k.Fixed (pos n))
-fraction_says n h from = ?
 
 -- a literal, and what stands behind it
 pub say_number : (C : List Token → Type 0) (src : List ℕ) (d : Digits) (row : Row) (toks : List Token) → digits_are d ≡ true → Laid src (literal_row d ++ row) toks

@@ -158,8 +158,8 @@ statement_row_step (If condition statements other at) margin =
     ++ block_row statements margin ++ otherwise_row other margin ++ closing_row margin
 statement_row_step (Foreach class variable other statements at) margin =
     line_row margin
-        (letters (codes "foreach") ++ space ++ mark (codes "(") ++ letters class.text ++ space ++ letters variable.text ++ space ++ mark (codes ":") ++ space
-        ++ letters (codes "Extent") ++ mark (codes "<") ++ letters other.text ++ mark (codes ">") ++ mark (codes ")") ++ space ++ mark (codes "{"))
+    (letters (codes "foreach") ++ space ++ mark (codes "(") ++ letters class.text ++ space ++ letters variable.text ++ space ++ mark (codes ":") ++ space
+    ++ letters (codes "Extent") ++ mark (codes "<") ++ letters other.text ++ mark (codes ">") ++ mark (codes ")") ++ space ++ mark (codes "{"))
     ++ block_row statements margin ++ closing_row margin
 statement_row_step (Assign name x) margin =
     line_row margin (letters name.text ++ space ++ mark (codes "<-") ++ space ++ expression_row x ++ mark (codes ";"))
@@ -189,11 +189,11 @@ member_row margin (member.State shared type name x at) =
     line_row margin (sharing_row shared ++ space ++ letters (codes "state") ++ space ++ type_row type ++ space ++ letters name.text ++ rule_row x ++ mark (codes ";"))
 member_row margin (member.Effect shared type name comb at) =
     line_row margin
-        (sharing_row shared ++ space ++ letters (codes "effect") ++ space ++ type_row type ++ space ++ letters name.text ++ space ++ mark (codes ":") ++ space
-        ++ combinator_row comb ++ mark (codes ";"))
+    (sharing_row shared ++ space ++ letters (codes "effect") ++ space ++ type_row type ++ space ++ letters name.text ++ space ++ mark (codes ":") ++ space
+    ++ combinator_row comb ++ mark (codes ";"))
 member_row margin (member.Run statements at) =
     line_row margin
-        (letters (codes "public") ++ space ++ letters (codes "void") ++ space ++ letters (codes "run") ++ mark (codes "(") ++ mark (codes ")") ++ space ++ mark (codes "{"))
+    (letters (codes "public") ++ space ++ letters (codes "void") ++ space ++ letters (codes "run") ++ mark (codes "(") ++ mark (codes ")") ++ space ++ mark (codes "{"))
     ++ flat_map (λ s. statement_row s (margin + 2)) statements ++ closing_row margin
 
 abbrev pub class_row : ClassTree → Row
