@@ -72,11 +72,16 @@ past_margin src (suc n) row toks l = past_margin src n row toks (past src 32 (ma
 pub laid_as : (src : List ℕ) (a b : Row) (toks : List Token) → a ≡ b → Laid src a toks → Laid src b toks
 laid_as src a b toks e l = subst (λ z. Laid src z toks) e l
 
+pub line_cut : (n : ℕ) (a b : Row) → line_row n a ++ b ≡ margin_row n ++ (a ++ (blank 10 ∷ b))
+line_cut n a b = append_assoc (margin_row n ++ a) (blank 10 ∷ []) b ∙ append_assoc (margin_row n) a (blank 10 ∷ b)
+
 -- a line, with what stands behind it
 pub past_line : (src : List ℕ) (n : ℕ) (a b : Row) (toks : List Token) → Laid src (line_row n a ++ b) toks → Laid src (a ++ (blank 10 ∷ b)) toks
-past_line src n a b toks l =
-    past_margin src n (a ++ (blank 10 ∷ b)) toks
-    (laid_as src _ _ toks (append_assoc (margin_row n ++ a) (blank 10 ∷ []) b ∙ append_assoc (margin_row n) a (blank 10 ∷ b)) l)
+past_line src n a b toks l = past_margin src n (a ++ (blank 10 ∷ b)) toks (laid_as src _ _ toks (line_cut n a b) l)
+
+-- a line alone
+pub on_line : (src : List ℕ) (n : ℕ) (a : Row) (toks : List Token) → Laid src (line_row n a) toks → Laid src (a ++ (blank 10 ∷ [])) toks
+on_line src n a toks l = past_line src n a [] toks (laid_as src _ _ toks (sym (append-nil (line_row n a))) l)
 
 -- nothing stands behind
 pub done : (C : List Token → Type 0) (src : List ℕ) (toks : List Token) → Laid src [] toks → C [] → C toks

@@ -3,4 +3,5 @@ pub mod Rows
 pub mod Sound
 pub mod RowSays
 pub mod Laid
-pub mod RowReads
+pub mod ExprReads
+pub mod StmtReads

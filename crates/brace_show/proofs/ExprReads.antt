@@ -1,4 +1,4 @@
--- The row of a script is read back as that script, apart from places.
+-- The pieces of an expression are read back as that expression, apart from places.
 use Rattle.std.proofs.Common.{◌≡◌, refl, sym, ap, ◌∙◌, subst, ℕ, zero, suc, ◌+◌, ◌/◌, ◌%◌, nat_lt, nat_le, not, is_some, cond, List, [], ◌∷◌, ◌++◌, length, Bool, true, false, ◌&&◌, if◌then◌else◌, append_assoc, Option, Some, None, ℤ, pos, negsuc, unsigned_abs, codes}
 use Rattle.std.specs.Fmt.{decimal}
 use Rattle.std.proofs.lemmas.List.{append-nil}
@@ -32,6 +32,7 @@ use Rattle.brace_syntax.specs.declared.tree.ExprTree.TheFolds.{fold-ExprTree, fo
 use Rattle.brace_show.specs.Alike.{ident_at_0, number_at_0, expr_step, expr_at_0}
 use Rattle.brace_show.proofs.Rows.{Row, space, mark, letters, sign_row, literal_row, Phrased, row_at, atom_row, call_one_row, call_two_row, prefixed_row, between_row, unary_row, binary_row, choice_row, phrased_step, phrased_of, operand_row, expression_row}
 use Rattle.brace_show.proofs.Sound.{name_is, fits_word, digits_are, expr_sound_step, expr_sound}
+use Rattle.brace_show.proofs.RowSays.{name_says, whole_says, fraction_says}
 use Rattle.brace_show.proofs.Laid.{Laid, split, say, past, laid_as, done}
 
 -- the rows of the grammar by the levels of phrases
@@ -137,7 +138,7 @@ good_by : (s r : g.Row) (row : Row) (v : ExprTree) (b : Bool) → nat_lt (need s
 good_by s r row v true e f src toks l = enclosed_by s r row v f src toks l
 good_by s r row v false e f src toks l = let x = f src toks l in (x.0, climb src toks x.0 s r e x.1, x.2)
 
-pub good_at : (s : g.Row) (row : Row) (v : ExprTree) → Readable s row v → Good (record { level = need s; row = row }) v
+good_at : (s : g.Row) (row : Row) (v : ExprTree) → Readable s row v → Good (record { level = need s; row = row }) v
 good_at s row v f r = good_by s r row v (nat_lt (need s) (need r)) refl f
 
 -- what expr_at_0 makes of each node
@@ -167,7 +168,7 @@ between C kind src a b marks toks h l f =
     say (λ z. C (ta ++ z)) kind src (sign marks) (blank 32 ∷ b) ts h (past src 32 _ ts l1) (λ tok tb is _ l2.
     f ta tb tok la (past src 32 b tb l2) is))
 
-pub comma : (C : List Token → Type 0) (src : List ℕ) (a b : Row) (toks : List Token) → Laid src (((a ++ mark (codes ",")) ++ space) ++ b) toks
+comma : (C : List Token → Type 0) (src : List ℕ) (a b : Row) (toks : List Token) → Laid src (((a ++ mark (codes ",")) ++ space) ++ b) toks
     → ((ta tb : List Token) (tok : Token) → Laid src a ta → Laid src b tb → Is k.Comma tok → C (ta ++ (tok ∷ tb))) → C toks
 unfolding symbol
 comma C src a b toks l f =
@@ -249,7 +250,7 @@ unary_good un.Sqrt p v = called_one_good k.KwSqrt un.Sqrt (codes "sqrt") p v ref
 unary_good un.ToFixed p v = called_one_good k.KwFixed un.ToFixed (codes "fixed") p v refl (λ from. refl)
 unary_good un.Trunc p v = called_one_good k.KwTrunc un.Trunc (codes "trunc") p v refl (λ from. refl)
 
-pub binary_good : (op : BinName) (p q : Phrased) (v w : ExprTree) → Good p v → Good q w → Good (binary_row op p q) (e.Binary op v w 0)
+binary_good : (op : BinName) (p q : Phrased) (v w : ExprTree) → Good p v → Good q w → Good (binary_row op p q) (e.Binary op v w 0)
 unfolding symbol reserved
 binary_good bin.Or p q v w = joined_good g.ors g.ands k.OrOr bin.Or (codes "||") p q v w refl refl (λ from. refl)
 binary_good bin.And p q v w = joined_good g.ands g.comparisons k.AndAnd bin.And (codes "&&") p q v w refl refl (λ from. refl)
@@ -270,16 +271,16 @@ binary_good bin.Max p q v w = called_two_good k.KwMax bin.Max (codes "max") p q 
 -- a literal, and what stands behind it
 pub say_number : (C : List Token → Type 0) (src : List ℕ) (d : Digits) (row : Row) (toks : List Token) → digits_are d ≡ true → Laid src (literal_row d ++ row) toks
     → ((tok : Token) (rest : List Token) → number tok ≡ Some (record { digits = d; at = tok.from }) → Laid src row rest → C (tok ∷ rest)) → C toks
-say_number C src (Int (pos n)) row toks s l f = say C (k.Int (pos n)) src (whole (decimal n)) row toks (whole_says n s) l (λ tok rest is _ l1. f tok rest (ap (number_at tok.from) is) l1)
+say_number C src (Int (pos n)) row toks s l f = say C (k.Int (pos n)) src (whole (decimal n)) row toks (λ from. whole_says from n s) l (λ tok rest is _ l1. f tok rest (ap (number_at tok.from) is) l1)
 say_number C src (Int (negsuc n)) row toks s l f = absurd (cc)
-say_number C src (Fixed (pos n)) row toks s l f = say C (k.Fixed (pos n)) src (fraction (decimal (n / 1000000)) (shortened (six_digits (n % 1000000)))) row toks (fraction_says n s) l (λ tok rest is _ l1. f tok rest (ap (number_at tok.from) is) l1)
+say_number C src (Fixed (pos n)) row toks s l f = say C (k.Fixed (pos n)) src (fraction (decimal (n / 1000000)) (shortened (six_digits (n % 1000000)))) row toks (λ from. fraction_says from n s) l (λ tok rest is _ l1. f tok rest (ap (number_at tok.from) is) l1)
 say_number C src (Fixed (negsuc n)) row toks s l f = absurd (cc)
 
 -- a name, and what stands behind it
 pub say_name : (C : List Token → Type 0) (src : List ℕ) (name : Ident) (row : Row) (toks : List Token) → name_is name.text ≡ true → Laid src (word name.text ∷ row) toks
     → ((tok : Token) (rest : List Token) → Is k.Word tok → ident_at_0 name ≡ ident_at_0 (ident src tok) → Laid src row rest → C (tok ∷ rest)) → C toks
 say_name C src name row toks s l f =
-    say C k.Word src (word name.text) row toks (name_says name.text s) l (λ tok rest is spelt l1.
+    say C k.Word src (word name.text) row toks (λ from. name_says from name.text s) l (λ tok rest is spelt l1.
     let same : ident_at_0 name ≡ ident_at_0 (ident src tok) = ap (λ t. let i : Ident = record { text = t; at = 0 } in i) (sym spelt) in
     f tok rest is same l1)
 
