@@ -5,3 +5,4 @@ pub mod RowSays
 pub mod Laid
 pub mod ExprReads
 pub mod StmtReads
+pub mod RowReads
