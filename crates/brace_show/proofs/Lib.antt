@@ -6,3 +6,4 @@ pub mod Laid
 pub mod ExprReads
 pub mod StmtReads
 pub mod RowReads
+pub mod SoundReadings
