@@ -2,3 +2,5 @@ pub mod Zeros
 pub mod Rows
 pub mod Sound
 pub mod RowSays
+pub mod RowText
+pub mod RowStands
