@@ -1,7 +1,7 @@
 -- The rows of pieces of a script have its canonical text.
-use Rattle.std.proofs.Common.{◌≡◌, ◌∙◌, sym, ap, subst, refl, ℕ, zero, suc, nat_lt, ◌+◌, Bool, true, false, if◌then◌else◌, List, [], ◌∷◌, ◌++◌, map, flat_map, Option, Some, None, codes, ℤ, pos, negsuc, append_assoc, append-nil, arith, add-suc, add-zero}
+use Rattle.std.proofs.Common.{◌≡◌, ◌∙◌, sym, ap, subst, refl, ℕ, zero, suc, nat_lt, ◌+◌, Bool, true, false, if◌then◌else◌, List, [], ◌∷◌, ◌++◌, map, flat_map, Option, Some, None, codes, pos, negsuc, append_assoc, append-nil, arith}
 use Rattle.brace_tok.specs.Spells.{text_of}
-use Rattle.brace_tok.specs.Pieces.{Piece, blank, hash, bytes_of}
+use Rattle.brace_tok.specs.Pieces.{blank, hash, bytes_of}
 use Rattle.brace_syntax.specs.declared.tree.Digits.{Digits}
 use Rattle.brace_syntax.specs.declared.tree.Digits.TheVariants.{Int, Fixed}
 use Rattle.brace_syntax.specs.declared.tree.UnName.{UnName}
@@ -15,7 +15,6 @@ use Rattle.brace_syntax.specs.declared.tree.CombName.TheVariants as comb
 use Rattle.brace_syntax.specs.declared.tree.ExprTree.{ExprTree}
 use Rattle.brace_syntax.specs.declared.tree.ExprTree.TheOpen.{ExprTree-F, Lit, True, False, Name, OfThis, OfLoop, Unary, Binary, Choice, Rand}
 use Rattle.brace_syntax.specs.declared.tree.ExprTree.TheFolds.{map-ExprTree, fold-roll-ExprTree, ind-ExprTree}
-use Rattle.brace_syntax.specs.declared.tree.ExprTree.TheViews.{roll-ExprTree}
 use Rattle.brace_syntax.specs.declared.tree.StmtTree.{StmtTree}
 use Rattle.brace_syntax.specs.declared.tree.StmtTree.TheOpen.{StmtTree-F, Const, If, Foreach, Assign, AssignThis, AssignLoop}
 use Rattle.brace_syntax.specs.declared.tree.StmtTree.TheFolds.{map-StmtTree, fold-roll-StmtTree, ind-StmtTree}
@@ -24,9 +23,9 @@ use Rattle.brace_syntax.specs.declared.tree.MemberTree.TheVariants as member
 use Rattle.brace_syntax.specs.declared.tree.ClassTree.{ClassTree}
 use Rattle.brace_syntax.specs.declared.tree.Tree.{Tree}
 use Rattle.brace_show.specs.Literals.{literal}
-use Rattle.brace_show.specs.Canonical.{line, deeper, type_text, combinator, block, otherwise, statement_step, statement, sharing, rule, member_text, class_text, canonical}
+use Rattle.brace_show.specs.Canonical.{line, deeper, type_text, combinator, block, statement_step, statement, sharing, rule, member_text, class_text, canonical}
 use Rattle.brace_show.specs.Expressions.{Phrase, atom, at_level, call_one, call_two, prefixed, between, unary, binary, choice, phrase_step, phrase_of, expression}
-use Rattle.brace_show.proofs.Rows.{Row, space, mark, letters, sign_row, literal_row, Phrased, row_at, atom_row, call_one_row, call_two_row, prefixed_row, between_row, unary_row, binary_row, choice_row, phrased_step, phrased_of, expression_row, margin_row, line_row, type_row, combinator_row, block_row, otherwise_row, closing_row, statement_row_step, statement_row, sharing_row, rule_row, range_row, member_row, class_row, script_row}
+use Rattle.brace_show.proofs.Rows.{Row, space, mark, letters, literal_row, Phrased, row_at, call_one_row, call_two_row, prefixed_row, between_row, unary_row, binary_row, choice_row, phrased_step, phrased_of, expression_row, margin_row, line_row, type_row, combinator_row, block_row, statement_row_step, statement_row, sharing_row, rule_row, member_row, class_row, script_row}
 
 pub text_append : (a b : Row) → text_of (a ++ b) ≡ text_of a ++ text_of b
 text_append [] b = refl
