@@ -1,5 +1,5 @@
 -- What the names and the literals of a sound tree say, where they are pieces of a text.
-use Rattle.std.proofs.Common.{◌≡◌, ◌∙◌, sym, ap, subst, refl, ℕ, zero, suc, ◌+◌, ◌-◌, ◌*◌, ◌/◌, ◌%◌, ◌^◌, ◌<◌, ◌≤◌, Bool, true, false, not, ◌&&◌, nat_le, if◌then◌else◌, List, [], ◌∷◌, ◌++◌, length, replicate, Option, Some, None, is_some, pos, arith, append_assoc, append-nil, length-append, add-one, mul-one, mul_assoc, mul_comm, add-zero}
+use Rattle.std.proofs.Common.{◌≡◌, ◌∙◌, sym, ap, subst, refl, ℕ, zero, suc, ◌+◌, ◌-◌, ◌*◌, ◌/◌, ◌%◌, ◌^◌, ◌<◌, ◌≤◌, true, not, ◌&&◌, nat_le, if◌then◌else◌, List, [], ◌∷◌, ◌++◌, length, replicate, Option, Some, None, is_some, pos, arith, append_assoc, append-nil, length-append, add-one, mul-one, mul_assoc, mul_comm, add-zero}
 use Rattle.std.specs.List.{list_all}
 use Rattle.std.specs.Fmt.{decimal}
 use Rattle.std.specs.Char.{digit_value}
@@ -11,14 +11,14 @@ use Rattle.std.proofs.lemmas.Int.Digits.{digits_value_push}
 use Rattle.std.proofs.lemmas.List.{length-replicate}
 use Rattle.std.proofs.lemmas.Grind.{pow_more}
 use Rattle.brace_num.specs.Spelling.{six_digits}
-use Rattle.brace_tok.specs.Bytes.{is_digit, begins, are_digits, is_word}
+use Rattle.brace_tok.specs.Bytes.{is_digit, are_digits, is_word}
 use Rattle.brace_tok.specs.Tables.{reserved}
 use Rattle.brace_tok.specs.Pieces.{word, whole, fraction}
-use Rattle.brace_tok.specs.Sayings.{says, token, token_or, word_kind, whole_kind, fixed_kind, name_or, millionths}
+use Rattle.brace_tok.specs.Sayings.{says, token, token_or, name_or, millionths}
 use Rattle.brace_tok.specs.declared.kinds.TokKind.TheVariants as kind
 use Rattle.brace_tok.specs.declared.fault.TokFault.TheVariants as fault
 use Rattle.brace_tok.proofs.Scans.{both, first_of_both, second_of_both}
-use Rattle.brace_show.specs.Literals.{without_zeros, shortened}
+use Rattle.brace_show.specs.Literals.{shortened}
 use Rattle.brace_show.proofs.Sound.{name_is}
 use Rattle.brace_show.proofs.Zeros.{zeros_behind, length-six_digits, below}
 
@@ -26,7 +26,7 @@ use Rattle.brace_show.proofs.Zeros.{zeros_behind, length-six_digits, below}
 pub name_word : (text : List ℕ) → name_is text ≡ true → is_word text ≡ true
 name_word text e = first_of_both _ _ (first_of_both (is_word text && nat_le (length text) 64) _ e)
 
-name_short : (text : List ℕ) → name_is text ≡ true → nat_le (length text) 64 ≡ true
+pub name_short : (text : List ℕ) → name_is text ≡ true → nat_le (length text) 64 ≡ true
 name_short text e = second_of_both (is_word text) _ (first_of_both (is_word text && nat_le (length text) 64) _ e)
 
 is_none : {A : Type 0} (o : Option A) → not (is_some o) ≡ true → o ≡ None
@@ -43,8 +43,8 @@ name_says at_ text e =
     ∙ ap (λ o. token (name_or o)) (name_free text e)
 
 -- the digits of a number below 2^64
-is_numeral : (n : ℕ) → nat_le n 9223372036854775807 ≡ true → n < 2 ^ 64
-is_numeral n e = let small : n ≤ 9223372036854775807 = leb-true _ _ e in omega arith
+pub word_fits : (n : ℕ) → nat_le n 9223372036854775807 ≡ true → n < 2 ^ 64
+word_fits n e = let small : n ≤ 9223372036854775807 = leb-true _ _ e in omega arith
 
 digit_byte : (c : ℕ) → digit_value c < 10 → is_digit c ≡ true
 digit_byte c h = let r = digit_from_value c h in both _ _ (le-leb 48 c r.0) (le-leb c 57 r.1)
@@ -63,7 +63,7 @@ decimal_digits n h = let d = decimal_is_IsNumeral n h in some_bytes (decimal n) 
 -- a whole literal says its number
 pub whole_says : (at_ n : ℕ) → nat_le n 9223372036854775807 ≡ true → says at_ (whole (decimal n)) ≡ token (kind.Int (pos n))
 whole_says at_ n e =
-    let value : digits_value 10 (decimal n) ≡ n = (decimal_is_IsNumeral n (is_numeral n e)).1 in
+    let value : digits_value 10 (decimal n) ≡ n = (decimal_is_IsNumeral n (word_fits n e)).1 in
     ap (λ v. token_or (fault.WideLiteral at_) (if nat_le v 9223372036854775807 then Some (kind.Int (pos v)) else None)) value
     ∙ ap (λ b. token_or (fault.WideLiteral at_) (if b then Some (kind.Int (pos n)) else None)) e
 
@@ -130,7 +130,7 @@ fraction_digits n = (parts (n % 1000000) (below n)).0
 
 fraction_value : (n : ℕ) → nat_le n 9223372036854775807 ≡ true → millionths (decimal (n / 1000000)) (shortened (six_digits (n % 1000000))) ≡ n
 fraction_value n e =
-    let whole_part : digits_value 10 (decimal (n / 1000000)) ≡ n / 1000000 = (decimal_is_IsNumeral (n / 1000000) (omega (arith, is_numeral n e))).1 in
+    let whole_part : digits_value 10 (decimal (n / 1000000)) ≡ n / 1000000 = (decimal_is_IsNumeral (n / 1000000) (omega (arith, word_fits n e))).1 in
     let part = (parts (n % 1000000) (below n)).2 in
     ap (λ v. v * 1000000 + digits_value 10 (shortened (six_digits (n % 1000000))) * 10 ^ (6 - length (shortened (six_digits (n % 1000000))))) whole_part
     ∙ ap (λ v. n / 1000000 * 1000000 + v) part ∙ omega arith
