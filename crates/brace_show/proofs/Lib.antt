@@ -1,2 +1,12 @@
 pub mod Blocks
 pub mod Zeros
+pub mod Rows
+pub mod Sound
+pub mod SoundReadings
+pub mod RowSays
+pub mod RowText
+pub mod RowStands
+pub mod Laid
+pub mod ExprReads
+pub mod StmtReads
+pub mod RowReads

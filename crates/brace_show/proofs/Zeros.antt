@@ -56,7 +56,7 @@ pub length-six_digits : (n : ℕ) → n < 1000000 → length (six_digits n) ≡ 
 length-six_digits n h =
     omega (arith, short_decimal n h, length-append (replicate (6 - length (decimal n)) 48) (decimal n), length-replicate {A = ℕ} (6 - length (decimal n)) 48)
 
-below : (n : ℕ) → n % 1000000 < 1000000
+pub below : (n : ℕ) → n % 1000000 < 1000000
 below n = omega arith
 
 -- the same, where a printed text ends with them

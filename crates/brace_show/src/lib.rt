@@ -5,6 +5,7 @@ mod class;
 mod entry;
 mod expr;
 mod frame;
+pub mod laws;
 mod literal;
 mod stmt;
 
