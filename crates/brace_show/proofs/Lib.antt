@@ -1,8 +1,13 @@
 pub mod Zeros
 pub mod Rows
 pub mod Sound
+pub mod SoundReadings
 pub mod RowSays
 pub mod RowText
 pub mod PieceStands
 pub mod ExprStands
 pub mod RowStands
+pub mod Laid
+pub mod ExprReads
+pub mod StmtReads
+pub mod RowReads
