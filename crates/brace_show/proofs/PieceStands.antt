@@ -1,5 +1,5 @@
 -- Rows of pieces that stand before what may follow them: each piece is the longest at its place, and no fault.
-use Rattle.std.proofs.Common.{◌≡◌, ◌∙◌, ap, refl, ℕ, nat_le, ◌+◌, ◌==◌, Bool, true, false, not, ◌&&◌, if◌then◌else◌, List, [], ◌∷◌, ◌++◌, length, Option, Some, None, is_some, codes, pos, negsuc, ◌/◌, arith, append_assoc}
+use Rattle.std.proofs.Common.{◌≡◌, ◌∙◌, ap, refl, ℕ, nat_le, ◌==◌, Bool, true, false, not, ◌&&◌, if◌then◌else◌, List, [], ◌∷◌, ◌++◌, length, Option, Some, None, is_some, codes, pos, negsuc, ◌/◌, arith, append_assoc}
 use Rattle.std.proofs.lemmas.Bool.{and_parts, or_parts, not-true}
 use Rattle.brace_tok.specs.Bytes.{is_digit, is_letter, is_word_byte, begins, begins_fraction, begins_comment, is_word}
 use Rattle.brace_tok.specs.Tables.{reserved, symbol}

@@ -1,5 +1,5 @@
 -- The pieces of a sound script stand: each is the longest at its place, and no fault.
-use Rattle.std.proofs.Common.{◌≡◌, ◌∙◌, sym, ap, subst, refl, ℕ, zero, suc, nat_le, ◌+◌, ◌<◌, Bool, true, false, not, ◌&&◌, List, [], ◌∷◌, ◌++◌, length, map, flat_map, Option, Some, None, is_some, codes}
+use Rattle.std.proofs.Common.{◌≡◌, ◌∙◌, sym, ap, subst, refl, ℕ, zero, suc, nat_le, ◌+◌, Bool, true, false, not, ◌&&◌, List, [], ◌∷◌, ◌++◌, length, map, flat_map, Option, Some, None, is_some, codes}
 use Rattle.std.specs.List.{list_all}
 use Rattle.brace_tok.specs.Bytes.{is_letter, begins, is_word}
 use Rattle.brace_tok.specs.Tables.{symbol, directive}
