@@ -1,19 +1,17 @@
 -- The pieces of an expression are read back as that expression, apart from places.
-use Rattle.std.proofs.Common.{◌≡◌, refl, sym, ap, ◌∙◌, subst, ℕ, zero, suc, ◌+◌, ◌/◌, ◌%◌, nat_lt, nat_le, not, is_some, cond, List, [], ◌∷◌, ◌++◌, length, Bool, true, false, ◌&&◌, if◌then◌else◌, append_assoc, Option, Some, None, ℤ, pos, negsuc, unsigned_abs, codes}
+use Rattle.std.proofs.Common.{◌≡◌, refl, sym, ap, ◌∙◌, subst, ℕ, ◌/◌, ◌%◌, nat_lt, List, [], ◌∷◌, ◌++◌, Bool, true, false, ◌&&◌, if◌then◌else◌, append_assoc, Some, pos, negsuc, codes}
 use Rattle.std.specs.Fmt.{decimal}
 use Rattle.std.proofs.lemmas.List.{append-nil}
 use Rattle.brace_num.specs.Spelling.{six_digits}
 use Rattle.brace_show.specs.Literals.{shortened}
-use Rattle.brace_tok.specs.Bytes.{is_word}
-use Rattle.brace_tok.specs.Tables.{reserved, directive, symbol}
-use Rattle.brace_tok.specs.Pieces.{Piece, blank, word, whole, fraction, hash, sign, bytes_of}
-use Rattle.brace_tok.specs.Sayings.{says, token, token_or, name_or, word_kind}
+use Rattle.brace_tok.specs.Tables.{reserved, symbol}
+use Rattle.brace_tok.specs.Pieces.{blank, word, whole, fraction, sign}
+use Rattle.brace_tok.specs.Sayings.{says, token}
 use Rattle.brace_tok.specs.declared.kinds.Token.{Token}
 use Rattle.brace_tok.specs.declared.kinds.TokKind.{TokKind}
 use Rattle.brace_tok.specs.declared.kinds.TokKind.TheVariants as k
-use Rattle.brace_tok.specs.declared.fault.TokFault.TheVariants as fault
 use Rattle.brace_tok.proofs.Scans.{first_of_both, second_of_both}
-use Rattle.brace_syntax.specs.Tables.{Is, ident, spelling, number, number_at, compares, prefixes, calls_one, calls_two}
+use Rattle.brace_syntax.specs.Tables.{Is, ident, number, number_at, compares, prefixes, calls_one, calls_two}
 use Rattle.brace_syntax.specs.Reads as g
 use Rattle.brace_syntax.specs.Reads.{ReadsExpr, operands, repeats}
 use Rattle.brace_syntax.specs.declared.tree.Ident.{Ident}
@@ -28,10 +26,10 @@ use Rattle.brace_syntax.specs.declared.tree.ExprTree.{ExprTree}
 use Rattle.brace_syntax.specs.declared.tree.ExprTree.TheVariants as e
 use Rattle.brace_syntax.specs.declared.tree.ExprTree.TheOpen as expr
 use Rattle.brace_syntax.specs.declared.tree.ExprTree.TheViews.{roll-ExprTree}
-use Rattle.brace_syntax.specs.declared.tree.ExprTree.TheFolds.{fold-ExprTree, fold-roll-ExprTree, ind-ExprTree, map-ExprTree}
+use Rattle.brace_syntax.specs.declared.tree.ExprTree.TheFolds.{fold-roll-ExprTree, ind-ExprTree, map-ExprTree}
 use Rattle.brace_show.specs.Alike.{ident_at_0, number_at_0, expr_step, expr_at_0}
-use Rattle.brace_show.proofs.Rows.{Row, space, mark, letters, sign_row, literal_row, Phrased, row_at, atom_row, call_one_row, call_two_row, prefixed_row, between_row, unary_row, binary_row, choice_row, phrased_step, phrased_of, operand_row, expression_row}
-use Rattle.brace_show.proofs.Sound.{name_is, fits_word, digits_are, expr_sound_step, expr_sound}
+use Rattle.brace_show.proofs.Rows.{Row, space, mark, letters, literal_row, Phrased, row_at, atom_row, call_one_row, call_two_row, prefixed_row, between_row, unary_row, binary_row, choice_row, phrased_step, phrased_of, expression_row}
+use Rattle.brace_show.proofs.Sound.{name_is, digits_are, expr_sound_step, expr_sound}
 use Rattle.brace_show.proofs.RowSays.{name_says, whole_says, fraction_says}
 use Rattle.brace_show.proofs.Laid.{Laid, split, say, past, laid_as, done}
 
@@ -344,9 +342,11 @@ of_loop_good loop name s s' = good_at g.primaries _ _ (λ src toks l.
     say_name (λ z. C (first ∷ dot ∷ z)) src name [] t2 s' l2 (λ tok rest is same l3.
     done (λ z. C (first ∷ dot ∷ tok ∷ z)) src rest l3
     (let i : Ident = ident src first in
-    let j : Ident = ident src tok in
-    (e.OfLoop i j, g.of_loop first dot tok hf hd is,
-    ap (λ (z : Ident). e.OfLoop z (ident_at_0 name)) same1 ∙ (ap (λ (z : Ident). e.OfLoop (ident_at_0 i) z) same ∙ sym (at_0 (expr.OfLoop i j) (e.OfLoop i j) (e.rolls-OfLoop i j)))))))))
+    let j : Ident = ident src tok in (
+      e.OfLoop i j,
+      g.of_loop first dot tok hf hd is,
+      ap (λ (z : Ident). e.OfLoop z (ident_at_0 name)) same1 ∙ (ap (λ (z : Ident). e.OfLoop (ident_at_0 i) z) same ∙ sym (at_0 (expr.OfLoop i j) (e.OfLoop i j) (e.rolls-OfLoop i j))),
+    ))))))
 
 abbrev SoundIsGood : ExprTree → Type 0
 SoundIsGood x = expr_sound x ≡ true → Good (phrased_of x) (expr_at_0 x)

@@ -4,7 +4,7 @@ use Rattle.std.proofs.lemmas.List.{append-nil}
 use Rattle.brace_tok.specs.declared.kinds.Token.{Token}
 use Rattle.brace_tok.specs.declared.kinds.TokKind.{TokKind}
 use Rattle.brace_tok.specs.Pieces.{Piece, blank, bytes_of}
-use Rattle.brace_tok.specs.Sayings.{Saying, nothing, token, refused, says}
+use Rattle.brace_tok.specs.Sayings.{token, says}
 use Rattle.brace_tok.specs.Spells.{text_of, token_at, tokens_from}
 use Rattle.brace_tok.proofs.Named.{cut_out}
 use Rattle.brace_syntax.specs.Tables.{Is, spelling}

@@ -1,6 +1,8 @@
 pub mod Blocks
 pub mod ExprReads
+pub mod ExprStands
 pub mod Laid
+pub mod PieceStands
 pub mod ReadBack
 pub mod RowReads
 pub mod RowSays

@@ -1,10 +1,9 @@
 -- The row of a script is read back as that script, apart from places.
-use Rattle.std.proofs.Common.{◌≡◌, refl, sym, ap, ◌∙◌, subst, ℕ, ◌+◌, nat_le, List, [], ◌∷◌, ◌++◌, length, map, flat_map, Bool, true, false, ◌&&◌, append_assoc, Option, Some, None, codes}
-use Rattle.std.specs.Prelude.{option_map}
+use Rattle.std.proofs.Common.{◌≡◌, refl, sym, ap, ◌∙◌, ℕ, ◌+◌, nat_le, List, [], ◌∷◌, ◌++◌, length, map, flat_map, Bool, true, false, ◌&&◌, append_assoc, Option, Some, None, codes}
 use Rattle.std.specs.List.{list_all}
 use Rattle.std.proofs.lemmas.List.{append-nil}
 use Rattle.brace_tok.specs.Tables.{reserved, directive, symbol}
-use Rattle.brace_tok.specs.Pieces.{Piece, blank, word, hash, sign}
+use Rattle.brace_tok.specs.Pieces.{blank, word, hash, sign}
 use Rattle.brace_tok.specs.Sayings.{says, token}
 use Rattle.brace_tok.specs.Spells.{text_of, tokens_from}
 use Rattle.brace_tok.specs.declared.kinds.Token.{Token}
@@ -29,8 +28,8 @@ use Rattle.brace_syntax.specs.declared.tree.Tree.{Tree}
 use Rattle.brace_show.specs.Canonical.{type_text, combinator, sharing}
 use Rattle.brace_show.specs.Alike.{ident_at_0, number_at_0, type_at_0, expr_at_0, stmt_at_0, member_at_0, class_at_0, Alike}
 use Rattle.brace_show.proofs.Rows.{Row, space, mark, letters, literal_row, expression_row, line_row, type_row, combinator_row, closing_row, sharing_row, rule_row, range_row, statement_row, member_row, class_row, script_row}
-use Rattle.brace_show.proofs.Sound.{name_is, digits_are, type_is, expr_sound, rule_sound, stmt_sound, member_sound, class_sound, script_sound}
-use Rattle.brace_show.proofs.Laid.{Laid, split, say, past, past_margin, laid_as, past_line, on_line, done}
+use Rattle.brace_show.proofs.Sound.{name_is, digits_are, type_is, expr_sound, member_sound, class_sound, script_sound}
+use Rattle.brace_show.proofs.Laid.{Laid, split, say, past, laid_as, past_line, on_line, done}
 use Rattle.brace_show.proofs.ExprReads.{say_name, say_number}
 use Rattle.brace_show.proofs.StmtReads.{value_then, type_word, say_type, block_reads}
 
@@ -55,7 +54,7 @@ ends C src toks l f = say C k.Semicolon src (sign (codes ";")) (blank 10 ∷ [])
 range_then : (C : List Token → Type 0) (d : Digits) → digits_are d ≡ true → (src : List ℕ) (toks : List Token)
     → Laid src (sign (codes "[") ∷ (((literal_row d ++ mark (codes "]")) ++ mark (codes ";")) ++ (blank 10 ∷ []))) toks
     → ((opening range closing semicolon : Token) → Is k.OpenBracket opening → number range ≡ Some (record { digits = d; at = range.from }) → Is k.CloseBracket closing → Is k.Semicolon semicolon
-        → C (opening ∷ range ∷ closing ∷ semicolon ∷ [])) → C toks
+    → C (opening ∷ range ∷ closing ∷ semicolon ∷ [])) → C toks
 unfolding symbol
 range_then C d h src toks l f =
     let cut : ((literal_row d ++ mark (codes "]")) ++ mark (codes ";")) ++ (blank 10 ∷ []) ≡ literal_row d ++ (sign (codes "]") ∷ sign (codes ";") ∷ blank 10 ∷ []) =
@@ -116,7 +115,7 @@ combines_it comb.Or = refl
 state_then : (C : List Token → Type 0) (shared : Bool) (t : TyName) (name : Ident) → type_is t ≡ true → name_is name.text ≡ true → (rest : Row) (src : List ℕ) (toks : List Token)
     → Laid src (word (sharing shared) ∷ blank 32 ∷ word (codes "state") ∷ blank 32 ∷ word (type_text t) ∷ blank 32 ∷ word name.text ∷ rest) toks
     → ((share state type tok : Token) (ts : List Token) (u : TyName) → Is (sharing_kind shared) share → Is k.KwState state → type_name src type ≡ Some u → type_at_0 t ≡ type_at_0 u
-        → Is k.Word tok → ident_at_0 name ≡ ident_at_0 (ident src tok) → Laid src rest ts → C (share ∷ state ∷ type ∷ tok ∷ ts)) → C toks
+    → Is k.Word tok → ident_at_0 name ≡ ident_at_0 (ident src tok) → Laid src rest ts → C (share ∷ state ∷ type ∷ tok ∷ ts)) → C toks
 unfolding reserved
 state_then C shared t name ht hn rest src toks l f =
     say C (sharing_kind shared) src (word (sharing shared)) _ toks (sharing_says shared) l (λ share t1 h1 _ l1.
@@ -156,9 +155,11 @@ member_good (m.State shared t name None at) h margin src toks l =
     state_then C shared t name (first_of_both (type_is t) (name_is name.text) h') (second_of_both (type_is t) (name_is name.text) h') (sign (codes ";") ∷ blank 10 ∷ []) src toks
     (on_line src margin (state_row (letters (sharing shared)) (letters (type_text t)) name None) toks here) (λ share state type tok ts u h1 h2 hu same_type is same l1.
     ends (λ z. C (share ∷ state ∷ type ∷ tok ∷ z)) src ts l1 (λ semicolon hs.
-    let i : Ident = ident src tok in
-    (m.State shared u i None share.from, member_of src shared share _ _ h1 (g.state state type tok semicolon u h2 hu is hs),
-    ap (λ (z : TyName). m.State shared z (ident_at_0 name) None 0) same_type ∙ ap (λ (z : Ident). m.State shared (type_at_0 u) z None 0) same)))
+    let i : Ident = ident src tok in (
+      m.State shared u i None share.from,
+      member_of src shared share _ _ h1 (g.state state type tok semicolon u h2 hu is hs),
+      ap (λ (z : TyName). m.State shared z (ident_at_0 name) None 0) same_type ∙ ap (λ (z : Ident). m.State shared (type_at_0 u) z None 0) same,
+    )))
 member_good (m.State shared t name (Some x) at) h margin src toks l =
     let h' : (type_is t && name_is name.text) ≡ true = first_of_both (type_is t && name_is name.text) (expr_sound x) h in
     let C : List Token → Type 0 = FoundMember src (m.State shared (type_at_0 t) (ident_at_0 name) (Some (expr_at_0 x)) 0) in
@@ -169,10 +170,12 @@ member_good (m.State shared t name (Some x) at) h margin src toks l =
     (on_line src margin (state_row (letters (sharing shared)) (letters (type_text t)) name (Some x)) toks here) (λ share state type tok ts u h1 h2 hu same_type is same l1.
     say (λ z. C (share ∷ state ∷ type ∷ tok ∷ z)) k.Colon src (sign (codes ":")) _ ts (λ from. refl) (past src 32 _ ts l1) (λ colon t2 hc _ l2.
     value_then (λ z. C (share ∷ state ∷ type ∷ tok ∷ colon ∷ z)) x (second_of_both (type_is t && name_is name.text) (expr_sound x) h) src t2 (past src 32 _ t2 l2) (λ a semicolon found hs.
-    let i : Ident = ident src tok in
-    (m.State shared u i (Some found.0) share.from, member_of src shared share _ _ h1 (g.ruled a state type tok colon semicolon u found.0 h2 hu is hc hs found.1),
-    ap (λ (z : TyName). m.State shared z (ident_at_0 name) (Some (expr_at_0 x)) 0) same_type ∙ (ap (λ (z : Ident). m.State shared (type_at_0 u) z (Some (expr_at_0 x)) 0) same
-    ∙ ap (λ (z : ExprTree). m.State shared (type_at_0 u) (ident_at_0 i) (Some z) 0) found.2)))))
+    let i : Ident = ident src tok in (
+      m.State shared u i (Some found.0) share.from,
+      member_of src shared share _ _ h1 (g.ruled a state type tok colon semicolon u found.0 h2 hu is hc hs found.1),
+      ap (λ (z : TyName). m.State shared z (ident_at_0 name) (Some (expr_at_0 x)) 0) same_type ∙ (ap (λ (z : Ident). m.State shared (type_at_0 u) z (Some (expr_at_0 x)) 0) same
+          ∙ ap (λ (z : ExprTree). m.State shared (type_at_0 u) (ident_at_0 i) (Some z) 0) found.2),
+    ))))
 member_good (m.Effect shared t name c at) h margin src toks l =
     let C : List Token → Type 0 = FoundMember src (m.Effect shared (type_at_0 t) (ident_at_0 name) c 0) in
     let row : Row = effect_row (letters (sharing shared)) (letters (type_text t)) name (letters (combinator c)) in
@@ -186,9 +189,11 @@ member_good (m.Effect shared t name c at) h margin src toks l =
     say (λ z. C (share ∷ effect ∷ type ∷ tok ∷ z)) k.Colon src (sign (codes ":")) _ t4 (λ from. refl) (past src 32 _ t4 l4) (λ colon t5 h5 _ l5.
     say (λ z. C (share ∷ effect ∷ type ∷ tok ∷ colon ∷ z)) (combinator_kind c) src (word (combinator c)) _ t5 (combinator_says c) (past src 32 _ t5 l5) (λ joins t6 h6 _ l6.
     ends (λ z. C (share ∷ effect ∷ type ∷ tok ∷ colon ∷ joins ∷ z)) src t6 l6 (λ semicolon hs.
-    let i : Ident = ident src tok in
-    (m.Effect shared u i c share.from, member_of src shared share _ _ h1 (g.effect effect type tok colon joins semicolon u c h2 hu is h5 (ap combines h6 ∙ combines_it c) hs),
-    ap (λ (z : TyName). m.Effect shared z (ident_at_0 name) c 0) same_type ∙ ap (λ (z : Ident). m.Effect shared (type_at_0 u) z c 0) same))))))))
+    let i : Ident = ident src tok in (
+      m.Effect shared u i c share.from,
+      member_of src shared share _ _ h1 (g.effect effect type tok colon joins semicolon u c h2 hu is h5 (ap combines h6 ∙ combines_it c) hs),
+      ap (λ (z : TyName). m.Effect shared z (ident_at_0 name) c 0) same_type ∙ ap (λ (z : Ident). m.Effect shared (type_at_0 u) z c 0) same,
+    ))))))))
 member_good (m.Run xs at) h margin src toks l =
     let C : List Token → Type 0 = FoundMember src (m.Run (map stmt_at_0 xs) 0) in
     let inner : Row = flat_map (λ x. statement_row x (margin + 2)) xs in
@@ -221,10 +226,12 @@ class_good x h src toks l =
     say (λ z. C (w ∷ tok ∷ opening ∷ (a ++ z))) k.CloseBrace src (sign (codes "}")) (blank 10 ∷ []) t4 (λ from. refl) l4 (λ closing t5 h5 _ l5.
     done (λ z. C (w ∷ tok ∷ opening ∷ (a ++ closing ∷ z))) src t5 (past src 10 [] t5 l5)
     (let ys = members_good x.members (second_of_both (name_is x.name.text) (list_all member_sound x.members) h) 2 src a la in
-    let c : ClassTree = record { name = ident src tok; members = ys.0; at = w.from } in
-    (c, g.class a w tok opening closing ys.0 h1 is h3 h5 ys.1,
-    ap (λ (z : Ident). let c : ClassTree = record { name = z; members = map member_at_0 x.members; at = 0 } in c) same
-    ∙ ap (λ (z : List MemberTree). let c : ClassTree = record { name = ident_at_0 (ident src tok); members = z; at = 0 } in c) ys.2)))))))
+    let c : ClassTree = record { name = ident src tok; members = ys.0; at = w.from } in (
+      c,
+      g.class a w tok opening closing ys.0 h1 is h3 h5 ys.1,
+      ap (λ (z : Ident). let c : ClassTree = record { name = z; members = map member_at_0 x.members; at = 0 } in c) same
+          ∙ ap (λ (z : List MemberTree). let c : ClassTree = record { name = ident_at_0 (ident src tok); members = z; at = 0 } in c) ys.2,
+    )))))))
 
 classes_good : (x : ClassTree) (xs : List ClassTree) → class_sound x ≡ true → list_all class_sound xs ≡ true → (src : List ℕ) (toks : List Token) → Laid src (flat_map class_row (x ∷ xs)) toks → FoundClasses src (map class_at_0 (x ∷ xs)) toks
 classes_good x [] h hs src toks l =

@@ -1,5 +1,5 @@
 -- A script that is read from a text has names that words spell, and numbers that literals spell.
-use Rattle.std.proofs.Common.{◌≡◌, refl, sym, ap, ◌∙◌, subst, ℕ, ◌+◌, nat_le, not, is_some, cond, List, [], ◌∷◌, ◌++◌, length, map, Bool, true, false, ◌&&◌, Option, Some, None, ℤ, pos, negsuc, All, arith}
+use Rattle.std.proofs.Common.{◌≡◌, refl, sym, ap, ◌∙◌, ℕ, ◌+◌, nat_le, not, is_some, cond, List, [], ◌∷◌, ◌++◌, length, map, Bool, true, false, ◌&&◌, Option, Some, None, pos, All, arith}
 use Rattle.std.specs.List.{list_all}
 use Rattle.std.specs.Str.{bytes_eq}
 use Rattle.std.specs.Str.Parse.{digits_value}
@@ -25,17 +25,16 @@ use Rattle.brace_syntax.specs.Reads.{ReadsExpr, ReadsStmt, ReadsStmts, ReadsBloc
 use Rattle.brace_syntax.specs.declared.tree.Ident.{Ident}
 use Rattle.brace_syntax.specs.declared.tree.Number.{Number}
 use Rattle.brace_syntax.specs.declared.tree.TyName.{TyName}
-use Rattle.brace_syntax.specs.declared.tree.TyName.TheVariants as ty
 use Rattle.brace_syntax.specs.declared.tree.ExprTree.{ExprTree}
 use Rattle.brace_syntax.specs.declared.tree.ExprTree.TheVariants as node
 use Rattle.brace_syntax.specs.declared.tree.ExprTree.TheOpen as expr
 use Rattle.brace_syntax.specs.declared.tree.ExprTree.TheViews.{roll-ExprTree}
-use Rattle.brace_syntax.specs.declared.tree.ExprTree.TheFolds.{fold-ExprTree, fold-roll-ExprTree, map-ExprTree}
+use Rattle.brace_syntax.specs.declared.tree.ExprTree.TheFolds.{fold-roll-ExprTree, map-ExprTree}
 use Rattle.brace_syntax.specs.declared.tree.StmtTree.{StmtTree}
 use Rattle.brace_syntax.specs.declared.tree.StmtTree.TheVariants as s
 use Rattle.brace_syntax.specs.declared.tree.StmtTree.TheOpen as stmt
 use Rattle.brace_syntax.specs.declared.tree.StmtTree.TheViews.{roll-StmtTree}
-use Rattle.brace_syntax.specs.declared.tree.StmtTree.TheFolds.{fold-StmtTree, fold-roll-StmtTree, map-StmtTree}
+use Rattle.brace_syntax.specs.declared.tree.StmtTree.TheFolds.{fold-roll-StmtTree, map-StmtTree}
 use Rattle.brace_syntax.specs.declared.tree.MemberTree.{MemberTree}
 use Rattle.brace_syntax.specs.declared.tree.ClassTree.{ClassTree}
 use Rattle.brace_syntax.specs.declared.tree.Tree.{Tree}
@@ -126,9 +125,10 @@ kind_is_sound text kind n h = refl
 
 sounds_of : (src : List ℕ) (toks : List Token) → All (IsNamed src) toks → list_all fits toks ≡ true → Sounds src toks
 sounds_of src [] n h = tt
-sounds_of src (tok ∷ toks) n h =
-    (kind_is_sound (spelling src tok) tok.kind (All-head (IsNamed src) tok toks n) (first_of_both (fits tok) (list_all fits toks) h),
-    sounds_of src toks (All-rest (IsNamed src) tok toks (tok ∷ toks) refl n) (second_of_both (fits tok) (list_all fits toks) h))
+sounds_of src (tok ∷ toks) n h = (
+  kind_is_sound (spelling src tok) tok.kind (All-head (IsNamed src) tok toks n) (first_of_both (fits tok) (list_all fits toks) h),
+  sounds_of src toks (All-rest (IsNamed src) tok toks (tok ∷ toks) refl n) (second_of_both (fits tok) (list_all fits toks) h),
+)
 
 spells_sounds : (src : List ℕ) (toks : List Token) → Spells src toks → Sounds src toks
 spells_sounds src toks (row, e, ok, t) = sounds_of src toks (spells_names src toks (row, e, ok, t)) (ap (λ (z : List Token). list_all fits z) t ∙ row_fits 0 row)

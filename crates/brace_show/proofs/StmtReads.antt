@@ -1,11 +1,10 @@
 -- The pieces of statements are read back as those statements, apart from places.
-use Rattle.std.proofs.Common.{◌≡◌, refl, sym, ap, ◌∙◌, subst, ℕ, ◌+◌, List, [], ◌∷◌, ◌++◌, map, flat_map, Bool, true, false, ◌&&◌, append_assoc, Option, Some, None, codes}
+use Rattle.std.proofs.Common.{◌≡◌, refl, sym, ap, ◌∙◌, subst, ℕ, ◌+◌, List, [], ◌∷◌, ◌++◌, map, flat_map, Bool, true, ◌&&◌, append_assoc, Option, Some, None, codes}
 use Rattle.std.specs.List.{list_all}
 use Rattle.std.proofs.lemmas.List.{append-nil}
 use Rattle.brace_tok.specs.Tables.{reserved, symbol}
-use Rattle.brace_tok.specs.Pieces.{Piece, blank, word, sign}
+use Rattle.brace_tok.specs.Pieces.{blank, word, sign}
 use Rattle.brace_tok.specs.declared.kinds.Token.{Token}
-use Rattle.brace_tok.specs.declared.kinds.TokKind.{TokKind}
 use Rattle.brace_tok.specs.declared.kinds.TokKind.TheVariants as k
 use Rattle.brace_tok.proofs.Scans.{first_of_both, second_of_both}
 use Rattle.brace_syntax.specs.Tables.{Is, ident, type_name, type_at}
@@ -19,11 +18,11 @@ use Rattle.brace_syntax.specs.declared.tree.StmtTree.{StmtTree}
 use Rattle.brace_syntax.specs.declared.tree.StmtTree.TheVariants as s
 use Rattle.brace_syntax.specs.declared.tree.StmtTree.TheOpen as stmt
 use Rattle.brace_syntax.specs.declared.tree.StmtTree.TheViews.{roll-StmtTree}
-use Rattle.brace_syntax.specs.declared.tree.StmtTree.TheFolds.{fold-StmtTree, fold-roll-StmtTree, ind-StmtTree, map-StmtTree}
+use Rattle.brace_syntax.specs.declared.tree.StmtTree.TheFolds.{fold-roll-StmtTree, ind-StmtTree, map-StmtTree}
 use Rattle.brace_show.specs.Canonical.{type_text}
 use Rattle.brace_show.specs.Alike.{ident_at_0, type_at_0, expr_at_0, stmt_step, stmt_at_0}
-use Rattle.brace_show.proofs.Rows.{Row, space, mark, letters, expression_row, margin_row, line_row, type_row, block_row, otherwise_row, closing_row, statement_row_step, statement_row}
-use Rattle.brace_show.proofs.Sound.{name_is, type_is, expr_sound, all_sound, other_sound, stmt_sound_step, stmt_sound}
+use Rattle.brace_show.proofs.Rows.{Row, space, mark, letters, expression_row, margin_row, line_row, type_row, block_row, closing_row, statement_row_step, statement_row}
+use Rattle.brace_show.proofs.Sound.{name_is, type_is, expr_sound, all_sound, stmt_sound_step, stmt_sound}
 use Rattle.brace_show.proofs.Laid.{Laid, split, say, past, past_margin, laid_as, line_cut, past_line, on_line, done}
 use Rattle.brace_show.proofs.ExprReads.{Found, expression_reads, say_name}
 
@@ -111,9 +110,11 @@ assign_good name x hn hx margin src toks l =
     say_name C src name _ toks hn (on_line src margin _ toks l) (λ tok t1 is same l1.
     say (λ z. C (tok ∷ z)) k.Arrow src (sign (codes "<-")) _ t1 (λ from. refl) (past src 32 _ t1 l1) (λ arrow t2 ha _ l2.
     value_then (λ z. C (tok ∷ arrow ∷ z)) x hx src t2 (past src 32 _ t2 l2) (λ a semicolon found hs.
-    let i : Ident = ident src tok in
-    (s.Assign i found.0, g.assign a tok arrow semicolon found.0 is ha hs found.1,
-    ap (λ (z : Ident). s.Assign z (expr_at_0 x)) same ∙ (ap (λ (z : ExprTree). s.Assign (ident_at_0 i) z) found.2 ∙ sym (at_0 (stmt.Assign i found.0) (s.Assign i found.0) (s.rolls-Assign i found.0)))))))
+    let i : Ident = ident src tok in (
+      s.Assign i found.0,
+      g.assign a tok arrow semicolon found.0 is ha hs found.1,
+      ap (λ (z : Ident). s.Assign z (expr_at_0 x)) same ∙ (ap (λ (z : ExprTree). s.Assign (ident_at_0 i) z) found.2 ∙ sym (at_0 (stmt.Assign i found.0) (s.Assign i found.0) (s.rolls-Assign i found.0))),
+    ))))
 
 assign_this_good : (name : Ident) (x : ExprTree) (at : ℕ) → name_is name.text ≡ true → expr_sound x ≡ true → GoodStmt (statement_row_step (stmt.AssignThis name x at)) (s.AssignThis (ident_at_0 name) (expr_at_0 x) 0)
 unfolding symbol reserved
@@ -124,10 +125,12 @@ assign_this_good name x at hn hx margin src toks l =
     say_name (λ z. C (this ∷ dot ∷ z)) src name _ t2 hn l2 (λ tok t3 is same l3.
     say (λ z. C (this ∷ dot ∷ tok ∷ z)) k.Arrow src (sign (codes "<-")) _ t3 (λ from. refl) (past src 32 _ t3 l3) (λ arrow t4 ha _ l4.
     value_then (λ z. C (this ∷ dot ∷ tok ∷ arrow ∷ z)) x hx src t4 (past src 32 _ t4 l4) (λ a semicolon found hs.
-    let i : Ident = ident src tok in
-    (s.AssignThis i found.0 this.from, g.assign_this a this dot tok arrow semicolon found.0 ht hd is ha hs found.1,
-    ap (λ (z : Ident). s.AssignThis z (expr_at_0 x) 0) same ∙ (ap (λ (z : ExprTree). s.AssignThis (ident_at_0 i) z 0) found.2
-    ∙ sym (at_0 (stmt.AssignThis i found.0 this.from) (s.AssignThis i found.0 this.from) (s.rolls-AssignThis i found.0 this.from)))))))))
+    let i : Ident = ident src tok in (
+      s.AssignThis i found.0 this.from,
+      g.assign_this a this dot tok arrow semicolon found.0 ht hd is ha hs found.1,
+      ap (λ (z : Ident). s.AssignThis z (expr_at_0 x) 0) same ∙ (ap (λ (z : ExprTree). s.AssignThis (ident_at_0 i) z 0) found.2
+          ∙ sym (at_0 (stmt.AssignThis i found.0 this.from) (s.AssignThis i found.0 this.from) (s.rolls-AssignThis i found.0 this.from))),
+    ))))))
 
 assign_loop_good : (loop name : Ident) (x : ExprTree) → name_is loop.text ≡ true → name_is name.text ≡ true → expr_sound x ≡ true
     → GoodStmt (statement_row_step (stmt.AssignLoop loop name x)) (s.AssignLoop (ident_at_0 loop) (ident_at_0 name) (expr_at_0 x))
@@ -140,10 +143,12 @@ assign_loop_good loop name x hl hn hx margin src toks l =
     say (λ z. C (first ∷ dot ∷ tok ∷ z)) k.Arrow src (sign (codes "<-")) _ t3 (λ from. refl) (past src 32 _ t3 l3) (λ arrow t4 ha _ l4.
     value_then (λ z. C (first ∷ dot ∷ tok ∷ arrow ∷ z)) x hx src t4 (past src 32 _ t4 l4) (λ a semicolon found hs.
     let i : Ident = ident src first in
-    let j : Ident = ident src tok in
-    (s.AssignLoop i j found.0, g.assign_loop a first dot tok arrow semicolon found.0 hf hd is ha hs found.1,
-    ap (λ (z : Ident). s.AssignLoop z (ident_at_0 name) (expr_at_0 x)) same1 ∙ (ap (λ (z : Ident). s.AssignLoop (ident_at_0 i) z (expr_at_0 x)) same ∙ (ap (λ (z : ExprTree). s.AssignLoop (ident_at_0 i) (ident_at_0 j) z) found.2
-    ∙ sym (at_0 (stmt.AssignLoop i j found.0) (s.AssignLoop i j found.0) (s.rolls-AssignLoop i j found.0))))))))))
+    let j : Ident = ident src tok in (
+      s.AssignLoop i j found.0,
+      g.assign_loop a first dot tok arrow semicolon found.0 hf hd is ha hs found.1,
+      ap (λ (z : Ident). s.AssignLoop z (ident_at_0 name) (expr_at_0 x)) same1 ∙ (ap (λ (z : Ident). s.AssignLoop (ident_at_0 i) z (expr_at_0 x)) same ∙ (ap (λ (z : ExprTree). s.AssignLoop (ident_at_0 i) (ident_at_0 j) z) found.2
+          ∙ sym (at_0 (stmt.AssignLoop i j found.0) (s.AssignLoop i j found.0) (s.rolls-AssignLoop i j found.0)))),
+    ))))))
 
 const_good : (t : TyName) (name : Ident) (x : ExprTree) (at : ℕ) → type_is t ≡ true → name_is name.text ≡ true → expr_sound x ≡ true
     → GoodStmt (statement_row_step (stmt.Const t name x at)) (s.Const (type_at_0 t) (ident_at_0 name) (expr_at_0 x) 0)
@@ -156,16 +161,18 @@ const_good t name x at ht hn hx margin src toks l =
     say_name (λ z. C (const ∷ type ∷ z)) src name _ t2 hn (past src 32 _ t2 l2) (λ tok t3 is same l3.
     say (λ z. C (const ∷ type ∷ tok ∷ z)) k.Assign src (sign (codes "=")) _ t3 (λ from. refl) (past src 32 _ t3 l3) (λ equals t4 he _ l4.
     value_then (λ z. C (const ∷ type ∷ tok ∷ equals ∷ z)) x hx src t4 (past src 32 _ t4 l4) (λ a semicolon found hs.
-    let i : Ident = ident src tok in
-    (s.Const u i found.0 const.from, g.const a const type tok equals semicolon u found.0 hc hu is he hs found.1,
-    ap (λ (z : TyName). s.Const z (ident_at_0 name) (expr_at_0 x) 0) same1 ∙ (ap (λ (z : Ident). s.Const (type_at_0 u) z (expr_at_0 x) 0) same ∙ (ap (λ (z : ExprTree). s.Const (type_at_0 u) (ident_at_0 i) z 0) found.2
-    ∙ sym (at_0 (stmt.Const u i found.0 const.from) (s.Const u i found.0 const.from) (s.rolls-Const u i found.0 const.from))))))))))
+    let i : Ident = ident src tok in (
+      s.Const u i found.0 const.from,
+      g.const a const type tok equals semicolon u found.0 hc hu is he hs found.1,
+      ap (λ (z : TyName). s.Const z (ident_at_0 name) (expr_at_0 x) 0) same1 ∙ (ap (λ (z : Ident). s.Const (type_at_0 u) z (expr_at_0 x) 0) same ∙ (ap (λ (z : ExprTree). s.Const (type_at_0 u) (ident_at_0 i) z 0) found.2
+          ∙ sym (at_0 (stmt.Const u i found.0 const.from) (s.Const u i found.0 const.from) (s.rolls-Const u i found.0 const.from)))),
+    ))))))
 
 -- `if (c)`, with what stands behind it
 condition_then : (C : List Token → Type 0) (c : ExprTree) → expr_sound c ≡ true → (rest : Row) (src : List ℕ) (toks : List Token)
     → Laid src (word (codes "if") ∷ blank 32 ∷ sign (codes "(") ∷ ((((expression_row c ++ mark (codes ")")) ++ space) ++ mark (codes "{")) ++ rest)) toks
     → ((a b : List Token) (word opening closing : Token) → Is k.KwIf word → Is k.OpenParen opening → Is k.CloseParen closing → Found src g.choices (expr_at_0 c) a
-        → Laid src (sign (codes "{") ∷ rest) b → C (word ∷ opening ∷ (a ++ (closing ∷ b)))) → C toks
+    → Laid src (sign (codes "{") ∷ rest) b → C (word ∷ opening ∷ (a ++ (closing ∷ b)))) → C toks
 unfolding symbol reserved
 condition_then C c hc rest src toks l f =
     let cut : (((expression_row c ++ mark (codes ")")) ++ space) ++ mark (codes "{")) ++ rest ≡ expression_row c ++ (sign (codes ")") ∷ blank 32 ∷ sign (codes "{") ∷ rest) =
@@ -192,9 +199,11 @@ when_good c fs vs at hc h margin src toks l =
     append_assoc (line ++ block_row fs margin) [] (closing_row margin) ∙ append_assoc line (block_row fs margin) (closing_row margin) in
     condition_then (FoundStmt src (s.If (expr_at_0 c) vs None 0)) c hc (blank 10 ∷ (block_row fs margin ++ closing_row margin)) src toks
     (past_line src margin (condition_row c) (block_row fs margin ++ closing_row margin) toks (laid_as src _ _ toks cut l)) (λ a b if_ opening closing hi ho hc' x lb.
-    let xs = last_block fs vs h margin src b lb in
-    (s.If x.0 xs.0 None if_.from, g.when a b if_ opening closing x.0 xs.0 hi ho hc' x.1 xs.1,
-    if-at_0 x.0 xs.0 None if_.from (expr_at_0 c) vs None x.2 xs.2 refl))
+    let xs = last_block fs vs h margin src b lb in (
+      s.If x.0 xs.0 None if_.from,
+      g.when a b if_ opening closing x.0 xs.0 hi ho hc' x.1 xs.1,
+      if-at_0 x.0 xs.0 None if_.from (expr_at_0 c) vs None x.2 xs.2 refl,
+    ))
 
 abbrev else_row : Row
 else_row = mark (codes "}") ++ space ++ letters (codes "else") ++ space ++ mark (codes "{")
@@ -217,9 +226,11 @@ either_way_good c fs hs vs ws at hc h h' margin src toks l =
     block_then (λ z. C (if_ ∷ opening ∷ (a ++ (closing ∷ z)))) fs vs h margin tail src ts l1 (λ b t2 xs l2.
     say (λ z. C (if_ ∷ opening ∷ (a ++ (closing ∷ (b ++ z))))) k.KwElse src (word (codes "else")) _ t2 (λ from. refl) (past src 32 _ t2 l2) (λ otherwise d he _ l3.
     let ys = last_block hs ws h' margin src d (past src 32 _ d l3) in
-    subst (λ z. C (if_ ∷ opening ∷ z)) (append_assoc a (closing ∷ b) (otherwise ∷ d))
-    (s.If x.0 xs.0 (Some ys.0) if_.from, g.either_way a b d if_ opening closing otherwise x.0 xs.0 ys.0 hi ho hc' he x.1 xs.1 ys.1,
-    if-at_0 x.0 xs.0 (Some ys.0) if_.from (expr_at_0 c) vs (Some ws) x.2 xs.2 (ap (λ (z : List StmtTree). s.If (expr_at_0 x.0) (map stmt_at_0 xs.0) (Some z) 0) (sym ys.2))))))
+    subst (λ z. C (if_ ∷ opening ∷ z)) (append_assoc a (closing ∷ b) (otherwise ∷ d)) (
+      s.If x.0 xs.0 (Some ys.0) if_.from,
+      g.either_way a b d if_ opening closing otherwise x.0 xs.0 ys.0 hi ho hc' he x.1 xs.1 ys.1,
+      if-at_0 x.0 xs.0 (Some ys.0) if_.from (expr_at_0 c) vs (Some ws) x.2 xs.2 (ap (λ (z : List StmtTree). s.If (expr_at_0 x.0) (map stmt_at_0 xs.0) (Some z) 0) (sym ys.2)),
+    ))))
 
 abbrev foreach_row : Ident → Ident → Ident → Row
 foreach_row class variable other =
@@ -246,18 +257,20 @@ foreach_good class variable other fs vs at hc hv hd h margin src toks l =
     let xs = last_block fs vs h margin src a (past src 32 _ a la) in
     let i : Ident = ident src tc in
     let j : Ident = ident src tv in
-    let o : Ident = ident src td in
-    (s.Foreach i j o xs.0 w.from, g.foreach a w opening tc tv colon extent less td greater closing xs.0 h1 h2 h3 h4 h5 h6 h7 h8 h9 h10 xs.1,
-    ap (λ (z : Ident). s.Foreach z (ident_at_0 variable) (ident_at_0 other) vs 0) same_class ∙ (ap (λ (z : Ident). s.Foreach (ident_at_0 i) z (ident_at_0 other) vs 0) same_variable
-    ∙ (ap (λ (z : Ident). s.Foreach (ident_at_0 i) (ident_at_0 j) z vs 0) same_other ∙ (ap (λ (z : List StmtTree). s.Foreach (ident_at_0 i) (ident_at_0 j) (ident_at_0 o) z 0) xs.2
-    ∙ sym (at_0 (stmt.Foreach i j o xs.0 w.from) (s.Foreach i j o xs.0 w.from) (s.rolls-Foreach i j o xs.0 w.from))))))))))))))))
+    let o : Ident = ident src td in (
+      s.Foreach i j o xs.0 w.from,
+      g.foreach a w opening tc tv colon extent less td greater closing xs.0 h1 h2 h3 h4 h5 h6 h7 h8 h9 h10 xs.1,
+      ap (λ (z : Ident). s.Foreach z (ident_at_0 variable) (ident_at_0 other) vs 0) same_class ∙ (ap (λ (z : Ident). s.Foreach (ident_at_0 i) z (ident_at_0 other) vs 0) same_variable
+          ∙ (ap (λ (z : Ident). s.Foreach (ident_at_0 i) (ident_at_0 j) z vs 0) same_other ∙ (ap (λ (z : List StmtTree). s.Foreach (ident_at_0 i) (ident_at_0 j) (ident_at_0 o) z 0) xs.2
+          ∙ sym (at_0 (stmt.Foreach i j o xs.0 w.from) (s.Foreach i j o xs.0 w.from) (s.rolls-Foreach i j o xs.0 w.from))))),
+    )))))))))))
 
 abbrev SoundIsGood : StmtTree → Type 0
 SoundIsGood x = stmt_sound x ≡ true → GoodStmt (statement_row x) (stmt_at_0 x)
 
 rolled : (x : stmt.StmtTree-F StmtTree)
     → (stmt_sound_step (map-StmtTree StmtTree Bool stmt_sound x) ≡ true
-        → GoodStmt (statement_row_step (map-StmtTree StmtTree (ℕ → Row) statement_row x)) (stmt_step (map-StmtTree StmtTree StmtTree stmt_at_0 x)))
+    → GoodStmt (statement_row_step (map-StmtTree StmtTree (ℕ → Row) statement_row x)) (stmt_step (map-StmtTree StmtTree StmtTree stmt_at_0 x)))
     → SoundIsGood (roll-StmtTree x)
 rolled x f h =
     let tree : StmtTree = roll-StmtTree x in
