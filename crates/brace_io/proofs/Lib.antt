@@ -1,3 +1,4 @@
+pub mod AppendLemmas
 pub mod MemLemmas
 pub mod ReadLemmas
 pub mod WholeLemmas

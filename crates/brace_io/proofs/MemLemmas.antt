@@ -1,5 +1,5 @@
 -- What a write at an entry, or one more entry, changes.
-use Rattle.std.proofs.Common.{◌≡◌, ◌≢◌, ◌<◌, ◌≤◌, ◌-◌, ◌∙◌, ◌++◌, ℕ, List, [], ◌∷◌, Option, Some, None, Bool, true, false, cond, length, get_or, take, drop, min, is_some, nat_lt, sym, refl, ap, subst, arith}
+use Rattle.std.proofs.Common.{◌≡◌, ◌≢◌, ◌<◌, ◌≤◌, ◌-◌, ◌∙◌, ◌++◌, ◌||◌, ℕ, List, [], ◌∷◌, Option, Some, None, Bool, true, false, not, cond, length, get_or, take, drop, min, is_some, nat_lt, sym, refl, ap, subst, arith}
 use Rattle.std.proofs.Math.ListN.{set}
 use Rattle.std.specs.List.{position, position_or_len, slice_get}
 use Rattle.std.specs.Option.{option_or}
@@ -9,7 +9,7 @@ use Rattle.std.proofs.lemmas.Option.{slice_get-get_or, slice_get_past}
 use Rattle.std.proofs.lemmas.List.Folds.{find-set, find_past, find-append, find_at}
 use Rattle.std.proofs.lemmas.List.Sums.{passes_at_first, prefix_len-le-length}
 use Rattle.std.proofs.lemmas.List.{take_rest, drop_min}
-use Rattle.brace_io.specs.Shelves.{Stage, Idle, Reading, Writing, Stopped, Next}
+use Rattle.brace_io.specs.Shelves.{Stage, Idle, Reading, Writing, Stopped}
 use Rattle.brace_io.specs.MemStages.{mem_stage, IsAt, Spotted}
 use Rattle.brace_io.specs.declared.mem_shelf.Doing.{Doing}
 use Rattle.brace_io.specs.declared.mem_shelf.Doing.TheVariants as doing
@@ -149,16 +149,27 @@ reading_at doing.Stopped es said place i name p e h = cc
 pub is_at : (before es : List Entry) (name : List ℕ) (i : ℕ) → before ≡ es → IsAt es name i → i ≡ position_or_len (named name) before
 is_at before es name i same h = h.1 ∙ ap (λ (x : List Entry). position_or_len (named name) x) (sym same)
 
-empty_of : (l : List ℕ) → length l ≡ 0 → l ≡ []
-empty_of [] e = refl
-empty_of (x ∷ l) e = absurd (omega (arith, e))
+pub entry_in_place : (before es : List Entry) (name : List ℕ) (i : ℕ) (old : Entry) → before ≡ es → i ≡ position_or_len (named name) before → i < length es → old ≡ get_or es i old → entry_of before name ≡ Some old
+entry_in_place before es name i old same at lt is = ap (λ (x : List Entry). entry_of x name) same ∙ (entry_here es name i old (at ∙ ap (λ (x : List Entry). position_or_len (named name) x) same) lt ∙ ap Some (sym is))
 
--- the next bytes, copied from behind the place
-pub next_copied : (file buffer : List ℕ) (place from n : ℕ) → from ≡ min place (length file) → n ≡ min (length (take (length file - from) (drop from file))) (length buffer) → take n buffer ≡ take n (take (length file - from) (drop from file)) → Next file place buffer n
-next_copied file buffer place from n f c same =
-    let rest : take (length file - from) (drop from file) ≡ drop place file = take_rest file from ∙ (ap (λ (k : ℕ). drop k file) f ∙ drop_min place file) in
-    let count : n ≡ min (length (drop place file)) (length buffer) = c ∙ ap (λ (l : List ℕ). min (length l) (length buffer)) rest in
-    (same ∙ ap (take n) rest, omega (arith, count), λ none room. empty_of (drop place file) (omega (arith, count, none, room)))
+-- another file at the name's entry
+pub file_changed : (before es : List Entry) (name : List ℕ) (i : ℕ) (old y : Entry) (file : Option (List ℕ)) → before ≡ es → i ≡ position_or_len (named name) before → i < length es → old ≡ get_or es i old → y ≡ entry old.name file old.room → (entry_of before name ≡ Some old) × ((entry_of (set es i y) name ≡ Some (entry old.name file old.room)) × OthersAlone before (set es i y) name)
+file_changed before es name i old y file same at lt is change =
+    let at' : i ≡ position_or_len (named name) es = at ∙ ap (λ (x : List Entry). position_or_len (named name) x) same in
+    let n : old.name ≡ name = old_name es name i old at' lt is in
+    let e : entry old.name file old.room ≡ entry name file old.room = entry_eq old.name name file file old.room old.room n refl refl in
+    let r = in_place before es name i y file old.room same at lt (change ∙ e) in
+    (entry_in_place before es name i old same at lt is, (r.0 ∙ ap Some (sym e), r.1))
 
-pub next_of : (file bytes buffer : List ℕ) (place spot from n : ℕ) → bytes ≡ file → spot ≡ place → from ≡ min spot (length bytes) → n ≡ min (length (take (length bytes - from) (drop from bytes))) (length buffer) → take n buffer ≡ take n (take (length bytes - from) (drop from bytes)) → Next file place buffer n
-next_of file bytes buffer place spot from n b s f c t = subst (λ (x : List ℕ). Next x place buffer n) b (subst (λ (p : ℕ). Next bytes p buffer n) s (next_copied bytes buffer spot from n f c t))
+pub entry_missing : (before es : List Entry) (name : List ℕ) (i : ℕ) → before ≡ es → i ≡ position_or_len (named name) before → length es ≤ i → entry_of before name ≡ None
+entry_missing before es name i same at le = ap (λ (x : List Entry). entry_of x name) same ∙ entry_none es name i (at ∙ ap (λ (x : List Entry). position_or_len (named name) x) same) le
+
+pub unprepared_fails : (b : Bool) (o : Option Entry) → b ≡ false → o ≡ None → b || not (is_some o) ≡ true
+unprepared_fails b o e n = ap (λ (x : Bool). x || not (is_some o)) e ∙ ap (λ (x : Option Entry). not (is_some x)) n
+
+pub prepared_passes : (b : Bool) (o : Option Entry) (y : Entry) → b ≡ false → o ≡ Some y → b || not (is_some o) ≡ false
+prepared_passes b o y e n = ap (λ (x : Bool). x || not (is_some o)) e ∙ ap (λ (x : Option Entry). not (is_some x)) n
+
+-- a slice from the place, or from the end where the place is behind it
+pub rest_from : (file bytes : List ℕ) (place spot from : ℕ) → bytes ≡ file → spot ≡ place → from ≡ min spot (length bytes) → take (length bytes - from) (drop from bytes) ≡ drop place file
+rest_from file bytes place spot from b s f = take_rest bytes from ∙ (ap (λ (k : ℕ). drop k bytes) f ∙ (drop_min spot bytes ∙ (ap (λ (k : ℕ). drop k bytes) s ∙ ap (drop place) b)))

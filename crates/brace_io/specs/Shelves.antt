@@ -37,6 +37,10 @@ Lacks held name = held_at held name ≡ None
 abbrev pub ReadsFrom : Option Files → Stage → List ℕ → ℕ → Type 0
 ReadsFrom held stage name place = stage ≡ Reading (cond (tells held) (Some (name, place)) None)
 
+-- the shelf reads the name from a place that is at most the limit
+abbrev pub ReadsWithin : Option Files → Stage → List ℕ → ℕ → Type 0
+ReadsWithin held stage name limit = (place : ℕ) × ((place ≤ limit) × ReadsFrom held stage name place)
+
 -- the shelf writes the name
 abbrev pub WritesTo : Option Files → Stage → List ℕ → Type 0
 WritesTo held stage name = stage ≡ Writing (cond (tells held) (Some name) None)

@@ -1,8 +1,8 @@
 ghost use Rattle.std.specs.Prelude.{◌≡◌, ◌≢◌, ◌<◌, ◌≤◌, ◌+◌, ◌-◌, ◌++◌, ◌||◌, ◌&&◌, ◌↔◌, [], ℕ, List, Some, None, Ok, Err, is_err, is_some, not, nat_lt, IfOk, OnOk, IfErr, OnErr, MatchOption, min, take, drop, length, true, false};
 ghost use Rattle.std.specs.List.{position, position_or_len};
 ghost use Rattle.brace_io.specs.Counts.{next_count};
-ghost use Rattle.brace_io.specs.MemShelves.{Entry, Shelved, named, entry_of, file_in, files_of, bytes_in, spent, call_fails, stopped_at, OthersAlone};
-ghost use Rattle.brace_io.specs.Shelves.{Idle, Reading, Writing, Stopped};
+ghost use Rattle.brace_io.specs.MemShelves.{Entry, Shelved, named, entry_of, file_in, files_of, bytes_in, spent, call_fails, create_fails, append_fails, entry_written, spent_at, room_left, with_bytes, with_more, unread, moved_on, stopped_at, OthersAlone};
+ghost use Rattle.brace_io.specs.Shelves.{Idle, Reading, Writing, Stopped, IsReading, IsWriting};
 
 use crate::count::Count;
 use crate::mem_file::MemFile;
@@ -166,6 +166,25 @@ impl MemShelf {
         }
     }
 
+    /// The file that is written has no room left.
+    fn is_full(&self) -> bool
+        requires { IsWriting (Some (files_of self.now.entries)) self.now.stage }
+        ensures { result ≡ spent_at (entry_written self.now.entries self.now.stage) }
+    {
+        self.files[self.index].is_spent()
+    }
+
+    /// Adds as much of the piece as there is room for to the file that is written, and answers its length.
+    fn add(&mut self, piece: &[u8]) -> usize
+        requires { IsWriting (Some (files_of self.old.entries)) self.old.stage }
+        ensures count { result ≡ min (length piece.now) (room_left (entry_written self.old.entries self.old.stage)) }
+        ensures adds { (name : List ℕ) → self.old.stage ≡ Writing (Some name) → entry_of self.new.entries name ≡ with_more (take result piece.now) (entry_of self.old.entries name) }
+        ensures others { (name : List ℕ) → self.old.stage ≡ Writing (Some name) → OthersAlone self.old.entries self.new.entries name }
+        ensures rest { self.new ≡ record self.old { entries = self.new.entries } }
+    {
+        self.files[self.index].add(piece)
+    }
+
     /// Counts a failure, and stops at the name of the file that is open.
     fn stop_here(&mut self)
         ensures stopped { self.new ≡ record self.old { faults = next_count self.old.faults; stage = stopped_at self.old.stage } }
@@ -212,7 +231,16 @@ impl Shelf for MemShelf {
         Ok(())
     }
 
-    fn read(&mut self, buffer: &mut [u8]) -> Result<usize, Failed> {
+    fn read(&mut self, buffer: &mut [u8]) -> Result<usize, Failed>
+        requires { IsReading (Some (files_of self.old.entries)) self.old.stage }
+        ensures never_falls { self.old.faults ≤ self.new.faults }
+        ensures fails { is_err result ≡ call_fails self.old }
+        ensures count { IfOk result (λ n. n ≡ min (length buffer.old) (length (unread self.old.entries self.old.stage))) }
+        ensures bytes { IfOk result (λ n. buffer.new ≡ take n (unread self.old.entries self.old.stage) ++ drop n buffer.old) }
+        ensures moves { IfOk result (λ n. self.new ≡ record self.old { calls = next_count self.old.calls; stage = moved_on n self.old.stage }) }
+        ensures untouched { OnErr result (buffer.new ≡ buffer.old) }
+        ensures stops { OnErr result (self.new ≡ record self.old { calls = next_count self.old.calls; faults = next_count self.old.faults; stage = stopped_at self.old.stage }) }
+    {
         if self.refuses() {
             self.stop_here();
             return Err(Failed);
@@ -224,7 +252,14 @@ impl Shelf for MemShelf {
         Ok(n)
     }
 
-    fn create(&mut self, name: &str) -> Result<(), Failed> {
+    fn create(&mut self, name: &str) -> Result<(), Failed>
+        ensures never_falls { self.old.faults ≤ self.new.faults }
+        ensures fails { is_err result ≡ create_fails self.old name.now }
+        ensures empties { OnOk result (entry_of self.new.entries name.now ≡ with_bytes [] (entry_of self.old.entries name.now)) }
+        ensures others { OthersAlone self.old.entries self.new.entries name.now }
+        ensures writes { OnOk result (self.new ≡ record self.old { entries = self.new.entries; calls = next_count self.old.calls; stage = Writing (Some name.now) }) }
+        ensures stops { OnErr result (self.new ≡ record self.old { calls = next_count self.old.calls; faults = next_count self.old.faults; stage = Stopped (Some name.now) }) }
+    {
         if self.refuses() {
             self.stop(spoken(name));
             return Err(Failed);
@@ -241,24 +276,33 @@ impl Shelf for MemShelf {
         Ok(())
     }
 
-    fn append(&mut self, piece: &[u8]) -> Result<usize, Failed> {
+    fn append(&mut self, piece: &[u8]) -> Result<usize, Failed>
+        requires { IsWriting (Some (files_of self.old.entries)) self.old.stage }
+        ensures never_falls { self.old.faults ≤ self.new.faults }
+        ensures fails { is_err result ≡ append_fails self.old piece.now }
+        ensures count { IfOk result (λ n. n ≡ min (length piece.now) (room_left (entry_written self.old.entries self.old.stage))) }
+        ensures adds { IfOk result (λ n. (name : List ℕ) → self.old.stage ≡ Writing (Some name) → entry_of self.new.entries name ≡ with_more (take n piece.now) (entry_of self.old.entries name)) }
+        ensures others { (name : List ℕ) → self.old.stage ≡ Writing (Some name) → OthersAlone self.old.entries self.new.entries name }
+        ensures rest { OnOk result (self.new ≡ record self.old { entries = self.new.entries; calls = next_count self.old.calls }) }
+        ensures stops { OnErr result (self.new ≡ record self.old { calls = next_count self.old.calls; faults = next_count self.old.faults; stage = stopped_at self.old.stage }) }
+    {
         if self.refuses() {
             self.stop_here();
             return Err(Failed);
         }
-        let index = self.index;
-        if index >= self.files.len() {
+        if !piece.is_empty() && self.is_full() {
             self.stop_here();
             return Err(Failed);
         }
-        if !piece.is_empty() && self.files[index].is_spent() {
-            self.stop_here();
-            return Err(Failed);
-        }
-        Ok(self.files[index].add(piece))
+        Ok(self.add(piece))
     }
 
-    fn finish(&mut self) -> Result<(), Failed> {
+    fn finish(&mut self) -> Result<(), Failed>
+        ensures never_falls { self.old.faults ≤ self.new.faults }
+        ensures fails { is_err result ≡ call_fails self.old }
+        ensures ends { OnOk result (self.new ≡ record self.old { calls = next_count self.old.calls; stage = Idle }) }
+        ensures stops { OnErr result (self.new ≡ record self.old { calls = next_count self.old.calls; faults = next_count self.old.faults; stage = stopped_at self.old.stage }) }
+    {
         if self.refuses() {
             self.stop_here();
             return Err(Failed);
@@ -270,8 +314,8 @@ impl Shelf for MemShelf {
 
 /// Copies as much as fits, and answers its length.
 fn copy_front(from: &[u8], to: &mut [u8]) -> usize
-    ensures count { result ≡ min (length from.now) (length to.new) }
-    ensures same { take result to.new ≡ take result from.now }
+    ensures count { result ≡ min (length to.old) (length from.now) }
+    ensures same { to.new ≡ take result from.now ++ drop result to.old }
 {
     let n = from.len().min(to.len());
     to[..n].copy_from_slice(&from[..n]);

@@ -1,6 +1,6 @@
 ghost use Rattle.std.specs.Prelude.{◌≡◌, ◌≤◌, ◌+◌, ◌≢◌, ◌⊎◌, Err, IfOk, IfErr, length, vec_len, true, false};
 ghost use Rattle.brace_io.specs.Counts.{Rose};
-ghost use Rattle.brace_io.specs.Shelves.{Idle, tells, Holds, HoldsOver, Has, Lacks, ReadsFrom, StoppedAt, writes};
+ghost use Rattle.brace_io.specs.Shelves.{Idle, tells, Holds, HoldsOver, Has, Lacks, ReadsFrom, ReadsWithin, StoppedAt, writes};
 
 use crate::{ReadFault, Shelf, WholeFault};
 use std::alloc::{AllocError, Global};
@@ -24,6 +24,7 @@ pub fn read_whole<S: Shelf>(
     ensures idle { IfErr result (λ fault. fault ≡ WholeFault.Absent → S.stage shelf.new ≡ Idle) }
     ensures long { IfErr result (λ fault. fault ≡ WholeFault.TooLong → HoldsOver (S.held shelf.old) name.now limit) }
     ensures stops_past { IfErr result (λ fault. fault ≡ WholeFault.TooLong → ReadsFrom (S.held shelf.old) (S.stage shelf.new) name.now (limit + 1)) }
+    ensures refused { IfErr result (λ fault. fault ≡ WholeFault.NoMemory → ReadsWithin (S.held shelf.old) (S.stage shelf.new) name.now limit) }
     ensures stops { IfErr result (λ fault. fault ≡ WholeFault.Failed → StoppedAt (S.held shelf.old) (S.stage shelf.new) name.now) }
     ensures not_writing { writes (S.stage shelf.new) ≡ false }
     ensures absent { tells (S.held shelf.old) ≡ true → Lacks (S.held shelf.old) name.now → IfErr result (λ fault. (fault ≡ WholeFault.Absent) ⊎ (fault ≡ WholeFault.Failed)) }
@@ -54,6 +55,7 @@ fn read_on<S: Shelf>(
     ensures reads { IfOk result (λ bytes. ReadsFrom (S.held shelf.old) (S.stage shelf.new) name.now (length bytes.items)) }
     ensures long { IfErr result (λ fault. fault ≡ WholeFault.TooLong → HoldsOver (S.held shelf.old) name.now limit) }
     ensures stops_past { IfErr result (λ fault. fault ≡ WholeFault.TooLong → ReadsFrom (S.held shelf.old) (S.stage shelf.new) name.now (limit + 1)) }
+    ensures refused { IfErr result (λ fault. fault ≡ WholeFault.NoMemory → ReadsWithin (S.held shelf.old) (S.stage shelf.new) name.now limit) }
     ensures stops { IfErr result (λ fault. fault ≡ WholeFault.Failed → StoppedAt (S.held shelf.old) (S.stage shelf.new) name.now) }
     ensures not_writing { writes (S.stage shelf.new) ≡ false }
     ensures faults_alone { result ≢ Err WholeFault.Failed → S.faults shelf.new ≡ S.faults shelf.old }

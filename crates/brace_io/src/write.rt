@@ -10,6 +10,7 @@ pub fn write_whole<O: Sink>(out: &mut O, piece: &[u8]) -> Result<(), Failed>
     ensures all { OnOk result (Gains (O.written out.old) (O.written out.new) piece.now) }
     ensures front { OnErr result (GainsFront (O.written out.old) (O.written out.new) piece.now) }
     ensures nothing { length piece.now ≡ 0 → out.new ≡ out.old }
+    ensures fails_at_bytes { OnErr result (0 < length piece.now) }
     ensures unclean { 0 < length piece.now → O.clean out.new ≡ false }
     ensures never_falls { O.faults out.old ≤ O.faults out.new }
     ensures rose { OnErr result (Rose (O.faults out.old) (O.faults out.new)) }
