@@ -1,0 +1,7 @@
+use Rattle.std.proofs.Common.{◌≡◌, ◌++◌, map, take}
+use Rattle.brace_show.specs.Canonical.{block, deeper, statement}
+use Rattle.brace_show.proofs.stmt.+statements.Given as goal
+
+abbrev pub invariant-append_block-loop-s : goal.invariant-append_block-loop-s
+invariant-append_block-loop-s l =
+    (l.out.items ≡ l.initial.out.items ++ block (map statement (take l.s-index l.statements)) l.fn.margin.items) × (l.margin.items ≡ deeper l.fn.margin.items)

@@ -1,0 +1,4 @@
+pub mod Literals
+pub mod Expressions
+pub mod Canonical
+pub mod Alike

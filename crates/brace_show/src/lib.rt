@@ -1,0 +1,11 @@
+//! The canonical text of a script.
+#![tactic(auto)]
+
+mod class;
+mod entry;
+mod expr;
+mod frame;
+mod literal;
+mod stmt;
+
+pub use entry::show;
