@@ -1,5 +1,5 @@
 -- The rows of members, classes and scripts find what the grammar reads.
-use Rattle.std.proofs.Common.{◌≡◌, refl, sym, ap, ◌∙◌, subst, ℕ, zero, suc, ◌+◌, ◌<◌, ◌≤◌, List, [], ◌∷◌, ◌++◌, length, Bool, true, false, nat_eq, arith, append_assoc, length-append}
+use Rattle.std.proofs.Common.{◌≡◌, refl, sym, ap, ◌∙◌, subst, ℕ, zero, suc, ◌<◌, ◌≤◌, List, [], ◌∷◌, ◌++◌, length, Bool, true, false, nat_eq, arith, append_assoc, length-append}
 use Rattle.std.specs.Prelude.{◌≢◌, Some, None, Ok, Err}
 use Rattle.std.proofs.lemmas.Bool.Decides.{nat_tests}
 use Rattle.std.proofs.lemmas.List.{append-nil}
@@ -21,7 +21,7 @@ use Rattle.brace_syntax.specs.declared.tree.Tree.{Tree}
 use Rattle.brace_syntax.specs.declared.fault.Stop.{Stop}
 use Rattle.brace_syntax.specs.declared.fault.Stop.TheVariants as stop
 use Rattle.brace_syntax.specs.Tables.{Is, ident, type_name, combines, number}
-use Rattle.brace_syntax.specs.Cursor.{Input, Outcome, kind, next, place, first, sees, mark_of, pure}
+use Rattle.brace_syntax.specs.Cursor.{Input, Outcome, kind, next, place, first, sees, mark_of}
 use Rattle.brace_syntax.specs.Reads as g
 use Rattle.brace_syntax.specs.Reads.{ReadsExpr, ReadsBlock, ReadsField, ReadsMember, ReadsMembers, ReadsClass, ReadsClasses, Reads}
 use Rattle.brace_syntax.specs.Descent as d

@@ -1,6 +1,6 @@
 -- The rows of expressions find what the grammar reads.
 use Rattle.std.proofs.Common.{◌≡◌, refl, sym, ap, ◌∙◌, subst, ℕ, zero, suc, ◌+◌, ◌<◌, ◌≤◌, List, [], ◌∷◌, ◌++◌, length, Bool, true, false, arith, append_assoc, length-append}
-use Rattle.std.specs.Prelude.{Option, Some, None, Ok, option_and_then, if◌then◌else◌}
+use Rattle.std.specs.Prelude.{Option, Some, None, Ok, option_and_then}
 use Rattle.std.proofs.lemmas.Option.{same_Some}
 use Rattle.brace_tok.specs.declared.kinds.Token.{Token}
 use Rattle.brace_tok.specs.declared.kinds.TokKind.{TokKind}
@@ -13,8 +13,8 @@ use Rattle.brace_syntax.specs.declared.tree.ExprTree.{ExprTree}
 use Rattle.brace_syntax.specs.declared.tree.ExprTree.TheVariants as node
 use Rattle.brace_syntax.specs.declared.expr.Start.{Start}
 use Rattle.brace_syntax.specs.declared.expr.Start.TheVariants.{Whole, Operand}
-use Rattle.brace_syntax.specs.Tables.{Is, ident, number, number_at, either, both, compares, adds, multiplies, prefixes, calls_one, calls_two}
-use Rattle.brace_syntax.specs.Cursor.{Input, Parser, Outcome, kind, next, place, first, pass, expect, pure, ◌>>=◌}
+use Rattle.brace_syntax.specs.Tables.{Is, ident, number, number_at, either, both, adds, multiplies, prefixes, calls_one, calls_two}
+use Rattle.brace_syntax.specs.Cursor.{Input, Parser, Outcome, kind, next, place, first, ◌>>=◌}
 use Rattle.brace_syntax.specs.Reads as g
 use Rattle.brace_syntax.specs.Reads.{Row, ReadsExpr, operands, repeats}
 use Rattle.brace_syntax.specs.Descent as d

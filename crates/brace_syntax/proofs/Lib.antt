@@ -13,3 +13,4 @@ pub mod Levels
 pub mod ExprFound
 pub mod StmtFound
 pub mod ClassFound
+pub mod Places

@@ -1,20 +1,18 @@
 -- The tokens that a source spells stand in it, and its words are text.
-use Rattle.std.proofs.Common.{◌≡◌, ℕ, zero, suc, ◌+◌, ◌<◌, ◌≤◌, ◌^◌, Bool, true, ◌&&◌, List, [], ◌∷◌, length, take, drop, get_or, slice_index_or, arith}
+use Rattle.std.proofs.Common.{◌≡◌, ℕ, zero, suc, ◌<◌, ◌≤◌, true, List, [], ◌∷◌, length, get_or, arith}
 use Rattle.std.specs.Prelude.{All}
 use Rattle.std.specs.List.{list_all}
 use Rattle.std.specs.Str.{IsUtf8}
 use Rattle.std.proofs.lemmas.Bool.Decides.{nat_tests}
 use Rattle.std.proofs.lemmas.Str.{IsUtf8-from_ascii}
 use Rattle.std.proofs.lemmas.List.Elements.{All-rest}
-use Rattle.brace_tok.specs.Bytes.{is_word_byte, is_letter, is_word, begins}
-use Rattle.brace_tok.specs.Names.{IsNamed, IsName}
+use Rattle.brace_tok.specs.Bytes.{is_word_byte, is_letter, begins}
+use Rattle.brace_tok.specs.Names.{IsName}
 use Rattle.brace_tok.specs.Spells.{Spells, Rises}
 use Rattle.brace_tok.specs.declared.kinds.Token.{Token}
-use Rattle.brace_tok.specs.declared.kinds.TokKind.TheVariants as k
 use Rattle.brace_tok.proofs.Scans.{first_of_both, second_of_both}
 use Rattle.brace_tok.proofs.Named.{spells_names}
 use Rattle.brace_tok.proofs.Unique.{spells_rises}
-use Rattle.brace_syntax.specs.Tables.{Is, spelling}
 use Rattle.brace_syntax.specs.Cursor.{AreSpelled, IsSpelled}
 
 pub still_spelled : (src : List ℕ) (tok : Token) (toks rest : List Token) → toks ≡ tok ∷ rest → AreSpelled src toks → AreSpelled src rest

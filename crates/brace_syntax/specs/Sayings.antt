@@ -1,5 +1,5 @@
 -- What an answer of the parser says of the tokens.
-use Rattle.std.specs.Prelude.{List, ℕ, ⊤}
+use Rattle.std.specs.Prelude.{◌≡◌, ◌⊎◌, List, ℕ, length, Contains, ⊤}
 use Rattle.brace_tok.specs.declared.kinds.Token.{Token}
 use Rattle.brace_syntax.specs.Depth.{NowhereDeep, FirstDeepAt}
 use Rattle.brace_syntax.specs.Reads.{Reads}
@@ -22,3 +22,13 @@ abbrev pub IsUnread : SynFault → Type 0
 IsUnread NoMemory = ⊤
 IsUnread (TooDeep at) = ⊥
 IsUnread (NoReading at) = ⊤
+
+-- at the place begins one of the tokens, or the source ends
+abbrev pub IsPlace : List ℕ → List Token → ℕ → Type 0
+IsPlace src toks at = ((tok : Token) × Contains toks tok × (tok.from ≡ at)) ⊎ (at ≡ length src)
+
+-- a fault of tokens that are no script stands at a token, or at the end of the source
+abbrev pub StandsIn : List ℕ → List Token → SynFault → Type 0
+StandsIn src toks NoMemory = ⊤
+StandsIn src toks (TooDeep at) = ⊤
+StandsIn src toks (NoReading at) = IsPlace src toks at

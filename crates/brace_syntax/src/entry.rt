@@ -2,7 +2,7 @@ ghost use Rattle.std.specs.Prelude.{◌≡◌, ◌≤◌, ℕ, length, IfOk, IfE
 ghost use Rattle.brace_tok.specs.Spells.{Spells};
 ghost use Rattle.brace_syntax.specs.Depth.{NowhereDeep, FirstDeepAt};
 ghost use Rattle.brace_syntax.specs.Reads.{Reads};
-ghost use Rattle.brace_syntax.specs.Sayings.{NoScript, Refuses, IsUnread};
+ghost use Rattle.brace_syntax.specs.Sayings.{NoScript, Refuses, IsUnread, StandsIn};
 ghost use Rattle.brace_syntax.specs.declared.tree.Tree.{Tree};
 ghost use Rattle.brace_syntax.specs.declared.fault.SynFault.{SynFault};
 
@@ -26,6 +26,7 @@ pub fn parse(alloc: Global, src: &[u8], toks: &[Token]) -> Result<Tree, SynFault
     ensures read { (tree : Tree) → Reads src.now toks.now tree → NowhereDeep toks.now → MatchResult result (λ found. found ≡ tree) (λ fault. fault ≡ SynFault.NoMemory) }
     ensures deep { (at : ℕ) → FirstDeepAt toks.now at → MatchResult result (λ _. ⊥) (λ fault. fault ≡ SynFault.TooDeep at) }
     ensures unread { NowhereDeep toks.now → NoScript src.now toks.now → MatchResult result (λ _. ⊥) IsUnread }
+    ensures place { IfErr result (StandsIn src.now toks.now) }
 {
     if let Some(at) = first_deep(toks) {
         return Err(SynFault::TooDeep(at));

@@ -10,6 +10,8 @@ mod mark;
 mod operators;
 mod scan;
 mod stmt;
+#[cfg(test)]
+mod tests;
 mod tokens;
 mod tree;
 

@@ -3,6 +3,7 @@ use Rattle.brace_tok.specs.declared.kinds.Token.{Token}
 use Rattle.brace_syntax.specs.Reads.{Reads}
 use Rattle.brace_syntax.proofs.ClassRows.{script-sound}
 use Rattle.brace_syntax.proofs.ClassFound.{one_tree, no_script}
+use Rattle.brace_syntax.proofs.Places.{place_of_stop}
 use Rattle.brace_syntax.proofs.Spelled.{spelled_of}
 use Rattle.brace_syntax.proofs.entry.parse.Goals as goal
 
@@ -31,3 +32,7 @@ returns-in-Err-NoReading-clause-refused c =
 pub returns-in-Err-NoReading-clause-read : goal.returns-in-Err-NoReading-clause-read
 returns-in-Err-NoReading-clause-read c tree r shallow =
     absurd (no_script _ _ _ c.in-Err-NoReading.field-0 c.in-Err-NoReading.at c.in-Err-NoReading.field-0-is c.new-tokens.ensures.src c.new-tokens.ensures.rest c.in-Err-NoReading.ensures tree r)
+
+pub returns-in-Err-NoReading-clause-place : goal.returns-in-Err-NoReading-clause-place
+returns-in-Err-NoReading-clause-place c =
+    place_of_stop _ _ _ c.in-Err-NoReading.field-0 c.in-Err-NoReading.at c.in-Err-NoReading.field-0-is c.new-tokens.ensures.src c.new-tokens.ensures.rest c.in-Err-NoReading.ensures
