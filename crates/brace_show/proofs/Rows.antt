@@ -1,5 +1,5 @@
 -- The canonical text of a script as a row of pieces: what is a token stands for itself, and what parts tokens is blanks.
-use Rattle.std.proofs.Common.{ℕ, zero, suc, nat_lt, ◌+◌, ◌/◌, ◌%◌, Bool, true, false, if◌then◌else◌, List, [], ◌∷◌, ◌++◌, map, flat_map, Option, Some, None, codes, ℤ, pos, negsuc, unsigned_abs}
+use Rattle.std.proofs.Common.{ℕ, zero, suc, nat_lt, ◌+◌, ◌/◌, ◌%◌, Bool, true, false, if◌then◌else◌, List, [], ◌∷◌, ◌++◌, flat_map, Option, Some, None, codes, ℤ, pos, negsuc, unsigned_abs}
 use Rattle.std.specs.Fmt.{decimal}
 use Rattle.brace_num.specs.Spelling.{six_digits}
 use Rattle.brace_tok.specs.Pieces.{Piece, blank, word, whole, fraction, hash, sign}

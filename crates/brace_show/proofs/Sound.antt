@@ -3,7 +3,6 @@ use Rattle.std.proofs.Common.{ℕ, nat_le, ◌&&◌, Bool, true, false, not, is_
 use Rattle.std.specs.List.{list_all}
 use Rattle.brace_tok.specs.Bytes.{is_word}
 use Rattle.brace_tok.specs.Tables.{reserved}
-use Rattle.brace_syntax.specs.declared.tree.Ident.{Ident}
 use Rattle.brace_syntax.specs.declared.tree.Digits.{Digits}
 use Rattle.brace_syntax.specs.declared.tree.Digits.TheVariants.{Int, Fixed}
 use Rattle.brace_syntax.specs.declared.tree.TyName.{TyName}

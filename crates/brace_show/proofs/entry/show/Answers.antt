@@ -1,4 +1,4 @@
-use Rattle.std.proofs.Common.{◌≡◌, ◌∙◌, ◌++◌, ap}
+use Rattle.std.proofs.Common.{◌∙◌, ◌++◌, ap}
 use Rattle.brace_show.specs.Canonical.{canonical}
 use Rattle.brace_show.proofs.ReadBack.{shown_reads_back}
 use Rattle.brace_show.proofs.entry.show.Goals as goal
