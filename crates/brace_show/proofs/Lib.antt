@@ -12,4 +12,5 @@ pub mod Rows
 pub mod Sound
 pub mod SoundReadings
 pub mod StmtReads
+pub mod Unplaced
 pub mod Zeros

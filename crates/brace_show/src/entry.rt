@@ -12,8 +12,7 @@ use std::alloc::Global;
 
 /// The canonical text of a script: one text for each tree, apart from the places that it records.
 ///
-/// A tree that was read from the tokens of some source is read back from its text, apart from places. It gives `NoMemory`
-/// only where the allocator refused.
+/// A tree that was read from the tokens of some source is read back from its text, apart from places.
 pub fn show(alloc: Global, tree: &Tree) -> Result<Vec<u8>, NoMemory>
     ensures text { IfOk result (λ out. out.items ≡ canonical tree.now) }
     ensures reads_back { IfOk result (λ out. (src : List ℕ) (toks : List Token) → Spells src toks → Reads src toks tree.now → ReadsBack out.items tree.now) }
