@@ -1,2 +1,15 @@
 pub mod Blocks
+pub mod ExprReads
+pub mod ExprStands
+pub mod Laid
+pub mod PieceStands
+pub mod ReadBack
+pub mod RowReads
+pub mod RowSays
+pub mod RowStands
+pub mod RowText
+pub mod Rows
+pub mod Sound
+pub mod SoundReadings
+pub mod StmtReads
 pub mod Zeros

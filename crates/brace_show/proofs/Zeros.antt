@@ -1,5 +1,5 @@
 -- Digits without the zeros at their end.
-use Rattle.std.proofs.Common.{◌≡◌, ◌∙◌, sym, ap, refl, rules, ℕ, zero, suc, ◌+◌, ◌-◌, ◌*◌, ◌/◌, ◌%◌, ◌<◌, ◌≤◌, true, false, ◌==◌, if◌then◌else◌, List, [], ◌∷◌, ◌++◌, length, reverse, take, drop, replicate, arith, append_assoc, append-nil, length-append, ℤ, unsigned_abs, ◌⊎◌, inl, inr, add-one}
+use Rattle.std.proofs.Common.{◌≡◌, ◌∙◌, sym, ap, refl, ℕ, zero, suc, ◌+◌, ◌-◌, ◌/◌, ◌%◌, ◌<◌, ◌≤◌, true, false, ◌==◌, if◌then◌else◌, List, [], ◌∷◌, ◌++◌, length, reverse, take, drop, replicate, arith, append_assoc, length-append, ℤ, unsigned_abs, ◌⊎◌, inl, inr, add-one}
 use Rattle.std.specs.Fmt.{decimal}
 use Rattle.std.proofs.lemmas.Bool.{cases_Bool, eqb-true}
 use Rattle.std.proofs.lemmas.List.{reverse-append, reverse-reverse, length-replicate, replicate_more}
@@ -56,7 +56,7 @@ pub length-six_digits : (n : ℕ) → n < 1000000 → length (six_digits n) ≡ 
 length-six_digits n h =
     omega (arith, short_decimal n h, length-append (replicate (6 - length (decimal n)) 48) (decimal n), length-replicate {A = ℕ} (6 - length (decimal n)) 48)
 
-below : (n : ℕ) → n % 1000000 < 1000000
+pub below : (n : ℕ) → n % 1000000 < 1000000
 below n = omega arith
 
 -- the same, where a printed text ends with them

@@ -24,12 +24,14 @@ line margin text = margin ++ text ++ codes "\n"
 abbrev pub deeper : List ℕ → List ℕ
 deeper margin = margin ++ codes "  "
 
+-- a type as it is written
 abbrev pub type_text : TyName → List ℕ
 type_text ty.Int = codes "int"
 type_text ty.Fixed = codes "fixed"
 type_text ty.Bool = codes "bool"
 type_text (ty.Other name) = name.text
 
+-- how an effect is joined, as it is written
 abbrev pub combinator : CombName → List ℕ
 combinator comb.Sum = codes "sum"
 combinator comb.Min = codes "min"

@@ -128,11 +128,7 @@ fn append_braced(
 }
 
 #[tactic(auto, using(crate::proofs::Blocks::run_lines))]
-fn append_run(
-    alloc: Global,
-    out: &mut Vec<u8>,
-    statements: &List<StmtTree>,
-) -> Result<(), NoMemory>
+fn append_run(alloc: Global, out: &mut Vec<u8>, statements: &List<StmtTree>) -> Result<(), NoMemory>
     ensures printed { OnOk result (out.new.items ≡ out.old.items ++ (line (deeper []) (codes "public void run() {") ++ flat_map (λ s. statement s (deeper (deeper []))) statements.now ++ line (deeper []) (codes "}"))) }
 {
     let mut margin = Vec::from_slice(alloc, b"  ")?;

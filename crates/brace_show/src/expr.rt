@@ -1,7 +1,7 @@
 ghost use Rattle.std.specs.Prelude.{◌≡◌, ◌++◌, OnOk};
 ghost use Rattle.brace_show.specs.Expressions.{phrase_of, operand};
 
-use crate::frame::{level_of_binary, level_of_unary, frame_of_binary, frame_of_unary};
+use crate::frame::{frame_of_binary, frame_of_unary, level_of_binary, level_of_unary};
 use crate::literal::append_literal;
 use brace_num::NoMemory;
 use brace_syntax::ExprTree;

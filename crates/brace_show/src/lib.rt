@@ -5,7 +5,11 @@ mod class;
 mod entry;
 mod expr;
 mod frame;
+pub mod laws;
 mod literal;
 mod stmt;
 
 pub use entry::show;
+
+#[cfg(test)]
+mod tests;

@@ -146,11 +146,7 @@ fn append_assignment_of(
 }
 
 #[cycle(statements)]
-fn append_statement(
-    out: &mut Vec<u8>,
-    margin: &mut Vec<u8>,
-    s: &StmtTree,
-) -> Result<(), NoMemory>
+fn append_statement(out: &mut Vec<u8>, margin: &mut Vec<u8>, s: &StmtTree) -> Result<(), NoMemory>
     ensures printed { OnOk result (out.new.items ≡ out.old.items ++ statement s.now margin.old.items) }
     ensures margin { OnOk result (margin.new.items ≡ margin.old.items) }
 {

@@ -1,0 +1,273 @@
+-- The pieces of a sound script stand: each is the longest at its place, and no fault.
+use Rattle.std.proofs.Common.{◌≡◌, ◌∙◌, sym, ap, subst, refl, ℕ, zero, suc, nat_le, ◌+◌, Bool, true, false, not, ◌&&◌, List, [], ◌∷◌, ◌++◌, length, map, flat_map, Option, Some, None, is_some, codes}
+use Rattle.std.specs.List.{list_all}
+use Rattle.brace_tok.specs.Bytes.{is_letter, begins, is_word}
+use Rattle.brace_tok.specs.Tables.{symbol, directive}
+use Rattle.brace_tok.specs.Pieces.{blank, hash}
+use Rattle.brace_tok.specs.Spells.{text_of, is_row}
+use Rattle.brace_tok.proofs.Scans.{both, first_of_both, second_of_both}
+use Rattle.brace_syntax.specs.declared.tree.Digits.{Digits}
+use Rattle.brace_syntax.specs.declared.tree.ExprTree.{ExprTree}
+use Rattle.brace_syntax.specs.declared.tree.TyName.{TyName}
+use Rattle.brace_syntax.specs.declared.tree.TyName.TheVariants as ty
+use Rattle.brace_syntax.specs.declared.tree.CombName.{CombName}
+use Rattle.brace_syntax.specs.declared.tree.CombName.TheVariants as comb
+use Rattle.brace_syntax.specs.declared.tree.StmtTree.{StmtTree}
+use Rattle.brace_syntax.specs.declared.tree.StmtTree.TheOpen.{StmtTree-F, Const, If, Foreach, Assign, AssignThis, AssignLoop}
+use Rattle.brace_syntax.specs.declared.tree.StmtTree.TheFolds.{map-StmtTree, fold-roll-StmtTree, ind-StmtTree}
+use Rattle.brace_syntax.specs.declared.tree.MemberTree.{MemberTree}
+use Rattle.brace_syntax.specs.declared.tree.MemberTree.TheVariants as member
+use Rattle.brace_syntax.specs.declared.tree.ClassTree.{ClassTree}
+use Rattle.brace_syntax.specs.declared.tree.Tree.{Tree}
+use Rattle.brace_show.proofs.Sound.{name_is, digits_are, type_is, expr_sound, all_sound, stmt_sound_step, stmt_sound, rule_sound, member_sound, class_sound, script_sound}
+use Rattle.brace_show.proofs.RowSays.{name_word, name_short}
+use Rattle.brace_show.proofs.Rows.{Row, space, mark, letters, literal_row, expression_row, margin_row, line_row, type_row, combinator_row, block_row, closing_row, statement_row_step, statement_row, sharing_row, rule_row, range_row, member_row, class_row, script_row}
+use Rattle.brace_show.proofs.RowText.{run}
+use Rattle.brace_show.proofs.PieceStands.{row_split, run_split, Stands, Stood, follow, ended, any, no_word, stops, lone, open_stands, word_stands, lettered, named, literal_stands}
+use Rattle.brace_show.proofs.ExprStands.{other, begins_no_word, pointed, valued}
+
+-- lines
+margin_stands : (n : ℕ) (after : List ℕ) → is_row (margin_row n) after ≡ true
+margin_stands zero after = refl
+margin_stands (suc n) after = both _ _ refl (margin_stands n after)
+
+line_stands : (n : ℕ) (row : Row) (after : List ℕ) → is_row row (10 ∷ after) ≡ true → is_row (line_row n row) after ≡ true
+line_stands n row after e = row_split (margin_row n ++ row) (blank 10 ∷ []) after (row_split (margin_row n) row (10 ∷ after) (margin_stands n _) e) refl
+
+-- a line whose end is known
+ended_line : (n : ℕ) (a : Stood) (rows : List Row) (after : List ℕ) → is_row (run [] rows) (10 ∷ after) ≡ true → a.need (text_of (run [] rows) ++ 10 ∷ after) ≡ true
+    → is_row (line_row n (run a.row rows)) after ≡ true
+ended_line n a rows after s m = line_stands n (run a.row rows) after (run_split a.row rows (10 ∷ after) (a.stands _ m) s)
+
+closing_stands : (n : ℕ) (after : List ℕ) → is_row (closing_row n) after ≡ true
+unfolding symbol
+closing_stands n after = line_stands n (mark (codes "}")) after refl
+
+type_stands : (type : TyName) → type_is type ≡ true → Stands no_word (type_row type)
+type_stands ty.Int e = word_stands (codes "int") refl refl
+type_stands ty.Fixed e = word_stands (codes "fixed") refl refl
+type_stands ty.Bool e = word_stands (codes "bool") refl refl
+type_stands (ty.Other name) e = (named name.text e).stands
+
+abbrev typed : (type : TyName) → type_is type ≡ true → Stood
+typed type e = record { need = no_word; row = type_row type; stands = type_stands type e }
+
+-- a row that ends with a blank, or another that anything may follow
+abbrev spaced : (row : Row) → ((after : List ℕ) → is_row row after ≡ true) → Stood
+spaced row s = record { need = any; row = row; stands = λ after h. s after }
+
+abbrev no_arrow : List ℕ → Bool
+no_arrow after = not (begins (λ b. is_some (symbol (60 ∷ b ∷ []))) after)
+
+less_stands : Stands no_arrow (mark (codes "<"))
+unfolding symbol
+less_stands after h = both _ _ (both _ _ (both true _ refl (both _ _ h refl)) refl) refl
+
+less_letter : (b : ℕ) → is_letter b ≡ true → is_some (symbol (60 ∷ b ∷ [])) ≡ false
+unfolding symbol
+less_letter b e = rw (other is_letter b 61 e refl, other is_letter b 45 e refl) refl
+
+less_meets : (f : List ℕ) → is_word f ≡ true → (rest after : List ℕ) → no_arrow ((f ++ rest) ++ after) ≡ true
+less_meets [] e rest after = absurd (cc)
+less_meets (b ∷ f) e rest after = ap not (less_letter b (first_of_both (is_letter b) _ e))
+
+flat_stands : {A : Type 0} (f : A → Row) (test : A → Bool) → ((x : A) → test x ≡ true → (after : List ℕ) → is_row (f x) after ≡ true)
+    → (xs : List A) → list_all test xs ≡ true → (after : List ℕ) → is_row (flat_map f xs) after ≡ true
+flat_stands f test s [] e after = refl
+flat_stands f test s (x ∷ xs) e after =
+    row_split (f x) (flat_map f xs) after (s x (first_of_both (test x) _ e) _) (flat_stands f test s xs (second_of_both (test x) _ e) after)
+
+-- statements
+abbrev IsStanding : StmtTree → Type 0
+IsStanding s = stmt_sound s ≡ true → (n : ℕ) (after : List ℕ) → is_row (statement_row s n) after ≡ true
+
+abbrev Standing : Type 0
+Standing = (s : StmtTree) × IsStanding s
+
+abbrev stmt_of : Standing → StmtTree
+stmt_of e = e.0
+
+block_stands : (ys : List Standing) → all_sound (map stmt_sound (map stmt_of ys)) ≡ true → (n : ℕ) (after : List ℕ) → is_row (block_row (map statement_row (map stmt_of ys)) n) after ≡ true
+block_stands [] e n after = refl
+block_stands (y ∷ ys) e n after =
+    row_split (statement_row y.0 (n + 2)) (block_row (map statement_row (map stmt_of ys)) n) after
+    (y.1 (first_of_both (stmt_sound y.0) _ e) (n + 2) _) (block_stands ys (second_of_both (stmt_sound y.0) _ e) n after)
+
+assign_stands : (n : ℕ) (target : Stood) (x : ExprTree) → expr_sound x ≡ true → ((after : List ℕ) → target.need (32 ∷ after) ≡ true) → (after : List ℕ)
+    → is_row (line_row n (target.row ++ space ++ mark (codes "<-") ++ space ++ expression_row x ++ mark (codes ";"))) after ≡ true
+unfolding symbol
+assign_stands n target x e m after =
+    ended_line n (follow (ended target (space ∷ mark (codes "<-") ∷ space ∷ []) any (λ after h. refl) (λ after h. m _)) (valued x e) (λ after h. refl)) (mark (codes ";") ∷ []) after refl refl
+
+if_stands : (n : ℕ) (x : ExprTree) → expr_sound x ≡ true → (after : List ℕ)
+    → is_row (line_row n (letters (codes "if") ++ space ++ mark (codes "(") ++ expression_row x ++ mark (codes ")") ++ space ++ mark (codes "{"))) after ≡ true
+unfolding symbol
+if_stands n x e after =
+    ended_line n (follow (ended (spaced (letters (codes "if") ++ space) (λ after. refl)) (mark (codes "(") ∷ []) any open_stands (λ after h. refl)) (valued x e) (λ after h. refl))
+    (mark (codes ")") ∷ space ∷ mark (codes "{") ∷ []) after refl refl
+
+else_stands : (n : ℕ) (after : List ℕ) → is_row (line_row n (mark (codes "}") ++ space ++ letters (codes "else") ++ space ++ mark (codes "{"))) after ≡ true
+unfolding symbol
+else_stands n after = line_stands n _ after refl
+
+const_stands : (n : ℕ) (type : TyName) (name : List ℕ) (x : ExprTree) → type_is type ≡ true → name_is name ≡ true → expr_sound x ≡ true → (after : List ℕ)
+    → is_row (line_row n (letters (codes "const") ++ space ++ type_row type ++ space ++ letters name ++ space ++ mark (codes "=") ++ space ++ expression_row x ++ mark (codes ";"))) after ≡ true
+unfolding symbol
+const_stands n type name x t m e after =
+    let first = ended (follow (spaced (letters (codes "const") ++ space) (λ after. refl)) (typed type t) (λ after h. refl)) (space ∷ []) any (λ after h. refl) (λ after h. refl) in
+    let second = ended (follow first (named name m) (λ after h. refl)) (space ∷ mark (codes "=") ∷ space ∷ []) any (λ after h. refl) (λ after h. refl) in
+    ended_line n (follow second (valued x e) (λ after h. refl)) (mark (codes ";") ∷ []) after refl refl
+
+foreach_stands : (n : ℕ) (class variable other : List ℕ) → name_is class ≡ true → name_is variable ≡ true → name_is other ≡ true → (after : List ℕ)
+    → is_row (line_row n (letters (codes "foreach") ++ space ++ mark (codes "(") ++ letters class ++ space ++ letters variable ++ space ++ mark (codes ":") ++ space
+    ++ letters (codes "Extent") ++ mark (codes "<") ++ letters other ++ mark (codes ">") ++ mark (codes ")") ++ space ++ mark (codes "{"))) after ≡ true
+unfolding symbol
+foreach_stands n class variable other c v o after =
+    let first = ended (spaced (letters (codes "foreach") ++ space) (λ after. refl)) (mark (codes "(") ∷ []) any open_stands (λ after h. refl) in
+    let second = ended (follow first (named class c) (λ after h. refl)) (space ∷ []) any (λ after h. refl) (λ after h. refl) in
+    let third = ended (follow second (named variable v) (λ after h. refl)) (space ∷ mark (codes ":") ∷ space ∷ []) any (λ after h. refl) (λ after h. refl) in
+    let fourth = ended (follow third (lettered (codes "Extent") refl refl) (λ after h. refl)) (mark (codes "<") ∷ []) no_arrow less_stands (λ after h. refl) in
+    ended_line n (follow fourth (named other o) (λ after h. less_meets other (name_word other o) [] after))
+    (mark (codes ">") ∷ mark (codes ")") ∷ space ∷ mark (codes "{") ∷ []) after refl refl
+
+abbrev tested_row : ExprTree → Row
+tested_row x = letters (codes "if") ++ space ++ mark (codes "(") ++ expression_row x ++ mark (codes ")") ++ space ++ mark (codes "{")
+
+abbrev foreach_row : List ℕ → List ℕ → List ℕ → Row
+foreach_row class variable other =
+    letters (codes "foreach") ++ space ++ mark (codes "(") ++ letters class ++ space ++ letters variable ++ space ++ mark (codes ":") ++ space
+    ++ letters (codes "Extent") ++ mark (codes "<") ++ letters other ++ mark (codes ">") ++ mark (codes ")") ++ space ++ mark (codes "{")
+
+step_stands : (y : StmtTree-F Standing) → stmt_sound_step (map-StmtTree StmtTree Bool stmt_sound (map-StmtTree Standing StmtTree stmt_of y)) ≡ true → (n : ℕ) (after : List ℕ)
+    → is_row (statement_row_step (map-StmtTree StmtTree (ℕ → Row) statement_row (map-StmtTree Standing StmtTree stmt_of y)) n) after ≡ true
+step_stands (Const type name x at) e n after =
+    let front = first_of_both (type_is type && name_is name.text) (expr_sound x) e in
+    const_stands n type name.text x (first_of_both _ (name_is name.text) front) (second_of_both (type_is type) _ front) (second_of_both (type_is type && name_is name.text) _ e) after
+step_stands (If x ys None at) e n after =
+    let front = first_of_both (expr_sound x && all_sound (map stmt_sound (map stmt_of ys))) true e in
+    let first = line_row n (tested_row x) in
+    let block = block_row (map statement_row (map stmt_of ys)) n in
+    row_split (first ++ block ++ []) (closing_row n) after
+    (row_split (first ++ block) [] _ (row_split first block _ (if_stands n x (first_of_both _ _ front) _) (block_stands ys (second_of_both (expr_sound x) _ front) n _)) refl)
+    (closing_stands n after)
+step_stands (If x ys (Some others) at) e n after =
+    let front = first_of_both (expr_sound x && all_sound (map stmt_sound (map stmt_of ys))) (all_sound (map stmt_sound (map stmt_of others))) e in
+    let first = line_row n (tested_row x) in
+    let block = block_row (map statement_row (map stmt_of ys)) n in
+    let second = line_row n (mark (codes "}") ++ space ++ letters (codes "else") ++ space ++ mark (codes "{")) in
+    let other_block = block_row (map statement_row (map stmt_of others)) n in
+    row_split (first ++ block ++ (second ++ other_block)) (closing_row n) after
+    (row_split (first ++ block) (second ++ other_block) _
+    (row_split first block _ (if_stands n x (first_of_both _ _ front) _) (block_stands ys (second_of_both (expr_sound x) _ front) n _))
+    (row_split second other_block _ (else_stands n _)
+    (block_stands others (second_of_both (expr_sound x && all_sound (map stmt_sound (map stmt_of ys))) _ e) n _)))
+    (closing_stands n after)
+step_stands (Foreach class variable other ys at) e n after =
+    let three = first_of_both (name_is class.text && name_is variable.text && name_is other.text) (all_sound (map stmt_sound (map stmt_of ys))) e in
+    let two = first_of_both (name_is class.text && name_is variable.text) (name_is other.text) three in
+    let block = block_row (map statement_row (map stmt_of ys)) n in
+    let first = line_row n (foreach_row class.text variable.text other.text) in
+    row_split (first ++ block) (closing_row n) after
+    (row_split first block _
+    (foreach_stands n class.text variable.text other.text (first_of_both _ (name_is variable.text) two) (second_of_both (name_is class.text) _ two)
+    (second_of_both (name_is class.text && name_is variable.text) _ three) _)
+    (block_stands ys (second_of_both (name_is class.text && name_is variable.text && name_is other.text) _ e) n _))
+    (closing_stands n after)
+step_stands (Assign name x) e n after =
+    assign_stands n (named name.text (first_of_both _ (expr_sound x) e)) x (second_of_both (name_is name.text) _ e) (λ after. refl) after
+step_stands (AssignThis name x at) e n after =
+    assign_stands n (pointed (codes "this") name.text refl refl (first_of_both _ (expr_sound x) e)) x (second_of_both (name_is name.text) _ e) (λ after. refl) after
+step_stands (AssignLoop loop name x) e n after =
+    let front = first_of_both (name_is loop.text && name_is name.text) (expr_sound x) e in
+    let l = first_of_both (name_is loop.text) (name_is name.text) front in
+    assign_stands n (pointed loop.text name.text (name_word loop.text l) (name_short loop.text l) (second_of_both (name_is loop.text) _ front)) x
+    (second_of_both (name_is loop.text && name_is name.text) _ e) (λ after. refl) after
+
+-- a sound statement stands before anything
+statement_stands : (s : StmtTree) → stmt_sound s ≡ true → (n : ℕ) (after : List ℕ) → is_row (statement_row s n) after ≡ true
+statement_stands = ind-StmtTree IsStanding (λ x y is e n after.
+    let step : stmt_sound_step (map-StmtTree StmtTree Bool stmt_sound x) ≡ true → is_row (statement_row_step (map-StmtTree StmtTree (ℕ → Row) statement_row x) n) after ≡ true =
+    subst (λ z. stmt_sound_step (map-StmtTree StmtTree Bool stmt_sound z) ≡ true → is_row (statement_row_step (map-StmtTree StmtTree (ℕ → Row) statement_row z) n) after ≡ true) is
+    (λ f. step_stands y f n after) in
+    ap (λ f. is_row (f n) after) (fold-roll-StmtTree (ℕ → Row) statement_row_step x) ∙ step (sym (fold-roll-StmtTree Bool stmt_sound_step x) ∙ e))
+
+-- members
+sharing_stands : (shared : Bool) → Stands no_word (sharing_row shared)
+sharing_stands true = word_stands (codes "public") refl refl
+sharing_stands false = word_stands (codes "private") refl refl
+
+abbrev sharing : Bool → Stood
+sharing shared = record { need = no_word; row = sharing_row shared; stands = sharing_stands shared }
+
+combinator_stands : (comb : CombName) → Stands no_word (combinator_row comb)
+combinator_stands comb.Sum = word_stands (codes "sum") refl refl
+combinator_stands comb.Min = word_stands (codes "min") refl refl
+combinator_stands comb.Max = word_stands (codes "max") refl refl
+combinator_stands comb.Count = word_stands (codes "count") refl refl
+combinator_stands comb.Or = word_stands (codes "or") refl refl
+
+rule_stands : (x : Option ExprTree) → rule_sound x ≡ true → Stands stops (rule_row x)
+unfolding symbol
+rule_stands None e after h = refl
+rule_stands (Some x) e after h = (follow (spaced (space ++ mark (codes ":") ++ space) (λ after. refl)) (valued x e) (λ after h. refl)).stands after h
+
+rule_meets : (x : Option ExprTree) (after : List ℕ) → stops after ≡ true → no_word (text_of (rule_row x) ++ after) ≡ true
+rule_meets None after h = begins_no_word after h
+rule_meets (Some x) after h = refl
+
+bracket_stands : Stands any (mark (codes "["))
+unfolding symbol
+bracket_stands = lone (codes "[") refl (λ b. refl) (λ after. refl)
+
+range_stands : (n : ℕ) (name : List ℕ) (digits : Digits) → ((after : List ℕ) → is_row (hash name ∷ []) (91 ∷ after) ≡ true) → digits_are digits ≡ true → (after : List ℕ)
+    → is_row (line_row n (range_row name digits)) after ≡ true
+unfolding symbol
+range_stands n name digits s e after =
+    let front = spaced (hash name ∷ mark (codes "[")) (λ after. row_split (hash name ∷ []) (mark (codes "[")) after (s after) (bracket_stands after refl)) in
+    ended_line n (follow front (record { need = stops; row = literal_row digits; stands = literal_stands digits e }) (λ after h. refl)) (mark (codes "]") ∷ mark (codes ";") ∷ []) after refl refl
+
+abbrev field : (shared : Bool) (kind : List ℕ) (type : TyName) (name : List ℕ) → ((after : List ℕ) → is_row (space ++ letters kind ++ space) after ≡ true)
+    → type_is type ≡ true → name_is name ≡ true → Stood
+field shared kind type name s t m =
+    let first = ended (sharing shared) (space ∷ letters kind ∷ space ∷ []) any (λ after h. s after) (λ after h. refl) in
+    let second = ended (follow first (typed type t) (λ after h. refl)) (space ∷ []) any (λ after h. refl) (λ after h. refl) in
+    follow second (named name m) (λ after h. refl)
+
+member_stands : (n : ℕ) (m : MemberTree) → member_sound m ≡ true → (after : List ℕ) → is_row (member_row n m) after ≡ true
+unfolding symbol directive
+member_stands n (member.Visible range at) e after = range_stands n (codes "visible") range.digits (λ after. refl) e after
+member_stands n (member.Reach range at) e after = range_stands n (codes "reach") range.digits (λ after. refl) e after
+member_stands n (member.State shared type name x at) e after =
+    let front = first_of_both (type_is type && name_is name.text) (rule_sound x) e in
+    let fields = field shared (codes "state") type name.text (λ after. refl) (first_of_both _ (name_is name.text) front) (second_of_both (type_is type) _ front) in
+    let ruled : Stood = record { need = stops; row = rule_row x; stands = rule_stands x (second_of_both (type_is type && name_is name.text) _ e) } in
+    ended_line n (follow fields ruled (rule_meets x)) (mark (codes ";") ∷ []) after refl refl
+member_stands n (member.Effect shared type name comb at) e after =
+    let fields = field shared (codes "effect") type name.text (λ after. refl) (first_of_both _ (name_is name.text) e) (second_of_both (type_is type) _ e) in
+    ended_line n (follow (ended fields (space ∷ mark (codes ":") ∷ space ∷ []) any (λ after h. refl) (λ after h. refl))
+    (record { need = no_word; row = combinator_row comb; stands = combinator_stands comb }) (λ after h. refl)) (mark (codes ";") ∷ []) after refl refl
+member_stands n (member.Run statements at) e after =
+    let first = line_row n (letters (codes "public") ++ space ++ letters (codes "void") ++ space ++ letters (codes "run") ++ mark (codes "(") ++ mark (codes ")") ++ space ++ mark (codes "{")) in
+    let block = flat_map (λ s. statement_row s (n + 2)) statements in
+    row_split (first ++ block) (closing_row n) after
+    (row_split first block _ (line_stands n _ _ refl) (flat_stands (λ s. statement_row s (n + 2)) stmt_sound (λ s f. statement_stands s f (n + 2)) statements e _))
+    (closing_stands n after)
+
+class_line_stands : (name : List ℕ) → name_is name ≡ true → (after : List ℕ)
+    → is_row (line_row 0 (letters (codes "class") ++ space ++ letters name ++ space ++ mark (codes "{"))) after ≡ true
+unfolding symbol
+class_line_stands name m after =
+    ended_line 0 (follow (spaced (letters (codes "class") ++ space) (λ after. refl)) (named name m) (λ after h. refl)) (space ∷ mark (codes "{") ∷ []) after refl refl
+
+class_stands : (class : ClassTree) → class_sound class ≡ true → (after : List ℕ) → is_row (class_row class) after ≡ true
+class_stands class e after =
+    let first = line_row 0 (letters (codes "class") ++ space ++ letters class.name.text ++ space ++ mark (codes "{")) in
+    let block = flat_map (member_row 2) class.members in
+    row_split (first ++ block) (closing_row 0) after
+    (row_split first block _ (class_line_stands class.name.text (first_of_both _ (list_all member_sound class.members) e) (text_of block ++ (text_of (closing_row 0) ++ after)))
+    (flat_stands (member_row 2) member_sound (member_stands 2) class.members (second_of_both (name_is class.name.text) _ e) _))
+    (closing_stands 0 after)
+
+-- the row of a sound script stands
+pub row_stands : (tree : Tree) → script_sound tree ≡ true → is_row (script_row tree) [] ≡ true
+row_stands tree e = flat_stands class_row class_sound class_stands tree.classes (second_of_both (nat_le 1 (length tree.classes)) _ e) []

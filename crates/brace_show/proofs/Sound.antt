@@ -1,0 +1,87 @@
+-- What the names and the numbers of a tree that was read are: names that a word spells, and numbers that a literal spells.
+use Rattle.std.proofs.Common.{ℕ, nat_le, ◌&&◌, Bool, true, false, not, is_some, List, length, Option, Some, None, ℤ, pos, negsuc}
+use Rattle.std.specs.List.{list_all}
+use Rattle.brace_tok.specs.Bytes.{is_word}
+use Rattle.brace_tok.specs.Tables.{reserved}
+use Rattle.brace_syntax.specs.declared.tree.Digits.{Digits}
+use Rattle.brace_syntax.specs.declared.tree.Digits.TheVariants.{Int, Fixed}
+use Rattle.brace_syntax.specs.declared.tree.TyName.{TyName}
+use Rattle.brace_syntax.specs.declared.tree.TyName.TheVariants as ty
+use Rattle.brace_syntax.specs.declared.tree.ExprTree.{ExprTree}
+use Rattle.brace_syntax.specs.declared.tree.ExprTree.TheOpen.{ExprTree-F, Lit, True, False, Name, OfThis, OfLoop, Unary, Binary, Choice, Rand}
+use Rattle.brace_syntax.specs.declared.tree.ExprTree.TheFolds.{fold-ExprTree}
+use Rattle.brace_syntax.specs.declared.tree.StmtTree.{StmtTree}
+use Rattle.brace_syntax.specs.declared.tree.StmtTree.TheOpen.{StmtTree-F, Const, If, Foreach, Assign, AssignThis, AssignLoop}
+use Rattle.brace_syntax.specs.declared.tree.StmtTree.TheFolds.{fold-StmtTree}
+use Rattle.brace_syntax.specs.declared.tree.MemberTree.{MemberTree}
+use Rattle.brace_syntax.specs.declared.tree.MemberTree.TheVariants as member
+use Rattle.brace_syntax.specs.declared.tree.ClassTree.{ClassTree}
+use Rattle.brace_syntax.specs.declared.tree.Tree.{Tree}
+
+abbrev pub name_is : List ℕ → Bool
+name_is text = is_word text && nat_le (length text) 64 && not (is_some (reserved text))
+
+abbrev pub fits_word : ℤ → Bool
+fits_word (pos n) = nat_le n 9223372036854775807
+fits_word (negsuc n) = false
+
+abbrev pub digits_are : Digits → Bool
+digits_are (Int z) = fits_word z
+digits_are (Fixed z) = fits_word z
+
+abbrev pub type_is : TyName → Bool
+type_is ty.Int = true
+type_is ty.Fixed = true
+type_is ty.Bool = true
+type_is (ty.Other name) = name_is name.text
+
+abbrev pub expr_sound_step : ExprTree-F Bool → Bool
+expr_sound_step (Lit number) = digits_are number.digits
+expr_sound_step (True at) = true
+expr_sound_step (False at) = true
+expr_sound_step (Name name) = name_is name.text
+expr_sound_step (OfThis name at) = name_is name.text
+expr_sound_step (OfLoop loop name) = name_is loop.text && name_is name.text
+expr_sound_step (Unary op x at) = x
+expr_sound_step (Binary op x y at) = x && y
+expr_sound_step (Choice c x y at) = c && x && y
+expr_sound_step (Rand at) = true
+
+abbrev pub expr_sound : ExprTree → Bool
+expr_sound = fold-ExprTree Bool expr_sound_step
+
+abbrev pub all_sound : List Bool → Bool
+all_sound = list_all (λ b. b)
+
+abbrev pub other_sound : Option (List Bool) → Bool
+other_sound None = true
+other_sound (Some xs) = all_sound xs
+
+abbrev pub stmt_sound_step : StmtTree-F Bool → Bool
+stmt_sound_step (Const type name x at) = type_is type && name_is name.text && expr_sound x
+stmt_sound_step (If c xs other at) = expr_sound c && all_sound xs && other_sound other
+stmt_sound_step (Foreach class variable other xs at) = name_is class.text && name_is variable.text && name_is other.text && all_sound xs
+stmt_sound_step (Assign name x) = name_is name.text && expr_sound x
+stmt_sound_step (AssignThis name x at) = name_is name.text && expr_sound x
+stmt_sound_step (AssignLoop loop name x) = name_is loop.text && name_is name.text && expr_sound x
+
+abbrev pub stmt_sound : StmtTree → Bool
+stmt_sound = fold-StmtTree Bool stmt_sound_step
+
+abbrev pub rule_sound : Option ExprTree → Bool
+rule_sound None = true
+rule_sound (Some x) = expr_sound x
+
+abbrev pub member_sound : MemberTree → Bool
+member_sound (member.Visible range at) = digits_are range.digits
+member_sound (member.Reach range at) = digits_are range.digits
+member_sound (member.State shared type name x at) = type_is type && name_is name.text && rule_sound x
+member_sound (member.Effect shared type name comb at) = type_is type && name_is name.text
+member_sound (member.Run xs at) = list_all stmt_sound xs
+
+abbrev pub class_sound : ClassTree → Bool
+class_sound class = name_is class.name.text && list_all member_sound class.members
+
+-- a script has one class or more
+abbrev pub script_sound : Tree → Bool
+script_sound tree = nat_le 1 (length tree.classes) && list_all class_sound tree.classes

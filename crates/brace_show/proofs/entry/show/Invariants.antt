@@ -1,6 +1,0 @@
-use Rattle.std.proofs.Common.{◌≡◌, flat_map, take}
-use Rattle.brace_show.specs.Canonical.{class_text}
-use Rattle.brace_show.proofs.entry.show.Given as goal
-
-abbrev pub invariant-loop-class : goal.invariant-loop-class
-invariant-loop-class l = l.out.items ≡ flat_map class_text (take l.class-index l.tree.classes)

@@ -1,0 +1,13 @@
+//! Facts on canonical texts that hold always. The functions do nothing; their clauses are the laws.
+ghost use Rattle.std.specs.Prelude.{◌≡◌, ℕ, List};
+ghost use Rattle.brace_tok.specs.declared.kinds.Token.{Token};
+ghost use Rattle.brace_tok.specs.Spells.{Spells};
+ghost use Rattle.brace_syntax.specs.declared.tree.Tree.{Tree};
+ghost use Rattle.brace_syntax.specs.Reads.{Reads};
+ghost use Rattle.brace_show.specs.Canonical.{canonical};
+ghost use Rattle.brace_show.specs.Back.{ReadsBack};
+
+/// A script that is read from some text is read back from its canonical text, apart from places.
+pub fn canonical_texts_are_read_back()
+    ensures { (src : List ℕ) (toks : List Token) (tree : Tree) → Spells src toks → Reads src toks tree → ReadsBack (canonical tree) tree }
+{}
