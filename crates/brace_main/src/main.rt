@@ -1,7 +1,7 @@
 //! The program: the host's files, standard output and standard error, and the words of the command line.
 #![tactic(auto)]
 
-use brace_io::{DirShelf, ErrSink, OpenGate, OutSink};
+use brace_io::{DirShelf, ErrSink, OpenGate, OutSink, Sink, write_whole};
 use brace_top::run;
 use std::alloc::Global;
 use std::process::ExitCode;
@@ -16,12 +16,27 @@ fn words(rt: &HostRuntime, alloc: Global) -> io::Result<Vec<String>> {
     Ok(words)
 }
 
-fn main(rt: HostRuntime) -> io::Result<ExitCode> {
-    let words = words(&rt, rt.alloc())?;
+/// The status where the words could not be read: memory was refused, or one of them is no text. Its line is written.
+fn unread<E: Sink>(err: &mut E, error: &io::Error) -> u8 {
+    let (status, line): (u8, &[u8]) = match error.kind() {
+        io::ErrorKind::OutOfMemory => (11, b"brace: no memory\n"),
+        _ => (2, b"brace: usage\n"),
+    };
+    match write_whole(err, line) {
+        Ok(()) => status,
+        Err(_) => status,
+    }
+}
+
+fn main(rt: HostRuntime) -> ExitCode {
+    let mut err = ErrSink::make(rt.stderr());
+    let words = match words(&rt, rt.alloc()) {
+        Ok(words) => words,
+        Err(error) => return ExitCode::from(unread(&mut err, &error)),
+    };
     let mut shelf = DirShelf::make(&rt);
     let mut out = OutSink::make(rt.stdout());
-    let mut err = ErrSink::make(rt.stderr());
-    let status = run(
+    ExitCode::from(run(
         &rt,
         rt.alloc(),
         words.as_slice(),
@@ -29,6 +44,5 @@ fn main(rt: HostRuntime) -> io::Result<ExitCode> {
         &mut out,
         &mut err,
         &OpenGate,
-    );
-    Ok(ExitCode::from(status))
+    ))
 }

@@ -8,3 +8,4 @@ pub mod ThinRules
 pub mod JobLemmas
 pub mod RunAnswers
 pub mod LineLemmas
+pub mod AnswerLemmas

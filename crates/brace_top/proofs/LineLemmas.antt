@@ -7,20 +7,20 @@ use Rattle.brace_model.specs.declared.world.Agent.{Agent}
 use Rattle.brace_top.specs.declared.status.Status.{Status}
 use Rattle.brace_top.specs.declared.status.Status.TheVariants.{Done, Usage, Script, Agents, Fault, ReadFault, WriteFault, NoMemory, Absent}
 use Rattle.brace_top.specs.Status.{has_run, is_refusal}
-use Rattle.brace_top.specs.Line.{Line}
-use Rattle.brace_top.specs.Outcome.{Outcome, Refusal, script_of, agents_of, every_tick, refused, ran, with_program, with_world, line_outcome}
-use Rattle.brace_top.specs.Answer.{IsCaused, IsWritten, IsLine, IsRefused, IsStopped}
+use Rattle.brace_top.specs.Line.{RunLine}
+use Rattle.brace_top.specs.Outcome.{Outcome, Refusal, script_of, agents_of, every_tick, refused, ran, with_program, with_world, run_outcome}
+use Rattle.brace_top.specs.RunAnswer.{IsCaused, IsWritten, IsLine, IsRefused, IsStopped}
 
 -- a refused script
-pub outcome_script : (files : Files) (line : Line) (r : Refusal) → script_of files line.script ≡ Err r → line_outcome files line ≡ refused r
+pub outcome_script : (files : Files) (line : RunLine) (r : Refusal) → script_of files line.script ≡ Err r → run_outcome files line ≡ refused r
 outcome_script files line r e = ap (with_program files line) e
 
 -- a refused agent file
-pub outcome_agents : (files : Files) (line : Line) (program : Program) (r : Refusal) → script_of files line.script ≡ Ok program → agents_of files program line.agents ≡ Err r → line_outcome files line ≡ refused r
+pub outcome_agents : (files : Files) (line : RunLine) (program : Program) (r : Refusal) → script_of files line.script ≡ Ok program → agents_of files program line.agents ≡ Err r → run_outcome files line ≡ refused r
 outcome_agents files line program r e f = ap (with_program files line) e ∙ ap (with_world line program) f
 
 -- a run
-pub outcome_run : (files : Files) (line : Line) (program : Program) (world : List Agent) → script_of files line.script ≡ Ok program → agents_of files program line.agents ≡ Ok world → line_outcome files line ≡ ran (every_tick program line.ticks world)
+pub outcome_run : (files : Files) (line : RunLine) (program : Program) (world : List Agent) → script_of files line.script ≡ Ok program → agents_of files program line.agents ≡ Ok world → run_outcome files line ≡ ran (every_tick program line.ticks world)
 outcome_run files line program world e f = ap (with_program files line) e ∙ ap (with_world line program) f
 
 -- where reads cannot fail, they may as well

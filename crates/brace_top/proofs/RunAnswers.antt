@@ -11,7 +11,7 @@ use Rattle.brace_top.specs.Outcome.{Outcome}
 use Rattle.brace_top.specs.declared.answer.Stopped.{Stopped}
 use Rattle.brace_top.specs.declared.answer.Stopped.TheVariants as Stopped_is
 use Rattle.brace_top.proofs.LineLemmas.{answers, is_stopped, stopped_rose, not_run, not_write, not_usage, line_as}
-use Rattle.brace_top.specs.Answer.{IsCaused, IsWritten, IsLine, IsStopped}
+use Rattle.brace_top.specs.RunAnswer.{IsCaused, IsWritten, IsLine, IsStopped}
 
 -- a fact that holds holds on an error
 pub on_err : {T E : Type 0} (r : Result T E) (P : Type 0) → P → OnErr r P

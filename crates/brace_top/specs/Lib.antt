@@ -1,7 +1,10 @@
 pub mod Answer
+pub mod Formatting
 pub mod Line
 pub mod Lines
 pub mod Outcome
+pub mod Places
+pub mod RunAnswer
 pub mod Status
 pub mod Words
 pub mod Thin

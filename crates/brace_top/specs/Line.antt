@@ -3,10 +3,15 @@ use Rattle.std.specs.Prelude.{ℕ, List, [], ◌∷◌, Bool, false, not, ◌&&�
 use Rattle.brace_num.specs.Spelling.{count_of}
 
 -- a run from the agent file up to a last tick
-pub record Line : Type 0 where
+pub record RunLine : Type 0 where
   pub script : List ℕ
   pub agents : List ℕ
   pub ticks : ℕ
+
+-- what the words ask for: a run, or the canonical text of a script
+pub data Line : Type 0 where
+  Run : RunLine → Line
+  Format : List ℕ → Line
 
 -- a name is not empty, and begins with `-` only where it is `-` alone
 abbrev pub is_name : List ℕ → Bool
@@ -16,11 +21,13 @@ is_name (c ∷ rest) = not (c == 45) || length rest == 0
 -- the last tick is at most 2^32
 abbrev pub with_ticks : List ℕ → List ℕ → Option ℕ → Option Line
 with_ticks script agents None = None
-with_ticks script agents (Some ticks) = if nat_le ticks 4294967296 then Some (record { script = script; agents = agents; ticks = ticks }) else None
+with_ticks script agents (Some ticks) = if nat_le ticks 4294967296 then Some (Run (record { script = script; agents = agents; ticks = ticks })) else None
 
--- the words are `run --script NAME --agents NAME --ticks N`
+-- the words are `run --script NAME --agents NAME --ticks N` or `fmt --script NAME`
 abbrev pub line_of : List (List ℕ) → Option Line
 line_of (mode ∷ s ∷ script ∷ a ∷ agents ∷ t ∷ ticks ∷ []) =
     if bytes_eq mode (codes "run") && (bytes_eq s (codes "--script") && (bytes_eq a (codes "--agents") && (bytes_eq t (codes "--ticks") && (is_name script && is_name agents))))
     then with_ticks script agents (count_of ticks) else None
+line_of (mode ∷ s ∷ script ∷ []) =
+    if bytes_eq mode (codes "fmt") && (bytes_eq s (codes "--script") && is_name script) then Some (Format script) else None
 line_of _ = None

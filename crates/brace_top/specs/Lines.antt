@@ -3,6 +3,8 @@ use Rattle.std.specs.Prelude.{ℕ, List, [], ◌∷◌, ◌++◌, codes, Option,
 use Rattle.brace_num.specs.declared.kinds.Kind.{Kind}
 use Rattle.brace_num.specs.declared.kinds.Kind.TheVariants.{Overflow, DivZero, NegRoot}
 use Rattle.brace_num.specs.Spelling.{canonical_count}
+use Rattle.brace_top.specs.declared.script_fault.ScriptKind.{ScriptKind}
+use Rattle.brace_top.specs.declared.script_fault.ScriptKind.TheVariants.{BadByte, OpenComment, WideLiteral, LongWord, TooDeep, NoReading}
 use Rattle.brace_model.specs.declared.fault.Fault.{Fault}
 use Rattle.brace_model.specs.declared.fault.Phase.{Phase}
 use Rattle.brace_model.specs.declared.fault.Phase.TheVariants.{Query, Update}
@@ -10,6 +12,19 @@ use Rattle.brace_model.specs.declared.fault.Phase.TheVariants.{Query, Update}
 -- the line that begins with a file's name
 abbrev pub named_line : List ℕ → List ℕ → List ℕ
 named_line name rest = codes "brace: " ++ (name ++ (rest ++ 10 ∷ []))
+
+-- the word of a script's refusal
+abbrev pub script_word : ScriptKind → List ℕ
+script_word BadByte = codes "BadByte"
+script_word OpenComment = codes "OpenComment"
+script_word WideLiteral = codes "WideLiteral"
+script_word LongWord = codes "LongWord"
+script_word TooDeep = codes "TooDeep"
+script_word NoReading = codes "NoReading"
+
+-- the line that names a place in a file, and what is found there: `brace: NAME:LINE:COLUMN: KIND`
+abbrev pub placed_line : List ℕ → ℕ → ℕ → List ℕ → List ℕ
+placed_line name line column kind = named_line name (codes ":" ++ (canonical_count line ++ (codes ":" ++ (canonical_count column ++ (codes ": " ++ kind)))))
 
 abbrev pub usage_line : List ℕ
 usage_line = codes "brace: usage\n"

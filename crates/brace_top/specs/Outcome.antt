@@ -1,5 +1,5 @@
 -- What a command comes to with no fault of the outside and with ample memory: its status and its texts.
-use Rattle.std.specs.Prelude.{ℕ, List, [], length, nat_lt, codes, true, if◌then◌else◌, Option, Some, None, Result, Ok, Err}
+use Rattle.std.specs.Prelude.{◌≡◌, ℕ, List, [], length, nat_lt, codes, true, if◌then◌else◌, Option, Some, None, Result, Ok, Err}
 use Rattle.brace_io.specs.Shelves.{Files}
 use Rattle.brace_model.specs.declared.program.Program.{Program}
 use Rattle.brace_model.specs.declared.fault.Fault.{Fault}
@@ -10,8 +10,11 @@ use Rattle.brace_model.specs.Published.{published}
 use Rattle.brace_top.specs.declared.status.Status.{Status}
 use Rattle.brace_top.specs.declared.status.Status.TheVariants.{Done, Usage, Script, Agents, Absent}
 use Rattle.brace_top.specs.declared.status.Status.TheVariants as ended_by
-use Rattle.brace_top.specs.Line.{Line, line_of}
-use Rattle.brace_top.specs.Lines.{named_line, usage_line, fault_line}
+use Rattle.brace_top.specs.Line.{Line, RunLine, Run, Format, line_of}
+use Rattle.brace_top.specs.declared.script_fault.ScriptKind.{ScriptKind}
+use Rattle.brace_top.specs.Lines.{named_line, placed_line, script_word, usage_line, fault_line}
+use Rattle.brace_top.specs.Places.{line_number, column_number}
+use Rattle.brace_top.specs.Formatting.{Shows, Refuses}
 use Rattle.brace_top.specs.Thin.{thin_program}
 use Rattle.brace_top.specs.ThinAgents.{thin_agents}
 
@@ -68,22 +71,45 @@ ended text found = record { status = end_status found; out = text; err = end_lin
 abbrev pub ran : Job → Outcome
 ran job = ended (published job true) (first_fault job)
 
-abbrev pub with_world : Line → Program → Result (List Agent) Refusal → Outcome
+abbrev pub with_world : RunLine → Program → Result (List Agent) Refusal → Outcome
 with_world line program (Err r) = refused r
 with_world line program (Ok world) = ran (every_tick program line.ticks world)
 
-abbrev pub with_program : Files → Line → Result Program Refusal → Outcome
+abbrev pub with_program : Files → RunLine → Result Program Refusal → Outcome
 with_program files line (Err r) = refused r
 with_program files line (Ok program) = with_world line program (agents_of files program line.agents)
 
--- the outcome of a line
-abbrev pub line_outcome : Files → Line → Outcome
-line_outcome files line = with_program files line (script_of files line.script)
+-- the outcome of a run
+abbrev pub run_outcome : Files → RunLine → Outcome
+run_outcome files line = with_program files line (script_of files line.script)
 
-abbrev pub outcome_of : Files → Option Line → Outcome
-outcome_of files None = record { status = Usage; out = []; err = usage_line }
-outcome_of files (Some line) = line_outcome files line
+-- the bytes of a script of at most 1 MiB
+abbrev pub source_of : Files → List ℕ → Result (List ℕ) Refusal
+source_of files name = loaded Script 1048576 Some name (files name)
 
--- the outcome of words over the files that a shelf holds
-abbrev pub outcome : List (List ℕ) → Files → Outcome
-outcome words files = outcome_of files (line_of words)
+-- a script without a tree, refused at the place where that is found
+abbrev pub refused_at : List ℕ → List ℕ → ScriptKind → ℕ → Outcome
+refused_at name src kind at_ = refused (record { status = Script; line = placed_line name (line_number src at_) (column_number src at_) (script_word kind) })
+
+-- a text that is written whole
+abbrev pub shown_outcome : List ℕ → Outcome
+shown_outcome text = record { status = Done; out = text; err = [] }
+
+-- an outcome of a script's formatting: its canonical text, or its refusal
+pub data Formats (name src : List ℕ) : Outcome → Type 0 where
+  shown : (text : List ℕ) → Shows src text → Formats name src (shown_outcome text)
+  unread : (kind : ScriptKind) (at_ : ℕ) → Refuses src kind at_ → Formats name src (refused_at name src kind at_)
+
+abbrev pub with_source : List ℕ → Outcome → Result (List ℕ) Refusal → Type 0
+with_source name o (Err r) = o ≡ refused r
+with_source name o (Ok src) = Formats name src o
+
+-- an outcome of a line
+abbrev pub LineOutcome : Files → Option Line → Outcome → Type 0
+LineOutcome files None o = o ≡ record { status = Usage; out = []; err = usage_line }
+LineOutcome files (Some (Run line)) o = o ≡ run_outcome files line
+LineOutcome files (Some (Format name)) o = with_source name o (source_of files name)
+
+-- an outcome of words over the files that a shelf holds: there is one, but for the place where a script that no tree reads is refused
+abbrev pub HasOutcome : List (List ℕ) → Files → Outcome → Type 0
+HasOutcome words files o = LineOutcome files (line_of words) o

@@ -1,6 +1,6 @@
-ghost use Rattle.std.specs.Prelude.{◌≡◌};
+ghost use Rattle.std.specs.Prelude.{◌≡◌, IfOk};
 ghost use Rattle.brace_top.specs.Answer.{IsSaid};
-ghost use Rattle.brace_top.specs.Lines.{named_line};
+ghost use Rattle.brace_top.specs.Lines.{named_line, write_fault_line};
 ghost use Rattle.brace_top.specs.declared.answer.Answer.{Answer};
 
 use crate::lines::named_line;
@@ -33,6 +33,27 @@ pub fn refused(alloc: Global, name: &str, status: Status, rest: &[u8]) -> Stoppe
         Ok(line) => Stopped::Answer(Answer { status, line }),
         Err(NoMemory) => Stopped::NoMemory,
     }
+}
+
+/// The answer with which a command was stopped.
+pub fn answered(stopped: Stopped) -> Result<Answer, NoMemory>
+    ensures { IfOk result (λ answer. stopped ≡ Stopped.Answer answer) }
+{
+    match stopped {
+        Stopped::Answer(answer) => Ok(answer),
+        Stopped::NoMemory => Err(NoMemory),
+    }
+}
+
+/// The answer after a fault of writing.
+pub fn unwritten(alloc: Global) -> Result<Answer, NoMemory>
+    ensures status { IfOk result (λ answer. answer.status ≡ Status.WriteFault) }
+    ensures line { IfOk result (λ answer. answer.line.items ≡ write_fault_line) }
+{
+    Ok(Answer {
+        status: Status::WriteFault,
+        line: Vec::from_slice(alloc, b"brace: write fault\n")?,
+    })
 }
 
 /// Writes a line; where the sink fails a front of it stands there.

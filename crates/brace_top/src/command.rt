@@ -2,12 +2,12 @@ ghost use Rattle.std.specs.Prelude.{◌≡◌, ◌≢◌, ◌↔◌, ◌≤◌, 
 ghost use Rattle.brace_io.specs.Counts.{Rose};
 ghost use Rattle.brace_io.specs.Shelves.{Files, Idle, writes};
 ghost use Rattle.brace_top.specs.Line.{line_of};
-ghost use Rattle.brace_top.specs.Outcome.{outcome};
+ghost use Rattle.brace_top.specs.Outcome.{HasOutcome};
 ghost use Rattle.brace_top.specs.Status.{has_run, is_refusal, status_of, code_of};
-ghost use Rattle.brace_top.specs.Answer.{IsCaused, IsWritten, IsLine, IsSaid};
+ghost use Rattle.brace_top.specs.Answer.{IsAnswer, IsSaid};
 
 use crate::answer::tell;
-use crate::flow::run_line;
+use crate::flow::answer_line;
 use crate::status::Status;
 use crate::words::read_line;
 use brace_io::{Gate, Shelf, Sink};
@@ -25,11 +25,10 @@ fn carry_out<S: Shelf, O: Sink, E: Sink>(
     err: &mut E,
 ) -> Status
     requires { S.stage shelf.old ≡ Idle }
-    ensures caused { (files : Files) → S.held shelf.old ≡ Some files
-        → IsCaused (outcome (map string_bytes words.now) files) result (Rose (S.faults shelf.old) (S.faults shelf.new)) (Rose (O.faults out.old) (O.faults out.new)) }
-    ensures written { (files : Files) → S.held shelf.old ≡ Some files → IsWritten result (outcome (map string_bytes words.now) files).out (O.written out.old) (O.written out.new) }
-    ensures said { (files : Files) → S.held shelf.old ≡ Some files
-        → (line : List ℕ) × (IsLine (outcome (map string_bytes words.now) files) (S.held shelf.new) (S.stage shelf.new) result line × IsSaid line (E.written err.old) (E.written err.new) (E.faults err.old) (E.faults err.new)) }
+    ensures answered { (files : Files) → S.held shelf.old ≡ Some files → (line : List ℕ) × (
+        IsAnswer (HasOutcome (map string_bytes words.now) files) (S.held shelf.new) (S.stage shelf.new) result
+            (Rose (S.faults shelf.old) (S.faults shelf.new)) (Rose (O.faults out.old) (O.faults out.new)) (O.written out.old) (O.written out.new) line
+        × IsSaid line (E.written err.old) (E.written err.new) (E.faults err.old) (E.faults err.new)) }
     ensures usage { (result ≡ Status.Usage) ↔ (line_of (map string_bytes words.now) ≡ None) }
     ensures read_fault { result ≡ Status.ReadFault → Rose (S.faults shelf.old) (S.faults shelf.new) }
     ensures write_fault { result ≡ Status.WriteFault → Rose (O.faults out.old) (O.faults out.new) }
@@ -46,7 +45,7 @@ fn carry_out<S: Shelf, O: Sink, E: Sink>(
             tell(err, b"brace: usage\n");
             Status::Usage
         }
-        Some(line) => match run_line(alloc, &line, shelf, out) {
+        Some(line) => match answer_line(alloc, &line, shelf, out) {
             Ok(answer) => {
                 tell(err, answer.line.as_slice());
                 answer.status
@@ -72,8 +71,8 @@ fn carry_out<S: Shelf, O: Sink, E: Sink>(
 /// | 11 | the allocator refused memory |
 /// | 12 | a named file is not held |
 ///
-/// `words` are those after the program's name. A file is read from `shelf`, rows go to `out`, and one line for each status other
-/// than 0 goes to `err`, whose faults change no status.
+/// `words` are those after the program's name. A file is read from `shelf`, rows or the canonical text go to `out`, and one line for
+/// each status other than 0 goes to `err`, whose faults change no status.
 pub fn run_alone<S: Shelf, O: Sink, E: Sink>(
     alloc: Global,
     words: &[String],
@@ -84,11 +83,10 @@ pub fn run_alone<S: Shelf, O: Sink, E: Sink>(
     requires { S.stage shelf.old ≡ Idle }
     ensures always { IsSome result }
     ensures known { IfSome result (λ code. code_of (status_of code) ≡ code) }
-    ensures caused { IfSome result (λ code. (files : Files) → S.held shelf.old ≡ Some files
-        → IsCaused (outcome (map string_bytes words.now) files) (status_of code) (Rose (S.faults shelf.old) (S.faults shelf.new)) (Rose (O.faults out.old) (O.faults out.new))) }
-    ensures written { IfSome result (λ code. (files : Files) → S.held shelf.old ≡ Some files → IsWritten (status_of code) (outcome (map string_bytes words.now) files).out (O.written out.old) (O.written out.new)) }
-    ensures said { IfSome result (λ code. (files : Files) → S.held shelf.old ≡ Some files
-        → (line : List ℕ) × (IsLine (outcome (map string_bytes words.now) files) (S.held shelf.new) (S.stage shelf.new) (status_of code) line × IsSaid line (E.written err.old) (E.written err.new) (E.faults err.old) (E.faults err.new))) }
+    ensures answered { IfSome result (λ code. (files : Files) → S.held shelf.old ≡ Some files → (line : List ℕ) × (
+        IsAnswer (HasOutcome (map string_bytes words.now) files) (S.held shelf.new) (S.stage shelf.new) (status_of code)
+            (Rose (S.faults shelf.old) (S.faults shelf.new)) (Rose (O.faults out.old) (O.faults out.new)) (O.written out.old) (O.written out.new) line
+        × IsSaid line (E.written err.old) (E.written err.new) (E.faults err.old) (E.faults err.new))) }
     ensures usage { IfSome result (λ code. (code ≡ 2) ↔ (line_of (map string_bytes words.now) ≡ None)) }
     ensures read_fault { IfSome result (λ code. code ≡ 8 → Rose (S.faults shelf.old) (S.faults shelf.new)) }
     ensures write_fault { IfSome result (λ code. code ≡ 9 → Rose (O.faults out.old) (O.faults out.new)) }
@@ -113,11 +111,10 @@ pub fn run<R: Threads + Wait + Sync, S: Shelf + Send, O: Sink + Send, E: Sink, G
 ) -> u8
     requires { S.stage shelf.old ≡ Idle }
     ensures known { code_of (status_of result) ≡ result }
-    ensures caused { (files : Files) → S.held shelf.old ≡ Some files
-        → IsCaused (outcome (map string_bytes words.now) files) (status_of result) (Rose (S.faults shelf.old) (S.faults shelf.new)) (Rose (O.faults out.old) (O.faults out.new)) }
-    ensures written { (files : Files) → S.held shelf.old ≡ Some files → IsWritten (status_of result) (outcome (map string_bytes words.now) files).out (O.written out.old) (O.written out.new) }
-    ensures said { (files : Files) → S.held shelf.old ≡ Some files
-        → (line : List ℕ) × (IsLine (outcome (map string_bytes words.now) files) (S.held shelf.new) (S.stage shelf.new) (status_of result) line × IsSaid line (E.written err.old) (E.written err.new) (E.faults err.old) (E.faults err.new)) }
+    ensures answered { (files : Files) → S.held shelf.old ≡ Some files → (line : List ℕ) × (
+        IsAnswer (HasOutcome (map string_bytes words.now) files) (S.held shelf.new) (S.stage shelf.new) (status_of result)
+            (Rose (S.faults shelf.old) (S.faults shelf.new)) (Rose (O.faults out.old) (O.faults out.new)) (O.written out.old) (O.written out.new) line
+        × IsSaid line (E.written err.old) (E.written err.new) (E.faults err.old) (E.faults err.new)) }
     ensures usage { (result ≡ 2) ↔ (line_of (map string_bytes words.now) ≡ None) }
     ensures read_fault { result ≡ 8 → Rose (S.faults shelf.old) (S.faults shelf.new) }
     ensures write_fault { result ≡ 9 → Rose (O.faults out.old) (O.faults out.new) }

@@ -3,20 +3,20 @@ ghost use Rattle.brace_io.specs.Counts.{Rose};
 ghost use Rattle.brace_io.specs.Shelves.{Files, Stage, Idle, writes};
 ghost use Rattle.brace_io.specs.Sinks.{GainsFront};
 ghost use Rattle.brace_model.specs.Rules.{RulesAlone};
-ghost use Rattle.brace_top.specs.Line.{line_of};
-ghost use Rattle.brace_top.specs.Lines.{write_fault_line};
-ghost use Rattle.brace_top.specs.Outcome.{every_tick, end_status, end_line, ran, line_outcome, outcome};
+ghost use Rattle.brace_top.specs.Outcome.{every_tick, end_status, end_line, ran, run_outcome, LineOutcome};
 ghost use Rattle.brace_top.specs.Status.{has_run, is_refusal};
-ghost use Rattle.brace_top.specs.Words.{said};
-ghost use Rattle.brace_top.specs.Answer.{IsCaused, IsWritten, IsLine, IsStopped, IsSaid};
+ghost use Rattle.brace_top.specs.Words.{said, said_run, HasTicks};
+ghost use Rattle.brace_top.specs.Answer.{IsAnswer, LeavesFront};
+ghost use Rattle.brace_top.specs.RunAnswer.{IsCaused, IsWritten, IsLine, IsStopped};
 ghost use Rattle.brace_top.specs.declared.answer.Answer.{Answer};
 
-use crate::answer::{Answer, Stopped, tell};
+use crate::answer::{Answer, Stopped, answered, unwritten};
+use crate::format::format_script;
 use crate::job::{RunFault, run_ticks};
 use crate::lines::fault_line;
 use crate::load::{load_program, load_world};
 use crate::status::Status;
-use crate::words::{Line, read_line};
+use crate::words::{Line, RunLine};
 use brace_io::{Failed, Shelf, Sink};
 use brace_model::{Fault, Program, World};
 use brace_num::NoMemory;
@@ -37,17 +37,6 @@ fn ended(alloc: Global, found: Option<Fault>) -> Result<Answer, NoMemory>
             line: fault_line(alloc, &fault)?,
         }),
     }
-}
-
-/// The answer after a fault of writing.
-fn unwritten(alloc: Global) -> Result<Answer, NoMemory>
-    ensures status { IfOk result (λ answer. answer.status ≡ Status.WriteFault) }
-    ensures line { IfOk result (λ answer. answer.line.items ≡ write_fault_line) }
-{
-    Ok(Answer {
-        status: Status::WriteFault,
-        line: Vec::from_slice(alloc, b"brace: write fault\n")?,
-    })
 }
 
 /// Runs a program from a start world, and hands the sink on what was written.
@@ -78,12 +67,12 @@ fn run_world<O: Sink>(
 }
 
 /// The program and the start world of a line.
-fn load<S: Shelf>(alloc: Global, shelf: &mut S, line: &Line) -> Result<(Program, World), Stopped>
+fn load<S: Shelf>(alloc: Global, shelf: &mut S, line: &RunLine) -> Result<(Program, World), Stopped>
     requires { writes (S.stage shelf.old) ≡ false }
-    ensures loaded { IfOk result (λ both. (files : Files) → S.held shelf.old ≡ Some files → line_outcome files (said line.now) ≡ ran (every_tick both.0 line.now.ticks both.1)) }
+    ensures loaded { IfOk result (λ both. (files : Files) → S.held shelf.old ≡ Some files → run_outcome files (said_run line.now) ≡ ran (every_tick both.0 line.now.ticks both.1)) }
     ensures rules { IfOk result (λ both. RulesAlone both.0) }
     ensures stopped { IfErr result (λ e. (answer : Answer) → e ≡ Stopped.Answer answer
-        → IsStopped (λ files. line_outcome files (said line.now)) (S.held shelf.old) (S.stage shelf.new) (Rose (S.faults shelf.old) (S.faults shelf.new)) answer.status answer.line.items) }
+        → IsStopped (λ files. run_outcome files (said_run line.now)) (S.held shelf.old) (S.stage shelf.new) (Rose (S.faults shelf.old) (S.faults shelf.new)) answer.status answer.line.items) }
     ensures held { S.held shelf.new ≡ S.held shelf.old }
     ensures not_writing { writes (S.stage shelf.new) ≡ false }
     ensures never_falls { S.faults shelf.old ≤ S.faults shelf.new }
@@ -97,37 +86,27 @@ fn load<S: Shelf>(alloc: Global, shelf: &mut S, line: &Line) -> Result<(Program,
     }
 }
 
-/// The answer with which a line was stopped.
-fn answered(stopped: Stopped) -> Result<Answer, NoMemory>
-    ensures { IfOk result (λ answer. stopped ≡ Stopped.Answer answer) }
-{
-    match stopped {
-        Stopped::Answer(answer) => Ok(answer),
-        Stopped::NoMemory => Err(NoMemory),
-    }
-}
-
-/// Carries a line out: reads the script, then the agents, then runs.
-pub fn run_line<S: Shelf, O: Sink>(
+/// Carries a run out: reads the script, then the agents, then runs.
+fn run_job<S: Shelf, O: Sink>(
     alloc: Global,
-    line: &Line,
+    line: &RunLine,
     shelf: &mut S,
     out: &mut O,
 ) -> Result<Answer, NoMemory>
     requires stage { writes (S.stage shelf.old) ≡ false }
     requires ticks { line.now.ticks ≤ 2 ^ 32 }
     ensures caused { IfOk result (λ answer. (files : Files) → S.held shelf.old ≡ Some files
-        → IsCaused (line_outcome files (said line.now)) answer.status (Rose (S.faults shelf.old) (S.faults shelf.new)) (Rose (O.faults out.old) (O.faults out.new))) }
+        → IsCaused (run_outcome files (said_run line.now)) answer.status (Rose (S.faults shelf.old) (S.faults shelf.new)) (Rose (O.faults out.old) (O.faults out.new))) }
     ensures written { IfOk result (λ answer. (files : Files) → S.held shelf.old ≡ Some files
-        → IsWritten answer.status (line_outcome files (said line.now)).out (O.written out.old) (O.written out.new)) }
+        → IsWritten answer.status (run_outcome files (said_run line.now)).out (O.written out.old) (O.written out.new)) }
     ensures line { IfOk result (λ answer. (files : Files) → S.held shelf.old ≡ Some files
-        → IsLine (line_outcome files (said line.now)) (S.held shelf.new) (S.stage shelf.new) answer.status answer.line.items) }
+        → IsLine (run_outcome files (said_run line.now)) (S.held shelf.new) (S.stage shelf.new) answer.status answer.line.items) }
     ensures read_fault { IfOk result (λ answer. answer.status ≡ Status.ReadFault → Rose (S.faults shelf.old) (S.faults shelf.new)) }
     ensures write_fault { IfOk result (λ answer. answer.status ≡ Status.WriteFault → Rose (O.faults out.old) (O.faults out.new)) }
     ensures untouched { IfOk result (λ answer. is_refusal answer.status ≡ true → out.new ≡ out.old) }
     ensures clean { IfOk result (λ answer. has_run answer.status ≡ true → O.clean out.new ≡ true) }
     ensures known { IfOk result (λ answer. answer.status ≢ Status.Usage) }
-    ensures front { OnErr result ((files : Files) → S.held shelf.old ≡ Some files → GainsFront (O.written out.old) (O.written out.new) (line_outcome files (said line.now)).out) }
+    ensures front { OnErr result ((files : Files) → S.held shelf.old ≡ Some files → GainsFront (O.written out.old) (O.written out.new) (run_outcome files (said_run line.now)).out) }
     ensures held { S.held shelf.new ≡ S.held shelf.old }
     ensures not_writing { writes (S.stage shelf.new) ≡ false }
     ensures shelf_never_falls { S.faults shelf.old ≤ S.faults shelf.new }
@@ -136,5 +115,34 @@ pub fn run_line<S: Shelf, O: Sink>(
     match load(alloc, shelf, line) {
         Ok((program, world)) => run_world(alloc, &program, line.ticks, world, out),
         Err(stopped) => answered(stopped),
+    }
+}
+
+/// Carries a line out.
+pub fn answer_line<S: Shelf, O: Sink>(
+    alloc: Global,
+    line: &Line,
+    shelf: &mut S,
+    out: &mut O,
+) -> Result<Answer, NoMemory>
+    requires stage { writes (S.stage shelf.old) ≡ false }
+    requires ticks { HasTicks line.now }
+    ensures answered { IfOk result (λ answer. (files : Files) → S.held shelf.old ≡ Some files
+        → IsAnswer (LineOutcome files (Some (said line.now))) (S.held shelf.new) (S.stage shelf.new) answer.status
+            (Rose (S.faults shelf.old) (S.faults shelf.new)) (Rose (O.faults out.old) (O.faults out.new)) (O.written out.old) (O.written out.new) answer.line.items) }
+    ensures front { OnErr result ((files : Files) → S.held shelf.old ≡ Some files → LeavesFront (LineOutcome files (Some (said line.now))) (O.written out.old) (O.written out.new)) }
+    ensures read_fault { IfOk result (λ answer. answer.status ≡ Status.ReadFault → Rose (S.faults shelf.old) (S.faults shelf.new)) }
+    ensures write_fault { IfOk result (λ answer. answer.status ≡ Status.WriteFault → Rose (O.faults out.old) (O.faults out.new)) }
+    ensures untouched { IfOk result (λ answer. is_refusal answer.status ≡ true → out.new ≡ out.old) }
+    ensures clean { IfOk result (λ answer. has_run answer.status ≡ true → O.clean out.new ≡ true) }
+    ensures known { IfOk result (λ answer. answer.status ≢ Status.Usage) }
+    ensures held { S.held shelf.new ≡ S.held shelf.old }
+    ensures not_writing { writes (S.stage shelf.new) ≡ false }
+    ensures shelf_never_falls { S.faults shelf.old ≤ S.faults shelf.new }
+    ensures out_never_falls { O.faults out.old ≤ O.faults out.new }
+{
+    match line {
+        Line::Run(line) => run_job(alloc, line, shelf, out),
+        Line::Format(name) => format_script(alloc, name, shelf, out),
     }
 }

@@ -5,9 +5,12 @@ mod agents;
 mod answer;
 mod command;
 mod flow;
+mod format;
 mod job;
 mod lines;
 mod load;
+mod places;
+mod script_fault;
 mod status;
 mod step;
 mod thin;
@@ -16,5 +19,7 @@ mod words;
 pub use command::{run, run_alone};
 pub use thin::{ThinFault, read_thin};
 
+#[cfg(test)]
+mod format_tests;
 #[cfg(test)]
 mod tests;

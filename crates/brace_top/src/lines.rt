@@ -1,5 +1,5 @@
 ghost use Rattle.std.specs.Prelude.{◌≡◌, ◌++◌, IfOk, OnOk};
-ghost use Rattle.brace_top.specs.Lines.{named_line, phase_word, kind_word, loop_text, agents_text, site_text, fault_line};
+ghost use Rattle.brace_top.specs.Lines.{named_line, placed_line, phase_word, kind_word, loop_text, agents_text, site_text, fault_line};
 
 use brace_model::{Fault, Phase};
 use brace_num::{Kind, NoMemory, print_count};
@@ -15,6 +15,26 @@ pub fn named_line(alloc: Global, name: &str, rest: &[u8]) -> Result<Vec<u8>, NoM
     line.extend_from_slice(rest)?;
     line.push(b'\n')?;
     Ok(line)
+}
+
+/// The line that names a place in a file, by its line and column, and what is found there.
+pub fn placed_line(
+    alloc: Global,
+    name: &str,
+    line: u64,
+    column: u64,
+    kind: &[u8],
+) -> Result<Vec<u8>, NoMemory>
+    ensures { IfOk result (λ text. text.items ≡ placed_line name.now line column kind.now) }
+{
+    let mut rest = Vec::new(alloc);
+    rest.push(b':')?;
+    print_count(&mut rest, line)?;
+    rest.push(b':')?;
+    print_count(&mut rest, column)?;
+    rest.extend_from_slice(b": ")?;
+    rest.extend_from_slice(kind)?;
+    named_line(alloc, name, rest.as_slice())
 }
 
 fn phase_word(phase: Phase) -> &'static [u8]

@@ -3,8 +3,8 @@ ghost use Rattle.brace_io.specs.Counts.{Rose};
 ghost use Rattle.brace_io.specs.Shelves.{Files, writes};
 ghost use Rattle.brace_model.specs.Rules.{RulesAlone};
 ghost use Rattle.brace_top.specs.Thin.{thin_program};
-ghost use Rattle.brace_top.specs.Outcome.{script_of, agents_of};
-ghost use Rattle.brace_top.specs.Answer.{IsRefused};
+ghost use Rattle.brace_top.specs.Outcome.{source_of, script_of, agents_of};
+ghost use Rattle.brace_top.specs.RunAnswer.{IsRefused};
 ghost use Rattle.brace_top.specs.declared.answer.Answer.{Answer};
 
 use crate::agents::{AgentsFault, read_thin_agents};
@@ -31,6 +31,26 @@ fn read_program(alloc: Global, src: &[u8]) -> Result<Program, ThinFault>
     match read_thin(alloc, src) {
         Ok(program) => Ok(program),
         Err(fault) => Err(fault),
+    }
+}
+
+/// The bytes of the script of a name.
+pub fn load_source<S: Shelf>(alloc: Global, shelf: &mut S, name: &str) -> Result<Vec<u8>, Stopped>
+    requires { writes (S.stage shelf.old) ≡ false }
+    ensures held { S.held shelf.new ≡ S.held shelf.old }
+    ensures not_writing { writes (S.stage shelf.new) ≡ false }
+    ensures never_falls { S.faults shelf.old ≤ S.faults shelf.new }
+    ensures loaded { IfOk result (λ src. (files : Files) → S.held shelf.old ≡ Some files → source_of files name.now ≡ Ok src.items) }
+    ensures within { IfOk result (λ src. length src.items ≤ 1048576) }
+    ensures refused { IfErr result (λ e. (answer : Answer) → e ≡ Stopped.Answer answer
+        → IsRefused (λ files. source_of files name.now) name.now (S.held shelf.old) (S.stage shelf.new) (Rose (S.faults shelf.old) (S.faults shelf.new)) answer.status answer.line.items) }
+{
+    match read_whole(alloc, shelf, name, SCRIPT_LIMIT) {
+        Ok(src) => Ok(src),
+        Err(WholeFault::Absent) => Err(refused(alloc, name, Status::Absent, b": absent")),
+        Err(WholeFault::TooLong) => Err(refused(alloc, name, Status::Script, b": TooLong")),
+        Err(WholeFault::Failed) => Err(refused(alloc, name, Status::ReadFault, b": read fault")),
+        Err(WholeFault::NoMemory) => Err(Stopped::NoMemory),
     }
 }
 

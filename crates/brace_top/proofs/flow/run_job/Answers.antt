@@ -1,5 +1,5 @@
 use Rattle.brace_top.proofs.RunAnswers.{line_of_run, front_of_outcome, stopped_caused, stopped_written, stopped_line, stopped_read, stopped_write, stopped_clean, stopped_known}
-use Rattle.brace_top.proofs.flow.run_line.Goals as goal
+use Rattle.brace_top.proofs.flow.run_job.Goals as goal
 
 pub returns-in-Ok-clause-line : goal.returns-in-Ok-clause-line
 returns-in-Ok-clause-line g c = line_of_run _ _ _ _ _ _ c.run_world.ensures.line c.in-Ok.ensures.loaded
