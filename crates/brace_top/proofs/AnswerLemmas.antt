@@ -1,5 +1,5 @@
 -- The answer of a command, from the facts of its parts.
-use Rattle.std.proofs.Common.{◌≡◌, refl, sym, ap, subst, ℕ, true, List, Result, Ok, Err, OnErr, IfOk, Option, Some, None, inl, inr}
+use Rattle.std.proofs.Common.{◌≡◌, refl, sym, ap, subst, ℕ, List, Result, Ok, Err, OnErr, IfOk, Option, Some, None, inl, inr}
 use Rattle.brace_io.specs.Shelves.{Files, Stage}
 use Rattle.brace_io.specs.Sinks.{GainsFront}
 use Rattle.brace_num.specs.declared.memory.NoMemory.{NoMemory as Memory}

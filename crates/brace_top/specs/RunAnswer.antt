@@ -39,4 +39,3 @@ IsRefused loading name held stage rose status line = (is_refusal status ≡ true
 abbrev pub IsStopped : (Files → Outcome) → Option Files → Stage → Type 0 → Status → List ℕ → Type 0
 IsStopped o held stage rose ReadFault line = rose × ((name : List ℕ) × (StoppedAt held stage name × (line ≡ named_line name (codes ": read fault"))))
 IsStopped o held stage rose status line = (is_refusal status ≡ true) × ((files : Files) → held ≡ Some files → o files ≡ refused (record { status = status; line = line }))
-

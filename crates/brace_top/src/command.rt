@@ -27,7 +27,7 @@ fn carry_out<S: Shelf, O: Sink, E: Sink>(
     requires { S.stage shelf.old ≡ Idle }
     ensures answered { (files : Files) → S.held shelf.old ≡ Some files → (line : List ℕ) × (
         IsAnswer (HasOutcome (map string_bytes words.now) files) (S.held shelf.new) (S.stage shelf.new) result
-            (Rose (S.faults shelf.old) (S.faults shelf.new)) (Rose (O.faults out.old) (O.faults out.new)) (O.written out.old) (O.written out.new) line
+        (Rose (S.faults shelf.old) (S.faults shelf.new)) (Rose (O.faults out.old) (O.faults out.new)) (O.written out.old) (O.written out.new) line
         × IsSaid line (E.written err.old) (E.written err.new) (E.faults err.old) (E.faults err.new)) }
     ensures usage { (result ≡ Status.Usage) ↔ (line_of (map string_bytes words.now) ≡ None) }
     ensures read_fault { result ≡ Status.ReadFault → Rose (S.faults shelf.old) (S.faults shelf.new) }
@@ -85,7 +85,7 @@ pub fn run_alone<S: Shelf, O: Sink, E: Sink>(
     ensures known { IfSome result (λ code. code_of (status_of code) ≡ code) }
     ensures answered { IfSome result (λ code. (files : Files) → S.held shelf.old ≡ Some files → (line : List ℕ) × (
         IsAnswer (HasOutcome (map string_bytes words.now) files) (S.held shelf.new) (S.stage shelf.new) (status_of code)
-            (Rose (S.faults shelf.old) (S.faults shelf.new)) (Rose (O.faults out.old) (O.faults out.new)) (O.written out.old) (O.written out.new) line
+        (Rose (S.faults shelf.old) (S.faults shelf.new)) (Rose (O.faults out.old) (O.faults out.new)) (O.written out.old) (O.written out.new) line
         × IsSaid line (E.written err.old) (E.written err.new) (E.faults err.old) (E.faults err.new))) }
     ensures usage { IfSome result (λ code. (code ≡ 2) ↔ (line_of (map string_bytes words.now) ≡ None)) }
     ensures read_fault { IfSome result (λ code. code ≡ 8 → Rose (S.faults shelf.old) (S.faults shelf.new)) }
@@ -113,7 +113,7 @@ pub fn run<R: Threads + Wait + Sync, S: Shelf + Send, O: Sink + Send, E: Sink, G
     ensures known { code_of (status_of result) ≡ result }
     ensures answered { (files : Files) → S.held shelf.old ≡ Some files → (line : List ℕ) × (
         IsAnswer (HasOutcome (map string_bytes words.now) files) (S.held shelf.new) (S.stage shelf.new) (status_of result)
-            (Rose (S.faults shelf.old) (S.faults shelf.new)) (Rose (O.faults out.old) (O.faults out.new)) (O.written out.old) (O.written out.new) line
+        (Rose (S.faults shelf.old) (S.faults shelf.new)) (Rose (O.faults out.old) (O.faults out.new)) (O.written out.old) (O.written out.new) line
         × IsSaid line (E.written err.old) (E.written err.new) (E.faults err.old) (E.faults err.new)) }
     ensures usage { (result ≡ 2) ↔ (line_of (map string_bytes words.now) ≡ None) }
     ensures read_fault { result ≡ 8 → Rose (S.faults shelf.old) (S.faults shelf.new) }

@@ -129,7 +129,7 @@ pub fn answer_line<S: Shelf, O: Sink>(
     requires ticks { HasTicks line.now }
     ensures answered { IfOk result (λ answer. (files : Files) → S.held shelf.old ≡ Some files
         → IsAnswer (LineOutcome files (Some (said line.now))) (S.held shelf.new) (S.stage shelf.new) answer.status
-            (Rose (S.faults shelf.old) (S.faults shelf.new)) (Rose (O.faults out.old) (O.faults out.new)) (O.written out.old) (O.written out.new) answer.line.items) }
+        (Rose (S.faults shelf.old) (S.faults shelf.new)) (Rose (O.faults out.old) (O.faults out.new)) (O.written out.old) (O.written out.new) answer.line.items) }
     ensures front { OnErr result ((files : Files) → S.held shelf.old ≡ Some files → LeavesFront (LineOutcome files (Some (said line.now))) (O.written out.old) (O.written out.new)) }
     ensures read_fault { IfOk result (λ answer. answer.status ≡ Status.ReadFault → Rose (S.faults shelf.old) (S.faults shelf.new)) }
     ensures write_fault { IfOk result (λ answer. answer.status ≡ Status.WriteFault → Rose (O.faults out.old) (O.faults out.new)) }

@@ -66,7 +66,10 @@ fn refuse(
     ensures status { IfOk result (λ answer. answer.status ≡ Status.Script) }
     ensures line { IfOk result (λ answer. answer.line.items ≡ (refused_at name.now src.now kind at).err) }
 {
-    let (line, column) = (line_number(src, at as usize), column_number(src, at as usize));
+    let (line, column) = (
+        line_number(src, at as usize),
+        column_number(src, at as usize),
+    );
     Ok(Answer {
         status: Status::Script,
         line: placed_line(alloc, name, line, column, kind.word())?,
@@ -129,7 +132,7 @@ pub fn format_script<S: Shelf, O: Sink>(
     requires stage { writes (S.stage shelf.old) ≡ false }
     ensures answered { IfOk result (λ answer. (files : Files) → S.held shelf.old ≡ Some files
         → IsAnswer (LineOutcome files (Some (asked.Format name.now))) (S.held shelf.new) (S.stage shelf.new) answer.status
-            (Rose (S.faults shelf.old) (S.faults shelf.new)) (Rose (O.faults out.old) (O.faults out.new)) (O.written out.old) (O.written out.new) answer.line.items) }
+        (Rose (S.faults shelf.old) (S.faults shelf.new)) (Rose (O.faults out.old) (O.faults out.new)) (O.written out.old) (O.written out.new) answer.line.items) }
     ensures front { OnErr result ((files : Files) → S.held shelf.old ≡ Some files → LeavesFront (LineOutcome files (Some (asked.Format name.now))) (O.written out.old) (O.written out.new)) }
     ensures read_fault { IfOk result (λ answer. answer.status ≡ Status.ReadFault → Rose (S.faults shelf.old) (S.faults shelf.new)) }
     ensures write_fault { IfOk result (λ answer. answer.status ≡ Status.WriteFault → Rose (O.faults out.old) (O.faults out.new)) }

@@ -100,13 +100,7 @@ fn names_the_kind_and_place_of_a_refusal(rt: HostRuntime) -> Result<(), Fail> {
 fn keeps_the_limits_of_words_and_depth(rt: HostRuntime) -> Result<(), Fail> {
     let alloc = rt.alloc();
     for (head, piece, most, tail, line) in [
-        (
-            "class ",
-            "a",
-            64,
-            " { }",
-            "brace: s:1:7: LongWord\n",
-        ),
+        ("class ", "a", 64, " { }", "brace: s:1:7: LongWord\n"),
         (
             "class P { public state int n : ",
             "(",
