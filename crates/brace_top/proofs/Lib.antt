@@ -9,3 +9,4 @@ pub mod JobLemmas
 pub mod RunAnswers
 pub mod LineLemmas
 pub mod AnswerLemmas
+pub mod OneOutcome

@@ -110,6 +110,6 @@ LineOutcome files None o = o ≡ record { status = Usage; out = []; err = usage_
 LineOutcome files (Some (Run line)) o = o ≡ run_outcome files line
 LineOutcome files (Some (Format name)) o = with_source name o (source_of files name)
 
--- an outcome of words over the files that a shelf holds: there is one, but for the place where a script that no tree reads is refused
+-- an outcome of words over the files that a shelf holds; all outcomes of a command have one status and one text
 abbrev pub HasOutcome : List (List ℕ) → Files → Outcome → Type 0
 HasOutcome words files o = LineOutcome files (line_of words) o

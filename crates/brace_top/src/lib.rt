@@ -7,6 +7,7 @@ mod command;
 mod flow;
 mod format;
 mod job;
+pub mod laws;
 mod lines;
 mod load;
 mod places;
