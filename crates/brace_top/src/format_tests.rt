@@ -128,7 +128,8 @@ fn keeps_the_limits_of_words_and_depth(rt: HostRuntime) -> Result<(), Fail> {
             assert_eq!(rt; err.bytes(), b"".as_slice());
             assert!(rt; !out.bytes().is_empty());
         }
-        let past = repeated(alloc, head, piece, most + 1, tail)?;
+        let one = repeated(alloc, head, piece, 1, b"")?;
+        let past = repeated(alloc, one.as_slice(), piece, most, tail)?;
         let (code, _, err) = formatted(alloc, past.as_slice())?;
         assert_eq!(rt; code, Some(3));
         assert_eq!(rt; err.bytes(), line.as_bytes());
