@@ -1,5 +1,6 @@
 #!/usr/bin/env bash
-# Brings scripts of 64 KiB, 256 KiB and 1 MiB (the limit) into canonical text, and prints seconds, peak memory and the ratios between them.
+# Brings scripts of 64 KiB, 256 KiB and 1 MiB (the limit) into canonical text, and prints seconds (the median of seven runs), peak memory and the
+# ratios between them.
 set -eu
 top=$(cd "$(dirname "$0")/.." && pwd)
 work=$(mktemp -d)
@@ -33,11 +34,14 @@ for size in (1 << 16, 1 << 18, 1 << 20):
         n += 1
     with open(f"{work}/s", "w") as f:
         f.write("".join(text) + " " * (size - length))
-    start = time.time()
-    p = subprocess.Popen([program, "fmt", "--script", f"{work}/s"], stdout=open(f"{work}/out", "w"))
-    _, status, usage = os.wait4(p.pid, 0)
-    seconds, mib = time.time() - start, usage.ru_maxrss / 1024
-    assert status == 0, status
+    runs = []
+    for _ in range(7):
+        start = time.time()
+        p = subprocess.Popen([program, "fmt", "--script", f"{work}/s"], stdout=subprocess.DEVNULL)
+        _, status, usage = os.wait4(p.pid, 0)
+        runs.append((time.time() - start, usage.ru_maxrss / 1024))
+        assert status == 0, status
+    seconds, mib = sorted(runs)[3]
     ratios = f"{seconds / before[0]:9.1f}  {mib / before[1]:5.1f}" if before else ""
     print(f"{size:9}  {seconds:8.3f}  {mib:5.0f}  {ratios}")
     before = seconds, mib
