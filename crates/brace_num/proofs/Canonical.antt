@@ -10,7 +10,7 @@ use Rattle.brace_num.specs.Exact.{fits}
 use Rattle.brace_num.specs.Spelling.{Digits, Decimals, SpellsCount, SpellsInt, SpellsFixed, plain, negated, pointed, canonical_count, canonical_int, canonical_fixed, six_digits}
 use Rattle.brace_num.proofs.Printings.{short_decimal}
 
-decimal_digits : (n : ℕ) → n < 2 ^ 64 → Digits (decimal n) n
+pub decimal_digits : (n : ℕ) → n < 2 ^ 64 → Digits (decimal n) n
 decimal_digits n h = let d = decimal_is_IsNumeral n h in (d.0, sym d.1)
 
 pub count_printed : (n : ℕ) → n < 2 ^ 64 → SpellsCount (canonical_count n) n
@@ -27,15 +27,15 @@ int_printed (pos n) f = let h = pos_small n f in (plain n (decimal_digits n (ome
 int_printed (negsuc n) f = let h = negsuc_small n f in (negated (decimal (suc n)) (suc n) refl (decimal_digits (suc n) (omega arith)) refl, f)
 
 -- zeros in front change no value
-zeros_digits : (k : ℕ) (ds : List ℕ) → AllDigits 10 ds → AllDigits 10 (replicate k 48 ++ ds)
+pub zeros_digits : (k : ℕ) (ds : List ℕ) → AllDigits 10 ds → AllDigits 10 (replicate k 48 ++ ds)
 zeros_digits zero ds d = d
 zeros_digits (suc k) ds d = (lit< tt, zeros_digits k ds d)
 
-zeros_value : (k : ℕ) (ds : List ℕ) → digits_value 10 (replicate k 48 ++ ds) ≡ digits_value 10 ds
+pub zeros_value : (k : ℕ) (ds : List ℕ) → digits_value 10 (replicate k 48 ++ ds) ≡ digits_value 10 ds
 zeros_value zero ds = refl
 zeros_value (suc k) ds = zeros_value k ds
 
-six_long : (n : ℕ) → n < 1000000 → length (six_digits n) ≡ 6
+pub six_long : (n : ℕ) → n < 1000000 → length (six_digits n) ≡ 6
 six_long n h = let s = short_decimal n h in omega (arith, length-append (replicate (6 - length (decimal n)) 48) (decimal n), length-replicate {A = ℕ} (6 - length (decimal n)) 48)
 
 six_spelled : (n : ℕ) → n < 1000000 → Digits (six_digits n) n

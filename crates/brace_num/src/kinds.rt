@@ -1,4 +1,4 @@
-/// Why an exact operation has no result.
+/// Why an exact operation has no result, or a world has no next one.
 #[derive(Debug, Clone, Copy, PartialEq, Eq, Drop)]
 pub enum Kind {
     /// The exact result does not fit 64 signed bits.
@@ -7,6 +7,8 @@ pub enum Kind {
     DivZero,
     /// The root of a negative number was asked for.
     NegRoot,
+    /// A birth takes a world past its limits. No exact operation answers it.
+    TooMany,
 }
 
 /// A box of the plane in millionths. It includes its four bounds.

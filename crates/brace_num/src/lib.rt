@@ -3,6 +3,7 @@
 
 mod boxed;
 mod exact;
+mod generator;
 mod kinds;
 pub mod laws;
 mod list;
@@ -19,6 +20,7 @@ pub use exact::{
     abs, add, clamp, fixed_div, fixed_mul, int_div, int_mul, int_rem, neg, sqrt, sub, to_fixed,
     trunc,
 };
+pub use generator::Generator;
 pub use kinds::{Area, Kind};
 pub use list::List;
 pub use memory::NoMemory;

@@ -1,7 +1,8 @@
 // What no clause says: that the definitions mean the usual numbers, at values worked by hand.
 use crate::{
-    Kind, abs, add, clamp, fixed_div, fixed_mul, int_div, int_mul, int_rem, neg, print_count,
-    print_fixed, print_int, read_count, read_fixed, read_int, sqrt, sub, to_fixed, trunc,
+    Generator, Kind, abs, add, clamp, fixed_div, fixed_mul, int_div, int_mul, int_rem, neg,
+    print_count, print_fixed, print_int, read_count, read_fixed, read_int, sqrt, sub, to_fixed,
+    trunc,
 };
 
 const LEAST: i64 = -9223372036854775808;
@@ -421,5 +422,15 @@ fn prints_and_reads_the_ends_and_about_zero(rt: HostRuntime) {
         print_count(&mut out, n).expect(&rt, "memory");
         assert_eq!(rt; &out[1..], text.as_bytes());
         assert_eq!(rt; read_count(text.as_bytes()), Some(n));
+    }
+}
+
+// The first two numbers from the seed 0 are those that Knuth and Lewis give for the modulus 2^32.
+#[test]
+fn generates_from_the_low_bits_of_a_seed(rt: HostRuntime) {
+    for seed in [0, 4_294_967_296] {
+        let mut generator = Generator::new(seed);
+        assert_eq!(rt; generator.draw(), 1_013_904_223);
+        assert_eq!(rt; generator.draw(), 1_196_435_762);
     }
 }
