@@ -4,6 +4,7 @@ use Rattle.std.specs.Fmt.{decimal}
 use Rattle.std.proofs.lemmas.List.{append-nil}
 use Rattle.brace_num.specs.Spelling.{six_digits}
 use Rattle.brace_show.specs.Literals.{shortened}
+use Rattle.brace_num.specs.Names.{is_name}
 use Rattle.brace_tok.specs.Tables.{reserved, symbol}
 use Rattle.brace_tok.specs.Pieces.{blank, word, whole, fraction, sign}
 use Rattle.brace_tok.specs.Sayings.{says, token}
@@ -29,7 +30,7 @@ use Rattle.brace_syntax.specs.declared.tree.ExprTree.TheViews.{roll-ExprTree}
 use Rattle.brace_syntax.specs.declared.tree.ExprTree.TheFolds.{fold-roll-ExprTree, ind-ExprTree, map-ExprTree}
 use Rattle.brace_show.specs.Alike.{ident_at_0, number_at_0, expr_step, expr_at_0}
 use Rattle.brace_show.proofs.Rows.{Row, space, mark, letters, literal_row, Phrased, row_at, atom_row, call_one_row, call_two_row, prefixed_row, between_row, unary_row, binary_row, choice_row, phrased_step, phrased_of, expression_row}
-use Rattle.brace_show.proofs.Sound.{name_is, digits_are, expr_sound_step, expr_sound}
+use Rattle.brace_show.proofs.Sound.{digits_are, expr_sound_step, expr_sound}
 use Rattle.brace_show.proofs.RowSays.{name_says, whole_says, fraction_says}
 use Rattle.brace_show.proofs.Laid.{Laid, split, say, past, laid_as, done}
 
@@ -275,7 +276,7 @@ say_number C src (Fixed (pos n)) row toks s l f = say C (k.Fixed (pos n)) src (f
 say_number C src (Fixed (negsuc n)) row toks s l f = absurd (cc)
 
 -- a name, and what stands behind it
-pub say_name : (C : List Token → Type 0) (src : List ℕ) (name : Ident) (row : Row) (toks : List Token) → name_is name.text ≡ true → Laid src (word name.text ∷ row) toks
+pub say_name : (C : List Token → Type 0) (src : List ℕ) (name : Ident) (row : Row) (toks : List Token) → is_name name.text ≡ true → Laid src (word name.text ∷ row) toks
     → ((tok : Token) (rest : List Token) → Is k.Word tok → ident_at_0 name ≡ ident_at_0 (ident src tok) → Laid src row rest → C (tok ∷ rest)) → C toks
 say_name C src name row toks s l f =
     say C k.Word src (word name.text) row toks (λ from. name_says from name.text s) l (λ tok rest is spelt l1.
@@ -314,7 +315,7 @@ random_good = good_at g.primaries _ _ (λ src toks l.
     done (λ z. C (tok ∷ opening ∷ closing ∷ z)) src t3 l3
     (e.Rand tok.from, g.random tok opening closing is ho hc, sym (at_0 (expr.Rand tok.from) (e.Rand tok.from) (e.rolls-Rand tok.from)))))))
 
-named_good : (name : Ident) → name_is name.text ≡ true → Good (atom_row (letters name.text)) (e.Name (ident_at_0 name))
+named_good : (name : Ident) → is_name name.text ≡ true → Good (atom_row (letters name.text)) (e.Name (ident_at_0 name))
 named_good name s = good_at g.primaries _ _ (λ src toks l.
     let C : List Token → Type 0 = Found src g.primaries (e.Name (ident_at_0 name)) in
     say_name C src name [] toks s l (λ tok rest is same l1.
@@ -322,7 +323,7 @@ named_good name s = good_at g.primaries _ _ (λ src toks l.
     (let i : Ident = ident src tok in
     (e.Name i, g.named tok is, ap (λ (z : Ident). e.Name z) same ∙ sym (at_0 (expr.Name i) (e.Name i) (e.rolls-Name i))))))
 
-of_this_good : (name : Ident) → name_is name.text ≡ true → Good (atom_row (letters (codes "this") ++ mark (codes ".") ++ letters name.text)) (e.OfThis (ident_at_0 name) 0)
+of_this_good : (name : Ident) → is_name name.text ≡ true → Good (atom_row (letters (codes "this") ++ mark (codes ".") ++ letters name.text)) (e.OfThis (ident_at_0 name) 0)
 unfolding reserved symbol
 of_this_good name s = good_at g.primaries _ _ (λ src toks l.
     let C : List Token → Type 0 = Found src g.primaries (e.OfThis (ident_at_0 name) 0) in
@@ -333,7 +334,7 @@ of_this_good name s = good_at g.primaries _ _ (λ src toks l.
     (let i : Ident = ident src tok in
     (e.OfThis i this.from, g.of_this this dot tok ht hd is, ap (λ (z : Ident). e.OfThis z 0) same ∙ sym (at_0 (expr.OfThis i this.from) (e.OfThis i this.from) (e.rolls-OfThis i this.from))))))))
 
-of_loop_good : (loop name : Ident) → name_is loop.text ≡ true → name_is name.text ≡ true → Good (atom_row (letters loop.text ++ mark (codes ".") ++ letters name.text)) (e.OfLoop (ident_at_0 loop) (ident_at_0 name))
+of_loop_good : (loop name : Ident) → is_name loop.text ≡ true → is_name name.text ≡ true → Good (atom_row (letters loop.text ++ mark (codes ".") ++ letters name.text)) (e.OfLoop (ident_at_0 loop) (ident_at_0 name))
 unfolding symbol
 of_loop_good loop name s s' = good_at g.primaries _ _ (λ src toks l.
     let C : List Token → Type 0 = Found src g.primaries (e.OfLoop (ident_at_0 loop) (ident_at_0 name)) in
@@ -366,7 +367,7 @@ each_good (expr.True at) = rolled (expr.True at) (λ s. truth_good)
 each_good (expr.False at) = rolled (expr.False at) (λ s. falsity_good)
 each_good (expr.Name name) = rolled (expr.Name name) (λ s. named_good name s)
 each_good (expr.OfThis name at) = rolled (expr.OfThis name at) (λ s. of_this_good name s)
-each_good (expr.OfLoop loop name) = rolled (expr.OfLoop loop name) (λ s. of_loop_good loop name (first_of_both (name_is loop.text) (name_is name.text) s) (second_of_both (name_is loop.text) (name_is name.text) s))
+each_good (expr.OfLoop loop name) = rolled (expr.OfLoop loop name) (λ s. of_loop_good loop name (first_of_both (is_name loop.text) (is_name name.text) s) (second_of_both (is_name loop.text) (is_name name.text) s))
 each_good (expr.Unary op x at) = rolled (expr.Unary op x.0 at) (λ s. unary_good op (phrased_of x.0) (expr_at_0 x.0) (x.1 s))
 each_good (expr.Binary op x y at) = rolled (expr.Binary op x.0 y.0 at) (λ s.
     binary_good op (phrased_of x.0) (phrased_of y.0) (expr_at_0 x.0) (expr_at_0 y.0) (x.1 (first_of_both (expr_sound x.0) (expr_sound y.0) s)) (y.1 (second_of_both (expr_sound x.0) (expr_sound y.0) s)))

@@ -2,7 +2,8 @@
 use Rattle.std.proofs.Common.{◌≡◌, ◌∙◌, sym, ap, subst, refl, ℕ, nat_lt, nat_le, ◌==◌, Bool, true, false, not, ◌&&◌, if◌then◌else◌, List, [], ◌∷◌, ◌++◌, length, is_some, codes, pos, negsuc, ◌/◌, arith, append_assoc}
 use Rattle.std.specs.Fmt.{decimal}
 use Rattle.std.proofs.lemmas.Bool.{ne_eqb}
-use Rattle.brace_tok.specs.Bytes.{is_digit, is_letter, begins, are_digits, is_word}
+use Rattle.brace_num.specs.Names.{is_digit, is_letter, begins, is_word, is_name}
+use Rattle.brace_tok.specs.Bytes.{are_digits}
 use Rattle.brace_tok.specs.Tables.{symbol}
 use Rattle.brace_tok.specs.Pieces.{whole, fraction}
 use Rattle.brace_tok.specs.Spells.{text_of}
@@ -16,8 +17,9 @@ use Rattle.brace_syntax.specs.declared.tree.BinName.TheVariants as bin
 use Rattle.brace_syntax.specs.declared.tree.ExprTree.{ExprTree}
 use Rattle.brace_syntax.specs.declared.tree.ExprTree.TheOpen.{ExprTree-F, Lit, True, False, Name, OfThis, OfLoop, Unary, Binary, Choice, Rand}
 use Rattle.brace_syntax.specs.declared.tree.ExprTree.TheFolds.{map-ExprTree, fold-roll-ExprTree, ind-ExprTree}
-use Rattle.brace_show.proofs.Sound.{name_is, digits_are, expr_sound_step, expr_sound}
-use Rattle.brace_show.proofs.RowSays.{name_word, name_short, word_fits, decimal_digits}
+use Rattle.brace_show.proofs.Sound.{digits_are, expr_sound_step, expr_sound}
+use Rattle.brace_tok.proofs.Named.{name_word, name_short}
+use Rattle.brace_show.proofs.RowSays.{word_fits, decimal_digits}
 use Rattle.brace_show.proofs.Rows.{Row, space, mark, letters, literal_row, Phrased, row_at, call_one_row, call_two_row, prefixed_row, between_row, unary_row, binary_row, choice_row, phrased_step, phrased_of}
 use Rattle.brace_show.proofs.RowText.{text_append, run, run_is}
 use Rattle.brace_show.proofs.PieceStands.{row_split, Stands, Stood, follow, ended, any, no_word, stops, marked, open_stands, close_stands, dot_stands, comma_stands, minus_stands, lettered, named, literal_stands}
@@ -157,7 +159,7 @@ binary_fits bin.Rem p q f g = between_fits 6 6 7 (codes "%") (λ after h. refl) 
 binary_fits bin.Min p q f g = two_fits (codes "min") refl refl p q f g
 binary_fits bin.Max p q f g = two_fits (codes "max") refl refl p q f g
 
-abbrev pub pointed : (f g : List ℕ) → is_word f ≡ true → nat_le (length f) 64 ≡ true → name_is g ≡ true → Stood
+abbrev pub pointed : (f g : List ℕ) → is_word f ≡ true → nat_le (length f) 64 ≡ true → is_name g ≡ true → Stood
 pointed f g e short named_ = follow (ended (lettered f e short) (mark (codes ".") ∷ []) any dot_stands (λ after h. refl)) (named g named_) (λ after h. refl)
 
 rand_stands : Stands any (letters (codes "rand") ++ mark (codes "(") ++ mark (codes ")"))
@@ -180,8 +182,8 @@ step_fits (False at) e = fitting 8 (lettered (codes "false") refl refl) begins_n
 step_fits (Name name) e = fitting 8 (named name.text e) begins_no_word (begins_word name.text (name_word name.text e) [])
 step_fits (OfThis name at) e = fitting 8 (pointed (codes "this") name.text refl refl e) begins_no_word (begins_word (codes "this") refl (codes "." ++ (name.text ++ [])))
 step_fits (OfLoop loop name) e =
-    let l = first_of_both (name_is loop.text) (name_is name.text) e in
-    fitting 8 (pointed loop.text name.text (name_word loop.text l) (name_short loop.text l) (second_of_both (name_is loop.text) (name_is name.text) e)) begins_no_word (begins_word loop.text (name_word loop.text l) _)
+    let l = first_of_both (is_name loop.text) (is_name name.text) e in
+    fitting 8 (pointed loop.text name.text (name_word loop.text l) (name_short loop.text l) (second_of_both (is_name loop.text) (is_name name.text) e)) begins_no_word (begins_word loop.text (name_word loop.text l) _)
 step_fits (Unary op p at) e = unary_fits op (phrased_of p.0) (p.1 e)
 step_fits (Binary op p q at) e = binary_fits op (phrased_of p.0) (phrased_of q.0) (p.1 (first_of_both _ (expr_sound q.0) e)) (q.1 (second_of_both (expr_sound p.0) _ e))
 step_fits (Choice c p q at) e =

@@ -1,7 +1,8 @@
 -- Rows of pieces that stand before what may follow them: each piece is the longest at its place, and no fault.
 use Rattle.std.proofs.Common.{◌≡◌, ◌∙◌, ap, refl, ℕ, nat_le, ◌==◌, Bool, true, false, not, ◌&&◌, if◌then◌else◌, List, [], ◌∷◌, ◌++◌, length, Option, Some, None, is_some, codes, pos, negsuc, ◌/◌, arith, append_assoc}
 use Rattle.std.proofs.lemmas.Bool.{and_parts, or_parts, not-true}
-use Rattle.brace_tok.specs.Bytes.{is_digit, is_letter, is_word_byte, begins, begins_fraction, begins_comment, is_word}
+use Rattle.brace_num.specs.Names.{is_digit, is_letter, is_word_byte, begins, is_word, is_name}
+use Rattle.brace_tok.specs.Bytes.{begins_fraction, begins_comment}
 use Rattle.brace_tok.specs.Tables.{reserved, symbol}
 use Rattle.brace_tok.specs.Sayings.{says, token_or, name_or}
 use Rattle.brace_tok.specs.Spells.{text_of, is_sound, is_longest, is_row}
@@ -11,8 +12,9 @@ use Rattle.brace_tok.specs.declared.fault.TokFault.TheVariants as fault
 use Rattle.brace_tok.proofs.Scans.{both, first_of_both, second_of_both}
 use Rattle.brace_syntax.specs.declared.tree.Digits.{Digits}
 use Rattle.brace_syntax.specs.declared.tree.Digits.TheVariants.{Int, Fixed}
-use Rattle.brace_show.proofs.Sound.{name_is, digits_are}
-use Rattle.brace_show.proofs.RowSays.{name_word, name_short, word_fits, decimal_digits, fraction_digits, whole_says, fraction_says}
+use Rattle.brace_show.proofs.Sound.{digits_are}
+use Rattle.brace_tok.proofs.Named.{name_word, name_short}
+use Rattle.brace_show.proofs.RowSays.{word_fits, decimal_digits, fraction_digits, whole_says, fraction_says}
 use Rattle.brace_show.proofs.Rows.{Row, space, mark, letters, literal_row}
 use Rattle.brace_show.proofs.RowText.{text_append, run, run_is}
 
@@ -98,7 +100,7 @@ word_stands f e short after h =
 abbrev pub lettered : (f : List ℕ) → is_word f ≡ true → nat_le (length f) 64 ≡ true → Stood
 lettered f e short = record { need = no_word; row = letters f; stands = word_stands f e short }
 
-abbrev pub named : (f : List ℕ) → name_is f ≡ true → Stood
+abbrev pub named : (f : List ℕ) → is_name f ≡ true → Stood
 named f e = lettered f (name_word f e) (name_short f e)
 
 -- literals

@@ -2,6 +2,7 @@
 use Rattle.std.proofs.Common.{◌≡◌, refl, sym, ap, ◌∙◌, ℕ, ◌+◌, nat_le, List, [], ◌∷◌, ◌++◌, length, map, flat_map, Bool, true, false, ◌&&◌, append_assoc, Option, Some, None, codes}
 use Rattle.std.specs.List.{list_all}
 use Rattle.std.proofs.lemmas.List.{append-nil}
+use Rattle.brace_num.specs.Names.{is_name}
 use Rattle.brace_tok.specs.Tables.{reserved, directive, symbol}
 use Rattle.brace_tok.specs.Pieces.{blank, word, hash, sign}
 use Rattle.brace_tok.specs.Sayings.{says, token}
@@ -28,7 +29,7 @@ use Rattle.brace_syntax.specs.declared.tree.Tree.{Tree}
 use Rattle.brace_show.specs.Canonical.{type_text, combinator, sharing}
 use Rattle.brace_show.specs.Alike.{ident_at_0, number_at_0, type_at_0, expr_at_0, stmt_at_0, member_at_0, class_at_0, Alike}
 use Rattle.brace_show.proofs.Rows.{Row, space, mark, letters, literal_row, expression_row, line_row, type_row, combinator_row, closing_row, sharing_row, rule_row, range_row, statement_row, member_row, class_row, script_row}
-use Rattle.brace_show.proofs.Sound.{name_is, digits_are, type_is, expr_sound, member_sound, class_sound, script_sound}
+use Rattle.brace_show.proofs.Sound.{digits_are, type_is, expr_sound, member_sound, class_sound, script_sound}
 use Rattle.brace_show.proofs.Laid.{Laid, split, say, past, laid_as, past_line, on_line, done}
 use Rattle.brace_show.proofs.ExprReads.{say_name, say_number}
 use Rattle.brace_show.proofs.StmtReads.{value_then, type_word, say_type, block_reads}
@@ -112,7 +113,7 @@ combines_it comb.Count = refl
 combines_it comb.Or = refl
 
 -- `public state T n`, with what stands behind it
-state_then : (C : List Token → Type 0) (shared : Bool) (t : TyName) (name : Ident) → type_is t ≡ true → name_is name.text ≡ true → (rest : Row) (src : List ℕ) (toks : List Token)
+state_then : (C : List Token → Type 0) (shared : Bool) (t : TyName) (name : Ident) → type_is t ≡ true → is_name name.text ≡ true → (rest : Row) (src : List ℕ) (toks : List Token)
     → Laid src (word (sharing shared) ∷ blank 32 ∷ word (codes "state") ∷ blank 32 ∷ word (type_text t) ∷ blank 32 ∷ word name.text ∷ rest) toks
     → ((share state type tok : Token) (ts : List Token) (u : TyName) → Is (sharing_kind shared) share → Is k.KwState state → type_name src type ≡ Some u → type_at_0 t ≡ type_at_0 u
     → Is k.Word tok → ident_at_0 name ≡ ident_at_0 (ident src tok) → Laid src rest ts → C (share ∷ state ∷ type ∷ tok ∷ ts)) → C toks
@@ -148,11 +149,11 @@ member_good (m.Reach n at) h margin src toks l =
     let i : Number = record { digits = n.digits; at = range.from } in
     (m.Reach i w.from, g.reach w opening range closing semicolon i hw ho hn hc hs, refl)))
 member_good (m.State shared t name None at) h margin src toks l =
-    let h' : (type_is t && name_is name.text) ≡ true = first_of_both (type_is t && name_is name.text) true h in
+    let h' : (type_is t && is_name name.text) ≡ true = first_of_both (type_is t && is_name name.text) true h in
     let C : List Token → Type 0 = FoundMember src (m.State shared (type_at_0 t) (ident_at_0 name) None 0) in
     let here : Laid src (line_row margin (state_row (letters (sharing shared)) (letters (type_text t)) name None)) toks =
     laid_as src _ _ toks (ap (λ z. line_row margin (state_row z (type_row t) name None)) (sharing_word shared) ∙ ap (λ z. line_row margin (state_row (letters (sharing shared)) z name None)) (type_word t)) l in
-    state_then C shared t name (first_of_both (type_is t) (name_is name.text) h') (second_of_both (type_is t) (name_is name.text) h') (sign (codes ";") ∷ blank 10 ∷ []) src toks
+    state_then C shared t name (first_of_both (type_is t) (is_name name.text) h') (second_of_both (type_is t) (is_name name.text) h') (sign (codes ";") ∷ blank 10 ∷ []) src toks
     (on_line src margin (state_row (letters (sharing shared)) (letters (type_text t)) name None) toks here) (λ share state type tok ts u h1 h2 hu same_type is same l1.
     ends (λ z. C (share ∷ state ∷ type ∷ tok ∷ z)) src ts l1 (λ semicolon hs.
     let i : Ident = ident src tok in (
@@ -161,15 +162,15 @@ member_good (m.State shared t name None at) h margin src toks l =
       ap (λ (z : TyName). m.State shared z (ident_at_0 name) None 0) same_type ∙ ap (λ (z : Ident). m.State shared (type_at_0 u) z None 0) same,
     )))
 member_good (m.State shared t name (Some x) at) h margin src toks l =
-    let h' : (type_is t && name_is name.text) ≡ true = first_of_both (type_is t && name_is name.text) (expr_sound x) h in
+    let h' : (type_is t && is_name name.text) ≡ true = first_of_both (type_is t && is_name name.text) (expr_sound x) h in
     let C : List Token → Type 0 = FoundMember src (m.State shared (type_at_0 t) (ident_at_0 name) (Some (expr_at_0 x)) 0) in
     let here : Laid src (line_row margin (state_row (letters (sharing shared)) (letters (type_text t)) name (Some x))) toks =
     laid_as src _ _ toks (ap (λ z. line_row margin (state_row z (type_row t) name (Some x))) (sharing_word shared) ∙ ap (λ z. line_row margin (state_row (letters (sharing shared)) z name (Some x))) (type_word t)) l in
-    state_then C shared t name (first_of_both (type_is t) (name_is name.text) h') (second_of_both (type_is t) (name_is name.text) h')
+    state_then C shared t name (first_of_both (type_is t) (is_name name.text) h') (second_of_both (type_is t) (is_name name.text) h')
     (blank 32 ∷ sign (codes ":") ∷ blank 32 ∷ ((expression_row x ++ mark (codes ";")) ++ (blank 10 ∷ []))) src toks
     (on_line src margin (state_row (letters (sharing shared)) (letters (type_text t)) name (Some x)) toks here) (λ share state type tok ts u h1 h2 hu same_type is same l1.
     say (λ z. C (share ∷ state ∷ type ∷ tok ∷ z)) k.Colon src (sign (codes ":")) _ ts (λ from. refl) (past src 32 _ ts l1) (λ colon t2 hc _ l2.
-    value_then (λ z. C (share ∷ state ∷ type ∷ tok ∷ colon ∷ z)) x (second_of_both (type_is t && name_is name.text) (expr_sound x) h) src t2 (past src 32 _ t2 l2) (λ a semicolon found hs.
+    value_then (λ z. C (share ∷ state ∷ type ∷ tok ∷ colon ∷ z)) x (second_of_both (type_is t && is_name name.text) (expr_sound x) h) src t2 (past src 32 _ t2 l2) (λ a semicolon found hs.
     let i : Ident = ident src tok in (
       m.State shared u i (Some found.0) share.from,
       member_of src shared share _ _ h1 (g.ruled a state type tok colon semicolon u found.0 h2 hu is hc hs found.1),
@@ -184,8 +185,8 @@ member_good (m.Effect shared t name c at) h margin src toks l =
     ∙ (ap (λ z. line_row margin (effect_row (letters (sharing shared)) z name (combinator_row c))) (type_word t) ∙ ap (λ z. line_row margin (effect_row (letters (sharing shared)) (letters (type_text t)) name z)) (combinator_word c))) l in
     say C (sharing_kind shared) src (word (sharing shared)) _ toks (sharing_says shared) (on_line src margin row toks here) (λ share t1 h1 _ l1.
     say (λ z. C (share ∷ z)) k.KwEffect src (word (codes "effect")) _ t1 (λ from. refl) (past src 32 _ t1 l1) (λ effect t2 h2 _ l2.
-    say_type (λ z. C (share ∷ effect ∷ z)) src t _ t2 (first_of_both (type_is t) (name_is name.text) h) (past src 32 _ t2 l2) (λ type t3 u hu same_type l3.
-    say_name (λ z. C (share ∷ effect ∷ type ∷ z)) src name _ t3 (second_of_both (type_is t) (name_is name.text) h) (past src 32 _ t3 l3) (λ tok t4 is same l4.
+    say_type (λ z. C (share ∷ effect ∷ z)) src t _ t2 (first_of_both (type_is t) (is_name name.text) h) (past src 32 _ t2 l2) (λ type t3 u hu same_type l3.
+    say_name (λ z. C (share ∷ effect ∷ type ∷ z)) src name _ t3 (second_of_both (type_is t) (is_name name.text) h) (past src 32 _ t3 l3) (λ tok t4 is same l4.
     say (λ z. C (share ∷ effect ∷ type ∷ tok ∷ z)) k.Colon src (sign (codes ":")) _ t4 (λ from. refl) (past src 32 _ t4 l4) (λ colon t5 h5 _ l5.
     say (λ z. C (share ∷ effect ∷ type ∷ tok ∷ colon ∷ z)) (combinator_kind c) src (word (combinator c)) _ t5 (combinator_says c) (past src 32 _ t5 l5) (λ joins t6 h6 _ l6.
     ends (λ z. C (share ∷ effect ∷ type ∷ tok ∷ colon ∷ joins ∷ z)) src t6 l6 (λ semicolon hs.
@@ -220,12 +221,12 @@ class_good x h src toks l =
     let C : List Token → Type 0 = FoundClass src (class_at_0 x) in
     let inner : Row = flat_map (member_row 2) x.members in
     say C k.KwClass src (word (codes "class")) _ toks (λ from. refl) l (λ w t1 h1 _ l1.
-    say_name (λ z. C (w ∷ z)) src x.name _ t1 (first_of_both (name_is x.name.text) (list_all member_sound x.members) h) (past src 32 _ t1 l1) (λ tok t2 is same l2.
+    say_name (λ z. C (w ∷ z)) src x.name _ t1 (first_of_both (is_name x.name.text) (list_all member_sound x.members) h) (past src 32 _ t1 l1) (λ tok t2 is same l2.
     say (λ z. C (w ∷ tok ∷ z)) k.OpenBrace src (sign (codes "{")) _ t2 (λ from. refl) (past src 32 _ t2 l2) (λ opening t3 h3 _ l3.
     split (λ z. C (w ∷ tok ∷ opening ∷ z)) src inner (closing_row 0) t3 (past src 10 _ t3 l3) (λ a t4 la l4.
     say (λ z. C (w ∷ tok ∷ opening ∷ (a ++ z))) k.CloseBrace src (sign (codes "}")) (blank 10 ∷ []) t4 (λ from. refl) l4 (λ closing t5 h5 _ l5.
     done (λ z. C (w ∷ tok ∷ opening ∷ (a ++ closing ∷ z))) src t5 (past src 10 [] t5 l5)
-    (let ys = members_good x.members (second_of_both (name_is x.name.text) (list_all member_sound x.members) h) 2 src a la in
+    (let ys = members_good x.members (second_of_both (is_name x.name.text) (list_all member_sound x.members) h) 2 src a la in
     let c : ClassTree = record { name = ident src tok; members = ys.0; at = w.from } in (
       c,
       g.class a w tok opening closing ys.0 h1 is h3 h5 ys.1,

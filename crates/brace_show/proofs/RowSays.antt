@@ -11,33 +11,20 @@ use Rattle.std.proofs.lemmas.Int.Digits.{digits_value_push}
 use Rattle.std.proofs.lemmas.List.{length-replicate}
 use Rattle.std.proofs.lemmas.Grind.{pow_more}
 use Rattle.brace_num.specs.Spelling.{six_digits}
-use Rattle.brace_tok.specs.Bytes.{is_digit, are_digits, is_word}
+use Rattle.brace_num.specs.Names.{is_digit, is_word, is_name}
+use Rattle.brace_tok.specs.Bytes.{are_digits}
 use Rattle.brace_tok.specs.Tables.{reserved}
 use Rattle.brace_tok.specs.Pieces.{word, whole, fraction}
 use Rattle.brace_tok.specs.Sayings.{says, token, token_or, name_or, millionths}
 use Rattle.brace_tok.specs.declared.kinds.TokKind.TheVariants as kind
 use Rattle.brace_tok.specs.declared.fault.TokFault.TheVariants as fault
 use Rattle.brace_tok.proofs.Scans.{both, first_of_both, second_of_both}
+use Rattle.brace_tok.proofs.Named.{name_word, name_short, name_free}
 use Rattle.brace_show.specs.Literals.{shortened}
-use Rattle.brace_show.proofs.Sound.{name_is}
 use Rattle.brace_show.proofs.Zeros.{zeros_behind, length-six_digits, below}
 
--- what a name is
-pub name_word : (text : List ℕ) → name_is text ≡ true → is_word text ≡ true
-name_word text e = first_of_both _ _ (first_of_both (is_word text && nat_le (length text) 64) _ e)
-
-pub name_short : (text : List ℕ) → name_is text ≡ true → nat_le (length text) 64 ≡ true
-name_short text e = second_of_both (is_word text) _ (first_of_both (is_word text && nat_le (length text) 64) _ e)
-
-is_none : {A : Type 0} (o : Option A) → not (is_some o) ≡ true → o ≡ None
-is_none None e = refl
-is_none (Some a) e = absurd (cc)
-
-pub name_free : (text : List ℕ) → name_is text ≡ true → reserved text ≡ None
-name_free text e = is_none (reserved text) (second_of_both (is_word text && nat_le (length text) 64) _ e)
-
 -- a name says that it is a word
-pub name_says : (at_ : ℕ) (text : List ℕ) → name_is text ≡ true → says at_ (word text) ≡ token kind.Word
+pub name_says : (at_ : ℕ) (text : List ℕ) → is_name text ≡ true → says at_ (word text) ≡ token kind.Word
 name_says at_ text e =
     ap (λ b. token_or (fault.LongWord at_) (if b then Some (name_or (reserved text)) else None)) (name_short text e)
     ∙ ap (λ o. token (name_or o)) (name_free text e)

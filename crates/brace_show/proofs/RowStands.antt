@@ -1,7 +1,7 @@
 -- The pieces of a sound script stand: each is the longest at its place, and no fault.
 use Rattle.std.proofs.Common.{◌≡◌, ◌∙◌, sym, ap, subst, refl, ℕ, zero, suc, nat_le, ◌+◌, Bool, true, false, not, ◌&&◌, List, [], ◌∷◌, ◌++◌, length, map, flat_map, Option, Some, None, is_some, codes}
 use Rattle.std.specs.List.{list_all}
-use Rattle.brace_tok.specs.Bytes.{is_letter, begins, is_word}
+use Rattle.brace_num.specs.Names.{is_letter, begins, is_word, is_name}
 use Rattle.brace_tok.specs.Tables.{symbol, directive}
 use Rattle.brace_tok.specs.Pieces.{blank, hash}
 use Rattle.brace_tok.specs.Spells.{text_of, is_row}
@@ -19,8 +19,8 @@ use Rattle.brace_syntax.specs.declared.tree.MemberTree.{MemberTree}
 use Rattle.brace_syntax.specs.declared.tree.MemberTree.TheVariants as member
 use Rattle.brace_syntax.specs.declared.tree.ClassTree.{ClassTree}
 use Rattle.brace_syntax.specs.declared.tree.Tree.{Tree}
-use Rattle.brace_show.proofs.Sound.{name_is, digits_are, type_is, expr_sound, all_sound, stmt_sound_step, stmt_sound, rule_sound, member_sound, class_sound, script_sound}
-use Rattle.brace_show.proofs.RowSays.{name_word, name_short}
+use Rattle.brace_show.proofs.Sound.{digits_are, type_is, expr_sound, all_sound, stmt_sound_step, stmt_sound, rule_sound, member_sound, class_sound, script_sound}
+use Rattle.brace_tok.proofs.Named.{name_word, name_short}
 use Rattle.brace_show.proofs.Rows.{Row, space, mark, letters, literal_row, expression_row, margin_row, line_row, type_row, combinator_row, block_row, closing_row, statement_row_step, statement_row, sharing_row, rule_row, range_row, member_row, class_row, script_row}
 use Rattle.brace_show.proofs.RowText.{run}
 use Rattle.brace_show.proofs.PieceStands.{row_split, run_split, Stands, Stood, follow, ended, any, no_word, stops, lone, open_stands, word_stands, lettered, named, literal_stands}
@@ -110,7 +110,7 @@ else_stands : (n : ℕ) (after : List ℕ) → is_row (line_row n (mark (codes "
 unfolding symbol
 else_stands n after = line_stands n _ after refl
 
-const_stands : (n : ℕ) (type : TyName) (name : List ℕ) (x : ExprTree) → type_is type ≡ true → name_is name ≡ true → expr_sound x ≡ true → (after : List ℕ)
+const_stands : (n : ℕ) (type : TyName) (name : List ℕ) (x : ExprTree) → type_is type ≡ true → is_name name ≡ true → expr_sound x ≡ true → (after : List ℕ)
     → is_row (line_row n (letters (codes "const") ++ space ++ type_row type ++ space ++ letters name ++ space ++ mark (codes "=") ++ space ++ expression_row x ++ mark (codes ";"))) after ≡ true
 unfolding symbol
 const_stands n type name x t m e after =
@@ -118,7 +118,7 @@ const_stands n type name x t m e after =
     let second = ended (follow first (named name m) (λ after h. refl)) (space ∷ mark (codes "=") ∷ space ∷ []) any (λ after h. refl) (λ after h. refl) in
     ended_line n (follow second (valued x e) (λ after h. refl)) (mark (codes ";") ∷ []) after refl refl
 
-foreach_stands : (n : ℕ) (class variable other : List ℕ) → name_is class ≡ true → name_is variable ≡ true → name_is other ≡ true → (after : List ℕ)
+foreach_stands : (n : ℕ) (class variable other : List ℕ) → is_name class ≡ true → is_name variable ≡ true → is_name other ≡ true → (after : List ℕ)
     → is_row (line_row n (letters (codes "foreach") ++ space ++ mark (codes "(") ++ letters class ++ space ++ letters variable ++ space ++ mark (codes ":") ++ space
     ++ letters (codes "Extent") ++ mark (codes "<") ++ letters other ++ mark (codes ">") ++ mark (codes ")") ++ space ++ mark (codes "{"))) after ≡ true
 unfolding symbol
@@ -141,8 +141,8 @@ foreach_row class variable other =
 step_stands : (y : StmtTree-F Standing) → stmt_sound_step (map-StmtTree StmtTree Bool stmt_sound (map-StmtTree Standing StmtTree stmt_of y)) ≡ true → (n : ℕ) (after : List ℕ)
     → is_row (statement_row_step (map-StmtTree StmtTree (ℕ → Row) statement_row (map-StmtTree Standing StmtTree stmt_of y)) n) after ≡ true
 step_stands (Const type name x at) e n after =
-    let front = first_of_both (type_is type && name_is name.text) (expr_sound x) e in
-    const_stands n type name.text x (first_of_both _ (name_is name.text) front) (second_of_both (type_is type) _ front) (second_of_both (type_is type && name_is name.text) _ e) after
+    let front = first_of_both (type_is type && is_name name.text) (expr_sound x) e in
+    const_stands n type name.text x (first_of_both _ (is_name name.text) front) (second_of_both (type_is type) _ front) (second_of_both (type_is type && is_name name.text) _ e) after
 step_stands (If x ys None at) e n after =
     let front = first_of_both (expr_sound x && all_sound (map stmt_sound (map stmt_of ys))) true e in
     let first = line_row n (tested_row x) in
@@ -163,25 +163,25 @@ step_stands (If x ys (Some others) at) e n after =
     (block_stands others (second_of_both (expr_sound x && all_sound (map stmt_sound (map stmt_of ys))) _ e) n _)))
     (closing_stands n after)
 step_stands (Foreach class variable other ys at) e n after =
-    let three = first_of_both (name_is class.text && name_is variable.text && name_is other.text) (all_sound (map stmt_sound (map stmt_of ys))) e in
-    let two = first_of_both (name_is class.text && name_is variable.text) (name_is other.text) three in
+    let three = first_of_both (is_name class.text && is_name variable.text && is_name other.text) (all_sound (map stmt_sound (map stmt_of ys))) e in
+    let two = first_of_both (is_name class.text && is_name variable.text) (is_name other.text) three in
     let block = block_row (map statement_row (map stmt_of ys)) n in
     let first = line_row n (foreach_row class.text variable.text other.text) in
     row_split (first ++ block) (closing_row n) after
     (row_split first block _
-    (foreach_stands n class.text variable.text other.text (first_of_both _ (name_is variable.text) two) (second_of_both (name_is class.text) _ two)
-    (second_of_both (name_is class.text && name_is variable.text) _ three) _)
-    (block_stands ys (second_of_both (name_is class.text && name_is variable.text && name_is other.text) _ e) n _))
+    (foreach_stands n class.text variable.text other.text (first_of_both _ (is_name variable.text) two) (second_of_both (is_name class.text) _ two)
+    (second_of_both (is_name class.text && is_name variable.text) _ three) _)
+    (block_stands ys (second_of_both (is_name class.text && is_name variable.text && is_name other.text) _ e) n _))
     (closing_stands n after)
 step_stands (Assign name x) e n after =
-    assign_stands n (named name.text (first_of_both _ (expr_sound x) e)) x (second_of_both (name_is name.text) _ e) (λ after. refl) after
+    assign_stands n (named name.text (first_of_both _ (expr_sound x) e)) x (second_of_both (is_name name.text) _ e) (λ after. refl) after
 step_stands (AssignThis name x at) e n after =
-    assign_stands n (pointed (codes "this") name.text refl refl (first_of_both _ (expr_sound x) e)) x (second_of_both (name_is name.text) _ e) (λ after. refl) after
+    assign_stands n (pointed (codes "this") name.text refl refl (first_of_both _ (expr_sound x) e)) x (second_of_both (is_name name.text) _ e) (λ after. refl) after
 step_stands (AssignLoop loop name x) e n after =
-    let front = first_of_both (name_is loop.text && name_is name.text) (expr_sound x) e in
-    let l = first_of_both (name_is loop.text) (name_is name.text) front in
-    assign_stands n (pointed loop.text name.text (name_word loop.text l) (name_short loop.text l) (second_of_both (name_is loop.text) _ front)) x
-    (second_of_both (name_is loop.text && name_is name.text) _ e) (λ after. refl) after
+    let front = first_of_both (is_name loop.text && is_name name.text) (expr_sound x) e in
+    let l = first_of_both (is_name loop.text) (is_name name.text) front in
+    assign_stands n (pointed loop.text name.text (name_word loop.text l) (name_short loop.text l) (second_of_both (is_name loop.text) _ front)) x
+    (second_of_both (is_name loop.text && is_name name.text) _ e) (λ after. refl) after
 
 -- a sound statement stands before anything
 statement_stands : (s : StmtTree) → stmt_sound s ≡ true → (n : ℕ) (after : List ℕ) → is_row (statement_row s n) after ≡ true
@@ -227,7 +227,7 @@ range_stands n name digits s e after =
     ended_line n (follow front (record { need = stops; row = literal_row digits; stands = literal_stands digits e }) (λ after h. refl)) (mark (codes "]") ∷ mark (codes ";") ∷ []) after refl refl
 
 abbrev field : (shared : Bool) (kind : List ℕ) (type : TyName) (name : List ℕ) → ((after : List ℕ) → is_row (space ++ letters kind ++ space) after ≡ true)
-    → type_is type ≡ true → name_is name ≡ true → Stood
+    → type_is type ≡ true → is_name name ≡ true → Stood
 field shared kind type name s t m =
     let first = ended (sharing shared) (space ∷ letters kind ∷ space ∷ []) any (λ after h. s after) (λ after h. refl) in
     let second = ended (follow first (typed type t) (λ after h. refl)) (space ∷ []) any (λ after h. refl) (λ after h. refl) in
@@ -238,12 +238,12 @@ unfolding symbol directive
 member_stands n (member.Visible range at) e after = range_stands n (codes "visible") range.digits (λ after. refl) e after
 member_stands n (member.Reach range at) e after = range_stands n (codes "reach") range.digits (λ after. refl) e after
 member_stands n (member.State shared type name x at) e after =
-    let front = first_of_both (type_is type && name_is name.text) (rule_sound x) e in
-    let fields = field shared (codes "state") type name.text (λ after. refl) (first_of_both _ (name_is name.text) front) (second_of_both (type_is type) _ front) in
-    let ruled : Stood = record { need = stops; row = rule_row x; stands = rule_stands x (second_of_both (type_is type && name_is name.text) _ e) } in
+    let front = first_of_both (type_is type && is_name name.text) (rule_sound x) e in
+    let fields = field shared (codes "state") type name.text (λ after. refl) (first_of_both _ (is_name name.text) front) (second_of_both (type_is type) _ front) in
+    let ruled : Stood = record { need = stops; row = rule_row x; stands = rule_stands x (second_of_both (type_is type && is_name name.text) _ e) } in
     ended_line n (follow fields ruled (rule_meets x)) (mark (codes ";") ∷ []) after refl refl
 member_stands n (member.Effect shared type name comb at) e after =
-    let fields = field shared (codes "effect") type name.text (λ after. refl) (first_of_both _ (name_is name.text) e) (second_of_both (type_is type) _ e) in
+    let fields = field shared (codes "effect") type name.text (λ after. refl) (first_of_both _ (is_name name.text) e) (second_of_both (type_is type) _ e) in
     ended_line n (follow (ended fields (space ∷ mark (codes ":") ∷ space ∷ []) any (λ after h. refl) (λ after h. refl))
     (record { need = no_word; row = combinator_row comb; stands = combinator_stands comb }) (λ after h. refl)) (mark (codes ";") ∷ []) after refl refl
 member_stands n (member.Run statements at) e after =
@@ -253,7 +253,7 @@ member_stands n (member.Run statements at) e after =
     (row_split first block _ (line_stands n _ _ refl) (flat_stands (λ s. statement_row s (n + 2)) stmt_sound (λ s f. statement_stands s f (n + 2)) statements e _))
     (closing_stands n after)
 
-class_line_stands : (name : List ℕ) → name_is name ≡ true → (after : List ℕ)
+class_line_stands : (name : List ℕ) → is_name name ≡ true → (after : List ℕ)
     → is_row (line_row 0 (letters (codes "class") ++ space ++ letters name ++ space ++ mark (codes "{"))) after ≡ true
 unfolding symbol
 class_line_stands name m after =
@@ -265,7 +265,7 @@ class_stands class e after =
     let block = flat_map (member_row 2) class.members in
     row_split (first ++ block) (closing_row 0) after
     (row_split first block _ (class_line_stands class.name.text (first_of_both _ (list_all member_sound class.members) e) (text_of block ++ (text_of (closing_row 0) ++ after)))
-    (flat_stands (member_row 2) member_sound (member_stands 2) class.members (second_of_both (name_is class.name.text) _ e) _))
+    (flat_stands (member_row 2) member_sound (member_stands 2) class.members (second_of_both (is_name class.name.text) _ e) _))
     (closing_stands 0 after)
 
 -- the row of a sound script stands

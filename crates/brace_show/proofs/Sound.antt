@@ -1,8 +1,7 @@
 -- What the names and the numbers of a tree that was read are: names that a word spells, and numbers that a literal spells.
 use Rattle.std.proofs.Common.{ℕ, nat_le, ◌&&◌, Bool, true, false, not, is_some, List, length, Option, Some, None, ℤ, pos, negsuc}
 use Rattle.std.specs.List.{list_all}
-use Rattle.brace_tok.specs.Bytes.{is_word}
-use Rattle.brace_tok.specs.Tables.{reserved}
+use Rattle.brace_num.specs.Names.{is_name}
 use Rattle.brace_syntax.specs.declared.tree.Digits.{Digits}
 use Rattle.brace_syntax.specs.declared.tree.Digits.TheVariants.{Int, Fixed}
 use Rattle.brace_syntax.specs.declared.tree.TyName.{TyName}
@@ -18,9 +17,6 @@ use Rattle.brace_syntax.specs.declared.tree.MemberTree.TheVariants as member
 use Rattle.brace_syntax.specs.declared.tree.ClassTree.{ClassTree}
 use Rattle.brace_syntax.specs.declared.tree.Tree.{Tree}
 
-abbrev pub name_is : List ℕ → Bool
-name_is text = is_word text && nat_le (length text) 64 && not (is_some (reserved text))
-
 abbrev pub fits_word : ℤ → Bool
 fits_word (pos n) = nat_le n 9223372036854775807
 fits_word (negsuc n) = false
@@ -33,15 +29,15 @@ abbrev pub type_is : TyName → Bool
 type_is ty.Int = true
 type_is ty.Fixed = true
 type_is ty.Bool = true
-type_is (ty.Other name) = name_is name.text
+type_is (ty.Other name) = is_name name.text
 
 abbrev pub expr_sound_step : ExprTree-F Bool → Bool
 expr_sound_step (Lit number) = digits_are number.digits
 expr_sound_step (True at) = true
 expr_sound_step (False at) = true
-expr_sound_step (Name name) = name_is name.text
-expr_sound_step (OfThis name at) = name_is name.text
-expr_sound_step (OfLoop loop name) = name_is loop.text && name_is name.text
+expr_sound_step (Name name) = is_name name.text
+expr_sound_step (OfThis name at) = is_name name.text
+expr_sound_step (OfLoop loop name) = is_name loop.text && is_name name.text
 expr_sound_step (Unary op x at) = x
 expr_sound_step (Binary op x y at) = x && y
 expr_sound_step (Choice c x y at) = c && x && y
@@ -58,12 +54,12 @@ other_sound None = true
 other_sound (Some xs) = all_sound xs
 
 abbrev pub stmt_sound_step : StmtTree-F Bool → Bool
-stmt_sound_step (Const type name x at) = type_is type && name_is name.text && expr_sound x
+stmt_sound_step (Const type name x at) = type_is type && is_name name.text && expr_sound x
 stmt_sound_step (If c xs other at) = expr_sound c && all_sound xs && other_sound other
-stmt_sound_step (Foreach class variable other xs at) = name_is class.text && name_is variable.text && name_is other.text && all_sound xs
-stmt_sound_step (Assign name x) = name_is name.text && expr_sound x
-stmt_sound_step (AssignThis name x at) = name_is name.text && expr_sound x
-stmt_sound_step (AssignLoop loop name x) = name_is loop.text && name_is name.text && expr_sound x
+stmt_sound_step (Foreach class variable other xs at) = is_name class.text && is_name variable.text && is_name other.text && all_sound xs
+stmt_sound_step (Assign name x) = is_name name.text && expr_sound x
+stmt_sound_step (AssignThis name x at) = is_name name.text && expr_sound x
+stmt_sound_step (AssignLoop loop name x) = is_name loop.text && is_name name.text && expr_sound x
 
 abbrev pub stmt_sound : StmtTree → Bool
 stmt_sound = fold-StmtTree Bool stmt_sound_step
@@ -75,12 +71,12 @@ rule_sound (Some x) = expr_sound x
 abbrev pub member_sound : MemberTree → Bool
 member_sound (member.Visible range at) = digits_are range.digits
 member_sound (member.Reach range at) = digits_are range.digits
-member_sound (member.State shared type name x at) = type_is type && name_is name.text && rule_sound x
-member_sound (member.Effect shared type name comb at) = type_is type && name_is name.text
+member_sound (member.State shared type name x at) = type_is type && is_name name.text && rule_sound x
+member_sound (member.Effect shared type name comb at) = type_is type && is_name name.text
 member_sound (member.Run xs at) = list_all stmt_sound xs
 
 abbrev pub class_sound : ClassTree → Bool
-class_sound class = name_is class.name.text && list_all member_sound class.members
+class_sound class = is_name class.name.text && list_all member_sound class.members
 
 -- a script has one class or more
 abbrev pub script_sound : Tree → Bool

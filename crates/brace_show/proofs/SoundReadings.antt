@@ -1,17 +1,18 @@
 -- A script that is read from a text has names that words spell, and numbers that literals spell.
 use Rattle.std.proofs.Common.{◌≡◌, refl, sym, ap, ◌∙◌, ℕ, ◌+◌, nat_le, not, is_some, cond, List, [], ◌∷◌, ◌++◌, length, map, Bool, true, false, ◌&&◌, Option, Some, None, pos, All, arith}
+use Rattle.std.specs.Prelude.{IsTrue}
 use Rattle.std.specs.List.{list_all}
 use Rattle.std.specs.Str.{bytes_eq}
 use Rattle.std.specs.Str.Parse.{digits_value}
 use Rattle.std.proofs.lemmas.Bool.{le-leb}
 use Rattle.std.proofs.lemmas.Option.{same_Some}
 use Rattle.std.proofs.lemmas.List.Elements.{All-head, All-rest}
-use Rattle.brace_tok.specs.Bytes.{is_word}
+use Rattle.brace_num.specs.Names.{is_name}
 use Rattle.brace_tok.specs.Tables.{found, words, directives, symbols, reserved, directive, symbol}
 use Rattle.brace_tok.specs.Pieces.{Piece, blank, line_comment, block_comment, word, whole, fraction, hash, sign, open_comment, stray, bytes_of}
 use Rattle.brace_tok.specs.Sayings.{Saying, nothing, token, refused, says, token_or, name_or, word_kind, whole_kind, fixed_kind, millionths}
 use Rattle.brace_tok.specs.Spells.{token_at, tokens_from, Spells}
-use Rattle.brace_tok.specs.Names.{IsName, IsNamed}
+use Rattle.brace_tok.specs.Names.{IsNamed}
 use Rattle.brace_tok.specs.declared.kinds.Token.{Token}
 use Rattle.brace_tok.specs.declared.kinds.TokKind.{TokKind}
 use Rattle.brace_tok.specs.declared.kinds.TokKind.TheVariants as k
@@ -38,7 +39,7 @@ use Rattle.brace_syntax.specs.declared.tree.StmtTree.TheFolds.{fold-roll-StmtTre
 use Rattle.brace_syntax.specs.declared.tree.MemberTree.{MemberTree}
 use Rattle.brace_syntax.specs.declared.tree.ClassTree.{ClassTree}
 use Rattle.brace_syntax.specs.declared.tree.Tree.{Tree}
-use Rattle.brace_show.proofs.Sound.{name_is, fits_word, digits_are, type_is, expr_sound_step, expr_sound, all_sound, stmt_sound_step, stmt_sound, member_sound, class_sound, script_sound}
+use Rattle.brace_show.proofs.Sound.{fits_word, digits_are, type_is, expr_sound_step, expr_sound, all_sound, stmt_sound_step, stmt_sound, member_sound, class_sound, script_sound}
 
 -- a number of a token is one that a literal spells
 abbrev kind_fits : TokKind → Bool
@@ -104,7 +105,7 @@ row_fits from (p ∷ row) = token_fits from (from + length (bytes_of p)) (says f
 
 -- where it is a word its text is a name, where it is a literal its number is one
 abbrev kind_sound : List ℕ → TokKind → Bool
-kind_sound text k.Word = name_is text
+kind_sound text k.Word = is_name text
 kind_sound text (k.Int z) = fits_word z
 kind_sound text (k.Fixed z) = fits_word z
 kind_sound text kind = true
@@ -113,12 +114,8 @@ abbrev Sounds : List ℕ → List Token → Type 0
 Sounds src [] = Unit {0}
 Sounds src (tok ∷ toks) = (kind_sound (spelling src tok) tok.kind ≡ true) × Sounds src toks
 
-name_of : (text : List ℕ) → IsName text → name_is text ≡ true
-name_of text (w, short, free) =
-    both (is_word text && nat_le (length text) 64) (not (is_some (reserved text))) (both (is_word text) (nat_le (length text) 64) w (le-leb _ _ short)) (ap (λ (o : Option TokKind). not (is_some o)) free)
-
-kind_is_sound : (text : List ℕ) (kind : TokKind) → (kind ≡ k.Word → IsName text) → kind_fits kind ≡ true → kind_sound text kind ≡ true
-kind_is_sound text k.Word n h = name_of text (n refl)
+kind_is_sound : (text : List ℕ) (kind : TokKind) → (kind ≡ k.Word → IsTrue (is_name text)) → kind_fits kind ≡ true → kind_sound text kind ≡ true
+kind_is_sound text k.Word n h = n refl
 kind_is_sound text (k.Int z) n h = h
 kind_is_sound text (k.Fixed z) n h = h
 kind_is_sound text kind n h = refl
@@ -142,7 +139,7 @@ right src [] b h = h
 right src (tok ∷ a) b (h, hs) = right src a b hs
 
 -- what tokens say
-name_sound : (src : List ℕ) (tok : Token) → Is k.Word tok → kind_sound (spelling src tok) tok.kind ≡ true → name_is (spelling src tok) ≡ true
+name_sound : (src : List ℕ) (tok : Token) → Is k.Word tok → kind_sound (spelling src tok) tok.kind ≡ true → is_name (spelling src tok) ≡ true
 name_sound src tok is h = sym (ap (kind_sound (spelling src tok)) is) ∙ h
 
 number_sound_at : (text : List ℕ) (from : ℕ) (kind : TokKind) (n : Number) → number_at from kind ≡ Some n → kind_sound text kind ≡ true → digits_are n.digits ≡ true
@@ -190,7 +187,7 @@ expr_reading src _ _ _ (g.of_this this dot name e e' e'') h = sound_expr (expr.O
 expr_reading src _ _ _ (g.named name e) h = sound_expr (expr.Name (ident src name)) _ (node.rolls-Name (ident src name)) (name_sound src name e h.0)
 expr_reading src _ _ _ (g.of_loop loop dot name e e' e'') h =
     sound_expr (expr.OfLoop (ident src loop) (ident src name)) _ (node.rolls-OfLoop (ident src loop) (ident src name))
-    (both (name_is (spelling src loop)) (name_is (spelling src name)) (name_sound src loop e h.0) (name_sound src name e'' h.1.1.0))
+    (both (is_name (spelling src loop)) (is_name (spelling src name)) (name_sound src loop e h.0) (name_sound src name e'' h.1.1.0))
 expr_reading src _ _ _ (g.called_one a w opening closing name x e e' e'' r) h =
     sound_expr (expr.Unary name x w.from) _ (node.rolls-Unary name x w.from) (expr_reading src g.choices a x r (left src a (closing ∷ []) h.1.1))
 expr_reading src _ _ _ (g.called_two a b w opening comma closing name x y e e' e'' e''' r r') h =
@@ -210,7 +207,7 @@ mutual
   stmt_reading : (src : List ℕ) (toks : List Token) (x : StmtTree) → ReadsStmt src toks x → Sounds src toks → stmt_sound x ≡ true
   stmt_reading src _ _ (g.const a w type name equals semicolon t x e e' e'' e3 e4 r) h =
       sound_stmt (stmt.Const t (ident src name) x w.from) _ (s.rolls-Const t (ident src name) x w.from)
-      (both (type_is t && name_is (spelling src name)) (expr_sound x) (both (type_is t) (name_is (spelling src name)) (type_sound src type t e' h.1.0) (name_sound src name e'' h.1.1.0))
+      (both (type_is t && is_name (spelling src name)) (expr_sound x) (both (type_is t) (is_name (spelling src name)) (type_sound src type t e' h.1.0) (name_sound src name e'' h.1.1.0))
       (expr_reading src g.choices a x r (left src a (semicolon ∷ []) h.1.1.1.1)))
   stmt_reading src _ _ (g.when a b w opening closing x block e e' e'' r rb) h =
       sound_stmt (stmt.If x block None w.from) _ (s.rolls-If x block None w.from)
@@ -223,20 +220,20 @@ mutual
       (block_reading src c other rc (right src (a ++ (closing ∷ b)) (otherwise ∷ c) h.1.1).1))
   stmt_reading src _ _ (g.foreach a w opening class variable colon extent less other greater closing block e e1 e2 e3 e4 e5 e6 e7 e8 e9 r) h =
       sound_stmt (stmt.Foreach (ident src class) (ident src variable) (ident src other) block w.from) _ (s.rolls-Foreach (ident src class) (ident src variable) (ident src other) block w.from)
-      (both (name_is (spelling src class) && name_is (spelling src variable) && name_is (spelling src other)) (sound_block block)
-      (both (name_is (spelling src class) && name_is (spelling src variable)) (name_is (spelling src other))
-      (both (name_is (spelling src class)) (name_is (spelling src variable)) (name_sound src class e2 h.1.1.0) (name_sound src variable e3 h.1.1.1.0)) (name_sound src other e7 h.1.1.1.1.1.1.1.0))
+      (both (is_name (spelling src class) && is_name (spelling src variable) && is_name (spelling src other)) (sound_block block)
+      (both (is_name (spelling src class) && is_name (spelling src variable)) (is_name (spelling src other))
+      (both (is_name (spelling src class)) (is_name (spelling src variable)) (name_sound src class e2 h.1.1.0) (name_sound src variable e3 h.1.1.1.0)) (name_sound src other e7 h.1.1.1.1.1.1.1.0))
       (block_reading src a block r h.1.1.1.1.1.1.1.1.1.1))
   stmt_reading src _ _ (g.assign_this a this dot name arrow semicolon x e e1 e2 e3 e4 r) h =
       sound_stmt (stmt.AssignThis (ident src name) x this.from) _ (s.rolls-AssignThis (ident src name) x this.from)
-      (both (name_is (spelling src name)) (expr_sound x) (name_sound src name e2 h.1.1.0) (expr_reading src g.choices a x r (left src a (semicolon ∷ []) h.1.1.1.1)))
+      (both (is_name (spelling src name)) (expr_sound x) (name_sound src name e2 h.1.1.0) (expr_reading src g.choices a x r (left src a (semicolon ∷ []) h.1.1.1.1)))
   stmt_reading src _ _ (g.assign a name arrow semicolon x e e1 e2 r) h =
       sound_stmt (stmt.Assign (ident src name) x) _ (s.rolls-Assign (ident src name) x)
-      (both (name_is (spelling src name)) (expr_sound x) (name_sound src name e h.0) (expr_reading src g.choices a x r (left src a (semicolon ∷ []) h.1.1)))
+      (both (is_name (spelling src name)) (expr_sound x) (name_sound src name e h.0) (expr_reading src g.choices a x r (left src a (semicolon ∷ []) h.1.1)))
   stmt_reading src _ _ (g.assign_loop a loop dot name arrow semicolon x e e1 e2 e3 e4 r) h =
       sound_stmt (stmt.AssignLoop (ident src loop) (ident src name) x) _ (s.rolls-AssignLoop (ident src loop) (ident src name) x)
-      (both (name_is (spelling src loop) && name_is (spelling src name)) (expr_sound x)
-      (both (name_is (spelling src loop)) (name_is (spelling src name)) (name_sound src loop e h.0) (name_sound src name e2 h.1.1.0)) (expr_reading src g.choices a x r (left src a (semicolon ∷ []) h.1.1.1.1)))
+      (both (is_name (spelling src loop) && is_name (spelling src name)) (expr_sound x)
+      (both (is_name (spelling src loop)) (is_name (spelling src name)) (name_sound src loop e h.0) (name_sound src name e2 h.1.1.0)) (expr_reading src g.choices a x r (left src a (semicolon ∷ []) h.1.1.1.1)))
 
   stmts_reading : (src : List ℕ) (toks : List Token) (xs : List StmtTree) → ReadsStmts src toks xs → Sounds src toks → sound_block xs ≡ true
   stmts_reading src _ _ g.none h = refl
@@ -252,11 +249,11 @@ list_of (x ∷ xs) = ap (λ b. stmt_sound x && b) (list_of xs)
 -- members, classes and scripts
 field_reading : (src : List ℕ) (shared : Bool) (at : ℕ) (toks : List Token) (x : MemberTree) → ReadsField src shared at toks x → Sounds src toks → member_sound x ≡ true
 field_reading src shared at _ _ (g.state w type name semicolon t e e1 e2 e3) h =
-    both (type_is t && name_is (spelling src name)) true (both (type_is t) (name_is (spelling src name)) (type_sound src type t e1 h.1.0) (name_sound src name e2 h.1.1.0)) refl
+    both (type_is t && is_name (spelling src name)) true (both (type_is t) (is_name (spelling src name)) (type_sound src type t e1 h.1.0) (name_sound src name e2 h.1.1.0)) refl
 field_reading src shared at _ _ (g.ruled a w type name colon semicolon t x e e1 e2 e3 e4 r) h =
-    both (type_is t && name_is (spelling src name)) (expr_sound x) (both (type_is t) (name_is (spelling src name)) (type_sound src type t e1 h.1.0) (name_sound src name e2 h.1.1.0))
+    both (type_is t && is_name (spelling src name)) (expr_sound x) (both (type_is t) (is_name (spelling src name)) (type_sound src type t e1 h.1.0) (name_sound src name e2 h.1.1.0))
     (expr_reading src g.choices a x r (left src a (semicolon ∷ []) h.1.1.1.1))
-field_reading src shared at _ _ (g.effect w type name colon joins semicolon t c e e1 e2 e3 e4 e5) h = both (type_is t) (name_is (spelling src name)) (type_sound src type t e1 h.1.0) (name_sound src name e2 h.1.1.0)
+field_reading src shared at _ _ (g.effect w type name colon joins semicolon t c e e1 e2 e3 e4 e5) h = both (type_is t) (is_name (spelling src name)) (type_sound src type t e1 h.1.0) (name_sound src name e2 h.1.1.0)
 
 member_reading : (src : List ℕ) (toks : List Token) (x : MemberTree) → ReadsMember src toks x → Sounds src toks → member_sound x ≡ true
 member_reading src _ _ (g.visible w opening range closing semicolon n e e1 e2 e3 e4) h = number_sound src range n e2 h.1.1.0
@@ -271,7 +268,7 @@ members_reading src _ _ (g.more a b x xs r rs) h = both (member_sound x) (list_a
 
 class_reading : (src : List ℕ) (toks : List Token) (x : ClassTree) → ReadsClass src toks x → Sounds src toks → class_sound x ≡ true
 class_reading src _ _ (g.class a w name opening closing members e e1 e2 e3 r) h =
-    both (name_is (spelling src name)) (list_all member_sound members) (name_sound src name e1 h.1.0) (members_reading src a members r (left src a (closing ∷ []) h.1.1.1))
+    both (is_name (spelling src name)) (list_all member_sound members) (name_sound src name e1 h.1.0) (members_reading src a members r (left src a (closing ∷ []) h.1.1.1))
 
 classes_reading : (src : List ℕ) (toks : List Token) (xs : List ClassTree) → ReadsClasses src toks xs → Sounds src toks → (nat_le 1 (length xs) && list_all class_sound xs) ≡ true
 classes_reading src _ _ (g.last a x r) h = both (class_sound x) true (class_reading src a x r h) refl

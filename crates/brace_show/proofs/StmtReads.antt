@@ -2,6 +2,7 @@
 use Rattle.std.proofs.Common.{◌≡◌, refl, sym, ap, ◌∙◌, subst, ℕ, ◌+◌, List, [], ◌∷◌, ◌++◌, map, flat_map, Bool, true, ◌&&◌, append_assoc, Option, Some, None, codes}
 use Rattle.std.specs.List.{list_all}
 use Rattle.std.proofs.lemmas.List.{append-nil}
+use Rattle.brace_num.specs.Names.{is_name}
 use Rattle.brace_tok.specs.Tables.{reserved, symbol}
 use Rattle.brace_tok.specs.Pieces.{blank, word, sign}
 use Rattle.brace_tok.specs.declared.kinds.Token.{Token}
@@ -22,7 +23,7 @@ use Rattle.brace_syntax.specs.declared.tree.StmtTree.TheFolds.{fold-roll-StmtTre
 use Rattle.brace_show.specs.Canonical.{type_text}
 use Rattle.brace_show.specs.Alike.{ident_at_0, type_at_0, expr_at_0, stmt_step, stmt_at_0}
 use Rattle.brace_show.proofs.Rows.{Row, space, mark, letters, expression_row, margin_row, line_row, type_row, block_row, closing_row, statement_row_step, statement_row}
-use Rattle.brace_show.proofs.Sound.{name_is, type_is, expr_sound, all_sound, stmt_sound_step, stmt_sound}
+use Rattle.brace_show.proofs.Sound.{type_is, expr_sound, all_sound, stmt_sound_step, stmt_sound}
 use Rattle.brace_show.proofs.Laid.{Laid, split, say, past, past_margin, laid_as, line_cut, past_line, on_line, done}
 use Rattle.brace_show.proofs.ExprReads.{Found, expression_reads, say_name}
 
@@ -103,7 +104,7 @@ say_type C src (ty.Other name) row toks h l f =
 at_0 : (x : stmt.StmtTree-F StmtTree) (t : StmtTree) → roll-StmtTree x ≡ t → stmt_at_0 t ≡ stmt_step (map-StmtTree StmtTree StmtTree stmt_at_0 x)
 at_0 x t h = ap stmt_at_0 (sym h) ∙ fold-roll-StmtTree StmtTree stmt_step x
 
-assign_good : (name : Ident) (x : ExprTree) → name_is name.text ≡ true → expr_sound x ≡ true → GoodStmt (statement_row_step (stmt.Assign name x)) (s.Assign (ident_at_0 name) (expr_at_0 x))
+assign_good : (name : Ident) (x : ExprTree) → is_name name.text ≡ true → expr_sound x ≡ true → GoodStmt (statement_row_step (stmt.Assign name x)) (s.Assign (ident_at_0 name) (expr_at_0 x))
 unfolding symbol
 assign_good name x hn hx margin src toks l =
     let C : List Token → Type 0 = FoundStmt src (s.Assign (ident_at_0 name) (expr_at_0 x)) in
@@ -116,7 +117,7 @@ assign_good name x hn hx margin src toks l =
       ap (λ (z : Ident). s.Assign z (expr_at_0 x)) same ∙ (ap (λ (z : ExprTree). s.Assign (ident_at_0 i) z) found.2 ∙ sym (at_0 (stmt.Assign i found.0) (s.Assign i found.0) (s.rolls-Assign i found.0))),
     ))))
 
-assign_this_good : (name : Ident) (x : ExprTree) (at : ℕ) → name_is name.text ≡ true → expr_sound x ≡ true → GoodStmt (statement_row_step (stmt.AssignThis name x at)) (s.AssignThis (ident_at_0 name) (expr_at_0 x) 0)
+assign_this_good : (name : Ident) (x : ExprTree) (at : ℕ) → is_name name.text ≡ true → expr_sound x ≡ true → GoodStmt (statement_row_step (stmt.AssignThis name x at)) (s.AssignThis (ident_at_0 name) (expr_at_0 x) 0)
 unfolding symbol reserved
 assign_this_good name x at hn hx margin src toks l =
     let C : List Token → Type 0 = FoundStmt src (s.AssignThis (ident_at_0 name) (expr_at_0 x) 0) in
@@ -132,7 +133,7 @@ assign_this_good name x at hn hx margin src toks l =
           ∙ sym (at_0 (stmt.AssignThis i found.0 this.from) (s.AssignThis i found.0 this.from) (s.rolls-AssignThis i found.0 this.from))),
     ))))))
 
-assign_loop_good : (loop name : Ident) (x : ExprTree) → name_is loop.text ≡ true → name_is name.text ≡ true → expr_sound x ≡ true
+assign_loop_good : (loop name : Ident) (x : ExprTree) → is_name loop.text ≡ true → is_name name.text ≡ true → expr_sound x ≡ true
     → GoodStmt (statement_row_step (stmt.AssignLoop loop name x)) (s.AssignLoop (ident_at_0 loop) (ident_at_0 name) (expr_at_0 x))
 unfolding symbol
 assign_loop_good loop name x hl hn hx margin src toks l =
@@ -150,7 +151,7 @@ assign_loop_good loop name x hl hn hx margin src toks l =
           ∙ sym (at_0 (stmt.AssignLoop i j found.0) (s.AssignLoop i j found.0) (s.rolls-AssignLoop i j found.0)))),
     ))))))
 
-const_good : (t : TyName) (name : Ident) (x : ExprTree) (at : ℕ) → type_is t ≡ true → name_is name.text ≡ true → expr_sound x ≡ true
+const_good : (t : TyName) (name : Ident) (x : ExprTree) (at : ℕ) → type_is t ≡ true → is_name name.text ≡ true → expr_sound x ≡ true
     → GoodStmt (statement_row_step (stmt.Const t name x at)) (s.Const (type_at_0 t) (ident_at_0 name) (expr_at_0 x) 0)
 unfolding symbol reserved
 const_good t name x at ht hn hx margin src toks l =
@@ -237,7 +238,7 @@ foreach_row class variable other =
     letters (codes "foreach") ++ space ++ mark (codes "(") ++ letters class.text ++ space ++ letters variable.text ++ space ++ mark (codes ":") ++ space
     ++ letters (codes "Extent") ++ mark (codes "<") ++ letters other.text ++ mark (codes ">") ++ mark (codes ")") ++ space ++ mark (codes "{")
 
-foreach_good : (class variable other : Ident) (fs : List (ℕ → Row)) (vs : List StmtTree) (at : ℕ) → name_is class.text ≡ true → name_is variable.text ≡ true → name_is other.text ≡ true → Goods fs vs
+foreach_good : (class variable other : Ident) (fs : List (ℕ → Row)) (vs : List StmtTree) (at : ℕ) → is_name class.text ≡ true → is_name variable.text ≡ true → is_name other.text ≡ true → Goods fs vs
     → GoodStmt (statement_row_step (stmt.Foreach class variable other fs at)) (s.Foreach (ident_at_0 class) (ident_at_0 variable) (ident_at_0 other) vs 0)
 unfolding symbol reserved
 foreach_good class variable other fs vs at hc hv hd h margin src toks l =
@@ -286,8 +287,8 @@ goods_of (x ∷ xs) h =
 
 each_good : (y : stmt.StmtTree-F ((x : StmtTree) × SoundIsGood x)) → SoundIsGood (roll-StmtTree (map-StmtTree ((x : StmtTree) × SoundIsGood x) StmtTree (λ z. z.0) y))
 each_good (stmt.Const t name x at) = rolled (stmt.Const t name x at) (λ h.
-    let h' : (type_is t && name_is name.text) ≡ true = first_of_both (type_is t && name_is name.text) (expr_sound x) h in
-    const_good t name x at (first_of_both (type_is t) (name_is name.text) h') (second_of_both (type_is t) (name_is name.text) h') (second_of_both (type_is t && name_is name.text) (expr_sound x) h))
+    let h' : (type_is t && is_name name.text) ≡ true = first_of_both (type_is t && is_name name.text) (expr_sound x) h in
+    const_good t name x at (first_of_both (type_is t) (is_name name.text) h') (second_of_both (type_is t) (is_name name.text) h') (second_of_both (type_is t && is_name name.text) (expr_sound x) h))
 each_good (stmt.If c xs None at) = rolled (stmt.If c (map (λ z. z.0) xs) None at) (λ h.
     let sounds : Bool = all_sound (map stmt_sound (map (λ z. z.0) xs)) in
     let h' : (expr_sound c && sounds) ≡ true = first_of_both (expr_sound c && sounds) true h in
@@ -299,17 +300,17 @@ each_good (stmt.If c xs (Some ys) at) = rolled (stmt.If c (map (λ z. z.0) xs) (
     either_way_good c _ _ _ _ at (first_of_both (expr_sound c) sounds h') (goods_of xs (second_of_both (expr_sound c) sounds h')) (goods_of ys (second_of_both (expr_sound c && sounds) others h)))
 each_good (stmt.Foreach class variable other xs at) = rolled (stmt.Foreach class variable other (map (λ z. z.0) xs) at) (λ h.
     let sounds : Bool = all_sound (map stmt_sound (map (λ z. z.0) xs)) in
-    let h2 : (name_is class.text && name_is variable.text && name_is other.text) ≡ true = first_of_both (name_is class.text && name_is variable.text && name_is other.text) sounds h in
-    let h1 : (name_is class.text && name_is variable.text) ≡ true = first_of_both (name_is class.text && name_is variable.text) (name_is other.text) h2 in
-    foreach_good class variable other _ _ at (first_of_both (name_is class.text) (name_is variable.text) h1) (second_of_both (name_is class.text) (name_is variable.text) h1)
-    (second_of_both (name_is class.text && name_is variable.text) (name_is other.text) h2)
-    (goods_of xs (second_of_both (name_is class.text && name_is variable.text && name_is other.text) sounds h)))
-each_good (stmt.Assign name x) = rolled (stmt.Assign name x) (λ h. assign_good name x (first_of_both (name_is name.text) (expr_sound x) h) (second_of_both (name_is name.text) (expr_sound x) h))
+    let h2 : (is_name class.text && is_name variable.text && is_name other.text) ≡ true = first_of_both (is_name class.text && is_name variable.text && is_name other.text) sounds h in
+    let h1 : (is_name class.text && is_name variable.text) ≡ true = first_of_both (is_name class.text && is_name variable.text) (is_name other.text) h2 in
+    foreach_good class variable other _ _ at (first_of_both (is_name class.text) (is_name variable.text) h1) (second_of_both (is_name class.text) (is_name variable.text) h1)
+    (second_of_both (is_name class.text && is_name variable.text) (is_name other.text) h2)
+    (goods_of xs (second_of_both (is_name class.text && is_name variable.text && is_name other.text) sounds h)))
+each_good (stmt.Assign name x) = rolled (stmt.Assign name x) (λ h. assign_good name x (first_of_both (is_name name.text) (expr_sound x) h) (second_of_both (is_name name.text) (expr_sound x) h))
 each_good (stmt.AssignThis name x at) = rolled (stmt.AssignThis name x at) (λ h.
-    assign_this_good name x at (first_of_both (name_is name.text) (expr_sound x) h) (second_of_both (name_is name.text) (expr_sound x) h))
+    assign_this_good name x at (first_of_both (is_name name.text) (expr_sound x) h) (second_of_both (is_name name.text) (expr_sound x) h))
 each_good (stmt.AssignLoop loop name x) = rolled (stmt.AssignLoop loop name x) (λ h.
-    let h' : (name_is loop.text && name_is name.text) ≡ true = first_of_both (name_is loop.text && name_is name.text) (expr_sound x) h in
-    assign_loop_good loop name x (first_of_both (name_is loop.text) (name_is name.text) h') (second_of_both (name_is loop.text) (name_is name.text) h') (second_of_both (name_is loop.text && name_is name.text) (expr_sound x) h))
+    let h' : (is_name loop.text && is_name name.text) ≡ true = first_of_both (is_name loop.text && is_name name.text) (expr_sound x) h in
+    assign_loop_good loop name x (first_of_both (is_name loop.text) (is_name name.text) h') (second_of_both (is_name loop.text) (is_name name.text) h') (second_of_both (is_name loop.text && is_name name.text) (expr_sound x) h))
 
 pub stmt_good : (x : StmtTree) → stmt_sound x ≡ true → GoodStmt (statement_row x) (stmt_at_0 x)
 stmt_good = ind-StmtTree SoundIsGood (λ x y is. subst (λ z. SoundIsGood (roll-StmtTree z)) is (each_good y))

@@ -1,17 +1,16 @@
 -- The tokens that a source spells stand in it, and its words are text.
 use Rattle.std.proofs.Common.{◌≡◌, ℕ, zero, suc, ◌<◌, ◌≤◌, true, List, [], ◌∷◌, length, get_or, arith}
-use Rattle.std.specs.Prelude.{All}
+use Rattle.std.specs.Prelude.{All, IsTrue}
 use Rattle.std.specs.List.{list_all}
 use Rattle.std.specs.Str.{IsUtf8}
 use Rattle.std.proofs.lemmas.Bool.Decides.{nat_tests}
 use Rattle.std.proofs.lemmas.Str.{IsUtf8-from_ascii}
 use Rattle.std.proofs.lemmas.List.Elements.{All-rest}
-use Rattle.brace_tok.specs.Bytes.{is_word_byte, is_letter, begins}
-use Rattle.brace_tok.specs.Names.{IsName}
+use Rattle.brace_num.specs.Names.{is_word_byte, is_letter, begins, is_name}
 use Rattle.brace_tok.specs.Spells.{Spells, Rises}
 use Rattle.brace_tok.specs.declared.kinds.Token.{Token}
 use Rattle.brace_tok.proofs.Scans.{first_of_both, second_of_both}
-use Rattle.brace_tok.proofs.Named.{spells_names}
+use Rattle.brace_tok.proofs.Named.{name_word, spells_names}
 use Rattle.brace_tok.proofs.Unique.{spells_rises}
 use Rattle.brace_syntax.specs.Cursor.{AreSpelled, IsSpelled}
 
@@ -26,8 +25,8 @@ word_bytes_ascii [] e i = omega arith
 word_bytes_ascii (b ∷ bs) e zero = word_byte_ascii b (first_of_both (is_word_byte b) (list_all is_word_byte bs) e)
 word_bytes_ascii (b ∷ bs) e (suc i) = word_bytes_ascii bs (second_of_both (is_word_byte b) (list_all is_word_byte bs) e) i
 
-name_is_text : (text : List ℕ) → IsName text → IsUtf8 text
-name_is_text text name = IsUtf8-from_ascii text (word_bytes_ascii text (second_of_both (begins is_letter text) (list_all is_word_byte text) name.0))
+name_is_text : (text : List ℕ) → IsTrue (is_name text) → IsUtf8 text
+name_is_text text name = IsUtf8-from_ascii text (word_bytes_ascii text (second_of_both (begins is_letter text) (list_all is_word_byte text) (name_word text name)))
 
 rises_end : (low high : ℕ) (toks : List Token) → Rises low high toks → low ≤ high
 rises_end low high [] r = r

@@ -5,7 +5,8 @@ use Rattle.std.specs.List.{list_all}
 use Rattle.std.specs.Str.{bytes_eq}
 use Rattle.std.specs.Cmp.Lexicographic.{same_text}
 use Rattle.std.proofs.lemmas.Bool.{eqb-true, leb-true, lt-leb, ne_eqb}
-use Rattle.brace_tok.specs.Bytes.{is_blank, is_digit, is_letter, is_word_byte, are_digits, is_word, begins, begins_close, has_close, begins_fraction, begins_comment}
+use Rattle.brace_num.specs.Names.{is_digit, is_letter, is_word_byte, is_word, begins}
+use Rattle.brace_tok.specs.Bytes.{is_blank, are_digits, begins_close, has_close, begins_fraction, begins_comment}
 use Rattle.brace_tok.specs.Tables.{found, symbol, symbols}
 use Rattle.brace_tok.specs.declared.kinds.TokKind.{TokKind}
 use Rattle.brace_tok.specs.Pieces.{Piece, blank, line_comment, block_comment, word, whole, fraction, hash, sign, open_comment, stray, bytes_of, is_formed, ends_before}

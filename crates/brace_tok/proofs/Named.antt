@@ -1,24 +1,24 @@
 -- The text of a word is a name.
-use Rattle.std.proofs.Common.{◌≡◌, ℕ, zero, suc, pos, ◌+◌, ◌-◌, Bool, true, false, List, [], ◌∷◌, ◌++◌, length, take, drop, refl, sym, ap, subst, ◌∙◌, arith, append_assoc, length-append, Option, Some, None, cond, All}
+use Rattle.std.proofs.Common.{◌≡◌, ℕ, zero, suc, pos, ◌+◌, ◌-◌, Bool, true, false, List, [], ◌∷◌, ◌++◌, length, take, drop, refl, sym, ap, subst, ◌∙◌, map, not, ◌&&◌, ◌||◌, arith, append_assoc, length-append, Option, Some, None, cond, All}
 use Rattle.std.specs.Bool.{nat_le}
+use Rattle.std.specs.Prelude.{IsTrue}
 use Rattle.std.specs.List.{list_all}
 use Rattle.std.specs.Str.{bytes_eq}
 use Rattle.std.specs.Str.Parse.{digits_value}
-use Rattle.std.proofs.lemmas.Bool.{leb-true}
 use Rattle.std.proofs.lemmas.List.Elements.{All-append}
 use Rattle.std.proofs.Math.Seq.{drop-append_seam, take-append_seam}
-use Rattle.brace_tok.specs.Bytes.{is_word}
+use Rattle.brace_num.specs.Names.{is_word, is_among, is_name, reserved_words}
 use Rattle.brace_tok.specs.Tables.{found, words, directives, symbols, reserved, directive, symbol}
 use Rattle.brace_tok.specs.Pieces.{Piece, blank, line_comment, block_comment, word, whole, fraction, hash, sign, open_comment, stray, bytes_of, is_formed, ends_before}
 use Rattle.brace_tok.specs.Sayings.{Saying, nothing, token, refused, says, token_or, word_kind, name_or, whole_kind, fixed_kind, millionths}
 use Rattle.brace_tok.specs.Spells.{text_of, is_row, token_at, tokens_from, Spells}
-use Rattle.brace_tok.specs.Names.{IsName, IsNamed}
+use Rattle.brace_tok.specs.Names.{IsNamed}
 use Rattle.brace_tok.specs.declared.kinds.Token.{Token}
 use Rattle.brace_tok.specs.declared.kinds.TokKind.{TokKind}
 use Rattle.brace_tok.specs.declared.kinds.TokKind.TheVariants as kind
 use Rattle.brace_tok.specs.declared.fault.TokFault.{TokFault}
 use Rattle.brace_tok.specs.declared.fault.TokFault.TheVariants as fault
-use Rattle.brace_tok.proofs.Scans.{first_of_both, second_of_both}
+use Rattle.brace_tok.proofs.Scans.{both, first_of_both, second_of_both}
 use Rattle.brace_tok.proofs.Heads.{append_none}
 use Rattle.brace_tok.proofs.Unique.{row_longest, row_rest}
 
@@ -63,13 +63,49 @@ name_none : (o : Option TokKind) → ((k : TokKind) → o ≡ Some k → k ≡ k
 name_none None other e = refl
 name_none (Some k) other e = absurd (other k refl e)
 
-word_name : (letters : List ℕ) → is_word letters ≡ true → word_kind letters ≡ Some kind.Word → IsName letters
+-- the table lacks a text exactly where its words do
+not_found : (table : List (List ℕ × TokKind)) (text : List ℕ) → found table text ≡ None → is_among (map (λ entry. entry.0) table) text ≡ false
+not_found [] text e = refl
+not_found (entry ∷ table) text e =
+    elim (bytes_eq entry.0 text) as (λ v. cond v (Some entry.1) (found table text) ≡ None → (v || is_among (map (λ en. en.0) table) text) ≡ false) [
+      | true ↦ λ h. absurd (cc)
+      | false ↦ λ h. not_found table text h
+    ] e
+
+not_among : (table : List (List ℕ × TokKind)) (text : List ℕ) → is_among (map (λ entry. entry.0) table) text ≡ false → found table text ≡ None
+not_among [] text e = refl
+not_among (entry ∷ table) text e =
+    elim (bytes_eq entry.0 text) as (λ v. (v || is_among (map (λ en. en.0) table) text) ≡ false → cond v (Some entry.1) (found table text) ≡ None) [
+      | true ↦ λ h. absurd (cc)
+      | false ↦ λ h. not_among table text h
+    ] e
+
+not_true : (v : Bool) → not v ≡ true → v ≡ false
+not_true true e = absurd (cc)
+not_true false e = refl
+
+-- a name has a word's bytes, at most 64 of them, and is not reserved
+pub name_word : (text : List ℕ) → is_name text ≡ true → is_word text ≡ true
+name_word text e = first_of_both _ _ (first_of_both (is_word text && nat_le (length text) 64) _ e)
+
+pub name_short : (text : List ℕ) → is_name text ≡ true → nat_le (length text) 64 ≡ true
+name_short text e = second_of_both (is_word text) _ (first_of_both (is_word text && nat_le (length text) 64) _ e)
+
+pub name_free : (text : List ℕ) → is_name text ≡ true → reserved text ≡ None
+unfolding reserved
+name_free text e = not_among words text (not_true _ (second_of_both (is_word text && nat_le (length text) 64) _ e))
+
+free_name : (text : List ℕ) → reserved text ≡ None → not (is_among reserved_words text) ≡ true
+unfolding reserved
+free_name text e = ap not (not_found words text e)
+
+word_name : (letters : List ℕ) → is_word letters ≡ true → word_kind letters ≡ Some kind.Word → is_name letters ≡ true
 word_name letters e f =
-    elim (nat_le (length letters) 64) as (λ v. nat_le (length letters) 64 ≡ v → IsName letters) [
+    elim (nat_le (length letters) 64) as (λ v. nat_le (length letters) 64 ≡ v → is_name letters ≡ true) [
       | true ↦ λ s.
           let here : Some (name_or (reserved letters)) ≡ Some kind.Word = sym (ap (λ v. cond v (Some (name_or (reserved letters))) None) s) ∙ f in
           let plain : name_or (reserved letters) ≡ kind.Word = cc in
-          (e, leb-true _ _ s, name_none (reserved letters) (reserved_other letters) plain)
+          both _ _ (both _ _ e s) (free_name letters (name_none (reserved letters) (reserved_other letters) plain))
       | false ↦ λ s.
           let here : None ≡ Some kind.Word = sym (ap (λ v. cond v (Some (name_or (reserved letters))) None) s) ∙ f in
           absurd (cc)
@@ -79,7 +115,7 @@ some_or_none : (v : Bool) (k j : TokKind) → cond v (Some k) None ≡ Some j �
 some_or_none true k j e = cc
 some_or_none false k j e = absurd (cc)
 
-says_name : (at_ : ℕ) (p : Piece) → is_formed p ≡ true → says at_ p ≡ token kind.Word → IsName (bytes_of p)
+says_name : (at_ : ℕ) (p : Piece) → is_formed p ≡ true → says at_ p ≡ token kind.Word → IsTrue (is_name (bytes_of p))
 says_name at_ (blank x) e f = absurd (cc)
 says_name at_ (line_comment x) e f = absurd (cc)
 says_name at_ (block_comment x) e f = absurd (cc)
@@ -100,7 +136,7 @@ one_named : (src : List ℕ) (tok : Token) → IsNamed src tok → All (IsNamed 
 one_named src tok n zero d h = n
 one_named src tok n (suc k) d h = absurd (omega arith)
 
-token_named : (src : List ℕ) (from_ to_ : ℕ) (s : Saying) → (s ≡ token kind.Word → IsName (take (to_ - from_) (drop from_ src))) → All (IsNamed src) (token_at from_ to_ s)
+token_named : (src : List ℕ) (from_ to_ : ℕ) (s : Saying) → (s ≡ token kind.Word → IsTrue (is_name (take (to_ - from_) (drop from_ src)))) → All (IsNamed src) (token_at from_ to_ s)
 token_named src from_ to_ nothing h = none_named src
 token_named src from_ to_ (token k) h = one_named src (record { kind = k; from = from_; to = to_ }) (λ e. h (ap token e))
 token_named src from_ to_ (refused f) h = none_named src
@@ -134,7 +170,7 @@ row_named before (p ∷ row) after e =
     All-append (IsNamed (before ++ ((bytes_of p ++ text_of row) ++ after)))
     (token_at (length before) (length before + length (bytes_of p)) (says (length before) p))
     (tokens_from (length before + length (bytes_of p)) row)
-    (token_named _ _ _ (says (length before) p) (λ s. subst IsName (sym text) (says_name (length before) p formed s)))
+    (token_named _ _ _ (says (length before) p) (λ s. subst (λ t. IsTrue (is_name t)) (sym text) (says_name (length before) p formed s)))
     rest
 
 -- each word of a text is a name

@@ -3,7 +3,7 @@ use Rattle.std.proofs.Common.{◌≡◌, ℕ, ◌+◌, ◌-◌, ◌<◌, ◌≤�
 use Rattle.std.proofs.lemmas.List.{take-append-drop}
 use Rattle.std.proofs.Common.{length-take}
 use Rattle.brace_tok.specs.Pieces.{Piece, blank, line_comment, block_comment, word, whole, fraction, hash, sign, open_comment, stray, bytes_of, is_formed}
-use Rattle.brace_tok.specs.Bytes.{begins, is_digit, is_letter}
+use Rattle.brace_num.specs.Names.{begins, is_digit, is_letter}
 use Rattle.brace_tok.specs.Tables.{symbol, directive}
 use Rattle.brace_tok.specs.Sayings.{nothing, token, refused, says, token_or, word_kind, whole_kind, fixed_kind}
 use Rattle.brace_tok.specs.Spells.{text_of, is_sound, is_longest, is_row, token_at, tokens_from, FirstFault}

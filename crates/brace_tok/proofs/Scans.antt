@@ -2,7 +2,8 @@
 use Rattle.std.proofs.Common.{◌≡◌, ℕ, zero, suc, ◌+◌, ◌<◌, ◌≤◌, Bool, true, false, ◌&&◌, ◌||◌, List, [], ◌∷◌, length, take, drop, get_or, refl, ap, ◌∙◌, arith, ◌==◌, ◌-◌, ◌≢◌, add-one}
 use Rattle.std.proofs.Math.Numerals.{sub-one}
 use Rattle.std.proofs.lemmas.Bool.{ne_eqb}
-use Rattle.brace_tok.specs.Bytes.{begins, begins_close, has_close}
+use Rattle.brace_num.specs.Names.{begins}
+use Rattle.brace_tok.specs.Bytes.{begins_close, has_close}
 
 pub and-false : (a : Bool) → (a && false) ≡ false
 and-false true = refl

@@ -4,7 +4,8 @@ use Rattle.std.proofs.Math.Seq.{take-add}
 use Rattle.std.proofs.lemmas.List.{drop-drop}
 use Rattle.std.proofs.Common.{length-drop, take_all}
 use Rattle.std.proofs.lemmas.Bool.{eqb-true}
-use Rattle.brace_tok.specs.Bytes.{is_blank, is_digit, is_letter, is_word_byte, are_digits, begins, begins_close, begins_fraction, begins_comment}
+use Rattle.brace_num.specs.Names.{is_digit, is_letter, is_word_byte, begins}
+use Rattle.brace_tok.specs.Bytes.{is_blank, are_digits, begins_close, begins_fraction, begins_comment}
 use Rattle.brace_tok.specs.Tables.{symbol}
 use Rattle.brace_tok.specs.Pieces.{blank, line_comment, block_comment, word, whole, fraction, hash, sign, open_comment, stray}
 use Rattle.brace_tok.specs.Sayings.{token, refused, token_or}

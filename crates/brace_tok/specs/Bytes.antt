@@ -1,35 +1,15 @@
 -- Kinds of bytes, and tests of a text by them.
-use Rattle.std.specs.Prelude.{ℕ, Bool, false, ◌&&◌, ◌||◌, List, [], ◌∷◌, ◌==◌, nat_le}
+use Rattle.std.specs.Prelude.{ℕ, Bool, false, ◌&&◌, ◌||◌, List, [], ◌∷◌, ◌==◌}
 use Rattle.std.specs.List.{list_all}
+use Rattle.brace_num.specs.Names.{is_digit, begins}
 
 -- space, tab, carriage return or line feed
 abbrev pub is_blank : ℕ → Bool
 is_blank b = b == 32 || b == 9 || b == 13 || b == 10
 
--- 0 to 9
-abbrev pub is_digit : ℕ → Bool
-is_digit b = nat_le 48 b && nat_le b 57
-
--- a to z, A to Z or the underscore
-abbrev pub is_letter : ℕ → Bool
-is_letter b = (nat_le 97 b && nat_le b 122) || (nat_le 65 b && nat_le b 90) || b == 95
-
--- a byte that a word may hold
-abbrev pub is_word_byte : ℕ → Bool
-is_word_byte b = is_letter b || is_digit b
-
--- the text begins with a byte of the kind
-abbrev pub begins : (ℕ → Bool) → List ℕ → Bool
-begins kind [] = false
-begins kind (b ∷ bytes) = kind b
-
 -- one digit or more, and nothing else
 abbrev pub are_digits : List ℕ → Bool
 are_digits bytes = begins is_digit bytes && list_all is_digit bytes
-
--- a letter, then letters and digits
-abbrev pub is_word : List ℕ → Bool
-is_word bytes = begins is_letter bytes && list_all is_word_byte bytes
 
 -- the text begins with a point and a digit
 abbrev pub begins_fraction : List ℕ → Bool

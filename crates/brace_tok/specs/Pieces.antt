@@ -1,7 +1,8 @@
 -- The pieces that a text is a row of: the bytes of each, and where it ends.
 use Rattle.std.specs.Prelude.{ℕ, Bool, true, not, ◌&&◌, List, [], ◌∷◌, ◌++◌, is_some, ◌==◌, codes}
 use Rattle.std.specs.List.{list_all}
-use Rattle.brace_tok.specs.Bytes.{is_blank, is_digit, is_word_byte, begins, are_digits, is_word, begins_fraction, has_close, begins_comment}
+use Rattle.brace_num.specs.Names.{is_digit, is_word_byte, begins, is_word}
+use Rattle.brace_tok.specs.Bytes.{is_blank, are_digits, begins_fraction, has_close, begins_comment}
 use Rattle.brace_tok.specs.Tables.{symbol}
 
 -- a piece of a text

@@ -1,7 +1,8 @@
 -- What the parts of a scan find at the head of a text.
 use Rattle.std.specs.Prelude.{◌≡◌, ℕ, ◌+◌, ◌<◌, ◌≤◌, Bool, true, not, List, [], ◌∷◌, ◌++◌, length, take, drop, Option, Some, None, ◌==◌, IsTrue, IsFalse, codes, ⊤, ◌^◌}
 use Rattle.std.specs.List.{list_all}
-use Rattle.brace_tok.specs.Bytes.{is_digit, is_word_byte, begins, begins_close, has_close, begins_fraction}
+use Rattle.brace_num.specs.Names.{is_digit, is_word_byte, begins}
+use Rattle.brace_tok.specs.Bytes.{begins_close, has_close, begins_fraction}
 use Rattle.brace_tok.specs.Pieces.{Piece, bytes_of}
 use Rattle.brace_tok.specs.Sayings.{nothing, token, refused, says}
 use Rattle.brace_tok.specs.Spells.{is_longest}

@@ -1,7 +1,8 @@
 -- The reserved words, the directives and the symbols, each with the kind of its token.
-use Rattle.std.specs.Prelude.{List, [], ◌∷◌, length, ◌==◌, ℕ, Option, Some, None, if◌then◌else◌, codes}
+use Rattle.std.specs.Prelude.{List, [], ◌∷◌, zip, length, ◌==◌, ℕ, Option, Some, None, if◌then◌else◌, codes}
 use Rattle.std.specs.List.{filter}
 use Rattle.std.specs.Str.{bytes_eq}
+use Rattle.brace_num.specs.Names.{reserved_words}
 use Rattle.brace_tok.specs.declared.kinds.TokKind.{TokKind}
 use Rattle.brace_tok.specs.declared.kinds.TokKind.TheVariants as kind
 
@@ -10,19 +11,15 @@ abbrev pub found : List (List ℕ × TokKind) → List ℕ → Option TokKind
 found [] text = None
 found (entry ∷ table) text = if bytes_eq entry.0 text then Some entry.1 else found table text
 
--- the reserved words
+-- the reserved words, each with the kind of its token
 abbrev pub words : List (List ℕ × TokKind)
-words =
-    (codes "class", kind.KwClass) ∷ (codes "public", kind.KwPublic) ∷ (codes "private", kind.KwPrivate) ∷
-    (codes "state", kind.KwState) ∷ (codes "effect", kind.KwEffect) ∷ (codes "void", kind.KwVoid) ∷
-    (codes "run", kind.KwRun) ∷ (codes "foreach", kind.KwForeach) ∷ (codes "Extent", kind.KwExtent) ∷
-    (codes "const", kind.KwConst) ∷ (codes "if", kind.KwIf) ∷ (codes "else", kind.KwElse) ∷
-    (codes "this", kind.KwThis) ∷ (codes "true", kind.KwTrue) ∷ (codes "false", kind.KwFalse) ∷
-    (codes "int", kind.KwInt) ∷ (codes "fixed", kind.KwFixed) ∷ (codes "bool", kind.KwBool) ∷
-    (codes "abs", kind.KwAbs) ∷ (codes "min", kind.KwMin) ∷ (codes "max", kind.KwMax) ∷
-    (codes "sqrt", kind.KwSqrt) ∷ (codes "trunc", kind.KwTrunc) ∷ (codes "rand", kind.KwRand) ∷
-    (codes "sum", kind.KwSum) ∷ (codes "count", kind.KwCount) ∷ (codes "or", kind.KwOr) ∷
-    (codes "die", kind.KwDie) ∷ (codes "spawn", kind.KwSpawn) ∷ (codes "when", kind.KwWhen) ∷ []
+words = zip reserved_words (
+    kind.KwClass ∷ kind.KwPublic ∷ kind.KwPrivate ∷ kind.KwState ∷ kind.KwEffect ∷
+    kind.KwVoid ∷ kind.KwRun ∷ kind.KwForeach ∷ kind.KwExtent ∷ kind.KwConst ∷ kind.KwIf ∷
+    kind.KwElse ∷ kind.KwThis ∷ kind.KwTrue ∷ kind.KwFalse ∷ kind.KwInt ∷ kind.KwFixed ∷
+    kind.KwBool ∷ kind.KwAbs ∷ kind.KwMin ∷ kind.KwMax ∷ kind.KwSqrt ∷ kind.KwTrunc ∷
+    kind.KwRand ∷ kind.KwSum ∷ kind.KwCount ∷ kind.KwOr ∷ kind.KwDie ∷ kind.KwSpawn ∷
+    kind.KwWhen ∷ [])
 
 -- a reserved word is never a name
 unfoldable pub reserved : List ℕ → Option TokKind

@@ -1,5 +1,6 @@
 ghost use Rattle.std.specs.Prelude.{◌≡◌};
-ghost use Rattle.brace_tok.specs.Bytes.{is_blank, is_digit, is_letter};
+ghost use Rattle.brace_num.specs.Names.{is_digit, is_letter};
+ghost use Rattle.brace_tok.specs.Bytes.{is_blank};
 ghost use Rattle.brace_tok.specs.Steps.{is_of, IsRun, IsClosed};
 
 /// A kind of bytes that stand in a row.

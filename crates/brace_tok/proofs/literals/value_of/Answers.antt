@@ -1,7 +1,7 @@
 use Rattle.std.proofs.Common.{◌≡◌, ◌≤◌, ◌+◌, ◌*◌, ◌-◌, suc, take, get_or, arith, add-one, true}
 use Rattle.std.specs.List.{list_all}
 use Rattle.std.specs.Str.Parse.{digits_value}
-use Rattle.brace_tok.specs.Bytes.{begins, is_digit}
+use Rattle.brace_num.specs.Names.{begins, is_digit}
 use Rattle.brace_tok.proofs.Scans.{second_of_both}
 use Rattle.brace_tok.proofs.Digits.{digits_next, digits_prefix}
 use Rattle.brace_tok.proofs.literals.value_of.Goals as goal
