@@ -18,6 +18,6 @@ mod tree;
 pub use entry::parse;
 pub use fault::SynFault;
 pub use tree::{
-    BinName, ClassTree, CombName, Digits, ExprTree, Ident, MemberTree, Number, StmtTree, Tree,
-    TyName, UnName,
+    BinName, ClassTree, CombName, Digits, ExprTree, GiftTree, Ident, MemberTree, Number, StmtTree,
+    Tree, TyName, UnName,
 };

@@ -105,6 +105,13 @@ pub enum StmtTree {
     AssignLoop(Ident, Ident, ExprTree),
 }
 
+/// What a child gets: a state's name and the value that it begins with.
+#[derive(Debug, Drop)]
+pub struct GiftTree {
+    pub state: Ident,
+    pub value: ExprTree,
+}
+
 /// A member of a class. A `u32` is the offset of its first token; a `bool` is true for `public`.
 #[derive(Debug, Drop)]
 pub enum MemberTree {
@@ -113,6 +120,10 @@ pub enum MemberTree {
     State(bool, TyName, Ident, Option<ExprTree>, u32),
     Effect(bool, TyName, Ident, CombName, u32),
     Run(List<StmtTree>, u32),
+    /// `die when e;`.
+    Die(ExprTree, u32),
+    /// `spawn when e { .. }`: the condition and the gifts as they are written.
+    Spawn(ExprTree, List<GiftTree>, u32),
 }
 
 /// A class: its name, its members as they are written, and the offset of its first token.
