@@ -23,6 +23,7 @@ use Rattle.brace_model.specs.declared.program.Program.{Program}
 use Rattle.brace_model.specs.declared.fault.Fault.{Fault}
 use Rattle.brace_model.specs.declared.fault.Phase.TheVariants.{Query, Update}
 use Rattle.brace_model.specs.declared.world.Agent.{Agent}
+use Rattle.brace_model.specs.World.{World, world_of}
 use Rattle.brace_model.specs.Step.{step}
 use Rattle.brace_model.proofs.ValueEquations.{value-Lit, value-Field, value-Total, value-Binary, statement-If, statement-Foreach, statement-Assign, constants-If, constants-Foreach, constants-Assign}
 
@@ -34,7 +35,7 @@ effect name type how = record { name = name; ty = type; shared = true; comb = ho
 
 -- a class of that name, with these states behind x and y
 abbrev pub class : List ℕ → ℤ → ℤ → Option Expr → Option Expr → List State → List Effect → List Stmt → Class
-class name visible reach x y states effects query = record { name = name; visible = visible; reach = reach; x = 0; y = 1; states = state (codes "x") ty.Fixed x ∷ state (codes "y") ty.Fixed y ∷ states; effects = effects; query = query }
+class name visible reach x y states effects query = record { name = name; visible = visible; reach = reach; x = 0; y = 1; states = state (codes "x") ty.Fixed x ∷ state (codes "y") ty.Fixed y ∷ states; effects = effects; query = query; die = None; spawn = None }
 
 abbrev pub script : List Class → Program
 script classes = record { classes = classes; sites = [] }
@@ -47,8 +48,8 @@ agent number id x y states = record { class = number; id = id; states = Fixed x 
 abbrev pub drifting : Program
 drifting = script (class (codes "P") (pos 0) (pos 2000000) (Some (Binary op.Add (Some 0) (Field who.This 0) (Lit (Fixed (pos 1500000))))) None [] [] [] ∷ [])
 
-abbrev pub drifter : ℤ → List Agent
-drifter x = agent 0 7 x (pos 0) [] ∷ []
+abbrev pub drifter : ℤ → World
+drifter x = world_of (agent 0 7 x (pos 0) [] ∷ [])
 
 -- a job of one drifter from a tick, which publishes every third tick
 abbrev pub drift : ℕ → ℕ → ℕ → ℤ → Job
@@ -80,15 +81,15 @@ drifts every =
     (refl, one, two, three, four)
 
 -- every third tick and the last one are published
-publishes_by_threes : published (drift 0 4 3 (pos 0)) true ≡ rows drifting 0 (drifter (pos 0)) ++ (rows drifting 3 (drifter (pos 4500000)) ++ (rows drifting 4 (drifter (pos 6000000)) ++ []))
+publishes_by_threes : published (drift 0 4 3 (pos 0)) true ≡ rows drifting 0 (drifter (pos 0)).agents ++ (rows drifting 3 (drifter (pos 4500000)).agents ++ (rows drifting 4 (drifter (pos 6000000)).agents ++ []))
 publishes_by_threes = let (none, one, two, three, four) = drifts 3 in simp (none, one, two, three, four)
 
 -- a run that goes on from tick 2 publishes what comes after it
-goes_on : published (drift 2 3 1 (pos 3000000)) false ≡ rows drifting 3 (drifter (pos 4500000)) ++ []
+goes_on : published (drift 2 3 1 (pos 3000000)) false ≡ rows drifting 3 (drifter (pos 4500000)).agents ++ []
 unfolding world_after
 goes_on = simp drift_step_3
 
-nothing_drifts : published (record { program = drifting; seed = 0; first = 0; last = 3; every = 1; start = [] }) true ≡ []
+nothing_drifts : published (record { program = drifting; seed = 0; first = 0; last = 3; every = 1; start = world_of [] }) true ≡ []
 unfolding world_after
 nothing_drifts = refl
 
@@ -96,22 +97,22 @@ nothing_drifts = refl
 abbrev far : Program
 far = script (class (codes "Q") (pos 0) (pos 1000000) (Some (Binary op.Add (Some 0) (Field who.This 0) (Lit (Fixed (pos 5000000))))) (Some (Lit (Fixed (pos 9223372036854775807)))) [] [] [] ∷ [])
 
-moves_into_reach : step far 0 0 (agent 0 1 (pos 0) (pos 9223372036854000000) [] ∷ []) ≡ Ok (agent 0 1 (pos 1000000) (pos 9223372036854775807) [] ∷ [])
+moves_into_reach : step far 0 0 (world_of (agent 0 1 (pos 0) (pos 9223372036854000000) [] ∷ [])) ≡ Ok (world_of (agent 0 1 (pos 1000000) (pos 9223372036854775807) [] ∷ []))
 moves_into_reach = simp (value-Lit, value-Field, value-Total, value-Binary, statement-If, statement-Foreach, statement-Assign, constants-If, constants-Foreach, constants-Assign)
 
 -- a and b are exchanged by their rules: each reads the old state of the other
 abbrev exchanging : Program
 exchanging = script (class (codes "S") (pos 0) (pos 0) None None (state (codes "a") ty.Int (Some (Field who.This 3)) ∷ state (codes "b") ty.Int (Some (Field who.This 2)) ∷ []) [] [] ∷ [])
 
-exchanges : step exchanging 0 0 (agent 0 1 (pos 0) (pos 0) (Int (pos 3) ∷ Int (pos 8) ∷ []) ∷ []) ≡ Ok (agent 0 1 (pos 0) (pos 0) (Int (pos 8) ∷ Int (pos 3) ∷ []) ∷ [])
+exchanges : step exchanging 0 0 (world_of (agent 0 1 (pos 0) (pos 0) (Int (pos 3) ∷ Int (pos 8) ∷ []) ∷ [])) ≡ Ok (world_of (agent 0 1 (pos 0) (pos 0) (Int (pos 8) ∷ Int (pos 3) ∷ []) ∷ []))
 exchanges = simp (value-Lit, value-Field, value-Total, value-Binary, statement-If, statement-Foreach, statement-Assign, constants-If, constants-Foreach, constants-Assign)
 
 -- each agent counts itself with those that see it; agents exactly the visible range apart see each other
 abbrev pub counting : Program
 counting = script (class (codes "F") (pos 2000000) (pos 0) None None (state (codes "n") ty.Int (Some (Total 0 ty.Int None)) ∷ []) (effect (codes "c") ty.Int comb.Count ∷ []) (Foreach 0 (Assign who.Outer 0 (Lit (Int (pos 1))) 0 ∷ []) 0 ∷ []) ∷ [])
 
-counts : step counting 0 0 (agent 0 1 (pos 0) (pos 0) (Int (pos 0) ∷ []) ∷ agent 0 2 (pos 2000000) (pos 0) (Int (pos 0) ∷ []) ∷ agent 0 3 (pos 2000001) (pos 0) (Int (pos 0) ∷ []) ∷ [])
-    ≡ Ok (agent 0 1 (pos 0) (pos 0) (Int (pos 1) ∷ []) ∷ agent 0 2 (pos 2000000) (pos 0) (Int (pos 2) ∷ []) ∷ agent 0 3 (pos 2000001) (pos 0) (Int (pos 1) ∷ []) ∷ [])
+counts : step counting 0 0 (world_of (agent 0 1 (pos 0) (pos 0) (Int (pos 0) ∷ []) ∷ agent 0 2 (pos 2000000) (pos 0) (Int (pos 0) ∷ []) ∷ agent 0 3 (pos 2000001) (pos 0) (Int (pos 0) ∷ []) ∷ []))
+    ≡ Ok (world_of (agent 0 1 (pos 0) (pos 0) (Int (pos 1) ∷ []) ∷ agent 0 2 (pos 2000000) (pos 0) (Int (pos 2) ∷ []) ∷ agent 0 3 (pos 2000001) (pos 0) (Int (pos 1) ∷ []) ∷ []))
 counts = simp (value-Lit, value-Field, value-Total, value-Binary, statement-If, statement-Foreach, statement-Assign, constants-If, constants-Foreach, constants-Assign)
 
 -- a sum runs over unbounded whole numbers, and is read at 64 bits
@@ -125,11 +126,11 @@ giver id x w = agent 0 id x (pos 0) (Int w ∷ [])
 abbrev taker : ℤ → Agent
 taker s = agent 1 4 (pos 0) (pos 0) (Int s ∷ [])
 
-sums_past_64_bits : step summing 0 0 (giver 1 (negsuc 4999999) (pos 9223372036854775807) ∷ giver 2 (pos 0) (pos 9223372036854775807) ∷ giver 3 (pos 5000000) (negsuc 9223372036854775806) ∷ taker (pos 0) ∷ [])
-    ≡ Ok (giver 1 (negsuc 4999999) (pos 9223372036854775807) ∷ giver 2 (pos 0) (pos 9223372036854775807) ∷ giver 3 (pos 5000000) (negsuc 9223372036854775806) ∷ taker (pos 9223372036854775807) ∷ [])
+sums_past_64_bits : step summing 0 0 (world_of (giver 1 (negsuc 4999999) (pos 9223372036854775807) ∷ giver 2 (pos 0) (pos 9223372036854775807) ∷ giver 3 (pos 5000000) (negsuc 9223372036854775806) ∷ taker (pos 0) ∷ []))
+    ≡ Ok (world_of (giver 1 (negsuc 4999999) (pos 9223372036854775807) ∷ giver 2 (pos 0) (pos 9223372036854775807) ∷ giver 3 (pos 5000000) (negsuc 9223372036854775806) ∷ taker (pos 9223372036854775807) ∷ []))
 sums_past_64_bits = simp (value-Lit, value-Field, value-Total, value-Binary, statement-If, statement-Foreach, statement-Assign, constants-If, constants-Foreach, constants-Assign)
 
-faults_where_the_sum_is_read : step summing 0 0 (giver 1 (negsuc 4999999) (pos 9223372036854775807) ∷ giver 2 (pos 0) (pos 9223372036854775807) ∷ taker (pos 0) ∷ [])
+faults_where_the_sum_is_read : step summing 0 0 (world_of (giver 1 (negsuc 4999999) (pos 9223372036854775807) ∷ giver 2 (pos 0) (pos 9223372036854775807) ∷ taker (pos 0) ∷ []))
     ≡ Err (record { tick = 0; phase = Update; agent = 4; site = 0; outer = None; inner = None; kind = Overflow })
 faults_where_the_sum_is_read = simp (value-Lit, value-Field, value-Total, value-Binary, statement-If, statement-Foreach, statement-Assign, constants-If, constants-Foreach, constants-Assign)
 
@@ -140,14 +141,14 @@ dividing site = class (codes "D") (pos 0) (pos 0) None None (state (codes "d") t
 abbrev divided_by_zero : ℕ → ℕ → Fault
 divided_by_zero id site = record { tick = 0; phase = Query; agent = id; site = site; outer = None; inner = None; kind = DivZero }
 
-faults_at_the_least_id : step (script (dividing 0 ∷ [])) 0 0 (agent 0 3 (negsuc 999999) (pos 0) (Int (pos 0) ∷ []) ∷ agent 0 5 (pos 1000000) (pos 0) (Int (pos 0) ∷ []) ∷ []) ≡ Err (divided_by_zero 3 0)
+faults_at_the_least_id : step (script (dividing 0 ∷ [])) 0 0 (world_of (agent 0 3 (negsuc 999999) (pos 0) (Int (pos 0) ∷ []) ∷ agent 0 5 (pos 1000000) (pos 0) (Int (pos 0) ∷ []) ∷ [])) ≡ Err (divided_by_zero 3 0)
 faults_at_the_least_id = simp (value-Lit, value-Field, value-Total, value-Binary, statement-If, statement-Foreach, statement-Assign, constants-If, constants-Foreach, constants-Assign)
 
 -- the query of agent 9 comes before the update of agent 1
 abbrev dividing_both : Program
 dividing_both = script (class (codes "U") (pos 0) (pos 0) None None (state (codes "n") ty.Int (Some (Binary op.Div (Some 0) (Lit (Int (pos 1))) (Field who.This 2))) ∷ []) [] [] ∷ dividing 1 ∷ [])
 
-query_comes_first : step dividing_both 0 0 (agent 0 1 (pos 0) (pos 0) (Int (pos 0) ∷ []) ∷ agent 1 9 (pos 1000000000) (pos 0) (Int (pos 0) ∷ []) ∷ []) ≡ Err (divided_by_zero 9 1)
+query_comes_first : step dividing_both 0 0 (world_of (agent 0 1 (pos 0) (pos 0) (Int (pos 0) ∷ []) ∷ agent 1 9 (pos 1000000000) (pos 0) (Int (pos 0) ∷ []) ∷ [])) ≡ Err (divided_by_zero 9 1)
 query_comes_first = simp (value-Lit, value-Field, value-Total, value-Binary, statement-If, statement-Foreach, statement-Assign, constants-If, constants-Foreach, constants-Assign)
 
 -- where the first operand of `&&` decides, the second is not evaluated
@@ -160,8 +161,8 @@ is_not_zero = Binary op.Ne None (Field who.This 2) (Lit (Int (pos 0)))
 abbrev guarded : Expr → Program
 guarded condition = script (class (codes "C") (pos 0) (pos 0) None None (state (codes "d") ty.Int None ∷ state (codes "k") ty.Int (Some (Total 0 ty.Int None)) ∷ []) (effect (codes "c") ty.Int comb.Count ∷ []) (If condition (Assign who.This 0 (Lit (Int (pos 1))) 0 ∷ []) [] ∷ []) ∷ [])
 
-guard_decides : step (guarded (Binary op.And None is_not_zero quotient_above_zero)) 0 0 (agent 0 1 (pos 0) (pos 0) (Int (pos 0) ∷ Int (pos 0) ∷ []) ∷ []) ≡ Ok (agent 0 1 (pos 0) (pos 0) (Int (pos 0) ∷ Int (pos 0) ∷ []) ∷ [])
+guard_decides : step (guarded (Binary op.And None is_not_zero quotient_above_zero)) 0 0 (world_of (agent 0 1 (pos 0) (pos 0) (Int (pos 0) ∷ Int (pos 0) ∷ []) ∷ [])) ≡ Ok (world_of (agent 0 1 (pos 0) (pos 0) (Int (pos 0) ∷ Int (pos 0) ∷ []) ∷ []))
 guard_decides = simp (value-Lit, value-Field, value-Total, value-Binary, statement-If, statement-Foreach, statement-Assign, constants-If, constants-Foreach, constants-Assign)
 
-guard_comes_late : step (guarded (Binary op.And None quotient_above_zero is_not_zero)) 0 0 (agent 0 1 (pos 0) (pos 0) (Int (pos 0) ∷ Int (pos 0) ∷ []) ∷ []) ≡ Err (divided_by_zero 1 0)
+guard_comes_late : step (guarded (Binary op.And None quotient_above_zero is_not_zero)) 0 0 (world_of (agent 0 1 (pos 0) (pos 0) (Int (pos 0) ∷ Int (pos 0) ∷ []) ∷ [])) ≡ Err (divided_by_zero 1 0)
 guard_comes_late = simp (value-Lit, value-Field, value-Total, value-Binary, statement-If, statement-Foreach, statement-Assign, constants-If, constants-Foreach, constants-Assign)

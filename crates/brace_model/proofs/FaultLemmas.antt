@@ -1,5 +1,5 @@
 -- The order of faults is total, and the least fault is the least.
-use Rattle.std.proofs.Common.{◌≡◌, ◌∙◌, refl, sym, ap, subst, ℕ, List, [], ◌∷◌, length, Bool, true, false, Option, Some, None, arith}
+use Rattle.std.proofs.Common.{◌≡◌, ◌∙◌, refl, sym, ap, subst, ℕ, zero, suc, List, [], ◌∷◌, length, Bool, true, false, Option, Some, None, arith}
 use Rattle.std.specs.Prelude.{◌↔◌, IsTrue, if◌then◌else◌}
 use Rattle.std.specs.declared.cmp.Ordering.{Ordering}
 use Rattle.std.specs.declared.cmp.Ordering.TheVariants.{Less, Equal, Greater}
@@ -16,9 +16,9 @@ use Rattle.std.proofs.lemmas.List.Elements.{All-nil, All-cons, All-head, All-tai
 use Rattle.std.proofs.lemmas.List.Sorted.{All-permutation, Contains-permutation, length_permutation}
 use mathlib.Core.Logic.{⊎_elim}
 use Rattle.brace_num.specs.declared.kinds.Kind.{Kind}
-use Rattle.brace_num.specs.declared.kinds.Kind.TheVariants.{Overflow, DivZero, NegRoot}
+use Rattle.brace_num.specs.declared.kinds.Kind.TheVariants.{Overflow, DivZero, NegRoot, TooMany}
 use Rattle.brace_model.specs.declared.fault.Phase.{Phase}
-use Rattle.brace_model.specs.declared.fault.Phase.TheVariants.{Query, Update}
+use Rattle.brace_model.specs.declared.fault.Phase.TheVariants.{Query, Update, Birth}
 use Rattle.brace_model.specs.declared.fault.Fault.{Fault}
 use Rattle.brace_model.specs.FaultOrder.{phase_rank, kind_rank, compared, comes_before, earlier, least}
 
@@ -58,22 +58,34 @@ equal_options None (Some y) e = absurd (cc)
 equal_options (Some x) None e = absurd (cc)
 equal_options (Some x) (Some y) e = ap Some (exact_unsigned x y e)
 
+-- a phase and a kind are told by their ranks
+abbrev phase_of : ℕ → Phase
+phase_of zero = Query
+phase_of (suc zero) = Update
+phase_of (suc (suc n)) = Birth
+
+phase_back : (p : Phase) → phase_of (phase_rank p) ≡ p
+phase_back Query = refl
+phase_back Update = refl
+phase_back Birth = refl
+
 equal_phases : (p q : Phase) → phase_rank p ≡ phase_rank q → p ≡ q
-equal_phases Query Query e = refl
-equal_phases Query Update e = absurd (omega arith)
-equal_phases Update Query e = absurd (omega arith)
-equal_phases Update Update e = refl
+equal_phases p q e = sym (phase_back p) ∙ ap phase_of e ∙ phase_back q
+
+abbrev kind_of : ℕ → Kind
+kind_of zero = Overflow
+kind_of (suc zero) = DivZero
+kind_of (suc (suc zero)) = NegRoot
+kind_of (suc (suc (suc n))) = TooMany
+
+kind_back : (k : Kind) → kind_of (kind_rank k) ≡ k
+kind_back Overflow = refl
+kind_back DivZero = refl
+kind_back NegRoot = refl
+kind_back TooMany = refl
 
 equal_kinds : (p q : Kind) → kind_rank p ≡ kind_rank q → p ≡ q
-equal_kinds Overflow Overflow e = refl
-equal_kinds Overflow DivZero e = absurd (omega arith)
-equal_kinds Overflow NegRoot e = absurd (omega arith)
-equal_kinds DivZero Overflow e = absurd (omega arith)
-equal_kinds DivZero DivZero e = refl
-equal_kinds DivZero NegRoot e = absurd (omega arith)
-equal_kinds NegRoot Overflow e = absurd (omega arith)
-equal_kinds NegRoot DivZero e = absurd (omega arith)
-equal_kinds NegRoot NegRoot e = refl
+equal_kinds p q e = sym (kind_back p) ∙ ap kind_of e ∙ kind_back q
 
 equal_faults : (a b : Fault) → compared a b ≡ Equal → a ≡ b
 equal_faults a b e =

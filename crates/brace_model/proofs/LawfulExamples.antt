@@ -52,10 +52,15 @@ drifting_class = record {
   y_is_position = refl;
   effects_combine = refl;
   rules_are_typed = simp (type_of-Lit, type_of-Field, type_of-Binary);
+  die_is_typed = refl;
+  spawn_is_typed = refl;
+  gifts_differ = tt;
   query_is_typed = refl;
   constants_in_range = refl;
   constants_differ = tt;
   rule_sites_rise = simp (sites_of-Lit, sites_of-Field, sites_of-Binary) one_rises;
+  die_sites_rise = none_rise;
+  spawn_sites_rise = none_rise;
   query_sites_rise = none_rise;
 }
 
@@ -112,10 +117,15 @@ counting_class = record {
   y_is_position = refl;
   effects_combine = refl;
   rules_are_typed = simp (type_of-Total);
+  die_is_typed = refl;
+  spawn_is_typed = refl;
+  gifts_differ = tt;
   query_is_typed = simp (scope_after-Foreach, scope_after-Assign, type_of-Lit);
   constants_in_range = simp (constant_numbers-Foreach, constant_numbers-Assign);
   constants_differ = simp (constant_numbers-Foreach, constant_numbers-Assign) tt;
   rule_sites_rise = simp (sites_of-Total) none_rise;
+  die_sites_rise = none_rise;
+  spawn_sites_rise = none_rise;
   query_sites_rise = simp (sites_in-Foreach, sites_in-Assign, sites_of-Lit) none_rise;
 }
 

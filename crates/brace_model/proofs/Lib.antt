@@ -2,6 +2,7 @@ mod Examples
 pub mod FaultLemmas
 pub mod LawEquations
 mod LawfulExamples
+mod LifeExamples
 pub mod ValueEquations
 pub mod RunLemmas
 pub mod StepLemmas

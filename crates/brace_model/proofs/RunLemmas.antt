@@ -1,21 +1,21 @@
 -- A run tick by tick: its worlds, and the text published so far.
-use Rattle.std.proofs.Common.{◌≡◌, ◌∙◌, sym, refl, ap, ℕ, zero, suc, ◌+◌, ◌-◌, ◌≤◌, List, [], ◌∷◌, ◌++◌, Bool, true, false, Option, Some, None, Result, Ok, Err, flat_map, append_assoc, add-suc, add-zero, add-one, zero-add, arith}
+use Rattle.std.proofs.Common.{◌≡◌, ◌∙◌, sym, refl, ap, ℕ, zero, suc, ◌+◌, List, [], ◌∷◌, ◌++◌, Bool, Result, Ok, Err, flat_map, append_assoc, add-suc, add-zero, add-one, zero-add, arith}
 use Rattle.std.specs.List.{range_with_len}
 use Rattle.std.proofs.lemmas.Grind.{flat_map-append}
 use Rattle.std.proofs.lemmas.List.{append-nil}
 use Rattle.brace_model.specs.declared.fault.Fault.{Fault}
 use Rattle.brace_model.specs.declared.job.Job.{Job}
-use Rattle.brace_model.specs.declared.world.Agent.{Agent}
+use Rattle.brace_model.specs.World.{World}
 use Rattle.brace_model.specs.Step.{step}
 use Rattle.brace_model.specs.Run.{world_after, stepped}
-use Rattle.brace_model.specs.Published.{tick_text, text_of_ticks, published}
+use Rattle.brace_model.specs.Published.{tick_text, text_of_ticks}
 
 -- the start world, and one more tick
 pub world_after-zero : (job : Job) → world_after job 0 ≡ Ok job.start
 unfolding world_after
 world_after-zero job = refl
 
-pub world_after-next : (job : Job) (n : ℕ) (world : List Agent) → world_after job n ≡ Ok world → world_after job (n + 1) ≡ step job.program job.seed (job.first + n) world
+pub world_after-next : (job : Job) (n : ℕ) (world : World) → world_after job n ≡ Ok world → world_after job (n + 1) ≡ step job.program job.seed (job.first + n) world
 unfolding world_after
 world_after-next job n world e = rw add-one (ap (stepped job (job.first + n)) e)
 
@@ -41,7 +41,7 @@ pub text-ended : (job : Job) (fresh : Bool) (n k : ℕ) (fault : Fault) → worl
 text-ended job fresh n zero fault e = rw add-zero refl
 text-ended job fresh n (suc k) fault e =
     let more : text_of_ticks job fresh (n + k + 1) ≡ text_of_ticks job fresh (n + k) ++ tick_text job fresh (job.first + (n + k)) (Err fault) =
-    text-next job fresh (n + k) ∙ ap (λ (r : Result (List Agent) Fault). text_of_ticks job fresh (n + k) ++ tick_text job fresh (job.first + (n + k)) r) (world_after-ended job n k fault e) in
+    text-next job fresh (n + k) ∙ ap (λ (r : Result (World) Fault). text_of_ticks job fresh (n + k) ++ tick_text job fresh (job.first + (n + k)) r) (world_after-ended job n k fault e) in
     ap (λ (m : ℕ). text_of_ticks job fresh m) (add-suc n k ∙ sym (add-one (n + k))) ∙ more ∙ append-nil _ ∙ text-ended job fresh n k fault e
 
 -- the text so far begins the text of more ticks

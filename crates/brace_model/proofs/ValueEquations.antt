@@ -19,32 +19,32 @@ use Rattle.brace_model.specs.declared.program.Stmt.TheFolds.{fold-roll-Stmt}
 use Rattle.brace_model.specs.declared.program.Program.{Program}
 use Rattle.brace_model.specs.declared.world.Agent.{Agent}
 use Rattle.brace_model.specs.World.{value_at}
-use Rattle.brace_model.specs.Value.{Scope, Outcome, value_step, value, agent_of, total_read, unary, binary, choose, with_value}
-use Rattle.brace_model.specs.Query.{Deed, statement, statement_step, constants, constants_step, block, closed, chosen, deed_of, all_of, inside, seen_by, silent, bound}
+use Rattle.brace_model.specs.Value.{Scope, Worth, value_step, value, agent_of, total_read, unary, binary, choose, with_value}
+use Rattle.brace_model.specs.Query.{Deed, statement, statement_step, constants, constants_step, block, closed, chosen, deed_of, iterated, inside, seen_by, silent, bound}
 
 pub value-Lit : (v : Value) (scope : Scope) → value (Lit v) scope ≡ Ok v
-value-Lit v scope = ap (λ e. value e scope) (sym (rolls-Lit v)) ∙ ap (λ f. f scope) (fold-roll-Expr (Scope → Outcome) value_step (layer.Lit v))
+value-Lit v scope = ap (λ e. value e scope) (sym (rolls-Lit v)) ∙ ap (λ f. f scope) (fold-roll-Expr (Scope → Worth) value_step (layer.Lit v))
 
 pub value-Field : (who : Who) (i : ℕ) (scope : Scope) → value (Field who i) scope ≡ Ok (value_at (agent_of scope who).states i)
-value-Field who i scope = ap (λ e. value e scope) (sym (rolls-Field who i)) ∙ ap (λ f. f scope) (fold-roll-Expr (Scope → Outcome) value_step (layer.Field who i))
+value-Field who i scope = ap (λ e. value e scope) (sym (rolls-Field who i)) ∙ ap (λ f. f scope) (fold-roll-Expr (Scope → Worth) value_step (layer.Field who i))
 
 pub value-Total : (effect : ℕ) (type : Ty) (site : Option ℕ) (scope : Scope) → value (Total effect type site) scope ≡ total_read type site (slice_index_or scope.totals effect (pos 0))
-value-Total effect type site scope = ap (λ e. value e scope) (sym (rolls-Total effect type site)) ∙ ap (λ f. f scope) (fold-roll-Expr (Scope → Outcome) value_step (layer.Total effect type site))
+value-Total effect type site scope = ap (λ e. value e scope) (sym (rolls-Total effect type site)) ∙ ap (λ f. f scope) (fold-roll-Expr (Scope → Worth) value_step (layer.Total effect type site))
 
 pub value-Local : (n : ℕ) (scope : Scope) → value (Local n) scope ≡ Ok (value_at scope.locals n)
-value-Local n scope = ap (λ e. value e scope) (sym (rolls-Local n)) ∙ ap (λ f. f scope) (fold-roll-Expr (Scope → Outcome) value_step (layer.Local n))
+value-Local n scope = ap (λ e. value e scope) (sym (rolls-Local n)) ∙ ap (λ f. f scope) (fold-roll-Expr (Scope → Worth) value_step (layer.Local n))
 
 pub value-Unary : (op : UnOp) (site : Option ℕ) (a : Expr) (scope : Scope) → value (Unary op site a) scope ≡ with_value (value a scope) (unary op site)
-value-Unary op site a scope = ap (λ e. value e scope) (sym (rolls-Unary op site a)) ∙ ap (λ f. f scope) (fold-roll-Expr (Scope → Outcome) value_step (layer.Unary op site a))
+value-Unary op site a scope = ap (λ e. value e scope) (sym (rolls-Unary op site a)) ∙ ap (λ f. f scope) (fold-roll-Expr (Scope → Worth) value_step (layer.Unary op site a))
 
 pub value-Binary : (op : BinOp) (site : Option ℕ) (a b : Expr) (scope : Scope) → value (Binary op site a b) scope ≡ binary op site (value a scope) (value b scope)
-value-Binary op site a b scope = ap (λ e. value e scope) (sym (rolls-Binary op site a b)) ∙ ap (λ f. f scope) (fold-roll-Expr (Scope → Outcome) value_step (layer.Binary op site a b))
+value-Binary op site a b scope = ap (λ e. value e scope) (sym (rolls-Binary op site a b)) ∙ ap (λ f. f scope) (fold-roll-Expr (Scope → Worth) value_step (layer.Binary op site a b))
 
 pub value-Choice : (c a b : Expr) (scope : Scope) → value (Choice c a b) scope ≡ with_value (value c scope) (λ x. choose x (value a scope) (value b scope))
-value-Choice c a b scope = ap (λ e. value e scope) (sym (rolls-Choice c a b)) ∙ ap (λ f. f scope) (fold-roll-Expr (Scope → Outcome) value_step (layer.Choice c a b))
+value-Choice c a b scope = ap (λ e. value e scope) (sym (rolls-Choice c a b)) ∙ ap (λ f. f scope) (fold-roll-Expr (Scope → Worth) value_step (layer.Choice c a b))
 
 pub value-Rand : (site : ℕ) (scope : Scope) → value (Rand site) scope ≡ Ok (Fixed (pos (draw_value scope.seed scope.tick scope.this.id site)))
-value-Rand site scope = ap (λ e. value e scope) (sym (rolls-Rand site)) ∙ ap (λ f. f scope) (fold-roll-Expr (Scope → Outcome) value_step (layer.Rand site))
+value-Rand site scope = ap (λ e. value e scope) (sym (rolls-Rand site)) ∙ ap (λ f. f scope) (fold-roll-Expr (Scope → Worth) value_step (layer.Rand site))
 
 pub statement-Const : (program : Program) (world : List Agent) (n : ℕ) (e : Expr) (scope : Scope) → statement program world (Const n e) scope ≡ deed_of scope (value e scope) (λ v. silent (bound scope n v))
 statement-Const program world n e scope = ap (λ s. statement program world s scope) (sym (rolls-Const n e)) ∙ ap (λ f. f scope) (fold-roll-Stmt (Scope → Deed) (statement_step program world) (block_layer.Const n e))
@@ -54,7 +54,7 @@ pub statement-If : (program : Program) (world : List Agent) (c : Expr) (a b : Li
 statement-If program world c a b scope = ap (λ s. statement program world s scope) (sym (rolls-If c a b)) ∙ ap (λ f. f scope) (fold-roll-Stmt (Scope → Deed) (statement_step program world) (block_layer.If c a b))
 
 pub statement-Foreach : (program : Program) (world : List Agent) (class : ℕ) (body : List Stmt) (at : ℕ) (scope : Scope)
-    → statement program world (Foreach class body at) scope ≡ all_of scope (map (λ b. block (map (statement program world) body) (inside scope b)) (seen_by program world scope.this class))
+    → statement program world (Foreach class body at) scope ≡ iterated scope (map (λ b. block (map (statement program world) body) (inside scope b)) (seen_by program world scope.this class))
 statement-Foreach program world class body at scope = ap (λ s. statement program world s scope) (sym (rolls-Foreach class body at)) ∙ ap (λ f. f scope) (fold-roll-Stmt (Scope → Deed) (statement_step program world) (block_layer.Foreach class body at))
 
 pub statement-Assign : (program : Program) (world : List Agent) (who : Who) (effect : ℕ) (e : Expr) (at : ℕ) (scope : Scope)

@@ -1,4 +1,4 @@
--- The order of faults: by tick, the query before the update, agent, site, outer agent, inner agent; no loop agent comes before every agent.
+-- The order of faults: by tick, phase (query, update, birth), agent, site, outer agent, inner agent; no loop agent comes before every agent.
 -- Faults of one tick that agree in all of these are one fault; so that any two faults are ordered, the kind decides last.
 use Rattle.std.specs.Prelude.{ℕ, List, Bool, Option, if◌then◌else◌, Some, None}
 use Rattle.std.specs.declared.cmp.Ordering.{Ordering}
@@ -6,20 +6,22 @@ use Rattle.std.specs.Ordering.{nat_cmp, ordering_then, is_lt}
 use Rattle.std.specs.Option.{option_cmp}
 use Rattle.std.specs.List.{reduce}
 use Rattle.brace_num.specs.declared.kinds.Kind.{Kind}
-use Rattle.brace_num.specs.declared.kinds.Kind.TheVariants.{Overflow, DivZero, NegRoot}
+use Rattle.brace_num.specs.declared.kinds.Kind.TheVariants.{Overflow, DivZero, NegRoot, TooMany}
 use Rattle.brace_model.specs.declared.fault.Phase.{Phase}
-use Rattle.brace_model.specs.declared.fault.Phase.TheVariants.{Query, Update}
+use Rattle.brace_model.specs.declared.fault.Phase.TheVariants.{Query, Update, Birth}
 use Rattle.brace_model.specs.declared.fault.Fault.{Fault}
 
--- the query comes before the update
+-- the query comes before the update, and the update before the births
 abbrev pub phase_rank : Phase → ℕ
 phase_rank Query = 0
 phase_rank Update = 1
+phase_rank Birth = 2
 
 abbrev pub kind_rank : Kind → ℕ
 kind_rank Overflow = 0
 kind_rank DivZero = 1
 kind_rank NegRoot = 2
+kind_rank TooMany = 3
 
 -- how two faults compare
 abbrev pub compared : Fault → Fault → Ordering

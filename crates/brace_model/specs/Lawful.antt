@@ -1,15 +1,17 @@
 -- Lawful programs, agents and jobs: what a checked script, the agents that fit it, and a run of it keep to.
-use Rattle.std.specs.Prelude.{ℕ, ℤ, pos, int_le, ◌+◌, ◌≤◌, ◌^◌, ◌≡◌, nat_eq, nat_lt, List, [], ◌∷◌, ◌++◌, map, flat_map, sum, sum_by, length, slice_get, codes, Bool, true, false, not, ◌&&◌, ◌||◌, IsTrue, Option, Some, None, is_some}
-use Rattle.std.specs.List.{IsDistinct, list_all, list_any}
+use Rattle.std.specs.Prelude.{ℕ, ℤ, pos, int_le, ◌+◌, ◌≤◌, ◌^◌, ◌≡◌, nat_eq, nat_le, nat_lt, List, [], ◌++◌, map, flat_map, sum, sum_by, length, slice_get, codes, Bool, true, false, ◌&&◌, IsTrue, Option, Some, None, is_some}
+use Rattle.std.specs.List.{IsDistinct, list_all}
 use Rattle.std.specs.List.Sorted.{IsStrictlyIncreasing}
 use Rattle.std.specs.Cmp.Lexicographic.{pointwise}
 use Rattle.std.specs.Str.{bytes_eq}
-use Rattle.std.specs.Char.{is_ascii_alphabetic, is_ascii_alphanumeric}
+use Rattle.brace_num.specs.Names.{is_name}
 use Rattle.brace_model.specs.declared.program.Ty.{Ty}
 use Rattle.brace_model.specs.declared.program.Ty.TheVariants as ty
 use Rattle.brace_model.specs.declared.program.Comb.{Comb}
 use Rattle.brace_model.specs.declared.program.Comb.TheVariants as comb
 use Rattle.brace_model.specs.declared.program.State.{State}
+use Rattle.brace_model.specs.declared.program.Gift.{Gift}
+use Rattle.brace_model.specs.declared.program.Spawn.{Spawn}
 use Rattle.brace_model.specs.declared.program.Class.{Class}
 use Rattle.brace_model.specs.declared.program.Program.{Program}
 use Rattle.brace_model.specs.declared.program.Expr.{Expr}
@@ -17,31 +19,9 @@ use Rattle.brace_model.specs.declared.job.Job.{Job}
 use Rattle.brace_model.specs.declared.world.Agent.{Agent}
 use Rattle.brace_model.specs.World.{class_of}
 use Rattle.brace_model.specs.Query.{constants}
-use Rattle.brace_model.specs.Sites.{rule_sites, query_sites, all_sites, constant_numbers, loop_offsets, assignments}
+use Rattle.brace_model.specs.Step.{most_agents, most_values, greatest_id, count_values}
+use Rattle.brace_model.specs.Sites.{rule_sites, die_sites, spawn_sites, query_sites, all_sites, constant_numbers, loop_offsets, class_assignments}
 use Rattle.brace_model.specs.Typing.{Names, same_type, is_number, type_of_value, type_of, is_of_type, in_turn, scope_after}
-
--- the words that are never names
-abbrev pub reserved : List (List ℕ)
-reserved = codes "class" ∷ codes "public" ∷ codes "private" ∷ codes "state" ∷ codes "effect" ∷ codes "void" ∷ codes "run" ∷ codes "foreach" ∷ codes "Extent" ∷ codes "const" ∷ codes "if" ∷ codes "else"
-    ∷ codes "this" ∷ codes "true" ∷ codes "false" ∷ codes "int" ∷ codes "fixed" ∷ codes "bool" ∷ codes "abs" ∷ codes "min" ∷ codes "max" ∷ codes "sqrt" ∷ codes "trunc" ∷ codes "rand" ∷ codes "sum" ∷ codes "count"
-    ∷ codes "or" ∷ codes "die" ∷ codes "spawn" ∷ codes "when" ∷ []
-
--- a letter or an underscore
-abbrev pub begins_word : ℕ → Bool
-begins_word b = is_ascii_alphabetic b || nat_eq b 95
-
--- a letter, a digit or an underscore
-abbrev pub continues_word : ℕ → Bool
-continues_word b = is_ascii_alphanumeric b || nat_eq b 95
-
--- a word of at most 64 bytes
-abbrev pub is_word : List ℕ → Bool
-is_word [] = false
-is_word (b ∷ rest) = begins_word b && (list_all continues_word rest && nat_lt (length rest) 64)
-
--- a word that is not reserved
-abbrev pub is_name : List ℕ → Bool
-is_name text = is_word text && not (list_any (bytes_eq text) reserved)
 
 -- the names of a class's states and effects
 abbrev pub field_names : Class → List (List ℕ)
@@ -70,10 +50,28 @@ rule_scope program class = record { classes = program.classes; own = class; oute
 abbrev pub query_scope : Program → ℕ → Names
 query_scope program class = record { classes = program.classes; own = class; outer_class = None; inner_class = None; in_rule = false; known = [] }
 
--- the rule of a state, where it has one, is of the state's type
+-- a rule or a condition, where there is one, is of a type
 abbrev pub is_ruled : Names → Ty → Option Expr → Bool
 is_ruled names t None = true
 is_ruled names t (Some rule) = is_of_type t (type_of rule names)
+
+-- a gift is of the type of the state that it is given to
+abbrev pub is_given : Names → List State → Gift → Bool
+is_given names states gift = is_given_to names gift (slice_get states gift.state)
+  where
+    is_given_to : Names → Gift → Option State → Bool
+    is_given_to names gift None = false
+    is_given_to names gift (Some s) = is_of_type s.ty (type_of gift.value names)
+
+-- a `spawn` has a condition, and gifts to states of the class
+abbrev pub is_spawn : Names → List State → Option Spawn → Bool
+is_spawn names states None = true
+is_spawn names states (Some spawn) = is_of_type ty.Bool (type_of spawn.when names) && list_all (is_given names states) spawn.gifts
+
+-- the states that a `spawn` gives values to
+abbrev pub given_states : Option Spawn → List ℕ
+given_states None = []
+given_states (Some spawn) = map (λ g. g.state) spawn.gifts
 
 -- the class of that number in a program: names, limits, position, types, and numbers of constants and sites
 pub record LawfulClass (program : Program) (number : ℕ) (class : Class) : Type 0 where
@@ -87,10 +85,15 @@ pub record LawfulClass (program : Program) (number : ℕ) (class : Class) : Type
   pub y_is_position : IsTrue (is_position (codes "y") (slice_get class.states class.y))
   pub effects_combine : IsTrue (list_all (λ e. combines e.comb e.ty) class.effects)
   pub rules_are_typed : IsTrue (list_all (λ s. is_ruled (rule_scope program number) s.ty s.rule) class.states)
+  pub die_is_typed : IsTrue (is_ruled (rule_scope program number) ty.Bool class.die)
+  pub spawn_is_typed : IsTrue (is_spawn (rule_scope program number) class.states class.spawn)
+  pub gifts_differ : IsDistinct nat_eq (given_states class.spawn)
   pub query_is_typed : IsTrue (is_some (in_turn (map scope_after class.query) (query_scope program number)))
   pub constants_in_range : IsTrue (list_all (λ n. nat_lt n (sum (map constants class.query))) (flat_map constant_numbers class.query))
   pub constants_differ : IsDistinct nat_eq (flat_map constant_numbers class.query)
   pub rule_sites_rise : IsStrictlyIncreasing (rule_sites class)
+  pub die_sites_rise : IsStrictlyIncreasing (die_sites class)
+  pub spawn_sites_rise : IsStrictlyIncreasing (spawn_sites class)
   pub query_sites_rise : IsStrictlyIncreasing (query_sites class)
 
 -- at most 16 classes of different names, each of which is lawful, and limits and numbers that hold over the whole script
@@ -100,7 +103,7 @@ pub record LawfulProgram (program : Program) : Type 0 where
   pub classes_are_lawful : (number : ℕ) (class : Class) → slice_get program.classes number ≡ Some class → LawfulClass program number class
   pub sites_in_range : IsTrue (list_all (λ site. nat_lt site 4096) (all_sites program))
   pub sites_differ : IsDistinct nat_eq (all_sites program)
-  pub few_assignments : sum (map assignments (flat_map (λ c. c.query) program.classes)) ≤ 4096
+  pub few_assignments : sum_by class_assignments program.classes ≤ 4096
   pub loops_differ : IsDistinct nat_eq (flat_map loop_offsets (flat_map (λ c. c.query) program.classes))
 
 -- the values of an agent are of the types of its class's states
@@ -110,18 +113,18 @@ has_states (Some class) a = pointwise same_type (map (λ s. s.ty) class.states) 
 
 -- an agent has an id below 2^63, a class of the program and that class's states
 abbrev pub is_lawful_agent : Program → Agent → Bool
-is_lawful_agent program a = nat_lt a.id 9223372036854775808 && has_states (class_of program a) a
+is_lawful_agent program a = nat_le a.id greatest_id && has_states (class_of program a) a
 
 -- at most 1,048,576 agents with at most 4,194,304 values in all
 pub record LawfulAgents (program : Program) (agents : List Agent) : Type 0 where
   pub each_is_lawful : IsTrue (list_all (is_lawful_agent program) agents)
-  pub few_agents : length agents ≤ 1048576
-  pub few_values : sum_by (λ a. length a.states) agents ≤ 4194304
+  pub few_agents : length agents ≤ most_agents
+  pub few_values : count_values agents ≤ most_values
 
 -- a run of a lawful program from lawful agents, whose ticks are at most 2^32 and which publishes every so many ticks
 pub record LawfulJob (job : Job) : Type 0 where
   pub program_is_lawful : LawfulProgram job.program
-  pub start_is_lawful : LawfulAgents job.program job.start
+  pub start_is_lawful : LawfulAgents job.program job.start.agents
   pub first_in_range : job.first ≤ 2 ^ 32
   pub last_in_range : job.last ≤ 2 ^ 32
   pub publishes : 1 ≤ job.every

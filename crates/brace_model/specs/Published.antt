@@ -8,7 +8,7 @@ use Rattle.brace_model.specs.declared.program.Program.{Program}
 use Rattle.brace_model.specs.declared.fault.Fault.{Fault}
 use Rattle.brace_model.specs.declared.job.Job.{Job}
 use Rattle.brace_model.specs.declared.world.Agent.{Agent}
-use Rattle.brace_model.specs.World.{class_of}
+use Rattle.brace_model.specs.World.{World, class_of}
 use Rattle.brace_model.specs.Run.{world_after}
 
 -- the canonical spelling of a value
@@ -30,7 +30,7 @@ agent_text program a = join_with_byte 44 (class_name program a ∷ canonical_cou
 abbrev pub row : Program → ℕ → Agent → List ℕ
 row program tick a = canonical_count tick ++ 44 ∷ [] ++ agent_text program a ++ 10 ∷ []
 
--- the rows of a world
+-- the rows of the agents of a world
 abbrev pub rows : Program → ℕ → List Agent → List ℕ
 rows program tick world = flat_map (row program tick) world
 
@@ -39,9 +39,9 @@ abbrev pub is_published : Job → Bool → ℕ → Bool
 is_published job fresh tick = ((tick % job.every == 0) || (tick == job.last)) && (fresh || nat_lt job.first tick)
 
 -- the rows of a tick, where the run reaches it and it is published
-abbrev pub tick_text : Job → Bool → ℕ → Result (List Agent) Fault → List ℕ
+abbrev pub tick_text : Job → Bool → ℕ → Result World Fault → List ℕ
 tick_text job fresh tick (Err fault) = []
-tick_text job fresh tick (Ok world) = if is_published job fresh tick then rows job.program tick world else []
+tick_text job fresh tick (Ok world) = if is_published job fresh tick then rows job.program tick world.agents else []
 
 -- the published text of the ticks of a job from the first one on, n of them
 abbrev pub text_of_ticks : Job → Bool → ℕ → List ℕ

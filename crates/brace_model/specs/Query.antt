@@ -12,7 +12,7 @@ use Rattle.brace_model.specs.declared.fault.Fault.{Fault}
 use Rattle.brace_model.specs.declared.fault.Phase.TheVariants.{Query}
 use Rattle.brace_model.specs.declared.world.Agent.{Agent}
 use Rattle.brace_model.specs.World.{sees, no_value, class_of}
-use Rattle.brace_model.specs.Value.{Scope, value, agent_of, Outcome}
+use Rattle.brace_model.specs.Value.{Scope, value, agent_of, Worth}
 
 -- a value said to an effect of an agent
 pub record Saying : Type 0 where
@@ -40,7 +40,7 @@ abbrev pub halted : Scope → Stop → Deed
 halted scope stop = record { said = []; faults = query_fault scope stop ∷ []; stopped = true; scope = scope }
 
 -- what is done with a value, or the fault in its place
-abbrev pub deed_of : Scope → Outcome → (Value → Deed) → Deed
+abbrev pub deed_of : Scope → Worth → (Value → Deed) → Deed
 deed_of scope (Ok v) next = next v
 deed_of scope (Err stop) next = halted scope stop
 
@@ -74,8 +74,8 @@ chosen (Flag true) a b = a
 chosen _ a b = b
 
 -- the deeds of all iterations of a loop: each iteration's fault ends that iteration alone
-abbrev pub all_of : Scope → List Deed → Deed
-all_of scope deeds = record { said = flat_map (λ d. d.said) deeds; faults = flat_map (λ d. d.faults) deeds; stopped = false; scope = scope }
+abbrev pub iterated : Scope → List Deed → Deed
+iterated scope deeds = record { said = flat_map (λ d. d.said) deeds; faults = flat_map (λ d. d.faults) deeds; stopped = false; scope = scope }
 
 -- the agents of a class that an agent sees, by rising id
 abbrev pub seen_by : Program → List Agent → Agent → ℕ → List Agent
@@ -85,7 +85,7 @@ seen_by program world a class = filter (λ b. (b.class == class) && sees program
 abbrev pub statement_step : Program → List Agent → Stmt-F (Scope → Deed) → Scope → Deed
 statement_step program world (Const n e) scope = deed_of scope (value e scope) (λ v. silent (bound scope n v))
 statement_step program world (If c a b) scope = deed_of scope (value c scope) (λ v. closed scope (chosen v (block a scope) (block b scope)))
-statement_step program world (Foreach class body at) scope = all_of scope (map (λ b. block body (inside scope b)) (seen_by program world scope.this class))
+statement_step program world (Foreach class body at) scope = iterated scope (map (λ b. block body (inside scope b)) (seen_by program world scope.this class))
 statement_step program world (Assign who effect e at) scope = deed_of scope (value e scope) (λ v. record (silent scope) { said = record { target = (agent_of scope who).id; field = effect; value = v } ∷ [] })
 
 -- what a statement does in a world
@@ -103,13 +103,13 @@ abbrev pub constants : Stmt → ℕ
 constants = fold-Stmt ℕ constants_step
 
 -- the scope in which an agent's query or rule begins: no loop agent, no constant bound, these totals
-abbrev pub scope_of : ℕ → ℕ → List Stmt → List ℤ → Agent → Scope
-scope_of seed tick query totals a = record { tick = tick; seed = seed; this = a; outer = None; inner = None; locals = replicate (sum (map constants query)) no_value; totals = totals }
+abbrev pub opening_scope : ℕ → ℕ → List Stmt → List ℤ → Agent → Scope
+opening_scope seed tick query totals a = record { tick = tick; seed = seed; this = a; outer = None; inner = None; locals = replicate (sum (map constants query)) no_value; totals = totals }
 
 -- what the query of an agent of a class does
 abbrev pub query_in : Program → ℕ → ℕ → List Agent → Agent → Option Class → Deed
-query_in program seed tick world a None = silent (scope_of seed tick [] [] a)
-query_in program seed tick world a (Some class) = block (map (statement program world) class.query) (scope_of seed tick class.query [] a)
+query_in program seed tick world a None = silent (opening_scope seed tick [] [] a)
+query_in program seed tick world a (Some class) = block (map (statement program world) class.query) (opening_scope seed tick class.query [] a)
 
 -- what the query of an agent does on the states of a world: its sayings and its faults
 abbrev pub query_of : Program → ℕ → ℕ → List Agent → Agent → Deed

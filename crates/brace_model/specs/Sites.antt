@@ -1,7 +1,8 @@
 -- The numbers that a script carries: its sites in finishing order, its constants, its loops' offsets, and how many assignments it has.
-use Rattle.std.specs.Prelude.{ℕ, ◌+◌, List, [], ◌∷◌, ◌++◌, flat_map, sum}
+use Rattle.std.specs.Prelude.{ℕ, ◌+◌, List, [], ◌∷◌, ◌++◌, map, flat_map, sum, sum_by, length}
 use Rattle.std.specs.List.{concat}
 use Rattle.std.specs.Option.{option_to_list}
+use Rattle.brace_model.specs.declared.program.Spawn.{Spawn}
 use Rattle.brace_model.specs.declared.program.Class.{Class}
 use Rattle.brace_model.specs.declared.program.Program.{Program}
 use Rattle.brace_model.specs.declared.program.Expr.{Expr}
@@ -70,14 +71,38 @@ assignments_step (Assign who effect e at) = 1
 abbrev pub assignments : Stmt → ℕ
 assignments = fold-Stmt ℕ assignments_step
 
+-- the sites of expressions, in finishing order
+abbrev pub sites_among : List Expr → List ℕ
+sites_among es = flat_map sites_of es
+
 -- the sites of a class's rules, in finishing order
 abbrev pub rule_sites : Class → List ℕ
-rule_sites class = flat_map (λ s. flat_map sites_of (option_to_list s.rule)) class.states
+rule_sites class = sites_among (flat_map (λ s. option_to_list s.rule) class.states)
+
+-- the sites of the condition under which agents of a class die
+abbrev pub die_sites : Class → List ℕ
+die_sites class = sites_among (option_to_list class.die)
+
+-- the sites of a `spawn`: those of its condition and of its gifts, then its own
+abbrev pub sites_of_spawn : Spawn → List ℕ
+sites_of_spawn spawn = sites_of spawn.when ++ (sites_among (map (λ g. g.value) spawn.gifts) ++ spawn.site ∷ [])
+
+-- the sites of the `spawn` of a class
+abbrev pub spawn_sites : Class → List ℕ
+spawn_sites class = flat_map sites_of_spawn (option_to_list class.spawn)
 
 -- the sites of a class's query, in finishing order
 abbrev pub query_sites : Class → List ℕ
 query_sites class = flat_map sites_in class.query
 
+-- all sites of a class
+abbrev pub class_sites : Class → List ℕ
+class_sites class = rule_sites class ++ (die_sites class ++ (spawn_sites class ++ query_sites class))
+
 -- all sites of a program
 abbrev pub all_sites : Program → List ℕ
-all_sites program = flat_map (λ class. rule_sites class ++ query_sites class) program.classes
+all_sites program = flat_map class_sites program.classes
+
+-- how many assignments a class has: those of its query, and the gifts of its `spawn`
+abbrev pub class_assignments : Class → ℕ
+class_assignments class = sum (map assignments class.query) + sum_by (λ s. length s.gifts) (option_to_list class.spawn)

@@ -34,8 +34,8 @@ pub record Scope : Type 0 where
   pub totals : List ℤ
 
 -- a value, or the site and kind of a fault
-abbrev pub Outcome : Type 0
-Outcome = Result Value Stop
+abbrev pub Worth : Type 0
+Worth = Result Value Stop
 
 -- the agent that a name stands for; in a lawful script a loop's variable has one
 abbrev pub agent_of : Scope → Who → Agent
@@ -44,7 +44,7 @@ agent_of scope Outer = unwrap_or scope.outer scope.this
 agent_of scope Inner = unwrap_or scope.inner scope.this
 
 -- the exact result made a value, or its fault at the site
-abbrev pub made : (ℤ → Value) → Option ℕ → Result ℤ Kind → Outcome
+abbrev pub made : (ℤ → Value) → Option ℕ → Result ℤ Kind → Worth
 made as_value site (Ok n) = Ok (as_value n)
 made as_value site (Err kind) = Err (record { site = unwrap_or site 0; kind = kind })
 
@@ -70,7 +70,7 @@ quotient (Int a) b = exact_int_div a (number b)
 quotient a b = exact_fixed_div (number a) (number b)
 
 -- an operation on one operand
-abbrev pub unary : UnOp → Option ℕ → Value → Outcome
+abbrev pub unary : UnOp → Option ℕ → Value → Worth
 unary un.Neg site a = made (like a) site (exact_neg (number a))
 unary un.Not site a = Ok (Flag (int_eq (number a) (pos 0)))
 unary un.Abs site a = made (like a) site (exact_abs (number a))
@@ -79,7 +79,7 @@ unary un.ToFixed site a = made Fixed site (exact_to_fixed (number a))
 unary un.Trunc site a = Ok (Int (exact_trunc (number a)))
 
 -- an operation on two operands, both of which were evaluated
-abbrev pub strict : BinOp → Option ℕ → Value → Value → Outcome
+abbrev pub strict : BinOp → Option ℕ → Value → Value → Worth
 strict bin.Add site a b = made (like a) site (exact_add (number a) (number b))
 strict bin.Sub site a b = made (like a) site (exact_sub (number a) (number b))
 strict bin.Mul site a b = made (like a) site (product a b)
@@ -97,28 +97,28 @@ strict bin.And site a b = Ok b
 strict bin.Or site a b = Ok b
 
 -- goes on with a value; a fault stays
-abbrev pub with_value : Outcome → (Value → Outcome) → Outcome
+abbrev pub with_value : Worth → (Value → Worth) → Worth
 with_value (Ok v) next = next v
 with_value (Err stop) next = Err stop
 
 -- one of two outcomes by a condition
-abbrev pub choose : Value → Outcome → Outcome → Outcome
+abbrev pub choose : Value → Worth → Worth → Worth
 choose (Flag true) a b = a
 choose _ a b = b
 
 -- an operation on two operands; `&&` and `||` leave the second where the first decides
-abbrev pub binary : BinOp → Option ℕ → Outcome → Outcome → Outcome
+abbrev pub binary : BinOp → Option ℕ → Worth → Worth → Worth
 binary bin.And site a b = with_value a (λ x. choose x b (Ok (Flag false)))
 binary bin.Or site a b = with_value a (λ x. choose x (Ok (Flag true)) b)
 binary op site a b = with_value a (λ x. with_value b (strict op site x))
 
 -- a total, read as a value of the effect's type: with a site it faults where it does not fit; one without a site always fits
-abbrev pub total_read : Ty → Option ℕ → ℤ → Outcome
+abbrev pub total_read : Ty → Option ℕ → ℤ → Worth
 total_read type None n = Ok (typed type (result_unwrap_or (fitting n) (pos 0)))
 total_read type (Some site) n = made (typed type) (Some site) (fitting n)
 
 -- one operation, whose operands are outcomes in a scope
-abbrev pub value_step : Expr-F (Scope → Outcome) → Scope → Outcome
+abbrev pub value_step : Expr-F (Scope → Worth) → Scope → Worth
 value_step (Lit v) scope = Ok v
 value_step (Field who i) scope = Ok (value_at (agent_of scope who).states i)
 value_step (Total effect type site) scope = total_read type site (slice_index_or scope.totals effect (pos 0))
@@ -129,5 +129,5 @@ value_step (Choice c a b) scope = with_value (c scope) (λ x. choose x (a scope)
 value_step (Rand site) scope = Ok (Fixed (pos (draw_value scope.seed scope.tick scope.this.id site)))
 
 -- the value of an expression in a scope, or where and why it faults
-abbrev pub value : Expr → Scope → Outcome
-value = fold-Expr (Scope → Outcome) value_step
+abbrev pub value : Expr → Scope → Worth
+value = fold-Expr (Scope → Worth) value_step

@@ -1,5 +1,6 @@
--- A world: agents by rising id, each with its states; and which agents see which.
-use Rattle.std.specs.Prelude.{List, ℕ, map, slice_get, unwrap_or, ℤ, pos, nat_abs, ◌-ℤ◌, int_le, Bool, false, not, ◌&&◌, ◌==◌, if◌then◌else◌, Option, Some}
+-- A world: agents by rising id, each with its states, and the next free id; and which agents see which.
+use Rattle.std.specs.Prelude.{List, ℕ, ◌+◌, ◌<◌, ◌≤◌, ◌^◌, map, slice_get, unwrap_or, ℤ, pos, nat_abs, ◌-ℤ◌, int_le, Bool, false, not, ◌&&◌, ◌==◌, if◌then◌else◌, Option, Some, option_map, length, ◌-◌}
+use Rattle.std.specs.List.{All}
 use Rattle.std.specs.List.Sorted.{IsStrictlyIncreasing}
 use Rattle.brace_model.specs.declared.program.Value.{Value}
 use Rattle.brace_model.specs.declared.program.Value.TheVariants.{Int, Fixed, Flag}
@@ -7,13 +8,36 @@ use Rattle.brace_model.specs.declared.program.Class.{Class}
 use Rattle.brace_model.specs.declared.program.Program.{Program}
 use Rattle.brace_model.specs.declared.world.Agent.{Agent}
 
--- the ids of agents
+-- the agents of a tick, and the id that the next child gets
+pub record World : Type 0 where
+  pub agents : List Agent
+  pub next : ℕ
+
+-- each agent's id
 abbrev pub ids : List Agent → List ℕ
 ids agents = map (λ a. a.id) agents
 
 -- each agent's id is above that of the agent before it
 abbrev pub RisesById : List Agent → Type 0
 RisesById agents = IsStrictlyIncreasing (ids agents)
+
+-- ids rise, and all are below the next free id, which is at most 2^63
+pub record IsNumbered (world : World) : Type 0 where
+  pub rises : RisesById world.agents
+  pub below : All (λ a. a.id < world.next) world.agents
+  pub in_range : world.next ≤ 2 ^ 63
+
+-- one more than the last id, which is the greatest of rising ids, or 0 where there is no agent
+abbrev pub least_next : List Agent → ℕ
+least_next agents = unwrap_or (option_map (λ a. a.id + 1) (slice_get agents (length agents - 1))) 0
+
+-- the world of these agents with this next free id
+abbrev pub world_with : List Agent → ℕ → World
+world_with agents next = record { agents = agents; next = next }
+
+-- the world of these agents with the least next free id
+abbrev pub world_of : List Agent → World
+world_of agents = world_with agents (least_next agents)
 
 -- what stands where a script that is not lawful names nothing
 abbrev pub no_value : Value

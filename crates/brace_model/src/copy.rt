@@ -1,6 +1,6 @@
 ghost use Rattle.std.specs.Prelude.{◌≡◌, IfOk};
 
-use crate::{Agent, Class, Effect, Expr, Program, State, Stmt, Values};
+use crate::{Agent, Class, Effect, Expr, Gift, Program, Spawn, State, Stmt, Values};
 use brace_num::{Boxed, List, NoMemory};
 use std::alloc::Global;
 
@@ -79,7 +79,7 @@ fn copy_block(alloc: Global, block: &List<Stmt>) -> Result<List<Stmt>, NoMemory>
     Ok(copy)
 }
 
-/// A rule equal to this one, where there is one.
+/// A rule or a condition equal to this one, where there is one.
 fn copy_rule(alloc: Global, rule: &Option<Expr>) -> Result<Option<Expr>, NoMemory>
     ensures { IfOk result (λ copy. copy ≡ rule.now) }
 {
@@ -135,6 +135,37 @@ fn copy_effects(alloc: Global, effects: &List<Effect>) -> Result<List<Effect>, N
     Ok(copy)
 }
 
+/// Gifts equal to these.
+fn copy_gifts(alloc: Global, gifts: &List<Gift>) -> Result<List<Gift>, NoMemory>
+    ensures { IfOk result (λ copy. copy ≡ gifts.now) }
+{
+    let mut copy = List::new(alloc);
+    for gift in gifts.as_slice() {
+        copy.push(Gift {
+            state: gift.state,
+            value: copy_expression(alloc, &gift.value)?,
+        })?;
+    }
+    Ok(copy)
+}
+
+/// A `spawn` equal to this one, where there is one.
+fn copy_spawn(alloc: Global, spawn: &Option<Spawn>) -> Result<Option<Spawn>, NoMemory>
+    ensures { IfOk result (λ copy. copy ≡ spawn.now) }
+{
+    Ok(match spawn {
+        Some(spawn) => {
+            let when = copy_expression(alloc, &spawn.when)?;
+            Some(Spawn {
+                when,
+                gifts: copy_gifts(alloc, &spawn.gifts)?,
+                site: spawn.site,
+            })
+        }
+        None => None,
+    })
+}
+
 /// A class equal to this one.
 fn copy_class(alloc: Global, class: &Class) -> Result<Class, NoMemory>
     ensures { IfOk result (λ copy. copy ≡ class.now) }
@@ -143,6 +174,8 @@ fn copy_class(alloc: Global, class: &Class) -> Result<Class, NoMemory>
     let states = copy_states(alloc, &class.states)?;
     let effects = copy_effects(alloc, &class.effects)?;
     let query = copy_block(alloc, &class.query)?;
+    let die = copy_rule(alloc, &class.die)?;
+    let spawn = copy_spawn(alloc, &class.spawn)?;
     Ok(Class {
         name,
         visible: class.visible,
@@ -152,6 +185,8 @@ fn copy_class(alloc: Global, class: &Class) -> Result<Class, NoMemory>
         states,
         effects,
         query,
+        die,
+        spawn,
     })
 }
 

@@ -4,11 +4,15 @@ ghost use Rattle.brace_model.specs.FaultOrder.{compared, comes_before, earlier, 
 use brace_num::Kind;
 use std::cmp::Ordering;
 
-/// The two halves of a tick. The query comes first.
+/// The parts of a tick, in their order.
 #[derive(Debug, Clone, Copy, PartialEq, Eq, PartialOrd, Ord, Drop)]
 pub enum Phase {
+    /// Agents evaluate their queries.
     Query,
+    /// Agents evaluate their rules and the conditions and gifts of `die` and `spawn`.
     Update,
+    /// Children come into the world.
+    Birth,
 }
 
 /// A fault of a run: where it stands, and why.
@@ -16,7 +20,7 @@ pub enum Phase {
 pub struct Fault {
     pub tick: u64,
     pub phase: Phase,
-    /// The id of the agent whose query or rule faults.
+    /// The id of the agent whose query or update faults, or whose child goes too far.
     pub agent: u64,
     /// The number of the site.
     pub site: u32,
@@ -42,6 +46,7 @@ fn phase_number(phase: Phase) -> u8
     match phase {
         Phase::Query => 0,
         Phase::Update => 1,
+        Phase::Birth => 2,
     }
 }
 
@@ -53,10 +58,11 @@ fn kind_number(kind: Kind) -> u8
         Kind::Overflow => 0,
         Kind::DivZero => 1,
         Kind::NegRoot => 2,
+        Kind::TooMany => 3,
     }
 }
 
-/// How two faults compare: by tick, phase (the query first), agent, site, outer agent, inner agent (none first) and kind.
+/// How two faults compare: by tick, phase, agent, site, outer agent, inner agent (none first) and kind.
 fn compare(a: &Fault, b: &Fault) -> Ordering
     ensures { result ≡ compared a.now b.now }
 {
@@ -70,8 +76,9 @@ fn compare(a: &Fault, b: &Fault) -> Ordering
         .then(kind_number(a.kind).cmp(&kind_number(b.kind)))
 }
 
-/// Whether one fault comes before another: by tick, phase (the query first), agent, site, outer agent and inner agent, where no
-/// loop agent comes before every agent; faults that agree in all of these are ordered by their kinds.
+/// Whether one fault comes before another: by tick, phase (query, update, birth), agent, site, outer agent and
+/// inner agent, where no loop agent comes before every agent; faults that agree in all of these are ordered by
+/// their kinds. It takes no memory.
 pub fn fault_less(a: &Fault, b: &Fault) -> bool
     ensures { result ≡ comes_before a.now b.now }
 {

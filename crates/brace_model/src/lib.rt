@@ -14,6 +14,8 @@ mod world;
 pub use brace_num::Area;
 pub use fault::{Fault, Phase, Stop, earlier, fault_less};
 pub use job::{Env, Job};
-pub use program::{BinOp, Class, Comb, Effect, Expr, Program, State, Stmt, Ty, UnOp, Value, Who};
+pub use program::{
+    BinOp, Class, Comb, Effect, Expr, Gift, Program, Spawn, State, Stmt, Ty, UnOp, Value, Who,
+};
 pub use sight::sees;
-pub use world::{Agent, Values, World};
+pub use world::{Agent, Census, Parent, Values, World};

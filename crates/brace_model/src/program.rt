@@ -117,6 +117,23 @@ pub struct Effect {
     pub comb: Comb,
 }
 
+/// A value that a child begins with, in place of its parent's.
+#[derive(Debug, Drop)]
+pub struct Gift {
+    /// The state, by its place in the class's states.
+    pub state: u32,
+    pub value: Expr,
+}
+
+/// When an agent has a child, and what the child gets. The other states of a child are its parent's.
+#[derive(Debug, Drop)]
+pub struct Spawn {
+    pub when: Expr,
+    pub gifts: List<Gift>,
+    /// The number of the site at which a birth that goes too far faults.
+    pub site: u32,
+}
+
 /// A class of agents.
 #[derive(Debug, Drop)]
 pub struct Class {
@@ -133,6 +150,9 @@ pub struct Class {
     pub effects: List<Effect>,
     /// The statements of `run`.
     pub query: List<Stmt>,
+    /// The condition under which an agent is not in the next world.
+    pub die: Option<Expr>,
+    pub spawn: Option<Spawn>,
 }
 
 /// A script, checked.

@@ -1,7 +1,7 @@
 // What no clause says: that the calls answer where memory is ample, and that the orders mean what they should, at values worked by hand.
 use crate::{
-    Agent, Class, Comb, Effect, Expr, Fault, Phase, Program, State, Stmt, Ty, Value, Who, World,
-    earlier, fault_less, sees,
+    Agent, Class, Comb, Effect, Expr, Fault, Gift, Phase, Program, Spawn, State, Stmt, Ty, Value,
+    Who, World, earlier, fault_less, sees,
 };
 use brace_num::{Kind, List, NoMemory, Text};
 use std::alloc::Global;
@@ -18,6 +18,19 @@ fn state(alloc: Global, name: &str) -> Result<State, NoMemory> {
         ty: Ty::Fixed,
         shared: true,
         rule: Some(Expr::Rand(0)),
+    })
+}
+
+fn spawn(alloc: Global) -> Result<Spawn, NoMemory> {
+    let mut gifts = List::new(alloc);
+    gifts.push(Gift {
+        state: 1,
+        value: Expr::Rand(1),
+    })?;
+    Ok(Spawn {
+        when: Expr::Lit(Value::Flag(true)),
+        gifts,
+        site: 2,
     })
 }
 
@@ -47,6 +60,8 @@ fn class(alloc: Global) -> Result<Class, NoMemory> {
         states,
         effects,
         query,
+        die: Some(Expr::Lit(Value::Flag(false))),
+        spawn: Some(spawn(alloc)?),
     })
 }
 
@@ -87,26 +102,53 @@ fn sees_up_to_the_range(rt: HostRuntime) {
     }
 }
 
-#[test]
-fn worlds_rise(rt: HostRuntime) {
-    let mut agents = Vec::new(rt.alloc());
-    for id in [3, 5] {
-        let agent = agent(rt.alloc(), id, 0, 0).expect(&rt, "memory");
-        agents.push(agent).expect(&rt, "memory");
-    }
-    let world = World::from_rising(agents).expect(&rt, "3 is below 5");
-    let copy = world.copy(rt.alloc()).expect(&rt, "memory");
-    assert_eq!(rt; copy.agents().len(), 2);
-    let mut agents = Vec::new(rt.alloc());
-    for id in [5, 5] {
-        let agent = agent(rt.alloc(), id, 0, 0).expect(&rt, "memory");
-        agents.push(agent).expect(&rt, "memory");
-    }
-    assert!(rt; World::from_rising(agents).is_none());
+fn two_agents(alloc: Global, first: u64, second: u64) -> Result<Vec<Agent>, NoMemory> {
+    let mut agents = Vec::new(alloc);
+    agents.push(agent(alloc, first, 0, 0)?)?;
+    agents.push(agent(alloc, second, 0, 0)?)?;
+    Ok(agents)
 }
 
 #[test]
-fn queries_fault_first(rt: HostRuntime) {
+fn worlds_rise_to_the_greatest_id(rt: HostRuntime) {
+    for (first, second, next) in [
+        (3, 5, Some(6)),
+        (
+            0,
+            9_223_372_036_854_775_807,
+            Some(9_223_372_036_854_775_808),
+        ),
+        (0, 9_223_372_036_854_775_808, None),
+        (0, 18_446_744_073_709_551_615, None),
+        (5, 5, None),
+        (5, 3, None),
+    ] {
+        let agents = two_agents(rt.alloc(), first, second).expect(&rt, "memory");
+        let world = World::from_rising(agents);
+        assert_eq!(rt; world.as_ref().map(|world| world.next()), next);
+    }
+}
+
+#[test]
+fn worlds_have_a_free_id(rt: HostRuntime) {
+    for (next, is_world) in [
+        (5, false),
+        (6, true),
+        (9_223_372_036_854_775_808, true),
+        (9_223_372_036_854_775_809, false),
+    ] {
+        let agents = two_agents(rt.alloc(), 3, 5).expect(&rt, "memory");
+        let world = World::with_next(agents, next);
+        assert_eq!(rt; world.is_some(), is_world);
+        if let Some(world) = world {
+            let copy = world.copy(rt.alloc()).expect(&rt, "memory");
+            assert_eq!(rt; (copy.agents().len(), copy.next()), (2, next));
+        }
+    }
+}
+
+#[test]
+fn queries_fault_first_and_births_last(rt: HostRuntime) {
     let late = Fault {
         tick: 4,
         phase: Phase::Update,
@@ -131,4 +173,10 @@ fn queries_fault_first(rt: HostRuntime) {
     assert!(rt; fault_less(&first, &early) && !fault_less(&first, &first));
     assert_eq!(rt; earlier(late, early), early);
     assert_eq!(rt; earlier(first, early), first);
+    let last = Fault {
+        phase: Phase::Birth,
+        agent: 0,
+        ..late
+    };
+    assert!(rt; fault_less(&late, &last) && !fault_less(&last, &late));
 }

@@ -16,6 +16,8 @@ fn class_of(alloc: Global, name: &str) -> Result<Class, NoMemory> {
         states: List::new(alloc),
         effects: List::new(alloc),
         query: List::new(alloc),
+        die: None,
+        spawn: None,
     })
 }
 

@@ -14,7 +14,7 @@ pub fn print_tick(
     tick: u64,
     world: &World,
 ) -> Result<(), NoMemory>
-    ensures printed { OnOk result (out.new.items ≡ out.old.items ++ rows program.now tick world.now) }
+    ensures printed { OnOk result (out.new.items ≡ out.old.items ++ rows program.now tick world.now.agents) }
     ensures kept { OnErr result (out.new.items ≡ out.old.items) }
 {
     let before = out.len();
