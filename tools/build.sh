@@ -1,0 +1,64 @@
+#!/bin/bash
+# Builds the program from these sources, as out/brace-CHECKSUM, and says how far it is. The toolchain proves what it builds.
+# A second call waits for the first; an interrupted or failed one leaves nothing that is run.
+set -eu
+top=$(cd "$(dirname "$(readlink -f "$0")")/.." && pwd)
+sources=$1
+built=$top/out/brace-$sources
+log=$top/out/build.log
+
+say() { echo "brace: $*"; }
+
+if ! command -v rt >/dev/null; then
+  say "dist/brace can't be used here, and there is no toolchain (rt) to build the program with; README.md says what it takes"
+  exit 1
+fi
+mkdir -p "$top/out"
+exec 9>"$top/out/build.lock"
+if ! flock -n 9; then
+  say "another call builds the program; waiting for it"
+  flock 9
+fi
+[ ! -x "$built" ] || exit 0
+
+# The crates that the program stands on, itself included.
+total=$(awk '{ sub(/:$/, "", $1); if ($1 != "") for (i = 1; i <= NF; i++) line[$1] = line[$1] " " $i }
+  function visit(name,  words, n, i) {
+    if (name in seen || !(name in line)) return
+    seen[name]; count++
+    n = split(line[name], words, " ")
+    for (i = 1; i <= n; i++) visit(words[i])
+  }
+  END { visit("brace_main"); print count }' "$top/crates.txt")
+
+say "building the program: the toolchain proves the $total crates that it builds, which took MEASURED when nothing was proved yet"
+started=$(date +%s)
+set -m
+(cd "$top/crates/brace_main" && exec rt run) >"$log" 2>&1 9>&- &
+job=$!
+trap 'kill -- -$job 2>/dev/null || true; say "interrupted; nothing was built"; exit 1' INT TERM HUP
+told=
+while kill -0 $job 2>/dev/null; do
+  now=$(grep -o 'rt: chose --jobs [0-9]* for [a-z_]*' "$log" | awk '{ print $NF }' | awk '!seen[$0]++' | awk 'END { print NR ", " $0 }')
+  minutes=$((($(date +%s) - started) / 60))
+  if [ "$now $minutes" != "$told" ] && [ "${now#*, }" != "" ]; then
+    say "crate ${now%%,*} of $total (${now#*, }), $minutes min"
+    told="$now $minutes"
+  fi
+  sleep 1
+done
+# Run with no words, the program ends with 2.
+wait $job || true
+made=$top/crates/brace_main/out/brace_main
+if [ "$("$top/tools/sum.sh")" != "$sources" ]; then
+  say "the sources changed while the program was built; call again"
+  exit 1
+fi
+if ! grep -q 'run=ended status=2' "$log" || [ ! -x "$made" ]; then
+  say "the program could not be built; see $log"
+  exit 1
+fi
+rm -f "$top"/out/brace-*
+cp "$made" "$top/out/new-$sources"
+mv "$top/out/new-$sources" "$built"
+say "built in $((($(date +%s) - started) / 60)) min"
