@@ -10,7 +10,7 @@ use Rattle.std.proofs.lemmas.List.Folds.{find-set, find_past, find-append, find_
 use Rattle.std.proofs.lemmas.List.Sums.{passes_at_first, prefix_len-le-length}
 use Rattle.std.proofs.lemmas.List.{take_rest, drop_min}
 use Rattle.brace_io.specs.Shelves.{Stage, Idle, Reading, Writing, Stopped}
-use Rattle.brace_io.specs.MemStages.{mem_stage, IsAt, Spotted}
+use Rattle.brace_io.specs.inner.MemStages.{mem_stage, IsAt, Spotted}
 use Rattle.brace_io.specs.declared.mem_shelf.Doing.{Doing}
 use Rattle.brace_io.specs.declared.mem_shelf.Doing.TheVariants as doing
 use Rattle.brace_io.specs.MemShelves.{Entry, named, entry_of, file_in, files_of, OthersAlone}

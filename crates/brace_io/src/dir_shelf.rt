@@ -10,7 +10,7 @@ use std::rt::Files;
 
 /// Where a shelf of host files stands, with the open file.
 #[derive(Drop)]
-pub enum DirStage<F> {
+pub(crate) enum DirStage<F> {
     Idle,
     Reading(F),
     Writing(F),
@@ -27,7 +27,7 @@ pub struct DirShelf<'a, R: Files> {
 
 impl<'a, R: Files> DirShelf<'a, R> {
     ghost use Rattle.std.specs.Prelude.{None};
-    ghost use Rattle.brace_io.specs.HostStages.{host_stage};
+    ghost use Rattle.brace_io.specs.inner.HostStages.{host_stage};
 
     /// An idle shelf without failures.
     pub fn make(rt: &'a R) -> DirShelf<'a, R>
@@ -54,7 +54,7 @@ impl<'a, R: Files> DirShelf<'a, R> {
 
 impl<'a, R: Files> Shelf for DirShelf<'a, R> {
     ghost use Rattle.std.specs.Prelude.{None};
-    ghost use Rattle.brace_io.specs.HostStages.{host_stage};
+    ghost use Rattle.brace_io.specs.inner.HostStages.{host_stage};
 
     ghost held = { λ _. None };
 

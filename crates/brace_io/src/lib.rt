@@ -17,7 +17,7 @@ mod spoken;
 mod tests;
 mod write;
 
-pub use dir_shelf::{DirShelf, DirStage};
+pub use dir_shelf::DirShelf;
 pub use fault::{Failed, ReadFault, WholeFault};
 pub use gate::{Gate, OpenGate};
 pub use host_sink::{ErrSink, HostSink, OutSink};

@@ -6,7 +6,7 @@ ghost use Rattle.brace_io.specs.Shelves.{Idle, Reading, Writing, Stopped, IsRead
 
 use crate::count::Count;
 use crate::mem_file::MemFile;
-use crate::spoken::{again, spoken};
+use crate::spoken::spoken;
 use crate::{Failed, ReadFault, Shelf};
 use boxcar::tag::Tag;
 use brace_num::NoMemory;
@@ -40,7 +40,7 @@ pub struct MemShelf {
 
 impl Model for MemShelf {
     ghost use Rattle.brace_io.specs.MemShelves.{Shelved};
-    ghost use Rattle.brace_io.specs.MemStages.{mem_stage, Spotted};
+    ghost use Rattle.brace_io.specs.inner.MemStages.{mem_stage, Spotted};
 
     ghost Value = { Shelved };
 

@@ -25,10 +25,11 @@ pub trait Sink {
         ensures rose { OnErr result (Rose (faults self.old) (faults self.new)) }
         ensures rose_at_none { IfOk result (λ n. n ≡ 0 → 0 < length piece.now → Rose (faults self.old) (faults self.new)) };
 
-    /// Hands on what was written so far.
+    /// Hands on what was written so far. After a failure the sink is as clean as before.
     fn flush(&mut self) -> Result<(), Failed>
         ensures same { written self.new ≡ written self.old }
         ensures cleaned { OnOk result (clean self.new ≡ true) }
+        ensures as_clean { OnErr result (clean self.new ≡ clean self.old) }
         ensures never_falls { faults self.old ≤ faults self.new }
         ensures rose { OnErr result (Rose (faults self.old) (faults self.new)) };
 }

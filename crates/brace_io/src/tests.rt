@@ -1,4 +1,5 @@
 use super::*;
+use std::io::{self, Read};
 use std::test::Fail;
 
 #[test]
@@ -20,11 +21,13 @@ fn refuses_a_byte_past_the_limit(rt: HostRuntime) -> Result<(), Fail> {
 }
 
 #[test]
-fn fails_at_the_second_call(rt: HostRuntime) -> Result<(), Fail> {
-    let mut shelf = MemShelf::make(rt.alloc(), vec![in rt.alloc(); 2]?);
-    shelf.hold("s", b"abcde")?;
-    let failed = read_whole(rt.alloc(), &mut shelf, "s", 5);
-    assert!(rt; failed == Err(WholeFault::Failed));
+fn reads_a_short_file_in_three_calls(rt: HostRuntime) -> Result<(), Fail> {
+    for number in 1..5 {
+        let mut shelf = MemShelf::make(rt.alloc(), vec![in rt.alloc(); number]?);
+        shelf.hold("s", b"abcde")?;
+        let failed = read_whole(rt.alloc(), &mut shelf, "s", 5) == Err(WholeFault::Failed);
+        assert_eq!(rt; failed, number < 4, "at call {number}");
+    }
     Ok(())
 }
 
@@ -83,18 +86,26 @@ fn finds_no_host_file_that_is_absent(rt: HostRuntime) -> Result<(), Fail> {
 }
 
 #[test]
-fn writes_to_standard_output(rt: HostRuntime) -> Result<(), Fail> {
-    let mut out: OutSink = HostSink::make(rt.stdout());
-    write_whole(&mut out, b"out\n")?;
-    out.flush()?;
+fn hands_bytes_to_the_writer_of_the_host(rt: HostRuntime) -> Result<(), Fail> {
+    let (mut reader, writer) = io::pipe(&rt)?;
+    let mut sink = HostSink::make(writer);
+    write_whole(&mut sink, b"ab")?;
+    write_whole(&mut sink, b"c\n")?;
+    sink.flush()?;
+    let mut bytes = [0; 4];
+    reader.read_exact(&mut bytes)?;
+    assert_eq!(rt; bytes.as_slice(), b"abc\n".as_slice());
+    OpenGate.pass(0, 0);
     Ok(())
 }
 
 #[test]
-fn writes_to_standard_error(rt: HostRuntime) -> Result<(), Fail> {
+fn writes_to_the_standard_streams(rt: HostRuntime) -> Result<(), Fail> {
+    let mut out: OutSink = HostSink::make(rt.stdout());
+    write_whole(&mut out, b"out\n")?;
+    out.flush()?;
     let mut err: ErrSink = HostSink::make(rt.stderr());
     write_whole(&mut err, b"err\n")?;
     err.flush()?;
-    OpenGate.pass(0, 0);
     Ok(())
 }

@@ -1,7 +1,7 @@
 use Rattle.std.proofs.Common.{◌≡◌, ◌∙◌, ◌++◌, ℕ, List, Option, Some, min, take, length, ap, sym}
 use Rattle.std.proofs.Math.ListN.{set}
 use Rattle.brace_io.specs.Shelves.{Writing}
-use Rattle.brace_io.specs.MemStages.{IsAt}
+use Rattle.brace_io.specs.inner.MemStages.{IsAt}
 use Rattle.brace_io.specs.MemShelves.{Entry, Shelved, entry_of, entry_written, bytes_in, room_left, with_more, OthersAlone}
 use Rattle.brace_io.proofs.MemLemmas.{entry, file_changed, writing_at, is_at}
 use Rattle.brace_io.proofs.mem_shelf.MemShelf.add.Goals as goal

@@ -1,5 +1,5 @@
 use Rattle.std.proofs.Common.{◌≡◌, ◌∙◌, Some, ap, sym}
-use Rattle.brace_io.specs.MemStages.{IsAt}
+use Rattle.brace_io.specs.inner.MemStages.{IsAt}
 use Rattle.brace_io.specs.MemShelves.{Shelved, entry_of, entry_written, spent_at}
 use Rattle.brace_io.proofs.MemLemmas.{entry_in_place, writing_at, is_at}
 use Rattle.brace_io.proofs.mem_shelf.MemShelf.is_full.Goals as goal

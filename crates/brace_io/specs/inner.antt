@@ -1,0 +1,2 @@
+pub mod HostStages
+pub mod MemStages
