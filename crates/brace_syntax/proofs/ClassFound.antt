@@ -21,10 +21,10 @@ use Rattle.brace_syntax.specs.declared.tree.Tree.{Tree}
 use Rattle.brace_syntax.specs.declared.fault.Stop.{Stop}
 use Rattle.brace_syntax.specs.declared.fault.Stop.TheVariants as stop
 use Rattle.brace_syntax.specs.Tables.{Is, ident, type_name, combines, number}
-use Rattle.brace_syntax.specs.Cursor.{Input, Outcome, kind, next, place, first, sees, mark_of}
+use Rattle.brace_syntax.specs.inner.Cursor.{Input, Outcome, kind, next, place, first, sees, mark_of}
 use Rattle.brace_syntax.specs.Reads as g
 use Rattle.brace_syntax.specs.Reads.{ReadsExpr, ReadsBlock, ReadsField, ReadsMember, ReadsMembers, ReadsClass, ReadsClasses, Reads}
-use Rattle.brace_syntax.specs.Descent as d
+use Rattle.brace_syntax.specs.inner.Descent as d
 use Rattle.brace_syntax.proofs.Inversions.{not_eaten, same_value, no_fault}
 use Rattle.brace_syntax.proofs.Forward.{at, then_, if_true, if_false, sees_it, sees_no_mark, after_it, expects, names, numbers, types, combinators}
 use Rattle.brace_syntax.proofs.Levels.{begins, not_seen}

@@ -15,10 +15,10 @@ use Rattle.brace_syntax.specs.declared.tree.ClassTree.{ClassTree}
 use Rattle.brace_syntax.specs.declared.tree.Tree.{Tree}
 use Rattle.brace_syntax.specs.Tables.{Is, ident, type_name}
 use Rattle.brace_syntax.specs.Tables as tables
-use Rattle.brace_syntax.specs.Cursor.{Input, Parser, kind, next, place, sees, after, name, expect, pure, ◌>>=◌}
+use Rattle.brace_syntax.specs.inner.Cursor.{Input, Parser, kind, next, place, sees, after, name, expect, pure, ◌>>=◌}
 use Rattle.brace_syntax.specs.Reads as g
 use Rattle.brace_syntax.specs.Reads.{ReadsExpr, ReadsStmt, ReadsStmts, ReadsBlock, ReadsField, ReadsMember, ReadsMembers, ReadsClass, ReadsClasses, Reads}
-use Rattle.brace_syntax.specs.Descent as d
+use Rattle.brace_syntax.specs.inner.Descent as d
 use Rattle.brace_syntax.proofs.Inversions.{bound, same_value, same_input, no_fault, passed, expected, eaten, not_eaten, named_one, number_one, type_one, combined_one}
 use Rattle.brace_syntax.proofs.Took.{Took, Sound}
 use Rattle.std.proofs.lemmas.Bool.Decides.{nat_tests}

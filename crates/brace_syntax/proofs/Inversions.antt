@@ -16,7 +16,7 @@ use Rattle.brace_syntax.specs.declared.tree.CombName.{CombName}
 use Rattle.brace_syntax.specs.declared.fault.Stop.{Stop}
 use Rattle.brace_syntax.specs.Tables.{ident, combines}
 use Rattle.brace_syntax.specs.Tables as tables
-use Rattle.brace_syntax.specs.Cursor.{Input, Outcome, Parser, and_then, first, kind, place, next, refusal, mark_of, same_mark, marked, sees, after, expect, said, name_at, name_of, name, number, type_name, combinator}
+use Rattle.brace_syntax.specs.inner.Cursor.{Input, Outcome, Parser, and_then, first, kind, place, next, refusal, mark_of, same_mark, marked, sees, after, expect, said, name_at, name_of, name, number, type_name, combinator}
 
 -- one token, of which P holds
 pub record One (P : Token → Type 0) (i j : Input) : Type 0 where

@@ -20,9 +20,9 @@ use Rattle.brace_syntax.specs.declared.fault.Stop.TheVariants as stop
 use Rattle.brace_syntax.specs.declared.expr.Start.{Start}
 use Rattle.brace_syntax.specs.declared.expr.Start.TheVariants.{Whole, Operand}
 use Rattle.brace_syntax.specs.Tables as tables
-use Rattle.brace_syntax.specs.Cursor.{Input, Outcome, Parser, and_then, first, kind, place, next, refusal, sees, after, expect, said, name_of, name, number, type_name, combinator}
-use Rattle.brace_syntax.specs.Descent as d
-use Rattle.brace_syntax.specs.Descent.{climb, where_some}
+use Rattle.brace_syntax.specs.inner.Cursor.{Input, Outcome, Parser, and_then, first, kind, place, next, refusal, sees, after, expect, said, name_of, name, number, type_name, combinator}
+use Rattle.brace_syntax.specs.inner.Descent as d
+use Rattle.brace_syntax.specs.inner.Descent.{climb, where_some}
 use Rattle.brace_syntax.specs.Sayings.{IsPlace}
 
 -- the second is a back of the first

@@ -13,10 +13,10 @@ use Rattle.brace_syntax.specs.declared.tree.ExprTree.{ExprTree}
 use Rattle.brace_syntax.specs.declared.tree.StmtTree.{StmtTree}
 use Rattle.brace_syntax.specs.declared.tree.StmtTree.TheVariants as stmt
 use Rattle.brace_syntax.specs.Tables.{Is, ident, type_name}
-use Rattle.brace_syntax.specs.Cursor.{Parser, Outcome, kind, next, place, first, sees, mark_of}
+use Rattle.brace_syntax.specs.inner.Cursor.{Parser, Outcome, kind, next, place, first, sees, mark_of}
 use Rattle.brace_syntax.specs.Reads as g
 use Rattle.brace_syntax.specs.Reads.{ReadsExpr, ReadsStmt, ReadsStmts, ReadsBlock}
-use Rattle.brace_syntax.specs.Descent as d
+use Rattle.brace_syntax.specs.inner.Descent as d
 use Rattle.brace_syntax.proofs.Inversions.{not_eaten}
 use Rattle.brace_syntax.proofs.Forward.{at, then_, if_true, if_false, sees_it, sees_no_mark, after_it, expects, names, types}
 use Rattle.brace_syntax.proofs.Levels.{begins, not_next, not_seen}

@@ -3,7 +3,7 @@ use Rattle.std.specs.Prelude.{ℕ, zero, suc, List, [], ◌∷◌, ◌++◌, len
 use Rattle.brace_tok.specs.declared.kinds.TokKind.{TokKind}
 use Rattle.brace_tok.specs.declared.kinds.TokKind.TheVariants as k
 use Rattle.brace_syntax.specs.Tables.{either, both, compares, adds, multiplies, prefixes}
-use Rattle.brace_syntax.specs.Cursor.{Input, kind, Parser, ◌>>=◌, ◌>>◌, pure, refuse, peek, pass, eat, sees, expect, name, number, type_name, combinator}
+use Rattle.brace_syntax.specs.inner.Cursor.{Input, kind, Parser, ◌>>=◌, ◌>>◌, pure, refuse, peek, pass, eat, sees, expect, name, number, type_name, combinator}
 use Rattle.brace_syntax.specs.declared.tree.Number.{Number}
 use Rattle.brace_syntax.specs.declared.tree.UnName.{UnName}
 use Rattle.brace_syntax.specs.declared.tree.BinName.{BinName}
