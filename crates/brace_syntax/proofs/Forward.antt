@@ -40,6 +40,7 @@ mark_of_kind m.Class = refl
 mark_of_kind m.Run = refl
 mark_of_kind m.Extent = refl
 mark_of_kind m.Else = refl
+mark_of_kind m.When = refl
 mark_of_kind m.OpenBrace = refl
 mark_of_kind m.CloseBrace = refl
 mark_of_kind m.OpenParen = refl

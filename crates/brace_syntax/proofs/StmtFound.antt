@@ -25,7 +25,7 @@ use Rattle.brace_syntax.proofs.ExprFound.{shut, inner_length, expression-found}
 abbrev pub FindsBlock : List ℕ → ℕ → Parser (List StmtTree) → Type 0
 FindsBlock src bound p = (a rest : List Token) (xs : List StmtTree) → length a ≤ bound → ReadsBlock src a xs → p (at src (a ++ rest)) ≡ Ok (xs, at src rest)
 
-assigned-found : (src : List ℕ) (a rest : List Token) (arrow semicolon : Token) (x : ExprTree) → Is k.Arrow arrow → Is k.Semicolon semicolon → ReadsExpr src g.choices a x
+pub assigned-found : (src : List ℕ) (a rest : List Token) (arrow semicolon : Token) (x : ExprTree) → Is k.Arrow arrow → Is k.Semicolon semicolon → ReadsExpr src g.choices a x
     → d.assigned (at src (arrow ∷ ((a ++ semicolon ∷ []) ++ rest))) ≡ Ok (x, at src rest)
 unfolding d.assigned
 assigned-found src a rest arrow semicolon x h h' r =

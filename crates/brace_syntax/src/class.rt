@@ -7,9 +7,9 @@ ghost use Rattle.brace_syntax.specs.inner.Descent as spec;
 use crate::expr::expression;
 use crate::fault::Stop;
 use crate::mark::Mark;
-use crate::stmt::block;
+use crate::stmt::{assigned, block};
 use crate::tokens::Tokens;
-use crate::tree::{ClassTree, ExprTree, MemberTree, Number, Tree};
+use crate::tree::{ClassTree, ExprTree, GiftTree, MemberTree, Number, Tree};
 use brace_num::List;
 use brace_tok::TokKind;
 use std::alloc::Global;
@@ -138,6 +138,52 @@ fn private(alloc: Global, tokens: &mut Tokens<'_>) -> Result<MemberTree, Stop>
     field(alloc, tokens, false, at)
 }
 
+#[tactic(auto, unfolding(crate::specs::inner::Descent::die))]
+fn die(alloc: Global, tokens: &mut Tokens<'_>) -> Result<MemberTree, Stop>
+    ensures { Follows (spec.die tokens.old) result tokens.new }
+{
+    let at = tokens.pass();
+    tokens.expect(Mark::When)?;
+    let x = expression(alloc, tokens)?;
+    tokens.expect(Mark::Semicolon)?;
+    Ok(MemberTree::Die(x, at))
+}
+
+#[tactic(auto, unfolding(crate::specs::inner::Descent::gift))]
+fn gift(alloc: Global, tokens: &mut Tokens<'_>) -> Result<GiftTree, Stop>
+    ensures { Follows (spec.gift tokens.old) result tokens.new }
+{
+    let state = tokens.name(alloc)?;
+    let value = assigned(alloc, tokens)?;
+    Ok(GiftTree { state, value })
+}
+
+#[tactic(auto, unfolding(crate::specs::inner::Descent::gifts, crate::specs::inner::Descent::gifts_from))]
+fn gifts(alloc: Global, tokens: &mut Tokens<'_>) -> Result<List<GiftTree>, Stop>
+    ensures { Follows (spec.gifts tokens.old) result tokens.new }
+{
+    let mut found = List::new(alloc);
+    for _turn in 0..tokens.left() {
+        if tokens.eat(Mark::CloseBrace) {
+            return Ok(found);
+        }
+        found.push(gift(alloc, tokens)?)?;
+    }
+    Err(tokens.refuse())
+}
+
+#[tactic(auto, unfolding(crate::specs::inner::Descent::spawn))]
+fn spawn(alloc: Global, tokens: &mut Tokens<'_>) -> Result<MemberTree, Stop>
+    ensures { Follows (spec.spawn tokens.old) result tokens.new }
+{
+    let at = tokens.pass();
+    tokens.expect(Mark::When)?;
+    let x = expression(alloc, tokens)?;
+    tokens.expect(Mark::OpenBrace)?;
+    let given = gifts(alloc, tokens)?;
+    Ok(MemberTree::Spawn(x, given, at))
+}
+
 #[tactic(auto, unfolding(crate::specs::inner::Descent::member))]
 fn member(alloc: Global, tokens: &mut Tokens<'_>) -> Result<MemberTree, Stop>
     ensures { Follows (spec.member tokens.old) result tokens.new }
@@ -147,6 +193,8 @@ fn member(alloc: Global, tokens: &mut Tokens<'_>) -> Result<MemberTree, Stop>
         Some(TokKind::Reach) => reach(tokens),
         Some(TokKind::KwPublic) => public(alloc, tokens),
         Some(TokKind::KwPrivate) => private(alloc, tokens),
+        Some(TokKind::KwDie) => die(alloc, tokens),
+        Some(TokKind::KwSpawn) => spawn(alloc, tokens),
         _ => Err(tokens.refuse()),
     }
 }

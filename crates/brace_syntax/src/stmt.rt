@@ -23,8 +23,9 @@ pub struct Heading {
     pub at: u32,
 }
 
+/// A value behind an arrow, up to the semicolon.
 #[tactic(auto, unfolding(crate::specs::inner::Descent::assigned))]
-fn assigned(alloc: Global, tokens: &mut Tokens<'_>) -> Result<ExprTree, Stop>
+pub fn assigned(alloc: Global, tokens: &mut Tokens<'_>) -> Result<ExprTree, Stop>
     ensures { Follows (spec.assigned tokens.old) result tokens.new }
 {
     tokens.expect(Mark::Arrow)?;
