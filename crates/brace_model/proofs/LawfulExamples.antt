@@ -13,6 +13,7 @@ use Rattle.brace_model.specs.declared.program.Expr.{Expr}
 use Rattle.brace_model.specs.declared.program.Expr.TheVariants.{Lit, Field, Total, Local, Binary}
 use Rattle.brace_model.specs.declared.program.Stmt.{Stmt}
 use Rattle.brace_model.specs.declared.program.Stmt.TheVariants.{Const, If, Foreach, Assign}
+use Rattle.brace_model.specs.declared.program.Gift.{Gift}
 use Rattle.brace_model.specs.declared.program.Class.{Class}
 use Rattle.brace_model.specs.Lawful.{LawfulClass, LawfulProgram, LawfulJob}
 use Rattle.brace_model.proofs.Examples.{state, effect, class, script, drifting, drift}
@@ -104,28 +105,46 @@ counting_by query = class (codes "F") (pos 2000000) (pos 0) None None (state (co
 abbrev counts_neighbours : Stmt
 counts_neighbours = Foreach 0 (Assign who.Outer 0 (Lit (Fixed (pos 1))) 20 ∷ []) 10
 
-counting_class : LawfulClass (script (counting_by (counts_neighbours ∷ []) ∷ [])) 0 (counting_by (counts_neighbours ∷ []))
+-- the same with deaths and births: a child is set half a unit to the right
+abbrev breeding : Class
+breeding = record (counting_by (counts_neighbours ∷ [])) {
+  die = Some (Binary op.Gt None (Field who.This 2) (Lit (Int (pos 8))));
+  spawn = Some (record {
+    when = Binary op.Lt None (Total 0 ty.Int None) (Lit (Int (pos 2)));
+    gifts = to_the_right ∷ (record { state = 2; value = Lit (Int (pos 0)) }) ∷ [];
+    site = 1;
+  });
+}
+  where
+    to_the_right : Gift
+    to_the_right = record { state = 0; value = Binary op.Add (Some 0) (Field who.This 0) (Lit (Fixed (pos 500000))) }
+
+two_rise : IsStrictlyIncreasing (0 ∷ 1 ∷ [])
+two_rise zero below = omega arith
+two_rise (suc k) below = absurd (omega arith)
+
+breeding_class : LawfulClass (script (breeding ∷ [])) 0 breeding
 unfolding IsDistinct
-counting_class = record {
+breeding_class = record {
+  field_names_differ = ((refl, (refl, (refl, tt))), ((refl, (refl, tt)), ((refl, tt), (tt, tt))));
   class_is_named = refl;
   fields_are_named = refl;
-  field_names_differ = ((refl, (refl, (refl, tt))), ((refl, (refl, tt)), ((refl, tt), (tt, tt))));
   few_fields = omega arith;
   visible_is_distance = refl;
   reach_is_distance = refl;
+  effects_combine = refl;
   x_is_position = refl;
   y_is_position = refl;
-  effects_combine = refl;
   rules_are_typed = simp (type_of-Total);
-  die_is_typed = refl;
-  spawn_is_typed = refl;
-  gifts_differ = tt;
+  die_is_typed = simp (type_of-Lit, type_of-Field, type_of-Binary);
+  spawn_is_typed = simp (type_of-Lit, type_of-Field, type_of-Total, type_of-Binary);
+  gifts_differ = ((refl, tt), (tt, tt));
   query_is_typed = simp (scope_after-Foreach, scope_after-Assign, type_of-Lit);
   constants_in_range = simp (constant_numbers-Foreach, constant_numbers-Assign);
   constants_differ = simp (constant_numbers-Foreach, constant_numbers-Assign) tt;
   rule_sites_rise = simp (sites_of-Total) none_rise;
-  die_sites_rise = none_rise;
-  spawn_sites_rise = none_rise;
+  die_sites_rise = simp (sites_of-Lit, sites_of-Field, sites_of-Binary) none_rise;
+  spawn_sites_rise = simp (sites_of-Lit, sites_of-Field, sites_of-Total, sites_of-Binary) two_rise;
   query_sites_rise = simp (sites_in-Foreach, sites_in-Assign, sites_of-Lit) none_rise;
 }
 

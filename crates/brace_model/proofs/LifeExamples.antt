@@ -1,7 +1,6 @@
--- Small scripts with deaths and births, computed by the meaning itself, and lawful.
-use Rattle.std.proofs.Common.{◌≡◌, refl, ℕ, ℤ, pos, List, [], ◌∷◌, Some, None, Ok, Err, codes, zero, suc, sym, arith}
+-- Small scripts with deaths and births, computed by the meaning itself.
+use Rattle.std.proofs.Common.{◌≡◌, refl, ℕ, ℤ, pos, List, [], ◌∷◌, Some, None, Ok, Err, codes, sym}
 use Rattle.std.specs.List.{IsDistinct}
-use Rattle.std.specs.List.Sorted.{IsStrictlyIncreasing}
 use Rattle.std.proofs.lemmas.Bool.{true≢false}
 use Rattle.brace_num.specs.declared.kinds.Kind.TheVariants.{DivZero, TooMany}
 use Rattle.brace_model.specs.declared.program.Ty.TheVariants as ty
@@ -21,7 +20,7 @@ use Rattle.brace_model.specs.Step.{step}
 use Rattle.brace_model.specs.Lawful.{LawfulClass}
 use Rattle.brace_model.proofs.Examples.{state, class, script, agent}
 use Rattle.brace_model.proofs.ValueEquations.{value-Lit, value-Field, value-Binary}
-use Rattle.brace_model.proofs.LawEquations.{type_of-Lit, type_of-Field, type_of-Binary, sites_of-Lit, sites_of-Field, sites_of-Binary}
+use Rattle.brace_model.proofs.LawEquations.{type_of-Lit, type_of-Field, type_of-Binary}
 
 -- an agent that counts its ticks and dies under a condition on the count
 abbrev aging : Expr → Program
@@ -108,41 +107,6 @@ is_young = Binary op.Eq None (Field who.This 2) (Lit (Int (pos 0)))
 bears_and_dies : step (script (record (bearing_class []) { die = Some is_young } ∷ [])) 0 0 (world_with (bearer 4 (pos 0) (pos 0) ∷ []) 7)
     ≡ Ok (world_with (bearer 7 (pos 0) (pos 0) ∷ []) 8)
 bears_and_dies = simp (value-Lit, value-Field, value-Binary)
-
-one_rises : IsStrictlyIncreasing (0 ∷ [])
-one_rises k below = absurd (omega arith)
-
-two_rise : IsStrictlyIncreasing (1 ∷ 2 ∷ [])
-two_rise zero below = omega arith
-two_rise (suc k) below = absurd (omega arith)
-
-none_rise : IsStrictlyIncreasing []
-none_rise k below = absurd (omega arith)
-
-bearing_is_lawful : LawfulClass bearing 0 (bearing_class (to_the_right ∷ gift 2 (Lit (Int (pos 7))) ∷ []))
-unfolding IsDistinct
-bearing_is_lawful = record {
-  class_is_named = refl;
-  fields_are_named = refl;
-  field_names_differ = ((refl, (refl, tt)), ((refl, tt), (tt, tt)));
-  few_fields = omega arith;
-  visible_is_distance = refl;
-  reach_is_distance = refl;
-  x_is_position = refl;
-  y_is_position = refl;
-  effects_combine = refl;
-  rules_are_typed = simp (type_of-Lit, type_of-Field, type_of-Binary);
-  die_is_typed = refl;
-  spawn_is_typed = simp (type_of-Lit, type_of-Field, type_of-Binary);
-  gifts_differ = ((refl, tt), (tt, tt));
-  query_is_typed = refl;
-  constants_in_range = refl;
-  constants_differ = tt;
-  rule_sites_rise = simp (sites_of-Lit, sites_of-Field, sites_of-Binary) one_rises;
-  die_sites_rise = none_rise;
-  spawn_sites_rise = simp (sites_of-Lit, sites_of-Field, sites_of-Binary) two_rise;
-  query_sites_rise = none_rise;
-}
 
 -- a gift is of its state's type
 mistyped_gift : LawfulClass (script (bearing_class (gift 0 (Lit (Int (pos 7))) ∷ []) ∷ [])) 0 (bearing_class (gift 0 (Lit (Int (pos 7))) ∷ [])) → ⊥

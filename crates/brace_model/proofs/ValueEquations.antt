@@ -1,5 +1,5 @@
 -- What an expression of each kind is worth, and what a statement of each kind does.
-use Rattle.std.proofs.Common.{◌≡◌, ◌∙◌, sym, ap, ℕ, pos, List, [], ◌∷◌, map, Option, Ok}
+use Rattle.std.proofs.Common.{◌≡◌, ◌∙◌, sym, ap, ℕ, pos, List, map, Option, Ok}
 use Rattle.std.specs.Prelude.{slice_index_or, sum, ◌+◌}
 use Rattle.brace_draw.specs.Draw.{draw_value}
 use Rattle.brace_model.specs.declared.program.Ty.{Ty}
@@ -20,7 +20,7 @@ use Rattle.brace_model.specs.declared.program.Program.{Program}
 use Rattle.brace_model.specs.declared.world.Agent.{Agent}
 use Rattle.brace_model.specs.World.{value_at}
 use Rattle.brace_model.specs.Value.{Scope, Worth, value_step, value, agent_of, total_read, unary, binary, choose, with_value}
-use Rattle.brace_model.specs.Query.{Deed, statement, statement_step, constants, constants_step, block, closed, chosen, deed_of, iterated, inside, seen_by, silent, bound}
+use Rattle.brace_model.specs.Query.{Deed, statement, statement_step, constants, constants_step, block, closed, chosen, deed_of, iterated, inside, seen_by, silent, bound, saying}
 
 pub value-Lit : (v : Value) (scope : Scope) → value (Lit v) scope ≡ Ok v
 value-Lit v scope = ap (λ e. value e scope) (sym (rolls-Lit v)) ∙ ap (λ f. f scope) (fold-roll-Expr (Scope → Worth) value_step (layer.Lit v))
@@ -58,7 +58,7 @@ pub statement-Foreach : (program : Program) (world : List Agent) (class : ℕ) (
 statement-Foreach program world class body at scope = ap (λ s. statement program world s scope) (sym (rolls-Foreach class body at)) ∙ ap (λ f. f scope) (fold-roll-Stmt (Scope → Deed) (statement_step program world) (block_layer.Foreach class body at))
 
 pub statement-Assign : (program : Program) (world : List Agent) (who : Who) (effect : ℕ) (e : Expr) (at : ℕ) (scope : Scope)
-    → statement program world (Assign who effect e at) scope ≡ deed_of scope (value e scope) (λ v. record (silent scope) { said = record { target = (agent_of scope who).id; field = effect; value = v } ∷ [] })
+    → statement program world (Assign who effect e at) scope ≡ deed_of scope (value e scope) (saying scope (agent_of scope who) effect)
 statement-Assign program world who effect e at scope = ap (λ s. statement program world s scope) (sym (rolls-Assign who effect e at)) ∙ ap (λ f. f scope) (fold-roll-Stmt (Scope → Deed) (statement_step program world) (block_layer.Assign who effect e at))
 
 pub constants-Const : (n : ℕ) (e : Expr) → constants (Const n e) ≡ 1

@@ -1,5 +1,7 @@
--- The order of faults: by tick, phase (query, update, birth), agent, site, outer agent, inner agent; no loop agent comes before every agent.
--- Faults of one tick that agree in all of these are one fault; so that any two faults are ordered, the kind decides last.
+-- The order of faults: by tick, phase (query, update, birth), agent, site, outer agent, inner
+-- agent; no loop agent comes before every agent.
+-- Faults of one tick that agree in all of these are one fault; so that any two faults are ordered,
+-- the kind decides last.
 use Rattle.std.specs.Prelude.{ℕ, List, Bool, Option, if◌then◌else◌, Some, None}
 use Rattle.std.specs.declared.cmp.Ordering.{Ordering}
 use Rattle.std.specs.Ordering.{nat_cmp, ordering_then, is_lt}

@@ -1,4 +1,5 @@
--- Lawful programs, agents and jobs: what a checked script, the agents that fit it, and a run of it keep to.
+-- Lawful programs, agents and jobs: what a checked script, the agents that fit it, and a run of it
+-- keep to.
 use Rattle.std.specs.Prelude.{ℕ, ℤ, pos, int_le, ◌+◌, ◌≤◌, ◌^◌, ◌≡◌, nat_eq, nat_le, nat_lt, List, [], ◌++◌, map, flat_map, sum, sum_by, length, slice_get, codes, Bool, true, false, ◌&&◌, IsTrue, Option, Some, None, is_some}
 use Rattle.std.specs.List.{IsDistinct, list_all}
 use Rattle.std.specs.List.Sorted.{IsStrictlyIncreasing}
@@ -44,11 +45,18 @@ combines _ t = is_number t
 
 -- what a rule may name: the agent's own states and totals
 abbrev pub rule_scope : Program → ℕ → Names
-rule_scope program class = record { classes = program.classes; own = class; outer_class = None; inner_class = None; in_rule = true; known = [] }
+rule_scope program class = record {
+  classes = program.classes;
+  own = class;
+  outer_class = None;
+  inner_class = None;
+  in_rule = true;
+  known = [];
+}
 
 -- what a query may name at its beginning: the agent's own states
 abbrev pub query_scope : Program → ℕ → Names
-query_scope program class = record { classes = program.classes; own = class; outer_class = None; inner_class = None; in_rule = false; known = [] }
+query_scope program class = record (rule_scope program class) { in_rule = false }
 
 -- a rule or a condition, where there is one, is of a type
 abbrev pub is_ruled : Names → Ty → Option Expr → Bool
@@ -66,14 +74,16 @@ is_given names states gift = is_given_to names gift (slice_get states gift.state
 -- a `spawn` has a condition, and gifts to states of the class
 abbrev pub is_spawn : Names → List State → Option Spawn → Bool
 is_spawn names states None = true
-is_spawn names states (Some spawn) = is_of_type ty.Bool (type_of spawn.when names) && list_all (is_given names states) spawn.gifts
+is_spawn names states (Some spawn) =
+    is_of_type ty.Bool (type_of spawn.when names) && list_all (is_given names states) spawn.gifts
 
 -- the states that a `spawn` gives values to
 abbrev pub given_states : Option Spawn → List ℕ
 given_states None = []
 given_states (Some spawn) = map (λ g. g.state) spawn.gifts
 
--- the class of that number in a program: names, limits, position, types, and numbers of constants and sites
+-- the class of that number in a program: names, limits, position, types, and numbers of constants
+-- and sites
 pub record LawfulClass (program : Program) (number : ℕ) (class : Class) : Type 0 where
   pub class_is_named : IsTrue (is_name class.name)
   pub fields_are_named : IsTrue (list_all is_name (field_names class))
@@ -84,32 +94,40 @@ pub record LawfulClass (program : Program) (number : ℕ) (class : Class) : Type
   pub x_is_position : IsTrue (is_position (codes "x") (slice_get class.states class.x))
   pub y_is_position : IsTrue (is_position (codes "y") (slice_get class.states class.y))
   pub effects_combine : IsTrue (list_all (λ e. combines e.comb e.ty) class.effects)
-  pub rules_are_typed : IsTrue (list_all (λ s. is_ruled (rule_scope program number) s.ty s.rule) class.states)
+  pub rules_are_typed :
+      IsTrue (list_all (λ s. is_ruled (rule_scope program number) s.ty s.rule) class.states)
   pub die_is_typed : IsTrue (is_ruled (rule_scope program number) ty.Bool class.die)
   pub spawn_is_typed : IsTrue (is_spawn (rule_scope program number) class.states class.spawn)
   pub gifts_differ : IsDistinct nat_eq (given_states class.spawn)
-  pub query_is_typed : IsTrue (is_some (in_turn (map scope_after class.query) (query_scope program number)))
-  pub constants_in_range : IsTrue (list_all (λ n. nat_lt n (sum (map constants class.query))) (flat_map constant_numbers class.query))
+  pub query_is_typed :
+      IsTrue (is_some (in_turn (map scope_after class.query) (query_scope program number)))
+  pub constants_in_range :
+      let count = sum (map constants class.query) in
+      IsTrue (list_all (λ n. nat_lt n count) (flat_map constant_numbers class.query))
   pub constants_differ : IsDistinct nat_eq (flat_map constant_numbers class.query)
   pub rule_sites_rise : IsStrictlyIncreasing (rule_sites class)
   pub die_sites_rise : IsStrictlyIncreasing (die_sites class)
   pub spawn_sites_rise : IsStrictlyIncreasing (spawn_sites class)
   pub query_sites_rise : IsStrictlyIncreasing (query_sites class)
 
--- at most 16 classes of different names, each of which is lawful, and limits and numbers that hold over the whole script
+-- at most 16 classes of different names, each of which is lawful, and limits and numbers that hold
+-- over the whole script
 pub record LawfulProgram (program : Program) : Type 0 where
   pub few_classes : length program.classes ≤ 16
   pub class_names_differ : IsDistinct bytes_eq (map (λ c. c.name) program.classes)
-  pub classes_are_lawful : (number : ℕ) (class : Class) → slice_get program.classes number ≡ Some class → LawfulClass program number class
+  pub classes_are_lawful : (number : ℕ) (class : Class) → slice_get program.classes number ≡ Some class
+      → LawfulClass program number class
   pub sites_in_range : IsTrue (list_all (λ site. nat_lt site 4096) (all_sites program))
   pub sites_differ : IsDistinct nat_eq (all_sites program)
   pub few_assignments : sum_by class_assignments program.classes ≤ 4096
-  pub loops_differ : IsDistinct nat_eq (flat_map loop_offsets (flat_map (λ c. c.query) program.classes))
+  pub loops_differ :
+      IsDistinct nat_eq (flat_map loop_offsets (flat_map (λ c. c.query) program.classes))
 
 -- the values of an agent are of the types of its class's states
 abbrev pub has_states : Option Class → Agent → Bool
 has_states None a = false
-has_states (Some class) a = pointwise same_type (map (λ s. s.ty) class.states) (map type_of_value a.states)
+has_states (Some class) a =
+    pointwise same_type (map (λ s. s.ty) class.states) (map type_of_value a.states)
 
 -- an agent has an id below 2^63, a class of the program and that class's states
 abbrev pub is_lawful_agent : Program → Agent → Bool
@@ -121,7 +139,8 @@ pub record LawfulAgents (program : Program) (agents : List Agent) : Type 0 where
   pub few_agents : length agents ≤ most_agents
   pub few_values : count_values agents ≤ most_values
 
--- a run of a lawful program from lawful agents, whose ticks are at most 2^32 and which publishes every so many ticks
+-- a run of a lawful program from lawful agents, whose ticks are at most 2^32 and which publishes
+-- every so many ticks
 pub record LawfulJob (job : Job) : Type 0 where
   pub program_is_lawful : LawfulProgram job.program
   pub start_is_lawful : LawfulAgents job.program job.start.agents

@@ -1,5 +1,7 @@
--- What becomes of an agent in a tick: the agent itself, unless it dies, and its child, where it has one; or the fault of its update.
--- Rules and the conditions of `die` and `spawn` are evaluated over the agent's own states and totals.
+-- What becomes of an agent in a tick: the agent itself, unless it dies, and its child, where it has
+-- one; or the fault of its update.
+-- Rules and the conditions of `die` and `spawn` are evaluated over the agent's own states and
+-- totals.
 use Rattle.std.specs.Prelude.{ℕ, nat_lt, ℤ, List, [], ◌∷◌, ◌++◌, map, filter_map, zip, fold, slice_set, Bool, true, false, if◌then◌else◌, Option, Some, None, Result, Ok, Err, option_map}
 use Rattle.std.specs.List.{reduce}
 use Rattle.std.specs.Result.{result_ok, result_err}
@@ -52,11 +54,14 @@ spawns_in scope spawn = condition_in scope (option_map (λ s. s.when) spawn)
 -- what the gifts of a `spawn` come to; they are evaluated only where its condition holds
 abbrev pub gifts_in : Scope → Option Spawn → List Worth
 gifts_in scope None = []
-gifts_in scope (Some spawn) = if holds (value spawn.when scope) then map (λ g. value g.value scope) spawn.gifts else []
+gifts_in scope (Some spawn) =
+    if holds (value spawn.when scope) then map (λ g. value g.value scope) spawn.gifts else []
 
 -- all that the update of an agent evaluates
 abbrev pub update_in : Scope → Class → Agent → List Worth
-update_in scope class a = rules_in scope class a ++ condition_in scope class.die ∷ spawns_in scope class.spawn ∷ gifts_in scope class.spawn
+update_in scope class a =
+    rules_in scope class a
+    ++ condition_in scope class.die ∷ spawns_in scope class.spawn ∷ gifts_in scope class.spawn
 
 -- the one of two stops that has the lesser site
 abbrev pub earlier_stop : Stop → Stop → Stop
@@ -72,7 +77,9 @@ values_of outcomes = filter_map result_ok outcomes
 
 -- the new value of one coordinate, moved into reach of the old one
 abbrev pub moved : ℤ → List Value → ℕ → List Value → List Value
-moved reach old place new = slice_set new place (Fixed (clamped (number (value_at old place)) (number (value_at new place)) reach))
+moved reach old place new =
+    let now = clamped (number (value_at old place)) (number (value_at new place)) reach in
+    slice_set new place (Fixed now)
 
 -- both coordinates moved into reach
 abbrev pub within_reach : Class → List Value → List Value → List Value
@@ -90,20 +97,32 @@ changed class a states = record a { states = within_reach class a.states states 
 abbrev pub child_in : Scope → Class → Agent → Option Spawn → Option Agent
 child_in scope class a None = None
 child_in scope class a (Some spawn) =
+    let given = values_of (gifts_in scope (Some spawn)) in
     if holds (value spawn.when scope)
-    then Some (changed class a (with_gifts a.states spawn.gifts (values_of (gifts_in scope (Some spawn)))))
+    then Some (changed class a (with_gifts a.states spawn.gifts given))
     else None
 
 -- what an agent leaves, where nothing stops its update
 abbrev pub left_by : Scope → Class → Agent → Next
 left_by scope class a = record {
-  agent = if holds (condition_in scope class.die) then None else Some (changed class a (values_of (rules_in scope class a)));
+  agent =
+      if holds (condition_in scope class.die)
+      then None
+      else Some (changed class a (values_of (rules_in scope class a)));
   child = child_in scope class a class.spawn;
 }
 
 -- the fault of an update at a site
 abbrev pub update_fault : ℕ → Agent → Stop → Fault
-update_fault tick a stop = record { tick = tick; phase = Update; agent = a.id; site = stop.site; outer = None; inner = None; kind = stop.kind }
+update_fault tick a stop = record {
+  tick = tick;
+  phase = Update;
+  agent = a.id;
+  site = stop.site;
+  outer = None;
+  inner = None;
+  kind = stop.kind;
+}
 
 -- what is left, or the fault in its place
 abbrev pub unless_stopped : ℕ → Agent → Option Stop → Next → Result Next Fault
@@ -112,7 +131,8 @@ unless_stopped tick a (Some stop) left = Err (update_fault tick a stop)
 
 -- what becomes of an agent of a class in a scope
 abbrev pub next_of : ℕ → Class → Agent → Scope → Result Next Fault
-next_of tick class a scope = unless_stopped tick a (first_stop (update_in scope class a)) (left_by scope class a)
+next_of tick class a scope =
+    unless_stopped tick a (first_stop (update_in scope class a)) (left_by scope class a)
 
 -- what becomes of an agent with its own totals; an agent without a class stays as it is
 abbrev pub next_in : ℕ → ℕ → Option Class → List ℤ → Agent → Result Next Fault
@@ -122,8 +142,11 @@ next_in seed tick (Some class) totals a = next_of tick class a (opening_scope se
 -- the totals of an agent of a world in a tick
 abbrev pub totals_in : Program → ℕ → ℕ → List Agent → Agent → Option Class → List ℤ
 totals_in program seed tick world a None = []
-totals_in program seed tick world a (Some class) = totals_from 0 a.id class.effects (said_in program seed tick world)
+totals_in program seed tick world a (Some class) =
+    totals_from 0 a.id class.effects (said_in program seed tick world)
 
 -- what becomes of an agent of a world
 abbrev pub next : Program → ℕ → ℕ → List Agent → Agent → Result Next Fault
-next program seed tick world a = next_in seed tick (class_of program a) (totals_in program seed tick world a (class_of program a)) a
+next program seed tick world a =
+    let class = class_of program a in
+    next_in seed tick class (totals_in program seed tick world a class) a

@@ -24,7 +24,8 @@ class_name program a = unwrap_or (option_map (λ c. c.name) (class_of program a)
 
 -- `class,id,values`, the fields of an agent parted by commas
 abbrev pub agent_text : Program → Agent → List ℕ
-agent_text program a = join_with_byte 44 (class_name program a ∷ canonical_count a.id ∷ map spelled a.states)
+agent_text program a =
+    join_with_byte 44 (class_name program a ∷ canonical_count a.id ∷ map spelled a.states)
 
 -- `tick,class,id,values` and a line feed
 abbrev pub row : Program → ℕ → Agent → List ℕ
@@ -34,18 +35,22 @@ row program tick a = canonical_count tick ++ 44 ∷ [] ++ agent_text program a +
 abbrev pub rows : Program → ℕ → List Agent → List ℕ
 rows program tick world = flat_map (row program tick) world
 
--- a tick is published where `every` divides it or it is the last one; a run that is not fresh publishes only what comes after its first tick
+-- a tick is published where `every` divides it or it is the last one; a run that is not fresh
+-- publishes only what comes after its first tick
 abbrev pub is_published : Job → Bool → ℕ → Bool
-is_published job fresh tick = ((tick % job.every == 0) || (tick == job.last)) && (fresh || nat_lt job.first tick)
+is_published job fresh tick =
+    ((tick % job.every == 0) || (tick == job.last)) && (fresh || nat_lt job.first tick)
 
 -- the rows of a tick, where the run reaches it and it is published
 abbrev pub tick_text : Job → Bool → ℕ → Result World Fault → List ℕ
 tick_text job fresh tick (Err fault) = []
-tick_text job fresh tick (Ok world) = if is_published job fresh tick then rows job.program tick world.agents else []
+tick_text job fresh tick (Ok world) =
+    if is_published job fresh tick then rows job.program tick world.agents else []
 
 -- the published text of the ticks of a job from the first one on, n of them
 abbrev pub text_of_ticks : Job → Bool → ℕ → List ℕ
-text_of_ticks job fresh n = flat_map (λ k. tick_text job fresh (job.first + k) (world_after job k)) (range_with_len 0 n)
+text_of_ticks job fresh n =
+    flat_map (λ k. tick_text job fresh (job.first + k) (world_after job k)) (range_with_len 0 n)
 
 -- the whole published text of a job
 abbrev pub published : Job → Bool → List ℕ

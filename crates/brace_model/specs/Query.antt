@@ -20,7 +20,8 @@ pub record Saying : Type 0 where
   pub field : ℕ
   pub value : Value
 
--- what statements have done: the values said, the faults met, whether they were cut short, and the scope that they leave
+-- what statements have done: the values said, the faults met, whether they were cut short, and the
+-- scope that they leave
 pub record Deed : Type 0 where
   pub said : List Saying
   pub faults : List Fault
@@ -33,11 +34,20 @@ silent scope = record { said = []; faults = []; stopped = false; scope = scope }
 
 -- the fault of a query at a site
 abbrev pub query_fault : Scope → Stop → Fault
-query_fault scope stop = record { tick = scope.tick; phase = Query; agent = scope.this.id; site = stop.site; outer = option_map (λ a. a.id) scope.outer; inner = option_map (λ a. a.id) scope.inner; kind = stop.kind }
+query_fault scope stop = record {
+  tick = scope.tick;
+  phase = Query;
+  agent = scope.this.id;
+  site = stop.site;
+  outer = option_map (λ a. a.id) scope.outer;
+  inner = option_map (λ a. a.id) scope.inner;
+  kind = stop.kind;
+}
 
 -- a fault cut the statements short
 abbrev pub halted : Scope → Stop → Deed
-halted scope stop = record { said = []; faults = query_fault scope stop ∷ []; stopped = true; scope = scope }
+halted scope stop =
+    record { said = []; faults = query_fault scope stop ∷ []; stopped = true; scope = scope }
 
 -- what is done with a value, or the fault in its place
 abbrev pub deed_of : Scope → Worth → (Value → Deed) → Deed
@@ -66,7 +76,8 @@ bound scope n v = record scope { locals = slice_set scope.locals n v }
 
 -- a loop's agent: of the outer loop where there is none yet, else of the inner one
 abbrev pub inside : Scope → Agent → Scope
-inside scope a = if is_none scope.outer then record scope { outer = Some a } else record scope { inner = Some a }
+inside scope a =
+    if is_none scope.outer then record scope { outer = Some a } else record scope { inner = Some a }
 
 -- a condition chooses between two blocks
 abbrev pub chosen : Value → Deed → Deed → Deed
@@ -75,18 +86,32 @@ chosen _ a b = b
 
 -- the deeds of all iterations of a loop: each iteration's fault ends that iteration alone
 abbrev pub iterated : Scope → List Deed → Deed
-iterated scope deeds = record { said = flat_map (λ d. d.said) deeds; faults = flat_map (λ d. d.faults) deeds; stopped = false; scope = scope }
+iterated scope deeds = record {
+  said = flat_map (λ d. d.said) deeds;
+  faults = flat_map (λ d. d.faults) deeds;
+  stopped = false;
+  scope = scope;
+}
 
 -- the agents of a class that an agent sees, by rising id
 abbrev pub seen_by : Program → List Agent → Agent → ℕ → List Agent
 seen_by program world a class = filter (λ b. (b.class == class) && sees program a b) world
 
+-- a value is said to an effect of an agent
+abbrev pub saying : Scope → Agent → ℕ → Value → Deed
+saying scope a effect v =
+    record (silent scope) { said = record { target = a.id; field = effect; value = v } ∷ [] }
+
 -- one statement, whose blocks are lists of what their statements do
 abbrev pub statement_step : Program → List Agent → Stmt-F (Scope → Deed) → Scope → Deed
-statement_step program world (Const n e) scope = deed_of scope (value e scope) (λ v. silent (bound scope n v))
-statement_step program world (If c a b) scope = deed_of scope (value c scope) (λ v. closed scope (chosen v (block a scope) (block b scope)))
-statement_step program world (Foreach class body at) scope = iterated scope (map (λ b. block body (inside scope b)) (seen_by program world scope.this class))
-statement_step program world (Assign who effect e at) scope = deed_of scope (value e scope) (λ v. record (silent scope) { said = record { target = (agent_of scope who).id; field = effect; value = v } ∷ [] })
+statement_step program world (Const n e) scope =
+    deed_of scope (value e scope) (λ v. silent (bound scope n v))
+statement_step program world (If c a b) scope =
+    deed_of scope (value c scope) (λ v. closed scope (chosen v (block a scope) (block b scope)))
+statement_step program world (Foreach class body at) scope =
+    iterated scope (map (λ b. block body (inside scope b)) (seen_by program world scope.this class))
+statement_step program world (Assign who effect e at) scope =
+    deed_of scope (value e scope) (saying scope (agent_of scope who) effect)
 
 -- what a statement does in a world
 abbrev pub statement : Program → List Agent → Stmt → Scope → Deed
@@ -102,14 +127,24 @@ constants_step (Assign who effect e at) = 0
 abbrev pub constants : Stmt → ℕ
 constants = fold-Stmt ℕ constants_step
 
--- the scope in which an agent's query or rule begins: no loop agent, no constant bound, these totals
+-- the scope in which an agent's query or rule begins: no loop agent, no constant bound, these
+-- totals
 abbrev pub opening_scope : ℕ → ℕ → List Stmt → List ℤ → Agent → Scope
-opening_scope seed tick query totals a = record { tick = tick; seed = seed; this = a; outer = None; inner = None; locals = replicate (sum (map constants query)) no_value; totals = totals }
+opening_scope seed tick query totals a = record {
+  tick = tick;
+  seed = seed;
+  this = a;
+  outer = None;
+  inner = None;
+  locals = replicate (sum (map constants query)) no_value;
+  totals = totals;
+}
 
 -- what the query of an agent of a class does
 abbrev pub query_in : Program → ℕ → ℕ → List Agent → Agent → Option Class → Deed
 query_in program seed tick world a None = silent (opening_scope seed tick [] [] a)
-query_in program seed tick world a (Some class) = block (map (statement program world) class.query) (opening_scope seed tick class.query [] a)
+query_in program seed tick world a (Some class) =
+    block (map (statement program world) class.query) (opening_scope seed tick class.query [] a)
 
 -- what the query of an agent does on the states of a world: its sayings and its faults
 abbrev pub query_of : Program → ℕ → ℕ → List Agent → Agent → Deed
@@ -121,4 +156,5 @@ said_in program seed tick world = flat_map (λ a. (query_of program seed tick wo
 
 -- all faults of the queries of a tick
 abbrev pub query_faults : Program → ℕ → ℕ → List Agent → List Fault
-query_faults program seed tick world = flat_map (λ a. (query_of program seed tick world a).faults) world
+query_faults program seed tick world =
+    flat_map (λ a. (query_of program seed tick world a).faults) world

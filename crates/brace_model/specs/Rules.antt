@@ -13,4 +13,5 @@ pub record HasRulesAlone (class : Class) : Type 0 where
 
 -- each class of the program is of this kind
 abbrev pub RulesAlone : Program → Type 0
-RulesAlone program = (n : ℕ) (class : Class) → slice_get program.classes n ≡ Some class → HasRulesAlone class
+RulesAlone program =
+    (n : ℕ) (class : Class) → slice_get program.classes n ≡ Some class → HasRulesAlone class

@@ -16,7 +16,8 @@ unfoldable pub world_after : Job → ℕ → Result (World) Fault
 world_after job zero = Ok job.start
 world_after job (suc n) = stepped job (job.first + n) (world_after job n)
 
--- how the run of a job ends: in the world of its last tick, or in its first fault; where the last tick is not after the first one the start world is all
+-- how the run of a job ends: in the world of its last tick, or in its first fault; where the last
+-- tick is not after the first one the start world is all
 abbrev pub end_of : Job → Result (World) Fault
 end_of job = world_after job (job.last - job.first)
 

@@ -1,4 +1,5 @@
--- The numbers that a script carries: its sites in finishing order, its constants, its loops' offsets, and how many assignments it has.
+-- The numbers that a script carries: its sites in finishing order, its constants, its loops'
+-- offsets, and how many assignments it has.
 use Rattle.std.specs.Prelude.{ℕ, ◌+◌, List, [], ◌∷◌, ◌++◌, map, flat_map, sum, sum_by, length}
 use Rattle.std.specs.List.{concat}
 use Rattle.std.specs.Option.{option_to_list}
@@ -85,7 +86,8 @@ die_sites class = sites_among (option_to_list class.die)
 
 -- the sites of a `spawn`: those of its condition and of its gifts, then its own
 abbrev pub sites_of_spawn : Spawn → List ℕ
-sites_of_spawn spawn = sites_of spawn.when ++ (sites_among (map (λ g. g.value) spawn.gifts) ++ spawn.site ∷ [])
+sites_of_spawn spawn =
+    sites_of spawn.when ++ (sites_among (map (λ g. g.value) spawn.gifts) ++ spawn.site ∷ [])
 
 -- the sites of the `spawn` of a class
 abbrev pub spawn_sites : Class → List ℕ
@@ -97,7 +99,8 @@ query_sites class = flat_map sites_in class.query
 
 -- all sites of a class
 abbrev pub class_sites : Class → List ℕ
-class_sites class = rule_sites class ++ (die_sites class ++ (spawn_sites class ++ query_sites class))
+class_sites class =
+    rule_sites class ++ (die_sites class ++ (spawn_sites class ++ query_sites class))
 
 -- all sites of a program
 abbrev pub all_sites : Program → List ℕ
@@ -105,4 +108,5 @@ all_sites program = flat_map class_sites program.classes
 
 -- how many assignments a class has: those of its query, and the gifts of its `spawn`
 abbrev pub class_assignments : Class → ℕ
-class_assignments class = sum (map assignments class.query) + sum_by (λ s. length s.gifts) (option_to_list class.spawn)
+class_assignments class =
+    sum (map assignments class.query) + sum_by (λ s. length s.gifts) (option_to_list class.spawn)

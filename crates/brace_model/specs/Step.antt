@@ -48,20 +48,32 @@ count_values agents = sum_by (λ a. length a.states) agents
 abbrev pub goes_too_far : List Agent → ℕ → List Agent → ℕ → Bool
 goes_too_far living next born r =
     let all = living ++ take (suc r) born in
-    nat_lt most_agents (length all) || (nat_lt most_values (count_values all) || nat_lt greatest_id (next + r))
+    nat_lt most_agents (length all)
+    || (nat_lt most_values (count_values all) || nat_lt greatest_id (next + r))
 
 -- the child of the least rank that goes too far, if one does
 abbrev pub first_too_far : List Agent → ℕ → List Agent → Option Agent
 first_too_far living next born =
-    option_and_then (slice_get born) (find (goes_too_far living next born) (range_with_len 0 (length born)))
+    let ranks = range_with_len 0 (length born) in
+    option_and_then (slice_get born) (find (goes_too_far living next born) ranks)
 
 -- the site of the `spawn` of an agent's class
 abbrev pub spawn_site : Program → Agent → ℕ
-spawn_site program a = unwrap_or (option_map (λ s. s.site) (option_and_then (λ class. class.spawn) (class_of program a))) 0
+spawn_site program a =
+    let spawn = option_and_then (λ class. class.spawn) (class_of program a) in
+    unwrap_or (option_map (λ s. s.site) spawn) 0
 
 -- the fault of a birth; a child that has no id of its own bears its parent's
 abbrev pub birth_fault : Program → ℕ → Agent → Fault
-birth_fault program tick child = record { tick = tick; phase = Birth; agent = child.id; site = spawn_site program child; outer = None; inner = None; kind = TooMany }
+birth_fault program tick child = record {
+  tick = tick;
+  phase = Birth;
+  agent = child.id;
+  site = spawn_site program child;
+  outer = None;
+  inner = None;
+  kind = TooMany;
+}
 
 -- the world of the living and the children, each child with the next free id
 abbrev pub grown : ℕ → List Agent → List Agent → World
@@ -74,7 +86,8 @@ unless_faulty None (Some update) birth world = Err update
 unless_faulty None None (Some birth) world = Err birth
 unless_faulty None None None world = Ok world
 
--- the least fault of the queries if there is one, else the least of the updates, else that of the first birth that
+-- the least fault of the queries if there is one, else the least of the updates, else that of the
+-- first birth that
 -- goes too far, else the next world
 abbrev pub step : Program → ℕ → ℕ → World → Result World Fault
 step program seed tick world =

@@ -30,9 +30,11 @@ total_of comb values = fold (joined comb) (identity comb) values
 
 -- the values that sayings say to an effect of an agent
 abbrev pub said_to : ℕ → ℕ → List Saying → List Value
-said_to id effect sayings = map (λ s. s.value) (filter (λ s. (s.target == id) && (s.field == effect)) sayings)
+said_to id effect sayings =
+    map (λ s. s.value) (filter (λ s. (s.target == id) && (s.field == effect)) sayings)
 
 -- the totals of an agent's effects, numbered from n on
 abbrev pub totals_from : ℕ → ℕ → List Effect → List Saying → List ℤ
 totals_from n id [] sayings = []
-totals_from n id (e ∷ effects) sayings = total_of e.comb (said_to id n sayings) ∷ totals_from (suc n) id effects sayings
+totals_from n id (e ∷ effects) sayings =
+    total_of e.comb (said_to id n sayings) ∷ totals_from (suc n) id effects sayings

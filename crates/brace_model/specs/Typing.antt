@@ -1,4 +1,5 @@
--- Well-formed expressions and statements: operations fit their operands' types, sites stand where they must, and only what is in scope is named.
+-- Well-formed expressions and statements: operations fit their operands' types, sites stand where
+-- they must, and only what is in scope is named.
 use Rattle.std.specs.Prelude.{ℕ, nat_lt, ◌==◌, List, [], ◌∷◌, length, slice_get, Bool, true, false, ◌&&◌, ◌||◌, if◌then◌else◌, Option, Some, None, is_some, is_none, option_map}
 use Rattle.std.specs.Option.{option_and_then}
 use Rattle.brace_model.specs.declared.program.Ty.{Ty}
@@ -22,7 +23,8 @@ use Rattle.brace_model.specs.declared.program.Stmt.{Stmt}
 use Rattle.brace_model.specs.declared.program.Stmt.TheOpen.{Stmt-F, Const, If, Foreach, Assign}
 use Rattle.brace_model.specs.declared.program.Stmt.TheFolds.{fold-Stmt}
 
--- what is in scope: the classes, the class of `this` and of each loop agent by number, whether this is a rule, and the constants with their types, the latest first
+-- what is in scope: the classes, the class of `this` and of each loop agent by number, whether this
+-- is a rule, and the constants with their types, the latest first
 pub record Names : Type 0 where
   pub classes : List Class
   pub own : ℕ
@@ -65,11 +67,21 @@ may_name names class shared = shared || (class == names.own)
 
 -- the type of a state of an agent
 abbrev pub state_type : Names → Who → ℕ → Option Ty
-state_type names who i = option_and_then (λ class. option_and_then (λ c. option_and_then (λ s. only (may_name names class s.shared) s.ty) (slice_get c.states i)) (slice_get names.classes class)) (class_named names who)
+state_type names who i = option_and_then type_in (class_named names who)
+  where
+    type_in : ℕ → Option Ty
+    type_in class = option_and_then (λ c.
+        option_and_then (λ s. only (may_name names class s.shared) s.ty) (slice_get c.states i))
+        (slice_get names.classes class)
 
 -- an effect of an agent
 abbrev pub effect_named : Names → Who → ℕ → Option Effect
-effect_named names who i = option_and_then (λ class. option_and_then (λ c. option_and_then (λ e. only (may_name names class e.shared) e) (slice_get c.effects i)) (slice_get names.classes class)) (class_named names who)
+effect_named names who i = option_and_then effect_in (class_named names who)
+  where
+    effect_in : ℕ → Option Effect
+    effect_in class = option_and_then (λ c.
+        option_and_then (λ e. only (may_name names class e.shared) e) (slice_get c.effects i))
+        (slice_get names.classes class)
 
 -- the type of a constant in scope
 abbrev pub constant_type : List (ℕ × Ty) → ℕ → Option Ty
@@ -133,7 +145,11 @@ choice_type c a b = only (same_type c ty.Bool && same_type a b) a
 
 -- a total is read in a rule alone, as its effect's type, at a site where it is a sum
 abbrev pub total_type : Names → ℕ → Ty → Option ℕ → Option Ty
-total_type names effect type site = if names.in_rule then option_and_then (λ e. only (same_type e.ty type && is_sited (is_sum e.comb) site) type) (effect_named names This effect) else None
+total_type names effect type site =
+    let fits : Effect → Bool = λ e. same_type e.ty type && is_sited (is_sum e.comb) site in
+    if names.in_rule
+    then option_and_then (λ e. only (fits e) type) (effect_named names This effect)
+    else None
 
 -- the type of one operation, whose operands have types in a scope
 abbrev pub type_step : Expr-F (Names → Option Ty) → Names → Option Ty
@@ -141,9 +157,14 @@ type_step (Lit v) names = Some (type_of_value v)
 type_step (Field who i) names = state_type names who i
 type_step (Total effect type site) names = total_type names effect type site
 type_step (Local n) names = constant_type names.known n
-type_step (Unary op site a) names = if is_sited (unary_faults op) site then option_and_then (unary_type op) (a names) else None
-type_step (Binary op site a b) names = if is_sited (binary_faults op) site then option_and_then (λ s. option_and_then (binary_type op s) (b names)) (a names) else None
-type_step (Choice c a b) names = option_and_then (λ p. option_and_then (λ s. option_and_then (choice_type p s) (b names)) (a names)) (c names)
+type_step (Unary op site a) names =
+    if is_sited (unary_faults op) site then option_and_then (unary_type op) (a names) else None
+type_step (Binary op site a b) names =
+    if is_sited (binary_faults op) site
+    then option_and_then (λ s. option_and_then (binary_type op s) (b names)) (a names)
+    else None
+type_step (Choice c a b) names = option_and_then (λ p.
+    option_and_then (λ s. option_and_then (choice_type p s) (b names)) (a names)) (c names)
 type_step (Rand site) names = Some ty.Fixed
 
 -- the type of a well-formed expression; None for any other
@@ -177,10 +198,16 @@ in_turn (s ∷ rest) names = option_and_then (in_turn rest) (s names)
 
 -- what is in scope after one statement, whose blocks are lists of such
 abbrev pub scope_step : Stmt-F (Names → Option Names) → Names → Option Names
-scope_step (Const n e) names = option_map (λ t. record names { known = (n, t) ∷ names.known }) (type_of e names)
-scope_step (If c a b) names = only (is_of_type ty.Bool (type_of c names) && (is_some (in_turn a names) && is_some (in_turn b names))) names
-scope_step (Foreach class body at) names = only (nat_lt class (length names.classes) && is_some (option_and_then (in_turn body) (within_loop names class))) names
-scope_step (Assign who effect e at) names = only (takes (effect_named names who effect) (type_of e names)) names
+scope_step (Const n e) names =
+    option_map (λ t. record names { known = (n, t) ∷ names.known }) (type_of e names)
+scope_step (If c a b) names =
+    let blocks_fit = is_some (in_turn a names) && is_some (in_turn b names) in
+    only (is_of_type ty.Bool (type_of c names) && blocks_fit) names
+scope_step (Foreach class body at) names =
+    let body_fits = is_some (option_and_then (in_turn body) (within_loop names class)) in
+    only (nat_lt class (length names.classes) && body_fits) names
+scope_step (Assign who effect e at) names =
+    only (takes (effect_named names who effect) (type_of e names)) names
 
 -- what is in scope after a well-formed statement; None for any other
 abbrev pub scope_after : Stmt → Names → Option Names

@@ -23,7 +23,8 @@ use Rattle.brace_model.specs.declared.fault.Stop.{Stop}
 use Rattle.brace_model.specs.declared.world.Agent.{Agent}
 use Rattle.brace_model.specs.World.{number, value_at, no_value}
 
--- what an expression may name: the tick, the seed, the agents, the constants of the class and the totals of the agent's effects
+-- what an expression may name: the tick, the seed, the agents, the constants of the class and the
+-- totals of the agent's effects
 pub record Scope : Type 0 where
   pub tick : ℕ
   pub seed : ℕ
@@ -112,7 +113,8 @@ binary bin.And site a b = with_value a (λ x. choose x b (Ok (Flag false)))
 binary bin.Or site a b = with_value a (λ x. choose x (Ok (Flag true)) b)
 binary op site a b = with_value a (λ x. with_value b (strict op site x))
 
--- a total, read as a value of the effect's type: with a site it faults where it does not fit; one without a site always fits
+-- a total, read as a value of the effect's type: with a site it faults where it does not fit; one
+-- without a site always fits
 abbrev pub total_read : Ty → Option ℕ → ℤ → Worth
 total_read type None n = Ok (typed type (result_unwrap_or (fitting n) (pos 0)))
 total_read type (Some site) n = made (typed type) (Some site) (fitting n)
@@ -121,12 +123,14 @@ total_read type (Some site) n = made (typed type) (Some site) (fitting n)
 abbrev pub value_step : Expr-F (Scope → Worth) → Scope → Worth
 value_step (Lit v) scope = Ok v
 value_step (Field who i) scope = Ok (value_at (agent_of scope who).states i)
-value_step (Total effect type site) scope = total_read type site (slice_index_or scope.totals effect (pos 0))
+value_step (Total effect type site) scope =
+    total_read type site (slice_index_or scope.totals effect (pos 0))
 value_step (Local n) scope = Ok (value_at scope.locals n)
 value_step (Unary op site a) scope = with_value (a scope) (unary op site)
 value_step (Binary op site a b) scope = binary op site (a scope) (b scope)
 value_step (Choice c a b) scope = with_value (c scope) (λ x. choose x (a scope) (b scope))
-value_step (Rand site) scope = Ok (Fixed (pos (draw_value scope.seed scope.tick scope.this.id site)))
+value_step (Rand site) scope =
+    Ok (Fixed (pos (draw_value scope.seed scope.tick scope.this.id site)))
 
 -- the value of an expression in a scope, or where and why it faults
 abbrev pub value : Expr → Scope → Worth

@@ -1,4 +1,5 @@
--- A world: agents by rising id, each with its states, and the next free id; and which agents see which.
+-- A world: agents by rising id, each with its states, and the next free id; and which agents see
+-- which.
 use Rattle.std.specs.Prelude.{List, ℕ, ◌+◌, ◌<◌, ◌≤◌, ◌^◌, map, slice_get, unwrap_or, ℤ, pos, nat_abs, ◌-ℤ◌, int_le, Bool, false, not, ◌&&◌, ◌==◌, if◌then◌else◌, Option, Some, option_map, length, ◌-◌}
 use Rattle.std.specs.List.{All}
 use Rattle.std.specs.List.Sorted.{IsStrictlyIncreasing}
@@ -68,11 +69,14 @@ y_of class a = number (value_at a.states class.y)
 abbrev pub is_within : ℤ → ℤ → ℤ → Bool
 is_within range p q = int_le (pos (nat_abs (p -ℤ q))) range
 
--- agents of two classes, of which the first is within the first one's visible range of the second along both axes
+-- agents of two classes, of which the first is within the first one's visible range of the second
+-- along both axes
 abbrev pub reaches_to : Option Class → Option Class → Agent → Agent → Bool
-reaches_to (Some c) (Some d) a b = is_within c.visible (x_of c a) (x_of d b) && is_within c.visible (y_of c a) (y_of d b)
+reaches_to (Some c) (Some d) a b =
+    is_within c.visible (x_of c a) (x_of d b) && is_within c.visible (y_of c a) (y_of d b)
 reaches_to _ _ a b = false
 
--- agent a sees agent b: they are two, and b is within the visible range of a's class along both axes
+-- agent a sees agent b: they are two, and b is within the visible range of a's class along both
+-- axes
 abbrev pub sees : Program → Agent → Agent → Bool
 sees program a b = not (a.id == b.id) && reaches_to (class_of program a) (class_of program b) a b
