@@ -47,14 +47,14 @@ while kill -0 $job 2>/dev/null; do
   fi
   sleep 1
 done
-# Run with no words, the program ends with 2.
 wait $job || true
 made=$top/crates/brace_main/out/brace_main
 if [ "$("$top/tools/sum.sh")" != "$sources" ]; then
   say "the sources changed while the program was built; call again"
   exit 1
 fi
-if ! grep -q 'run=ended status=2' "$log" || [ ! -x "$made" ]; then
+# Run with no words, the program says how it is used.
+if ! grep -q '^brace: usage$' "$log" || [ ! -x "$made" ]; then
   say "the program could not be built; see $log"
   exit 1
 fi
