@@ -1,5 +1,5 @@
 -- The row of a script is read back as that script, apart from places.
-use Rattle.std.proofs.Common.{◌≡◌, refl, sym, ap, ◌∙◌, ℕ, ◌+◌, nat_le, List, [], ◌∷◌, ◌++◌, length, map, flat_map, Bool, true, false, ◌&&◌, append_assoc, Option, Some, None, codes}
+use Rattle.std.proofs.Common.{◌≡◌, refl, sym, ap, ◌∙◌, subst, ℕ, ◌+◌, nat_le, List, [], ◌∷◌, ◌++◌, length, map, flat_map, Bool, true, false, ◌&&◌, append_assoc, Option, Some, None, codes}
 use Rattle.std.specs.List.{list_all}
 use Rattle.std.proofs.lemmas.List.{append-nil}
 use Rattle.brace_num.specs.Names.{is_name}
@@ -13,7 +13,7 @@ use Rattle.brace_tok.specs.declared.kinds.TokKind.TheVariants as k
 use Rattle.brace_tok.proofs.Scans.{first_of_both, second_of_both}
 use Rattle.brace_syntax.specs.Tables.{Is, ident, number, type_name, combines}
 use Rattle.brace_syntax.specs.Reads as g
-use Rattle.brace_syntax.specs.Reads.{ReadsField, ReadsMember, ReadsMembers, ReadsClass, ReadsClasses, Reads}
+use Rattle.brace_syntax.specs.Reads.{ReadsField, ReadsGift, ReadsGifts, ReadsMember, ReadsMembers, ReadsClass, ReadsClasses, Reads}
 use Rattle.brace_syntax.specs.declared.tree.Ident.{Ident}
 use Rattle.brace_syntax.specs.declared.tree.Number.{Number}
 use Rattle.brace_syntax.specs.declared.tree.Digits.{Digits}
@@ -22,17 +22,24 @@ use Rattle.brace_syntax.specs.declared.tree.CombName.{CombName}
 use Rattle.brace_syntax.specs.declared.tree.CombName.TheVariants as comb
 use Rattle.brace_syntax.specs.declared.tree.ExprTree.{ExprTree}
 use Rattle.brace_syntax.specs.declared.tree.StmtTree.{StmtTree}
+use Rattle.brace_syntax.specs.declared.tree.GiftTree.{GiftTree}
 use Rattle.brace_syntax.specs.declared.tree.MemberTree.{MemberTree}
 use Rattle.brace_syntax.specs.declared.tree.MemberTree.TheVariants as m
 use Rattle.brace_syntax.specs.declared.tree.ClassTree.{ClassTree}
 use Rattle.brace_syntax.specs.declared.tree.Tree.{Tree}
 use Rattle.brace_show.specs.Canonical.{type_text, combinator, sharing}
-use Rattle.brace_show.specs.Alike.{ident_at_0, number_at_0, type_at_0, expr_at_0, stmt_at_0, member_at_0, class_at_0, Alike}
-use Rattle.brace_show.proofs.Rows.{Row, space, mark, letters, literal_row, expression_row, line_row, type_row, combinator_row, closing_row, sharing_row, rule_row, range_row, statement_row, member_row, class_row, script_row}
-use Rattle.brace_show.proofs.Sound.{digits_are, type_is, expr_sound, member_sound, class_sound, script_sound}
+use Rattle.brace_show.specs.Alike.{ident_at_0, number_at_0, type_at_0, expr_at_0, stmt_at_0, gift_at_0, member_at_0, class_at_0, Alike}
+use Rattle.brace_show.proofs.Rows.{Row, space, mark, letters, literal_row, expression_row, line_row, type_row, combinator_row, block_row, closing_row, sharing_row, rule_row, range_row, statement_row, gift_row, die_row, spawn_row, member_row, class_row, script_row}
+use Rattle.brace_show.proofs.Sound.{digits_are, type_is, expr_sound, gift_sound, member_sound, class_sound, script_sound}
 use Rattle.brace_show.proofs.Laid.{Laid, split, say, past, laid_as, past_line, on_line, done}
-use Rattle.brace_show.proofs.ExprReads.{say_name, say_number}
+use Rattle.brace_show.proofs.ExprReads.{expression_reads, say_name, say_number}
 use Rattle.brace_show.proofs.StmtReads.{value_then, type_word, say_type, block_reads}
+
+abbrev FoundGift : List ℕ → GiftTree → List Token → Type 0
+FoundGift src v toks = (x : GiftTree) × ReadsGift src toks x × (v ≡ gift_at_0 x)
+
+abbrev FoundGifts : List ℕ → List GiftTree → List Token → Type 0
+FoundGifts src vs toks = (xs : List GiftTree) × ReadsGifts src toks xs × (vs ≡ map gift_at_0 xs)
 
 abbrev FoundMember : List ℕ → MemberTree → List Token → Type 0
 FoundMember src v toks = (x : MemberTree) × ReadsMember src toks x × (v ≡ member_at_0 x)
@@ -134,6 +141,70 @@ effect_row share type name c = share ++ space ++ letters (codes "effect") ++ spa
 abbrev run_row : Row
 run_row = letters (codes "public") ++ space ++ letters (codes "void") ++ space ++ letters (codes "run") ++ mark (codes "(") ++ mark (codes ")") ++ space ++ mark (codes "{")
 
+gift_good : (x : GiftTree) → gift_sound x ≡ true → (margin : ℕ) (src : List ℕ) (toks : List Token) → Laid src (gift_row margin x) toks → FoundGift src (gift_at_0 x) toks
+unfolding symbol
+gift_good x h margin src toks l =
+    let C : List Token → Type 0 = FoundGift src (gift_at_0 x) in
+    let given : Ident → ExprTree → GiftTree = λ name value. record { state = name; value = value } in
+    say_name C src x.state _ toks (first_of_both (is_name x.state.text) (expr_sound x.value) h) (on_line src margin _ toks l) (λ tok t1 is same l1.
+    say (λ z. C (tok ∷ z)) k.Arrow src (sign (codes "<-")) _ t1 (λ from. refl) (past src 32 _ t1 l1) (λ arrow t2 ha _ l2.
+    value_then (λ z. C (tok ∷ arrow ∷ z)) x.value (second_of_both (is_name x.state.text) (expr_sound x.value) h) src t2 (past src 32 _ t2 l2) (λ a semicolon found hs.
+    let i : Ident = ident src tok in (
+      given i found.0,
+      g.gift a tok arrow semicolon found.0 is ha hs found.1,
+      ap (λ (z : Ident). given z (expr_at_0 x.value)) same ∙ ap (λ (z : ExprTree). given (ident_at_0 i) z) found.2,
+    ))))
+
+gifts_good : (xs : List GiftTree) → list_all gift_sound xs ≡ true → (margin : ℕ) (src : List ℕ) (toks : List Token) → Laid src (flat_map (gift_row margin) xs) toks → FoundGifts src (map gift_at_0 xs) toks
+gifts_good [] h margin src toks l = done (FoundGifts src []) src toks l ([], g.none, refl)
+gifts_good (x ∷ xs) h margin src toks l =
+    split (FoundGifts src (map gift_at_0 (x ∷ xs))) src (gift_row margin x) (flat_map (gift_row margin) xs) toks l (λ a b la lb.
+    let y = gift_good x (first_of_both (gift_sound x) (list_all gift_sound xs) h) margin src a la in
+    let ys = gifts_good xs (second_of_both (gift_sound x) (list_all gift_sound xs) h) margin src b lb in
+    (y.0 ∷ ys.0, g.more a b y.0 ys.0 y.1 ys.1, ap (λ z. z ∷ map gift_at_0 xs) y.2 ∙ ap (λ z. gift_at_0 y.0 ∷ z) ys.2))
+
+die_good : (x : ExprTree) → expr_sound x ≡ true → (margin : ℕ) (src : List ℕ) (toks : List Token) → Laid src (line_row margin (die_row x)) toks → FoundMember src (m.Die (expr_at_0 x) 0) toks
+unfolding symbol reserved
+die_good x h margin src toks l =
+    let C : List Token → Type 0 = FoundMember src (m.Die (expr_at_0 x) 0) in
+    say C k.KwDie src (word (codes "die")) _ toks (λ from. refl) (on_line src margin (die_row x) toks l) (λ w t1 h1 _ l1.
+    say (λ z. C (w ∷ z)) k.KwWhen src (word (codes "when")) _ t1 (λ from. refl) (past src 32 _ t1 l1) (λ when t2 h2 _ l2.
+    value_then (λ z. C (w ∷ when ∷ z)) x h src t2 (past src 32 _ t2 l2) (λ a semicolon found hs.
+    (m.Die found.0 w.from, g.die a w when semicolon found.0 h1 h2 hs found.1, ap (λ (z : ExprTree). m.Die z 0) found.2))))
+
+-- the gifts up to their closing brace
+gifts_then : (C : List Token → Type 0) (gifts : List GiftTree) → list_all gift_sound gifts ≡ true → (margin : ℕ) (src : List ℕ) (toks : List Token)
+    → Laid src (flat_map (gift_row (margin + 2)) gifts ++ closing_row margin) toks
+    → ((b : List Token) (closing : Token) → FoundGifts src (map gift_at_0 gifts) b → Is k.CloseBrace closing → C (b ++ closing ∷ [])) → C toks
+unfolding symbol
+gifts_then C gifts h margin src toks l f =
+    split C src (flat_map (gift_row (margin + 2)) gifts) (closing_row margin) toks l (λ b t1 lb l1.
+    say (λ z. C (b ++ z)) k.CloseBrace src (sign (codes "}")) (blank 10 ∷ []) t1 (λ from. refl) (on_line src margin (mark (codes "}")) t1 l1) (λ closing t2 hc _ l2.
+    done (λ z. C (b ++ closing ∷ z)) src t2 (past src 10 [] t2 l2) (f b closing (gifts_good gifts h (margin + 2) src b lb) hc)))
+
+spawn_good : (x : ExprTree) (gifts : List GiftTree) → expr_sound x ≡ true → list_all gift_sound gifts ≡ true → (margin : ℕ) (src : List ℕ) (toks : List Token)
+    → Laid src (line_row margin (spawn_row x) ++ flat_map (gift_row (margin + 2)) gifts ++ closing_row margin) toks
+    → FoundMember src (m.Spawn (expr_at_0 x) (map gift_at_0 gifts) 0) toks
+unfolding symbol reserved
+spawn_good x gifts hx hg margin src toks l =
+    let C : List Token → Type 0 = FoundMember src (m.Spawn (expr_at_0 x) (map gift_at_0 gifts) 0) in
+    let inner : Row = flat_map (gift_row (margin + 2)) gifts in
+    let rest : Row = inner ++ closing_row margin in
+    let cut : (line_row margin (spawn_row x) ++ inner) ++ closing_row margin ≡ line_row margin (spawn_row x) ++ rest = append_assoc (line_row margin (spawn_row x)) inner (closing_row margin) in
+    let value_cut : ((expression_row x ++ space) ++ mark (codes "{")) ++ (blank 10 ∷ rest) ≡ expression_row x ++ (blank 32 ∷ sign (codes "{") ∷ blank 10 ∷ rest) =
+    append_assoc (expression_row x ++ space) (mark (codes "{")) (blank 10 ∷ rest) ∙ append_assoc (expression_row x) space (sign (codes "{") ∷ blank 10 ∷ rest) in
+    say C k.KwSpawn src (word (codes "spawn")) _ toks (λ from. refl) (past_line src margin (spawn_row x) rest toks (laid_as src _ _ toks cut l)) (λ w t1 h1 _ l1.
+    say (λ z. C (w ∷ z)) k.KwWhen src (word (codes "when")) _ t1 (λ from. refl) (past src 32 _ t1 l1) (λ when t2 h2 _ l2.
+    split (λ z. C (w ∷ when ∷ z)) src (expression_row x) (blank 32 ∷ sign (codes "{") ∷ blank 10 ∷ rest) t2 (laid_as src _ _ t2 value_cut (past src 32 _ t2 l2)) (λ a t3 la l3.
+    say (λ z. C (w ∷ when ∷ (a ++ z))) k.OpenBrace src (sign (codes "{")) _ t3 (λ from. refl) (past src 32 _ t3 l3) (λ opening t4 h3 _ l4.
+    gifts_then (λ z. C (w ∷ when ∷ (a ++ opening ∷ z))) gifts hg margin src t4 (past src 10 _ t4 l4) (λ b closing given h4.
+    let found = expression_reads x hx src a la in
+    subst (λ z. C (w ∷ when ∷ z)) (append_assoc a (opening ∷ b) (closing ∷ [])) (
+      m.Spawn found.0 given.0 w.from,
+      g.spawn a b w when opening closing found.0 given.0 h1 h2 h3 h4 found.1 given.1,
+      ap (λ (z : ExprTree). m.Spawn z (map gift_at_0 gifts) 0) found.2 ∙ ap (λ (z : List GiftTree). m.Spawn (expr_at_0 found.0) z 0) given.2,
+    ))))))
+
 member_good : (x : MemberTree) → member_sound x ≡ true → (margin : ℕ) (src : List ℕ) (toks : List Token) → Laid src (member_row margin x) toks → FoundMember src (member_at_0 x) toks
 unfolding symbol reserved directive
 member_good (m.Visible n at) h margin src toks l =
@@ -197,7 +268,7 @@ member_good (m.Effect shared t name c at) h margin src toks l =
     ))))))))
 member_good (m.Run xs at) h margin src toks l =
     let C : List Token → Type 0 = FoundMember src (m.Run (map stmt_at_0 xs) 0) in
-    let inner : Row = flat_map (λ x. statement_row x (margin + 2)) xs in
+    let inner : Row = block_row (map statement_row xs) margin in
     let cut : (line_row margin run_row ++ inner) ++ closing_row margin ≡ line_row margin run_row ++ (inner ++ closing_row margin) = append_assoc (line_row margin run_row) inner (closing_row margin) in
     say C k.KwPublic src (word (codes "public")) _ toks (λ from. refl) (past_line src margin run_row (inner ++ closing_row margin) toks (laid_as src _ _ toks cut l)) (λ w t1 h1 _ l1.
     say (λ z. C (w ∷ z)) k.KwVoid src (word (codes "void")) _ t1 (λ from. refl) (past src 32 _ t1 l1) (λ void t2 h2 _ l2.
@@ -206,6 +277,9 @@ member_good (m.Run xs at) h margin src toks l =
     say (λ z. C (w ∷ void ∷ run ∷ opening ∷ z)) k.CloseParen src (sign (codes ")")) _ t4 (λ from. refl) l4 (λ closing a h5 _ l5.
     let ys = block_reads xs h margin src a (past src 32 _ a l5) in
     (m.Run ys.0 w.from, g.run a w void run opening closing ys.0 h1 h2 h3 h4 h5 ys.1, ap (λ (z : List StmtTree). m.Run z 0) ys.2))))))
+member_good (m.Die x at) h margin src toks l = die_good x h margin src toks l
+member_good (m.Spawn x gifts at) h margin src toks l =
+    spawn_good x gifts (first_of_both (expr_sound x) (list_all gift_sound gifts) h) (second_of_both (expr_sound x) (list_all gift_sound gifts) h) margin src toks l
 
 members_good : (xs : List MemberTree) → list_all member_sound xs ≡ true → (margin : ℕ) (src : List ℕ) (toks : List Token) → Laid src (flat_map (member_row margin) xs) toks → FoundMembers src (map member_at_0 xs) toks
 members_good [] h margin src toks l = done (FoundMembers src []) src toks l ([], g.none, refl)

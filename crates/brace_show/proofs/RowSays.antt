@@ -1,5 +1,5 @@
 -- What the names and the literals of a sound tree say, where they are pieces of a text.
-use Rattle.std.proofs.Common.{◌≡◌, ◌∙◌, sym, ap, subst, refl, ℕ, zero, suc, ◌+◌, ◌-◌, ◌*◌, ◌/◌, ◌%◌, ◌^◌, ◌<◌, ◌≤◌, true, not, ◌&&◌, nat_le, if◌then◌else◌, List, [], ◌∷◌, ◌++◌, length, replicate, Option, Some, None, is_some, pos, arith, append_assoc, append-nil, length-append, add-one, mul-one, mul_assoc, mul_comm, add-zero}
+use Rattle.std.proofs.Common.{◌≡◌, ◌∙◌, sym, ap, subst, refl, ℕ, zero, suc, ◌+◌, ◌-◌, ◌*◌, ◌/◌, ◌%◌, ◌^◌, ◌<◌, ◌≤◌, true, ◌&&◌, nat_le, if◌then◌else◌, List, [], ◌∷◌, ◌++◌, length, replicate, Some, None, pos, arith, append_assoc, append-nil, length-append, add-one, mul-one, mul_assoc, mul_comm, add-zero}
 use Rattle.std.specs.List.{list_all}
 use Rattle.std.specs.Fmt.{decimal}
 use Rattle.std.specs.Char.{digit_value}
@@ -11,15 +11,15 @@ use Rattle.std.proofs.lemmas.Int.Digits.{digits_value_push}
 use Rattle.std.proofs.lemmas.List.{length-replicate}
 use Rattle.std.proofs.lemmas.Grind.{pow_more}
 use Rattle.brace_num.specs.Spelling.{six_digits}
-use Rattle.brace_num.specs.Names.{is_digit, is_word, is_name}
+use Rattle.brace_num.specs.Names.{is_digit, is_name}
 use Rattle.brace_tok.specs.Bytes.{are_digits}
 use Rattle.brace_tok.specs.Tables.{reserved}
 use Rattle.brace_tok.specs.Pieces.{word, whole, fraction}
 use Rattle.brace_tok.specs.Sayings.{says, token, token_or, name_or, millionths}
 use Rattle.brace_tok.specs.declared.kinds.TokKind.TheVariants as kind
 use Rattle.brace_tok.specs.declared.fault.TokFault.TheVariants as fault
-use Rattle.brace_tok.proofs.Scans.{both, first_of_both, second_of_both}
-use Rattle.brace_tok.proofs.Named.{name_word, name_short, name_free}
+use Rattle.brace_tok.proofs.Scans.{both}
+use Rattle.brace_tok.proofs.Named.{name_short, name_free}
 use Rattle.brace_show.specs.Literals.{shortened}
 use Rattle.brace_show.proofs.Zeros.{zeros_behind, length-six_digits, below}
 

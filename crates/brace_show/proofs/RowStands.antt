@@ -15,13 +15,14 @@ use Rattle.brace_syntax.specs.declared.tree.CombName.TheVariants as comb
 use Rattle.brace_syntax.specs.declared.tree.StmtTree.{StmtTree}
 use Rattle.brace_syntax.specs.declared.tree.StmtTree.TheOpen.{StmtTree-F, Const, If, Foreach, Assign, AssignThis, AssignLoop}
 use Rattle.brace_syntax.specs.declared.tree.StmtTree.TheFolds.{map-StmtTree, fold-roll-StmtTree, ind-StmtTree}
+use Rattle.brace_syntax.specs.declared.tree.GiftTree.{GiftTree}
 use Rattle.brace_syntax.specs.declared.tree.MemberTree.{MemberTree}
 use Rattle.brace_syntax.specs.declared.tree.MemberTree.TheVariants as member
 use Rattle.brace_syntax.specs.declared.tree.ClassTree.{ClassTree}
 use Rattle.brace_syntax.specs.declared.tree.Tree.{Tree}
-use Rattle.brace_show.proofs.Sound.{digits_are, type_is, expr_sound, all_sound, stmt_sound_step, stmt_sound, rule_sound, member_sound, class_sound, script_sound}
+use Rattle.brace_show.proofs.Sound.{digits_are, type_is, expr_sound, all_sound, stmt_sound_step, stmt_sound, rule_sound, gift_sound, member_sound, class_sound, script_sound}
 use Rattle.brace_tok.proofs.Named.{name_word, name_short}
-use Rattle.brace_show.proofs.Rows.{Row, space, mark, letters, literal_row, expression_row, margin_row, line_row, type_row, combinator_row, block_row, closing_row, statement_row_step, statement_row, sharing_row, rule_row, range_row, member_row, class_row, script_row}
+use Rattle.brace_show.proofs.Rows.{Row, space, mark, letters, literal_row, expression_row, margin_row, line_row, type_row, combinator_row, block_row, closing_row, statement_row_step, statement_row, sharing_row, rule_row, range_row, gift_row, die_row, spawn_row, member_row, class_row, script_row}
 use Rattle.brace_show.proofs.RowText.{run}
 use Rattle.brace_show.proofs.PieceStands.{row_split, run_split, Stands, Stood, follow, ended, any, no_word, stops, lone, open_stands, word_stands, lettered, named, literal_stands}
 use Rattle.brace_show.proofs.ExprStands.{other, begins_no_word, pointed, valued}
@@ -233,6 +234,28 @@ field shared kind type name s t m =
     let second = ended (follow first (typed type t) (λ after h. refl)) (space ∷ []) any (λ after h. refl) (λ after h. refl) in
     follow second (named name m) (λ after h. refl)
 
+statements_stand : (xs : List StmtTree) → all_sound (map stmt_sound xs) ≡ true → (n : ℕ) (after : List ℕ) → is_row (block_row (map statement_row xs) n) after ≡ true
+statements_stand [] e n after = refl
+statements_stand (x ∷ xs) e n after =
+    row_split (statement_row x (n + 2)) (block_row (map statement_row xs) n) after
+    (statement_stands x (first_of_both (stmt_sound x) _ e) (n + 2) _) (statements_stand xs (second_of_both (stmt_sound x) _ e) n after)
+
+gift_stands : (n : ℕ) (gift : GiftTree) → gift_sound gift ≡ true → (after : List ℕ) → is_row (gift_row n gift) after ≡ true
+gift_stands n gift e after =
+    assign_stands n (named gift.state.text (first_of_both _ (expr_sound gift.value) e)) gift.value (second_of_both (is_name gift.state.text) _ e) (λ after. refl) after
+
+die_stands : (n : ℕ) (x : ExprTree) → expr_sound x ≡ true → (after : List ℕ) → is_row (line_row n (die_row x)) after ≡ true
+unfolding symbol
+die_stands n x e after =
+    ended_line n (follow (spaced (letters (codes "die") ++ space ++ letters (codes "when") ++ space) (λ after. refl)) (valued x e) (λ after h. refl))
+    (mark (codes ";") ∷ []) after refl refl
+
+spawn_stands : (n : ℕ) (x : ExprTree) → expr_sound x ≡ true → (after : List ℕ) → is_row (line_row n (spawn_row x)) after ≡ true
+unfolding symbol
+spawn_stands n x e after =
+    ended_line n (follow (spaced (letters (codes "spawn") ++ space ++ letters (codes "when") ++ space) (λ after. refl)) (valued x e) (λ after h. refl))
+    (space ∷ mark (codes "{") ∷ []) after refl refl
+
 member_stands : (n : ℕ) (m : MemberTree) → member_sound m ≡ true → (after : List ℕ) → is_row (member_row n m) after ≡ true
 unfolding symbol directive
 member_stands n (member.Visible range at) e after = range_stands n (codes "visible") range.digits (λ after. refl) e after
@@ -248,9 +271,14 @@ member_stands n (member.Effect shared type name comb at) e after =
     (record { need = no_word; row = combinator_row comb; stands = combinator_stands comb }) (λ after h. refl)) (mark (codes ";") ∷ []) after refl refl
 member_stands n (member.Run statements at) e after =
     let first = line_row n (letters (codes "public") ++ space ++ letters (codes "void") ++ space ++ letters (codes "run") ++ mark (codes "(") ++ mark (codes ")") ++ space ++ mark (codes "{")) in
-    let block = flat_map (λ s. statement_row s (n + 2)) statements in
-    row_split (first ++ block) (closing_row n) after
-    (row_split first block _ (line_stands n _ _ refl) (flat_stands (λ s. statement_row s (n + 2)) stmt_sound (λ s f. statement_stands s f (n + 2)) statements e _))
+    let block = block_row (map statement_row statements) n in
+    row_split (first ++ block) (closing_row n) after (row_split first block _ (line_stands n _ _ refl) (statements_stand statements e n _)) (closing_stands n after)
+member_stands n (member.Die x at) e after = die_stands n x e after
+member_stands n (member.Spawn x gifts at) e after =
+    let block = flat_map (gift_row (n + 2)) gifts in
+    row_split (line_row n (spawn_row x) ++ block) (closing_row n) after
+    (row_split (line_row n (spawn_row x)) block _ (spawn_stands n x (first_of_both _ (list_all gift_sound gifts) e) _)
+    (flat_stands (gift_row (n + 2)) gift_sound (gift_stands (n + 2)) gifts (second_of_both (expr_sound x) _ e) _))
     (closing_stands n after)
 
 class_line_stands : (name : List ℕ) → is_name name ≡ true → (after : List ℕ)

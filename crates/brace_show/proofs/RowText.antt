@@ -18,14 +18,15 @@ use Rattle.brace_syntax.specs.declared.tree.ExprTree.TheFolds.{map-ExprTree, fol
 use Rattle.brace_syntax.specs.declared.tree.StmtTree.{StmtTree}
 use Rattle.brace_syntax.specs.declared.tree.StmtTree.TheOpen.{StmtTree-F, Const, If, Foreach, Assign, AssignThis, AssignLoop}
 use Rattle.brace_syntax.specs.declared.tree.StmtTree.TheFolds.{map-StmtTree, fold-roll-StmtTree, ind-StmtTree}
+use Rattle.brace_syntax.specs.declared.tree.GiftTree.{GiftTree}
 use Rattle.brace_syntax.specs.declared.tree.MemberTree.{MemberTree}
 use Rattle.brace_syntax.specs.declared.tree.MemberTree.TheVariants as member
 use Rattle.brace_syntax.specs.declared.tree.ClassTree.{ClassTree}
 use Rattle.brace_syntax.specs.declared.tree.Tree.{Tree}
 use Rattle.brace_show.specs.Literals.{literal}
-use Rattle.brace_show.specs.Canonical.{line, deeper, type_text, combinator, block, statement_step, statement, sharing, rule, member_text, class_text, canonical}
+use Rattle.brace_show.specs.Canonical.{line, deeper, type_text, combinator, block, statement_step, statement, sharing, rule, gift_text, member_text, class_text, canonical}
 use Rattle.brace_show.specs.Expressions.{Phrase, atom, at_level, call_one, call_two, prefixed, between, unary, binary, choice, phrase_step, phrase_of, expression}
-use Rattle.brace_show.proofs.Rows.{Row, space, mark, letters, literal_row, Phrased, row_at, call_one_row, call_two_row, prefixed_row, between_row, unary_row, binary_row, choice_row, phrased_step, phrased_of, expression_row, margin_row, line_row, type_row, combinator_row, block_row, statement_row_step, statement_row, sharing_row, rule_row, member_row, class_row, script_row}
+use Rattle.brace_show.proofs.Rows.{Row, space, mark, letters, literal_row, Phrased, row_at, call_one_row, call_two_row, prefixed_row, between_row, unary_row, binary_row, choice_row, phrased_step, phrased_of, expression_row, margin_row, line_row, type_row, combinator_row, block_row, statement_row_step, statement_row, sharing_row, rule_row, gift_row, member_row, class_row, script_row}
 
 pub text_append : (a b : Row) → text_of (a ++ b) ≡ text_of a ++ text_of b
 text_append [] b = refl
@@ -280,6 +281,18 @@ ranged row text e digits = ended (follow (said row text e) (said (literal_row di
 abbrev shared_as : Bool → Said
 shared_as shared = said (sharing_row shared) (sharing shared) (sharing_said shared)
 
+statements_said : (xs : List StmtTree) (n : ℕ) → text_of (block_row (map statement_row xs) n) ≡ block (map statement xs) (margin_of n)
+statements_said [] n = refl
+statements_said (x ∷ xs) n =
+    (follow (said (statement_row x (n + 2)) (statement x (deeper (margin_of n))) (statement_text x (n + 2) ∙ ap (statement x) (deeper_margin n)))
+    (said (block_row (map statement_row xs) n) (block (map statement xs) (margin_of n)) (statements_said xs n))).same
+
+gift_said : (n : ℕ) (gift : GiftTree) → text_of (gift_row n gift) ≡ gift_text (margin_of n) gift
+gift_said n gift = line_text n (assigned (lettered gift.state.text) gift.value)
+
+abbrev whened : (row : Row) (text : List ℕ) → text_of row ≡ text → ExprTree → List Row → Said
+whened row text e x rows = ended (follow (said row text e) (valued x)) rows
+
 member_said : (n : ℕ) (m : MemberTree) → text_of (member_row n m) ≡ member_text (margin_of n) m
 member_said n (member.Visible range at) = line_text n (ranged (hash (codes "visible") ∷ mark (codes "[")) (codes "#visible[") refl range.digits)
 member_said n (member.Reach range at) = line_text n (ranged (hash (codes "reach") ∷ mark (codes "[")) (codes "#reach[") refl range.digits)
@@ -292,8 +305,14 @@ member_said n (member.Effect shared type name comb at) =
 member_said n (member.Run statements at) =
     (follow (follow (lined n (said (letters (codes "public") ++ space ++ letters (codes "void") ++ space ++ letters (codes "run") ++ mark (codes "(") ++ mark (codes ")") ++ space ++ mark (codes "{"))
     (codes "public void run() {") refl))
-    (said (flat_map (λ s. statement_row s (n + 2)) statements) (flat_map (λ s. statement s (deeper (margin_of n))) statements)
-    (flat_text (λ s. statement_row s (n + 2)) (λ s. statement s (deeper (margin_of n))) (λ s. statement_text s (n + 2) ∙ ap (statement s) (deeper_margin n)) statements)))
+    (said (block_row (map statement_row statements) n) (block (map statement statements) (margin_of n)) (statements_said statements n)))
+    (closed n)).same
+member_said n (member.Die x at) =
+    line_text n (whened (letters (codes "die") ++ space ++ letters (codes "when") ++ space) (codes "die when ") refl x (mark (codes ";") ∷ []))
+member_said n (member.Spawn x gifts at) =
+    (follow (follow (lined n (whened (letters (codes "spawn") ++ space ++ letters (codes "when") ++ space) (codes "spawn when ") refl x (space ∷ mark (codes "{") ∷ [])))
+    (said (flat_map (gift_row (n + 2)) gifts) (flat_map (gift_text (deeper (margin_of n))) gifts)
+    (flat_text (gift_row (n + 2)) (gift_text (deeper (margin_of n))) (λ g. gift_said (n + 2) g ∙ ap (λ m. gift_text m g) (deeper_margin n)) gifts)))
     (closed n)).same
 
 class_said : (class : ClassTree) → text_of (class_row class) ≡ class_text class

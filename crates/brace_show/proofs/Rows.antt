@@ -1,5 +1,5 @@
 -- The canonical text of a script as a row of pieces: what is a token stands for itself, and what parts tokens is blanks.
-use Rattle.std.proofs.Common.{ℕ, zero, suc, nat_lt, ◌+◌, ◌/◌, ◌%◌, Bool, true, false, if◌then◌else◌, List, [], ◌∷◌, ◌++◌, flat_map, Option, Some, None, codes, ℤ, pos, negsuc, unsigned_abs}
+use Rattle.std.proofs.Common.{ℕ, zero, suc, nat_lt, ◌+◌, ◌/◌, ◌%◌, Bool, true, false, if◌then◌else◌, List, [], ◌∷◌, ◌++◌, map, flat_map, Option, Some, None, codes, ℤ, pos, negsuc, unsigned_abs}
 use Rattle.std.specs.Fmt.{decimal}
 use Rattle.brace_num.specs.Spelling.{six_digits}
 use Rattle.brace_tok.specs.Pieces.{Piece, blank, word, whole, fraction, hash, sign}
@@ -19,6 +19,7 @@ use Rattle.brace_syntax.specs.declared.tree.ExprTree.TheFolds.{fold-ExprTree}
 use Rattle.brace_syntax.specs.declared.tree.StmtTree.{StmtTree}
 use Rattle.brace_syntax.specs.declared.tree.StmtTree.TheOpen.{StmtTree-F, Const, If, Foreach, Assign, AssignThis, AssignLoop}
 use Rattle.brace_syntax.specs.declared.tree.StmtTree.TheFolds.{fold-StmtTree}
+use Rattle.brace_syntax.specs.declared.tree.GiftTree.{GiftTree}
 use Rattle.brace_syntax.specs.declared.tree.MemberTree.{MemberTree}
 use Rattle.brace_syntax.specs.declared.tree.MemberTree.TheVariants as member
 use Rattle.brace_syntax.specs.declared.tree.ClassTree.{ClassTree}
@@ -182,6 +183,15 @@ rule_row (Some x) = space ++ mark (codes ":") ++ space ++ expression_row x
 abbrev pub range_row : List ℕ → Digits → Row
 range_row directive digits = hash directive ∷ mark (codes "[") ++ literal_row digits ++ mark (codes "]") ++ mark (codes ";")
 
+abbrev pub gift_row : ℕ → GiftTree → Row
+gift_row margin gift = line_row margin (letters gift.state.text ++ space ++ mark (codes "<-") ++ space ++ expression_row gift.value ++ mark (codes ";"))
+
+abbrev pub die_row : ExprTree → Row
+die_row x = letters (codes "die") ++ space ++ letters (codes "when") ++ space ++ expression_row x ++ mark (codes ";")
+
+abbrev pub spawn_row : ExprTree → Row
+spawn_row x = letters (codes "spawn") ++ space ++ letters (codes "when") ++ space ++ expression_row x ++ space ++ mark (codes "{")
+
 abbrev pub member_row : ℕ → MemberTree → Row
 member_row margin (member.Visible range at) = line_row margin (range_row (codes "visible") range.digits)
 member_row margin (member.Reach range at) = line_row margin (range_row (codes "reach") range.digits)
@@ -194,7 +204,9 @@ member_row margin (member.Effect shared type name comb at) =
 member_row margin (member.Run statements at) =
     line_row margin
     (letters (codes "public") ++ space ++ letters (codes "void") ++ space ++ letters (codes "run") ++ mark (codes "(") ++ mark (codes ")") ++ space ++ mark (codes "{"))
-    ++ flat_map (λ s. statement_row s (margin + 2)) statements ++ closing_row margin
+    ++ block_row (map statement_row statements) margin ++ closing_row margin
+member_row margin (member.Die x at) = line_row margin (die_row x)
+member_row margin (member.Spawn x gifts at) = line_row margin (spawn_row x) ++ flat_map (gift_row (margin + 2)) gifts ++ closing_row margin
 
 abbrev pub class_row : ClassTree → Row
 class_row class =

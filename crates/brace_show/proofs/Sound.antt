@@ -1,5 +1,5 @@
 -- What the names and the numbers of a tree that was read are: names that a word spells, and numbers that a literal spells.
-use Rattle.std.proofs.Common.{ℕ, nat_le, ◌&&◌, Bool, true, false, not, is_some, List, length, Option, Some, None, ℤ, pos, negsuc}
+use Rattle.std.proofs.Common.{nat_le, ◌&&◌, Bool, true, false, List, length, map, Option, Some, None, ℤ, pos, negsuc}
 use Rattle.std.specs.List.{list_all}
 use Rattle.brace_num.specs.Names.{is_name}
 use Rattle.brace_syntax.specs.declared.tree.Digits.{Digits}
@@ -12,6 +12,7 @@ use Rattle.brace_syntax.specs.declared.tree.ExprTree.TheFolds.{fold-ExprTree}
 use Rattle.brace_syntax.specs.declared.tree.StmtTree.{StmtTree}
 use Rattle.brace_syntax.specs.declared.tree.StmtTree.TheOpen.{StmtTree-F, Const, If, Foreach, Assign, AssignThis, AssignLoop}
 use Rattle.brace_syntax.specs.declared.tree.StmtTree.TheFolds.{fold-StmtTree}
+use Rattle.brace_syntax.specs.declared.tree.GiftTree.{GiftTree}
 use Rattle.brace_syntax.specs.declared.tree.MemberTree.{MemberTree}
 use Rattle.brace_syntax.specs.declared.tree.MemberTree.TheVariants as member
 use Rattle.brace_syntax.specs.declared.tree.ClassTree.{ClassTree}
@@ -68,12 +69,17 @@ abbrev pub rule_sound : Option ExprTree → Bool
 rule_sound None = true
 rule_sound (Some x) = expr_sound x
 
+abbrev pub gift_sound : GiftTree → Bool
+gift_sound gift = is_name gift.state.text && expr_sound gift.value
+
 abbrev pub member_sound : MemberTree → Bool
 member_sound (member.Visible range at) = digits_are range.digits
 member_sound (member.Reach range at) = digits_are range.digits
 member_sound (member.State shared type name x at) = type_is type && is_name name.text && rule_sound x
 member_sound (member.Effect shared type name comb at) = type_is type && is_name name.text
-member_sound (member.Run xs at) = list_all stmt_sound xs
+member_sound (member.Run xs at) = all_sound (map stmt_sound xs)
+member_sound (member.Die x at) = expr_sound x
+member_sound (member.Spawn x gifts at) = expr_sound x && list_all gift_sound gifts
 
 abbrev pub class_sound : ClassTree → Bool
 class_sound class = is_name class.name.text && list_all member_sound class.members

@@ -1,5 +1,5 @@
 -- A script that is read from a text has names that words spell, and numbers that literals spell.
-use Rattle.std.proofs.Common.{◌≡◌, refl, sym, ap, ◌∙◌, ℕ, ◌+◌, nat_le, not, is_some, cond, List, [], ◌∷◌, ◌++◌, length, map, Bool, true, false, ◌&&◌, Option, Some, None, pos, All, arith}
+use Rattle.std.proofs.Common.{◌≡◌, refl, sym, ap, ◌∙◌, ℕ, ◌+◌, nat_le, cond, List, [], ◌∷◌, ◌++◌, length, map, Bool, true, false, ◌&&◌, Option, Some, None, pos, All, arith}
 use Rattle.std.specs.Prelude.{IsTrue}
 use Rattle.std.specs.List.{list_all}
 use Rattle.std.specs.Str.{bytes_eq}
@@ -22,7 +22,7 @@ use Rattle.brace_tok.proofs.Scans.{both, first_of_both, second_of_both}
 use Rattle.brace_tok.proofs.Named.{spells_names}
 use Rattle.brace_syntax.specs.Tables.{Is, ident, spelling, number, number_at, type_name, type_at}
 use Rattle.brace_syntax.specs.Reads as g
-use Rattle.brace_syntax.specs.Reads.{ReadsExpr, ReadsStmt, ReadsStmts, ReadsBlock, ReadsField, ReadsMember, ReadsMembers, ReadsClass, ReadsClasses, Reads}
+use Rattle.brace_syntax.specs.Reads.{ReadsExpr, ReadsStmt, ReadsStmts, ReadsBlock, ReadsField, ReadsGift, ReadsGifts, ReadsMember, ReadsMembers, ReadsClass, ReadsClasses, Reads}
 use Rattle.brace_syntax.specs.declared.tree.Ident.{Ident}
 use Rattle.brace_syntax.specs.declared.tree.Number.{Number}
 use Rattle.brace_syntax.specs.declared.tree.TyName.{TyName}
@@ -36,10 +36,11 @@ use Rattle.brace_syntax.specs.declared.tree.StmtTree.TheVariants as s
 use Rattle.brace_syntax.specs.declared.tree.StmtTree.TheOpen as stmt
 use Rattle.brace_syntax.specs.declared.tree.StmtTree.TheViews.{roll-StmtTree}
 use Rattle.brace_syntax.specs.declared.tree.StmtTree.TheFolds.{fold-roll-StmtTree, map-StmtTree}
+use Rattle.brace_syntax.specs.declared.tree.GiftTree.{GiftTree}
 use Rattle.brace_syntax.specs.declared.tree.MemberTree.{MemberTree}
 use Rattle.brace_syntax.specs.declared.tree.ClassTree.{ClassTree}
 use Rattle.brace_syntax.specs.declared.tree.Tree.{Tree}
-use Rattle.brace_show.proofs.Sound.{fits_word, digits_are, type_is, expr_sound_step, expr_sound, all_sound, stmt_sound_step, stmt_sound, member_sound, class_sound, script_sound}
+use Rattle.brace_show.proofs.Sound.{fits_word, digits_are, type_is, expr_sound_step, expr_sound, all_sound, stmt_sound_step, stmt_sound, gift_sound, member_sound, class_sound, script_sound}
 
 -- a number of a token is one that a literal spells
 abbrev kind_fits : TokKind → Bool
@@ -242,10 +243,6 @@ mutual
   block_reading : (src : List ℕ) (toks : List Token) (xs : List StmtTree) → ReadsBlock src toks xs → Sounds src toks → sound_block xs ≡ true
   block_reading src _ _ (g.braced a opening closing xs e e' rs) h = stmts_reading src a xs rs (left src a (closing ∷ []) h.1)
 
-list_of : (xs : List StmtTree) → list_all stmt_sound xs ≡ sound_block xs
-list_of [] = refl
-list_of (x ∷ xs) = ap (λ b. stmt_sound x && b) (list_of xs)
-
 -- members, classes and scripts
 field_reading : (src : List ℕ) (shared : Bool) (at : ℕ) (toks : List Token) (x : MemberTree) → ReadsField src shared at toks x → Sounds src toks → member_sound x ≡ true
 field_reading src shared at _ _ (g.state w type name semicolon t e e1 e2 e3) h =
@@ -255,12 +252,26 @@ field_reading src shared at _ _ (g.ruled a w type name colon semicolon t x e e1 
     (expr_reading src g.choices a x r (left src a (semicolon ∷ []) h.1.1.1.1))
 field_reading src shared at _ _ (g.effect w type name colon joins semicolon t c e e1 e2 e3 e4 e5) h = both (type_is t) (is_name (spelling src name)) (type_sound src type t e1 h.1.0) (name_sound src name e2 h.1.1.0)
 
+gift_reading : (src : List ℕ) (toks : List Token) (x : GiftTree) → ReadsGift src toks x → Sounds src toks → gift_sound x ≡ true
+gift_reading src _ _ (g.gift a name arrow semicolon x e e1 e2 r) h =
+    both (is_name (spelling src name)) (expr_sound x) (name_sound src name e h.0) (expr_reading src g.choices a x r (left src a (semicolon ∷ []) h.1.1))
+
+gifts_reading : (src : List ℕ) (toks : List Token) (xs : List GiftTree) → ReadsGifts src toks xs → Sounds src toks → list_all gift_sound xs ≡ true
+gifts_reading src _ _ g.none h = refl
+gifts_reading src _ _ (g.more a b x xs r rs) h =
+    both (gift_sound x) (list_all gift_sound xs) (gift_reading src a x r (left src a b h)) (gifts_reading src b xs rs (right src a b h))
+
 member_reading : (src : List ℕ) (toks : List Token) (x : MemberTree) → ReadsMember src toks x → Sounds src toks → member_sound x ≡ true
 member_reading src _ _ (g.visible w opening range closing semicolon n e e1 e2 e3 e4) h = number_sound src range n e2 h.1.1.0
 member_reading src _ _ (g.reach w opening range closing semicolon n e e1 e2 e3 e4) h = number_sound src range n e2 h.1.1.0
 member_reading src _ _ (g.public a w x e r) h = field_reading src true w.from a x r h.1
 member_reading src _ _ (g.private a w x e r) h = field_reading src false w.from a x r h.1
-member_reading src _ _ (g.run a w void run opening closing block e e1 e2 e3 e4 r) h = list_of block ∙ block_reading src a block r h.1.1.1.1.1
+member_reading src _ _ (g.run a w void run opening closing block e e1 e2 e3 e4 r) h = block_reading src a block r h.1.1.1.1.1
+member_reading src _ _ (g.die a w when semicolon x e e1 e2 r) h = expr_reading src g.choices a x r (left src a (semicolon ∷ []) h.1.1)
+member_reading src _ _ (g.spawn a b w when opening closing x gifts e e1 e2 e3 r rs) h =
+    let front : Sounds src (a ++ (opening ∷ b)) = left src (a ++ (opening ∷ b)) (closing ∷ []) h.1.1 in
+    both (expr_sound x) (list_all gift_sound gifts) (expr_reading src g.choices a x r (left src a (opening ∷ b) front))
+    (gifts_reading src b gifts rs (right src a (opening ∷ b) front).1)
 
 members_reading : (src : List ℕ) (toks : List Token) (xs : List MemberTree) → ReadsMembers src toks xs → Sounds src toks → list_all member_sound xs ≡ true
 members_reading src _ _ g.none h = refl

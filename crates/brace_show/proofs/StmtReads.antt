@@ -1,6 +1,5 @@
 -- The pieces of statements are read back as those statements, apart from places.
-use Rattle.std.proofs.Common.{◌≡◌, refl, sym, ap, ◌∙◌, subst, ℕ, ◌+◌, List, [], ◌∷◌, ◌++◌, map, flat_map, Bool, true, ◌&&◌, append_assoc, Option, Some, None, codes}
-use Rattle.std.specs.List.{list_all}
+use Rattle.std.proofs.Common.{◌≡◌, refl, sym, ap, ◌∙◌, subst, ℕ, ◌+◌, List, [], ◌∷◌, ◌++◌, map, Bool, true, ◌&&◌, append_assoc, Option, Some, None, codes}
 use Rattle.std.proofs.lemmas.List.{append-nil}
 use Rattle.brace_num.specs.Names.{is_name}
 use Rattle.brace_tok.specs.Tables.{reserved, symbol}
@@ -315,18 +314,13 @@ each_good (stmt.AssignLoop loop name x) = rolled (stmt.AssignLoop loop name x) (
 pub stmt_good : (x : StmtTree) → stmt_sound x ≡ true → GoodStmt (statement_row x) (stmt_at_0 x)
 stmt_good = ind-StmtTree SoundIsGood (λ x y is. subst (λ z. SoundIsGood (roll-StmtTree z)) is (each_good y))
 
-stmts_good : (xs : List StmtTree) → list_all stmt_sound xs ≡ true → Goods (map statement_row xs) (map stmt_at_0 xs)
+stmts_good : (xs : List StmtTree) → all_sound (map stmt_sound xs) ≡ true → Goods (map statement_row xs) (map stmt_at_0 xs)
 stmts_good [] h = none
 stmts_good (x ∷ xs) h =
-    more (statement_row x) (stmt_at_0 x) _ _ (stmt_good x (first_of_both (stmt_sound x) (list_all stmt_sound xs) h)) (stmts_good xs (second_of_both (stmt_sound x) (list_all stmt_sound xs) h))
-
-rows_of : (xs : List StmtTree) (margin : ℕ) → flat_map (λ x. statement_row x (margin + 2)) xs ≡ block_row (map statement_row xs) margin
-rows_of [] margin = refl
-rows_of (x ∷ xs) margin = ap (λ z. statement_row x (margin + 2) ++ z) (rows_of xs margin)
+    more (statement_row x) (stmt_at_0 x) _ _ (stmt_good x (first_of_both (stmt_sound x) (all_sound (map stmt_sound xs)) h))
+    (stmts_good xs (second_of_both (stmt_sound x) (all_sound (map stmt_sound xs)) h))
 
 -- a block of statements at the end
-pub block_reads : (xs : List StmtTree) → list_all stmt_sound xs ≡ true → (margin : ℕ) (src : List ℕ) (toks : List Token)
-    → Laid src (sign (codes "{") ∷ blank 10 ∷ (flat_map (λ x. statement_row x (margin + 2)) xs ++ closing_row margin)) toks → FoundBlock src (map stmt_at_0 xs) toks
-block_reads xs h margin src toks l =
-    last_block (map statement_row xs) (map stmt_at_0 xs) (stmts_good xs h) margin src toks
-    (laid_as src _ _ toks (ap (λ z. sign (codes "{") ∷ blank 10 ∷ (z ++ closing_row margin)) (rows_of xs margin)) l)
+pub block_reads : (xs : List StmtTree) → all_sound (map stmt_sound xs) ≡ true → (margin : ℕ) (src : List ℕ) (toks : List Token)
+    → Laid src (sign (codes "{") ∷ blank 10 ∷ (block_row (map statement_row xs) margin ++ closing_row margin)) toks → FoundBlock src (map stmt_at_0 xs) toks
+block_reads xs h margin src toks l = last_block (map statement_row xs) (map stmt_at_0 xs) (stmts_good xs h) margin src toks l

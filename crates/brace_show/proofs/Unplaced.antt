@@ -12,12 +12,13 @@ use Rattle.brace_syntax.specs.declared.tree.StmtTree.TheVariants as s
 use Rattle.brace_syntax.specs.declared.tree.StmtTree.TheOpen as stmt
 use Rattle.brace_syntax.specs.declared.tree.StmtTree.TheFolds.{map-StmtTree, fold-roll-StmtTree, ind-StmtTree}
 use Rattle.brace_syntax.specs.declared.tree.StmtTree.TheViews.{roll-StmtTree}
+use Rattle.brace_syntax.specs.declared.tree.GiftTree.{GiftTree}
 use Rattle.brace_syntax.specs.declared.tree.MemberTree.{MemberTree}
 use Rattle.brace_syntax.specs.declared.tree.MemberTree.TheVariants as m
 use Rattle.brace_syntax.specs.declared.tree.ClassTree.{ClassTree}
 use Rattle.brace_syntax.specs.declared.tree.Tree.{Tree}
-use Rattle.brace_show.specs.Alike.{ident_at_0, number_at_0, type_at_0, expr_step, expr_at_0, stmt_step, stmt_at_0, member_at_0, class_at_0, Alike}
-use Rattle.brace_show.specs.Canonical.{line, deeper, type_text, combinator, block, statement_step, statement, sharing, rule, member_text, class_text, canonical}
+use Rattle.brace_show.specs.Alike.{ident_at_0, number_at_0, type_at_0, expr_step, expr_at_0, stmt_step, stmt_at_0, gift_at_0, member_at_0, class_at_0, Alike}
+use Rattle.brace_show.specs.Canonical.{line, deeper, type_text, combinator, block, statement_step, statement, sharing, rule, gift_text, member_text, class_text, canonical}
 use Rattle.brace_show.specs.Expressions.{Phrase, phrase_step, phrase_of, at_level, expression}
 
 -- expressions
@@ -139,6 +140,14 @@ flat_same : {A : Type 0} (f : A → List ℕ) (g : A → A) → ((x : A) → f (
 flat_same f g same [] = refl
 flat_same f g same (x ∷ xs) = ap (λ t. t ++ flat_map f (map g xs)) (same x) ∙ ap (λ t. f x ++ t) (flat_same f g same xs)
 
+statements_same : (xs : List StmtTree) (margin : List ℕ) → block (map statement (map stmt_at_0 xs)) margin ≡ block (map statement xs) margin
+statements_same [] margin = refl
+statements_same (x ∷ xs) margin =
+    ap (λ t. t ++ block (map statement (map stmt_at_0 xs)) margin) (statement_same x (deeper margin)) ∙ ap (λ t. statement x (deeper margin) ++ t) (statements_same xs margin)
+
+gift_same : (margin : List ℕ) (x : GiftTree) → gift_text margin (gift_at_0 x) ≡ gift_text margin x
+gift_same margin x = ap (λ t. line margin (x.state.text ++ codes " <- " ++ t ++ codes ";")) (expression_same x.value)
+
 member_same : (margin : List ℕ) (x : MemberTree) → member_text margin (member_at_0 x) ≡ member_text margin x
 member_same margin (m.Visible range at) = refl
 member_same margin (m.Reach range at) = refl
@@ -148,7 +157,11 @@ member_same margin (m.State shared type name x at) =
 member_same margin (m.Effect shared type name comb at) =
     ap (λ t. line margin (sharing shared ++ codes " effect " ++ t ++ codes " " ++ name.text ++ codes " : " ++ combinator comb ++ codes ";")) (type_same type)
 member_same margin (m.Run statements at) =
-    ap (λ t. line margin (codes "public void run() {") ++ t ++ line margin (codes "}")) (flat_same (λ x. statement x (deeper margin)) stmt_at_0 (λ x. statement_same x (deeper margin)) statements)
+    ap (λ t. line margin (codes "public void run() {") ++ t ++ line margin (codes "}")) (statements_same statements margin)
+member_same margin (m.Die x at) = ap (λ t. line margin (codes "die when " ++ t ++ codes ";")) (expression_same x)
+member_same margin (m.Spawn x gifts at) =
+    ap (λ t. line margin (codes "spawn when " ++ t ++ codes " {") ++ flat_map (gift_text (deeper margin)) (map gift_at_0 gifts) ++ line margin (codes "}")) (expression_same x)
+    ∙ ap (λ t. line margin (codes "spawn when " ++ expression x ++ codes " {") ++ t ++ line margin (codes "}")) (flat_same (gift_text (deeper margin)) gift_at_0 (gift_same (deeper margin)) gifts)
 
 class_same : (class : ClassTree) → class_text (class_at_0 class) ≡ class_text class
 class_same class =

@@ -12,6 +12,7 @@ use Rattle.brace_syntax.specs.declared.tree.StmtTree.{StmtTree}
 use Rattle.brace_syntax.specs.declared.tree.StmtTree.TheVariants as s
 use Rattle.brace_syntax.specs.declared.tree.StmtTree.TheOpen as stmt
 use Rattle.brace_syntax.specs.declared.tree.StmtTree.TheFolds.{fold-StmtTree}
+use Rattle.brace_syntax.specs.declared.tree.GiftTree.{GiftTree}
 use Rattle.brace_syntax.specs.declared.tree.MemberTree.{MemberTree}
 use Rattle.brace_syntax.specs.declared.tree.MemberTree.TheVariants as m
 use Rattle.brace_syntax.specs.declared.tree.ClassTree.{ClassTree}
@@ -62,6 +63,10 @@ stmt_step (stmt.AssignLoop loop name x) = s.AssignLoop (ident_at_0 loop) (ident_
 abbrev pub stmt_at_0 : StmtTree → StmtTree
 stmt_at_0 = fold-StmtTree StmtTree stmt_step
 
+-- a gift with 0 in each place
+abbrev pub gift_at_0 : GiftTree → GiftTree
+gift_at_0 gift = record { state = ident_at_0 gift.state; value = expr_at_0 gift.value }
+
 -- a member with 0 in each place
 abbrev pub member_at_0 : MemberTree → MemberTree
 member_at_0 (m.Visible number at) = m.Visible (number_at_0 number) 0
@@ -69,6 +74,8 @@ member_at_0 (m.Reach number at) = m.Reach (number_at_0 number) 0
 member_at_0 (m.State shared type name rule at) = m.State shared (type_at_0 type) (ident_at_0 name) (option_map expr_at_0 rule) 0
 member_at_0 (m.Effect shared type name comb at) = m.Effect shared (type_at_0 type) (ident_at_0 name) comb 0
 member_at_0 (m.Run block at) = m.Run (map stmt_at_0 block) 0
+member_at_0 (m.Die x at) = m.Die (expr_at_0 x) 0
+member_at_0 (m.Spawn x gifts at) = m.Spawn (expr_at_0 x) (map gift_at_0 gifts) 0
 
 -- a class with 0 in each place
 abbrev pub class_at_0 : ClassTree → ClassTree

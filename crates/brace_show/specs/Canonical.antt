@@ -1,6 +1,6 @@
 -- The canonical text of a script: each member, statement and closing brace has a line of its own, indented by two spaces
 -- for each brace that is open.
-use Rattle.std.specs.Prelude.{ℕ, Bool, true, false, List, [], ◌++◌, flat_map, Option, Some, None, codes}
+use Rattle.std.specs.Prelude.{ℕ, Bool, true, false, List, [], ◌++◌, map, flat_map, Option, Some, None, codes}
 use Rattle.brace_syntax.specs.declared.tree.TyName.{TyName}
 use Rattle.brace_syntax.specs.declared.tree.TyName.TheVariants as ty
 use Rattle.brace_syntax.specs.declared.tree.CombName.{CombName}
@@ -9,6 +9,7 @@ use Rattle.brace_syntax.specs.declared.tree.ExprTree.{ExprTree}
 use Rattle.brace_syntax.specs.declared.tree.StmtTree.{StmtTree}
 use Rattle.brace_syntax.specs.declared.tree.StmtTree.TheOpen.{StmtTree-F, Const, If, Foreach, Assign, AssignThis, AssignLoop}
 use Rattle.brace_syntax.specs.declared.tree.StmtTree.TheFolds.{fold-StmtTree}
+use Rattle.brace_syntax.specs.declared.tree.GiftTree.{GiftTree}
 use Rattle.brace_syntax.specs.declared.tree.MemberTree.{MemberTree}
 use Rattle.brace_syntax.specs.declared.tree.MemberTree.TheVariants as member
 use Rattle.brace_syntax.specs.declared.tree.ClassTree.{ClassTree}
@@ -74,6 +75,10 @@ abbrev pub rule : Option ExprTree → List ℕ
 rule None = []
 rule (Some x) = codes " : " ++ expression x
 
+-- the line of a gift behind a margin
+abbrev pub gift_text : List ℕ → GiftTree → List ℕ
+gift_text margin gift = line margin (gift.state.text ++ codes " <- " ++ expression gift.value ++ codes ";")
+
 -- the lines of a member behind a margin
 abbrev pub member_text : List ℕ → MemberTree → List ℕ
 member_text margin (member.Visible range at) = line margin (codes "#visible[" ++ literal range.digits ++ codes "];")
@@ -83,7 +88,11 @@ member_text margin (member.State shared type name x at) =
 member_text margin (member.Effect shared type name comb at) =
     line margin (sharing shared ++ codes " effect " ++ type_text type ++ codes " " ++ name.text ++ codes " : " ++ combinator comb ++ codes ";")
 member_text margin (member.Run statements at) =
-    line margin (codes "public void run() {") ++ flat_map (λ s. statement s (deeper margin)) statements ++ line margin (codes "}")
+    line margin (codes "public void run() {") ++ block (map statement statements) margin ++ line margin (codes "}")
+member_text margin (member.Die x at) = line margin (codes "die when " ++ expression x ++ codes ";")
+member_text margin (member.Spawn x gifts at) =
+    line margin (codes "spawn when " ++ expression x ++ codes " {") ++ flat_map (gift_text (deeper margin)) gifts
+    ++ line margin (codes "}")
 
 -- the lines of a class
 abbrev pub class_text : ClassTree → List ℕ

@@ -1,11 +1,16 @@
-ghost use Rattle.std.specs.Prelude.{◌≡◌, [], ◌++◌, flat_map, codes, OnOk};
+ghost use Rattle.std.specs.Prelude.{◌≡◌, [], ◌++◌, map, flat_map, codes, OnOk};
 ghost use Rattle.brace_show.specs.Literals.{literal};
-ghost use Rattle.brace_show.specs.Canonical.{line, deeper, type_text, combinator, sharing, rule, statement, member_text, class_text};
+ghost use Rattle.brace_show.specs.Canonical.{line, deeper, type_text, combinator, sharing, rule, block, statement, gift_text, member_text, class_text};
+ghost use Rattle.brace_show.specs.Expressions.{expression};
 
 use crate::literal::append_literal;
-use crate::stmt::{append_block, append_declared, append_expression, append_line};
+use crate::stmt::{
+    append_assignment, append_block, append_declared, append_expression, append_line, append_value,
+};
 use brace_num::{List, NoMemory};
-use brace_syntax::{ClassTree, CombName, Digits, ExprTree, Ident, MemberTree, StmtTree, TyName};
+use brace_syntax::{
+    ClassTree, CombName, Digits, ExprTree, GiftTree, Ident, MemberTree, StmtTree, TyName,
+};
 use std::alloc::Global;
 
 fn combinator(comb: CombName) -> &'static [u8]
@@ -100,18 +105,6 @@ fn append_effect(
     append_combinator(out, comb)
 }
 
-#[tactic(auto, using(crate::proofs::Blocks::block_of_texts))]
-fn append_statements(
-    out: &mut Vec<u8>,
-    margin: &mut Vec<u8>,
-    statements: &List<StmtTree>,
-) -> Result<(), NoMemory>
-    ensures printed { OnOk result (out.new.items ≡ out.old.items ++ flat_map (λ s. statement s (deeper margin.old.items)) statements.now) }
-    ensures margin { OnOk result (margin.new.items ≡ margin.old.items) }
-{
-    append_block(out, margin, statements)
-}
-
 // Appends a block behind the line that opens it.
 fn append_braced(
     out: &mut Vec<u8>,
@@ -119,20 +112,55 @@ fn append_braced(
     head: &[u8],
     statements: &List<StmtTree>,
 ) -> Result<(), NoMemory>
-    ensures printed { OnOk result (out.new.items ≡ out.old.items ++ (line margin.old.items head.now ++ flat_map (λ s. statement s (deeper margin.old.items)) statements.now ++ line margin.old.items (codes "}"))) }
+    ensures printed { OnOk result (out.new.items ≡ out.old.items ++ (line margin.old.items head.now ++ block (map statement statements.now) margin.old.items ++ line margin.old.items (codes "}"))) }
 {
     append_line(out, margin.as_slice(), head)?;
-    append_statements(out, margin, statements)?;
+    append_block(out, margin, statements)?;
     append_line(out, margin.as_slice(), b"}")?;
     Ok(())
 }
 
-#[tactic(auto, using(crate::proofs::Blocks::run_lines))]
 fn append_run(alloc: Global, out: &mut Vec<u8>, statements: &List<StmtTree>) -> Result<(), NoMemory>
-    ensures printed { OnOk result (out.new.items ≡ out.old.items ++ (line (deeper []) (codes "public void run() {") ++ flat_map (λ s. statement s (deeper (deeper []))) statements.now ++ line (deeper []) (codes "}"))) }
+    ensures printed { OnOk result (out.new.items ≡ out.old.items ++ (line (deeper []) (codes "public void run() {") ++ block (map statement statements.now) (deeper []) ++ line (deeper []) (codes "}"))) }
 {
     let mut margin = Vec::from_slice(alloc, b"  ")?;
     append_braced(out, &mut margin, b"public void run() {", statements)?;
+    Ok(())
+}
+
+fn append_die(out: &mut Vec<u8>, x: &ExprTree) -> Result<(), NoMemory>
+    ensures printed { OnOk result (out.new.items ≡ out.old.items ++ line (deeper []) (codes "die when " ++ expression x.now ++ codes ";")) }
+{
+    out.extend_from_slice(b"  ")?;
+    append_value(out, b"die when ", x)
+}
+
+// Appends the line that opens the gifts.
+fn append_birth(out: &mut Vec<u8>, margin: &[u8], x: &ExprTree) -> Result<(), NoMemory>
+    ensures printed { OnOk result (out.new.items ≡ out.old.items ++ line margin.now (codes "spawn when " ++ expression x.now ++ codes " {")) }
+{
+    out.extend_from_slice(margin)?;
+    out.extend_from_slice(b"spawn when ")?;
+    append_expression(out, x)?;
+    out.extend_from_slice(b" {\n")?;
+    Ok(())
+}
+
+fn append_gifts(out: &mut Vec<u8>, gifts: &List<GiftTree>) -> Result<(), NoMemory>
+    ensures printed { OnOk result (out.new.items ≡ out.old.items ++ flat_map (gift_text (deeper (deeper []))) gifts.now) }
+{
+    for gift in gifts.as_slice() {
+        append_assignment(out, b"    ", &gift.state, &gift.value)?;
+    }
+    Ok(())
+}
+
+fn append_spawn(out: &mut Vec<u8>, x: &ExprTree, gifts: &List<GiftTree>) -> Result<(), NoMemory>
+    ensures printed { OnOk result (out.new.items ≡ out.old.items ++ (line (deeper []) (codes "spawn when " ++ expression x.now ++ codes " {") ++ flat_map (gift_text (deeper (deeper []))) gifts.now ++ line (deeper []) (codes "}"))) }
+{
+    append_birth(out, b"  ", x)?;
+    append_gifts(out, gifts)?;
+    append_line(out, b"  ", b"}")?;
     Ok(())
 }
 
@@ -147,6 +175,8 @@ fn append_member(alloc: Global, out: &mut Vec<u8>, member: &MemberTree) -> Resul
             append_effect(out, *shared, ty, name, *comb)
         }
         MemberTree::Run(statements, _) => append_run(alloc, out, statements),
+        MemberTree::Die(x, _) => append_die(out, x),
+        MemberTree::Spawn(x, gifts, _) => append_spawn(out, x, gifts),
     }
 }
 

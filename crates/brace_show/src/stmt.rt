@@ -36,8 +36,8 @@ pub fn append_declared(out: &mut Vec<u8>, ty: &TyName, name: &Ident) -> Result<(
     Ok(())
 }
 
-// Appends a value behind its mark, and the end of its line.
-fn append_value(out: &mut Vec<u8>, mark: &[u8], x: &ExprTree) -> Result<(), NoMemory>
+/// Appends a value behind what stands before it, and the end of its line.
+pub fn append_value(out: &mut Vec<u8>, mark: &[u8], x: &ExprTree) -> Result<(), NoMemory>
     ensures printed { OnOk result (out.new.items ≡ out.old.items ++ (mark.now ++ expression x.now ++ codes ";\n")) }
 {
     out.extend_from_slice(mark)?;
@@ -116,7 +116,8 @@ pub fn append_line(out: &mut Vec<u8>, margin: &[u8], text: &[u8]) -> Result<(), 
     Ok(())
 }
 
-fn append_assignment(
+/// Appends the line that gives a value to a name.
+pub fn append_assignment(
     out: &mut Vec<u8>,
     margin: &[u8],
     name: &Ident,

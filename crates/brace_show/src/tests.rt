@@ -28,8 +28,9 @@ private effect fixed p:sum; public effect bool o:or;private effect int l:min;pub
 public void run(){const int c=(-007);const fixed d = fixed(c)*(0.0);const bool t=!(true&&b)||false;
 if(((a-b)-c)<(a-(b-c))){n<-1;}if(b){}else{}
 if (a==b) { if (c) { this.m <- --1; } } else { p.m <- max(1,min(2,3)); } /* last */
-foreach(Fish p:Extent<Fish>){foreach(Shoal q:Extent<Shoal>){p.n<-abs(q.x)+sqrt(this.y)-trunc(rand());}}}}
-class Shoal{}";
+foreach(Fish p:Extent<Fish>){foreach(Shoal q:Extent<Shoal>){p.n<-abs(q.x)+sqrt(this.y)-trunc(rand());}}}
+spawn  when(n>=2){x<-(x+5.00);s<-b?(p):q;}}
+class Shoal{die when((m))>1||b ;public state int m;spawn when true{}}";
 
 const CANONICAL: &[u8] = b"class Fish {
   #visible[10];
@@ -65,8 +66,16 @@ const CANONICAL: &[u8] = b"class Fish {
       }
     }
   }
+  spawn when n >= 2 {
+    x <- x + 5.0;
+    s <- b ? p : q;
+  }
 }
 class Shoal {
+  die when m > 1 || b;
+  public state int m;
+  spawn when true {
+  }
 }
 ";
 

@@ -19,6 +19,12 @@ const READS_ITS_EFFECT: &[u8] =
 const EFFECT_SHOWN: &[u8] =
     b"class E {\n  public state fixed x;\n  public state fixed y;\n  public effect int c : count;\n  public void run() {\n    c <- c;\n  }\n}\n";
 
+const BEARS_AND_DIES: &[u8] =
+    b"class B {die when(n>2);public state fixed x;spawn  when n==0{x<-(x+5.00);n<-c?7:(n);}public state int n;}class N{spawn when true{}}";
+
+const BEARS_SHOWN: &[u8] =
+    b"class B {\n  die when n > 2;\n  public state fixed x;\n  spawn when n == 0 {\n    x <- x + 5.0;\n    n <- c ? 7 : n;\n  }\n  public state int n;\n}\nclass N {\n  spawn when true {\n  }\n}\n";
+
 /// The words `fmt --script s`.
 fn words(alloc: Global) -> Result<Vec<String>, AllocError> {
     let mut words = Vec::new(alloc);
@@ -63,6 +69,8 @@ fn writes_canonical_texts(rt: HostRuntime) -> Result<(), Fail> {
         (SPREAD, STEPS_SHOWN),
         (STEPS_SHOWN, STEPS_SHOWN),
         (READS_ITS_EFFECT, EFFECT_SHOWN),
+        (BEARS_AND_DIES, BEARS_SHOWN),
+        (BEARS_SHOWN, BEARS_SHOWN),
     ] {
         let (code, out, err) = formatted(rt.alloc(), script)?;
         assert_eq!(rt; code, Some(0));
@@ -79,6 +87,18 @@ fn names_the_kind_and_place_of_a_refusal(rt: HostRuntime) -> Result<(), Fail> {
         (
             "class P { #reach[2.0]; public state fixed x : x + 1.5; public state fixed y; }}",
             "brace: s:1:79: NoReading\n",
+        ),
+        (
+            "class B { spawn n == 0 { } }",
+            "brace: s:1:17: NoReading\n",
+        ),
+        (
+            "class B { spawn when true { q.n <- 1; } }",
+            "brace: s:1:30: NoReading\n",
+        ),
+        (
+            "class B { die when true }",
+            "brace: s:1:25: NoReading\n",
         ),
         ("class Z { ~ }", "brace: s:1:11: BadByte\n"),
         ("class Z {\n  &\n}", "brace: s:2:3: BadByte\n"),
