@@ -1,7 +1,7 @@
 -- Joined totals: regrouped, reordered, and as the totals of lists.
 use Rattle.std.proofs.Common.{◌≡◌, ◌∙◌, refl, sym, ap, subst, ℕ, ◌+◌, ◌*◌, ◌^◌, ◌≤◌, ℤ, pos, ◌+ℤ◌, unsigned_abs, List, [], ◌∷◌, ◌++◌, length, true, false, arith}
 use Rattle.std.specs.Ordering.{int_eq}
-use Rattle.std.specs.Int.{w64, int_min, int_max}
+use Rattle.std.specs.Int.{w64}
 use Rattle.std.specs.Int.RustNames.{FitsSigned}
 use Rattle.std.specs.List.{All, fold}
 use Rattle.std.specs.List.Sorted.{IsPermutation}

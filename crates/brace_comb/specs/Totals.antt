@@ -1,5 +1,5 @@
 -- A total as contracts see it, the total of values, and the join of two totals.
-use Rattle.std.specs.Prelude.{◌≡◌, ℕ, ◌+◌, ◌*◌, ◌^◌, ◌≤◌, ℤ, pos, ◌+ℤ◌, unsigned_abs, List, length, Bool, true, false, if◌then◌else◌}
+use Rattle.std.specs.Prelude.{◌≡◌, ℕ, ◌+◌, ◌*◌, ◌^◌, ◌≤◌, ℤ, pos, ◌+ℤ◌, unsigned_abs, List, [], length, Bool, true, false, if◌then◌else◌}
 use Rattle.std.specs.Int.{int_min, int_max}
 use Rattle.brace_model.specs.declared.program.Comb.{Comb}
 use Rattle.brace_model.specs.declared.program.Comb.TheVariants as comb
@@ -27,13 +27,13 @@ tally (Any b k) = record { comb = comb.Or; number = if b then pos 1 else pos 0; 
 abbrev pub tally_of : Comb → List Value → Tally
 tally_of comb values = record { comb = comb; number = total_of comb values; count = length values }
 
--- the combinator takes the value: `or` flags, `count` any value, the others numbers
-abbrev pub takes : Comb → Value → Bool
-takes comb.Count v = true
-takes comb.Or (Flag b) = true
-takes comb.Or v = false
-takes c (Flag b) = false
-takes c v = true
+-- the combinator accepts the value: `or` flags, `count` any value, the others numbers
+abbrev pub accepts : Comb → Value → Bool
+accepts comb.Count v = true
+accepts comb.Or (Flag b) = true
+accepts comb.Or v = false
+accepts c (Flag b) = false
+accepts c v = true
 
 -- two numbers of a combinator in one
 abbrev pub merged : Comb → ℤ → ℤ → ℤ
@@ -47,11 +47,15 @@ merged comb.Or a b = int_max a b
 abbrev pub join : Tally → Tally → Tally
 join a b = record { comb = a.comb; number = merged a.comb a.number b.number; count = a.count + b.count }
 
+-- no value is joined yet
+abbrev pub IsIdentity : Tally → Type 0
+IsIdentity t = t ≡ tally_of t.comb []
+
 -- a sum is no further from 0 than as many values of 64 bits can bring it
 abbrev pub IsBounded : Tally → Type 0
 IsBounded t = t.comb ≡ comb.Sum → unsigned_abs t.number ≤ 2 ^ 63 * t.count
 
--- two totals that may be joined: they are of one combinator and bounded, and join at most 2^52 values
+-- two totals may be joined: they are of one combinator and bounded, and join at most 2^52 values
 pub record CanJoin (a b : Tally) : Type 0 where
   pub alike : a.comb ≡ b.comb
   pub first : IsBounded a

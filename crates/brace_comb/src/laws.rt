@@ -14,21 +14,26 @@ ghost use Rattle.brace_comb.specs.Folds.{IsFold};
 
 /// Totals of one combinator may be joined in any grouping and any order.
 pub fn joins_are_regrouped()
-    ensures associative { (a b c : Tally) → a.comb ≡ b.comb → b.comb ≡ c.comb → join (join a b) c ≡ join a (join b c) }
+    ensures associative { (a b c : Tally) → a.comb ≡ b.comb → b.comb ≡ c.comb
+        → join (join a b) c ≡ join a (join b c) }
     ensures commutative { (a b : Tally) → a.comb ≡ b.comb → join a b ≡ join b a }
 {}
 
-/// Whatever the order and the grouping in which the totals of values are joined, the result is the total of the values, and its
-/// number is the one that the meaning of scripts gives them.
+/// In whatever order and grouping the totals of values are joined, the result is the total of the
+/// values, and its number is the one that the meaning of scripts gives them.
 pub fn folds_give_the_total()
-    ensures total { (comb : Comb) (values : List Value) (t : Tally) → IsFold comb values t → t ≡ tally_of comb values }
-    ensures number { (comb : Comb) (values : List Value) (t : Tally) → IsFold comb values t → t.number ≡ total_of comb values }
-    ensures any_order { (comb : Comb) (xs ys : List Value) → IsPermutation xs ys → tally_of comb xs ≡ tally_of comb ys }
+    ensures total { (comb : Comb) (values : List Value) (t : Tally)
+        → IsFold comb values t → t ≡ tally_of comb values }
+    ensures number { (comb : Comb) (values : List Value) (t : Tally)
+        → IsFold comb values t → t.number ≡ total_of comb values }
+    ensures any_order { (comb : Comb) (xs ys : List Value)
+        → IsPermutation xs ys → tally_of comb xs ≡ tally_of comb ys }
 {}
 
 /// The total of values of 64 bits is bounded, as `join` asks.
 pub fn totals_are_bounded()
-    ensures bounded { (comb : Comb) (values : List Value) → All (λ v. FitsSigned w64 (number v)) values → IsBounded (tally_of comb values) }
+    ensures bounded { (comb : Comb) (values : List Value)
+        → All (λ v. FitsSigned w64 (number v)) values → IsBounded (tally_of comb values) }
 {}
 
 /// A total is known by what is seen of it.

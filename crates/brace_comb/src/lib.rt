@@ -1,4 +1,4 @@
-//! Totals of effects: what the values said to an effect come to, joined in any order and any grouping.
+//! Totals of effects: what the values said to an effect come to, in any order and any grouping.
 #![tactic(auto)]
 
 mod combine;

@@ -1,7 +1,6 @@
-ghost use Rattle.std.specs.Prelude.{◌≡◌, []};
-ghost use Rattle.brace_model.specs.declared.program.Comb.{Comb};
+ghost use Rattle.std.specs.Prelude.{◌≡◌};
 ghost use Rattle.brace_model.specs.World.{number};
-ghost use Rattle.brace_comb.specs.Totals.{tally, tally_of, join, CanJoin, IsBounded};
+ghost use Rattle.brace_comb.specs.Totals.{tally, join, IsIdentity, CanJoin, IsBounded};
 
 use crate::Combine;
 use brace_model::{Comb, Value};
@@ -21,7 +20,7 @@ pub enum Total {
 }
 
 /// The whole number of a value: millionths of a fixed one, 0 or 1 of a flag.
-fn whole(v: Value) -> i64
+fn number(v: Value) -> i64
     ensures { result ≡ number v }
 {
     match v {
@@ -34,8 +33,8 @@ fn whole(v: Value) -> i64
 fn joined(a: Total, b: Total) -> Total
     requires { CanJoin (tally a) (tally b) }
     ensures joined { tally result ≡ join (tally a) (tally b) }
-    ensures from_identity { (comb : Comb) → tally a ≡ tally_of comb [] → tally result ≡ tally b }
-    ensures by_identity { (comb : Comb) → tally b ≡ tally_of comb [] → tally result ≡ tally a }
+    ensures from_identity { IsIdentity (tally a) → tally result ≡ tally b }
+    ensures by_identity { IsIdentity (tally b) → tally result ≡ tally a }
     ensures bounded { IsBounded (tally result) }
 {
     match (a, b) {
@@ -63,9 +62,9 @@ impl Combine for Total {
 
     fn of(comb: Comb, v: Value) -> Total {
         match comb {
-            Comb::Sum => Total::Sum(i128::from(whole(v)), 1),
-            Comb::Min => Total::Least(whole(v), 1),
-            Comb::Max => Total::Greatest(whole(v), 1),
+            Comb::Sum => Total::Sum(i128::from(number(v)), 1),
+            Comb::Min => Total::Least(number(v), 1),
+            Comb::Max => Total::Greatest(number(v), 1),
             Comb::Count => Total::Count(1),
             Comb::Or => Total::Any(v == Value::Flag(true), 1),
         }

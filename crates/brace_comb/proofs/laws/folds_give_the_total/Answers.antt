@@ -7,5 +7,5 @@ returns c =
     record {
       total = fold_total;
       number = λ comb values t f. ap (λ s. s.number) (fold_total comb values t f);
-      any_order = tally_of-IsPermutation
+      any_order = tally_of-IsPermutation;
     }
