@@ -21,7 +21,8 @@ use Rattle.brace_comb.specs.Totals.{Tally, tally, tally_of, merged, join, IsBoun
 use Rattle.brace_comb.specs.Folds.{IsFold, none, one, both, moved}
 use Rattle.brace_comb.proofs.Permutations.{fold-IsPermutation}
 
-merged-assoc : (comb : Comb) (a b c : ℤ) → merged comb (merged comb a b) c ≡ merged comb a (merged comb b c)
+merged-assoc : (comb : Comb) (a b c : ℤ)
+    → merged comb (merged comb a b) c ≡ merged comb a (merged comb b c)
 merged-assoc Sum a b c = omega (arith, ints)
 merged-assoc Min a b c = omega (arith, ints, clamps)
 merged-assoc Max a b c = omega (arith, ints, clamps)
@@ -48,18 +49,22 @@ joined-merged Count t v = refl
 joined-merged Or t v = refl
 
 -- a value may be joined before or after two numbers are merged
-through : (comb : Comb) (a b : ℤ) (v : Value) → joined comb (merged comb a b) v ≡ merged comb a (joined comb b v)
+through : (comb : Comb) (a b : ℤ) (v : Value)
+    → joined comb (merged comb a b) v ≡ merged comb a (joined comb b v)
 through comb a b v =
     joined-merged comb (merged comb a b) v
     ∙ merged-assoc comb a b (brought comb v)
     ∙ ap (merged comb a) (sym (joined-merged comb b v))
 
-fold-through : (comb : Comb) (a b : ℤ) (vs : List Value) → fold (joined comb) (merged comb a b) vs ≡ merged comb a (fold (joined comb) b vs)
+fold-through : (comb : Comb) (a b : ℤ) (vs : List Value)
+    → fold (joined comb) (merged comb a b) vs ≡ merged comb a (fold (joined comb) b vs)
 fold-through comb a b [] = refl
-fold-through comb a b (v ∷ vs) = ap (λ t. fold (joined comb) t vs) (through comb a b v) ∙ fold-through comb a (joined comb b v) vs
+fold-through comb a b (v ∷ vs) =
+    ap (λ t. fold (joined comb) t vs) (through comb a b v) ∙ fold-through comb a (joined comb b v) vs
 
 -- two values may change places
-turn : (comb : Comb) (t : ℤ) (x y : Value) → joined comb (joined comb t x) y ≡ joined comb (joined comb t y) x
+turn : (comb : Comb) (t : ℤ) (x y : Value)
+    → joined comb (joined comb t x) y ≡ joined comb (joined comb t y) x
 turn comb t x y =
     let m = merged comb in
     let p = brought comb x in
@@ -78,31 +83,36 @@ merged-identities Count = refl
 merged-identities Or = refl
 
 -- the total of values is as it was after the total of none is joined
-total_of-identity : (comb : Comb) (vs : List Value) → merged comb (total_of comb vs) (identity comb) ≡ total_of comb vs
+total_of-identity : (comb : Comb) (vs : List Value)
+    → merged comb (total_of comb vs) (identity comb) ≡ total_of comb vs
 total_of-identity comb vs =
     merged-comm comb (total_of comb vs) (identity comb)
     ∙ sym (fold-through comb (identity comb) (identity comb) vs)
     ∙ ap (λ t. fold (joined comb) t vs) (merged-identities comb)
 
-total_of-append : (comb : Comb) (xs ys : List Value) → merged comb (total_of comb xs) (total_of comb ys) ≡ total_of comb (xs ++ ys)
+total_of-append : (comb : Comb) (xs ys : List Value)
+    → merged comb (total_of comb xs) (total_of comb ys) ≡ total_of comb (xs ++ ys)
 total_of-append comb xs ys =
     sym (fold-through comb (total_of comb xs) (identity comb) ys)
     ∙ ap (λ t. fold (joined comb) t ys) (total_of-identity comb xs)
     ∙ sym (fold-append (joined comb) (identity comb) xs ys)
 
-pub join-append : (comb : Comb) (xs ys : List Value) → join (tally_of comb xs) (tally_of comb ys) ≡ tally_of comb (xs ++ ys)
+pub join-append : (comb : Comb) (xs ys : List Value)
+    → join (tally_of comb xs) (tally_of comb ys) ≡ tally_of comb (xs ++ ys)
 join-append comb xs ys =
     let number = total_of-append comb xs ys in
     let count = length-append xs ys in
     cc
 
-pub tally_of-IsPermutation : (comb : Comb) (xs ys : List Value) → IsPermutation xs ys → tally_of comb xs ≡ tally_of comb ys
+pub tally_of-IsPermutation : (comb : Comb) (xs ys : List Value) → IsPermutation xs ys
+    → tally_of comb xs ≡ tally_of comb ys
 tally_of-IsPermutation comb xs ys p =
     let number = fold-IsPermutation (joined comb) (turn comb) (identity comb) xs ys p in
     let count = length_permutation xs ys p in
     cc
 
-pub join-assoc : (a b c : Tally) → a.comb ≡ b.comb → b.comb ≡ c.comb → join (join a b) c ≡ join a (join b c)
+pub join-assoc : (a b c : Tally) → a.comb ≡ b.comb → b.comb ≡ c.comb
+    → join (join a b) c ≡ join a (join b c)
 join-assoc a b c same same' =
     let number = merged-assoc a.comb a.number b.number c.number in
     let count : a.count + b.count + c.count ≡ a.count + (b.count + c.count) = omega arith in
@@ -114,12 +124,16 @@ join-comm a b same =
     let count : a.count + b.count ≡ b.count + a.count = omega arith in
     cc
 
-pub fold_total : (comb : Comb) (values : List Value) (t : Tally) → IsFold comb values t → t ≡ tally_of comb values
+pub fold_total : (comb : Comb) (values : List Value) (t : Tally) → IsFold comb values t
+    → t ≡ tally_of comb values
 fold_total comb _ _ none = refl
 fold_total comb _ _ (one v) = refl
 fold_total comb _ _ (both xs ys a b f g) =
-    ap (λ t. join t b) (fold_total comb xs a f) ∙ ap (join (tally_of comb xs)) (fold_total comb ys b g) ∙ join-append comb xs ys
-fold_total comb _ _ (moved xs ys t p f) = fold_total comb xs t f ∙ tally_of-IsPermutation comb xs ys p
+    ap (λ t. join t b) (fold_total comb xs a f)
+    ∙ ap (join (tally_of comb xs)) (fold_total comb ys b g)
+    ∙ join-append comb xs ys
+fold_total comb _ _ (moved xs ys t p f) =
+    fold_total comb xs t f ∙ tally_of-IsPermutation comb xs ys p
 
 abbrev AreOf64Bits : List Value → Type 0
 AreOf64Bits = All (λ v. FitsSigned w64 (number v))
@@ -131,12 +145,16 @@ sum_bounded t k [] fit h = omega (arith, h)
 sum_bounded t k (v ∷ vs) fit h =
     let head = All-head (λ (w : Value). FitsSigned w64 (number w)) v vs fit in
     let more : unsigned_abs (t +ℤ number v) ≤ 2 ^ 63 * (k + 1) = omega (arith, ints, head, h) in
-    let rest = sum_bounded (t +ℤ number v) (k + 1) vs (All-tail (λ (w : Value). FitsSigned w64 (number w)) v vs fit) more in
+    let tail = All-tail (λ (w : Value). FitsSigned w64 (number w)) v vs fit in
+    let rest = sum_bounded (t +ℤ number v) (k + 1) vs tail more in
     omega (arith, rest)
 
-pub tally_of-bounded : (comb : Comb) (values : List Value) → AreOf64Bits values → IsBounded (tally_of comb values)
+pub tally_of-bounded : (comb : Comb) (values : List Value) → AreOf64Bits values
+    → IsBounded (tally_of comb values)
 tally_of-bounded comb values fit is =
-    subst (λ c. unsigned_abs (total_of c values) ≤ 2 ^ 63 * length values) (sym is) (omega (arith, sum_bounded (pos 0) 0 values fit (omega arith)))
+    let sum = sum_bounded (pos 0) 0 values fit (omega arith) in
+    let P : Comb → Type 0 = λ c. unsigned_abs (total_of c values) ≤ 2 ^ 63 * length values in
+    subst P (sym is) (omega (arith, sum))
 
 -- the total of which this is seen
 abbrev remade : Comb → ℤ → ℕ → Total
