@@ -1,0 +1,7 @@
+mod Cases
+pub mod Lists
+pub mod Turns
+pub mod Owners
+pub mod Runs
+pub mod Progress
+pub mod CoreLaw
