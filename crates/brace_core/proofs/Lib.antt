@@ -5,3 +5,4 @@ pub mod Owners
 pub mod Runs
 pub mod Progress
 pub mod CoreLaw
+pub mod LaneLemmas

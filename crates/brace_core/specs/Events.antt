@@ -1,10 +1,10 @@
 -- The exchange of pieces as a machine of events, and what a run of events put, took and left in flight.
-use Rattle.std.specs.Prelude.{◌≡◌, ℕ, ◌+◌, ◌<◌, Bool, true, false, ◌==◌, ◌&&◌, nat_lt, cond, IsTrue, List, [], ◌∷◌, ◌++◌, filter, length, slice_index_or, sum_by}
+use Rattle.std.specs.Prelude.{◌≡◌, ℕ, ◌+◌, ◌<◌, Bool, true, false, ◌==◌, ◌&&◌, nat_lt, cond, IsTrue, List, [], ◌∷◌, ◌++◌, filter, length, sum_by}
 use Rattle.std.specs.List.{list_any, range_with_len}
 use Rattle.brace_core.specs.declared.name.Name.{Name}
 use Rattle.brace_core.specs.declared.name.Turn.{Turn}
 use Rattle.brace_core.specs.declared.name.Turn.TheVariants.{Put, Take, Work, Done}
-use Rattle.brace_core.specs.Schedule.{Schedule, IsLawful, turns}
+use Rattle.brace_core.specs.Schedule.{Schedule, IsLawful, turns, turn_at}
 
 -- how many of its turns each actor has made, and the names in flight in the order in which they were put
 pub record State : Type 0 where
@@ -17,9 +17,8 @@ opening = record { place = λ p. 0; flight = [] }
 abbrev pub is_name : Name → Name → Bool
 is_name a b = a.step == b.step && (a.from == b.from && a.to == b.to)
 
--- an actor's first turn that is left, or Done
 abbrev pub next : Schedule → State → ℕ → Turn
-next s x p = slice_index_or (turns s p) (x.place p) Done
+next s x p = turn_at s p (x.place p)
 
 -- whether a turn can be made: a take where its name is in flight, every other turn at any time
 abbrev pub is_ready : List Name → Turn → Bool

@@ -1,2 +1,5 @@
 pub mod Schedule
 pub mod Events
+pub mod Exchanges
+pub mod Lanes
+pub mod inner

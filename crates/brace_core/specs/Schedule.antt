@@ -1,9 +1,9 @@
 -- Schedules: which actors meet in which step; from that the names of each lane and the turns of each actor.
-use Rattle.std.specs.Prelude.{◌≡◌, ℕ, suc, ◌<◌, ◌≤◌, Bool, false, ◌==◌, ◌&&◌, cond, IsTrue, List, [], ◌∷◌, ◌++◌, map, filter, count_by}
+use Rattle.std.specs.Prelude.{◌≡◌, ℕ, suc, ◌<◌, ◌≤◌, Bool, false, ◌==◌, ◌&&◌, cond, IsTrue, List, [], ◌∷◌, ◌++◌, map, filter, count_by, slice_index_or}
 use Rattle.std.specs.List.{All, list_any, range_with_len}
 use Rattle.brace_core.specs.declared.name.Name.{Name}
 use Rattle.brace_core.specs.declared.name.Turn.{Turn}
-use Rattle.brace_core.specs.declared.name.Turn.TheVariants.{Put, Take, Work}
+use Rattle.brace_core.specs.declared.name.Turn.TheVariants.{Put, Take, Work, Done}
 
 -- an ordered pair of actors
 pub record Pair : Type 0 where
@@ -63,3 +63,7 @@ turns_from k actors (step ∷ steps) p =
 
 abbrev pub turns : Schedule → ℕ → List Turn
 turns s p = turns_from 0 s.actors s.steps p
+
+-- the turn of p after so many: the first that is left, or Done
+abbrev pub turn_at : Schedule → ℕ → ℕ → Turn
+turn_at s p past = slice_index_or (turns s p) past Done

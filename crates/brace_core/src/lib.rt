@@ -1,7 +1,16 @@
 //! The exchange core: actors that follow one schedule and exchange pieces by name, in any order of events.
 #![tactic(auto)]
 
+mod actor;
+mod exchange;
+mod freight;
+mod lane;
 pub mod laws;
+mod lanes;
 mod name;
 
+pub use actor::Actor;
+pub use exchange::Exchange;
+pub use freight::Freight;
+pub use lanes::PlainLanes;
 pub use name::{Name, Turn};

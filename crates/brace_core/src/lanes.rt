@@ -1,0 +1,108 @@
+ghost use Rattle.std.specs.Prelude.{◌≡◌, ◌+◌, ◌*◌, ◌^◌, ◌<◌, ◌≤◌, ℕ, List, [], ◌∷◌, ◌++◌, cond, is_some, nat_lt, length, replicate, IfOk, IfSome, OnSome};
+ghost use Rattle.std.specs.List.{list_any};
+ghost use Rattle.brace_core.specs.declared.name.Name.{Name};
+ghost use Rattle.brace_core.specs.Events.{is_name, without};
+ghost use Rattle.brace_core.specs.Exchanges.{IsNext, one_on};
+ghost use Rattle.brace_core.specs.Lanes.{fresh, lane_of, puts_of, takes_of, AreBelow, AreInFlight};
+
+use crate::lane::Lane;
+use crate::{Exchange, Freight, Name};
+use brace_num::NoMemory;
+use std::alloc::Global;
+use std::marker::Model;
+use std::snapshot::Snapshot;
+
+/// The lanes between all actors, in plain memory.
+#[derive(Drop)]
+pub struct PlainLanes<F: Freight> {
+    setting: Snapshot<F::Setting>,
+    actors: usize,
+    lanes: Vec<Lane<F>>,
+}
+
+impl<F: Freight> Model for PlainLanes<F> {
+    ghost use Rattle.brace_core.specs.Lanes.{OnLanes};
+    ghost use Rattle.brace_core.specs.inner.Sound.{IsSound};
+
+    ghost Value = { OnLanes F F.Setting };
+
+    ghost view = { λ l. record { setting = l.setting.value; actors = l.actors; lanes = l.lanes.items } };
+
+    ghost invariant = { λ l. IsSound F.schedule F.right (record { setting = l.setting.value; actors = l.actors; lanes = l.lanes.items }) };
+}
+
+impl<F: Freight> PlainLanes<F> {
+    /// Lanes for a setting, on which nothing was put. The number of actors is at most 65 and above every number in the names of the
+    /// setting's schedule, which has at most 2^40 steps.
+    pub fn make(
+        alloc: Global,
+        setting: &F::Setting,
+        actors: u32,
+    ) -> Result<PlainLanes<F>, NoMemory>
+        requires few { actors ≤ 65 }
+        requires below { AreBelow (F.schedule setting.now) actors }
+        requires short { length (F.schedule setting.now).steps ≤ 2 ^ 40 }
+        ensures { IfOk result (λ lanes. lanes ≡ record { setting = setting.now; actors = actors; lanes = replicate (actors * actors) fresh }) }
+    {
+        let actors = actors as usize;
+        let mut lanes = Vec::with_capacity(alloc, actors * actors)?;
+        for _ in 0..actors * actors {
+            lanes.push(Lane::new())?;
+        }
+        Ok(PlainLanes {
+            setting: Snapshot::of(setting),
+            actors,
+            lanes,
+        })
+    }
+
+    /// Whether a piece is in flight on the name's lane.
+    pub(crate) fn holds(&self, name: Name) -> bool
+        requires from { name.from < self.now.actors }
+        requires to { name.to < self.now.actors }
+        ensures { result ≡ nat_lt (takes_of self.now name.from name.to) (puts_of self.now name.from name.to) }
+    {
+        !self.lanes[name.from as usize * self.actors + name.to as usize].is_empty()
+    }
+}
+
+impl<F: Freight> Exchange<F> for PlainLanes<F> {
+    ghost use Rattle.brace_core.specs.Lanes.{puts_of, takes_of};
+
+    ghost setting = { λ lanes. lanes.setting };
+
+    ghost serves = { λ lanes a. Unit {0} };
+
+    ghost puts = { puts_of };
+
+    ghost takes = { takes_of };
+
+    fn put(&mut self, name: Name, piece: F)
+        requires next { IsNext (F.schedule self.old.setting) name (puts_of self.old name.from name.to) }
+        requires answered { puts_of self.old name.from name.to ≡ takes_of self.old name.to name.from }
+        requires right { F.right self.old.setting name piece }
+        ensures same { self.new.setting ≡ self.old.setting }
+        ensures actors { self.new.actors ≡ self.old.actors }
+        ensures put { (p q : ℕ) → puts_of self.new p q ≡ puts_of self.old p q + one_on name p q }
+        ensures taken { (p q : ℕ) → takes_of self.new p q ≡ takes_of self.old p q }
+        ensures event { (flight : List Name) → AreInFlight (F.schedule self.old.setting) self.old flight → AreInFlight (F.schedule self.old.setting) self.new (flight ++ name ∷ []) }
+    {
+        let at = name.from as usize * self.actors + name.to as usize;
+        self.lanes[at].put(piece);
+    }
+
+    fn take(&mut self, name: Name) -> Option<F>
+        requires next { IsNext (F.schedule self.old.setting) name (takes_of self.old name.from name.to) }
+        ensures same { self.new.setting ≡ self.old.setting }
+        ensures actors { self.new.actors ≡ self.old.actors }
+        ensures put { (p q : ℕ) → puts_of self.new p q ≡ puts_of self.old p q }
+        ensures taken { (p q : ℕ) → takes_of self.new p q ≡ takes_of self.old p q + cond (is_some result) (one_on name p q) 0 }
+        ensures right { IfSome result (λ piece. F.right self.old.setting name piece) }
+        ensures found { (flight : List Name) → AreInFlight (F.schedule self.old.setting) self.old flight → is_some result ≡ list_any (is_name name) flight }
+        ensures event { (flight : List Name) → AreInFlight (F.schedule self.old.setting) self.old flight → OnSome result (AreInFlight (F.schedule self.old.setting) self.new (without name flight)) }
+        ensures none { is_some result ≡ nat_lt (takes_of self.old name.from name.to) (puts_of self.old name.from name.to) }
+    {
+        let at = name.from as usize * self.actors + name.to as usize;
+        self.lanes[at].take()
+    }
+}
