@@ -34,7 +34,7 @@ module _ (s : Schedule) (events : List ℕ) (lawful : IsLawful s) (run : IsRun s
   taken_is_front : (p q : ℕ) → IsFront (taken_from s events p q) (lane s p q)
   taken_is_front p q = subst (λ names. IsFront names (lane s p q)) (sym (taken_is p q)) (taken_front 0 s.actors s.steps (lawful_steps s lawful) q p ((end_of s events).place q))
 
-  flown_is : (p q : ℕ) → put_on s events p q ≡ taken_from s events p q ++ in_flight s events p q
+  pub flown_is : (p q : ℕ) → put_on s events p q ≡ taken_from s events p q ++ in_flight s events p q
   flown_is p q = put_is p q ∙ kept.flown p q ∙ ap (λ names. names ++ in_flight s events p q) (sym (taken_is p q))
 
 pub put_in_order : OnRuns (λ s events. (p q : ℕ) → put_on s events p q ≡ take (length (put_on s events p q)) (lane s p q))
@@ -153,35 +153,36 @@ pub all_taken : OnRuns (λ s events. AllDone s (end_of s events) → (p q : ℕ)
 all_taken s events lawful run done p q = takes_all s events lawful run done p q
 
 -- in a state that a run can reach, a take whose name was put is ready
-pub put_ready : (s : Schedule) → AreLawful s.actors s.steps → (x : State) → IsKept s x → ArePutReady 0 s.actors s.steps x.place x.flight
-put_ready s lawful x kept p q p_low q_low n at from more =
-    ready (filter (is_on q p) x.flight) refl
+pub take_ready : (s : Schedule) → AreLawful s.actors s.steps → (x : State) → IsKept s x → (p : ℕ) (n : Name) → next s x p ≡ Take n →
+    length (taken_by_now s x n.from p) < length (put_by_now s x n.from p) → list_any (is_name n) x.flight ≡ true
+take_ready s lawful x kept p n at more = ready (filter (is_on n.from p) x.flight) refl
   where
-    own : IsOwn p (next s x p)
-    own = next_own s lawful x p (left_before (turns s p) (x.place p) (λ done. let no : Take n ≡ Done = sym at ∙ done in absurd cc))
-    on : is_on q p n ≡ true
-    on = and_from (n.from == q) (n.to == p) (eq-eqb n.from q from) (eq-eqb n.to p (subst (IsOwn p) at own))
-    longer : taken_by_now s (after s x p) q p ≡ taken_by_now s x q p ++ n ∷ []
+    left : x.place p < length (turns s p)
+    left = left_before (turns s p) (x.place p) (λ done. let no : Take n ≡ Done = sym at ∙ done in absurd cc)
+    on : is_on n.from p n ≡ true
+    on = and_from (n.from == n.from) (n.to == p) (eq-eqb n.from n.from refl) (eq-eqb n.to p (subst (IsOwn p) at (next_own s lawful x p left)))
+    longer : taken_by_now s (after s x p) n.from p ≡ taken_by_now s x n.from p ++ n ∷ []
     longer =
-        taken_more s lawful x p (left_before (turns s p) (x.place p) (λ done. let no : Take n ≡ Done = sym at ∙ done in absurd cc)) q p
-        ∙ ap (λ t. taken_by_now s x q p ++ filter (is_on q p) (names_taken (t ∷ []))) at
-        ∙ ap (λ names. taken_by_now s x q p ++ names) (pick_true (is_on q p n) (n ∷ []) [] on)
-    ready : (flight : List Name) → filter (is_on q p) x.flight ≡ flight → list_any (is_name n) x.flight ≡ true
+        taken_more s lawful x p left n.from p
+        ∙ ap (λ t. taken_by_now s x n.from p ++ filter (is_on n.from p) (names_taken (t ∷ []))) at
+        ∙ ap (λ names. taken_by_now s x n.from p ++ names) (pick_true (is_on n.from p n) (n ∷ []) [] on)
+    ready : (flight : List Name) → filter (is_on n.from p) x.flight ≡ flight → list_any (is_name n) x.flight ≡ true
     ready [] e =
-        let all : put_by_now s x q p ≡ taken_by_now s x q p ++ [] = kept.flown q p ∙ ap (λ names. taken_by_now s x q p ++ names) e in
-        absurd (omega (arith, ap length all, length-append (taken_by_now s x q p) []))
+        let all : put_by_now s x n.from p ≡ taken_by_now s x n.from p ++ [] = kept.flown n.from p ∙ ap (λ names. taken_by_now s x n.from p ++ names) e in
+        absurd (omega (arith, ap length all, length-append (taken_by_now s x n.from p) []))
     ready (m ∷ rest) e =
-        let all : put_by_now s x q p ≡ taken_by_now s x q p ++ m ∷ rest = kept.flown q p ∙ ap (λ names. taken_by_now s x q p ++ names) e in
-        let same : m ≡ n = same_next (taken_by_now s x q p) rest [] (lane s q p) m n
-            (subst (λ names. IsFront names (lane s q p)) all (put_front 0 s.actors s.steps lawful q p (x.place q)))
-            (subst (λ names. IsFront names (lane s q p)) longer (taken_front 0 s.actors s.steps lawful p q ((after s x p).place p))) in
-        first_in_flight q p n x.flight rest (e ∙ ap (λ a. a ∷ rest) same)
+        let all : put_by_now s x n.from p ≡ taken_by_now s x n.from p ++ m ∷ rest = kept.flown n.from p ∙ ap (λ names. taken_by_now s x n.from p ++ names) e in
+        let same : m ≡ n = same_next (taken_by_now s x n.from p) rest [] (lane s n.from p) m n
+            (subst (λ names. IsFront names (lane s n.from p)) all (put_front 0 s.actors s.steps lawful n.from p (x.place n.from)))
+            (subst (λ names. IsFront names (lane s n.from p)) longer (taken_front 0 s.actors s.steps lawful p n.from ((after s x p).place p))) in
+        first_in_flight n.from p n x.flight rest (e ∙ ap (λ a. a ∷ rest) same)
 
 -- in such a state all actors are Done, or an event is enabled
 pub can_go_on : (s : Schedule) → AreLawful s.actors s.steps → (x : State) → IsKept s x → AllDone s x ⊎ ((p : ℕ) × IsTrue (is_enabled s x p))
 can_go_on s lawful x kept = elim (search_below s.actors (λ p. nat_lt (x.place p) (length (turns s p)))) [
   | inl (p, low, left) ↦
-      let (a, a_low, ready) = progress_from 0 s.actors s.steps lawful x.place x.flight (put_ready s lawful x kept) (p, low, ltb-true _ _ left) in
+      let (a, a_low, ready) = progress_from 0 s.actors s.steps lawful x.place x.flight (λ a b a_low b_low n at from more.
+          take_ready s lawful x kept a n at (subst (λ b. length (taken_by_now s x b a) < length (put_by_now s x b a)) (sym from) more)) (p, low, ltb-true _ _ left) in
       inr (a, and_from (nat_lt a s.actors) _ (lt-ltb _ _ a_low) ready)
   | inr none ↦ inl (λ p low. get_or_past (turns s p) (x.place p) Done (ltb-false _ _ (none p low)))
 ]

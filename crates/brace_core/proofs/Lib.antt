@@ -6,3 +6,6 @@ pub mod Runs
 pub mod Progress
 pub mod CoreLaw
 pub mod LaneLemmas
+pub mod Calls
+pub mod ActorLemmas
+pub mod OrderLemmas

@@ -56,13 +56,20 @@ impl<F: Freight> PlainLanes<F> {
         })
     }
 
+    /// How many actors these lanes are for.
+    pub fn actors(&self) -> usize
+        ensures count { result ≡ self.now.actors }
+        ensures few { result ≤ 65 }
+    {
+        self.actors
+    }
+
     /// Whether a piece is in flight on the name's lane.
     pub(crate) fn holds(&self, name: Name) -> bool
-        requires from { name.from < self.now.actors }
-        requires to { name.to < self.now.actors }
         ensures { result ≡ nat_lt (takes_of self.now name.from name.to) (puts_of self.now name.from name.to) }
     {
-        !self.lanes[name.from as usize * self.actors + name.to as usize].is_empty()
+        let at = name.from as usize * self.actors + name.to as usize;
+        (name.to as usize) < self.actors && self.lanes.get(at).is_some_and(|lane| !lane.is_empty())
     }
 }
 

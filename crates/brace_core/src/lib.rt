@@ -8,9 +8,11 @@ mod lane;
 pub mod laws;
 mod lanes;
 mod name;
+mod order;
 
 pub use actor::Actor;
 pub use exchange::Exchange;
 pub use freight::Freight;
 pub use lanes::PlainLanes;
 pub use name::{Name, Turn};
+pub use order::run_in_order;
