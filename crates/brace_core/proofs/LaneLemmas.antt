@@ -7,10 +7,11 @@ use Rattle.std.proofs.lemmas.List.Elements.{filter-append}
 use Rattle.std.proofs.lemmas.Nat.{mul-add-lt, same_from_place}
 use Rattle.std.proofs.lemmas.Option.{slice_get_within, slice_get_past, get_or_from_slice_get}
 use Rattle.brace_core.specs.declared.name.Name.{Name}
+use Rattle.brace_core.specs.declared.name.Turn.TheVariants.{Put, Take}
 use Rattle.brace_core.specs.Schedule.{Pair, Schedule, meets, name, names_from, lane}
 use Rattle.brace_core.specs.Events.{is_name, is_on, without}
 use Rattle.brace_core.specs.Exchanges.{IsNext, one_on}
-use Rattle.brace_core.specs.Lanes.{OnLane, OnLanes, fresh, lane_of, puts_of, takes_of, AreBelow, AreInFlight}
+use Rattle.brace_core.specs.Lanes.{OnLane, OnLanes, fresh, lane_of, puts_of, takes_of, AreBelow, AreInFlight, MakesTurn}
 use Rattle.brace_core.specs.inner.Sound.{IsSound}
 use Rattle.brace_core.proofs.Lists.{pick_true, pick_false}
 use Rattle.brace_core.proofs.Runs.{without_first, without_elsewhere, some_in_flight, first_in_flight}
@@ -273,7 +274,7 @@ pub record IsPutDone {F S : Type 0} (schedule : S → Schedule) (right : S → N
   pub actors : w.actors ≡ v.actors
   pub puts : (p q : ℕ) → puts_of w p q ≡ puts_of v p q + one_on name p q
   pub takes : (p q : ℕ) → takes_of w p q ≡ takes_of v p q
-  pub event : (flight : List Name) → AreInFlight (schedule v.setting) v flight → AreInFlight (schedule v.setting) w (flight ++ name ∷ [])
+  pub event : MakesTurn (schedule v.setting) v w (Put name)
 
 -- what is left of a lane after a take that answers out
 pub record IsTakeDone {F S : Type 0} (schedule : S → Schedule) (right : S → Name → F → Type 0) (v w : OnLanes F S) (name : Name) (out : Option F) : Type 0 where
@@ -284,7 +285,7 @@ pub record IsTakeDone {F S : Type 0} (schedule : S → Schedule) (right : S → 
   pub takes : (p q : ℕ) → takes_of w p q ≡ takes_of v p q + cond (is_some out) (one_on name p q) 0
   pub is_right : IfSome out (λ x. right v.setting name x)
   pub found : (flight : List Name) → AreInFlight (schedule v.setting) v flight → is_some out ≡ list_any (is_name name) flight
-  pub event : (flight : List Name) → AreInFlight (schedule v.setting) v flight → OnSome out (AreInFlight (schedule v.setting) w (without name flight))
+  pub event : OnSome out (MakesTurn (schedule v.setting) v w (Take name))
   pub none : is_some out ≡ nat_lt (takes_of v name.from name.to) (puts_of v name.from name.to)
 
 module _ {F S : Type 0} (schedule : S → Schedule) (right : S → Name → F → Type 0) (V v : OnLanes F S) (is : V ≡ v) (sound : IsSound schedule right V) (name : Name)
@@ -343,7 +344,7 @@ module _ {F S : Type 0} (schedule : S → Schedule) (right : S → Name → F �
             takes = λ p q. omega arith;
             is_right = tt;
             found = λ flight shown. sym (take_missed schedule right V sound name (ap (λ (l : OnLane F). l.pieces) (sym (lane_read from to)) ∙ empty) flight shown);
-            event = λ flight shown. tt;
+            event = tt;
             none = sym (le-ltb _ _ (omega (arith, ap length (ap (λ (l : OnLane F). l.pieces) (sym (lane_read from to)) ∙ empty))))
           })
       go (Some x) n taken pieces found next = let (from, to) = next_below schedule right V sound name _ next in

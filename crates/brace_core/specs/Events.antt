@@ -1,12 +1,12 @@
 -- The exchange of pieces as a machine of events, and what a run of events put, took and left in flight.
-use Rattle.std.specs.Prelude.{◌≡◌, ℕ, ◌+◌, ◌<◌, Bool, true, false, ◌==◌, ◌&&◌, nat_lt, cond, IsTrue, List, [], ◌∷◌, ◌++◌, filter, length, sum_by}
+use Rattle.std.specs.Prelude.{◌≡◌, ℕ, ◌+◌, ◌<◌, Bool, true, false, ◌==◌, ◌&&◌, nat_lt, cond, IsTrue, List, [], ◌∷◌, ◌++◌, filter, length, take, slice_index_or, sum_by}
 use Rattle.std.specs.List.{list_any, range_with_len}
 use Rattle.brace_core.specs.declared.name.Name.{Name}
 use Rattle.brace_core.specs.declared.name.Turn.{Turn}
 use Rattle.brace_core.specs.declared.name.Turn.TheVariants.{Put, Take, Work, Done}
 use Rattle.brace_core.specs.Schedule.{Schedule, IsLawful, turns, turn_at}
 
--- how many of its turns each actor has made, and the names in flight in the order in which they were put
+-- how many of its turns each actor has made, and the names in flight in the order of their puts
 pub record State : Type 0 where
   pub place : ℕ → ℕ
   pub flight : List Name
@@ -96,7 +96,7 @@ OnRuns P = (s : Schedule) (events : List ℕ) → IsLawful s → IsRun s events 
 abbrev pub end_of : Schedule → List ℕ → State
 end_of s events = after_all s opening events
 
--- the names that a run put on the lane from p to q, that it took from it, and that it left in flight there
+-- the names that a run put on the lane from p to q, took from it, and left in flight on it
 abbrev pub put_on : Schedule → List ℕ → ℕ → ℕ → List Name
 put_on s events p q = filter (is_on p q) (names_put (turns_made s opening events))
 
@@ -105,6 +105,15 @@ taken_from s events p q = filter (is_on p q) (names_taken (turns_made s opening 
 
 abbrev pub in_flight : Schedule → List ℕ → ℕ → ℕ → List Name
 in_flight s events p q = filter (is_on p q) (end_of s events).flight
+
+-- the names are the first of all
+abbrev pub AreFirst : List Name → List Name → Type 0
+AreFirst names all = names ≡ take (length names) all
+
+-- each name has a later step than those before it
+abbrev pub RiseByStep : List Name → Type 0
+RiseByStep names = (i j : ℕ) (d : Name) → i < j → j < length names →
+    (slice_index_or names i d).step < (slice_index_or names j d).step
 
 -- how many turns all actors have
 abbrev pub turns_of_all : Schedule → ℕ

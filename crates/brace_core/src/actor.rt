@@ -31,8 +31,11 @@ pub trait Actor<F: Freight> {
 
     /// The piece of the name that it puts next. It is asked after `next` gave Put.
     fn piece(&mut self) -> F
-        requires { IsPut (turn_at (F.schedule (setting self.old)) (number self.old) (past self.old)) }
-        ensures right { (name : Name) → turn_at (F.schedule (setting self.old)) (number self.old) (past self.old) ≡ Put name → F.right (setting self.old) name result }
+        requires {
+            IsPut (turn_at (F.schedule (setting self.old)) (number self.old) (past self.old)) }
+        ensures right { (name : Name) →
+            turn_at (F.schedule (setting self.old)) (number self.old) (past self.old) ≡ Put name →
+            F.right (setting self.old) name result }
         ensures goes_on { past self.new ≡ past self.old + 1 }
         ensures same_setting { setting self.new ≡ setting self.old }
         ensures same_number { number self.new ≡ number self.old }
@@ -40,8 +43,11 @@ pub trait Actor<F: Freight> {
 
     /// Hands it the piece of the name that it takes next, after `next` gave Take.
     fn give(&mut self, piece: F)
-        requires turn { IsTake (turn_at (F.schedule (setting self.old)) (number self.old) (past self.old)) }
-        requires right { (name : Name) → turn_at (F.schedule (setting self.old)) (number self.old) (past self.old) ≡ Take name → F.right (setting self.old) name piece }
+        requires turn {
+            IsTake (turn_at (F.schedule (setting self.old)) (number self.old) (past self.old)) }
+        requires right { (name : Name) →
+            turn_at (F.schedule (setting self.old)) (number self.old) (past self.old) ≡ Take name →
+            F.right (setting self.old) name piece }
         ensures goes_on { past self.new ≡ past self.old + 1 }
         ensures same_setting { setting self.new ≡ setting self.old }
         ensures same_number { number self.new ≡ number self.old }

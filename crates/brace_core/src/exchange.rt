@@ -19,7 +19,8 @@ pub trait Exchange<F: Freight> {
     /// How many names it took from the lane from an actor to another.
     ghost takes: { Self → ℕ → ℕ → ℕ };
 
-    /// Puts the piece of a name, the next of its lane, where as many names were taken of the opposite lane as were put on this one.
+    /// Puts the piece of a name, the next of its lane, where as many names were put on this lane as
+    /// were taken from the opposite lane.
     fn put(&mut self, name: Name, piece: F)
         requires served { serves self.old name.from }
         requires next { IsNext (F.schedule (setting self.old)) name (puts self.old name.from name.to) }
@@ -37,6 +38,7 @@ pub trait Exchange<F: Freight> {
         ensures same { setting self.new ≡ setting self.old }
         ensures serving { (a : ℕ) → serves self.old a → serves self.new a }
         ensures put { (p q : ℕ) → puts self.new p q ≡ puts self.old p q }
-        ensures taken { (p q : ℕ) → takes self.new p q ≡ takes self.old p q + cond (is_some result) (one_on name p q) 0 }
+        ensures taken { (p q : ℕ) →
+            takes self.new p q ≡ takes self.old p q + cond (is_some result) (one_on name p q) 0 }
         ensures right { IfSome result (λ piece. F.right (setting self.old) name piece) };
 }

@@ -1,9 +1,9 @@
 -- When an actor can make a turn at plain lanes, and what that changes there.
-use Rattle.std.specs.Prelude.{◌≡◌, ℕ, ◌+◌, ◌%◌, ◌<◌, Bool, true, false, nat_lt, IsTrue, [], ◌∷◌, filter, length}
+use Rattle.std.specs.Prelude.{◌≡◌, ℕ, ◌+◌, ◌%◌, ◌<◌, Bool, true, false, nat_lt, IsTrue, List, [], ◌∷◌, filter, length, slice_index}
 use Rattle.brace_core.specs.declared.name.Name.{Name}
 use Rattle.brace_core.specs.declared.name.Turn.{Turn}
 use Rattle.brace_core.specs.declared.name.Turn.TheVariants.{Put, Take, Work, Done}
-use Rattle.brace_core.specs.Schedule.{Schedule}
+use Rattle.brace_core.specs.Schedule.{Schedule, turn_at}
 use Rattle.brace_core.specs.Events.{is_on, names_put, names_taken}
 use Rattle.brace_core.specs.Exchanges.{IsNext}
 use Rattle.brace_core.specs.Lanes.{OnLanes, puts_of, takes_of}
@@ -34,6 +34,14 @@ put_by turn p q = length (filter (is_on p q) (names_put (turn ∷ [])))
 
 abbrev pub taken_by : Turn → ℕ → ℕ → ℕ
 taken_by turn p q = length (filter (is_on p q) (names_taken (turn ∷ [])))
+
+-- whether actor a, of actors that have made so many turns each, can make its next turn
+abbrev pub can_go_on : {F S : Type 0} → Schedule → OnLanes F S → List ℕ → ℕ → Bool
+can_go_on s v pasts a = can_make v (turn_at s a (slice_index pasts a))
+
+-- none of n numbers passes a test, from a drawn number onward, cyclically
+abbrev pub NoneFrom : (ℕ → Bool) → ℕ → ℕ → Type 0
+NoneFrom test n drawn = (i : ℕ) → i < n → test ((drawn + i) % n) ≡ false
 
 -- p is the first of n numbers that passes a test, from a drawn number onward, cyclically
 pub record IsFirst (test : ℕ → Bool) (n drawn p : ℕ) : Type 0 where

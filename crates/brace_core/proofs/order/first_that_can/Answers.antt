@@ -1,6 +1,5 @@
-use Rattle.std.proofs.Common.{◌+◌, ◌%◌, ◌<◌, map, slice_index, sym, ap, ◌∙◌, arith}
-use Rattle.brace_core.specs.Schedule.{turn_at}
-use Rattle.brace_core.specs.inner.Turns.{can_make}
+use Rattle.std.proofs.Common.{◌+◌, ◌%◌, ◌<◌, map, sym, ap, ◌∙◌, arith}
+use Rattle.brace_core.specs.inner.Turns.{can_make, can_go_on}
 use Rattle.brace_core.proofs.ActorLemmas.{count, turn_is, found_first, passed_more}
 use Rattle.brace_core.proofs.order.first_that_can.Goals as goal
 
@@ -10,23 +9,23 @@ offset_bounds-actors-number g c = omega (arith, count g.A.Actor.setting g.A.Acto
 pub bounds-actors-number : goal.bounds-actors-number
 bounds-actors-number g c = omega (arith, count g.A.Actor.setting g.A.Actor.number g.A.Actor.past g.F.Freight.schedule c.args.actors.now c.args.lanes.now.setting c.args.lanes.now.actors c.requires.settings c.requires.numbers)
 
-pub returns-then-can_go_on-clause-below : goal.returns-then-can_go_on-clause-below
-returns-then-can_go_on-clause-below g c = omega (arith, count g.A.Actor.setting g.A.Actor.number g.A.Actor.past g.F.Freight.schedule c.args.actors.now c.args.lanes.now.setting c.args.lanes.now.actors c.requires.settings c.requires.numbers)
+pub returns-then-is_free-clause-below : goal.returns-then-is_free-clause-below
+returns-then-is_free-clause-below g c = omega (arith, count g.A.Actor.setting g.A.Actor.number g.A.Actor.past g.F.Freight.schedule c.args.actors.now c.args.lanes.now.setting c.args.lanes.now.actors c.requires.settings c.requires.numbers)
 
-pub returns-then-can_go_on-clause-first : goal.returns-then-can_go_on-clause-first
-returns-then-can_go_on-clause-first g c =
+pub returns-then-is_free-clause-first : goal.returns-then-is_free-clause-first
+returns-then-is_free-clause-first g c =
     let low : (c.args.drawn + c.loop-i.i) % c.actors-count.result < c.args.lanes.now.actors = omega arith in
     let turn = turn_is g.A.Actor.setting g.A.Actor.number g.A.Actor.past g.F.Freight.schedule c.args.actors.now c.args.lanes.now.setting c.args.lanes.now.actors c.requires.settings c.requires.numbers
         _ low c.index-actors-number.result c.index-actors-number.is in
-    found_first (λ a. can_make c.args.lanes.now (turn_at (g.F.Freight.schedule c.args.lanes.now.setting) a (slice_index (map g.A.Actor.past c.args.actors.now) a)))
+    found_first (can_go_on (g.F.Freight.schedule c.args.lanes.now.setting) c.args.lanes.now (map g.A.Actor.past c.args.actors.now))
         c.args.lanes.now.actors c.actors-count.result c.args.drawn c.loop-i.i c.actors-count.ensures.count c.loop-i-test.true c.loop-i.invariant
-        (ap (can_make c.args.lanes.now) (sym turn) ∙ sym c.can_go_on.ensures ∙ c.if-can_go_on.true)
+        (ap (can_make c.args.lanes.now) (sym turn) ∙ sym c.is_free.ensures ∙ c.if-is_free.true)
 
 pub loop-i-preserved : goal.loop-i-preserved
 loop-i-preserved g c =
     let low : (c.args.drawn + c.loop-i.i) % c.actors-count.result < c.args.lanes.now.actors = omega arith in
     let turn = turn_is g.A.Actor.setting g.A.Actor.number g.A.Actor.past g.F.Freight.schedule c.args.actors.now c.args.lanes.now.setting c.args.lanes.now.actors c.requires.settings c.requires.numbers
         _ low c.index-actors-number.result c.index-actors-number.is in
-    passed_more (λ a. can_make c.args.lanes.now (turn_at (g.F.Freight.schedule c.args.lanes.now.setting) a (slice_index (map g.A.Actor.past c.args.actors.now) a)))
+    passed_more (can_go_on (g.F.Freight.schedule c.args.lanes.now.setting) c.args.lanes.now (map g.A.Actor.past c.args.actors.now))
         c.args.lanes.now.actors c.actors-count.result c.args.drawn c.loop-i.i c.actors-count.ensures.count c.loop-i-test.true c.loop-i.invariant
-        (ap (can_make c.args.lanes.now) (sym turn) ∙ sym c.can_go_on.ensures ∙ c.if-can_go_on.false)
+        (ap (can_make c.args.lanes.now) (sym turn) ∙ sym c.is_free.ensures ∙ c.if-is_free.false)
