@@ -1,17 +1,9 @@
--- A schedule of four steps, computed: two parts meet in three steps, and both meet a publisher in the fourth.
+-- The small schedule, computed.
 use Rattle.std.proofs.Common.{◌≡◌, ℕ, true, false, List, [], ◌∷◌, length, refl}
 use Rattle.brace_core.specs.declared.name.Turn.TheVariants.{Put, Take, Work, Done}
-use Rattle.brace_core.specs.Schedule.{Pair, Schedule, name, lane, turns}
+use Rattle.brace_core.specs.Schedule.{name, lane, turns}
+use Rattle.brace_core.specs.inner.Small.{small}
 use Rattle.brace_core.specs.Events.{opening, are_enabled, in_flight, put_on, taken_from, turns_of_all}
-
-abbrev pair : ℕ → ℕ → Pair
-pair p q = record { from = p; to = q }
-
-abbrev parts : List Pair
-parts = pair 0 1 ∷ pair 1 0 ∷ []
-
-abbrev small : Schedule
-small = record { actors = 3; steps = parts ∷ parts ∷ parts ∷ (pair 0 2 ∷ pair 2 0 ∷ pair 1 2 ∷ pair 2 1 ∷ []) ∷ [] }
 
 events_count : turns_of_all small ≡ 32
 events_count = refl

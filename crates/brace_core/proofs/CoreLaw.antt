@@ -111,7 +111,7 @@ lane_outside k actors (step ∷ steps) lawful p q h =
     let none : meets step p q ≡ false = lawful.0.both_ways p q ∙ meets_below actors step lawful.0 q p h in
     pick_false (meets step p q) _ _ none ∙ lane_outside (suc k) actors steps lawful.1 p q h
 
-lane_outside_to : (k actors : ℕ) (steps : List (List Pair)) → AreLawful actors steps → (p q : ℕ) → actors ≤ q → names_from k steps p q ≡ []
+pub lane_outside_to : (k actors : ℕ) (steps : List (List Pair)) → AreLawful actors steps → (p q : ℕ) → actors ≤ q → names_from k steps p q ≡ []
 lane_outside_to k actors [] lawful p q h = refl
 lane_outside_to k actors (step ∷ steps) lawful p q h =
     pick_false (meets step p q) _ _ (meets_below actors step lawful.0 p q h) ∙ lane_outside_to (suc k) actors steps lawful.1 p q h

@@ -9,3 +9,5 @@ pub mod LaneLemmas
 pub mod Calls
 pub mod ActorLemmas
 pub mod OrderLemmas
+pub mod Lawful
+pub mod SmallLawful

@@ -1,2 +1,3 @@
+pub mod Small
 pub mod Sound
 pub mod Turns

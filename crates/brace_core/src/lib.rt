@@ -9,6 +9,8 @@ pub mod laws;
 mod lanes;
 mod name;
 mod order;
+#[cfg(test)]
+mod tests;
 
 pub use actor::Actor;
 pub use exchange::Exchange;
