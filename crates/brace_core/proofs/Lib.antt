@@ -1,0 +1,13 @@
+mod Cases
+pub mod Lists
+pub mod Turns
+pub mod Owners
+pub mod Runs
+pub mod Progress
+pub mod CoreLaw
+pub mod LaneLemmas
+pub mod Calls
+pub mod ActorLemmas
+pub mod OrderLemmas
+pub mod Lawful
+pub mod SmallLawful

@@ -1,0 +1,266 @@
+-- The loop over drawn events: where actors and lanes stand after a run, one event more, and the end.
+use Rattle.std.proofs.Common.{◌≡◌, ℕ, zero, suc, ◌+◌, ◌-◌, ◌*◌, ◌/◌, ◌%◌, ◌^◌, ◌<◌, ◌≤◌, ◌⊎◌, Bool, true, false, cond, ◌==◌, ◌&&◌, nat_lt, IsTrue, List, [], ◌∷◌, ◌++◌, map, length, get_or, set, slice_index, refl, sym, ap, ◌∙◌, subst, arith, inl, inr}
+use Rattle.std.specs.List.{All, filter, list_any, range_with_len, sum_by}
+use Rattle.std.proofs.lemmas.Bool.{eq-eqb, ne_eqb, and_parts, and_from, lt-ltb, ltb-true, cases_lt, cases_eq}
+use Rattle.std.proofs.lemmas.List.{get_or-set_same, get_or-set_other, length-map, map-set, get_or_default}
+use Rattle.std.proofs.lemmas.List.Sums.{sum_by-set}
+use Rattle.std.proofs.lemmas.Nat.{mod-mul-add}
+use Rattle.brace_num.specs.Generator.{following}
+use Rattle.brace_core.specs.declared.name.Name.{Name}
+use Rattle.brace_core.specs.declared.name.Turn.{Turn}
+use Rattle.brace_core.specs.declared.name.Turn.TheVariants.{Put, Take, Work, Done}
+use Rattle.brace_core.specs.Schedule.{Schedule, IsLawful, lane, turns, turn_at}
+use Rattle.brace_core.specs.Events.{State, opening, is_name, next, is_ready, is_enabled, after, AllDone, IsRun, end_of, put_on, taken_from}
+use Rattle.brace_core.specs.Exchanges.{IsNext}
+use Rattle.brace_core.specs.Lanes.{OnLanes, puts_of, takes_of}
+use Rattle.brace_core.specs.Order.{IsChosen, IsDrawn, none, one_more, StandsAfter, HasRun}
+use Rattle.brace_core.specs.inner.Turns.{can_make, IsAllowed, IsFirst, put_by, taken_by}
+use Rattle.brace_core.proofs.ActorLemmas.{count, setting_at, past_at, turn_is, all_set, map_kept}
+use Rattle.brace_core.proofs.Lists.{pick_true, pick_false}
+use Rattle.brace_core.proofs.Owners.{left_before}
+use Rattle.brace_core.proofs.CoreLaw.{progress, all_put, all_taken}
+use Rattle.brace_core.proofs.Calls.{put_is_next, put_is_answered, take_is_next, take_is_found, end_more, run_more, put_on_more, taken_from_more}
+
+pub drawn_run : (s : Schedule) (order : ℕ) (events : List ℕ) (g : ℕ) → IsDrawn s order events g → IsRun s events
+drawn_run s order [] g none = refl
+drawn_run s order _ _ (one_more events g p drawn chosen) = run_more s opening events p (drawn_run s order events g drawn) chosen.enabled
+
+-- from a drawn number onward each number is met
+pub met_from : (drawn n p : ℕ) → p < n → (i : ℕ) × (i < n) × ((drawn + i) % n ≡ p)
+met_from drawn n p low =
+    let r : ℕ = drawn % n in
+    elim (cases_lt p r) [
+      | inl before ↦ (n + p - r, omega arith,
+          (let is : drawn + (n + p - r) ≡ (drawn / n + 1) * n + p = omega arith in ap (λ m. m % n) is) ∙ mod-mul-add (drawn / n + 1) n p low)
+      | inr behind ↦ (p - r, omega arith,
+          (let is : drawn + (p - r) ≡ (drawn / n) * n + p = omega arith in ap (λ m. m % n) is) ∙ mod-mul-add (drawn / n) n p low)
+    ]
+
+not_done : {F S : Type 0} (v : OnLanes F S) (t : Turn) → can_make v t ≡ true → t ≡ Done → ⊥
+not_done v t can done = let no : false ≡ true = ap (can_make v) (sym done) ∙ can in absurd cc
+
+module _ {F S : Type 0} (s : Schedule) (lawful : IsLawful s) (order : ℕ) (pasts : List ℕ) (v : OnLanes F S) (has : HasRun s order pasts (puts_of v) (takes_of v)) where
+  run : IsRun s has.events
+  run = drawn_run s order has.events has.last has.drawn
+
+  abbrev x : State
+  x = end_of s has.events
+
+  abbrev turn : ℕ → Turn
+  turn p = turn_at s p (slice_index pasts p)
+
+  turn_now : (p : ℕ) → p < s.actors → next s x p ≡ turn p
+  turn_now p low = ap (turn_at s p) (sym (has.stands.places p low))
+
+  ready_is : (p : ℕ) (t : Turn) → next s x p ≡ t → is_ready x.flight t ≡ can_make v t
+  ready_is p (Put n) is = refl
+  ready_is p (Take n) is =
+      take_is_found s has.events lawful run p n is
+      ∙ ap (λ k. nat_lt k (length (put_on s has.events n.from n.to))) (sym (has.stands.taken n.from n.to))
+      ∙ ap (nat_lt (takes_of v n.from n.to)) (sym (has.stands.put n.from n.to))
+  ready_is p Work is = refl
+  ready_is p Done is = refl
+
+  pub enabled_is : (p : ℕ) → p < s.actors → is_enabled s x p ≡ can_make v (turn p)
+  enabled_is p low =
+      ap (λ b. b && is_ready x.flight (next s x p)) (lt-ltb _ _ low)
+      ∙ ap (is_ready x.flight) (turn_now p low) ∙ ready_is p (turn p) (turn_now p low)
+
+  pub allowed : (p : ℕ) → p < s.actors → can_make v (turn p) ≡ true → IsAllowed s v (turn p)
+  allowed p low can = go (turn p) (turn_now p low) can
+    where
+      go : (t : Turn) → next s x p ≡ t → can_make v t ≡ true → IsAllowed s v t
+      go (Put n) is can = record {
+        next = subst (IsNext s n) (sym (has.stands.put n.from n.to)) (put_is_next s has.events lawful run p n is);
+        answered = has.stands.put n.from n.to ∙ put_is_answered s has.events lawful run p n is ∙ sym (has.stands.taken n.to n.from)
+      }
+      go (Take n) is can = record { next = subst (IsNext s n) (sym (has.stands.taken n.from n.to)) (take_is_next s has.events lawful run p n is); found = can }
+      go Work is can = tt
+      go Done is can = absurd cc
+
+  pub is_left : (p : ℕ) → can_make v (turn p) ≡ true → slice_index pasts p < length (turns s p)
+  is_left p can = left_before (turns s p) (slice_index pasts p) (not_done v (turn p) can)
+
+  chosen : (drawn p : ℕ) → IsFirst (λ a. can_make v (turn a)) s.actors drawn p → IsChosen s x drawn p
+  chosen drawn p first =
+      let low : p < s.actors = let is : p ≡ (drawn + first.steps) % s.actors = first.is in let some : first.steps < s.actors = first.within in omega arith in
+      record {
+        steps = first.steps;
+        within = first.within;
+        actor = first.is;
+        enabled = enabled_is p low ∙ first.passes;
+        first = λ i l.
+          let below : (drawn + i) % s.actors < s.actors = let some : first.steps < s.actors = first.within in omega arith in
+          enabled_is ((drawn + i) % s.actors) below ∙ first.first i l
+      }
+
+  -- the state after the event that was chosen
+  pub has_more : (p : ℕ) → IsFirst (λ a. can_make v (turn a)) s.actors (following has.last) p → (pasts' : List ℕ) (w : OnLanes F S) → length pasts ≡ s.actors →
+      pasts' ≡ set pasts p (slice_index pasts p + 1) →
+      ((a b : ℕ) → puts_of w a b ≡ puts_of v a b + put_by (turn p) a b) → ((a b : ℕ) → takes_of w a b ≡ takes_of v a b + taken_by (turn p) a b) →
+      (h : HasRun s order pasts' (puts_of w) (takes_of w)) × (h.last ≡ following has.last)
+  has_more p first pasts' w all now put taken = (record { events = has.events ++ p ∷ []; last = following has.last; drawn = one_more has.events has.last p has.drawn (chosen (following has.last) p first); stands = stands }, refl)
+    where
+      low : p < s.actors
+      low = let is : p ≡ (following has.last + first.steps) % s.actors = first.is in let some : first.steps < s.actors = first.within in omega arith
+      places : (q : ℕ) → q < s.actors → slice_index pasts' q ≡ (end_of s (has.events ++ p ∷ [])).place q
+      places q q_low =
+          let end : (end_of s (has.events ++ p ∷ [])).place q ≡ cond (q == p) (x.place q + 1) (x.place q) = ap (λ (y : State). y.place q) (end_more s opening has.events p) in
+          elim (cases_eq q p) [
+            | inl same ↦
+                ap (λ (ns : List ℕ). get_or ns q 0) now
+                ∙ ap (λ a. get_or (set pasts p (slice_index pasts p + 1)) a 0) same
+                ∙ get_or-set_same pasts p (slice_index pasts p + 1) 0 (omega arith)
+                ∙ ap (λ n. n + 1) (has.stands.places p low)
+                ∙ ap (λ a. x.place a + 1) (sym same)
+                ∙ sym (end ∙ pick_true (q == p) _ _ (eq-eqb q p same))
+            | inr other ↦
+                ap (λ (ns : List ℕ). get_or ns q 0) now
+                ∙ get_or-set_other pasts p q (slice_index pasts p + 1) 0 other
+                ∙ has.stands.places q q_low
+                ∙ sym (end ∙ pick_false (q == p) _ _ (ne_eqb q p other))
+          ]
+      stands : StandsAfter s (has.events ++ p ∷ []) pasts' (puts_of w) (takes_of w)
+      stands = record {
+        places = places;
+        put = λ a b. put a b ∙ ap (λ n. n + put_by (turn p) a b) (has.stands.put a b)
+            ∙ ap (λ t. length (put_on s has.events a b) + put_by t a b) (sym (turn_now p low)) ∙ sym (put_on_more s has.events p a b);
+        taken = λ a b. taken a b ∙ ap (λ n. n + taken_by (turn p) a b) (has.stands.taken a b)
+            ∙ ap (λ t. length (taken_from s has.events a b) + taken_by t a b) (sym (turn_now p low)) ∙ sym (taken_from_more s has.events p a b)
+      }
+
+  -- where no actor can go on, all are Done
+  module _ (drawn : ℕ) (none_can : (i : ℕ) → i < s.actors → can_make v (turn ((drawn + i) % s.actors)) ≡ false) where
+    all_done : AllDone s x
+    all_done = elim (progress s has.events lawful run) [
+      | inl done ↦ done
+      | inr (p, enabled) ↦ absurd (
+          let (in_range, ready) = and_parts (nat_lt p s.actors) (is_ready x.flight (next s x p)) enabled in
+          let low : p < s.actors = ltb-true _ _ in_range in
+          let (i, i_low, at) = met_from drawn s.actors p low in
+          let can : can_make v (turn p) ≡ true = sym (enabled_is p low) ∙ enabled in
+          let cannot : can_make v (turn p) ≡ false = ap (λ a. can_make v (turn a)) (sym at) ∙ none_can i i_low in
+          cc)
+    ]
+
+    pub turns_done : (p : ℕ) → p < s.actors → turn p ≡ Done
+    turns_done p low = sym (turn_now p low) ∙ all_done p low
+
+    pub puts_done : (p q : ℕ) → puts_of v p q ≡ length (lane s p q)
+    puts_done p q = has.stands.put p q ∙ ap length (all_put s has.events lawful run all_done p q)
+
+    pub takes_done : (p q : ℕ) → takes_of v p q ≡ length (lane s p q)
+    takes_done p q = has.stands.taken p q ∙ ap length (all_taken s has.events lawful run all_done p q)
+
+-- before the first event
+pub has_none : {F S : Type 0} (s : Schedule) (order : ℕ) (pasts : List ℕ) (v : OnLanes F S) → ((p : ℕ) → p < s.actors → slice_index pasts p ≡ 0) → ((p q : ℕ) → puts_of v p q ≡ 0) →
+    (h : HasRun s order pasts (puts_of v) (takes_of v)) × (h.last ≡ order % 2 ^ 32)
+has_none s order pasts v first nothing = (record { events = []; last = order % 2 ^ 32; drawn = none; stands = record { places = first; put = nothing; taken = λ p q. omega (arith, nothing p q) } }, refl)
+
+-- how many turns an actor has left
+abbrev pub turns_left : {A S : Type 0} → (A → S) → (A → ℕ) → (A → ℕ) → (S → Schedule) → A → ℕ
+turns_left setting number past schedule a = length (turns (schedule (setting a)) (number a)) - past a
+
+-- What the loop keeps.
+module _ {F S A O : Type 0} (setting : A → S) (number past : A → ℕ) (opening : A → O) (schedule : S → Schedule) (given : S) (order : ℕ) (first : List A) where
+  pub record IsRunning (actors : List A) (v : OnLanes F S) (g : ℕ) : Type 0 where
+    pub lanes_setting : v.setting ≡ given
+    pub lanes_actors : v.actors ≡ (schedule given).actors
+    pub settings : All (λ a. setting a ≡ given) actors
+    pub numbers : map number actors ≡ range_with_len 0 (schedule given).actors
+    pub same_settings : map setting actors ≡ map setting first
+    pub same_numbers : map number actors ≡ map number first
+    pub same_openings : map opening actors ≡ map opening first
+    pub run : HasRun (schedule given) order (map past actors) (puts_of v) (takes_of v)
+    pub last : run.last ≡ g
+
+  pub running_start : (v : OnLanes F S) (g : ℕ) → v.setting ≡ given → v.actors ≡ (schedule given).actors → All (λ a. setting a ≡ given) first → map number first ≡ range_with_len 0 (schedule given).actors →
+      All (λ a. past a ≡ 0) first → ((p q : ℕ) → puts_of v p q ≡ 0) → g ≡ order % 2 ^ 32 → IsRunning first v g
+  running_start v g same for settings numbers turns nothing drawn =
+      let pasts : (p : ℕ) → p < (schedule given).actors → slice_index (map past first) p ≡ 0 = λ p low. past_zero first p turns in
+      let (run, last) = has_none (schedule given) order (map past first) v pasts nothing in
+      record { lanes_setting = same; lanes_actors = for; settings = settings; numbers = numbers; same_settings = refl; same_numbers = refl; same_openings = refl; run = run; last = last ∙ sym drawn }
+    where
+      past_zero : (xs : List A) (p : ℕ) → All (λ a. past a ≡ 0) xs → slice_index (map past xs) p ≡ 0
+      past_zero [] p all = refl
+      past_zero (x ∷ xs) zero all = all 0 x (omega arith)
+      past_zero (x ∷ xs) (suc p) all = past_zero xs p (λ i d l. all (suc i) d (omega arith))
+
+  module _ (lawful : IsLawful (schedule given)) (actors : List A) (v : OnLanes F S) (g : ℕ) (running : IsRunning actors v g) where
+    abbrev test : ℕ → Bool
+    test a = can_make v (turn_at (schedule given) a (slice_index (map past actors) a))
+
+    -- the number that was chosen, in terms of the setting
+    first_of : (drawn p : ℕ) → IsFirst (λ a. can_make v (turn_at (schedule v.setting) a (slice_index (map past actors) a))) v.actors drawn p → IsFirst test (schedule given).actors drawn p
+    first_of drawn p is = subst (λ n. IsFirst test n drawn p) running.lanes_actors
+        (subst (λ (s : S). IsFirst (λ a. can_make v (turn_at (schedule s) a (slice_index (map past actors) a))) v.actors drawn p) running.lanes_setting is)
+
+    module _ (g' drawn p : ℕ) (next_g : g' ≡ following g) (drew : drawn ≡ g') (is : IsFirst (λ a. can_make v (turn_at (schedule v.setting) a (slice_index (map past actors) a))) v.actors drawn p)
+        (a : A) (here : a ≡ get_or actors p a) where
+      chosen_first : IsFirst test (schedule given).actors (following running.run.last) p
+      chosen_first = subst (λ d. IsFirst test (schedule given).actors d p) (drew ∙ next_g ∙ ap following (sym running.last)) (first_of drawn p is)
+
+      low : p < (schedule given).actors
+      low = let at : p ≡ (drawn + is.steps) % v.actors = is.is in let some : is.steps < v.actors = is.within in omega (arith, running.lanes_actors)
+
+      turn_here : turn_at (schedule (setting a)) (number a) (past a) ≡ turn_at (schedule given) p (slice_index (map past actors) p)
+      turn_here = turn_is setting number past schedule actors given (schedule given).actors running.settings running.numbers p low a here
+
+      pub setting_here : setting a ≡ v.setting
+      setting_here = setting_at setting number past schedule actors given (schedule given).actors running.settings running.numbers p low a here ∙ sym running.lanes_setting
+
+      pub allowed_here : IsAllowed (schedule v.setting) v (turn_at (schedule (setting a)) (number a) (past a))
+      allowed_here = subst (IsAllowed (schedule v.setting) v) (sym turn_here)
+          (subst (λ (s : S). IsAllowed (schedule s) v (turn_at (schedule given) p (slice_index (map past actors) p))) (sym running.lanes_setting)
+          (allowed (schedule given) lawful order (map past actors) v running.run p low chosen_first.passes))
+
+      module _ (b : A) (w : OnLanes F S) (goes_on : past b ≡ past a + 1) (same_setting : setting b ≡ setting a) (same_number : number b ≡ number a) where
+        -- one turn less is left
+        pub running_smaller : sum_by (turns_left setting number past schedule) (set actors p b) < sum_by (turns_left setting number past schedule) actors
+        running_smaller =
+            let left : A → ℕ = turns_left setting number past schedule in
+            let within : p < length actors = omega (arith, count setting number past schedule actors given (schedule given).actors running.settings running.numbers) in
+            let sums : sum_by left (set actors p b) + left (get_or actors p a) ≡ sum_by left actors + left b = sum_by-set left actors p b a within in
+            let turns_same : length (turns (schedule (setting b)) (number b)) ≡ length (turns (schedule (setting a)) (number a)) =
+                ap (λ (s : S). length (turns (schedule s) (number b))) same_setting ∙ ap (λ n. length (turns (schedule (setting a)) n)) same_number in
+            let more : past a < length (turns (schedule (setting a)) (number a)) =
+                left_before (turns (schedule (setting a)) (number a)) (past a) (λ done. not_done v (turn_at (schedule given) p (slice_index (map past actors) p)) chosen_first.passes (sym turn_here ∙ done)) in
+            omega (arith, ap left here)
+
+        pub running_more : opening b ≡ opening a → w.setting ≡ v.setting → w.actors ≡ v.actors →
+            ((c d : ℕ) → puts_of w c d ≡ puts_of v c d + put_by (turn_at (schedule (setting a)) (number a) (past a)) c d) →
+            ((c d : ℕ) → takes_of w c d ≡ takes_of v c d + taken_by (turn_at (schedule (setting a)) (number a) (past a)) c d) → IsRunning (set actors p b) w g'
+        running_more same_opening lanes_setting lanes_actors put taken =
+            let all : length actors ≡ (schedule given).actors = count setting number past schedule actors given (schedule given).actors running.settings running.numbers in
+            let now : map past (set actors p b) ≡ set (map past actors) p (slice_index (map past actors) p + 1) =
+                map-set past actors p b ∙ ap (set (map past actors) p) (goes_on ∙ ap (λ n. n + 1) (past_at setting number past schedule actors given (schedule given).actors running.settings running.numbers p low a here)) in
+            let (run, last) = has_more (schedule given) lawful order (map past actors) v running.run p chosen_first (map past (set actors p b)) w (length-map actors past ∙ all) now
+                (λ c d. put c d ∙ ap (λ t. puts_of v c d + put_by t c d) turn_here) (λ c d. taken c d ∙ ap (λ t. takes_of v c d + taken_by t c d) turn_here) in
+            record {
+              lanes_setting = lanes_setting ∙ running.lanes_setting;
+              lanes_actors = lanes_actors ∙ running.lanes_actors;
+              settings = all_set (λ c. setting c ≡ given) actors p b running.settings (same_setting ∙ setting_here ∙ running.lanes_setting);
+              numbers = map_kept number actors p a b here same_number ∙ running.numbers;
+              same_settings = map_kept setting actors p a b here same_setting ∙ running.same_settings;
+              same_numbers = map_kept number actors p a b here same_number ∙ running.same_numbers;
+              same_openings = map_kept opening actors p a b here same_opening ∙ running.same_openings;
+              run = run;
+              last = last ∙ ap following running.last ∙ sym next_g
+            }
+
+    module _ (drawn : ℕ) (none_can : (i : ℕ) → i < v.actors → can_make v (turn_at (schedule v.setting) ((drawn + i) % v.actors) (slice_index (map past actors) ((drawn + i) % v.actors))) ≡ false) where
+      none_of : (i : ℕ) → i < (schedule given).actors → test ((drawn + i) % (schedule given).actors) ≡ false
+      none_of = subst (λ n. (i : ℕ) → i < n → test ((drawn + i) % n) ≡ false) running.lanes_actors
+          (subst (λ (s : S). (i : ℕ) → i < v.actors → can_make v (turn_at (schedule s) ((drawn + i) % v.actors) (slice_index (map past actors) ((drawn + i) % v.actors))) ≡ false) running.lanes_setting none_can)
+
+      pub running_done : All (λ a. turn_at (schedule (setting a)) (number a) (past a) ≡ Done) actors
+      running_done i d l =
+          let i_low : i < (schedule given).actors = omega (arith, count setting number past schedule actors given (schedule given).actors running.settings running.numbers) in
+          turn_is setting number past schedule actors given (schedule given).actors running.settings running.numbers i i_low (get_or actors i d) (get_or_default actors i d (get_or actors i d) l)
+          ∙ turns_done (schedule given) lawful order (map past actors) v running.run drawn none_of i i_low
+
+      pub running_put : (p q : ℕ) → puts_of v p q ≡ length (lane (schedule given) p q)
+      running_put = puts_done (schedule given) lawful order (map past actors) v running.run drawn none_of
+
+      pub running_taken : (p q : ℕ) → takes_of v p q ≡ length (lane (schedule given) p q)
+      running_taken = takes_done (schedule given) lawful order (map past actors) v running.run drawn none_of

@@ -1,0 +1,44 @@
+ghost use Rattle.std.specs.Prelude.{◌≡◌, ◌+◌, ℕ, cond, is_some, IfSome};
+ghost use Rattle.brace_core.specs.Exchanges.{IsNext, one_on};
+
+use crate::{Freight, Name};
+
+/// Where actors put pieces for one another and take them, each by its name.
+pub trait Exchange<F: Freight> {
+    ghost use Rattle.std.specs.Prelude.{ℕ};
+
+    /// The setting that it was made for.
+    ghost setting: { Self → F.Setting };
+
+    /// Whether it serves an actor.
+    ghost serves: { Self → ℕ → Type 0 };
+
+    /// How many names it put on the lane from an actor to another.
+    ghost puts: { Self → ℕ → ℕ → ℕ };
+
+    /// How many names it took from the lane from an actor to another.
+    ghost takes: { Self → ℕ → ℕ → ℕ };
+
+    /// Puts the piece of a name, the next of its lane, where as many names were put on this lane as
+    /// were taken from the opposite lane.
+    fn put(&mut self, name: Name, piece: F)
+        requires served { serves self.old name.from }
+        requires next { IsNext (F.schedule (setting self.old)) name (puts self.old name.from name.to) }
+        requires answered { puts self.old name.from name.to ≡ takes self.old name.to name.from }
+        requires right { F.right (setting self.old) name piece }
+        ensures same { setting self.new ≡ setting self.old }
+        ensures serving { (a : ℕ) → serves self.old a → serves self.new a }
+        ensures put { (p q : ℕ) → puts self.new p q ≡ puts self.old p q + one_on name p q }
+        ensures taken { (p q : ℕ) → takes self.new p q ≡ takes self.old p q };
+
+    /// Takes the piece of a name, the next to be taken of its lane; None changes nothing.
+    fn take(&mut self, name: Name) -> Option<F>
+        requires served { serves self.old name.to }
+        requires next { IsNext (F.schedule (setting self.old)) name (takes self.old name.from name.to) }
+        ensures same { setting self.new ≡ setting self.old }
+        ensures serving { (a : ℕ) → serves self.old a → serves self.new a }
+        ensures put { (p q : ℕ) → puts self.new p q ≡ puts self.old p q }
+        ensures taken { (p q : ℕ) →
+            takes self.new p q ≡ takes self.old p q + cond (is_some result) (one_on name p q) 0 }
+        ensures right { IfSome result (λ piece. F.right (setting self.old) name piece) };
+}

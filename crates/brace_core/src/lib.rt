@@ -1,0 +1,20 @@
+//! The exchange core: actors that follow one schedule and exchange pieces by name, in any order of events.
+#![tactic(auto)]
+
+mod actor;
+mod exchange;
+mod freight;
+mod lane;
+pub mod laws;
+mod lanes;
+mod name;
+mod order;
+#[cfg(test)]
+mod tests;
+
+pub use actor::Actor;
+pub use exchange::Exchange;
+pub use freight::Freight;
+pub use lanes::PlainLanes;
+pub use name::{Name, Turn};
+pub use order::run_in_order;
