@@ -69,7 +69,7 @@ two_in_flight s events lawful run p q =
     let here : length (put_on s events p q) ≤ length (taken_from s events q p) + 1 = answered s events lawful run p q in
     let there : length (put_on s events q p) ≤ length (taken_from s events p q) + 1 = answered s events lawful run q p in
     let behind : length (taken_from s events q p) ≤ length (put_on s events q p) =
-        omega (arith, ap length (flown_is s events lawful run q p), length-append (taken_from s events q p) (in_flight s events q p)) in
+    omega (arith, ap length (flown_is s events lawful run q p), length-append (taken_from s events q p) (in_flight s events q p)) in
     omega (arith, ap length (flown_is s events lawful run p q), length-append (taken_from s events p q) (in_flight s events p q))
 
 -- names of a lane rise by step
@@ -159,13 +159,16 @@ take_ready s lawful x kept p n at more = ready (filter (is_on n.from p) x.flight
   where
     left : x.place p < length (turns s p)
     left = left_before (turns s p) (x.place p) (λ done. let no : Take n ≡ Done = sym at ∙ done in absurd cc)
+
     on : is_on n.from p n ≡ true
     on = and_from (n.from == n.from) (n.to == p) (eq-eqb n.from n.from refl) (eq-eqb n.to p (subst (IsOwn p) at (next_own s lawful x p left)))
+
     longer : taken_by_now s (after s x p) n.from p ≡ taken_by_now s x n.from p ++ n ∷ []
     longer =
         taken_more s lawful x p left n.from p
         ∙ ap (λ t. taken_by_now s x n.from p ++ filter (is_on n.from p) (names_taken (t ∷ []))) at
         ∙ ap (λ names. taken_by_now s x n.from p ++ names) (pick_true (is_on n.from p n) (n ∷ []) [] on)
+
     ready : (flight : List Name) → filter (is_on n.from p) x.flight ≡ flight → list_any (is_name n) x.flight ≡ true
     ready [] e =
         let all : put_by_now s x n.from p ≡ taken_by_now s x n.from p ++ [] = kept.flown n.from p ∙ ap (λ names. taken_by_now s x n.from p ++ names) e in
@@ -173,8 +176,8 @@ take_ready s lawful x kept p n at more = ready (filter (is_on n.from p) x.flight
     ready (m ∷ rest) e =
         let all : put_by_now s x n.from p ≡ taken_by_now s x n.from p ++ m ∷ rest = kept.flown n.from p ∙ ap (λ names. taken_by_now s x n.from p ++ names) e in
         let same : m ≡ n = same_next (taken_by_now s x n.from p) rest [] (lane s n.from p) m n
-            (subst (λ names. IsFront names (lane s n.from p)) all (put_front 0 s.actors s.steps lawful n.from p (x.place n.from)))
-            (subst (λ names. IsFront names (lane s n.from p)) longer (taken_front 0 s.actors s.steps lawful p n.from ((after s x p).place p))) in
+        (subst (λ names. IsFront names (lane s n.from p)) all (put_front 0 s.actors s.steps lawful n.from p (x.place n.from)))
+        (subst (λ names. IsFront names (lane s n.from p)) longer (taken_front 0 s.actors s.steps lawful p n.from ((after s x p).place p))) in
         first_in_flight n.from p n x.flight rest (e ∙ ap (λ a. a ∷ rest) same)
 
 -- in such a state all actors are Done, or an event is enabled
@@ -182,7 +185,7 @@ pub can_go_on : (s : Schedule) → AreLawful s.actors s.steps → (x : State) �
 can_go_on s lawful x kept = elim (search_below s.actors (λ p. nat_lt (x.place p) (length (turns s p)))) [
   | inl (p, low, left) ↦
       let (a, a_low, ready) = progress_from 0 s.actors s.steps lawful x.place x.flight (λ a b a_low b_low n at from more.
-          take_ready s lawful x kept a n at (subst (λ b. length (taken_by_now s x b a) < length (put_by_now s x b a)) (sym from) more)) (p, low, ltb-true _ _ left) in
+      take_ready s lawful x kept a n at (subst (λ b. length (taken_by_now s x b a) < length (put_by_now s x b a)) (sym from) more)) (p, low, ltb-true _ _ left) in
       inr (a, and_from (nat_lt a s.actors) _ (lt-ltb _ _ a_low) ready)
   | inr none ↦ inl (λ p low. get_or_past (turns s p) (x.place p) Done (ltb-false _ _ (none p low)))
 ]
@@ -208,7 +211,7 @@ sum_one_more f e a (suc n) h l =
       | inl same ↦
           let here : g a ≡ f a + 1 = pick_true (a == e) (f a + 1) (f a) (eq-eqb a e same) in
           let rest : sum_by g (range_with_len (a + 1) n) ≡ sum_by f (range_with_len (a + 1) n) =
-              sum_agree g f (a + 1) n (λ p above below. pick_false (p == e) (f p + 1) (f p) (ne_eqb p e (λ is. omega arith))) in
+          sum_agree g f (a + 1) n (λ p above below. pick_false (p == e) (f p + 1) (f p) (ne_eqb p e (λ is. omega arith))) in
           omega arith
       | inr other ↦
           let here : g a ≡ f a = pick_false (a == e) (f a + 1) (f a) (ne_eqb a e other) in
@@ -226,7 +229,7 @@ places_sum s x (e ∷ events) run =
     let below : e < s.actors = ltb-true _ _ low in
     let one : sum_by (after s x e).place (range_with_len 0 s.actors) ≡ sum_by x.place (range_with_len 0 s.actors) + 1 = sum_one_more x.place e 0 s.actors (omega arith) (omega arith) in
     let rest : sum_by (after_all s (after s x e) events).place (range_with_len 0 s.actors) ≡ sum_by (after s x e).place (range_with_len 0 s.actors) + length events =
-        places_sum s (after s x e) events later in
+    places_sum s (after s x e) events later in
     omega arith
 
 sum_zero : (a n : ℕ) → sum_by (λ p. 0) (range_with_len a n) ≡ 0
@@ -238,8 +241,8 @@ counted s events lawful run done =
     let x : State = end_of s events in
     let sum : sum_by x.place (range_with_len 0 s.actors) ≡ sum_by (λ p. 0) (range_with_len 0 s.actors) + length events = places_sum s opening events run in
     let is : sum_by x.place (range_with_len 0 s.actors) ≡ turns_of_all s =
-        sum_agree x.place (λ p. length (turns s p)) 0 s.actors (λ p h l.
-          let past : length (turns s p) ≤ x.place p = turns_past s events lawful run done p (omega arith) in
-          let within : x.place p ≤ length (turns s p) = (kept s events lawful run).within p (omega arith) in
-          omega arith) in
+    sum_agree x.place (λ p. length (turns s p)) 0 s.actors (λ p h l.
+    let past : length (turns s p) ≤ x.place p = turns_past s events lawful run done p (omega arith) in
+    let within : x.place p ≤ length (turns s p) = (kept s events lawful run).within p (omega arith) in
+    omega arith) in
     omega (arith, sum_zero 0 s.actors)

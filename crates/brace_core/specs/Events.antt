@@ -47,7 +47,7 @@ flight_after flight Done = flight
 abbrev pub after : Schedule → State → ℕ → State
 after s x p = record {
   place = λ a. cond (a == p) (x.place a + 1) (x.place a);
-  flight = flight_after x.flight (next s x p)
+  flight = flight_after x.flight (next s x p);
 }
 
 -- whether each event of a list, given by its actor, is enabled when its time comes

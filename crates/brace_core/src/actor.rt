@@ -31,8 +31,7 @@ pub trait Actor<F: Freight> {
 
     /// The piece of the name that it puts next. It is asked after `next` gave Put.
     fn piece(&mut self) -> F
-        requires {
-            IsPut (turn_at (F.schedule (setting self.old)) (number self.old) (past self.old)) }
+        requires { IsPut (turn_at (F.schedule (setting self.old)) (number self.old) (past self.old)) }
         ensures right { (name : Name) →
             turn_at (F.schedule (setting self.old)) (number self.old) (past self.old) ≡ Put name →
             F.right (setting self.old) name result }
@@ -43,8 +42,7 @@ pub trait Actor<F: Freight> {
 
     /// Hands it the piece of the name that it takes next, after `next` gave Take.
     fn give(&mut self, piece: F)
-        requires turn {
-            IsTake (turn_at (F.schedule (setting self.old)) (number self.old) (past self.old)) }
+        requires turn { IsTake (turn_at (F.schedule (setting self.old)) (number self.old) (past self.old)) }
         requires right { (name : Name) →
             turn_at (F.schedule (setting self.old)) (number self.old) (past self.old) ≡ Take name →
             F.right (setting self.old) name piece }

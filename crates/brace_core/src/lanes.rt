@@ -27,20 +27,22 @@ impl<F: Freight> Model for PlainLanes<F> {
     ghost Value = { OnLanes F F.Setting };
 
     ghost view = { λ it. record {
-        setting = it.setting.value; actors = it.actors; lanes = it.lanes.items } };
+      setting = it.setting.value;
+      actors = it.actors;
+      lanes = it.lanes.items;
+    } };
 
     ghost invariant = { λ it. IsSound F.schedule F.right (record {
-        setting = it.setting.value; actors = it.actors; lanes = it.lanes.items }) };
+      setting = it.setting.value;
+      actors = it.actors;
+      lanes = it.lanes.items;
+    }) };
 }
 
 impl<F: Freight> PlainLanes<F> {
     /// Lanes for a setting, on which nothing was put. The number of actors is at most 65 and above
     /// every number in the names of the setting's schedule, which has at most 2^40 steps.
-    pub fn make(
-        alloc: Global,
-        setting: &F::Setting,
-        actors: u32,
-    ) -> Result<PlainLanes<F>, NoMemory>
+    pub fn make(alloc: Global, setting: &F::Setting, actors: u32) -> Result<PlainLanes<F>, NoMemory>
         requires few { actors ≤ 65 }
         requires below { AreBelow (F.schedule setting.now) actors }
         requires short { length (F.schedule setting.now).steps ≤ 2 ^ 40 }

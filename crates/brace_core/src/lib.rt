@@ -5,8 +5,8 @@ mod actor;
 mod exchange;
 mod freight;
 mod lane;
-pub mod laws;
 mod lanes;
+pub mod laws;
 mod name;
 mod order;
 #[cfg(test)]

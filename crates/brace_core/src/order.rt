@@ -89,8 +89,7 @@ pub fn run_in_order<F: Freight, A: Actor<F>>(
 )
     requires lawful { IsLawful (F.schedule lanes.old.setting) }
     requires settings { All (λ a. A.setting a ≡ lanes.old.setting) actors.old }
-    requires numbers {
-        map A.number actors.old ≡ range_with_len 0 (F.schedule lanes.old.setting).actors }
+    requires numbers { map A.number actors.old ≡ range_with_len 0 (F.schedule lanes.old.setting).actors }
     requires first_turns { All (λ a. A.past a ≡ 0) actors.old }
     requires lanes_for { lanes.old.actors ≡ (F.schedule lanes.old.setting).actors }
     requires nothing_put { (p q : ℕ) → puts_of lanes.old p q ≡ 0 }

@@ -12,5 +12,5 @@ returns c = record {
   two_in_flight = two_in_flight;
   answered = answered;
   progress = progress;
-  counted = counted
+  counted = counted;
 }
