@@ -1,14 +1,14 @@
 -- An event that a run enables is a call that exchanges allow.
-use Rattle.std.proofs.Common.{◌≡◌, ℕ, zero, suc, ◌+◌, ◌<◌, ◌≤◌, ◌⊎◌, Bool, true, false, cond, ◌==◌, ◌&&◌, nat_lt, IsTrue, List, [], ◌∷◌, ◌++◌, length, Some, slice_get, refl, sym, ap, ◌∙◌, subst, arith, inl, inr}
+use Rattle.std.proofs.Common.{◌≡◌, ℕ, ◌+◌, ◌<◌, true, nat_lt, List, [], ◌∷◌, ◌++◌, length, Some, slice_get, refl, sym, ap, ◌∙◌, subst, arith, inl, inr}
 use Rattle.std.specs.List.{filter, list_any}
-use Rattle.std.proofs.lemmas.Bool.{eq-eqb, and_parts, and_from, lt-ltb, le-ltb, cases_lt, cases_Bool}
+use Rattle.std.proofs.lemmas.Bool.{and_parts, and_from, lt-ltb, le-ltb, cases_lt, cases_Bool}
 use Rattle.std.proofs.lemmas.List.{append_assoc, append-nil, length-append}
 use Rattle.std.proofs.lemmas.List.Elements.{filter-append}
 use Rattle.brace_core.specs.declared.name.Name.{Name}
 use Rattle.brace_core.specs.declared.name.Turn.{Turn}
-use Rattle.brace_core.specs.declared.name.Turn.TheVariants.{Put, Take, Work, Done}
+use Rattle.brace_core.specs.declared.name.Turn.TheVariants.{Put, Take, Done}
 use Rattle.brace_core.specs.Schedule.{Schedule, IsLawful, lane, turns}
-use Rattle.brace_core.specs.Events.{State, opening, is_name, next, is_ready, is_enabled, after, are_enabled, after_all, turns_made, IsRun, end_of, put_on, taken_from, in_flight, is_on, names_put, names_taken}
+use Rattle.brace_core.specs.Events.{State, opening, is_name, next, is_enabled, after, are_enabled, after_all, turns_made, IsRun, end_of, put_on, taken_from, in_flight, is_on, names_put, names_taken}
 use Rattle.brace_core.specs.Exchanges.{IsNext}
 use Rattle.brace_core.proofs.Lists.{IsFront, pick_true}
 use Rattle.brace_core.proofs.Turns.{names_put-append, names_taken-append, put_front, taken_front, in_step}

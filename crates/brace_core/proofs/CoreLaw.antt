@@ -1,19 +1,18 @@
 -- The law of the core: what the facts along runs say at their ends.
-use Rattle.std.proofs.Common.{◌≡◌, ℕ, zero, suc, ◌+◌, ◌-◌, ◌<◌, ◌≤◌, ◌⊎◌, Bool, true, false, cond, ◌==◌, ◌&&◌, nat_lt, IsTrue, List, [], ◌∷◌, ◌++◌, length, take, drop, get_or, refl, sym, ap, ◌∙◌, subst, arith, inl, inr}
+use Rattle.std.proofs.Common.{◌≡◌, ℕ, zero, suc, ◌+◌, ◌<◌, ◌≤◌, ◌⊎◌, true, false, cond, ◌==◌, nat_lt, IsTrue, List, [], ◌∷◌, ◌++◌, length, take, drop, get_or, refl, sym, ap, ◌∙◌, subst, arith, inl, inr}
 use Rattle.std.specs.List.{filter, list_any, sum_by, range_with_len}
 use Rattle.std.proofs.lemmas.Bool.{eq-eqb, ne_eqb, and_parts, and_from, lt-ltb, ltb-true, ltb-false, cases_lt, cases_eq}
 use Rattle.std.proofs.lemmas.List.{append_assoc, take_all, take_at, drop_at, length-append, get_or_past}
 use Rattle.std.proofs.lemmas.List.Sums.{sum_by-cons}
 use Rattle.brace_core.specs.declared.name.Name.{Name}
-use Rattle.brace_core.specs.declared.name.Turn.{Turn}
-use Rattle.brace_core.specs.declared.name.Turn.TheVariants.{Put, Take, Work, Done}
-use Rattle.brace_core.specs.Schedule.{Pair, Schedule, IsLawful, meets, name, names_from, lane, turns, turns_from}
-use Rattle.brace_core.specs.Events.{State, opening, is_name, next, is_ready, is_enabled, after, are_enabled, after_all, OnRuns, IsRun, AllDone, end_of, put_on, taken_from, in_flight, turns_of_all, is_on, names_put, names_taken}
-use Rattle.brace_core.proofs.Lists.{IsFront, front_takes, front_longer, same_next, pick_true, pick_false, search_below}
-use Rattle.brace_core.proofs.Turns.{AreLawful, are_lawful, meets_below, all_put as turns_put, all_taken as turns_take, put_front, taken_front, in_step, put_first, taken_first}
+use Rattle.brace_core.specs.declared.name.Turn.TheVariants.{Take, Done}
+use Rattle.brace_core.specs.Schedule.{Pair, Schedule, IsLawful, meets, name, names_from, lane, turns}
+use Rattle.brace_core.specs.Events.{State, opening, is_name, next, is_ready, is_enabled, after, are_enabled, after_all, OnRuns, IsRun, AllDone, end_of, put_on, taken_from, in_flight, is_on, names_put, names_taken}
+use Rattle.brace_core.proofs.Lists.{IsFront, front_takes, same_next, pick_true, pick_false, search_below}
+use Rattle.brace_core.proofs.Turns.{AreLawful, are_lawful, meets_below, all_put as turns_put, all_taken as turns_take, put_front, taken_front, in_step}
 use Rattle.brace_core.proofs.Owners.{IsOwn, own_turns, done_past, left_before}
 use Rattle.brace_core.proofs.Runs.{IsKept, kept_opening, kept_all, put_made, taken_made, put_by_now, taken_by_now, first_in_flight, next_own, taken_more}
-use Rattle.brace_core.proofs.Progress.{ArePutReady, progress_from}
+use Rattle.brace_core.proofs.Progress.{progress_from}
 
 pub lawful_steps : (s : Schedule) → IsLawful s → AreLawful s.actors s.steps
 lawful_steps s lawful = are_lawful s.actors s.steps lawful
@@ -193,7 +192,7 @@ can_go_on s lawful x kept = elim (search_below s.actors (λ p. nat_lt (x.place p
 pub progress : OnRuns (λ s events. AllDone s (end_of s events) ⊎ ((p : ℕ) × IsTrue (is_enabled s (end_of s events) p)))
 progress s events lawful run = can_go_on s (lawful_steps s lawful) (end_of s events) (kept s events lawful run)
 
-sum_agree : (f g : ℕ → ℕ) (a n : ℕ) → ((p : ℕ) → a ≤ p → p < a + n → f p ≡ g p) → sum_by f (range_with_len a n) ≡ sum_by g (range_with_len a n)
+pub sum_agree : (f g : ℕ → ℕ) (a n : ℕ) → ((p : ℕ) → a ≤ p → p < a + n → f p ≡ g p) → sum_by f (range_with_len a n) ≡ sum_by g (range_with_len a n)
 sum_agree f g a zero same = refl
 sum_agree f g a (suc n) same =
     let rest : sum_by f (range_with_len (a + 1) n) ≡ sum_by g (range_with_len (a + 1) n) = sum_agree f g (a + 1) n (λ p h l. same p (omega arith) (omega arith)) in
@@ -232,12 +231,16 @@ places_sum s x (e ∷ events) run =
     places_sum s (after s x e) events later in
     omega arith
 
-sum_zero : (a n : ℕ) → sum_by (λ p. 0) (range_with_len a n) ≡ 0
+pub sum_zero : (a n : ℕ) → sum_by (λ p. 0) (range_with_len a n) ≡ 0
 sum_zero a zero = refl
 sum_zero a (suc n) = omega (arith, sum_by-cons (λ p. 0) a (range_with_len (a + 1) n), sum_zero (a + 1) n)
 
-pub counted : OnRuns (λ s events. AllDone s (end_of s events) → length events ≡ turns_of_all s)
-counted s events lawful run done =
+-- how many turns all actors have
+abbrev pub turns_of_all : Schedule → ℕ
+turns_of_all s = sum_by (λ p. length (turns s p)) (range_with_len 0 s.actors)
+
+pub all_turns_made : OnRuns (λ s events. AllDone s (end_of s events) → length events ≡ turns_of_all s)
+all_turns_made s events lawful run done =
     let x : State = end_of s events in
     let sum : sum_by x.place (range_with_len 0 s.actors) ≡ sum_by (λ p. 0) (range_with_len 0 s.actors) + length events = places_sum s opening events run in
     let is : sum_by x.place (range_with_len 0 s.actors) ≡ turns_of_all s =

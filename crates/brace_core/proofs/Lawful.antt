@@ -1,9 +1,7 @@
 -- Lawful schedules: their names are between their actors, and steps made pair by pair are lawful.
-use Rattle.std.proofs.Common.{◌≡◌, ℕ, ◌+◌, ◌<◌, ◌≤◌, Bool, true, false, cond, ◌==◌, ◌&&◌, ◌||◌, List, [], ◌∷◌, length, count_by, refl, sym, ap, ◌∙◌, subst, arith, inl, inr}
-use Rattle.std.specs.List.{list_any}
-use Rattle.std.proofs.lemmas.Bool.{eqb-true, eq-eqb, ne_eqb, and_parts, or_cases, cases_lt, cases_Bool, true≢false}
+use Rattle.std.proofs.Common.{◌≡◌, ℕ, ◌+◌, ◌<◌, ◌≤◌, Bool, true, false, cond, ◌==◌, ◌&&◌, ◌||◌, List, [], ◌∷◌, length, count_by, refl, sym, ap, ◌∙◌, arith, inl, inr}
+use Rattle.std.proofs.lemmas.Bool.{eqb-true, ne_eqb, and_parts, or_cases, cases_lt, cases_Bool, true≢false}
 use Rattle.std.proofs.lemmas.List.Sums.{sum_by-cons}
-use Rattle.brace_core.specs.declared.name.Name.{Name}
 use Rattle.brace_core.specs.Schedule.{Pair, Schedule, IsLawful, IsLawfulStep, is_pair, meets, lane}
 use Rattle.brace_core.specs.Lanes.{AreBelow}
 use Rattle.brace_core.proofs.Lists.{pick_true, pick_false}
@@ -46,7 +44,7 @@ or_swap true false c = refl
 or_swap false true c = refl
 or_swap false false c = refl
 
-none_counted : (p q : ℕ) (step : List Pair) → meets step p q ≡ false → count_by (is_pair p q) step ≡ 0
+pub none_counted : (p q : ℕ) (step : List Pair) → meets step p q ≡ false → count_by (is_pair p q) step ≡ 0
 none_counted p q [] e = refl
 none_counted p q (pair ∷ step) e = elim (cases_Bool (is_pair p q pair)) [
   | inl is ↦ absurd (true≢false (sym (ap (λ v. v || meets step p q) is) ∙ e))

@@ -1,16 +1,16 @@
 -- What holds along every run: on each lane what was put is what was taken and what is in flight.
-use Rattle.std.proofs.Common.{◌≡◌, ℕ, zero, suc, ◌+◌, ◌-◌, ◌<◌, ◌≤◌, Bool, true, false, cond, ◌==◌, ◌&&◌, ◌||◌, nat_lt, List, [], ◌∷◌, ◌++◌, length, take, get_or, refl, sym, ap, ◌∙◌, subst, arith, inl, inr}
+use Rattle.std.proofs.Common.{◌≡◌, ℕ, ◌+◌, ◌<◌, ◌≤◌, true, false, cond, ◌==◌, ◌&&◌, ◌||◌, nat_lt, List, [], ◌∷◌, ◌++◌, length, take, refl, sym, ap, ◌∙◌, subst, arith, inl, inr}
 use Rattle.std.specs.List.{filter, list_any}
-use Rattle.std.proofs.lemmas.Bool.{eqb-true, eqb-false, eq-eqb, ne_eqb, and_parts, cases_Bool, cases_eq}
+use Rattle.std.proofs.lemmas.Bool.{eqb-true, eq-eqb, ne_eqb, and_parts, cases_Bool, cases_eq}
 use Rattle.std.proofs.Math.Bool.{or-true}
 use Rattle.std.proofs.lemmas.List.{append-nil, append_assoc, take_more}
 use Rattle.std.proofs.lemmas.List.Elements.{filter-append}
 use Rattle.brace_core.specs.declared.name.Name.{Name}
 use Rattle.brace_core.specs.declared.name.Turn.{Turn}
 use Rattle.brace_core.specs.declared.name.Turn.TheVariants.{Put, Take, Work, Done}
-use Rattle.brace_core.specs.Schedule.{Pair, Schedule, lane, turns, turns_from}
+use Rattle.brace_core.specs.Schedule.{Schedule, lane, turns}
 use Rattle.brace_core.specs.Events.{State, opening, is_name, next, is_ready, is_enabled, without, flight_after, after, are_enabled, after_all, turns_made, is_on, names_put, names_taken}
-use Rattle.brace_core.proofs.Lists.{IsFront, pick_true, pick_false, front_longer, same_next}
+use Rattle.brace_core.proofs.Lists.{IsFront, pick_true, pick_false, same_next}
 use Rattle.brace_core.proofs.Turns.{AreLawful, names_put-append, names_taken-append, put_first, taken_first, put_front, taken_front}
 use Rattle.brace_core.proofs.Owners.{IsOwn, own_turns, own_at, left_before, puts_no_other, takes_no_other}
 

@@ -1,14 +1,13 @@
 -- One actor's turns towards another: it puts and takes in turn, and its puts and takes are the names of the two lanes between them.
-use Rattle.std.proofs.Common.{◌≡◌, ℕ, zero, suc, ◌+◌, ◌-◌, ◌<◌, ◌≤◌, Bool, true, false, cond, ◌==◌, ◌&&◌, List, [], ◌∷◌, ◌++◌, map, length, take, drop, get_or, refl, sym, ap, ◌∙◌, subst, arith, inl, inr}
-use Rattle.std.specs.List.{filter, range_with_len, All}
-use Rattle.std.proofs.lemmas.Bool.{ne_eqb, eq-eqb, cases_lt}
+use Rattle.std.proofs.Common.{◌≡◌, ℕ, zero, suc, ◌+◌, ◌<◌, ◌≤◌, Bool, true, false, cond, ◌==◌, ◌&&◌, List, [], ◌∷◌, ◌++◌, length, take, refl, sym, ap, ◌∙◌, subst, arith, inl, inr}
+use Rattle.std.specs.List.{filter, All}
+use Rattle.std.proofs.lemmas.Bool.{eq-eqb, cases_lt}
 use Rattle.std.proofs.Math.Bool.{and-true}
-use Rattle.std.proofs.lemmas.List.{append-nil, append_assoc, take-append-drop, take_at, length-append}
 use Rattle.std.proofs.lemmas.List.Elements.{filter-append}
 use Rattle.brace_core.specs.declared.name.Name.{Name}
 use Rattle.brace_core.specs.declared.name.Turn.{Turn}
 use Rattle.brace_core.specs.declared.name.Turn.TheVariants.{Put, Take, Work, Done}
-use Rattle.brace_core.specs.Schedule.{Pair, Schedule, IsLawfulStep, IsLawful, meets, name, names_from, met, puts, takes, turns_from}
+use Rattle.brace_core.specs.Schedule.{Pair, IsLawfulStep, meets, name, names_from, met, puts, takes, turns_from}
 use Rattle.brace_core.specs.Events.{is_on, names_put, names_taken}
 use Rattle.brace_core.proofs.Lists.{IsFront, pick_false, none_above, kept_one, front_takes, take_is_front, filter_front}
 

@@ -1,4 +1,4 @@
-//! The exchange core: actors that follow one schedule and exchange pieces by name, in any order of events.
+//! The exchange core: actors that follow one schedule exchange pieces by name, in any order.
 #![tactic(auto)]
 
 mod actor;

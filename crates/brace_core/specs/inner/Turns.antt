@@ -1,6 +1,5 @@
 -- When an actor can make a turn at plain lanes, and what that changes there.
 use Rattle.std.specs.Prelude.{◌≡◌, ℕ, ◌+◌, ◌%◌, ◌<◌, Bool, true, false, nat_lt, IsTrue, List, [], ◌∷◌, filter, length, slice_index}
-use Rattle.brace_core.specs.declared.name.Name.{Name}
 use Rattle.brace_core.specs.declared.name.Turn.{Turn}
 use Rattle.brace_core.specs.declared.name.Turn.TheVariants.{Put, Take, Work, Done}
 use Rattle.brace_core.specs.Schedule.{Schedule, turn_at}
