@@ -1,12 +1,13 @@
 -- Actors that stand by rising number: the one at a place, and what is left when it has made a turn.
-use Rattle.std.proofs.Common.{◌≡◌, ℕ, zero, suc, ◌+◌, ◌-◌, ◌%◌, ◌<◌, ◌≤◌, Bool, true, false, IsTrue, List, [], ◌∷◌, map, length, get_or, set, slice_index, refl, sym, ap, ◌∙◌, subst, arith, inl, inr}
+use Rattle.std.proofs.Common.{◌≡◌, ℕ, zero, suc, ◌+◌, ◌%◌, ◌<◌, Bool, true, false, List, [], ◌∷◌, map, length, get_or, set, slice_index, refl, sym, ap, ◌∙◌, subst, arith}
 use Rattle.std.specs.List.{All, range_with_len}
-use Rattle.std.proofs.lemmas.List.{length-map, get_or_default}
+use Rattle.std.proofs.lemmas.List.{length-map}
 use Rattle.std.proofs.lemmas.List.FromFn.{length-range_with_len, get_or-range_with_len}
 use Rattle.brace_core.specs.declared.name.Turn.{Turn}
 use borrow.Author.Count.{below_more}
 use Rattle.brace_core.specs.Schedule.{Schedule, turn_at}
-use Rattle.brace_core.specs.inner.Turns.{IsFirst}
+use Rattle.brace_core.specs.Lanes.{OnLanes}
+use Rattle.brace_core.specs.inner.Turns.{IsFirst, can_make}
 
 at_map_of : {A : Type 0} (f : A → ℕ) (xs : List A) (i : ℕ) (d : A) → i < length xs → get_or (map f xs) i 0 ≡ f (get_or xs i d)
 at_map_of f [] i d l = absurd (omega arith)
@@ -61,3 +62,7 @@ pub map_kept : {A B : Type 0} (f : A → B) (xs : List A) (p : ℕ) (a b : A) �
 map_kept f [] p a b is same = refl
 map_kept f (x ∷ xs) zero a b is same = ap (λ y. y ∷ map f xs) (same ∙ ap f is)
 map_kept f (x ∷ xs) (suc p) a b is same = ap (λ ys. f x ∷ ys) (map_kept f xs p a b is same)
+
+-- what a test said of a turn, at an equal turn
+pub said_of : {F S : Type 0} (v : OnLanes F S) (t u : Turn) (said answer : Bool) → t ≡ u → said ≡ can_make v t → said ≡ answer → can_make v u ≡ answer
+said_of v t u said answer same is e = ap (can_make v) (sym same) ∙ sym is ∙ e

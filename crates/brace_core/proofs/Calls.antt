@@ -1,14 +1,14 @@
 -- An event that a run enables is a call that exchanges allow.
-use Rattle.std.proofs.Common.{◌≡◌, ℕ, zero, suc, ◌+◌, ◌<◌, ◌≤◌, ◌⊎◌, Bool, true, false, cond, ◌==◌, ◌&&◌, nat_lt, IsTrue, List, [], ◌∷◌, ◌++◌, length, Some, slice_get, refl, sym, ap, ◌∙◌, subst, arith, inl, inr}
+use Rattle.std.proofs.Common.{◌≡◌, ℕ, ◌+◌, ◌<◌, true, nat_lt, List, [], ◌∷◌, ◌++◌, length, Some, slice_get, refl, sym, ap, ◌∙◌, subst, arith, inl, inr}
 use Rattle.std.specs.List.{filter, list_any}
-use Rattle.std.proofs.lemmas.Bool.{eq-eqb, and_parts, and_from, lt-ltb, le-ltb, cases_lt, cases_Bool}
+use Rattle.std.proofs.lemmas.Bool.{and_parts, and_from, lt-ltb, le-ltb, cases_lt, cases_Bool}
 use Rattle.std.proofs.lemmas.List.{append_assoc, append-nil, length-append}
 use Rattle.std.proofs.lemmas.List.Elements.{filter-append}
 use Rattle.brace_core.specs.declared.name.Name.{Name}
 use Rattle.brace_core.specs.declared.name.Turn.{Turn}
-use Rattle.brace_core.specs.declared.name.Turn.TheVariants.{Put, Take, Work, Done}
+use Rattle.brace_core.specs.declared.name.Turn.TheVariants.{Put, Take, Done}
 use Rattle.brace_core.specs.Schedule.{Schedule, IsLawful, lane, turns}
-use Rattle.brace_core.specs.Events.{State, opening, is_name, next, is_ready, is_enabled, after, are_enabled, after_all, turns_made, IsRun, end_of, put_on, taken_from, in_flight, is_on, names_put, names_taken}
+use Rattle.brace_core.specs.Events.{State, opening, is_name, next, is_enabled, after, are_enabled, after_all, turns_made, IsRun, end_of, put_on, taken_from, in_flight, is_on, names_put, names_taken}
 use Rattle.brace_core.specs.Exchanges.{IsNext}
 use Rattle.brace_core.proofs.Lists.{IsFront, pick_true}
 use Rattle.brace_core.proofs.Turns.{names_put-append, names_taken-append, put_front, taken_front, in_step}
@@ -25,7 +25,6 @@ front_next {A} xs all x (rest, e) = ap (λ (ys : List A). slice_get ys (length x
     at (y ∷ ys) = at ys
 
 module _ (s : Schedule) (events : List ℕ) (lawful : IsLawful s) (run : IsRun s events) (p : ℕ) (n : Name) where
-
   abbrev x : State
   x = end_of s events
 
@@ -46,16 +45,16 @@ module _ (s : Schedule) (events : List ℕ) (lawful : IsLawful s) (run : IsRun s
     put_is_next =
         ap (λ names. slice_get (lane s n.from n.to) (length names)) (put_is s events lawful run n.from n.to)
         ∙ front_next (put_by_now s x n.from n.to) (lane s n.from n.to) n (subst (λ names. IsFront names (lane s n.from n.to)) one_put
-          (put_front 0 s.actors s.steps (lawful_steps s lawful) n.from n.to ((after s x p).place n.from)))
+        (put_front 0 s.actors s.steps (lawful_steps s lawful) n.from n.to ((after s x p).place n.from)))
 
     pub put_is_answered : length (put_on s events n.from n.to) ≡ length (taken_from s events n.to n.from)
     put_is_answered =
         let (low, high) = in_step 0 s.actors s.steps (lawful_steps s lawful) n.from n.to (x.place n.from) in
         let (low', high') = in_step 0 s.actors s.steps (lawful_steps s lawful) n.from n.to ((after s x p).place n.from) in
         let none : taken_by_now s (after s x p) n.to n.from ≡ taken_by_now s x n.to n.from =
-            taken_more s (lawful_steps s lawful) x p putting n.to n.from
-            ∙ ap (λ t. taken_by_now s x n.to n.from ++ filter (is_on n.to n.from) (names_taken (t ∷ []))) is
-            ∙ append-nil (taken_by_now s x n.to n.from) in
+        taken_more s (lawful_steps s lawful) x p putting n.to n.from
+        ∙ ap (λ t. taken_by_now s x n.to n.from ++ filter (is_on n.to n.from) (names_taken (t ∷ []))) is
+        ∙ append-nil (taken_by_now s x n.to n.from) in
         omega (arith, ap length (put_is s events lawful run n.from n.to), ap length (taken_is s events lawful run n.to n.from), ap length one_put, ap length none, length-append (put_by_now s x n.from n.to) (n ∷ []))
 
   module _ (is : next s x p ≡ Take n) where
@@ -68,18 +67,18 @@ module _ (s : Schedule) (events : List ℕ) (lawful : IsLawful s) (run : IsRun s
     pub take_is_next : IsNext s n (length (taken_from s events n.from n.to))
     take_is_next =
         let one : taken_by_now s (after s x p) n.from n.to ≡ taken_by_now s x n.from n.to ++ n ∷ [] =
-            taken_more s (lawful_steps s lawful) x p taking n.from n.to
-            ∙ ap (λ t. taken_by_now s x n.from n.to ++ filter (is_on n.from n.to) (names_taken (t ∷ []))) is
-            ∙ ap (λ names. taken_by_now s x n.from n.to ++ names) (pick_true (is_on n.from n.to n) (n ∷ []) [] (is_on_itself n)) in
+        taken_more s (lawful_steps s lawful) x p taking n.from n.to
+        ∙ ap (λ t. taken_by_now s x n.from n.to ++ filter (is_on n.from n.to) (names_taken (t ∷ []))) is
+        ∙ ap (λ names. taken_by_now s x n.from n.to ++ names) (pick_true (is_on n.from n.to n) (n ∷ []) [] (is_on_itself n)) in
         ap (λ names. slice_get (lane s n.from n.to) (length names)) (taken_is s events lawful run n.from n.to)
         ∙ front_next (taken_by_now s x n.from n.to) (lane s n.from n.to) n (subst (λ names. IsFront names (lane s n.from n.to)) one
-          (taken_front 0 s.actors s.steps (lawful_steps s lawful) n.to n.from ((after s x p).place n.to)))
+        (taken_front 0 s.actors s.steps (lawful_steps s lawful) n.to n.from ((after s x p).place n.to)))
 
     -- a name is in flight exactly where more names of its lane were put than taken
     pub take_is_found : list_any (is_name n) x.flight ≡ nat_lt (length (taken_from s events n.from n.to)) (length (put_on s events n.from n.to))
     take_is_found =
         let count : length (put_on s events n.from n.to) ≡ length (taken_from s events n.from n.to) + length (in_flight s events n.from n.to) =
-            ap length (flown_is s events lawful run n.from n.to) ∙ length-append (taken_from s events n.from n.to) (in_flight s events n.from n.to) in
+        ap length (flown_is s events lawful run n.from n.to) ∙ length-append (taken_from s events n.from n.to) (in_flight s events n.from n.to) in
         elim (cases_Bool (list_any (is_name n) x.flight)) [
           | inl found ↦
               let (first, rest, flies) = some_in_flight n.from n.to n x.flight (is_on_itself n) found in
@@ -87,8 +86,8 @@ module _ (s : Schedule) (events : List ℕ) (lawful : IsLawful s) (run : IsRun s
           | inr missed ↦ elim (cases_lt (length (taken_from s events n.from n.to)) (length (put_on s events n.from n.to))) [
             | inl more ↦
                 let more' : length (taken_by_now s x n.from p) < length (put_by_now s x n.from p) =
-                    subst (λ q. length (taken_by_now s x n.from q) < length (put_by_now s x n.from q)) take_own
-                    (omega (arith, ap length (put_is s events lawful run n.from n.to), ap length (taken_is s events lawful run n.from n.to))) in
+                subst (λ q. length (taken_by_now s x n.from q) < length (put_by_now s x n.from q)) take_own
+                (omega (arith, ap length (put_is s events lawful run n.from n.to), ap length (taken_is s events lawful run n.from n.to))) in
                 let found : list_any (is_name n) x.flight ≡ true = take_ready s (lawful_steps s lawful) x (kept s events lawful run) p n is more' in
                 absurd cc
             | inr no_more ↦ missed ∙ sym (le-ltb _ _ no_more)

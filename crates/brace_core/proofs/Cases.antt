@@ -1,11 +1,11 @@
 -- The small schedule, computed.
-use Rattle.std.proofs.Common.{◌≡◌, ℕ, true, false, List, [], ◌∷◌, length, refl}
-use Rattle.brace_core.specs.declared.name.Turn.TheVariants.{Put, Take, Work, Done}
+use Rattle.std.proofs.Common.{◌≡◌, true, false, [], ◌∷◌, refl}
+use Rattle.brace_core.specs.declared.name.Turn.TheVariants.{Put, Take, Work}
 use Rattle.brace_core.specs.Schedule.{name, lane, turns}
 use Rattle.brace_core.specs.inner.Small.{small}
-use Rattle.brace_core.specs.Events.{opening, are_enabled, in_flight, put_on, taken_from, turns_of_all}
+use Rattle.brace_core.specs.Events.{opening, are_enabled, in_flight, taken_from, events_of}
 
-events_count : turns_of_all small ≡ 32
+events_count : events_of small ≡ 32
 events_count = refl
 
 a_lane : lane small 2 1 ≡ name 3 2 1 ∷ []

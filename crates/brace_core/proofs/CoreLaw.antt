@@ -1,19 +1,18 @@
 -- The law of the core: what the facts along runs say at their ends.
-use Rattle.std.proofs.Common.{◌≡◌, ℕ, zero, suc, ◌+◌, ◌-◌, ◌<◌, ◌≤◌, ◌⊎◌, Bool, true, false, cond, ◌==◌, ◌&&◌, nat_lt, IsTrue, List, [], ◌∷◌, ◌++◌, length, take, drop, get_or, refl, sym, ap, ◌∙◌, subst, arith, inl, inr}
+use Rattle.std.proofs.Common.{◌≡◌, ℕ, zero, suc, ◌+◌, ◌<◌, ◌≤◌, ◌⊎◌, true, false, cond, ◌==◌, nat_lt, IsTrue, List, [], ◌∷◌, ◌++◌, length, take, drop, get_or, refl, sym, ap, ◌∙◌, subst, arith, inl, inr}
 use Rattle.std.specs.List.{filter, list_any, sum_by, range_with_len}
 use Rattle.std.proofs.lemmas.Bool.{eq-eqb, ne_eqb, and_parts, and_from, lt-ltb, ltb-true, ltb-false, cases_lt, cases_eq}
 use Rattle.std.proofs.lemmas.List.{append_assoc, take_all, take_at, drop_at, length-append, get_or_past}
 use Rattle.std.proofs.lemmas.List.Sums.{sum_by-cons}
 use Rattle.brace_core.specs.declared.name.Name.{Name}
-use Rattle.brace_core.specs.declared.name.Turn.{Turn}
-use Rattle.brace_core.specs.declared.name.Turn.TheVariants.{Put, Take, Work, Done}
-use Rattle.brace_core.specs.Schedule.{Pair, Schedule, IsLawful, meets, name, names_from, lane, turns, turns_from}
-use Rattle.brace_core.specs.Events.{State, opening, is_name, next, is_ready, is_enabled, after, are_enabled, after_all, OnRuns, IsRun, AllDone, end_of, put_on, taken_from, in_flight, turns_of_all, is_on, names_put, names_taken}
-use Rattle.brace_core.proofs.Lists.{IsFront, front_takes, front_longer, same_next, pick_true, pick_false, search_below}
-use Rattle.brace_core.proofs.Turns.{AreLawful, are_lawful, meets_below, all_put as turns_put, all_taken as turns_take, put_front, taken_front, in_step, put_first, taken_first}
+use Rattle.brace_core.specs.declared.name.Turn.TheVariants.{Take, Done}
+use Rattle.brace_core.specs.Schedule.{Pair, Schedule, IsLawful, meets, name, names_from, lane, turns}
+use Rattle.brace_core.specs.Events.{State, opening, is_name, next, is_ready, is_enabled, after, are_enabled, after_all, OnRuns, IsRun, AllDone, end_of, put_on, taken_from, in_flight, is_on, names_put, names_taken}
+use Rattle.brace_core.proofs.Lists.{IsFront, front_takes, same_next, pick_true, pick_false, search_below}
+use Rattle.brace_core.proofs.Turns.{AreLawful, are_lawful, meets_below, all_put as turns_put, all_taken as turns_take, put_front, taken_front, in_step}
 use Rattle.brace_core.proofs.Owners.{IsOwn, own_turns, done_past, left_before}
 use Rattle.brace_core.proofs.Runs.{IsKept, kept_opening, kept_all, put_made, taken_made, put_by_now, taken_by_now, first_in_flight, next_own, taken_more}
-use Rattle.brace_core.proofs.Progress.{ArePutReady, progress_from}
+use Rattle.brace_core.proofs.Progress.{progress_from}
 
 pub lawful_steps : (s : Schedule) → IsLawful s → AreLawful s.actors s.steps
 lawful_steps s lawful = are_lawful s.actors s.steps lawful
@@ -69,7 +68,7 @@ two_in_flight s events lawful run p q =
     let here : length (put_on s events p q) ≤ length (taken_from s events q p) + 1 = answered s events lawful run p q in
     let there : length (put_on s events q p) ≤ length (taken_from s events p q) + 1 = answered s events lawful run q p in
     let behind : length (taken_from s events q p) ≤ length (put_on s events q p) =
-        omega (arith, ap length (flown_is s events lawful run q p), length-append (taken_from s events q p) (in_flight s events q p)) in
+    omega (arith, ap length (flown_is s events lawful run q p), length-append (taken_from s events q p) (in_flight s events q p)) in
     omega (arith, ap length (flown_is s events lawful run p q), length-append (taken_from s events p q) (in_flight s events p q))
 
 -- names of a lane rise by step
@@ -159,13 +158,16 @@ take_ready s lawful x kept p n at more = ready (filter (is_on n.from p) x.flight
   where
     left : x.place p < length (turns s p)
     left = left_before (turns s p) (x.place p) (λ done. let no : Take n ≡ Done = sym at ∙ done in absurd cc)
+
     on : is_on n.from p n ≡ true
     on = and_from (n.from == n.from) (n.to == p) (eq-eqb n.from n.from refl) (eq-eqb n.to p (subst (IsOwn p) at (next_own s lawful x p left)))
+
     longer : taken_by_now s (after s x p) n.from p ≡ taken_by_now s x n.from p ++ n ∷ []
     longer =
         taken_more s lawful x p left n.from p
         ∙ ap (λ t. taken_by_now s x n.from p ++ filter (is_on n.from p) (names_taken (t ∷ []))) at
         ∙ ap (λ names. taken_by_now s x n.from p ++ names) (pick_true (is_on n.from p n) (n ∷ []) [] on)
+
     ready : (flight : List Name) → filter (is_on n.from p) x.flight ≡ flight → list_any (is_name n) x.flight ≡ true
     ready [] e =
         let all : put_by_now s x n.from p ≡ taken_by_now s x n.from p ++ [] = kept.flown n.from p ∙ ap (λ names. taken_by_now s x n.from p ++ names) e in
@@ -173,8 +175,8 @@ take_ready s lawful x kept p n at more = ready (filter (is_on n.from p) x.flight
     ready (m ∷ rest) e =
         let all : put_by_now s x n.from p ≡ taken_by_now s x n.from p ++ m ∷ rest = kept.flown n.from p ∙ ap (λ names. taken_by_now s x n.from p ++ names) e in
         let same : m ≡ n = same_next (taken_by_now s x n.from p) rest [] (lane s n.from p) m n
-            (subst (λ names. IsFront names (lane s n.from p)) all (put_front 0 s.actors s.steps lawful n.from p (x.place n.from)))
-            (subst (λ names. IsFront names (lane s n.from p)) longer (taken_front 0 s.actors s.steps lawful p n.from ((after s x p).place p))) in
+        (subst (λ names. IsFront names (lane s n.from p)) all (put_front 0 s.actors s.steps lawful n.from p (x.place n.from)))
+        (subst (λ names. IsFront names (lane s n.from p)) longer (taken_front 0 s.actors s.steps lawful p n.from ((after s x p).place p))) in
         first_in_flight n.from p n x.flight rest (e ∙ ap (λ a. a ∷ rest) same)
 
 -- in such a state all actors are Done, or an event is enabled
@@ -182,7 +184,7 @@ pub can_go_on : (s : Schedule) → AreLawful s.actors s.steps → (x : State) �
 can_go_on s lawful x kept = elim (search_below s.actors (λ p. nat_lt (x.place p) (length (turns s p)))) [
   | inl (p, low, left) ↦
       let (a, a_low, ready) = progress_from 0 s.actors s.steps lawful x.place x.flight (λ a b a_low b_low n at from more.
-          take_ready s lawful x kept a n at (subst (λ b. length (taken_by_now s x b a) < length (put_by_now s x b a)) (sym from) more)) (p, low, ltb-true _ _ left) in
+      take_ready s lawful x kept a n at (subst (λ b. length (taken_by_now s x b a) < length (put_by_now s x b a)) (sym from) more)) (p, low, ltb-true _ _ left) in
       inr (a, and_from (nat_lt a s.actors) _ (lt-ltb _ _ a_low) ready)
   | inr none ↦ inl (λ p low. get_or_past (turns s p) (x.place p) Done (ltb-false _ _ (none p low)))
 ]
@@ -190,7 +192,7 @@ can_go_on s lawful x kept = elim (search_below s.actors (λ p. nat_lt (x.place p
 pub progress : OnRuns (λ s events. AllDone s (end_of s events) ⊎ ((p : ℕ) × IsTrue (is_enabled s (end_of s events) p)))
 progress s events lawful run = can_go_on s (lawful_steps s lawful) (end_of s events) (kept s events lawful run)
 
-sum_agree : (f g : ℕ → ℕ) (a n : ℕ) → ((p : ℕ) → a ≤ p → p < a + n → f p ≡ g p) → sum_by f (range_with_len a n) ≡ sum_by g (range_with_len a n)
+pub sum_agree : (f g : ℕ → ℕ) (a n : ℕ) → ((p : ℕ) → a ≤ p → p < a + n → f p ≡ g p) → sum_by f (range_with_len a n) ≡ sum_by g (range_with_len a n)
 sum_agree f g a zero same = refl
 sum_agree f g a (suc n) same =
     let rest : sum_by f (range_with_len (a + 1) n) ≡ sum_by g (range_with_len (a + 1) n) = sum_agree f g (a + 1) n (λ p h l. same p (omega arith) (omega arith)) in
@@ -208,7 +210,7 @@ sum_one_more f e a (suc n) h l =
       | inl same ↦
           let here : g a ≡ f a + 1 = pick_true (a == e) (f a + 1) (f a) (eq-eqb a e same) in
           let rest : sum_by g (range_with_len (a + 1) n) ≡ sum_by f (range_with_len (a + 1) n) =
-              sum_agree g f (a + 1) n (λ p above below. pick_false (p == e) (f p + 1) (f p) (ne_eqb p e (λ is. omega arith))) in
+          sum_agree g f (a + 1) n (λ p above below. pick_false (p == e) (f p + 1) (f p) (ne_eqb p e (λ is. omega arith))) in
           omega arith
       | inr other ↦
           let here : g a ≡ f a = pick_false (a == e) (f a + 1) (f a) (ne_eqb a e other) in
@@ -226,20 +228,24 @@ places_sum s x (e ∷ events) run =
     let below : e < s.actors = ltb-true _ _ low in
     let one : sum_by (after s x e).place (range_with_len 0 s.actors) ≡ sum_by x.place (range_with_len 0 s.actors) + 1 = sum_one_more x.place e 0 s.actors (omega arith) (omega arith) in
     let rest : sum_by (after_all s (after s x e) events).place (range_with_len 0 s.actors) ≡ sum_by (after s x e).place (range_with_len 0 s.actors) + length events =
-        places_sum s (after s x e) events later in
+    places_sum s (after s x e) events later in
     omega arith
 
-sum_zero : (a n : ℕ) → sum_by (λ p. 0) (range_with_len a n) ≡ 0
+pub sum_zero : (a n : ℕ) → sum_by (λ p. 0) (range_with_len a n) ≡ 0
 sum_zero a zero = refl
 sum_zero a (suc n) = omega (arith, sum_by-cons (λ p. 0) a (range_with_len (a + 1) n), sum_zero (a + 1) n)
 
-pub counted : OnRuns (λ s events. AllDone s (end_of s events) → length events ≡ turns_of_all s)
-counted s events lawful run done =
+-- how many turns all actors have
+abbrev pub turns_of_all : Schedule → ℕ
+turns_of_all s = sum_by (λ p. length (turns s p)) (range_with_len 0 s.actors)
+
+pub all_turns_made : OnRuns (λ s events. AllDone s (end_of s events) → length events ≡ turns_of_all s)
+all_turns_made s events lawful run done =
     let x : State = end_of s events in
     let sum : sum_by x.place (range_with_len 0 s.actors) ≡ sum_by (λ p. 0) (range_with_len 0 s.actors) + length events = places_sum s opening events run in
     let is : sum_by x.place (range_with_len 0 s.actors) ≡ turns_of_all s =
-        sum_agree x.place (λ p. length (turns s p)) 0 s.actors (λ p h l.
-          let past : length (turns s p) ≤ x.place p = turns_past s events lawful run done p (omega arith) in
-          let within : x.place p ≤ length (turns s p) = (kept s events lawful run).within p (omega arith) in
-          omega arith) in
+    sum_agree x.place (λ p. length (turns s p)) 0 s.actors (λ p h l.
+    let past : length (turns s p) ≤ x.place p = turns_past s events lawful run done p (omega arith) in
+    let within : x.place p ≤ length (turns s p) = (kept s events lawful run).within p (omega arith) in
+    omega arith) in
     omega (arith, sum_zero 0 s.actors)

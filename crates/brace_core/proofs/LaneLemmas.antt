@@ -1,11 +1,11 @@
 -- What a put and a take on one of the plain lanes change.
-use Rattle.std.proofs.Common.{◌≡◌, ℕ, zero, suc, ◌+◌, ◌-◌, ◌*◌, ◌^◌, ◌<◌, ◌≤◌, Bool, true, false, cond, ◌==◌, ◌&&◌, ◌||◌, ◌⊎◌, nat_lt, List, [], ◌∷◌, ◌++◌, length, take, drop, get_or, set, replicate, Option, Some, None, is_some, IfSome, OnSome, option_to_list, refl, sym, ap, ◌∙◌, subst, arith, inl, inr}
+use Rattle.std.proofs.Common.{◌≡◌, ℕ, zero, suc, ◌+◌, ◌*◌, ◌^◌, ◌<◌, ◌≤◌, true, false, cond, ◌==◌, ◌⊎◌, nat_lt, List, [], ◌∷◌, ◌++◌, length, take, drop, get_or, set, replicate, Option, Some, None, is_some, IfSome, OnSome, option_to_list, refl, sym, ap, ◌∙◌, subst, arith, inl, inr}
 use Rattle.std.specs.List.{filter, list_any, slice_get}
-use Rattle.std.proofs.lemmas.Bool.{eqb-true, eq-eqb, ne_eqb, and_parts, and_from, lt-ltb, le-ltb, cases_lt, cases_eq, cases_Bool}
+use Rattle.std.proofs.lemmas.Bool.{eqb-true, eq-eqb, and_parts, and_from, lt-ltb, le-ltb, cases_lt, cases_Bool}
 use Rattle.std.proofs.lemmas.List.{get_or-set_same, get_or-set_other, length-set, length-append, length-take-le, length-take, length-replicate, get_or-replicate, get_or_past, append-nil, take_more, drop_more, drop_all, drop-append-le, get_or-take, get_or_read, set-get_or}
 use Rattle.std.proofs.lemmas.List.Elements.{filter-append}
 use Rattle.std.proofs.lemmas.Nat.{mul-add-lt, same_from_place}
-use Rattle.std.proofs.lemmas.Option.{slice_get_within, slice_get_past, get_or_from_slice_get}
+use Rattle.std.proofs.lemmas.Option.{slice_get_within, get_or_from_slice_get}
 use Rattle.brace_core.specs.declared.name.Name.{Name}
 use Rattle.brace_core.specs.declared.name.Turn.TheVariants.{Put, Take}
 use Rattle.brace_core.specs.Schedule.{Pair, Schedule, meets, name, names_from, lane}
@@ -105,12 +105,13 @@ module _ {F S : Type 0} (schedule : S → Schedule) (right : S → Name → F �
         within p q = elim (one_or_none p q name) [
           | inl on ↦
               let low : puts_of v p q < length (lane (schedule v.setting) p q) =
-                  subst (λ n. n < length (lane (schedule v.setting) p q)) (sym (at_name (puts_of v) p q name on))
-                  (subst (λ n. puts_of v name.from name.to < n) (sym (at_name (λ a b. length (lane (schedule v.setting) a b)) p q name on)) (slice_get_within _ _ name next)) in
+              subst (λ n. n < length (lane (schedule v.setting) p q)) (sym (at_name (puts_of v) p q name on))
+              (subst (λ n. puts_of v name.from name.to < n) (sym (at_name (λ a b. length (lane (schedule v.setting) a b)) p q name on)) (slice_get_within _ _ name next)) in
               let one : one_on name p q ≡ 1 = pick_true (is_on p q name) 1 0 on in
               omega (arith, put_puts p q)
           | inr off ↦ let none : one_on name p q ≡ 0 = pick_false (is_on p q name) 1 0 off in omega (arith, put_puts p q, sound.within p q)
         ]
+
         balanced : (p q : ℕ) → puts_of (with_lane v name put) p q ≤ takes_of (with_lane v name put) q p + 1
         balanced p q = elim (one_or_none p q name) [
           | inl on ↦
@@ -119,16 +120,17 @@ module _ {F S : Type 0} (schedule : S → Schedule) (right : S → Name → F �
               omega (arith, put_puts p q, put_takes q p)
           | inr off ↦ let none : one_on name p q ≡ 0 = pick_false (is_on p q name) 1 0 off in omega (arith, put_puts p q, put_takes q p, sound.answered p q)
         ]
+
         is_right : (p q i : ℕ) (other : Name) (x : F) → slice_get (lane (schedule v.setting) p q) (takes_of (with_lane v name put) p q + i) ≡ Some other →
             slice_get (lane_of (with_lane v name put) p q).pieces i ≡ Some x → right v.setting other x
         is_right p q i other x at held = elim (one_or_none p q name) [
           | inl on ↦ let (from, to) = next_below _ next in
               let held' : slice_get (here.pieces ++ piece ∷ []) i ≡ Some x =
-                  ap (λ l. slice_get l.pieces i) (sym (at_name (lane_of (with_lane v name put)) p q name on ∙ lane_here v name sound.size from to put)) ∙ held in
+              ap (λ l. slice_get l.pieces i) (sym (at_name (lane_of (with_lane v name put)) p q name on ∙ lane_here v name sound.size from to put)) ∙ held in
               let taken : takes_of (with_lane v name put) p q ≡ takes_of v name.from name.to = put_takes p q ∙ at_name (takes_of v) p q name on in
               let at' : slice_get (lane (schedule v.setting) name.from name.to) (takes_of v name.from name.to + i) ≡ Some other =
-                  ap (λ n. slice_get (lane (schedule v.setting) name.from name.to) (n + i)) (sym taken)
-                  ∙ ap (λ names. slice_get names (takes_of (with_lane v name put) p q + i)) (sym (at_name (lane (schedule v.setting)) p q name on)) ∙ at in
+              ap (λ n. slice_get (lane (schedule v.setting) name.from name.to) (n + i)) (sym taken)
+              ∙ ap (λ names. slice_get names (takes_of (with_lane v name put) p q + i)) (sym (at_name (lane (schedule v.setting)) p q name on)) ∙ at in
               elim (at_push here.pieces piece i x held') [
                 | inl old ↦ sound.is_right name.from name.to i other x at' old
                 | inr (last, same) ↦
@@ -138,7 +140,7 @@ module _ {F S : Type 0} (schedule : S → Schedule) (right : S → Name → F �
               ]
           | inr off ↦ let (from, to) = next_below _ next in
               sound.is_right p q i other x (ap (λ n. slice_get (lane (schedule v.setting) p q) (n + i)) (sym (put_takes p q)) ∙ at)
-                (ap (λ l. slice_get l.pieces i) (sym (lane_elsewhere v name sound.size from to put p q off)) ∙ held)
+              (ap (λ l. slice_get l.pieces i) (sym (lane_elsewhere v name sound.size from to put p q off)) ∙ held)
         ]
 
     -- the name goes behind the names in flight
@@ -147,25 +149,25 @@ module _ {F S : Type 0} (schedule : S → Schedule) (right : S → Name → F �
       | inl on ↦
           let names : List Name = lane (schedule v.setting) p q in
           let is : slice_get names (puts_of v p q) ≡ Some name =
-              ap (slice_get names) (at_name (puts_of v) p q name on) ∙ ap (λ ns. slice_get ns (puts_of v name.from name.to)) (at_name (lane (schedule v.setting)) p q name on) ∙ next in
+          ap (slice_get names) (at_name (puts_of v) p q name on) ∙ ap (λ ns. slice_get ns (puts_of v name.from name.to)) (at_name (lane (schedule v.setting)) p q name on) ∙ next in
           let low : puts_of v p q < length names = slice_get_within names _ name is in
           let more : puts_of (with_lane v name put) p q ≡ puts_of v p q + 1 = put_puts p q ∙ ap (λ n. puts_of v p q + n) (pick_true (is_on p q name) 1 0 on) in
           filter-append (is_on p q) flight (name ∷ [])
           ∙ ap (λ ns. ns ++ filter (is_on p q) (name ∷ [])) (shown p q)
           ∙ ap (λ ns. drop (takes_of v p q) (take (puts_of v p q) names) ++ ns) (pick_true (is_on p q name) (name ∷ []) [] on)
           ∙ sym (
-            ap (λ n. drop n (take (puts_of (with_lane v name put) p q) names)) (put_takes p q)
-            ∙ ap (λ n. drop (takes_of v p q) (take n names)) more
-            ∙ ap (drop (takes_of v p q)) (take_more names (puts_of v p q) name low ∙ ap (λ n. take (puts_of v p q) names ++ n ∷ []) (get_or_from_slice_get names (puts_of v p q) name name is))
-            ∙ drop-append-le (takes_of v p q) (take (puts_of v p q) names) (name ∷ []) (omega (arith, length-take-le (puts_of v p q) names (omega arith))))
+          ap (λ n. drop n (take (puts_of (with_lane v name put) p q) names)) (put_takes p q)
+          ∙ ap (λ n. drop (takes_of v p q) (take n names)) more
+          ∙ ap (drop (takes_of v p q)) (take_more names (puts_of v p q) name low ∙ ap (λ n. take (puts_of v p q) names ++ n ∷ []) (get_or_from_slice_get names (puts_of v p q) name name is))
+          ∙ drop-append-le (takes_of v p q) (take (puts_of v p q) names) (name ∷ []) (omega (arith, length-take-le (puts_of v p q) names (omega arith))))
       | inr off ↦
           filter-append (is_on p q) flight (name ∷ [])
           ∙ ap (λ ns. filter (is_on p q) flight ++ ns) (pick_false (is_on p q name) (name ∷ []) [] off)
           ∙ append-nil (filter (is_on p q) flight) ∙ shown p q
           ∙ sym (
-            ap (λ n. drop n (take (puts_of (with_lane v name put) p q) (lane (schedule v.setting) p q))) (put_takes p q)
-            ∙ ap (λ n. drop (takes_of v p q) (take n (lane (schedule v.setting) p q)))
-              (put_puts p q ∙ ap (λ n. puts_of v p q + n) (pick_false (is_on p q name) 1 0 off) ∙ (let none : puts_of v p q + 0 ≡ puts_of v p q = omega arith in none)))
+          ap (λ n. drop n (take (puts_of (with_lane v name put) p q) (lane (schedule v.setting) p q))) (put_takes p q)
+          ∙ ap (λ n. drop (takes_of v p q) (take n (lane (schedule v.setting) p q)))
+          (put_puts p q ∙ ap (λ n. puts_of v p q + n) (pick_false (is_on p q name) 1 0 off) ∙ (let none : puts_of v p q + 0 ≡ puts_of v p q = omega arith in none)))
     ]
 
   module _ (x : F) (rest : List F) (held : here.pieces ≡ x ∷ rest) (next : IsNext (schedule v.setting) name (takes_of v name.from name.to)) where
@@ -175,7 +177,7 @@ module _ {F S : Type 0} (schedule : S → Schedule) (right : S → Name → F �
     took_puts : (p q : ℕ) → puts_of (with_lane v name took) p q ≡ puts_of v p q
     took_puts p q = let (from, to) = next_below _ next in
         let e : puts_of (with_lane v name took) p q ≡ puts_of v p q + cond (is_on p q name) 0 0 =
-            lane_counts v name sound.size from to took (λ l. l.taken + length l.pieces) 0 (omega (arith, ap length held)) p q in
+        lane_counts v name sound.size from to took (λ l. l.taken + length l.pieces) 0 (omega (arith, ap length held)) p q in
         let none : cond {A = ℕ} (is_on p q name) 0 0 ≡ 0 = elim (is_on p q name) as (λ b. cond {A = ℕ} b 0 0 ≡ 0) [ true ↦ refl | false ↦ refl ] in
         omega arith
 
@@ -190,25 +192,27 @@ module _ {F S : Type 0} (schedule : S → Schedule) (right : S → Name → F �
       where
         within : (p q : ℕ) → puts_of (with_lane v name took) p q ≤ length (lane (schedule v.setting) p q)
         within p q = omega (arith, took_puts p q, sound.within p q)
+
         balanced : (p q : ℕ) → puts_of (with_lane v name took) p q ≤ takes_of (with_lane v name took) q p + 1
         balanced p q = omega (arith, took_puts p q, took_takes q p, sound.answered p q)
+
         is_right : (p q i : ℕ) (other : Name) (y : F) → slice_get (lane (schedule v.setting) p q) (takes_of (with_lane v name took) p q + i) ≡ Some other →
             slice_get (lane_of (with_lane v name took) p q).pieces i ≡ Some y → right v.setting other y
         is_right p q i other y at kept = elim (one_or_none p q name) [
           | inl on ↦ let (from, to) = next_below _ next in
               let kept' : slice_get here.pieces (suc i) ≡ Some y =
-                  ap (λ xs. slice_get xs (suc i)) held
-                  ∙ ap (λ l. slice_get l.pieces i) (sym (at_name (lane_of (with_lane v name took)) p q name on ∙ lane_here v name sound.size from to took)) ∙ kept in
+              ap (λ xs. slice_get xs (suc i)) held
+              ∙ ap (λ l. slice_get l.pieces i) (sym (at_name (lane_of (with_lane v name took)) p q name on ∙ lane_here v name sound.size from to took)) ∙ kept in
               let more : takes_of (with_lane v name took) p q + i ≡ takes_of v name.from name.to + suc i =
-                  let one : one_on name p q ≡ 1 = pick_true (is_on p q name) 1 0 on in
-                  omega (arith, took_takes p q, at_name (takes_of v) p q name on) in
+              let one : one_on name p q ≡ 1 = pick_true (is_on p q name) 1 0 on in
+              omega (arith, took_takes p q, at_name (takes_of v) p q name on) in
               sound.is_right name.from name.to (suc i) other y
-                (ap (slice_get (lane (schedule v.setting) name.from name.to)) (sym more)
-                ∙ ap (λ names. slice_get names (takes_of (with_lane v name took) p q + i)) (sym (at_name (lane (schedule v.setting)) p q name on)) ∙ at) kept'
+              (ap (slice_get (lane (schedule v.setting) name.from name.to)) (sym more)
+              ∙ ap (λ names. slice_get names (takes_of (with_lane v name took) p q + i)) (sym (at_name (lane (schedule v.setting)) p q name on)) ∙ at) kept'
           | inr off ↦ let (from, to) = next_below _ next in
               let same : takes_of (with_lane v name took) p q ≡ takes_of v p q = let none : one_on name p q ≡ 0 = pick_false (is_on p q name) 1 0 off in omega (arith, took_takes p q) in
               sound.is_right p q i other y (ap (λ n. slice_get (lane (schedule v.setting) p q) (n + i)) (sym same) ∙ at)
-                (ap (λ l. slice_get l.pieces i) (sym (lane_elsewhere v name sound.size from to took p q off)) ∙ kept)
+              (ap (λ l. slice_get l.pieces i) (sym (lane_elsewhere v name sound.size from to took p q off)) ∙ kept)
         ]
 
     -- the name is the first in flight on its lane
@@ -217,7 +221,7 @@ module _ {F S : Type 0} (schedule : S → Schedule) (right : S → Name → F �
     flies_first flight shown p q on =
         let names : List Name = lane (schedule v.setting) p q in
         let is : slice_get names (takes_of v p q) ≡ Some name =
-            ap (slice_get names) (at_name (takes_of v) p q name on) ∙ ap (λ ns. slice_get ns (takes_of v name.from name.to)) (at_name (lane (schedule v.setting)) p q name on) ∙ next in
+        ap (slice_get names) (at_name (takes_of v) p q name on) ∙ ap (λ ns. slice_get ns (takes_of v name.from name.to)) (at_name (lane (schedule v.setting)) p q name on) ∙ next in
         let within : puts_of v p q ≤ length names = sound.within p q in
         let more : takes_of v p q < puts_of v p q = omega (arith, ap length held, at_name (puts_of v) p q name on, at_name (takes_of v) p q name on) in
         shown p q
@@ -229,14 +233,14 @@ module _ {F S : Type 0} (schedule : S → Schedule) (right : S → Name → F �
       | inl on ↦
           without_first p q name flight _ on (flies_first flight shown p q on)
           ∙ sym (
-            ap (λ n. drop n (take (puts_of (with_lane v name took) p q) (lane (schedule v.setting) p q))) (took_takes p q ∙ ap (λ n. takes_of v p q + n) (pick_true (is_on p q name) 1 0 on))
-            ∙ ap (λ n. drop (takes_of v p q + 1) (take n (lane (schedule v.setting) p q))) (took_puts p q))
+          ap (λ n. drop n (take (puts_of (with_lane v name took) p q) (lane (schedule v.setting) p q))) (took_takes p q ∙ ap (λ n. takes_of v p q + n) (pick_true (is_on p q name) 1 0 on))
+          ∙ ap (λ n. drop (takes_of v p q + 1) (take n (lane (schedule v.setting) p q))) (took_puts p q))
       | inr off ↦
           without_elsewhere p q name flight off ∙ shown p q
           ∙ sym (
-            ap (λ n. drop n (take (puts_of (with_lane v name took) p q) (lane (schedule v.setting) p q)))
-              (took_takes p q ∙ ap (λ n. takes_of v p q + n) (pick_false (is_on p q name) 1 0 off) ∙ (let none : takes_of v p q + 0 ≡ takes_of v p q = omega arith in none))
-            ∙ ap (λ n. drop (takes_of v p q) (take n (lane (schedule v.setting) p q))) (took_puts p q))
+          ap (λ n. drop n (take (puts_of (with_lane v name took) p q) (lane (schedule v.setting) p q)))
+          (took_takes p q ∙ ap (λ n. takes_of v p q + n) (pick_false (is_on p q name) 1 0 off) ∙ (let none : takes_of v p q + 0 ≡ takes_of v p q = omega arith in none))
+          ∙ ap (λ n. drop (takes_of v p q) (take n (lane (schedule v.setting) p q))) (took_puts p q))
     ]
 
     take_found : (flight : List Name) → AreInFlight (schedule v.setting) v flight → list_any (is_name name) flight ≡ true
@@ -249,7 +253,7 @@ module _ {F S : Type 0} (schedule : S → Schedule) (right : S → Name → F �
         let (first, rest, is) = some_in_flight name.from name.to name flight (is_on_itself name) found in
         let names : List Name = lane (schedule v.setting) name.from name.to in
         let past : length (take (puts_of v name.from name.to) names) ≤ takes_of v name.from name.to =
-            omega (arith, ap length none, length-take (puts_of v name.from name.to) names) in
+        omega (arith, ap length none, length-take (puts_of v name.from name.to) names) in
         let no : first ∷ rest ≡ [] = sym is ∙ shown name.from name.to ∙ drop_all (takes_of v name.from name.to) (take (puts_of v name.from name.to) names) past in
         absurd cc
     | inr missed ↦ missed
@@ -299,7 +303,7 @@ module _ {F S : Type 0} (schedule : S → Schedule) (right : S → Name → F �
   pub room : IsNext (schedule v.setting) name (puts_of v name.from name.to) → puts_of v name.from name.to ≡ takes_of v name.to name.from → length r.pieces < 2
   room = subst (λ (u : OnLanes F S). IsNext (schedule u.setting) name (puts_of u name.from name.to) → puts_of u name.from name.to ≡ takes_of u name.to name.from → length r.pieces < 2) is
       (λ next answered. let (from, to) = next_below schedule right V sound name _ next in
-        subst (λ (l : OnLane F). length l.pieces < 2) (sym (lane_read from to)) (has_room schedule right V sound name answered))
+      subst (λ (l : OnLane F). length l.pieces < 2) (sym (lane_read from to)) (has_room schedule right V sound name answered))
 
   pub put_done : (piece : F) (n : OnLane F) → n ≡ record { taken = r.taken; pieces = r.pieces ++ piece ∷ [] } →
       IsNext (schedule v.setting) name (puts_of v name.from name.to) → puts_of v name.from name.to ≡ takes_of v name.to name.from → right v.setting name piece →
@@ -307,22 +311,22 @@ module _ {F S : Type 0} (schedule : S → Schedule) (right : S → Name → F �
   put_done piece n new = subst (λ (u : OnLanes F S). IsNext (schedule u.setting) name (puts_of u name.from name.to) → puts_of u name.from name.to ≡ takes_of u name.to name.from →
       right u.setting name piece → IsPutDone schedule right u (with_lane V name n) name) is
       (λ next answered fits. let (from, to) = next_below schedule right V sound name _ next in
-        let now : n ≡ put schedule right V sound name piece next answered fits = new ∙ ap (λ (l : OnLane F). record { taken = l.taken; pieces = l.pieces ++ piece ∷ [] }) (lane_read from to) in
-        subst (λ (l : OnLane F). IsPutDone schedule right V (with_lane V name l) name) (sym now) (record {
-          sound = sound_put schedule right V sound name piece next answered fits;
-          same = refl;
-          actors = refl;
-          puts = put_puts schedule right V sound name piece next answered fits;
-          takes = put_takes schedule right V sound name piece next answered fits;
-          event = put_event schedule right V sound name piece next answered fits
-        }))
+      let now : n ≡ put schedule right V sound name piece next answered fits = new ∙ ap (λ (l : OnLane F). record { taken = l.taken; pieces = l.pieces ++ piece ∷ [] }) (lane_read from to) in
+      subst (λ (l : OnLane F). IsPutDone schedule right V (with_lane V name l) name) (sym now) (record {
+        sound = sound_put schedule right V sound name piece next answered fits;
+        same = refl;
+        actors = refl;
+        puts = put_puts schedule right V sound name piece next answered fits;
+        takes = put_takes schedule right V sound name piece next answered fits;
+        event = put_event schedule right V sound name piece next answered fits;
+      }))
 
   -- how often a name was taken from a lane fits 64 bits
   pub few_taken : IsNext (schedule v.setting) name (takes_of v name.from name.to) → r.taken + 1 < 2 ^ 64
   few_taken = subst (λ (u : OnLanes F S). IsNext (schedule u.setting) name (takes_of u name.from name.to) → r.taken + 1 < 2 ^ 64) is
       (λ next. let (from, to) = next_below schedule right V sound name _ next in
-        let low : takes_of V name.from name.to < length (lane (schedule V.setting) name.from name.to) = slice_get_within _ _ name next in
-        omega (arith, ap (λ (l : OnLane F). l.taken) (lane_read from to), names_at_most 0 (schedule V.setting).steps name.from name.to, sound.short))
+      let low : takes_of V name.from name.to < length (lane (schedule V.setting) name.from name.to) = slice_get_within _ _ name next in
+      omega (arith, ap (λ (l : OnLane F). l.taken) (lane_read from to), names_at_most 0 (schedule V.setting).steps name.from name.to, sound.short))
 
   pub take_done : (out : Option F) (n : OnLane F) → n.taken ≡ cond (is_some out) (r.taken + 1) r.taken → r.pieces ≡ option_to_list out ++ n.pieces → is_some out ≡ nat_lt 0 (length r.pieces) →
       IsNext (schedule v.setting) name (takes_of v name.from name.to) → IsTakeDone schedule right v (with_lane V name n) name out
@@ -334,7 +338,7 @@ module _ {F S : Type 0} (schedule : S → Schedule) (right : S → Name → F �
       go None n taken pieces found next = let (from, to) = next_below schedule right V sound name _ next in
           let same : n ≡ r = ap (λ (k : ℕ). record { taken = k; pieces = n.pieces }) taken ∙ ap (λ (xs : List F). record { taken = r.taken; pieces = xs }) (sym pieces) in
           let here : with_lane V name n ≡ V =
-              ap (with_lane V name) (same ∙ read) ∙ ap (λ (ls : List (OnLane F)). record { setting = V.setting; actors = V.actors; lanes = ls }) (set-get_or V.lanes (name.from * V.actors + name.to) r) in
+          ap (with_lane V name) (same ∙ read) ∙ ap (λ (ls : List (OnLane F)). record { setting = V.setting; actors = V.actors; lanes = ls }) (set-get_or V.lanes (name.from * V.actors + name.to) r) in
           let empty : r.pieces ≡ [] = no_pieces r.pieces (sym found) in
           subst (λ (w : OnLanes F S). IsTakeDone schedule right V w name None) (sym here) (record {
             sound = sound;
@@ -345,7 +349,7 @@ module _ {F S : Type 0} (schedule : S → Schedule) (right : S → Name → F �
             is_right = tt;
             found = λ flight shown. sym (take_missed schedule right V sound name (ap (λ (l : OnLane F). l.pieces) (sym (lane_read from to)) ∙ empty) flight shown);
             event = tt;
-            none = sym (le-ltb _ _ (omega (arith, ap length (ap (λ (l : OnLane F). l.pieces) (sym (lane_read from to)) ∙ empty))))
+            none = sym (le-ltb _ _ (omega (arith, ap length (ap (λ (l : OnLane F). l.pieces) (sym (lane_read from to)) ∙ empty))));
           })
       go (Some x) n taken pieces found next = let (from, to) = next_below schedule right V sound name _ next in
           let l : OnLane F = lane_of V name.from name.to in
@@ -360,7 +364,7 @@ module _ {F S : Type 0} (schedule : S → Schedule) (right : S → Name → F �
             is_right = right_take schedule right V sound name x n.pieces held next;
             found = λ flight shown. sym (take_found schedule right V sound name x n.pieces held next flight shown);
             event = take_event schedule right V sound name x n.pieces held next;
-            none = sym (lt-ltb _ _ (omega (arith, ap length held)))
+            none = sym (lt-ltb _ _ (omega (arith, ap length held)));
           })
 
 -- lanes on which nothing was put
@@ -390,8 +394,8 @@ sound_fresh {F} {S} schedule right setting n few below short =
       within = λ p q. omega (arith, puts p q);
       answered = λ p q. omega (arith, puts p q);
       is_right = λ p q i name piece at held.
-        let none : slice_get [] i ≡ Some piece = ap (λ (l : OnLane F). slice_get l.pieces i) (sym (lane_fresh setting n p q)) ∙ held in
-        absurd cc
+          let none : slice_get [] i ≡ Some piece = ap (λ (l : OnLane F). slice_get l.pieces i) (sym (lane_fresh setting n p q)) ∙ held in
+          absurd cc;
     }
 
 pub sound_made : {F S : Type 0} (schedule : S → Schedule) (right : S → Name → F → Type 0) (setting given : S) (n made : ℕ) (lanes : List (OnLane F)) →

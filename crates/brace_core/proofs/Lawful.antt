@@ -1,9 +1,7 @@
 -- Lawful schedules: their names are between their actors, and steps made pair by pair are lawful.
-use Rattle.std.proofs.Common.{◌≡◌, ℕ, ◌+◌, ◌<◌, ◌≤◌, Bool, true, false, cond, ◌==◌, ◌&&◌, ◌||◌, List, [], ◌∷◌, length, count_by, refl, sym, ap, ◌∙◌, subst, arith, inl, inr}
-use Rattle.std.specs.List.{list_any}
-use Rattle.std.proofs.lemmas.Bool.{eqb-true, eq-eqb, ne_eqb, and_parts, or_cases, cases_lt, cases_Bool, true≢false}
+use Rattle.std.proofs.Common.{◌≡◌, ℕ, ◌+◌, ◌<◌, ◌≤◌, Bool, true, false, cond, ◌==◌, ◌&&◌, ◌||◌, List, [], ◌∷◌, length, count_by, refl, sym, ap, ◌∙◌, arith, inl, inr}
+use Rattle.std.proofs.lemmas.Bool.{eqb-true, ne_eqb, and_parts, or_cases, cases_lt, cases_Bool, true≢false}
 use Rattle.std.proofs.lemmas.List.Sums.{sum_by-cons}
-use Rattle.brace_core.specs.declared.name.Name.{Name}
 use Rattle.brace_core.specs.Schedule.{Pair, Schedule, IsLawful, IsLawfulStep, is_pair, meets, lane}
 use Rattle.brace_core.specs.Lanes.{AreBelow}
 use Rattle.brace_core.proofs.Lists.{pick_true, pick_false}
@@ -18,6 +16,7 @@ names_below s lawful p q some = (below p q some, below_to p q some)
       | inl low ↦ low
       | inr high ↦ absurd (omega (arith, ap length (lane_outside 0 s.actors s.steps (lawful_steps s lawful) p q high)))
     ]
+
     below_to : (p q : ℕ) → 0 < length (lane s p q) → q < s.actors
     below_to p q some = elim (cases_lt q s.actors) [
       | inl low ↦ low
@@ -45,7 +44,7 @@ or_swap true false c = refl
 or_swap false true c = refl
 or_swap false false c = refl
 
-none_counted : (p q : ℕ) (step : List Pair) → meets step p q ≡ false → count_by (is_pair p q) step ≡ 0
+pub none_counted : (p q : ℕ) (step : List Pair) → meets step p q ≡ false → count_by (is_pair p q) step ≡ 0
 none_counted p q [] e = refl
 none_counted p q (pair ∷ step) e = elim (cases_Bool (is_pair p q pair)) [
   | inl is ↦ absurd (true≢false (sym (ap (λ v. v || meets step p q) is) ∙ e))
@@ -62,6 +61,7 @@ module _ (actors p q : ℕ) (step : List Pair) (p_low : p < actors) (q_low : q <
     where
       is_at : (a b c d : ℕ) → is_pair a b (ordered c d) ≡ true → (c ≡ a) × (d ≡ b)
       is_at a b c d e = let (x, y) = and_parts (c == a) (d == b) e in (eqb-true _ _ x, eqb-true _ _ y)
+
       below : (a b : ℕ) → meets (both p q step) a b ≡ true → a < actors
       below a b e = elim (or_cases (is_pair a b (ordered p q)) (is_pair a b (ordered q p) || meets step a b) e) [
         | inl one ↦ let (x, y) = is_at a b p q one in omega arith
@@ -70,6 +70,7 @@ module _ (actors p q : ℕ) (step : List Pair) (p_low : p < actors) (q_low : q <
           | inr rest ↦ lawful.below a b rest
         ]
       ]
+
       different : (a : ℕ) → meets (both p q step) a a ≡ false
       different a = elim (cases_Bool (meets (both p q step) a a)) [
         | inl e ↦ absurd (elim (or_cases (is_pair a a (ordered p q)) (is_pair a a (ordered q p) || meets step a a) e) [
@@ -81,12 +82,14 @@ module _ (actors p q : ℕ) (step : List Pair) (p_low : p < actors) (q_low : q <
         ])
         | inr no_meeting ↦ no_meeting
       ]
+
       both_ways : (a b : ℕ) → meets (both p q step) a b ≡ meets (both p q step) b a
       both_ways a b =
           ap (λ v. v || (is_pair a b (ordered q p) || meets step a b)) (and_swap (p == a) (q == b))
           ∙ ap (λ v. is_pair b a (ordered q p) || (v || meets step a b)) (and_swap (q == a) (p == b))
           ∙ ap (λ v. is_pair b a (ordered q p) || (is_pair b a (ordered p q) || v)) (lawful.both_ways a b)
           ∙ or_swap (is_pair b a (ordered q p)) (is_pair b a (ordered p q)) (meets step b a)
+
       once : (a b : ℕ) → count_by (is_pair a b) (both p q step) ≤ 1
       once a b =
           let f : Pair → ℕ = λ x. cond (is_pair a b x) 1 0 in

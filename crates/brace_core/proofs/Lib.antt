@@ -11,3 +11,4 @@ pub mod ActorLemmas
 pub mod OrderLemmas
 pub mod Lawful
 pub mod SmallLawful
+pub mod Counts

@@ -1,16 +1,15 @@
 -- The loop over drawn events: where actors and lanes stand after a run, one event more, and the end.
-use Rattle.std.proofs.Common.{◌≡◌, ℕ, zero, suc, ◌+◌, ◌-◌, ◌*◌, ◌/◌, ◌%◌, ◌^◌, ◌<◌, ◌≤◌, ◌⊎◌, Bool, true, false, cond, ◌==◌, ◌&&◌, nat_lt, IsTrue, List, [], ◌∷◌, ◌++◌, map, length, get_or, set, slice_index, refl, sym, ap, ◌∙◌, subst, arith, inl, inr}
-use Rattle.std.specs.List.{All, filter, list_any, range_with_len, sum_by}
-use Rattle.std.proofs.lemmas.Bool.{eq-eqb, ne_eqb, and_parts, and_from, lt-ltb, ltb-true, cases_lt, cases_eq}
+use Rattle.std.proofs.Common.{◌≡◌, ℕ, zero, suc, ◌+◌, ◌-◌, ◌*◌, ◌/◌, ◌%◌, ◌^◌, ◌<◌, Bool, true, false, cond, ◌==◌, ◌&&◌, nat_lt, List, [], ◌∷◌, ◌++◌, map, length, get_or, set, slice_index, refl, sym, ap, ◌∙◌, subst, arith, inl, inr}
+use Rattle.std.specs.List.{All, range_with_len, sum_by}
+use Rattle.std.proofs.lemmas.Bool.{eq-eqb, ne_eqb, and_parts, lt-ltb, ltb-true, cases_lt, cases_eq}
 use Rattle.std.proofs.lemmas.List.{get_or-set_same, get_or-set_other, length-map, map-set, get_or_default}
 use Rattle.std.proofs.lemmas.List.Sums.{sum_by-set}
 use Rattle.std.proofs.lemmas.Nat.{mod-mul-add}
 use Rattle.brace_num.specs.Generator.{following}
-use Rattle.brace_core.specs.declared.name.Name.{Name}
 use Rattle.brace_core.specs.declared.name.Turn.{Turn}
 use Rattle.brace_core.specs.declared.name.Turn.TheVariants.{Put, Take, Work, Done}
 use Rattle.brace_core.specs.Schedule.{Schedule, IsLawful, lane, turns, turn_at}
-use Rattle.brace_core.specs.Events.{State, opening, is_name, next, is_ready, is_enabled, after, AllDone, IsRun, end_of, put_on, taken_from}
+use Rattle.brace_core.specs.Events.{State, opening, next, is_ready, is_enabled, AllDone, IsRun, end_of, put_on, taken_from}
 use Rattle.brace_core.specs.Exchanges.{IsNext}
 use Rattle.brace_core.specs.Lanes.{OnLanes, puts_of, takes_of}
 use Rattle.brace_core.specs.Order.{IsChosen, IsDrawn, none, one_more, StandsAfter, HasRun}
@@ -30,10 +29,16 @@ pub met_from : (drawn n p : ℕ) → p < n → (i : ℕ) × (i < n) × ((drawn +
 met_from drawn n p low =
     let r : ℕ = drawn % n in
     elim (cases_lt p r) [
-      | inl before ↦ (n + p - r, omega arith,
-          (let is : drawn + (n + p - r) ≡ (drawn / n + 1) * n + p = omega arith in ap (λ m. m % n) is) ∙ mod-mul-add (drawn / n + 1) n p low)
-      | inr behind ↦ (p - r, omega arith,
-          (let is : drawn + (p - r) ≡ (drawn / n) * n + p = omega arith in ap (λ m. m % n) is) ∙ mod-mul-add (drawn / n) n p low)
+      | inl before ↦ (
+        n + p - r,
+        omega arith,
+        (let is : drawn + (n + p - r) ≡ (drawn / n + 1) * n + p = omega arith in ap (λ m. m % n) is) ∙ mod-mul-add (drawn / n + 1) n p low,
+      )
+      | inr behind ↦ (
+        p - r,
+        omega arith,
+        (let is : drawn + (p - r) ≡ (drawn / n) * n + p = omega arith in ap (λ m. m % n) is) ∙ mod-mul-add (drawn / n) n p low,
+      )
     ]
 
 not_done : {F S : Type 0} (v : OnLanes F S) (t : Turn) → can_make v t ≡ true → t ≡ Done → ⊥
@@ -72,7 +77,7 @@ module _ {F S : Type 0} (s : Schedule) (lawful : IsLawful s) (order : ℕ) (past
       go : (t : Turn) → next s x p ≡ t → can_make v t ≡ true → IsAllowed s v t
       go (Put n) is can = record {
         next = subst (IsNext s n) (sym (has.stands.put n.from n.to)) (put_is_next s has.events lawful run p n is);
-        answered = has.stands.put n.from n.to ∙ put_is_answered s has.events lawful run p n is ∙ sym (has.stands.taken n.to n.from)
+        answered = has.stands.put n.from n.to ∙ put_is_answered s has.events lawful run p n is ∙ sym (has.stands.taken n.to n.from);
       }
       go (Take n) is can = record { next = subst (IsNext s n) (sym (has.stands.taken n.from n.to)) (take_is_next s has.events lawful run p n is); found = can }
       go Work is can = tt
@@ -90,8 +95,8 @@ module _ {F S : Type 0} (s : Schedule) (lawful : IsLawful s) (order : ℕ) (past
         actor = first.is;
         enabled = enabled_is p low ∙ first.passes;
         first = λ i l.
-          let below : (drawn + i) % s.actors < s.actors = let some : first.steps < s.actors = first.within in omega arith in
-          enabled_is ((drawn + i) % s.actors) below ∙ first.first i l
+            let below : (drawn + i) % s.actors < s.actors = let some : first.steps < s.actors = first.within in omega arith in
+            enabled_is ((drawn + i) % s.actors) below ∙ first.first i l;
       }
 
   -- the state after the event that was chosen
@@ -103,6 +108,7 @@ module _ {F S : Type 0} (s : Schedule) (lawful : IsLawful s) (order : ℕ) (past
     where
       low : p < s.actors
       low = let is : p ≡ (following has.last + first.steps) % s.actors = first.is in let some : first.steps < s.actors = first.within in omega arith
+
       places : (q : ℕ) → q < s.actors → slice_index pasts' q ≡ (end_of s (has.events ++ p ∷ [])).place q
       places q q_low =
           let end : (end_of s (has.events ++ p ∷ [])).place q ≡ cond (q == p) (x.place q + 1) (x.place q) = ap (λ (y : State). y.place q) (end_more s opening has.events p) in
@@ -120,13 +126,14 @@ module _ {F S : Type 0} (s : Schedule) (lawful : IsLawful s) (order : ℕ) (past
                 ∙ has.stands.places q q_low
                 ∙ sym (end ∙ pick_false (q == p) _ _ (ne_eqb q p other))
           ]
+
       stands : StandsAfter s (has.events ++ p ∷ []) pasts' (puts_of w) (takes_of w)
       stands = record {
         places = places;
         put = λ a b. put a b ∙ ap (λ n. n + put_by (turn p) a b) (has.stands.put a b)
             ∙ ap (λ t. length (put_on s has.events a b) + put_by t a b) (sym (turn_now p low)) ∙ sym (put_on_more s has.events p a b);
         taken = λ a b. taken a b ∙ ap (λ n. n + taken_by (turn p) a b) (has.stands.taken a b)
-            ∙ ap (λ t. length (taken_from s has.events a b) + taken_by t a b) (sym (turn_now p low)) ∙ sym (taken_from_more s has.events p a b)
+            ∙ ap (λ t. length (taken_from s has.events a b) + taken_by t a b) (sym (turn_now p low)) ∙ sym (taken_from_more s has.events p a b);
       }
 
   -- where no actor can go on, all are Done
@@ -222,9 +229,9 @@ module _ {F S A O : Type 0} (setting : A → S) (number past : A → ℕ) (openi
             let within : p < length actors = omega (arith, count setting number past schedule actors given (schedule given).actors running.settings running.numbers) in
             let sums : sum_by left (set actors p b) + left (get_or actors p a) ≡ sum_by left actors + left b = sum_by-set left actors p b a within in
             let turns_same : length (turns (schedule (setting b)) (number b)) ≡ length (turns (schedule (setting a)) (number a)) =
-                ap (λ (s : S). length (turns (schedule s) (number b))) same_setting ∙ ap (λ n. length (turns (schedule (setting a)) n)) same_number in
+            ap (λ (s : S). length (turns (schedule s) (number b))) same_setting ∙ ap (λ n. length (turns (schedule (setting a)) n)) same_number in
             let more : past a < length (turns (schedule (setting a)) (number a)) =
-                left_before (turns (schedule (setting a)) (number a)) (past a) (λ done. not_done v (turn_at (schedule given) p (slice_index (map past actors) p)) chosen_first.passes (sym turn_here ∙ done)) in
+            left_before (turns (schedule (setting a)) (number a)) (past a) (λ done. not_done v (turn_at (schedule given) p (slice_index (map past actors) p)) chosen_first.passes (sym turn_here ∙ done)) in
             omega (arith, ap left here)
 
         pub running_more : opening b ≡ opening a → w.setting ≡ v.setting → w.actors ≡ v.actors →
@@ -233,9 +240,9 @@ module _ {F S A O : Type 0} (setting : A → S) (number past : A → ℕ) (openi
         running_more same_opening lanes_setting lanes_actors put taken =
             let all : length actors ≡ (schedule given).actors = count setting number past schedule actors given (schedule given).actors running.settings running.numbers in
             let now : map past (set actors p b) ≡ set (map past actors) p (slice_index (map past actors) p + 1) =
-                map-set past actors p b ∙ ap (set (map past actors) p) (goes_on ∙ ap (λ n. n + 1) (past_at setting number past schedule actors given (schedule given).actors running.settings running.numbers p low a here)) in
+            map-set past actors p b ∙ ap (set (map past actors) p) (goes_on ∙ ap (λ n. n + 1) (past_at setting number past schedule actors given (schedule given).actors running.settings running.numbers p low a here)) in
             let (run, last) = has_more (schedule given) lawful order (map past actors) v running.run p chosen_first (map past (set actors p b)) w (length-map actors past ∙ all) now
-                (λ c d. put c d ∙ ap (λ t. puts_of v c d + put_by t c d) turn_here) (λ c d. taken c d ∙ ap (λ t. takes_of v c d + taken_by t c d) turn_here) in
+            (λ c d. put c d ∙ ap (λ t. puts_of v c d + put_by t c d) turn_here) (λ c d. taken c d ∙ ap (λ t. takes_of v c d + taken_by t c d) turn_here) in
             record {
               lanes_setting = lanes_setting ∙ running.lanes_setting;
               lanes_actors = lanes_actors ∙ running.lanes_actors;
@@ -245,7 +252,7 @@ module _ {F S A O : Type 0} (setting : A → S) (number past : A → ℕ) (openi
               same_numbers = map_kept number actors p a b here same_number ∙ running.same_numbers;
               same_openings = map_kept opening actors p a b here same_opening ∙ running.same_openings;
               run = run;
-              last = last ∙ ap following running.last ∙ sym next_g
+              last = last ∙ ap following running.last ∙ sym next_g;
             }
 
     module _ (drawn : ℕ) (none_can : (i : ℕ) → i < v.actors → can_make v (turn_at (schedule v.setting) ((drawn + i) % v.actors) (slice_index (map past actors) ((drawn + i) % v.actors))) ≡ false) where

@@ -1,8 +1,8 @@
 -- While not all actors are Done some event is enabled: of the actors in the least step that some actor has not finished, one can go on.
-use Rattle.std.proofs.Common.{◌≡◌, ℕ, zero, suc, ◌+◌, ◌-◌, ◌<◌, ◌≤◌, Bool, true, false, cond, ◌==◌, ◌&&◌, ltb, List, [], ◌∷◌, ◌++◌, map, length, take, get_or, refl, sym, ap, ◌∙◌, subst, arith, inl, inr}
-use Rattle.std.specs.List.{filter, list_any, range_with_len}
-use Rattle.std.proofs.lemmas.Bool.{eq-eqb, cases_lt, ltb-true, ltb-false, le-ltb}
-use Rattle.std.proofs.lemmas.List.{append_assoc, append-nil, take_more, length-append, length-map, get_or_append_left, get_or-append_right}
+use Rattle.std.proofs.Common.{◌≡◌, ℕ, suc, ◌+◌, ◌-◌, ◌<◌, ◌≤◌, true, false, cond, ◌==◌, ◌&&◌, ltb, List, [], ◌∷◌, ◌++◌, length, take, get_or, refl, sym, ap, ◌∙◌, subst, arith, inl, inr}
+use Rattle.std.specs.List.{filter, list_any}
+use Rattle.std.proofs.lemmas.Bool.{eq-eqb, cases_lt, ltb-true, ltb-false}
+use Rattle.std.proofs.lemmas.List.{append_assoc, take_more, length-append, length-map, get_or_append_left, get_or-append_right}
 use Rattle.std.proofs.lemmas.List.Elements.{filter-append}
 use Rattle.brace_core.specs.declared.name.Name.{Name}
 use Rattle.brace_core.specs.declared.name.Turn.{Turn}
@@ -70,7 +70,7 @@ module _ (k actors : ℕ) (step : List Pair) (steps : List (List Pair)) (p : ℕ
   length_block : length (block k actors step p) ≡ block_length actors step p
   length_block =
       let all : length (block k actors step p) ≡ length (puts k p (met actors step p)) + length (takes k p (met actors step p) ++ (Work ∷ [])) =
-          length-append (puts k p (met actors step p)) (takes k p (met actors step p) ++ (Work ∷ [])) in
+      length-append (puts k p (met actors step p)) (takes k p (met actors step p) ++ (Work ∷ [])) in
       let behind : length (takes k p (met actors step p) ++ (Work ∷ [])) ≡ length (takes k p (met actors step p)) + 1 = length-append (takes k p (met actors step p)) (Work ∷ []) in
       omega (arith, length_puts, length_takes)
 
@@ -113,8 +113,8 @@ module _ (k actors : ℕ) (step : List Pair) (steps : List (List Pair)) (lawful 
       filter-append (is_with p q) (puts k p (met actors step p)) (takes k p (met actors step p) ++ (Work ∷ []))
       ∙ ap (λ xs. xs ++ filter (is_with p q) (takes k p (met actors step p) ++ (Work ∷ []))) (puts_with actors step lawful k p q)
       ∙ ap (λ ys. cond (meets step p q) (Put (name k p q) ∷ []) [] ++ ys) (
-          filter-append (is_with p q) (takes k p (met actors step p)) (Work ∷ [])
-          ∙ ap (λ xs. xs ++ []) (takes_with actors step lawful k p q))
+      filter-append (is_with p q) (takes k p (met actors step p)) (Work ∷ [])
+      ∙ ap (λ xs. xs ++ []) (takes_with actors step lawful k p q))
 
   block_put : length (filter (is_on p q) (names_put (block k actors step p))) ≡ cond (meets step p q) 1 0
   block_put =
@@ -152,12 +152,12 @@ module _ (k actors : ℕ) (step : List Pair) (steps : List (List Pair)) (lawful 
       let others : List ℕ = met actors step p in
       let rest : List Turn = take (i - length others) (takes k p others ++ (Work ∷ turns_from (suc k) actors steps p)) in
       let first : length (filter (is_on p q) (names_put (puts k p others))) ≡ 1 =
-          ap length (put_with p q (puts k p others) ∙ ap names_put (puts_with actors step lawful k p q)) ∙ ap (λ v. length (names_put (cond v (Put (name k p q) ∷ []) []))) m in
+      ap length (put_with p q (puts k p others) ∙ ap names_put (puts_with actors step lawful k p q)) ∙ ap (λ v. length (names_put (cond v (Put (name k p q) ∷ []) []))) m in
       let all : length (put_first p q (turns_from k actors (step ∷ steps) p) i) ≡ length (filter (is_on p q) (names_put (puts k p others))) + length (filter (is_on p q) (names_put rest)) =
-          ap (λ ts. length (filter (is_on p q) (names_put ts))) (take_past (puts k p others) _ i (length others) (length_puts k actors step steps p) h)
-          ∙ ap (λ ns. length (filter (is_on p q) ns)) (names_put-append (puts k p others) rest)
-          ∙ ap length (filter-append (is_on p q) (names_put (puts k p others)) (names_put rest))
-          ∙ length-append (filter (is_on p q) (names_put (puts k p others))) (filter (is_on p q) (names_put rest)) in
+      ap (λ ts. length (filter (is_on p q) (names_put ts))) (take_past (puts k p others) _ i (length others) (length_puts k actors step steps p) h)
+      ∙ ap (λ ns. length (filter (is_on p q) ns)) (names_put-append (puts k p others) rest)
+      ∙ ap length (filter-append (is_on p q) (names_put (puts k p others)) (names_put rest))
+      ∙ length-append (filter (is_on p q) (names_put (puts k p others))) (filter (is_on p q) (names_put rest)) in
       omega arith
 
 -- an actor whose next turn is a take of the first step has taken nothing from there
@@ -168,10 +168,10 @@ taken_none k actors step steps lawful p q i l at =
     let ts : List Turn = turns_from k actors (step ∷ steps) p in
     let on : is_on q p (name k q p) ≡ true = ap (λ v. v && (p == p)) (eq-eqb q q refl) ∙ eq-eqb p p refl in
     let more : taken_first q p ts (i + 1) ≡ taken_first q p ts i ++ name k q p ∷ [] =
-        ap (λ us. filter (is_on q p) (names_taken us)) (take_more ts i Done l ∙ ap (λ t. take i ts ++ t ∷ []) at)
-        ∙ ap (filter (is_on q p)) (names_taken-append (take i ts) (Take (name k q p) ∷ []))
-        ∙ filter-append (is_on q p) (names_taken (take i ts)) (name k q p ∷ [])
-        ∙ ap (λ ns. taken_first q p ts i ++ ns) (pick_true (is_on q p (name k q p)) (name k q p ∷ []) [] on) in
+    ap (λ us. filter (is_on q p) (names_taken us)) (take_more ts i Done l ∙ ap (λ t. take i ts ++ t ∷ []) at)
+    ∙ ap (filter (is_on q p)) (names_taken-append (take i ts) (Take (name k q p) ∷ []))
+    ∙ filter-append (is_on q p) (names_taken (take i ts)) (name k q p ∷ [])
+    ∙ ap (λ ns. taken_first q p ts i ++ ns) (pick_true (is_on q p (name k q p)) (name k q p ∷ []) [] on) in
     none_before k step steps q p (taken_first q p ts i) (subst (λ ns. IsFront ns (names_from k (step ∷ steps) q p)) more (taken_front k actors (step ∷ steps) lawful p q (i + 1)))
 
 -- takes of names that were put are ready
@@ -201,10 +201,10 @@ first_step k actors step steps lawful r flight put p low l = elim (cases_lt (r p
           | inl putting ↦ (q, q_low, ap (is_ready flight) (at_put k actors step steps q (r q) putting))
           | inr has_put ↦
               let is_turn : r p < length (turns_from k actors (step ∷ steps) p) =
-                  omega (arith, ap length (turns_block k actors step steps p), length-append (block k actors step p) (turns_from (suc k) actors steps p), length_block k actors step steps p) in
+              omega (arith, ap length (turns_block k actors step steps p), length-append (block k actors step p) (turns_from (suc k) actors steps p), length_block k actors step steps p) in
               let none : length (taken_first q p (turns_from k actors (step ∷ steps) p) (r p)) ≡ 0 = taken_none k actors step steps lawful p q (r p) is_turn at in
               let some : 0 < length (put_first q p (turns_from k actors (step ∷ steps) q) (r q)) =
-                  put_in_step k actors step steps lawful.0 q p (r q) (lawful.0.both_ways q p ∙ meet) has_put in
+              put_in_step k actors step steps lawful.0 q p (r q) (lawful.0.both_ways q p ∙ meet) has_put in
               (p, low, ap (is_ready flight) at ∙ put p q low q_low (name k q p) at refl (omega arith))
         ]
     | inr past ↦
@@ -222,15 +222,15 @@ progress_from k actors (step ∷ steps) lawful r flight put (p, low, l) = elim (
       let past : (a : ℕ) → a < actors → block_length actors step a ≤ r a = λ a a_low. ltb-false _ _ (none a a_low) in
       let left : ℕ → ℕ = λ a. r a - block_length actors step a in
       let put_later : ArePutReady (suc k) actors steps left flight = λ a b a_low b_low n at from more.
-          let taken : length (taken_first b a (turns_from k actors (step ∷ steps) a) (r a)) ≡ cond (meets step a b) 1 0 + length (taken_first b a (turns_from (suc k) actors steps a) (left a)) =
-              taken_behind k actors step steps lawful.0 a b (r a) (past a a_low) in
-          let given : length (put_first b a (turns_from k actors (step ∷ steps) b) (r b)) ≡ cond (meets step b a) 1 0 + length (put_first b a (turns_from (suc k) actors steps b) (left b)) =
-              put_behind k actors step steps lawful.0 b a (r b) (past b b_low) in
-          let same : cond {A = ℕ} (meets step a b) 1 0 ≡ cond (meets step b a) 1 0 = ap (λ v. cond v 1 0) (lawful.0.both_ways a b) in
-          put a b a_low b_low n (at_behind k actors step steps a (r a) (past a a_low) ∙ at) from (omega arith) in
+      let taken : length (taken_first b a (turns_from k actors (step ∷ steps) a) (r a)) ≡ cond (meets step a b) 1 0 + length (taken_first b a (turns_from (suc k) actors steps a) (left a)) =
+      taken_behind k actors step steps lawful.0 a b (r a) (past a a_low) in
+      let given : length (put_first b a (turns_from k actors (step ∷ steps) b) (r b)) ≡ cond (meets step b a) 1 0 + length (put_first b a (turns_from (suc k) actors steps b) (left b)) =
+      put_behind k actors step steps lawful.0 b a (r b) (past b b_low) in
+      let same : cond {A = ℕ} (meets step a b) 1 0 ≡ cond (meets step b a) 1 0 = ap (λ v. cond v 1 0) (lawful.0.both_ways a b) in
+      put a b a_low b_low n (at_behind k actors step steps a (r a) (past a a_low) ∙ at) from (omega arith) in
       let some_left : left p < length (turns_from (suc k) actors steps p) =
-          let low_p : block_length actors step p ≤ r p = past p low in
-          omega (arith, ap length (turns_block k actors step steps p), length-append (block k actors step p) (turns_from (suc k) actors steps p), length_block k actors step steps p) in
+      let low_p : block_length actors step p ≤ r p = past p low in
+      omega (arith, ap length (turns_block k actors step steps p), length-append (block k actors step p) (turns_from (suc k) actors steps p), length_block k actors step steps p) in
       let (a, a_low, ready) = progress_from (suc k) actors steps lawful.1 left flight put_later (p, low, some_left) in
       (a, a_low, as_ready flight (get_or (turns_from k actors (step ∷ steps) a) (r a) Done) (get_or (turns_from (suc k) actors steps a) (left a) Done) (at_behind k actors step steps a (r a) (past a a_low)) ready)
 ]

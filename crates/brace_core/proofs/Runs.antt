@@ -1,16 +1,16 @@
 -- What holds along every run: on each lane what was put is what was taken and what is in flight.
-use Rattle.std.proofs.Common.{◌≡◌, ℕ, zero, suc, ◌+◌, ◌-◌, ◌<◌, ◌≤◌, Bool, true, false, cond, ◌==◌, ◌&&◌, ◌||◌, nat_lt, List, [], ◌∷◌, ◌++◌, length, take, get_or, refl, sym, ap, ◌∙◌, subst, arith, inl, inr}
+use Rattle.std.proofs.Common.{◌≡◌, ℕ, ◌+◌, ◌<◌, ◌≤◌, true, false, cond, ◌==◌, ◌&&◌, ◌||◌, nat_lt, List, [], ◌∷◌, ◌++◌, length, take, refl, sym, ap, ◌∙◌, subst, arith, inl, inr}
 use Rattle.std.specs.List.{filter, list_any}
-use Rattle.std.proofs.lemmas.Bool.{eqb-true, eqb-false, eq-eqb, ne_eqb, and_parts, cases_Bool, cases_eq}
+use Rattle.std.proofs.lemmas.Bool.{eqb-true, eq-eqb, ne_eqb, and_parts, cases_Bool, cases_eq}
 use Rattle.std.proofs.Math.Bool.{or-true}
 use Rattle.std.proofs.lemmas.List.{append-nil, append_assoc, take_more}
 use Rattle.std.proofs.lemmas.List.Elements.{filter-append}
 use Rattle.brace_core.specs.declared.name.Name.{Name}
 use Rattle.brace_core.specs.declared.name.Turn.{Turn}
 use Rattle.brace_core.specs.declared.name.Turn.TheVariants.{Put, Take, Work, Done}
-use Rattle.brace_core.specs.Schedule.{Pair, Schedule, lane, turns, turns_from}
+use Rattle.brace_core.specs.Schedule.{Schedule, lane, turns}
 use Rattle.brace_core.specs.Events.{State, opening, is_name, next, is_ready, is_enabled, without, flight_after, after, are_enabled, after_all, turns_made, is_on, names_put, names_taken}
-use Rattle.brace_core.proofs.Lists.{IsFront, pick_true, pick_false, front_longer, same_next}
+use Rattle.brace_core.proofs.Lists.{IsFront, pick_true, pick_false, same_next}
 use Rattle.brace_core.proofs.Turns.{AreLawful, names_put-append, names_taken-append, put_first, taken_first, put_front, taken_front}
 use Rattle.brace_core.proofs.Owners.{IsOwn, own_turns, own_at, left_before, puts_no_other, takes_no_other}
 
@@ -45,7 +45,7 @@ without_first p q n [] rest on e = absurd cc
 without_first p q n (m ∷ names) rest on e = elim (cases_Bool (is_name n m)) [
   | inl same ↦
       let here : cond (is_on p q m) (m ∷ filter (is_on p q) names) (filter (is_on p q) names) ≡ m ∷ filter (is_on p q) names =
-          pick_true (is_on p q m) _ _ (ap (is_on p q) (sym (same_name n m same)) ∙ on) in
+      pick_true (is_on p q m) _ _ (ap (is_on p q) (sym (same_name n m same)) ∙ on) in
       ap (filter (is_on p q)) (pick_true (is_name n m) names (m ∷ without n names) same) ∙ (let both : m ∷ filter (is_on p q) names ≡ n ∷ rest = sym here ∙ e in cc)
   | inr other ↦ ap (filter (is_on p q)) (pick_false (is_name n m) names (m ∷ without n names) other) ∙ elim (cases_Bool (is_on p q m)) [
     | inl at ↦
@@ -159,19 +159,19 @@ module _ (s : Schedule) (lawful : AreLawful s.actors s.steps) (x : State) (e : �
             let l : x.place e < length (turns s e) = is_left (ap (is_ready x.flight) is ∙ ok) in
             let put : put_by_now s x p q ≡ taken_by_now s x p q ++ m ∷ rest = kept.flown p q ∙ ap (λ names. taken_by_now s x p q ++ names) h in
             let taken : taken_by_now s (after s x e) p q ≡ taken_by_now s x p q ++ n ∷ [] =
-                taken_more l p q ∙ ap (λ t. taken_by_now s x p q ++ filter (is_on p q) (names_taken (t ∷ []))) is
-                ∙ ap (λ names. taken_by_now s x p q ++ names) (pick_true (is_on p q n) (n ∷ []) [] on) in
+            taken_more l p q ∙ ap (λ t. taken_by_now s x p q ++ filter (is_on p q) (names_taken (t ∷ []))) is
+            ∙ ap (λ names. taken_by_now s x p q ++ names) (pick_true (is_on p q n) (n ∷ []) [] on) in
             let first : m ≡ n = same_next (taken_by_now s x p q) rest [] (lane s p q) m n
-                (subst (λ names. IsFront names (lane s p q)) put (put_front 0 s.actors s.steps lawful p q (x.place p)))
-                (subst (λ names. IsFront names (lane s p q)) taken (taken_front 0 s.actors s.steps lawful q p ((after s x e).place q))) in
+            (subst (λ names. IsFront names (lane s p q)) put (put_front 0 s.actors s.steps lawful p q (x.place p)))
+            (subst (λ names. IsFront names (lane s p q)) taken (taken_front 0 s.actors s.steps lawful q p ((after s x e).place q))) in
             let h' : filter (is_on p q) x.flight ≡ n ∷ rest = h ∙ ap (λ a. a ∷ rest) first in
             append-nil (filter (is_on p q) x.flight) ∙ h' ∙ sym (
-              ap (λ names. names ++ filter (is_on p q) (without n x.flight)) (pick_true (is_on p q n) (n ∷ []) [] on)
-              ∙ ap (λ names. n ∷ names) (without_first p q n x.flight rest on h'))
+            ap (λ names. names ++ filter (is_on p q) (without n x.flight)) (pick_true (is_on p q n) (n ∷ []) [] on)
+            ∙ ap (λ names. n ∷ names) (without_first p q n x.flight rest on h'))
         | inr off ↦
             append-nil (filter (is_on p q) x.flight) ∙ sym (
-              ap (λ names. names ++ filter (is_on p q) (without n x.flight)) (pick_false (is_on p q n) (n ∷ []) [] off)
-              ∙ without_elsewhere p q n x.flight off)
+            ap (λ names. names ++ filter (is_on p q) (without n x.flight)) (pick_false (is_on p q n) (n ∷ []) [] off)
+            ∙ without_elsewhere p q n x.flight off)
       ]
       go Work is ok = append-nil (filter (is_on p q) x.flight)
       go Done is ok = absurd cc
@@ -190,6 +190,7 @@ module _ (s : Schedule) (lawful : AreLawful s.actors s.steps) (x : State) (e : �
           ∙ ap (λ names. before ++ names) (flight_more kept ready p q)
           ∙ sym (append_assoc before taken (filter (is_on p q) (flight_after x.flight (next s x e))))
           ∙ ap (λ names. names ++ filter (is_on p q) (after s x e).flight) (sym (taken_more (is_left ready) p q))
+
       within : (p : ℕ) → p < s.actors → (after s x e).place p ≤ length (turns s p)
       within p l = elim (cases_eq p e) [
         | inl same ↦
@@ -221,8 +222,8 @@ module _ (s : Schedule) (lawful : AreLawful s.actors s.steps) where
       ∙ ap (λ names. names ++ filter (is_on p q) (names_put rest)) (put_more s lawful x e (is_left s lawful x e ready) p q)
       ∙ append_assoc (put_by_now s x p q) (filter (is_on p q) (names_put (next s x e ∷ []))) (filter (is_on p q) (names_put rest))
       ∙ ap (λ names. put_by_now s x p q ++ names) (sym (
-          ap (filter (is_on p q)) (names_put-append (next s x e ∷ []) rest)
-          ∙ filter-append (is_on p q) (names_put (next s x e ∷ [])) (names_put rest)))
+      ap (filter (is_on p q)) (names_put-append (next s x e ∷ []) rest)
+      ∙ filter-append (is_on p q) (names_put (next s x e ∷ [])) (names_put rest)))
 
   pub taken_made : (x : State) (events : List ℕ) (p q : ℕ) → are_enabled s x events ≡ true →
       taken_by_now s (after_all s x events) p q ≡ taken_by_now s x p q ++ filter (is_on p q) (names_taken (turns_made s x events))
@@ -235,5 +236,5 @@ module _ (s : Schedule) (lawful : AreLawful s.actors s.steps) where
       ∙ ap (λ names. names ++ filter (is_on p q) (names_taken rest)) (taken_more s lawful x e (is_left s lawful x e ready) p q)
       ∙ append_assoc (taken_by_now s x p q) (filter (is_on p q) (names_taken (next s x e ∷ []))) (filter (is_on p q) (names_taken rest))
       ∙ ap (λ names. taken_by_now s x p q ++ names) (sym (
-          ap (filter (is_on p q)) (names_taken-append (next s x e ∷ []) rest)
-          ∙ filter-append (is_on p q) (names_taken (next s x e ∷ [])) (names_taken rest)))
+      ap (filter (is_on p q)) (names_taken-append (next s x e ∷ []) rest)
+      ∙ filter-append (is_on p q) (names_taken (next s x e ∷ [])) (names_taken rest)))

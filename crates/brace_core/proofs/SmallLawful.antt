@@ -1,5 +1,5 @@
 -- The small schedule is lawful.
-use Rattle.std.proofs.Common.{◌≡◌, ℕ, ◌<◌, zero, suc, [], ◌∷◌, length, get_or, refl, lit<, arith}
+use Rattle.std.proofs.Common.{zero, suc, [], refl, lit<, arith}
 use Rattle.brace_core.specs.Schedule.{IsLawful, IsLawfulStep}
 use Rattle.brace_core.specs.inner.Small.{parts, shows, small}
 use Rattle.brace_core.proofs.Lawful.{lawful_empty, lawful_both}

@@ -1,14 +1,13 @@
 -- One actor's turns towards another: it puts and takes in turn, and its puts and takes are the names of the two lanes between them.
-use Rattle.std.proofs.Common.{◌≡◌, ℕ, zero, suc, ◌+◌, ◌-◌, ◌<◌, ◌≤◌, Bool, true, false, cond, ◌==◌, ◌&&◌, List, [], ◌∷◌, ◌++◌, map, length, take, drop, get_or, refl, sym, ap, ◌∙◌, subst, arith, inl, inr}
-use Rattle.std.specs.List.{filter, range_with_len, All}
-use Rattle.std.proofs.lemmas.Bool.{ne_eqb, eq-eqb, cases_lt}
+use Rattle.std.proofs.Common.{◌≡◌, ℕ, zero, suc, ◌+◌, ◌<◌, ◌≤◌, Bool, true, false, cond, ◌==◌, ◌&&◌, List, [], ◌∷◌, ◌++◌, length, take, refl, sym, ap, ◌∙◌, subst, arith, inl, inr}
+use Rattle.std.specs.List.{filter, All}
+use Rattle.std.proofs.lemmas.Bool.{eq-eqb, cases_lt}
 use Rattle.std.proofs.Math.Bool.{and-true}
-use Rattle.std.proofs.lemmas.List.{append-nil, append_assoc, take-append-drop, take_at, length-append}
 use Rattle.std.proofs.lemmas.List.Elements.{filter-append}
 use Rattle.brace_core.specs.declared.name.Name.{Name}
 use Rattle.brace_core.specs.declared.name.Turn.{Turn}
 use Rattle.brace_core.specs.declared.name.Turn.TheVariants.{Put, Take, Work, Done}
-use Rattle.brace_core.specs.Schedule.{Pair, Schedule, IsLawfulStep, IsLawful, meets, name, names_from, met, puts, takes, turns_from}
+use Rattle.brace_core.specs.Schedule.{Pair, IsLawfulStep, meets, name, names_from, met, puts, takes, turns_from}
 use Rattle.brace_core.specs.Events.{is_on, names_put, names_taken}
 use Rattle.brace_core.proofs.Lists.{IsFront, pick_false, none_above, kept_one, front_takes, take_is_front, filter_front}
 
@@ -111,9 +110,9 @@ turns_with k actors (step ∷ steps) (here, later) p q =
     filter-append (is_with p q) (puts k p (met actors step p)) (takes k p (met actors step p) ++ (Work ∷ rest))
     ∙ ap (λ xs. xs ++ filter (is_with p q) (takes k p (met actors step p) ++ (Work ∷ rest))) (puts_with actors step here k p q)
     ∙ ap (λ ys. cond (meets step p q) (Put (name k p q) ∷ []) [] ++ ys) (
-        filter-append (is_with p q) (takes k p (met actors step p)) (Work ∷ rest)
-        ∙ ap (λ xs. xs ++ filter (is_with p q) rest) (takes_with actors step here k p q)
-        ∙ ap (λ ys. cond (meets step p q) (Take (name k q p) ∷ []) [] ++ ys) (turns_with (suc k) actors steps later p q))
+    filter-append (is_with p q) (takes k p (met actors step p)) (Work ∷ rest)
+    ∙ ap (λ xs. xs ++ filter (is_with p q) rest) (takes_with actors step here k p q)
+    ∙ ap (λ ys. cond (meets step p q) (Take (name k q p) ∷ []) [] ++ ys) (turns_with (suc k) actors steps later p q))
     ∙ three_parts (meets step p q) (Put (name k p q)) (Take (name k q p)) (exchanges (suc k) steps p q)
 
 pub exchanges_put : (k : ℕ) (steps : List (List Pair)) (p q : ℕ) → names_put (exchanges k steps p q) ≡ names_from k steps p q
@@ -194,7 +193,7 @@ module _ (k actors : ℕ) (steps : List (List Pair)) (lawful : AreLawful actors 
       let ts : List Turn = turns_from k actors steps p in
       let kept : List Turn = filter (is_with p q) (take a ts) in
       let is : kept ≡ take (length kept) (exchanges k steps p q) =
-          front_takes kept (filter (is_with p q) ts) (filter_front (is_with p q) (take a ts) ts (take_is_front a ts)) ∙ ap (take (length kept)) (turns_with k actors steps lawful p q) in
+      front_takes kept (filter (is_with p q) ts) (filter_front (is_with p q) (take a ts) ts (take_is_front a ts)) ∙ ap (take (length kept)) (turns_with k actors steps lawful p q) in
       let each : IsInStep kept = subst IsInStep (sym is) (exchanges_in_step k steps p q (length kept)) in
       let put : length (put_first p q ts a) ≡ length (names_put kept) = ap length (put_with p q (take a ts)) in
       let taken : length (taken_first q p ts a) ≡ length (names_taken kept) = ap length (taken_with p q (take a ts)) in

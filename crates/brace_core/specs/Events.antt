@@ -1,10 +1,10 @@
--- The exchange of pieces as a machine of events, and what a run of events put, took and left in flight.
+-- The exchange of pieces as a machine of events, and what a run puts, takes and leaves in flight.
 use Rattle.std.specs.Prelude.{◌≡◌, ℕ, ◌+◌, ◌<◌, Bool, true, false, ◌==◌, ◌&&◌, nat_lt, cond, IsTrue, List, [], ◌∷◌, ◌++◌, filter, length, take, slice_index_or, sum_by}
-use Rattle.std.specs.List.{list_any, range_with_len}
+use Rattle.std.specs.List.{list_any}
 use Rattle.brace_core.specs.declared.name.Name.{Name}
 use Rattle.brace_core.specs.declared.name.Turn.{Turn}
 use Rattle.brace_core.specs.declared.name.Turn.TheVariants.{Put, Take, Work, Done}
-use Rattle.brace_core.specs.Schedule.{Schedule, IsLawful, turns, turn_at}
+use Rattle.brace_core.specs.Schedule.{Schedule, IsLawful, turn_at}
 
 -- how many of its turns each actor has made, and the names in flight in the order of their puts
 pub record State : Type 0 where
@@ -47,7 +47,7 @@ flight_after flight Done = flight
 abbrev pub after : Schedule → State → ℕ → State
 after s x p = record {
   place = λ a. cond (a == p) (x.place a + 1) (x.place a);
-  flight = flight_after x.flight (next s x p)
+  flight = flight_after x.flight (next s x p);
 }
 
 -- whether each event of a list, given by its actor, is enabled when its time comes
@@ -115,6 +115,6 @@ abbrev pub RiseByStep : List Name → Type 0
 RiseByStep names = (i j : ℕ) (d : Name) → i < j → j < length names →
     (slice_index_or names i d).step < (slice_index_or names j d).step
 
--- how many turns all actors have
-abbrev pub turns_of_all : Schedule → ℕ
-turns_of_all s = sum_by (λ p. length (turns s p)) (range_with_len 0 s.actors)
+-- two events for each pair that meets in a step, a put and a take, and one for each actor, a work
+abbrev pub events_of : Schedule → ℕ
+events_of s = sum_by (λ step. length step + length step + s.actors) s.steps

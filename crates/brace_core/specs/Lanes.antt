@@ -10,8 +10,8 @@ pub record OnLane (F : Type 0) : Type 0 where
   pub taken : ℕ
   pub pieces : List F
 
--- the setting that lanes were made for, the number of their actors, and each lane: those from actor 0
--- to every actor first, then those from actor 1
+-- the setting that lanes were made for, the number of their actors, and each lane: first those from
+-- actor 0 to every actor, then those from actor 1
 pub record OnLanes (F S : Type 0) : Type 0 where
   pub setting : S
   pub actors : ℕ

@@ -1,4 +1,5 @@
--- Which events an order draws: each draw takes the first enabled actor from the drawn number onward, cyclically.
+-- Which events an order draws: for each draw the first enabled actor from the drawn number onward,
+-- cyclically.
 use Rattle.std.specs.Prelude.{◌≡◌, ℕ, ◌+◌, ◌%◌, ◌^◌, ◌<◌, List, [], ◌∷◌, ◌++◌, false, IsTrue, length, slice_index}
 use Rattle.brace_num.specs.Generator.{following}
 use Rattle.brace_core.specs.Schedule.{Schedule}
@@ -12,20 +13,24 @@ pub record IsChosen (s : Schedule) (x : State) (drawn p : ℕ) : Type 0 where
   pub enabled : IsTrue (is_enabled s x p)
   pub first : (i : ℕ) → i < steps → is_enabled s x ((drawn + i) % s.actors) ≡ false
 
--- the events are those that an order draws one after the other from the opening on, and g is the last draw
+-- the events are those that an order draws one after the other from the opening on; g is the last
+-- draw
 pub data IsDrawn (s : Schedule) (order : ℕ) : List ℕ → ℕ → Type 0 where
   none : IsDrawn s order [] (order % 2 ^ 32)
-  one_more : (events : List ℕ) (g p : ℕ) → IsDrawn s order events g → IsChosen s (end_of s events) (following g) p
+  one_more : (events : List ℕ) (g p : ℕ) → IsDrawn s order events g
+      → IsChosen s (end_of s events) (following g) p
       → IsDrawn s order (events ++ p ∷ []) (following g)
 
--- actors that have made this many turns each, and lanes with these counts, stand where a run of events ends
-pub record StandsAfter (s : Schedule) (events pasts : List ℕ) (puts takes : ℕ → ℕ → ℕ) : Type 0 where
+-- actors that have made so many turns each, and lanes with these counts, stand where a run ends
+pub record StandsAfter (s : Schedule) (events pasts : List ℕ) (puts takes : ℕ → ℕ → ℕ)
+    : Type 0 where
   pub places : (p : ℕ) → p < s.actors → slice_index pasts p ≡ (end_of s events).place p
   pub put : (p q : ℕ) → puts p q ≡ length (put_on s events p q)
   pub taken : (p q : ℕ) → takes p q ≡ length (taken_from s events p q)
 
 -- the order drew a run of events after which these actors and lanes stand so
-pub record HasRun (s : Schedule) (order : ℕ) (pasts : List ℕ) (puts takes : ℕ → ℕ → ℕ) : Type 0 where
+pub record HasRun (s : Schedule) (order : ℕ) (pasts : List ℕ) (puts takes : ℕ → ℕ → ℕ)
+    : Type 0 where
   pub events : List ℕ
   pub last : ℕ
   pub drawn : IsDrawn s order events last

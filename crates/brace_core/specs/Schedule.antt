@@ -1,4 +1,4 @@
--- Schedules: which actors meet in which step; from that the names of each lane and the turns of each actor.
+-- Schedules: which actors meet in which step, and from that each lane's names and actor's turns.
 use Rattle.std.specs.Prelude.{◌≡◌, ℕ, suc, ◌<◌, ◌≤◌, Bool, false, ◌==◌, ◌&&◌, cond, IsTrue, List, [], ◌∷◌, ◌++◌, map, filter, count_by, slice_index_or}
 use Rattle.std.specs.List.{All, list_any, range_with_len}
 use Rattle.brace_core.specs.declared.name.Name.{Name}
@@ -59,7 +59,8 @@ takes k p others = map (λ q. Take (name k q p)) others
 abbrev pub turns_from : ℕ → ℕ → List (List Pair) → ℕ → List Turn
 turns_from k actors [] p = []
 turns_from k actors (step ∷ steps) p =
-    puts k p (met actors step p) ++ (takes k p (met actors step p) ++ (Work ∷ turns_from (suc k) actors steps p))
+    puts k p (met actors step p)
+    ++ (takes k p (met actors step p) ++ (Work ∷ turns_from (suc k) actors steps p))
 
 abbrev pub turns : Schedule → ℕ → List Turn
 turns s p = turns_from 0 s.actors s.steps p

@@ -1,8 +1,7 @@
 ghost use Rattle.std.specs.Prelude.{◌≡◌, ◌+◌};
 ghost use Rattle.brace_core.specs.declared.name.Name.{Name};
 ghost use Rattle.brace_core.specs.declared.name.Turn.TheVariants.{Put, Take, Work};
-ghost use Rattle.brace_core.specs.Schedule.{turn_at};
-ghost use Rattle.brace_core.specs.Exchanges.{IsPut, IsTake};
+ghost use Rattle.brace_core.specs.Exchanges.{IsPut, IsTake, due};
 
 use crate::{Freight, Turn};
 
@@ -27,14 +26,13 @@ pub trait Actor<F: Freight> {
 
     /// Its first turn that is left, or Done.
     fn next(&self) -> Turn
-        ensures { result ≡ turn_at (F.schedule (setting self.now)) (number self.now) (past self.now) };
+        ensures { result ≡ due F.schedule (setting self.now) (number self.now) (past self.now) };
 
     /// The piece of the name that it puts next. It is asked after `next` gave Put.
     fn piece(&mut self) -> F
-        requires {
-            IsPut (turn_at (F.schedule (setting self.old)) (number self.old) (past self.old)) }
+        requires { IsPut (due F.schedule (setting self.old) (number self.old) (past self.old)) }
         ensures right { (name : Name) →
-            turn_at (F.schedule (setting self.old)) (number self.old) (past self.old) ≡ Put name →
+            due F.schedule (setting self.old) (number self.old) (past self.old) ≡ Put name →
             F.right (setting self.old) name result }
         ensures goes_on { past self.new ≡ past self.old + 1 }
         ensures same_setting { setting self.new ≡ setting self.old }
@@ -43,10 +41,9 @@ pub trait Actor<F: Freight> {
 
     /// Hands it the piece of the name that it takes next, after `next` gave Take.
     fn give(&mut self, piece: F)
-        requires turn {
-            IsTake (turn_at (F.schedule (setting self.old)) (number self.old) (past self.old)) }
+        requires turn { IsTake (due F.schedule (setting self.old) (number self.old) (past self.old)) }
         requires right { (name : Name) →
-            turn_at (F.schedule (setting self.old)) (number self.old) (past self.old) ≡ Take name →
+            due F.schedule (setting self.old) (number self.old) (past self.old) ≡ Take name →
             F.right (setting self.old) name piece }
         ensures goes_on { past self.new ≡ past self.old + 1 }
         ensures same_setting { setting self.new ≡ setting self.old }
@@ -55,7 +52,7 @@ pub trait Actor<F: Freight> {
 
     /// Lets it work, after `next` gave Work.
     fn work(&mut self)
-        requires { turn_at (F.schedule (setting self.old)) (number self.old) (past self.old) ≡ Work }
+        requires { due F.schedule (setting self.old) (number self.old) (past self.old) ≡ Work }
         ensures goes_on { past self.new ≡ past self.old + 1 }
         ensures same_setting { setting self.new ≡ setting self.old }
         ensures same_number { number self.new ≡ number self.old }

@@ -1,5 +1,5 @@
 ghost use Rattle.std.specs.Prelude.{◌≡◌, ◌+◌, ℕ, cond, is_some, IfSome};
-ghost use Rattle.brace_core.specs.Exchanges.{IsNext, one_on};
+ghost use Rattle.brace_core.specs.Exchanges.{Follows, IsAnswered, one_on};
 
 use crate::{Freight, Name};
 
@@ -23,8 +23,8 @@ pub trait Exchange<F: Freight> {
     /// were taken from the opposite lane.
     fn put(&mut self, name: Name, piece: F)
         requires served { serves self.old name.from }
-        requires next { IsNext (F.schedule (setting self.old)) name (puts self.old name.from name.to) }
-        requires answered { puts self.old name.from name.to ≡ takes self.old name.to name.from }
+        requires next { Follows (F.schedule (setting self.old)) (puts self.old) name }
+        requires answered { IsAnswered (puts self.old) (takes self.old) name }
         requires right { F.right (setting self.old) name piece }
         ensures same { setting self.new ≡ setting self.old }
         ensures serving { (a : ℕ) → serves self.old a → serves self.new a }
@@ -34,7 +34,7 @@ pub trait Exchange<F: Freight> {
     /// Takes the piece of a name, the next to be taken of its lane; None changes nothing.
     fn take(&mut self, name: Name) -> Option<F>
         requires served { serves self.old name.to }
-        requires next { IsNext (F.schedule (setting self.old)) name (takes self.old name.from name.to) }
+        requires next { Follows (F.schedule (setting self.old)) (takes self.old) name }
         ensures same { setting self.new ≡ setting self.old }
         ensures serving { (a : ℕ) → serves self.old a → serves self.new a }
         ensures put { (p q : ℕ) → puts self.new p q ≡ puts self.old p q }

@@ -2,7 +2,7 @@ ghost use Rattle.std.specs.Prelude.{◌≡◌, ◌+◌, ◌^◌, ◌≤◌, ℕ,
 ghost use Rattle.brace_core.specs.declared.name.Name.{Name};
 ghost use Rattle.brace_core.specs.declared.name.Turn.TheVariants.{Put, Take};
 ghost use Rattle.brace_core.specs.Events.{is_ready};
-ghost use Rattle.brace_core.specs.Exchanges.{IsNext, one_on};
+ghost use Rattle.brace_core.specs.Exchanges.{Follows, IsAnswered, one_on};
 ghost use Rattle.brace_core.specs.Lanes.{puts_of, takes_of, AreBelow, AreInFlight, MakesTurn};
 
 use crate::lane::Lane;
@@ -27,20 +27,22 @@ impl<F: Freight> Model for PlainLanes<F> {
     ghost Value = { OnLanes F F.Setting };
 
     ghost view = { λ it. record {
-        setting = it.setting.value; actors = it.actors; lanes = it.lanes.items } };
+      setting = it.setting.value;
+      actors = it.actors;
+      lanes = it.lanes.items;
+    } };
 
     ghost invariant = { λ it. IsSound F.schedule F.right (record {
-        setting = it.setting.value; actors = it.actors; lanes = it.lanes.items }) };
+      setting = it.setting.value;
+      actors = it.actors;
+      lanes = it.lanes.items;
+    }) };
 }
 
 impl<F: Freight> PlainLanes<F> {
     /// Lanes for a setting, on which nothing was put. The number of actors is at most 65 and above
     /// every number in the names of the setting's schedule, which has at most 2^40 steps.
-    pub fn make(
-        alloc: Global,
-        setting: &F::Setting,
-        actors: u32,
-    ) -> Result<PlainLanes<F>, NoMemory>
+    pub fn make(alloc: Global, setting: &F::Setting, actors: u32) -> Result<PlainLanes<F>, NoMemory>
         requires few { actors ≤ 65 }
         requires below { AreBelow (F.schedule setting.now) actors }
         requires short { length (F.schedule setting.now).steps ≤ 2 ^ 40 }
@@ -90,8 +92,8 @@ impl<F: Freight> Exchange<F> for PlainLanes<F> {
     ghost takes = { takes_of };
 
     fn put(&mut self, name: Name, piece: F)
-        requires next { IsNext (F.schedule self.old.setting) name (puts_of self.old name.from name.to) }
-        requires answered { puts_of self.old name.from name.to ≡ takes_of self.old name.to name.from }
+        requires next { Follows (F.schedule self.old.setting) (puts_of self.old) name }
+        requires answered { IsAnswered (puts_of self.old) (takes_of self.old) name }
         requires right { F.right self.old.setting name piece }
         ensures same { self.new.setting ≡ self.old.setting }
         ensures actors { self.new.actors ≡ self.old.actors }
@@ -104,7 +106,7 @@ impl<F: Freight> Exchange<F> for PlainLanes<F> {
     }
 
     fn take(&mut self, name: Name) -> Option<F>
-        requires next { IsNext (F.schedule self.old.setting) name (takes_of self.old name.from name.to) }
+        requires next { Follows (F.schedule self.old.setting) (takes_of self.old) name }
         ensures same { self.new.setting ≡ self.old.setting }
         ensures actors { self.new.actors ≡ self.old.actors }
         ensures put { (p q : ℕ) → puts_of self.new p q ≡ puts_of self.old p q }

@@ -1,7 +1,7 @@
 //! What holds of every run of events. The function does nothing; its clauses are the law.
 ghost use Rattle.std.specs.Prelude.{◌≡◌, ◌≤◌, ◌+◌, ◌⊎◌, ℕ, IsTrue, length, drop};
 ghost use Rattle.brace_core.specs.Schedule.{Schedule, lane};
-ghost use Rattle.brace_core.specs.Events.{OnRuns, AllDone, AreFirst, RiseByStep, end_of, is_enabled, put_on, taken_from, in_flight, turns_of_all};
+ghost use Rattle.brace_core.specs.Events.{OnRuns, AllDone, AreFirst, RiseByStep, end_of, is_enabled, put_on, taken_from, in_flight, events_of};
 
 /// For every lawful schedule and every list of events that are enabled one after the other,
 /// whatever their order:
@@ -11,7 +11,8 @@ ghost use Rattle.brace_core.specs.Events.{OnRuns, AllDone, AreFirst, RiseByStep,
 /// - the names in flight on a lane are the next behind those taken, and at most two;
 /// - an actor has put to another at most one name more than it has taken from it;
 /// - all actors are Done, or some event is enabled;
-/// - all actors are Done after as many events as they have turns.
+/// - all actors are Done after two events for each pair that meets in a step and one for each actor
+///   of each step, whatever the events.
 pub fn core_law()
     ensures put_in_order { OnRuns (λ s events. (p q : ℕ) →
         AreFirst (put_on s events p q) (lane s p q)) }
@@ -31,5 +32,5 @@ pub fn core_law()
     ensures progress { OnRuns (λ s events.
         AllDone s (end_of s events) ⊎ ((p : ℕ) × IsTrue (is_enabled s (end_of s events) p))) }
     ensures counted { OnRuns (λ s events. AllDone s (end_of s events) →
-        length events ≡ turns_of_all s) }
+        length events ≡ events_of s) }
 {}

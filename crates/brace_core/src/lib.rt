@@ -1,12 +1,12 @@
-//! The exchange core: actors that follow one schedule and exchange pieces by name, in any order of events.
+//! The exchange core: actors that follow one schedule exchange pieces by name, in any order.
 #![tactic(auto)]
 
 mod actor;
 mod exchange;
 mod freight;
 mod lane;
-pub mod laws;
 mod lanes;
+pub mod laws;
 mod name;
 mod order;
 #[cfg(test)]

@@ -1,7 +1,8 @@
 ghost use Rattle.std.specs.Prelude.{◌≡◌, ◌+◌, ◌<◌, ℕ, All, map, length, IfSome, IfNone};
 ghost use Rattle.std.specs.List.{range_with_len};
 ghost use Rattle.brace_core.specs.declared.name.Turn.TheVariants.{Done};
-ghost use Rattle.brace_core.specs.Schedule.{IsLawful, lane, turn_at};
+ghost use Rattle.brace_core.specs.Schedule.{IsLawful, lane};
+ghost use Rattle.brace_core.specs.Exchanges.{AreAllOf, due};
 ghost use Rattle.brace_core.specs.Lanes.{puts_of, takes_of};
 ghost use Rattle.brace_core.specs.Order.{HasRun};
 ghost use Rattle.brace_core.specs.inner.Turns.{can_make, can_go_on, IsAllowed, IsFirst, NoneFrom, put_by, taken_by};
@@ -12,7 +13,7 @@ use brace_num::Generator;
 /// Whether an actor's next turn can be made.
 fn is_free<F: Freight, A: Actor<F>>(actor: &A, lanes: &PlainLanes<F>) -> bool
     ensures { result ≡ can_make lanes.now
-        (turn_at (F.schedule (A.setting actor.now)) (A.number actor.now) (A.past actor.now)) }
+        (due F.schedule (A.setting actor.now) (A.number actor.now) (A.past actor.now)) }
 {
     match actor.next() {
         Turn::Put(_) | Turn::Work => true,
@@ -51,7 +52,7 @@ fn first_that_can<F: Freight, A: Actor<F>>(
 fn make_event<F: Freight, A: Actor<F>>(actor: &mut A, lanes: &mut PlainLanes<F>)
     requires setting { A.setting actor.old ≡ lanes.old.setting }
     requires allowed { IsAllowed (F.schedule lanes.old.setting) lanes.old
-        (turn_at (F.schedule (A.setting actor.old)) (A.number actor.old) (A.past actor.old)) }
+        (due F.schedule (A.setting actor.old) (A.number actor.old) (A.past actor.old)) }
     ensures goes_on { A.past actor.new ≡ A.past actor.old + 1 }
     ensures same_setting { A.setting actor.new ≡ A.setting actor.old }
     ensures same_number { A.number actor.new ≡ A.number actor.old }
@@ -59,9 +60,11 @@ fn make_event<F: Freight, A: Actor<F>>(actor: &mut A, lanes: &mut PlainLanes<F>)
     ensures lanes_setting { lanes.new.setting ≡ lanes.old.setting }
     ensures lanes_actors { lanes.new.actors ≡ lanes.old.actors }
     ensures put { (p q : ℕ) → puts_of lanes.new p q ≡ puts_of lanes.old p q
-        + put_by (turn_at (F.schedule (A.setting actor.old)) (A.number actor.old) (A.past actor.old)) p q }
+        + put_by (due F.schedule (A.setting actor.old) (A.number actor.old) (A.past actor.old))
+        p q }
     ensures taken { (p q : ℕ) → takes_of lanes.new p q ≡ takes_of lanes.old p q
-        + taken_by (turn_at (F.schedule (A.setting actor.old)) (A.number actor.old) (A.past actor.old)) p q }
+        + taken_by (due F.schedule (A.setting actor.old) (A.number actor.old) (A.past actor.old))
+        p q }
 {
     match actor.next() {
         Turn::Put(name) => {
@@ -77,8 +80,8 @@ fn make_event<F: Freight, A: Actor<F>>(actor: &mut A, lanes: &mut PlainLanes<F>)
     }
 }
 
-/// Runs actors over plain lanes until all are Done. For each event a number is drawn from `order`, and
-/// the first actor from there onward, cyclically, whose next turn can be made makes it.
+/// Runs actors over plain lanes until all are Done. For each event a number is drawn from `order`,
+/// and the first actor from there onward, cyclically, whose next turn can be made makes it.
 ///
 /// The actors are all those of the schedule by rising number, each at its first turn, and of one
 /// setting with the lanes. These were made for as many actors, and nothing was put on them.
@@ -89,13 +92,12 @@ pub fn run_in_order<F: Freight, A: Actor<F>>(
 )
     requires lawful { IsLawful (F.schedule lanes.old.setting) }
     requires settings { All (λ a. A.setting a ≡ lanes.old.setting) actors.old }
-    requires numbers {
-        map A.number actors.old ≡ range_with_len 0 (F.schedule lanes.old.setting).actors }
+    requires numbers { AreAllOf (F.schedule lanes.old.setting) (map A.number actors.old) }
     requires first_turns { All (λ a. A.past a ≡ 0) actors.old }
     requires lanes_for { lanes.old.actors ≡ (F.schedule lanes.old.setting).actors }
     requires nothing_put { (p q : ℕ) → puts_of lanes.old p q ≡ 0 }
     ensures done { All (λ a.
-        turn_at (F.schedule (A.setting a)) (A.number a) (A.past a) ≡ Done) actors.new }
+        due F.schedule (A.setting a) (A.number a) (A.past a) ≡ Done) actors.new }
     ensures all_put { (p q : ℕ) →
         puts_of lanes.new p q ≡ length (lane (F.schedule lanes.old.setting) p q) }
     ensures all_taken { (p q : ℕ) →

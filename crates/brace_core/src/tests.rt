@@ -192,9 +192,21 @@ fn every_order_makes_as_many_events_as_there_are_turns(rt: HostRuntime) -> Resul
             trace: Cell::new(0),
         };
         let mut actors = [
-            Walker { number: 0, past: 0, log: &log },
-            Walker { number: 1, past: 0, log: &log },
-            Walker { number: 2, past: 0, log: &log },
+            Walker {
+                number: 0,
+                past: 0,
+                log: &log,
+            },
+            Walker {
+                number: 1,
+                past: 0,
+                log: &log,
+            },
+            Walker {
+                number: 2,
+                past: 0,
+                log: &log,
+            },
         ];
         let mut lanes = PlainLanes::<Parcel>::make(rt.alloc(), &Small, 3)?;
         run_in_order(&mut actors, &mut lanes, order as u64);

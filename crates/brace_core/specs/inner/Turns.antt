@@ -1,6 +1,5 @@
 -- When an actor can make a turn at plain lanes, and what that changes there.
 use Rattle.std.specs.Prelude.{◌≡◌, ℕ, ◌+◌, ◌%◌, ◌<◌, Bool, true, false, nat_lt, IsTrue, List, [], ◌∷◌, filter, length, slice_index}
-use Rattle.brace_core.specs.declared.name.Name.{Name}
 use Rattle.brace_core.specs.declared.name.Turn.{Turn}
 use Rattle.brace_core.specs.declared.name.Turn.TheVariants.{Put, Take, Work, Done}
 use Rattle.brace_core.specs.Schedule.{Schedule, turn_at}
@@ -19,11 +18,11 @@ can_make v Done = false
 abbrev pub IsAllowed : {F S : Type 0} → Schedule → OnLanes F S → Turn → Type 0
 IsAllowed s v (Put n) = record {
   next : IsNext s n (puts_of v n.from n.to);
-  answered : puts_of v n.from n.to ≡ takes_of v n.to n.from
+  answered : puts_of v n.from n.to ≡ takes_of v n.to n.from;
 }
 IsAllowed s v (Take n) = record {
   next : IsNext s n (takes_of v n.from n.to);
-  found : IsTrue (nat_lt (takes_of v n.from n.to) (puts_of v n.from n.to))
+  found : IsTrue (nat_lt (takes_of v n.from n.to) (puts_of v n.from n.to));
 }
 IsAllowed s v Work = Unit {0}
 IsAllowed s v Done = ⊥

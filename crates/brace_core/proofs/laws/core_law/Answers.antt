@@ -1,4 +1,5 @@
-use Rattle.brace_core.proofs.CoreLaw.{put_in_order, taken_in_order, no_name_twice, all_put, all_taken, consecutive, two_in_flight, answered, progress, counted}
+use Rattle.brace_core.proofs.CoreLaw.{put_in_order, taken_in_order, no_name_twice, all_put, all_taken, consecutive, two_in_flight, answered, progress}
+use Rattle.brace_core.proofs.Counts.{counted}
 use Rattle.brace_core.proofs.laws.core_law.Goals as goal
 
 pub returns : goal.returns
@@ -12,5 +13,5 @@ returns c = record {
   two_in_flight = two_in_flight;
   answered = answered;
   progress = progress;
-  counted = counted
+  counted = counted;
 }

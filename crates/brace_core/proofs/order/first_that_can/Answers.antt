@@ -1,6 +1,6 @@
-use Rattle.std.proofs.Common.{◌+◌, ◌%◌, ◌<◌, map, sym, ap, ◌∙◌, arith}
-use Rattle.brace_core.specs.inner.Turns.{can_make, can_go_on}
-use Rattle.brace_core.proofs.ActorLemmas.{count, turn_is, found_first, passed_more}
+use Rattle.std.proofs.Common.{◌+◌, ◌%◌, ◌<◌, map, true, false, arith}
+use Rattle.brace_core.specs.inner.Turns.{can_go_on}
+use Rattle.brace_core.proofs.ActorLemmas.{count, turn_is, found_first, passed_more, said_of}
 use Rattle.brace_core.proofs.order.first_that_can.Goals as goal
 
 pub offset_bounds-actors-number : goal.offset_bounds-actors-number
@@ -16,16 +16,16 @@ pub returns-then-is_free-clause-first : goal.returns-then-is_free-clause-first
 returns-then-is_free-clause-first g c =
     let low : (c.args.drawn + c.loop-i.i) % c.actors-count.result < c.args.lanes.now.actors = omega arith in
     let turn = turn_is g.A.Actor.setting g.A.Actor.number g.A.Actor.past g.F.Freight.schedule c.args.actors.now c.args.lanes.now.setting c.args.lanes.now.actors c.requires.settings c.requires.numbers
-        _ low c.index-actors-number.result c.index-actors-number.is in
+    _ low c.index-actors-number.result c.index-actors-number.is in
     found_first (can_go_on (g.F.Freight.schedule c.args.lanes.now.setting) c.args.lanes.now (map g.A.Actor.past c.args.actors.now))
-        c.args.lanes.now.actors c.actors-count.result c.args.drawn c.loop-i.i c.actors-count.ensures.count c.loop-i-test.true c.loop-i.invariant
-        (ap (can_make c.args.lanes.now) (sym turn) ∙ sym c.is_free.ensures ∙ c.if-is_free.true)
+    c.args.lanes.now.actors c.actors-count.result c.args.drawn c.loop-i.i c.actors-count.ensures.count c.loop-i-test.true c.loop-i.invariant
+    (said_of c.args.lanes.now _ _ c.is_free.result true turn c.is_free.ensures c.if-is_free.true)
 
 pub loop-i-preserved : goal.loop-i-preserved
 loop-i-preserved g c =
     let low : (c.args.drawn + c.loop-i.i) % c.actors-count.result < c.args.lanes.now.actors = omega arith in
     let turn = turn_is g.A.Actor.setting g.A.Actor.number g.A.Actor.past g.F.Freight.schedule c.args.actors.now c.args.lanes.now.setting c.args.lanes.now.actors c.requires.settings c.requires.numbers
-        _ low c.index-actors-number.result c.index-actors-number.is in
+    _ low c.index-actors-number.result c.index-actors-number.is in
     passed_more (can_go_on (g.F.Freight.schedule c.args.lanes.now.setting) c.args.lanes.now (map g.A.Actor.past c.args.actors.now))
-        c.args.lanes.now.actors c.actors-count.result c.args.drawn c.loop-i.i c.actors-count.ensures.count c.loop-i-test.true c.loop-i.invariant
-        (ap (can_make c.args.lanes.now) (sym turn) ∙ sym c.is_free.ensures ∙ c.if-is_free.false)
+    c.args.lanes.now.actors c.actors-count.result c.args.drawn c.loop-i.i c.actors-count.ensures.count c.loop-i-test.true c.loop-i.invariant
+    (said_of c.args.lanes.now _ _ c.is_free.result false turn c.is_free.ensures c.if-is_free.false)

@@ -11,5 +11,5 @@ invariant_of-self g c = (put_done g.F.Freight.schedule g.F.Freight.right _ c.arg
 pub returns : goal.returns
 returns g c =
     let done = put_done g.F.Freight.schedule g.F.Freight.right _ c.args.self.now c.self.view_is c.self.invariant c.args.name c.index_mut.result.now c.index_mut.ensures.value
-        c.args.piece c.put.new.self c.put.ensures c.requires.next c.requires.answered c.requires.right in
+    c.args.piece c.put.new.self c.put.ensures c.requires.next c.requires.answered c.requires.right in
     record { same = done.same; actors = done.actors; put = done.puts; taken = done.takes; event = done.event }

@@ -11,5 +11,5 @@ invariant_of-self g c = (take_done g.F.Freight.schedule g.F.Freight.right _ c.ar
 pub returns : goal.returns
 returns g c =
     let done = take_done g.F.Freight.schedule g.F.Freight.right _ c.args.self.now c.self.view_is c.self.invariant c.args.name c.index_mut.result.now c.index_mut.ensures.value
-        c.take.result c.take.new.self c.take.ensures.taken c.take.ensures.pieces c.take.ensures.found c.requires.next in
+    c.take.result c.take.new.self c.take.ensures.taken c.take.ensures.pieces c.take.ensures.found c.requires.next in
     record { same = done.same; actors = done.actors; put = done.puts; taken = done.takes; right = done.is_right; found = done.found; event = done.event; counted = done.none }
