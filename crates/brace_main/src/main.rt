@@ -16,13 +16,13 @@ fn words(rt: &HostRuntime, alloc: Global) -> io::Result<Vec<String>> {
     Ok(words)
 }
 
-/// The status where the words could not be read: memory was refused, or one of them is no text. Its line is written.
+/// The status where the words could not be read: memory was refused, or one of them is no text. Its message is written.
 fn unread<E: Sink>(err: &mut E, error: &io::Error) -> u8 {
-    let (status, line): (u8, &[u8]) = match error.kind() {
+    let (status, message): (u8, &[u8]) = match error.kind() {
         io::ErrorKind::OutOfMemory => (11, b"brace: no memory\n"),
         _ => (2, b"brace: usage\n"),
     };
-    match write_whole(err, line) {
+    match write_whole(err, message) {
         Ok(()) => status,
         Err(_) => status,
     }
@@ -45,4 +45,25 @@ fn main(rt: HostRuntime) -> ExitCode {
         &mut err,
         &OpenGate,
     ))
+}
+
+#[cfg(test)]
+mod tests {
+    use super::*;
+    use brace_io::MemSink;
+    use std::test::Fail;
+
+    #[test]
+    fn names_why_the_words_could_not_be_read(rt: HostRuntime) -> Result<(), Fail> {
+        for (kind, status, message) in [
+            (io::ErrorKind::OutOfMemory, 11, "brace: no memory\n"),
+            (io::ErrorKind::InvalidData, 2, "brace: usage\n"),
+        ] {
+            let mut err = MemSink::make(rt.alloc(), 100, Vec::new(rt.alloc()))?;
+            let found = unread(&mut err, &io::Error::from(kind));
+            assert_eq!(rt; found, status, "{message}");
+            assert_eq!(rt; err.bytes(), message.as_bytes());
+        }
+        Ok(())
+    }
 }

@@ -1,4 +1,4 @@
-use crate::print_tick;
+use crate::{print_agent, print_tick};
 use brace_model::{Agent, Class, Program, Value, World};
 use brace_num::{List, NoMemory, Text};
 use std::alloc::Global;
@@ -61,5 +61,22 @@ fn prints_rows_of_ints_fixed_numbers_and_flags(rt: HostRuntime) -> Result<(), Fa
     let mut out = Vec::new(alloc);
     print_tick(&mut out, &program_of(alloc)?, 3, &world)?;
     assert_eq!(rt; out.as_slice(), ROWS);
+    Ok(())
+}
+
+#[test]
+fn prints_the_fields_of_an_agent(rt: HostRuntime) -> Result<(), Fail> {
+    let alloc = rt.alloc();
+    let program = program_of(alloc)?;
+    let values = [Value::Int(-3), Value::Fixed(500_000), Value::Flag(true)];
+    for (class, wanted) in [
+        (1, b"> Quail,7,-3,0.500000,true".as_slice()),
+        (2, b"> ,7,-3,0.500000,true".as_slice()),
+    ] {
+        let agent = agent_of(alloc, class, 7, &values)?;
+        let mut out = Vec::from_slice(alloc, b"> ")?;
+        print_agent(&mut out, &program, &agent)?;
+        assert_eq!(rt; out.as_slice(), wanted, "class {class}");
+    }
     Ok(())
 }

@@ -1,20 +1,21 @@
 -- Values and agents, read one by one, and ids that rise.
 use Rattle.std.proofs.Common.{◌≡◌, ℕ, zero, suc, ◌+◌, ◌<◌, ◌≤◌, eqb, ltb, leb, cond, Bool, true, false, ◌&&◌, List, [], ◌∷◌, ◌++◌, length, drop, map, get_or, zip, refl, arith, ap, sym, subst, ◌∙◌, append_assoc, append-nil}
-use Rattle.std.specs.Prelude.{Option, Some, None, option_map}
-use Rattle.std.specs.List.{slice_split, sum_by}
+use Rattle.std.specs.Prelude.{Option, Some, None, option_map, unwrap_or, ◌-◌, ◌^◌, nat_le}
+use Rattle.std.specs.List.{slice_split, sum_by, All}
 use Rattle.std.proofs.Math.Dec.{eqb-suc-suc, eqb-suc-zero, eqb-zero-suc}
 use Rattle.std.specs.Prelude.{IfSome, IfNone}
-use Rattle.std.proofs.lemmas.Bool.{ltb-true, lt-ltb}
+use Rattle.std.proofs.lemmas.Bool.{ltb-true, lt-ltb, leb-true, le-leb}
 use Rattle.std.proofs.lemmas.Bool.Decides.{nat_tests}
 use Rattle.std.proofs.lemmas.List.{at_drop_more, length_push, length-append}
+use Rattle.std.proofs.lemmas.Option.{slice_get-get_or}
 use Rattle.std.proofs.lemmas.List.Sums.{sum_by_push, sum_by-append}
 use Rattle.brace_model.specs.declared.program.Value.{Value}
 use Rattle.brace_model.specs.declared.program.State.{State}
 use Rattle.brace_model.specs.declared.program.Program.{Program}
 use Rattle.brace_model.specs.declared.world.Agent.{Agent}
-use Rattle.brace_model.specs.World.{RisesById}
+use Rattle.brace_model.specs.World.{World, RisesById, IsNumbered, world_of, least_next}
 use Rattle.brace_model.proofs.WorldLemmas.{RisesById-from_pairs, RisesById-pair}
-use Rattle.brace_top.specs.ThinAgents.{parts_after, all_of, value_of, values_of, lines_of, agent_of, agents_of, are_few, ids_rise, passing}
+use Rattle.brace_top.specs.ThinAgents.{parts_after, all_of, value_of, values_of, lines_of, agent_of, agents_of, are_few, ids_rise, is_numbered, passing}
 use Rattle.brace_top.proofs.Cuts.{first_part}
 
 -- one more element between a list and what follows it
@@ -160,17 +161,53 @@ pairs_rise (a ∷ b ∷ rest) h =
     ∙ pairs_rise (b ∷ rest) (λ j k d n le. h (suc j) (suc k) d (omega arith) (omega arith))
 
 -- the test says whether ids rise
-pub rising : (agents : List Agent) → RisesById agents → ids_rise agents ≡ true
+rising : (agents : List Agent) → RisesById agents → ids_rise agents ≡ true
 rising agents r = pairs_rise agents (λ j k d n le. RisesById-pair agents j k d d n le r)
 
 not_true : (b : Bool) → (b ≡ true → ⊥) → b ≡ false
 not_true true h = absurd (h refl)
 not_true false h = refl
 
-pub falling : (agents : List Agent) → (RisesById agents → ⊥) → ids_rise agents ≡ false
-falling agents bad = not_true (ids_rise agents) (λ e. bad (RisesById-from_pairs agents (λ k d le. rise_pairs agents e k (k + 1) d refl le)))
+last_above : (agents : List Agent) → ids_rise agents ≡ true → (n k : ℕ) (d : Agent) → k + n + 1 ≡ length agents → (get_or agents k d).id ≤ (get_or agents (k + n) d).id
+last_above agents e zero k d le = let same : k + 0 ≡ k = omega arith in rw same (omega arith)
+last_above agents e (suc n) k d le =
+    let one = rise_pairs agents e k (k + 1) d refl (omega arith) in
+    let more = last_above agents e n (k + 1) d (omega arith) in
+    let same : k + suc n ≡ k + 1 + n = omega arith in
+    rw same (omega arith)
+
+-- where ids rise all of them are below the least next free id
+below_next : (agents : List Agent) → ids_rise agents ≡ true → All (λ a. a.id < least_next agents) agents
+below_next agents e k d le =
+    let at_end : k + (length agents - 1 - k) ≡ length agents - 1 = omega arith in
+    let top : (get_or agents k d).id ≤ (get_or agents (length agents - 1) d).id =
+        subst (λ i. (get_or agents k d).id ≤ (get_or agents i d).id) at_end (last_above agents e (length agents - 1 - k) k d (omega arith)) in
+    let next : least_next agents ≡ (get_or agents (length agents - 1) d).id + 1 =
+        ap (λ (o : Option Agent). unwrap_or (option_map (λ a. a.id + 1) o) 0) (slice_get-get_or agents (length agents - 1) d (omega arith)) in
+    rw next (omega arith)
+
+both : (p q : Bool) → p ≡ true → q ≡ true → (p && q) ≡ true
+both p q e f = rw (e, f) refl
+
+-- the test says whether a world is numbered
+numbered : (agents : List Agent) → IsNumbered (world_of agents) → is_numbered agents ≡ true
+numbered agents w = both _ _ (rising agents w.rises) (le-leb (least_next agents) (2 ^ 63) w.in_range)
+
+numbered_by : (agents : List Agent) → is_numbered agents ≡ true → IsNumbered (world_of agents)
+numbered_by agents e =
+    let (rise, few) = and_parts (ids_rise agents) (nat_le (least_next agents) (2 ^ 63)) e in
+    record {
+      rises = RisesById-from_pairs agents (λ k d le. rise_pairs agents rise k (k + 1) d refl le);
+      below = below_next agents rise;
+      in_range = leb-true (least_next agents) (2 ^ 63) few;
+    }
 
 -- what `from_rising` gives
-pub made_world : (agents : List Agent) (r : Option (List Agent)) → IfSome r (λ w. RisesById agents × (w ≡ agents)) → IfNone r (RisesById agents → ⊥) → r ≡ passing ids_rise (Some agents)
-made_world agents (Some w) s n = ap Some s.1 ∙ sym (ap (λ t. cond t (Some agents) None) (rising agents s.0))
-made_world agents None s n = sym (ap (λ t. cond t (Some agents) None) (falling agents n))
+pub made_world : (agents : List Agent) (r : Option World) → IfSome r (λ w. w ≡ world_of agents) → IfSome r IsNumbered → IfNone r (IsNumbered (world_of agents) → ⊥)
+    → r ≡ option_map world_of (passing is_numbered (Some agents))
+made_world agents (Some w) same is none =
+    let t : is_numbered agents ≡ true = numbered agents (subst IsNumbered same is) in
+    ap Some same ∙ sym (ap (λ t. option_map world_of (cond t (Some agents) None)) t)
+made_world agents None same is none =
+    let f : is_numbered agents ≡ false = not_true (is_numbered agents) (λ e. none (numbered_by agents e)) in
+    sym (ap (λ t. option_map world_of (cond t (Some agents) None)) f)

@@ -6,7 +6,6 @@ pub mod ThinNames
 pub mod WorldLemmas
 pub mod ThinRules
 pub mod JobLemmas
-pub mod RunAnswers
-pub mod LineLemmas
 pub mod AnswerLemmas
 pub mod OneOutcome
+pub mod StatusLemmas

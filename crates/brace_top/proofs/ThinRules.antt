@@ -84,10 +84,12 @@ class_rules src tokens name headings class e =
     let (x, (is_x, e3)) = read_from (state_of headings ty.Fixed (codes "x")) _ class e2 in
     let (y, (is_y, e4)) = read_from (state_of headings ty.Fixed (codes "y")) _ class e3 in
     let (states, (is_states, e5)) = read_from (states_of src tokens headings) _ class e4 in
-    let is : record { name = name; visible = pos 0; reach = reach; x = x; y = y; states = states; effects = []; query = [] } ≡ class = cc in
+    let is : record { name = name; visible = pos 0; reach = reach; x = x; y = y; states = states; effects = []; query = []; die = None; spawn = None } ≡ class = cc in
     record {
       no_query = sym (ap (λ (c : Class). c.query) is);
       no_effects = sym (ap (λ (c : Class). c.effects) is);
+      no_deaths = sym (ap (λ (c : Class). c.die) is);
+      no_births = sym (ap (λ (c : Class). c.spawn) is);
       reach = subst (λ (z : ℤ). pos 0 ≤ℤ z) (ap (λ (c : Class). c.reach) is) (only_positive reaches reach (reaches_all tokens _ reaches is_reaches) is_reach);
     }
 

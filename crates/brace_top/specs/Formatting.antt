@@ -4,9 +4,8 @@ use Rattle.brace_tok.specs.declared.kinds.Token.{Token}
 use Rattle.brace_tok.specs.declared.fault.TokFault.TheVariants as tok
 use Rattle.brace_tok.specs.Spells.{Spells, FirstFault}
 use Rattle.brace_syntax.specs.declared.tree.Tree.{Tree}
-use Rattle.brace_syntax.specs.declared.fault.SynFault.TheVariants as syn
-use Rattle.brace_syntax.specs.Depth.{NowhereDeep}
-use Rattle.brace_syntax.specs.Sayings as unread
+use Rattle.brace_syntax.specs.Depth.{NowhereDeep, FirstDeepAt}
+use Rattle.brace_syntax.specs.Sayings.{NoScript, IsPlace}
 use Rattle.brace_syntax.specs.Reads.{Reads}
 use Rattle.brace_top.specs.declared.script_fault.ScriptKind.{ScriptKind}
 use Rattle.brace_top.specs.declared.script_fault.ScriptKind.TheVariants as kind
@@ -22,8 +21,24 @@ pub record IsTree (src : List ℕ) (tree : Tree) : Type 0 where
   pub reads : Reads src tokens tree
 
 -- the text is the canonical one of the script's tree
-abbrev pub Shows : List ℕ → List ℕ → Type 0
-Shows src text = (tree : Tree) × (IsTree src tree × (text ≡ canonical tree))
+pub record Shows (src text : List ℕ) : Type 0 where
+  pub tree : Tree
+  pub is : IsTree src tree
+  pub says : text ≡ canonical tree
+
+-- the first token at which the script is nested too deep stands at the place
+pub record IsTooDeep (src : List ℕ) (at_ : ℕ) : Type 0 where
+  pub tokens : List Token
+  pub spells : Spells src tokens
+  pub deep : FirstDeepAt tokens at_
+
+-- the script's tokens are no script; the place is that of a token, or the end
+pub record IsNoReading (src : List ℕ) (at_ : ℕ) : Type 0 where
+  pub tokens : List Token
+  pub spells : Spells src tokens
+  pub shallow : NowhereDeep tokens
+  pub none : NoScript src tokens
+  pub place : IsPlace src tokens at_
 
 -- the script has no tree, since this is found at the place
 abbrev pub Refuses : List ℕ → ScriptKind → ℕ → Type 0
@@ -31,8 +46,8 @@ Refuses src kind.BadByte at_ = FirstFault src (tok.BadByte at_)
 Refuses src kind.OpenComment at_ = FirstFault src (tok.OpenComment at_)
 Refuses src kind.WideLiteral at_ = FirstFault src (tok.WideLiteral at_)
 Refuses src kind.LongWord at_ = FirstFault src (tok.LongWord at_)
-Refuses src kind.TooDeep at_ = (toks : List Token) × (Spells src toks × unread.Refuses src toks (syn.TooDeep at_))
-Refuses src kind.NoReading at_ = (toks : List Token) × (Spells src toks × unread.Refuses src toks (syn.NoReading at_) × unread.IsPlace src toks at_)
+Refuses src kind.TooDeep at_ = IsTooDeep src at_
+Refuses src kind.NoReading at_ = IsNoReading src at_
 
 -- a fault is a refusal of the script, or want of memory
 abbrev pub IsRefusal : List ℕ → ScriptFault → Type 0

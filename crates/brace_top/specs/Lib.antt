@@ -1,13 +1,12 @@
 pub mod Answer
+pub mod Commands
 pub mod Formatting
-pub mod Line
-pub mod Lines
+pub mod Messages
 pub mod Outcome
 pub mod Places
-pub mod RunAnswer
 pub mod Status
-pub mod Words
 pub mod Thin
 pub mod ThinAgents
 pub mod ThinSteps
 pub mod ThinTokens
+pub mod inner

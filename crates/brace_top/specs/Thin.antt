@@ -234,7 +234,7 @@ class_of src tokens name headings = if nat_le (length headings) 64 then (
     state_of headings ty.Fixed (codes "x") >>= λ x.
     state_of headings ty.Fixed (codes "y") >>= λ y.
     states_of src tokens headings >>= λ states.
-    Some (record { name = name; visible = pos 0; reach = reach; x = x; y = y; states = states; effects = []; query = [] })) else None
+    Some (record { name = name; visible = pos 0; reach = reach; x = x; y = y; states = states; effects = []; query = []; die = None; spawn = None })) else None
 
 -- the program of tokens
 abbrev pub program_of : List ℕ → List Token → Option Program

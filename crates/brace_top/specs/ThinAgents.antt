@@ -11,6 +11,7 @@ use Rattle.brace_model.specs.declared.program.Value.TheVariants.{Int, Fixed, Fla
 use Rattle.brace_model.specs.declared.program.State.{State}
 use Rattle.brace_model.specs.declared.program.Program.{Program}
 use Rattle.brace_model.specs.declared.world.Agent.{Agent}
+use Rattle.brace_model.specs.World.{World, world_of, least_next}
 
 -- a line feed, or one of the bytes 32 to 126 but the quote
 abbrev pub is_thin_byte : ℕ → Bool
@@ -101,6 +102,10 @@ ids_rise [] = true
 ids_rise (a ∷ []) = true
 ids_rise (a ∷ b ∷ rest) = nat_lt a.id b.id && ids_rise (b ∷ rest)
 
+-- ids rise, and the next free id is at most 2^63
+abbrev pub is_numbered : List Agent → Bool
+is_numbered agents = ids_rise agents && nat_le (least_next agents) (2 ^ 63)
+
 -- at most 1048576 agents, with at most 4194304 state values
 abbrev pub are_few : List Agent → Bool
 are_few agents = nat_le (length agents) 1048576 && nat_le (sum_by (λ a. length a.states) agents) 4194304
@@ -114,6 +119,9 @@ passing test (Some xs) = if test xs then Some xs else None
 abbrev pub agents_of : Program → List ℕ → Option (List Agent)
 agents_of program bytes = passing are_few (all_of (map (agent_of program) (lines_of bytes)))
 
--- the world of a thin agent file, or none where the file is not thin
-abbrev pub thin_agents : Program → List ℕ → Option (List Agent)
-thin_agents program bytes = if list_all is_thin_byte bytes then passing ids_rise (agents_of program bytes) else None
+-- the world of a thin agent file, with the least next free id, or none where the file is not thin
+abbrev pub thin_agents : Program → List ℕ → Option World
+thin_agents program bytes =
+    if list_all is_thin_byte bytes
+    then option_map world_of (passing is_numbered (agents_of program bytes))
+    else None

@@ -2,7 +2,8 @@
 ghost use Rattle.std.specs.Prelude.{◌≡◌, ◌==◌, ◌<◌, ◌≤◌, List, ◌+◌, ◌^◌, ◌&&◌, ◌∷◌, nat_le, length, position, Some, None, IfOk, IfSome, option_map};
 ghost use Rattle.std.specs.List.{slice_split, list_all};
 ghost use Rattle.std.specs.Option.{option_copied};
-ghost use Rattle.brace_top.specs.ThinAgents.{is_thin_byte, lines_of, parts_after, flag_of, value_of, values_of, id_of, below, class_named, class_numbered, states_in, agent_with, agent_in, ids_rise, passing, agent_of, agents_of, thin_agents};
+ghost use Rattle.brace_model.specs.World.{world_of};
+ghost use Rattle.brace_top.specs.ThinAgents.{is_thin_byte, lines_of, parts_after, flag_of, value_of, values_of, id_of, below, class_named, class_numbered, states_in, agent_with, agent_in, is_numbered, passing, agent_of, agents_of, thin_agents};
 
 use brace_model::{Agent, Program, State, Ty, Value, Values, World};
 use brace_num::{List, NoMemory, read_count, read_fixed, read_int};
@@ -56,7 +57,7 @@ fn read_world(alloc: Global, program: &Program, bytes: &[u8]) -> Result<Option<W
 }
 
 fn world_of(agents: Option<Vec<Agent>>) -> Option<World>
-    ensures { result ≡ passing ids_rise (option_map (λ v. v.items) agents) }
+    ensures { result ≡ option_map world_of (passing is_numbered (option_map (λ v. v.items) agents)) }
 {
     match agents {
         Some(agents) => World::from_rising(agents),
@@ -328,6 +329,8 @@ mod tests {
             states,
             effects: List::new(alloc),
             query: List::new(alloc),
+            die: None,
+            spawn: None,
         })
     }
 

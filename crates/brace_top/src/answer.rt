@@ -1,66 +1,92 @@
-ghost use Rattle.std.specs.Prelude.{◌≡◌, IfOk};
-ghost use Rattle.brace_top.specs.Answer.{IsSaid};
-ghost use Rattle.brace_top.specs.Lines.{named_line, write_fault_line};
-ghost use Rattle.brace_top.specs.declared.answer.Answer.{Answer};
+ghost use Rattle.std.specs.Prelude.{◌≡◌};
+ghost use Rattle.brace_top.specs.Answer.{IsSaid, sink_call};
+ghost use Rattle.brace_top.specs.Messages.{named_message};
+ghost use Rattle.brace_top.specs.inner.Settled.{status_in, message_in, IsRefusalOf};
 
-use crate::lines::named_line;
+use crate::messages::named_message;
 use crate::status::Status;
-use brace_io::{Sink, write_whole};
+use brace_io::{Failed, Sink, write_whole};
 use brace_num::NoMemory;
 use std::alloc::Global;
 
-/// What a command answers: its status, and the line on standard error.
+/// What a command answers: its status, and the message on standard error.
 #[derive(Debug, Drop)]
 pub struct Answer {
     pub status: Status,
-    pub line: Vec<u8>,
+    pub message: Vec<u8>,
 }
 
 /// Why a command goes no further.
 #[derive(Debug, Drop)]
 pub enum Stopped {
-    /// It is answered.
-    Answer(Answer),
+    /// A file is refused.
+    Refused(Answer),
+    /// A write to standard output failed.
+    WriteFault,
     /// The allocator refused memory.
     NoMemory,
 }
 
-/// The answer that refuses a file of a name.
+impl From<Failed> for Stopped {
+    ghost use Rattle.brace_top.specs.declared.answer.Stopped.TheVariants as kind;
+
+    ghost from_gives = { λ _ stopped. stopped ≡ kind.WriteFault };
+
+    fn from(_: Failed) -> Stopped {
+        Stopped::WriteFault
+    }
+}
+
+impl From<NoMemory> for Stopped {
+    ghost use Rattle.brace_top.specs.declared.answer.Stopped.TheVariants as kind;
+
+    ghost from_gives = { λ _ stopped. stopped ≡ kind.NoMemory };
+
+    fn from(_: NoMemory) -> Stopped {
+        Stopped::NoMemory
+    }
+}
+
+/// The refusal of the file of a name.
 pub fn refused(alloc: Global, name: &str, status: Status, rest: &[u8]) -> Stopped
-    ensures { (answer : Answer) → result ≡ Stopped.Answer answer → (answer.status ≡ status) × (answer.line.items ≡ named_line name.now rest.now) }
+    ensures { IsRefusalOf name.now status rest.now result }
 {
-    match named_line(alloc, name, rest) {
-        Ok(line) => Stopped::Answer(Answer { status, line }),
+    match named_message(alloc, name, rest) {
+        Ok(message) => Stopped::Refused(Answer { status, message }),
         Err(NoMemory) => Stopped::NoMemory,
     }
 }
 
-/// The answer with which a command was stopped.
-pub fn answered(stopped: Stopped) -> Result<Answer, NoMemory>
-    ensures { IfOk result (λ answer. stopped ≡ Stopped.Answer answer) }
+/// Says the message of a command, and gives its status.
+pub fn say<E: Sink>(err: &mut E, answer: Result<Answer, Stopped>) -> Status
+    ensures status { result ≡ status_in answer }
+    ensures said { IsSaid (sink_call E.Sink err.old err.new) (message_in answer) }
 {
-    match stopped {
-        Stopped::Answer(answer) => Ok(answer),
-        Stopped::NoMemory => Err(NoMemory),
+    match answer {
+        Ok(answer) => {
+            tell(err, answer.message.as_slice());
+            answer.status
+        }
+        Err(Stopped::Refused(answer)) => {
+            tell(err, answer.message.as_slice());
+            answer.status
+        }
+        Err(Stopped::WriteFault) => {
+            tell(err, b"brace: write fault\n");
+            Status::WriteFault
+        }
+        Err(Stopped::NoMemory) => {
+            tell(err, b"brace: no memory\n");
+            Status::NoMemory
+        }
     }
 }
 
-/// The answer after a fault of writing.
-pub fn unwritten(alloc: Global) -> Result<Answer, NoMemory>
-    ensures status { IfOk result (λ answer. answer.status ≡ Status.WriteFault) }
-    ensures line { IfOk result (λ answer. answer.line.items ≡ write_fault_line) }
+/// Writes a message; where the sink fails a front of it stands there.
+pub fn tell<E: Sink>(err: &mut E, message: &[u8])
+    ensures { IsSaid (sink_call E.Sink err.old err.new) message.now }
 {
-    Ok(Answer {
-        status: Status::WriteFault,
-        line: Vec::from_slice(alloc, b"brace: write fault\n")?,
-    })
-}
-
-/// Writes a line; where the sink fails a front of it stands there.
-pub fn tell<E: Sink>(err: &mut E, line: &[u8])
-    ensures { IsSaid line.now (E.written err.old) (E.written err.new) (E.faults err.old) (E.faults err.new) }
-{
-    match write_whole(err, line) {
+    match write_whole(err, message) {
         Ok(()) => {}
         Err(_) => {}
     }

@@ -1,17 +1,14 @@
-ghost use Rattle.std.specs.Prelude.{◌≡◌, ◌≢◌, ◌↔◌, ◌≤◌, ℕ, List, map, string_bytes, IfSome, IsSome, Some, None, true, false};
-ghost use Rattle.brace_io.specs.Counts.{Rose};
-ghost use Rattle.brace_io.specs.Shelves.{Files, Idle, writes};
-ghost use Rattle.brace_top.specs.Line.{line_of};
-ghost use Rattle.brace_top.specs.Outcome.{HasOutcome};
+ghost use Rattle.std.specs.Prelude.{◌≡◌, ◌↔◌, map, string_bytes, IfSome, IsSome, None, true, false};
+ghost use Rattle.brace_io.specs.Shelves.{Idle, writes};
+ghost use Rattle.brace_top.specs.Answer.{IsAnswered, CountsReads, CountsWrites, shelf_call, sink_call};
+ghost use Rattle.brace_top.specs.Commands.{command_of};
 ghost use Rattle.brace_top.specs.Status.{has_run, is_refusal, status_of, code_of};
-ghost use Rattle.brace_top.specs.Answer.{IsAnswer, IsSaid};
 
-use crate::answer::tell;
-use crate::flow::answer_line;
+use crate::answer::{say, tell};
+use crate::flow::answer_command;
 use crate::status::Status;
-use crate::words::read_line;
+use crate::words::read_command;
 use brace_io::{Gate, Shelf, Sink};
-use brace_num::NoMemory;
 use std::alloc::Global;
 use std::sync::Wait;
 use std::thread::Threads;
@@ -25,36 +22,25 @@ fn carry_out<S: Shelf, O: Sink, E: Sink>(
     err: &mut E,
 ) -> Status
     requires { S.stage shelf.old ≡ Idle }
-    ensures answered { (files : Files) → S.held shelf.old ≡ Some files → (line : List ℕ) × (
-        IsAnswer (HasOutcome (map string_bytes words.now) files) (S.held shelf.new) (S.stage shelf.new) result
-        (Rose (S.faults shelf.old) (S.faults shelf.new)) (Rose (O.faults out.old) (O.faults out.new)) (O.written out.old) (O.written out.new) line
-        × IsSaid line (E.written err.old) (E.written err.new) (E.faults err.old) (E.faults err.new)) }
-    ensures usage { (result ≡ Status.Usage) ↔ (line_of (map string_bytes words.now) ≡ None) }
-    ensures read_fault { result ≡ Status.ReadFault → Rose (S.faults shelf.old) (S.faults shelf.new) }
-    ensures write_fault { result ≡ Status.WriteFault → Rose (O.faults out.old) (O.faults out.new) }
+    ensures answered { IsAnswered (record {
+        words = map string_bytes words.now; status = result;
+        shelf = shelf_call S.Shelf shelf.old shelf.new;
+        out = sink_call O.Sink out.old out.new; err = sink_call E.Sink err.old err.new }) }
+    ensures usage { (result ≡ Status.Usage) ↔ (command_of (map string_bytes words.now) ≡ None) }
+    ensures reads { CountsReads (shelf_call S.Shelf shelf.old shelf.new) result }
+    ensures writes { CountsWrites (sink_call O.Sink out.old out.new) result }
     ensures untouched { is_refusal result ≡ true → out.new ≡ out.old }
     ensures untouched_by_usage { result ≡ Status.Usage → out.new ≡ out.old }
     ensures clean { has_run result ≡ true → O.clean out.new ≡ true }
     ensures held { S.held shelf.new ≡ S.held shelf.old }
     ensures not_writing { writes (S.stage shelf.new) ≡ false }
-    ensures shelf_never_falls { S.faults shelf.old ≤ S.faults shelf.new }
-    ensures out_never_falls { O.faults out.old ≤ O.faults out.new }
 {
-    match read_line(words) {
+    match read_command(words) {
         None => {
             tell(err, b"brace: usage\n");
             Status::Usage
         }
-        Some(line) => match answer_line(alloc, &line, shelf, out) {
-            Ok(answer) => {
-                tell(err, answer.line.as_slice());
-                answer.status
-            }
-            Err(NoMemory) => {
-                tell(err, b"brace: no memory\n");
-                Status::NoMemory
-            }
-        },
+        Some(command) => say(err, answer_command(alloc, &command, shelf, out)),
     }
 }
 
@@ -83,13 +69,13 @@ pub fn run_alone<S: Shelf, O: Sink, E: Sink>(
     requires { S.stage shelf.old ≡ Idle }
     ensures always { IsSome result }
     ensures known { IfSome result (λ code. code_of (status_of code) ≡ code) }
-    ensures answered { IfSome result (λ code. (files : Files) → S.held shelf.old ≡ Some files → (line : List ℕ) × (
-        IsAnswer (HasOutcome (map string_bytes words.now) files) (S.held shelf.new) (S.stage shelf.new) (status_of code)
-        (Rose (S.faults shelf.old) (S.faults shelf.new)) (Rose (O.faults out.old) (O.faults out.new)) (O.written out.old) (O.written out.new) line
-        × IsSaid line (E.written err.old) (E.written err.new) (E.faults err.old) (E.faults err.new))) }
-    ensures usage { IfSome result (λ code. (code ≡ 2) ↔ (line_of (map string_bytes words.now) ≡ None)) }
-    ensures read_fault { IfSome result (λ code. code ≡ 8 → Rose (S.faults shelf.old) (S.faults shelf.new)) }
-    ensures write_fault { IfSome result (λ code. code ≡ 9 → Rose (O.faults out.old) (O.faults out.new)) }
+    ensures answered { IfSome result (λ code. IsAnswered (record {
+        words = map string_bytes words.now; status = status_of code;
+        shelf = shelf_call S.Shelf shelf.old shelf.new;
+        out = sink_call O.Sink out.old out.new; err = sink_call E.Sink err.old err.new })) }
+    ensures usage { IfSome result (λ code. (code ≡ 2) ↔ (command_of (map string_bytes words.now) ≡ None)) }
+    ensures reads { IfSome result (λ code. CountsReads (shelf_call S.Shelf shelf.old shelf.new) (status_of code)) }
+    ensures writes { IfSome result (λ code. CountsWrites (sink_call O.Sink out.old out.new) (status_of code)) }
     ensures untouched { IfSome result (λ code. is_refusal (status_of code) ≡ true → out.new ≡ out.old) }
     ensures untouched_by_usage { IfSome result (λ code. code ≡ 2 → out.new ≡ out.old) }
     ensures clean { IfSome result (λ code. has_run (status_of code) ≡ true → O.clean out.new ≡ true) }
@@ -111,13 +97,13 @@ pub fn run<R: Threads + Wait + Sync, S: Shelf + Send, O: Sink + Send, E: Sink, G
 ) -> u8
     requires { S.stage shelf.old ≡ Idle }
     ensures known { code_of (status_of result) ≡ result }
-    ensures answered { (files : Files) → S.held shelf.old ≡ Some files → (line : List ℕ) × (
-        IsAnswer (HasOutcome (map string_bytes words.now) files) (S.held shelf.new) (S.stage shelf.new) (status_of result)
-        (Rose (S.faults shelf.old) (S.faults shelf.new)) (Rose (O.faults out.old) (O.faults out.new)) (O.written out.old) (O.written out.new) line
-        × IsSaid line (E.written err.old) (E.written err.new) (E.faults err.old) (E.faults err.new)) }
-    ensures usage { (result ≡ 2) ↔ (line_of (map string_bytes words.now) ≡ None) }
-    ensures read_fault { result ≡ 8 → Rose (S.faults shelf.old) (S.faults shelf.new) }
-    ensures write_fault { result ≡ 9 → Rose (O.faults out.old) (O.faults out.new) }
+    ensures answered { IsAnswered (record {
+        words = map string_bytes words.now; status = status_of result;
+        shelf = shelf_call S.Shelf shelf.old shelf.new;
+        out = sink_call O.Sink out.old out.new; err = sink_call E.Sink err.old err.new }) }
+    ensures usage { (result ≡ 2) ↔ (command_of (map string_bytes words.now) ≡ None) }
+    ensures reads { CountsReads (shelf_call S.Shelf shelf.old shelf.new) (status_of result) }
+    ensures writes { CountsWrites (sink_call O.Sink out.old out.new) (status_of result) }
     ensures untouched { is_refusal (status_of result) ≡ true → out.new ≡ out.old }
     ensures untouched_by_usage { result ≡ 2 → out.new ≡ out.old }
     ensures clean { has_run (status_of result) ≡ true → O.clean out.new ≡ true }

@@ -1,40 +1,38 @@
-ghost use Rattle.std.specs.Prelude.{◌≡◌, ◌≢◌, ◌≤◌, ◌^◌, ◌↔◌, [], ℕ, List, Option, map, string_bytes, MatchBool, IfOk, IfErr, OnOk, OnErr, IfSome, Some, None, IsSome, true, false};
-ghost use Rattle.brace_io.specs.Counts.{Rose};
-ghost use Rattle.brace_io.specs.Shelves.{Files, Stage, Idle, writes};
-ghost use Rattle.brace_io.specs.Sinks.{GainsFront};
+ghost use Rattle.std.specs.Prelude.{◌≡◌, ◌≢◌, ◌≤◌, ◌^◌, IfOk, IfErr, Some, true, false};
+ghost use Rattle.brace_io.specs.Shelves.{Files, writes};
 ghost use Rattle.brace_model.specs.Rules.{RulesAlone};
-ghost use Rattle.brace_top.specs.Outcome.{every_tick, end_status, end_line, ran, run_outcome, LineOutcome};
+ghost use Rattle.brace_top.specs.Answer.{IsAnswer, CountsReads, CountsWrites, shelf_call, sink_call};
+ghost use Rattle.brace_top.specs.Commands as asked;
+ghost use Rattle.brace_top.specs.Outcome.{every_tick, end_status, end_message, ran};
 ghost use Rattle.brace_top.specs.Status.{has_run, is_refusal};
-ghost use Rattle.brace_top.specs.Words.{said, said_run, HasTicks};
-ghost use Rattle.brace_top.specs.Answer.{IsAnswer, LeavesFront};
-ghost use Rattle.brace_top.specs.RunAnswer.{IsCaused, IsWritten, IsLine, IsStopped};
-ghost use Rattle.brace_top.specs.declared.answer.Answer.{Answer};
+ghost use Rattle.brace_top.specs.inner.Settled.{IsCarriedOut, is_work, status_in, message_in};
+ghost use Rattle.brace_top.specs.inner.Words.{said, said_run, HasTicks};
 
-use crate::answer::{Answer, Stopped, answered, unwritten};
+use crate::answer::{Answer, Stopped};
 use crate::format::format_script;
-use crate::job::{RunFault, run_ticks};
-use crate::lines::fault_line;
+use crate::job::run_ticks;
 use crate::load::{load_program, load_world};
+use crate::messages::fault_message;
 use crate::status::Status;
-use crate::words::{Line, RunLine};
-use brace_io::{Failed, Shelf, Sink};
+use crate::words::{Command, RunCommand};
+use brace_io::{Shelf, Sink};
 use brace_model::{Fault, Program, World};
-use brace_num::NoMemory;
 use std::alloc::Global;
 
 /// The answer of a run that ended, with the fault in which it ended, if any.
-fn ended(alloc: Global, found: Option<Fault>) -> Result<Answer, NoMemory>
+fn ended(alloc: Global, found: Option<Fault>) -> Result<Answer, Stopped>
     ensures status { IfOk result (λ answer. answer.status ≡ end_status found) }
-    ensures line { IfOk result (λ answer. answer.line.items ≡ end_line found) }
+    ensures message { IfOk result (λ answer. answer.message.items ≡ end_message found) }
+    ensures refused { IfErr result (λ stopped. stopped ≡ Stopped.NoMemory) }
 {
     match found {
         None => Ok(Answer {
             status: Status::Done,
-            line: Vec::new(alloc),
+            message: Vec::new(alloc),
         }),
         Some(fault) => Ok(Answer {
             status: Status::Fault,
-            line: fault_line(alloc, &fault)?,
+            message: fault_message(alloc, &fault)?,
         }),
     }
 }
@@ -46,103 +44,66 @@ fn run_world<O: Sink>(
     last: u64,
     start: World,
     out: &mut O,
-) -> Result<Answer, NoMemory>
+) -> Result<Answer, Stopped>
     requires ticks { last ≤ 2 ^ 32 }
     requires rules { RulesAlone program.now }
-    ensures caused { IfOk result (λ answer. IsCaused (ran (every_tick program.now last start)) answer.status ⊥ (Rose (O.faults out.old) (O.faults out.new))) }
-    ensures written { IfOk result (λ answer. IsWritten answer.status (ran (every_tick program.now last start)).out (O.written out.old) (O.written out.new)) }
-    ensures line { IfOk result (λ answer. (held : Option Files) (stage : Stage) → IsLine (ran (every_tick program.now last start)) held stage answer.status answer.line.items) }
-    ensures clean { IfOk result (λ answer. has_run answer.status ≡ true → O.clean out.new ≡ true) }
-    ensures front { OnErr result (GainsFront (O.written out.old) (O.written out.new) (ran (every_tick program.now last start)).out) }
-    ensures never_falls { O.faults out.old ≤ O.faults out.new }
+    ensures carried_out { IsCarriedOut (λ o. o ≡ ran (every_tick program.now last start))
+        (sink_call O.Sink out.old out.new) (message_in result) (status_in result) }
+    ensures work { is_work (status_in result) ≡ true }
+    ensures clean { has_run (status_in result) ≡ true → O.clean out.new ≡ true }
 {
-    match run_ticks(alloc, program, last, start, out) {
-        Ok(found) => match out.flush() {
-            Ok(()) => ended(alloc, found),
-            Err(Failed) => unwritten(alloc),
-        },
-        Err(RunFault::Write) => unwritten(alloc),
-        Err(RunFault::NoMemory) => Err(NoMemory),
-    }
-}
-
-/// The program and the start world of a line.
-fn load<S: Shelf>(alloc: Global, shelf: &mut S, line: &RunLine) -> Result<(Program, World), Stopped>
-    requires { writes (S.stage shelf.old) ≡ false }
-    ensures loaded { IfOk result (λ both. (files : Files) → S.held shelf.old ≡ Some files → run_outcome files (said_run line.now) ≡ ran (every_tick both.0 line.now.ticks both.1)) }
-    ensures rules { IfOk result (λ both. RulesAlone both.0) }
-    ensures stopped { IfErr result (λ e. (answer : Answer) → e ≡ Stopped.Answer answer
-        → IsStopped (λ files. run_outcome files (said_run line.now)) (S.held shelf.old) (S.stage shelf.new) (Rose (S.faults shelf.old) (S.faults shelf.new)) answer.status answer.line.items) }
-    ensures held { S.held shelf.new ≡ S.held shelf.old }
-    ensures not_writing { writes (S.stage shelf.new) ≡ false }
-    ensures never_falls { S.faults shelf.old ≤ S.faults shelf.new }
-{
-    match load_program(alloc, shelf, line.script) {
-        Ok(program) => match load_world(alloc, shelf, &program, line.agents) {
-            Ok(world) => Ok((program, world)),
-            Err(stopped) => Err(stopped),
-        },
-        Err(stopped) => Err(stopped),
-    }
+    let found = run_ticks(alloc, program, last, start, out)?;
+    out.flush()?;
+    ended(alloc, found)
 }
 
 /// Carries a run out: reads the script, then the agents, then runs.
 fn run_job<S: Shelf, O: Sink>(
     alloc: Global,
-    line: &RunLine,
+    run: &RunCommand,
     shelf: &mut S,
     out: &mut O,
-) -> Result<Answer, NoMemory>
+) -> Result<Answer, Stopped>
     requires stage { writes (S.stage shelf.old) ≡ false }
-    requires ticks { line.now.ticks ≤ 2 ^ 32 }
-    ensures caused { IfOk result (λ answer. (files : Files) → S.held shelf.old ≡ Some files
-        → IsCaused (run_outcome files (said_run line.now)) answer.status (Rose (S.faults shelf.old) (S.faults shelf.new)) (Rose (O.faults out.old) (O.faults out.new))) }
-    ensures written { IfOk result (λ answer. (files : Files) → S.held shelf.old ≡ Some files
-        → IsWritten answer.status (run_outcome files (said_run line.now)).out (O.written out.old) (O.written out.new)) }
-    ensures line { IfOk result (λ answer. (files : Files) → S.held shelf.old ≡ Some files
-        → IsLine (run_outcome files (said_run line.now)) (S.held shelf.new) (S.stage shelf.new) answer.status answer.line.items) }
-    ensures read_fault { IfOk result (λ answer. answer.status ≡ Status.ReadFault → Rose (S.faults shelf.old) (S.faults shelf.new)) }
-    ensures write_fault { IfOk result (λ answer. answer.status ≡ Status.WriteFault → Rose (O.faults out.old) (O.faults out.new)) }
-    ensures untouched { IfOk result (λ answer. is_refusal answer.status ≡ true → out.new ≡ out.old) }
-    ensures clean { IfOk result (λ answer. has_run answer.status ≡ true → O.clean out.new ≡ true) }
-    ensures known { IfOk result (λ answer. answer.status ≢ Status.Usage) }
-    ensures front { OnErr result ((files : Files) → S.held shelf.old ≡ Some files → GainsFront (O.written out.old) (O.written out.new) (run_outcome files (said_run line.now)).out) }
+    requires ticks { run.now.ticks ≤ 2 ^ 32 }
+    ensures answered { (files : Files) → S.held shelf.old ≡ Some files
+        → IsAnswer files (Some (asked.Run (said_run run.now))) (shelf_call S.Shelf shelf.old shelf.new)
+        (sink_call O.Sink out.old out.new) (message_in result) (status_in result) }
+    ensures reads { CountsReads (shelf_call S.Shelf shelf.old shelf.new) (status_in result) }
+    ensures writes { CountsWrites (sink_call O.Sink out.old out.new) (status_in result) }
+    ensures untouched { is_refusal (status_in result) ≡ true → out.new ≡ out.old }
+    ensures clean { has_run (status_in result) ≡ true → O.clean out.new ≡ true }
+    ensures known { status_in result ≢ Status.Usage }
     ensures held { S.held shelf.new ≡ S.held shelf.old }
     ensures not_writing { writes (S.stage shelf.new) ≡ false }
-    ensures shelf_never_falls { S.faults shelf.old ≤ S.faults shelf.new }
-    ensures out_never_falls { O.faults out.old ≤ O.faults out.new }
 {
-    match load(alloc, shelf, line) {
-        Ok((program, world)) => run_world(alloc, &program, line.ticks, world, out),
-        Err(stopped) => answered(stopped),
-    }
+    let program = load_program(alloc, shelf, run.script)?;
+    let world = load_world(alloc, shelf, &program, run.agents)?;
+    run_world(alloc, &program, run.ticks, world, out)
 }
 
-/// Carries a line out.
-pub fn answer_line<S: Shelf, O: Sink>(
+/// Carries a command out.
+pub fn answer_command<S: Shelf, O: Sink>(
     alloc: Global,
-    line: &Line,
+    command: &Command,
     shelf: &mut S,
     out: &mut O,
-) -> Result<Answer, NoMemory>
+) -> Result<Answer, Stopped>
     requires stage { writes (S.stage shelf.old) ≡ false }
-    requires ticks { HasTicks line.now }
-    ensures answered { IfOk result (λ answer. (files : Files) → S.held shelf.old ≡ Some files
-        → IsAnswer (LineOutcome files (Some (said line.now))) (S.held shelf.new) (S.stage shelf.new) answer.status
-        (Rose (S.faults shelf.old) (S.faults shelf.new)) (Rose (O.faults out.old) (O.faults out.new)) (O.written out.old) (O.written out.new) answer.line.items) }
-    ensures front { OnErr result ((files : Files) → S.held shelf.old ≡ Some files → LeavesFront (LineOutcome files (Some (said line.now))) (O.written out.old) (O.written out.new)) }
-    ensures read_fault { IfOk result (λ answer. answer.status ≡ Status.ReadFault → Rose (S.faults shelf.old) (S.faults shelf.new)) }
-    ensures write_fault { IfOk result (λ answer. answer.status ≡ Status.WriteFault → Rose (O.faults out.old) (O.faults out.new)) }
-    ensures untouched { IfOk result (λ answer. is_refusal answer.status ≡ true → out.new ≡ out.old) }
-    ensures clean { IfOk result (λ answer. has_run answer.status ≡ true → O.clean out.new ≡ true) }
-    ensures known { IfOk result (λ answer. answer.status ≢ Status.Usage) }
+    requires ticks { HasTicks command.now }
+    ensures answered { (files : Files) → S.held shelf.old ≡ Some files
+        → IsAnswer files (Some (said command.now)) (shelf_call S.Shelf shelf.old shelf.new)
+        (sink_call O.Sink out.old out.new) (message_in result) (status_in result) }
+    ensures reads { CountsReads (shelf_call S.Shelf shelf.old shelf.new) (status_in result) }
+    ensures writes { CountsWrites (sink_call O.Sink out.old out.new) (status_in result) }
+    ensures untouched { is_refusal (status_in result) ≡ true → out.new ≡ out.old }
+    ensures clean { has_run (status_in result) ≡ true → O.clean out.new ≡ true }
+    ensures known { status_in result ≢ Status.Usage }
     ensures held { S.held shelf.new ≡ S.held shelf.old }
     ensures not_writing { writes (S.stage shelf.new) ≡ false }
-    ensures shelf_never_falls { S.faults shelf.old ≤ S.faults shelf.new }
-    ensures out_never_falls { O.faults out.old ≤ O.faults out.new }
 {
-    match line {
-        Line::Run(line) => run_job(alloc, line, shelf, out),
-        Line::Format(name) => format_script(alloc, name, shelf, out),
+    match command {
+        Command::Run(run) => run_job(alloc, run, shelf, out),
+        Command::Format(name) => format_script(alloc, name, shelf, out),
     }
 }

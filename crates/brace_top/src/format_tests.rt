@@ -171,39 +171,3 @@ fn keeps_the_limit_of_a_script(rt: HostRuntime) -> Result<(), Fail> {
     assert_eq!(rt; err.bytes(), b"brace: s: TooLong\n".as_slice());
     Ok(())
 }
-
-/// The status of a formatting whose call of this number fails: one of the shelf, or of the sink.
-fn status_where_one_fails(
-    alloc: Global,
-    shelf_fails: Vec<u64>,
-    sink_fails: Vec<u64>,
-    line: &mut MemSink,
-) -> Result<Option<u8>, Fail> {
-    let mut shelf = MemShelf::make(alloc, shelf_fails);
-    shelf.hold("s", STEPS)?;
-    let mut out = MemSink::make(alloc, 1000, sink_fails)?;
-    let words = words(alloc)?;
-    Ok(run_alone(alloc, words.as_slice(), &mut shelf, &mut out, line))
-}
-
-#[test]
-fn each_failing_call_has_its_status(rt: HostRuntime) -> Result<(), Fail> {
-    for number in 1..5 {
-        let mut line = MemSink::make(rt.alloc(), 100, Vec::new(rt.alloc()))?;
-        let read = status_where_one_fails(
-            rt.alloc(),
-            vec![in rt.alloc(); number]?,
-            Vec::new(rt.alloc()),
-            &mut line,
-        )?;
-        assert!(rt; read == Some(if number < 4 { 8 } else { 0 }));
-        let written = status_where_one_fails(
-            rt.alloc(),
-            Vec::new(rt.alloc()),
-            vec![in rt.alloc(); number]?,
-            &mut line,
-        )?;
-        assert!(rt; written == Some(if number < 3 { 9 } else { 0 }));
-    }
-    Ok(())
-}

@@ -6,6 +6,7 @@ ghost use Rattle.brace_model.specs.Run.{first_fault};
 ghost use Rattle.brace_model.specs.Published.{rows, published};
 ghost use Rattle.brace_top.specs.Outcome.{every_tick};
 
+use crate::answer::Stopped;
 use crate::step::{StepFault, step};
 use brace_draw::Drawer;
 use brace_io::{Failed, Sink, write_whole};
@@ -23,6 +24,39 @@ pub enum RunFault {
     NoMemory,
 }
 
+impl From<Failed> for RunFault {
+    ghost use Rattle.brace_top.specs.declared.job.RunFault.TheVariants as kind;
+
+    ghost from_gives = { λ _ fault. fault ≡ kind.Write };
+
+    fn from(_: Failed) -> RunFault {
+        RunFault::Write
+    }
+}
+
+impl From<NoMemory> for RunFault {
+    ghost use Rattle.brace_top.specs.declared.job.RunFault.TheVariants as kind;
+
+    ghost from_gives = { λ _ fault. fault ≡ kind.NoMemory };
+
+    fn from(_: NoMemory) -> RunFault {
+        RunFault::NoMemory
+    }
+}
+
+impl From<RunFault> for Stopped {
+    ghost use Rattle.brace_top.specs.inner.Settled.{stopped_by};
+
+    ghost from_gives = { λ fault stopped. stopped ≡ stopped_by fault };
+
+    fn from(fault: RunFault) -> Stopped {
+        match fault {
+            RunFault::Write => Stopped::WriteFault,
+            RunFault::NoMemory => Stopped::NoMemory,
+        }
+    }
+}
+
 /// Writes the rows of a tick, through a buffer that is used for each tick anew.
 fn publish<O: Sink>(
     text: &mut Vec<u8>,
@@ -31,19 +65,15 @@ fn publish<O: Sink>(
     world: &World,
     out: &mut O,
 ) -> Result<(), RunFault>
-    ensures all { OnOk result (Gains (O.written out.old) (O.written out.new) (rows program.now tick world.now)) }
-    ensures front { OnErr result (GainsFront (O.written out.old) (O.written out.new) (rows program.now tick world.now)) }
+    ensures all { OnOk result (Gains (O.written out.old) (O.written out.new) (rows program.now tick world.now.agents)) }
+    ensures front { OnErr result (GainsFront (O.written out.old) (O.written out.new) (rows program.now tick world.now.agents)) }
     ensures rose { IfErr result (λ fault. fault ≡ RunFault.Write → Rose (O.faults out.old) (O.faults out.new)) }
     ensures never_falls { O.faults out.old ≤ O.faults out.new }
 {
     text.clear();
-    match print_tick(text, program, tick, world) {
-        Ok(()) => match write_whole(out, text.as_slice()) {
-            Ok(()) => Ok(()),
-            Err(Failed) => Err(RunFault::Write),
-        },
-        Err(NoMemory) => Err(RunFault::NoMemory),
-    }
+    print_tick(text, program, tick, world)?;
+    write_whole(out, text.as_slice())?;
+    Ok(())
 }
 
 /// Runs a program of rules alone from tick 0 and a start world up to a last tick of at most 2^32, and writes the rows of each tick

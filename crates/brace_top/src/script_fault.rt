@@ -1,8 +1,13 @@
 ghost use Rattle.std.specs.Prelude.{◌≡◌, List, ℕ};
+ghost use Rattle.brace_syntax.specs.Sayings.{Refuses, StandsIn};
 ghost use Rattle.brace_tok.specs.Answers.{IsFault};
+ghost use Rattle.brace_tok.specs.Spells.{Spells};
+ghost use Rattle.brace_tok.specs.declared.kinds.Token.{Token};
 ghost use Rattle.brace_top.specs.Formatting.{IsRefusal};
-ghost use Rattle.brace_top.specs.Lines.{script_word};
+ghost use Rattle.brace_top.specs.Messages.{script_word};
 
+use brace_num::NoMemory;
+use brace_syntax::SynFault;
 use brace_tok::TokFault;
 
 /// What is found where a script has no tree.
@@ -41,11 +46,10 @@ impl ScriptKind {
     }
 }
 
-impl ScriptFault {
-    /// What a fault of the tokens refuses.
-    pub fn of_tokens(fault: TokFault) -> ScriptFault
-        ensures { (src : List ℕ) → IsFault src fault → IsRefusal src result }
-    {
+impl From<TokFault> for ScriptFault {
+    ghost from_gives = { λ fault found. (src : List ℕ) → IsFault src fault → IsRefusal src found };
+
+    fn from(fault: TokFault) -> ScriptFault {
         match fault {
             TokFault::BadByte(at) => ScriptFault::Refused(ScriptKind::BadByte, at),
             TokFault::OpenComment(at) => ScriptFault::Refused(ScriptKind::OpenComment, at),
@@ -53,5 +57,28 @@ impl ScriptFault {
             TokFault::LongWord(at) => ScriptFault::Refused(ScriptKind::LongWord, at),
             TokFault::NoMemory => ScriptFault::NoMemory,
         }
+    }
+}
+
+impl From<SynFault> for ScriptFault {
+    ghost from_gives = { λ fault found. (src : List ℕ) (toks : List Token) → Spells src toks
+        → Refuses src toks fault → StandsIn src toks fault → IsRefusal src found };
+
+    fn from(fault: SynFault) -> ScriptFault {
+        match fault {
+            SynFault::TooDeep(at) => ScriptFault::Refused(ScriptKind::TooDeep, at),
+            SynFault::NoReading(at) => ScriptFault::Refused(ScriptKind::NoReading, at),
+            SynFault::NoMemory => ScriptFault::NoMemory,
+        }
+    }
+}
+
+impl From<NoMemory> for ScriptFault {
+    ghost use Rattle.brace_top.specs.declared.script_fault.ScriptFault.TheVariants as kind;
+
+    ghost from_gives = { λ _ found. found ≡ kind.NoMemory };
+
+    fn from(_: NoMemory) -> ScriptFault {
+        ScriptFault::NoMemory
     }
 }

@@ -1,9 +1,10 @@
-ghost use Rattle.std.specs.Prelude.{◌≡◌, ◌≤◌, ◌<◌, ◌^◌, IfOk, IfErr, Ok, Err, Some, [], pos, ◌≤ℤ◌};
-ghost use Rattle.brace_model.specs.Next.{ruled, ruled_states, moved, within_reach, next_in};
+ghost use Rattle.std.specs.Prelude.{◌≡◌, ◌≤◌, ◌<◌, ◌^◌, IfOk, IfErr, MatchOption, Ok, Err, Some, None, [], pos, ◌≤ℤ◌};
+ghost use Rattle.brace_model.specs.Next.{ruled, moved, changed, next_in, first_stop, values_of};
 ghost use Rattle.brace_model.specs.World.{class_of};
 ghost use Rattle.brace_model.specs.FaultOrder.{with_earlier};
 ghost use Rattle.brace_model.specs.Step.{step};
-ghost use Rattle.brace_model.specs.Rules.{RulesAlone};
+ghost use Rattle.brace_model.specs.Rules.{RulesAlone, HasRulesAlone};
+ghost use Rattle.brace_top.specs.inner.Rules.{worths, with_stop, stays};
 ghost use Rattle.brace_eval.specs.Scopes.{scope_of};
 
 use brace_draw::Drawer;
@@ -70,7 +71,23 @@ fn ruled(rule: &Option<Expr>, old: Value, env: &Env, drawer: &mut Drawer) -> Res
     }
 }
 
-/// The values of all rules over an agent's states; a state without a rule keeps its value.
+/// The stop of the lesser site: of one, and of one that was met before it, if any was.
+fn with_earlier_stop(met: Option<Stop>, stop: Stop) -> Stop
+    ensures { result ≡ with_stop met stop }
+{
+    match met {
+        None => stop,
+        Some(met) => {
+            if stop.site < met.site {
+                stop
+            } else {
+                met
+            }
+        }
+    }
+}
+
+/// The values of all rules over an agent's states, or the stop of the least site; a state without a rule keeps its value.
 fn ruled_states(
     alloc: Global,
     states: &[State],
@@ -79,18 +96,24 @@ fn ruled_states(
     drawer: &mut Drawer,
 ) -> Result<Vec<Value>, RuleFault>
     requires { env.now.tick ≤ 2 ^ 32 }
-    ensures ruled { IfOk result (λ new. ruled_states (scope_of env.now drawer.old) states.now values.now ≡ Ok new.items) }
-    ensures stopped { IfErr result (λ fault. (stop : Stop) → fault ≡ RuleFault.Stop stop → ruled_states (scope_of env.now drawer.old) states.now values.now ≡ Err stop) }
+    ensures passes { IfOk result (λ _. first_stop (worths (scope_of env.now drawer.old) states.now values.now) ≡ None) }
+    ensures ruled { IfOk result (λ new. values_of (worths (scope_of env.now drawer.old) states.now values.now) ≡ new.items) }
+    ensures stopped { IfErr result (λ fault. (stop : Stop) → fault ≡ RuleFault.Stop stop
+        → first_stop (worths (scope_of env.now drawer.old) states.now values.now) ≡ Some stop) }
     ensures seed { drawer.new.seed ≡ drawer.old.seed }
 {
     let mut new = Vec::new(alloc);
+    let mut first = None;
     for i in 0..states.len().min(values.len()) {
         match ruled(&states[i].rule, values[i], env, drawer) {
             Ok(value) => new.push(value)?,
-            Err(stop) => return Err(RuleFault::Stop(stop)),
+            Err(stop) => first = Some(with_earlier_stop(first, stop)),
         }
     }
-    Ok(new)
+    match first {
+        None => Ok(new),
+        Some(stop) => Err(RuleFault::Stop(stop)),
+    }
 }
 
 /// A coordinate's new value, moved into reach of its old one.
@@ -111,7 +134,7 @@ fn move_within(new: &mut [Value], old: &[Value], place: u32, reach: i64)
 /// An agent of a class with its new states, both coordinates moved into reach.
 fn updated(a: &Agent, class: &Class, mut new: Vec<Value>) -> Agent
     requires { pos 0 ≤ℤ class.now.reach }
-    ensures { result ≡ record a.now { states = within_reach class.now a.now.states new.items } }
+    ensures { result ≡ changed class.now a.now new.items }
 {
     let old = a.states.as_slice();
     move_within(&mut new, old, class.x, class.reach);
@@ -132,8 +155,9 @@ fn next_of(
     drawer: &mut Drawer,
 ) -> Result<Agent, StepFault>
     requires ticks { tick ≤ 2 ^ 32 }
-    requires reach { pos 0 ≤ℤ class.now.reach }
-    ensures next { IfOk result (λ next. next_in drawer.old.seed tick (Some class.now) [] a.now ≡ Ok next) }
+    requires rules { HasRulesAlone class.now }
+    ensures next { IfOk result (λ next. next_in drawer.old.seed tick (Some class.now) [] a.now ≡ Ok (stays next)) }
+    ensures id { IfOk result (λ next. next.id ≡ a.now.id) }
     ensures fault { IfErr result (λ e. (fault : Fault) → e ≡ StepFault.Fault fault → next_in drawer.old.seed tick (Some class.now) [] a.now ≡ Err fault) }
     ensures seed { drawer.new.seed ≡ drawer.old.seed }
 {
@@ -166,6 +190,13 @@ fn next_of(
     }
 }
 
+/// The class of an agent, where the program has it.
+fn class_of<'a>(program: &'a Program, a: &Agent) -> Option<&'a Class>
+    ensures { MatchOption result (class_of program.now a.now ≡ None) (λ class. class_of program.now a.now ≡ Some class.now) }
+{
+    program.classes.as_slice().get(a.class as usize)
+}
+
 /// The next agent of an agent of a program of rules alone.
 fn next_agent(
     alloc: Global,
@@ -176,11 +207,12 @@ fn next_agent(
 ) -> Result<Agent, StepFault>
     requires ticks { tick ≤ 2 ^ 32 }
     requires rules { RulesAlone program.now }
-    ensures next { IfOk result (λ next. next_in drawer.old.seed tick (class_of program.now a.now) [] a.now ≡ Ok next) }
+    ensures next { IfOk result (λ next. next_in drawer.old.seed tick (class_of program.now a.now) [] a.now ≡ Ok (stays next)) }
+    ensures id { IfOk result (λ next. next.id ≡ a.now.id) }
     ensures fault { IfErr result (λ e. (fault : Fault) → e ≡ StepFault.Fault fault → next_in drawer.old.seed tick (class_of program.now a.now) [] a.now ≡ Err fault) }
     ensures seed { drawer.new.seed ≡ drawer.old.seed }
 {
-    match program.classes.as_slice().get(a.class as usize) {
+    match class_of(program, a) {
         Some(class) => next_of(alloc, class, tick, a, drawer),
         None => match a.copy(alloc) {
             Ok(same) => Ok(same),
@@ -216,7 +248,7 @@ pub fn step(
     if let Some(fault) = least {
         return Err(StepFault::Fault(fault));
     }
-    match World::from_rising(nexts) {
+    match World::with_next(nexts, world.next()) {
         Some(next) => Ok(next),
         None => unreachable!(),
     }

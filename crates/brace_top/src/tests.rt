@@ -18,50 +18,88 @@ const EXCHANGED: &str =
 const WITH_A_QUERY: &str =
     "class F { public state fixed x; public state fixed y; public void run() { } }";
 
-const ROWS: &str = "0,P,7,0.000000,0.000000\n1,P,7,1.500000,0.000000\n2,P,7,3.000000,0.000000\n";
+const AGENT: &str = "P,7,0,0\n";
 
-/// The words of a run up to a last tick.
-fn words(alloc: Global, ticks: &str) -> Result<Vec<String>, AllocError> {
+const ROWS: [&str; 4] = [
+    "",
+    "0,P,7,0.000000,0.000000\n",
+    "0,P,7,0.000000,0.000000\n1,P,7,1.500000,0.000000\n",
+    "0,P,7,0.000000,0.000000\n1,P,7,1.500000,0.000000\n2,P,7,3.000000,0.000000\n",
+];
+
+const CANONICAL: &str =
+    "class P {\n  #reach[2.0];\n  public state fixed x : x + 1.5;\n  public state fixed y;\n}\n";
+
+const RUN: [&str; 7] = ["run", "--script", "s", "--agents", "a", "--ticks", "2"];
+
+const FORMAT: [&str; 3] = ["fmt", "--script", "s"];
+
+/// Words of the command line.
+fn words_of(alloc: Global, spellings: &[&str]) -> Result<Vec<String>, AllocError> {
     let mut words = Vec::new(alloc);
-    for word in ["run", "--script", "s", "--agents", "a", "--ticks", ticks] {
-        words.push(String::from_str(alloc, word)?)?;
+    for spelling in spellings {
+        words.push(String::from_str(alloc, *spelling)?)?;
     }
     Ok(words)
 }
 
-/// Whether a command over two files ends with this status and these texts.
-fn ends<R: Threads + Wait + Sync>(
+/// A shelf with a script `s` and an agent file `a`, whose calls of these numbers fail.
+fn shelf_of(
+    alloc: Global,
+    script: &str,
+    agents: &str,
+    fails: Vec<u64>,
+) -> Result<MemShelf, Fail> {
+    let mut shelf = MemShelf::make(alloc, fails);
+    shelf.hold("s", script.as_bytes())?;
+    shelf.hold("a", agents.as_bytes())?;
+    Ok(shelf)
+}
+
+/// The status, the text and the message of a command over a shelf, where the sink's calls of these numbers fail.
+fn ended(
+    alloc: Global,
+    spellings: &[&str],
+    shelf: &mut MemShelf,
+    fails: Vec<u64>,
+) -> Result<(Option<u8>, MemSink, MemSink), Fail> {
+    let mut out = MemSink::make(alloc, 1000, fails)?;
+    let mut err = MemSink::make(alloc, 1000, Vec::new(alloc))?;
+    let words = words_of(alloc, spellings)?;
+    let status = run_alone(alloc, words.as_slice(), shelf, &mut out, &mut err);
+    Ok((status, out, err))
+}
+
+/// The status, the text and the message of a run up to a last tick over two files, by the call with a runtime.
+fn ran<R: Threads + Wait + Sync>(
     rt: &R,
     alloc: Global,
     script: &str,
     agents: &str,
     ticks: &str,
-    status: u8,
-    rows: &str,
-    line: &str,
-) -> Result<bool, Fail> {
-    let mut shelf = MemShelf::make(alloc, Vec::new(alloc));
-    shelf.hold("s", script.as_bytes())?;
-    shelf.hold("a", agents.as_bytes())?;
+) -> Result<(u8, MemSink, MemSink), Fail> {
+    let mut shelf = shelf_of(alloc, script, agents, Vec::new(alloc))?;
     let mut out = MemSink::make(alloc, 1000, Vec::new(alloc))?;
     let mut err = MemSink::make(alloc, 1000, Vec::new(alloc))?;
-    let words = words(alloc, ticks)?;
-    let code = run(
+    let spellings = ["run", "--script", "s", "--agents", "a", "--ticks", ticks];
+    let words = words_of(alloc, &spellings)?;
+    let gate = OpenGate;
+    let status = run(
         rt,
         alloc,
         words.as_slice(),
         &mut shelf,
         &mut out,
         &mut err,
-        &OpenGate,
+        &gate,
     );
-    Ok(code == status && out.bytes() == rows.as_bytes() && err.bytes() == line.as_bytes())
+    Ok((status, out, err))
 }
 
 #[test]
 fn runs_thin_scripts(rt: HostRuntime) -> Result<(), Fail> {
     for (script, agents, ticks, rows) in [
-        (STEPS, "P,7,0,0\n", "2", ROWS),
+        (STEPS, AGENT, "2", ROWS[3]),
         (STEPS, "", "3", ""),
         (
             CLAMPED,
@@ -76,14 +114,17 @@ fn runs_thin_scripts(rt: HostRuntime) -> Result<(), Fail> {
             "0,S,1,0.000000,0.000000,3,8\n1,S,1,0.000000,0.000000,8,3\n",
         ),
     ] {
-        assert!(rt; ends(&rt, rt.alloc(), script, agents, ticks, 0, rows, "")?);
+        let (status, out, err) = ran(&rt, rt.alloc(), script, agents, ticks)?;
+        assert_eq!(rt; status, 0, "{script}");
+        assert_eq!(rt; out.bytes(), rows.as_bytes(), "{script}");
+        assert_eq!(rt; err.bytes(), b"".as_slice(), "{script}");
     }
     Ok(())
 }
 
 #[test]
 fn names_the_first_fault_and_each_refusal(rt: HostRuntime) -> Result<(), Fail> {
-    for (script, agents, status, rows, line) in [
+    for (script, agents, wanted, rows, message) in [
         (
             STEPS,
             "P,7,9223372036854.775807,0\n",
@@ -94,44 +135,52 @@ fn names_the_first_fault_and_each_refusal(rt: HostRuntime) -> Result<(), Fail> {
         (WITH_A_QUERY, "", 3, "", "brace: s: NotThin\n"),
         (STEPS, "\"P\",7,0,0\r\n", 4, "", "brace: a: NotThin\n"),
     ] {
-        assert!(rt; ends(&rt, rt.alloc(), script, agents, "1", status, rows, line)?);
+        let (status, out, err) = ran(&rt, rt.alloc(), script, agents, "1")?;
+        assert_eq!(rt; status, wanted, "{message}");
+        assert_eq!(rt; out.bytes(), rows.as_bytes(), "{message}");
+        assert_eq!(rt; err.bytes(), message.as_bytes());
     }
     Ok(())
 }
 
-/// The status of a command whose call of this number fails: one of the shelf, or of the sink.
-fn status_where_one_fails(
-    alloc: Global,
-    shelf_fails: Vec<u64>,
-    sink_fails: Vec<u64>,
-    line: &mut MemSink,
-) -> Result<Option<u8>, Fail> {
-    let mut shelf = MemShelf::make(alloc, shelf_fails);
-    shelf.hold("s", STEPS.as_bytes())?;
-    shelf.hold("a", b"P,7,0,0\n")?;
-    let mut out = MemSink::make(alloc, 1000, sink_fails)?;
-    let words = words(alloc, "2")?;
-    Ok(run_alone(alloc, words.as_slice(), &mut shelf, &mut out, line))
+#[test]
+fn each_failing_read_names_its_file(rt: HostRuntime) -> Result<(), Fail> {
+    let alloc = rt.alloc();
+    let of_script = "brace: s: read fault\n";
+    let of_agents = "brace: a: read fault\n";
+    let run_messages = [of_script, of_script, of_script, of_agents, of_agents, of_agents, ""];
+    let format_messages = [of_script, of_script, of_script, ""];
+    let tables: [(&[&str], &[&str], &str); 2] = [
+        (&RUN, &run_messages, ROWS[3]),
+        (&FORMAT, &format_messages, CANONICAL),
+    ];
+    for (words, messages, text) in tables {
+        for (index, message) in messages.iter().enumerate() {
+            let number = index as u64 + 1;
+            let mut shelf = shelf_of(alloc, STEPS, AGENT, vec![in alloc; number]?)?;
+            let (status, out, err) = ended(alloc, words, &mut shelf, Vec::new(alloc))?;
+            let (wanted, left) = if message.is_empty() { (0, text) } else { (8, "") };
+            assert_eq!(rt; status, Some(wanted), "at call {number}");
+            assert_eq!(rt; out.bytes(), left.as_bytes(), "at call {number}");
+            assert_eq!(rt; err.bytes(), message.as_bytes(), "at call {number}");
+        }
+    }
+    Ok(())
 }
 
 #[test]
-fn each_failing_call_has_its_status(rt: HostRuntime) -> Result<(), Fail> {
-    for number in 1..8 {
-        let mut line = MemSink::make(rt.alloc(), 100, Vec::new(rt.alloc()))?;
-        let read = status_where_one_fails(
-            rt.alloc(),
-            vec![in rt.alloc(); number]?,
-            Vec::new(rt.alloc()),
-            &mut line,
-        )?;
-        assert!(rt; read == Some(if number < 7 { 8 } else { 0 }));
-        let written = status_where_one_fails(
-            rt.alloc(),
-            Vec::new(rt.alloc()),
-            vec![in rt.alloc(); number]?,
-            &mut line,
-        )?;
-        assert!(rt; written == Some(if number < 5 { 9 } else { 0 }));
+fn each_failing_write_leaves_a_front(rt: HostRuntime) -> Result<(), Fail> {
+    let alloc = rt.alloc();
+    let tables: [(&[&str], &[&str]); 2] = [(&RUN, &ROWS), (&FORMAT, &["", CANONICAL])];
+    for (words, fronts) in tables {
+        for (index, front) in fronts.iter().enumerate() {
+            let number = index as u64 + 1;
+            let mut shelf = shelf_of(alloc, STEPS, AGENT, Vec::new(alloc))?;
+            let (status, out, err) = ended(alloc, words, &mut shelf, vec![in alloc; number]?)?;
+            assert_eq!(rt; status, Some(9), "at call {number}");
+            assert_eq!(rt; out.bytes(), front.as_bytes(), "at call {number}");
+            assert_eq!(rt; err.bytes(), b"brace: write fault\n".as_slice(), "at call {number}");
+        }
     }
     Ok(())
 }
@@ -139,18 +188,18 @@ fn each_failing_call_has_its_status(rt: HostRuntime) -> Result<(), Fail> {
 #[test]
 fn refuses_no_words_and_absent_files(rt: HostRuntime) -> Result<(), Fail> {
     let alloc = rt.alloc();
-    let mut shelf = MemShelf::make(alloc, Vec::new(alloc));
-    let mut out = MemSink::make(alloc, 100, Vec::new(alloc))?;
-    let mut err = MemSink::make(alloc, 100, Vec::new(alloc))?;
-    let none: Vec<String> = Vec::new(alloc);
-    let usage = run_alone(alloc, none.as_slice(), &mut shelf, &mut out, &mut err);
-    assert!(rt; usage == Some(2));
-    assert!(rt; err.bytes() == b"brace: usage\n".as_slice());
-    let mut err = MemSink::make(alloc, 100, Vec::new(alloc))?;
-    let words = words(alloc, "2")?;
-    let mut shelf = MemShelf::make(alloc, Vec::new(alloc));
-    let absent = run_alone(alloc, words.as_slice(), &mut shelf, &mut out, &mut err);
-    assert!(rt; absent == Some(12));
-    assert!(rt; err.bytes() == b"brace: s: absent\n".as_slice());
+    let none: [&str; 0] = [];
+    let tables: [(&[&str], u8, &str); 3] = [
+        (&none, 2, "brace: usage\n"),
+        (&RUN, 12, "brace: s: absent\n"),
+        (&FORMAT, 12, "brace: s: absent\n"),
+    ];
+    for (words, wanted, message) in tables {
+        let mut shelf = MemShelf::make(alloc, Vec::new(alloc));
+        let (status, out, err) = ended(alloc, words, &mut shelf, Vec::new(alloc))?;
+        assert_eq!(rt; status, Some(wanted), "{message}");
+        assert_eq!(rt; out.bytes(), b"".as_slice(), "{message}");
+        assert_eq!(rt; err.bytes(), message.as_bytes());
+    }
     Ok(())
 }

@@ -1,12 +1,13 @@
 ghost use Rattle.std.specs.Prelude.{◌≡◌, map, string_bytes, MatchOption, IfSome, None, Some, ◌≤◌, ◌^◌, ◌∷◌, [], List};
-ghost use Rattle.brace_top.specs.Line.{line_of, is_name};
-ghost use Rattle.brace_top.specs.Words.{said, HasTicks};
+ghost use Rattle.brace_top.specs.Commands.{command_of, is_name};
+ghost use Rattle.brace_top.specs.inner.Words.{said, HasTicks};
 
+use crate::limits::TICKS_LIMIT;
 use brace_num::read_count;
 
-/// A run from an agent file up to a last tick, at most 2^32.
+/// A run from an agent file up to a last tick, at most [`TICKS_LIMIT`].
 #[derive(Debug, Clone, Copy)]
-pub struct RunLine<'a> {
+pub struct RunCommand<'a> {
     pub script: &'a str,
     pub agents: &'a str,
     pub ticks: u64,
@@ -14,9 +15,9 @@ pub struct RunLine<'a> {
 
 /// What the words of a command ask for.
 #[derive(Debug, Clone, Copy)]
-pub enum Line<'a> {
+pub enum Command<'a> {
     /// A run.
-    Run(RunLine<'a>),
+    Run(RunCommand<'a>),
     /// The canonical text of the script of this name.
     Format(&'a str),
 }
@@ -32,9 +33,9 @@ fn is_name(word: &str) -> bool
     }
 }
 
-/// The line that the words are, or None where they are none.
-pub fn read_line(words: &[String]) -> Option<Line<'_>>
-    ensures line { MatchOption result (line_of (map string_bytes words.now) ≡ None) (λ line. line_of (map string_bytes words.now) ≡ Some (said line)) }
+/// The command that the words are, or None where they are none.
+pub fn read_command(words: &[String]) -> Option<Command<'_>>
+    ensures command { MatchOption result (command_of (map string_bytes words.now) ≡ None) (λ command. command_of (map string_bytes words.now) ≡ Some (said command)) }
     ensures ticks { IfSome result HasTicks }
 {
     match words {
@@ -51,10 +52,10 @@ pub fn read_line(words: &[String]) -> Option<Line<'_>>
                 return None;
             }
             let ticks = read_count(ticks.as_bytes())?;
-            if ticks > 4_294_967_296 {
+            if ticks > TICKS_LIMIT {
                 return None;
             }
-            Some(Line::Run(RunLine {
+            Some(Command::Run(RunCommand {
                 script,
                 agents,
                 ticks,
@@ -64,7 +65,7 @@ pub fn read_line(words: &[String]) -> Option<Line<'_>>
             if mode.as_str() != "fmt" || s.as_str() != "--script" || !is_name(script.as_str()) {
                 return None;
             }
-            Some(Line::Format(script.as_str()))
+            Some(Command::Format(script.as_str()))
         }
         _ => None,
     }

@@ -56,6 +56,8 @@ fn class_of(
         states: List::from_vec(states),
         effects: List::new(alloc),
         query: List::new(alloc),
+        die: None,
+        spawn: None,
     })
 }
 

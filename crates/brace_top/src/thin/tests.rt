@@ -7,13 +7,13 @@ const STEPS: &str =
     "class P { #reach[2.0]; public state fixed x : x + 1.5; public state fixed y; }";
 
 const STEPS_PROGRAM: &str =
-    "Program { classes: List { items: [Class { name: Text { string: \"P\" }, visible: 0, reach: 2000000, x: 0, y: 1, states: List { items: [State { name: Text { string: \"x\" }, ty: Fixed, shared: true, rule: Some(Binary(Add, Some(0), Boxed { inner: Field(This, 0) }, Boxed { inner: Lit(Fixed(1500000)) })) }, State { name: Text { string: \"y\" }, ty: Fixed, shared: true, rule: None }] }, effects: List { items: [] }, query: List { items: [] } }] }, sites: List { items: [48] } }";
+    "Program { classes: List { items: [Class { name: Text { string: \"P\" }, visible: 0, reach: 2000000, x: 0, y: 1, states: List { items: [State { name: Text { string: \"x\" }, ty: Fixed, shared: true, rule: Some(Binary(Add, Some(0), Boxed { inner: Field(This, 0) }, Boxed { inner: Lit(Fixed(1500000)) })) }, State { name: Text { string: \"y\" }, ty: Fixed, shared: true, rule: None }] }, effects: List { items: [] }, query: List { items: [] }, die: None, spawn: None }] }, sites: List { items: [48] } }";
 
 const GROUPED: &str =
     "class C{public state fixed y;public state int n:1-n+2;public state fixed x;}";
 
 const GROUPED_PROGRAM: &str =
-    "Program { classes: List { items: [Class { name: Text { string: \"C\" }, visible: 0, reach: 0, x: 2, y: 0, states: List { items: [State { name: Text { string: \"y\" }, ty: Fixed, shared: true, rule: None }, State { name: Text { string: \"n\" }, ty: Int, shared: true, rule: Some(Binary(Add, Some(1), Boxed { inner: Binary(Sub, Some(0), Boxed { inner: Lit(Int(1)) }, Boxed { inner: Field(This, 1) }) }, Boxed { inner: Lit(Int(2)) })) }, State { name: Text { string: \"x\" }, ty: Fixed, shared: true, rule: None }] }, effects: List { items: [] }, query: List { items: [] } }] }, sites: List { items: [49, 51] } }";
+    "Program { classes: List { items: [Class { name: Text { string: \"C\" }, visible: 0, reach: 0, x: 2, y: 0, states: List { items: [State { name: Text { string: \"y\" }, ty: Fixed, shared: true, rule: None }, State { name: Text { string: \"n\" }, ty: Int, shared: true, rule: Some(Binary(Add, Some(1), Boxed { inner: Binary(Sub, Some(0), Boxed { inner: Lit(Int(1)) }, Boxed { inner: Field(This, 1) }) }, Boxed { inner: Lit(Int(2)) })) }, State { name: Text { string: \"x\" }, ty: Fixed, shared: true, rule: None }] }, effects: List { items: [] }, query: List { items: [] }, die: None, spawn: None }] }, sites: List { items: [49, 51] } }";
 
 fn read(alloc: Global, text: &str) -> Result<Program, ThinFault> {
     if text.len() > 1_048_576 {

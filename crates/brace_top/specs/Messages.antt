@@ -1,0 +1,73 @@
+-- The messages on standard error: one, with a line feed at its end, for each status but 0.
+use Rattle.std.specs.Prelude.{ℕ, List, [], ◌∷◌, ◌++◌, codes, Option, Some, None}
+use Rattle.brace_num.specs.declared.kinds.Kind.{Kind}
+use Rattle.brace_num.specs.declared.kinds.Kind.TheVariants.{Overflow, DivZero, NegRoot, TooMany}
+use Rattle.brace_num.specs.Spelling.{canonical_count}
+use Rattle.brace_top.specs.declared.script_fault.ScriptKind.{ScriptKind}
+use Rattle.brace_top.specs.declared.script_fault.ScriptKind.TheVariants.{BadByte, OpenComment, WideLiteral, LongWord, TooDeep, NoReading}
+use Rattle.brace_model.specs.declared.fault.Fault.{Fault}
+use Rattle.brace_model.specs.declared.fault.Phase.{Phase}
+use Rattle.brace_model.specs.declared.fault.Phase.TheVariants.{Query, Update, Birth}
+
+-- the message that begins with a file's name
+abbrev pub named_message : List ℕ → List ℕ → List ℕ
+named_message name rest = codes "brace: " ++ (name ++ (rest ++ 10 ∷ []))
+
+-- the word of a script's refusal
+abbrev pub script_word : ScriptKind → List ℕ
+script_word BadByte = codes "BadByte"
+script_word OpenComment = codes "OpenComment"
+script_word WideLiteral = codes "WideLiteral"
+script_word LongWord = codes "LongWord"
+script_word TooDeep = codes "TooDeep"
+script_word NoReading = codes "NoReading"
+
+-- the message that names a place in a file, and what is found there: `brace: NAME:LINE:COLUMN: KIND`
+abbrev pub placed_message : List ℕ → ℕ → ℕ → List ℕ → List ℕ
+placed_message name line column kind =
+    named_message name
+    (codes ":" ++ (canonical_count line ++ (codes ":" ++ (canonical_count column ++ (codes ": " ++ kind)))))
+
+-- the message where the words are no command
+abbrev pub usage_message : List ℕ
+usage_message = codes "brace: usage\n"
+
+-- the message where a write of the text failed
+abbrev pub write_fault_message : List ℕ
+write_fault_message = codes "brace: write fault\n"
+
+-- the message where memory was refused
+abbrev pub no_memory_message : List ℕ
+no_memory_message = codes "brace: no memory\n"
+
+-- the word of a fault's phase, before the agent
+abbrev pub phase_word : Phase → List ℕ
+phase_word Query = codes " query agent "
+phase_word Update = codes " update agent "
+phase_word Birth = codes " birth agent "
+
+-- the word of a fault's kind, with the message's line feed
+abbrev pub kind_word : Kind → List ℕ
+kind_word Overflow = codes "Overflow\n"
+kind_word DivZero = codes "DivZero\n"
+kind_word NegRoot = codes "NegRoot\n"
+kind_word TooMany = codes "TooMany\n"
+
+-- a loop's agent behind a word, where there is one
+abbrev pub loop_text : List ℕ → Option ℕ → List ℕ
+loop_text word None = []
+loop_text word (Some id) = word ++ canonical_count id
+
+-- the phase, the agent and the loops' agents of a fault
+abbrev pub agents_text : Fault → List ℕ
+agents_text f =
+    phase_word f.phase ++ (canonical_count f.agent
+    ++ (loop_text (codes " with ") f.outer ++ loop_text (codes " and ") f.inner))
+
+-- the site and the kind of a fault
+abbrev pub site_text : Fault → List ℕ
+site_text f = codes " site " ++ (canonical_count f.site ++ (codes ": " ++ kind_word f.kind))
+
+-- the message of a fault of the run: `brace: tick T PHASE agent A site S: KIND`, with the loops' agents behind A
+abbrev pub fault_message : Fault → List ℕ
+fault_message f = codes "brace: tick " ++ (canonical_count f.tick ++ (agents_text f ++ site_text f))

@@ -1,0 +1,103 @@
+ghost use Rattle.std.specs.Prelude.{◌≡◌, ◌++◌, IfOk, OnOk};
+ghost use Rattle.brace_top.specs.Messages.{named_message, placed_message, phase_word, kind_word, loop_text, agents_text, site_text, fault_message};
+
+use brace_model::{Fault, Phase};
+use brace_num::{Kind, NoMemory, print_count};
+use std::alloc::Global;
+
+/// The message that begins with a file's name.
+pub fn named_message(alloc: Global, name: &str, rest: &[u8]) -> Result<Vec<u8>, NoMemory>
+    ensures { IfOk result (λ message. message.items ≡ named_message name.now rest.now) }
+{
+    let mut message = Vec::new(alloc);
+    message.extend_from_slice(b"brace: ")?;
+    message.extend_from_slice(name.as_bytes())?;
+    message.extend_from_slice(rest)?;
+    message.push(b'\n')?;
+    Ok(message)
+}
+
+/// The message that names a place in a file, by its line and column, and what is found there.
+pub fn placed_message(
+    alloc: Global,
+    name: &str,
+    line: u64,
+    column: u64,
+    kind: &[u8],
+) -> Result<Vec<u8>, NoMemory>
+    ensures { IfOk result (λ message. message.items ≡ placed_message name.now line column kind.now) }
+{
+    let mut rest = Vec::new(alloc);
+    rest.push(b':')?;
+    print_count(&mut rest, line)?;
+    rest.push(b':')?;
+    print_count(&mut rest, column)?;
+    rest.extend_from_slice(b": ")?;
+    rest.extend_from_slice(kind)?;
+    named_message(alloc, name, rest.as_slice())
+}
+
+fn phase_word(phase: Phase) -> &'static [u8]
+    ensures { result.now ≡ phase_word phase }
+{
+    match phase {
+        Phase::Query => b" query agent ",
+        Phase::Update => b" update agent ",
+        Phase::Birth => b" birth agent ",
+    }
+}
+
+fn kind_word(kind: Kind) -> &'static [u8]
+    ensures { result.now ≡ kind_word kind }
+{
+    match kind {
+        Kind::Overflow => b"Overflow\n",
+        Kind::DivZero => b"DivZero\n",
+        Kind::NegRoot => b"NegRoot\n",
+        Kind::TooMany => b"TooMany\n",
+    }
+}
+
+/// A loop's agent behind a word, where there is one.
+fn add_loop(message: &mut Vec<u8>, word: &[u8], id: Option<u64>) -> Result<(), NoMemory>
+    ensures { OnOk result (message.new.items ≡ message.old.items ++ loop_text word.now id) }
+{
+    if let Some(id) = id {
+        message.extend_from_slice(word)?;
+        print_count(message, id)?;
+    }
+    Ok(())
+}
+
+/// The phase, the agent and the loops' agents of a fault.
+fn add_agents(message: &mut Vec<u8>, fault: &Fault) -> Result<(), NoMemory>
+    ensures { OnOk result (message.new.items ≡ message.old.items ++ agents_text fault.now) }
+{
+    message.extend_from_slice(phase_word(fault.phase))?;
+    print_count(message, fault.agent)?;
+    add_loop(message, b" with ", fault.outer)?;
+    add_loop(message, b" and ", fault.inner)
+}
+
+/// The site and the kind of a fault.
+fn add_site(message: &mut Vec<u8>, fault: &Fault) -> Result<(), NoMemory>
+    ensures { OnOk result (message.new.items ≡ message.old.items ++ site_text fault.now) }
+{
+    message.extend_from_slice(b" site ")?;
+    print_count(message, u64::from(fault.site))?;
+    message.extend_from_slice(b": ")?;
+    message.extend_from_slice(kind_word(fault.kind))?;
+    Ok(())
+}
+
+/// The message of a fault of the run.
+pub fn fault_message(alloc: Global, fault: &Fault) -> Result<Vec<u8>, NoMemory>
+    ensures { IfOk result (λ message. message.items ≡ fault_message fault.now) }
+{
+    let mut message = Vec::new(alloc);
+    message.extend_from_slice(b"brace: tick ")?;
+    print_count(&mut message, fault.tick)?;
+    add_agents(&mut message, fault)?;
+    add_site(&mut message, fault)?;
+    Ok(message)
+}
