@@ -77,7 +77,8 @@ rule (Some x) = codes " : " ++ expression x
 
 -- the line of a gift behind a margin
 abbrev pub gift_text : List ℕ → GiftTree → List ℕ
-gift_text margin gift = line margin (gift.state.text ++ codes " <- " ++ expression gift.value ++ codes ";")
+gift_text margin gift =
+    line margin (gift.state.text ++ codes " <- " ++ expression gift.value ++ codes ";")
 
 -- the lines of a member behind a margin
 abbrev pub member_text : List ℕ → MemberTree → List ℕ
@@ -88,11 +89,12 @@ member_text margin (member.State shared type name x at) =
 member_text margin (member.Effect shared type name comb at) =
     line margin (sharing shared ++ codes " effect " ++ type_text type ++ codes " " ++ name.text ++ codes " : " ++ combinator comb ++ codes ";")
 member_text margin (member.Run statements at) =
-    line margin (codes "public void run() {") ++ block (map statement statements) margin ++ line margin (codes "}")
+    line margin (codes "public void run() {") ++ block (map statement statements) margin
+    ++ line margin (codes "}")
 member_text margin (member.Die x at) = line margin (codes "die when " ++ expression x ++ codes ";")
 member_text margin (member.Spawn x gifts at) =
-    line margin (codes "spawn when " ++ expression x ++ codes " {") ++ flat_map (gift_text (deeper margin)) gifts
-    ++ line margin (codes "}")
+    line margin (codes "spawn when " ++ expression x ++ codes " {")
+    ++ flat_map (gift_text (deeper margin)) gifts ++ line margin (codes "}")
 
 -- the lines of a class
 abbrev pub class_text : ClassTree → List ℕ

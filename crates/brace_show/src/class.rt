@@ -112,7 +112,9 @@ fn append_braced(
     head: &[u8],
     statements: &List<StmtTree>,
 ) -> Result<(), NoMemory>
-    ensures printed { OnOk result (out.new.items ≡ out.old.items ++ (line margin.old.items head.now ++ block (map statement statements.now) margin.old.items ++ line margin.old.items (codes "}"))) }
+    ensures printed { OnOk result (out.new.items ≡ out.old.items
+        ++ (line margin.old.items head.now ++ block (map statement statements.now) margin.old.items
+        ++ line margin.old.items (codes "}"))) }
 {
     append_line(out, margin.as_slice(), head)?;
     append_block(out, margin, statements)?;
@@ -121,7 +123,9 @@ fn append_braced(
 }
 
 fn append_run(alloc: Global, out: &mut Vec<u8>, statements: &List<StmtTree>) -> Result<(), NoMemory>
-    ensures printed { OnOk result (out.new.items ≡ out.old.items ++ (line (deeper []) (codes "public void run() {") ++ block (map statement statements.now) (deeper []) ++ line (deeper []) (codes "}"))) }
+    ensures printed { OnOk result (out.new.items ≡ out.old.items
+        ++ (line (deeper []) (codes "public void run() {")
+        ++ block (map statement statements.now) (deeper []) ++ line (deeper []) (codes "}"))) }
 {
     let mut margin = Vec::from_slice(alloc, b"  ")?;
     append_braced(out, &mut margin, b"public void run() {", statements)?;
@@ -129,7 +133,8 @@ fn append_run(alloc: Global, out: &mut Vec<u8>, statements: &List<StmtTree>) -> 
 }
 
 fn append_die(out: &mut Vec<u8>, x: &ExprTree) -> Result<(), NoMemory>
-    ensures printed { OnOk result (out.new.items ≡ out.old.items ++ line (deeper []) (codes "die when " ++ expression x.now ++ codes ";")) }
+    ensures printed { OnOk result (out.new.items ≡ out.old.items
+        ++ line (deeper []) (codes "die when " ++ expression x.now ++ codes ";")) }
 {
     out.extend_from_slice(b"  ")?;
     append_value(out, b"die when ", x)
@@ -137,7 +142,8 @@ fn append_die(out: &mut Vec<u8>, x: &ExprTree) -> Result<(), NoMemory>
 
 // Appends the line that opens the gifts.
 fn append_birth(out: &mut Vec<u8>, margin: &[u8], x: &ExprTree) -> Result<(), NoMemory>
-    ensures printed { OnOk result (out.new.items ≡ out.old.items ++ line margin.now (codes "spawn when " ++ expression x.now ++ codes " {")) }
+    ensures printed { OnOk result (out.new.items ≡ out.old.items
+        ++ line margin.now (codes "spawn when " ++ expression x.now ++ codes " {")) }
 {
     out.extend_from_slice(margin)?;
     out.extend_from_slice(b"spawn when ")?;
@@ -147,7 +153,8 @@ fn append_birth(out: &mut Vec<u8>, margin: &[u8], x: &ExprTree) -> Result<(), No
 }
 
 fn append_gifts(out: &mut Vec<u8>, gifts: &List<GiftTree>) -> Result<(), NoMemory>
-    ensures printed { OnOk result (out.new.items ≡ out.old.items ++ flat_map (gift_text (deeper (deeper []))) gifts.now) }
+    ensures printed { OnOk result (out.new.items ≡ out.old.items
+        ++ flat_map (gift_text (deeper (deeper []))) gifts.now) }
 {
     for gift in gifts.as_slice() {
         append_assignment(out, b"    ", &gift.state, &gift.value)?;
@@ -156,7 +163,9 @@ fn append_gifts(out: &mut Vec<u8>, gifts: &List<GiftTree>) -> Result<(), NoMemor
 }
 
 fn append_spawn(out: &mut Vec<u8>, x: &ExprTree, gifts: &List<GiftTree>) -> Result<(), NoMemory>
-    ensures printed { OnOk result (out.new.items ≡ out.old.items ++ (line (deeper []) (codes "spawn when " ++ expression x.now ++ codes " {") ++ flat_map (gift_text (deeper (deeper []))) gifts.now ++ line (deeper []) (codes "}"))) }
+    ensures printed { OnOk result (out.new.items ≡ out.old.items
+        ++ (line (deeper []) (codes "spawn when " ++ expression x.now ++ codes " {")
+        ++ flat_map (gift_text (deeper (deeper []))) gifts.now ++ line (deeper []) (codes "}"))) }
 {
     append_birth(out, b"  ", x)?;
     append_gifts(out, gifts)?;

@@ -250,7 +250,7 @@ module _ (src : List ℕ) (depth : ℕ) (f : Start → Parser ExprTree) (hf : Fi
   total-found a rest x l h r = row-found g.sums g.products adds (d.product f) refl refl (λ _. refl) product-found a rest x l h r
 
   comparison-found : Finds src (suc depth) (d.comparison f) g.comparisons
-  unfolding d.comparison kind first next place
+  unfolding d.comparison climb kind first next place
   comparison-found _ rest _ l h (g.alone row inner a x e r) =
       let r' : ReadsExpr src g.sums a x = subst (λ (z : Row). ReadsExpr src z a x) (sym (same_Some _ _ e)) r in
       then_ _ _ _ _ _ (total-found a rest x l (omega (arith, h)) r') (where_none _ _ _ _ _ (no_compares src rest h) refl)
@@ -283,7 +283,7 @@ module _ (src : List ℕ) (depth : ℕ) (f : Start → Parser ExprTree) (hf : Fi
       (then_ _ _ _ _ _ (expects m.Colon src colon (c ++ rest) e')
       (then_ _ _ _ _ _ (hf c rest y (omega (arith, long)) h r'') refl))))
 
-  level-found : (start : Start) → Finds src (suc depth) (d.level f start) (row_at start)
+  level-found : (start : Start) → Finds src (suc depth) (d.begun f start) (row_at start)
   level-found Whole a rest x l h r = choice-found a rest x l h r
   level-found Operand a rest x l h r = prefixed-found a rest x l h r
 

@@ -205,7 +205,7 @@ module _ (src : List ℕ) (f : Start → Parser ExprTree) (hf : Sound src (f Who
       record { taken = t.taken ++ (t1.token ∷ t2.taken); cut = ec; kept = sym (ap (λ (z : Input). z.src) ej) ∙ t2.kept; reads = subst (λ (z : ExprTree). ReadsExpr src g.comparisons (t.taken ++ (t1.token ∷ t2.taken)) z) ex (g.compared t.taken t2.taken t1.token op left b2.value (ap compares t1.says.0 ∙ q.2) t.reads t2.reads) }
 
   comparison-sound : Sound src (d.comparison f) (ReadsExpr src g.comparisons)
-  unfolding d.comparison
+  unfolding d.comparison climb
   comparison-sound i j x s e =
       let b1 = bound _ _ _ e in
       comparison_by (option_and_then compares (kind b1.input)) i b1.input j b1.value x (total-sound i b1.input b1.value s b1.first) refl b1.then_
@@ -254,7 +254,7 @@ module _ (src : List ℕ) (f : Start → Parser ExprTree) (hf : Sound src (f Who
       let b1 = bound _ _ _ e in
       choice_by (sees m.Question b1.input) i b1.input j b1.value x (disjunction-sound i b1.input b1.value s b1.first) refl b1.then_
 
-  level-sound : (start : Start) → Sound src (d.level f start) (ReadsExpr src (row_at start))
+  level-sound : (start : Start) → Sound src (d.begun f start) (ReadsExpr src (row_at start))
   level-sound Whole i j x s e = choice-sound i j x s e
   level-sound Operand i j x s e = prefixed-sound i j x s e
 

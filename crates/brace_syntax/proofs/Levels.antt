@@ -9,6 +9,8 @@ use Rattle.brace_syntax.specs.declared.mark.Mark.{Mark}
 use Rattle.brace_syntax.specs.declared.tree.BinName.{BinName}
 use Rattle.brace_syntax.specs.Tables.{either, both, compares, adds, multiplies}
 use Rattle.brace_syntax.specs.inner.Cursor.{Input, kind, first, sees}
+use Rattle.brace_syntax.specs.declared.operators.Level.{Level}
+use Rattle.brace_syntax.specs.declared.operators.Level.TheVariants as joins
 use Rattle.brace_syntax.specs.Reads.{Row, choices, ors, ands, comparisons, sums, products, prefixed, primaries, repeats, operands}
 use Rattle.brace_syntax.proofs.Inversions.{kind_of, seen}
 use Rattle.brace_syntax.proofs.Forward.{at}
@@ -160,3 +162,11 @@ lower sums inner e = omega (arith, ap height (same_Some _ _ e))
 lower products inner e = omega (arith, ap height (same_Some _ _ e))
 lower prefixed inner e = omega (arith, ap height (same_Some _ _ e))
 lower primaries inner e = absurd (cc)
+
+-- how many levels bind tighter
+abbrev pub rank : Level → ℕ
+rank joins.Product = 0
+rank joins.Total = 1
+rank joins.Comparison = 2
+rank joins.Conjunction = 3
+rank joins.Disjunction = 4

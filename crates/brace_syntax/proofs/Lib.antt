@@ -10,6 +10,7 @@ pub mod StmtRows
 pub mod ClassRows
 pub mod Forward
 pub mod Levels
+pub mod LevelRows
 pub mod ExprFound
 pub mod StmtFound
 pub mod ClassFound

@@ -199,7 +199,7 @@ module _ (f : Start → Parser ExprTree) (hf : (start : Start) (i : Input) → L
 
   comparison-left : (i : Input) → Left i (d.comparison f i)
   unfolding d.comparison
-  comparison-left i = bound _ _ _ (total-left i) (λ left j. where_left (option_and_then tables.compares (kind j)) _ _ _ (λ op. goes_on j (next j) _ (passes j) (bound _ _ _ (total-left (next j)) (λ _ j. done _ j))) (done _ j))
+  comparison-left i = bound _ _ _ (total-left i) (λ left j. climb-left tables.compares (d.total f) total-left 1 left j)
 
   conjunction-left : (i : Input) → Left i (d.conjunction f i)
   unfolding d.conjunction
@@ -215,7 +215,7 @@ module _ (f : Start → Parser ExprTree) (hf : (start : Start) (i : Input) → L
       (goes_on j (next j) _ (passes j) (bound _ _ _ (hf Whole (next j)) (λ _ j. bound _ _ _ (expects m.Colon j) (λ _ j. bound _ _ _ (hf Whole j) (λ _ j. done _ j)))))
       (done _ j))
 
-  level-left : (start : Start) (i : Input) → Left i (d.level f start i)
+  level-left : (start : Start) (i : Input) → Left i (d.begun f start i)
   level-left Whole i = choice-left i
   level-left Operand i = prefixed-left i
 

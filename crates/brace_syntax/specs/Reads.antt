@@ -149,13 +149,14 @@ pub data ReadsGift (src : List ℕ) : List Token → GiftTree → Type 0 where
   -- `n <- x;`
   gift : (a : List Token) (name arrow semicolon : Token) (x : ExprTree)
       → Is k.Word name → Is k.Arrow arrow → Is k.Semicolon semicolon → ReadsExpr src choices a x
-      → ReadsGift src (name ∷ arrow ∷ a ++ semicolon ∷ []) (record { state = ident src name; value = x })
+      → ReadsGift src (name ∷ arrow ∷ a ++ semicolon ∷ [])
+      (record { state = ident src name; value = x })
 
 -- these tokens are gifts, one after another
 pub data ReadsGifts (src : List ℕ) : List Token → List GiftTree → Type 0 where
   none : ReadsGifts src [] []
-  more : (a b : List Token) (x : GiftTree) (xs : List GiftTree) → ReadsGift src a x → ReadsGifts src b xs
-      → ReadsGifts src (a ++ b) (x ∷ xs)
+  more : (a b : List Token) (x : GiftTree) (xs : List GiftTree)
+      → ReadsGift src a x → ReadsGifts src b xs → ReadsGifts src (a ++ b) (x ∷ xs)
 
 -- these tokens are a member of a class
 pub data ReadsMember (src : List ℕ) : List Token → MemberTree → Type 0 where
@@ -178,10 +179,10 @@ pub data ReadsMember (src : List ℕ) : List Token → MemberTree → Type 0 whe
       → Is k.KwDie word → Is k.KwWhen when → Is k.Semicolon semicolon → ReadsExpr src choices a x
       → ReadsMember src (word ∷ when ∷ a ++ semicolon ∷ []) (m.Die x word.from)
   -- `spawn when c { .. }`
-  spawn : (a b : List Token) (word when opening closing : Token) (x : ExprTree) (gifts : List GiftTree)
+  spawn : (a b : List Token) (word when opening closing : Token) (x : ExprTree) (gs : List GiftTree)
       → Is k.KwSpawn word → Is k.KwWhen when → Is k.OpenBrace opening → Is k.CloseBrace closing
-      → ReadsExpr src choices a x → ReadsGifts src b gifts
-      → ReadsMember src (word ∷ when ∷ a ++ opening ∷ b ++ closing ∷ []) (m.Spawn x gifts word.from)
+      → ReadsExpr src choices a x → ReadsGifts src b gs
+      → ReadsMember src (word ∷ when ∷ a ++ opening ∷ b ++ closing ∷ []) (m.Spawn x gs word.from)
 
 -- these tokens are members, one after another
 pub data ReadsMembers (src : List ℕ) : List Token → List MemberTree → Type 0 where

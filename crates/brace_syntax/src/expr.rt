@@ -8,7 +8,7 @@ ghost use Rattle.brace_syntax.specs.declared.tree.ExprTree.TheVariants as e;
 
 use crate::fault::Stop;
 use crate::mark::Mark;
-use crate::operators::{adds, both, compares, either, multiplies, prefixes};
+use crate::operators::{Level, joins, prefixes};
 use crate::tokens::Tokens;
 use crate::tree::{BinName, ExprTree, UnName};
 use brace_num::{Boxed, NoMemory};
@@ -20,6 +20,16 @@ use std::alloc::Global;
 pub enum Start {
     Whole,
     Operand,
+}
+
+// How often a level joins at most, where so many tokens are left: a comparison stands alone.
+fn turns(level: Level, left: usize) -> usize
+    ensures { result ≡ spec.most level left }
+{
+    match level {
+        Level::Comparison => 1,
+        _ => left,
+    }
 }
 
 fn unary(alloc: Global, name: UnName, x: ExprTree, at: u32) -> Result<ExprTree, NoMemory>
@@ -184,83 +194,36 @@ impl<F: Fn(Global, &mut Tokens<'_>, usize, Start) -> Result<ExprTree, Stop>> Exp
         Ok(unary(self.alloc, name, x, at)?)
     }
 
-    #[tactic(auto, unfolding(crate::specs::inner::Descent::product, crate::specs::inner::Descent::climb))]
-    fn product(&self, tokens: &mut Tokens<'_>) -> Result<ExprTree, Stop>
+    /// What a level joins: the rows of the next tighter one.
+    #[cycle(levels)]
+    #[inline(always)]
+    fn operand(&self, tokens: &mut Tokens<'_>, level: Level) -> Result<ExprTree, Stop>
         requires { Nests self.now.depth (F.pre self.now.expr) (F.post self.now.expr) }
-        ensures { Follows (spec.product (spec.expr self.now.depth) tokens.old) result tokens.new }
+        ensures { Follows (spec.operand (spec.expr self.now.depth) level tokens.old) result tokens.new }
     {
-        let mut left = self.prefixed(tokens)?;
-        for _turn in 0..tokens.left() {
-            let Some(name) = multiplies(tokens.peek()) else {
-                return Ok(left);
-            };
-            let at = tokens.pass();
-            let right = self.prefixed(tokens)?;
-            left = binary(self.alloc, name, left, right, at)?;
+        match level {
+            Level::Product => self.prefixed(tokens),
+            Level::Total => self.joined(tokens, Level::Product),
+            Level::Comparison => self.joined(tokens, Level::Total),
+            Level::Conjunction => self.joined(tokens, Level::Comparison),
+            Level::Disjunction => self.joined(tokens, Level::Conjunction),
         }
-        Ok(left)
     }
 
-    #[tactic(auto, unfolding(crate::specs::inner::Descent::total, crate::specs::inner::Descent::climb))]
-    fn total(&self, tokens: &mut Tokens<'_>) -> Result<ExprTree, Stop>
+    /// Operands of a level and what stands between them, grouped to the left.
+    #[cycle(levels)]
+    #[tactic(auto, unfolding(crate::specs::inner::Descent::climb))]
+    fn joined(&self, tokens: &mut Tokens<'_>, level: Level) -> Result<ExprTree, Stop>
         requires { Nests self.now.depth (F.pre self.now.expr) (F.post self.now.expr) }
-        ensures { Follows (spec.total (spec.expr self.now.depth) tokens.old) result tokens.new }
+        ensures { Follows (spec.joined (spec.expr self.now.depth) level tokens.old) result tokens.new }
     {
-        let mut left = self.product(tokens)?;
-        for _turn in 0..tokens.left() {
-            let Some(name) = adds(tokens.peek()) else {
+        let mut left = self.operand(tokens, level)?;
+        for _turn in 0..turns(level, tokens.left()) {
+            let Some(name) = joins(level, tokens.peek()) else {
                 return Ok(left);
             };
             let at = tokens.pass();
-            let right = self.product(tokens)?;
-            left = binary(self.alloc, name, left, right, at)?;
-        }
-        Ok(left)
-    }
-
-    #[tactic(auto, unfolding(crate::specs::inner::Descent::comparison))]
-    fn comparison(&self, tokens: &mut Tokens<'_>) -> Result<ExprTree, Stop>
-        requires { Nests self.now.depth (F.pre self.now.expr) (F.post self.now.expr) }
-        ensures { Follows (spec.comparison (spec.expr self.now.depth) tokens.old) result tokens.new }
-    {
-        let left = self.total(tokens)?;
-        let Some(name) = compares(tokens.peek()) else {
-            return Ok(left);
-        };
-        let at = tokens.pass();
-        let right = self.total(tokens)?;
-        Ok(binary(self.alloc, name, left, right, at)?)
-    }
-
-    #[tactic(auto, unfolding(crate::specs::inner::Descent::conjunction, crate::specs::inner::Descent::climb))]
-    fn conjunction(&self, tokens: &mut Tokens<'_>) -> Result<ExprTree, Stop>
-        requires { Nests self.now.depth (F.pre self.now.expr) (F.post self.now.expr) }
-        ensures { Follows (spec.conjunction (spec.expr self.now.depth) tokens.old) result tokens.new }
-    {
-        let mut left = self.comparison(tokens)?;
-        for _turn in 0..tokens.left() {
-            let Some(name) = both(tokens.peek()) else {
-                return Ok(left);
-            };
-            let at = tokens.pass();
-            let right = self.comparison(tokens)?;
-            left = binary(self.alloc, name, left, right, at)?;
-        }
-        Ok(left)
-    }
-
-    #[tactic(auto, unfolding(crate::specs::inner::Descent::disjunction, crate::specs::inner::Descent::climb))]
-    fn disjunction(&self, tokens: &mut Tokens<'_>) -> Result<ExprTree, Stop>
-        requires { Nests self.now.depth (F.pre self.now.expr) (F.post self.now.expr) }
-        ensures { Follows (spec.disjunction (spec.expr self.now.depth) tokens.old) result tokens.new }
-    {
-        let mut left = self.conjunction(tokens)?;
-        for _turn in 0..tokens.left() {
-            let Some(name) = either(tokens.peek()) else {
-                return Ok(left);
-            };
-            let at = tokens.pass();
-            let right = self.conjunction(tokens)?;
+            let right = self.operand(tokens, level)?;
             left = binary(self.alloc, name, left, right, at)?;
         }
         Ok(left)
@@ -271,7 +234,7 @@ impl<F: Fn(Global, &mut Tokens<'_>, usize, Start) -> Result<ExprTree, Stop>> Exp
         requires { Nests self.now.depth (F.pre self.now.expr) (F.post self.now.expr) }
         ensures { Follows (spec.choice (spec.expr self.now.depth) tokens.old) result tokens.new }
     {
-        let w = self.disjunction(tokens)?;
+        let w = self.joined(tokens, Level::Disjunction)?;
         if !tokens.sees(Mark::Question) {
             return Ok(w);
         }
@@ -282,9 +245,9 @@ impl<F: Fn(Global, &mut Tokens<'_>, usize, Start) -> Result<ExprTree, Stop>> Exp
         Ok(choice(self.alloc, w, x, y, at)?)
     }
 
-    fn level(&self, tokens: &mut Tokens<'_>, start: Start) -> Result<ExprTree, Stop>
+    fn begun(&self, tokens: &mut Tokens<'_>, start: Start) -> Result<ExprTree, Stop>
         requires { Nests self.now.depth (F.pre self.now.expr) (F.post self.now.expr) }
-        ensures { Follows (spec.level (spec.expr self.now.depth) start tokens.old) result tokens.new }
+        ensures { Follows (spec.begun (spec.expr self.now.depth) start tokens.old) result tokens.new }
     {
         match start {
             Start::Whole => self.choice(tokens),
@@ -310,7 +273,7 @@ pub fn expr(
         depth: depth - 1,
         expr,
     }
-    .level(tokens, start)
+    .begun(tokens, start)
 }
 
 /// An expression. Each nested expression has fewer tokens, so their count is deep enough.

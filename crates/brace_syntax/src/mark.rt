@@ -29,6 +29,7 @@ pub enum Mark {
 }
 
 /// The mark that a kind of token is.
+#[inline(always)]
 pub fn mark_of(kind: TokKind) -> Option<Mark>
     ensures { result ≡ spec.mark_of kind }
 {
@@ -59,6 +60,7 @@ pub fn mark_of(kind: TokKind) -> Option<Mark>
 
 /// Whether two marks are the same.
 #[tactic(auto, unfolding(crate::specs::inner::Cursor::same_mark))]
+#[inline(always)]
 pub fn same_mark(a: Mark, b: Mark) -> bool
     ensures { result ≡ spec.same_mark a b }
 {

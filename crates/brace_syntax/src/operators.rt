@@ -2,11 +2,36 @@
 
 ghost use Rattle.std.specs.Prelude.{◌≡◌, option_and_then};
 ghost use Rattle.brace_syntax.specs.Tables as spec;
+ghost use Rattle.brace_syntax.specs.inner.Descent.{joins};
 
 use crate::tree::{BinName, UnName};
 use brace_tok::TokKind;
 
-pub fn either(kind: Option<TokKind>) -> Option<BinName>
+/// The rows of operations between two operands, from the tightest.
+#[derive(Debug, Clone, Copy, PartialEq, Eq, Drop)]
+pub enum Level {
+    Product,
+    Total,
+    Comparison,
+    Conjunction,
+    Disjunction,
+}
+
+/// The operation of this level that a token stands for.
+#[inline(always)]
+pub fn joins(level: Level, kind: Option<TokKind>) -> Option<BinName>
+    ensures { result ≡ option_and_then (joins level) kind }
+{
+    match level {
+        Level::Product => multiplies(kind),
+        Level::Total => adds(kind),
+        Level::Comparison => compares(kind),
+        Level::Conjunction => both(kind),
+        Level::Disjunction => either(kind),
+    }
+}
+
+fn either(kind: Option<TokKind>) -> Option<BinName>
     ensures { result ≡ option_and_then spec.either kind }
 {
     match kind {
@@ -15,7 +40,7 @@ pub fn either(kind: Option<TokKind>) -> Option<BinName>
     }
 }
 
-pub fn both(kind: Option<TokKind>) -> Option<BinName>
+fn both(kind: Option<TokKind>) -> Option<BinName>
     ensures { result ≡ option_and_then spec.both kind }
 {
     match kind {
@@ -24,7 +49,7 @@ pub fn both(kind: Option<TokKind>) -> Option<BinName>
     }
 }
 
-pub fn compares(kind: Option<TokKind>) -> Option<BinName>
+fn compares(kind: Option<TokKind>) -> Option<BinName>
     ensures { result ≡ option_and_then spec.compares kind }
 {
     match kind {
@@ -38,7 +63,7 @@ pub fn compares(kind: Option<TokKind>) -> Option<BinName>
     }
 }
 
-pub fn adds(kind: Option<TokKind>) -> Option<BinName>
+fn adds(kind: Option<TokKind>) -> Option<BinName>
     ensures { result ≡ option_and_then spec.adds kind }
 {
     match kind {
@@ -48,7 +73,7 @@ pub fn adds(kind: Option<TokKind>) -> Option<BinName>
     }
 }
 
-pub fn multiplies(kind: Option<TokKind>) -> Option<BinName>
+fn multiplies(kind: Option<TokKind>) -> Option<BinName>
     ensures { result ≡ option_and_then spec.multiplies kind }
 {
     match kind {

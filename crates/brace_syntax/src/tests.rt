@@ -186,7 +186,8 @@ fn nests_to_its_limits(rt: HostRuntime) -> Result<(), AllocError> {
     Ok(())
 }
 
-// A class whose children get a number at the end of such fronts, in a gift that a full count of operators stands around.
+// A class whose children get a number behind such fronts. A full count of operators stands on
+// both sides of the gift.
 fn given(alloc: Global, front: &str, times: u32, back: &str) -> Result<String, AllocError> {
     let mut text = String::new(alloc);
     text.push_str("class C{spawn when ")?;

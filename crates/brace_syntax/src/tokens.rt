@@ -46,6 +46,7 @@ impl<'a> Tokens<'a> {
     }
 
     #[tactic(auto, unfolding(crate::specs::inner::Cursor::first))]
+    #[inline(always)]
     fn first(&self) -> Option<Token>
         ensures value { result ≡ spec.first self.now }
         ensures spelled { IfSome result (spec.IsSpelled self.now.src) }
@@ -65,6 +66,7 @@ impl<'a> Tokens<'a> {
     }
 
     #[tactic(auto, unfolding(crate::specs::inner::Cursor::kind))]
+    #[inline(always)]
     pub fn peek(&self) -> Option<TokKind>
         ensures { result ≡ spec.kind self.now }
     {
@@ -95,6 +97,7 @@ impl<'a> Tokens<'a> {
     }
 
     #[tactic(auto, unfolding(crate::specs::inner::Cursor::sees))]
+    #[inline(always)]
     pub fn sees(&self, wanted: Mark) -> bool
         ensures { result ≡ spec.sees wanted self.now }
     {
@@ -109,6 +112,7 @@ impl<'a> Tokens<'a> {
 
     /// Passes this mark, if it comes next.
     #[tactic(auto, unfolding(crate::specs::inner::Cursor::after))]
+    #[inline(always)]
     pub fn eat(&mut self, wanted: Mark) -> bool
         ensures found { result ≡ spec.sees wanted self.old }
         ensures after { self.new ≡ spec.after wanted self.old }
@@ -122,6 +126,7 @@ impl<'a> Tokens<'a> {
 
     /// Passes this mark, which has to come next. Gives its place.
     #[tactic(auto, unfolding(crate::specs::inner::Cursor::expect))]
+    #[inline(always)]
     pub fn expect(&mut self, wanted: Mark) -> Result<u32, Stop>
         ensures { Follows (spec.expect wanted self.old) result self.new }
     {

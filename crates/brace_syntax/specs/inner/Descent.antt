@@ -20,12 +20,27 @@ use Rattle.brace_syntax.specs.declared.tree.ClassTree.{ClassTree}
 use Rattle.brace_syntax.specs.declared.tree.Tree.{Tree}
 use Rattle.brace_syntax.specs.declared.stmt.Heading.{Heading}
 use Rattle.brace_syntax.specs.declared.mark.Mark.TheVariants as mark
+use Rattle.brace_syntax.specs.declared.operators.Level.{Level}
+use Rattle.brace_syntax.specs.declared.operators.Level.TheVariants as level
 use Rattle.brace_syntax.specs.declared.expr.Start.{Start}
 use Rattle.brace_syntax.specs.declared.expr.Start.TheVariants.{Whole, Operand}
 
 -- as many turns as there are tokens
 abbrev pub turns : Input → ℕ
 turns i = length i.rest
+
+-- the operations of a level
+abbrev pub joins : Level → TokKind → Option BinName
+joins level.Product = multiplies
+joins level.Total = adds
+joins level.Comparison = compares
+joins level.Conjunction = both
+joins level.Disjunction = either
+
+-- how often a level joins at most, where so many tokens are left: a comparison stands alone
+abbrev pub most : Level → ℕ → ℕ
+most level.Comparison left = 1
+most _ left = left
 
 -- what the table says of the next token
 abbrev pub next_by : {A : Type 0} → (TokKind → Option A) → Parser (Option A)
@@ -117,28 +132,39 @@ module _ (expr : Start → Parser ExprTree) where
     found ← next_by table
     where_some found (λ op. do at ← pass; right ← operand; climb table operand n (e.Binary op left right at)) (pure left)
 
-  abbrev repeated : (TokKind → Option BinName) → Parser ExprTree → Parser ExprTree
-  repeated table operand = do
+  abbrev of_level : Level → Parser ExprTree → Parser ExprTree
+  of_level at operand = do
     left ← operand
-    (λ i. climb table operand (turns i) left i)
+    (λ i. climb (joins at) operand (most at (turns i)) left i)
 
   unfoldable pub product : Parser ExprTree
-  product = repeated multiplies prefixed
+  product = of_level level.Product prefixed
 
   unfoldable pub total : Parser ExprTree
-  total = repeated adds product
+  total = of_level level.Total product
 
   unfoldable pub comparison : Parser ExprTree
-  comparison = do
-    left ← total
-    found ← next_by compares
-    where_some found (λ op. do at ← pass; right ← total; pure (e.Binary op left right at)) (pure left)
+  comparison = of_level level.Comparison total
 
   unfoldable pub conjunction : Parser ExprTree
-  conjunction = repeated both comparison
+  conjunction = of_level level.Conjunction comparison
 
   unfoldable pub disjunction : Parser ExprTree
-  disjunction = repeated either conjunction
+  disjunction = of_level level.Disjunction conjunction
+
+  abbrev pub joined : Level → Parser ExprTree
+  joined level.Product = product
+  joined level.Total = total
+  joined level.Comparison = comparison
+  joined level.Conjunction = conjunction
+  joined level.Disjunction = disjunction
+
+  abbrev pub operand : Level → Parser ExprTree
+  operand level.Product = prefixed
+  operand level.Total = product
+  operand level.Comparison = total
+  operand level.Conjunction = comparison
+  operand level.Disjunction = conjunction
 
   unfoldable pub choice : Parser ExprTree
   choice = do
@@ -146,14 +172,14 @@ module _ (expr : Start → Parser ExprTree) where
     is_asked ← (λ i. Ok (sees mark.Question i, i))
     if is_asked then (do at ← pass; x ← expr Whole; expect mark.Colon; y ← expr Whole; pure (e.Choice w x y at)) else pure w
 
-  abbrev pub level : Start → Parser ExprTree
-  level Whole = choice
-  level Operand = prefixed
+  abbrev pub begun : Start → Parser ExprTree
+  begun Whole = choice
+  begun Operand = prefixed
 
 -- with expressions nested no deeper than the number
 unfoldable pub expr : ℕ → Start → Parser ExprTree
 expr zero start = refuse
-expr (suc depth) start = level (expr depth) start
+expr (suc depth) start = begun (expr depth) start
 
 -- Each nested expression has fewer tokens, so their count is deep enough.
 unfoldable pub expression : Parser ExprTree

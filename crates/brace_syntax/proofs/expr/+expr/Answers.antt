@@ -10,4 +10,4 @@ returns-then-depth-eq0 t c = let none : c.args.depth ≡ 0 = omega arith in let 
 
 pub returns : goal.returns
 unfolding expr
-returns t c = rw (deeper (λ n. expr n c.args.start c.args.tokens.now) c.args.depth (omega arith)) c.level.ensures
+returns t c = rw (deeper (λ n. expr n c.args.start c.args.tokens.now) c.args.depth (omega arith)) c.begun.ensures
