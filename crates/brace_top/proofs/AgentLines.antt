@@ -181,9 +181,9 @@ below_next : (agents : List Agent) → ids_rise agents ≡ true → All (λ a. a
 below_next agents e k d le =
     let at_end : k + (length agents - 1 - k) ≡ length agents - 1 = omega arith in
     let top : (get_or agents k d).id ≤ (get_or agents (length agents - 1) d).id =
-        subst (λ i. (get_or agents k d).id ≤ (get_or agents i d).id) at_end (last_above agents e (length agents - 1 - k) k d (omega arith)) in
+    subst (λ i. (get_or agents k d).id ≤ (get_or agents i d).id) at_end (last_above agents e (length agents - 1 - k) k d (omega arith)) in
     let next : least_next agents ≡ (get_or agents (length agents - 1) d).id + 1 =
-        ap (λ (o : Option Agent). unwrap_or (option_map (λ a. a.id + 1) o) 0) (slice_get-get_or agents (length agents - 1) d (omega arith)) in
+    ap (λ (o : Option Agent). unwrap_or (option_map (λ a. a.id + 1) o) 0) (slice_get-get_or agents (length agents - 1) d (omega arith)) in
     rw next (omega arith)
 
 both : (p q : Bool) → p ≡ true → q ≡ true → (p && q) ≡ true

@@ -9,3 +9,4 @@ pub mod JobLemmas
 pub mod AnswerLemmas
 pub mod OneOutcome
 pub mod StatusLemmas
+pub mod PlaceLemmas

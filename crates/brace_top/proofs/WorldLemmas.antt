@@ -118,7 +118,7 @@ numbered_next world nexts same w = record {
     below_all nexts same k d le =
         let there : k < length world.agents = subst (λ (n : ℕ). k < n) (lengths nexts same) le in
         let id : (get_or nexts k d).id ≡ (get_or world.agents k d).id =
-            sym (id_at nexts k d le) ∙ ap (λ (l : List ℕ). get_or l k 0) same ∙ id_at world.agents k d there in
+        sym (id_at nexts k d le) ∙ ap (λ (l : List ℕ). get_or l k 0) same ∙ id_at world.agents k d there in
         subst (λ (n : ℕ). n < world.next) (sym id) (w.below k d there)
 
 -- one id more

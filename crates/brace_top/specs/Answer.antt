@@ -29,14 +29,20 @@ pub record SinkCall : Type 0 where
 -- a shelf before and after a call
 abbrev pub shelf_call : {S : Type 0} → shelf_trait.Ghosts S → S → S → ShelfCall
 shelf_call of before after = record {
-    held = of.held before; stage = of.stage after;
-    faults_before = of.faults before; faults_after = of.faults after }
+  held = of.held before;
+  stage = of.stage after;
+  faults_before = of.faults before;
+  faults_after = of.faults after;
+}
 
 -- a sink before and after a call
 abbrev pub sink_call : {O : Type 0} → sink_trait.Ghosts O → O → O → SinkCall
 sink_call of before after = record {
-    before = of.written before; after = of.written after;
-    faults_before = of.faults before; faults_after = of.faults after }
+  before = of.written before;
+  after = of.written after;
+  faults_before = of.faults before;
+  faults_after = of.faults after;
+}
 
 -- the count of the shelf's failures rose where a read fault is answered; it is the same at every other status, but for want of memory
 abbrev pub CountsReads : ShelfCall → Status → Type 0

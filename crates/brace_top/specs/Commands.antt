@@ -31,8 +31,8 @@ with_ticks script agents (Some ticks) =
 abbrev pub command_of : List (List ℕ) → Option Command
 command_of (mode ∷ s ∷ script ∷ a ∷ agents ∷ t ∷ ticks ∷ []) =
     if bytes_eq mode (codes "run")
-        && (bytes_eq s (codes "--script") && (bytes_eq a (codes "--agents")
-        && (bytes_eq t (codes "--ticks") && (is_name script && is_name agents))))
+    && (bytes_eq s (codes "--script") && (bytes_eq a (codes "--agents")
+    && (bytes_eq t (codes "--ticks") && (is_name script && is_name agents))))
     then with_ticks script agents (count_of ticks) else None
 command_of (mode ∷ s ∷ script ∷ []) =
     if bytes_eq mode (codes "fmt") && (bytes_eq s (codes "--script") && is_name script)

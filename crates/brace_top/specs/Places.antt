@@ -1,13 +1,14 @@
 -- The line and the column of a place in a text.
-use Rattle.std.specs.Prelude.{ℕ, ◌+◌, Bool, ◌==◌, List, length, take, filter, fold, if◌then◌else◌}
+use Rattle.std.specs.Prelude.{ℕ, ◌+◌, Bool, ◌==◌, not, List, length, take, filter, reverse}
+use Rattle.std.specs.List.{take_while}
 
 -- the byte is a line feed
 abbrev pub is_feed : ℕ → Bool
 is_feed b = b == 10
 
--- bytes since the last line feed, or since the start
+-- how many bytes stand behind the last line feed, or in all where there is none
 abbrev pub since_feed : List ℕ → ℕ
-since_feed = fold (λ n b. if is_feed b then 0 else n + 1) 0
+since_feed text = length (take_while (λ b. not (is_feed b)) (reverse text))
 
 -- lines are numbered from 1: one more behind each line feed
 abbrev pub line_number : List ℕ → ℕ → ℕ

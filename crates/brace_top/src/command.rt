@@ -23,9 +23,12 @@ fn carry_out<S: Shelf, O: Sink, E: Sink>(
 ) -> Status
     requires { S.stage shelf.old ≡ Idle }
     ensures answered { IsAnswered (record {
-        words = map string_bytes words.now; status = result;
-        shelf = shelf_call S.Shelf shelf.old shelf.new;
-        out = sink_call O.Sink out.old out.new; err = sink_call E.Sink err.old err.new }) }
+      words = map string_bytes words.now;
+      status = result;
+      shelf = shelf_call S.Shelf shelf.old shelf.new;
+      out = sink_call O.Sink out.old out.new;
+      err = sink_call E.Sink err.old err.new;
+    }) }
     ensures usage { (result ≡ Status.Usage) ↔ (command_of (map string_bytes words.now) ≡ None) }
     ensures reads { CountsReads (shelf_call S.Shelf shelf.old shelf.new) result }
     ensures writes { CountsWrites (sink_call O.Sink out.old out.new) result }
@@ -70,9 +73,12 @@ pub fn run_alone<S: Shelf, O: Sink, E: Sink>(
     ensures always { IsSome result }
     ensures known { IfSome result (λ code. code_of (status_of code) ≡ code) }
     ensures answered { IfSome result (λ code. IsAnswered (record {
-        words = map string_bytes words.now; status = status_of code;
-        shelf = shelf_call S.Shelf shelf.old shelf.new;
-        out = sink_call O.Sink out.old out.new; err = sink_call E.Sink err.old err.new })) }
+      words = map string_bytes words.now;
+      status = status_of code;
+      shelf = shelf_call S.Shelf shelf.old shelf.new;
+      out = sink_call O.Sink out.old out.new;
+      err = sink_call E.Sink err.old err.new;
+    })) }
     ensures usage { IfSome result (λ code. (code ≡ 2) ↔ (command_of (map string_bytes words.now) ≡ None)) }
     ensures reads { IfSome result (λ code. CountsReads (shelf_call S.Shelf shelf.old shelf.new) (status_of code)) }
     ensures writes { IfSome result (λ code. CountsWrites (sink_call O.Sink out.old out.new) (status_of code)) }
@@ -98,9 +104,12 @@ pub fn run<R: Threads + Wait + Sync, S: Shelf + Send, O: Sink + Send, E: Sink, G
     requires { S.stage shelf.old ≡ Idle }
     ensures known { code_of (status_of result) ≡ result }
     ensures answered { IsAnswered (record {
-        words = map string_bytes words.now; status = status_of result;
-        shelf = shelf_call S.Shelf shelf.old shelf.new;
-        out = sink_call O.Sink out.old out.new; err = sink_call E.Sink err.old err.new }) }
+      words = map string_bytes words.now;
+      status = status_of result;
+      shelf = shelf_call S.Shelf shelf.old shelf.new;
+      out = sink_call O.Sink out.old out.new;
+      err = sink_call E.Sink err.old err.new;
+    }) }
     ensures usage { (result ≡ 2) ↔ (command_of (map string_bytes words.now) ≡ None) }
     ensures reads { CountsReads (shelf_call S.Shelf shelf.old shelf.new) (status_of result) }
     ensures writes { CountsWrites (sink_call O.Sink out.old out.new) (status_of result) }

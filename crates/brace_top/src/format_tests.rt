@@ -88,18 +88,12 @@ fn names_the_kind_and_place_of_a_refusal(rt: HostRuntime) -> Result<(), Fail> {
             "class P { #reach[2.0]; public state fixed x : x + 1.5; public state fixed y; }}",
             "brace: s:1:79: NoReading\n",
         ),
-        (
-            "class B { spawn n == 0 { } }",
-            "brace: s:1:17: NoReading\n",
-        ),
+        ("class B { spawn n == 0 { } }", "brace: s:1:17: NoReading\n"),
         (
             "class B { spawn when true { q.n <- 1; } }",
             "brace: s:1:30: NoReading\n",
         ),
-        (
-            "class B { die when true }",
-            "brace: s:1:25: NoReading\n",
-        ),
+        ("class B { die when true }", "brace: s:1:25: NoReading\n"),
         ("class Z { ~ }", "brace: s:1:11: BadByte\n"),
         ("class Z {\n  &\n}", "brace: s:2:3: BadByte\n"),
         ("class Z { }\n\n /* }", "brace: s:3:2: OpenComment\n"),

@@ -30,6 +30,7 @@ fn feeds(text: &[u8]) -> usize
     text.iter().filter(|byte| **byte == LINE_FEED).count()
 }
 
+#[tactic(auto, using(crate::proofs::PlaceLemmas::since_more))]
 fn since_feed(text: &[u8]) -> usize
     ensures count { result ≡ since_feed text.now }
     ensures bound { result ≤ length text.now }

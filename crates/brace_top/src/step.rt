@@ -77,13 +77,7 @@ fn with_earlier_stop(met: Option<Stop>, stop: Stop) -> Stop
 {
     match met {
         None => stop,
-        Some(met) => {
-            if stop.site < met.site {
-                stop
-            } else {
-                met
-            }
-        }
+        Some(met) => { if stop.site < met.site { stop } else { met } }
     }
 }
 

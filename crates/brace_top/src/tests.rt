@@ -20,36 +20,26 @@ const WITH_A_QUERY: &str =
 
 const AGENT: &str = "P,7,0,0\n";
 
-const ROWS: [&str; 4] = [
-    "",
-    "0,P,7,0.000000,0.000000\n",
-    "0,P,7,0.000000,0.000000\n1,P,7,1.500000,0.000000\n",
-    "0,P,7,0.000000,0.000000\n1,P,7,1.500000,0.000000\n2,P,7,3.000000,0.000000\n",
-];
+const ROWS: &str = "0,P,7,0.000000,0.000000\n1,P,7,1.500000,0.000000\n2,P,7,3.000000,0.000000\n";
 
 const CANONICAL: &str =
     "class P {\n  #reach[2.0];\n  public state fixed x : x + 1.5;\n  public state fixed y;\n}\n";
 
-const RUN: [&str; 7] = ["run", "--script", "s", "--agents", "a", "--ticks", "2"];
+const RUN: &str = "run --script s --agents a --ticks 2";
 
-const FORMAT: [&str; 3] = ["fmt", "--script", "s"];
+const FORMAT: &str = "fmt --script s";
 
-/// Words of the command line.
-fn words_of(alloc: Global, spellings: &[&str]) -> Result<Vec<String>, AllocError> {
+/// The words of a text, parted by spaces.
+fn words_of(alloc: Global, text: &str) -> Result<Vec<String>, AllocError> {
     let mut words = Vec::new(alloc);
-    for spelling in spellings {
-        words.push(String::from_str(alloc, *spelling)?)?;
+    for word in text.split(' ') {
+        words.push(String::from_str(alloc, word)?)?;
     }
     Ok(words)
 }
 
 /// A shelf with a script `s` and an agent file `a`, whose calls of these numbers fail.
-fn shelf_of(
-    alloc: Global,
-    script: &str,
-    agents: &str,
-    fails: Vec<u64>,
-) -> Result<MemShelf, Fail> {
+fn shelf_of(alloc: Global, script: &str, agents: &str, fails: Vec<u64>) -> Result<MemShelf, Fail> {
     let mut shelf = MemShelf::make(alloc, fails);
     shelf.hold("s", script.as_bytes())?;
     shelf.hold("a", agents.as_bytes())?;
@@ -59,13 +49,13 @@ fn shelf_of(
 /// The status, the text and the message of a command over a shelf, where the sink's calls of these numbers fail.
 fn ended(
     alloc: Global,
-    spellings: &[&str],
+    text: &str,
     shelf: &mut MemShelf,
     fails: Vec<u64>,
 ) -> Result<(Option<u8>, MemSink, MemSink), Fail> {
     let mut out = MemSink::make(alloc, 1000, fails)?;
     let mut err = MemSink::make(alloc, 1000, Vec::new(alloc))?;
-    let words = words_of(alloc, spellings)?;
+    let words = words_of(alloc, text)?;
     let status = run_alone(alloc, words.as_slice(), shelf, &mut out, &mut err);
     Ok((status, out, err))
 }
@@ -81,8 +71,8 @@ fn ran<R: Threads + Wait + Sync>(
     let mut shelf = shelf_of(alloc, script, agents, Vec::new(alloc))?;
     let mut out = MemSink::make(alloc, 1000, Vec::new(alloc))?;
     let mut err = MemSink::make(alloc, 1000, Vec::new(alloc))?;
-    let spellings = ["run", "--script", "s", "--agents", "a", "--ticks", ticks];
-    let words = words_of(alloc, &spellings)?;
+    let mut words = words_of(alloc, "run --script s --agents a --ticks")?;
+    words.push(String::from_str(alloc, ticks)?)?;
     let gate = OpenGate;
     let status = run(
         rt,
@@ -99,7 +89,7 @@ fn ran<R: Threads + Wait + Sync>(
 #[test]
 fn runs_thin_scripts(rt: HostRuntime) -> Result<(), Fail> {
     for (script, agents, ticks, rows) in [
-        (STEPS, AGENT, "2", ROWS[3]),
+        (STEPS, AGENT, "2", ROWS),
         (STEPS, "", "3", ""),
         (
             CLAMPED,
@@ -146,24 +136,24 @@ fn names_the_first_fault_and_each_refusal(rt: HostRuntime) -> Result<(), Fail> {
 #[test]
 fn each_failing_read_names_its_file(rt: HostRuntime) -> Result<(), Fail> {
     let alloc = rt.alloc();
-    let of_script = "brace: s: read fault\n";
-    let of_agents = "brace: a: read fault\n";
-    let run_messages = [of_script, of_script, of_script, of_agents, of_agents, of_agents, ""];
-    let format_messages = [of_script, of_script, of_script, ""];
-    let tables: [(&[&str], &[&str], &str); 2] = [
-        (&RUN, &run_messages, ROWS[3]),
-        (&FORMAT, &format_messages, CANONICAL),
-    ];
-    for (words, messages, text) in tables {
-        for (index, message) in messages.iter().enumerate() {
-            let number = index as u64 + 1;
-            let mut shelf = shelf_of(alloc, STEPS, AGENT, vec![in alloc; number]?)?;
-            let (status, out, err) = ended(alloc, words, &mut shelf, Vec::new(alloc))?;
-            let (wanted, left) = if message.is_empty() { (0, text) } else { (8, "") };
-            assert_eq!(rt; status, Some(wanted), "at call {number}");
-            assert_eq!(rt; out.bytes(), left.as_bytes(), "at call {number}");
-            assert_eq!(rt; err.bytes(), message.as_bytes(), "at call {number}");
-        }
+    for (words, number, wanted, text, message) in [
+        (RUN, 1, 8, "", "brace: s: read fault\n"),
+        (RUN, 2, 8, "", "brace: s: read fault\n"),
+        (RUN, 3, 8, "", "brace: s: read fault\n"),
+        (RUN, 4, 8, "", "brace: a: read fault\n"),
+        (RUN, 5, 8, "", "brace: a: read fault\n"),
+        (RUN, 6, 8, "", "brace: a: read fault\n"),
+        (RUN, 7, 0, ROWS, ""),
+        (FORMAT, 1, 8, "", "brace: s: read fault\n"),
+        (FORMAT, 2, 8, "", "brace: s: read fault\n"),
+        (FORMAT, 3, 8, "", "brace: s: read fault\n"),
+        (FORMAT, 4, 0, CANONICAL, ""),
+    ] {
+        let mut shelf = shelf_of(alloc, STEPS, AGENT, vec![in alloc; number]?)?;
+        let (status, out, err) = ended(alloc, words, &mut shelf, Vec::new(alloc))?;
+        assert_eq!(rt; status, Some(wanted), "{words} at call {number}");
+        assert_eq!(rt; out.bytes(), text.as_bytes(), "{words} at call {number}");
+        assert_eq!(rt; err.bytes(), message.as_bytes(), "{words} at call {number}");
     }
     Ok(())
 }
@@ -171,16 +161,19 @@ fn each_failing_read_names_its_file(rt: HostRuntime) -> Result<(), Fail> {
 #[test]
 fn each_failing_write_leaves_a_front(rt: HostRuntime) -> Result<(), Fail> {
     let alloc = rt.alloc();
-    let tables: [(&[&str], &[&str]); 2] = [(&RUN, &ROWS), (&FORMAT, &["", CANONICAL])];
-    for (words, fronts) in tables {
-        for (index, front) in fronts.iter().enumerate() {
-            let number = index as u64 + 1;
-            let mut shelf = shelf_of(alloc, STEPS, AGENT, Vec::new(alloc))?;
-            let (status, out, err) = ended(alloc, words, &mut shelf, vec![in alloc; number]?)?;
-            assert_eq!(rt; status, Some(9), "at call {number}");
-            assert_eq!(rt; out.bytes(), front.as_bytes(), "at call {number}");
-            assert_eq!(rt; err.bytes(), b"brace: write fault\n".as_slice(), "at call {number}");
-        }
+    for (words, number, front) in [
+        (RUN, 1, ""),
+        (RUN, 2, "0,P,7,0.000000,0.000000\n"),
+        (RUN, 3, "0,P,7,0.000000,0.000000\n1,P,7,1.500000,0.000000\n"),
+        (RUN, 4, ROWS),
+        (FORMAT, 1, ""),
+        (FORMAT, 2, CANONICAL),
+    ] {
+        let mut shelf = shelf_of(alloc, STEPS, AGENT, Vec::new(alloc))?;
+        let (status, out, err) = ended(alloc, words, &mut shelf, vec![in alloc; number]?)?;
+        assert_eq!(rt; status, Some(9), "{words} at call {number}");
+        assert_eq!(rt; out.bytes(), front.as_bytes(), "{words} at call {number}");
+        assert_eq!(rt; err.bytes(), b"brace: write fault\n".as_slice());
     }
     Ok(())
 }
@@ -188,13 +181,11 @@ fn each_failing_write_leaves_a_front(rt: HostRuntime) -> Result<(), Fail> {
 #[test]
 fn refuses_no_words_and_absent_files(rt: HostRuntime) -> Result<(), Fail> {
     let alloc = rt.alloc();
-    let none: [&str; 0] = [];
-    let tables: [(&[&str], u8, &str); 3] = [
-        (&none, 2, "brace: usage\n"),
-        (&RUN, 12, "brace: s: absent\n"),
-        (&FORMAT, 12, "brace: s: absent\n"),
-    ];
-    for (words, wanted, message) in tables {
+    for (words, wanted, message) in [
+        ("run", 2, "brace: usage\n"),
+        (RUN, 12, "brace: s: absent\n"),
+        (FORMAT, 12, "brace: s: absent\n"),
+    ] {
         let mut shelf = MemShelf::make(alloc, Vec::new(alloc));
         let (status, out, err) = ended(alloc, words, &mut shelf, Vec::new(alloc))?;
         assert_eq!(rt; status, Some(wanted), "{message}");

@@ -39,7 +39,7 @@ returns-in-Some-clause-fault c fault e =
 pub unreachable-requires : goal.unreachable-requires
 unreachable-requires c =
     let whole : ids c.loop-i.nexts.items ≡ ids c.args.world.now.agents =
-        c.loop-i.invariant.ids c.in_default.is ∙ ap ids (take_all c.loop-i.i c.agents-agents.result.now (omega arith)) ∙ ap ids c.agents-agents.ensures.same in
+    c.loop-i.invariant.ids c.in_default.is ∙ ap ids (take_all c.loop-i.i c.agents-agents.result.now (omega arith)) ∙ ap ids c.agents-agents.ensures.same in
     c.in-None.ensures.none (rw c.next.ensures.same (numbered_next c.args.world.now c.loop-i.nexts.items whole c.agents-agents.ensures.numbered))
 
 pub returns-clause-next : goal.returns-clause-next
