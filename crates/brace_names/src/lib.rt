@@ -1,0 +1,8 @@
+//! What each name of a script stands for, and the first fault of its names.
+#![tactic(auto)]
+
+mod fault;
+mod resolved;
+
+pub use fault::{NameFault, Which};
+pub use resolved::{Binding, Resolved, Target};
