@@ -2,6 +2,7 @@
 #![tactic(auto)]
 
 mod fault;
+mod names;
 mod resolved;
 
 pub use fault::{NameFault, Which};
