@@ -22,12 +22,12 @@ module _ {A : Type 0} where
   abbrev pub table : List (Ident × A) → List (List ℕ × A)
   table = fold (λ names one. with_name names one.0.text one.1) []
 
--- the names that an earlier one of these or of the list equals
-abbrev pub repeated_after : List (List ℕ) → List Ident → List Ident
+-- the places of the names that one of these or an earlier one of the list equals
+abbrev pub repeated_after : List (List ℕ) → List Ident → List ℕ
 repeated_after earlier [] = []
 repeated_after earlier (name ∷ names) =
-    (if list_any (bytes_eq name.text) earlier then name ∷ [] else []) ++ repeated_after (earlier ++ name.text ∷ []) names
+    (if list_any (bytes_eq name.text) earlier then name.at ∷ [] else []) ++ repeated_after (earlier ++ name.text ∷ []) names
 
--- the names that an earlier one of the list equals
-abbrev pub repeated : List Ident → List Ident
+-- the places of the names that an earlier one of the list equals
+abbrev pub repeated : List Ident → List ℕ
 repeated names = repeated_after [] names
