@@ -58,12 +58,12 @@ grows (part ∷ parts) scope =
     let first : Grown scope (declared_in part.declared scope) 0 = declared_grows part.declared scope in
     let rest : Grown (behind part scope) (behind_all parts (behind part scope)) (constants_in parts) = grows parts (behind part scope) in
     record {
-        more = first.more ++ rest.more;
-        is =
-            rest.is
-            ∙ (ap (λ (s : Scope). record s { locals = s.locals ++ rest.more; constants = (s.constants + part.constants) + constants_in parts }) first.is
-            ∙ (ap (λ (l : List (List ℕ × Local)). record scope { locals = l; constants = ((scope.constants + 0) + part.constants) + constants_in parts }) (append_assoc scope.locals first.more rest.more)
-            ∙ ap (λ (n : ℕ). record scope { locals = scope.locals ++ (first.more ++ rest.more); constants = n }) (omega (arith, constants-cons part parts))))
+      more = first.more ++ rest.more;
+      is =
+          rest.is
+          ∙ (ap (λ (s : Scope). record s { locals = s.locals ++ rest.more; constants = (s.constants + part.constants) + constants_in parts }) first.is
+          ∙ (ap (λ (l : List (List ℕ × Local)). record scope { locals = l; constants = ((scope.constants + 0) + part.constants) + constants_in parts }) (append_assoc scope.locals first.more rest.more)
+          ∙ ap (λ (n : ℕ). record scope { locals = scope.locals ++ (first.more ++ rest.more); constants = n }) (omega (arith, constants-cons part parts))));
     }
 
 -- what a block leaves of the scope, once its own names are forgotten
