@@ -1,3 +1,4 @@
 pub mod TableLemmas
 pub mod RepeatLemmas
+pub mod PastLemmas
 pub mod StmtLemmas

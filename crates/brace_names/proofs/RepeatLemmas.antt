@@ -85,9 +85,10 @@ pub turn : (names : List Ident) (i : ℕ) (x : Ident) (again after : List ℕ) (
     → after ≡ again ++ (if has seen x.text then x.at ∷ [] else []) → known ≡ with_name seen x.text tt
     → again ++ repeated_after (texts i names) (drop i names) ≡ repeated names → Knows seen (texts i names)
     → (after ++ repeated_after (texts (i + 1) names) (drop (i + 1) names) ≡ repeated names) × Knows known (texts (i + 1) names)
-turn names i x again after seen known inside is noted kept before knows =
-    (ap (λ (l : List ℕ). l ++ repeated_after (texts (i + 1) names) (drop (i + 1) names)) noted
-        ∙ subst (λ (y : Ident). (again ++ (if has seen y.text then y.at ∷ [] else [])) ++ repeated_after (texts (i + 1) names) (drop (i + 1) names) ≡ repeated names)
-            (sym is) (seen-more names i x again seen inside knows before),
-    subst (λ (t : List (List ℕ × Unit {0})). Knows t (texts (i + 1) names)) (sym kept)
-        (subst (λ (y : Ident). Knows (with_name seen y.text tt) (texts (i + 1) names)) (sym is) (knows-next names i x seen inside knows)))
+turn names i x again after seen known inside is noted kept before knows = (
+  ap (λ (l : List ℕ). l ++ repeated_after (texts (i + 1) names) (drop (i + 1) names)) noted
+      ∙ subst (λ (y : Ident). (again ++ (if has seen y.text then y.at ∷ [] else [])) ++ repeated_after (texts (i + 1) names) (drop (i + 1) names) ≡ repeated names)
+      (sym is) (seen-more names i x again seen inside knows before),
+  subst (λ (t : List (List ℕ × Unit {0})). Knows t (texts (i + 1) names)) (sym kept)
+      (subst (λ (y : Ident). Knows (with_name seen y.text tt) (texts (i + 1) names)) (sym is) (knows-next names i x seen inside knows)),
+)
