@@ -1,4 +1,4 @@
-ghost use Rattle.std.specs.Prelude.{◌≡◌, ◌++◌, map, slice_get, OnOk, IfOk};
+ghost use Rattle.std.specs.Prelude.{◌≡◌, ◌++◌, map, flat_map, slice_get, OnOk, IfOk};
 ghost use Rattle.brace_names.specs.Tables.{repeated};
 ghost use Rattle.brace_names.specs.Findings.{faults_at};
 ghost use Rattle.brace_names.specs.Found.{rule, gift, states_given, gifts_found, member, members, too_many, position, declarations, class_names, found};
@@ -180,6 +180,35 @@ fn class_names(alloc: Global, out: &mut Vec<Finding>, classes: &[ClassTree]) -> 
     past_classes(out, names.as_slice())
 }
 
+// What all classes declare.
+fn all_declarations(
+    alloc: Global,
+    out: &mut Vec<Finding>,
+    classes: &[ClassTree],
+) -> Result<(), NoMemory>
+    ensures { OnOk result (out.new.items ≡ out.old.items ++ flat_map declarations classes.now) }
+{
+    for class in classes {
+        declarations(alloc, out, class)?;
+    }
+    Ok(())
+}
+
+// The members of all classes.
+fn all_members<'a>(
+    alloc: Global,
+    out: &mut Vec<Finding>,
+    known: &Classes<'a>,
+    classes: &'a [ClassTree],
+) -> Result<(), NoMemory>
+    ensures { OnOk result (out.new.items ≡ out.old.items ++ flat_map (members known.now) classes.now) }
+{
+    for class in classes {
+        members(alloc, out, known, class)?;
+    }
+    Ok(())
+}
+
 /// What is found in a script.
 pub fn found(alloc: Global, tree: &Tree) -> Result<Vec<Finding>, NoMemory>
     ensures { IfOk result (λ all. all.items ≡ found tree.now) }
@@ -188,11 +217,7 @@ pub fn found(alloc: Global, tree: &Tree) -> Result<Vec<Finding>, NoMemory>
     let known = Classes::of(alloc, classes)?;
     let mut out = Vec::new(alloc);
     class_names(alloc, &mut out, classes)?;
-    for class in classes {
-        declarations(alloc, &mut out, class)?;
-    }
-    for class in classes {
-        members(alloc, &mut out, &known, class)?;
-    }
+    all_declarations(alloc, &mut out, classes)?;
+    all_members(alloc, &mut out, &known, classes)?;
     Ok(out)
 }

@@ -9,4 +9,4 @@ use Rattle.brace_names.proofs.class.past_fields.Goals as goal
 pub returns : goal.returns
 returns c =
     within c.args.out.now.items which.Fields (λ one. one.0) (fields c.args.class.now) 64
-        (subst (λ (all : List (Ident × Field)). length all ≤ 64) (c.deref.ensures.value ∙ c.in_ok-fields.ensures) c.in-None.ensures.lookup.3)
+    (subst (λ (all : List (Ident × Field)). length all ≤ 64) (c.deref.ensures.value ∙ c.in_ok-fields.ensures) c.in-None.ensures.lookup.3)

@@ -1,0 +1,7 @@
+use Rattle.std.proofs.Common.{take}
+use Rattle.brace_names.specs.Faults.{IsFirst}
+use Rattle.brace_names.proofs.FirstLemmas.{Best}
+use Rattle.brace_names.proofs.entry.first.Given as goal
+
+abbrev pub invariant-loop-fault : goal.invariant-loop-fault
+invariant-loop-fault l = Best l.best l.faults l.fault-index
