@@ -1,6 +1,6 @@
 -- Names that are seen, and names that an earlier one equals.
 use Rattle.std.proofs.Common.{◌≡◌, refl, sym, ap, subst, ◌∙◌, ℕ, ◌+◌, ◌<◌, Bool, true, false, List, [], ◌∷◌, ◌++◌, map, take, drop, get_or, length, append_assoc, arith, suc, inl, inr}
-use Rattle.std.specs.Prelude.{Some, None, is_some, cond, ◌||◌, if◌then◌else◌, not}
+use Rattle.std.specs.Prelude.{◌||◌, if◌then◌else◌}
 use Rattle.std.specs.List.{list_any}
 use Rattle.std.specs.Str.{bytes_eq}
 use Rattle.std.proofs.lemmas.Bool.{cases_Bool}
@@ -9,7 +9,7 @@ use Rattle.std.proofs.lemmas.List.Folds.{list_any-append}
 use Rattle.std.proofs.lemmas.Slice.Eq.{bytes_eq-Decides}
 use Rattle.std.proofs.Math.Seq.{take-suc}
 use Rattle.brace_syntax.specs.declared.tree.Ident.{Ident}
-use Rattle.brace_names.specs.Tables.{look, has, with_name, repeated, repeated_after}
+use Rattle.brace_names.specs.Tables.{has, with_name, repeated, repeated_after}
 
 or_false : (b : Bool) → (b || false) ≡ b
 or_false true = refl

@@ -12,7 +12,6 @@ use Rattle.brace_syntax.specs.declared.tree.MemberTree.{MemberTree}
 use Rattle.brace_syntax.specs.declared.tree.MemberTree.TheVariants as m
 use Rattle.brace_syntax.specs.declared.tree.ClassTree.{ClassTree}
 use Rattle.brace_syntax.specs.declared.tree.Tree.{Tree}
-use Rattle.brace_names.specs.declared.fault.NameFault.{NameFault}
 use Rattle.brace_names.specs.declared.fault.NameFault.TheVariants.{DuplicateClass, DuplicateName, NoPosition, TooMany}
 use Rattle.brace_names.specs.declared.fault.Which.{Which}
 use Rattle.brace_names.specs.declared.fault.Which.TheVariants.{Classes, Fields}

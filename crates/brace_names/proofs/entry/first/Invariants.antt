@@ -1,5 +1,3 @@
-use Rattle.std.proofs.Common.{take}
-use Rattle.brace_names.specs.Faults.{IsFirst}
 use Rattle.brace_names.proofs.FirstLemmas.{Best}
 use Rattle.brace_names.proofs.entry.first.Given as goal
 
