@@ -38,25 +38,20 @@ fn words_of(alloc: Global, text: &str) -> Result<Vec<String>, AllocError> {
     Ok(words)
 }
 
-/// A shelf with a script `s` and an agent file `a`, whose calls of these numbers fail.
-fn shelf_of(alloc: Global, script: &str, agents: &str, fails: Vec<u64>) -> Result<MemShelf, Fail> {
-    let mut shelf = MemShelf::make(alloc, fails);
-    shelf.hold("s", script.as_bytes())?;
-    shelf.hold("a", agents.as_bytes())?;
-    Ok(shelf)
-}
-
-/// The status, the text and the message of a command over a shelf, where the sink's calls of these numbers fail.
+/// The status, the text and the message of a command over a script and an agent, where the calls of these numbers fail.
 fn ended(
     alloc: Global,
     text: &str,
-    shelf: &mut MemShelf,
-    fails: Vec<u64>,
+    shelf_fails: Vec<u64>,
+    sink_fails: Vec<u64>,
 ) -> Result<(Option<u8>, MemSink, MemSink), Fail> {
-    let mut out = MemSink::make(alloc, 1000, fails)?;
+    let mut shelf = MemShelf::make(alloc, shelf_fails);
+    shelf.hold("s", STEPS.as_bytes())?;
+    shelf.hold("a", AGENT.as_bytes())?;
+    let mut out = MemSink::make(alloc, 1000, sink_fails)?;
     let mut err = MemSink::make(alloc, 1000, Vec::new(alloc))?;
     let words = words_of(alloc, text)?;
-    let status = run_alone(alloc, words.as_slice(), shelf, &mut out, &mut err);
+    let status = run_alone(alloc, words.as_slice(), &mut shelf, &mut out, &mut err);
     Ok((status, out, err))
 }
 
@@ -68,7 +63,9 @@ fn ran<R: Threads + Wait + Sync>(
     agents: &str,
     ticks: &str,
 ) -> Result<(u8, MemSink, MemSink), Fail> {
-    let mut shelf = shelf_of(alloc, script, agents, Vec::new(alloc))?;
+    let mut shelf = MemShelf::make(alloc, Vec::new(alloc));
+    shelf.hold("s", script.as_bytes())?;
+    shelf.hold("a", agents.as_bytes())?;
     let mut out = MemSink::make(alloc, 1000, Vec::new(alloc))?;
     let mut err = MemSink::make(alloc, 1000, Vec::new(alloc))?;
     let mut words = words_of(alloc, "run --script s --agents a --ticks")?;
@@ -149,8 +146,7 @@ fn each_failing_read_names_its_file(rt: HostRuntime) -> Result<(), Fail> {
         (FORMAT, 3, 8, "", "brace: s: read fault\n"),
         (FORMAT, 4, 0, CANONICAL, ""),
     ] {
-        let mut shelf = shelf_of(alloc, STEPS, AGENT, vec![in alloc; number]?)?;
-        let (status, out, err) = ended(alloc, words, &mut shelf, Vec::new(alloc))?;
+        let (status, out, err) = ended(alloc, words, vec![in alloc; number]?, Vec::new(alloc))?;
         assert_eq!(rt; status, Some(wanted), "{words} at call {number}");
         assert_eq!(rt; out.bytes(), text.as_bytes(), "{words} at call {number}");
         assert_eq!(rt; err.bytes(), message.as_bytes(), "{words} at call {number}");
@@ -169,8 +165,7 @@ fn each_failing_write_leaves_a_front(rt: HostRuntime) -> Result<(), Fail> {
         (FORMAT, 1, ""),
         (FORMAT, 2, CANONICAL),
     ] {
-        let mut shelf = shelf_of(alloc, STEPS, AGENT, Vec::new(alloc))?;
-        let (status, out, err) = ended(alloc, words, &mut shelf, vec![in alloc; number]?)?;
+        let (status, out, err) = ended(alloc, words, Vec::new(alloc), vec![in alloc; number]?)?;
         assert_eq!(rt; status, Some(9), "{words} at call {number}");
         assert_eq!(rt; out.bytes(), front.as_bytes(), "{words} at call {number}");
         assert_eq!(rt; err.bytes(), b"brace: write fault\n".as_slice());
@@ -187,7 +182,10 @@ fn refuses_no_words_and_absent_files(rt: HostRuntime) -> Result<(), Fail> {
         (FORMAT, 12, "brace: s: absent\n"),
     ] {
         let mut shelf = MemShelf::make(alloc, Vec::new(alloc));
-        let (status, out, err) = ended(alloc, words, &mut shelf, Vec::new(alloc))?;
+        let mut out = MemSink::make(alloc, 100, Vec::new(alloc))?;
+        let mut err = MemSink::make(alloc, 100, Vec::new(alloc))?;
+        let words = words_of(alloc, words)?;
+        let status = run_alone(alloc, words.as_slice(), &mut shelf, &mut out, &mut err);
         assert_eq!(rt; status, Some(wanted), "{message}");
         assert_eq!(rt; out.bytes(), b"".as_slice(), "{message}");
         assert_eq!(rt; err.bytes(), message.as_bytes());
