@@ -13,13 +13,12 @@ use Rattle.brace_top.specs.declared.job.RunFault.{RunFault as GivenUp}
 use Rattle.brace_top.specs.declared.job.RunFault.TheVariants as run_fault
 use Rattle.brace_top.specs.declared.status.Status.{Status}
 use Rattle.brace_top.specs.declared.status.Status.TheVariants.{Done, Usage, Script, Agents, Fault, ReadFault, WriteFault, NoMemory, Absent}
-use Rattle.brace_top.specs.declared.status.Status.TheVariants as ended_by
-use Rattle.brace_top.specs.Answer.{ShelfCall, SinkCall, Among, LeavesFront, IsUnread, IsUnwritten, IsEnd, IsGivenUp, IsAnswer, CountsReads}
-use Rattle.brace_top.specs.Commands.{Command, RunCommand, Run, Format}
+use Rattle.brace_top.specs.Answer.{ShelfCall, SinkCall, Among, LeavesFront, IsEnd, IsAnswer, CountsReads}
+use Rattle.brace_top.specs.Commands.{Command, RunCommand, Format}
 use Rattle.brace_top.specs.Messages.{named_message, usage_message, write_fault_message}
 use Rattle.brace_top.specs.Outcome.{Outcome, Refusal, refused, shown_outcome, ended, end_status, end_message, loaded, thin_file, script_of, agents_of, source_of, every_tick, ran, with_program, with_world, run_outcome, with_source, CommandOutcome, Formats, Reads}
 use Rattle.brace_top.specs.Status.{has_run}
-use Rattle.brace_top.specs.inner.Settled.{stopped_by, is_work, stopped_status, stopped_message, status_in, message_in, IsNamed, IsRefusalOf, refuses_file, is_stop, IsRefused, GivesNothing, IsStopped, IsCarriedOut}
+use Rattle.brace_top.specs.inner.Settled.{stopped_by, is_work, stopped_status, stopped_message, status_in, message_in, IsRefusalOf, refuses_file, is_stop, GivesNothing, IsStopped, IsCarriedOut}
 
 -- ---- what is loaded
 

@@ -1,5 +1,5 @@
 -- How many bytes stand behind the last line feed, byte by byte.
-use Rattle.std.proofs.Common.{◌≡◌, ◌∙◌, refl, sym, ap, ℕ, ◌+◌, Bool, true, false, not, List, [], ◌∷◌, ◌++◌, length, take, suc, reverse, if◌then◌else◌, add-one, arith}
+use Rattle.std.proofs.Common.{◌≡◌, ◌∙◌, refl, ap, ℕ, ◌+◌, Bool, true, false, not, List, [], ◌∷◌, ◌++◌, length, take, suc, reverse, if◌then◌else◌, arith}
 use Rattle.std.specs.List.{take_while, prefix_len}
 use Rattle.std.proofs.lemmas.List.{reverse-append}
 use Rattle.std.proofs.lemmas.Grind.{common_steps}

@@ -1,7 +1,7 @@
 -- What rules come to, one state after another, and what becomes of an agent whose class has rules alone.
-use Rattle.std.proofs.Common.{◌≡◌, ◌∙◌, sym, ap, refl, ℕ, suc, ◌+◌, ◌<◌, ◌≤◌, List, [], ◌∷◌, ◌++◌, false, length, take, get_or, map, filter_map, zip, Option, Some, None, Result, Ok, Err, arith, add-one, min}
+use Rattle.std.proofs.Common.{◌≡◌, ◌∙◌, sym, ap, refl, ℕ, ◌+◌, ◌<◌, ◌≤◌, List, [], ◌∷◌, ◌++◌, false, length, take, get_or, map, filter_map, zip, Option, Some, None, Result, Ok, Err, arith, add-one, min}
 use Rattle.std.specs.Result.{result_ok, result_err}
-use Rattle.std.specs.List.{reduce, cons_option}
+use Rattle.std.specs.List.{reduce}
 use Rattle.std.proofs.lemmas.Slice.Zip.{get_or-zip, length-zip}
 use Rattle.std.proofs.lemmas.List.{take_all, map-append, append-nil}
 use Rattle.std.proofs.lemmas.List.Elements.{filter_map-append}

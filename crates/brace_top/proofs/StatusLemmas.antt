@@ -1,5 +1,5 @@
 -- What the kinds of statuses leave out.
-use Rattle.std.proofs.Common.{◌≡◌, sym, subst, refl, ℕ, List, true, Result, Ok, Err}
+use Rattle.std.proofs.Common.{◌≡◌, subst, ℕ, List, true}
 use Rattle.brace_top.specs.declared.status.Status.{Status}
 use Rattle.brace_top.specs.declared.status.Status.TheVariants.{Done, Usage, Script, Agents, Fault, ReadFault, WriteFault, NoMemory, Absent}
 use Rattle.brace_top.specs.Answer.{ShelfCall, SinkCall, CountsReads, CountsWrites}

@@ -1,8 +1,8 @@
 -- A step over the agents of a world, one after another, of a program of rules alone.
 use Rattle.std.proofs.Common.{◌≡◌, ◌∙◌, sym, refl, ap, subst, ℕ, ◌+◌, ◌<◌, ◌≤◌, List, [], ◌∷◌, ◌++◌, length, take, get_or, map, filter_map, add-one, add-zero, Option, Some, None, Result, Ok, Err}
-use Rattle.std.specs.List.{All, reduce}
+use Rattle.std.specs.List.{All}
 use Rattle.std.specs.Result.{result_ok, result_err}
-use Rattle.std.proofs.lemmas.List.{take_all, map-append, append-nil, length-map, get_or-map}
+use Rattle.std.proofs.lemmas.List.{take_all, map-append, append-nil, length-map}
 use Rattle.std.proofs.lemmas.List.Elements.{filter_map-append}
 use Rattle.std.proofs.lemmas.List.Sums.{fold-append}
 use Rattle.std.proofs.Math.Seq.{take-suc}
@@ -10,7 +10,7 @@ use Rattle.std.specs.List.Sorted.{IsStrictlyIncreasing}
 use Rattle.brace_model.specs.declared.program.Program.{Program}
 use Rattle.brace_model.specs.declared.fault.Fault.{Fault}
 use Rattle.brace_model.specs.declared.world.Agent.{Agent}
-use Rattle.brace_model.specs.World.{World, class_of, ids, RisesById, IsNumbered, world_with}
+use Rattle.brace_model.specs.World.{World, class_of, ids, IsNumbered, world_with}
 use Rattle.brace_model.specs.FaultOrder.{least, earlier, with_earlier}
 use Rattle.brace_model.specs.Next.{Next, next, next_in}
 use Rattle.brace_model.specs.Step.{step, living, children, grown, all_next, unless_faulty}

@@ -1,7 +1,6 @@
 use Rattle.std.proofs.Common.{◌∙◌, ◌≡◌, refl}
 use Rattle.std.specs.Prelude.{Some}
 use Rattle.std.proofs.lemmas.Result.{err_from_is_err_and}
-use Rattle.brace_model.specs.declared.program.Program.{Program}
 use Rattle.brace_top.specs.Answer.{shelf_call, sink_call}
 use Rattle.brace_top.specs.Commands.{Run}
 use Rattle.brace_top.specs.Outcome.{script_of, agents_of, ran, every_tick, reads_script, reads_agents}

@@ -1,4 +1,4 @@
-use Rattle.std.proofs.Common.{◌∙◌, refl}
+use Rattle.std.proofs.Common.{◌∙◌}
 use Rattle.std.proofs.lemmas.Result.{err_from_is_err_and}
 use Rattle.brace_top.specs.declared.job.RunFault.TheVariants.{Write}
 use Rattle.brace_top.proofs.AnswerLemmas.{gave_up, gave_up_works, gave_up_runs, ended_carried, ended_works}

@@ -1,5 +1,5 @@
 use Rattle.brace_top.specs.Outcome as outcome
-use Rattle.std.proofs.Common.{refl, subst}
+use Rattle.std.proofs.Common.{refl}
 use Rattle.brace_top.proofs.AnswerLemmas.{carried_as, refused_carried}
 use Rattle.brace_top.proofs.StatusLemmas.{work_refusal, work_usage}
 use Rattle.brace_top.proofs.format.format_source.Goals as goal

@@ -1,5 +1,4 @@
-use Rattle.std.proofs.Common.{◌∙◌, ap, Err}
-use Rattle.brace_model.specs.Next.{update_fault}
+use Rattle.std.proofs.Common.{◌∙◌}
 use Rattle.brace_top.proofs.RuleLemmas.{next_ok, next_err}
 use Rattle.brace_top.proofs.step.next_of.Goals as goal
 

@@ -1,7 +1,5 @@
-use Rattle.std.proofs.Common.{◌≡◌, ◌∙◌, ◌++◌, ◌∷◌, [], sym, Some, ap, arith}
-use Rattle.brace_model.specs.declared.fault.Stop.{Stop}
+use Rattle.std.proofs.Common.{◌≡◌, ◌∙◌, sym, Some, ap, arith}
 use Rattle.brace_model.specs.Next.{first_stop, values_of}
-use Rattle.brace_top.specs.inner.Rules.{with_stop}
 use Rattle.brace_top.proofs.RuleLemmas.{more, all_rules, values_then-ok, values_then-err, stop_then-ok, stop_then-err}
 use Rattle.brace_top.proofs.step.ruled_states.Goals as goal
 use Rattle.brace_top.proofs.step.ruled_states.Goals.{in-Ok+in_ok-push-in-Ok, in-Err}

@@ -1,6 +1,5 @@
-use Rattle.std.proofs.Common.{◌≡◌, ◌∙◌, ◌≤◌, length, sym, ap, subst, List, Option, Some, None, Ok, Err, arith}
+use Rattle.std.proofs.Common.{◌≡◌, ◌∙◌, ◌≤◌, length, sym, ap, Option, None, Ok, Err, arith}
 use Rattle.brace_model.specs.declared.fault.Fault.{Fault}
-use Rattle.brace_model.specs.declared.world.Agent.{Agent}
 use Rattle.brace_model.specs.World.{World, ids, world_with}
 use Rattle.brace_model.specs.Step.{unless_faulty}
 use Rattle.std.proofs.lemmas.List.{take_all}
