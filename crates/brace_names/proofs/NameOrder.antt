@@ -180,7 +180,7 @@ pub assigned_of_loop : (src : List ℕ) (scope : Scope) (variable dot name : Tok
     → Named (variable ∷ dot ∷ name ∷ []) (f.assigns_of_loop scope (ident src variable) (ident src name))
 assigned_of_loop src scope variable dot name =
     behind (variable ∷ dot ∷ name ∷ []) (f.names_of_loop scope (ident src variable) (ident src name)) (f.assignment variable.from)
-        (of_loop src scope variable dot name) (quiet_assignment variable.from)
+    (of_loop src scope variable dot name) (quiet_assignment variable.from)
 
 named_class : (tok : Token) (o : Option ℕ) → Named (tok ∷ []) (f.names_class tok.from o)
 unfolding Named
@@ -196,10 +196,10 @@ pub looped : (src : List ℕ) (scope : Scope) (class variable colon extent less 
     → Named (class ∷ variable ∷ colon ∷ extent ∷ less ∷ other ∷ []) (f.loops_over scope (ident src class) (ident src other))
 looped src scope class variable colon extent less other =
     append (class ∷ []) (variable ∷ colon ∷ extent ∷ less ∷ other ∷ [])
-        (f.names_class class.from (class_number scope (ident src class).text)) (f.names_again scope (ident src class) (ident src other))
-        (named_class class (class_number scope (ident src class).text))
-        (over variable _ _ (over colon _ _ (over extent _ _ (over less _ _
-            (named_same other (bytes_eq (ident src class).text (ident src other).text) (class_number scope (ident src other).text) _ (quiet_fault _ refl))))))
+    (f.names_class class.from (class_number scope (ident src class).text)) (f.names_again scope (ident src class) (ident src other))
+    (named_class class (class_number scope (ident src class).text))
+    (over variable _ _ (over colon _ _ (over extent _ _ (over less _ _
+    (named_same other (bytes_eq (ident src class).text (ident src other).text) (class_number scope (ident src other).text) _ (quiet_fault _ refl))))))
 
 places_cons : (x : Finding) (xs : List Finding) → map (λ b. b.at) (flat_map binding_of (x ∷ xs)) ≡ place_of x ++ map (λ b. b.at) (flat_map binding_of xs)
 places_cons (finding.Fault x) xs = ap (λ (l : List Binding). map (λ b. b.at) l) (flat_map-cons binding_of (finding.Fault x) xs)

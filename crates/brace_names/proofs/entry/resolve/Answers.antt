@@ -9,5 +9,5 @@ use Rattle.brace_names.proofs.entry.resolve.Goals as goal
 pub returns-clause-rising : goal.returns-clause-rising
 returns-clause-rising c = λ src toks spelled reads.
     subst (λ (l : List Binding). AreRising 0 (map (λ b. b.at) l))
-        (sym (c.from_vec-bindings.ensures ∙ (c.in_ok-names.ensures ∙ ap (flat_map binding_of) (c.as_slice-3.ensures.value ∙ c.in_ok-all.ensures))))
-        (bindings_rise src toks (found c.args.tree) spelled (of_script src toks c.args.tree reads))
+    (sym (c.from_vec-bindings.ensures ∙ (c.in_ok-names.ensures ∙ ap (flat_map binding_of) (c.as_slice-3.ensures.value ∙ c.in_ok-all.ensures))))
+    (bindings_rise src toks (found c.args.tree) spelled (of_script src toks c.args.tree reads))
