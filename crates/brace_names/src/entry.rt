@@ -136,13 +136,15 @@ fn first(faults: &[NameFault]) -> Option<NameFault>
     Some(best)
 }
 
-/// The script with what its names stand for, or the first fault of its names: that of the earliest of the seven passes that
-/// has one, and the one at the least offset in it. `NoMemory` comes only where the allocator refused, or where more than
-/// 4,294,967,295 things of one kind are numbered, which no script of 1,048,576 bytes has.
+/// The script with what its names stand for, or the first fault of its names: that of the earliest
+/// of the seven passes that has one, and the one at the least offset in it. `NoMemory` comes only
+/// where the allocator refused, or where more than 4,294,967,295 things of one kind are numbered,
+/// which no script of 1,048,576 bytes has.
 pub fn resolve(alloc: Global, tree: Tree) -> Result<Resolved, NameFault>
     ensures tree { IfOk result (λ r. r.tree ≡ tree) }
     ensures bindings { IfOk result (λ r. r.bindings ≡ bindings tree) }
-    ensures rising { (src : List ℕ) (toks : List Token) → Spells src toks → Reads src toks tree → IfOk result (λ r. AreRising 0 (map (λ b. b.at) r.bindings)) }
+    ensures rising { (src : List ℕ) (toks : List Token) → Spells src toks
+        → Reads src toks tree → IfOk result (λ r. AreRising 0 (map (λ b. b.at) r.bindings)) }
     ensures faultless { OnOk result (faults tree ≡ []) }
     ensures first { IfErr result (Refuses tree) }
     ensures accepted { faults tree ≡ [] → IfErr result (λ f. f ≡ fault.NoMemory) }
