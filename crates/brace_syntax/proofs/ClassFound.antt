@@ -14,6 +14,7 @@ use Rattle.brace_syntax.specs.declared.tree.TyName.{TyName}
 use Rattle.brace_syntax.specs.declared.tree.CombName.{CombName}
 use Rattle.brace_syntax.specs.declared.tree.ExprTree.{ExprTree}
 use Rattle.brace_syntax.specs.declared.tree.StmtTree.{StmtTree}
+use Rattle.brace_syntax.specs.declared.tree.GiftTree.{GiftTree}
 use Rattle.brace_syntax.specs.declared.tree.MemberTree.{MemberTree}
 use Rattle.brace_syntax.specs.declared.tree.MemberTree.TheVariants as v
 use Rattle.brace_syntax.specs.declared.tree.ClassTree.{ClassTree}
@@ -21,15 +22,15 @@ use Rattle.brace_syntax.specs.declared.tree.Tree.{Tree}
 use Rattle.brace_syntax.specs.declared.fault.Stop.{Stop}
 use Rattle.brace_syntax.specs.declared.fault.Stop.TheVariants as stop
 use Rattle.brace_syntax.specs.Tables.{Is, ident, type_name, combines, number}
-use Rattle.brace_syntax.specs.Cursor.{Input, Outcome, kind, next, place, first, sees, mark_of}
+use Rattle.brace_syntax.specs.inner.Cursor.{Input, Outcome, kind, next, place, first, sees, mark_of}
 use Rattle.brace_syntax.specs.Reads as g
-use Rattle.brace_syntax.specs.Reads.{ReadsExpr, ReadsBlock, ReadsField, ReadsMember, ReadsMembers, ReadsClass, ReadsClasses, Reads}
-use Rattle.brace_syntax.specs.Descent as d
+use Rattle.brace_syntax.specs.Reads.{ReadsExpr, ReadsBlock, ReadsField, ReadsGift, ReadsGifts, ReadsMember, ReadsMembers, ReadsClass, ReadsClasses, Reads}
+use Rattle.brace_syntax.specs.inner.Descent as d
 use Rattle.brace_syntax.proofs.Inversions.{not_eaten, same_value, no_fault}
 use Rattle.brace_syntax.proofs.Forward.{at, then_, if_true, if_false, sees_it, sees_no_mark, after_it, expects, names, numbers, types, combinators}
 use Rattle.brace_syntax.proofs.Levels.{begins, not_seen}
 use Rattle.brace_syntax.proofs.ExprFound.{shut, expression-found}
-use Rattle.brace_syntax.proofs.StmtFound.{block-found}
+use Rattle.brace_syntax.proofs.StmtFound.{assigned-found, block-found}
 
 range-found : (src : List ℕ) (rest : List Token) (opening range closing semicolon : Token) (n : Number) → Is k.OpenBracket opening → number range ≡ Some n → Is k.CloseBracket closing → Is k.Semicolon semicolon
     → d.range (at src (opening ∷ range ∷ closing ∷ semicolon ∷ rest)) ≡ Ok (n, at src rest)
@@ -129,6 +130,67 @@ unfolding d.public kind place next first
 method-found src a rest word void run opening closing xs e h h' h'' r =
     ap (λ (z : TokKind). d.public_by word.from (Some z) (at src (void ∷ run ∷ opening ∷ closing ∷ (a ++ rest)))) e ∙ run-found src a rest word.from void run opening closing xs h h' h'' r
 
+die-found : (src : List ℕ) (a rest : List Token) (word when semicolon : Token) (x : ExprTree)
+    → Is k.KwWhen when → Is k.Semicolon semicolon → ReadsExpr src g.choices a x
+    → d.die (at src (word ∷ when ∷ ((a ++ semicolon ∷ []) ++ rest))) ≡ Ok (v.Die x word.from, at src rest)
+unfolding d.die place next first
+die-found src a rest word when semicolon x h h' r =
+    then_ _ _ _ _ _ (expects m.When src when ((a ++ semicolon ∷ []) ++ rest) h)
+    (then_ _ _ _ _ _ (ap (λ (z : List Token). d.expression (at src z)) (shut a semicolon rest)
+    ∙ expression-found src a (semicolon ∷ rest) x (begins k.Semicolon semicolon rest 7 h' (omega arith)) r)
+    (then_ _ _ _ _ _ (expects m.Semicolon src semicolon rest h') refl))
+
+gift-found : (src : List ℕ) (a rest : List Token) (x : GiftTree) → ReadsGift src a x
+    → d.gift (at src (a ++ rest)) ≡ Ok (x, at src rest)
+unfolding d.gift
+gift-found src _ rest _ (g.gift a name arrow semicolon x e e1 e2 r) =
+    then_ _ _ _ _ _ (names src name (arrow ∷ ((a ++ semicolon ∷ []) ++ rest)) e)
+    (then_ _ _ _ _ _ (assigned-found src a rest arrow semicolon x e1 e2 r) refl)
+
+-- a gift begins with no mark
+gift_starts : (src : List ℕ) (wanted : Mark) (a rest : List Token) (x : GiftTree) → ReadsGift src a x
+    → sees wanted (at src (a ++ rest)) ≡ false
+gift_starts src wanted _ rest _ (g.gift a name arrow semicolon x e e1 e2 r) = sees_no_mark wanted src name _ (ap mark_of e)
+
+some_gift : (src : List ℕ) (a : List Token) (x : GiftTree) → ReadsGift src a x → 0 < length a
+some_gift src _ _ (g.gift a name arrow semicolon x e e1 e2 r) = omega arith
+
+gifts_from-found : (src : List ℕ) (n : ℕ) (found : List GiftTree) (b rest : List Token) (closing : Token) (xs : List GiftTree)
+    → length b < n → Is k.CloseBrace closing → ReadsGifts src b xs
+    → d.gifts_from n found (at src (b ++ closing ∷ rest)) ≡ Ok (found ++ xs, at src rest)
+unfolding d.gifts_from
+gifts_from-found src zero found b rest closing xs l h r = absurd (omega arith)
+gifts_from-found src (suc n) found _ rest closing _ l h g.none =
+    if_true _ _ _ _ _ _ (sees_it m.CloseBrace src closing rest h) (after_it m.CloseBrace src closing rest h)
+    (ap (λ (z : List GiftTree). let r : Outcome (List GiftTree) = Ok (z, at src rest) in r) (sym (append-nil found)))
+gifts_from-found src (suc n) found _ rest closing _ l h (g.more a b x xs r rs) =
+    let cut : (a ++ b) ++ closing ∷ rest ≡ a ++ (b ++ closing ∷ rest) = append_assoc a b (closing ∷ rest) in
+    let free : sees m.CloseBrace (at src ((a ++ b) ++ closing ∷ rest)) ≡ false =
+    ap (λ (z : List Token). sees m.CloseBrace (at src z)) cut ∙ gift_starts src m.CloseBrace a (b ++ closing ∷ rest) x r in
+    if_false _ _ _ _ _ _ free (not_eaten m.CloseBrace (at src ((a ++ b) ++ closing ∷ rest)) free ∙ ap (at src) cut)
+    (then_ _ _ _ _ _ (gift-found src a (b ++ closing ∷ rest) x r)
+    (gifts_from-found src n (found ++ x ∷ []) b rest closing xs (omega (arith, l, length-append a b, some_gift src a x r)) h rs
+    ∙ ap (λ (z : List GiftTree). let r : Outcome (List GiftTree) = Ok (z, at src rest) in r) (append_assoc found (x ∷ []) xs)))
+
+gifts-found : (src : List ℕ) (a rest : List Token) (closing : Token) (xs : List GiftTree) → Is k.CloseBrace closing
+    → ReadsGifts src a xs → d.gifts (at src (a ++ closing ∷ rest)) ≡ Ok (xs, at src rest)
+unfolding d.gifts
+gifts-found src a rest closing xs h r =
+    gifts_from-found src (length (a ++ closing ∷ rest)) [] a rest closing xs (omega (arith, length-append a (closing ∷ rest))) h r
+
+spawn-found : (src : List ℕ) (a b rest : List Token) (word when opening closing : Token) (x : ExprTree) (xs : List GiftTree)
+    → Is k.KwWhen when → Is k.OpenBrace opening → Is k.CloseBrace closing → ReadsExpr src g.choices a x → ReadsGifts src b xs
+    → d.spawn (at src (word ∷ when ∷ ((a ++ opening ∷ b ++ closing ∷ []) ++ rest))) ≡ Ok (v.Spawn x xs word.from, at src rest)
+unfolding d.spawn place next first
+spawn-found src a b rest word when opening closing x xs h ho hc r rs =
+    let cut : (a ++ opening ∷ b ++ closing ∷ []) ++ rest ≡ a ++ (opening ∷ (b ++ closing ∷ rest)) =
+    append_assoc (a ++ opening ∷ b) (closing ∷ []) rest ∙ append_assoc a (opening ∷ b) (closing ∷ rest) in
+    then_ _ _ _ _ _ (expects m.When src when ((a ++ opening ∷ b ++ closing ∷ []) ++ rest) h)
+    (then_ _ _ _ _ _ (ap (λ (z : List Token). d.expression (at src z)) cut
+    ∙ expression-found src a (opening ∷ (b ++ closing ∷ rest)) x (begins k.OpenBrace opening (b ++ closing ∷ rest) 7 ho (omega arith)) r)
+    (then_ _ _ _ _ _ (expects m.OpenBrace src opening (b ++ closing ∷ rest) ho)
+    (then_ _ _ _ _ _ (gifts-found src b rest closing xs hc rs) refl)))
+
 member_at : (src : List ℕ) (what : TokKind) (tok : Token) (rest : List Token) (r : Outcome MemberTree) → Is what tok → d.member_by (Some what) (at src (tok ∷ rest)) ≡ r → d.member (at src (tok ∷ rest)) ≡ r
 unfolding d.member kind first
 member_at src what tok rest r h e = ap (λ (z : TokKind). d.member_by (Some z) (at src (tok ∷ rest))) h ∙ e
@@ -139,6 +201,9 @@ member-found src _ rest _ (g.reach word opening range closing semicolon n e e1 e
 member-found src _ rest _ (g.public a word x e r) = member_at src k.KwPublic word _ _ e (public-found src a rest word x r)
 member-found src _ rest _ (g.private a word x e r) = member_at src k.KwPrivate word _ _ e (private-found src a rest word x r)
 member-found src _ rest _ (g.run a word void run opening closing xs e e1 e2 e3 e4 r) = member_at src k.KwPublic word _ _ e (method-found src a rest word void run opening closing xs e1 e2 e3 e4 r)
+member-found src _ rest _ (g.die a word when semicolon x e e1 e2 r) = member_at src k.KwDie word _ _ e (die-found src a rest word when semicolon x e1 e2 r)
+member-found src _ rest _ (g.spawn a b word when opening closing x xs e e1 e2 e3 r rs) =
+    member_at src k.KwSpawn word _ _ e (spawn-found src a b rest word when opening closing x xs e1 e2 e3 r rs)
 
 -- a member begins with no mark
 starts : (src : List ℕ) (wanted : Mark) (a rest : List Token) (x : MemberTree) → ReadsMember src a x → sees wanted (at src (a ++ rest)) ≡ false
@@ -147,6 +212,8 @@ starts src wanted _ rest _ (g.reach word opening range closing semicolon n e e1 
 starts src wanted _ rest _ (g.public a word x e r) = sees_no_mark wanted src word _ (ap mark_of e)
 starts src wanted _ rest _ (g.private a word x e r) = sees_no_mark wanted src word _ (ap mark_of e)
 starts src wanted _ rest _ (g.run a word void run opening closing xs e e1 e2 e3 e4 r) = sees_no_mark wanted src word _ (ap mark_of e)
+starts src wanted _ rest _ (g.die a word when semicolon x e e1 e2 r) = sees_no_mark wanted src word _ (ap mark_of e)
+starts src wanted _ rest _ (g.spawn a b word when opening closing x xs e e1 e2 e3 r rs) = sees_no_mark wanted src word _ (ap mark_of e)
 
 some_tokens : (src : List ℕ) (a : List Token) (x : MemberTree) → ReadsMember src a x → 0 < length a
 some_tokens src _ _ (g.visible word opening range closing semicolon n e e1 e2 e3 e4) = omega arith
@@ -154,6 +221,8 @@ some_tokens src _ _ (g.reach word opening range closing semicolon n e e1 e2 e3 e
 some_tokens src _ _ (g.public a word x e r) = omega arith
 some_tokens src _ _ (g.private a word x e r) = omega arith
 some_tokens src _ _ (g.run a word void run opening closing xs e e1 e2 e3 e4 r) = omega arith
+some_tokens src _ _ (g.die a word when semicolon x e e1 e2 r) = omega arith
+some_tokens src _ _ (g.spawn a b word when opening closing x xs e e1 e2 e3 r rs) = omega arith
 
 members_from-found : (src : List ℕ) (n : ℕ) (found : List MemberTree) (b rest : List Token) (closing : Token) (xs : List MemberTree) → length b < n → Is k.CloseBrace closing → ReadsMembers src b xs
     → d.members_from n found (at src (b ++ closing ∷ rest)) ≡ Ok (found ++ xs, at src rest)

@@ -6,24 +6,26 @@ use Rattle.brace_tok.specs.declared.kinds.Token.{Token}
 use Rattle.brace_tok.specs.declared.kinds.TokKind.{TokKind}
 use Rattle.brace_tok.specs.declared.kinds.TokKind.TheVariants as k
 use Rattle.brace_syntax.specs.declared.mark.Mark.TheVariants as m
+use Rattle.brace_syntax.specs.declared.tree.Ident.{Ident}
 use Rattle.brace_syntax.specs.declared.tree.Number.{Number}
 use Rattle.brace_syntax.specs.declared.tree.TyName.{TyName}
 use Rattle.brace_syntax.specs.declared.tree.ExprTree.{ExprTree}
+use Rattle.brace_syntax.specs.declared.tree.GiftTree.{GiftTree}
 use Rattle.brace_syntax.specs.declared.tree.MemberTree.{MemberTree}
 use Rattle.brace_syntax.specs.declared.tree.MemberTree.TheVariants as v
 use Rattle.brace_syntax.specs.declared.tree.ClassTree.{ClassTree}
 use Rattle.brace_syntax.specs.declared.tree.Tree.{Tree}
 use Rattle.brace_syntax.specs.Tables.{Is, ident, type_name}
 use Rattle.brace_syntax.specs.Tables as tables
-use Rattle.brace_syntax.specs.Cursor.{Input, Parser, kind, next, place, sees, after, name, expect, pure, ◌>>=◌}
+use Rattle.brace_syntax.specs.inner.Cursor.{Input, Parser, kind, next, place, sees, after, name, expect, pure, ◌>>=◌}
 use Rattle.brace_syntax.specs.Reads as g
-use Rattle.brace_syntax.specs.Reads.{ReadsExpr, ReadsStmt, ReadsStmts, ReadsBlock, ReadsField, ReadsMember, ReadsMembers, ReadsClass, ReadsClasses, Reads}
-use Rattle.brace_syntax.specs.Descent as d
+use Rattle.brace_syntax.specs.Reads.{ReadsExpr, ReadsStmt, ReadsStmts, ReadsBlock, ReadsField, ReadsGift, ReadsGifts, ReadsMember, ReadsMembers, ReadsClass, ReadsClasses, Reads}
+use Rattle.brace_syntax.specs.inner.Descent as d
 use Rattle.brace_syntax.proofs.Inversions.{bound, same_value, same_input, no_fault, passed, expected, eaten, not_eaten, named_one, number_one, type_one, combined_one}
 use Rattle.brace_syntax.proofs.Took.{Took, Sound}
 use Rattle.std.proofs.lemmas.Bool.Decides.{nat_tests}
 use Rattle.brace_syntax.proofs.ExprRows.{expression-sound}
-use Rattle.brace_syntax.proofs.StmtRows.{block-sound}
+use Rattle.brace_syntax.proofs.StmtRows.{assigned-sound, block-sound}
 use Rattle.brace_syntax.proofs.Loops.{Ended, ended_by}
 
 -- a range in brackets
@@ -237,11 +239,124 @@ private-sound src i j x s h e =
     let ec : i.rest ≡ (t1.token ∷ t2.taken) ++ j.rest = t1.cut ∙ ap (λ (z : List Token). t1.token ∷ z) t2.cut in
     record { taken = t1.token ∷ t2.taken; cut = ec; kept = t2.kept; reads = g.private t2.taken t1.token x t1.says.0 (subst (λ (n : ℕ). ReadsField src false n t2.taken x) t1.says.1 t2.reads) }
 
+die-sound : (src : List ℕ) (i j : Input) (x : MemberTree) → i.src ≡ src → kind i ≡ Some k.KwDie → d.die i ≡ Ok (x, j)
+    → Took src (ReadsMember src) x i j
+unfolding d.die
+die-sound src i j x s h e =
+    let t1 = passed i k.KwDie h in
+    let b2 = bound _ _ _ e in
+    let t2 = expected m.When (next i) b2.input b2.value b2.first in
+    let b3 = bound _ _ _ b2.then_ in
+    let t3 = expression-sound src b2.input b3.input b3.value (t2.src ∙ (t1.src ∙ s)) b3.first in
+    let b4 = bound _ _ _ b3.then_ in
+    let t4 = expected m.Semicolon b3.input b4.input b4.value b4.first in
+    let ej : b4.input ≡ j = same_input _ _ _ _ b4.then_ in
+    let er : b4.input.rest ≡ j.rest = ap (λ (z : Input). z.rest) ej in
+    let a1 : place i ≡ t1.token.from = t1.says.1 in
+    let ev : v.Die b3.value (place i) ≡ x = same_value _ _ _ _ b4.then_ in
+    let ex : v.Die b3.value t1.token.from ≡ x = cc in
+    let all : List Token = t1.token ∷ t2.token ∷ t3.taken ++ (t4.token ∷ []) in
+    let e4 : b3.input.rest ≡ t4.token ∷ j.rest = t4.cut ∙ ap (λ (z : List Token). t4.token ∷ z) er in
+    let e3 : b2.input.rest ≡ (t3.taken ++ (t4.token ∷ [])) ++ j.rest =
+    t3.cut ∙ (ap (λ (z : List Token). t3.taken ++ z) e4 ∙ sym (append_assoc t3.taken (t4.token ∷ []) j.rest)) in
+    let ec : i.rest ≡ all ++ j.rest = t1.cut ∙ ap (λ (z : List Token). t1.token ∷ z) (t2.cut ∙ ap (λ (z : List Token). t2.token ∷ z) e3) in
+    let r : ReadsMember src all (v.Die b3.value t1.token.from) =
+    g.die t3.taken t1.token t2.token t4.token b3.value t1.says.0 t2.says.0 t4.says.0 t3.reads in
+    record {
+      taken = all;
+      cut = ec;
+      kept = sym (ap (λ (z : Input). z.src) ej) ∙ (t4.src ∙ t3.kept);
+      reads = subst (λ (z : MemberTree). ReadsMember src all z) ex r;
+    }
+
+gift-sound : (src : List ℕ) → Sound src d.gift (ReadsGift src)
+unfolding d.gift
+gift-sound src i j x s e =
+    let b1 = bound _ _ _ e in
+    let t1 = named_one i b1.input b1.value b1.first in
+    let b2 = bound _ _ _ b1.then_ in
+    let t2 = assigned-sound src b1.input b2.input b2.value (t1.src ∙ s) b2.first in
+    let q = t2.reads in
+    let ej : b2.input ≡ j = same_input _ _ _ _ b2.then_ in
+    let er : b2.input.rest ≡ j.rest = ap (λ (z : Input). z.rest) ej in
+    let given : Ident → GiftTree = λ n. record { state = n; value = b2.value } in
+    let named : b1.value ≡ ident src t1.token = t1.says.1 ∙ ap (λ (z : List ℕ). ident z t1.token) s in
+    let ev : given b1.value ≡ x = same_value _ _ _ _ b2.then_ in
+    let ex : given (ident src t1.token) ≡ x = ap given (sym named) ∙ ev in
+    let all : List Token = t1.token ∷ t2.taken in
+    let ec : i.rest ≡ all ++ j.rest =
+    t1.cut ∙ ap (λ (z : List Token). t1.token ∷ z) (t2.cut ∙ ap (λ (z : List Token). t2.taken ++ z) er) in
+    let r : ReadsGift src all (given (ident src t1.token)) =
+    subst (λ (z : List Token). ReadsGift src (t1.token ∷ z) (given (ident src t1.token))) (sym q.whole)
+    (g.gift q.inner t1.token q.arrow q.semicolon b2.value t1.says.0 q.is_arrow q.is_semicolon q.reads) in
+    record {
+      taken = all;
+      cut = ec;
+      kept = sym (ap (λ (z : Input). z.src) ej) ∙ t2.kept;
+      reads = subst (λ (z : GiftTree). ReadsGift src all z) ex r;
+    }
+
+gifts_from-sound : (src : List ℕ) (n : ℕ) (found : List GiftTree) → Sound src (d.gifts_from n found) (Ended (ReadsGifts src) found)
+unfolding d.gifts_from
+gifts_from-sound src zero found i j x s e = absurd (no_fault _ _ e)
+gifts_from-sound src (suc n) found i j x s e =
+    ended_by src (ReadsGift src) (ReadsGifts src) g.none (λ a b y ys p q. g.more a b y ys p q) d.gift (gift-sound src) found
+    (d.gifts_from n) (gifts_from-sound src n) (sees m.CloseBrace i) i j x s refl e
+
+gifts-sound : (src : List ℕ) → Sound src d.gifts (Ended (ReadsGifts src) [])
+unfolding d.gifts
+gifts-sound src i j x s e = gifts_from-sound src (d.turns i) [] i j x s e
+
+-- a member whose gifts are ended by their brace
+spawn_of : (src : List ℕ) (a : List Token) (word when opening : Token) (toks : List Token) (x : ExprTree) (all : List GiftTree)
+    → Is k.KwSpawn word → Is k.KwWhen when → Is k.OpenBrace opening → ReadsExpr src g.choices a x → Ended (ReadsGifts src) [] toks all
+    → ReadsMember src (word ∷ when ∷ a ++ opening ∷ toks) (v.Spawn x all word.from)
+spawn_of src a word when opening toks x all h h' h'' r q =
+    subst (λ (z : List Token). ReadsMember src (word ∷ when ∷ a ++ opening ∷ z) (v.Spawn x all word.from)) (sym q.whole)
+    (subst (λ (z : List Token). ReadsMember src (word ∷ when ∷ z) (v.Spawn x all word.from)) (append_assoc a (opening ∷ q.body) (q.closing ∷ []))
+    (subst (λ (z : List GiftTree). ReadsMember src (word ∷ when ∷ ((a ++ opening ∷ q.body) ++ (q.closing ∷ []))) (v.Spawn x z word.from)) (sym q.found_is)
+    (g.spawn a q.body word when opening q.closing x q.more h h' h'' q.is_closing r q.reads)))
+
+spawn-sound : (src : List ℕ) (i j : Input) (x : MemberTree) → i.src ≡ src → kind i ≡ Some k.KwSpawn → d.spawn i ≡ Ok (x, j)
+    → Took src (ReadsMember src) x i j
+unfolding d.spawn
+spawn-sound src i j x s h e =
+    let t1 = passed i k.KwSpawn h in
+    let b2 = bound _ _ _ e in
+    let t2 = expected m.When (next i) b2.input b2.value b2.first in
+    let b3 = bound _ _ _ b2.then_ in
+    let t3 = expression-sound src b2.input b3.input b3.value (t2.src ∙ (t1.src ∙ s)) b3.first in
+    let b4 = bound _ _ _ b3.then_ in
+    let t4 = expected m.OpenBrace b3.input b4.input b4.value b4.first in
+    let b5 = bound _ _ _ b4.then_ in
+    let t5 = gifts-sound src b4.input b5.input b5.value (t4.src ∙ t3.kept) b5.first in
+    let ej : b5.input ≡ j = same_input _ _ _ _ b5.then_ in
+    let er : b5.input.rest ≡ j.rest = ap (λ (z : Input). z.rest) ej in
+    let a1 : place i ≡ t1.token.from = t1.says.1 in
+    let ev : v.Spawn b3.value b5.value (place i) ≡ x = same_value _ _ _ _ b5.then_ in
+    let ex : v.Spawn b3.value b5.value t1.token.from ≡ x = cc in
+    let all : List Token = t1.token ∷ t2.token ∷ t3.taken ++ (t4.token ∷ t5.taken) in
+    let e5 : b4.input.rest ≡ t5.taken ++ j.rest = t5.cut ∙ ap (λ (z : List Token). t5.taken ++ z) er in
+    let e4 : b3.input.rest ≡ t4.token ∷ (t5.taken ++ j.rest) = t4.cut ∙ ap (λ (z : List Token). t4.token ∷ z) e5 in
+    let e3 : b2.input.rest ≡ (t3.taken ++ (t4.token ∷ t5.taken)) ++ j.rest =
+    t3.cut ∙ (ap (λ (z : List Token). t3.taken ++ z) e4 ∙ sym (append_assoc t3.taken (t4.token ∷ t5.taken) j.rest)) in
+    let ec : i.rest ≡ all ++ j.rest = t1.cut ∙ ap (λ (z : List Token). t1.token ∷ z) (t2.cut ∙ ap (λ (z : List Token). t2.token ∷ z) e3) in
+    let r : ReadsMember src all (v.Spawn b3.value b5.value t1.token.from) =
+    spawn_of src t3.taken t1.token t2.token t4.token t5.taken b3.value b5.value t1.says.0 t2.says.0 t4.says.0 t3.reads t5.reads in
+    record {
+      taken = all;
+      cut = ec;
+      kept = sym (ap (λ (z : Input). z.src) ej) ∙ t5.kept;
+      reads = subst (λ (z : MemberTree). ReadsMember src all z) ex r;
+    }
+
 member_by-sound : (src : List ℕ) (o : Option TokKind) (i j : Input) (x : MemberTree) → i.src ≡ src → kind i ≡ o → d.member_by o i ≡ Ok (x, j) → Took src (ReadsMember src) x i j
 member_by-sound src (Some k.Visible) i j x s h e = visible-sound src i j x s h e
 member_by-sound src (Some k.Reach) i j x s h e = reach-sound src i j x s h e
 member_by-sound src (Some k.KwPublic) i j x s h e = public-sound src i j x s h e
 member_by-sound src (Some k.KwPrivate) i j x s h e = private-sound src i j x s h e
+member_by-sound src (Some k.KwDie) i j x s h e = die-sound src i j x s h e
+member_by-sound src (Some k.KwSpawn) i j x s h e = spawn-sound src i j x s h e
 member_by-sound src o i j x s h e = absurd (no_fault _ _ e)
 
 member-sound : (src : List ℕ) → Sound src d.member (ReadsMember src)

@@ -14,11 +14,11 @@ use Rattle.brace_syntax.specs.declared.tree.ExprTree.TheVariants as node
 use Rattle.brace_syntax.specs.declared.expr.Start.{Start}
 use Rattle.brace_syntax.specs.declared.expr.Start.TheVariants.{Whole, Operand}
 use Rattle.brace_syntax.specs.Tables.{Is, ident, number, number_at, either, both, adds, multiplies, prefixes, calls_one, calls_two}
-use Rattle.brace_syntax.specs.Cursor.{Input, Parser, Outcome, kind, next, place, first, ◌>>=◌}
+use Rattle.brace_syntax.specs.inner.Cursor.{Input, Parser, Outcome, kind, next, place, first, ◌>>=◌}
 use Rattle.brace_syntax.specs.Reads as g
 use Rattle.brace_syntax.specs.Reads.{Row, ReadsExpr, operands, repeats}
-use Rattle.brace_syntax.specs.Descent as d
-use Rattle.brace_syntax.specs.Descent.{climb, where_some}
+use Rattle.brace_syntax.specs.inner.Descent as d
+use Rattle.brace_syntax.specs.inner.Descent.{climb, where_some}
 use Rattle.brace_syntax.proofs.Inversions.{not_eaten}
 use Rattle.brace_syntax.proofs.ExprRows.{row_at}
 use Rattle.brace_syntax.proofs.Forward.{at, then_, if_true, if_false, where_found, where_none, sees_it, after_it, expects, names, numbers}

@@ -14,11 +14,11 @@ use Rattle.brace_syntax.specs.declared.tree.ExprTree.TheVariants as node
 use Rattle.brace_syntax.specs.declared.expr.Start.{Start}
 use Rattle.brace_syntax.specs.declared.expr.Start.TheVariants.{Whole, Operand}
 use Rattle.brace_syntax.specs.Tables.{ident, either, both, compares, adds, multiplies, prefixes}
-use Rattle.brace_syntax.specs.Cursor.{Input, Parser, kind, next, place, sees, after, name, pass, expect, pure, ◌>>=◌}
+use Rattle.brace_syntax.specs.inner.Cursor.{Input, Parser, kind, next, place, sees, after, name, pass, expect, pure, ◌>>=◌}
 use Rattle.brace_syntax.specs.Reads as g
 use Rattle.brace_syntax.specs.Reads.{Row, ReadsExpr, operands, repeats}
-use Rattle.brace_syntax.specs.Descent as d
-use Rattle.brace_syntax.specs.Descent.{climb, where_some}
+use Rattle.brace_syntax.specs.inner.Descent as d
+use Rattle.brace_syntax.specs.inner.Descent.{climb, where_some}
 use Rattle.brace_syntax.proofs.Inversions.{One, bound, same_value, same_input, no_fault, passed, seen, expected, eaten, not_eaten, named_one}
 use Rattle.brace_syntax.proofs.Took.{Took, Sound}
 use Rattle.brace_syntax.proofs.PrimaryRows as p

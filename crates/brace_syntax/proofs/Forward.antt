@@ -13,8 +13,8 @@ use Rattle.brace_syntax.specs.declared.tree.TyName.{TyName}
 use Rattle.brace_syntax.specs.declared.tree.CombName.{CombName}
 use Rattle.brace_syntax.specs.Tables.{Is, ident, combines}
 use Rattle.brace_syntax.specs.Tables as tables
-use Rattle.brace_syntax.specs.Cursor.{Input, Outcome, Parser, and_then, first, kind, place, next, refusal, mark_of, same_mark, marked, sees, after, expect, said, name_at, name, number, type_name, combinator}
-use Rattle.brace_syntax.specs.Descent.{where_some}
+use Rattle.brace_syntax.specs.inner.Cursor.{Input, Outcome, Parser, and_then, first, kind, place, next, refusal, mark_of, same_mark, marked, sees, after, expect, said, name_at, name, number, type_name, combinator}
+use Rattle.brace_syntax.specs.inner.Descent.{where_some}
 use Rattle.brace_syntax.proofs.Inversions.{kind_of}
 
 abbrev pub at : List ℕ → List Token → Input
@@ -40,6 +40,7 @@ mark_of_kind m.Class = refl
 mark_of_kind m.Run = refl
 mark_of_kind m.Extent = refl
 mark_of_kind m.Else = refl
+mark_of_kind m.When = refl
 mark_of_kind m.OpenBrace = refl
 mark_of_kind m.CloseBrace = refl
 mark_of_kind m.OpenParen = refl

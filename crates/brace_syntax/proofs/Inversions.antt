@@ -16,7 +16,7 @@ use Rattle.brace_syntax.specs.declared.tree.CombName.{CombName}
 use Rattle.brace_syntax.specs.declared.fault.Stop.{Stop}
 use Rattle.brace_syntax.specs.Tables.{ident, combines}
 use Rattle.brace_syntax.specs.Tables as tables
-use Rattle.brace_syntax.specs.Cursor.{Input, Outcome, Parser, and_then, first, kind, place, next, refusal, mark_of, same_mark, marked, sees, after, expect, said, name_at, name_of, name, number, type_name, combinator}
+use Rattle.brace_syntax.specs.inner.Cursor.{Input, Outcome, Parser, and_then, first, kind, place, next, refusal, mark_of, same_mark, marked, sees, after, expect, said, name_at, name_of, name, number, type_name, combinator}
 
 -- one token, of which P holds
 pub record One (P : Token → Type 0) (i j : Input) : Type 0 where
@@ -57,6 +57,7 @@ kind_of m.Class = k.KwClass
 kind_of m.Run = k.KwRun
 kind_of m.Extent = k.KwExtent
 kind_of m.Else = k.KwElse
+kind_of m.When = k.KwWhen
 kind_of m.OpenBrace = k.OpenBrace
 kind_of m.CloseBrace = k.CloseBrace
 kind_of m.OpenParen = k.OpenParen
@@ -78,6 +79,7 @@ is_kind_of k.KwClass mark e = ap kind_of (same_Some _ _ e)
 is_kind_of k.KwRun mark e = ap kind_of (same_Some _ _ e)
 is_kind_of k.KwExtent mark e = ap kind_of (same_Some _ _ e)
 is_kind_of k.KwElse mark e = ap kind_of (same_Some _ _ e)
+is_kind_of k.KwWhen mark e = ap kind_of (same_Some _ _ e)
 is_kind_of k.OpenBrace mark e = ap kind_of (same_Some _ _ e)
 is_kind_of k.CloseBrace mark e = ap kind_of (same_Some _ _ e)
 is_kind_of k.OpenParen mark e = ap kind_of (same_Some _ _ e)

@@ -8,7 +8,7 @@ use Rattle.brace_tok.specs.declared.kinds.TokKind.TheVariants as k
 use Rattle.brace_syntax.specs.declared.mark.Mark.{Mark}
 use Rattle.brace_syntax.specs.declared.tree.BinName.{BinName}
 use Rattle.brace_syntax.specs.Tables.{either, both, compares, adds, multiplies}
-use Rattle.brace_syntax.specs.Cursor.{Input, kind, first, sees}
+use Rattle.brace_syntax.specs.inner.Cursor.{Input, kind, first, sees}
 use Rattle.brace_syntax.specs.Reads.{Row, choices, ors, ands, comparisons, sums, products, prefixed, primaries, repeats, operands}
 use Rattle.brace_syntax.proofs.Inversions.{kind_of, seen}
 use Rattle.brace_syntax.proofs.Forward.{at}

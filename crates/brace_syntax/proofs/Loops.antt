@@ -6,7 +6,7 @@ use Rattle.brace_tok.specs.declared.kinds.Token.{Token}
 use Rattle.brace_tok.specs.declared.kinds.TokKind.TheVariants as k
 use Rattle.brace_syntax.specs.declared.mark.Mark.TheVariants as m
 use Rattle.brace_syntax.specs.Tables.{Is}
-use Rattle.brace_syntax.specs.Cursor.{Input, Parser, sees, after, pure, ◌>>=◌}
+use Rattle.brace_syntax.specs.inner.Cursor.{Input, Parser, sees, after, pure, ◌>>=◌}
 use Rattle.brace_syntax.proofs.Inversions.{bound, same_value, same_input, eaten, not_eaten}
 use Rattle.brace_syntax.proofs.Took.{Took, Sound}
 

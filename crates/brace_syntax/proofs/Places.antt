@@ -12,6 +12,7 @@ use Rattle.brace_syntax.specs.declared.tree.BinName.{BinName}
 use Rattle.brace_syntax.specs.declared.tree.ExprTree.{ExprTree}
 use Rattle.brace_syntax.specs.declared.tree.ExprTree.TheVariants as node
 use Rattle.brace_syntax.specs.declared.tree.StmtTree.{StmtTree}
+use Rattle.brace_syntax.specs.declared.tree.GiftTree.{GiftTree}
 use Rattle.brace_syntax.specs.declared.tree.MemberTree.{MemberTree}
 use Rattle.brace_syntax.specs.declared.tree.ClassTree.{ClassTree}
 use Rattle.brace_syntax.specs.declared.tree.Tree.{Tree}
@@ -20,9 +21,9 @@ use Rattle.brace_syntax.specs.declared.fault.Stop.TheVariants as stop
 use Rattle.brace_syntax.specs.declared.expr.Start.{Start}
 use Rattle.brace_syntax.specs.declared.expr.Start.TheVariants.{Whole, Operand}
 use Rattle.brace_syntax.specs.Tables as tables
-use Rattle.brace_syntax.specs.Cursor.{Input, Outcome, Parser, and_then, first, kind, place, next, refusal, sees, after, expect, said, name_of, name, number, type_name, combinator}
-use Rattle.brace_syntax.specs.Descent as d
-use Rattle.brace_syntax.specs.Descent.{climb, where_some}
+use Rattle.brace_syntax.specs.inner.Cursor.{Input, Outcome, Parser, and_then, first, kind, place, next, refusal, sees, after, expect, said, name_of, name, number, type_name, combinator}
+use Rattle.brace_syntax.specs.inner.Descent as d
+use Rattle.brace_syntax.specs.inner.Descent.{climb, where_some}
 use Rattle.brace_syntax.specs.Sayings.{IsPlace}
 
 -- the second is a back of the first
@@ -347,11 +348,38 @@ private-left : (i : Input) → Left i (d.private i)
 unfolding d.private
 private-left i = goes_on i (next i) _ (passes i) (field-left false (place i) (next i))
 
+die-left : (i : Input) → Left i (d.die i)
+unfolding d.die
+die-left i = goes_on i (next i) _ (passes i) (bound _ _ _ (expects m.When (next i)) (λ _ j. bound _ _ _ (expression-left j)
+    (λ _ j. bound _ _ _ (expects m.Semicolon j) (λ _ j. done _ j))))
+
+gift-left : (i : Input) → Left i (d.gift i)
+unfolding d.gift
+gift-left i = bound _ _ _ (names i) (λ _ j. bound _ _ _ (assigned-left j) (λ _ j. done _ j))
+
+gifts_from-left : (n : ℕ) (found : List GiftTree) (i : Input) → Left i (d.gifts_from n found i)
+unfolding d.gifts_from
+gifts_from-left zero found i = stops _ i
+gifts_from-left (suc n) found i = goes_on i (after m.CloseBrace i) _ (eats m.CloseBrace i)
+    (branch (sees m.CloseBrace i) _ _ _ (done _ (after m.CloseBrace i))
+    (bound _ _ _ (gift-left (after m.CloseBrace i)) (λ x j. gifts_from-left n (found ++ x ∷ []) j)))
+
+gifts-left : (i : Input) → Left i (d.gifts i)
+unfolding d.gifts
+gifts-left i = gifts_from-left (d.turns i) [] i
+
+spawn-left : (i : Input) → Left i (d.spawn i)
+unfolding d.spawn
+spawn-left i = goes_on i (next i) _ (passes i) (bound _ _ _ (expects m.When (next i)) (λ _ j. bound _ _ _ (expression-left j)
+    (λ _ j. bound _ _ _ (expects m.OpenBrace j) (λ _ j. bound _ _ _ (gifts-left j) (λ _ j. done _ j)))))
+
 member_by-left : (o : Option TokKind) (i : Input) → Left i (d.member_by o i)
 member_by-left (Some k.Visible) i = visible-left i
 member_by-left (Some k.Reach) i = reach-left i
 member_by-left (Some k.KwPublic) i = public-left i
 member_by-left (Some k.KwPrivate) i = private-left i
+member_by-left (Some k.KwDie) i = die-left i
+member_by-left (Some k.KwSpawn) i = spawn-left i
 member_by-left o i = stops _ i
 
 member-left : (i : Input) → Left i (d.member i)

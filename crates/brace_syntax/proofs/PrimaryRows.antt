@@ -13,10 +13,10 @@ use Rattle.brace_syntax.specs.declared.tree.ExprTree.TheVariants as node
 use Rattle.brace_syntax.specs.declared.expr.Start.{Start}
 use Rattle.brace_syntax.specs.declared.expr.Start.TheVariants.{Whole}
 use Rattle.brace_syntax.specs.Tables.{ident, calls_one, calls_two}
-use Rattle.brace_syntax.specs.Cursor.{Input, Parser, kind, next, place}
+use Rattle.brace_syntax.specs.inner.Cursor.{Input, Parser, kind, next, place}
 use Rattle.brace_syntax.specs.Reads.{ReadsExpr, choices, primaries, called_one, called_two, enclosed, of_this, literal, random}
-use Rattle.brace_syntax.specs.Descent as d
-use Rattle.brace_syntax.specs.Descent.{one_argument, two_arguments}
+use Rattle.brace_syntax.specs.inner.Descent as d
+use Rattle.brace_syntax.specs.inner.Descent.{one_argument, two_arguments}
 use Rattle.brace_syntax.proofs.Inversions.{bound, same_value, same_input, passed, expected, named_one, number_one}
 use Rattle.brace_syntax.proofs.Took.{Took, Sound}
 

@@ -12,7 +12,7 @@ use Rattle.brace_tok.specs.declared.kinds.Token.{Token}
 use Rattle.brace_tok.proofs.Scans.{first_of_both, second_of_both}
 use Rattle.brace_tok.proofs.Named.{name_word, spells_names}
 use Rattle.brace_tok.proofs.Unique.{spells_rises}
-use Rattle.brace_syntax.specs.Cursor.{AreSpelled, IsSpelled}
+use Rattle.brace_syntax.specs.inner.Cursor.{AreSpelled, IsSpelled}
 
 pub still_spelled : (src : List ℕ) (tok : Token) (toks rest : List Token) → toks ≡ tok ∷ rest → AreSpelled src toks → AreSpelled src rest
 still_spelled src tok toks rest e spelled = (spelled.0, All-rest (IsSpelled src) tok rest toks e spelled.1)

@@ -13,10 +13,10 @@ use Rattle.brace_syntax.specs.declared.tree.ExprTree.{ExprTree}
 use Rattle.brace_syntax.specs.declared.tree.StmtTree.{StmtTree}
 use Rattle.brace_syntax.specs.declared.tree.StmtTree.TheVariants as stmt
 use Rattle.brace_syntax.specs.Tables.{Is, ident, type_name}
-use Rattle.brace_syntax.specs.Cursor.{Parser, Outcome, kind, next, place, first, sees, mark_of}
+use Rattle.brace_syntax.specs.inner.Cursor.{Parser, Outcome, kind, next, place, first, sees, mark_of}
 use Rattle.brace_syntax.specs.Reads as g
 use Rattle.brace_syntax.specs.Reads.{ReadsExpr, ReadsStmt, ReadsStmts, ReadsBlock}
-use Rattle.brace_syntax.specs.Descent as d
+use Rattle.brace_syntax.specs.inner.Descent as d
 use Rattle.brace_syntax.proofs.Inversions.{not_eaten}
 use Rattle.brace_syntax.proofs.Forward.{at, then_, if_true, if_false, sees_it, sees_no_mark, after_it, expects, names, types}
 use Rattle.brace_syntax.proofs.Levels.{begins, not_next, not_seen}
@@ -25,7 +25,7 @@ use Rattle.brace_syntax.proofs.ExprFound.{shut, inner_length, expression-found}
 abbrev pub FindsBlock : List ℕ → ℕ → Parser (List StmtTree) → Type 0
 FindsBlock src bound p = (a rest : List Token) (xs : List StmtTree) → length a ≤ bound → ReadsBlock src a xs → p (at src (a ++ rest)) ≡ Ok (xs, at src rest)
 
-assigned-found : (src : List ℕ) (a rest : List Token) (arrow semicolon : Token) (x : ExprTree) → Is k.Arrow arrow → Is k.Semicolon semicolon → ReadsExpr src g.choices a x
+pub assigned-found : (src : List ℕ) (a rest : List Token) (arrow semicolon : Token) (x : ExprTree) → Is k.Arrow arrow → Is k.Semicolon semicolon → ReadsExpr src g.choices a x
     → d.assigned (at src (arrow ∷ ((a ++ semicolon ∷ []) ++ rest))) ≡ Ok (x, at src rest)
 unfolding d.assigned
 assigned-found src a rest arrow semicolon x h h' r =

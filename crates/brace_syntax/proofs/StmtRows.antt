@@ -12,10 +12,10 @@ use Rattle.brace_syntax.specs.declared.tree.StmtTree.{StmtTree}
 use Rattle.brace_syntax.specs.declared.tree.StmtTree.TheVariants as stmt
 use Rattle.brace_syntax.specs.declared.stmt.Heading.{Heading}
 use Rattle.brace_syntax.specs.Tables.{Is, ident, type_name}
-use Rattle.brace_syntax.specs.Cursor.{Input, Parser, kind, next, place, sees, after, name, pure, ◌>>=◌}
+use Rattle.brace_syntax.specs.inner.Cursor.{Input, Parser, kind, next, place, sees, after, name, pure, ◌>>=◌}
 use Rattle.brace_syntax.specs.Reads as g
 use Rattle.brace_syntax.specs.Reads.{ReadsExpr, ReadsStmt, ReadsStmts, ReadsBlock, ReadsField, ReadsMember, ReadsMembers, ReadsClass, ReadsClasses, Reads}
-use Rattle.brace_syntax.specs.Descent as d
+use Rattle.brace_syntax.specs.inner.Descent as d
 use Rattle.brace_syntax.proofs.Inversions.{One, bound, same_value, same_input, no_fault, passed, expected, eaten, not_eaten, named_one, type_one}
 use Rattle.brace_syntax.proofs.Took.{Took, Sound}
 use Rattle.brace_syntax.proofs.ExprRows.{expression-sound}

@@ -2,7 +2,7 @@
 use Rattle.std.proofs.Common.{◌≡◌, ℕ, List, ◌++◌}
 use Rattle.std.specs.Prelude.{Ok}
 use Rattle.brace_tok.specs.declared.kinds.Token.{Token}
-use Rattle.brace_syntax.specs.Cursor.{Input, Parser}
+use Rattle.brace_syntax.specs.inner.Cursor.{Input, Parser}
 
 pub record Took {A : Type 0} (src : List ℕ) (R : List Token → A → Type 0) (x : A) (i j : Input) : Type 0 where
   pub taken : List Token

@@ -13,6 +13,7 @@ use Rattle.brace_syntax.specs.declared.tree.ExprTree.{ExprTree}
 use Rattle.brace_syntax.specs.declared.tree.ExprTree.TheVariants as e
 use Rattle.brace_syntax.specs.declared.tree.StmtTree.{StmtTree}
 use Rattle.brace_syntax.specs.declared.tree.StmtTree.TheVariants as s
+use Rattle.brace_syntax.specs.declared.tree.GiftTree.{GiftTree}
 use Rattle.brace_syntax.specs.declared.tree.MemberTree.{MemberTree}
 use Rattle.brace_syntax.specs.declared.tree.MemberTree.TheVariants as m
 use Rattle.brace_syntax.specs.declared.tree.ClassTree.{ClassTree}
@@ -143,6 +144,19 @@ pub data ReadsField (src : List ℕ) (is_public : Bool) (at : ℕ) : List Token 
       → Is k.KwEffect word → type_name src type ≡ Some t → Is k.Word name → Is k.Colon colon → combines combinator.kind ≡ Some c → Is k.Semicolon semicolon
       → ReadsField src is_public at (word ∷ type ∷ name ∷ colon ∷ combinator ∷ semicolon ∷ []) (m.Effect is_public t (ident src name) c at)
 
+-- these tokens are a gift, of which a child's state has its value
+pub data ReadsGift (src : List ℕ) : List Token → GiftTree → Type 0 where
+  -- `n <- x;`
+  gift : (a : List Token) (name arrow semicolon : Token) (x : ExprTree)
+      → Is k.Word name → Is k.Arrow arrow → Is k.Semicolon semicolon → ReadsExpr src choices a x
+      → ReadsGift src (name ∷ arrow ∷ a ++ semicolon ∷ []) (record { state = ident src name; value = x })
+
+-- these tokens are gifts, one after another
+pub data ReadsGifts (src : List ℕ) : List Token → List GiftTree → Type 0 where
+  none : ReadsGifts src [] []
+  more : (a b : List Token) (x : GiftTree) (xs : List GiftTree) → ReadsGift src a x → ReadsGifts src b xs
+      → ReadsGifts src (a ++ b) (x ∷ xs)
+
 -- these tokens are a member of a class
 pub data ReadsMember (src : List ℕ) : List Token → MemberTree → Type 0 where
   -- `#visible[r];`
@@ -159,6 +173,15 @@ pub data ReadsMember (src : List ℕ) : List Token → MemberTree → Type 0 whe
   run : (a : List Token) (word void run opening closing : Token) (block : List StmtTree)
       → Is k.KwPublic word → Is k.KwVoid void → Is k.KwRun run → Is k.OpenParen opening → Is k.CloseParen closing → ReadsBlock src a block
       → ReadsMember src (word ∷ void ∷ run ∷ opening ∷ closing ∷ a) (m.Run block word.from)
+  -- `die when c;`
+  die : (a : List Token) (word when semicolon : Token) (x : ExprTree)
+      → Is k.KwDie word → Is k.KwWhen when → Is k.Semicolon semicolon → ReadsExpr src choices a x
+      → ReadsMember src (word ∷ when ∷ a ++ semicolon ∷ []) (m.Die x word.from)
+  -- `spawn when c { .. }`
+  spawn : (a b : List Token) (word when opening closing : Token) (x : ExprTree) (gifts : List GiftTree)
+      → Is k.KwSpawn word → Is k.KwWhen when → Is k.OpenBrace opening → Is k.CloseBrace closing
+      → ReadsExpr src choices a x → ReadsGifts src b gifts
+      → ReadsMember src (word ∷ when ∷ a ++ opening ∷ b ++ closing ∷ []) (m.Spawn x gifts word.from)
 
 -- these tokens are members, one after another
 pub data ReadsMembers (src : List ℕ) : List Token → List MemberTree → Type 0 where

@@ -1,20 +1,20 @@
 //! Members, classes and scripts.
 
 ghost use Rattle.std.specs.Prelude.{◌≡◌};
-ghost use Rattle.brace_syntax.specs.Cursor.{Follows};
-ghost use Rattle.brace_syntax.specs.Descent as spec;
+ghost use Rattle.brace_syntax.specs.inner.Cursor.{Follows};
+ghost use Rattle.brace_syntax.specs.inner.Descent as spec;
 
 use crate::expr::expression;
 use crate::fault::Stop;
 use crate::mark::Mark;
-use crate::stmt::block;
+use crate::stmt::{assigned, block};
 use crate::tokens::Tokens;
-use crate::tree::{ClassTree, ExprTree, MemberTree, Number, Tree};
+use crate::tree::{ClassTree, ExprTree, GiftTree, MemberTree, Number, Tree};
 use brace_num::List;
 use brace_tok::TokKind;
 use std::alloc::Global;
 
-#[tactic(auto, unfolding(crate::specs::Descent::range))]
+#[tactic(auto, unfolding(crate::specs::inner::Descent::range))]
 fn range(tokens: &mut Tokens<'_>) -> Result<Number, Stop>
     ensures { Follows (spec.range tokens.old) result tokens.new }
 {
@@ -25,7 +25,7 @@ fn range(tokens: &mut Tokens<'_>) -> Result<Number, Stop>
     Ok(n)
 }
 
-#[tactic(auto, unfolding(crate::specs::Descent::visible))]
+#[tactic(auto, unfolding(crate::specs::inner::Descent::visible))]
 fn visible(tokens: &mut Tokens<'_>) -> Result<MemberTree, Stop>
     ensures { Follows (spec.visible tokens.old) result tokens.new }
 {
@@ -34,7 +34,7 @@ fn visible(tokens: &mut Tokens<'_>) -> Result<MemberTree, Stop>
     Ok(MemberTree::Visible(n, at))
 }
 
-#[tactic(auto, unfolding(crate::specs::Descent::reach))]
+#[tactic(auto, unfolding(crate::specs::inner::Descent::reach))]
 fn reach(tokens: &mut Tokens<'_>) -> Result<MemberTree, Stop>
     ensures { Follows (spec.reach tokens.old) result tokens.new }
 {
@@ -43,7 +43,7 @@ fn reach(tokens: &mut Tokens<'_>) -> Result<MemberTree, Stop>
     Ok(MemberTree::Reach(n, at))
 }
 
-#[tactic(auto, unfolding(crate::specs::Descent::ruled))]
+#[tactic(auto, unfolding(crate::specs::inner::Descent::ruled))]
 fn ruled(alloc: Global, tokens: &mut Tokens<'_>) -> Result<Option<ExprTree>, Stop>
     ensures { Follows (spec.ruled tokens.old) result tokens.new }
 {
@@ -57,7 +57,7 @@ fn ruled(alloc: Global, tokens: &mut Tokens<'_>) -> Result<Option<ExprTree>, Sto
     }
 }
 
-#[tactic(auto, unfolding(crate::specs::Descent::state))]
+#[tactic(auto, unfolding(crate::specs::inner::Descent::state))]
 fn state(
     alloc: Global,
     tokens: &mut Tokens<'_>,
@@ -73,7 +73,7 @@ fn state(
     Ok(MemberTree::State(is_public, t, name, x, at))
 }
 
-#[tactic(auto, unfolding(crate::specs::Descent::effect))]
+#[tactic(auto, unfolding(crate::specs::inner::Descent::effect))]
 fn effect(
     alloc: Global,
     tokens: &mut Tokens<'_>,
@@ -91,7 +91,7 @@ fn effect(
     Ok(MemberTree::Effect(is_public, t, name, c, at))
 }
 
-#[tactic(auto, unfolding(crate::specs::Descent::field))]
+#[tactic(auto, unfolding(crate::specs::inner::Descent::field))]
 fn field(
     alloc: Global,
     tokens: &mut Tokens<'_>,
@@ -107,7 +107,7 @@ fn field(
     }
 }
 
-#[tactic(auto, unfolding(crate::specs::Descent::run))]
+#[tactic(auto, unfolding(crate::specs::inner::Descent::run))]
 fn run(alloc: Global, tokens: &mut Tokens<'_>, at: u32) -> Result<MemberTree, Stop>
     ensures { Follows (spec.run at tokens.old) result tokens.new }
 {
@@ -119,7 +119,7 @@ fn run(alloc: Global, tokens: &mut Tokens<'_>, at: u32) -> Result<MemberTree, St
     Ok(MemberTree::Run(body, at))
 }
 
-#[tactic(auto, unfolding(crate::specs::Descent::public))]
+#[tactic(auto, unfolding(crate::specs::inner::Descent::public))]
 fn public(alloc: Global, tokens: &mut Tokens<'_>) -> Result<MemberTree, Stop>
     ensures { Follows (spec.public tokens.old) result tokens.new }
 {
@@ -130,7 +130,7 @@ fn public(alloc: Global, tokens: &mut Tokens<'_>) -> Result<MemberTree, Stop>
     }
 }
 
-#[tactic(auto, unfolding(crate::specs::Descent::private))]
+#[tactic(auto, unfolding(crate::specs::inner::Descent::private))]
 fn private(alloc: Global, tokens: &mut Tokens<'_>) -> Result<MemberTree, Stop>
     ensures { Follows (spec.private tokens.old) result tokens.new }
 {
@@ -138,7 +138,53 @@ fn private(alloc: Global, tokens: &mut Tokens<'_>) -> Result<MemberTree, Stop>
     field(alloc, tokens, false, at)
 }
 
-#[tactic(auto, unfolding(crate::specs::Descent::member))]
+#[tactic(auto, unfolding(crate::specs::inner::Descent::die))]
+fn die(alloc: Global, tokens: &mut Tokens<'_>) -> Result<MemberTree, Stop>
+    ensures { Follows (spec.die tokens.old) result tokens.new }
+{
+    let at = tokens.pass();
+    tokens.expect(Mark::When)?;
+    let x = expression(alloc, tokens)?;
+    tokens.expect(Mark::Semicolon)?;
+    Ok(MemberTree::Die(x, at))
+}
+
+#[tactic(auto, unfolding(crate::specs::inner::Descent::gift))]
+fn gift(alloc: Global, tokens: &mut Tokens<'_>) -> Result<GiftTree, Stop>
+    ensures { Follows (spec.gift tokens.old) result tokens.new }
+{
+    let state = tokens.name(alloc)?;
+    let value = assigned(alloc, tokens)?;
+    Ok(GiftTree { state, value })
+}
+
+#[tactic(auto, unfolding(crate::specs::inner::Descent::gifts, crate::specs::inner::Descent::gifts_from))]
+fn gifts(alloc: Global, tokens: &mut Tokens<'_>) -> Result<List<GiftTree>, Stop>
+    ensures { Follows (spec.gifts tokens.old) result tokens.new }
+{
+    let mut found = List::new(alloc);
+    for _turn in 0..tokens.left() {
+        if tokens.eat(Mark::CloseBrace) {
+            return Ok(found);
+        }
+        found.push(gift(alloc, tokens)?)?;
+    }
+    Err(tokens.refuse())
+}
+
+#[tactic(auto, unfolding(crate::specs::inner::Descent::spawn))]
+fn spawn(alloc: Global, tokens: &mut Tokens<'_>) -> Result<MemberTree, Stop>
+    ensures { Follows (spec.spawn tokens.old) result tokens.new }
+{
+    let at = tokens.pass();
+    tokens.expect(Mark::When)?;
+    let x = expression(alloc, tokens)?;
+    tokens.expect(Mark::OpenBrace)?;
+    let given = gifts(alloc, tokens)?;
+    Ok(MemberTree::Spawn(x, given, at))
+}
+
+#[tactic(auto, unfolding(crate::specs::inner::Descent::member))]
 fn member(alloc: Global, tokens: &mut Tokens<'_>) -> Result<MemberTree, Stop>
     ensures { Follows (spec.member tokens.old) result tokens.new }
 {
@@ -147,11 +193,13 @@ fn member(alloc: Global, tokens: &mut Tokens<'_>) -> Result<MemberTree, Stop>
         Some(TokKind::Reach) => reach(tokens),
         Some(TokKind::KwPublic) => public(alloc, tokens),
         Some(TokKind::KwPrivate) => private(alloc, tokens),
+        Some(TokKind::KwDie) => die(alloc, tokens),
+        Some(TokKind::KwSpawn) => spawn(alloc, tokens),
         _ => Err(tokens.refuse()),
     }
 }
 
-#[tactic(auto, unfolding(crate::specs::Descent::members, crate::specs::Descent::members_from))]
+#[tactic(auto, unfolding(crate::specs::inner::Descent::members, crate::specs::inner::Descent::members_from))]
 fn members(alloc: Global, tokens: &mut Tokens<'_>) -> Result<List<MemberTree>, Stop>
     ensures { Follows (spec.members tokens.old) result tokens.new }
 {
@@ -165,7 +213,7 @@ fn members(alloc: Global, tokens: &mut Tokens<'_>) -> Result<List<MemberTree>, S
     Err(tokens.refuse())
 }
 
-#[tactic(auto, unfolding(crate::specs::Descent::class))]
+#[tactic(auto, unfolding(crate::specs::inner::Descent::class))]
 fn class(alloc: Global, tokens: &mut Tokens<'_>) -> Result<ClassTree, Stop>
     ensures { Follows (spec.class tokens.old) result tokens.new }
 {
@@ -176,7 +224,7 @@ fn class(alloc: Global, tokens: &mut Tokens<'_>) -> Result<ClassTree, Stop>
     Ok(ClassTree { name, members, at })
 }
 
-#[tactic(auto, unfolding(crate::specs::Descent::script, crate::specs::Descent::classes_from))]
+#[tactic(auto, unfolding(crate::specs::inner::Descent::script, crate::specs::inner::Descent::classes_from))]
 pub fn script(alloc: Global, tokens: &mut Tokens<'_>) -> Result<Tree, Stop>
     ensures { Follows (spec.script tokens.old) result tokens.new }
 {

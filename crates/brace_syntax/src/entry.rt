@@ -15,8 +15,8 @@ use brace_tok::Token;
 use std::alloc::Global;
 
 /// The script that the tokens of a source of at most 1,048,576 bytes are. Gives `TooDeep` exactly where the scan for depth
-/// finds a token, `NoReading` where it finds none and the tokens are no script, and `NoMemory` only where the allocator
-/// refused.
+/// finds a token, at the first such token. Where it finds none, it gives the script where the tokens are one, `NoReading` at
+/// a token or at the end of the source where they are none, or in place of either `NoMemory`.
 pub fn parse(alloc: Global, src: &[u8], toks: &[Token]) -> Result<Tree, SynFault>
     requires sized { length src.now ≤ 1048576 }
     requires spelled { Spells src.now toks.now }

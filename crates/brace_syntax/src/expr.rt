@@ -1,9 +1,9 @@
 //! Expressions, a function for each row.
 
 ghost use Rattle.std.specs.Prelude.{◌≡◌, IfOk};
-ghost use Rattle.brace_syntax.specs.Cursor.{Follows};
-ghost use Rattle.brace_syntax.specs.Descent as spec;
-ghost use Rattle.brace_syntax.specs.Nests.{Nests};
+ghost use Rattle.brace_syntax.specs.inner.Cursor.{Follows};
+ghost use Rattle.brace_syntax.specs.inner.Descent as spec;
+ghost use Rattle.brace_syntax.specs.inner.Nests.{Nests};
 ghost use Rattle.brace_syntax.specs.declared.tree.ExprTree.TheVariants as e;
 
 use crate::fault::Stop;
@@ -57,7 +57,7 @@ fn choice(
     Ok(ExprTree::Choice(w, x, y, at))
 }
 
-#[tactic(auto, unfolding(crate::specs::Descent::of_this))]
+#[tactic(auto, unfolding(crate::specs::inner::Descent::of_this))]
 fn of_this(alloc: Global, tokens: &mut Tokens<'_>) -> Result<ExprTree, Stop>
     ensures { Follows (spec.of_this tokens.old) result tokens.new }
 {
@@ -66,7 +66,7 @@ fn of_this(alloc: Global, tokens: &mut Tokens<'_>) -> Result<ExprTree, Stop>
     Ok(ExprTree::OfThis(tokens.name(alloc)?, at))
 }
 
-#[tactic(auto, unfolding(crate::specs::Descent::named))]
+#[tactic(auto, unfolding(crate::specs::inner::Descent::named))]
 fn named(alloc: Global, tokens: &mut Tokens<'_>) -> Result<ExprTree, Stop>
     ensures { Follows (spec.named tokens.old) result tokens.new }
 {
@@ -78,14 +78,14 @@ fn named(alloc: Global, tokens: &mut Tokens<'_>) -> Result<ExprTree, Stop>
     }
 }
 
-#[tactic(auto, unfolding(crate::specs::Descent::literal))]
+#[tactic(auto, unfolding(crate::specs::inner::Descent::literal))]
 fn literal(tokens: &mut Tokens<'_>) -> Result<ExprTree, Stop>
     ensures { Follows (spec.literal tokens.old) result tokens.new }
 {
     Ok(ExprTree::Lit(tokens.number()?))
 }
 
-#[tactic(auto, unfolding(crate::specs::Descent::random))]
+#[tactic(auto, unfolding(crate::specs::inner::Descent::random))]
 fn random(tokens: &mut Tokens<'_>) -> Result<ExprTree, Stop>
     ensures { Follows (spec.random tokens.old) result tokens.new }
 {
@@ -112,7 +112,7 @@ impl<F: Fn(Global, &mut Tokens<'_>, usize, Start) -> Result<ExprTree, Stop>> Exp
         (self.expr)(self.alloc, tokens, self.depth, start)
     }
 
-    #[tactic(auto, unfolding(crate::specs::Descent::one_argument))]
+    #[tactic(auto, unfolding(crate::specs::inner::Descent::one_argument))]
     fn one_argument(&self, tokens: &mut Tokens<'_>, name: UnName) -> Result<ExprTree, Stop>
         requires { Nests self.now.depth (F.pre self.now.expr) (F.post self.now.expr) }
         ensures { Follows (spec.one_argument (spec.expr self.now.depth) name tokens.old) result tokens.new }
@@ -124,7 +124,7 @@ impl<F: Fn(Global, &mut Tokens<'_>, usize, Start) -> Result<ExprTree, Stop>> Exp
         Ok(unary(self.alloc, name, x, at)?)
     }
 
-    #[tactic(auto, unfolding(crate::specs::Descent::two_arguments))]
+    #[tactic(auto, unfolding(crate::specs::inner::Descent::two_arguments))]
     fn two_arguments(&self, tokens: &mut Tokens<'_>, name: BinName) -> Result<ExprTree, Stop>
         requires { Nests self.now.depth (F.pre self.now.expr) (F.post self.now.expr) }
         ensures { Follows (spec.two_arguments (spec.expr self.now.depth) name tokens.old) result tokens.new }
@@ -138,7 +138,7 @@ impl<F: Fn(Global, &mut Tokens<'_>, usize, Start) -> Result<ExprTree, Stop>> Exp
         Ok(binary(self.alloc, name, x, y, at)?)
     }
 
-    #[tactic(auto, unfolding(crate::specs::Descent::enclosed))]
+    #[tactic(auto, unfolding(crate::specs::inner::Descent::enclosed))]
     fn enclosed(&self, tokens: &mut Tokens<'_>) -> Result<ExprTree, Stop>
         requires { Nests self.now.depth (F.pre self.now.expr) (F.post self.now.expr) }
         ensures { Follows (spec.enclosed (spec.expr self.now.depth) tokens.old) result tokens.new }
@@ -149,7 +149,7 @@ impl<F: Fn(Global, &mut Tokens<'_>, usize, Start) -> Result<ExprTree, Stop>> Exp
         Ok(x)
     }
 
-    #[tactic(auto, unfolding(crate::specs::Descent::primary))]
+    #[tactic(auto, unfolding(crate::specs::inner::Descent::primary))]
     fn primary(&self, tokens: &mut Tokens<'_>) -> Result<ExprTree, Stop>
         requires { Nests self.now.depth (F.pre self.now.expr) (F.post self.now.expr) }
         ensures { Follows (spec.primary (spec.expr self.now.depth) tokens.old) result tokens.new }
@@ -171,7 +171,7 @@ impl<F: Fn(Global, &mut Tokens<'_>, usize, Start) -> Result<ExprTree, Stop>> Exp
         }
     }
 
-    #[tactic(auto, unfolding(crate::specs::Descent::prefixed))]
+    #[tactic(auto, unfolding(crate::specs::inner::Descent::prefixed))]
     fn prefixed(&self, tokens: &mut Tokens<'_>) -> Result<ExprTree, Stop>
         requires { Nests self.now.depth (F.pre self.now.expr) (F.post self.now.expr) }
         ensures { Follows (spec.prefixed (spec.expr self.now.depth) tokens.old) result tokens.new }
@@ -184,7 +184,7 @@ impl<F: Fn(Global, &mut Tokens<'_>, usize, Start) -> Result<ExprTree, Stop>> Exp
         Ok(unary(self.alloc, name, x, at)?)
     }
 
-    #[tactic(auto, unfolding(crate::specs::Descent::product, crate::specs::Descent::climb))]
+    #[tactic(auto, unfolding(crate::specs::inner::Descent::product, crate::specs::inner::Descent::climb))]
     fn product(&self, tokens: &mut Tokens<'_>) -> Result<ExprTree, Stop>
         requires { Nests self.now.depth (F.pre self.now.expr) (F.post self.now.expr) }
         ensures { Follows (spec.product (spec.expr self.now.depth) tokens.old) result tokens.new }
@@ -201,7 +201,7 @@ impl<F: Fn(Global, &mut Tokens<'_>, usize, Start) -> Result<ExprTree, Stop>> Exp
         Ok(left)
     }
 
-    #[tactic(auto, unfolding(crate::specs::Descent::total, crate::specs::Descent::climb))]
+    #[tactic(auto, unfolding(crate::specs::inner::Descent::total, crate::specs::inner::Descent::climb))]
     fn total(&self, tokens: &mut Tokens<'_>) -> Result<ExprTree, Stop>
         requires { Nests self.now.depth (F.pre self.now.expr) (F.post self.now.expr) }
         ensures { Follows (spec.total (spec.expr self.now.depth) tokens.old) result tokens.new }
@@ -218,7 +218,7 @@ impl<F: Fn(Global, &mut Tokens<'_>, usize, Start) -> Result<ExprTree, Stop>> Exp
         Ok(left)
     }
 
-    #[tactic(auto, unfolding(crate::specs::Descent::comparison))]
+    #[tactic(auto, unfolding(crate::specs::inner::Descent::comparison))]
     fn comparison(&self, tokens: &mut Tokens<'_>) -> Result<ExprTree, Stop>
         requires { Nests self.now.depth (F.pre self.now.expr) (F.post self.now.expr) }
         ensures { Follows (spec.comparison (spec.expr self.now.depth) tokens.old) result tokens.new }
@@ -232,7 +232,7 @@ impl<F: Fn(Global, &mut Tokens<'_>, usize, Start) -> Result<ExprTree, Stop>> Exp
         Ok(binary(self.alloc, name, left, right, at)?)
     }
 
-    #[tactic(auto, unfolding(crate::specs::Descent::conjunction, crate::specs::Descent::climb))]
+    #[tactic(auto, unfolding(crate::specs::inner::Descent::conjunction, crate::specs::inner::Descent::climb))]
     fn conjunction(&self, tokens: &mut Tokens<'_>) -> Result<ExprTree, Stop>
         requires { Nests self.now.depth (F.pre self.now.expr) (F.post self.now.expr) }
         ensures { Follows (spec.conjunction (spec.expr self.now.depth) tokens.old) result tokens.new }
@@ -249,7 +249,7 @@ impl<F: Fn(Global, &mut Tokens<'_>, usize, Start) -> Result<ExprTree, Stop>> Exp
         Ok(left)
     }
 
-    #[tactic(auto, unfolding(crate::specs::Descent::disjunction, crate::specs::Descent::climb))]
+    #[tactic(auto, unfolding(crate::specs::inner::Descent::disjunction, crate::specs::inner::Descent::climb))]
     fn disjunction(&self, tokens: &mut Tokens<'_>) -> Result<ExprTree, Stop>
         requires { Nests self.now.depth (F.pre self.now.expr) (F.post self.now.expr) }
         ensures { Follows (spec.disjunction (spec.expr self.now.depth) tokens.old) result tokens.new }
@@ -266,7 +266,7 @@ impl<F: Fn(Global, &mut Tokens<'_>, usize, Start) -> Result<ExprTree, Stop>> Exp
         Ok(left)
     }
 
-    #[tactic(auto, unfolding(crate::specs::Descent::choice))]
+    #[tactic(auto, unfolding(crate::specs::inner::Descent::choice))]
     fn choice(&self, tokens: &mut Tokens<'_>) -> Result<ExprTree, Stop>
         requires { Nests self.now.depth (F.pre self.now.expr) (F.post self.now.expr) }
         ensures { Follows (spec.choice (spec.expr self.now.depth) tokens.old) result tokens.new }
@@ -314,7 +314,7 @@ pub fn expr(
 }
 
 /// An expression. Each nested expression has fewer tokens, so their count is deep enough.
-#[tactic(auto, unfolding(crate::specs::Descent::expression))]
+#[tactic(auto, unfolding(crate::specs::inner::Descent::expression))]
 pub fn expression(alloc: Global, tokens: &mut Tokens<'_>) -> Result<ExprTree, Stop>
     ensures { Follows (spec.expression tokens.old) result tokens.new }
 {

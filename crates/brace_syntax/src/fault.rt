@@ -3,8 +3,7 @@ use brace_num::NoMemory;
 /// Why tokens have no tree.
 #[derive(Debug, Clone, Copy, PartialEq, Eq, Drop)]
 pub enum SynFault {
-    /// No script is spelled by the tokens. The offset is that of the token that can't follow those before it,
-    /// or the length of the text where another token is missing.
+    /// The tokens are no script. The offset is that of one of them, or the length of the text.
     NoReading(u32),
     /// At the token at this offset more than 64 brackets are open, or more than 256 operators stand in one statement.
     TooDeep(u32),

@@ -1,5 +1,5 @@
 ghost use Rattle.std.specs.Prelude.{◌≡◌};
-ghost use Rattle.brace_syntax.specs.Cursor as spec;
+ghost use Rattle.brace_syntax.specs.inner.Cursor as spec;
 
 use brace_tok::TokKind;
 
@@ -10,6 +10,7 @@ pub enum Mark {
     Run,
     Extent,
     Else,
+    When,
     OpenBrace,
     CloseBrace,
     OpenParen,
@@ -36,6 +37,7 @@ pub fn mark_of(kind: TokKind) -> Option<Mark>
         TokKind::KwRun => Mark::Run,
         TokKind::KwExtent => Mark::Extent,
         TokKind::KwElse => Mark::Else,
+        TokKind::KwWhen => Mark::When,
         TokKind::OpenBrace => Mark::OpenBrace,
         TokKind::CloseBrace => Mark::CloseBrace,
         TokKind::OpenParen => Mark::OpenParen,
@@ -56,7 +58,7 @@ pub fn mark_of(kind: TokKind) -> Option<Mark>
 }
 
 /// Whether two marks are the same.
-#[tactic(auto, unfolding(crate::specs::Cursor::same_mark))]
+#[tactic(auto, unfolding(crate::specs::inner::Cursor::same_mark))]
 pub fn same_mark(a: Mark, b: Mark) -> bool
     ensures { result ≡ spec.same_mark a b }
 {

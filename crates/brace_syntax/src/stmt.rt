@@ -1,9 +1,9 @@
 //! Statements and blocks.
 
 ghost use Rattle.std.specs.Prelude.{◌≡◌};
-ghost use Rattle.brace_syntax.specs.Cursor.{Follows};
-ghost use Rattle.brace_syntax.specs.Descent as spec;
-ghost use Rattle.brace_syntax.specs.Nests.{NestsBlocks};
+ghost use Rattle.brace_syntax.specs.inner.Cursor.{Follows};
+ghost use Rattle.brace_syntax.specs.inner.Descent as spec;
+ghost use Rattle.brace_syntax.specs.inner.Nests.{NestsBlocks};
 
 use crate::expr::expression;
 use crate::fault::Stop;
@@ -23,8 +23,9 @@ pub struct Heading {
     pub at: u32,
 }
 
-#[tactic(auto, unfolding(crate::specs::Descent::assigned))]
-fn assigned(alloc: Global, tokens: &mut Tokens<'_>) -> Result<ExprTree, Stop>
+/// A value behind an arrow, up to the semicolon.
+#[tactic(auto, unfolding(crate::specs::inner::Descent::assigned))]
+pub fn assigned(alloc: Global, tokens: &mut Tokens<'_>) -> Result<ExprTree, Stop>
     ensures { Follows (spec.assigned tokens.old) result tokens.new }
 {
     tokens.expect(Mark::Arrow)?;
@@ -33,7 +34,7 @@ fn assigned(alloc: Global, tokens: &mut Tokens<'_>) -> Result<ExprTree, Stop>
     Ok(x)
 }
 
-#[tactic(auto, unfolding(crate::specs::Descent::constant))]
+#[tactic(auto, unfolding(crate::specs::inner::Descent::constant))]
 fn constant(alloc: Global, tokens: &mut Tokens<'_>) -> Result<StmtTree, Stop>
     ensures { Follows (spec.constant tokens.old) result tokens.new }
 {
@@ -46,7 +47,7 @@ fn constant(alloc: Global, tokens: &mut Tokens<'_>) -> Result<StmtTree, Stop>
     Ok(StmtTree::Const(t, name, x, at))
 }
 
-#[tactic(auto, unfolding(crate::specs::Descent::assign_this))]
+#[tactic(auto, unfolding(crate::specs::inner::Descent::assign_this))]
 fn assign_this(alloc: Global, tokens: &mut Tokens<'_>) -> Result<StmtTree, Stop>
     ensures { Follows (spec.assign_this tokens.old) result tokens.new }
 {
@@ -57,7 +58,7 @@ fn assign_this(alloc: Global, tokens: &mut Tokens<'_>) -> Result<StmtTree, Stop>
     Ok(StmtTree::AssignThis(name, x, at))
 }
 
-#[tactic(auto, unfolding(crate::specs::Descent::assign))]
+#[tactic(auto, unfolding(crate::specs::inner::Descent::assign))]
 fn assign(alloc: Global, tokens: &mut Tokens<'_>) -> Result<StmtTree, Stop>
     ensures { Follows (spec.assign tokens.old) result tokens.new }
 {
@@ -72,7 +73,7 @@ fn assign(alloc: Global, tokens: &mut Tokens<'_>) -> Result<StmtTree, Stop>
     }
 }
 
-#[tactic(auto, unfolding(crate::specs::Descent::condition))]
+#[tactic(auto, unfolding(crate::specs::inner::Descent::condition))]
 fn condition(alloc: Global, tokens: &mut Tokens<'_>) -> Result<ExprTree, Stop>
     ensures { Follows (spec.condition tokens.old) result tokens.new }
 {
@@ -82,7 +83,7 @@ fn condition(alloc: Global, tokens: &mut Tokens<'_>) -> Result<ExprTree, Stop>
     Ok(x)
 }
 
-#[tactic(auto, unfolding(crate::specs::Descent::ranging))]
+#[tactic(auto, unfolding(crate::specs::inner::Descent::ranging))]
 fn ranging(alloc: Global, tokens: &mut Tokens<'_>) -> Result<Heading, Stop>
     ensures { Follows (spec.ranging tokens.old) result tokens.new }
 {
@@ -121,7 +122,7 @@ impl<F: Fn(Global, &mut Tokens<'_>, usize) -> Result<List<StmtTree>, Stop>> Stmt
         (self.block)(self.alloc, tokens, self.depth)
     }
 
-    #[tactic(auto, unfolding(crate::specs::Descent::when))]
+    #[tactic(auto, unfolding(crate::specs::inner::Descent::when))]
     fn when(&self, tokens: &mut Tokens<'_>) -> Result<StmtTree, Stop>
         requires { NestsBlocks self.now.depth (F.pre self.now.block) (F.post self.now.block) }
         ensures { Follows (spec.when (spec.block_to self.now.depth) tokens.old) result tokens.new }
@@ -137,7 +138,7 @@ impl<F: Fn(Global, &mut Tokens<'_>, usize) -> Result<List<StmtTree>, Stop>> Stmt
         }
     }
 
-    #[tactic(auto, unfolding(crate::specs::Descent::foreach))]
+    #[tactic(auto, unfolding(crate::specs::inner::Descent::foreach))]
     fn foreach(&self, tokens: &mut Tokens<'_>) -> Result<StmtTree, Stop>
         requires { NestsBlocks self.now.depth (F.pre self.now.block) (F.post self.now.block) }
         ensures { Follows (spec.foreach (spec.block_to self.now.depth) tokens.old) result tokens.new }
@@ -153,7 +154,7 @@ impl<F: Fn(Global, &mut Tokens<'_>, usize) -> Result<List<StmtTree>, Stop>> Stmt
         Ok(StmtTree::Foreach(class, variable, other, block, at))
     }
 
-    #[tactic(auto, unfolding(crate::specs::Descent::statement))]
+    #[tactic(auto, unfolding(crate::specs::inner::Descent::statement))]
     fn statement(&self, tokens: &mut Tokens<'_>) -> Result<StmtTree, Stop>
         requires { NestsBlocks self.now.depth (F.pre self.now.block) (F.post self.now.block) }
         ensures { Follows (spec.statement (spec.block_to self.now.depth) tokens.old) result tokens.new }
@@ -167,7 +168,7 @@ impl<F: Fn(Global, &mut Tokens<'_>, usize) -> Result<List<StmtTree>, Stop>> Stmt
         }
     }
 
-    #[tactic(auto, unfolding(crate::specs::Descent::braced, crate::specs::Descent::statements))]
+    #[tactic(auto, unfolding(crate::specs::inner::Descent::braced, crate::specs::inner::Descent::statements))]
     fn braced(&self, tokens: &mut Tokens<'_>) -> Result<List<StmtTree>, Stop>
         requires { NestsBlocks self.now.depth (F.pre self.now.block) (F.post self.now.block) }
         ensures { Follows (spec.braced (spec.block_to self.now.depth) tokens.old) result tokens.new }
@@ -204,7 +205,7 @@ pub fn block_to(
 }
 
 /// Statements in braces. Each nested block has fewer tokens, so their count is deep enough.
-#[tactic(auto, unfolding(crate::specs::Descent::block))]
+#[tactic(auto, unfolding(crate::specs::inner::Descent::block))]
 pub fn block(alloc: Global, tokens: &mut Tokens<'_>) -> Result<List<StmtTree>, Stop>
     ensures { Follows (spec.block tokens.old) result tokens.new }
 {

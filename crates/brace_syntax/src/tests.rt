@@ -15,6 +15,12 @@ const CHOOSES: &str =
 const CHOOSES_TREE: &str =
     "Tree { classes: List { items: [ClassTree { name: Ident { text: Text { string: \"P\" }, at: 6 }, members: List { items: [Visible(Number { digits: Int(3), at: 17 }, 8), State(true, Bool, Ident { text: Text { string: \"b\" }, at: 38 }, None, 20), Run(List { items: [Const(Other(Ident { text: Text { string: \"Q\" }, at: 64 }), Ident { text: Text { string: \"k\" }, at: 66 }, OfThis(Ident { text: Text { string: \"b\" }, at: 73 }, 68), 58), If(Name(Ident { text: Text { string: \"k\" }, at: 78 }), List { items: [Assign(Ident { text: Text { string: \"b\" }, at: 81 }, Unary(Abs, Boxed { inner: Lit(Number { digits: Int(1), at: 88 }) }, 84))] }, Some(List { items: [] }), 75), If(OfLoop(Ident { text: Text { string: \"q\" }, at: 101 }, Ident { text: Text { string: \"b\" }, at: 103 }), List { items: [AssignThis(Ident { text: Text { string: \"b\" }, at: 111 }, Lit(Number { digits: Int(2), at: 114 }), 106)] }, None, 98)] }, 40)] }, at: 0 }, ClassTree { name: Ident { text: Text { string: \"Q\" }, at: 125 }, members: List { items: [] }, at: 119 }] } }";
 
+const ENDS: &str =
+    "class C{die when n>=2;public state int n;spawn when n==0{}}class D{spawn when true{x<-x+5.0;b<-n>1?true:false;}}";
+
+const ENDS_TREE: &str =
+    "Tree { classes: List { items: [ClassTree { name: Ident { text: Text { string: \"C\" }, at: 6 }, members: List { items: [Die(Binary(Ge, Boxed { inner: Name(Ident { text: Text { string: \"n\" }, at: 17 }) }, Boxed { inner: Lit(Number { digits: Int(2), at: 20 }) }, 18), 8), State(true, Int, Ident { text: Text { string: \"n\" }, at: 39 }, None, 22), Spawn(Binary(Eq, Boxed { inner: Name(Ident { text: Text { string: \"n\" }, at: 52 }) }, Boxed { inner: Lit(Number { digits: Int(0), at: 55 }) }, 53), List { items: [] }, 41)] }, at: 0 }, ClassTree { name: Ident { text: Text { string: \"D\" }, at: 65 }, members: List { items: [Spawn(True(78), List { items: [GiftTree { state: Ident { text: Text { string: \"x\" }, at: 83 }, value: Binary(Add, Boxed { inner: Name(Ident { text: Text { string: \"x\" }, at: 86 }) }, Boxed { inner: Lit(Number { digits: Fixed(5000000), at: 88 }) }, 87) }, GiftTree { state: Ident { text: Text { string: \"b\" }, at: 92 }, value: Choice(Boxed { inner: Binary(Gt, Boxed { inner: Name(Ident { text: Text { string: \"n\" }, at: 95 }) }, Boxed { inner: Lit(Number { digits: Int(1), at: 97 }) }, 96) }, Boxed { inner: True(99) }, Boxed { inner: False(104) }, 98) }] }, 67)] }, at: 59 }] } }";
+
 #[derive(Drop)]
 enum Found {
     Script(Tree),
@@ -77,7 +83,11 @@ fn repeated(alloc: Global, front: &str, times: u32, back: &str) -> Result<String
 
 #[test]
 fn reads_scripts(rt: HostRuntime) -> Result<(), AllocError> {
-    for (text, want) in [(SENDS, SENDS_TREE), (CHOOSES, CHOOSES_TREE)] {
+    for (text, want) in [
+        (SENDS, SENDS_TREE),
+        (CHOOSES, CHOOSES_TREE),
+        (ENDS, ENDS_TREE),
+    ] {
         match read(rt.alloc(), text) {
             Found::Script(tree) => {
                 assert_eq!(rt; format!(in rt.alloc(); "{tree:?}")?.as_str(), want);
@@ -134,6 +144,16 @@ fn refuses_what_is_no_script(rt: HostRuntime) {
         ("class count{}", 6),
         ("class C{public state int n:-;}", 28),
         ("class C{public void run(){if(x<2)this.x<-1;}}", 33),
+        ("class C{die when true}", 21),
+        ("class C{die when true", 21),
+        ("class C{die n>1;}", 12),
+        ("class C{public die when true;}", 15),
+        ("class C{spawn n==0{}}", 14),
+        ("class C{spawn when true;}", 23),
+        ("class C{spawn when true{q.n<-1;}}", 25),
+        ("class C{spawn when true{n<-1}}", 28),
+        ("class C{spawn when true{n<-1;}", 30),
+        ("class spawn{}", 6),
     ] {
         assert_eq!(rt;
             fault_of(rt.alloc(), text),
@@ -161,6 +181,47 @@ fn nests_to_its_limits(rt: HostRuntime) -> Result<(), AllocError> {
             fault_of(rt.alloc(), beyond.as_str()),
             Some(SynFault::TooDeep(deep)),
             "{front}{back}"
+        );
+    }
+    Ok(())
+}
+
+// A class whose children get a number at the end of such fronts, in a gift that a full count of operators stands around.
+fn given(alloc: Global, front: &str, times: u32, back: &str) -> Result<String, AllocError> {
+    let mut text = String::new(alloc);
+    text.push_str("class C{spawn when ")?;
+    for _ in 0..256 {
+        text.push_str("!")?;
+    }
+    text.push_str("true{n<-")?;
+    for _ in 0..times {
+        text.push_str(front)?;
+    }
+    text.push_str("1")?;
+    for _ in 0..times {
+        text.push_str(back)?;
+    }
+    text.push_str(";m<-")?;
+    for _ in 0..256 {
+        text.push_str("-")?;
+    }
+    text.push_str("1;}die when true;}")?;
+    Ok(text)
+}
+
+#[test]
+fn nests_gifts_to_the_limits(rt: HostRuntime) -> Result<(), AllocError> {
+    for (front, back, most, deep) in [("(", ")", 62, 345), ("-", "", 256, 539)] {
+        let within = given(rt.alloc(), front, most, back)?;
+        assert!(rt;
+            matches!(read(rt.alloc(), within.as_str()), Found::Script(_)),
+            "{front}"
+        );
+        let beyond = given(rt.alloc(), front, most + 1, back)?;
+        assert_eq!(rt;
+            fault_of(rt.alloc(), beyond.as_str()),
+            Some(SynFault::TooDeep(deep)),
+            "{front}"
         );
     }
     Ok(())

@@ -1,8 +1,8 @@
 //! A cursor over the tokens of a source.
 
 ghost use Rattle.std.specs.Prelude.{◌≡◌, length, IfOk, IfSome};
-ghost use Rattle.brace_syntax.specs.Cursor as spec;
-ghost use Rattle.brace_syntax.specs.Cursor.{Follows};
+ghost use Rattle.brace_syntax.specs.inner.Cursor as spec;
+ghost use Rattle.brace_syntax.specs.inner.Cursor.{Follows};
 ghost use Rattle.brace_syntax.specs.Tables as tables;
 
 use crate::fault::Stop;
@@ -20,7 +20,7 @@ pub struct Tokens<'a> {
 }
 
 impl<'a> Model for Tokens<'a> {
-    ghost use Rattle.brace_syntax.specs.Cursor.{Input, AreSpelled};
+    ghost use Rattle.brace_syntax.specs.inner.Cursor.{Input, AreSpelled};
 
     ghost Value = { Input };
 
@@ -45,7 +45,7 @@ impl<'a> Tokens<'a> {
         self.rest.len()
     }
 
-    #[tactic(auto, unfolding(crate::specs::Cursor::first))]
+    #[tactic(auto, unfolding(crate::specs::inner::Cursor::first))]
     fn first(&self) -> Option<Token>
         ensures value { result ≡ spec.first self.now }
         ensures spelled { IfSome result (spec.IsSpelled self.now.src) }
@@ -54,7 +54,7 @@ impl<'a> Tokens<'a> {
     }
 
     /// The offset of the next token, or the length of the source.
-    #[tactic(auto, unfolding(crate::specs::Cursor::place))]
+    #[tactic(auto, unfolding(crate::specs::inner::Cursor::place))]
     pub fn place(&self) -> u32
         ensures { result ≡ spec.place self.now }
     {
@@ -64,7 +64,7 @@ impl<'a> Tokens<'a> {
         }
     }
 
-    #[tactic(auto, unfolding(crate::specs::Cursor::kind))]
+    #[tactic(auto, unfolding(crate::specs::inner::Cursor::kind))]
     pub fn peek(&self) -> Option<TokKind>
         ensures { result ≡ spec.kind self.now }
     {
@@ -74,7 +74,7 @@ impl<'a> Tokens<'a> {
         }
     }
 
-    #[tactic(auto, unfolding(crate::specs::Cursor::refusal))]
+    #[tactic(auto, unfolding(crate::specs::inner::Cursor::refusal))]
     pub fn refuse(&self) -> Stop
         ensures { result ≡ spec.refusal self.now }
     {
@@ -82,7 +82,7 @@ impl<'a> Tokens<'a> {
     }
 
     /// Passes the next token, if there is one. Gives its place.
-    #[tactic(auto, unfolding(crate::specs::Cursor::next))]
+    #[tactic(auto, unfolding(crate::specs::inner::Cursor::next))]
     pub fn pass(&mut self) -> u32
         ensures at { result ≡ spec.place self.old }
         ensures next { self.new ≡ spec.next self.old }
@@ -94,7 +94,7 @@ impl<'a> Tokens<'a> {
         at
     }
 
-    #[tactic(auto, unfolding(crate::specs::Cursor::sees))]
+    #[tactic(auto, unfolding(crate::specs::inner::Cursor::sees))]
     pub fn sees(&self, wanted: Mark) -> bool
         ensures { result ≡ spec.sees wanted self.now }
     {
@@ -108,7 +108,7 @@ impl<'a> Tokens<'a> {
     }
 
     /// Passes this mark, if it comes next.
-    #[tactic(auto, unfolding(crate::specs::Cursor::after))]
+    #[tactic(auto, unfolding(crate::specs::inner::Cursor::after))]
     pub fn eat(&mut self, wanted: Mark) -> bool
         ensures found { result ≡ spec.sees wanted self.old }
         ensures after { self.new ≡ spec.after wanted self.old }
@@ -121,7 +121,7 @@ impl<'a> Tokens<'a> {
     }
 
     /// Passes this mark, which has to come next. Gives its place.
-    #[tactic(auto, unfolding(crate::specs::Cursor::expect))]
+    #[tactic(auto, unfolding(crate::specs::inner::Cursor::expect))]
     pub fn expect(&mut self, wanted: Mark) -> Result<u32, Stop>
         ensures { Follows (spec.expect wanted self.old) result self.new }
     {
@@ -132,7 +132,7 @@ impl<'a> Tokens<'a> {
         }
     }
 
-    #[tactic(auto, unfolding(crate::specs::Cursor::name))]
+    #[tactic(auto, unfolding(crate::specs::inner::Cursor::name))]
     pub fn name(&mut self, alloc: Global) -> Result<Ident, Stop>
         ensures { Follows (spec.name self.old) result self.new }
     {
@@ -147,7 +147,7 @@ impl<'a> Tokens<'a> {
         Ok(name)
     }
 
-    #[tactic(auto, unfolding(crate::specs::Cursor::number))]
+    #[tactic(auto, unfolding(crate::specs::inner::Cursor::number))]
     pub fn number(&mut self) -> Result<Number, Stop>
         ensures { Follows (spec.number self.old) result self.new }
     {
@@ -166,7 +166,7 @@ impl<'a> Tokens<'a> {
         })
     }
 
-    #[tactic(auto, unfolding(crate::specs::Cursor::type_name))]
+    #[tactic(auto, unfolding(crate::specs::inner::Cursor::type_name))]
     pub fn type_name(&mut self, alloc: Global) -> Result<TyName, Stop>
         ensures { Follows (spec.type_name self.old) result self.new }
     {
@@ -184,7 +184,7 @@ impl<'a> Tokens<'a> {
         Ok(name)
     }
 
-    #[tactic(auto, unfolding(crate::specs::Cursor::combinator))]
+    #[tactic(auto, unfolding(crate::specs::inner::Cursor::combinator))]
     pub fn combinator(&mut self) -> Result<CombName, Stop>
         ensures { Follows (spec.combinator self.old) result self.new }
     {

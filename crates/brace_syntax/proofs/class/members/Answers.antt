@@ -1,6 +1,6 @@
 use Rattle.std.proofs.Common.{rules, arith}
 use Rattle.std.proofs.lemmas.Grind.{common_steps}
-use Rattle.brace_syntax.specs.Descent.{members_from}
+use Rattle.brace_syntax.specs.inner.Descent.{members_from}
 use Rattle.brace_syntax.proofs.Turns.{one_more}
 use Rattle.brace_syntax.proofs.class.members.Goals as goal
 

@@ -1,5 +1,5 @@
 use Rattle.std.proofs.Common.{◌≡◌, ◌-◌}
-use Rattle.brace_syntax.specs.Descent.{members, members_from}
+use Rattle.brace_syntax.specs.inner.Descent.{members, members_from}
 use Rattle.brace_syntax.proofs.class.members.Given as goal
 
 abbrev pub invariant-loop-turn : goal.invariant-loop-turn

@@ -1,7 +1,7 @@
 use Rattle.std.proofs.Common.{rules, arith}
 use Rattle.std.proofs.lemmas.Grind.{common_steps}
-use Rattle.brace_syntax.specs.Cursor.{and_then, pure}
-use Rattle.brace_syntax.specs.Descent.{classes_from}
+use Rattle.brace_syntax.specs.inner.Cursor.{and_then, pure}
+use Rattle.brace_syntax.specs.inner.Descent.{classes_from}
 use Rattle.brace_syntax.proofs.Turns.{one_more}
 use Rattle.brace_syntax.proofs.class.script.Goals as goal
 

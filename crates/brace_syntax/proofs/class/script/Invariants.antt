@@ -1,6 +1,6 @@
 use Rattle.std.proofs.Common.{◌≡◌, ◌-◌}
-use Rattle.brace_syntax.specs.Cursor.{and_then, pure}
-use Rattle.brace_syntax.specs.Descent.{script, classes_from}
+use Rattle.brace_syntax.specs.inner.Cursor.{and_then, pure}
+use Rattle.brace_syntax.specs.inner.Descent.{script, classes_from}
 use Rattle.brace_syntax.proofs.class.script.Given as goal
 
 abbrev pub invariant-loop-turn : goal.invariant-loop-turn

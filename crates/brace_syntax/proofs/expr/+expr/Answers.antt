@@ -1,6 +1,6 @@
 use Rattle.std.proofs.Common.{◌≡◌, ap, arith, rules}
 use Rattle.std.proofs.lemmas.Grind.{common_steps}
-use Rattle.brace_syntax.specs.Descent.{expr}
+use Rattle.brace_syntax.specs.inner.Descent.{expr}
 use Rattle.brace_syntax.proofs.Turns.{deeper}
 use Rattle.brace_syntax.proofs.expr.+expr.Goals as goal
 

@@ -1,6 +1,6 @@
 use Rattle.std.proofs.Common.{◌≡◌, ap, arith, rules}
 use Rattle.std.proofs.lemmas.Grind.{common_steps}
-use Rattle.brace_syntax.specs.Descent.{block_to}
+use Rattle.brace_syntax.specs.inner.Descent.{block_to}
 use Rattle.brace_syntax.proofs.Turns.{deeper}
 use Rattle.brace_syntax.proofs.stmt.+block_to.Goals as goal
 

@@ -1,7 +1,7 @@
 use Rattle.std.proofs.Common.{rules, arith}
 use Rattle.std.proofs.lemmas.Grind.{common_steps}
 use Rattle.brace_syntax.specs.Tables.{both}
-use Rattle.brace_syntax.specs.Descent.{expr, climb, comparison}
+use Rattle.brace_syntax.specs.inner.Descent.{expr, climb, comparison}
 use Rattle.brace_syntax.proofs.Turns.{one_more}
 use Rattle.brace_syntax.proofs.expr.Exprs.conjunction.Goals as goal
 

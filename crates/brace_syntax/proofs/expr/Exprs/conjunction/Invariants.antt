@@ -1,6 +1,6 @@
 use Rattle.std.proofs.Common.{◌≡◌, ◌-◌}
 use Rattle.brace_syntax.specs.Tables.{both}
-use Rattle.brace_syntax.specs.Descent.{expr, climb, conjunction, comparison}
+use Rattle.brace_syntax.specs.inner.Descent.{expr, climb, conjunction, comparison}
 use Rattle.brace_syntax.proofs.expr.Exprs.conjunction.Given as goal
 
 abbrev pub invariant-loop-turn : goal.invariant-loop-turn

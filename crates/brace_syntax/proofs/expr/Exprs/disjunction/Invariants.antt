@@ -1,6 +1,6 @@
 use Rattle.std.proofs.Common.{◌≡◌, ◌-◌}
 use Rattle.brace_syntax.specs.Tables.{either}
-use Rattle.brace_syntax.specs.Descent.{expr, climb, disjunction, conjunction}
+use Rattle.brace_syntax.specs.inner.Descent.{expr, climb, disjunction, conjunction}
 use Rattle.brace_syntax.proofs.expr.Exprs.disjunction.Given as goal
 
 abbrev pub invariant-loop-turn : goal.invariant-loop-turn

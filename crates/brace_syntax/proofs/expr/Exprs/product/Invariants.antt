@@ -1,6 +1,6 @@
 use Rattle.std.proofs.Common.{◌≡◌, ◌-◌}
 use Rattle.brace_syntax.specs.Tables.{multiplies}
-use Rattle.brace_syntax.specs.Descent.{expr, climb, product, prefixed}
+use Rattle.brace_syntax.specs.inner.Descent.{expr, climb, product, prefixed}
 use Rattle.brace_syntax.proofs.expr.Exprs.product.Given as goal
 
 abbrev pub invariant-loop-turn : goal.invariant-loop-turn

@@ -1,6 +1,6 @@
 use Rattle.std.proofs.Common.{◌≡◌, ◌-◌}
 use Rattle.brace_syntax.specs.Tables.{adds}
-use Rattle.brace_syntax.specs.Descent.{expr, climb, total, product}
+use Rattle.brace_syntax.specs.inner.Descent.{expr, climb, total, product}
 use Rattle.brace_syntax.proofs.expr.Exprs.total.Given as goal
 
 abbrev pub invariant-loop-turn : goal.invariant-loop-turn

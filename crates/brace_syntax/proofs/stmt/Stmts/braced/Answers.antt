@@ -1,6 +1,6 @@
 use Rattle.std.proofs.Common.{rules, arith}
 use Rattle.std.proofs.lemmas.Grind.{common_steps}
-use Rattle.brace_syntax.specs.Descent.{block_to, statements}
+use Rattle.brace_syntax.specs.inner.Descent.{block_to, statements}
 use Rattle.brace_syntax.proofs.Turns.{one_more}
 use Rattle.brace_syntax.proofs.stmt.Stmts.braced.Goals as goal
 

@@ -1,5 +1,5 @@
 use Rattle.std.proofs.Common.{◌≡◌, ◌-◌}
-use Rattle.brace_syntax.specs.Descent.{block_to, braced, statements}
+use Rattle.brace_syntax.specs.inner.Descent.{block_to, braced, statements}
 use Rattle.brace_syntax.proofs.stmt.Stmts.braced.Given as goal
 
 abbrev pub invariant-loop-turn : goal.invariant-loop-turn

@@ -3,7 +3,7 @@ use Rattle.std.specs.Prelude.{ℕ, zero, suc, List, [], ◌∷◌, ◌++◌, len
 use Rattle.brace_tok.specs.declared.kinds.TokKind.{TokKind}
 use Rattle.brace_tok.specs.declared.kinds.TokKind.TheVariants as k
 use Rattle.brace_syntax.specs.Tables.{either, both, compares, adds, multiplies, prefixes}
-use Rattle.brace_syntax.specs.Cursor.{Input, kind, Parser, ◌>>=◌, ◌>>◌, pure, refuse, peek, pass, eat, sees, expect, name, number, type_name, combinator}
+use Rattle.brace_syntax.specs.inner.Cursor.{Input, kind, Parser, ◌>>=◌, ◌>>◌, pure, refuse, peek, pass, eat, sees, expect, name, number, type_name, combinator}
 use Rattle.brace_syntax.specs.declared.tree.Number.{Number}
 use Rattle.brace_syntax.specs.declared.tree.UnName.{UnName}
 use Rattle.brace_syntax.specs.declared.tree.BinName.{BinName}
@@ -13,6 +13,7 @@ use Rattle.brace_syntax.specs.declared.tree.UnName.TheVariants as un
 use Rattle.brace_syntax.specs.declared.tree.BinName.TheVariants as bin
 use Rattle.brace_syntax.specs.declared.tree.StmtTree.{StmtTree}
 use Rattle.brace_syntax.specs.declared.tree.StmtTree.TheVariants as s
+use Rattle.brace_syntax.specs.declared.tree.GiftTree.{GiftTree}
 use Rattle.brace_syntax.specs.declared.tree.MemberTree.{MemberTree}
 use Rattle.brace_syntax.specs.declared.tree.MemberTree.TheVariants as m
 use Rattle.brace_syntax.specs.declared.tree.ClassTree.{ClassTree}
@@ -342,11 +343,46 @@ private = do
   at ← pass
   field false at
 
+unfoldable pub die : Parser MemberTree
+die = do
+  at ← pass
+  expect mark.When
+  x ← expression
+  expect mark.Semicolon
+  pure (m.Die x at)
+
+unfoldable pub gift : Parser GiftTree
+gift = do
+  state ← name
+  value ← assigned
+  pure (record { state = state; value = value })
+
+-- up to the closing brace. The number bounds the turns.
+unfoldable pub gifts_from : ℕ → List GiftTree → Parser (List GiftTree)
+gifts_from zero found = refuse
+gifts_from (suc n) found = do
+  is_end ← eat mark.CloseBrace
+  if is_end then pure found else (do x ← gift; gifts_from n (found ++ x ∷ []))
+
+unfoldable pub gifts : Parser (List GiftTree)
+gifts = λ i. gifts_from (turns i) [] i
+
+unfoldable pub spawn : Parser MemberTree
+spawn = do
+  at ← pass
+  expect mark.When
+  x ← expression
+  expect mark.OpenBrace
+  given ← gifts
+  pure (m.Spawn x given at)
+
 abbrev pub member_by : Option TokKind → Parser MemberTree
 member_by (Some k.Visible) = visible
 member_by (Some k.Reach) = reach
 member_by (Some k.KwPublic) = public
 member_by (Some k.KwPrivate) = private
+member_by (Some k.KwDie) = die
+member_by (Some k.KwSpawn) = spawn
 member_by _ = refuse
 
 unfoldable pub member : Parser MemberTree

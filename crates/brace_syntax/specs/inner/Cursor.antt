@@ -35,6 +35,7 @@ mark_of k.KwClass = Some m.Class
 mark_of k.KwRun = Some m.Run
 mark_of k.KwExtent = Some m.Extent
 mark_of k.KwElse = Some m.Else
+mark_of k.KwWhen = Some m.When
 mark_of k.OpenBrace = Some m.OpenBrace
 mark_of k.CloseBrace = Some m.CloseBrace
 mark_of k.OpenParen = Some m.OpenParen

@@ -5,9 +5,9 @@ use denote.Ref.{MutBor}
 use Rattle.brace_syntax.specs.declared.tree.ExprTree.{ExprTree}
 use Rattle.brace_syntax.specs.declared.fault.Stop.{Stop}
 use Rattle.brace_syntax.specs.declared.expr.Start.{Start}
-use Rattle.brace_syntax.specs.Cursor.{Input, Follows}
+use Rattle.brace_syntax.specs.inner.Cursor.{Input, Follows}
 use Rattle.brace_syntax.specs.declared.tree.StmtTree.{StmtTree}
-use Rattle.brace_syntax.specs.Descent.{expr, block_to}
+use Rattle.brace_syntax.specs.inner.Descent.{expr, block_to}
 
 pub record Nests (depth : ℕ) (pre : Global → MutBor Input → ℕ → Start → Type 0)
     (post : Global → MutBor Input → ℕ → Start → Result ExprTree Stop → MutBor Input → Type 0) : Type 0 where

@@ -1,0 +1,91 @@
+-- The faults of a script's names, which of them is answered, and what its names stand for.
+use Rattle.std.specs.Prelude.{◌≡◌, ℕ, nat_lt, nat_le, Bool, false, ◌==◌, ◌&&◌, ◌||◌, List, [], ◌∷◌, ◌++◌, flat_map, Option, Some, None, slice_get, Contains, ⊤}
+use Rattle.brace_syntax.specs.declared.tree.Tree.{Tree}
+use Rattle.brace_names.specs.declared.fault.NameFault.{NameFault}
+use Rattle.brace_names.specs.declared.fault.NameFault.TheVariants as fault
+use Rattle.brace_names.specs.declared.fault.Which.{Which}
+use Rattle.brace_names.specs.declared.fault.Which.TheVariants as which
+use Rattle.brace_names.specs.declared.resolved.Binding.{Binding}
+use Rattle.brace_names.specs.declared.finding.Finding.{Finding}
+use Rattle.brace_names.specs.declared.finding.Finding.TheVariants as finding
+use Rattle.brace_names.specs.Found.{found}
+
+abbrev pub fault_of : Finding → List NameFault
+fault_of (finding.Fault f) = f ∷ []
+fault_of (finding.Names b) = []
+fault_of (finding.Site at) = []
+fault_of (finding.Assignment at) = []
+
+abbrev pub binding_of : Finding → List Binding
+binding_of (finding.Fault f) = []
+binding_of (finding.Names b) = b ∷ []
+binding_of (finding.Site at) = []
+binding_of (finding.Assignment at) = []
+
+abbrev pub site_of : Finding → List ℕ
+site_of (finding.Fault f) = []
+site_of (finding.Names b) = []
+site_of (finding.Site at) = at ∷ []
+site_of (finding.Assignment at) = []
+
+abbrev pub assignment_of : Finding → List ℕ
+assignment_of (finding.Fault f) = []
+assignment_of (finding.Names b) = []
+assignment_of (finding.Site at) = []
+assignment_of (finding.Assignment at) = at ∷ []
+
+-- the fault of the first place past a limit
+abbrev pub too_many : Which → Option ℕ → List NameFault
+too_many which None = []
+too_many which (Some at) = fault.TooMany which at ∷ []
+
+-- the faults among what is found; at most 4096 sites and 4096 assignments are allowed
+abbrev pub faults_among : List Finding → List NameFault
+faults_among all =
+    flat_map fault_of all
+    ++ too_many which.Sites (slice_get (flat_map site_of all) 4096)
+    ++ too_many which.Assignments (slice_get (flat_map assignment_of all) 4096)
+
+-- the faults of a script, of all passes
+abbrev pub faults : Tree → List NameFault
+faults tree = faults_among (found tree)
+
+-- what the names of a script stand for
+abbrev pub bindings : Tree → List Binding
+bindings tree = flat_map binding_of (found tree)
+
+-- the pass that has a fault
+abbrev pub pass : NameFault → ℕ
+pass (fault.DuplicateClass at) = 1
+pass (fault.DuplicateName at) = 2
+pass (fault.UnknownClass at) = 3
+pass (fault.UnknownName at) = 4
+pass (fault.UnknownType at) = 5
+pass (fault.NoPosition at) = 6
+pass (fault.TooMany which at) = 7
+pass fault.NoMemory = 8
+
+-- the place of a fault
+abbrev pub place : NameFault → ℕ
+place (fault.DuplicateClass at) = at
+place (fault.DuplicateName at) = at
+place (fault.UnknownClass at) = at
+place (fault.UnknownName at) = at
+place (fault.UnknownType at) = at
+place (fault.NoPosition at) = at
+place (fault.TooMany which at) = at
+place fault.NoMemory = 0
+
+-- an earlier pass decides, then the place
+abbrev pub is_before : NameFault → NameFault → Bool
+is_before f g = nat_lt (pass f) (pass g) || (pass f == pass g && nat_lt (place f) (place g))
+
+-- the fault is one of these, and none of them is before it
+pub record IsFirst (f : NameFault) (all : List NameFault) : Type 0 where
+  pub among : Contains all f
+  pub first : (g : NameFault) → Contains all g → is_before g f ≡ false
+
+-- what a fault says of a script
+abbrev pub Refuses : Tree → NameFault → Type 0
+Refuses tree fault.NoMemory = ⊤
+Refuses tree f = IsFirst f (faults tree)

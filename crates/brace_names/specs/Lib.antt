@@ -1,0 +1,6 @@
+pub mod Tables
+pub mod Classes
+pub mod Scopes
+pub mod Findings
+pub mod Found
+pub mod Faults

@@ -1,0 +1,179 @@
+ghost use Rattle.std.specs.Prelude.{◌≡◌, ◌++◌, map, flat_map, filter, OnOk, IfOk};
+ghost use Rattle.brace_names.specs.Tables.{repeated};
+ghost use Rattle.brace_names.specs.Findings.{faults_at};
+ghost use Rattle.brace_names.specs.Found.{rule, gift, states_given, gifts_found, member, members, too_many, declarations, class_names, found};
+ghost use Rattle.brace_names.specs.declared.fault.NameFault.TheVariants as fault;
+
+use crate::declared::{Classes, Field, field_table, fields, has_position, title};
+use crate::expr::expression;
+use crate::fault::{NameFault, Which};
+use crate::finding::Finding;
+use crate::names::Names;
+use crate::place::{assign, fault, site, type_name};
+use crate::scope::Scope;
+use crate::stmt::block;
+use crate::word::{Word, repeats};
+use brace_num::{List, NoMemory};
+use brace_syntax::{ClassTree, ExprTree, GiftTree, MemberTree, Tree};
+use std::alloc::Global;
+
+// Each word that an earlier one equals is a fault.
+fn duplicates(alloc: Global, out: &mut Vec<Finding>, words: &[Word]) -> Result<(), NoMemory>
+    ensures { OnOk result (out.new.items ≡ out.old.items ++ faults_at fault.DuplicateName (repeated words.now)) }
+{
+    for at in &repeats(alloc, words)? {
+        fault(out, NameFault::DuplicateName(*at))?;
+    }
+    Ok(())
+}
+
+fn rule(out: &mut Vec<Finding>, scope: &Scope, x: &Option<ExprTree>) -> Result<(), NoMemory>
+    ensures { OnOk result (out.new.items ≡ out.old.items ++ rule x.now scope.now) }
+{
+    match x {
+        Some(x) => expression(out, scope, x),
+        None => Ok(()),
+    }
+}
+
+// The states that are given, as they are written.
+fn states_given<'a>(
+    alloc: Global,
+    scope: &Scope,
+    gifts: &'a [GiftTree],
+) -> Result<Vec<Word<'a>>, NoMemory>
+    ensures { IfOk result (λ names. names.items ≡ states_given scope.now gifts.now) }
+{
+    let mut names = Vec::new(alloc);
+    for gift in gifts {
+        if let Some(Field::State(_)) = scope.field(gift.state.text.as_bytes()) {
+            names.push(Word::of(&gift.state))?;
+        }
+    }
+    Ok(names)
+}
+
+// The gifts of a `spawn` at an offset, and the site that it is.
+fn gifts(
+    alloc: Global,
+    out: &mut Vec<Finding>,
+    scope: &Scope,
+    gifts: &List<GiftTree>,
+    at: u32,
+) -> Result<(), NoMemory>
+    ensures { OnOk result (out.new.items ≡ out.old.items ++ gifts_found scope.now gifts.now at) }
+{
+    for gift in gifts.as_slice() {
+        assign(out, scope, gift.state.at, &gift.state)?;
+        expression(out, scope, &gift.value)?;
+    }
+    let given = states_given(alloc, scope, gifts.as_slice())?;
+    duplicates(alloc, out, given.as_slice())?;
+    site(out, at)
+}
+
+fn member<'a>(
+    alloc: Global,
+    out: &mut Vec<Finding>,
+    known: &Classes<'a>,
+    own: &Names<'a, Field>,
+    one: &'a MemberTree,
+) -> Result<(), NoMemory>
+    ensures { OnOk result (out.new.items ≡ out.old.items ++ member known.now own.now one.now) }
+{
+    match one {
+        MemberTree::Visible(_, _) | MemberTree::Reach(_, _) => Ok(()),
+        MemberTree::State(_, ty, _, x, _) => {
+            type_name(out, ty)?;
+            rule(out, &Scope::outermost(alloc, known, own, false), x)
+        }
+        MemberTree::Effect(_, ty, _, _, _) => type_name(out, ty),
+        MemberTree::Run(statements, _) => {
+            let mut scope = Scope::outermost(alloc, known, own, true);
+            block(out, &mut scope, statements)
+        }
+        MemberTree::Die(condition, _) => {
+            expression(out, &Scope::outermost(alloc, known, own, false), condition)
+        }
+        MemberTree::Spawn(condition, given, at) => {
+            let scope = Scope::outermost(alloc, known, own, false);
+            expression(out, &scope, condition)?;
+            gifts(alloc, out, &scope, given, *at)
+        }
+    }
+}
+
+// The members of a class.
+fn members<'a>(
+    alloc: Global,
+    out: &mut Vec<Finding>,
+    known: &Classes<'a>,
+    class: &'a ClassTree,
+) -> Result<(), NoMemory>
+    ensures { OnOk result (out.new.items ≡ out.old.items ++ members known.now class.now) }
+{
+    let own = field_table(alloc, class)?;
+    for one in class.members.as_slice() {
+        member(alloc, out, known, &own, one)?;
+    }
+    Ok(())
+}
+
+// What stands first past a limit.
+fn too_many(out: &mut Vec<Finding>, which: Which, at: Option<u32>) -> Result<(), NoMemory>
+    ensures { OnOk result (out.new.items ≡ out.old.items ++ too_many which at) }
+{
+    match at {
+        Some(at) => fault(out, NameFault::TooMany(which, at)),
+        None => Ok(()),
+    }
+}
+
+// What a class declares.
+fn declarations(alloc: Global, out: &mut Vec<Finding>, class: &ClassTree) -> Result<(), NoMemory>
+    ensures { OnOk result (out.new.items ≡ out.old.items ++ declarations class.now) }
+{
+    let mut titles = Vec::new(alloc);
+    for member in class.members.as_slice() {
+        titles.push(title(member))?;
+    }
+    duplicates(alloc, out, titles.as_slice())?;
+    let fields = fields(alloc, class)?;
+    let past = fields.get(64).map(|field| field.name.at());
+    too_many(out, Which::Fields, past)?;
+    if !has_position(class) {
+        fault(out, NameFault::NoPosition(class.name.at))?;
+    }
+    Ok(())
+}
+
+// The names of the classes.
+fn class_names(alloc: Global, out: &mut Vec<Finding>, classes: &[ClassTree]) -> Result<(), NoMemory>
+    ensures { OnOk result (out.new.items ≡ out.old.items ++ class_names (map (λ class. class.name) classes.now)) }
+{
+    let mut names = Vec::new(alloc);
+    for class in classes {
+        names.push(Word::of(&class.name))?;
+    }
+    for at in &repeats(alloc, names.as_slice())? {
+        fault(out, NameFault::DuplicateClass(*at))?;
+    }
+    too_many(out, Which::Classes, names.get(16).map(|name| name.at()))
+}
+
+/// What is found in a script.
+pub fn found(alloc: Global, tree: &Tree) -> Result<Vec<Finding>, NoMemory>
+    ensures { IfOk result (λ all. all.items ≡ found tree.now) }
+{
+    let classes = tree.classes.as_slice();
+    let known = Classes::of(alloc, classes)?;
+    let mut out = Vec::new(alloc);
+    class_names(alloc, &mut out, classes)?;
+    for class in classes {
+        declarations(alloc, &mut out, class)?;
+    }
+    for class in classes {
+        members(alloc, &mut out, &known, class)?;
+    }
+    Ok(out)
+}

@@ -1,0 +1,168 @@
+ghost use Rattle.std.specs.Prelude.{◌≡◌, ◌+◌, IfOk, slice_get, option_and_then};
+ghost use Rattle.brace_names.specs.Tables.{look, table};
+ghost use Rattle.brace_names.specs.Classes.{title, is_sum, fields, numbered_from, known, is_coordinate, has_position, Known};
+
+use crate::names::Names;
+use crate::word::Word;
+use brace_num::NoMemory;
+use brace_syntax::{ClassTree, CombName, MemberTree, TyName};
+use std::alloc::Global;
+use std::marker::Model;
+
+/// A state or an effect, by its number among the states or the effects of its class; of an effect, whether what is assigned
+/// to it is added up.
+#[derive(Debug, Clone, Copy, PartialEq, Eq, Drop)]
+pub enum Field {
+    State(u32),
+    Effect(u32, bool),
+}
+
+/// A field as it is declared.
+#[derive(Drop)]
+pub struct Declared<'a> {
+    pub name: Word<'a>,
+    pub field: Field,
+}
+
+impl<'a> Model for Declared<'a> {
+    ghost use Rattle.brace_syntax.specs.declared.tree.Ident.{Ident};
+    ghost use Rattle.brace_names.specs.declared.declared.Field.{Field};
+
+    ghost Value = { Ident × Field };
+
+    ghost view = { λ one. (one.name, one.field) };
+}
+
+/// What the classes of a script declare.
+#[derive(Drop)]
+pub struct Classes<'a> {
+    numbers: Names<'a, u32>,
+    fields: Vec<Names<'a, Field>>,
+}
+
+impl<'a> Model for Classes<'a> {
+    ghost use Rattle.brace_names.specs.Classes.{Known};
+
+    ghost Value = { Known };
+
+    ghost view = { λ all. record { classes = all.numbers; fields = all.fields.items } };
+}
+
+/// What a class can have once: a field of the name, or the member that begins with the word.
+pub fn title<'a>(member: &'a MemberTree) -> Word<'a>
+    ensures { result ≡ title member.now }
+{
+    match member {
+        MemberTree::Visible(_, at) => Word::new(b"#visible", *at),
+        MemberTree::Reach(_, at) => Word::new(b"#reach", *at),
+        MemberTree::State(_, _, name, _, _) | MemberTree::Effect(_, _, name, _, _) => {
+            Word::of(name)
+        }
+        MemberTree::Run(_, at) => Word::new(b"run", *at),
+        MemberTree::Die(_, at) => Word::new(b"die", *at),
+        MemberTree::Spawn(_, _, at) => Word::new(b"spawn", *at),
+    }
+}
+
+/// The number behind this one.
+pub fn next(number: u32) -> Result<u32, NoMemory>
+    ensures { IfOk result (λ n. n ≡ number + 1) }
+{
+    number.checked_add(1).ok_or(NoMemory)
+}
+
+/// The fields of a class.
+pub fn fields<'a>(alloc: Global, class: &'a ClassTree) -> Result<Vec<Declared<'a>>, NoMemory>
+    ensures { IfOk result (λ all. all.items ≡ fields class.now) }
+{
+    let mut all = Vec::new(alloc);
+    let mut states = 0;
+    let mut effects = 0;
+    for member in class.members.as_slice() {
+        match member {
+            MemberTree::State(_, _, name, _, _) => {
+                let field = Field::State(states);
+                let name = Word::of(name);
+                all.push(Declared { name, field })?;
+                states = next(states)?;
+            }
+            MemberTree::Effect(_, _, name, comb, _) => {
+                let field = Field::Effect(effects, *comb == CombName::Sum);
+                let name = Word::of(name);
+                all.push(Declared { name, field })?;
+                effects = next(effects)?;
+            }
+            _ => {}
+        }
+    }
+    Ok(all)
+}
+
+/// What the names of fields stand for.
+pub fn field_table<'a>(alloc: Global, class: &'a ClassTree) -> Result<Names<'a, Field>, NoMemory>
+    ensures { IfOk result (λ names. names ≡ table (fields class.now)) }
+{
+    let mut names = Names::new(alloc);
+    for one in &fields(alloc, class)? {
+        names.add(one.name.text(), one.field)?;
+    }
+    Ok(names)
+}
+
+fn class_table<'a>(alloc: Global, classes: &'a [ClassTree]) -> Result<Names<'a, u32>, NoMemory>
+    ensures { IfOk result (λ names. names ≡ table (numbered_from 0 classes.now)) }
+{
+    let mut names = Names::new(alloc);
+    let mut number = 0;
+    for class in classes {
+        names.add(class.name.text.as_bytes(), number)?;
+        number = next(number)?;
+    }
+    Ok(names)
+}
+
+impl<'a> Classes<'a> {
+    /// What these classes declare.
+    pub fn of(alloc: Global, classes: &'a [ClassTree]) -> Result<Classes<'a>, NoMemory>
+        ensures { IfOk result (λ all. all ≡ known classes.now) }
+    {
+        let numbers = class_table(alloc, classes)?;
+        let mut fields = Vec::new(alloc);
+        for class in classes {
+            fields.push(field_table(alloc, class)?)?;
+        }
+        Ok(Classes { numbers, fields })
+    }
+
+    /// The number of the class of a name.
+    pub fn number(&self, name: &[u8]) -> Option<u32>
+        ensures { result ≡ look self.now.classes name.now }
+    {
+        self.numbers.look(name)
+    }
+
+    /// What a name stands for in the class of a number.
+    pub fn field(&self, class: Option<u32>, name: &[u8]) -> Option<Field>
+        ensures { result ≡ option_and_then (λ own. look own name.now) (option_and_then (slice_get self.now.fields) class) }
+    {
+        self.fields.get(class? as usize)?.look(name)
+    }
+}
+
+fn is_coordinate(axis: &[u8], member: &MemberTree) -> bool
+    ensures { result ≡ is_coordinate axis.now member.now }
+{
+    match member {
+        MemberTree::State(true, TyName::Fixed, name, _, _) => name.text.as_bytes() == axis,
+        _ => false,
+    }
+}
+
+/// Whether the class has `public state fixed x` and `public state fixed y`.
+pub fn has_position(class: &ClassTree) -> bool
+    ensures { result ≡ has_position class.now }
+{
+    let members = class.members.as_slice();
+    members.iter().any(|member| is_coordinate(b"x", member))
+        && members.iter().any(|member| is_coordinate(b"y", member))
+}
