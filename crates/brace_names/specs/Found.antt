@@ -48,13 +48,13 @@ pub record Part : Type 0 where
   pub constants : ℕ
   pub found : Scope → List Finding
 
--- the scope behind a statement
-abbrev pub scope_behind : Option Ident → ℕ → Scope → Scope
-scope_behind (Some name) constants scope = declaring name scope
-scope_behind None constants scope = past constants scope
+abbrev pub declared_in : Option Ident → Scope → Scope
+declared_in None scope = scope
+declared_in (Some name) scope = declaring name scope
 
+-- the scope behind a statement
 abbrev pub behind : Part → Scope → Scope
-behind part scope = scope_behind part.declared part.constants scope
+behind part scope = past part.constants (declared_in part.declared scope)
 
 -- how many constants stand in a block
 abbrev pub constants_in : List Part → ℕ

@@ -50,9 +50,6 @@ inside class variable scope = record scope {
 abbrev pub past : ℕ → Scope → Scope
 past constants scope = record scope { constants = scope.constants + constants }
 
--- the scope behind the declaration of a constant
+-- the scope in which a name stands for the next constant of the class
 abbrev pub declaring : Ident → Scope → Scope
-declaring name scope = record scope {
-  locals = with_name scope.locals name.text (local.Constant scope.constants);
-  constants = scope.constants + 1;
-}
+declaring name scope = record scope { locals = with_name scope.locals name.text (local.Constant scope.constants) }

@@ -1,4 +1,5 @@
 ghost use Rattle.std.specs.Prelude.{◌≡◌, ◌+◌, IfOk, slice_get, option_and_then};
+ghost use Rattle.std.specs.List.{list_any};
 ghost use Rattle.brace_names.specs.Tables.{look, table};
 ghost use Rattle.brace_names.specs.Classes.{title, is_sum, fields, numbered_from, known, is_coordinate, has_position, Known};
 
@@ -158,11 +159,16 @@ fn is_coordinate(axis: &[u8], member: &MemberTree) -> bool
     }
 }
 
+fn has_coordinate(axis: &[u8], members: &[MemberTree]) -> bool
+    ensures { result ≡ list_any (is_coordinate axis.now) members.now }
+{
+    members.iter().any(|member| is_coordinate(axis, member))
+}
+
 /// Whether the class has `public state fixed x` and `public state fixed y`.
 pub fn has_position(class: &ClassTree) -> bool
     ensures { result ≡ has_position class.now }
 {
     let members = class.members.as_slice();
-    members.iter().any(|member| is_coordinate(b"x", member))
-        && members.iter().any(|member| is_coordinate(b"y", member))
+    has_coordinate(b"x", members) && has_coordinate(b"y", members)
 }

@@ -17,3 +17,6 @@ mod word;
 pub use entry::resolve;
 pub use fault::{NameFault, Which};
 pub use resolved::{Binding, Resolved, Target};
+
+#[cfg(test)]
+mod tests;

@@ -107,7 +107,7 @@ impl<'s, 'a> Scope<'s, 'a> {
 
     /// A constant is declared.
     pub fn declare(&mut self, name: &'a Ident) -> Result<(), NoMemory>
-        ensures { OnOk result (self.new ≡ declaring name.now self.old) }
+        ensures { OnOk result (self.new ≡ past 1 (declaring name.now self.old)) }
     {
         self.locals
             .add(name.text.as_bytes(), Local::Constant(self.constants))?;

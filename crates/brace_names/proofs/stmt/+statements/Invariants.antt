@@ -1,0 +1,9 @@
+use Rattle.std.proofs.Common.{◌≡◌, ◌++◌, map, drop, fold}
+use Rattle.brace_names.specs.Found.{part, behind, block}
+use Rattle.brace_names.proofs.StmtLemmas.{behind_all}
+use Rattle.brace_names.proofs.stmt.+statements.Given as goal
+
+abbrev pub invariant-block-loop-s : goal.invariant-block-loop-s
+invariant-block-loop-s l =
+    (l.out.items ++ block (map part (drop l.s-index l.statements)) l.scope ≡ l.fn.out.items ++ block (map part l.statements) l.fn.scope)
+    × (behind_all (map part (drop l.s-index l.statements)) l.scope ≡ behind_all (map part l.statements) l.fn.scope)
