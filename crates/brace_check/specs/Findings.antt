@@ -97,7 +97,7 @@ misfits (Some want) at (Ok t) = fault_if (not (same_type want t)) (WrongType at)
 
 -- the millionths of a number; a whole one counts units
 abbrev pub millionths : Digits → ℤ
-millionths (d.Int n) = n ◌*ℤ◌ pos 1000000
+millionths (d.Int n) = n *ℤ pos 1000000
 millionths (d.Fixed n) = n
 
 -- a range of a class: from 0 to a million

@@ -137,6 +137,11 @@ constants_otherwise (Some parts) = constants_in parts
 abbrev pub assigned : Who → ℕ → ℕ → Sited Expr → Sited Stmt
 assigned who effect at x = with_sites (λ e. stmt.Assign who effect e at) x
 
+-- `q.n <- x`
+abbrev pub assigned_of_loop : Ident → Ident → ExprTree → Scope → Sited Stmt
+assigned_of_loop variable name x scope =
+    assigned (agent_of (stands scope variable.at)) (number_of (stands scope name.at)) variable.at (expression x scope)
+
 -- a statement of each kind
 abbrev pub part_step : StmtTree-F (Part (Sited Stmt)) → Part (Sited Stmt)
 part_step (Const type name x at) = record {
@@ -146,7 +151,7 @@ part_step (Const type name x at) = record {
 part_step (If condition parts other at) = record {
   constants = constants_in parts ++ constants_otherwise other;
   here = λ scope.
-      followed (λ c blocks. stmt.If c blocks.0 blocks.1) (expression condition scope)
+      followed (λ (c : Expr) (blocks : List Stmt × List Stmt). stmt.If c blocks.0 blocks.1) (expression condition scope)
       (followed (λ a b. (a, b)) (block parts scope) (otherwise other (past (constants_in parts) scope)));
 }
 part_step (Foreach class variable other parts at) = record {

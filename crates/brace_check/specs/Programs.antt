@@ -40,13 +40,13 @@ gifts_in (g ∷ gifts) scope =
 -- a `spawn` at a place, whose own site comes after all those in it
 abbrev pub spawn_of : ExprTree → List GiftTree → ℕ → Scope → Sited Spawn
 spawn_of condition gifts at scope =
-    followed (λ inner n. record { when = inner.0; gifts = inner.1; site = n })
+    followed (λ (inner : Expr × List Gift) n. record { when = inner.0; gifts = inner.1; site = n })
     (followed (λ e given. (e, given)) (expression condition scope) (gifts_in gifts scope))
     (record { sites = at ∷ []; behind = λ n. n })
 
 -- a member that has nothing of it
 abbrev pub no_share : Share
-no_share = record { states = []; query = []; die = []; spawn = [] }
+no_share = record { states = []; queries = []; die = []; spawn = [] }
 
 -- what a member of the class of a number has
 abbrev pub share : List (ℕ × Target) → List Heading → ℕ → MemberTree → Sited Share
@@ -54,7 +54,7 @@ share targets headings own (m.State shared type name x at) =
     with_sites (λ r. record no_share { states = record { name = name.text; ty = type_named type; shared = shared; rule = r } ∷ [] })
     (rule x (outermost targets headings own false))
 share targets headings own (m.Run statements at) =
-    with_sites (λ query. record no_share { query = query }) (block (map part statements) (outermost targets headings own true))
+    with_sites (λ query. record no_share { queries = query ∷ [] }) (block (map part statements) (outermost targets headings own true))
 share targets headings own (m.Die condition at) =
     with_sites (λ e. record no_share { die = e ∷ [] }) (expression condition (outermost targets headings own false))
 share targets headings own (m.Spawn condition gifts at) =
@@ -65,7 +65,7 @@ share targets headings own _ = plain no_share
 abbrev pub shared_by : Share → Share → Share
 shared_by a b = record {
   states = a.states ++ b.states;
-  query = a.query ++ b.query;
+  queries = a.queries ++ b.queries;
   die = a.die ++ b.die;
   spawn = a.spawn ++ b.spawn;
 }
@@ -109,7 +109,7 @@ class_with class all = record {
   y = place_of (codes "y") all.states;
   states = all.states;
   effects = flat_map effect_of class.members;
-  query = all.query;
+  query = unwrap_or (slice_get all.queries 0) [];
   die = slice_get all.die 0;
   spawn = slice_get all.spawn 0;
 }

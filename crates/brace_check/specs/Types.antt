@@ -15,7 +15,6 @@ use Rattle.brace_syntax.specs.declared.tree.UnName.TheVariants as unname
 use Rattle.brace_syntax.specs.declared.tree.BinName.{BinName}
 use Rattle.brace_syntax.specs.declared.tree.BinName.TheVariants as binname
 use Rattle.brace_syntax.specs.declared.tree.ExprTree.{ExprTree}
-use Rattle.brace_syntax.specs.declared.tree.ExprTree.TheVariants as expr
 use Rattle.brace_syntax.specs.declared.tree.ExprTree.TheOpen.{ExprTree-F, Lit, True, False, Name, OfThis, OfLoop, Unary, Binary, Choice, Rand}
 use Rattle.brace_syntax.specs.declared.tree.ExprTree.TheFolds.{fold-ExprTree}
 use Rattle.brace_names.specs.declared.resolved.Target.{Target}
@@ -50,17 +49,20 @@ binary_named binname.Min = bin.Min
 binary_named binname.Max = bin.Max
 
 -- the place of an expression: its operator's, its word's, or that of its first token
+abbrev pub place_step : ExprTree-F ℕ → ℕ
+place_step (Lit number) = number.at
+place_step (True at) = at
+place_step (False at) = at
+place_step (Name name) = name.at
+place_step (OfThis name at) = at
+place_step (OfLoop variable name) = variable.at
+place_step (Unary op x at) = at
+place_step (Binary op x y at) = at
+place_step (Choice c x y at) = at
+place_step (Rand at) = at
+
 abbrev pub place : ExprTree → ℕ
-place (expr.Lit number) = number.at
-place (expr.True at) = at
-place (expr.False at) = at
-place (expr.Name name) = name.at
-place (expr.OfThis name at) = at
-place (expr.OfLoop variable name) = variable.at
-place (expr.Unary op x at) = at
-place (expr.Binary op x y at) = at
-place (expr.Choice c x y at) = at
-place (expr.Rand at) = at
+place = fold-ExprTree ℕ place_step
 
 -- the type of a literal
 abbrev pub digits_type : Digits → Ty

@@ -1,5 +1,5 @@
 ghost use Rattle.std.specs.Prelude.{◌≡◌, [], IfOk, OnOk, IfErr};
-ghost use Rattle.brace_check.specs.Faults.{pass, rank, is_before, first, faults, Refuses};
+ghost use Rattle.brace_check.specs.Faults.{pass, rank, is_before, earlier, first, faults, Refuses};
 ghost use Rattle.brace_check.specs.Programs.{program_of};
 
 use crate::fault::CheckFault;
@@ -51,15 +51,21 @@ fn is_before(f: CheckFault, g: CheckFault) -> bool
     pass(f) < pass(g) || pass(f) == pass(g) && rank(f) < rank(g)
 }
 
+// The one of two faults that is answered, of which the first was found first.
+fn earlier(f: CheckFault, g: CheckFault) -> CheckFault
+    ensures { result ≡ earlier f g }
+{
+    if is_before(g, f) { g } else { f }
+}
+
 // The fault that is answered.
 fn first(faults: &[CheckFault]) -> Option<CheckFault>
     ensures { result ≡ first faults.now }
 {
-    let mut best = *faults.first()?;
-    for fault in &faults[1..] {
-        if is_before(*fault, best) {
-            best = *fault;
-        }
+    let (head, rest) = faults.split_first()?;
+    let mut best = *head;
+    for fault in rest {
+        best = earlier(best, *fault);
     }
     Some(best)
 }

@@ -1,4 +1,4 @@
-ghost use Rattle.std.specs.Prelude.{◌≡◌, ◌++◌, flat_map, length, OnOk, IfOk};
+ghost use Rattle.std.specs.Prelude.{◌≡◌, ◌++◌, flat_map, length, slice_get, OnOk, IfOk};
 ghost use Rattle.brace_check.specs.Programs.{effect_of, visible_of, reach_of, first_or_0, place_of, class_with, class_of, classes_from, program_with};
 
 use crate::finding::millionths;
@@ -66,6 +66,13 @@ fn place_of(name: &[u8], states: &[State]) -> Result<u32, NoMemory>
     Ok(place)
 }
 
+// The first of a list.
+fn first<T: Drop>(items: List<T>) -> Option<T>
+    ensures { result ≡ slice_get items 0 }
+{
+    items.into_vec().into_iter().next()
+}
+
 // A class whose members have this together.
 fn class_with(alloc: Global, class: &ClassTree, all: Share) -> Result<Class, NoMemory>
     ensures { IfOk result (λ c. c ≡ class_with class.now all) }
@@ -81,9 +88,9 @@ fn class_with(alloc: Global, class: &ClassTree, all: Share) -> Result<Class, NoM
         y,
         states: all.states,
         effects: effects(alloc, members)?,
-        query: all.query,
-        die: all.die.into_vec().into_iter().next(),
-        spawn: all.spawn.into_vec().into_iter().next(),
+        query: first(all.queries).unwrap_or(List::new(alloc)),
+        die: first(all.die),
+        spawn: first(all.spawn),
     })
 }
 

@@ -15,7 +15,7 @@ use std::alloc::Global;
 #[derive(Debug, Drop)]
 pub struct Share {
     pub states: List<State>,
-    pub query: List<Stmt>,
+    pub queries: List<List<Stmt>>,
     pub die: List<Expr>,
     pub spawn: List<Spawn>,
 }
@@ -72,16 +72,6 @@ fn spawn(
     Ok(Spawn { when, gifts, site })
 }
 
-// Adds statements at the end.
-fn append(query: &mut List<Stmt>, block: List<Stmt>) -> Result<(), NoMemory>
-    ensures { OnOk result (query.new ≡ query.old ++ block) }
-{
-    for s in block.into_vec() {
-        query.push(s)?;
-    }
-    Ok(())
-}
-
 // Adds what a member of the class of a number has.
 fn add(
     alloc: Global,
@@ -109,7 +99,7 @@ fn add(
         MemberTree::Run(statements, _) => {
             let mut scope = Scope::outermost(alloc, targets, headings, own, true);
             let query = block(alloc, sites, &mut scope, statements)?;
-            append(&mut all.query, query)
+            all.queries.push(query)
         }
         MemberTree::Die(condition, _) => {
             let scope = Scope::outermost(alloc, targets, headings, own, false);
@@ -140,7 +130,7 @@ pub fn shares(
 {
     let mut all = Share {
         states: List::new(alloc),
-        query: List::new(alloc),
+        queries: List::new(alloc),
         die: List::new(alloc),
         spawn: List::new(alloc),
     };

@@ -1,13 +1,13 @@
-ghost use Rattle.std.specs.Prelude.{◌≡◌, ◌++◌, map, length, option_map, OnOk, IfOk};
+ghost use Rattle.std.specs.Prelude.{◌≡◌, ◌++◌, map, length, OnOk, IfOk};
 ghost use Rattle.brace_check.specs.Scopes.{behind, past, constants_in};
-ghost use Rattle.brace_check.specs.Meanings.{assigned, expression, part, block, otherwise, constants_otherwise};
+ghost use Rattle.brace_check.specs.Meanings.{assigned, assigned_of_loop, expression, part, block};
 
 use crate::heading::type_named;
 use crate::meaning::{agent_of, expression};
 use crate::scope::{Scope, number_of};
 use brace_model::{Stmt, Who};
 use brace_num::{List, NoMemory};
-use brace_syntax::{ExprTree, StmtTree};
+use brace_syntax::{ExprTree, Ident, StmtTree};
 use std::alloc::Global;
 
 // The number of the constant that is declared next.
@@ -34,6 +34,23 @@ fn assigned(
     Ok(Stmt::Assign(who, effect, x, at))
 }
 
+// `q.n <- x`.
+fn assigned_of_loop(
+    alloc: Global,
+    sites: &mut Vec<u32>,
+    scope: &Scope,
+    variable: &Ident,
+    name: &Ident,
+    x: &ExprTree,
+) -> Result<Stmt, NoMemory>
+    ensures noted { OnOk result (sites.new.items ≡ sites.old.items ++ (expression x.now scope.now).sites) }
+    ensures meant { IfOk result (λ s. s ≡ (assigned_of_loop variable.now name.now x.now scope.now).behind (length sites.old.items)) }
+{
+    let agent = agent_of(scope.stands(variable.at));
+    let effect = number_of(scope.stands(name.at));
+    assigned(alloc, sites, scope, agent, effect, variable.at, x)
+}
+
 #[cycle(statements)]
 fn statement(
     alloc: Global,
@@ -55,7 +72,10 @@ fn statement(
         StmtTree::If(condition, statements, other, _) => {
             let condition = expression(alloc, sites, scope, condition)?;
             let statements = block(alloc, sites, scope, statements)?;
-            let other = otherwise(alloc, sites, scope, other)?;
+            let other = match other {
+                Some(other) => block(alloc, sites, scope, other)?,
+                None => List::new(alloc),
+            };
             Ok(Stmt::If(condition, statements, other))
         }
         StmtTree::Foreach(class, _, _, statements, at) => {
@@ -75,28 +95,8 @@ fn statement(
             assigned(alloc, sites, scope, Who::This, effect, *at, x)
         }
         StmtTree::AssignLoop(variable, name, x) => {
-            let agent = agent_of(scope.stands(variable.at));
-            let effect = number_of(scope.stands(name.at));
-            assigned(alloc, sites, scope, agent, effect, variable.at, x)
+            assigned_of_loop(alloc, sites, scope, variable, name, x)
         }
-    }
-}
-
-// What the block of an `else` means.
-#[cycle(statements)]
-fn otherwise(
-    alloc: Global,
-    sites: &mut Vec<u32>,
-    scope: &mut Scope,
-    other: &Option<List<StmtTree>>,
-) -> Result<List<Stmt>, NoMemory>
-    ensures noted { OnOk result (sites.new.items ≡ sites.old.items ++ (otherwise (option_map (map part) other.now) scope.old).sites) }
-    ensures meant { IfOk result (λ b. b ≡ (otherwise (option_map (map part) other.now) scope.old).behind (length sites.old.items)) }
-    ensures behind { OnOk result (scope.new ≡ past (constants_otherwise (option_map (map part) other.now)) scope.old) }
-{
-    match other {
-        Some(statements) => block(alloc, sites, scope, statements),
-        None => Ok(List::new(alloc)),
     }
 }
 

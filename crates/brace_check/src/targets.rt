@@ -39,9 +39,10 @@ impl Targets {
     fn add(&mut self, one: Binding) -> Result<(), NoMemory>
         ensures { OnOk result (self.new ≡ with_binding self.old one) }
     {
-        if !self.index.contains_key(&one.at) {
-            self.index.insert(one.at, one.target)?;
+        if self.index.contains_key(&one.at) {
+            return Ok(());
         }
+        self.index.insert(one.at, one.target)?;
         Ok(())
     }
 

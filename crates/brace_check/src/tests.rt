@@ -247,11 +247,25 @@ fn refuses_at_the_mark(rt: HostRuntime) -> Result<(), AllocError> {
     Ok(())
 }
 
-// Scripts whose every site is marked by `@` and numbered in the order of the text, and the classes that they give.
-const GIVEN: [(&str, &str); 1] = [(
-    "class P { #reach[2.0]; public state fixed x : x @+ 1.5; public state fixed y; }",
-    "",
-)];
+// Scripts whose every site is marked by `@`, and the programs that they stand for.
+const GIVEN: [(&str, &str); 4] = [
+    (
+        "class P{#reach[2.0];public state fixed x:x@+1.5;public state fixed y;}",
+        "Program { classes: List { items: [Class { name: Text { string: \"P\" }, visible: 0, reach: 2000000, x: 0, y: 1, states: List { items: [State { name: Text { string: \"x\" }, ty: Fixed, shared: true, rule: Some(Binary(Add, Some(0), Boxed { inner: Field(This, 0) }, Boxed { inner: Lit(Fixed(1500000)) })) }, State { name: Text { string: \"y\" }, ty: Fixed, shared: true, rule: None }] }, effects: List { items: [] }, query: List { items: [] }, die: None, spawn: None }] }, sites: List { items: [42] } }",
+    ),
+    (
+        "class A{$public state int n:@-(n@+1)@*2;public state int m:0<1?@abs(n):n@%2;public effect int e:sum;public effect int f:max;public state int k:@e@-f;die when 1@/n>0;@spawn when n==0{x<-x@+5.0;n<-7;}}",
+        "Program { classes: List { items: [Class { name: Text { string: \"A\" }, visible: 0, reach: 0, x: 0, y: 1, states: List { items: [State { name: Text { string: \"x\" }, ty: Fixed, shared: true, rule: None }, State { name: Text { string: \"y\" }, ty: Fixed, shared: true, rule: None }, State { name: Text { string: \"n\" }, ty: Int, shared: true, rule: Some(Binary(Mul, Some(2), Boxed { inner: Unary(Neg, Some(1), Boxed { inner: Binary(Add, Some(0), Boxed { inner: Field(This, 2) }, Boxed { inner: Lit(Int(1)) }) }) }, Boxed { inner: Lit(Int(2)) })) }, State { name: Text { string: \"m\" }, ty: Int, shared: true, rule: Some(Choice(Boxed { inner: Binary(Lt, None, Boxed { inner: Lit(Int(0)) }, Boxed { inner: Lit(Int(1)) }) }, Boxed { inner: Unary(Abs, Some(3), Boxed { inner: Field(This, 2) }) }, Boxed { inner: Binary(Rem, Some(4), Boxed { inner: Field(This, 2) }, Boxed { inner: Lit(Int(2)) }) })) }, State { name: Text { string: \"k\" }, ty: Int, shared: true, rule: Some(Binary(Sub, Some(6), Boxed { inner: Total(0, Int, Some(5)) }, Boxed { inner: Total(1, Int, None) })) }] }, effects: List { items: [Effect { name: Text { string: \"e\" }, ty: Int, shared: true, comb: Sum }, Effect { name: Text { string: \"f\" }, ty: Int, shared: true, comb: Max }] }, query: List { items: [] }, die: Some(Binary(Gt, None, Boxed { inner: Binary(Div, Some(7), Boxed { inner: Lit(Int(1)) }, Boxed { inner: Field(This, 2) }) }, Boxed { inner: Lit(Int(0)) })), spawn: Some(Spawn { when: Binary(Eq, None, Boxed { inner: Field(This, 2) }, Boxed { inner: Lit(Int(0)) }), gifts: List { items: [Gift { state: 0, value: Binary(Add, Some(8), Boxed { inner: Field(This, 0) }, Boxed { inner: Lit(Fixed(5000000)) }) }, Gift { state: 2, value: Lit(Int(7)) }] }, site: 9 }) }] }, sites: List { items: [72, 69, 75, 101, 109, 179, 180, 193, 218, 198] } }",
+    ),
+    (
+        "class A{#visible[3];private state int n:n@+1;public void run(){const int a=n;if(true){const fixed b=@rand();}else{this.c<-a;}foreach(B p:Extent<B>){const bool d=p.w<0.5;foreach(A q:Extent<A>){q.c<-q.n@-this.n;p.s<-d;}c<-trunc(p.x);}}$private effect int c:count;}class B{public effect bool s:or;$#reach[0.25];public state fixed w:@sqrt(w)@*min(w,2.0);}",
+        "Program { classes: List { items: [Class { name: Text { string: \"A\" }, visible: 3000000, reach: 0, x: 1, y: 2, states: List { items: [State { name: Text { string: \"n\" }, ty: Int, shared: false, rule: Some(Binary(Add, Some(0), Boxed { inner: Field(This, 0) }, Boxed { inner: Lit(Int(1)) })) }, State { name: Text { string: \"x\" }, ty: Fixed, shared: true, rule: None }, State { name: Text { string: \"y\" }, ty: Fixed, shared: true, rule: None }] }, effects: List { items: [Effect { name: Text { string: \"c\" }, ty: Int, shared: false, comb: Count }] }, query: List { items: [Const(0, Field(This, 0)), If(Lit(Flag(true)), List { items: [Const(1, Rand(1))] }, List { items: [Assign(This, 0, Local(0), 112)] }), Foreach(1, List { items: [Const(2, Binary(Lt, None, Boxed { inner: Field(Outer, 2) }, Boxed { inner: Lit(Fixed(500000)) })), Foreach(0, List { items: [Assign(Inner, 0, Binary(Sub, Some(2), Boxed { inner: Field(Inner, 0) }, Boxed { inner: Field(This, 0) }), 190), Assign(Outer, 0, Local(2), 206)] }, 167), Assign(This, 0, Unary(Trunc, None, Boxed { inner: Field(Outer, 0) }), 214)] }, 123)] }, die: None, spawn: None }, Class { name: Text { string: \"B\" }, visible: 0, reach: 250000, x: 0, y: 1, states: List { items: [State { name: Text { string: \"x\" }, ty: Fixed, shared: true, rule: None }, State { name: Text { string: \"y\" }, ty: Fixed, shared: true, rule: None }, State { name: Text { string: \"w\" }, ty: Fixed, shared: true, rule: Some(Binary(Mul, Some(4), Boxed { inner: Unary(Sqrt, Some(3), Boxed { inner: Field(This, 2) }) }, Boxed { inner: Binary(Min, None, Boxed { inner: Field(This, 2) }, Boxed { inner: Lit(Fixed(2000000)) }) })) }] }, effects: List { items: [Effect { name: Text { string: \"s\" }, ty: Bool, shared: true, comb: Or }] }, query: List { items: [] }, die: None, spawn: None }] }, sites: List { items: [41, 99, 198, 408, 415] } }",
+    ),
+    (
+        "class A{$#visible[1000000];#reach[1000000.0];die when false;}",
+        "Program { classes: List { items: [Class { name: Text { string: \"A\" }, visible: 1000000000000, reach: 1000000000000, x: 0, y: 1, states: List { items: [State { name: Text { string: \"x\" }, ty: Fixed, shared: true, rule: None }, State { name: Text { string: \"y\" }, ty: Fixed, shared: true, rule: None }] }, effects: List { items: [] }, query: List { items: [] }, die: Some(Lit(Flag(false))), spawn: None }] }, sites: List { items: [] } }",
+    ),
+];
 
 #[test]
 fn gives_programs(rt: HostRuntime) -> Result<(), AllocError> {

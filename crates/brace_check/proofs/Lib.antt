@@ -1,0 +1,6 @@
+pub mod Folds
+pub mod ByKind
+pub mod TargetLemmas
+pub mod Numbering
+pub mod BlockNumbering
+mod Examples
