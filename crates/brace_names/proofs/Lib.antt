@@ -1,2 +1,5 @@
 pub mod TableLemmas
+pub mod RepeatLemmas
+pub mod PastLemmas
+pub mod FirstLemmas
 pub mod StmtLemmas

@@ -1,6 +1,6 @@
 -- The scope behind the statements of a block.
-use Rattle.std.proofs.Common.{◌≡◌, refl, sym, ap, subst, ◌∙◌, ℕ, ◌+◌, zero, Bool, true, false, List, [], ◌∷◌, ◌++◌, take, length, append_assoc, arith, inl, inr}
-use Rattle.std.specs.Prelude.{Option, Some, None, if◌then◌else◌}
+use Rattle.std.proofs.Common.{◌≡◌, refl, sym, ap, ◌∙◌, ℕ, ◌+◌, List, [], ◌∷◌, ◌++◌, take, length, append_assoc, arith, inl, inr}
+use Rattle.std.specs.Prelude.{Option, Some, None}
 use Rattle.std.proofs.lemmas.Bool.{cases_Bool}
 use Rattle.std.proofs.lemmas.List.{append-nil}
 use Rattle.std.proofs.lemmas.List.Sums.{sum_by-cons}
@@ -9,7 +9,7 @@ use Rattle.brace_syntax.specs.declared.tree.Ident.{Ident}
 use Rattle.brace_names.specs.declared.scope.Local.{Local}
 use Rattle.brace_names.specs.declared.scope.Local.TheVariants as local
 use Rattle.brace_names.specs.Tables.{has, with_name}
-use Rattle.brace_names.specs.Scopes.{Scope, past, declaring}
+use Rattle.brace_names.specs.Scopes.{Scope, past}
 use Rattle.brace_names.specs.Found.{Part, behind, declared_in, constants_in}
 
 -- the scope behind all of these statements

@@ -1,5 +1,5 @@
 -- The faults of a script's names, which of them is answered, and what its names stand for.
-use Rattle.std.specs.Prelude.{◌≡◌, ℕ, nat_lt, nat_le, Bool, false, ◌==◌, ◌&&◌, ◌||◌, List, [], ◌∷◌, ◌++◌, flat_map, Option, Some, None, slice_get, Contains, ⊤}
+use Rattle.std.specs.Prelude.{◌≡◌, ℕ, nat_lt, Bool, false, ◌==◌, ◌&&◌, ◌||◌, List, [], ◌∷◌, ◌++◌, flat_map, Option, Some, None, slice_get, Contains, ⊤}
 use Rattle.brace_syntax.specs.declared.tree.Tree.{Tree}
 use Rattle.brace_names.specs.declared.fault.NameFault.{NameFault}
 use Rattle.brace_names.specs.declared.fault.NameFault.TheVariants as fault

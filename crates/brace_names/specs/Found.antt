@@ -1,5 +1,5 @@
 -- What is found in a script: each part in the scope at its place, an operation behind its operands.
-use Rattle.std.specs.Prelude.{ℕ, ◌+◌, Bool, true, false, List, [], ◌∷◌, ◌++◌, map, filter, flat_map, sum_by, Option, Some, None, slice_get, if◌then◌else◌}
+use Rattle.std.specs.Prelude.{ℕ, ◌+◌, Bool, true, false, List, [], ◌∷◌, ◌++◌, map, filter, flat_map, sum_by, Option, Some, None, slice_get, option_map, if◌then◌else◌}
 use Rattle.brace_syntax.specs.declared.tree.Ident.{Ident}
 use Rattle.brace_syntax.specs.declared.tree.ExprTree.{ExprTree}
 use Rattle.brace_syntax.specs.declared.tree.ExprTree.TheOpen.{ExprTree-F, Lit, True, False, Name, OfThis, OfLoop, Unary, Binary, Choice, Rand}
@@ -12,7 +12,6 @@ use Rattle.brace_syntax.specs.declared.tree.MemberTree.{MemberTree}
 use Rattle.brace_syntax.specs.declared.tree.MemberTree.TheVariants as m
 use Rattle.brace_syntax.specs.declared.tree.ClassTree.{ClassTree}
 use Rattle.brace_syntax.specs.declared.tree.Tree.{Tree}
-use Rattle.brace_names.specs.declared.fault.NameFault.{NameFault}
 use Rattle.brace_names.specs.declared.fault.NameFault.TheVariants.{DuplicateClass, DuplicateName, NoPosition, TooMany}
 use Rattle.brace_names.specs.declared.fault.Which.{Which}
 use Rattle.brace_names.specs.declared.fault.Which.TheVariants.{Classes, Fields}
@@ -133,21 +132,25 @@ member all own (m.Spawn condition gifts at) =
 abbrev pub members : Known → ClassTree → List Finding
 members all class = flat_map (member all (table (fields class))) class.members
 
--- what stands first past a limit
-abbrev pub too_many : Which → Option ℕ → List Finding
+-- the first name past a limit
+abbrev pub too_many : Which → Option Ident → List Finding
 too_many which None = []
-too_many which (Some at) = fault (TooMany which at)
+too_many which (Some name) = fault (TooMany which name.at)
 
--- what is found in what a class declares
+-- the class has a position
+abbrev pub position : ClassTree → List Finding
+position class = if has_position class then [] else fault (NoPosition class.name.at)
+
+-- what is found in what a class declares; at most 64 fields are allowed
 abbrev pub declarations : ClassTree → List Finding
 declarations class =
     faults_at DuplicateName (repeated (map title class.members))
-    ++ too_many Fields (slice_get (map (λ one. one.0.at) (fields class)) 64)
-    ++ (if has_position class then [] else fault (NoPosition class.name.at))
+    ++ too_many Fields (option_map (λ one. one.0) (slice_get (fields class) 64))
+    ++ position class
 
--- what is found in the names of the classes
+-- what is found in the names of the classes, of which at most 16 are allowed
 abbrev pub class_names : List Ident → List Finding
-class_names names = faults_at DuplicateClass (repeated names) ++ too_many Classes (slice_get (map (λ name. name.at) names) 16)
+class_names names = faults_at DuplicateClass (repeated names) ++ too_many Classes (slice_get names 16)
 
 -- what is found in a script
 abbrev pub found : Tree → List Finding

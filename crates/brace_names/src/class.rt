@@ -1,7 +1,10 @@
-ghost use Rattle.std.specs.Prelude.{◌≡◌, ◌++◌, map, flat_map, filter, OnOk, IfOk};
+ghost use Rattle.std.specs.Prelude.{◌≡◌, ◌++◌, map, flat_map, slice_get, OnOk, IfOk};
 ghost use Rattle.brace_names.specs.Tables.{repeated};
 ghost use Rattle.brace_names.specs.Findings.{faults_at};
-ghost use Rattle.brace_names.specs.Found.{rule, gift, states_given, gifts_found, member, members, too_many, declarations, class_names, found};
+ghost use Rattle.brace_names.specs.Found.{rule, gift, states_given, gifts_found, member, members, too_many, position, declarations, class_names, found};
+ghost use Rattle.brace_names.specs.Classes.{fields};
+ghost use Rattle.brace_names.specs.declared.fault.Which.TheVariants as which;
+ghost use Rattle.std.specs.Option.{option_map};
 ghost use Rattle.brace_names.specs.declared.fault.NameFault.TheVariants as fault;
 
 use crate::declared::{Classes, Field, field_table, fields, has_position, title};
@@ -119,14 +122,35 @@ fn members<'a>(
     Ok(())
 }
 
-// What stands first past a limit.
-fn too_many(out: &mut Vec<Finding>, which: Which, at: Option<u32>) -> Result<(), NoMemory>
-    ensures { OnOk result (out.new.items ≡ out.old.items ++ too_many which at) }
+// The first class past the limit.
+fn past_classes(out: &mut Vec<Finding>, names: &[Word]) -> Result<(), NoMemory>
+    ensures { OnOk result (out.new.items ≡ out.old.items ++ too_many which.Classes (slice_get names.now 16)) }
 {
-    match at {
-        Some(at) => fault(out, NameFault::TooMany(which, at)),
+    match names.get(16) {
+        Some(name) => fault(out, NameFault::TooMany(Which::Classes, name.at())),
         None => Ok(()),
     }
+}
+
+// The first field past the limit.
+fn past_fields(alloc: Global, out: &mut Vec<Finding>, class: &ClassTree) -> Result<(), NoMemory>
+    ensures { OnOk result (out.new.items ≡ out.old.items ++ too_many which.Fields (option_map (λ one. one.0) (slice_get (fields class.now) 64))) }
+{
+    let fields = fields(alloc, class)?;
+    match fields.get(64) {
+        Some(field) => fault(out, NameFault::TooMany(Which::Fields, field.name.at())),
+        None => Ok(()),
+    }
+}
+
+// Whether the class has a position.
+fn position(out: &mut Vec<Finding>, class: &ClassTree) -> Result<(), NoMemory>
+    ensures { OnOk result (out.new.items ≡ out.old.items ++ position class.now) }
+{
+    if has_position(class) {
+        return Ok(());
+    }
+    fault(out, NameFault::NoPosition(class.name.at))
 }
 
 // What a class declares.
@@ -138,13 +162,8 @@ fn declarations(alloc: Global, out: &mut Vec<Finding>, class: &ClassTree) -> Res
         titles.push(title(member))?;
     }
     duplicates(alloc, out, titles.as_slice())?;
-    let fields = fields(alloc, class)?;
-    let past = fields.get(64).map(|field| field.name.at());
-    too_many(out, Which::Fields, past)?;
-    if !has_position(class) {
-        fault(out, NameFault::NoPosition(class.name.at))?;
-    }
-    Ok(())
+    past_fields(alloc, out, class)?;
+    position(out, class)
 }
 
 // The names of the classes.
@@ -158,7 +177,36 @@ fn class_names(alloc: Global, out: &mut Vec<Finding>, classes: &[ClassTree]) -> 
     for at in &repeats(alloc, names.as_slice())? {
         fault(out, NameFault::DuplicateClass(*at))?;
     }
-    too_many(out, Which::Classes, names.get(16).map(|name| name.at()))
+    past_classes(out, names.as_slice())
+}
+
+// What all classes declare.
+fn all_declarations(
+    alloc: Global,
+    out: &mut Vec<Finding>,
+    classes: &[ClassTree],
+) -> Result<(), NoMemory>
+    ensures { OnOk result (out.new.items ≡ out.old.items ++ flat_map declarations classes.now) }
+{
+    for class in classes {
+        declarations(alloc, out, class)?;
+    }
+    Ok(())
+}
+
+// The members of all classes.
+fn all_members<'a>(
+    alloc: Global,
+    out: &mut Vec<Finding>,
+    known: &Classes<'a>,
+    classes: &'a [ClassTree],
+) -> Result<(), NoMemory>
+    ensures { OnOk result (out.new.items ≡ out.old.items ++ flat_map (members known.now) classes.now) }
+{
+    for class in classes {
+        members(alloc, out, known, class)?;
+    }
+    Ok(())
 }
 
 /// What is found in a script.
@@ -169,11 +217,7 @@ pub fn found(alloc: Global, tree: &Tree) -> Result<Vec<Finding>, NoMemory>
     let known = Classes::of(alloc, classes)?;
     let mut out = Vec::new(alloc);
     class_names(alloc, &mut out, classes)?;
-    for class in classes {
-        declarations(alloc, &mut out, class)?;
-    }
-    for class in classes {
-        members(alloc, &mut out, &known, class)?;
-    }
+    all_declarations(alloc, &mut out, classes)?;
+    all_members(alloc, &mut out, &known, classes)?;
     Ok(out)
 }

@@ -1,4 +1,4 @@
-ghost use Rattle.std.specs.Prelude.{◌≡◌, ℕ, ◌≤◌, [], ◌++◌, List, flat_map, slice_get, length, IfOk, IfErr, OnOk, MatchOption, IfNone, IfSome};
+ghost use Rattle.std.specs.Prelude.{◌≡◌, [], ◌++◌, flat_map, slice_get, if◌then◌else◌, IfOk, IfErr, OnOk, IfNone, IfSome};
 ghost use Rattle.brace_tok.specs.declared.kinds.Token.{Token};
 ghost use Rattle.brace_tok.specs.Spells.{Spells};
 ghost use Rattle.brace_syntax.specs.Reads.{Reads};
@@ -116,6 +116,13 @@ fn is_before(f: NameFault, g: NameFault) -> bool
     pass(f) < pass(g) || pass(f) == pass(g) && place(f) < place(g)
 }
 
+// The fault that is before the other; of two of one pass and place, the second.
+fn earlier(f: NameFault, g: NameFault) -> NameFault
+    ensures { result ≡ (if is_before f g then f else g) }
+{
+    if is_before(f, g) { f } else { g }
+}
+
 // The first of the faults.
 fn first(faults: &[NameFault]) -> Option<NameFault>
     ensures none { IfNone result (faults.now ≡ []) }
@@ -123,9 +130,7 @@ fn first(faults: &[NameFault]) -> Option<NameFault>
 {
     let mut best = *faults.first()?;
     for fault in faults {
-        if is_before(*fault, best) {
-            best = *fault;
-        }
+        best = earlier(*fault, best);
     }
     Some(best)
 }

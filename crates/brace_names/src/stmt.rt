@@ -35,12 +35,12 @@ fn statement<'a>(
         }
         StmtTree::Foreach(class, variable, other, statements, _) => {
             let loops = scope.loops();
-            let len = scope.len();
+            let names = scope.len();
             loop_over(out, scope, class, other)?;
             declare(out, scope, variable)?;
             scope.enter(class, variable)?;
             block(out, scope, statements)?;
-            scope.leave(loops, len);
+            scope.leave(loops, names);
             Ok(())
         }
         StmtTree::Assign(name, x) => {

@@ -215,3 +215,170 @@ fn refuses_at_the_mark(rt: HostRuntime) -> Result<(), AllocError> {
     }
     Ok(())
 }
+
+// The piece so many times, with its number for `#`, between a front and a back.
+fn repeated(
+    alloc: Global,
+    front: &str,
+    piece: &str,
+    times: u32,
+    back: &str,
+) -> Result<String, AllocError> {
+    let mut text = String::new(alloc);
+    text.push_str(front)?;
+    for number in 0..times {
+        for c in piece.chars() {
+            match c {
+                '#' => text.push_str(format!(in alloc; "{number}")?.as_str())?,
+                c => text.push(c)?,
+            }
+        }
+    }
+    text.push_str(back)?;
+    Ok(text)
+}
+
+// Fronts, pieces, numbers and backs of scripts; the kind of the fault at the mark, or nothing where there is none.
+const LIMITS: [(&str, &str, u32, &str, &str); 17] = [
+    ("", "class C#{$}", 16, "", ""),
+    ("", "class C#{$}", 16, "class @D{$}", "TooMany(Classes, "),
+    ("class C{$", "public state int n#;", 62, "}", ""),
+    (
+        "class C{$",
+        "public state int n#;",
+        62,
+        "public effect int @m:sum;}",
+        "TooMany(Fields, ",
+    ),
+    ("class C{$public void run(){", "if(0< -1){}", 4096, "}}", ""),
+    (
+        "class C{$public void run(){",
+        "if(0< -1){}",
+        4096,
+        "if(0< @-1){}}}",
+        "TooMany(Sites, ",
+    ),
+    (
+        "class C{$public void run(){",
+        "if(0< -1){}",
+        4095,
+        "}spawn when true{}}",
+        "",
+    ),
+    (
+        "class C{$public void run(){",
+        "if(0< -1){}",
+        4096,
+        "}@spawn when true{}}",
+        "TooMany(Sites, ",
+    ),
+    (
+        "class C{$public void run(){",
+        "if(0< -1){}",
+        4095,
+        "}@spawn when 0< -1{}}",
+        "TooMany(Sites, ",
+    ),
+    (
+        "class C{$public void run(){",
+        "if(0< -1){}",
+        4096,
+        "}public state int n:@e;public effect int e:sum;}",
+        "TooMany(Sites, ",
+    ),
+    (
+        "class C{$public void run(){",
+        "if(0< -1){}",
+        4096,
+        "}public state int n:e;public effect int e:max;}",
+        "",
+    ),
+    (
+        "class C{$public effect int e:sum;public void run(){",
+        "e<-1;",
+        4096,
+        "}}",
+        "",
+    ),
+    (
+        "class C{$public effect int e:sum;public void run(){",
+        "e<-1;",
+        4096,
+        "@e<-1;}}",
+        "TooMany(Assignments, ",
+    ),
+    (
+        "class C{$public effect int e:sum;public void run(){",
+        "e<-1;",
+        4096,
+        "@this.e<-1;}}",
+        "TooMany(Assignments, ",
+    ),
+    (
+        "class C{$public effect int e:sum;public void run(){",
+        "e<-1;",
+        4096,
+        "foreach(C q:Extent<C>){@q.e<-1;}}}",
+        "TooMany(Assignments, ",
+    ),
+    (
+        "class C{$public effect int e:sum;public void run(){",
+        "e<-1;",
+        4095,
+        "}spawn when true{x<-x;}}",
+        "",
+    ),
+    (
+        "class C{$public effect int e:sum;public void run(){",
+        "e<-1;",
+        4096,
+        "}spawn when true{@x<-x;}}",
+        "TooMany(Assignments, ",
+    ),
+];
+
+#[test]
+fn counts_to_its_limits(rt: HostRuntime) -> Result<(), AllocError> {
+    for (front, piece, times, back, kind) in LIMITS {
+        let script = repeated(rt.alloc(), front, piece, times, back)?;
+        let marked = marked(rt.alloc(), script.as_str())?;
+        let got = answer(rt.alloc(), marked.text.as_str())?;
+        if kind.is_empty() {
+            assert!(rt; got.as_str().starts_with("List"), "{back}");
+        } else {
+            let want = format!(in rt.alloc(); "{kind}{})", marked.at)?;
+            assert_eq!(rt; got.as_str(), want.as_str(), "{back}");
+        }
+    }
+    Ok(())
+}
+
+// A script whose names have one letter, and each bound name in turn with what it stands for.
+const NAMED: &str =
+    "class A{$public state int n:m+this.n;public effect int m:max;die when n<m;spawn when n<0{n<-n;x<-x;}\
+     public void run(){const int k=n;if(k<1){const int l=k;m<-l;}else{const int j=k;this.m<-j;}\
+     foreach(B q:Extent<B>){foreach(A p:Extent<A>){q.e<-p.n;}}const int i=k;}}class B{$public effect int f:sum;public effect int e:sum;}";
+
+const BOUND: &str =
+    "m Effect(0) n State(2) n State(2) m Effect(0) n State(2) n State(2) n State(2) x State(0) x State(0) n State(2) k Local(0) \
+     k Local(0) m Effect(0) l Local(1) k Local(0) m Effect(0) j Local(2) B Class(1) B Class(1) A Class(0) A Class(0) q Loop(0) \
+     e Effect(1) p Loop(1) n State(2) k Local(0) ";
+
+#[test]
+fn tells_what_names_stand_for(rt: HostRuntime) -> Result<(), AllocError> {
+    let marked = marked(rt.alloc(), NAMED)?;
+    let bytes = marked.text.as_str().as_bytes();
+    let mut got = String::new(rt.alloc());
+    if let Some(tree) = tree(rt.alloc(), marked.text.as_str()) {
+        if let Ok(resolved) = resolve(rt.alloc(), tree) {
+            for binding in resolved.bindings.as_slice() {
+                if let Some(byte) = bytes.get(binding.at as usize) {
+                    got.push(*byte as char)?;
+                    got.push_str(format!(in rt.alloc(); " {:?} ", binding.target)?.as_str())?;
+                }
+            }
+        }
+    }
+    assert_eq!(rt; got.as_str(), BOUND);
+    Ok(())
+}

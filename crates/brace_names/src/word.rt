@@ -1,5 +1,5 @@
-ghost use Rattle.std.specs.Prelude.{◌≡◌, ◌++◌, OnOk, IfOk};
-ghost use Rattle.brace_names.specs.Tables.{repeated};
+ghost use Rattle.std.specs.Prelude.{◌≡◌, [], ◌∷◌, ◌++◌, if◌then◌else◌, OnOk, IfOk};
+ghost use Rattle.brace_names.specs.Tables.{has, with_name, repeated};
 
 use crate::names::Names;
 use brace_num::NoMemory;
@@ -56,6 +56,17 @@ impl<'a> Word<'a> {
     }
 }
 
+// A word more is seen; its offset is noted where it is seen again.
+fn see<'a>(seen: &mut Names<'a, ()>, again: &mut Vec<u32>, word: &Word<'a>) -> Result<(), NoMemory>
+    ensures seen { OnOk result (seen.new ≡ with_name seen.old word.now.text tt) }
+    ensures again { OnOk result (again.new.items ≡ again.old.items ++ (if has seen.old word.now.text then word.now.at ∷ [] else [])) }
+{
+    if !seen.add(word.text(), ())? {
+        again.push(word.at())?;
+    }
+    Ok(())
+}
+
 /// The offsets of the words that an earlier one of the list equals.
 pub fn repeats<'a>(alloc: Global, words: &[Word<'a>]) -> Result<Vec<u32>, NoMemory>
     ensures { IfOk result (λ again. again.items ≡ repeated words.now) }
@@ -63,9 +74,7 @@ pub fn repeats<'a>(alloc: Global, words: &[Word<'a>]) -> Result<Vec<u32>, NoMemo
     let mut seen = Names::new(alloc);
     let mut again = Vec::new(alloc);
     for word in words {
-        if !seen.add(word.text(), ())? {
-            again.push(word.at())?;
-        }
+        see(&mut seen, &mut again, word)?;
     }
     Ok(again)
 }

@@ -1,7 +1,6 @@
-use Rattle.std.proofs.Common.{◌≡◌, ◌≤◌, ◌∙◌, sym, ap, subst, map, length, List, drop, rules, arith}
+use Rattle.std.proofs.Common.{◌≡◌, ◌≤◌, ◌∙◌, sym, ap, subst, map, length, List, rules}
 use Rattle.std.proofs.Math.ListN.{drop_of_length-le}
 use Rattle.brace_syntax.specs.declared.tree.StmtTree.{StmtTree}
-use Rattle.brace_names.specs.Scopes.{Scope}
 use Rattle.brace_names.specs.Found.{part}
 use Rattle.brace_names.proofs.StmtLemmas.{behind_all, left_behind}
 use Rattle.brace_names.proofs.stmt.+statements.Goals as goal

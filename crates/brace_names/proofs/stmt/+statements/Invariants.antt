@@ -1,5 +1,5 @@
-use Rattle.std.proofs.Common.{◌≡◌, ◌++◌, map, drop, fold}
-use Rattle.brace_names.specs.Found.{part, behind, block}
+use Rattle.std.proofs.Common.{◌≡◌, ◌++◌, map, drop}
+use Rattle.brace_names.specs.Found.{part, block}
 use Rattle.brace_names.proofs.StmtLemmas.{behind_all}
 use Rattle.brace_names.proofs.stmt.+statements.Given as goal
 

@@ -1,4 +1,4 @@
-use Rattle.std.proofs.Common.{◌∙◌, sym, ap}
+use Rattle.std.proofs.Common.{sym, ap}
 use Rattle.std.specs.Prelude.{not}
 use Rattle.brace_names.proofs.TableLemmas.{absent-shown, present-shown, added-shown, with_name-kept}
 use Rattle.brace_names.proofs.names.Names.add.Goals as goal

@@ -1,0 +1,6 @@
+use Rattle.std.proofs.Common.{◌≡◌, ◌++◌, flat_map, take}
+use Rattle.brace_names.specs.Found.{members}
+use Rattle.brace_names.proofs.class.all_members.Given as goal
+
+abbrev pub invariant-loop-class : goal.invariant-loop-class
+invariant-loop-class l = l.out.items ≡ l.initial.out.items ++ flat_map (members l.known) (take l.class-index l.classes)

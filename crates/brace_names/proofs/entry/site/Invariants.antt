@@ -1,0 +1,7 @@
+use Rattle.std.proofs.Common.{◌≡◌, flat_map, drop}
+use Rattle.std.specs.Prelude.{slice_get}
+use Rattle.brace_names.specs.Faults.{site_of}
+use Rattle.brace_names.proofs.entry.site.Given as goal
+
+abbrev pub invariant-loop-one : goal.invariant-loop-one
+invariant-loop-one l = slice_get (flat_map site_of (drop l.one-index l.all)) l.left ≡ slice_get (flat_map site_of l.all) l.fn.number

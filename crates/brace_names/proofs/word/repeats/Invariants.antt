@@ -1,0 +1,9 @@
+use Rattle.std.proofs.Common.{◌≡◌, ◌++◌, drop}
+use Rattle.brace_names.specs.Tables.{repeated, repeated_after}
+use Rattle.brace_names.proofs.RepeatLemmas.{Knows, texts}
+use Rattle.brace_names.proofs.word.repeats.Given as goal
+
+abbrev pub invariant-loop-word : goal.invariant-loop-word
+invariant-loop-word l =
+    (l.again.items ++ repeated_after (texts l.word-index l.words) (drop l.word-index l.words) ≡ repeated l.words)
+    × Knows l.seen (texts l.word-index l.words)
