@@ -19,11 +19,9 @@ use Rattle.brace_model.specs.declared.program.BinOp.TheVariants as bin
 use Rattle.brace_model.specs.declared.program.Who.TheVariants as who
 use Rattle.brace_model.specs.declared.program.Expr.TheVariants as expr
 use Rattle.brace_model.specs.declared.program.Program.{Program}
-use Rattle.brace_check.specs.Types.{type_step}
-use Rattle.brace_check.specs.Found.{expression_step}
 use Rattle.brace_check.specs.Faults.{faults}
 use Rattle.brace_check.specs.Programs.{program_of}
-use Rattle.brace_check.proofs.Folds.{of-Lit, of-True, of-False, of-Name, of-OfThis, of-OfLoop, of-Unary, of-Binary, of-Choice, of-Rand, of-Const, of-when, of-either, of-Foreach, of-Assign, of-AssignThis, of-AssignLoop}
+use Rattle.brace_check.proofs.Equations.{place-Binary, type-Lit, type-Name, type-Binary, found-Lit, found-Name, found-Binary, meant-Lit, meant-Name, meant-Binary}
 
 abbrev word : List ℕ → ℕ → Ident
 word text at = record { text = text; at = at }
@@ -49,4 +47,4 @@ drifting = script
     (names 46 (target.State 0) ∷ [])
 
 drifting_is_faultless : faults drifting ≡ []
-drifting_is_faultless = simp (of-Lit expression_step, of-Name expression_step, of-Binary expression_step, of-Lit type_step, of-Name type_step, of-Binary type_step)
+drifting_is_faultless = simp (found-Lit, found-Name, found-Binary, type-Lit, type-Name, type-Binary, place-Binary)

@@ -1,4 +1,5 @@
 pub mod Folds
+pub mod Equations
 pub mod ByKind
 pub mod TargetLemmas
 pub mod Numbering

@@ -23,5 +23,5 @@ module _ {S : Type 0} (m : IndexMap ℕ Target S) (one : Binding) where
   added entries absent inserted =
       let h : is_some (look m.entries one.at) ≡ false = sym absent in
       let new : insert_entry nat_eq m.entries one.at one.target ≡ m.entries ++ (one.at, one.target) ∷ [] =
-          insert_entry-new nat_eq m one.at one.target (none-absent _ absent) in
+      insert_entry-new nat_eq m one.at one.target (none-absent _ absent) in
       rw h (inserted ∙ new)
