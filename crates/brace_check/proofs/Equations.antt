@@ -179,3 +179,6 @@ meant-AssignThis name x at = of-AssignThis means.part_step name x at
 
 pub meant-AssignLoop : (variable name : Ident) (x : ExprTree) → means.part (s.AssignLoop variable name x) ≡ means.part_step (stmt.AssignLoop variable name x)
 meant-AssignLoop variable name x = of-AssignLoop means.part_step variable name x
+
+-- all of these
+pub ruleset by_kind = (place-Lit, place-True, place-False, place-Name, place-OfThis, place-OfLoop, place-Unary, place-Binary, place-Choice, place-Rand, type-Lit, type-True, type-False, type-Name, type-OfThis, type-OfLoop, type-Unary, type-Binary, type-Choice, type-Rand, found-Lit, found-True, found-False, found-Name, found-OfThis, found-OfLoop, found-Unary, found-Binary, found-Choice, found-Rand, meant-Lit, meant-True, meant-False, meant-Name, meant-OfThis, meant-OfLoop, meant-Unary, meant-Binary, meant-Choice, meant-Rand, found-Const, found-when, found-either, found-Foreach, found-Assign, found-AssignThis, found-AssignLoop, meant-Const, meant-when, meant-either, meant-Foreach, meant-Assign, meant-AssignThis, meant-AssignLoop)

@@ -6,6 +6,7 @@ mod fault;
 mod finding;
 mod found;
 mod heading;
+pub mod laws;
 mod meaning;
 mod program;
 mod scope;
