@@ -6,4 +6,8 @@ pub mod FirstLemmas
 pub mod Numbering
 pub mod BlockNumbering
 pub mod ConstantNumbers
+pub mod Rising
+pub mod ShareNumbers
+pub mod CheckedMembers
+pub mod Accepted
 mod Examples

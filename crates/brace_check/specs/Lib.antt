@@ -6,3 +6,4 @@ pub mod Found
 pub mod Faults
 pub mod Meanings
 pub mod Programs
+pub mod Checked
