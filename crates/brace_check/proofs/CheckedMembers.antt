@@ -123,12 +123,15 @@ pub first_from_zero : (queries : List (List Stmt)) → AllByRecursion FromZero q
 first_from_zero [] h = record { count = 0; declares = none_declared 0 }
 first_from_zero (b ∷ queries) h = h.0
 
+below : (a c : ℕ) → a < c → nat_lt a c ≡ true
+below a c h = grind (arith, tests)
+
 below_range : (a n c : ℕ) → a + n ≤ c → list_all (λ k. nat_lt k c) (range_with_len a n) ≡ true
 below_range a zero c h = refl
 below_range a (suc n) c h =
     let more : (a + 1) + n ≤ c = omega (arith, h) in
     let here : a < c = omega (arith, h) in
-    both_true (nat_lt a c) (list_all (λ k. nat_lt k c) (range_with_len (a + 1) n)) (search (here, tests)) (below_range (a + 1) n c more)
+    both_true (nat_lt a c) (list_all (λ k. nat_lt k c) (range_with_len (a + 1) n)) (below a c here) (below_range (a + 1) n c more)
 
 apart : (lo hi x : ℕ) (xs : List ℕ) → x < lo → Rises lo hi xs → AllByRecursion (λ y. nat_eq x y ≡ false) xs
 apart lo hi x [] under h = tt

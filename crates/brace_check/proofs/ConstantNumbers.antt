@@ -2,6 +2,7 @@
 use Rattle.std.proofs.Common.{◌≡◌, refl, sym, ap, subst, ◌∙◌, ℕ, ◌+◌, List, [], ◌∷◌, ◌++◌, map, flat_map, length, length-append, arith}
 use Rattle.std.specs.Prelude.{Some, None, sum}
 use Rattle.std.specs.List.{concat, range_with_len}
+use Rattle.std.proofs.lemmas.List.Sums.{sum_by-cons}
 use Rattle.brace_syntax.specs.declared.tree.Ident.{Ident}
 use Rattle.brace_syntax.specs.declared.tree.ExprTree.{ExprTree}
 use Rattle.brace_syntax.specs.declared.tree.StmtTree.{StmtTree}
@@ -36,7 +37,7 @@ pub record BlockDeclares (b : List Stmt) (first count : ℕ) : Type 0 where
   pub numbers : flat_map constant_numbers b ≡ range_with_len first count
   pub many : sum (map constants b) ≡ count
 
-none_declared : (first : ℕ) → BlockDeclares [] first 0
+pub none_declared : (first : ℕ) → BlockDeclares [] first 0
 none_declared first = record { numbers = refl; many = refl }
 
 more_declared : (x : Stmt) (b : List Stmt) (first c d : ℕ) → Declares x first c → BlockDeclares b (first + c) d → BlockDeclares (x ∷ b) first (c + d)
@@ -44,7 +45,9 @@ more_declared x b first c d one rest = record {
   numbers =
       ap (λ (l : List ℕ). l ++ flat_map constant_numbers b) one.numbers
       ∙ (ap (λ (l : List ℕ). range_with_len first c ++ l) rest.numbers ∙ numbers-joined first c d);
-  many = ap (λ (k : ℕ). k + sum (map constants b)) one.many ∙ ap (λ (k : ℕ). c + k) rest.many;
+  many =
+      sum_by-cons (λ (k : ℕ). k) (constants x) (map constants b)
+      ∙ (ap (λ (k : ℕ). k + sum (map constants b)) one.many ∙ ap (λ (k : ℕ). c + k) rest.many);
 }
 
 if_declares : (x : Expr) (a b : List Stmt) (first c d : ℕ) → BlockDeclares a first c → BlockDeclares b (first + c) d → Declares (stmt.If x a b) first (c + d)
