@@ -35,7 +35,7 @@ none_if : (test : Bool) (f : CheckFault) → fault_if (not test) f ≡ [] → te
 none_if true f h = refl
 none_if false f h = absurd (cc)
 
-both_true : (p q : Bool) → p ≡ true → q ≡ true → (p && q) ≡ true
+pub both_true : (p q : Bool) → p ≡ true → q ≡ true → (p && q) ≡ true
 both_true true q h g = g
 both_true false q h g = absurd (true≢false (sym h))
 

@@ -9,5 +9,8 @@ pub mod ConstantNumbers
 pub mod Rising
 pub mod ShareNumbers
 pub mod CheckedMembers
+pub mod TypeSound
+pub mod ExprSound
+pub mod RulesTyped
 pub mod Accepted
 mod Examples

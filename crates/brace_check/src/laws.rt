@@ -12,8 +12,9 @@ pub fn answers_are_first()
     ensures { (all : List CheckFault) (f : CheckFault) → first all ≡ Some f → IsFirst f all }
 {}
 
-/// The program of a script in which nothing is found has ranges from 0 to 1,000,000 units, combinators that fit, a number of
-/// its own for each constant of a class, and sites that rise in finishing order.
+/// The program of a script in which nothing is found has ranges from 0 to 1,000,000 units, combinators that fit, rules of the
+/// types of their states, bool conditions of `die`, a number of its own for each constant of a class, and sites that rise in
+/// finishing order.
 pub fn accepted_programs_are_checked()
     ensures { (r : Resolved) → faults r ≡ [] → IsChecked (program_of r) }
 {}
