@@ -148,11 +148,11 @@ module _ (scope : Scope) (names : Names) (agrees : Agrees scope names) where
   field_sound at k class (Some (target.State i)) query is clean apart t h =
       let found : Mapped (λ (s : StateHeading). s.ty) (state_in scope class i) t = mapped (λ (s : StateHeading). s.ty) (state_in scope class i) t h in
       let open_ : (not (class == scope.own) && is_private (option_map (λ s. s.shared) (state_in scope class i))) ≡ false =
-          not_if (not (class == scope.own) && is_private (option_map (λ s. s.shared) (state_in scope class i))) (PrivateOfOtherClass at) apart in
+      not_if (not (class == scope.own) && is_private (option_map (λ s. s.shared) (state_in scope class i))) (PrivateOfOtherClass at) apart in
       let opened : (not (class == scope.own) && is_private (Some found.inner.shared)) ≡ false =
-          subst (λ (s : Option StateHeading). (not (class == scope.own) && is_private (option_map (λ s. s.shared) s)) ≡ false) found.is open_ in
+      subst (λ (s : Option StateHeading). (not (class == scope.own) && is_private (option_map (λ s. s.shared) s)) ≡ false) found.is open_ in
       let may : may_name names class found.inner.shared ≡ true =
-          ap (λ (k : ℕ). found.inner.shared || (class == k)) agrees.own ∙ may_from found.inner.shared (class == scope.own) opened in
+      ap (λ (k : ℕ). found.inner.shared || (class == k)) agrees.own ∙ may_from found.inner.shared (class == scope.own) opened in
       state_typed scope names agrees (loop_agent k) class i found.inner (agent_is k class is) may found.is ∙ ap some found.gives
 
   -- `q.n`
@@ -166,7 +166,7 @@ module _ (scope : Scope) (names : Names) (agrees : Agrees scope names) where
   loop_sound at (Some (target.Local i)) o query clean apart t h = absurd (cc)
   loop_sound at (Some (target.Loop k)) o query clean apart t h =
       let found : Chained (λ (class : ℕ). field_type scope class o) (slice_get scope.over k) t =
-          chained (λ (class : ℕ). field_type scope class o) (slice_get scope.over k) t h in
+      chained (λ (class : ℕ). field_type scope class o) (slice_get scope.over k) t h in
       field_sound at k found.inner o query found.is clean
       (subst (λ (c : Option ℕ). crosses scope at c o ≡ []) found.is apart) t found.gives
 
@@ -215,13 +215,13 @@ of_loop_sound variable name scope names a f t h =
     let back : List CheckFault = crosses scope variable.at (loop_class scope (stands scope variable.at)) (stands scope name.at) in
     elim (cases_Bool scope.in_query) [
       | inl query ↦
-        let clean : front ++ back ≡ [] = sym (ap (λ (b : Bool). if b then front ++ back else OtherAgentInUpdate variable.at ∷ []) query) ∙ f in
-        model.type_of-Field (agent_of (stands scope variable.at)) (number_of (stands scope name.at)) names
-        ∙ loop_sound scope names a variable.at (stands scope variable.at) (stands scope name.at) query
-        (nil_front front back clean) (nil_back front back clean) t (typed_ok variable.at (of_loop_type scope variable name) t h)
+          let clean : front ++ back ≡ [] = sym (ap (λ (b : Bool). if b then front ++ back else OtherAgentInUpdate variable.at ∷ []) query) ∙ f in
+          model.type_of-Field (agent_of (stands scope variable.at)) (number_of (stands scope name.at)) names
+          ∙ loop_sound scope names a variable.at (stands scope variable.at) (stands scope name.at) query
+          (nil_front front back clean) (nil_back front back clean) t (typed_ok variable.at (of_loop_type scope variable name) t h)
       | inr rule ↦
-        let never : OtherAgentInUpdate variable.at ∷ [] ≡ [] = sym (ap (λ (b : Bool). if b then front ++ back else OtherAgentInUpdate variable.at ∷ []) rule) ∙ f in
-        absurd (cc)
+          let never : OtherAgentInUpdate variable.at ∷ [] ≡ [] = sym (ap (λ (b : Bool). if b then front ++ back else OtherAgentInUpdate variable.at ∷ []) rule) ∙ f in
+          absurd (cc)
     ]
 
 choice_case : (c x y : ExprTree) (at : ℕ) → Sound c → Sound x → Sound y → Sound (e.Choice c x y at)
@@ -229,17 +229,17 @@ choice_case c x y at hc hx hy scope names a k f t h n =
     let m : ℕ = n + length (expression c scope).sites in
     let l : ℕ = m + length (expression x scope).sites in
     let o : TypeOk (λ b. with_type (λ u. with_type (λ v. typed_at at (choice_type b u v)) (type_of y scope)) (type_of x scope)) (type_of c scope) t =
-        type_ok (λ b. with_type (λ u. with_type (λ v. typed_at at (choice_type b u v)) (type_of y scope)) (type_of x scope)) (type_of c scope) t (sym (type-Choice c x y at scope) ∙ h) in
+    type_ok (λ b. with_type (λ u. with_type (λ v. typed_at at (choice_type b u v)) (type_of y scope)) (type_of x scope)) (type_of c scope) t (sym (type-Choice c x y at scope) ∙ h) in
     let p : TypeOk (λ u. with_type (λ v. typed_at at (choice_type o.operand u v)) (type_of y scope)) (type_of x scope) t =
-        type_ok (λ u. with_type (λ v. typed_at at (choice_type o.operand u v)) (type_of y scope)) (type_of x scope) t o.gives in
+    type_ok (λ u. with_type (λ v. typed_at at (choice_type o.operand u v)) (type_of y scope)) (type_of x scope) t o.gives in
     let q : TypeOk (λ v. typed_at at (choice_type o.operand p.operand v)) (type_of y scope) t =
-        type_ok (λ v. typed_at at (choice_type o.operand p.operand v)) (type_of y scope) t p.gives in
+    type_ok (λ v. typed_at at (choice_type o.operand p.operand v)) (type_of y scope) t p.gives in
     let clean : (found_in c scope ++ found_in x scope) ++ found_in y scope ≡ [] = sym (found-Choice c x y at scope) ∙ f in
     let clean_front : found_in c scope ++ found_in x scope ≡ [] = nil_front (found_in c scope ++ found_in x scope) (found_in y scope) clean in
     let known : Knows scope names (locals c scope ++ (locals x scope ++ locals y scope)) =
-        known_as (e.Choice c x y at) scope names (λ s. locals c s ++ (locals x s ++ locals y s)) (of-Choice locals_step c x y at) k in
+    known_as (e.Choice c x y at) scope names (λ s. locals c s ++ (locals x s ++ locals y s)) (of-Choice locals_step c x y at) k in
     let known_back : Knows scope names (locals x scope ++ locals y scope) =
-        all_back (λ n. constant_type names.known n ≡ slice_get scope.constants n) (locals c scope) (locals x scope ++ locals y scope) known in
+    all_back (λ n. constant_type names.known n ≡ slice_get scope.constants n) (locals c scope) (locals x scope ++ locals y scope) known in
     meaning (e.Choice c x y at) scope _ names n t (meant-Choice c x y at scope)
     (choice_sound ((expression c scope).behind n) ((expression x scope).behind m) ((expression y scope).behind l) names o.operand p.operand q.operand t
     (hc scope names a (all_front (λ n. constant_type names.known n ≡ slice_get scope.constants n) (locals c scope) (locals x scope ++ locals y scope) known)
@@ -268,7 +268,7 @@ kinds_sound = record {
       (of_loop_sound variable name scope names a (sym (found-OfLoop variable name scope) ∙ f) t (sym (type-OfLoop variable name scope) ∙ h));
   unary = λ op x at hx scope names a k f t h n.
       let o : TypeOk (λ u. typed_at at (unary_type (unary_named op) u)) (type_of x scope) t =
-          type_ok (λ u. typed_at at (unary_type (unary_named op) u)) (type_of x scope) t (sym (type-Unary op x at scope) ∙ h) in
+      type_ok (λ u. typed_at at (unary_type (unary_named op) u)) (type_of x scope) t (sym (type-Unary op x at scope) ∙ h) in
       meaning (e.Unary op x at) scope _ names n t (meant-Unary op x at scope)
       (unary_sound (unary_named op) (n + length (expression x scope).sites) ((expression x scope).behind n) names o.operand t
       (hx scope names a (known_as (e.Unary op x at) scope names (locals x) (of-Unary locals_step op x at) k) (sym (found-Unary op x at scope) ∙ f) o.operand o.is n)
@@ -276,9 +276,9 @@ kinds_sound = record {
   binary = λ op x y at hx hy scope names a k f t h n.
       let m : ℕ = n + length (expression x scope).sites in
       let o : TypeOk (λ u. with_type (λ v. typed_at at (binary_type (binary_named op) u v)) (type_of y scope)) (type_of x scope) t =
-          type_ok (λ u. with_type (λ v. typed_at at (binary_type (binary_named op) u v)) (type_of y scope)) (type_of x scope) t (sym (type-Binary op x y at scope) ∙ h) in
+      type_ok (λ u. with_type (λ v. typed_at at (binary_type (binary_named op) u v)) (type_of y scope)) (type_of x scope) t (sym (type-Binary op x y at scope) ∙ h) in
       let p : TypeOk (λ v. typed_at at (binary_type (binary_named op) o.operand v)) (type_of y scope) t =
-          type_ok (λ v. typed_at at (binary_type (binary_named op) o.operand v)) (type_of y scope) t o.gives in
+      type_ok (λ v. typed_at at (binary_type (binary_named op) o.operand v)) (type_of y scope) t o.gives in
       let clean : found_in x scope ++ found_in y scope ≡ [] = sym (found-Binary op x y at scope) ∙ f in
       let known : Knows scope names (locals x scope ++ locals y scope) = known_as (e.Binary op x y at) scope names (λ s. locals x s ++ locals y s) (of-Binary locals_step op x y at) k in
       meaning (e.Binary op x y at) scope _ names n t (meant-Binary op x y at scope)

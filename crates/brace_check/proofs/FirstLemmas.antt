@@ -34,9 +34,11 @@ before_all f x all best xf =
     subst (λ (l : List CheckFault). AllByRecursion (λ g. is_before x g ≡ true) l) (sym best.stands)
     (joined (λ g. is_before x g ≡ true) best.earlier_ones (f ∷ best.later_ones)
     (each (λ g. is_before f g ≡ true) (λ g. is_before x g ≡ true)
-    (λ g fg. lex-transitive (pass x) (rank x) (pass f) (rank f) (pass g) (rank g) xf fg) best.earlier_ones best.is_before_earlier_ones)
-    (xf, each (λ g. is_before g f ≡ false) (λ g. is_before x g ≡ true)
-    (λ g gf. lex-past (pass x) (rank x) (pass f) (rank f) (pass g) (rank g) xf gf) best.later_ones best.no_later_one_is_before))
+    (λ g fg. lex-transitive (pass x) (rank x) (pass f) (rank f) (pass g) (rank g) xf fg) best.earlier_ones best.is_before_earlier_ones) (
+      xf,
+      each (λ g. is_before g f ≡ false) (λ g. is_before x g ≡ true)
+          (λ g gf. lex-past (pass x) (rank x) (pass f) (rank f) (pass g) (rank g) xf gf) best.later_ones best.no_later_one_is_before,
+    ))
 
 -- one fault more is found
 step : (f x : CheckFault) (all : List CheckFault) → IsFirst f all → IsFirst (earlier f x) (all ++ x ∷ [])

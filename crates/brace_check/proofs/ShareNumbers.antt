@@ -142,8 +142,8 @@ shares_rise targets headings own (member ∷ members) n =
     let b : Sited Share = shares targets headings own members in
     let mid : ℕ = n + length a.sites in
     let far : mid + length b.sites ≡ n + length (a.sites ++ b.sites) =
-        (let assoc : mid + length b.sites ≡ n + (length a.sites + length b.sites) = omega arith in assoc)
-        ∙ ap (λ (k : ℕ). n + k) (sym (length-append a.sites b.sites)) in
+    (let assoc : mid + length b.sites ≡ n + (length a.sites + length b.sites) = omega arith in assoc)
+    ∙ ap (λ (k : ℕ). n + k) (sym (length-append a.sites b.sites)) in
     subst (λ (hi : ℕ). SharesRise (shared_by (a.behind n) (b.behind mid)) n hi) far
     (both_rise (a.behind n) (b.behind mid) n mid (mid + length b.sites)
     (share_rises targets headings own member n) (shares_rise targets headings own members mid))

@@ -20,7 +20,8 @@ pass (fault.WrongCombinator at) = 8
 pass (fault.WrongType at) = 9
 pass fault.NoMemory = 10
 
--- by what two faults of one pass are ordered: their places; those of types stand as they are found, in finishing order
+-- by what two faults of one pass are ordered: their places; those of types stand as they are found,
+-- in finishing order
 abbrev pub rank : CheckFault → ℕ
 rank (fault.OtherAgentInUpdate at) = at
 rank (fault.ReadsEffectInQuery at) = at
@@ -45,7 +46,8 @@ earlier f g = if is_before g f then g else f
 abbrev pub first : List CheckFault → Option CheckFault
 first = reduce earlier
 
--- the fault is the first of these: it is before each that was found before it, and none that was found after it is before it
+-- the fault is the first of these: it is before each that was found before it, and none that was
+-- found after it is before it
 pub record IsFirst (f : CheckFault) (all : List CheckFault) : Type 0 where
   pub earlier_ones : List CheckFault
   pub later_ones : List CheckFault

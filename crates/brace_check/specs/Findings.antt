@@ -28,7 +28,8 @@ reads scope at _ = []
 -- whether a field of a class is public
 abbrev pub is_shared : Scope → ℕ → Option Target → Option Bool
 is_shared scope class (Some (target.State i)) = option_map (λ s. s.shared) (state_in scope class i)
-is_shared scope class (Some (target.Effect i)) = option_map (λ e. e.shared) (effect_in scope class i)
+is_shared scope class (Some (target.Effect i)) =
+    option_map (λ e. e.shared) (effect_in scope class i)
 is_shared scope class _ = None
 
 -- there is such a field, and it is private
@@ -36,14 +37,18 @@ abbrev pub is_private : Option Bool → Bool
 is_private (Some false) = true
 is_private _ = false
 
--- a field of the class of a loop variable is named at a place: of another class only what is public may be
+-- a field of the class of a loop variable is named at a place: of another class only what is public
+-- may be
 abbrev pub crosses : Scope → ℕ → Option ℕ → Option Target → List CheckFault
 crosses scope at None field = []
-crosses scope at (Some class) field = fault_if (not (class == scope.own) && is_private (is_shared scope class field)) (PrivateOfOtherClass at)
+crosses scope at (Some class) field =
+    fault_if (not (class == scope.own) && is_private (is_shared scope class field))
+    (PrivateOfOtherClass at)
 
 -- `q.n` is named
 abbrev pub crosses_to : Scope → Ident → Ident → List CheckFault
-crosses_to scope variable name = crosses scope variable.at (loop_class scope (stands scope variable.at)) (stands scope name.at)
+crosses_to scope variable name =
+    crosses scope variable.at (loop_class scope (stands scope variable.at)) (stands scope name.at)
 
 -- `q.n` in an expression: in a query alone
 abbrev pub reads_of_loop : Scope → Ident → Ident → List CheckFault
@@ -66,7 +71,8 @@ gives at _ = []
 abbrev pub nests : Scope → ℕ → List CheckFault
 nests scope at = fault_if (nat_le 2 (length scope.over)) (NestedTooDeep at)
 
--- the type that a value said to an effect is to have: that of the effect; to `count` any type is said
+-- the type that a value said to an effect is to have: that of the effect; to `count` any type is
+-- said
 abbrev pub said_type : EffectHeading → Option Ty
 said_type effect = joined effect.comb effect.ty
   where
@@ -82,7 +88,8 @@ wanted scope class _ = None
 -- the same of `q.n`
 abbrev pub wanted_of_loop : Scope → Ident → Ident → Option Ty
 wanted_of_loop scope variable name =
-    option_and_then (λ class. wanted scope class (stands scope name.at)) (loop_class scope (stands scope variable.at))
+    option_and_then (λ class. wanted scope class (stands scope name.at))
+    (loop_class scope (stands scope variable.at))
 
 -- the type that a value given to a target is to have, where one is asked for
 abbrev pub given_type : Scope → Option Target → Option Ty

@@ -1,4 +1,5 @@
--- Which faults of the check passes are found in a script, in finishing order: each part in the scope at its place.
+-- Which faults of the check passes are found in a script, in finishing order: each part in the
+-- scope at its place.
 use Rattle.std.specs.Prelude.{ℕ, ◌+◌, Bool, true, false, List, [], ◌∷◌, ◌++◌, map, flat_map, Option, Some, None}
 use Rattle.brace_model.specs.declared.program.Ty.{Ty}
 use Rattle.brace_model.specs.declared.program.Ty.TheVariants as ty
@@ -58,7 +59,8 @@ constants_otherwise (Some parts) = constants_in parts
 
 -- what is found in an assignment at a place to a target of `this` whose name stands at a place
 abbrev pub says : Scope → ℕ → ℕ → ExprTree → List CheckFault
-says scope at name x = assigns at (stands scope name) ++ valued (wanted scope scope.own (stands scope name)) x scope
+says scope at name x =
+    assigns at (stands scope name) ++ valued (wanted scope scope.own (stands scope name)) x scope
 
 -- a statement of each kind
 abbrev pub part_step : StmtTree-F (Part (List CheckFault)) → Part (List CheckFault)
@@ -66,18 +68,21 @@ part_step (Const type name x at) =
     record { constants = type_named type ∷ []; here = valued (Some (type_named type)) x }
 part_step (If condition parts other at) = record {
   constants = constants_in parts ++ constants_otherwise other;
-  here = λ scope. valued (Some ty.Bool) condition scope ++ block parts scope ++ otherwise other (past (constants_in parts) scope);
+  here = λ scope. valued (Some ty.Bool) condition scope ++ block parts scope
+      ++ otherwise other (past (constants_in parts) scope);
 }
 part_step (Foreach class variable other parts at) = record {
   constants = constants_in parts;
   here = λ scope. nests scope at ++ block parts (inside (number_of (stands scope class.at)) scope);
 }
 part_step (Assign name x) = record { constants = []; here = λ scope. says scope name.at name.at x }
-part_step (AssignThis name x at) = record { constants = []; here = λ scope. says scope at name.at x }
+part_step (AssignThis name x at) =
+    record { constants = []; here = λ scope. says scope at name.at x }
 part_step (AssignLoop variable name x) = record {
   constants = [];
   here = λ scope.
-      assigns variable.at (stands scope name.at) ++ crosses_to scope variable name ++ valued (wanted_of_loop scope variable name) x scope;
+      assigns variable.at (stands scope name.at) ++ crosses_to scope variable name
+      ++ valued (wanted_of_loop scope variable name) x scope;
 }
 
 -- what is found in a statement
@@ -91,16 +96,22 @@ rule type (Some x) scope = valued (Some type) x scope
 
 -- what is found in a gift
 abbrev pub gift : Scope → GiftTree → List CheckFault
-gift scope g = gives g.state.at (stands scope g.state.at) ++ valued (given_type scope (stands scope g.state.at)) g.value scope
+gift scope g =
+    gives g.state.at (stands scope g.state.at)
+    ++ valued (given_type scope (stands scope g.state.at)) g.value scope
 
 -- what is found in a member of the class of a number
 abbrev pub member : List (ℕ × Target) → List Heading → ℕ → MemberTree → List CheckFault
 member targets headings own (m.Visible range at) = ranges range
 member targets headings own (m.Reach range at) = ranges range
-member targets headings own (m.State shared type name x at) = rule (type_named type) x (outermost targets headings own false)
-member targets headings own (m.Effect shared type name comb at) = joins (comb_named comb) (type_named type) name.at
-member targets headings own (m.Run statements at) = block (map part statements) (outermost targets headings own true)
-member targets headings own (m.Die condition at) = valued (Some ty.Bool) condition (outermost targets headings own false)
+member targets headings own (m.State shared type name x at) =
+    rule (type_named type) x (outermost targets headings own false)
+member targets headings own (m.Effect shared type name comb at) =
+    joins (comb_named comb) (type_named type) name.at
+member targets headings own (m.Run statements at) =
+    block (map part statements) (outermost targets headings own true)
+member targets headings own (m.Die condition at) =
+    valued (Some ty.Bool) condition (outermost targets headings own false)
 member targets headings own (m.Spawn condition gifts at) =
     valued (Some ty.Bool) condition (outermost targets headings own false)
     ++ flat_map (gift (outermost targets headings own false)) gifts
@@ -109,7 +120,8 @@ member targets headings own (m.Spawn condition gifts at) =
 abbrev pub classes_from : List (ℕ × Target) → List Heading → ℕ → List ClassTree → List CheckFault
 classes_from targets headings number [] = []
 classes_from targets headings number (class ∷ classes) =
-    flat_map (member targets headings number) class.members ++ classes_from targets headings (number + 1) classes
+    flat_map (member targets headings number) class.members
+    ++ classes_from targets headings (number + 1) classes
 
 -- what is found in a script whose names at places stand for these
 abbrev pub found : List (ℕ × Target) → Tree → List CheckFault

@@ -1,4 +1,5 @@
--- What the classes of a script declare: the types of their fields, which of them are public, and how effects combine.
+-- What the classes of a script declare: the types of their fields, which of them are public, and
+-- how effects combine.
 use Rattle.std.specs.Prelude.{List, [], ◌∷◌, flat_map}
 use Rattle.brace_model.specs.declared.program.Ty.{Ty}
 use Rattle.brace_model.specs.declared.program.Ty.TheVariants as ty
@@ -37,9 +38,11 @@ state_of _ = []
 
 -- the effect that a member declares, if it does
 abbrev pub effect_of : MemberTree → List EffectHeading
-effect_of (m.Effect shared type name c at) = record { ty = type_named type; shared = shared; comb = comb_named c } ∷ []
+effect_of (m.Effect shared type name c at) =
+    record { ty = type_named type; shared = shared; comb = comb_named c } ∷ []
 effect_of _ = []
 
 -- the states and the effects that a class declares, each in text order
 abbrev pub heading : ClassTree → Heading
-heading class = record { states = flat_map state_of class.members; effects = flat_map effect_of class.members }
+heading class =
+    record { states = flat_map state_of class.members; effects = flat_map effect_of class.members }

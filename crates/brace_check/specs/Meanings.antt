@@ -1,5 +1,5 @@
--- What expressions and statements of a script mean: the same with numbers for names, and each site numbered by how many sites
--- come before it in finishing order.
+-- What expressions and statements of a script mean: the same with numbers for names, and each site
+-- numbered by how many sites come before it in finishing order.
 use Rattle.std.specs.Prelude.{ℕ, nat_eq, ◌+◌, pos, Bool, true, false, List, [], ◌∷◌, ◌++◌, map, length, Option, Some, None, if◌then◌else◌}
 use Rattle.brace_model.specs.declared.program.Ty.{Ty}
 use Rattle.brace_model.specs.declared.program.Ty.TheVariants as ty
@@ -28,7 +28,8 @@ use Rattle.brace_check.specs.Headings.{type_named}
 use Rattle.brace_check.specs.Scopes.{Scope, Part, stands, effect_in, number_of, inside, past, behind, constants_in}
 use Rattle.brace_check.specs.Types.{unary_named, binary_named}
 
--- something with sites: their places in finishing order, and what it is behind so many sites of the script
+-- something with sites: their places in finishing order, and what it is behind so many sites of the
+-- script
 pub record Sited (A : Type 0) : Type 0 where
   pub sites : List ℕ
   pub behind : ℕ → A
@@ -76,17 +77,20 @@ unary is_site at op x = record {
 }
 
 -- an operation on two operands at a place, the left one first
-abbrev pub binary : Bool → ℕ → (Option ℕ → Expr → Expr → Expr) → Sited Expr → Sited Expr → Sited Expr
+abbrev pub binary : Bool → ℕ → (Option ℕ → Expr → Expr → Expr) → Sited Expr → Sited Expr
+    → Sited Expr
 binary is_site at op x y = record {
   sites = x.sites ++ y.sites ++ site_if is_site at;
-  behind = λ n. op (only is_site (n + length x.sites + length y.sites)) (x.behind n) (y.behind (n + length x.sites));
+  behind = λ n. op (only is_site (n + length x.sites + length y.sites)) (x.behind n)
+      (y.behind (n + length x.sites));
 }
 
 -- a choice: the condition first, then the two branches
 abbrev pub choice : Sited Expr → Sited Expr → Sited Expr → Sited Expr
 choice c x y = record {
   sites = c.sites ++ x.sites ++ y.sites;
-  behind = λ n. expr.Choice (c.behind n) (x.behind (n + length c.sites)) (y.behind (n + length c.sites + length x.sites));
+  behind = λ n. expr.Choice (c.behind n) (x.behind (n + length c.sites))
+      (y.behind (n + length c.sites + length x.sites));
 }
 
 -- an expression of each kind, by the scope
@@ -98,7 +102,8 @@ expression_step (Name name) scope = named scope name.at (stands scope name.at)
 expression_step (OfThis name at) scope = named scope at (stands scope name.at)
 expression_step (OfLoop variable name) scope =
     plain (expr.Field (agent_of (stands scope variable.at)) (number_of (stands scope name.at)))
-expression_step (Unary op x at) scope = unary (unary_faults (unary_named op)) at (expr.Unary (unary_named op)) (x scope)
+expression_step (Unary op x at) scope =
+    unary (unary_faults (unary_named op)) at (expr.Unary (unary_named op)) (x scope)
 expression_step (Binary op x y at) scope =
     binary (binary_faults (binary_named op)) at (expr.Binary (binary_named op)) (x scope) (y scope)
 expression_step (Choice c x y at) scope = choice (c scope) (x scope) (y scope)
@@ -122,7 +127,8 @@ with_sites make x = record { sites = x.sites; behind = λ n. make (x.behind n) }
 -- what a block means: each statement in the scope behind those before it
 abbrev pub block : List (Part (Sited Stmt)) → Scope → Sited (List Stmt)
 block [] scope = plain []
-block (part ∷ parts) scope = followed (λ s rest. s ∷ rest) (part.here scope) (block parts (behind part scope))
+block (part ∷ parts) scope =
+    followed (λ s rest. s ∷ rest) (part.here scope) (block parts (behind part scope))
 
 -- what the block of an `else` means
 abbrev pub otherwise : Option (List (Part (Sited Stmt))) → Scope → Sited (List Stmt)
@@ -140,7 +146,8 @@ assigned who effect at x = with_sites (λ e. stmt.Assign who effect e at) x
 -- `q.n <- x`
 abbrev pub assigned_of_loop : Ident → Ident → ExprTree → Scope → Sited Stmt
 assigned_of_loop variable name x scope =
-    assigned (agent_of (stands scope variable.at)) (number_of (stands scope name.at)) variable.at (expression x scope)
+    assigned (agent_of (stands scope variable.at)) (number_of (stands scope name.at)) variable.at
+    (expression x scope)
 
 -- a statement of each kind
 abbrev pub part_step : StmtTree-F (Part (Sited Stmt)) → Part (Sited Stmt)
@@ -151,8 +158,10 @@ part_step (Const type name x at) = record {
 part_step (If condition parts other at) = record {
   constants = constants_in parts ++ constants_otherwise other;
   here = λ scope.
-      followed (λ (c : Expr) (blocks : List Stmt × List Stmt). stmt.If c blocks.0 blocks.1) (expression condition scope)
-      (followed (λ a b. (a, b)) (block parts scope) (otherwise other (past (constants_in parts) scope)));
+      followed (λ (c : Expr) (blocks : List Stmt × List Stmt). stmt.If c blocks.0 blocks.1)
+      (expression condition scope)
+      (followed (λ a b. (a, b)) (block parts scope)
+      (otherwise other (past (constants_in parts) scope)));
 }
 part_step (Foreach class variable other parts at) = record {
   constants = constants_in parts;
@@ -171,7 +180,8 @@ part_step (AssignThis name x at) = record {
 part_step (AssignLoop variable name x) = record {
   constants = [];
   here = λ scope.
-      assigned (agent_of (stands scope variable.at)) (number_of (stands scope name.at)) variable.at (expression x scope);
+      assigned (agent_of (stands scope variable.at)) (number_of (stands scope name.at)) variable.at
+      (expression x scope);
 }
 
 -- what a statement means

@@ -51,14 +51,20 @@ no_share = record { states = []; queries = []; die = []; spawn = [] }
 -- what a member of the class of a number has
 abbrev pub share : List (ℕ × Target) → List Heading → ℕ → MemberTree → Sited Share
 share targets headings own (m.State shared type name x at) =
-    with_sites (λ r. record no_share { states = record { name = name.text; ty = type_named type; shared = shared; rule = r } ∷ [] })
+    with_sites
+    (λ r. record no_share {
+      states = record { name = name.text; ty = type_named type; shared = shared; rule = r } ∷ [];
+    })
     (rule x (outermost targets headings own false))
 share targets headings own (m.Run statements at) =
-    with_sites (λ query. record no_share { queries = query ∷ [] }) (block (map part statements) (outermost targets headings own true))
+    with_sites (λ query. record no_share { queries = query ∷ [] })
+    (block (map part statements) (outermost targets headings own true))
 share targets headings own (m.Die condition at) =
-    with_sites (λ e. record no_share { die = e ∷ [] }) (expression condition (outermost targets headings own false))
+    with_sites (λ e. record no_share { die = e ∷ [] })
+    (expression condition (outermost targets headings own false))
 share targets headings own (m.Spawn condition gifts at) =
-    with_sites (λ s. record no_share { spawn = s ∷ [] }) (spawn_of condition gifts at (outermost targets headings own false))
+    with_sites (λ s. record no_share { spawn = s ∷ [] })
+    (spawn_of condition gifts at (outermost targets headings own false))
 share targets headings own _ = plain no_share
 
 -- two shares, one behind the other
@@ -78,7 +84,8 @@ shares targets headings own (member ∷ members) =
 
 -- the effect that a member declares, if it does
 abbrev pub effect_of : MemberTree → List Effect
-effect_of (m.Effect shared type name c at) = record { name = name.text; ty = type_named type; shared = shared; comb = comb_named c } ∷ []
+effect_of (m.Effect shared type name c at) =
+    record { name = name.text; ty = type_named type; shared = shared; comb = comb_named c } ∷ []
 effect_of _ = []
 
 -- the visible range that a member gives, if it does
@@ -116,13 +123,15 @@ class_with class all = record {
 
 -- the class of a number
 abbrev pub class_of : List (ℕ × Target) → List Heading → ℕ → ClassTree → Sited Class
-class_of targets headings number class = with_sites (class_with class) (shares targets headings number class.members)
+class_of targets headings number class =
+    with_sites (class_with class) (shares targets headings number class.members)
 
 -- classes, numbered from a number on
 abbrev pub classes_from : List (ℕ × Target) → List Heading → ℕ → List ClassTree → Sited (List Class)
 classes_from targets headings number [] = plain []
 classes_from targets headings number (class ∷ classes) =
-    followed (λ c rest. c ∷ rest) (class_of targets headings number class) (classes_from targets headings (number + 1) classes)
+    followed (λ c rest. c ∷ rest) (class_of targets headings number class)
+    (classes_from targets headings (number + 1) classes)
 
 -- a program, and the places of its sites
 abbrev pub program_with : Sited (List Class) → Program
@@ -130,4 +139,6 @@ program_with all = record { classes = all.behind 0; sites = all.sites }
 
 -- the program of a script with what its names stand for
 abbrev pub program_of : Resolved → Program
-program_of r = program_with (classes_from (targets_of r.bindings) (map heading r.tree.classes) 0 r.tree.classes)
+program_of r =
+    program_with
+    (classes_from (targets_of r.bindings) (map heading r.tree.classes) 0 r.tree.classes)

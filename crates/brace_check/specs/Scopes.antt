@@ -15,14 +15,16 @@ look targets at = lookup (nat_eq at) targets
 
 -- one name more, unless one stands at its place already
 abbrev pub with_binding : List (ℕ × Target) → Binding → List (ℕ × Target)
-with_binding targets one = if is_some (look targets one.at) then targets else targets ++ (one.at, one.target) ∷ []
+with_binding targets one =
+    if is_some (look targets one.at) then targets else targets ++ (one.at, one.target) ∷ []
 
 -- the names of a script by their places, with what each stands for
 abbrev pub targets_of : List Binding → List (ℕ × Target)
 targets_of = fold with_binding []
 
--- what is in scope: what each name stands for, what the classes declare, the class of `this`, whether this is its query, the
--- classes of the loops around from the outermost on, and the types of the constants of the class up to here, by number
+-- what is in scope: what each name stands for, what the classes declare, the class of `this`,
+-- whether this is its query, the classes of the loops around from the outermost on, and the types
+-- of the constants of the class up to here, by number
 pub record Scope : Type 0 where
   pub targets : List (ℕ × Target)
   pub headings : List Heading
@@ -48,13 +50,16 @@ stands scope at = look scope.targets at
 
 -- a state of a class, by number
 abbrev pub state_in : Scope → ℕ → ℕ → Option StateHeading
-state_in scope class i = option_and_then (λ h. slice_get h.states i) (slice_get scope.headings class)
+state_in scope class i =
+    option_and_then (λ h. slice_get h.states i) (slice_get scope.headings class)
 
 -- an effect of a class, by number
 abbrev pub effect_in : Scope → ℕ → ℕ → Option EffectHeading
-effect_in scope class i = option_and_then (λ h. slice_get h.effects i) (slice_get scope.headings class)
+effect_in scope class i =
+    option_and_then (λ h. slice_get h.effects i) (slice_get scope.headings class)
 
--- the number that a name stands for; each name of a script that passes the checks of names stands for something
+-- the number that a name stands for; each name of a script that passes the checks of names stands
+-- for something
 abbrev pub number_of : Option Target → ℕ
 number_of None = 0
 number_of (Some (target.Class n)) = n
@@ -72,7 +77,8 @@ loop_class scope _ = None
 abbrev pub inside : ℕ → Scope → Scope
 inside class scope = record scope { over = scope.over ++ class ∷ [] }
 
--- a statement as its block knows it: the types of the constants in it, and what it comes to by the scope at its place
+-- a statement as its block knows it: the types of the constants in it, and what it comes to by the
+-- scope at its place
 pub record Part (A : Type 0) : Type 0 where
   pub constants : List Ty
   pub here : Scope → A

@@ -1,4 +1,5 @@
--- The type of an expression of a script, or the place of the first operation that does not fit its operands.
+-- The type of an expression of a script, or the place of the first operation that does not fit its
+-- operands.
 use Rattle.std.specs.Prelude.{ℕ, Option, Some, None, option_map, option_and_then, slice_get, Result, Ok, Err}
 use Rattle.brace_model.specs.declared.program.Ty.{Ty}
 use Rattle.brace_model.specs.declared.program.Ty.TheVariants as ty
@@ -83,7 +84,8 @@ name_type scope t = field_type scope scope.own t
 -- the type of `q.n`
 abbrev pub of_loop_type : Scope → Ident → Ident → Option Ty
 of_loop_type scope variable name =
-    option_and_then (λ class. field_type scope class (stands scope name.at)) (loop_class scope (stands scope variable.at))
+    option_and_then (λ class. field_type scope class (stands scope name.at))
+    (loop_class scope (stands scope variable.at))
 
 -- what follows from a type; a fault stands
 abbrev pub with_type : (Ty → Result Ty ℕ) → Result Ty ℕ → Result Ty ℕ
@@ -103,11 +105,15 @@ type_step (False at) scope = Ok ty.Bool
 type_step (Name name) scope = typed_at name.at (name_type scope (stands scope name.at))
 type_step (OfThis name at) scope = typed_at at (field_type scope scope.own (stands scope name.at))
 type_step (OfLoop variable name) scope = typed_at variable.at (of_loop_type scope variable name)
-type_step (Unary op x at) scope = with_type (λ t. typed_at at (unary_type (unary_named op) t)) (x scope)
+type_step (Unary op x at) scope =
+    with_type (λ t. typed_at at (unary_type (unary_named op) t)) (x scope)
 type_step (Binary op x y at) scope =
-    with_type (λ t. with_type (λ u. typed_at at (binary_type (binary_named op) t u)) (y scope)) (x scope)
+    with_type (λ t. with_type (λ u. typed_at at (binary_type (binary_named op) t u)) (y scope))
+    (x scope)
 type_step (Choice c x y at) scope =
-    with_type (λ b. with_type (λ t. with_type (λ u. typed_at at (choice_type b t u)) (y scope)) (x scope)) (c scope)
+    with_type
+    (λ b. with_type (λ t. with_type (λ u. typed_at at (choice_type b t u)) (y scope)) (x scope))
+    (c scope)
 type_step (Rand at) scope = Ok ty.Fixed
 
 -- the type of an expression in a scope, or the place of the first fault in finishing order

@@ -70,10 +70,11 @@ fn first(faults: &[CheckFault]) -> Option<CheckFault>
     Some(best)
 }
 
-/// The program that a script stands for, or the first fault of its checks: that of the earliest of the nine passes that has
-/// one, and in it the one at the least offset; of wrong types the first in finishing order. `NoMemory` comes only where the
-/// allocator refused, or where more than 4,294,967,295 things of one kind are numbered, which no script of 1,048,576 bytes
-/// has. A refused call gives nothing back.
+/// The program that a script stands for, or the first fault of its checks: that of the earliest of
+/// the nine passes that has one, and in it the one at the least offset; of wrong types the first in
+/// finishing order. `NoMemory` comes only where the allocator refused, or where more than
+/// 4,294,967,295 things of one kind are numbered, which no script of 1,048,576 bytes has. A refused
+/// call gives nothing back.
 pub fn check(alloc: Global, r: Resolved) -> Result<Program, CheckFault>
     ensures program { IfOk result (λ p. p ≡ program_of r) }
     ensures faultless { OnOk result (faults r ≡ []) }

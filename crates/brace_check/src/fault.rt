@@ -19,7 +19,8 @@ pub enum CheckFault {
     BadRange(u32),
     /// The combinator does not fit the type of the effect.
     WrongCombinator(u32),
-    /// An operation does not fit the types of its operands, or a value is not of the type that is asked for.
+    /// An operation does not fit the types of its operands, or a value is not of the type that is
+    /// asked for.
     WrongType(u32),
     /// The allocator refused memory.
     NoMemory,

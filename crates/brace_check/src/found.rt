@@ -90,7 +90,8 @@ fn statement(out: &mut Vec<CheckFault>, scope: &mut Scope, s: &StmtTree) -> Resu
     }
 }
 
-// A value is said to a target of `this` whose name stands at an offset, in an assignment at an offset.
+// A value is said to a target of `this` whose name stands at an offset, in an assignment at an
+// offset.
 fn said(
     out: &mut Vec<CheckFault>,
     scope: &Scope,
@@ -196,7 +197,8 @@ fn class(
     own: u32,
     one: &ClassTree,
 ) -> Result<(), NoMemory>
-    ensures { OnOk result (out.new.items ≡ out.old.items ++ flat_map (member targets.now headings.now own) one.now.members) }
+    ensures { OnOk result (out.new.items ≡ out.old.items
+        ++ flat_map (member targets.now headings.now own) one.now.members) }
 {
     for m in one.members.as_slice() {
         member(alloc, out, targets, headings, own, m)?;

@@ -73,8 +73,11 @@ fn binary_faults(op: BinOp) -> bool
 
 // The total of an effect of `this` that is named at an offset.
 fn total(sites: &mut Vec<u32>, scope: &Scope, at: u32, number: u32) -> Result<Expr, NoMemory>
-    ensures noted { OnOk result (sites.new.items ≡ sites.old.items ++ (total at number (effect_in scope.now scope.now.own number)).sites) }
-    ensures meant { IfOk result (λ e. e ≡ (total at number (effect_in scope.now scope.now.own number)).behind (length sites.old.items)) }
+    ensures noted { OnOk result (sites.new.items ≡ sites.old.items
+        ++ (total at number (effect_in scope.now scope.now.own number)).sites) }
+    ensures meant { IfOk result (λ e. e
+        ≡ (total at number (effect_in scope.now scope.now.own number)).behind
+        (length sites.old.items)) }
 {
     match scope.effect_in(scope.own(), number) {
         None => Ok(Expr::Total(number, Ty::Int, None)),

@@ -103,8 +103,10 @@ fn class_of(
     number: u32,
     class: &ClassTree,
 ) -> Result<Class, NoMemory>
-    ensures noted { OnOk result (sites.new.items ≡ sites.old.items ++ (class_of targets.now headings.now number class.now).sites) }
-    ensures meant { IfOk result (λ c. c ≡ (class_of targets.now headings.now number class.now).behind (length sites.old.items)) }
+    ensures noted { OnOk result (sites.new.items ≡ sites.old.items
+        ++ (class_of targets.now headings.now number class.now).sites) }
+    ensures meant { IfOk result (λ c. c
+        ≡ (class_of targets.now headings.now number class.now).behind (length sites.old.items)) }
 {
     let all = shares(alloc, sites, targets, headings, number, class)?;
     class_with(alloc, class, all)
@@ -118,8 +120,10 @@ fn classes(
     headings: &[Heading],
     trees: &[ClassTree],
 ) -> Result<List<Class>, NoMemory>
-    ensures noted { OnOk result (sites.new.items ≡ sites.old.items ++ (classes_from targets.now headings.now 0 trees.now).sites) }
-    ensures meant { IfOk result (λ c. c ≡ (classes_from targets.now headings.now 0 trees.now).behind (length sites.old.items)) }
+    ensures noted { OnOk result (sites.new.items ≡ sites.old.items
+        ++ (classes_from targets.now headings.now 0 trees.now).sites) }
+    ensures meant { IfOk result (λ c. c
+        ≡ (classes_from targets.now headings.now 0 trees.now).behind (length sites.old.items)) }
 {
     let mut all = List::new(alloc);
     let mut number = 0;

@@ -25,7 +25,14 @@ impl<'s> Model for Scope<'s> {
 
     ghost Value = { Scope };
 
-    ghost view = { λ s. record { targets = s.targets.now; headings = s.headings.now; own = s.own; in_query = s.in_query; over = s.over.items; constants = s.constants.items } };
+    ghost view = { λ s. record {
+      targets = s.targets.now;
+      headings = s.headings.now;
+      own = s.own;
+      in_query = s.in_query;
+      over = s.over.items;
+      constants = s.constants.items;
+    } };
 }
 
 impl<'s> Scope<'s> {
@@ -141,7 +148,8 @@ impl<'s> Scope<'s> {
     }
 }
 
-/// The number that a name stands for; 0 for a name that stands for nothing, which no resolved script has.
+/// The number that a name stands for; 0 for a name that stands for nothing, which no resolved
+/// script has.
 pub fn number_of(target: Option<Target>) -> u32
     ensures { result ≡ number_of target }
 {

@@ -43,7 +43,8 @@ fn gifts(
     given: &List<GiftTree>,
 ) -> Result<List<Gift>, NoMemory>
     ensures noted { OnOk result (sites.new.items ≡ sites.old.items ++ (gifts_in given.now scope.now).sites) }
-    ensures meant { IfOk result (λ gifts. gifts ≡ (gifts_in given.now scope.now).behind (length sites.old.items)) }
+    ensures meant { IfOk result (λ gifts. gifts
+        ≡ (gifts_in given.now scope.now).behind (length sites.old.items)) }
 {
     let mut gifts = List::new(alloc);
     for one in given.as_slice() {
@@ -63,8 +64,10 @@ fn spawn(
     given: &List<GiftTree>,
     at: u32,
 ) -> Result<Spawn, NoMemory>
-    ensures noted { OnOk result (sites.new.items ≡ sites.old.items ++ (spawn_of condition.now given.now at scope.now).sites) }
-    ensures meant { IfOk result (λ s. s ≡ (spawn_of condition.now given.now at scope.now).behind (length sites.old.items)) }
+    ensures noted { OnOk result (sites.new.items ≡ sites.old.items
+        ++ (spawn_of condition.now given.now at scope.now).sites) }
+    ensures meant { IfOk result (λ s. s
+        ≡ (spawn_of condition.now given.now at scope.now).behind (length sites.old.items)) }
 {
     let when = expression(alloc, sites, scope, condition)?;
     let gifts = gifts(alloc, sites, scope, given)?;
@@ -82,8 +85,11 @@ fn add(
     own: u32,
     one: &MemberTree,
 ) -> Result<(), NoMemory>
-    ensures noted { OnOk result (sites.new.items ≡ sites.old.items ++ (share targets.now headings.now own one.now).sites) }
-    ensures meant { OnOk result (all.new ≡ shared_by all.old ((share targets.now headings.now own one.now).behind (length sites.old.items))) }
+    ensures noted { OnOk result (sites.new.items ≡ sites.old.items
+        ++ (share targets.now headings.now own one.now).sites) }
+    ensures meant { OnOk result (all.new
+        ≡ shared_by all.old
+        ((share targets.now headings.now own one.now).behind (length sites.old.items))) }
 {
     match one {
         MemberTree::State(shared, ty, name, x, _) => {
@@ -116,7 +122,8 @@ fn add(
     }
 }
 
-/// What the members of the class of a number have together. Their sites are noted in finishing order.
+/// What the members of the class of a number have together. Their sites are noted in finishing
+/// order.
 pub fn shares(
     alloc: Global,
     sites: &mut Vec<u32>,
@@ -125,8 +132,11 @@ pub fn shares(
     own: u32,
     class: &ClassTree,
 ) -> Result<Share, NoMemory>
-    ensures noted { OnOk result (sites.new.items ≡ sites.old.items ++ (shares targets.now headings.now own class.now.members).sites) }
-    ensures meant { IfOk result (λ s. s ≡ (shares targets.now headings.now own class.now.members).behind (length sites.old.items)) }
+    ensures noted { OnOk result (sites.new.items ≡ sites.old.items
+        ++ (shares targets.now headings.now own class.now.members).sites) }
+    ensures meant { IfOk result (λ s. s
+        ≡ (shares targets.now headings.now own class.now.members).behind
+        (length sites.old.items)) }
 {
     let mut all = Share {
         states: List::new(alloc),

@@ -28,7 +28,8 @@ fn assigned(
     x: &ExprTree,
 ) -> Result<Stmt, NoMemory>
     ensures noted { OnOk result (sites.new.items ≡ sites.old.items ++ (expression x.now scope.now).sites) }
-    ensures meant { IfOk result (λ s. s ≡ (assigned who effect at (expression x.now scope.now)).behind (length sites.old.items)) }
+    ensures meant { IfOk result (λ s. s
+        ≡ (assigned who effect at (expression x.now scope.now)).behind (length sites.old.items)) }
 {
     let x = expression(alloc, sites, scope, x)?;
     Ok(Stmt::Assign(who, effect, x, at))
@@ -44,7 +45,9 @@ fn assigned_of_loop(
     x: &ExprTree,
 ) -> Result<Stmt, NoMemory>
     ensures noted { OnOk result (sites.new.items ≡ sites.old.items ++ (expression x.now scope.now).sites) }
-    ensures meant { IfOk result (λ s. s ≡ (assigned_of_loop variable.now name.now x.now scope.now).behind (length sites.old.items)) }
+    ensures meant { IfOk result (λ s. s
+        ≡ (assigned_of_loop variable.now name.now x.now scope.now).behind
+        (length sites.old.items)) }
 {
     let agent = agent_of(scope.stands(variable.at));
     let effect = number_of(scope.stands(name.at));
@@ -108,8 +111,10 @@ pub fn block(
     scope: &mut Scope,
     statements: &List<StmtTree>,
 ) -> Result<List<Stmt>, NoMemory>
-    ensures noted { OnOk result (sites.new.items ≡ sites.old.items ++ (block (map part statements.now) scope.old).sites) }
-    ensures meant { IfOk result (λ b. b ≡ (block (map part statements.now) scope.old).behind (length sites.old.items)) }
+    ensures noted { OnOk result (sites.new.items ≡ sites.old.items
+        ++ (block (map part statements.now) scope.old).sites) }
+    ensures meant { IfOk result (λ b. b
+        ≡ (block (map part statements.now) scope.old).behind (length sites.old.items)) }
     ensures behind { OnOk result (scope.new ≡ past (constants_in (map part statements.now)) scope.old) }
 {
     let mut meant = List::new(alloc);

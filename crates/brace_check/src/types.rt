@@ -178,7 +178,8 @@ fn of_loop_type(scope: &Scope, variable: &Ident, name: &Ident) -> Option<Ty>
     field_type(scope, class, scope.stands(name.at))
 }
 
-/// The type of an expression, or the offset of the first operation, in finishing order, that does not fit its operands.
+/// The type of an expression, or the offset of the first operation, in finishing order, that does
+/// not fit its operands.
 pub fn type_of(scope: &Scope, x: &ExprTree) -> Result<Ty, u32>
     ensures { result ≡ type_of x.now scope.now }
 {
