@@ -42,7 +42,8 @@ fields_behind states effects (m.Visible range at ∷ members) = fields_behind st
 fields_behind states effects (m.Reach range at ∷ members) = fields_behind states effects members
 fields_behind states effects (m.Run block at ∷ members) = fields_behind states effects members
 fields_behind states effects (m.Die condition at ∷ members) = fields_behind states effects members
-fields_behind states effects (m.Spawn condition gifts at ∷ members) = fields_behind states effects members
+fields_behind states effects (m.Spawn condition gifts at ∷ members) =
+    fields_behind states effects members
 
 -- the fields of a class, numbered among its states and among its effects
 abbrev pub fields : ClassTree → List (Ident × Field)
@@ -51,16 +52,21 @@ fields class = fields_behind 0 0 class.members
 -- the names of classes with their numbers, from a number on
 abbrev pub numbered_from : ℕ → List ClassTree → List (Ident × ℕ)
 numbered_from number [] = []
-numbered_from number (class ∷ classes) = (class.name, number) ∷ numbered_from (number + 1) classes
+numbered_from number (class ∷ classes) =
+    (class.name, number) ∷ numbered_from (number + 1) classes
 
--- what a script declares: the number of each class by its name, and the fields of each class by its number
+-- what a script declares: the number of each class by its name, and the fields of each class by
+-- its number
 pub record Known : Type 0 where
   pub classes : List (List ℕ × ℕ)
   pub fields : List (List (List ℕ × Field))
 
 -- what these classes declare
 abbrev pub known : List ClassTree → Known
-known classes = record { classes = table (numbered_from 0 classes); fields = map (λ class. table (fields class)) classes }
+known classes = record {
+  classes = table (numbered_from 0 classes);
+  fields = map (λ class. table (fields class)) classes;
+}
 
 -- the member is `public state fixed` of this name
 abbrev pub is_coordinate : List ℕ → MemberTree → Bool
@@ -69,4 +75,6 @@ is_coordinate axis _ = false
 
 -- the class has `public state fixed x` and `public state fixed y`
 abbrev pub has_position : ClassTree → Bool
-has_position class = list_any (is_coordinate (codes "x")) class.members && list_any (is_coordinate (codes "y")) class.members
+has_position class =
+    list_any (is_coordinate (codes "x")) class.members
+    && list_any (is_coordinate (codes "y")) class.members

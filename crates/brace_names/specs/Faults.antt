@@ -1,5 +1,5 @@
 -- The faults of a script's names, which of them is answered, and what its names stand for.
-use Rattle.std.specs.Prelude.{◌≡◌, ℕ, nat_lt, Bool, false, ◌==◌, ◌&&◌, ◌||◌, List, [], ◌∷◌, ◌++◌, flat_map, Option, Some, None, slice_get, Contains, ⊤}
+use Rattle.std.specs.Prelude.{◌≡◌, ℕ, ◌+◌, ◌≤◌, nat_lt, Bool, false, ◌==◌, ◌&&◌, ◌||◌, List, [], ◌∷◌, ◌++◌, flat_map, Option, Some, None, slice_get, Contains, ⊤}
 use Rattle.brace_syntax.specs.declared.tree.Tree.{Tree}
 use Rattle.brace_names.specs.declared.fault.NameFault.{NameFault}
 use Rattle.brace_names.specs.declared.fault.NameFault.TheVariants as fault
@@ -89,3 +89,8 @@ pub record IsFirst (f : NameFault) (all : List NameFault) : Type 0 where
 abbrev pub Refuses : Tree → NameFault → Type 0
 Refuses tree fault.NoMemory = ⊤
 Refuses tree f = IsFirst f (faults tree)
+
+-- the places rise, from one that the first is not below
+abbrev pub AreRising : ℕ → List ℕ → Type 0
+AreRising low [] = ⊤
+AreRising low (place ∷ places) = (low ≤ place) × AreRising (place + 1) places

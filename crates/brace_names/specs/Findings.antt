@@ -1,4 +1,5 @@
--- What is found at a place of a script, by what is in scope there: faults, what names stand for, sites and assignments.
+-- What is found at a place of a script, by what is in scope there: faults, what names stand for,
+-- sites and assignments.
 use Rattle.std.specs.Prelude.{ℕ, Bool, true, false, not, ◌&&◌, List, [], ◌∷◌, ◌++◌, map, Option, Some, None, if◌then◌else◌}
 use Rattle.std.specs.Str.{bytes_eq}
 use Rattle.brace_syntax.specs.declared.tree.Ident.{Ident}
@@ -63,7 +64,8 @@ summed scope at (Some f) = if not scope.in_query && is_summed f then site at els
 
 -- a field of the class is read by the name; what is read stands at the place
 abbrev pub reads_field : Scope → ℕ → Ident → List Finding
-reads_field scope at name = names_field at name (look scope.own name.text) ++ summed scope at (look scope.own name.text)
+reads_field scope at name =
+    names_field at name (look scope.own name.text) ++ summed scope at (look scope.own name.text)
 
 abbrev pub reads_constant : Scope → Ident → Option ℕ → List Finding
 reads_constant scope name (Some n) = names_as name.at (target.Local n)
@@ -75,16 +77,19 @@ reads scope name = reads_constant scope name (constant_of (look scope.locals nam
 
 abbrev pub names_loop_field : ℕ → Ident → Ident → Option Field → List Finding
 names_loop_field loops variable name None = fault (UnknownName variable.at)
-names_loop_field loops variable name (Some f) = names_as variable.at (target.Loop loops) ++ names_as name.at (target_of f)
+names_loop_field loops variable name (Some f) =
+    names_as variable.at (target.Loop loops) ++ names_as name.at (target_of f)
 
 abbrev pub names_in_loop : Scope → Ident → Ident → Option Local → List Finding
-names_in_loop scope variable name (Some (local.Loop loops class)) = names_loop_field loops variable name (field_in scope class name.text)
+names_in_loop scope variable name (Some (local.Loop loops class)) =
+    names_loop_field loops variable name (field_in scope class name.text)
 names_in_loop scope variable name (Some (local.Constant n)) = fault (UnknownName variable.at)
 names_in_loop scope variable name None = fault (UnknownName variable.at)
 
 -- `q.n`: a loop variable in scope, and a field of its class
 abbrev pub names_of_loop : Scope → Ident → Ident → List Finding
-names_of_loop scope variable name = names_in_loop scope variable name (look scope.locals variable.text)
+names_of_loop scope variable name =
+    names_in_loop scope variable name (look scope.locals variable.text)
 
 -- `q.n` in an expression; outside a query it is not looked up
 abbrev pub reads_of_loop : Scope → Ident → Ident → List Finding
@@ -117,11 +122,13 @@ names_class at (Some n) = names_as at (target.Class n)
 -- the second class of a loop is the first
 abbrev pub names_again : Scope → Ident → Ident → List Finding
 names_again scope class other =
-    if bytes_eq class.text other.text then names_class other.at (class_number scope other.text) else fault (UnknownClass other.at)
+    if bytes_eq class.text other.text then names_class other.at (class_number scope other.text)
+    else fault (UnknownClass other.at)
 
 -- the two classes of a loop
 abbrev pub loops_over : Scope → Ident → Ident → List Finding
-loops_over scope class other = names_class class.at (class_number scope class.text) ++ names_again scope class other
+loops_over scope class other =
+    names_class class.at (class_number scope class.text) ++ names_again scope class other
 
 -- the operations with one operand that are sites
 abbrev pub unary_site : UnName → Bool

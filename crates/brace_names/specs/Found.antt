@@ -40,8 +40,8 @@ expression_step (Rand at) scope = site at
 abbrev pub expression : ExprTree → Scope → List Finding
 expression = fold-ExprTree (Scope → List Finding) expression_step
 
--- a statement as its block knows it: the constant that it declares there, how many constants stand in it, and what is found
--- in it by the scope
+-- a statement as its block knows it: the constant that it declares there, how many constants stand
+-- in it, and what is found in it by the scope
 pub record Part : Type 0 where
   pub declared : Option Ident
   pub constants : ℕ
@@ -80,16 +80,23 @@ plain constants found = record { declared = None; constants = constants; found =
 -- a statement of each kind
 abbrev pub part_step : StmtTree-F Part → Part
 part_step (Const type name x at) =
-    record { declared = Some name; constants = 1; found = λ scope. typed type ++ declares scope name ++ expression x scope }
+    record {
+      declared = Some name;
+      constants = 1;
+      found = λ scope. typed type ++ declares scope name ++ expression x scope;
+    }
 part_step (If condition parts other at) =
     plain (constants_in parts + constants_otherwise other)
-    (λ scope. expression condition scope ++ block parts scope ++ otherwise other (past (constants_in parts) scope))
+    (λ scope. expression condition scope ++ block parts scope
+    ++ otherwise other (past (constants_in parts) scope))
 part_step (Foreach class variable other parts at) =
     plain (constants_in parts)
-    (λ scope. loops_over scope class other ++ declares scope variable ++ block parts (inside class variable scope))
+    (λ scope. loops_over scope class other ++ declares scope variable
+    ++ block parts (inside class variable scope))
 part_step (Assign name x) = plain 0 (λ scope. assigns scope name.at name ++ expression x scope)
 part_step (AssignThis name x at) = plain 0 (λ scope. assigns scope at name ++ expression x scope)
-part_step (AssignLoop variable name x) = plain 0 (λ scope. assigns_of_loop scope variable name ++ expression x scope)
+part_step (AssignLoop variable name x) =
+    plain 0 (λ scope. assigns_of_loop scope variable name ++ expression x scope)
 
 -- a statement as its block knows it
 abbrev pub part : StmtTree → Part
@@ -111,11 +118,15 @@ is_state None = false
 
 -- the states that are given, as they are written
 abbrev pub states_given : Scope → List GiftTree → List Ident
-states_given scope gifts = filter (λ name. is_state (look scope.own name.text)) (map (λ g. g.state) gifts)
+states_given scope gifts =
+    filter (λ name. is_state (look scope.own name.text)) (map (λ g. g.state) gifts)
 
 -- a `spawn` behind its condition
 abbrev pub gifts_found : Scope → List GiftTree → ℕ → List Finding
-gifts_found scope gifts at = flat_map (gift scope) gifts ++ faults_at DuplicateName (repeated (states_given scope gifts)) ++ site at
+gifts_found scope gifts at =
+    flat_map (gift scope) gifts
+    ++ faults_at DuplicateName (repeated (states_given scope gifts))
+    ++ site at
 
 -- what is found in a member of a class with these fields
 abbrev pub member : Known → List (List ℕ × Field) → MemberTree → List Finding
@@ -150,7 +161,8 @@ declarations class =
 
 -- what is found in the names of the classes, of which at most 16 are allowed
 abbrev pub class_names : List Ident → List Finding
-class_names names = faults_at DuplicateClass (repeated names) ++ too_many Classes (slice_get names 16)
+class_names names =
+    faults_at DuplicateClass (repeated names) ++ too_many Classes (slice_get names 16)
 
 -- what is found in a script
 abbrev pub found : Tree → List Finding

@@ -7,8 +7,9 @@ use Rattle.brace_names.specs.declared.scope.Local.TheVariants as local
 use Rattle.brace_names.specs.Tables.{look, has, with_name}
 use Rattle.brace_names.specs.Classes.{Known}
 
--- what is in scope: what the script declares, the fields of the class, whether it is its query, the constants and loop
--- variables, how many loops stand around the place, and how many constants of the class before it
+-- what is in scope: what the script declares, the fields of the class, whether it is its query,
+-- the constants and loop variables, how many loops stand around the place, and how many constants
+-- of the class before it
 pub record Scope : Type 0 where
   pub known : Known
   pub own : List (List ℕ × Field)
@@ -19,7 +20,8 @@ pub record Scope : Type 0 where
 
 -- the scope outside all blocks of a class with these fields
 abbrev pub outermost : Known → List (List ℕ × Field) → Bool → Scope
-outermost known own in_query = record { known = known; own = own; in_query = in_query; locals = []; loops = 0; constants = 0 }
+outermost known own in_query =
+    record { known = known; own = own; in_query = in_query; locals = []; loops = 0; constants = 0 }
 
 -- the name stands for a field of the class, a constant or a loop variable
 abbrev pub is_taken : Scope → List ℕ → Bool
@@ -31,7 +33,8 @@ class_number scope name = look scope.known.classes name
 
 -- what a name stands for in the class of a number
 abbrev pub field_in : Scope → Option ℕ → List ℕ → Option Field
-field_in scope class name = option_and_then (λ own. look own name) (option_and_then (slice_get scope.known.fields) class)
+field_in scope class name =
+    option_and_then (λ own. look own name) (option_and_then (slice_get scope.known.fields) class)
 
 -- the number of the constant of a name
 abbrev pub constant_of : Option Local → Option ℕ
@@ -42,7 +45,8 @@ constant_of None = None
 -- the scope in the block of a loop
 abbrev pub inside : Ident → Ident → Scope → Scope
 inside class variable scope = record scope {
-  locals = with_name scope.locals variable.text (local.Loop scope.loops (class_number scope class.text));
+  locals = with_name scope.locals variable.text
+      (local.Loop scope.loops (class_number scope class.text));
   loops = scope.loops + 1;
 }
 
@@ -52,4 +56,5 @@ past constants scope = record scope { constants = scope.constants + constants }
 
 -- the scope in which a name stands for the next constant of the class
 abbrev pub declaring : Ident → Scope → Scope
-declaring name scope = record scope { locals = with_name scope.locals name.text (local.Constant scope.constants) }
+declaring name scope =
+    record scope { locals = with_name scope.locals name.text (local.Constant scope.constants) }

@@ -26,7 +26,8 @@ module _ {A : Type 0} where
 abbrev pub repeated_after : List (List ℕ) → List Ident → List ℕ
 repeated_after earlier [] = []
 repeated_after earlier (name ∷ names) =
-    (if list_any (bytes_eq name.text) earlier then name.at ∷ [] else []) ++ repeated_after (earlier ++ name.text ∷ []) names
+    (if list_any (bytes_eq name.text) earlier then name.at ∷ [] else [])
+    ++ repeated_after (earlier ++ name.text ∷ []) names
 
 -- the places of the names that an earlier one of the list equals
 abbrev pub repeated : List Ident → List ℕ

@@ -22,7 +22,8 @@ use std::alloc::Global;
 
 // Each word that an earlier one equals is a fault.
 fn duplicates(alloc: Global, out: &mut Vec<Finding>, words: &[Word]) -> Result<(), NoMemory>
-    ensures { OnOk result (out.new.items ≡ out.old.items ++ faults_at fault.DuplicateName (repeated words.now)) }
+    ensures { OnOk result (out.new.items ≡ out.old.items
+        ++ faults_at fault.DuplicateName (repeated words.now)) }
 {
     for at in &repeats(alloc, words)? {
         fault(out, NameFault::DuplicateName(*at))?;
@@ -124,7 +125,8 @@ fn members<'a>(
 
 // The first class past the limit.
 fn past_classes(out: &mut Vec<Finding>, names: &[Word]) -> Result<(), NoMemory>
-    ensures { OnOk result (out.new.items ≡ out.old.items ++ too_many which.Classes (slice_get names.now 16)) }
+    ensures { OnOk result (out.new.items ≡ out.old.items
+        ++ too_many which.Classes (slice_get names.now 16)) }
 {
     match names.get(16) {
         Some(name) => fault(out, NameFault::TooMany(Which::Classes, name.at())),
@@ -134,7 +136,8 @@ fn past_classes(out: &mut Vec<Finding>, names: &[Word]) -> Result<(), NoMemory>
 
 // The first field past the limit.
 fn past_fields(alloc: Global, out: &mut Vec<Finding>, class: &ClassTree) -> Result<(), NoMemory>
-    ensures { OnOk result (out.new.items ≡ out.old.items ++ too_many which.Fields (option_map (λ one. one.0) (slice_get (fields class.now) 64))) }
+    ensures { OnOk result (out.new.items ≡ out.old.items
+        ++ too_many which.Fields (option_map (λ one. one.0) (slice_get (fields class.now) 64))) }
 {
     let fields = fields(alloc, class)?;
     match fields.get(64) {
@@ -168,7 +171,8 @@ fn declarations(alloc: Global, out: &mut Vec<Finding>, class: &ClassTree) -> Res
 
 // The names of the classes.
 fn class_names(alloc: Global, out: &mut Vec<Finding>, classes: &[ClassTree]) -> Result<(), NoMemory>
-    ensures { OnOk result (out.new.items ≡ out.old.items ++ class_names (map (λ class. class.name) classes.now)) }
+    ensures { OnOk result (out.new.items ≡ out.old.items
+        ++ class_names (map (λ class. class.name) classes.now)) }
 {
     let mut names = Vec::new(alloc);
     for class in classes {
@@ -201,7 +205,8 @@ fn all_members<'a>(
     known: &Classes<'a>,
     classes: &'a [ClassTree],
 ) -> Result<(), NoMemory>
-    ensures { OnOk result (out.new.items ≡ out.old.items ++ flat_map (members known.now) classes.now) }
+    ensures { OnOk result (out.new.items ≡ out.old.items
+        ++ flat_map (members known.now) classes.now) }
 {
     for class in classes {
         members(alloc, out, known, class)?;

@@ -10,8 +10,8 @@ use brace_syntax::{ClassTree, CombName, MemberTree, TyName};
 use std::alloc::Global;
 use std::marker::Model;
 
-/// A state or an effect, by its number among the states or the effects of its class; of an effect, whether what is assigned
-/// to it is added up.
+/// A state or an effect, by its number among the states or the effects of its class; of an effect,
+/// whether what is assigned to it is added up.
 #[derive(Debug, Clone, Copy, PartialEq, Eq, Drop)]
 pub enum Field {
     State(u32),
@@ -144,7 +144,8 @@ impl<'a> Classes<'a> {
 
     /// What a name stands for in the class of a number.
     pub fn field(&self, class: Option<u32>, name: &[u8]) -> Option<Field>
-        ensures { result ≡ option_and_then (λ own. look own name.now) (option_and_then (slice_get self.now.fields) class) }
+        ensures { result ≡ option_and_then (λ own. look own name.now)
+            (option_and_then (slice_get self.now.fields) class) }
     {
         self.fields.get(class? as usize)?.look(name)
     }

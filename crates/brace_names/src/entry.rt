@@ -1,14 +1,15 @@
-ghost use Rattle.std.specs.Prelude.{◌≡◌, [], ◌++◌, flat_map, slice_get, if◌then◌else◌, IfOk, IfErr, OnOk, IfNone, IfSome};
+ghost use Rattle.std.specs.Prelude.{◌≡◌, ℕ, List, [], ◌++◌, map, flat_map, slice_get, if◌then◌else◌, IfOk, IfErr, OnOk, IfNone, IfSome};
 ghost use Rattle.brace_tok.specs.declared.kinds.Token.{Token};
 ghost use Rattle.brace_tok.specs.Spells.{Spells};
 ghost use Rattle.brace_syntax.specs.Reads.{Reads};
-ghost use Rattle.brace_names.specs.Faults.{fault_of, binding_of, site_of, assignment_of, too_many, faults_among, faults, bindings, pass, place, is_before, IsFirst, Refuses};
+ghost use Rattle.brace_names.specs.Faults.{fault_of, binding_of, site_of, assignment_of, too_many, faults_among, faults, bindings, pass, place, is_before, IsFirst, Refuses, AreRising};
+ghost use Rattle.brace_names.specs.declared.fault.NameFault.TheVariants as fault;
 
 use crate::class::found;
 use crate::fault::{NameFault, Which};
 use crate::finding::Finding;
 use crate::resolved::{Binding, Resolved};
-use brace_num::{List, NoMemory};
+use brace_num::NoMemory;
 use brace_syntax::Tree;
 use std::alloc::Global;
 
@@ -135,19 +136,23 @@ fn first(faults: &[NameFault]) -> Option<NameFault>
     Some(best)
 }
 
-/// The script with what its names stand for, or the first fault of its names: that of the earliest of the seven passes that
-/// has one, and the one at the least offset in it. `NoMemory` comes only where the allocator refused, or where more than
-/// 4,294,967,295 things of one kind are numbered, which no script of 1,048,576 bytes has.
+/// The script with what its names stand for, or the first fault of its names: that of the earliest
+/// of the seven passes that has one, and the one at the least offset in it. `NoMemory` comes only
+/// where the allocator refused, or where more than 4,294,967,295 things of one kind are numbered,
+/// which no script of 1,048,576 bytes has.
 pub fn resolve(alloc: Global, tree: Tree) -> Result<Resolved, NameFault>
     ensures tree { IfOk result (λ r. r.tree ≡ tree) }
     ensures bindings { IfOk result (λ r. r.bindings ≡ bindings tree) }
+    ensures rising { (src : List ℕ) (toks : List Token) → Spells src toks
+        → Reads src toks tree → IfOk result (λ r. AreRising 0 (map (λ b. b.at) r.bindings)) }
     ensures faultless { OnOk result (faults tree ≡ []) }
     ensures first { IfErr result (Refuses tree) }
+    ensures accepted { faults tree ≡ [] → IfErr result (λ f. f ≡ fault.NoMemory) }
 {
     let all = found(alloc, &tree)?;
     if let Some(fault) = first(faults(alloc, all.as_slice())?.as_slice()) {
         return Err(fault);
     }
-    let bindings = List::from_vec(names(alloc, all.as_slice())?);
+    let bindings = brace_num::List::from_vec(names(alloc, all.as_slice())?);
     Ok(Resolved { tree, bindings })
 }

@@ -6,8 +6,8 @@ use indexmap::IndexMap;
 use std::alloc::Global;
 use std::marker::Model;
 
-/// What names stand for, in the order of their first sight. Contracts see it as the list of its names with what each
-/// stands for.
+/// What names stand for, in the order of their first sight. Contracts see it as the list of its
+/// names with what each stands for.
 #[derive(Drop)]
 pub struct Names<'a, V> {
     index: IndexMap<&'a [u8], V>,
@@ -48,7 +48,8 @@ impl<'a, V: Copy + Drop> Names<'a, V> {
         self.index.get(&name).copied()
     }
 
-    /// Lets the name stand for this, unless it stands for something already. Says whether it does so now.
+    /// Lets the name stand for this, unless it stands for something already. Says whether it does
+    /// so now.
     pub fn add(&mut self, name: &'a [u8], value: V) -> Result<bool, NoMemory>
         ensures added { OnOk result (self.new ≡ with_name self.old name.now value) }
         ensures fresh { IfOk result (λ fresh. fresh ≡ not (has self.old name.now)) }

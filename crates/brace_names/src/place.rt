@@ -102,7 +102,8 @@ fn of_loop(
     variable: &Ident,
     word: &Ident,
 ) -> Result<(), NoMemory>
-    ensures { OnOk result (out.new.items ≡ out.old.items ++ names_of_loop scope.now variable.now word.now) }
+    ensures { OnOk result (out.new.items ≡ out.old.items
+        ++ names_of_loop scope.now variable.now word.now) }
 {
     if let Some(Local::Loop(loops, class)) = scope.local(variable.text.as_bytes()) {
         if let Some(field) = scope.field_in(class, word.text.as_bytes()) {
@@ -120,7 +121,8 @@ pub fn read_of_loop(
     variable: &Ident,
     word: &Ident,
 ) -> Result<(), NoMemory>
-    ensures { OnOk result (out.new.items ≡ out.old.items ++ reads_of_loop scope.now variable.now word.now) }
+    ensures { OnOk result (out.new.items ≡ out.old.items
+        ++ reads_of_loop scope.now variable.now word.now) }
 {
     if scope.in_query() {
         of_loop(out, scope, variable, word)?;
@@ -150,7 +152,8 @@ pub fn assign_of_loop(
     variable: &Ident,
     word: &Ident,
 ) -> Result<(), NoMemory>
-    ensures { OnOk result (out.new.items ≡ out.old.items ++ assigns_of_loop scope.now variable.now word.now) }
+    ensures { OnOk result (out.new.items ≡ out.old.items
+        ++ assigns_of_loop scope.now variable.now word.now) }
 {
     of_loop(out, scope, variable, word)?;
     assignment(out, variable.at)
@@ -192,7 +195,8 @@ pub fn loop_over(
     first: &Ident,
     second: &Ident,
 ) -> Result<(), NoMemory>
-    ensures { OnOk result (out.new.items ≡ out.old.items ++ loops_over scope.now first.now second.now) }
+    ensures { OnOk result (out.new.items ≡ out.old.items
+        ++ loops_over scope.now first.now second.now) }
 {
     let text = second.text.as_bytes();
     class(out, first.at, scope.class_number(first.text.as_bytes()))?;

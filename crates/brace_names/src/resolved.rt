@@ -23,9 +23,9 @@ pub struct Binding {
     pub target: Target,
 }
 
-/// A script and what its names stand for, by rising offset: the two classes of a `foreach`, a field or constant in an
-/// expression, both names of `q.n` in a query, and the names of an assignment's target or a gift's. A `q.n` outside a query
-/// has none.
+/// A script and what its names stand for, by rising offset: the two classes of a `foreach`, a field
+/// or constant in an expression, both names of `q.n` in a query, and the names of an assignment's
+/// target or a gift's. A `q.n` outside a query has none.
 #[derive(Debug, Drop)]
 pub struct Resolved {
     pub tree: Tree,

@@ -9,8 +9,8 @@ use brace_syntax::Ident;
 use std::alloc::Global;
 use std::marker::Model;
 
-/// A constant by its number in its class, or a loop variable by the number of loops that its loop stands in, with the
-/// number of the class looped over where there is one of the name.
+/// A constant by its number in its class, or a loop variable by the number of loops that its loop
+/// stands in, with the number of the class looped over where there is one of the name.
 #[derive(Debug, Clone, Copy, PartialEq, Eq, Drop)]
 pub enum Local {
     Constant(u32),
@@ -33,7 +33,14 @@ impl<'s, 'a> Model for Scope<'s, 'a> {
 
     ghost Value = { Scope };
 
-    ghost view = { λ s. record { known = s.known.now; own = s.own.now; in_query = s.in_query; locals = s.locals; loops = s.loops; constants = s.constants } };
+    ghost view = { λ s. record {
+      known = s.known.now;
+      own = s.own.now;
+      in_query = s.in_query;
+      locals = s.locals;
+      loops = s.loops;
+      constants = s.constants;
+    } };
 }
 
 impl<'s, 'a> Scope<'s, 'a> {
@@ -126,9 +133,13 @@ impl<'s, 'a> Scope<'s, 'a> {
         Ok(())
     }
 
-    /// A block ends that began in so many loops and with so many constants and loop variables in scope.
+    /// A block ends that began in so many loops and with so many constants and loop variables in
+    /// scope.
     pub fn leave(&mut self, loops: u32, len: usize)
-        ensures { self.new ≡ record self.old { loops = loops; locals = take len self.old.locals } }
+        ensures { self.new ≡ record self.old {
+          loops = loops;
+          locals = take len self.old.locals;
+        } }
     {
         self.loops = loops;
         self.locals.keep(len);

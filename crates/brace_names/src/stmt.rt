@@ -65,8 +65,10 @@ pub fn block<'a>(
     scope: &mut Scope<'_, 'a>,
     statements: &'a List<StmtTree>,
 ) -> Result<(), NoMemory>
-    ensures found { OnOk result (out.new.items ≡ out.old.items ++ block (map part statements.now) scope.old) }
-    ensures behind { OnOk result (scope.new ≡ past (constants_in (map part statements.now)) scope.old) }
+    ensures found { OnOk result (out.new.items ≡ out.old.items
+        ++ block (map part statements.now) scope.old) }
+    ensures behind { OnOk result (scope.new
+        ≡ past (constants_in (map part statements.now)) scope.old) }
 {
     let loops = scope.loops();
     let len = scope.len();

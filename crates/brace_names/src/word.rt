@@ -59,7 +59,8 @@ impl<'a> Word<'a> {
 // A word more is seen; its offset is noted where it is seen again.
 fn see<'a>(seen: &mut Names<'a, ()>, again: &mut Vec<u32>, word: &Word<'a>) -> Result<(), NoMemory>
     ensures seen { OnOk result (seen.new ≡ with_name seen.old word.now.text tt) }
-    ensures again { OnOk result (again.new.items ≡ again.old.items ++ (if has seen.old word.now.text then word.now.at ∷ [] else [])) }
+    ensures again { OnOk result (again.new.items ≡ again.old.items
+        ++ (if has seen.old word.now.text then word.now.at ∷ [] else [])) }
 {
     if !seen.add(word.text(), ())? {
         again.push(word.at())?;
