@@ -21,15 +21,17 @@ if ! flock -n 9; then
 fi
 [ ! -x "$built" ] || exit 0
 
-# The crates that the program stands on, itself included.
-total=$(awk '{ sub(/:$/, "", $1); if ($1 != "") for (i = 1; i <= NF; i++) line[$1] = line[$1] " " $i }
+# The crates that the program stands on, itself included, lowest first.
+crates=$(awk '{ sub(/:$/, "", $1); if ($1 != "") line[$1] = $0 }
   function visit(name,  words, n, i) {
     if (name in seen || !(name in line)) return
-    seen[name]; count++
+    seen[name]
     n = split(line[name], words, " ")
-    for (i = 1; i <= n; i++) visit(words[i])
+    for (i = 2; i <= n; i++) visit(words[i])
+    print name
   }
-  END { visit("brace_main"); print count }' "$top/crates.txt")
+  END { visit("brace_main") }' "$top/crates.txt")
+total=$(echo "$crates" | wc -l)
 
 say "building the program: the toolchain proves the $total crates that it builds, which took 10 minutes on four cores when none was proved"
 started=$(date +%s)
@@ -39,11 +41,12 @@ job=$!
 trap 'kill -- -$job 2>/dev/null || true; say "interrupted; nothing was built"; exit 1' INT TERM HUP
 told=
 while kill -0 $job 2>/dev/null; do
-  now=$(grep -o 'rt: chose --jobs [0-9]* for [a-z_]*' "$log" | awk '{ print $NF }' | awk '!seen[$0]++' | awk 'END { print NR ", " $0 }')
-  minutes=$((($(date +%s) - started) / 60))
-  if [ "$now $minutes" != "$told" ] && [ "${now#*, }" != "" ]; then
-    say "crate ${now%%,*} of $total (${now#*, }), $minutes min"
-    told="$now $minutes"
+  crate=$(sed -n 's/^rt: chose --jobs [0-9]* for //p' "$log" | tail -1)
+  number=$(echo "$crates" | grep -nx "$crate" | cut -d : -f 1)
+  now="crate $number of $total ($crate), $((($(date +%s) - started) / 60)) min"
+  if [ -n "$crate" ] && [ "$now" != "$told" ]; then
+    say "$now"
+    told=$now
   fi
   sleep 1
 done
