@@ -1,0 +1,161 @@
+-- What holds of the members of a class in which nothing is found.
+use Rattle.std.proofs.Common.{◌≡◌, refl, sym, ap, subst, ◌∙◌, ℕ, zero, suc, ◌+◌, ◌≤◌, ◌<◌, nat_lt, Bool, true, false, List, [], ◌∷◌, ◌++◌, map, flat_map, length, arith, tests}
+use Rattle.std.specs.Prelude.{not, ◌&&◌, nat_eq, IsTrue, Option, Some, None, slice_get, unwrap_or, sum}
+use Rattle.std.specs.List.{AllByRecursion, IsDistinct, list_all, range_with_len}
+use Rattle.std.proofs.lemmas.Bool.{true≢false, ne_eqb}
+use Rattle.brace_syntax.specs.declared.tree.MemberTree.{MemberTree}
+use Rattle.brace_syntax.specs.declared.tree.MemberTree.TheVariants as m
+use Rattle.brace_names.specs.declared.resolved.Target.{Target}
+use Rattle.brace_model.specs.declared.program.Stmt.{Stmt}
+use Rattle.brace_model.specs.Query.{constants}
+use Rattle.brace_model.specs.Sites.{constant_numbers}
+use Rattle.brace_model.specs.Lawful.{is_distance, combines}
+use Rattle.brace_check.specs.declared.fault.CheckFault.{CheckFault}
+use Rattle.brace_check.specs.declared.fault.CheckFault.TheVariants.{BadRange, WrongCombinator}
+use Rattle.brace_check.specs.declared.heading.Heading.{Heading}
+use Rattle.brace_check.specs.declared.share.Share.{Share}
+use Rattle.brace_check.specs.Headings.{type_named, comb_named}
+use Rattle.brace_check.specs.Scopes.{outermost}
+use Rattle.brace_check.specs.Findings.{fault_if, millionths, ranges, joins}
+use Rattle.brace_check.specs.Found.{member}
+use Rattle.brace_check.specs.Programs.{effect_of, visible_of, reach_of, first_or_0, share, shares}
+use Rattle.brace_check.proofs.Rising.{Rises, range_rises}
+use Rattle.brace_check.proofs.ConstantNumbers.{BlockDeclares, none_declared, block_declares}
+
+module _ {A : Type 0} where
+  pub nil_front : (xs ys : List A) → xs ++ ys ≡ [] → xs ≡ []
+  nil_front [] ys h = refl
+  nil_front (x ∷ xs) ys h = absurd (cc)
+
+  pub nil_back : (xs ys : List A) → xs ++ ys ≡ [] → ys ≡ []
+  nil_back [] ys h = h
+  nil_back (x ∷ xs) ys h = absurd (cc)
+
+none_if : (test : Bool) (f : CheckFault) → fault_if (not test) f ≡ [] → test ≡ true
+none_if true f h = refl
+none_if false f h = absurd (cc)
+
+pub both_true : (p q : Bool) → p ≡ true → q ≡ true → (p && q) ≡ true
+both_true true q h g = g
+both_true false q h g = absurd (true≢false (sym h))
+
+module _ (targets : List (ℕ × Target)) (headings : List Heading) (own : ℕ) where
+  abbrev rest : MemberTree → List MemberTree → Type 0
+  rest one members = flat_map (member targets headings own) (one ∷ members) ≡ []
+
+  behind_one : (one : MemberTree) (members : List MemberTree) → rest one members → flat_map (member targets headings own) members ≡ []
+  behind_one one members h = nil_back (member targets headings own one) (flat_map (member targets headings own) members) h
+
+  first_one : (one : MemberTree) (members : List MemberTree) → rest one members → member targets headings own one ≡ []
+  first_one one members h = nil_front (member targets headings own one) (flat_map (member targets headings own) members) h
+
+  -- the visible range is a distance
+  pub visible_fits : (members : List MemberTree) → flat_map (member targets headings own) members ≡ []
+      → IsTrue (is_distance (first_or_0 (flat_map visible_of members)))
+  visible_fits [] h = refl
+  visible_fits (m.Visible range at ∷ members) h =
+      none_if (is_distance (millionths range.digits)) (BadRange range.at) (first_one (m.Visible range at) members h)
+  visible_fits (m.Reach range at ∷ members) h = visible_fits members (behind_one (m.Reach range at) members h)
+  visible_fits (m.State shared type name x at ∷ members) h = visible_fits members (behind_one (m.State shared type name x at) members h)
+  visible_fits (m.Effect shared type name c at ∷ members) h = visible_fits members (behind_one (m.Effect shared type name c at) members h)
+  visible_fits (m.Run block at ∷ members) h = visible_fits members (behind_one (m.Run block at) members h)
+  visible_fits (m.Die x at ∷ members) h = visible_fits members (behind_one (m.Die x at) members h)
+  visible_fits (m.Spawn x gifts at ∷ members) h = visible_fits members (behind_one (m.Spawn x gifts at) members h)
+
+  -- so is the reach
+  pub reach_fits : (members : List MemberTree) → flat_map (member targets headings own) members ≡ []
+      → IsTrue (is_distance (first_or_0 (flat_map reach_of members)))
+  reach_fits [] h = refl
+  reach_fits (m.Reach range at ∷ members) h =
+      none_if (is_distance (millionths range.digits)) (BadRange range.at) (first_one (m.Reach range at) members h)
+  reach_fits (m.Visible range at ∷ members) h = reach_fits members (behind_one (m.Visible range at) members h)
+  reach_fits (m.State shared type name x at ∷ members) h = reach_fits members (behind_one (m.State shared type name x at) members h)
+  reach_fits (m.Effect shared type name c at ∷ members) h = reach_fits members (behind_one (m.Effect shared type name c at) members h)
+  reach_fits (m.Run block at ∷ members) h = reach_fits members (behind_one (m.Run block at) members h)
+  reach_fits (m.Die x at ∷ members) h = reach_fits members (behind_one (m.Die x at) members h)
+  reach_fits (m.Spawn x gifts at ∷ members) h = reach_fits members (behind_one (m.Spawn x gifts at) members h)
+
+  -- combinators fit
+  pub effects_fit : (members : List MemberTree) → flat_map (member targets headings own) members ≡ []
+      → IsTrue (list_all (λ e. combines e.comb e.ty) (flat_map effect_of members))
+  effects_fit [] h = refl
+  effects_fit (m.Effect shared type name c at ∷ members) h =
+      both_true (combines (comb_named c) (type_named type)) (list_all (λ e. combines e.comb e.ty) (flat_map effect_of members))
+      (none_if (combines (comb_named c) (type_named type)) (WrongCombinator name.at) (first_one (m.Effect shared type name c at) members h))
+      (effects_fit members (behind_one (m.Effect shared type name c at) members h))
+  effects_fit (m.Visible range at ∷ members) h = effects_fit members (behind_one (m.Visible range at) members h)
+  effects_fit (m.Reach range at ∷ members) h = effects_fit members (behind_one (m.Reach range at) members h)
+  effects_fit (m.State shared type name x at ∷ members) h = effects_fit members (behind_one (m.State shared type name x at) members h)
+  effects_fit (m.Run block at ∷ members) h = effects_fit members (behind_one (m.Run block at) members h)
+  effects_fit (m.Die x at ∷ members) h = effects_fit members (behind_one (m.Die x at) members h)
+  effects_fit (m.Spawn x gifts at ∷ members) h = effects_fit members (behind_one (m.Spawn x gifts at) members h)
+
+-- a block whose constants are numbered from 0 on
+pub record FromZero (b : List Stmt) : Type 0 where
+  pub count : ℕ
+  pub declares : BlockDeclares b 0 count
+
+joined : (xs ys : List (List Stmt)) → AllByRecursion FromZero xs → AllByRecursion FromZero ys → AllByRecursion FromZero (xs ++ ys)
+joined [] ys here there = there
+joined (x ∷ xs) ys here there = (here.0, joined xs ys here.1 there)
+
+module _ (targets : List (ℕ × Target)) (headings : List Heading) (own : ℕ) where
+  one_from_zero : (one : MemberTree) (n : ℕ) → AllByRecursion FromZero ((share targets headings own one).behind n).queries
+  one_from_zero (m.Run statements at) n =
+      (record { count = _; declares = block_declares statements (outermost targets headings own true) n }, tt)
+  one_from_zero (m.Visible range at) n = tt
+  one_from_zero (m.Reach range at) n = tt
+  one_from_zero (m.State shared type name x at) n = tt
+  one_from_zero (m.Effect shared type name c at) n = tt
+  one_from_zero (m.Die x at) n = tt
+  one_from_zero (m.Spawn x gifts at) n = tt
+
+  -- the constants of each query are numbered from 0 on
+  pub from_zero : (members : List MemberTree) (n : ℕ) → AllByRecursion FromZero ((shares targets headings own members).behind n).queries
+  from_zero [] n = tt
+  from_zero (one ∷ members) n =
+      joined ((share targets headings own one).behind n).queries
+      ((shares targets headings own members).behind (n + length (share targets headings own one).sites)).queries
+      (one_from_zero one n) (from_zero members (n + length (share targets headings own one).sites))
+
+-- the first of them
+pub first_from_zero : (queries : List (List Stmt)) → AllByRecursion FromZero queries → FromZero (unwrap_or (slice_get queries 0) [])
+first_from_zero [] h = record { count = 0; declares = none_declared 0 }
+first_from_zero (b ∷ queries) h = h.0
+
+below : (a c : ℕ) → a < c → nat_lt a c ≡ true
+below a c h = grind (arith, tests)
+
+below_range : (a n c : ℕ) → a + n ≤ c → list_all (λ k. nat_lt k c) (range_with_len a n) ≡ true
+below_range a zero c h = refl
+below_range a (suc n) c h =
+    let more : (a + 1) + n ≤ c = omega (arith, h) in
+    let here : a < c = omega (arith, h) in
+    both_true (nat_lt a c) (list_all (λ k. nat_lt k c) (range_with_len (a + 1) n)) (below a c here) (below_range (a + 1) n c more)
+
+apart : (lo hi x : ℕ) (xs : List ℕ) → x < lo → Rises lo hi xs → AllByRecursion (λ y. nat_eq x y ≡ false) xs
+apart lo hi x [] under h = tt
+apart lo hi x (y ∷ ys) under h =
+    let at : lo ≤ y = h.0 in
+    let less : x < y = omega (arith, under, at) in
+    let further : x < y + 1 = omega (arith, less) in
+    (ne_eqb x y (λ e. let same : x ≡ y = e in absurd (omega (arith, less, same))), apart (y + 1) hi x ys further h.1)
+
+-- numbers that rise differ
+pub distinct_from_rises : (lo hi : ℕ) (xs : List ℕ) → Rises lo hi xs → IsDistinct nat_eq xs
+unfolding IsDistinct
+distinct_from_rises lo hi [] h = tt
+distinct_from_rises lo hi (x ∷ xs) h =
+    let under : x < x + 1 = omega arith in
+    (apart (x + 1) hi x xs under h.1, distinct_from_rises (x + 1) hi xs h.1)
+
+-- so the constants of a query have numbers of their own
+pub constants_below : (b : List Stmt) → FromZero b → list_all (λ n. nat_lt n (sum (map constants b))) (flat_map constant_numbers b) ≡ true
+constants_below b z =
+    subst (λ (l : List ℕ). list_all (λ n. nat_lt n (sum (map constants b))) l ≡ true) (sym z.declares.numbers)
+    (subst (λ (c : ℕ). list_all (λ n. nat_lt n c) (range_with_len 0 z.count) ≡ true) (sym z.declares.many)
+    (below_range 0 z.count z.count (omega arith)))
+
+pub constants_apart : (b : List Stmt) → FromZero b → IsDistinct nat_eq (flat_map constant_numbers b)
+constants_apart b z =
+    subst (IsDistinct nat_eq) (sym z.declares.numbers) (distinct_from_rises 0 (0 + z.count) (range_with_len 0 z.count) (range_rises 0 z.count))

@@ -1,0 +1,74 @@
+-- The first of some faults, by pass and rank, in the order in which they are found.
+use Rattle.std.proofs.Common.{◌≡◌, refl, sym, ap, subst, ◌∙◌, ℕ, nat_lt, Bool, true, false, List, [], ◌∷◌, ◌++◌, append_assoc, fold, Some, arith, tests, inl, inr}
+use Rattle.std.specs.Prelude.{◌==◌, ◌&&◌, ◌||◌, if◌then◌else◌}
+use Rattle.std.specs.List.{AllByRecursion}
+use Rattle.std.proofs.lemmas.Bool.{cases_Bool}
+use Rattle.std.proofs.lemmas.List.{append-nil}
+use Rattle.brace_check.specs.declared.fault.CheckFault.{CheckFault}
+use Rattle.brace_check.specs.Faults.{pass, rank, is_before, earlier, first, IsFirst}
+
+abbrev lex : ℕ → ℕ → ℕ → ℕ → Bool
+lex a p b q = nat_lt a b || (a == b && nat_lt p q)
+
+lex-transitive : (a p b q c r : ℕ) → lex a p b q ≡ true → lex b q c r ≡ true → lex a p c r ≡ true
+lex-transitive a p b q c r ab bc = grind (arith, tests)
+
+lex-past : (a p b q c r : ℕ) → lex a p b q ≡ true → lex c r b q ≡ false → lex a p c r ≡ true
+lex-past a p b q c r ab cb = grind (arith, tests)
+
+lex-apart : (a p b q : ℕ) → lex a p b q ≡ true → lex b q a p ≡ false
+lex-apart a p b q ab = grind (arith, tests)
+
+module _ {A : Type 0} where
+  each : (P Q : A → Type 0) → ((x : A) → P x → Q x) → (xs : List A) → AllByRecursion P xs → AllByRecursion Q xs
+  each P Q next [] done = tt
+  each P Q next (x ∷ xs) done = (next x done.0, each P Q next xs done.1)
+
+  joined : (P : A → Type 0) (xs ys : List A) → AllByRecursion P xs → AllByRecursion P ys → AllByRecursion P (xs ++ ys)
+  joined P [] ys here there = there
+  joined P (x ∷ xs) ys here there = (here.0, joined P xs ys here.1 there)
+
+-- a fault that is before the first one is before all
+before_all : (f x : CheckFault) (all : List CheckFault) → IsFirst f all → is_before x f ≡ true → AllByRecursion (λ g. is_before x g ≡ true) all
+before_all f x all best xf =
+    subst (λ (l : List CheckFault). AllByRecursion (λ g. is_before x g ≡ true) l) (sym best.stands)
+    (joined (λ g. is_before x g ≡ true) best.earlier_ones (f ∷ best.later_ones)
+    (each (λ g. is_before f g ≡ true) (λ g. is_before x g ≡ true)
+    (λ g fg. lex-transitive (pass x) (rank x) (pass f) (rank f) (pass g) (rank g) xf fg) best.earlier_ones best.is_before_earlier_ones) (
+      xf,
+      each (λ g. is_before g f ≡ false) (λ g. is_before x g ≡ true)
+          (λ g gf. lex-past (pass x) (rank x) (pass f) (rank f) (pass g) (rank g) xf gf) best.later_ones best.no_later_one_is_before,
+    ))
+
+-- one fault more is found
+step : (f x : CheckFault) (all : List CheckFault) → IsFirst f all → IsFirst (earlier f x) (all ++ x ∷ [])
+step f x all best = elim (cases_Bool (is_before x f)) [
+  | inl before ↦ rw before (record {
+    earlier_ones = all;
+    later_ones = [];
+    stands = refl;
+    is_before_earlier_ones = before_all f x all best before;
+    no_later_one_is_before = tt;
+  })
+  | inr apart ↦ rw apart (record {
+    earlier_ones = best.earlier_ones;
+    later_ones = best.later_ones ++ x ∷ [];
+    stands = ap (λ (l : List CheckFault). l ++ x ∷ []) best.stands ∙ append_assoc best.earlier_ones (f ∷ best.later_ones) (x ∷ []);
+    is_before_earlier_ones = best.is_before_earlier_ones;
+    no_later_one_is_before = joined (λ g. is_before g f ≡ false) best.later_ones (x ∷ []) best.no_later_one_is_before (apart, tt);
+  })
+]
+
+steps : (f : CheckFault) (done xs : List CheckFault) → IsFirst f done → IsFirst (fold earlier f xs) (done ++ xs)
+steps f done [] best = subst (λ (l : List CheckFault). IsFirst f l) (sym (append-nil done)) best
+steps f done (x ∷ xs) best =
+    subst (λ (l : List CheckFault). IsFirst (fold earlier (earlier f x) xs) l) (append_assoc done (x ∷ []) xs)
+    (steps (earlier f x) (done ++ x ∷ []) xs (step f x done best))
+
+-- what is answered is the first of the faults
+pub first_is_first : (all : List CheckFault) (f : CheckFault) → first all ≡ Some f → IsFirst f all
+first_is_first [] f h = absurd (cc)
+first_is_first (x ∷ xs) f h =
+    let e : fold earlier x xs ≡ f = cc in
+    subst (λ (g : CheckFault). IsFirst g (x ∷ xs)) e
+    (steps x (x ∷ []) xs (record { earlier_ones = []; later_ones = []; stands = refl; is_before_earlier_ones = tt; no_later_one_is_before = tt }))

@@ -1,0 +1,69 @@
+-- Numbers that rise strictly from one bound on and stay below another.
+use Rattle.std.proofs.Common.{◌≡◌, refl, sym, ap, subst, ◌∙◌, ℕ, zero, suc, ◌+◌, ◌≤◌, ◌<◌, List, [], ◌∷◌, ◌++◌, flat_map, arith}
+use Rattle.std.specs.Prelude.{Option, Some, None, slice_get, option_to_list}
+use Rattle.std.specs.Ordering.{nat_cmp}
+use Rattle.std.specs.declared.cmp.Ordering.TheVariants.{Less}
+use Rattle.std.specs.Cmp.{nat_cmp_is}
+use Rattle.std.specs.List.{AllByRecursion, range_with_len}
+use Rattle.std.specs.List.Sorted.{IsStrictlyIncreasing, IsStrictlySortedBy}
+use Rattle.std.proofs.lemmas.Map.Keys.{IsStrictlyIncreasing-from_sorted}
+use Rattle.std.proofs.lemmas.List.{append-nil}
+
+abbrev pub Rises : ℕ → ℕ → List ℕ → Type 0
+Rises lo hi [] = lo ≤ hi
+Rises lo hi (x ∷ xs) = (lo ≤ x) × Rises (x + 1) hi xs
+
+-- from a lower bound on
+pub rises_from : (lower lo hi : ℕ) (xs : List ℕ) → lower ≤ lo → Rises lo hi xs → Rises lower hi xs
+rises_from lower lo hi [] under h = omega (arith, under, h)
+rises_from lower lo hi (x ∷ xs) under h = (let at : lo ≤ x = h.0 in omega (arith, under, at), h.1)
+
+-- the bounds of numbers that rise
+pub bounds_rise : (lo hi : ℕ) (xs : List ℕ) → Rises lo hi xs → lo ≤ hi
+bounds_rise lo hi [] h = h
+bounds_rise lo hi (x ∷ xs) h =
+    let at : lo ≤ x = h.0 in
+    let past : x + 1 ≤ hi = bounds_rise (x + 1) hi xs h.1 in
+    omega (arith, at, past)
+
+-- numbers behind others
+pub rises-joined : (lo mid hi : ℕ) (xs ys : List ℕ) → Rises lo mid xs → Rises mid hi ys → Rises lo hi (xs ++ ys)
+rises-joined lo mid hi [] ys h g = rises_from lo mid hi ys h g
+rises-joined lo mid hi (x ∷ xs) ys h g = (h.0, rises-joined (x + 1) mid hi xs ys h.1 g)
+
+-- the front of numbers that rise
+pub front_rises : (lo hi : ℕ) (xs ys : List ℕ) → Rises lo hi (xs ++ ys) → Rises lo hi xs
+front_rises lo hi [] ys h = bounds_rise lo hi ys h
+front_rises lo hi (x ∷ xs) ys h = (h.0, front_rises (x + 1) hi xs ys h.1)
+
+-- so many numbers in turn
+pub range_rises : (n c : ℕ) → Rises n (n + c) (range_with_len n c)
+range_rises n zero = omega arith
+range_rises n (suc c) =
+    let more : (n + 1) + c ≡ n + suc c = omega arith in
+    (omega arith, subst (λ (hi : ℕ). Rises (n + 1) hi (range_with_len (n + 1) c)) more (range_rises (n + 1) c))
+
+above : (lo hi x : ℕ) (xs : List ℕ) → x < lo → Rises lo hi xs → AllByRecursion (λ y. nat_cmp x y ≡ Less) xs
+above lo hi x [] under h = tt
+above lo hi x (y ∷ ys) under h =
+    let at : lo ≤ y = h.0 in
+    let less : x < y = omega (arith, under, at) in
+    let further : x < y + 1 = omega (arith, less) in
+    (sym (nat_cmp_is x y Less less), above (y + 1) hi x ys further h.1)
+
+sorted_from_rises : (lo hi : ℕ) (xs : List ℕ) → Rises lo hi xs → IsStrictlySortedBy nat_cmp xs
+unfolding IsStrictlySortedBy
+sorted_from_rises lo hi [] h = tt
+sorted_from_rises lo hi (x ∷ xs) h =
+    let under : x < x + 1 = omega arith in
+    (above (x + 1) hi x xs under h.1, sorted_from_rises (x + 1) hi xs h.1)
+
+-- what rises between bounds increases
+pub increasing_from_rises : (lo hi : ℕ) (xs : List ℕ) → Rises lo hi xs → IsStrictlyIncreasing xs
+increasing_from_rises lo hi xs h = IsStrictlyIncreasing-from_sorted xs (sorted_from_rises lo hi xs h)
+
+module _ {A : Type 0} (f : A → List ℕ) where
+  -- what the first of some things has rises, where what all of them have does
+  pub first_rises : (lo hi : ℕ) (xs : List A) → Rises lo hi (flat_map f xs) → Rises lo hi (flat_map f (option_to_list (slice_get xs 0)))
+  first_rises lo hi [] h = h
+  first_rises lo hi (x ∷ xs) h = subst (Rises lo hi) (sym (append-nil (f x))) (front_rises lo hi (f x) (flat_map f xs) h)

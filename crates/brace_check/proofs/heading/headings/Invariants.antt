@@ -1,0 +1,6 @@
+use Rattle.std.proofs.Common.{◌≡◌, ◌++◌, [], length, map, flat_map, take, drop, fold, ◌+◌}
+use Rattle.brace_check.specs.Headings.{heading}
+use Rattle.brace_check.proofs.heading.headings.Given as goal
+
+abbrev pub invariant-loop-class : goal.invariant-loop-class
+invariant-loop-class l = l.all.items ≡ map heading (take l.class-index l.classes)

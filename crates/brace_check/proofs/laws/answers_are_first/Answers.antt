@@ -1,0 +1,5 @@
+use Rattle.brace_check.proofs.FirstLemmas.{first_is_first}
+use Rattle.brace_check.proofs.laws.answers_are_first.Goals as goal
+
+pub returns : goal.returns
+returns c all f h = first_is_first all f h

@@ -1,0 +1,6 @@
+use Rattle.std.proofs.Common.{◌≡◌, ◌++◌, [], length, map, flat_map, take, drop, fold, ◌+◌}
+use Rattle.brace_check.specs.Programs.{effect_of}
+use Rattle.brace_check.proofs.program.effects.Given as goal
+
+abbrev pub invariant-loop-member : goal.invariant-loop-member
+invariant-loop-member l = l.all ≡ flat_map effect_of (take l.member-index l.members)

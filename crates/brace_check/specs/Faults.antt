@@ -1,0 +1,65 @@
+-- Which fault of the check passes is answered.
+use Rattle.std.specs.Prelude.{◌≡◌, ℕ, nat_lt, Bool, true, false, ◌==◌, ◌&&◌, ◌||◌, List, ◌∷◌, ◌++◌, Option, Some, ⊤, if◌then◌else◌}
+use Rattle.std.specs.List.{AllByRecursion, reduce}
+use Rattle.brace_names.specs.declared.resolved.Resolved.{Resolved}
+use Rattle.brace_check.specs.declared.fault.CheckFault.{CheckFault}
+use Rattle.brace_check.specs.declared.fault.CheckFault.TheVariants as fault
+use Rattle.brace_check.specs.Scopes.{targets_of}
+use Rattle.brace_check.specs.Found.{found}
+
+-- the pass that has a fault
+abbrev pub pass : CheckFault → ℕ
+pass (fault.OtherAgentInUpdate at) = 1
+pass (fault.ReadsEffectInQuery at) = 2
+pass (fault.AssignsState at) = 3
+pass (fault.AssignsEffect at) = 4
+pass (fault.PrivateOfOtherClass at) = 5
+pass (fault.NestedTooDeep at) = 6
+pass (fault.BadRange at) = 7
+pass (fault.WrongCombinator at) = 8
+pass (fault.WrongType at) = 9
+pass fault.NoMemory = 10
+
+-- by what two faults of one pass are ordered: their places; those of types stand as they are found,
+-- in finishing order
+abbrev pub rank : CheckFault → ℕ
+rank (fault.OtherAgentInUpdate at) = at
+rank (fault.ReadsEffectInQuery at) = at
+rank (fault.AssignsState at) = at
+rank (fault.AssignsEffect at) = at
+rank (fault.PrivateOfOtherClass at) = at
+rank (fault.NestedTooDeep at) = at
+rank (fault.BadRange at) = at
+rank (fault.WrongCombinator at) = at
+rank (fault.WrongType at) = 0
+rank fault.NoMemory = 0
+
+-- an earlier pass decides, then the rank
+abbrev pub is_before : CheckFault → CheckFault → Bool
+is_before f g = nat_lt (pass f) (pass g) || (pass f == pass g && nat_lt (rank f) (rank g))
+
+-- the one of two faults that is answered, of which the first was found first
+abbrev pub earlier : CheckFault → CheckFault → CheckFault
+earlier f g = if is_before g f then g else f
+
+-- the one of these faults, in the order in which they are found, that is answered
+abbrev pub first : List CheckFault → Option CheckFault
+first = reduce earlier
+
+-- the fault is the first of these: it is before each that was found before it, and none that was
+-- found after it is before it
+pub record IsFirst (f : CheckFault) (all : List CheckFault) : Type 0 where
+  pub earlier_ones : List CheckFault
+  pub later_ones : List CheckFault
+  pub stands : all ≡ earlier_ones ++ f ∷ later_ones
+  pub is_before_earlier_ones : AllByRecursion (λ g. is_before f g ≡ true) earlier_ones
+  pub no_later_one_is_before : AllByRecursion (λ g. is_before g f ≡ false) later_ones
+
+-- the faults of a script with what its names stand for
+abbrev pub faults : Resolved → List CheckFault
+faults r = found (targets_of r.bindings) r.tree
+
+-- what a fault says of a script
+abbrev pub Refuses : Resolved → CheckFault → Type 0
+Refuses r fault.NoMemory = ⊤
+Refuses r f = first (faults r) ≡ Some f

@@ -1,0 +1,152 @@
+ghost use Rattle.std.specs.Prelude.{◌≡◌, ◌++◌, flat_map, length, slice_get, OnOk, IfOk};
+ghost use Rattle.brace_check.specs.Programs.{effect_of, visible_of, reach_of, first_or_0, place_of, class_with, class_of, classes_from, program_with};
+
+use crate::finding::millionths;
+use crate::heading::{Heading, comb_named, type_named};
+use crate::share::{Share, shares};
+use crate::targets::Targets;
+use brace_model::{Class, Effect, Program, State};
+use brace_num::{List, NoMemory};
+use brace_syntax::{ClassTree, MemberTree};
+use std::alloc::Global;
+
+// The effects that members declare.
+fn effects(alloc: Global, members: &[MemberTree]) -> Result<List<Effect>, NoMemory>
+    ensures { IfOk result (λ all. all ≡ flat_map effect_of members.now) }
+{
+    let mut all = List::new(alloc);
+    for member in members {
+        if let MemberTree::Effect(shared, ty, name, comb, _) = member {
+            all.push(Effect {
+                name: name.text.copy(alloc)?,
+                ty: type_named(ty),
+                shared: *shared,
+                comb: comb_named(*comb),
+            })?;
+        }
+    }
+    Ok(all)
+}
+
+// The visible range that members give, in millionths.
+fn visible(members: &[MemberTree]) -> Result<i64, NoMemory>
+    ensures { IfOk result (λ n. n ≡ first_or_0 (flat_map visible_of members.now)) }
+{
+    for member in members {
+        if let MemberTree::Visible(number, _) = member {
+            return millionths(number.digits);
+        }
+    }
+    Ok(0)
+}
+
+// The reach that members give, in millionths.
+fn reach(members: &[MemberTree]) -> Result<i64, NoMemory>
+    ensures { IfOk result (λ n. n ≡ first_or_0 (flat_map reach_of members.now)) }
+{
+    for member in members {
+        if let MemberTree::Reach(number, _) = member {
+            return millionths(number.digits);
+        }
+    }
+    Ok(0)
+}
+
+// The place of the state of a name.
+fn place_of(name: &[u8], states: &[State]) -> Result<u32, NoMemory>
+    ensures { IfOk result (λ place. place ≡ place_of name.now states.now) }
+{
+    let mut place = 0;
+    for state in states {
+        if state.name.as_bytes() == name {
+            return Ok(place);
+        }
+        place = place.checked_add(1).ok_or(NoMemory)?;
+    }
+    Ok(place)
+}
+
+// The first of a list.
+fn first<T: Drop>(items: List<T>) -> Option<T>
+    ensures { result ≡ slice_get items 0 }
+{
+    items.into_vec().into_iter().next()
+}
+
+// A class whose members have this together.
+fn class_with(alloc: Global, class: &ClassTree, all: Share) -> Result<Class, NoMemory>
+    ensures { IfOk result (λ c. c ≡ class_with class.now all) }
+{
+    let members = class.members.as_slice();
+    let x = place_of(b"x", all.states.as_slice())?;
+    let y = place_of(b"y", all.states.as_slice())?;
+    Ok(Class {
+        name: class.name.text.copy(alloc)?,
+        visible: visible(members)?,
+        reach: reach(members)?,
+        x,
+        y,
+        states: all.states,
+        effects: effects(alloc, members)?,
+        query: first(all.queries).unwrap_or(List::new(alloc)),
+        die: first(all.die),
+        spawn: first(all.spawn),
+    })
+}
+
+// The class of a number. Its sites are noted in finishing order.
+fn class_of(
+    alloc: Global,
+    sites: &mut Vec<u32>,
+    targets: &Targets,
+    headings: &[Heading],
+    number: u32,
+    class: &ClassTree,
+) -> Result<Class, NoMemory>
+    ensures noted { OnOk result (sites.new.items ≡ sites.old.items
+        ++ (class_of targets.now headings.now number class.now).sites) }
+    ensures meant { IfOk result (λ c. c
+        ≡ (class_of targets.now headings.now number class.now).behind (length sites.old.items)) }
+{
+    let all = shares(alloc, sites, targets, headings, number, class)?;
+    class_with(alloc, class, all)
+}
+
+// The classes of a script. Their sites are noted in finishing order.
+fn classes(
+    alloc: Global,
+    sites: &mut Vec<u32>,
+    targets: &Targets,
+    headings: &[Heading],
+    trees: &[ClassTree],
+) -> Result<List<Class>, NoMemory>
+    ensures noted { OnOk result (sites.new.items ≡ sites.old.items
+        ++ (classes_from targets.now headings.now 0 trees.now).sites) }
+    ensures meant { IfOk result (λ c. c
+        ≡ (classes_from targets.now headings.now 0 trees.now).behind (length sites.old.items)) }
+{
+    let mut all = List::new(alloc);
+    let mut number = 0;
+    for class in trees {
+        all.push(class_of(alloc, sites, targets, headings, number, class)?)?;
+        number = number.checked_add(1).ok_or(NoMemory)?;
+    }
+    Ok(all)
+}
+
+/// The program of classes whose names at offsets stand for these targets.
+pub fn program(
+    alloc: Global,
+    targets: &Targets,
+    headings: &[Heading],
+    trees: &[ClassTree],
+) -> Result<Program, NoMemory>
+    ensures { IfOk result (λ p. p ≡ program_with (classes_from targets.now headings.now 0 trees.now)) }
+{
+    let mut sites = Vec::new(alloc);
+    let classes = classes(alloc, &mut sites, targets, headings, trees)?;
+    Ok(Program {
+        classes,
+        sites: List::from_vec(sites),
+    })
+}

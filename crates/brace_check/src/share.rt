@@ -1,0 +1,151 @@
+ghost use Rattle.std.specs.Prelude.{◌≡◌, ◌++◌, map, length, OnOk, IfOk};
+ghost use Rattle.brace_check.specs.Programs.{rule, gifts_in, spawn_of, no_share, share, shared_by, shares};
+
+use crate::heading::{Heading, type_named};
+use crate::meaning::{expression, site};
+use crate::scope::{Scope, number_of};
+use crate::statement::block;
+use crate::targets::Targets;
+use brace_model::{Expr, Gift, Spawn, State, Stmt};
+use brace_num::{List, NoMemory};
+use brace_syntax::{ClassTree, ExprTree, GiftTree, MemberTree};
+use std::alloc::Global;
+
+/// What the members of a class have of what is numbered over the whole script.
+#[derive(Debug, Drop)]
+pub struct Share {
+    pub states: List<State>,
+    pub queries: List<List<Stmt>>,
+    pub die: List<Expr>,
+    pub spawn: List<Spawn>,
+}
+
+fn rule(
+    alloc: Global,
+    sites: &mut Vec<u32>,
+    scope: &Scope,
+    x: &Option<ExprTree>,
+) -> Result<Option<Expr>, NoMemory>
+    ensures noted { OnOk result (sites.new.items ≡ sites.old.items ++ (rule x.now scope.now).sites) }
+    ensures meant { IfOk result (λ r. r ≡ (rule x.now scope.now).behind (length sites.old.items)) }
+{
+    match x {
+        Some(x) => Ok(Some(expression(alloc, sites, scope, x)?)),
+        None => Ok(None),
+    }
+}
+
+// What the gifts of a `spawn` mean.
+fn gifts(
+    alloc: Global,
+    sites: &mut Vec<u32>,
+    scope: &Scope,
+    given: &List<GiftTree>,
+) -> Result<List<Gift>, NoMemory>
+    ensures noted { OnOk result (sites.new.items ≡ sites.old.items ++ (gifts_in given.now scope.now).sites) }
+    ensures meant { IfOk result (λ gifts. gifts
+        ≡ (gifts_in given.now scope.now).behind (length sites.old.items)) }
+{
+    let mut gifts = List::new(alloc);
+    for one in given.as_slice() {
+        let state = number_of(scope.stands(one.state.at));
+        let value = expression(alloc, sites, scope, &one.value)?;
+        gifts.push(Gift { state, value })?;
+    }
+    Ok(gifts)
+}
+
+// What a `spawn` at an offset means.
+fn spawn(
+    alloc: Global,
+    sites: &mut Vec<u32>,
+    scope: &Scope,
+    condition: &ExprTree,
+    given: &List<GiftTree>,
+    at: u32,
+) -> Result<Spawn, NoMemory>
+    ensures noted { OnOk result (sites.new.items ≡ sites.old.items
+        ++ (spawn_of condition.now given.now at scope.now).sites) }
+    ensures meant { IfOk result (λ s. s
+        ≡ (spawn_of condition.now given.now at scope.now).behind (length sites.old.items)) }
+{
+    let when = expression(alloc, sites, scope, condition)?;
+    let gifts = gifts(alloc, sites, scope, given)?;
+    let site = site(sites, at)?;
+    Ok(Spawn { when, gifts, site })
+}
+
+// Adds what a member of the class of a number has.
+fn add(
+    alloc: Global,
+    sites: &mut Vec<u32>,
+    all: &mut Share,
+    targets: &Targets,
+    headings: &[Heading],
+    own: u32,
+    one: &MemberTree,
+) -> Result<(), NoMemory>
+    ensures noted { OnOk result (sites.new.items ≡ sites.old.items
+        ++ (share targets.now headings.now own one.now).sites) }
+    ensures meant { OnOk result (all.new
+        ≡ shared_by all.old
+        ((share targets.now headings.now own one.now).behind (length sites.old.items))) }
+{
+    match one {
+        MemberTree::State(shared, ty, name, x, _) => {
+            let scope = Scope::outermost(alloc, targets, headings, own, false);
+            let rule = rule(alloc, sites, &scope, x)?;
+            all.states.push(State {
+                name: name.text.copy(alloc)?,
+                ty: type_named(ty),
+                shared: *shared,
+                rule,
+            })
+        }
+        MemberTree::Run(statements, _) => {
+            let mut scope = Scope::outermost(alloc, targets, headings, own, true);
+            let query = block(alloc, sites, &mut scope, statements)?;
+            all.queries.push(query)
+        }
+        MemberTree::Die(condition, _) => {
+            let scope = Scope::outermost(alloc, targets, headings, own, false);
+            let condition = expression(alloc, sites, &scope, condition)?;
+            all.die.push(condition)
+        }
+        MemberTree::Spawn(condition, given, at) => {
+            let scope = Scope::outermost(alloc, targets, headings, own, false);
+            let spawn = spawn(alloc, sites, &scope, condition, given, *at)?;
+            all.spawn.push(spawn)
+        }
+        MemberTree::Visible(_, _) | MemberTree::Reach(_, _) => Ok(()),
+        MemberTree::Effect(_, _, _, _, _) => Ok(()),
+    }
+}
+
+/// What the members of the class of a number have together. Their sites are noted in finishing
+/// order.
+pub fn shares(
+    alloc: Global,
+    sites: &mut Vec<u32>,
+    targets: &Targets,
+    headings: &[Heading],
+    own: u32,
+    class: &ClassTree,
+) -> Result<Share, NoMemory>
+    ensures noted { OnOk result (sites.new.items ≡ sites.old.items
+        ++ (shares targets.now headings.now own class.now.members).sites) }
+    ensures meant { IfOk result (λ s. s
+        ≡ (shares targets.now headings.now own class.now.members).behind
+        (length sites.old.items)) }
+{
+    let mut all = Share {
+        states: List::new(alloc),
+        queries: List::new(alloc),
+        die: List::new(alloc),
+        spawn: List::new(alloc),
+    };
+    for one in class.members.as_slice() {
+        add(alloc, sites, &mut all, targets, headings, own, one)?;
+    }
+    Ok(all)
+}

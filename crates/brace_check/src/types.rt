@@ -1,0 +1,213 @@
+ghost use Rattle.std.specs.Prelude.{◌≡◌};
+ghost use Rattle.brace_model.specs.Typing.{same_type, is_number, unary_type, operation_type, binary_type, choice_type};
+ghost use Rattle.brace_check.specs.Types.{unary_named, binary_named, place, digits_type, field_type, name_type, of_loop_type, type_of};
+
+use crate::scope::Scope;
+use brace_model::{BinOp, Ty, UnOp};
+use brace_names::Target;
+use brace_syntax::{BinName, Digits, ExprTree, Ident, UnName};
+
+/// The operation of a name with one operand.
+pub fn unary_named(name: UnName) -> UnOp
+    ensures { result ≡ unary_named name }
+{
+    match name {
+        UnName::Neg => UnOp::Neg,
+        UnName::Not => UnOp::Not,
+        UnName::Abs => UnOp::Abs,
+        UnName::Sqrt => UnOp::Sqrt,
+        UnName::ToFixed => UnOp::ToFixed,
+        UnName::Trunc => UnOp::Trunc,
+    }
+}
+
+/// The operation of a name with two operands.
+pub fn binary_named(name: BinName) -> BinOp
+    ensures { result ≡ binary_named name }
+{
+    match name {
+        BinName::Add => BinOp::Add,
+        BinName::Sub => BinOp::Sub,
+        BinName::Mul => BinOp::Mul,
+        BinName::Div => BinOp::Div,
+        BinName::Rem => BinOp::Rem,
+        BinName::Lt => BinOp::Lt,
+        BinName::Le => BinOp::Le,
+        BinName::Gt => BinOp::Gt,
+        BinName::Ge => BinOp::Ge,
+        BinName::Eq => BinOp::Eq,
+        BinName::Ne => BinOp::Ne,
+        BinName::And => BinOp::And,
+        BinName::Or => BinOp::Or,
+        BinName::Min => BinOp::Min,
+        BinName::Max => BinOp::Max,
+    }
+}
+
+/// Whether two types are one.
+pub fn same_type(a: Ty, b: Ty) -> bool
+    ensures { result ≡ same_type a b }
+{
+    match (a, b) {
+        (Ty::Int, Ty::Int) | (Ty::Fixed, Ty::Fixed) | (Ty::Bool, Ty::Bool) => true,
+        _ => false,
+    }
+}
+
+/// Whether a type counts.
+pub fn is_number(ty: Ty) -> bool
+    ensures { result ≡ is_number ty }
+{
+    match ty {
+        Ty::Bool => false,
+        Ty::Int | Ty::Fixed => true,
+    }
+}
+
+// The type that an operation gives for the type of its operand.
+fn unary_type(op: UnOp, ty: Ty) -> Option<Ty>
+    ensures { result ≡ unary_type op ty }
+{
+    match (op, ty) {
+        (UnOp::Neg | UnOp::Abs, Ty::Int | Ty::Fixed) => Some(ty),
+        (UnOp::Not, Ty::Bool) => Some(Ty::Bool),
+        (UnOp::Sqrt, Ty::Fixed) => Some(Ty::Fixed),
+        (UnOp::ToFixed, Ty::Int) => Some(Ty::Fixed),
+        (UnOp::Trunc, Ty::Fixed) => Some(Ty::Int),
+        _ => None,
+    }
+}
+
+// The type that an operation gives for two operands of one type.
+fn operation_type(op: BinOp, ty: Ty) -> Option<Ty>
+    ensures { result ≡ operation_type op ty }
+{
+    match op {
+        BinOp::Add | BinOp::Sub | BinOp::Mul | BinOp::Div | BinOp::Min | BinOp::Max => {
+            if is_number(ty) { Some(ty) } else { None }
+        }
+        BinOp::Rem => if same_type(ty, Ty::Int) {
+            Some(Ty::Int)
+        } else {
+            None
+        },
+        BinOp::Lt | BinOp::Le | BinOp::Gt | BinOp::Ge => {
+            if is_number(ty) { Some(Ty::Bool) } else { None }
+        }
+        BinOp::Eq | BinOp::Ne => Some(Ty::Bool),
+        BinOp::And | BinOp::Or => {
+            if same_type(ty, Ty::Bool) {
+                Some(Ty::Bool)
+            } else {
+                None
+            }
+        }
+    }
+}
+
+// The type that an operation gives for two operands.
+fn binary_type(op: BinOp, a: Ty, b: Ty) -> Option<Ty>
+    ensures { result ≡ binary_type op a b }
+{
+    if same_type(a, b) {
+        operation_type(op, a)
+    } else {
+        None
+    }
+}
+
+// The type of a choice between two values.
+fn choice_type(condition: Ty, a: Ty, b: Ty) -> Option<Ty>
+    ensures { result ≡ choice_type condition a b }
+{
+    if same_type(condition, Ty::Bool) && same_type(a, b) {
+        Some(a)
+    } else {
+        None
+    }
+}
+
+/// The offset of an expression: of its operator, of its word, or of its first token.
+pub fn place(x: &ExprTree) -> u32
+    ensures { result ≡ place x.now }
+{
+    match x {
+        ExprTree::Lit(number) => number.at,
+        ExprTree::Name(name) | ExprTree::OfLoop(name, _) => name.at,
+        ExprTree::True(at) | ExprTree::False(at) | ExprTree::Rand(at) => *at,
+        ExprTree::OfThis(_, at) | ExprTree::Unary(_, _, at) => *at,
+        ExprTree::Binary(_, _, _, at) | ExprTree::Choice(_, _, _, at) => *at,
+    }
+}
+
+fn digits_type(digits: Digits) -> Ty
+    ensures { result ≡ digits_type digits }
+{
+    match digits {
+        Digits::Int(_) => Ty::Int,
+        Digits::Fixed(_) => Ty::Fixed,
+    }
+}
+
+// The type of a field of a class.
+fn field_type(scope: &Scope, class: u32, field: Option<Target>) -> Option<Ty>
+    ensures { result ≡ field_type scope.now class field }
+{
+    match field {
+        Some(Target::State(n)) => scope.state_in(class, n).map(|state| state.ty),
+        Some(Target::Effect(n)) => scope.effect_in(class, n).map(|effect| effect.ty),
+        _ => None,
+    }
+}
+
+// The type of a constant, or of a field of `this`.
+fn name_type(scope: &Scope, name: Option<Target>) -> Option<Ty>
+    ensures { result ≡ name_type scope.now name }
+{
+    match name {
+        Some(Target::Local(n)) => scope.constant(n),
+        _ => field_type(scope, scope.own(), name),
+    }
+}
+
+// The type of `q.n`.
+fn of_loop_type(scope: &Scope, variable: &Ident, name: &Ident) -> Option<Ty>
+    ensures { result ≡ of_loop_type scope.now variable.now name.now }
+{
+    let class = scope.loop_class(scope.stands(variable.at))?;
+    field_type(scope, class, scope.stands(name.at))
+}
+
+/// The type of an expression, or the offset of the first operation, in finishing order, that does
+/// not fit its operands.
+pub fn type_of(scope: &Scope, x: &ExprTree) -> Result<Ty, u32>
+    ensures { result ≡ type_of x.now scope.now }
+{
+    match x {
+        ExprTree::Lit(number) => Ok(digits_type(number.digits)),
+        ExprTree::True(_) | ExprTree::False(_) => Ok(Ty::Bool),
+        ExprTree::Name(name) => name_type(scope, scope.stands(name.at)).ok_or(name.at),
+        ExprTree::OfThis(name, at) => {
+            field_type(scope, scope.own(), scope.stands(name.at)).ok_or(*at)
+        }
+        ExprTree::OfLoop(variable, name) => {
+            of_loop_type(scope, variable, name).ok_or(variable.at)
+        }
+        ExprTree::Unary(op, x, at) => {
+            let operand = type_of(scope, x.get())?;
+            unary_type(unary_named(*op), operand).ok_or(*at)
+        }
+        ExprTree::Binary(op, x, y, at) => {
+            let left = type_of(scope, x.get())?;
+            let right = type_of(scope, y.get())?;
+            binary_type(binary_named(*op), left, right).ok_or(*at)
+        }
+        ExprTree::Choice(c, x, y, at) => {
+            let condition = type_of(scope, c.get())?;
+            let left = type_of(scope, x.get())?;
+            let right = type_of(scope, y.get())?;
+            choice_type(condition, left, right).ok_or(*at)
+        }
+        ExprTree::Rand(_) => Ok(Ty::Fixed),
+    }
+}
