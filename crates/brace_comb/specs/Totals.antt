@@ -45,7 +45,8 @@ merged comb.Or a b = int_max a b
 
 -- the total of what two totals of one combinator join
 abbrev pub join : Tally → Tally → Tally
-join a b = record { comb = a.comb; number = merged a.comb a.number b.number; count = a.count + b.count }
+join a b =
+    record { comb = a.comb; number = merged a.comb a.number b.number; count = a.count + b.count }
 
 -- no value is joined yet
 abbrev pub IsIdentity : Tally → Type 0

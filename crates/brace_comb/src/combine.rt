@@ -15,15 +15,15 @@ pub trait Combine {
         ensures total { seen result ≡ tally_of comb [] }
         ensures bounded { IsBounded (seen result) };
 
-    /// The total of one value, which the combinator accepts: a flag for `or`, any value for `count`,
-    /// else a number.
+    /// The total of one value, which the combinator accepts: a flag for `or`, any value for
+    /// `count`, else a number.
     fn of(comb: Comb, v: Value) -> Self
         requires { IsTrue (accepts comb v) }
         ensures total { seen result ≡ tally_of comb (v ∷ []) }
         ensures bounded { IsBounded (seen result) };
 
-    /// Joins another total of the same combinator to this one. A sum over n values is from -2^63 n to
-    /// 2^63 n, and the two join at most 2^52 values, so that each sum fits 128 bits.
+    /// Joins another total of the same combinator to this one. A sum over n values is from -2^63 n
+    /// to 2^63 n, and the two join at most 2^52 values, so that each sum fits 128 bits.
     fn join(&mut self, other: &Self)
         requires { CanJoin (seen self.old) (seen other.now) }
         ensures joined { seen self.new ≡ join (seen self.old) (seen other.now) }
@@ -34,8 +34,8 @@ pub trait Combine {
         ensures by_identity { IsIdentity (seen other.now) → seen self.new ≡ seen self.old }
         ensures bounded { IsBounded (seen self.new) };
 
-    /// The number of the total, as expressions read it: millionths of a fixed one, 0 or 1 of a flag, the
-    /// count of `count`.
+    /// The number of the total, as expressions read it: millionths of a fixed one, 0 or 1 of a
+    /// flag, the count of `count`.
     fn number(&self) -> i128
         ensures { result ≡ (seen self.now).number };
 }

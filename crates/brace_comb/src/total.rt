@@ -3,7 +3,7 @@ ghost use Rattle.brace_model.specs.World.{number};
 ghost use Rattle.brace_comb.specs.Totals.{tally, join, IsIdentity, CanJoin, IsBounded};
 
 use crate::Combine;
-use brace_model::{Comb, Value};
+use brace_model::{Comb, Value, number};
 
 /// What the values said to an effect come to, and last in each form how many values they are.
 #[derive(Debug, Clone, Copy, PartialEq, Eq, Drop)]
@@ -17,16 +17,6 @@ pub enum Total {
     Count(u64),
     /// Whether some value is true.
     Any(bool, u64),
-}
-
-/// The whole number of a value: millionths of a fixed one, 0 or 1 of a flag.
-fn number(v: Value) -> i64
-    ensures { result ≡ number v }
-{
-    match v {
-        Value::Int(n) | Value::Fixed(n) => n,
-        Value::Flag(b) => i64::from(b),
-    }
 }
 
 /// The total of what two totals of one combinator join.

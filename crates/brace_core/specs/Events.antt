@@ -11,12 +11,15 @@ pub record State : Type 0 where
   pub place : ℕ → ℕ
   pub flight : List Name
 
+-- no turn was made and nothing flies
 abbrev pub opening : State
 opening = record { place = λ p. 0; flight = [] }
 
+-- two names are one
 abbrev pub is_name : Name → Name → Bool
 is_name a b = a.step == b.step && (a.from == b.from && a.to == b.to)
 
+-- the next turn of an actor
 abbrev pub next : Schedule → State → ℕ → Turn
 next s x p = turn_at s p (x.place p)
 
@@ -55,6 +58,7 @@ abbrev pub are_enabled : Schedule → State → List ℕ → Bool
 are_enabled s x [] = true
 are_enabled s x (p ∷ events) = is_enabled s x p && are_enabled s (after s x p) events
 
+-- the state after the events of a list
 abbrev pub after_all : Schedule → State → List ℕ → State
 after_all s x [] = x
 after_all s x (p ∷ events) = after_all s (after s x p) events
@@ -64,12 +68,15 @@ abbrev pub turns_made : Schedule → State → List ℕ → List Turn
 turns_made s x [] = []
 turns_made s x (p ∷ events) = next s x p ∷ turns_made s (after s x p) events
 
+-- no actor has a turn left
 abbrev pub AllDone : Schedule → State → Type 0
 AllDone s x = (p : ℕ) → p < s.actors → next s x p ≡ Done
 
+-- the name is one of the lane from p to q
 abbrev pub is_on : ℕ → ℕ → Name → Bool
 is_on p q n = n.from == p && n.to == q
 
+-- the names that the turns put
 abbrev pub names_put : List Turn → List Name
 names_put [] = []
 names_put (Put n ∷ ts) = n ∷ names_put ts
@@ -77,6 +84,7 @@ names_put (Take n ∷ ts) = names_put ts
 names_put (Work ∷ ts) = names_put ts
 names_put (Done ∷ ts) = names_put ts
 
+-- the names that the turns take
 abbrev pub names_taken : List Turn → List Name
 names_taken [] = []
 names_taken (Put n ∷ ts) = names_taken ts
@@ -96,13 +104,15 @@ OnRuns P = (s : Schedule) (events : List ℕ) → IsLawful s → IsRun s events 
 abbrev pub end_of : Schedule → List ℕ → State
 end_of s events = after_all s opening events
 
--- the names that a run put on the lane from p to q, took from it, and left in flight on it
+-- the names that a run put on the lane from p to q
 abbrev pub put_on : Schedule → List ℕ → ℕ → ℕ → List Name
 put_on s events p q = filter (is_on p q) (names_put (turns_made s opening events))
 
+-- the names that a run took from the lane
 abbrev pub taken_from : Schedule → List ℕ → ℕ → ℕ → List Name
 taken_from s events p q = filter (is_on p q) (names_taken (turns_made s opening events))
 
+-- the names that a run left in flight on the lane
 abbrev pub in_flight : Schedule → List ℕ → ℕ → ℕ → List Name
 in_flight s events p q = filter (is_on p q) (end_of s events).flight
 

@@ -1,4 +1,5 @@
--- The draw of a site: a fixed number from 0 to below 1.0, in millionths, from the word that ChaCha8 has at a key, a stream and a place.
+-- The draw of a site: a fixed number from 0 to below 1.0, in millionths, from the word that ChaCha8
+-- has at a key, a stream and a place.
 use Rattle.std.specs.Prelude.{ℕ, ◌+◌, ◌*◌, ◌/◌, ◌^◌, List, ◌++◌, replicate}
 use Rattle.std.specs.Int.{w64, to_le_bytes}
 use Rattle.rand_chacha.specs.ChaCha.{word_at, key_of}

@@ -14,7 +14,8 @@ mod tests;
 
 /// Draws of one seed.
 ///
-/// The generator keeps the block of its last draw, so draws of rising sites cost little; what a draw gives does not depend on it.
+/// The generator keeps the block of its last draw, so draws of rising sites cost little; what a
+/// draw gives does not depend on it.
 #[derive(Debug, Drop)]
 pub struct Drawer {
     pub seed: u64,
@@ -51,7 +52,8 @@ impl Drawer {
         Drawer { seed, rng }
     }
 
-    /// The draw of an agent's site in a tick, in millionths: from 0 to 999,999. No draw depends on another. The tick is at most 2^32.
+    /// The draw of an agent's site in a tick, in millionths: from 0 to 999,999. No draw depends on
+    /// another. The tick is at most 2^32.
     pub fn draw(&mut self, tick: u64, agent: u64, site: u32) -> i64
         requires { tick ≤ 2 ^ 32 }
         ensures drawn { result ≡ pos (draw_value self.old.seed tick agent site) }

@@ -5,7 +5,7 @@ ghost use Rattle.brace_eval.specs.Scopes.{scope_of};
 
 use crate::operations::{strict, total_read, unary};
 use brace_draw::Drawer;
-use brace_model::{Agent, BinOp, Env, Expr, Stop, Value, Who};
+use brace_model::{Agent, BinOp, Env, Expr, Stop, Value, Who, value_at};
 
 /// The agent that a name stands for.
 fn agent_of<'a>(env: &Env<'a>, drawer: &Drawer, who: Who) -> &'a Agent
@@ -18,17 +18,8 @@ fn agent_of<'a>(env: &Env<'a>, drawer: &Drawer, who: Who) -> &'a Agent
     }
 }
 
-/// The value at a place of an agent's states or of the constants; `false` where there is none.
-pub fn value_at(values: &[Value], place: u32) -> Value
-    ensures { result ≡ value_at values.now place }
-{
-    values
-        .get(place as usize)
-        .copied()
-        .unwrap_or(Value::Flag(false))
-}
-
-/// The value of an expression, or the first fault met from left to right: its site and its kind. It takes no memory.
+/// The value of an expression, or the first fault met from left to right: its site and its kind. It
+/// takes no memory.
 ///
 /// The tick is at most 2^32.
 pub fn eval(e: &Expr, env: &Env, drawer: &mut Drawer) -> Result<Value, Stop>

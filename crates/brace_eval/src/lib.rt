@@ -4,8 +4,7 @@
 mod expression;
 mod operations;
 
-pub use expression::{eval, value_at};
-pub use operations::number;
+pub use expression::eval;
 
 #[cfg(test)]
 mod tests;

@@ -3,22 +3,11 @@ ghost use Rattle.brace_model.specs.declared.program.Value.{Value};
 ghost use Rattle.brace_model.specs.World.{number};
 ghost use Rattle.brace_model.specs.Value.{made, typed, like, product, quotient, unary, strict, total_read};
 
-use brace_model::{BinOp, Stop, Ty, UnOp, Value};
+use brace_model::{BinOp, Stop, Ty, UnOp, Value, number};
 use brace_num::{
     Kind, abs, add, fixed_div, fixed_mul, int_div, int_mul, int_rem, neg, sqrt, sub, to_fixed,
     trunc,
 };
-
-/// The whole number of a value: millionths of a fixed one, 0 or 1 of a flag.
-pub fn number(v: Value) -> i64
-    ensures { result ≡ number v }
-{
-    match v {
-        Value::Int(n) | Value::Fixed(n) => n,
-        Value::Flag(true) => 1,
-        Value::Flag(false) => 0,
-    }
-}
 
 /// A number as a value of a type.
 fn typed(ty: Ty, n: i64) -> Value

@@ -11,7 +11,8 @@ pub record Entry : Type 0 where
   pub file : Option (List ℕ)
   pub room : ℕ
 
--- the prepared names, the numbers of the calls that fail, the numbers of calls and of failures so far, and where the shelf stands
+-- the prepared names, the numbers of the calls that fail, the numbers of calls and of failures so
+-- far, and where the shelf stands
 pub record Shelved : Type 0 where
   pub entries : List Entry
   pub fails : List ℕ
@@ -71,9 +72,12 @@ abbrev pub room_left : Option Entry → ℕ
 room_left None = 0
 room_left (Some entry) = entry.room - length (bytes_in entry.file)
 
--- the number of this call is listed, or the piece is not empty and the room of the name that is written is spent
+-- the number of this call is listed, or the piece is not empty and the room of the name that is
+-- written is spent
 abbrev pub append_fails : Shelved → List ℕ → Bool
-append_fails shelf piece = call_fails shelf || (nat_lt 0 (length piece) && spent_at (entry_written shelf.entries shelf.stage))
+append_fails shelf piece =
+    call_fails shelf || (nat_lt 0 (length piece) &&
+    spent_at (entry_written shelf.entries shelf.stage))
 
 -- the entry, with these bytes alone
 abbrev pub with_bytes : List ℕ → Option Entry → Option Entry
@@ -111,4 +115,5 @@ stopped_at (Stopped name) = Stopped name
 
 -- no other name than this changed its entry
 abbrev pub OthersAlone : List Entry → List Entry → List ℕ → Type 0
-OthersAlone before after name = (other : List ℕ) → other ≢ name → entry_of after other ≡ entry_of before other
+OthersAlone before after name =
+    (other : List ℕ) → other ≢ name → entry_of after other ≡ entry_of before other

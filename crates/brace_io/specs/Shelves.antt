@@ -5,7 +5,8 @@ use Rattle.std.specs.Prelude.{◌≡◌, ◌≢◌, ◌≤◌, ◌<◌, ◌⊎�
 abbrev pub Files : Type 0
 Files = List ℕ → Option (List ℕ)
 
--- where a shelf stands: nothing begun, reading a name from a place, writing a name, or stopped at a name by a failure; it tells names and places exactly where it tells what it holds
+-- where a shelf stands: nothing begun, reading a name from a place, writing a name, or stopped at a
+-- name by a failure; it tells names and places exactly where it tells what it holds
 pub data Stage : Type 0 where
   Idle : Stage
   Reading : Option (List ℕ × ℕ) → Stage
@@ -39,7 +40,8 @@ ReadsFrom held stage name place = stage ≡ Reading (cond (tells held) (Some (na
 
 -- the shelf reads the name from a place that is at most the limit
 abbrev pub ReadsWithin : Option Files → Stage → List ℕ → ℕ → Type 0
-ReadsWithin held stage name limit = (place : ℕ) × ((place ≤ limit) × ReadsFrom held stage name place)
+ReadsWithin held stage name limit =
+    (place : ℕ) × ((place ≤ limit) × ReadsFrom held stage name place)
 
 -- the shelf writes the name
 abbrev pub WritesTo : Option Files → Stage → List ℕ → Type 0
@@ -64,21 +66,28 @@ writes (Reading at) = false
 writes (Writing name) = true
 writes (Stopped name) = false
 
--- n bytes of the buffer are the next ones of the file from the place; none in a buffer that has room is the end
+-- n bytes of the buffer are the next ones of the file from the place; none in a buffer that has
+-- room is the end
 abbrev pub Next : List ℕ → ℕ → List ℕ → ℕ → Type 0
-Next file place buffer n = (take n buffer ≡ take n (drop place file)) × (n ≤ length (drop place file)) × (n ≡ 0 → 0 < length buffer → drop place file ≡ [])
+Next file place buffer n =
+    (take n buffer ≡ take n (drop place file)) × (n ≤ length (drop place file))
+    × (n ≡ 0 → 0 < length buffer → drop place file ≡ [])
 
 -- no other name than this changed, and the shelf tells as much as before
 abbrev pub OnlyAt : Option Files → Option Files → List ℕ → Type 0
-OnlyAt before after name = (tells after ≡ tells before) × ((other : List ℕ) → other ≢ name → held_at after other ≡ held_at before other)
+OnlyAt before after name =
+    (tells after ≡ tells before)
+    × ((other : List ℕ) → other ≢ name → held_at after other ≡ held_at before other)
 
 -- the name has the piece behind the bytes that it had
 abbrev pub Adds : Option Files → Option Files → List ℕ → List ℕ → Type 0
-Adds before after name piece = (bytes : List ℕ) → held_at before name ≡ Some bytes → held_at after name ≡ Some (bytes ++ piece)
+Adds before after name piece =
+    (bytes : List ℕ) → held_at before name ≡ Some bytes → held_at after name ≡ Some (bytes ++ piece)
 
 -- the name has some front of the piece behind the bytes that it had
 abbrev pub AddsFront : Option Files → Option Files → List ℕ → List ℕ → Type 0
-AddsFront before after name piece = (n : ℕ) × ((n ≤ length piece) × Adds before after name (take n piece))
+AddsFront before after name piece =
+    (n : ℕ) × ((n ≤ length piece) × Adds before after name (take n piece))
 
 -- where the shelf tells: the name has some front of the piece
 abbrev pub HoldsFront : Option Files → List ℕ → List ℕ → Type 0
@@ -86,8 +95,10 @@ HoldsFront held name piece = (n : ℕ) × ((n ≤ length piece) × Holds held na
 
 -- the name is as it was, or has some front of the piece alone
 abbrev pub SavedFront : Option Files → Option Files → List ℕ → List ℕ → Type 0
-SavedFront before after name piece = (held_at after name ≡ held_at before name) ⊎ HoldsFront after name piece
+SavedFront before after name piece =
+    (held_at after name ≡ held_at before name) ⊎ HoldsFront after name piece
 
 -- where the shelf tells: the name has more bytes than the limit
 abbrev pub HoldsOver : Option Files → List ℕ → ℕ → Type 0
-HoldsOver held name limit = tells held ≡ true → (file : List ℕ) × ((held_at held name ≡ Some file) × (limit < length file))
+HoldsOver held name limit =
+    tells held ≡ true → (file : List ℕ) × ((held_at held name ≡ Some file) × (limit < length file))

@@ -17,7 +17,8 @@ pub(crate) enum DirStage<F> {
     Stopped,
 }
 
-/// A shelf of host files; a name is a path from the current folder. It counts the host's failures and does not tell what files hold.
+/// A shelf of host files; a name is a path from the current folder. It counts the host's failures
+/// and does not tell what files hold.
 #[derive(Drop)]
 pub struct DirShelf<'a, R: Files> {
     rt: &'a R,

@@ -1,6 +1,8 @@
-/// A gate that each worker passes before a partition's query of a tick. It may wait, and promises nothing.
+/// A gate that each worker passes before a partition's query of a tick. It may wait, and promises
+/// nothing.
 pub trait Gate {
-    /// Passes the gate; `bench` is the worker's number, counted from 0, and `tick` the tick that begins.
+    /// Passes the gate; `bench` is the worker's number, counted from 0, and `tick` the tick that
+    /// begins.
     fn pass(&self, bench: usize, tick: u64);
 }
 

@@ -5,7 +5,8 @@ use crate::count::Count;
 use crate::{Failed, Sink};
 use std::io::{Stderr, Stdout, Write};
 
-/// A sink over a writer of the host. It counts the writer's failures and does not tell what was written.
+/// A sink over a writer of the host. It counts the writer's failures and does not tell what was
+/// written.
 #[derive(Drop)]
 pub struct HostSink<W: Write + Drop> {
     writer: W,

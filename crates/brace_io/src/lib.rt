@@ -1,4 +1,5 @@
-//! The outside of a run: a shelf of files, sinks of bytes and a gate, and reading, writing and saving whole.
+//! The outside of a run: a shelf of files, sinks of bytes and a gate, and reading, writing and
+//! saving whole.
 #![tactic(auto)]
 
 mod count;

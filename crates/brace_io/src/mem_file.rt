@@ -74,7 +74,10 @@ impl MemFile {
     /// Adds as much of the piece as there is room for, and answers its length.
     pub(crate) fn add(&mut self, piece: &[u8]) -> usize
         ensures count { result ≡ min (length piece.now) (self.old.room - length (bytes_in self.old.file)) }
-        ensures all { self.new ≡ record self.old { file = Some (bytes_in self.old.file ++ take result piece.now) } }
+        ensures all { self.new ≡ record self.old {
+          file = Some
+              (bytes_in self.old.file ++ take result piece.now);
+        } }
     {
         let n = piece.len().min(self.room.saturating_sub(self.bytes.len()));
         self.held = true;

@@ -22,9 +22,10 @@ pub(crate) enum Doing {
     Stopped,
 }
 
-/// A shelf in memory. It takes all its memory when names are held or prepared, and none in the calls of a shelf. The
-/// calls whose numbers it was given, counted from 1 over all five, fail; so do `create` of a name that was not
-/// prepared and `append` of a piece that is not empty once the room of the name is spent.
+/// A shelf in memory. It takes all its memory when names are held or prepared, and none in the
+/// calls of a shelf. The calls whose numbers it was given, counted from 1 over all five, fail; so
+/// do `create` of a name that was not prepared and `append` of a piece that is not empty once the
+/// room of the name is spent.
 #[derive(Drop)]
 pub struct MemShelf {
     alloc: Global,
@@ -69,7 +70,8 @@ impl MemShelf {
 
     /// The bytes under a name, where it is held.
     pub fn file(&self, name: &str) -> Option<&[u8]>
-        ensures { MatchOption result (files_of self.now.entries name.now ≡ None) (λ bytes. files_of self.now.entries name.now ≡ Some bytes.now) }
+        ensures { MatchOption result (files_of self.now.entries name.now ≡ None)
+            (λ bytes. files_of self.now.entries name.now ≡ Some bytes.now) }
     {
         let index = self.find(name);
         if index < self.files.len() {
@@ -81,7 +83,8 @@ impl MemShelf {
 
     /// Holds the bytes under a name, with their length as its room; refused memory changes nothing.
     pub fn hold(&mut self, name: &str, bytes: &[u8]) -> Result<(), NoMemory>
-        ensures held { OnOk result (entry_of self.new.entries name.now ≡ Some (record { name = name.now; file = Some bytes.now; room = length bytes.now })) }
+        ensures held { OnOk result (entry_of self.new.entries name.now ≡
+            Some (record { name = name.now; file = Some bytes.now; room = length bytes.now })) }
         ensures others { OthersAlone self.old.entries self.new.entries name.now }
         ensures rest { self.new ≡ record self.old { entries = self.new.entries } }
         ensures refused { OnErr result (self.new ≡ self.old) }
@@ -99,10 +102,11 @@ impl MemShelf {
         Ok(())
     }
 
-    /// Prepares a room in bytes in which a file of the name can be created; what is held stays, and refused memory
-    /// changes nothing.
+    /// Prepares a room in bytes in which a file of the name can be created; what is held stays, and
+    /// refused memory changes nothing.
     pub fn prepare(&mut self, name: &str, room: u64) -> Result<(), NoMemory>
-        ensures prepared { OnOk result (entry_of self.new.entries name.now ≡ Some (record { name = name.now; file = files_of self.old.entries name.now; room = room })) }
+        ensures prepared { OnOk result (entry_of self.new.entries name.now ≡
+            Some (record { name = name.now; file = files_of self.old.entries name.now; room = room })) }
         ensures others { OthersAlone self.old.entries self.new.entries name.now }
         ensures rest { self.new ≡ record self.old { entries = self.new.entries } }
         ensures refused { OnErr result (self.new ≡ self.old) }
@@ -144,7 +148,11 @@ impl MemShelf {
 
     /// Counts a failure, and stops at the name.
     fn stop(&mut self, name: Tag)
-        ensures stopped { self.new ≡ record self.old { faults = next_count self.old.faults; stage = Stopped (Some name.numbers) } }
+        ensures stopped { self.new ≡ record self.old {
+          faults = next_count self.old.faults;
+          stage = Stopped
+              (Some name.numbers);
+        } }
         ensures never_falls { self.old.faults ≤ self.new.faults }
     {
         self.faults.raise();
@@ -154,7 +162,8 @@ impl MemShelf {
 
     /// The bytes of the file that is read.
     fn open_bytes(&self) -> &[u8]
-        ensures { (name : List ℕ) (place : ℕ) → self.now.stage ≡ Reading (Some (name, place)) → result.now ≡ bytes_in (files_of self.now.entries name) }
+        ensures { (name : List ℕ) (place : ℕ) → self.now.stage ≡ Reading (Some (name, place))
+            → result.now ≡ bytes_in (files_of self.now.entries name) }
     {
         let index = self.index;
         if index >= self.files.len() {
@@ -174,12 +183,17 @@ impl MemShelf {
         self.files[self.index].is_spent()
     }
 
-    /// Adds as much of the piece as there is room for to the file that is written, and answers its length.
+    /// Adds as much of the piece as there is room for to the file that is written, and answers its
+    /// length.
     fn add(&mut self, piece: &[u8]) -> usize
         requires { IsWriting (Some (files_of self.old.entries)) self.old.stage }
-        ensures count { result ≡ min (length piece.now) (room_left (entry_written self.old.entries self.old.stage)) }
-        ensures adds { (name : List ℕ) → self.old.stage ≡ Writing (Some name) → entry_of self.new.entries name ≡ with_more (take result piece.now) (entry_of self.old.entries name) }
-        ensures others { (name : List ℕ) → self.old.stage ≡ Writing (Some name) → OthersAlone self.old.entries self.new.entries name }
+        ensures count { result ≡ min (length piece.now)
+            (room_left (entry_written self.old.entries self.old.stage)) }
+        ensures adds { (name : List ℕ) → self.old.stage ≡ Writing (Some name)
+            → entry_of self.new.entries name ≡
+            with_more (take result piece.now) (entry_of self.old.entries name) }
+        ensures others { (name : List ℕ) → self.old.stage ≡ Writing (Some name)
+            → OthersAlone self.old.entries self.new.entries name }
         ensures rest { self.new ≡ record self.old { entries = self.new.entries } }
     {
         self.files[self.index].add(piece)
@@ -211,10 +225,17 @@ impl Shelf for MemShelf {
         ensures never_falls { self.old.faults ≤ self.new.faults }
         ensures fails { (result ≡ Err ReadFault.Failed) ↔ (call_fails self.old ≡ true) }
         ensures has { OnOk result (is_some (files_of self.old.entries name.now) ≡ true) }
-        ensures reads { OnOk result (self.new ≡ record self.old { calls = next_count self.old.calls; stage = Reading (Some (name.now, 0)) }) }
+        ensures reads { OnOk result (self.new ≡
+            record self.old {
+              calls = next_count self.old.calls;
+              stage = Reading
+                  (Some (name.now, 0));
+            }) }
         ensures lacks { result ≡ Err ReadFault.Absent → files_of self.old.entries name.now ≡ None }
-        ensures idle { result ≡ Err ReadFault.Absent → self.new ≡ record self.old { calls = next_count self.old.calls; stage = Idle } }
-        ensures stops { result ≡ Err ReadFault.Failed → self.new ≡ record self.old { calls = next_count self.old.calls; faults = next_count self.old.faults; stage = Stopped (Some name.now) } }
+        ensures idle { result ≡ Err ReadFault.Absent
+            → self.new ≡ record self.old { calls = next_count self.old.calls; stage = Idle } }
+        ensures stops { result ≡ Err ReadFault.Failed
+            → self.new ≡ record self.old { calls = next_count self.old.calls; faults = next_count self.old.faults; stage = Stopped (Some name.now) } }
     {
         if self.refuses() {
             self.stop(spoken(name));
@@ -235,11 +256,15 @@ impl Shelf for MemShelf {
         requires { IsReading (Some (files_of self.old.entries)) self.old.stage }
         ensures never_falls { self.old.faults ≤ self.new.faults }
         ensures fails { is_err result ≡ call_fails self.old }
-        ensures count { IfOk result (λ n. n ≡ min (length buffer.old) (length (unread self.old.entries self.old.stage))) }
-        ensures bytes { IfOk result (λ n. buffer.new ≡ take n (unread self.old.entries self.old.stage) ++ drop n buffer.old) }
-        ensures moves { IfOk result (λ n. self.new ≡ record self.old { calls = next_count self.old.calls; stage = moved_on n self.old.stage }) }
+        ensures count { IfOk result (λ n. n ≡
+            min (length buffer.old) (length (unread self.old.entries self.old.stage))) }
+        ensures bytes { IfOk result (λ n. buffer.new ≡
+            take n (unread self.old.entries self.old.stage) ++ drop n buffer.old) }
+        ensures moves { IfOk result (λ n. self.new ≡
+            record self.old { calls = next_count self.old.calls; stage = moved_on n self.old.stage }) }
         ensures untouched { OnErr result (buffer.new ≡ buffer.old) }
-        ensures stops { OnErr result (self.new ≡ record self.old { calls = next_count self.old.calls; faults = next_count self.old.faults; stage = stopped_at self.old.stage }) }
+        ensures stops { OnErr result (self.new ≡
+            record self.old { calls = next_count self.old.calls; faults = next_count self.old.faults; stage = stopped_at self.old.stage }) }
     {
         if self.refuses() {
             self.stop_here();
@@ -255,10 +280,13 @@ impl Shelf for MemShelf {
     fn create(&mut self, name: &str) -> Result<(), Failed>
         ensures never_falls { self.old.faults ≤ self.new.faults }
         ensures fails { is_err result ≡ create_fails self.old name.now }
-        ensures empties { OnOk result (entry_of self.new.entries name.now ≡ with_bytes [] (entry_of self.old.entries name.now)) }
+        ensures empties { OnOk result (entry_of self.new.entries name.now ≡
+            with_bytes [] (entry_of self.old.entries name.now)) }
         ensures others { OthersAlone self.old.entries self.new.entries name.now }
-        ensures writes { OnOk result (self.new ≡ record self.old { entries = self.new.entries; calls = next_count self.old.calls; stage = Writing (Some name.now) }) }
-        ensures stops { OnErr result (self.new ≡ record self.old { calls = next_count self.old.calls; faults = next_count self.old.faults; stage = Stopped (Some name.now) }) }
+        ensures writes { OnOk result (self.new ≡
+            record self.old { entries = self.new.entries; calls = next_count self.old.calls; stage = Writing (Some name.now) }) }
+        ensures stops { OnErr result (self.new ≡
+            record self.old { calls = next_count self.old.calls; faults = next_count self.old.faults; stage = Stopped (Some name.now) }) }
     {
         if self.refuses() {
             self.stop(spoken(name));
@@ -280,11 +308,17 @@ impl Shelf for MemShelf {
         requires { IsWriting (Some (files_of self.old.entries)) self.old.stage }
         ensures never_falls { self.old.faults ≤ self.new.faults }
         ensures fails { is_err result ≡ append_fails self.old piece.now }
-        ensures count { IfOk result (λ n. n ≡ min (length piece.now) (room_left (entry_written self.old.entries self.old.stage))) }
-        ensures adds { IfOk result (λ n. (name : List ℕ) → self.old.stage ≡ Writing (Some name) → entry_of self.new.entries name ≡ with_more (take n piece.now) (entry_of self.old.entries name)) }
-        ensures others { (name : List ℕ) → self.old.stage ≡ Writing (Some name) → OthersAlone self.old.entries self.new.entries name }
-        ensures rest { OnOk result (self.new ≡ record self.old { entries = self.new.entries; calls = next_count self.old.calls }) }
-        ensures stops { OnErr result (self.new ≡ record self.old { calls = next_count self.old.calls; faults = next_count self.old.faults; stage = stopped_at self.old.stage }) }
+        ensures count { IfOk result (λ n. n ≡
+            min (length piece.now) (room_left (entry_written self.old.entries self.old.stage))) }
+        ensures adds { IfOk result (λ n. (name : List ℕ) → self.old.stage ≡ Writing (Some name)
+            → entry_of self.new.entries name ≡
+            with_more (take n piece.now) (entry_of self.old.entries name)) }
+        ensures others { (name : List ℕ) → self.old.stage ≡ Writing (Some name)
+            → OthersAlone self.old.entries self.new.entries name }
+        ensures rest { OnOk result (self.new ≡
+            record self.old { entries = self.new.entries; calls = next_count self.old.calls }) }
+        ensures stops { OnErr result (self.new ≡
+            record self.old { calls = next_count self.old.calls; faults = next_count self.old.faults; stage = stopped_at self.old.stage }) }
     {
         if self.refuses() {
             self.stop_here();
@@ -300,8 +334,10 @@ impl Shelf for MemShelf {
     fn finish(&mut self) -> Result<(), Failed>
         ensures never_falls { self.old.faults ≤ self.new.faults }
         ensures fails { is_err result ≡ call_fails self.old }
-        ensures ends { OnOk result (self.new ≡ record self.old { calls = next_count self.old.calls; stage = Idle }) }
-        ensures stops { OnErr result (self.new ≡ record self.old { calls = next_count self.old.calls; faults = next_count self.old.faults; stage = stopped_at self.old.stage }) }
+        ensures ends { OnOk result (self.new ≡
+            record self.old { calls = next_count self.old.calls; stage = Idle }) }
+        ensures stops { OnErr result (self.new ≡
+            record self.old { calls = next_count self.old.calls; faults = next_count self.old.faults; stage = stopped_at self.old.stage }) }
     {
         if self.refuses() {
             self.stop_here();

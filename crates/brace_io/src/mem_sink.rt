@@ -9,8 +9,9 @@ use brace_num::NoMemory;
 use std::alloc::Global;
 use std::marker::Model;
 
-/// A sink in memory with a room in bytes, all of which it takes when it is made. The calls of `write` and `flush`
-/// whose numbers it was given, counted from 1, fail, and so does a write of a piece that is not empty once the room is spent.
+/// A sink in memory with a room in bytes, all of which it takes when it is made. The calls of
+/// `write` and `flush` whose numbers it was given, counted from 1, fail, and so does a write of a
+/// piece that is not empty once the room is spent.
 #[derive(Drop)]
 pub struct MemSink {
     bytes: Vec<u8>,
@@ -33,9 +34,11 @@ impl Model for MemSink {
 }
 
 impl MemSink {
-    /// A clean sink that holds nothing, with room for `room` bytes; `fails` are the numbers of the calls that fail.
+    /// A clean sink that holds nothing, with room for `room` bytes; `fails` are the numbers of the
+    /// calls that fail.
     pub fn make(alloc: Global, room: u64, fails: Vec<u64>) -> Result<MemSink, NoMemory>
-        ensures { IfOk result (λ sink. sink ≡ record { written = []; room = room; fails = fails.items; calls = 0; faults = 0; clean = true }) }
+        ensures { IfOk result (λ sink. sink ≡
+            record { written = []; room = room; fails = fails.items; calls = 0; faults = 0; clean = true }) }
     {
         Ok(MemSink {
             bytes: Vec::with_capacity(alloc, room as usize)?,
@@ -66,8 +69,15 @@ impl Sink for MemSink {
         ensures never_falls { self.old.faults ≤ self.new.faults }
         ensures fails { is_err result ≡ write_fails self.old piece.now }
         ensures count { IfOk result (λ n. n ≡ min (length piece.now) (self.old.room - length self.old.written)) }
-        ensures wrote { IfOk result (λ n. self.new ≡ record self.old { written = self.old.written ++ take n piece.now; calls = next_count self.old.calls; clean = false }) }
-        ensures failed { OnErr result (self.new ≡ record self.old { calls = next_count self.old.calls; faults = next_count self.old.faults; clean = false }) }
+        ensures wrote { IfOk result (λ n. self.new ≡
+            record self.old {
+              written = self.old.written ++
+                  take n piece.now;
+              calls = next_count self.old.calls;
+              clean = false;
+            }) }
+        ensures failed { OnErr result (self.new ≡
+            record self.old { calls = next_count self.old.calls; faults = next_count self.old.faults; clean = false }) }
     {
         self.calls.raise();
         self.clean = false;
@@ -87,8 +97,10 @@ impl Sink for MemSink {
     fn flush(&mut self) -> Result<(), Failed>
         ensures never_falls { self.old.faults ≤ self.new.faults }
         ensures fails { is_err result ≡ flush_fails self.old }
-        ensures flushed { OnOk result (self.new ≡ record self.old { calls = next_count self.old.calls; clean = true }) }
-        ensures failed { OnErr result (self.new ≡ record self.old { calls = next_count self.old.calls; faults = next_count self.old.faults }) }
+        ensures flushed { OnOk result (self.new ≡
+            record self.old { calls = next_count self.old.calls; clean = true }) }
+        ensures failed { OnErr result (self.new ≡
+            record self.old { calls = next_count self.old.calls; faults = next_count self.old.faults }) }
     {
         self.calls.raise();
         if self.fails.contains(&self.calls.number()) {

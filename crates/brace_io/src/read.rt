@@ -19,18 +19,25 @@ pub fn read_whole<S: Shelf>(
     ensures held_alone { S.held shelf.new ≡ S.held shelf.old }
     ensures all { IfOk result (λ bytes. Holds (S.held shelf.old) name.now bytes.items) }
     ensures within { IfOk result (λ bytes. length bytes.items ≤ limit) }
-    ensures reads { IfOk result (λ bytes. ReadsFrom (S.held shelf.old) (S.stage shelf.new) name.now (length bytes.items)) }
+    ensures reads { IfOk result (λ bytes. ReadsFrom (S.held shelf.old) (S.stage shelf.new) name.now
+        (length bytes.items)) }
     ensures lacks { IfErr result (λ fault. fault ≡ WholeFault.Absent → Lacks (S.held shelf.old) name.now) }
     ensures idle { IfErr result (λ fault. fault ≡ WholeFault.Absent → S.stage shelf.new ≡ Idle) }
-    ensures long { IfErr result (λ fault. fault ≡ WholeFault.TooLong → HoldsOver (S.held shelf.old) name.now limit) }
-    ensures stops_past { IfErr result (λ fault. fault ≡ WholeFault.TooLong → ReadsFrom (S.held shelf.old) (S.stage shelf.new) name.now (limit + 1)) }
-    ensures refused { IfErr result (λ fault. fault ≡ WholeFault.NoMemory → ReadsWithin (S.held shelf.old) (S.stage shelf.new) name.now limit) }
-    ensures stops { IfErr result (λ fault. fault ≡ WholeFault.Failed → StoppedAt (S.held shelf.old) (S.stage shelf.new) name.now) }
+    ensures long { IfErr result (λ fault. fault ≡ WholeFault.TooLong
+        → HoldsOver (S.held shelf.old) name.now limit) }
+    ensures stops_past { IfErr result (λ fault. fault ≡ WholeFault.TooLong
+        → ReadsFrom (S.held shelf.old) (S.stage shelf.new) name.now (limit + 1)) }
+    ensures refused { IfErr result (λ fault. fault ≡ WholeFault.NoMemory
+        → ReadsWithin (S.held shelf.old) (S.stage shelf.new) name.now limit) }
+    ensures stops { IfErr result (λ fault. fault ≡ WholeFault.Failed
+        → StoppedAt (S.held shelf.old) (S.stage shelf.new) name.now) }
     ensures not_writing { writes (S.stage shelf.new) ≡ false }
-    ensures absent { tells (S.held shelf.old) ≡ true → Lacks (S.held shelf.old) name.now → IfErr result (λ fault. (fault ≡ WholeFault.Absent) ⊎ (fault ≡ WholeFault.Failed)) }
+    ensures absent { tells (S.held shelf.old) ≡ true → Lacks (S.held shelf.old) name.now
+        → IfErr result (λ fault. (fault ≡ WholeFault.Absent) ⊎ (fault ≡ WholeFault.Failed)) }
     ensures faults_alone { result ≢ Err WholeFault.Failed → S.faults shelf.new ≡ S.faults shelf.old }
     ensures never_falls { S.faults shelf.old ≤ S.faults shelf.new }
-    ensures rose { IfErr result (λ fault. fault ≡ WholeFault.Failed → Rose (S.faults shelf.old) (S.faults shelf.new)) }
+    ensures rose { IfErr result (λ fault. fault ≡ WholeFault.Failed
+        → Rose (S.faults shelf.old) (S.faults shelf.new)) }
 {
     match shelf.begin_read(name) {
         Ok(()) => read_on(alloc, shelf, name, limit),
@@ -52,15 +59,21 @@ fn read_on<S: Shelf>(
     ensures present { result ≢ Err WholeFault.Absent }
     ensures all { IfOk result (λ bytes. Holds (S.held shelf.old) name.now bytes.items) }
     ensures within { IfOk result (λ bytes. length bytes.items ≤ limit) }
-    ensures reads { IfOk result (λ bytes. ReadsFrom (S.held shelf.old) (S.stage shelf.new) name.now (length bytes.items)) }
-    ensures long { IfErr result (λ fault. fault ≡ WholeFault.TooLong → HoldsOver (S.held shelf.old) name.now limit) }
-    ensures stops_past { IfErr result (λ fault. fault ≡ WholeFault.TooLong → ReadsFrom (S.held shelf.old) (S.stage shelf.new) name.now (limit + 1)) }
-    ensures refused { IfErr result (λ fault. fault ≡ WholeFault.NoMemory → ReadsWithin (S.held shelf.old) (S.stage shelf.new) name.now limit) }
-    ensures stops { IfErr result (λ fault. fault ≡ WholeFault.Failed → StoppedAt (S.held shelf.old) (S.stage shelf.new) name.now) }
+    ensures reads { IfOk result (λ bytes. ReadsFrom (S.held shelf.old) (S.stage shelf.new) name.now
+        (length bytes.items)) }
+    ensures long { IfErr result (λ fault. fault ≡ WholeFault.TooLong
+        → HoldsOver (S.held shelf.old) name.now limit) }
+    ensures stops_past { IfErr result (λ fault. fault ≡ WholeFault.TooLong
+        → ReadsFrom (S.held shelf.old) (S.stage shelf.new) name.now (limit + 1)) }
+    ensures refused { IfErr result (λ fault. fault ≡ WholeFault.NoMemory
+        → ReadsWithin (S.held shelf.old) (S.stage shelf.new) name.now limit) }
+    ensures stops { IfErr result (λ fault. fault ≡ WholeFault.Failed
+        → StoppedAt (S.held shelf.old) (S.stage shelf.new) name.now) }
     ensures not_writing { writes (S.stage shelf.new) ≡ false }
     ensures faults_alone { result ≢ Err WholeFault.Failed → S.faults shelf.new ≡ S.faults shelf.old }
     ensures never_falls { S.faults shelf.old ≤ S.faults shelf.new }
-    ensures rose { IfErr result (λ fault. fault ≡ WholeFault.Failed → Rose (S.faults shelf.old) (S.faults shelf.new)) }
+    ensures rose { IfErr result (λ fault. fault ≡ WholeFault.Failed
+        → Rose (S.faults shelf.old) (S.faults shelf.new)) }
 {
     let mut chunk = zeros(alloc, CHUNK)?;
     let mut bytes = Vec::new(alloc);

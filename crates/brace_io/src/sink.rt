@@ -23,7 +23,8 @@ pub trait Sink {
         ensures unclean { clean self.new ≡ false }
         ensures never_falls { faults self.old ≤ faults self.new }
         ensures rose { OnErr result (Rose (faults self.old) (faults self.new)) }
-        ensures rose_at_none { IfOk result (λ n. n ≡ 0 → 0 < length piece.now → Rose (faults self.old) (faults self.new)) };
+        ensures rose_at_none { IfOk result (λ n. n ≡ 0 → 0 < length piece.now
+            → Rose (faults self.old) (faults self.new)) };
 
     /// Hands on what was written so far. After a failure the sink is as clean as before.
     fn flush(&mut self) -> Result<(), Failed>

@@ -26,7 +26,8 @@ pub fn write_whole<O: Sink>(out: &mut O, piece: &[u8]) -> Result<(), Failed>
     Ok(())
 }
 
-/// Saves a piece whole under a name. After a failure the name is as it was, or holds a front of the piece.
+/// Saves a piece whole under a name. After a failure the name is as it was, or holds a front of the
+/// piece.
 pub fn save_whole<S: Shelf>(shelf: &mut S, name: &str, piece: &[u8]) -> Result<(), Failed>
     requires { writes (S.stage shelf.old) ≡ false }
     ensures only { OnlyAt (S.held shelf.old) (S.held shelf.new) name.now }

@@ -115,7 +115,8 @@ pub record LawfulClass (program : Program) (number : ℕ) (class : Class) : Type
 pub record LawfulProgram (program : Program) : Type 0 where
   pub few_classes : length program.classes ≤ 16
   pub class_names_differ : IsDistinct bytes_eq (map (λ c. c.name) program.classes)
-  pub classes_are_lawful : (number : ℕ) (class : Class) → slice_get program.classes number ≡ Some class
+  pub classes_are_lawful : (number : ℕ) (class : Class)
+      → slice_get program.classes number ≡ Some class
       → LawfulClass program number class
   pub sites_in_range : IsTrue (list_all (λ site. nat_lt site 4096) (all_sites program))
   pub sites_differ : IsDistinct nat_eq (all_sites program)

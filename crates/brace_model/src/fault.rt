@@ -62,7 +62,8 @@ fn kind_number(kind: Kind) -> u8
     }
 }
 
-/// How two faults compare: by tick, phase, agent, site, outer agent, inner agent (none first) and kind.
+/// How two faults compare: by tick, phase, agent, site, outer agent, inner agent (none first) and
+/// kind.
 fn compare(a: &Fault, b: &Fault) -> Ordering
     ensures { result ≡ compared a.now b.now }
 {
@@ -76,9 +77,9 @@ fn compare(a: &Fault, b: &Fault) -> Ordering
         .then(kind_number(a.kind).cmp(&kind_number(b.kind)))
 }
 
-/// Whether one fault comes before another: by tick, phase (query, update, birth), agent, site, outer agent and
-/// inner agent, where no loop agent comes before every agent; faults that agree in all of these are ordered by
-/// their kinds. It takes no memory.
+/// Whether one fault comes before another: by tick, phase (query, update, birth), agent, site,
+/// outer agent and inner agent, where no loop agent comes before every agent; faults that agree in
+/// all of these are ordered by their kinds. It takes no memory.
 pub fn fault_less(a: &Fault, b: &Fault) -> bool
     ensures { result ≡ comes_before a.now b.now }
 {

@@ -58,8 +58,8 @@ pub enum BinOp {
     Max,
 }
 
-/// An agent that an expression or an assignment names: `this`, or the variable of a loop that stands in no other loop, or of one
-/// that stands in one.
+/// An agent that an expression or an assignment names: `this`, or the variable of a loop that
+/// stands in no other loop, or of one that stands in one.
 #[derive(Debug, Clone, Copy, PartialEq, Eq, Drop)]
 pub enum Who {
     This,
@@ -67,7 +67,8 @@ pub enum Who {
     Inner,
 }
 
-/// An expression with names replaced by numbers. The `Option<u32>` of an operation is its site number, where it has one.
+/// An expression with names replaced by numbers. The `Option<u32>` of an operation is its site
+/// number, where it has one.
 #[derive(Debug, Drop)]
 pub enum Expr {
     Lit(Value),
@@ -92,7 +93,8 @@ pub enum Stmt {
     If(Expr, List<Stmt>, List<Stmt>),
     /// The number of the class looped over, the block, and the byte offset of the statement.
     Foreach(u32, List<Stmt>, u32),
-    /// The target agent, the effect by its place in the target's class, the value, and the byte offset of the statement.
+    /// The target agent, the effect by its place in the target's class, the value, and the byte
+    /// offset of the statement.
     Assign(Who, u32, Expr, u32),
 }
 
@@ -125,7 +127,8 @@ pub struct Gift {
     pub value: Expr,
 }
 
-/// When an agent has a child, and what the child gets. The other states of a child are its parent's.
+/// When an agent has a child, and what the child gets. The other states of a child are its
+/// parent's.
 #[derive(Debug, Drop)]
 pub struct Spawn {
     pub when: Expr,

@@ -3,8 +3,8 @@ ghost use Rattle.brace_model.specs.World.{number, value_at, class_of, x_of, y_of
 
 use crate::{Agent, Class, Program, Value};
 
-/// The whole number of a value: millionths of a fixed one, 0 or 1 of a flag.
-fn number(value: Value) -> i64
+/// The whole number of a value: millionths of a fixed one, 0 or 1 of a flag. It takes no memory.
+pub fn number(value: Value) -> i64
     ensures { result ≡ number value }
 {
     match value {
@@ -14,8 +14,9 @@ fn number(value: Value) -> i64
     }
 }
 
-/// The value at a place.
-fn value_at(values: &[Value], place: u32) -> Value
+/// The value at a place of an agent's states or of constants; `false` where there is none. It takes
+/// no memory.
+pub fn value_at(values: &[Value], place: u32) -> Value
     ensures { result ≡ value_at values.now place }
 {
     values
@@ -24,22 +25,22 @@ fn value_at(values: &[Value], place: u32) -> Value
         .unwrap_or(Value::Flag(false))
 }
 
-/// The class of an agent.
-fn class_of<'a>(program: &'a Program, a: &Agent) -> Option<&'a Class>
+/// The class of an agent, or None where the program has no class of its number. It takes no memory.
+pub fn class_of<'a>(program: &'a Program, a: &Agent) -> Option<&'a Class>
     ensures { option_map (λ c. c.now) result ≡ class_of program.now a.now }
 {
     program.classes.as_slice().get(a.class as usize)
 }
 
-/// Where an agent of a class stands along x, in millionths.
-fn x_of(class: &Class, a: &Agent) -> i64
+/// Where an agent of a class stands along x, in millionths. It takes no memory.
+pub fn x_of(class: &Class, a: &Agent) -> i64
     ensures { result ≡ x_of class.now a.now }
 {
     number(value_at(a.states.as_slice(), class.x))
 }
 
-/// Where an agent of a class stands along y, in millionths.
-fn y_of(class: &Class, a: &Agent) -> i64
+/// Where an agent of a class stands along y, in millionths. It takes no memory.
+pub fn y_of(class: &Class, a: &Agent) -> i64
     ensures { result ≡ y_of class.now a.now }
 {
     number(value_at(a.states.as_slice(), class.y))
@@ -52,8 +53,9 @@ fn is_within(range: i64, p: i64, q: i64) -> bool
     i128::from(p.abs_diff(q)) <= i128::from(range)
 }
 
-/// Whether agent a sees agent b: they are two, and b is within the visible range of a's class along both axes. An agent without a
-/// class of the program sees none and is seen by none. It takes no memory.
+/// Whether agent a sees agent b: they are two, and b is within the visible range of a's class along
+/// both axes. An agent without a class of the program sees none and is seen by none. It takes no
+/// memory.
 pub fn sees(program: &Program, a: &Agent, b: &Agent) -> bool
     ensures { result ≡ sees program.now a.now b.now }
 {

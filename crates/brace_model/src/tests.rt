@@ -1,4 +1,5 @@
-// What no clause says: that the calls answer where memory is ample, and that the orders mean what they should, at values worked by hand.
+// What no clause says: that the calls answer where memory is ample, and that the orders mean what
+// they should, at values worked by hand.
 use crate::{
     Agent, Class, Comb, Effect, Expr, Fault, Gift, Phase, Program, Spawn, State, Stmt, Ty, Value,
     Who, World, earlier, fault_less, sees,

@@ -87,8 +87,8 @@ fn least_next(agents: &[Agent]) -> u64
 }
 
 impl World {
-    /// The world of these agents with the least next free id, or None exactly where their ids do not rise
-    /// strictly or one of them is above 2^63 - 1. It takes no memory.
+    /// The world of these agents with the least next free id, or None exactly where their ids do
+    /// not rise strictly or one of them is above 2^63 - 1. It takes no memory.
     pub fn from_rising(agents: Vec<Agent>) -> Option<World>
         ensures world { IfSome result (λ world. world ≡ world_of agents.items) }
         ensures numbered { IfSome result IsNumbered }
@@ -101,8 +101,8 @@ impl World {
         World::with_next(agents, next)
     }
 
-    /// The world of these agents with a next free id, or None exactly where their ids do not rise strictly, one of
-    /// them is not below `next`, or `next` is above 2^63. It takes no memory.
+    /// The world of these agents with a next free id, or None exactly where their ids do not rise
+    /// strictly, one of them is not below `next`, or `next` is above 2^63. It takes no memory.
     pub fn with_next(agents: Vec<Agent>, next: u64) -> Option<World>
         ensures world { IfSome result (λ world. world ≡ world_with agents.items next) }
         ensures numbered { IfSome result IsNumbered }

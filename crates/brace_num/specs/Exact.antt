@@ -1,5 +1,5 @@
--- Exact arithmetic over whole numbers: what each operation gives at 64 signed bits, or why it gives nothing.
--- A fixed number is a whole number of millionths.
+-- Exact arithmetic over whole numbers: what each operation gives at 64 signed bits, or why it gives
+-- nothing. A fixed number is a whole number of millionths.
 use Rattle.std.specs.Prelude.{ℕ, zero, suc, ◌+◌, ◌*◌, nat_le, ◌==◌, ℤ, pos, negsuc, ◌+ℤ◌, ◌-ℤ◌, ◌*ℤ◌, neg_ℤ, unsigned_abs, int_le, int_div, int_rem, Bool, ◌&&◌, if◌then◌else◌, Result, Ok, Err}
 use Rattle.std.specs.Int.{int_max, int_min}
 use Rattle.brace_num.specs.declared.kinds.Kind.{Kind}

@@ -1,6 +1,6 @@
--- What texts spell numbers: a relation between bytes and numbers, the reading of a text that goes with it,
--- and the one canonical spelling of each number.
--- A fixed number is a whole number of millionths. Byte 45 is the minus sign, byte 46 the point, and 48 to 57 are the digits.
+-- What texts spell numbers: a relation between bytes and numbers, the reading of a text that goes
+-- with it, and the one canonical spelling of each number. A fixed number is a whole number of
+-- millionths. Byte 45 is the minus sign, byte 46 the point, and 48 to 57 are the digits.
 use Rattle.std.specs.Prelude.{◌≡◌, ℕ, ◌+◌, ◌-◌, ◌*◌, ◌/◌, ◌%◌, ◌^◌, ◌<◌, ◌≤◌, nat_lt, nat_le, ◌==◌, Bool, true, false, ◌&&◌, if◌then◌else◌, List, [], ◌∷◌, ◌++◌, length, take, drop, replicate, slice_index, ℤ, pos, negsuc, neg_ℤ, unsigned_abs, Option, Some, None, IsTrue, position}
 use Rattle.std.specs.Fmt.{decimal, signed_decimal}
 use Rattle.std.specs.Str.{all_ascii_digits}
@@ -14,13 +14,15 @@ Digits text n = IsNumeral 10 text × (n ≡ digits_value 10 text)
 -- digits, and perhaps a point and one to six digits, and the number of millionths that they write
 pub data Decimals (text : List ℕ) (n : ℕ) : Type 0 where
   whole : (w : ℕ) → Digits text w → n ≡ w * 1000000 → Decimals text n
-  pointed : (front part : List ℕ) (w f : ℕ) → text ≡ front ++ 46 ∷ part → Digits front w → Digits part f → length part ≤ 6 →
+  pointed : (front part : List ℕ) (w f : ℕ) → text ≡ front ++ 46 ∷ part → Digits front w →
+      Digits part f → length part ≤ 6 →
       n ≡ w * 1000000 + f * 10 ^ (6 - length part) → Decimals text n
 
 -- a spelled magnitude, or a minus sign and a spelled magnitude
 pub data Signed (Spelled : List ℕ → ℕ → Type 0) (text : List ℕ) (z : ℤ) : Type 0 where
   plain : (n : ℕ) → Spelled text n → z ≡ pos n → Signed Spelled text z
-  negated : (rest : List ℕ) (n : ℕ) → text ≡ 45 ∷ rest → Spelled rest n → z ≡ neg_ℤ (pos n) → Signed Spelled text z
+  negated : (rest : List ℕ) (n : ℕ) → text ≡ 45 ∷ rest → Spelled rest n → z ≡ neg_ℤ (pos n)
+      → Signed Spelled text z
 
 -- the text spells the count n
 abbrev pub SpellsCount : List ℕ → ℕ → Type 0
@@ -48,7 +50,9 @@ count_of text = if are_digits text then counted (digits_value 10 text) else None
 
 -- the millionths that the digits after a point write
 abbrev pub part_of : List ℕ → Option ℕ
-part_of part = if are_digits part && nat_le (length part) 6 then Some (digits_value 10 part * 10 ^ (6 - length part)) else None
+part_of part =
+    if are_digits part && nat_le (length part) 6
+    then Some (digits_value 10 part * 10 ^ (6 - length part)) else None
 
 -- the millionths of a whole number and a part
 abbrev pub joined : Option ℕ → Option ℕ → Option ℕ
@@ -66,7 +70,8 @@ decimals_of text = decimals_at text (position (λ c. c == 46) text)
 
 -- the number with a sign, where it fits
 abbrev pub signed_fitting : Bool → ℕ → Option ℤ
-signed_fitting minus n = let z = if minus then neg_ℤ (pos n) else pos n in if fits z then Some z else None
+signed_fitting minus n =
+    let z = if minus then neg_ℤ (pos n) else pos n in if fits z then Some z else None
 
 abbrev pub with_sign : Bool → Option ℕ → Option ℤ
 with_sign minus None = None
@@ -74,7 +79,9 @@ with_sign minus (Some n) = signed_fitting minus n
 
 -- a text with or without a minus sign, read by a reading of magnitudes
 abbrev pub signed_of : (List ℕ → Option ℕ) → List ℕ → Option ℤ
-signed_of magnitude text = if slice_index text 0 == 45 then with_sign true (magnitude (drop 1 text)) else with_sign false (magnitude text)
+signed_of magnitude text =
+    if slice_index text 0 == 45 then with_sign true (magnitude (drop 1 text))
+    else with_sign false (magnitude text)
 
 -- the int that the text spells, if any
 abbrev pub int_of : List ℕ → Option ℤ
@@ -103,4 +110,5 @@ six_digits n = replicate (6 - length (decimal n)) 48 ++ decimal n
 
 -- a number of millionths: its sign, the digits of its whole part, a point, and six digits
 abbrev pub canonical_fixed : ℤ → List ℕ
-canonical_fixed z = sign_of z ++ decimal (unsigned_abs z / 1000000) ++ 46 ∷ six_digits (unsigned_abs z % 1000000)
+canonical_fixed z =
+    sign_of z ++ decimal (unsigned_abs z / 1000000) ++ 46 ∷ six_digits (unsigned_abs z % 1000000)

@@ -39,7 +39,8 @@ pub fn int_mul(a: i64, b: i64) -> Result<i64, Kind>
     a.checked_mul(b).ok_or(Kind::Overflow)
 }
 
-/// `a / b`, of two ints, cut toward zero; `DivZero` where `b` is 0, `Overflow` where the quotient does not fit.
+/// `a / b`, of two ints, cut toward zero; `DivZero` where `b` is 0, `Overflow` where the quotient
+/// does not fit.
 pub fn int_div(a: i64, b: i64) -> Result<i64, Kind>
     ensures { result ≡ exact_int_div a b }
 {
@@ -59,7 +60,8 @@ pub fn int_rem(a: i64, b: i64) -> Result<i64, Kind>
     Ok(a.wrapping_rem(b))
 }
 
-/// `a * b`, of two fixed numbers in millionths, cut toward zero; `Overflow` where the product does not fit.
+/// `a * b`, of two fixed numbers in millionths, cut toward zero; `Overflow` where the product does
+/// not fit.
 pub fn fixed_mul(a: i64, b: i64) -> Result<i64, Kind>
     ensures { result ≡ exact_fixed_mul a b }
 {

@@ -1,4 +1,5 @@
-//! Facts on numbers and their spellings that hold always. The functions do nothing; their clauses are the laws.
+//! Facts on numbers and their spellings that hold always. The functions do nothing; their clauses
+//! are the laws.
 ghost use Rattle.std.specs.Prelude.{◌≡◌, ◌↔◌, ◌+◌, ◌*◌, ◌<◌, ◌≤◌, ◌^◌, ◌+ℤ◌, ◌*ℤ◌, ℕ, ℤ, List, IsTrue, int_div, int_rem, unsigned_abs};
 ghost use Rattle.brace_num.specs.Exact.{fits, root};
 ghost use Rattle.brace_num.specs.Spelling.{SpellsCount, SpellsInt, SpellsFixed, count_of, int_of, fixed_of, canonical_count, canonical_int, canonical_fixed};
@@ -23,7 +24,8 @@ pub fn roots_are_greatest()
     ensures no_greater { (n r : ℕ) → r * r ≤ n → r ≤ root n }
 {}
 
-/// A quotient and its remainder give back the dividend, and the remainder is nearer to zero than the divisor.
+/// A quotient and its remainder give back the dividend, and the remainder is nearer to zero than
+/// the divisor.
 pub fn quotients_leave_remainders()
     ensures gives_back { (a d : ℤ) → (int_div a d *ℤ d) +ℤ int_rem a d ≡ a }
     ensures near_zero { (a d : ℤ) → 0 < unsigned_abs d → unsigned_abs (int_rem a d) < unsigned_abs d }

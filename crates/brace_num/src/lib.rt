@@ -1,4 +1,5 @@
-//! Exact whole-number arithmetic, spellings of numbers, and the plain types that every crate shares.
+//! Exact whole-number arithmetic, spellings of numbers, and the plain types that every crate
+//! shares.
 #![tactic(auto)]
 
 mod boxed;

@@ -22,7 +22,8 @@ pub fn print_int(out: &mut Vec<u8>, v: i64) -> Result<(), NoMemory>
     Ok(())
 }
 
-/// Appends the canonical spelling of a fixed number of `v` millionths. A refused print leaves `out` as it was.
+/// Appends the canonical spelling of a fixed number of `v` millionths. A refused print leaves `out`
+/// as it was.
 pub fn print_fixed(out: &mut Vec<u8>, v: i64) -> Result<(), NoMemory>
     ensures printed { OnOk result (out.new.items ≡ out.old.items ++ canonical_fixed v) }
     ensures kept { OnErr result (out.new.items ≡ out.old.items) }

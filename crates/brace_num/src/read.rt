@@ -21,8 +21,8 @@ pub fn read_int(text: &[u8]) -> Option<i64>
     signed_int(text)
 }
 
-/// The millionths of the fixed number that the text spells: perhaps a minus sign, digits, and perhaps
-/// a point and one to six digits, within 64 signed bits of millionths.
+/// The millionths of the fixed number that the text spells: perhaps a minus sign, digits, and
+/// perhaps a point and one to six digits, within 64 signed bits of millionths.
 ///
 /// `None` exactly where the text spells none.
 pub fn read_fixed(text: &[u8]) -> Option<i64>

@@ -4,7 +4,8 @@ ghost use Rattle.brace_model.specs.Published.{spelled, class_name, agent_text};
 use brace_model::{Agent, Program, Value};
 use brace_num::{NoMemory, print_count, print_fixed, print_int};
 
-/// Appends `class,id,values` in canonical spelling, without a line feed. A refused print leaves `out` as it was.
+/// Appends `class,id,values` in canonical spelling, without a line feed. A refused print leaves
+/// `out` as it was.
 ///
 /// A class number that the program lacks prints an empty name.
 pub fn print_agent(out: &mut Vec<u8>, program: &Program, agent: &Agent) -> Result<(), NoMemory>

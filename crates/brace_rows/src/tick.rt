@@ -5,7 +5,8 @@ use crate::print_agent;
 use brace_model::{Agent, Program, World};
 use brace_num::{NoMemory, print_count};
 
-/// Appends the rows of a world at a tick: a line `tick,class,id,values` for each agent, by rising id.
+/// Appends the rows of a world at a tick: a line `tick,class,id,values` for each agent, by rising
+/// id.
 ///
 /// A refused print leaves `out` as it was.
 pub fn print_tick(

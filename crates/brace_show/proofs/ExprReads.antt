@@ -7,7 +7,7 @@ use Rattle.brace_show.specs.Literals.{shortened}
 use Rattle.brace_num.specs.Names.{is_name}
 use Rattle.brace_tok.specs.Tables.{reserved, symbol}
 use Rattle.brace_tok.specs.Pieces.{blank, word, whole, fraction, sign}
-use Rattle.brace_tok.specs.Sayings.{says, token}
+use Rattle.brace_tok.specs.Roles.{role_at, token}
 use Rattle.brace_tok.specs.declared.kinds.Token.{Token}
 use Rattle.brace_tok.specs.declared.kinds.TokKind.{TokKind}
 use Rattle.brace_tok.specs.declared.kinds.TokKind.TheVariants as k
@@ -31,7 +31,7 @@ use Rattle.brace_syntax.specs.declared.tree.ExprTree.TheFolds.{fold-roll-ExprTre
 use Rattle.brace_show.specs.Alike.{ident_at_0, number_at_0, expr_step, expr_at_0}
 use Rattle.brace_show.proofs.Rows.{Row, space, mark, letters, literal_row, Phrased, row_at, atom_row, call_one_row, call_two_row, prefixed_row, between_row, unary_row, binary_row, choice_row, phrased_step, phrased_of, expression_row}
 use Rattle.brace_show.proofs.Sound.{digits_are, expr_sound_step, expr_sound}
-use Rattle.brace_show.proofs.RowSays.{name_says, whole_says, fraction_says}
+use Rattle.brace_show.proofs.RowRoles.{name_says, whole_says, fraction_says}
 use Rattle.brace_show.proofs.Laid.{Laid, split, say, past, laid_as, done}
 
 -- the rows of the grammar by the levels of phrases
@@ -157,7 +157,7 @@ choice-at_0 c x y at u v w h h' h'' =
     ∙ sym (at_0 (expr.Choice c x y at) (e.Choice c x y at) (e.rolls-Choice c x y at))))
 
 -- something between two rows
-between : (C : List Token → Type 0) (kind : TokKind) (src : List ℕ) (a b : Row) (marks : List ℕ) (toks : List Token) → ((from : ℕ) → says from (sign marks) ≡ token kind)
+between : (C : List Token → Type 0) (kind : TokKind) (src : List ℕ) (a b : Row) (marks : List ℕ) (toks : List Token) → ((from : ℕ) → role_at from (sign marks) ≡ token kind)
     → Laid src ((((a ++ space) ++ mark marks) ++ space) ++ b) toks
     → ((ta tb : List Token) (tok : Token) → Laid src a ta → Laid src b tb → Is kind tok → C (ta ++ (tok ∷ tb))) → C toks
 between C kind src a b marks toks h l f =
@@ -178,7 +178,7 @@ comma C src a b toks l f =
     f ta tb tok la (past src 32 b tb l2) is))
 
 joined_good : (s inner : g.Row) (kind : TokKind) (name : BinName) (marks : List ℕ) (p q : Phrased) (v w : ExprTree) → operands s ≡ Some inner → repeats s kind ≡ Some name
-    → ((from : ℕ) → says from (sign marks) ≡ token kind) → Good p v → Good q w → Good (between_row (need s) (need s) (need inner) marks p q) (e.Binary name v w 0)
+    → ((from : ℕ) → role_at from (sign marks) ≡ token kind) → Good p v → Good q w → Good (between_row (need s) (need s) (need inner) marks p q) (e.Binary name v w 0)
 joined_good s inner kind name marks p q v w hin hop h f f' = good_at s _ _ (λ src toks l.
     between (Found src s (e.Binary name v w 0)) kind src (row_at (need s) p) (row_at (need inner) q) marks toks h l (λ ta tb tok la lb is.
     let x = f s src ta la in
@@ -186,7 +186,7 @@ joined_good s inner kind name marks p q v w hin hop h f f' = good_at s _ _ (λ s
     (e.Binary name x.0 y.0 tok.from, g.joined s inner ta tb tok name x.0 y.0 hin (ap (repeats s) is ∙ hop) x.1 y.1, binary-at_0 name x.0 y.0 tok.from v w x.2 y.2)))
 
 compared_good : (kind : TokKind) (name : BinName) (marks : List ℕ) (p q : Phrased) (v w : ExprTree) → compares kind ≡ Some name
-    → ((from : ℕ) → says from (sign marks) ≡ token kind) → Good p v → Good q w → Good (between_row 4 5 5 marks p q) (e.Binary name v w 0)
+    → ((from : ℕ) → role_at from (sign marks) ≡ token kind) → Good p v → Good q w → Good (between_row 4 5 5 marks p q) (e.Binary name v w 0)
 compared_good kind name marks p q v w hop h f f' = good_at g.comparisons _ _ (λ src toks l.
     between (Found src g.comparisons (e.Binary name v w 0)) kind src (row_at 5 p) (row_at 5 q) marks toks h l (λ ta tb tok la lb is.
     let x = f g.sums src ta la in
@@ -194,14 +194,14 @@ compared_good kind name marks p q v w hop h f f' = good_at g.comparisons _ _ (λ
     (e.Binary name x.0 y.0 tok.from, g.compared ta tb tok name x.0 y.0 (ap compares is ∙ hop) x.1 y.1, binary-at_0 name x.0 y.0 tok.from v w x.2 y.2)))
 
 prefixed_good : (kind : TokKind) (name : UnName) (marks : List ℕ) (p : Phrased) (v : ExprTree) → prefixes kind ≡ Some name
-    → ((from : ℕ) → says from (sign marks) ≡ token kind) → Good p v → Good (prefixed_row marks p) (e.Unary name v 0)
+    → ((from : ℕ) → role_at from (sign marks) ≡ token kind) → Good p v → Good (prefixed_row marks p) (e.Unary name v 0)
 prefixed_good kind name marks p v hop h f = good_at g.prefixed _ _ (λ src toks l.
     say (Found src g.prefixed (e.Unary name v 0)) kind src (sign marks) (row_at 7 p) toks h l (λ tok ts is _ l1.
     let x = f g.prefixed src ts l1 in
     (e.Unary name x.0 tok.from, g.prefix ts tok name x.0 (ap prefixes is ∙ hop) x.1, unary-at_0 name x.0 tok.from v x.2)))
 
 called_one_good : (kind : TokKind) (name : UnName) (called : List ℕ) (p : Phrased) (v : ExprTree) → calls_one kind ≡ Some name
-    → ((from : ℕ) → says from (word called) ≡ token kind) → Good p v → Good (call_one_row called p) (e.Unary name v 0)
+    → ((from : ℕ) → role_at from (word called) ≡ token kind) → Good p v → Good (call_one_row called p) (e.Unary name v 0)
 unfolding symbol
 called_one_good kind name called p v hop h f = good_at g.primaries _ _ (λ src toks l.
     let C : List Token → Type 0 = Found src g.primaries (e.Unary name v 0) in
@@ -214,7 +214,7 @@ called_one_good kind name called p v hop h f = good_at g.primaries _ _ (λ src t
     (e.Unary name x.0 tok.from, g.called_one a tok opening closing name x.0 (ap calls_one is ∙ hop) ho hc x.1, unary-at_0 name x.0 tok.from v x.2)))))))
 
 called_two_good : (kind : TokKind) (name : BinName) (called : List ℕ) (p q : Phrased) (v w : ExprTree) → calls_two kind ≡ Some name
-    → ((from : ℕ) → says from (word called) ≡ token kind) → Good p v → Good q w → Good (call_two_row called p q) (e.Binary name v w 0)
+    → ((from : ℕ) → role_at from (word called) ≡ token kind) → Good p v → Good q w → Good (call_two_row called p q) (e.Binary name v w 0)
 unfolding symbol
 called_two_good kind name called p q v w hop h f f' = good_at g.primaries _ _ (λ src toks l.
     let C : List Token → Type 0 = Found src g.primaries (e.Binary name v w 0) in

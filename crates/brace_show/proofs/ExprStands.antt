@@ -19,7 +19,7 @@ use Rattle.brace_syntax.specs.declared.tree.ExprTree.TheOpen.{ExprTree-F, Lit, T
 use Rattle.brace_syntax.specs.declared.tree.ExprTree.TheFolds.{map-ExprTree, fold-roll-ExprTree, ind-ExprTree}
 use Rattle.brace_show.proofs.Sound.{digits_are, expr_sound_step, expr_sound}
 use Rattle.brace_tok.proofs.Named.{name_word, name_short}
-use Rattle.brace_show.proofs.RowSays.{word_fits, decimal_digits}
+use Rattle.brace_show.proofs.RowRoles.{word_fits, decimal_digits}
 use Rattle.brace_show.proofs.Rows.{Row, space, mark, letters, literal_row, Phrased, row_at, call_one_row, call_two_row, prefixed_row, between_row, unary_row, binary_row, choice_row, phrased_step, phrased_of}
 use Rattle.brace_show.proofs.RowText.{text_append, run, run_is}
 use Rattle.brace_show.proofs.PieceStands.{row_split, Stands, Stood, follow, ended, any, no_word, stops, marked, open_stands, close_stands, dot_stands, comma_stands, minus_stands, lettered, named, literal_stands}

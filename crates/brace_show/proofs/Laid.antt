@@ -4,7 +4,7 @@ use Rattle.std.proofs.lemmas.List.{append-nil}
 use Rattle.brace_tok.specs.declared.kinds.Token.{Token}
 use Rattle.brace_tok.specs.declared.kinds.TokKind.{TokKind}
 use Rattle.brace_tok.specs.Pieces.{Piece, blank, bytes_of}
-use Rattle.brace_tok.specs.Sayings.{token, says}
+use Rattle.brace_tok.specs.Roles.{token, role_at}
 use Rattle.brace_tok.specs.Spells.{text_of, token_at, tokens_from}
 use Rattle.brace_tok.proofs.Named.{cut_out}
 use Rattle.brace_syntax.specs.Tables.{Is, spelling}
@@ -15,8 +15,8 @@ tokens-append from [] b = let e : from + 0 ≡ from = omega arith in ap (λ n. t
 tokens-append from (p ∷ a) b =
     let next : ℕ = from + length (bytes_of p) in
     let place : next + length (text_of a) ≡ from + length (bytes_of p ++ text_of a) = omega (arith, length-append (bytes_of p) (text_of a)) in
-    ap (λ (z : List Token). token_at from next (says from p) ++ z) (tokens-append next a b ∙ ap (λ n. tokens_from next a ++ tokens_from n b) place)
-    ∙ sym (append_assoc (token_at from next (says from p)) (tokens_from next a) (tokens_from (from + length (bytes_of p ++ text_of a)) b))
+    ap (λ (z : List Token). token_at from next (role_at from p) ++ z) (tokens-append next a b ∙ ap (λ n. tokens_from next a ++ tokens_from n b) place)
+    ∙ sym (append_assoc (token_at from next (role_at from p)) (tokens_from next a) (tokens_from (from + length (bytes_of p ++ text_of a)) b))
 
 pub text-append : (a b : Row) → text_of (a ++ b) ≡ text_of a ++ text_of b
 text-append [] b = refl
@@ -43,7 +43,7 @@ split C src a b toks l f =
     subst C (sym toks_are) (f (tokens_from (length l.before) a) (tokens_from (length (l.before ++ text_of a)) b) one two)
 
 -- one piece that is a token, and what stands behind it
-pub say : (C : List Token → Type 0) (kind : TokKind) (src : List ℕ) (p : Piece) (row : Row) (toks : List Token) → ((from : ℕ) → says from p ≡ token kind) → Laid src (p ∷ row) toks
+pub say : (C : List Token → Type 0) (kind : TokKind) (src : List ℕ) (p : Piece) (row : Row) (toks : List Token) → ((from : ℕ) → role_at from p ≡ token kind) → Laid src (p ∷ row) toks
     → ((tok : Token) (rest : List Token) → Is kind tok → spelling src tok ≡ bytes_of p → Laid src row rest → C (tok ∷ rest)) → C toks
 say C kind src p row toks h l f =
     let from_ : ℕ = length l.before in

@@ -5,7 +5,7 @@ pub mod Laid
 pub mod PieceStands
 pub mod ReadBack
 pub mod RowReads
-pub mod RowSays
+pub mod RowRoles
 pub mod RowStands
 pub mod RowText
 pub mod Rows

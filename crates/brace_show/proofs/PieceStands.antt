@@ -4,7 +4,7 @@ use Rattle.std.proofs.lemmas.Bool.{and_parts, or_parts, not-true}
 use Rattle.brace_num.specs.Names.{is_digit, is_letter, is_word_byte, begins, is_word, is_name}
 use Rattle.brace_tok.specs.Bytes.{begins_fraction, begins_comment}
 use Rattle.brace_tok.specs.Tables.{reserved, symbol}
-use Rattle.brace_tok.specs.Sayings.{says, token_or, name_or}
+use Rattle.brace_tok.specs.Roles.{role_at, token_or, name_or}
 use Rattle.brace_tok.specs.Spells.{text_of, is_sound, is_longest, is_row}
 use Rattle.brace_tok.specs.declared.kinds.TokKind.{TokKind}
 use Rattle.brace_tok.specs.declared.fault.TokFault.{TokFault}
@@ -14,7 +14,7 @@ use Rattle.brace_syntax.specs.declared.tree.Digits.{Digits}
 use Rattle.brace_syntax.specs.declared.tree.Digits.TheVariants.{Int, Fixed}
 use Rattle.brace_show.proofs.Sound.{digits_are}
 use Rattle.brace_tok.proofs.Named.{name_word, name_short}
-use Rattle.brace_show.proofs.RowSays.{word_fits, decimal_digits, fraction_digits, whole_says, fraction_says}
+use Rattle.brace_show.proofs.RowRoles.{word_fits, decimal_digits, fraction_digits, whole_says, fraction_says}
 use Rattle.brace_show.proofs.Rows.{Row, space, mark, letters, literal_row}
 use Rattle.brace_show.proofs.RowText.{text_append, run, run_is}
 
@@ -23,9 +23,9 @@ pub row_split : (a b : Row) (after : List ℕ) → is_row a (text_of b ++ after)
 row_split [] b after e f = f
 row_split (p ∷ a) b after e f =
     let t : text_of (a ++ b) ++ after ≡ text_of a ++ (text_of b ++ after) = ap (λ u. u ++ after) (text_append a b) ∙ append_assoc (text_of a) (text_of b) after in
-    let here : (is_longest p (text_of a ++ (text_of b ++ after)) && is_sound (says 0 p)) ≡ true = first_of_both _ (is_row a (text_of b ++ after)) e in
-    both _ _ (ap (λ u. is_longest p u && is_sound (says 0 p)) t ∙ here)
-    (row_split a b after (second_of_both (is_longest p (text_of a ++ (text_of b ++ after)) && is_sound (says 0 p)) _ e) f)
+    let here : (is_longest p (text_of a ++ (text_of b ++ after)) && is_sound (role_at 0 p)) ≡ true = first_of_both _ (is_row a (text_of b ++ after)) e in
+    both _ _ (ap (λ u. is_longest p u && is_sound (role_at 0 p)) t ∙ here)
+    (row_split a b after (second_of_both (is_longest p (text_of a ++ (text_of b ++ after)) && is_sound (role_at 0 p)) _ e) f)
 
 pub run_split : (row : Row) (rows : List Row) (after : List ℕ) → is_row row (text_of (run [] rows) ++ after) ≡ true → is_row (run [] rows) after ≡ true → is_row (run row rows) after ≡ true
 run_split row rows after e f = ap (λ r. is_row r after) (run_is row rows) ∙ row_split row (run [] rows) after e f

@@ -5,7 +5,7 @@ use Rattle.std.proofs.lemmas.List.{append-nil}
 use Rattle.brace_num.specs.Names.{is_name}
 use Rattle.brace_tok.specs.Tables.{reserved, directive, symbol}
 use Rattle.brace_tok.specs.Pieces.{blank, word, hash, sign}
-use Rattle.brace_tok.specs.Sayings.{says, token}
+use Rattle.brace_tok.specs.Roles.{role_at, token}
 use Rattle.brace_tok.specs.Spells.{text_of, tokens_from}
 use Rattle.brace_tok.specs.declared.kinds.Token.{Token}
 use Rattle.brace_tok.specs.declared.kinds.TokKind.{TokKind}
@@ -81,10 +81,10 @@ abbrev sharing_kind : Bool → TokKind
 sharing_kind true = k.KwPublic
 sharing_kind false = k.KwPrivate
 
-sharing_says : (b : Bool) (from : ℕ) → says from (word (sharing b)) ≡ token (sharing_kind b)
+sharing_role : (b : Bool) (from : ℕ) → role_at from (word (sharing b)) ≡ token (sharing_kind b)
 unfolding reserved
-sharing_says true from = refl
-sharing_says false from = refl
+sharing_role true from = refl
+sharing_role false from = refl
 
 member_of : (src : List ℕ) (b : Bool) (tok : Token) (a : List Token) (x : MemberTree) → Is (sharing_kind b) tok → ReadsField src b tok.from a x → ReadsMember src (tok ∷ a) x
 member_of src true tok a x h r = g.public a tok x h r
@@ -104,7 +104,7 @@ combinator_kind comb.Max = k.KwMax
 combinator_kind comb.Count = k.KwCount
 combinator_kind comb.Or = k.KwOr
 
-combinator_says : (c : CombName) (from : ℕ) → says from (word (combinator c)) ≡ token (combinator_kind c)
+combinator_says : (c : CombName) (from : ℕ) → role_at from (word (combinator c)) ≡ token (combinator_kind c)
 unfolding reserved
 combinator_says comb.Sum from = refl
 combinator_says comb.Min from = refl
@@ -126,7 +126,7 @@ state_then : (C : List Token → Type 0) (shared : Bool) (t : TyName) (name : Id
     → Is k.Word tok → ident_at_0 name ≡ ident_at_0 (ident src tok) → Laid src rest ts → C (share ∷ state ∷ type ∷ tok ∷ ts)) → C toks
 unfolding reserved
 state_then C shared t name ht hn rest src toks l f =
-    say C (sharing_kind shared) src (word (sharing shared)) _ toks (sharing_says shared) l (λ share t1 h1 _ l1.
+    say C (sharing_kind shared) src (word (sharing shared)) _ toks (sharing_role shared) l (λ share t1 h1 _ l1.
     say (λ z. C (share ∷ z)) k.KwState src (word (codes "state")) _ t1 (λ from. refl) (past src 32 _ t1 l1) (λ state t2 h2 _ l2.
     say_type (λ z. C (share ∷ state ∷ z)) src t _ t2 ht (past src 32 _ t2 l2) (λ type t3 u hu same_type l3.
     say_name (λ z. C (share ∷ state ∷ type ∷ z)) src name rest t3 hn (past src 32 _ t3 l3) (λ tok ts is same l4.
@@ -254,7 +254,7 @@ member_good (m.Effect shared t name c at) h margin src toks l =
     let here : Laid src (line_row margin row) toks =
     laid_as src _ _ toks (ap (λ z. line_row margin (effect_row z (type_row t) name (combinator_row c))) (sharing_word shared)
     ∙ (ap (λ z. line_row margin (effect_row (letters (sharing shared)) z name (combinator_row c))) (type_word t) ∙ ap (λ z. line_row margin (effect_row (letters (sharing shared)) (letters (type_text t)) name z)) (combinator_word c))) l in
-    say C (sharing_kind shared) src (word (sharing shared)) _ toks (sharing_says shared) (on_line src margin row toks here) (λ share t1 h1 _ l1.
+    say C (sharing_kind shared) src (word (sharing shared)) _ toks (sharing_role shared) (on_line src margin row toks here) (λ share t1 h1 _ l1.
     say (λ z. C (share ∷ z)) k.KwEffect src (word (codes "effect")) _ t1 (λ from. refl) (past src 32 _ t1 l1) (λ effect t2 h2 _ l2.
     say_type (λ z. C (share ∷ effect ∷ z)) src t _ t2 (first_of_both (type_is t) (is_name name.text) h) (past src 32 _ t2 l2) (λ type t3 u hu same_type l3.
     say_name (λ z. C (share ∷ effect ∷ type ∷ z)) src name _ t3 (second_of_both (type_is t) (is_name name.text) h) (past src 32 _ t3 l3) (λ tok t4 is same l4.

@@ -10,7 +10,7 @@ use Rattle.std.proofs.lemmas.List.Elements.{All-head, All-rest}
 use Rattle.brace_num.specs.Names.{is_name}
 use Rattle.brace_tok.specs.Tables.{found, words, directives, symbols, reserved, directive, symbol}
 use Rattle.brace_tok.specs.Pieces.{Piece, blank, line_comment, block_comment, word, whole, fraction, hash, sign, open_comment, stray, bytes_of}
-use Rattle.brace_tok.specs.Sayings.{Saying, nothing, token, refused, says, token_or, name_or, word_kind, whole_kind, fixed_kind, millionths}
+use Rattle.brace_tok.specs.Roles.{Role, nothing, token, refused, role_at, token_or, name_or, word_kind, whole_kind, fixed_kind, millionths}
 use Rattle.brace_tok.specs.Spells.{token_at, tokens_from, Spells}
 use Rattle.brace_tok.specs.Names.{IsNamed}
 use Rattle.brace_tok.specs.declared.kinds.Token.{Token}
@@ -52,12 +52,12 @@ abbrev found_fits : Option TokKind → Bool
 found_fits None = true
 found_fits (Some kind) = kind_fits kind
 
-abbrev saying_fits : Saying → Bool
-saying_fits nothing = true
-saying_fits (token kind) = kind_fits kind
-saying_fits (refused f) = true
+abbrev role_fits : Role → Bool
+role_fits nothing = true
+role_fits (token kind) = kind_fits kind
+role_fits (refused f) = true
 
-said_fits : (f : TokFault) (o : Option TokKind) → found_fits o ≡ true → saying_fits (token_or f o) ≡ true
+said_fits : (f : TokFault) (o : Option TokKind) → found_fits o ≡ true → role_fits (token_or f o) ≡ true
 said_fits f None h = refl
 said_fits f (Some kind) h = h
 
@@ -77,32 +77,32 @@ guarded : (b : Bool) (kind : TokKind) → (b ≡ true → kind_fits kind ≡ tru
 guarded true kind h = h refl
 guarded false kind h = refl
 
-says_fits : (from : ℕ) (p : Piece) → saying_fits (says from p) ≡ true
+role_at_fits : (from : ℕ) (p : Piece) → role_fits (role_at from p) ≡ true
 unfolding reserved directive symbol
-says_fits from (blank b) = refl
-says_fits from (line_comment body) = refl
-says_fits from (block_comment body) = refl
-says_fits from (word text) = said_fits (fault.LongWord from) (word_kind text) (guarded (nat_le (length text) 64) (name_or (found words text)) (λ h. name_fits (found words text) (table_fits words text refl)))
-says_fits from (whole text) = said_fits (fault.WideLiteral from) (whole_kind text) (guarded (nat_le (digits_value 10 text) 9223372036854775807) (k.Int (pos (digits_value 10 text))) (λ h. h))
-says_fits from (fraction text decimals) =
+role_at_fits from (blank b) = refl
+role_at_fits from (line_comment body) = refl
+role_at_fits from (block_comment body) = refl
+role_at_fits from (word text) = said_fits (fault.LongWord from) (word_kind text) (guarded (nat_le (length text) 64) (name_or (found words text)) (λ h. name_fits (found words text) (table_fits words text refl)))
+role_at_fits from (whole text) = said_fits (fault.WideLiteral from) (whole_kind text) (guarded (nat_le (digits_value 10 text) 9223372036854775807) (k.Int (pos (digits_value 10 text))) (λ h. h))
+role_at_fits from (fraction text decimals) =
     let n : ℕ = millionths text decimals in
     said_fits (fault.WideLiteral from) (fixed_kind text decimals) (guarded (nat_le (length decimals) 6 && nat_le n 9223372036854775807) (k.Fixed (pos n)) (λ h. second_of_both (nat_le (length decimals) 6) (nat_le n 9223372036854775807) h))
-says_fits from (hash text) = said_fits (fault.BadByte from) (found directives text) (table_fits directives text refl)
-says_fits from (sign text) = said_fits (fault.BadByte from) (found symbols text) (table_fits symbols text refl)
-says_fits from (open_comment body) = refl
-says_fits from (stray b) = refl
+role_at_fits from (hash text) = said_fits (fault.BadByte from) (found directives text) (table_fits directives text refl)
+role_at_fits from (sign text) = said_fits (fault.BadByte from) (found symbols text) (table_fits symbols text refl)
+role_at_fits from (open_comment body) = refl
+role_at_fits from (stray b) = refl
 
 abbrev fits : Token → Bool
 fits tok = kind_fits tok.kind
 
-token_fits : (from to : ℕ) (said : Saying) (toks : List Token) → saying_fits said ≡ true → list_all fits toks ≡ true → list_all fits (token_at from to said ++ toks) ≡ true
+token_fits : (from to : ℕ) (said : Role) (toks : List Token) → role_fits said ≡ true → list_all fits toks ≡ true → list_all fits (token_at from to said ++ toks) ≡ true
 token_fits from to nothing toks h hs = hs
 token_fits from to (token kind) toks h hs = both (kind_fits kind) (list_all fits toks) h hs
 token_fits from to (refused f) toks h hs = hs
 
 row_fits : (from : ℕ) (row : List Piece) → list_all fits (tokens_from from row) ≡ true
 row_fits from [] = refl
-row_fits from (p ∷ row) = token_fits from (from + length (bytes_of p)) (says from p) _ (says_fits from p) (row_fits (from + length (bytes_of p)) row)
+row_fits from (p ∷ row) = token_fits from (from + length (bytes_of p)) (role_at from p) _ (role_at_fits from p) (row_fits (from + length (bytes_of p)) row)
 
 -- where it is a word its text is a name, where it is a literal its number is one
 abbrev kind_sound : List ℕ → TokKind → Bool

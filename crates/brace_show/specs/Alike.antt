@@ -54,10 +54,12 @@ expr_at_0 = fold-ExprTree ExprTree expr_step
 abbrev pub stmt_step : stmt.StmtTree-F StmtTree → StmtTree
 stmt_step (stmt.Const type name x at) = s.Const (type_at_0 type) (ident_at_0 name) (expr_at_0 x) 0
 stmt_step (stmt.If c a b at) = s.If (expr_at_0 c) a b 0
-stmt_step (stmt.Foreach class variable other a at) = s.Foreach (ident_at_0 class) (ident_at_0 variable) (ident_at_0 other) a 0
+stmt_step (stmt.Foreach class variable other a at) =
+    s.Foreach (ident_at_0 class) (ident_at_0 variable) (ident_at_0 other) a 0
 stmt_step (stmt.Assign name x) = s.Assign (ident_at_0 name) (expr_at_0 x)
 stmt_step (stmt.AssignThis name x at) = s.AssignThis (ident_at_0 name) (expr_at_0 x) 0
-stmt_step (stmt.AssignLoop loop name x) = s.AssignLoop (ident_at_0 loop) (ident_at_0 name) (expr_at_0 x)
+stmt_step (stmt.AssignLoop loop name x) =
+    s.AssignLoop (ident_at_0 loop) (ident_at_0 name) (expr_at_0 x)
 
 -- a statement with 0 in each place
 abbrev pub stmt_at_0 : StmtTree → StmtTree
@@ -71,15 +73,18 @@ gift_at_0 gift = record { state = ident_at_0 gift.state; value = expr_at_0 gift.
 abbrev pub member_at_0 : MemberTree → MemberTree
 member_at_0 (m.Visible number at) = m.Visible (number_at_0 number) 0
 member_at_0 (m.Reach number at) = m.Reach (number_at_0 number) 0
-member_at_0 (m.State shared type name rule at) = m.State shared (type_at_0 type) (ident_at_0 name) (option_map expr_at_0 rule) 0
-member_at_0 (m.Effect shared type name comb at) = m.Effect shared (type_at_0 type) (ident_at_0 name) comb 0
+member_at_0 (m.State shared type name rule at) =
+    m.State shared (type_at_0 type) (ident_at_0 name) (option_map expr_at_0 rule) 0
+member_at_0 (m.Effect shared type name comb at) =
+    m.Effect shared (type_at_0 type) (ident_at_0 name) comb 0
 member_at_0 (m.Run block at) = m.Run (map stmt_at_0 block) 0
 member_at_0 (m.Die x at) = m.Die (expr_at_0 x) 0
 member_at_0 (m.Spawn x gifts at) = m.Spawn (expr_at_0 x) (map gift_at_0 gifts) 0
 
 -- a class with 0 in each place
 abbrev pub class_at_0 : ClassTree → ClassTree
-class_at_0 class = record { name = ident_at_0 class.name; members = map member_at_0 class.members; at = 0 }
+class_at_0 class =
+    record { name = ident_at_0 class.name; members = map member_at_0 class.members; at = 0 }
 
 -- the two scripts are equal once every place is 0
 abbrev pub Alike : Tree → Tree → Type 0

@@ -8,4 +8,6 @@ use Rattle.brace_show.specs.Alike.{Alike}
 
 -- the tokens of the text are this script, apart from places
 abbrev pub ReadsBack : List ℕ → Tree → Type 0
-ReadsBack text tree = (toks : List Token) × (again : Tree) × Spells text toks × Reads text toks again × Alike tree again
+ReadsBack text tree =
+    (toks : List Token) × (again : Tree) × Spells text toks × Reads text toks again
+    × Alike tree again

@@ -1,5 +1,5 @@
--- The canonical text of a script: each member, statement and closing brace has a line of its own, indented by two spaces
--- for each brace that is open.
+-- The canonical text of a script: each member, statement and closing brace has a line of its own,
+-- indented by two spaces for each brace that is open.
 use Rattle.std.specs.Prelude.{ℕ, Bool, true, false, List, [], ◌++◌, map, flat_map, Option, Some, None, codes}
 use Rattle.brace_syntax.specs.declared.tree.TyName.{TyName}
 use Rattle.brace_syntax.specs.declared.tree.TyName.TheVariants as ty
@@ -51,15 +51,23 @@ otherwise (Some statements) margin = line margin (codes "} else {") ++ block sta
 
 -- the lines of a statement of each kind
 abbrev pub statement_step : StmtTree-F (List ℕ → List ℕ) → List ℕ → List ℕ
-statement_step (Const type name x at) margin = line margin (codes "const " ++ type_text type ++ codes " " ++ name.text ++ codes " = " ++ expression x ++ codes ";")
+statement_step (Const type name x at) margin =
+    line margin (codes "const " ++ type_text type ++ codes " " ++ name.text ++ codes " = " ++
+        expression x ++ codes ";")
 statement_step (If condition statements other at) margin =
-    line margin (codes "if (" ++ expression condition ++ codes ") {") ++ block statements margin ++ otherwise other margin ++ line margin (codes "}")
+    line margin (codes "if (" ++ expression condition ++ codes ") {") ++ block statements margin ++
+        otherwise other margin ++ line margin (codes "}")
 statement_step (Foreach class variable other statements at) margin =
-    line margin (codes "foreach (" ++ class.text ++ codes " " ++ variable.text ++ codes " : Extent<" ++ other.text ++ codes ">) {")
+    line margin (codes "foreach
+        (" ++ class.text ++ codes " " ++ variable.text ++ codes " : Extent<" ++ other.text ++
+        codes ">) {")
     ++ block statements margin ++ line margin (codes "}")
-statement_step (Assign name x) margin = line margin (name.text ++ codes " <- " ++ expression x ++ codes ";")
-statement_step (AssignThis name x at) margin = line margin (codes "this." ++ name.text ++ codes " <- " ++ expression x ++ codes ";")
-statement_step (AssignLoop loop name x) margin = line margin (loop.text ++ codes "." ++ name.text ++ codes " <- " ++ expression x ++ codes ";")
+statement_step (Assign name x) margin =
+    line margin (name.text ++ codes " <- " ++ expression x ++ codes ";")
+statement_step (AssignThis name x at) margin =
+    line margin (codes "this." ++ name.text ++ codes " <- " ++ expression x ++ codes ";")
+statement_step (AssignLoop loop name x) margin =
+    line margin (loop.text ++ codes "." ++ name.text ++ codes " <- " ++ expression x ++ codes ";")
 
 -- the lines of a statement behind a margin
 abbrev pub statement : StmtTree → List ℕ → List ℕ
@@ -82,12 +90,16 @@ gift_text margin gift =
 
 -- the lines of a member behind a margin
 abbrev pub member_text : List ℕ → MemberTree → List ℕ
-member_text margin (member.Visible range at) = line margin (codes "#visible[" ++ literal range.digits ++ codes "];")
-member_text margin (member.Reach range at) = line margin (codes "#reach[" ++ literal range.digits ++ codes "];")
+member_text margin (member.Visible range at) =
+    line margin (codes "#visible[" ++ literal range.digits ++ codes "];")
+member_text margin (member.Reach range at) =
+    line margin (codes "#reach[" ++ literal range.digits ++ codes "];")
 member_text margin (member.State shared type name x at) =
-    line margin (sharing shared ++ codes " state " ++ type_text type ++ codes " " ++ name.text ++ rule x ++ codes ";")
+    line margin (sharing shared ++ codes " state " ++ type_text type ++ codes " " ++ name.text ++
+        rule x ++ codes ";")
 member_text margin (member.Effect shared type name comb at) =
-    line margin (sharing shared ++ codes " effect " ++ type_text type ++ codes " " ++ name.text ++ codes " : " ++ combinator comb ++ codes ";")
+    line margin (sharing shared ++ codes " effect " ++ type_text type ++ codes " " ++ name.text ++
+        codes " : " ++ combinator comb ++ codes ";")
 member_text margin (member.Run statements at) =
     line margin (codes "public void run() {") ++ block (map statement statements) margin
     ++ line margin (codes "}")
@@ -98,7 +110,9 @@ member_text margin (member.Spawn x gifts at) =
 
 -- the lines of a class
 abbrev pub class_text : ClassTree → List ℕ
-class_text class = line [] (codes "class " ++ class.name.text ++ codes " {") ++ flat_map (member_text (deeper [])) class.members ++ line [] (codes "}")
+class_text class =
+    line [] (codes "class " ++ class.name.text ++ codes " {") ++
+        flat_map (member_text (deeper [])) class.members ++ line [] (codes "}")
 
 -- the lines of a script
 abbrev pub canonical : Tree → List ℕ

@@ -1,5 +1,5 @@
--- The canonical text of expressions. A level says how tightly an expression binds: an operand stands in parentheses
--- exactly where its level is below the one that is needed there.
+-- The canonical text of expressions. A level says how tightly an expression binds: an operand
+-- stands in parentheses exactly where its level is below the one that is needed there.
 use Rattle.std.specs.Prelude.{ℕ, nat_lt, if◌then◌else◌, List, ◌++◌, codes}
 use Rattle.brace_syntax.specs.declared.tree.UnName.{UnName}
 use Rattle.brace_syntax.specs.declared.tree.UnName.TheVariants as un
@@ -37,7 +37,8 @@ prefixed op x = record { level = 7; text = op ++ at_level 7 x }
 
 -- an operator between its operands: its level, and the levels that its operands need
 abbrev pub between : ℕ → ℕ → ℕ → List ℕ → Phrase → Phrase → Phrase
-between level left right op x y = record { level = level; text = at_level left x ++ op ++ at_level right y }
+between level left right op x y =
+    record { level = level; text = at_level left x ++ op ++ at_level right y }
 
 -- an operation with one operand
 abbrev pub unary : UnName → Phrase → Phrase
@@ -68,7 +69,12 @@ binary bin.Max = call_two (codes "max")
 
 -- `c ? x : y`
 abbrev pub choice : Phrase → Phrase → Phrase → Phrase
-choice c x y = record { level = 1; text = at_level 2 c ++ codes " ? " ++ at_level 1 x ++ codes " : " ++ at_level 1 y }
+choice c x y =
+    record {
+      level = 1;
+      text = at_level 2 c ++ codes " ? " ++ at_level 1 x ++ codes " : " ++
+          at_level 1 y;
+    }
 
 -- an expression of each kind, whose operands are phrases
 abbrev pub phrase_step : ExprTree-F Phrase → Phrase

@@ -19,9 +19,12 @@ abbrev pub shortened : List ℕ → List ℕ
 shortened [] = []
 shortened (digit ∷ digits) = digit ∷ without_zeros digits
 
--- a number of millionths: its sign, the digits of its whole part, a point, and as few digits as say it, but one
+-- a number of millionths: its sign, the digits of its whole part, a point, and as few digits as say
+-- it, but one
 abbrev pub short_fixed : ℤ → List ℕ
-short_fixed z = sign_of z ++ decimal (unsigned_abs z / 1000000) ++ 46 ∷ shortened (six_digits (unsigned_abs z % 1000000))
+short_fixed z =
+    sign_of z ++ decimal (unsigned_abs z / 1000000) ++
+    46 ∷ shortened (six_digits (unsigned_abs z % 1000000))
 
 -- a whole number, or a fixed one
 abbrev pub literal : Digits → List ℕ

@@ -33,7 +33,8 @@ fn sharing(shared: bool) -> &'static [u8]
 
 // Appends a directive, from its name to the bracket.
 fn append_directive(out: &mut Vec<u8>, name: &[u8], digits: Digits) -> Result<(), NoMemory>
-    ensures printed { OnOk result (out.new.items ≡ out.old.items ++ line (deeper []) (name.now ++ literal digits ++ codes "];")) }
+    ensures printed { OnOk result (out.new.items ≡
+        out.old.items ++ line (deeper []) (name.now ++ literal digits ++ codes "];")) }
 {
     out.extend_from_slice(b"  ")?;
     out.extend_from_slice(name)?;
@@ -72,7 +73,10 @@ fn append_state(
     name: &Ident,
     x: &Option<ExprTree>,
 ) -> Result<(), NoMemory>
-    ensures printed { OnOk result (out.new.items ≡ out.old.items ++ line (deeper []) (sharing shared ++ codes " state " ++ type_text ty.now ++ codes " " ++ name.now.text ++ rule x.now ++ codes ";")) }
+    ensures printed { OnOk result (out.new.items ≡
+        out.old.items ++ line (deeper [])
+        (sharing shared ++ codes " state " ++ type_text ty.now ++ codes " " ++ name.now.text ++
+        rule x.now ++ codes ";")) }
 {
     append_sharing(out, shared, b" state ")?;
     append_declared(out, ty, name)?;
@@ -83,7 +87,8 @@ fn append_state(
 
 // Appends how an effect is joined, and the end of its line.
 fn append_combinator(out: &mut Vec<u8>, comb: CombName) -> Result<(), NoMemory>
-    ensures printed { OnOk result (out.new.items ≡ out.old.items ++ (codes " : " ++ combinator comb ++ codes ";\n")) }
+    ensures printed { OnOk result (out.new.items ≡
+        out.old.items ++ (codes " : " ++ combinator comb ++ codes ";\n")) }
 {
     out.extend_from_slice(b" : ")?;
     out.extend_from_slice(combinator(comb))?;
@@ -98,7 +103,10 @@ fn append_effect(
     name: &Ident,
     comb: CombName,
 ) -> Result<(), NoMemory>
-    ensures printed { OnOk result (out.new.items ≡ out.old.items ++ line (deeper []) (sharing shared ++ codes " effect " ++ type_text ty.now ++ codes " " ++ name.now.text ++ codes " : " ++ combinator comb ++ codes ";")) }
+    ensures printed { OnOk result (out.new.items ≡
+        out.old.items ++ line (deeper [])
+        (sharing shared ++ codes " effect " ++ type_text ty.now ++ codes " " ++ name.now.text ++
+        codes " : " ++ combinator comb ++ codes ";")) }
 {
     append_sharing(out, shared, b" effect ")?;
     append_declared(out, ty, name)?;
@@ -194,7 +202,8 @@ fn append_members(
     out: &mut Vec<u8>,
     members: &List<MemberTree>,
 ) -> Result<(), NoMemory>
-    ensures printed { OnOk result (out.new.items ≡ out.old.items ++ flat_map (member_text (deeper [])) members.now) }
+    ensures printed { OnOk result (out.new.items ≡
+        out.old.items ++ flat_map (member_text (deeper [])) members.now) }
 {
     for member in members.as_slice() {
         append_member(alloc, out, member)?;

@@ -12,10 +12,12 @@ use std::alloc::Global;
 
 /// The canonical text of a script: one text for each tree, apart from the places that it records.
 ///
-/// A tree that was read from the tokens of some source is read back from its text, apart from places.
+/// A tree that was read from the tokens of some source is read back from its text, apart from
+/// places.
 pub fn show(alloc: Global, tree: &Tree) -> Result<Vec<u8>, NoMemory>
     ensures text { IfOk result (λ out. out.items ≡ canonical tree.now) }
-    ensures reads_back { IfOk result (λ out. (src : List ℕ) (toks : List Token) → Spells src toks → Reads src toks tree.now → ReadsBack out.items tree.now) }
+    ensures reads_back { IfOk result (λ out. (src : List ℕ) (toks : List Token) → Spells src toks
+        → Reads src toks tree.now → ReadsBack out.items tree.now) }
 {
     let mut out = Vec::new(alloc);
     append_classes(alloc, &mut out, &tree.classes)?;

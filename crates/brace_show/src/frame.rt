@@ -11,7 +11,8 @@ pub struct UnaryFrame {
     pub after: &'static [u8],
 }
 
-/// What stands before, between and behind the operands of an operation, and the levels that they need.
+/// What stands before, between and behind the operands of an operation, and the levels that they
+/// need.
 #[derive(Clone, Copy)]
 pub struct BinaryFrame {
     pub before: &'static [u8],
@@ -47,7 +48,8 @@ pub fn level_of_binary(op: BinName) -> u8
 
 /// How an operation with one operand is written.
 pub fn frame_of_unary(op: UnName) -> UnaryFrame
-    ensures { (x : Phrase) → (unary op x).text ≡ result.before.now ++ at_level result.needed x ++ result.after.now }
+    ensures { (x : Phrase) → (unary op x).text ≡
+        result.before.now ++ at_level result.needed x ++ result.after.now }
 {
     let (before, needed, after): (&[u8], u8, &[u8]) = match op {
         UnName::Neg => (b"-", 7, b""),
@@ -65,7 +67,8 @@ pub fn frame_of_unary(op: UnName) -> UnaryFrame
 }
 
 fn infix(left: u8, between: &'static [u8], right: u8) -> BinaryFrame
-    ensures { (result.before.now ≡ []) × (result.left ≡ left) × (result.between.now ≡ between.now) × (result.right ≡ right) × (result.after.now ≡ []) }
+    ensures { (result.before.now ≡ []) × (result.left ≡ left) × (result.between.now ≡ between.now)
+        × (result.right ≡ right) × (result.after.now ≡ []) }
 {
     BinaryFrame {
         before: b"",
@@ -77,7 +80,8 @@ fn infix(left: u8, between: &'static [u8], right: u8) -> BinaryFrame
 }
 
 fn call(before: &'static [u8]) -> BinaryFrame
-    ensures { (result.before.now ≡ before.now) × (result.left ≡ 1) × (result.between.now ≡ codes ", ") × (result.right ≡ 1) × (result.after.now ≡ codes ")") }
+    ensures { (result.before.now ≡ before.now) × (result.left ≡ 1) × (result.between.now ≡ codes ", ")
+        × (result.right ≡ 1) × (result.after.now ≡ codes ")") }
 {
     BinaryFrame {
         before,
@@ -90,7 +94,9 @@ fn call(before: &'static [u8]) -> BinaryFrame
 
 /// How an operation with two operands is written.
 pub fn frame_of_binary(op: BinName) -> BinaryFrame
-    ensures { (x y : Phrase) → (binary op x y).text ≡ result.before.now ++ at_level result.left x ++ result.between.now ++ at_level result.right y ++ result.after.now }
+    ensures { (x y : Phrase) → (binary op x y).text ≡
+        result.before.now ++ at_level result.left x ++ result.between.now ++
+        at_level result.right y ++ result.after.now }
 {
     match op {
         BinName::Or => infix(2, b" || ", 3),

@@ -10,11 +10,12 @@ ghost use Rattle.brace_show.specs.Back.{ReadsBack};
 
 /// A script that is read from some text is read back from its canonical text, apart from places.
 pub fn canonical_texts_are_read_back()
-    ensures { (src : List ℕ) (toks : List Token) (tree : Tree) → Spells src toks → Reads src toks tree → ReadsBack (canonical tree) tree }
+    ensures { (src : List ℕ) (toks : List Token) (tree : Tree) → Spells src toks → Reads src toks tree
+        → ReadsBack (canonical tree) tree }
 {}
 
-/// Scripts that are the same apart from places have one canonical text. So the canonical text of what is read back from a
-/// canonical text is that text.
+/// Scripts that are the same apart from places have one canonical text. So the canonical text of
+/// what is read back from a canonical text is that text.
 pub fn alike_scripts_have_one_text()
     ensures { (tree other : Tree) → Alike tree other → canonical tree ≡ canonical other }
 {}

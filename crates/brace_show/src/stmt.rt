@@ -28,7 +28,8 @@ pub fn append_type(out: &mut Vec<u8>, ty: &TyName) -> Result<(), NoMemory>
 
 /// Appends a type and the name that has it.
 pub fn append_declared(out: &mut Vec<u8>, ty: &TyName, name: &Ident) -> Result<(), NoMemory>
-    ensures printed { OnOk result (out.new.items ≡ out.old.items ++ (type_text ty.now ++ codes " " ++ name.now.text)) }
+    ensures printed { OnOk result (out.new.items ≡
+        out.old.items ++ (type_text ty.now ++ codes " " ++ name.now.text)) }
 {
     append_type(out, ty)?;
     out.extend_from_slice(b" ")?;
@@ -53,7 +54,10 @@ fn append_constant(
     name: &Ident,
     x: &ExprTree,
 ) -> Result<(), NoMemory>
-    ensures printed { OnOk result (out.new.items ≡ out.old.items ++ line margin.now (codes "const " ++ type_text ty.now ++ codes " " ++ name.now.text ++ codes " = " ++ expression x.now ++ codes ";")) }
+    ensures printed { OnOk result (out.new.items ≡
+        out.old.items ++ line margin.now
+        (codes "const " ++ type_text ty.now ++ codes " " ++ name.now.text ++ codes " = " ++
+        expression x.now ++ codes ";")) }
 {
     out.extend_from_slice(margin)?;
     out.extend_from_slice(b"const ")?;
@@ -62,7 +66,8 @@ fn append_constant(
 }
 
 fn append_condition(out: &mut Vec<u8>, margin: &[u8], x: &ExprTree) -> Result<(), NoMemory>
-    ensures printed { OnOk result (out.new.items ≡ out.old.items ++ line margin.now (codes "if (" ++ expression x.now ++ codes ") {")) }
+    ensures printed { OnOk result (out.new.items ≡
+        out.old.items ++ line margin.now (codes "if (" ++ expression x.now ++ codes ") {")) }
 {
     out.extend_from_slice(margin)?;
     out.extend_from_slice(b"if (")?;
@@ -73,7 +78,8 @@ fn append_condition(out: &mut Vec<u8>, margin: &[u8], x: &ExprTree) -> Result<()
 
 // Appends the class and the variable of a loop.
 fn append_variable(out: &mut Vec<u8>, class: &Ident, variable: &Ident) -> Result<(), NoMemory>
-    ensures printed { OnOk result (out.new.items ≡ out.old.items ++ (class.now.text ++ codes " " ++ variable.now.text)) }
+    ensures printed { OnOk result (out.new.items ≡
+        out.old.items ++ (class.now.text ++ codes " " ++ variable.now.text)) }
 {
     out.extend_from_slice(class.text.as_bytes())?;
     out.extend_from_slice(b" ")?;
@@ -83,7 +89,8 @@ fn append_variable(out: &mut Vec<u8>, class: &Ident, variable: &Ident) -> Result
 
 // Appends the class whose agents a loop is over, and the end of its line.
 fn append_extent(out: &mut Vec<u8>, class: &Ident) -> Result<(), NoMemory>
-    ensures printed { OnOk result (out.new.items ≡ out.old.items ++ (codes " : Extent<" ++ class.now.text ++ codes ">) {\n")) }
+    ensures printed { OnOk result (out.new.items ≡
+        out.old.items ++ (codes " : Extent<" ++ class.now.text ++ codes ">) {\n")) }
 {
     out.extend_from_slice(b" : Extent<")?;
     out.extend_from_slice(class.text.as_bytes())?;
@@ -98,7 +105,10 @@ fn append_loop(
     variable: &Ident,
     other: &Ident,
 ) -> Result<(), NoMemory>
-    ensures printed { OnOk result (out.new.items ≡ out.old.items ++ line margin.now (codes "foreach (" ++ class.now.text ++ codes " " ++ variable.now.text ++ codes " : Extent<" ++ other.now.text ++ codes ">) {")) }
+    ensures printed { OnOk result (out.new.items ≡
+        out.old.items ++ line margin.now
+        (codes "foreach (" ++ class.now.text ++ codes " " ++ variable.now.text ++
+        codes " : Extent<" ++ other.now.text ++ codes ">) {")) }
 {
     out.extend_from_slice(margin)?;
     out.extend_from_slice(b"foreach (")?;
@@ -123,7 +133,9 @@ pub fn append_assignment(
     name: &Ident,
     x: &ExprTree,
 ) -> Result<(), NoMemory>
-    ensures printed { OnOk result (out.new.items ≡ out.old.items ++ line margin.now (name.now.text ++ codes " <- " ++ expression x.now ++ codes ";")) }
+    ensures printed { OnOk result (out.new.items ≡
+        out.old.items ++ line margin.now
+        (name.now.text ++ codes " <- " ++ expression x.now ++ codes ";")) }
 {
     out.extend_from_slice(margin)?;
     out.extend_from_slice(name.text.as_bytes())?;
@@ -137,7 +149,10 @@ fn append_assignment_of(
     name: &Ident,
     x: &ExprTree,
 ) -> Result<(), NoMemory>
-    ensures printed { OnOk result (out.new.items ≡ out.old.items ++ line margin.now (owner.now ++ codes "." ++ name.now.text ++ codes " <- " ++ expression x.now ++ codes ";")) }
+    ensures printed { OnOk result (out.new.items ≡
+        out.old.items ++ line margin.now
+        (owner.now ++ codes "." ++ name.now.text ++ codes " <- " ++ expression x.now ++
+        codes ";")) }
 {
     out.extend_from_slice(margin)?;
     out.extend_from_slice(owner)?;
@@ -185,7 +200,8 @@ pub fn append_block(
     margin: &mut Vec<u8>,
     statements: &List<StmtTree>,
 ) -> Result<(), NoMemory>
-    ensures printed { OnOk result (out.new.items ≡ out.old.items ++ block (map statement statements.now) margin.old.items) }
+    ensures printed { OnOk result (out.new.items ≡
+        out.old.items ++ block (map statement statements.now) margin.old.items) }
     ensures margin { OnOk result (margin.new.items ≡ margin.old.items) }
 {
     margin.extend_from_slice(b"  ")?;

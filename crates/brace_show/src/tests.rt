@@ -1,4 +1,5 @@
-// What no clause says: that the definition of the canonical text is the text that is meant, at scripts laid out by hand.
+// What no clause says: that the definition of the canonical text is the text that is meant, at
+// scripts laid out by hand.
 use crate::show;
 use brace_syntax::parse;
 use brace_tok::tokens;

@@ -24,7 +24,7 @@ use Rattle.brace_syntax.specs.Tables as tables
 use Rattle.brace_syntax.specs.inner.Cursor.{Input, Outcome, Parser, and_then, first, kind, place, next, refusal, sees, after, expect, said, name_of, name, number, type_name, combinator}
 use Rattle.brace_syntax.specs.inner.Descent as d
 use Rattle.brace_syntax.specs.inner.Descent.{climb, where_some}
-use Rattle.brace_syntax.specs.Sayings.{IsPlace}
+use Rattle.brace_syntax.specs.Refusals.{IsPlace}
 
 -- the second is a back of the first
 pub record Back (i j : Input) : Type 0 where

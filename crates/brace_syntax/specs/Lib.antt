@@ -1,5 +1,5 @@
 pub mod Tables
 pub mod Reads
 pub mod Depth
-pub mod Sayings
+pub mod Refusals
 pub mod inner

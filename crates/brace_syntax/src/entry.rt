@@ -2,7 +2,7 @@ ghost use Rattle.std.specs.Prelude.{◌≡◌, ◌≤◌, ℕ, length, IfOk, IfE
 ghost use Rattle.brace_tok.specs.Spells.{Spells};
 ghost use Rattle.brace_syntax.specs.Depth.{NowhereDeep, FirstDeepAt};
 ghost use Rattle.brace_syntax.specs.Reads.{Reads};
-ghost use Rattle.brace_syntax.specs.Sayings.{NoScript, Refuses, IsUnread, StandsIn};
+ghost use Rattle.brace_syntax.specs.Refusals.{NoScript, Refuses, IsUnread, StandsIn};
 ghost use Rattle.brace_syntax.specs.declared.tree.Tree.{Tree};
 ghost use Rattle.brace_syntax.specs.declared.fault.SynFault.{SynFault};
 
@@ -24,8 +24,10 @@ pub fn parse(alloc: Global, src: &[u8], toks: &[Token]) -> Result<Tree, SynFault
     ensures reads { IfOk result (λ tree. Reads src.now toks.now tree) }
     ensures shallow { IfOk result (λ _. NowhereDeep toks.now) }
     ensures refused { IfErr result (Refuses src.now toks.now) }
-    ensures read { (tree : Tree) → Reads src.now toks.now tree → NowhereDeep toks.now → MatchResult result (λ found. found ≡ tree) (λ fault. fault ≡ SynFault.NoMemory) }
-    ensures deep { (at : ℕ) → FirstDeepAt toks.now at → MatchResult result (λ _. ⊥) (λ fault. fault ≡ SynFault.TooDeep at) }
+    ensures read { (tree : Tree) → Reads src.now toks.now tree → NowhereDeep toks.now
+        → MatchResult result (λ found. found ≡ tree) (λ fault. fault ≡ SynFault.NoMemory) }
+    ensures deep { (at : ℕ) → FirstDeepAt toks.now at
+        → MatchResult result (λ _. ⊥) (λ fault. fault ≡ SynFault.TooDeep at) }
     ensures unread { NowhereDeep toks.now → NoScript src.now toks.now → MatchResult result (λ _. ⊥) IsUnread }
     ensures place { IfErr result (StandsIn src.now toks.now) }
 {

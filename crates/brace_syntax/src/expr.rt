@@ -105,7 +105,8 @@ fn random(tokens: &mut Tokens<'_>) -> Result<ExprTree, Stop>
     Ok(ExprTree::Rand(at))
 }
 
-/// The rows of expressions. The rows that lead back to the first are given a function for that, so that each is proved by itself.
+/// The rows of expressions. The rows that lead back to the first are given a function for that, so
+/// that each is proved by itself.
 #[derive(Clone, Copy)]
 pub struct Exprs<F> {
     pub alloc: Global,
@@ -137,7 +138,8 @@ impl<F: Fn(Global, &mut Tokens<'_>, usize, Start) -> Result<ExprTree, Stop>> Exp
     #[tactic(auto, unfolding(crate::specs::inner::Descent::two_arguments))]
     fn two_arguments(&self, tokens: &mut Tokens<'_>, name: BinName) -> Result<ExprTree, Stop>
         requires { Nests self.now.depth (F.pre self.now.expr) (F.post self.now.expr) }
-        ensures { Follows (spec.two_arguments (spec.expr self.now.depth) name tokens.old) result tokens.new }
+        ensures { Follows (spec.two_arguments
+            (spec.expr self.now.depth) name tokens.old) result tokens.new }
     {
         let at = tokens.pass();
         tokens.expect(Mark::OpenParen)?;

@@ -5,7 +5,8 @@ use brace_num::NoMemory;
 pub enum SynFault {
     /// The tokens are no script. The offset is that of one of them, or the length of the text.
     NoReading(u32),
-    /// At the token at this offset more than 64 brackets are open, or more than 256 operators stand in one statement.
+    /// At the token at this offset more than 64 brackets are open, or more than 256 operators stand
+    /// in one statement.
     TooDeep(u32),
     /// The allocator refused memory.
     NoMemory,

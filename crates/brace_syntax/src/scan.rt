@@ -51,8 +51,8 @@ fn too_deep(opened: u32, operators: u32) -> bool
     opened > MAX_OPEN || operators > MAX_OPERATORS
 }
 
-/// The place of the first token up to and including which too many brackets are open, or too many operators
-/// stand in one statement.
+/// The place of the first token up to and including which too many brackets are open, or too many
+/// operators stand in one statement.
 pub fn first_deep(toks: &[Token]) -> Option<u32>
     ensures { MatchOption result (spec.NowhereDeep toks.now) (λ at. spec.FirstDeepAt toks.now at) }
 {

@@ -105,7 +105,8 @@ fn ranging(alloc: Global, tokens: &mut Tokens<'_>) -> Result<Heading, Stop>
     })
 }
 
-/// The rows of statements. Those that have a block are given a function for it, so that each is proved by itself.
+/// The rows of statements. Those that have a block are given a function for it, so that each is
+/// proved by itself.
 #[derive(Clone, Copy)]
 pub struct Stmts<F> {
     pub alloc: Global,

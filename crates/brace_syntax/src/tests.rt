@@ -1,4 +1,5 @@
-// What no clause says: the trees of scripts worked by hand, the places of faults, and how deep a script may nest.
+// What no clause says: the trees of scripts worked by hand, the places of faults, and how deep a
+// script may nest.
 use crate::{MemberTree, SynFault, Tree, parse};
 use brace_tok::tokens;
 use std::alloc::{AllocError, Global};

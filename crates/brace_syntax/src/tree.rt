@@ -72,7 +72,8 @@ pub enum BinName {
     Max,
 }
 
-/// An expression. A `u32` is the offset of the operator, of a call's word, or of the first token of a name or literal.
+/// An expression. A `u32` is the offset of the operator, of a call's word, or of the first token of
+/// a name or literal.
 #[derive(Debug, Drop)]
 pub enum ExprTree {
     Lit(Number),
@@ -90,7 +91,8 @@ pub enum ExprTree {
     Rand(u32),
 }
 
-/// A statement. A `u32` is the offset of its first token; an assignment without one has it in its first name.
+/// A statement. A `u32` is the offset of its first token; an assignment without one has it in its
+/// first name.
 #[derive(Debug, Drop)]
 pub enum StmtTree {
     Const(TyName, Ident, ExprTree, u32),

@@ -10,7 +10,7 @@ use Rattle.std.proofs.lemmas.Bool.{lt-leb}
 use Rattle.std.proofs.Math.Nat.{mul-suc, one-le-pow}
 use Rattle.brace_tok.specs.declared.kinds.TokKind.TheVariants as kind
 use Rattle.brace_num.specs.Names.{is_digit}
-use Rattle.brace_tok.specs.Sayings.{fixed_kind, millionths}
+use Rattle.brace_tok.specs.Roles.{fixed_kind, millionths}
 use Rattle.brace_tok.proofs.Scans.{first_of_both, second_of_both, and-false}
 
 -- a byte of digits is a digit

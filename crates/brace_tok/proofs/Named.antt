@@ -10,7 +10,7 @@ use Rattle.std.proofs.Math.Seq.{drop-append_seam, take-append_seam}
 use Rattle.brace_num.specs.Names.{is_word, is_among, is_name, reserved_words}
 use Rattle.brace_tok.specs.Tables.{found, words, directives, symbols, reserved, directive, symbol}
 use Rattle.brace_tok.specs.Pieces.{Piece, blank, line_comment, block_comment, word, whole, fraction, hash, sign, open_comment, stray, bytes_of, is_formed, ends_before}
-use Rattle.brace_tok.specs.Sayings.{Saying, nothing, token, refused, says, token_or, word_kind, name_or, whole_kind, fixed_kind, millionths}
+use Rattle.brace_tok.specs.Roles.{Role, nothing, token, refused, role_at, token_or, word_kind, name_or, whole_kind, fixed_kind, millionths}
 use Rattle.brace_tok.specs.Spells.{text_of, is_row, token_at, tokens_from, Spells}
 use Rattle.brace_tok.specs.Names.{IsNamed}
 use Rattle.brace_tok.specs.declared.kinds.Token.{Token}
@@ -115,19 +115,19 @@ some_or_none : (v : Bool) (k j : TokKind) → cond v (Some k) None ≡ Some j �
 some_or_none true k j e = cc
 some_or_none false k j e = absurd (cc)
 
-says_name : (at_ : ℕ) (p : Piece) → is_formed p ≡ true → says at_ p ≡ token kind.Word → IsTrue (is_name (bytes_of p))
-says_name at_ (blank x) e f = absurd (cc)
-says_name at_ (line_comment x) e f = absurd (cc)
-says_name at_ (block_comment x) e f = absurd (cc)
-says_name at_ (word letters) e f = word_name letters e (said_kind (fault.LongWord at_) (word_kind letters) kind.Word f)
-says_name at_ (whole x) e f =
+role_name : (at_ : ℕ) (p : Piece) → is_formed p ≡ true → role_at at_ p ≡ token kind.Word → IsTrue (is_name (bytes_of p))
+role_name at_ (blank x) e f = absurd (cc)
+role_name at_ (line_comment x) e f = absurd (cc)
+role_name at_ (block_comment x) e f = absurd (cc)
+role_name at_ (word letters) e f = word_name letters e (said_kind (fault.LongWord at_) (word_kind letters) kind.Word f)
+role_name at_ (whole x) e f =
     let other : kind.Int (pos (digits_value 10 x)) ≡ kind.Word = some_or_none _ _ _ (said_kind (fault.WideLiteral at_) (whole_kind x) kind.Word f) in absurd (cc)
-says_name at_ (fraction x y) e f =
+role_name at_ (fraction x y) e f =
     let other : kind.Fixed (pos (millionths x y)) ≡ kind.Word = some_or_none _ _ _ (said_kind (fault.WideLiteral at_) (fixed_kind x y) kind.Word f) in absurd (cc)
-says_name at_ (hash x) e f = absurd (directive_other x kind.Word (said_kind (fault.BadByte at_) (directive x) kind.Word f) refl)
-says_name at_ (sign x) e f = absurd (symbol_other x kind.Word (said_kind (fault.BadByte at_) (symbol x) kind.Word f) refl)
-says_name at_ (open_comment x) e f = absurd (cc)
-says_name at_ (stray x) e f = absurd (cc)
+role_name at_ (hash x) e f = absurd (directive_other x kind.Word (said_kind (fault.BadByte at_) (directive x) kind.Word f) refl)
+role_name at_ (sign x) e f = absurd (symbol_other x kind.Word (said_kind (fault.BadByte at_) (symbol x) kind.Word f) refl)
+role_name at_ (open_comment x) e f = absurd (cc)
+role_name at_ (stray x) e f = absurd (cc)
 
 none_named : (src : List ℕ) → All (IsNamed src) []
 none_named src k d h = absurd (omega arith)
@@ -136,7 +136,7 @@ one_named : (src : List ℕ) (tok : Token) → IsNamed src tok → All (IsNamed 
 one_named src tok n zero d h = n
 one_named src tok n (suc k) d h = absurd (omega arith)
 
-token_named : (src : List ℕ) (from_ to_ : ℕ) (s : Saying) → (s ≡ token kind.Word → IsTrue (is_name (take (to_ - from_) (drop from_ src)))) → All (IsNamed src) (token_at from_ to_ s)
+token_named : (src : List ℕ) (from_ to_ : ℕ) (s : Role) → (s ≡ token kind.Word → IsTrue (is_name (take (to_ - from_) (drop from_ src)))) → All (IsNamed src) (token_at from_ to_ s)
 token_named src from_ to_ nothing h = none_named src
 token_named src from_ to_ (token k) h = one_named src (record { kind = k; from = from_; to = to_ }) (λ e. h (ap token e))
 token_named src from_ to_ (refused f) h = none_named src
@@ -168,9 +168,9 @@ row_named before (p ∷ row) after e =
     let text : take (length before + length (bytes_of p) - length before) (drop (length before) (before ++ ((bytes_of p ++ text_of row) ++ after))) ≡ bytes_of p =
     ap (λ t. take (length before + length (bytes_of p) - length before) (drop (length before) t)) flat ∙ cut_out before (bytes_of p) (text_of row ++ after) in
     All-append (IsNamed (before ++ ((bytes_of p ++ text_of row) ++ after)))
-    (token_at (length before) (length before + length (bytes_of p)) (says (length before) p))
+    (token_at (length before) (length before + length (bytes_of p)) (role_at (length before) p))
     (tokens_from (length before + length (bytes_of p)) row)
-    (token_named _ _ _ (says (length before) p) (λ s. subst (λ t. IsTrue (is_name t)) (sym text) (says_name (length before) p formed s)))
+    (token_named _ _ _ (role_at (length before) p) (λ s. subst (λ t. IsTrue (is_name t)) (sym text) (role_name (length before) p formed s)))
     rest
 
 -- each word of a text is a name

@@ -5,7 +5,7 @@ use Rattle.std.proofs.Common.{length-take}
 use Rattle.brace_tok.specs.Pieces.{Piece, blank, line_comment, block_comment, word, whole, fraction, hash, sign, open_comment, stray, bytes_of, is_formed}
 use Rattle.brace_num.specs.Names.{begins, is_digit, is_letter}
 use Rattle.brace_tok.specs.Tables.{symbol, directive}
-use Rattle.brace_tok.specs.Sayings.{nothing, token, refused, says, token_or, word_kind, whole_kind, fixed_kind}
+use Rattle.brace_tok.specs.Roles.{nothing, token, refused, role_at, token_or, word_kind, whole_kind, fixed_kind}
 use Rattle.brace_tok.specs.Spells.{text_of, is_sound, is_longest, is_row, token_at, tokens_from, FirstFault}
 use Rattle.brace_tok.specs.Steps.{Stands, StepIs, HasEnd, Passes}
 use Rattle.brace_tok.specs.Answers.{IsFault}
@@ -29,30 +29,30 @@ pub text_snoc_after : (row : List Piece) (p : Piece) (after : List ℕ) → text
 text_snoc_after row p after = ap (λ t. t ++ after) (text_snoc row p) ∙ append_assoc (text_of row) (bytes_of p) after
 
 pub row_snoc : (row : List Piece) (p : Piece) (after : List ℕ) → is_row row (bytes_of p ++ after) ≡ true
-    → is_longest p after ≡ true → is_sound (says 0 p) ≡ true → is_row (row ++ p ∷ []) after ≡ true
+    → is_longest p after ≡ true → is_sound (role_at 0 p) ≡ true → is_row (row ++ p ∷ []) after ≡ true
 row_snoc [] p after e l s = both _ _ (both _ _ l s) refl
 row_snoc (q ∷ row) p after e l s =
-    let front : (is_longest q (text_of row ++ (bytes_of p ++ after)) && is_sound (says 0 q)) ≡ true = first_of_both _ (is_row row (bytes_of p ++ after)) e in
-    let rest : is_row row (bytes_of p ++ after) ≡ true = second_of_both (is_longest q (text_of row ++ (bytes_of p ++ after)) && is_sound (says 0 q)) _ e in
+    let front : (is_longest q (text_of row ++ (bytes_of p ++ after)) && is_sound (role_at 0 q)) ≡ true = first_of_both _ (is_row row (bytes_of p ++ after)) e in
+    let rest : is_row row (bytes_of p ++ after) ≡ true = second_of_both (is_longest q (text_of row ++ (bytes_of p ++ after)) && is_sound (role_at 0 q)) _ e in
     both _ _
-    (ap (λ t. is_longest q t && is_sound (says 0 q)) (text_snoc_after row p after) ∙ front)
+    (ap (λ t. is_longest q t && is_sound (role_at 0 q)) (text_snoc_after row p after) ∙ front)
     (row_snoc row p after rest l s)
 
 pub tokens_snoc : (at_ : ℕ) (row : List Piece) (p : Piece) → tokens_from at_ (row ++ p ∷ []) ≡
-    tokens_from at_ row ++ token_at (at_ + length (text_of row)) (at_ + length (text_of row) + length (bytes_of p)) (says (at_ + length (text_of row)) p)
-tokens_snoc at_ [] p = append_nothing (token_at at_ (at_ + length (bytes_of p)) (says at_ p)) ∙ ap (λ n. token_at n (n + length (bytes_of p)) (says n p)) (sym (add-zero at_))
+    tokens_from at_ row ++ token_at (at_ + length (text_of row)) (at_ + length (text_of row) + length (bytes_of p)) (role_at (at_ + length (text_of row)) p)
+tokens_snoc at_ [] p = append_nothing (token_at at_ (at_ + length (bytes_of p)) (role_at at_ p)) ∙ ap (λ n. token_at n (n + length (bytes_of p)) (role_at n p)) (sym (add-zero at_))
 tokens_snoc at_ (q ∷ row) p =
-    let here = token_at at_ (at_ + length (bytes_of q)) (says at_ q) in
+    let here = token_at at_ (at_ + length (bytes_of q)) (role_at at_ q) in
     let place : at_ + length (bytes_of q) + length (text_of row) ≡ at_ + length (bytes_of q ++ text_of row) = omega (arith, length-append (bytes_of q) (text_of row)) in
     ap (λ t. here ++ t) (tokens_snoc (at_ + length (bytes_of q)) row p
-    ∙ ap (λ n. tokens_from (at_ + length (bytes_of q)) row ++ token_at n (n + length (bytes_of p)) (says n p)) place)
+    ∙ ap (λ n. tokens_from (at_ + length (bytes_of q)) row ++ token_at n (n + length (bytes_of p)) (role_at n p)) place)
     ∙ sym (append_assoc here (tokens_from (at_ + length (bytes_of q)) row) _)
 
 sound_or : (a b : TokFault) (o : Option TokKind) → is_sound (token_or a o) ≡ is_sound (token_or b o)
 sound_or a b None = refl
 sound_or a b (Some k) = refl
 
-pub sound_anywhere : (a b : ℕ) (p : Piece) → is_sound (says a p) ≡ is_sound (says b p)
+pub sound_anywhere : (a b : ℕ) (p : Piece) → is_sound (role_at a p) ≡ is_sound (role_at b p)
 sound_anywhere a b (blank x) = refl
 sound_anywhere a b (line_comment x) = refl
 sound_anywhere a b (block_comment x) = refl
@@ -78,8 +78,8 @@ read_length : (src rest : List ℕ) (toks : List Token) (r : Read src rest toks)
 read_length src rest toks r = omega (arith, ap length r.1, length-append (text_of r.0) rest)
 
 read_more : (src rest : List ℕ) (toks new : List Token) (p : Piece) (n : ℕ) → Read src rest toks → Stands rest p n
-    → is_sound (says (length src - length rest) p) ≡ true
-    → new ≡ toks ++ token_at (length src - length rest) (length src - length rest + n) (says (length src - length rest) p)
+    → is_sound (role_at (length src - length rest) p) ≡ true
+    → new ≡ toks ++ token_at (length src - length rest) (length src - length rest + n) (role_at (length src - length rest) p)
     → Read src (drop n rest) new
 read_more src rest toks new p n r s sound e =
     let cut : rest ≡ bytes_of p ++ drop n rest = stands_cut rest p n s in
@@ -87,23 +87,23 @@ read_more src rest toks new p n r s sound e =
       r.0 ++ p ∷ [],
       r.1 ∙ ap (λ t. text_of r.0 ++ t) cut ∙ sym (text_snoc_after r.0 p (drop n rest)),
       row_snoc r.0 p (drop n rest) (sym (ap (is_row r.0) cut) ∙ r.2) s.longest (sound_anywhere 0 (length src - length rest) p ∙ sound),
-      e ∙ ap (λ t. t ++ token_at (length src - length rest) (length src - length rest + n) (says (length src - length rest) p)) r.3
-          ∙ ap (λ m. tokens_from 0 r.0 ++ token_at (length src - length rest) (length src - length rest + m) (says (length src - length rest) p)) (sym (stands_length rest p n s))
-          ∙ ap (λ m. tokens_from 0 r.0 ++ token_at m (m + length (bytes_of p)) (says m p)) (sym place)
+      e ∙ ap (λ t. t ++ token_at (length src - length rest) (length src - length rest + n) (role_at (length src - length rest) p)) r.3
+          ∙ ap (λ m. tokens_from 0 r.0 ++ token_at (length src - length rest) (length src - length rest + m) (role_at (length src - length rest) p)) (sym (stands_length rest p n s))
+          ∙ ap (λ m. tokens_from 0 r.0 ++ token_at m (m + length (bytes_of p)) (role_at m p)) (sym place)
           ∙ sym (tokens_snoc 0 r.0 p),
     )
 
 pub read_step : (src rest : List ℕ) (toks new : List Token) (at_ n : ℕ) (s : Step) → Read src rest toks → at_ ≡ length src - length rest
     → StepIs at_ rest s → Passes at_ s toks new n → Read src (drop n rest) new
 read_step src rest toks new at_ n (step.Gap m) r e (p, stands, says_) (same, kept) =
-    let P : ℕ → Type 0 = λ k. says k p ≡ nothing in
-    let here : says (length src - length rest) p ≡ nothing = subst P e says_ in
+    let P : ℕ → Type 0 = λ k. role_at k p ≡ nothing in
+    let here : role_at (length src - length rest) p ≡ nothing = subst P e says_ in
     let more : Read src (drop m rest) new = read_more src rest toks new p m r stands (ap is_sound here)
     (kept ∙ sym (append_nothing toks) ∙ ap (λ v. toks ++ token_at (length src - length rest) (length src - length rest + m) v) (sym here)) in
     subst (λ k. Read src (drop k rest) new) (sym same) more
 read_step src rest toks new at_ n (step.Token k m) r e (p, stands, says_) (same, put) =
-    let P : ℕ → Type 0 = λ q. says q p ≡ token k in
-    let here : says (length src - length rest) p ≡ token k = subst P e says_ in
+    let P : ℕ → Type 0 = λ q. role_at q p ≡ token k in
+    let here : role_at (length src - length rest) p ≡ token k = subst P e says_ in
     let more : Read src (drop m rest) new = read_more src rest toks new p m r stands (ap is_sound here)
     (put ∙ ap (λ q. toks ++ token_at q (q + m) (token k)) e ∙ ap (λ v. toks ++ token_at (length src - length rest) (length src - length rest + m) v) (sym here)) in
     subst (λ q. Read src (drop q rest) new) (sym same) more
@@ -114,7 +114,7 @@ pub fault_step : (src rest : List ℕ) (toks : List Token) (at_ : ℕ) (f : TokF
 fault_step src rest toks at_ f r e (p, n, stands, says_) =
     let cut : rest ≡ bytes_of p ++ drop n rest = stands_cut rest p n stands in
     let place : at_ ≡ length (text_of r.0) = e ∙ sym (read_length src rest toks r) in
-    (r.0, p, drop n rest, r.1 ∙ ap (λ t. text_of r.0 ++ t) cut, sym (ap (is_row r.0) cut) ∙ r.2, stands.longest, subst (λ k. says k p ≡ refused f) place says_)
+    (r.0, p, drop n rest, r.1 ∙ ap (λ t. text_of r.0 ++ t) cut, sym (ap (is_row r.0) cut) ∙ r.2, stands.longest, subst (λ k. role_at k p ≡ refused f) place says_)
 
 pub as_fault : (src : List ℕ) (f : TokFault) → FirstFault src f → IsFault src f
 as_fault src (fault.BadByte n) first = first

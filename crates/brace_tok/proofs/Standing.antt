@@ -8,7 +8,7 @@ use Rattle.brace_num.specs.Names.{is_digit, is_letter, is_word_byte, begins}
 use Rattle.brace_tok.specs.Bytes.{is_blank, are_digits, begins_close, begins_fraction, begins_comment}
 use Rattle.brace_tok.specs.Tables.{symbol}
 use Rattle.brace_tok.specs.Pieces.{blank, line_comment, block_comment, word, whole, fraction, hash, sign, open_comment, stray}
-use Rattle.brace_tok.specs.Sayings.{token, refused, token_or}
+use Rattle.brace_tok.specs.Roles.{token, refused, token_or}
 use Rattle.brace_tok.specs.declared.kinds.TokKind.{TokKind}
 use Rattle.brace_tok.specs.declared.fault.TokFault.{TokFault}
 use Rattle.brace_tok.specs.Steps.{IsRun, IsClosed, Stands, pair_of}

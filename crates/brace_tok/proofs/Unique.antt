@@ -2,7 +2,7 @@
 use Rattle.std.proofs.Common.{◌≡◌, ℕ, ◌+◌, ◌<◌, ◌≤◌, true, false, ◌&&◌, List, [], ◌∷◌, ◌++◌, length, refl, sym, ap, subst, ◌∙◌, arith, append_assoc, length-append, ◌⊎◌, inl, inr}
 use Rattle.std.proofs.lemmas.List.{append_cancel_left}
 use Rattle.brace_tok.specs.Pieces.{Piece, bytes_of, is_formed, ends_before}
-use Rattle.brace_tok.specs.Sayings.{Saying, nothing, token, refused, says}
+use Rattle.brace_tok.specs.Roles.{Role, nothing, token, refused, role_at}
 use Rattle.brace_tok.specs.Spells.{text_of, is_sound, is_longest, is_row, token_at, tokens_from, Spells, FirstFault, Rises}
 use Rattle.brace_tok.specs.Answers.{IsFault}
 use Rattle.brace_tok.specs.declared.kinds.Token.{Token}
@@ -14,25 +14,25 @@ use Rattle.brace_tok.proofs.Rows.{Read, sound_anywhere, formed_some}
 
 -- the text is at its end, or a fault stands here
 abbrev pub Ends : List ℕ → Type 0
-Ends text = (text ≡ []) ⊎ ((bad : Piece) × (after : List ℕ) × (text ≡ bytes_of bad ++ after) × (is_longest bad after ≡ true) × (is_sound (says 0 bad) ≡ false))
+Ends text = (text ≡ []) ⊎ ((bad : Piece) × (after : List ℕ) × (text ≡ bytes_of bad ++ after) × (is_longest bad after ≡ true) × (is_sound (role_at 0 bad) ≡ false))
 
 pub row_longest : (p : Piece) (row : List Piece) (after : List ℕ) → is_row (p ∷ row) after ≡ true → is_longest p (text_of row ++ after) ≡ true
-row_longest p row after e = first_of_both (is_longest p (text_of row ++ after)) (is_sound (says 0 p)) (first_of_both _ (is_row row after) e)
+row_longest p row after e = first_of_both (is_longest p (text_of row ++ after)) (is_sound (role_at 0 p)) (first_of_both _ (is_row row after) e)
 
-pub row_sound : (p : Piece) (row : List Piece) (after : List ℕ) → is_row (p ∷ row) after ≡ true → is_sound (says 0 p) ≡ true
-row_sound p row after e = second_of_both (is_longest p (text_of row ++ after)) (is_sound (says 0 p)) (first_of_both _ (is_row row after) e)
+pub row_sound : (p : Piece) (row : List Piece) (after : List ℕ) → is_row (p ∷ row) after ≡ true → is_sound (role_at 0 p) ≡ true
+row_sound p row after e = second_of_both (is_longest p (text_of row ++ after)) (is_sound (role_at 0 p)) (first_of_both _ (is_row row after) e)
 
 pub row_rest : (p : Piece) (row : List Piece) (after : List ℕ) → is_row (p ∷ row) after ≡ true → is_row row after ≡ true
-row_rest p row after e = second_of_both (is_longest p (text_of row ++ after) && is_sound (says 0 p)) (is_row row after) e
+row_rest p row after e = second_of_both (is_longest p (text_of row ++ after) && is_sound (role_at 0 p)) (is_row row after) e
 
 pub longest_some : (p : Piece) (after : List ℕ) → is_longest p after ≡ true → 0 < length (bytes_of p)
 longest_some p after e = formed_some p (first_of_both (is_formed p) (ends_before p after) e)
 
-no_start : (text : List ℕ) (q : Piece) (s : List ℕ) → Ends text → text ≡ bytes_of q ++ s → is_longest q s ≡ true → is_sound (says 0 q) ≡ true → ⊥
+no_start : (text : List ℕ) (q : Piece) (s : List ℕ) → Ends text → text ≡ bytes_of q ++ s → is_longest q s ≡ true → is_sound (role_at 0 q) ≡ true → ⊥
 no_start text q s (inl none) e l sound = omega (arith, ap length (sym none ∙ e), length-append (bytes_of q) s, longest_some q s l)
 no_start text q s (inr (bad, after, cut, longest, unsound)) e l sound =
     let same : bad ≡ q = one_piece bad q after s (sym cut ∙ e) longest l in
-    let both_ways : true ≡ false = sym sound ∙ ap (λ p. is_sound (says 0 p)) (sym same) ∙ unsound in
+    let both_ways : true ≡ false = sym sound ∙ ap (λ p. is_sound (role_at 0 p)) (sym same) ∙ unsound in
     cc
 
 pub same_rows : (row other : List Piece) (a b : List ℕ) → Ends a → Ends b → text_of row ++ a ≡ text_of other ++ b → is_row row a ≡ true → is_row other b ≡ true
@@ -51,7 +51,7 @@ same_rows (p ∷ row) (q ∷ other) a b s t e f g =
     let more : (row ≡ other) × (a ≡ b) = same_rows row other a b s t rest (row_rest p row a f) (row_rest q other b g) in
     (ap (λ r. p ∷ r) more.0 ∙ ap (λ x. x ∷ other) same, more.1)
 
-fault_ends : (at_ : ℕ) (bad : Piece) (after : List ℕ) (f : TokFault) → is_longest bad after ≡ true → says at_ bad ≡ refused f → Ends (bytes_of bad ++ after)
+fault_ends : (at_ : ℕ) (bad : Piece) (after : List ℕ) (f : TokFault) → is_longest bad after ≡ true → role_at at_ bad ≡ refused f → Ends (bytes_of bad ++ after)
 fault_ends at_ bad after f l e = inr (bad, after, refl, l, sound_anywhere 0 at_ bad ∙ ap is_sound e)
 
 -- a text spells at most one list of tokens
@@ -75,7 +75,7 @@ one_fault src f g (row, bad, after, e, ok, l, says_) (other, bad', after', e', o
     (fault_ends (length (text_of row)) bad after f l says_) (fault_ends (length (text_of other)) bad' after' g l' says') (sym e ∙ e') ok ok' in
     let piece : bad ≡ bad' = one_piece bad bad' after after' same.1 l l' in
     let meaning : refused f ≡ refused g =
-    sym says_ ∙ ap (λ r. says (length (text_of r)) bad) same.0 ∙ ap (says (length (text_of other))) piece ∙ says' in
+    sym says_ ∙ ap (λ r. role_at (length (text_of r)) bad) same.0 ∙ ap (role_at (length (text_of other))) piece ∙ says' in
     cc
 
 pub only_memory : (src : List ℕ) (f : TokFault) (toks : List Token) → IsFault src f → Spells src toks → f ≡ fault.NoMemory
@@ -96,7 +96,7 @@ rises_from : (low next high : ℕ) (toks : List Token) → low ≤ next → Rise
 rises_from low next high [] h r = omega arith
 rises_from low next high (tok ∷ toks) h (a, b, c) = (omega arith, b, c)
 
-rises_more : (at_ n high : ℕ) (s : Saying) (toks : List Token) → 0 < n → Rises (at_ + n) high toks → Rises at_ high (token_at at_ (at_ + n) s ++ toks)
+rises_more : (at_ n high : ℕ) (s : Role) (toks : List Token) → 0 < n → Rises (at_ + n) high toks → Rises at_ high (token_at at_ (at_ + n) s ++ toks)
 rises_more at_ n high nothing toks h r = rises_from at_ (at_ + n) high toks (omega arith) r
 rises_more at_ n high (token k) toks h r = (omega arith, omega arith, r)
 rises_more at_ n high (refused f) toks h r = rises_from at_ (at_ + n) high toks (omega arith) r
@@ -106,7 +106,7 @@ rises_row at_ [] after e = omega arith
 rises_row at_ (p ∷ row) after e =
     let n : ℕ = length (bytes_of p) in
     let place : at_ + length (bytes_of p) + length (text_of row) ≡ at_ + length (bytes_of p ++ text_of row) = omega (arith, length-append (bytes_of p) (text_of row)) in
-    rises_more at_ (length (bytes_of p)) _ (says at_ p) _ (longest_some p (text_of row ++ after) (row_longest p row after e))
+    rises_more at_ (length (bytes_of p)) _ (role_at at_ p) _ (longest_some p (text_of row ++ after) (row_longest p row after e))
     (subst (λ h. Rises (at_ + length (bytes_of p)) h (tokens_from (at_ + length (bytes_of p)) row)) place
     (rises_row (at_ + length (bytes_of p)) row after (row_rest p row after e)))
 

@@ -1,7 +1,7 @@
 pub mod Bytes
 pub mod Tables
 pub mod Pieces
-pub mod Sayings
+pub mod Roles
 pub mod Spells
 pub mod Names
 pub mod Steps

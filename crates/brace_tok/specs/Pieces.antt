@@ -39,7 +39,8 @@ is_formed (fraction digits decimals) = are_digits digits && are_digits decimals
 is_formed (hash letters) = list_all is_word_byte letters
 is_formed (sign marks) = is_some (symbol marks)
 is_formed (open_comment body) = not (has_close body)
-is_formed (stray b) = not (is_blank b) && not (is_word_byte b) && not (b == 35) && not (is_some (symbol (b ∷ [])))
+is_formed (stray b) =
+    not (is_blank b) && not (is_word_byte b) && not (b == 35) && not (is_some (symbol (b ∷ [])))
 
 -- nothing longer begins where it begins, when `after` follows it
 abbrev pub ends_before : Piece → List ℕ → Bool
@@ -50,6 +51,8 @@ ends_before (word letters) after = not (begins is_word_byte after)
 ends_before (whole digits) after = not (begins is_digit after) && not (begins_fraction after)
 ends_before (fraction digits decimals) after = not (begins is_digit after)
 ends_before (hash letters) after = not (begins is_word_byte after)
-ends_before (sign marks) after = not (begins (λ b. is_some (symbol (marks ++ b ∷ []))) after) && not (begins_comment (marks ++ after))
+ends_before (sign marks) after =
+    not (begins (λ b. is_some (symbol (marks ++ b ∷ []))) after) &&
+    not (begins_comment (marks ++ after))
 ends_before (open_comment body) after = not (begins (λ b. true) after)
 ends_before (stray b) after = not (begins (λ c. is_some (symbol (b ∷ c ∷ []))) after)

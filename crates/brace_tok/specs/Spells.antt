@@ -1,7 +1,8 @@
--- The tokens of a text: the text is a row of blanks, comments and tokens, each the longest at its place.
+-- The tokens of a text: the text is a row of blanks, comments and tokens, each the longest at its
+-- place.
 use Rattle.std.specs.Prelude.{◌≡◌, ℕ, ◌+◌, ◌<◌, ◌≤◌, Bool, true, false, ◌&&◌, List, [], ◌∷◌, ◌++◌, length, IsTrue}
 use Rattle.brace_tok.specs.Pieces.{Piece, bytes_of, is_formed, ends_before}
-use Rattle.brace_tok.specs.Sayings.{Saying, nothing, token, refused, says}
+use Rattle.brace_tok.specs.Roles.{Role, nothing, token, refused, role_at}
 use Rattle.brace_tok.specs.declared.kinds.Token.{Token}
 use Rattle.brace_tok.specs.declared.fault.TokFault.{TokFault}
 
@@ -10,8 +11,8 @@ abbrev pub text_of : List Piece → List ℕ
 text_of [] = []
 text_of (piece ∷ row) = bytes_of piece ++ text_of row
 
--- the saying is no fault
-abbrev pub is_sound : Saying → Bool
+-- the role is no fault
+abbrev pub is_sound : Role → Bool
 is_sound nothing = true
 is_sound (token k) = true
 is_sound (refused f) = false
@@ -23,10 +24,11 @@ is_longest piece after = is_formed piece && ends_before piece after
 -- each piece of the row is the longest at its place and no fault, where `after` follows the row
 abbrev pub is_row : List Piece → List ℕ → Bool
 is_row [] after = true
-is_row (piece ∷ row) after = is_longest piece (text_of row ++ after) && is_sound (says 0 piece) && is_row row after
+is_row (piece ∷ row) after =
+    is_longest piece (text_of row ++ after) && is_sound (role_at 0 piece) && is_row row after
 
--- the token that is said, with its place
-abbrev pub token_at : ℕ → ℕ → Saying → List Token
+-- the token of a role, with its place
+abbrev pub token_at : ℕ → ℕ → Role → List Token
 token_at from_ to_ nothing = []
 token_at from_ to_ (token k) = record { kind = k; from = from_; to = to_ } ∷ []
 token_at from_ to_ (refused f) = []
@@ -35,17 +37,22 @@ token_at from_ to_ (refused f) = []
 abbrev pub tokens_from : ℕ → List Piece → List Token
 tokens_from at_ [] = []
 tokens_from at_ (piece ∷ row) =
-    token_at at_ (at_ + length (bytes_of piece)) (says at_ piece) ++ tokens_from (at_ + length (bytes_of piece)) row
+    token_at at_ (at_ + length (bytes_of piece)) (role_at at_ piece) ++
+    tokens_from (at_ + length (bytes_of piece)) row
 
 -- the text is a row of pieces with these tokens
 abbrev pub Spells : List ℕ → List Token → Type 0
-Spells src toks = (row : List Piece) × (src ≡ text_of row) × IsTrue (is_row row []) × (toks ≡ tokens_from 0 row)
+Spells src toks =
+    (row : List Piece) × (src ≡ text_of row) × IsTrue (is_row row []) × (toks ≡ tokens_from 0 row)
 
--- behind a row without a fault stands a piece that is this fault, so that it is the first of the text
+-- behind a row without a fault stands a piece that is this fault, so that it is the first of the
+-- text
 abbrev pub FirstFault : List ℕ → TokFault → Type 0
 FirstFault src f =
-    (row : List Piece) × (bad : Piece) × (after : List ℕ) × (src ≡ text_of row ++ (bytes_of bad ++ after))
-    × IsTrue (is_row row (bytes_of bad ++ after)) × IsTrue (is_longest bad after) × (says (length (text_of row)) bad ≡ refused f)
+    (row : List Piece) × (bad : Piece) × (after : List ℕ)
+    × (src ≡ text_of row ++ (bytes_of bad ++ after))
+    × IsTrue (is_row row (bytes_of bad ++ after)) × IsTrue (is_longest bad after)
+    × (role_at (length (text_of row)) bad ≡ refused f)
 
 -- the tokens stand one behind another from the first place on, and end at the second or before it
 abbrev pub Rises : ℕ → ℕ → List Token → Type 0

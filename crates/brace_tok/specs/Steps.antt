@@ -4,7 +4,7 @@ use Rattle.std.specs.List.{list_all}
 use Rattle.brace_num.specs.Names.{is_digit, is_word_byte, begins}
 use Rattle.brace_tok.specs.Bytes.{begins_close, has_close, begins_fraction}
 use Rattle.brace_tok.specs.Pieces.{Piece, bytes_of}
-use Rattle.brace_tok.specs.Sayings.{nothing, token, refused, says}
+use Rattle.brace_tok.specs.Roles.{nothing, token, refused, role_at}
 use Rattle.brace_tok.specs.Spells.{is_longest}
 use Rattle.brace_tok.specs.Tables.{symbol}
 use Rattle.brace_tok.specs.declared.kinds.TokKind.{TokKind}
@@ -22,14 +22,18 @@ is_of Line b = not (b == 10)
 
 -- the text begins with n bytes of the kind, and no more
 abbrev pub IsRun : (ℕ → Bool) → List ℕ → ℕ → Type 0
-IsRun kind text n = (n ≤ length text) × IsTrue (list_all kind (take n text)) × IsFalse (begins kind (drop n text))
+IsRun kind text n =
+    (n ≤ length text) × IsTrue (list_all kind (take n text)) × IsFalse (begins kind (drop n text))
 
 -- the first end of a block comment stands behind n bytes
 abbrev pub IsClosed : List ℕ → Option ℕ → Type 0
 IsClosed text None = IsFalse (has_close text)
-IsClosed text (Some n) = (n + 2 ≤ length text) × IsFalse (has_close (take n text ++ codes "*")) × IsTrue (begins_close (drop n text))
+IsClosed text (Some n) =
+    (n + 2 ≤ length text) × IsFalse (has_close (take n text ++ codes "*"))
+    × IsTrue (begins_close (drop n text))
 
--- the text begins with a point and n digits, or n is 0 and it does not begin with a point and a digit
+-- the text begins with a point and n digits, or n is 0 and it does not begin with a point and a
+-- digit
 abbrev pub IsFraction : List ℕ → ℕ → Type 0
 IsFraction text n =
     (n ≡ 0 → IsFalse (begins_fraction text))
@@ -49,9 +53,10 @@ pub record Stands (text : List ℕ) (piece : Piece) (n : ℕ) : Type 0 where
 
 -- what the piece at the head of the text says
 abbrev pub StepIs : ℕ → List ℕ → Step → Type 0
-StepIs at_ text (Gap n) = (piece : Piece) × Stands text piece n × (says at_ piece ≡ nothing)
-StepIs at_ text (Token k n) = (piece : Piece) × Stands text piece n × (says at_ piece ≡ token k)
-StepIs at_ text (Fault f) = (piece : Piece) × (n : ℕ) × Stands text piece n × (says at_ piece ≡ refused f)
+StepIs at_ text (Gap n) = (piece : Piece) × Stands text piece n × (role_at at_ piece ≡ nothing)
+StepIs at_ text (Token k n) = (piece : Piece) × Stands text piece n × (role_at at_ piece ≡ token k)
+StepIs at_ text (Fault f) =
+    (piece : Piece) × (n : ℕ) × Stands text piece n × (role_at at_ piece ≡ refused f)
 
 -- the end of a token that begins at the place is a place too
 abbrev pub HasEnd : ℕ → Step → Type 0
@@ -62,5 +67,6 @@ HasEnd at_ (Fault f) = ⊤
 -- n bytes are passed, and the token that they are, if any, is put behind the others
 abbrev pub Passes : ℕ → Step → List Tok → List Tok → ℕ → Type 0
 Passes at_ (Gap m) old new n = (n ≡ m) × (new ≡ old)
-Passes at_ (Token k m) old new n = (n ≡ m) × (new ≡ old ++ record { kind = k; from = at_; to = at_ + m } ∷ [])
+Passes at_ (Token k m) old new n =
+    (n ≡ m) × (new ≡ old ++ record { kind = k; from = at_; to = at_ + m } ∷ [])
 Passes at_ (Fault f) old new n = ⊥

@@ -41,13 +41,15 @@ directive = found directives
 abbrev pub symbols : List (List ℕ × TokKind)
 symbols =
     (codes "{", kind.OpenBrace) ∷ (codes "}", kind.CloseBrace) ∷ (codes "(", kind.OpenParen) ∷
-    (codes ")", kind.CloseParen) ∷ (codes "[", kind.OpenBracket) ∷ (codes "]", kind.CloseBracket) ∷
-    (codes ";", kind.Semicolon) ∷ (codes ":", kind.Colon) ∷ (codes ",", kind.Comma) ∷ (codes ".", kind.Dot) ∷
-    (codes "?", kind.Question) ∷ (codes "=", kind.Assign) ∷ (codes "<-", kind.Arrow) ∷ (codes "<", kind.Less) ∷
+    (codes ")", kind.CloseParen) ∷ (codes "[", kind.OpenBracket) ∷
+    (codes "]", kind.CloseBracket) ∷ (codes ";", kind.Semicolon) ∷ (codes ":", kind.Colon) ∷
+    (codes ",", kind.Comma) ∷ (codes ".", kind.Dot) ∷ (codes "?", kind.Question) ∷
+    (codes "=", kind.Assign) ∷ (codes "<-", kind.Arrow) ∷ (codes "<", kind.Less) ∷
     (codes "<=", kind.LessEq) ∷ (codes ">", kind.Greater) ∷ (codes ">=", kind.GreaterEq) ∷
-    (codes "==", kind.EqEq) ∷ (codes "!=", kind.NotEq) ∷ (codes "!", kind.Not) ∷ (codes "&&", kind.AndAnd) ∷
-    (codes "||", kind.OrOr) ∷ (codes "+", kind.Plus) ∷ (codes "-", kind.Minus) ∷ (codes "*", kind.Star) ∷
-    (codes "/", kind.Slash) ∷ (codes "%", kind.Percent) ∷ []
+    (codes "==", kind.EqEq) ∷ (codes "!=", kind.NotEq) ∷ (codes "!", kind.Not) ∷
+    (codes "&&", kind.AndAnd) ∷ (codes "||", kind.OrOr) ∷ (codes "+", kind.Plus) ∷
+    (codes "-", kind.Minus) ∷ (codes "*", kind.Star) ∷ (codes "/", kind.Slash) ∷
+    (codes "%", kind.Percent) ∷ []
 
 -- a symbol
 unfoldable pub symbol : List ℕ → Option TokKind

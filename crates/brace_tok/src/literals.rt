@@ -1,7 +1,7 @@
 ghost use Rattle.std.specs.Prelude.{◌≡◌, ℕ, ◌≤◌, ◌^◌, ◌-◌, IsTrue, SomeIff};
 ghost use Rattle.std.specs.Str.Parse.{digits_value};
 ghost use Rattle.brace_tok.specs.Bytes.{are_digits};
-ghost use Rattle.brace_tok.specs.Sayings.{whole_kind, fixed_kind};
+ghost use Rattle.brace_tok.specs.Roles.{whole_kind, fixed_kind};
 ghost use Rattle.brace_tok.specs.Steps.{IsFraction};
 
 use crate::TokKind;
@@ -19,7 +19,8 @@ pub(crate) fn whole_kind(digits: &[u8]) -> Option<TokKind>
     Some(TokKind::Int(value as i64))
 }
 
-/// The kind of a literal with a point, which has at most six digits behind it and at most 2^63-1 millionths.
+/// The kind of a literal with a point, which has at most six digits behind it and at most 2^63-1
+/// millionths.
 pub(crate) fn fixed_kind(digits: &[u8], decimals: &[u8]) -> Option<TokKind>
     requires digits { IsTrue (are_digits digits.now) }
     requires decimals { IsTrue (are_digits decimals.now) }
@@ -58,7 +59,8 @@ fn scale(decimals: usize) -> u128
 /// The value of digits, where it is at most 2^63-1.
 fn value_of(digits: &[u8]) -> Option<u128>
     requires { IsTrue (are_digits digits.now) }
-    ensures { SomeIff result (digits_value 10 digits.now ≤ 9223372036854775807) (digits_value 10 digits.now) }
+    ensures { SomeIff result (digits_value 10 digits.now ≤ 9223372036854775807)
+        (digits_value 10 digits.now) }
 {
     let mut value = 0;
     for digit in digits {

@@ -15,8 +15,10 @@ pub fn tokens(alloc: Global, src: &[u8]) -> Result<Vec<Token>, TokFault>
     requires { length src.now ≤ 1048576 }
     ensures spelled { IfOk result (λ toks. Spells src.now toks.items) }
     ensures refused { IfErr result (IsFault src.now) }
-    ensures listed { (toks : List Token) → Spells src.now toks → MatchResult result (λ list. list.items ≡ toks) (λ fault. fault ≡ TokFault.NoMemory) }
-    ensures faulted { (first : TokFault) → FirstFault src.now first → MatchResult result (λ _. ⊥) (λ fault. (fault ≡ first) ⊎ (fault ≡ TokFault.NoMemory)) }
+    ensures listed { (toks : List Token) → Spells src.now toks
+        → MatchResult result (λ list. list.items ≡ toks) (λ fault. fault ≡ TokFault.NoMemory) }
+    ensures faulted { (first : TokFault) → FirstFault src.now first
+        → MatchResult result (λ _. ⊥) (λ fault. (fault ≡ first) ⊎ (fault ≡ TokFault.NoMemory)) }
     ensures names { IfOk result (λ toks. All (IsNamed src.now) toks.items) }
     ensures rising { IfOk result (λ toks. Rises 0 (length src.now) toks.items) }
 {

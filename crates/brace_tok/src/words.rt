@@ -1,6 +1,6 @@
 ghost use Rattle.std.specs.Prelude.{◌≡◌};
 ghost use Rattle.brace_tok.specs.Tables.{directive, reserved, reserved_of};
-ghost use Rattle.brace_tok.specs.Sayings.{word_kind};
+ghost use Rattle.brace_tok.specs.Roles.{word_kind};
 
 use crate::TokKind;
 

@@ -5,7 +5,7 @@ use Rattle.brace_tok.specs.declared.fault.TokFault.TheVariants as tok
 use Rattle.brace_tok.specs.Spells.{Spells, FirstFault}
 use Rattle.brace_syntax.specs.declared.tree.Tree.{Tree}
 use Rattle.brace_syntax.specs.Depth.{NowhereDeep, FirstDeepAt}
-use Rattle.brace_syntax.specs.Sayings.{NoScript, IsPlace}
+use Rattle.brace_syntax.specs.Refusals.{NoScript, IsPlace}
 use Rattle.brace_syntax.specs.Reads.{Reads}
 use Rattle.brace_top.specs.declared.script_fault.ScriptKind.{ScriptKind}
 use Rattle.brace_top.specs.declared.script_fault.ScriptKind.TheVariants as kind

@@ -1,5 +1,5 @@
 ghost use Rattle.std.specs.Prelude.{◌≡◌, List, ℕ};
-ghost use Rattle.brace_syntax.specs.Sayings.{Refuses, StandsIn};
+ghost use Rattle.brace_syntax.specs.Refusals.{Refuses, StandsIn};
 ghost use Rattle.brace_tok.specs.Answers.{IsFault};
 ghost use Rattle.brace_tok.specs.Spells.{Spells};
 ghost use Rattle.brace_tok.specs.declared.kinds.Token.{Token};

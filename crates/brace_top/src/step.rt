@@ -8,9 +8,10 @@ ghost use Rattle.brace_top.specs.inner.Rules.{worths, with_stop, stays};
 ghost use Rattle.brace_eval.specs.Scopes.{scope_of};
 
 use brace_draw::Drawer;
-use brace_eval::{eval, number, value_at};
+use brace_eval::eval;
 use brace_model::{
-    Agent, Class, Env, Expr, Fault, Phase, Program, State, Stop, Value, World, earlier,
+    Agent, Class, Env, Expr, Fault, Phase, Program, State, Stop, Value, World, earlier, number,
+    value_at,
 };
 use brace_num::{List, NoMemory, clamp};
 use std::alloc::{AllocFailed, Global};

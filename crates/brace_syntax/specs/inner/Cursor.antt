@@ -1,4 +1,5 @@
--- What is left to read, and the steps that every row is made of. Only the crate's own functions cite this.
+-- What is left to read, and the steps that every row is made of. Only the crate's own functions
+-- cite this.
 use Rattle.std.specs.Prelude.{◌≡◌, ◌≢◌, ◌≤◌, ◌<◌, ◌^◌, ℕ, Bool, false, if◌then◌else◌, List, length, drop, Option, Some, None, Result, Ok, Err, All, option_and_then, option_map, slice_get}
 use Rattle.std.specs.Str.{IsUtf8}
 use denote.Enum.Bare.{sameb}
@@ -24,7 +25,8 @@ pub record Input : Type 0 where
 
 -- the token's bytes stand in the source, and those of a word are text
 abbrev pub IsSpelled : List ℕ → Token → Type 0
-IsSpelled src tok = (tok.from ≤ tok.to) × (tok.to ≤ length src) × (Is k.Word tok → IsUtf8 (spelling src tok))
+IsSpelled src tok =
+    (tok.from ≤ tok.to) × (tok.to ≤ length src) × (Is k.Word tok → IsUtf8 (spelling src tok))
 
 -- offsets fit 32 bits, and each token is spelled in the source
 abbrev pub AreSpelled : List ℕ → List Token → Type 0

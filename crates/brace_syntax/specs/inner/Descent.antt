@@ -126,11 +126,13 @@ module _ (expr : Start → Parser ExprTree) where
     where_some found (λ op. do at ← pass; x ← expr Operand; pure (e.Unary op x at)) primary
 
   -- The number bounds the turns.
-  unfoldable pub climb : (TokKind → Option BinName) → Parser ExprTree → ℕ → ExprTree → Parser ExprTree
+  unfoldable pub climb : (TokKind → Option BinName) → Parser ExprTree → ℕ → ExprTree
+      → Parser ExprTree
   climb table operand zero left = pure left
   climb table operand (suc n) left = do
     found ← next_by table
-    where_some found (λ op. do at ← pass; right ← operand; climb table operand n (e.Binary op left right at)) (pure left)
+    where_some found (λ op. do at ← pass; right ← operand; climb table operand n
+        (e.Binary op left right at)) (pure left)
 
   abbrev of_level : Level → Parser ExprTree → Parser ExprTree
   of_level at operand = do
@@ -170,7 +172,8 @@ module _ (expr : Start → Parser ExprTree) where
   choice = do
     w ← disjunction
     is_asked ← (λ i. Ok (sees mark.Question i, i))
-    if is_asked then (do at ← pass; x ← expr Whole; expect mark.Colon; y ← expr Whole; pure (e.Choice w x y at)) else pure w
+    if is_asked then (do at ← pass; x ← expr Whole; expect mark.Colon; y ← expr Whole; pure
+        (e.Choice w x y at)) else pure w
 
   abbrev pub begun : Start → Parser ExprTree
   begun Whole = choice
@@ -218,7 +221,8 @@ unfoldable pub assign : Parser StmtTree
 assign = do
   first ← name
   is_loop ← eat mark.Dot
-  if is_loop then (do second ← name; x ← assigned; pure (s.AssignLoop first second x)) else (do x ← assigned; pure (s.Assign first x))
+  if is_loop then (do second ← name; x ← assigned; pure (s.AssignLoop first second x))
+      else (do x ← assigned; pure (s.Assign first x))
 
 -- in parentheses
 unfoldable pub condition : Parser ExprTree
@@ -251,7 +255,8 @@ module _ (block : Parser (List StmtTree)) where
     x ← condition
     first ← block
     is_either ← eat mark.Else
-    if is_either then (do other ← block; pure (s.If x first (Some other) at)) else pure (s.If x first None at)
+    if is_either then (do other ← block; pure (s.If x first (Some other) at))
+        else pure (s.If x first None at)
 
   unfoldable pub foreach : Parser StmtTree
   foreach = do
@@ -316,7 +321,8 @@ reach = do
 unfoldable pub ruled : Parser (Option ExprTree)
 ruled = do
   is_ruled ← eat mark.Colon
-  if is_ruled then (do x ← expression; expect mark.Semicolon; pure (Some x)) else (do expect mark.Semicolon; pure None)
+  if is_ruled then (do x ← expression; expect mark.Semicolon; pure (Some x))
+      else (do expect mark.Semicolon; pure None)
 
 unfoldable pub state : Bool → ℕ → Parser MemberTree
 state is_public at = do

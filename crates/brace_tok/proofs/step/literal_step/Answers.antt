@@ -1,6 +1,6 @@
 use Rattle.std.proofs.Common.{take, drop, ap, ◌∙◌, arith}
 use Rattle.brace_tok.specs.Pieces.{whole, fraction}
-use Rattle.brace_tok.specs.Sayings.{whole_kind, fixed_kind}
+use Rattle.brace_tok.specs.Roles.{whole_kind, fixed_kind}
 use Rattle.brace_tok.proofs.Standing.{whole_stands, fraction_stands, said, refused_as, said_two, refused_two}
 use Rattle.brace_tok.proofs.step.literal_step.Goals as goal
 

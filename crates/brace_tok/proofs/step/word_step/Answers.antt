@@ -1,6 +1,6 @@
 use Rattle.std.proofs.Common.{take}
 use Rattle.brace_tok.specs.Pieces.{word}
-use Rattle.brace_tok.specs.Sayings.{word_kind}
+use Rattle.brace_tok.specs.Roles.{word_kind}
 use Rattle.brace_tok.proofs.Standing.{word_stands, said, refused_as}
 use Rattle.brace_tok.proofs.step.word_step.Goals as goal
 

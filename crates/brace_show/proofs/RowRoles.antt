@@ -15,7 +15,7 @@ use Rattle.brace_num.specs.Names.{is_digit, is_name}
 use Rattle.brace_tok.specs.Bytes.{are_digits}
 use Rattle.brace_tok.specs.Tables.{reserved}
 use Rattle.brace_tok.specs.Pieces.{word, whole, fraction}
-use Rattle.brace_tok.specs.Sayings.{says, token, token_or, name_or, millionths}
+use Rattle.brace_tok.specs.Roles.{role_at, token, token_or, name_or, millionths}
 use Rattle.brace_tok.specs.declared.kinds.TokKind.TheVariants as kind
 use Rattle.brace_tok.specs.declared.fault.TokFault.TheVariants as fault
 use Rattle.brace_tok.proofs.Scans.{both}
@@ -24,7 +24,7 @@ use Rattle.brace_show.specs.Literals.{shortened}
 use Rattle.brace_show.proofs.Zeros.{zeros_behind, length-six_digits, below}
 
 -- a name says that it is a word
-pub name_says : (at_ : ℕ) (text : List ℕ) → is_name text ≡ true → says at_ (word text) ≡ token kind.Word
+pub name_says : (at_ : ℕ) (text : List ℕ) → is_name text ≡ true → role_at at_ (word text) ≡ token kind.Word
 name_says at_ text e =
     ap (λ b. token_or (fault.LongWord at_) (if b then Some (name_or (reserved text)) else None)) (name_short text e)
     ∙ ap (λ o. token (name_or o)) (name_free text e)
@@ -48,7 +48,7 @@ pub decimal_digits : (n : ℕ) → n < 2 ^ 64 → are_digits (decimal n) ≡ tru
 decimal_digits n h = let d = decimal_is_IsNumeral n h in some_bytes (decimal n) d.0.0 d.0.1
 
 -- a whole literal says its number
-pub whole_says : (at_ n : ℕ) → nat_le n 9223372036854775807 ≡ true → says at_ (whole (decimal n)) ≡ token (kind.Int (pos n))
+pub whole_says : (at_ n : ℕ) → nat_le n 9223372036854775807 ≡ true → role_at at_ (whole (decimal n)) ≡ token (kind.Int (pos n))
 whole_says at_ n e =
     let value : digits_value 10 (decimal n) ≡ n = (decimal_is_IsNumeral n (word_fits n e)).1 in
     ap (λ v. token_or (fault.WideLiteral at_) (if nat_le v 9223372036854775807 then Some (kind.Int (pos v)) else None)) value
@@ -124,7 +124,7 @@ fraction_value n e =
 
 -- a fixed literal says its number
 pub fraction_says : (at_ n : ℕ) → nat_le n 9223372036854775807 ≡ true
-    → says at_ (fraction (decimal (n / 1000000)) (shortened (six_digits (n % 1000000)))) ≡ token (kind.Fixed (pos n))
+    → role_at at_ (fraction (decimal (n / 1000000)) (shortened (six_digits (n % 1000000)))) ≡ token (kind.Fixed (pos n))
 fraction_says at_ n e =
     let digits = decimal (n / 1000000) in
     let decimals = shortened (six_digits (n % 1000000)) in

@@ -1,4 +1,4 @@
--- What an answer of the parser says of the tokens.
+-- What a refusal of the parser tells of the tokens.
 use Rattle.std.specs.Prelude.{◌≡◌, ◌⊎◌, List, ℕ, length, Contains, ⊤}
 use Rattle.brace_tok.specs.declared.kinds.Token.{Token}
 use Rattle.brace_syntax.specs.Depth.{NowhereDeep, FirstDeepAt}
