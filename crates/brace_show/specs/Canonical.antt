@@ -53,14 +53,13 @@ otherwise (Some statements) margin = line margin (codes "} else {") ++ block sta
 abbrev pub statement_step : StmtTree-F (List ℕ → List ℕ) → List ℕ → List ℕ
 statement_step (Const type name x at) margin =
     line margin (codes "const " ++ type_text type ++ codes " " ++ name.text ++ codes " = " ++
-        expression x ++ codes ";")
+    expression x ++ codes ";")
 statement_step (If condition statements other at) margin =
     line margin (codes "if (" ++ expression condition ++ codes ") {") ++ block statements margin ++
-        otherwise other margin ++ line margin (codes "}")
+    otherwise other margin ++ line margin (codes "}")
 statement_step (Foreach class variable other statements at) margin =
-    line margin (codes "foreach
-        (" ++ class.text ++ codes " " ++ variable.text ++ codes " : Extent<" ++ other.text ++
-        codes ">) {")
+    line margin (codes "foreach (" ++ class.text ++ codes " " ++ variable.text ++
+    codes " : Extent<" ++ other.text ++ codes ">) {")
     ++ block statements margin ++ line margin (codes "}")
 statement_step (Assign name x) margin =
     line margin (name.text ++ codes " <- " ++ expression x ++ codes ";")
@@ -96,10 +95,10 @@ member_text margin (member.Reach range at) =
     line margin (codes "#reach[" ++ literal range.digits ++ codes "];")
 member_text margin (member.State shared type name x at) =
     line margin (sharing shared ++ codes " state " ++ type_text type ++ codes " " ++ name.text ++
-        rule x ++ codes ";")
+    rule x ++ codes ";")
 member_text margin (member.Effect shared type name comb at) =
     line margin (sharing shared ++ codes " effect " ++ type_text type ++ codes " " ++ name.text ++
-        codes " : " ++ combinator comb ++ codes ";")
+    codes " : " ++ combinator comb ++ codes ";")
 member_text margin (member.Run statements at) =
     line margin (codes "public void run() {") ++ block (map statement statements) margin
     ++ line margin (codes "}")
@@ -112,7 +111,7 @@ member_text margin (member.Spawn x gifts at) =
 abbrev pub class_text : ClassTree → List ℕ
 class_text class =
     line [] (codes "class " ++ class.name.text ++ codes " {") ++
-        flat_map (member_text (deeper [])) class.members ++ line [] (codes "}")
+    flat_map (member_text (deeper [])) class.members ++ line [] (codes "}")
 
 -- the lines of a script
 abbrev pub canonical : Tree → List ℕ

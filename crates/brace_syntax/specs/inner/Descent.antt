@@ -131,8 +131,9 @@ module _ (expr : Start → Parser ExprTree) where
   climb table operand zero left = pure left
   climb table operand (suc n) left = do
     found ← next_by table
-    where_some found (λ op. do at ← pass; right ← operand; climb table operand n
-        (e.Binary op left right at)) (pure left)
+    where_some found
+        (λ op. do at ← pass; right ← operand; climb table operand n (e.Binary op left right at))
+        (pure left)
 
   abbrev of_level : Level → Parser ExprTree → Parser ExprTree
   of_level at operand = do
@@ -172,8 +173,9 @@ module _ (expr : Start → Parser ExprTree) where
   choice = do
     w ← disjunction
     is_asked ← (λ i. Ok (sees mark.Question i, i))
-    if is_asked then (do at ← pass; x ← expr Whole; expect mark.Colon; y ← expr Whole; pure
-        (e.Choice w x y at)) else pure w
+    if is_asked
+        then (do at ← pass; x ← expr Whole; expect mark.Colon; y ← expr Whole; pure (e.Choice w x y at))
+        else pure w
 
   abbrev pub begun : Start → Parser ExprTree
   begun Whole = choice

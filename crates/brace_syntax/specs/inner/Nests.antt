@@ -11,16 +11,16 @@ use Rattle.brace_syntax.specs.declared.tree.StmtTree.{StmtTree}
 use Rattle.brace_syntax.specs.inner.Descent.{expr, block_to}
 
 pub record Nests (depth : ℕ) (pre : Global → MutBor Input → ℕ → Start → Type 0)
-    (post : Global → MutBor Input → ℕ → Start → Result ExprTree Stop → MutBor Input
-    → Type 0) : Type 0 where
+    (post : Global → MutBor Input → ℕ → Start → Result ExprTree Stop → MutBor Input → Type 0)
+    : Type 0 where
   pub callable : (alloc : Global) (old : MutBor Input) (start : Start) → pre alloc old depth start
   pub reads : (alloc : Global) (old new : MutBor Input) (start : Start) (r : Result ExprTree Stop)
       → post alloc old depth start r new
       → Follows (expr depth start old.now) r new.now
 
 pub record NestsBlocks (depth : ℕ) (pre : Global → MutBor Input → ℕ → Type 0)
-    (post : Global → MutBor Input → ℕ → Result (List StmtTree) Stop → MutBor Input
-    → Type 0) : Type 0 where
+    (post : Global → MutBor Input → ℕ → Result (List StmtTree) Stop → MutBor Input → Type 0)
+    : Type 0 where
   pub callable : (alloc : Global) (old : MutBor Input) → pre alloc old depth
   pub reads : (alloc : Global) (old new : MutBor Input) (r : Result (List StmtTree) Stop)
       → post alloc old depth r new
