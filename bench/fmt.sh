@@ -1,6 +1,7 @@
 #!/usr/bin/env bash
-# Brings scripts of 64 KiB, 256 KiB and 1 MiB (the limit) into canonical text, and writes seconds,
-# peak memory and the ratios between them into docs/PERFORMANCE.md.
+# Brings scripts of 64 KiB, 256 KiB and 1 MiB (the limit) into canonical text, and checks scripts of
+# these sizes and a class at its limits; writes seconds, peak memory and the ratios between them into
+# docs/PERFORMANCE.md.
 set -eu
 top=$(cd "$(dirname "$0")/.." && pwd)
 work=$(mktemp -d)
@@ -39,4 +40,28 @@ for size in (1 << 16, 1 << 18, 1 << 20):
         f.write("".join(text) + " " * (size - length))
     rows.append((size, *measured([program, "fmt", "--script", f"{work}/s"])))
 table("Formatting", "bytes of script", rows)
+
+HEAD = """class Fish {
+  #visible[10.0];
+  public state fixed x; public state fixed y; private effect int n : count;
+  public void run() {
+    foreach (Fish p : Extent<Fish>) {
+"""
+SMALL = "if (p.x < x) { const fixed d = max(p.y, y); const bool b = d == p.x || p.y > 1.0; }\n"
+TAIL = "} } }\n"
+# Nothing in these rules is a site or an assignment, so that only the length is limited.
+rows = []
+for size in (1 << 16, 1 << 18, 1 << 20):
+    count = (size - len(HEAD) - len(TAIL)) // len(SMALL)
+    with open(f"{work}/s", "w") as f:
+        f.write((HEAD + SMALL * count + TAIL).ljust(size))
+    rows.append((size, *measured([program, "check", "--script", f"{work}/s"])))
+# A class at its limits: 64 fields, 4,096 sites and 4,096 assignments.
+fields = "".join(f"public state int s{i} : s{i} + 1; public effect int e{i} : count;\n" for i in range(31))
+says = "".join(f"e{i % 31} <- s{i % 31} - {i};\n" for i in range(4096 - 31)) + "e0 <- 1;\n" * 31
+script = f"class P {{ public state fixed x; public state fixed y;\n{fields}public void run() {{\n{says}}} }}\n"
+with open(f"{work}/s", "w") as f:
+    f.write(script)
+rows.append((len(script), *measured([program, "check", "--script", f"{work}/s"])))
+table("Checking", "bytes of script, last a class at its limits", rows)
 P

@@ -1,0 +1,29 @@
+#!/usr/bin/env bash
+# Reads agent files of 10,000, 100,000 and 1,000,000 agents of four states, in no order of ids, and
+# writes their first tick; writes seconds, peak memory and the ratios into docs/PERFORMANCE.md.
+set -eu
+top=$(cd "$(dirname "$0")/.." && pwd)
+work=$(mktemp -d)
+trap 'rm -rf "$work"' EXIT
+cp "$top/bench/fish.brasil" "$work/s"
+"$top/brace" check --script "$work/s"
+# The program that ./brace runs.
+program=$top/out/brace-$("$top/tools/sum.sh")
+[ -x "$program" ] || program=$top/dist/brace
+PYTHONPATH=$top/bench python3 - "$program" "$work" <<'P'
+import random, sys
+from measure import measured, table
+program, work = sys.argv[1:]
+rows = []
+for count in (10_000, 100_000, 1_000_000):
+    r = random.Random(1)
+    ids = list(range(count))
+    r.shuffle(ids)
+    with open(f"{work}/a", "w") as f:
+        for i in ids:
+            x = f"{r.randrange(1000)}.{r.randrange(10**6):06}"
+            f.write(f"Fish,{i},{x},{r.randrange(1000)},{r.randrange(-2, 3)},-0.5\n")
+    words = [program, "run", "--script", f"{work}/s", "--agents", f"{work}/a", "--ticks", "0"]
+    rows.append((count, *measured(words)))
+table("Reading agents and writing their first tick", "agents", rows)
+P
