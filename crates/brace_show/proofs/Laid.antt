@@ -7,7 +7,8 @@ use Rattle.brace_tok.specs.Pieces.{Piece, blank, bytes_of}
 use Rattle.brace_tok.specs.Roles.{token, role_at}
 use Rattle.brace_tok.specs.Spells.{text_of, token_at, tokens_from}
 use Rattle.brace_tok.proofs.Named.{cut_out}
-use Rattle.brace_syntax.specs.Tables.{Is, spelling}
+use Rattle.brace_tok.specs.Names.{text_at}
+use Rattle.brace_syntax.specs.Tables.{Is}
 use Rattle.brace_show.proofs.Rows.{Row, margin_row, line_row}
 
 pub tokens-append : (from : ℕ) (a b : Row) → tokens_from from (a ++ b) ≡ tokens_from from a ++ tokens_from (from + length (text_of a)) b
@@ -44,7 +45,7 @@ split C src a b toks l f =
 
 -- one piece that is a token, and what stands behind it
 pub say : (C : List Token → Type 0) (kind : TokKind) (src : List ℕ) (p : Piece) (row : Row) (toks : List Token) → ((from : ℕ) → role_at from p ≡ token kind) → Laid src (p ∷ row) toks
-    → ((tok : Token) (rest : List Token) → Is kind tok → spelling src tok ≡ bytes_of p → Laid src row rest → C (tok ∷ rest)) → C toks
+    → ((tok : Token) (rest : List Token) → Is kind tok → text_at src tok ≡ bytes_of p → Laid src row rest → C (tok ∷ rest)) → C toks
 say C kind src p row toks h l f =
     let from_ : ℕ = length l.before in
     let to_ : ℕ = length l.before + length (bytes_of p) in
@@ -52,7 +53,7 @@ say C kind src p row toks h l f =
     let cut : (bytes_of p ++ text_of row) ++ l.after ≡ bytes_of p ++ (text_of row ++ l.after) = append_assoc (bytes_of p) (text_of row) l.after in
     let first : src ≡ l.before ++ (bytes_of p ++ (text_of row ++ l.after)) = l.whole ∙ ap (λ z. l.before ++ z) cut in
     let second : src ≡ (l.before ++ bytes_of p) ++ (text_of row ++ l.after) = first ∙ sym (append_assoc l.before (bytes_of p) (text_of row ++ l.after)) in
-    let spelt : spelling src tok ≡ bytes_of p = ap (λ z. take (to_ - from_) (drop from_ z)) first ∙ cut_out l.before (bytes_of p) (text_of row ++ l.after) in
+    let spelt : text_at src tok ≡ bytes_of p = ap (λ z. take (to_ - from_) (drop from_ z)) first ∙ cut_out l.before (bytes_of p) (text_of row ++ l.after) in
     let toks_are : toks ≡ tok ∷ tokens_from (length (l.before ++ bytes_of p)) row =
     l.said ∙ (ap (λ s. token_at from_ to_ s ++ tokens_from to_ row) (h from_) ∙ ap (λ n. tok ∷ tokens_from n row) (sym (length-append l.before (bytes_of p)))) in
     let rest : Laid src row (tokens_from (length (l.before ++ bytes_of p)) row) = record { before = l.before ++ bytes_of p; after = l.after; whole = second; said = refl } in

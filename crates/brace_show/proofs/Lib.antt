@@ -1,4 +1,6 @@
 pub mod Blocks
+pub mod Calm
+pub mod ExprDepth
 pub mod ExprReads
 pub mod ExprStands
 pub mod Laid
@@ -9,6 +11,7 @@ pub mod RowRoles
 pub mod RowStands
 pub mod RowText
 pub mod Rows
+pub mod ScriptDepth
 pub mod Sound
 pub mod SoundReadings
 pub mod StmtReads

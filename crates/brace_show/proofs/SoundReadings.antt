@@ -12,7 +12,7 @@ use Rattle.brace_tok.specs.Tables.{found, words, directives, symbols, reserved, 
 use Rattle.brace_tok.specs.Pieces.{Piece, blank, line_comment, block_comment, word, whole, fraction, hash, sign, open_comment, stray, bytes_of}
 use Rattle.brace_tok.specs.Roles.{Role, nothing, token, refused, role_at, token_or, name_or, word_kind, whole_kind, fixed_kind, millionths}
 use Rattle.brace_tok.specs.Spells.{token_at, tokens_from, Spells}
-use Rattle.brace_tok.specs.Names.{IsNamed}
+use Rattle.brace_tok.specs.Names.{IsNamed, text_at}
 use Rattle.brace_tok.specs.declared.kinds.Token.{Token}
 use Rattle.brace_tok.specs.declared.kinds.TokKind.{TokKind}
 use Rattle.brace_tok.specs.declared.kinds.TokKind.TheVariants as k
@@ -20,7 +20,7 @@ use Rattle.brace_tok.specs.declared.fault.TokFault.{TokFault}
 use Rattle.brace_tok.specs.declared.fault.TokFault.TheVariants as fault
 use Rattle.brace_tok.proofs.Scans.{both, first_of_both, second_of_both}
 use Rattle.brace_tok.proofs.Named.{spells_names}
-use Rattle.brace_syntax.specs.Tables.{Is, ident, spelling, number, number_at, type_name, type_at}
+use Rattle.brace_syntax.specs.Tables.{Is, ident, number, number_at, type_name, type_at}
 use Rattle.brace_syntax.specs.Reads as g
 use Rattle.brace_syntax.specs.Reads.{ReadsExpr, ReadsStmt, ReadsStmts, ReadsBlock, ReadsField, ReadsGift, ReadsGifts, ReadsMember, ReadsMembers, ReadsClass, ReadsClasses, Reads}
 use Rattle.brace_syntax.specs.declared.tree.Ident.{Ident}
@@ -113,7 +113,7 @@ kind_sound text kind = true
 
 abbrev Sounds : List ℕ → List Token → Type 0
 Sounds src [] = Unit {0}
-Sounds src (tok ∷ toks) = (kind_sound (spelling src tok) tok.kind ≡ true) × Sounds src toks
+Sounds src (tok ∷ toks) = (kind_sound (text_at src tok) tok.kind ≡ true) × Sounds src toks
 
 kind_is_sound : (text : List ℕ) (kind : TokKind) → (kind ≡ k.Word → IsTrue (is_name text)) → kind_fits kind ≡ true → kind_sound text kind ≡ true
 kind_is_sound text k.Word n h = n refl
@@ -124,7 +124,7 @@ kind_is_sound text kind n h = refl
 sounds_of : (src : List ℕ) (toks : List Token) → All (IsNamed src) toks → list_all fits toks ≡ true → Sounds src toks
 sounds_of src [] n h = tt
 sounds_of src (tok ∷ toks) n h = (
-  kind_is_sound (spelling src tok) tok.kind (All-head (IsNamed src) tok toks n) (first_of_both (fits tok) (list_all fits toks) h),
+  kind_is_sound (text_at src tok) tok.kind (All-head (IsNamed src) tok toks n) (first_of_both (fits tok) (list_all fits toks) h),
   sounds_of src toks (All-rest (IsNamed src) tok toks (tok ∷ toks) refl n) (second_of_both (fits tok) (list_all fits toks) h),
 )
 
@@ -140,16 +140,16 @@ right src [] b h = h
 right src (tok ∷ a) b (h, hs) = right src a b hs
 
 -- what tokens say
-name_sound : (src : List ℕ) (tok : Token) → Is k.Word tok → kind_sound (spelling src tok) tok.kind ≡ true → is_name (spelling src tok) ≡ true
-name_sound src tok is h = sym (ap (kind_sound (spelling src tok)) is) ∙ h
+name_sound : (src : List ℕ) (tok : Token) → Is k.Word tok → kind_sound (text_at src tok) tok.kind ≡ true → is_name (text_at src tok) ≡ true
+name_sound src tok is h = sym (ap (kind_sound (text_at src tok)) is) ∙ h
 
 number_sound_at : (text : List ℕ) (from : ℕ) (kind : TokKind) (n : Number) → number_at from kind ≡ Some n → kind_sound text kind ≡ true → digits_are n.digits ≡ true
 number_sound_at text from (k.Int z) n is h = sym (ap (λ (m : Number). digits_are m.digits) (same_Some _ _ is)) ∙ h
 number_sound_at text from (k.Fixed z) n is h = sym (ap (λ (m : Number). digits_are m.digits) (same_Some _ _ is)) ∙ h
 number_sound_at text from kind n is h = absurd (cc)
 
-number_sound : (src : List ℕ) (tok : Token) (n : Number) → number tok ≡ Some n → kind_sound (spelling src tok) tok.kind ≡ true → digits_are n.digits ≡ true
-number_sound src tok n is h = number_sound_at (spelling src tok) tok.from tok.kind n is h
+number_sound : (src : List ℕ) (tok : Token) (n : Number) → number tok ≡ Some n → kind_sound (text_at src tok) tok.kind ≡ true → digits_are n.digits ≡ true
+number_sound src tok n is h = number_sound_at (text_at src tok) tok.from tok.kind n is h
 
 type_sound_at : (name : Ident) (kind : TokKind) (t : TyName) → type_at name kind ≡ Some t → kind_sound name.text kind ≡ true → type_is t ≡ true
 type_sound_at name k.KwInt t is h = sym (ap type_is (same_Some _ _ is))
@@ -158,7 +158,7 @@ type_sound_at name k.KwBool t is h = sym (ap type_is (same_Some _ _ is))
 type_sound_at name k.Word t is h = sym (ap type_is (same_Some _ _ is)) ∙ h
 type_sound_at name kind t is h = absurd (cc)
 
-type_sound : (src : List ℕ) (tok : Token) (t : TyName) → type_name src tok ≡ Some t → kind_sound (spelling src tok) tok.kind ≡ true → type_is t ≡ true
+type_sound : (src : List ℕ) (tok : Token) (t : TyName) → type_name src tok ≡ Some t → kind_sound (text_at src tok) tok.kind ≡ true → type_is t ≡ true
 type_sound src tok t is h = type_sound_at (ident src tok) tok.kind t is h
 
 -- expressions
@@ -188,7 +188,7 @@ expr_reading src _ _ _ (g.of_this this dot name e e' e'') h = sound_expr (expr.O
 expr_reading src _ _ _ (g.named name e) h = sound_expr (expr.Name (ident src name)) _ (node.rolls-Name (ident src name)) (name_sound src name e h.0)
 expr_reading src _ _ _ (g.of_loop loop dot name e e' e'') h =
     sound_expr (expr.OfLoop (ident src loop) (ident src name)) _ (node.rolls-OfLoop (ident src loop) (ident src name))
-    (both (is_name (spelling src loop)) (is_name (spelling src name)) (name_sound src loop e h.0) (name_sound src name e'' h.1.1.0))
+    (both (is_name (text_at src loop)) (is_name (text_at src name)) (name_sound src loop e h.0) (name_sound src name e'' h.1.1.0))
 expr_reading src _ _ _ (g.called_one a w opening closing name x e e' e'' r) h =
     sound_expr (expr.Unary name x w.from) _ (node.rolls-Unary name x w.from) (expr_reading src g.choices a x r (left src a (closing ∷ []) h.1.1))
 expr_reading src _ _ _ (g.called_two a b w opening comma closing name x y e e' e'' e''' r r') h =
@@ -208,7 +208,7 @@ mutual
   stmt_reading : (src : List ℕ) (toks : List Token) (x : StmtTree) → ReadsStmt src toks x → Sounds src toks → stmt_sound x ≡ true
   stmt_reading src _ _ (g.const a w type name equals semicolon t x e e' e'' e3 e4 r) h =
       sound_stmt (stmt.Const t (ident src name) x w.from) _ (s.rolls-Const t (ident src name) x w.from)
-      (both (type_is t && is_name (spelling src name)) (expr_sound x) (both (type_is t) (is_name (spelling src name)) (type_sound src type t e' h.1.0) (name_sound src name e'' h.1.1.0))
+      (both (type_is t && is_name (text_at src name)) (expr_sound x) (both (type_is t) (is_name (text_at src name)) (type_sound src type t e' h.1.0) (name_sound src name e'' h.1.1.0))
       (expr_reading src g.choices a x r (left src a (semicolon ∷ []) h.1.1.1.1)))
   stmt_reading src _ _ (g.when a b w opening closing x block e e' e'' r rb) h =
       sound_stmt (stmt.If x block None w.from) _ (s.rolls-If x block None w.from)
@@ -221,20 +221,20 @@ mutual
       (block_reading src c other rc (right src (a ++ (closing ∷ b)) (otherwise ∷ c) h.1.1).1))
   stmt_reading src _ _ (g.foreach a w opening class variable colon extent less other greater closing block e e1 e2 e3 e4 e5 e6 e7 e8 e9 r) h =
       sound_stmt (stmt.Foreach (ident src class) (ident src variable) (ident src other) block w.from) _ (s.rolls-Foreach (ident src class) (ident src variable) (ident src other) block w.from)
-      (both (is_name (spelling src class) && is_name (spelling src variable) && is_name (spelling src other)) (sound_block block)
-      (both (is_name (spelling src class) && is_name (spelling src variable)) (is_name (spelling src other))
-      (both (is_name (spelling src class)) (is_name (spelling src variable)) (name_sound src class e2 h.1.1.0) (name_sound src variable e3 h.1.1.1.0)) (name_sound src other e7 h.1.1.1.1.1.1.1.0))
+      (both (is_name (text_at src class) && is_name (text_at src variable) && is_name (text_at src other)) (sound_block block)
+      (both (is_name (text_at src class) && is_name (text_at src variable)) (is_name (text_at src other))
+      (both (is_name (text_at src class)) (is_name (text_at src variable)) (name_sound src class e2 h.1.1.0) (name_sound src variable e3 h.1.1.1.0)) (name_sound src other e7 h.1.1.1.1.1.1.1.0))
       (block_reading src a block r h.1.1.1.1.1.1.1.1.1.1))
   stmt_reading src _ _ (g.assign_this a this dot name arrow semicolon x e e1 e2 e3 e4 r) h =
       sound_stmt (stmt.AssignThis (ident src name) x this.from) _ (s.rolls-AssignThis (ident src name) x this.from)
-      (both (is_name (spelling src name)) (expr_sound x) (name_sound src name e2 h.1.1.0) (expr_reading src g.choices a x r (left src a (semicolon ∷ []) h.1.1.1.1)))
+      (both (is_name (text_at src name)) (expr_sound x) (name_sound src name e2 h.1.1.0) (expr_reading src g.choices a x r (left src a (semicolon ∷ []) h.1.1.1.1)))
   stmt_reading src _ _ (g.assign a name arrow semicolon x e e1 e2 r) h =
       sound_stmt (stmt.Assign (ident src name) x) _ (s.rolls-Assign (ident src name) x)
-      (both (is_name (spelling src name)) (expr_sound x) (name_sound src name e h.0) (expr_reading src g.choices a x r (left src a (semicolon ∷ []) h.1.1)))
+      (both (is_name (text_at src name)) (expr_sound x) (name_sound src name e h.0) (expr_reading src g.choices a x r (left src a (semicolon ∷ []) h.1.1)))
   stmt_reading src _ _ (g.assign_loop a loop dot name arrow semicolon x e e1 e2 e3 e4 r) h =
       sound_stmt (stmt.AssignLoop (ident src loop) (ident src name) x) _ (s.rolls-AssignLoop (ident src loop) (ident src name) x)
-      (both (is_name (spelling src loop) && is_name (spelling src name)) (expr_sound x)
-      (both (is_name (spelling src loop)) (is_name (spelling src name)) (name_sound src loop e h.0) (name_sound src name e2 h.1.1.0)) (expr_reading src g.choices a x r (left src a (semicolon ∷ []) h.1.1.1.1)))
+      (both (is_name (text_at src loop) && is_name (text_at src name)) (expr_sound x)
+      (both (is_name (text_at src loop)) (is_name (text_at src name)) (name_sound src loop e h.0) (name_sound src name e2 h.1.1.0)) (expr_reading src g.choices a x r (left src a (semicolon ∷ []) h.1.1.1.1)))
 
   stmts_reading : (src : List ℕ) (toks : List Token) (xs : List StmtTree) → ReadsStmts src toks xs → Sounds src toks → sound_block xs ≡ true
   stmts_reading src _ _ g.none h = refl
@@ -246,15 +246,15 @@ mutual
 -- members, classes and scripts
 field_reading : (src : List ℕ) (shared : Bool) (at : ℕ) (toks : List Token) (x : MemberTree) → ReadsField src shared at toks x → Sounds src toks → member_sound x ≡ true
 field_reading src shared at _ _ (g.state w type name semicolon t e e1 e2 e3) h =
-    both (type_is t && is_name (spelling src name)) true (both (type_is t) (is_name (spelling src name)) (type_sound src type t e1 h.1.0) (name_sound src name e2 h.1.1.0)) refl
+    both (type_is t && is_name (text_at src name)) true (both (type_is t) (is_name (text_at src name)) (type_sound src type t e1 h.1.0) (name_sound src name e2 h.1.1.0)) refl
 field_reading src shared at _ _ (g.ruled a w type name colon semicolon t x e e1 e2 e3 e4 r) h =
-    both (type_is t && is_name (spelling src name)) (expr_sound x) (both (type_is t) (is_name (spelling src name)) (type_sound src type t e1 h.1.0) (name_sound src name e2 h.1.1.0))
+    both (type_is t && is_name (text_at src name)) (expr_sound x) (both (type_is t) (is_name (text_at src name)) (type_sound src type t e1 h.1.0) (name_sound src name e2 h.1.1.0))
     (expr_reading src g.choices a x r (left src a (semicolon ∷ []) h.1.1.1.1))
-field_reading src shared at _ _ (g.effect w type name colon joins semicolon t c e e1 e2 e3 e4 e5) h = both (type_is t) (is_name (spelling src name)) (type_sound src type t e1 h.1.0) (name_sound src name e2 h.1.1.0)
+field_reading src shared at _ _ (g.effect w type name colon joins semicolon t c e e1 e2 e3 e4 e5) h = both (type_is t) (is_name (text_at src name)) (type_sound src type t e1 h.1.0) (name_sound src name e2 h.1.1.0)
 
 gift_reading : (src : List ℕ) (toks : List Token) (x : GiftTree) → ReadsGift src toks x → Sounds src toks → gift_sound x ≡ true
 gift_reading src _ _ (g.gift a name arrow semicolon x e e1 e2 r) h =
-    both (is_name (spelling src name)) (expr_sound x) (name_sound src name e h.0) (expr_reading src g.choices a x r (left src a (semicolon ∷ []) h.1.1))
+    both (is_name (text_at src name)) (expr_sound x) (name_sound src name e h.0) (expr_reading src g.choices a x r (left src a (semicolon ∷ []) h.1.1))
 
 gifts_reading : (src : List ℕ) (toks : List Token) (xs : List GiftTree) → ReadsGifts src toks xs → Sounds src toks → list_all gift_sound xs ≡ true
 gifts_reading src _ _ g.none h = refl
@@ -279,7 +279,7 @@ members_reading src _ _ (g.more a b x xs r rs) h = both (member_sound x) (list_a
 
 class_reading : (src : List ℕ) (toks : List Token) (x : ClassTree) → ReadsClass src toks x → Sounds src toks → class_sound x ≡ true
 class_reading src _ _ (g.class a w name opening closing members e e1 e2 e3 r) h =
-    both (is_name (spelling src name)) (list_all member_sound members) (name_sound src name e1 h.1.0) (members_reading src a members r (left src a (closing ∷ []) h.1.1.1))
+    both (is_name (text_at src name)) (list_all member_sound members) (name_sound src name e1 h.1.0) (members_reading src a members r (left src a (closing ∷ []) h.1.1.1))
 
 classes_reading : (src : List ℕ) (toks : List Token) (xs : List ClassTree) → ReadsClasses src toks xs → Sounds src toks → (nat_le 1 (length xs) && list_all class_sound xs) ≡ true
 classes_reading src _ _ (g.last a x r) h = both (class_sound x) true (class_reading src a x r h) refl

@@ -55,8 +55,8 @@ statement_step (Const type name x at) margin =
     line margin (codes "const " ++ type_text type ++ codes " " ++ name.text ++ codes " = " ++
     expression x ++ codes ";")
 statement_step (If condition statements other at) margin =
-    line margin (codes "if (" ++ expression condition ++ codes ") {") ++ block statements margin ++
-    otherwise other margin ++ line margin (codes "}")
+    line margin (codes "if (" ++ expression condition ++ codes ") {")
+    ++ block statements margin ++ otherwise other margin ++ line margin (codes "}")
 statement_step (Foreach class variable other statements at) margin =
     line margin (codes "foreach (" ++ class.text ++ codes " " ++ variable.text ++
     codes " : Extent<" ++ other.text ++ codes ">) {")
@@ -110,8 +110,8 @@ member_text margin (member.Spawn x gifts at) =
 -- the lines of a class
 abbrev pub class_text : ClassTree → List ℕ
 class_text class =
-    line [] (codes "class " ++ class.name.text ++ codes " {") ++
-    flat_map (member_text (deeper [])) class.members ++ line [] (codes "}")
+    line [] (codes "class " ++ class.name.text ++ codes " {")
+    ++ flat_map (member_text (deeper [])) class.members ++ line [] (codes "}")
 
 -- the lines of a script
 abbrev pub canonical : Tree → List ℕ

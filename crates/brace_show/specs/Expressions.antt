@@ -72,8 +72,7 @@ abbrev pub choice : Phrase → Phrase → Phrase → Phrase
 choice c x y =
     record {
       level = 1;
-      text = at_level 2 c ++ codes " ? " ++ at_level 1 x ++ codes " : " ++
-          at_level 1 y;
+      text = at_level 2 c ++ codes " ? " ++ at_level 1 x ++ codes " : " ++ at_level 1 y;
     }
 
 -- an expression of each kind, whose operands are phrases

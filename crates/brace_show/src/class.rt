@@ -58,7 +58,8 @@ fn append_rule(out: &mut Vec<u8>, x: &Option<ExprTree>) -> Result<(), NoMemory>
 
 // Appends the words that a field begins with.
 fn append_sharing(out: &mut Vec<u8>, shared: bool, word: &[u8]) -> Result<(), NoMemory>
-    ensures printed { OnOk result (out.new.items ≡ out.old.items ++ ((deeper []) ++ sharing shared ++ word.now)) }
+    ensures printed { OnOk result (out.new.items ≡
+        out.old.items ++ ((deeper []) ++ sharing shared ++ word.now)) }
 {
     out.extend_from_slice(b"  ")?;
     out.extend_from_slice(sharing(shared))?;
@@ -73,10 +74,9 @@ fn append_state(
     name: &Ident,
     x: &Option<ExprTree>,
 ) -> Result<(), NoMemory>
-    ensures printed { OnOk result (out.new.items ≡
-        out.old.items ++ line (deeper [])
-        (sharing shared ++ codes " state " ++ type_text ty.now ++ codes " " ++ name.now.text ++
-        rule x.now ++ codes ";")) }
+    ensures printed { OnOk result (out.new.items ≡ out.old.items ++
+        line (deeper []) (sharing shared ++ codes " state " ++ type_text ty.now ++ codes " " ++
+        name.now.text ++ rule x.now ++ codes ";")) }
 {
     append_sharing(out, shared, b" state ")?;
     append_declared(out, ty, name)?;
@@ -103,10 +103,9 @@ fn append_effect(
     name: &Ident,
     comb: CombName,
 ) -> Result<(), NoMemory>
-    ensures printed { OnOk result (out.new.items ≡
-        out.old.items ++ line (deeper [])
-        (sharing shared ++ codes " effect " ++ type_text ty.now ++ codes " " ++ name.now.text ++
-        codes " : " ++ combinator comb ++ codes ";")) }
+    ensures printed { OnOk result (out.new.items ≡ out.old.items ++
+        line (deeper []) (sharing shared ++ codes " effect " ++ type_text ty.now ++ codes " " ++
+        name.now.text ++ codes " : " ++ combinator comb ++ codes ";")) }
 {
     append_sharing(out, shared, b" effect ")?;
     append_declared(out, ty, name)?;
@@ -182,7 +181,8 @@ fn append_spawn(out: &mut Vec<u8>, x: &ExprTree, gifts: &List<GiftTree>) -> Resu
 }
 
 fn append_member(alloc: Global, out: &mut Vec<u8>, member: &MemberTree) -> Result<(), NoMemory>
-    ensures printed { OnOk result (out.new.items ≡ out.old.items ++ member_text (deeper []) member.now) }
+    ensures printed { OnOk result (out.new.items ≡
+        out.old.items ++ member_text (deeper []) member.now) }
 {
     match member {
         MemberTree::Visible(range, _) => append_directive(out, b"#visible[", range.digits),

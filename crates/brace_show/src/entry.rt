@@ -16,8 +16,8 @@ use std::alloc::Global;
 /// places.
 pub fn show(alloc: Global, tree: &Tree) -> Result<Vec<u8>, NoMemory>
     ensures text { IfOk result (λ out. out.items ≡ canonical tree.now) }
-    ensures reads_back { IfOk result (λ out. (src : List ℕ) (toks : List Token) → Spells src toks
-        → Reads src toks tree.now → ReadsBack out.items tree.now) }
+    ensures reads_back { IfOk result (λ out. (src : List ℕ) (toks : List Token)
+        → Spells src toks → Reads src toks tree.now → ReadsBack out.items tree.now) }
 {
     let mut out = Vec::new(alloc);
     append_classes(alloc, &mut out, &tree.classes)?;
@@ -29,7 +29,8 @@ fn append_classes(
     out: &mut Vec<u8>,
     classes: &List<ClassTree>,
 ) -> Result<(), NoMemory>
-    ensures printed { OnOk result (out.new.items ≡ out.old.items ++ flat_map class_text classes.now) }
+    ensures printed { OnOk result (out.new.items ≡
+        out.old.items ++ flat_map class_text classes.now) }
 {
     for class in classes.as_slice() {
         append_class(alloc, out, class)?;

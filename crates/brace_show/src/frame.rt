@@ -67,8 +67,8 @@ pub fn frame_of_unary(op: UnName) -> UnaryFrame
 }
 
 fn infix(left: u8, between: &'static [u8], right: u8) -> BinaryFrame
-    ensures { (result.before.now ≡ []) × (result.left ≡ left) × (result.between.now ≡ between.now)
-        × (result.right ≡ right) × (result.after.now ≡ []) }
+    ensures { (result.before.now ≡ []) × (result.left ≡ left)
+        × (result.between.now ≡ between.now) × (result.right ≡ right) × (result.after.now ≡ []) }
 {
     BinaryFrame {
         before: b"",
@@ -80,8 +80,8 @@ fn infix(left: u8, between: &'static [u8], right: u8) -> BinaryFrame
 }
 
 fn call(before: &'static [u8]) -> BinaryFrame
-    ensures { (result.before.now ≡ before.now) × (result.left ≡ 1) × (result.between.now ≡ codes ", ")
-        × (result.right ≡ 1) × (result.after.now ≡ codes ")") }
+    ensures { (result.before.now ≡ before.now) × (result.left ≡ 1)
+        × (result.between.now ≡ codes ", ") × (result.right ≡ 1) × (result.after.now ≡ codes ")") }
 {
     BinaryFrame {
         before,

@@ -17,8 +17,9 @@ fn without_zeros(mut digits: &[u8]) -> &[u8]
 // Takes the zeros from the end of the last five digits.
 fn shorten(out: &mut Vec<u8>)
     requires { 5 ≤ length out.old.items }
-    ensures { out.new.items ≡ take (length out.old.items - 5 + length
-        (without_zeros (drop (length out.old.items - 5) out.old.items))) out.old.items }
+    ensures { out.new.items ≡
+        take (length out.old.items - 5 +
+        length (without_zeros (drop (length out.old.items - 5) out.old.items))) out.old.items }
 {
     let others = out.len() - 5;
     let kept = without_zeros(&out[others..]).len();

@@ -39,7 +39,8 @@ pub fn append_declared(out: &mut Vec<u8>, ty: &TyName, name: &Ident) -> Result<(
 
 /// Appends a value behind what stands before it, and the end of its line.
 pub fn append_value(out: &mut Vec<u8>, mark: &[u8], x: &ExprTree) -> Result<(), NoMemory>
-    ensures printed { OnOk result (out.new.items ≡ out.old.items ++ (mark.now ++ expression x.now ++ codes ";\n")) }
+    ensures printed { OnOk result (out.new.items ≡
+        out.old.items ++ (mark.now ++ expression x.now ++ codes ";\n")) }
 {
     out.extend_from_slice(mark)?;
     append_expression(out, x)?;
@@ -54,10 +55,9 @@ fn append_constant(
     name: &Ident,
     x: &ExprTree,
 ) -> Result<(), NoMemory>
-    ensures printed { OnOk result (out.new.items ≡
-        out.old.items ++ line margin.now
-        (codes "const " ++ type_text ty.now ++ codes " " ++ name.now.text ++ codes " = " ++
-        expression x.now ++ codes ";")) }
+    ensures printed { OnOk result (out.new.items ≡ out.old.items ++
+        line margin.now (codes "const " ++ type_text ty.now ++ codes " " ++ name.now.text ++
+        codes " = " ++ expression x.now ++ codes ";")) }
 {
     out.extend_from_slice(margin)?;
     out.extend_from_slice(b"const ")?;
@@ -105,9 +105,8 @@ fn append_loop(
     variable: &Ident,
     other: &Ident,
 ) -> Result<(), NoMemory>
-    ensures printed { OnOk result (out.new.items ≡
-        out.old.items ++ line margin.now
-        (codes "foreach (" ++ class.now.text ++ codes " " ++ variable.now.text ++
+    ensures printed { OnOk result (out.new.items ≡ out.old.items ++
+        line margin.now (codes "foreach (" ++ class.now.text ++ codes " " ++ variable.now.text ++
         codes " : Extent<" ++ other.now.text ++ codes ">) {")) }
 {
     out.extend_from_slice(margin)?;
@@ -133,9 +132,8 @@ pub fn append_assignment(
     name: &Ident,
     x: &ExprTree,
 ) -> Result<(), NoMemory>
-    ensures printed { OnOk result (out.new.items ≡
-        out.old.items ++ line margin.now
-        (name.now.text ++ codes " <- " ++ expression x.now ++ codes ";")) }
+    ensures printed { OnOk result (out.new.items ≡ out.old.items ++
+        line margin.now (name.now.text ++ codes " <- " ++ expression x.now ++ codes ";")) }
 {
     out.extend_from_slice(margin)?;
     out.extend_from_slice(name.text.as_bytes())?;
@@ -149,10 +147,9 @@ fn append_assignment_of(
     name: &Ident,
     x: &ExprTree,
 ) -> Result<(), NoMemory>
-    ensures printed { OnOk result (out.new.items ≡
-        out.old.items ++ line margin.now
-        (owner.now ++ codes "." ++ name.now.text ++ codes " <- " ++ expression x.now ++
-        codes ";")) }
+    ensures printed { OnOk result (out.new.items ≡ out.old.items ++
+        line margin.now (owner.now ++ codes "." ++ name.now.text ++ codes " <- " ++
+        expression x.now ++ codes ";")) }
 {
     out.extend_from_slice(margin)?;
     out.extend_from_slice(owner)?;
@@ -163,7 +160,8 @@ fn append_assignment_of(
 
 #[cycle(statements)]
 fn append_statement(out: &mut Vec<u8>, margin: &mut Vec<u8>, s: &StmtTree) -> Result<(), NoMemory>
-    ensures printed { OnOk result (out.new.items ≡ out.old.items ++ statement s.now margin.old.items) }
+    ensures printed { OnOk result (out.new.items ≡
+        out.old.items ++ statement s.now margin.old.items) }
     ensures margin { OnOk result (margin.new.items ≡ margin.old.items) }
 {
     match s {

@@ -17,12 +17,13 @@ use Rattle.brace_syntax.specs.declared.tree.ClassTree.{ClassTree}
 use Rattle.brace_syntax.specs.declared.tree.Tree.{Tree}
 use Rattle.brace_syntax.specs.Tables.{Is, ident, type_name}
 use Rattle.brace_syntax.specs.Tables as tables
-use Rattle.brace_syntax.specs.inner.Cursor.{Input, Parser, kind, next, place, sees, after, name, expect, pure, ◌>>=◌}
+use Rattle.brace_syntax.specs.inner.Cursor.{Input, Parser, kind, next, place, sees, after, expect, combinator, pure, ◌>>=◌}
 use Rattle.brace_syntax.specs.Reads as g
 use Rattle.brace_syntax.specs.Reads.{ReadsExpr, ReadsStmt, ReadsStmts, ReadsBlock, ReadsField, ReadsGift, ReadsGifts, ReadsMember, ReadsMembers, ReadsClass, ReadsClasses, Reads}
 use Rattle.brace_syntax.specs.inner.Descent as d
 use Rattle.brace_syntax.proofs.Inversions.{bound, same_value, same_input, no_fault, passed, expected, eaten, not_eaten, named_one, number_one, type_one, combined_one}
 use Rattle.brace_syntax.proofs.Took.{Took, Sound}
+use Rattle.brace_syntax.proofs.Parts.{named_then, closed}
 use Rattle.std.proofs.lemmas.Bool.Decides.{nat_tests}
 use Rattle.brace_syntax.proofs.ExprRows.{expression-sound}
 use Rattle.brace_syntax.proofs.StmtRows.{assigned-sound, block-sound}
@@ -68,51 +69,38 @@ range-sound src i j x s e =
     let ec : i.rest ≡ (t1.token ∷ t2.token ∷ t3.token ∷ t4.token ∷ []) ++ j.rest = (t1.cut ∙ ap (λ (z : List Token). t1.token ∷ z) (t2.cut ∙ ap (λ (z : List Token). t2.token ∷ z) (t3.cut ∙ ap (λ (z : List Token). t3.token ∷ z) (t4.cut ∙ ap (λ (z : List Token). t4.token ∷ z) er)))) in
     record { taken = t1.token ∷ t2.token ∷ t3.token ∷ t4.token ∷ []; cut = ec; kept = sym (ap (λ (z : Input). z.src) ej) ∙ s4; reads = subst (λ (z : Number). Bracketed src (t1.token ∷ t2.token ∷ t3.token ∷ t4.token ∷ []) z) ex (record { opening = t1.token; range = t2.token; closing = t3.token; semicolon = t4.token; whole = refl; kinds = (t1.says.0, t2.says, t3.says.0, t4.says.0) }) }
 
-pub visible-sound : (src : List ℕ) (i j : Input) (x : MemberTree) → i.src ≡ src → kind i ≡ Some k.Visible → d.visible i ≡ Ok (x, j) → Took src (ReadsMember src) x i j
-unfolding d.visible
-visible-sound src i j x s h e =
-    let t1 = passed i k.Visible h in
-    let s1 : (next i).src ≡ src = t1.src ∙ s in
+-- a directive, whose member is made of its range and its place
+directive_sound : (src : List ℕ) (wanted : TokKind) (member : Number → ℕ → MemberTree)
+    → ((word opening range closing semicolon : Token) (n : Number) → Is wanted word → Is k.OpenBracket opening → tables.number range ≡ Some n → Is k.CloseBracket closing → Is k.Semicolon semicolon
+    → ReadsMember src (word ∷ opening ∷ range ∷ closing ∷ semicolon ∷ []) (member n word.from))
+    → (i j : Input) (x : MemberTree) → i.src ≡ src → kind i ≡ Some wanted → (d.range >>= (λ n. pure (member n (place i)))) (next i) ≡ Ok (x, j) → Took src (ReadsMember src) x i j
+directive_sound src wanted member row i j x s h e =
+    let t1 = passed i wanted h in
     let b2 = bound _ _ _ e in
-    let t2 = (range-sound src) (next i) b2.input b2.value s1 b2.first in
-    let s2 : b2.input.src ≡ src = t2.kept in
+    let t2 = range-sound src (next i) b2.input b2.value (t1.src ∙ s) b2.first in
+    let q = t2.reads in
     let ej : b2.input ≡ j = same_input _ _ _ _ b2.then_ in
-    let a1 : place i ≡ t1.token.from = t1.says.1 in
-    let ev : (let r : MemberTree = v.Visible b2.value (place i) in r) ≡ x = same_value _ _ _ _ b2.then_ in
-    let ex : (let r : MemberTree = v.Visible b2.value t1.token.from in r) ≡ x = cc in
-    let er : b2.input.rest ≡ j.rest = ap (λ (z : Input). z.rest) ej in
-    let ec : i.rest ≡ (t1.token ∷ t2.taken) ++ j.rest = (t1.cut ∙ ap (λ (z : List Token). t1.token ∷ z) (t2.cut ∙ ap (λ (z : List Token). t2.taken ++ z) er)) in
-    record { taken = t1.token ∷ t2.taken; cut = ec; kept = sym (ap (λ (z : Input). z.src) ej) ∙ s2; reads = subst (λ (z : MemberTree). ReadsMember src (t1.token ∷ t2.taken) z) ex (subst (λ (z : List Token). ReadsMember src (t1.token ∷ z) (v.Visible b2.value t1.token.from)) (sym t2.reads.whole) (g.visible t1.token t2.reads.opening t2.reads.range t2.reads.closing t2.reads.semicolon b2.value t1.says.0 t2.reads.kinds.0 t2.reads.kinds.1 t2.reads.kinds.2 t2.reads.kinds.3)) }
+    let ex : member b2.value t1.token.from ≡ x = ap (member b2.value) (sym t1.says.1) ∙ same_value _ _ _ _ b2.then_ in
+    let ec : i.rest ≡ (t1.token ∷ t2.taken) ++ j.rest = t1.cut ∙ ap (λ (z : List Token). t1.token ∷ z) (t2.cut ∙ ap (λ (z : Input). t2.taken ++ z.rest) ej) in
+    let r = row t1.token q.opening q.range q.closing q.semicolon b2.value t1.says.0 q.kinds.0 q.kinds.1 q.kinds.2 q.kinds.3 in
+    record { taken = t1.token ∷ t2.taken; cut = ec; kept = sym (ap (λ (z : Input). z.src) ej) ∙ t2.kept; reads = subst (λ (z : MemberTree). ReadsMember src (t1.token ∷ t2.taken) z) ex (subst (λ (z : List Token). ReadsMember src (t1.token ∷ z) (member b2.value t1.token.from)) (sym q.whole) r) }
 
-pub reach-sound : (src : List ℕ) (i j : Input) (x : MemberTree) → i.src ≡ src → kind i ≡ Some k.Reach → d.reach i ≡ Ok (x, j) → Took src (ReadsMember src) x i j
+visible-sound : (src : List ℕ) (i j : Input) (x : MemberTree) → i.src ≡ src → kind i ≡ Some k.Visible → d.visible i ≡ Ok (x, j) → Took src (ReadsMember src) x i j
+unfolding d.visible
+visible-sound src i j x s h e = directive_sound src k.Visible v.Visible g.visible i j x s h e
+
+reach-sound : (src : List ℕ) (i j : Input) (x : MemberTree) → i.src ≡ src → kind i ≡ Some k.Reach → d.reach i ≡ Ok (x, j) → Took src (ReadsMember src) x i j
 unfolding d.reach
-reach-sound src i j x s h e =
-    let t1 = passed i k.Reach h in
-    let s1 : (next i).src ≡ src = t1.src ∙ s in
-    let b2 = bound _ _ _ e in
-    let t2 = (range-sound src) (next i) b2.input b2.value s1 b2.first in
-    let s2 : b2.input.src ≡ src = t2.kept in
-    let ej : b2.input ≡ j = same_input _ _ _ _ b2.then_ in
-    let a1 : place i ≡ t1.token.from = t1.says.1 in
-    let ev : (let r : MemberTree = v.Reach b2.value (place i) in r) ≡ x = same_value _ _ _ _ b2.then_ in
-    let ex : (let r : MemberTree = v.Reach b2.value t1.token.from in r) ≡ x = cc in
-    let er : b2.input.rest ≡ j.rest = ap (λ (z : Input). z.rest) ej in
-    let ec : i.rest ≡ (t1.token ∷ t2.taken) ++ j.rest = (t1.cut ∙ ap (λ (z : List Token). t1.token ∷ z) (t2.cut ∙ ap (λ (z : List Token). t2.taken ++ z) er)) in
-    record { taken = t1.token ∷ t2.taken; cut = ec; kept = sym (ap (λ (z : Input). z.src) ej) ∙ s2; reads = subst (λ (z : MemberTree). ReadsMember src (t1.token ∷ t2.taken) z) ex (subst (λ (z : List Token). ReadsMember src (t1.token ∷ z) (v.Reach b2.value t1.token.from)) (sym t2.reads.whole) (g.reach t1.token t2.reads.opening t2.reads.range t2.reads.closing t2.reads.semicolon b2.value t1.says.0 t2.reads.kinds.0 t2.reads.kinds.1 t2.reads.kinds.2 t2.reads.kinds.3)) }
+reach-sound src i j x s h e = directive_sound src k.Reach v.Reach g.reach i j x s h e
 
 ruled_by : (src : List ℕ) (b : Bool) (i j : Input) (x : Option ExprTree) → i.src ≡ src → sees m.Colon i ≡ b
     → (if b then (d.expression >>= (λ y. expect m.Semicolon >>= (λ _. pure (Some y)))) else (expect m.Semicolon >>= (λ _. pure None))) (after m.Colon i) ≡ Ok (x, j) → Took src (RuleOf src) x i j
 ruled_by src true i j x s h e =
     let t1 = eaten m.Colon i h in
-    let b2 = bound _ _ _ e in
-    let t2 = expression-sound src (after m.Colon i) b2.input b2.value (t1.src ∙ s) b2.first in
-    let b3 = bound _ _ _ b2.then_ in
-    let t3 = expected m.Semicolon b2.input b3.input b3.value b3.first in
-    let ej : b3.input ≡ j = same_input _ _ _ _ b3.then_ in
-    let er : b3.input.rest ≡ j.rest = ap (λ (z : Input). z.rest) ej in
-    let ex : (let r : Option ExprTree = Some b2.value in r) ≡ x = same_value _ _ _ _ b3.then_ in
-    let ec : i.rest ≡ (t1.token ∷ t2.taken ++ (t3.token ∷ [])) ++ j.rest = (t1.cut ∙ ap (λ (z : List Token). t1.token ∷ z) (t2.cut ∙ (ap (λ (z : List Token). t2.taken ++ z) (t3.cut ∙ ap (λ (z : List Token). t3.token ∷ z) er) ∙ sym (append_assoc t2.taken (t3.token ∷ []) j.rest)))) in
-    record { taken = t1.token ∷ t2.taken ++ (t3.token ∷ []); cut = ec; kept = sym (ap (λ (z : Input). z.src) ej) ∙ (t3.src ∙ t2.kept); reads = subst (λ (z : Option ExprTree). RuleOf src (t1.token ∷ t2.taken ++ (t3.token ∷ [])) z) ex (rule t2.taken t1.token t3.token b2.value t1.says t3.says.0 t2.reads) }
+    let t2 = closed src (ReadsExpr src g.choices) m.Semicolon Some d.expression (expression-sound src) (after m.Colon i) j x (t1.src ∙ s) e in
+    let all : List Token = t1.token ∷ t2.taken ++ (t2.closing ∷ []) in
+    let ec : i.rest ≡ all ++ j.rest = t1.cut ∙ ap (λ (z : List Token). t1.token ∷ z) t2.cut in
+    record { taken = all; cut = ec; kept = t2.kept; reads = subst (λ (z : Option ExprTree). RuleOf src all z) t2.gives (rule t2.taken t1.token t2.closing t2.inner t1.says t2.is_closing t2.reads) }
 ruled_by src false i j x s h e =
     let en = not_eaten m.Colon i h in
     let b3 = bound _ _ _ e in
@@ -140,20 +128,13 @@ state-sound src is_public at i j x s h e =
     let s1 : (next i).src ≡ src = t1.src ∙ s in
     let b2 = bound _ _ _ e in
     let t2 = type_one (next i) b2.input b2.value b2.first in
-    let s2 : b2.input.src ≡ src = t2.src ∙ s1 in
-    let b3 = bound _ _ _ b2.then_ in
-    let t3 = named_one b2.input b3.input b3.value b3.first in
-    let s3 : b3.input.src ≡ src = t3.src ∙ s2 in
-    let b4 = bound _ _ _ b3.then_ in
-    let t4 = (ruled-sound src) b3.input b4.input b4.value s3 b4.first in
-    let s4 : b4.input.src ≡ src = t4.kept in
+    let t3 = named_then src (λ n. d.ruled >>= (λ o. pure (v.State is_public b2.value n o at))) b2.input (x, j) (t2.src ∙ s1) b2.then_ in
+    let b4 = bound _ _ _ t3.then_ in
+    let t4 = ruled-sound src t3.input b4.input b4.value t3.kept b4.first in
     let ej : b4.input ≡ j = same_input _ _ _ _ b4.then_ in
-    let n3 : b3.value ≡ ident src t3.token = t3.says.1 ∙ ap (λ (z : List ℕ). ident z t3.token) s2 in
-    let ev : (let r : MemberTree = v.State is_public b2.value (b3.value) b4.value at in r) ≡ x = same_value _ _ _ _ b4.then_ in
-    let ex : (let r : MemberTree = v.State is_public b2.value (ident src t3.token) b4.value at in r) ≡ x = cc in
-    let er : b4.input.rest ≡ j.rest = ap (λ (z : Input). z.rest) ej in
-    let ec : i.rest ≡ (t1.token ∷ t2.token ∷ t3.token ∷ t4.taken) ++ j.rest = (t1.cut ∙ ap (λ (z : List Token). t1.token ∷ z) (t2.cut ∙ ap (λ (z : List Token). t2.token ∷ z) (t3.cut ∙ ap (λ (z : List Token). t3.token ∷ z) (t4.cut ∙ ap (λ (z : List Token). t4.taken ++ z) er)))) in
-    record { taken = t1.token ∷ t2.token ∷ t3.token ∷ t4.taken; cut = ec; kept = sym (ap (λ (z : Input). z.src) ej) ∙ s4; reads = subst (λ (z : MemberTree). ReadsField src is_public at (t1.token ∷ t2.token ∷ t3.token ∷ t4.taken) z) ex (state_of src is_public at t1.token t2.token t3.token b2.value t4.taken b4.value t1.says.0 (subst (λ (z : List ℕ). type_name z t2.token ≡ Some b2.value) s1 t2.says) t3.says.0 t4.reads) }
+    let all : List Token = t1.token ∷ t2.token ∷ t3.token ∷ t4.taken in
+    let ec : i.rest ≡ all ++ j.rest = t1.cut ∙ ap (λ (z : List Token). t1.token ∷ z) (t2.cut ∙ ap (λ (z : List Token). t2.token ∷ z) (t3.cut ∙ ap (λ (z : List Token). t3.token ∷ z) (t4.cut ∙ ap (λ (z : Input). t4.taken ++ z.rest) ej))) in
+    record { taken = all; cut = ec; kept = sym (ap (λ (z : Input). z.src) ej) ∙ t4.kept; reads = subst (λ (z : MemberTree). ReadsField src is_public at all z) (same_value _ _ _ _ b4.then_) (state_of src is_public at t1.token t2.token t3.token b2.value t4.taken b4.value t1.says.0 (subst (λ (z : List ℕ). type_name z t2.token ≡ Some b2.value) s1 t2.says) t3.is_word t4.reads) }
 
 pub effect-sound : (src : List ℕ) (is_public : Bool) (at : ℕ) (i j : Input) (x : MemberTree) → i.src ≡ src → kind i ≡ Some k.KwEffect → d.effect is_public at i ≡ Ok (x, j) → Took src (ReadsField src is_public at) x i j
 unfolding d.effect
@@ -162,26 +143,17 @@ effect-sound src is_public at i j x s h e =
     let s1 : (next i).src ≡ src = t1.src ∙ s in
     let b2 = bound _ _ _ e in
     let t2 = type_one (next i) b2.input b2.value b2.first in
-    let s2 : b2.input.src ≡ src = t2.src ∙ s1 in
-    let b3 = bound _ _ _ b2.then_ in
-    let t3 = named_one b2.input b3.input b3.value b3.first in
-    let s3 : b3.input.src ≡ src = t3.src ∙ s2 in
-    let b4 = bound _ _ _ b3.then_ in
-    let t4 = expected m.Colon b3.input b4.input b4.value b4.first in
-    let s4 : b4.input.src ≡ src = t4.src ∙ s3 in
+    let t3 = named_then src (λ n. expect m.Colon >>= (λ _. combinator >>= (λ c. expect m.Semicolon >>= (λ _. pure (v.Effect is_public b2.value n c at))))) b2.input (x, j) (t2.src ∙ s1) b2.then_ in
+    let b4 = bound _ _ _ t3.then_ in
+    let t4 = expected m.Colon t3.input b4.input b4.value b4.first in
     let b5 = bound _ _ _ b4.then_ in
     let t5 = combined_one b4.input b5.input b5.value b5.first in
-    let s5 : b5.input.src ≡ src = t5.src ∙ s4 in
     let b6 = bound _ _ _ b5.then_ in
     let t6 = expected m.Semicolon b5.input b6.input b6.value b6.first in
-    let s6 : b6.input.src ≡ src = t6.src ∙ s5 in
     let ej : b6.input ≡ j = same_input _ _ _ _ b6.then_ in
-    let n3 : b3.value ≡ ident src t3.token = t3.says.1 ∙ ap (λ (z : List ℕ). ident z t3.token) s2 in
-    let ev : (let r : MemberTree = v.Effect is_public b2.value (b3.value) b5.value at in r) ≡ x = same_value _ _ _ _ b6.then_ in
-    let ex : (let r : MemberTree = v.Effect is_public b2.value (ident src t3.token) b5.value at in r) ≡ x = cc in
-    let er : b6.input.rest ≡ j.rest = ap (λ (z : Input). z.rest) ej in
-    let ec : i.rest ≡ (t1.token ∷ t2.token ∷ t3.token ∷ t4.token ∷ t5.token ∷ t6.token ∷ []) ++ j.rest = (t1.cut ∙ ap (λ (z : List Token). t1.token ∷ z) (t2.cut ∙ ap (λ (z : List Token). t2.token ∷ z) (t3.cut ∙ ap (λ (z : List Token). t3.token ∷ z) (t4.cut ∙ ap (λ (z : List Token). t4.token ∷ z) (t5.cut ∙ ap (λ (z : List Token). t5.token ∷ z) (t6.cut ∙ ap (λ (z : List Token). t6.token ∷ z) er)))))) in
-    record { taken = t1.token ∷ t2.token ∷ t3.token ∷ t4.token ∷ t5.token ∷ t6.token ∷ []; cut = ec; kept = sym (ap (λ (z : Input). z.src) ej) ∙ s6; reads = subst (λ (z : MemberTree). ReadsField src is_public at (t1.token ∷ t2.token ∷ t3.token ∷ t4.token ∷ t5.token ∷ t6.token ∷ []) z) ex (g.effect t1.token t2.token t3.token t4.token t5.token t6.token b2.value b5.value t1.says.0 (subst (λ (z : List ℕ). type_name z t2.token ≡ Some b2.value) s1 t2.says) t3.says.0 t4.says.0 t5.says t6.says.0) }
+    let all : List Token = t1.token ∷ t2.token ∷ t3.token ∷ t4.token ∷ t5.token ∷ t6.token ∷ [] in
+    let ec : i.rest ≡ all ++ j.rest = t1.cut ∙ ap (λ (z : List Token). t1.token ∷ z) (t2.cut ∙ ap (λ (z : List Token). t2.token ∷ z) (t3.cut ∙ ap (λ (z : List Token). t3.token ∷ z) (t4.cut ∙ ap (λ (z : List Token). t4.token ∷ z) (t5.cut ∙ ap (λ (z : List Token). t5.token ∷ z) (t6.cut ∙ ap (λ (z : Input). t6.token ∷ z.rest) ej))))) in
+    record { taken = all; cut = ec; kept = sym (ap (λ (z : Input). z.src) ej) ∙ (t6.src ∙ (t5.src ∙ (t4.src ∙ t3.kept))); reads = subst (λ (z : MemberTree). ReadsField src is_public at all z) (same_value _ _ _ _ b6.then_) (g.effect t1.token t2.token t3.token t4.token t5.token t6.token b2.value b5.value t1.says.0 (subst (λ (z : List ℕ). type_name z t2.token ≡ Some b2.value) s1 t2.says) t3.is_word t4.says.0 t5.says t6.says.0) }
 
 field_by-sound : (src : List ℕ) (is_public : Bool) (at : ℕ) (o : Option TokKind) (i j : Input) (x : MemberTree) → i.src ≡ src → kind i ≡ o → d.field_by is_public at o i ≡ Ok (x, j) → Took src (ReadsField src is_public at) x i j
 field_by-sound src is_public at (Some k.KwState) i j x s h e = state-sound src is_public at i j x s h e

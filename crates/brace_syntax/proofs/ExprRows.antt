@@ -21,6 +21,7 @@ use Rattle.brace_syntax.specs.inner.Descent as d
 use Rattle.brace_syntax.specs.inner.Descent.{climb, where_some}
 use Rattle.brace_syntax.proofs.Inversions.{One, bound, same_value, same_input, no_fault, passed, seen, expected, eaten, not_eaten, named_one}
 use Rattle.brace_syntax.proofs.Took.{Took, Sound}
+use Rattle.brace_syntax.proofs.Parts.{named_then}
 use Rattle.brace_syntax.proofs.PrimaryRows as p
 
 abbrev pub row_at : Start → Row
@@ -30,20 +31,14 @@ row_at Operand = g.prefixed
 named_by : (src : List ℕ) (b : Bool) (i i1 j : Input) (first : Ident) (x : ExprTree) → One (λ tok. (tok.kind ≡ k.Word) × (first ≡ ident i.src tok)) i i1 → i.src ≡ src
     → sees m.Dot i1 ≡ b → (if b then (name >>= (λ second. pure (node.OfLoop first second))) else pure (node.Name first)) (after m.Dot i1) ≡ Ok (x, j) → Took src (ReadsExpr src g.primaries) x i j
 named_by src true i i1 j first x t1 s h e =
-    let s1 : i1.src ≡ src = t1.src ∙ s in
     let t2 = eaten m.Dot i1 h in
-    let s2 : (after m.Dot i1).src ≡ src = t2.src ∙ s1 in
-    let b3 = bound _ _ _ e in
-    let t3 = named_one (after m.Dot i1) b3.input b3.value b3.first in
-    let s3 : b3.input.src ≡ src = t3.src ∙ s2 in
-    let ej : b3.input ≡ j = same_input _ _ _ _ b3.then_ in
-    let er : b3.input.rest ≡ j.rest = ap (λ (z : Input). z.rest) ej in
     let n1 : first ≡ ident src t1.token = t1.says.1 ∙ ap (λ (z : List ℕ). ident z t1.token) s in
-    let n3 : b3.value ≡ ident src t3.token = t3.says.1 ∙ ap (λ (z : List ℕ). ident z t3.token) s2 in
-    let ev : node.OfLoop first b3.value ≡ x = same_value _ _ _ _ b3.then_ in
-    let ex : node.OfLoop (ident src t1.token) (ident src t3.token) ≡ x = cc in
-    let ec : i.rest ≡ t1.token ∷ t2.token ∷ t3.token ∷ j.rest = (t1.cut ∙ ap (λ (z : List Token). t1.token ∷ z) (t2.cut ∙ ap (λ (z : List Token). t2.token ∷ z) (t3.cut ∙ ap (λ (z : List Token). t3.token ∷ z) er))) in
-    record { taken = t1.token ∷ t2.token ∷ t3.token ∷ []; cut = ec; kept = sym (ap (λ (z : Input). z.src) ej) ∙ s3; reads = subst (λ (z : ExprTree). ReadsExpr src g.primaries (t1.token ∷ t2.token ∷ t3.token ∷ []) z) ex (g.of_loop t1.token t2.token t3.token t1.says.0 t2.says t3.says.0) }
+    let t3 = named_then src (λ n. pure (node.OfLoop first n)) (after m.Dot i1) (x, j) (t2.src ∙ (t1.src ∙ s)) e in
+    let ej : t3.input ≡ j = same_input _ _ _ _ t3.then_ in
+    let ex : node.OfLoop (ident src t1.token) (ident src t3.token) ≡ x = ap (λ (z : Ident). node.OfLoop z (ident src t3.token)) (sym n1) ∙ same_value _ _ _ _ t3.then_ in
+    let all : List Token = t1.token ∷ t2.token ∷ t3.token ∷ [] in
+    let ec : i.rest ≡ all ++ j.rest = t1.cut ∙ ap (λ (z : List Token). t1.token ∷ z) (t2.cut ∙ ap (λ (z : List Token). t2.token ∷ z) (t3.cut ∙ ap (λ (z : Input). t3.token ∷ z.rest) ej)) in
+    record { taken = all; cut = ec; kept = sym (ap (λ (z : Input). z.src) ej) ∙ t3.kept; reads = subst (λ (z : ExprTree). ReadsExpr src g.primaries all z) ex (g.of_loop t1.token t2.token t3.token t1.says.0 t2.says t3.is_word) }
 named_by src false i i1 j first x t1 s h e =
     let s1 : i1.src ≡ src = t1.src ∙ s in
     let en = not_eaten m.Dot i1 h in

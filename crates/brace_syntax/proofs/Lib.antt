@@ -3,6 +3,7 @@ pub mod Turns
 pub mod DepthLemmas
 pub mod Inversions
 pub mod Took
+pub mod Parts
 pub mod PrimaryRows
 pub mod ExprRows
 pub mod Loops

@@ -13,80 +13,51 @@ use Rattle.brace_syntax.specs.declared.tree.ExprTree.TheVariants as node
 use Rattle.brace_syntax.specs.declared.expr.Start.{Start}
 use Rattle.brace_syntax.specs.declared.expr.Start.TheVariants.{Whole}
 use Rattle.brace_syntax.specs.Tables.{ident, calls_one, calls_two}
-use Rattle.brace_syntax.specs.inner.Cursor.{Input, Parser, kind, next, place}
+use Rattle.brace_syntax.specs.inner.Cursor.{Input, Parser, kind, next, place, pure}
 use Rattle.brace_syntax.specs.Reads.{ReadsExpr, choices, primaries, called_one, called_two, enclosed, of_this, literal, random}
 use Rattle.brace_syntax.specs.inner.Descent as d
 use Rattle.brace_syntax.specs.inner.Descent.{one_argument, two_arguments}
-use Rattle.brace_syntax.proofs.Inversions.{bound, same_value, same_input, passed, expected, named_one, number_one}
+use Rattle.brace_syntax.proofs.Inversions.{bound, same_value, same_input, passed, expected, number_one}
 use Rattle.brace_syntax.proofs.Took.{Took, Sound}
+use Rattle.brace_syntax.proofs.Parts.{named_then, closed}
 
 pub one_argument-sound : (src : List ℕ) (f : Start → Parser ExprTree) → Sound src (f Whole) (ReadsExpr src choices) → (word : TokKind) (called : UnName) → calls_one word ≡ Some called → (i j : Input) (x : ExprTree) → i.src ≡ src → kind i ≡ Some word → one_argument f called i ≡ Ok (x, j) → Took src (ReadsExpr src primaries) x i j
 unfolding one_argument
 one_argument-sound src f hf word called hc i j x s h e =
     let t1 = passed i word h in
-    let s1 : (next i).src ≡ src = t1.src ∙ s in
     let b2 = bound _ _ _ e in
     let t2 = expected m.OpenParen (next i) b2.input b2.value b2.first in
-    let s2 : b2.input.src ≡ src = t2.src ∙ s1 in
-    let b3 = bound _ _ _ b2.then_ in
-    let t3 = hf b2.input b3.input b3.value s2 b3.first in
-    let s3 : b3.input.src ≡ src = t3.kept in
-    let b4 = bound _ _ _ b3.then_ in
-    let t4 = expected m.CloseParen b3.input b4.input b4.value b4.first in
-    let s4 : b4.input.src ≡ src = t4.src ∙ s3 in
-    let ej : b4.input ≡ j = same_input _ _ _ _ b4.then_ in
-    let a1 : place i ≡ t1.token.from = t1.says.1 in
-    let ev : (let r : ExprTree = node.Unary called b3.value (place i) in r) ≡ x = same_value _ _ _ _ b4.then_ in
-    let ex : (let r : ExprTree = node.Unary called b3.value t1.token.from in r) ≡ x = cc in
-    let er : b4.input.rest ≡ j.rest = ap (λ (z : Input). z.rest) ej in
-    let ec : i.rest ≡ (t1.token ∷ t2.token ∷ t3.taken ++ (t4.token ∷ [])) ++ j.rest = (t1.cut ∙ ap (λ (z : List Token). t1.token ∷ z) (t2.cut ∙ ap (λ (z : List Token). t2.token ∷ z) (t3.cut ∙ (ap (λ (z : List Token). t3.taken ++ z) (t4.cut ∙ ap (λ (z : List Token). t4.token ∷ z) er) ∙ sym (append_assoc t3.taken (t4.token ∷ []) j.rest))))) in
-    record { taken = t1.token ∷ t2.token ∷ t3.taken ++ (t4.token ∷ []); cut = ec; kept = sym (ap (λ (z : Input). z.src) ej) ∙ s4; reads = subst (λ (z : ExprTree). ReadsExpr src primaries (t1.token ∷ t2.token ∷ t3.taken ++ (t4.token ∷ [])) z) ex (called_one t3.taken t1.token t2.token t4.token called b3.value (ap calls_one t1.says.0 ∙ hc) t2.says.0 t4.says.0 t3.reads) }
+    let t3 = closed src (ReadsExpr src choices) m.CloseParen (λ y. node.Unary called y (place i)) (f Whole) hf b2.input j x (t2.src ∙ (t1.src ∙ s)) b2.then_ in
+    let ex : node.Unary called t3.inner t1.token.from ≡ x = ap (node.Unary called t3.inner) (sym t1.says.1) ∙ t3.gives in
+    let all : List Token = t1.token ∷ t2.token ∷ t3.taken ++ (t3.closing ∷ []) in
+    let ec : i.rest ≡ all ++ j.rest = t1.cut ∙ ap (λ (z : List Token). t1.token ∷ z) (t2.cut ∙ ap (λ (z : List Token). t2.token ∷ z) t3.cut) in
+    record { taken = all; cut = ec; kept = t3.kept; reads = subst (λ (z : ExprTree). ReadsExpr src primaries all z) ex (called_one t3.taken t1.token t2.token t3.closing called t3.inner (ap calls_one t1.says.0 ∙ hc) t2.says.0 t3.is_closing t3.reads) }
 
 pub two_arguments-sound : (src : List ℕ) (f : Start → Parser ExprTree) → Sound src (f Whole) (ReadsExpr src choices) → (word : TokKind) (called : BinName) → calls_two word ≡ Some called → (i j : Input) (x : ExprTree) → i.src ≡ src → kind i ≡ Some word → two_arguments f called i ≡ Ok (x, j) → Took src (ReadsExpr src primaries) x i j
 unfolding two_arguments
 two_arguments-sound src f hf word called hc i j x s h e =
     let t1 = passed i word h in
-    let s1 : (next i).src ≡ src = t1.src ∙ s in
     let b2 = bound _ _ _ e in
     let t2 = expected m.OpenParen (next i) b2.input b2.value b2.first in
-    let s2 : b2.input.src ≡ src = t2.src ∙ s1 in
     let b3 = bound _ _ _ b2.then_ in
-    let t3 = hf b2.input b3.input b3.value s2 b3.first in
-    let s3 : b3.input.src ≡ src = t3.kept in
+    let t3 = hf b2.input b3.input b3.value (t2.src ∙ (t1.src ∙ s)) b3.first in
     let b4 = bound _ _ _ b3.then_ in
     let t4 = expected m.Comma b3.input b4.input b4.value b4.first in
-    let s4 : b4.input.src ≡ src = t4.src ∙ s3 in
-    let b5 = bound _ _ _ b4.then_ in
-    let t5 = hf b4.input b5.input b5.value s4 b5.first in
-    let s5 : b5.input.src ≡ src = t5.kept in
-    let b6 = bound _ _ _ b5.then_ in
-    let t6 = expected m.CloseParen b5.input b6.input b6.value b6.first in
-    let s6 : b6.input.src ≡ src = t6.src ∙ s5 in
-    let ej : b6.input ≡ j = same_input _ _ _ _ b6.then_ in
-    let a1 : place i ≡ t1.token.from = t1.says.1 in
-    let ev : (let r : ExprTree = node.Binary called b3.value b5.value (place i) in r) ≡ x = same_value _ _ _ _ b6.then_ in
-    let ex : (let r : ExprTree = node.Binary called b3.value b5.value t1.token.from in r) ≡ x = cc in
-    let er : b6.input.rest ≡ j.rest = ap (λ (z : Input). z.rest) ej in
-    let ec : i.rest ≡ (t1.token ∷ t2.token ∷ t3.taken ++ (t4.token ∷ t5.taken ++ (t6.token ∷ []))) ++ j.rest = (t1.cut ∙ ap (λ (z : List Token). t1.token ∷ z) (t2.cut ∙ ap (λ (z : List Token). t2.token ∷ z) (t3.cut ∙ (ap (λ (z : List Token). t3.taken ++ z) (t4.cut ∙ ap (λ (z : List Token). t4.token ∷ z) (t5.cut ∙ (ap (λ (z : List Token). t5.taken ++ z) (t6.cut ∙ ap (λ (z : List Token). t6.token ∷ z) er) ∙ sym (append_assoc t5.taken (t6.token ∷ []) j.rest)))) ∙ sym (append_assoc t3.taken (t4.token ∷ t5.taken ++ (t6.token ∷ [])) j.rest))))) in
-    record { taken = t1.token ∷ t2.token ∷ t3.taken ++ (t4.token ∷ t5.taken ++ (t6.token ∷ [])); cut = ec; kept = sym (ap (λ (z : Input). z.src) ej) ∙ s6; reads = subst (λ (z : ExprTree). ReadsExpr src primaries (t1.token ∷ t2.token ∷ t3.taken ++ (t4.token ∷ t5.taken ++ (t6.token ∷ []))) z) ex (subst (λ (z : List Token). ReadsExpr src primaries (t1.token ∷ t2.token ∷ z) (node.Binary called b3.value b5.value t1.token.from)) (append_assoc t3.taken (t4.token ∷ t5.taken) (t6.token ∷ [])) (called_two t3.taken t5.taken t1.token t2.token t4.token t6.token called b3.value b5.value (ap calls_two t1.says.0 ∙ hc) t2.says.0 t4.says.0 t6.says.0 t3.reads t5.reads)) }
+    let t5 = closed src (ReadsExpr src choices) m.CloseParen (λ y. node.Binary called b3.value y (place i)) (f Whole) hf b4.input j x (t4.src ∙ t3.kept) b4.then_ in
+    let ex : node.Binary called b3.value t5.inner t1.token.from ≡ x = ap (node.Binary called b3.value t5.inner) (sym t1.says.1) ∙ t5.gives in
+    let second : List Token = t4.token ∷ t5.taken ++ (t5.closing ∷ []) in
+    let all : List Token = t1.token ∷ t2.token ∷ t3.taken ++ second in
+    let ec : i.rest ≡ all ++ j.rest = t1.cut ∙ ap (λ (z : List Token). t1.token ∷ z) (t2.cut ∙ ap (λ (z : List Token). t2.token ∷ z) (t3.cut ∙ (ap (λ (z : List Token). t3.taken ++ z) (t4.cut ∙ ap (λ (z : List Token). t4.token ∷ z) t5.cut) ∙ sym (append_assoc t3.taken second j.rest)))) in
+    record { taken = all; cut = ec; kept = t5.kept; reads = subst (λ (z : ExprTree). ReadsExpr src primaries all z) ex (subst (λ (z : List Token). ReadsExpr src primaries (t1.token ∷ t2.token ∷ z) (node.Binary called b3.value t5.inner t1.token.from)) (append_assoc t3.taken (t4.token ∷ t5.taken) (t5.closing ∷ [])) (called_two t3.taken t5.taken t1.token t2.token t4.token t5.closing called b3.value t5.inner (ap calls_two t1.says.0 ∙ hc) t2.says.0 t4.says.0 t5.is_closing t3.reads t5.reads)) }
 
 pub enclosed-sound : (src : List ℕ) (f : Start → Parser ExprTree) → Sound src (f Whole) (ReadsExpr src choices) → (i j : Input) (x : ExprTree) → i.src ≡ src → kind i ≡ Some k.OpenParen → d.enclosed f i ≡ Ok (x, j) → Took src (ReadsExpr src primaries) x i j
 unfolding d.enclosed
 enclosed-sound src f hf i j x s h e =
     let t1 = passed i k.OpenParen h in
-    let s1 : (next i).src ≡ src = t1.src ∙ s in
-    let b2 = bound _ _ _ e in
-    let t2 = hf (next i) b2.input b2.value s1 b2.first in
-    let s2 : b2.input.src ≡ src = t2.kept in
-    let b3 = bound _ _ _ b2.then_ in
-    let t3 = expected m.CloseParen b2.input b3.input b3.value b3.first in
-    let s3 : b3.input.src ≡ src = t3.src ∙ s2 in
-    let ej : b3.input ≡ j = same_input _ _ _ _ b3.then_ in
-    let ev : (let r : ExprTree = b2.value in r) ≡ x = same_value _ _ _ _ b3.then_ in
-    let ex : (let r : ExprTree = b2.value in r) ≡ x = cc in
-    let er : b3.input.rest ≡ j.rest = ap (λ (z : Input). z.rest) ej in
-    let ec : i.rest ≡ (t1.token ∷ t2.taken ++ (t3.token ∷ [])) ++ j.rest = (t1.cut ∙ ap (λ (z : List Token). t1.token ∷ z) (t2.cut ∙ (ap (λ (z : List Token). t2.taken ++ z) (t3.cut ∙ ap (λ (z : List Token). t3.token ∷ z) er) ∙ sym (append_assoc t2.taken (t3.token ∷ []) j.rest)))) in
-    record { taken = t1.token ∷ t2.taken ++ (t3.token ∷ []); cut = ec; kept = sym (ap (λ (z : Input). z.src) ej) ∙ s3; reads = subst (λ (z : ExprTree). ReadsExpr src primaries (t1.token ∷ t2.taken ++ (t3.token ∷ [])) z) ex (enclosed t2.taken t1.token t3.token b2.value t1.says.0 t3.says.0 t2.reads) }
+    let t2 = closed src (ReadsExpr src choices) m.CloseParen (λ y. y) (f Whole) hf (next i) j x (t1.src ∙ s) e in
+    let all : List Token = t1.token ∷ t2.taken ++ (t2.closing ∷ []) in
+    let ec : i.rest ≡ all ++ j.rest = t1.cut ∙ ap (λ (z : List Token). t1.token ∷ z) t2.cut in
+    record { taken = all; cut = ec; kept = t2.kept; reads = subst (λ (z : ExprTree). ReadsExpr src primaries all z) t2.gives (enclosed t2.taken t1.token t2.closing t2.inner t1.says.0 t2.is_closing t2.reads) }
 
 pub random-sound : (src : List ℕ) (i j : Input) (x : ExprTree) → i.src ≡ src → kind i ≡ Some k.KwRand → d.random i ≡ Ok (x, j) → Took src (ReadsExpr src primaries) x i j
 unfolding d.random
@@ -124,18 +95,11 @@ pub of_this-sound : (src : List ℕ) (i j : Input) (x : ExprTree) → i.src ≡ 
 unfolding d.of_this
 of_this-sound src i j x s h e =
     let t1 = passed i k.KwThis h in
-    let s1 : (next i).src ≡ src = t1.src ∙ s in
     let b2 = bound _ _ _ e in
     let t2 = expected m.Dot (next i) b2.input b2.value b2.first in
-    let s2 : b2.input.src ≡ src = t2.src ∙ s1 in
-    let b3 = bound _ _ _ b2.then_ in
-    let t3 = named_one b2.input b3.input b3.value b3.first in
-    let s3 : b3.input.src ≡ src = t3.src ∙ s2 in
-    let ej : b3.input ≡ j = same_input _ _ _ _ b3.then_ in
-    let a1 : place i ≡ t1.token.from = t1.says.1 in
-    let n3 : b3.value ≡ ident src t3.token = t3.says.1 ∙ ap (λ (z : List ℕ). ident z t3.token) s2 in
-    let ev : (let r : ExprTree = node.OfThis (b3.value) (place i) in r) ≡ x = same_value _ _ _ _ b3.then_ in
-    let ex : (let r : ExprTree = node.OfThis (ident src t3.token) t1.token.from in r) ≡ x = cc in
-    let er : b3.input.rest ≡ j.rest = ap (λ (z : Input). z.rest) ej in
-    let ec : i.rest ≡ (t1.token ∷ t2.token ∷ t3.token ∷ []) ++ j.rest = (t1.cut ∙ ap (λ (z : List Token). t1.token ∷ z) (t2.cut ∙ ap (λ (z : List Token). t2.token ∷ z) (t3.cut ∙ ap (λ (z : List Token). t3.token ∷ z) er))) in
-    record { taken = t1.token ∷ t2.token ∷ t3.token ∷ []; cut = ec; kept = sym (ap (λ (z : Input). z.src) ej) ∙ s3; reads = subst (λ (z : ExprTree). ReadsExpr src primaries (t1.token ∷ t2.token ∷ t3.token ∷ []) z) ex (of_this t1.token t2.token t3.token t1.says.0 t2.says.0 t3.says.0) }
+    let t3 = named_then src (λ n. pure (node.OfThis n (place i))) b2.input (x, j) (t2.src ∙ (t1.src ∙ s)) b2.then_ in
+    let ej : t3.input ≡ j = same_input _ _ _ _ t3.then_ in
+    let ex : node.OfThis (ident src t3.token) t1.token.from ≡ x = ap (node.OfThis (ident src t3.token)) (sym t1.says.1) ∙ same_value _ _ _ _ t3.then_ in
+    let all : List Token = t1.token ∷ t2.token ∷ t3.token ∷ [] in
+    let ec : i.rest ≡ all ++ j.rest = t1.cut ∙ ap (λ (z : List Token). t1.token ∷ z) (t2.cut ∙ ap (λ (z : List Token). t2.token ∷ z) (t3.cut ∙ ap (λ (z : Input). t3.token ∷ z.rest) ej)) in
+    record { taken = all; cut = ec; kept = sym (ap (λ (z : Input). z.src) ej) ∙ t3.kept; reads = subst (λ (z : ExprTree). ReadsExpr src primaries all z) ex (of_this t1.token t2.token t3.token t1.says.0 t2.says.0 t3.is_word) }

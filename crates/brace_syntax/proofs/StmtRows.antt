@@ -12,12 +12,13 @@ use Rattle.brace_syntax.specs.declared.tree.StmtTree.{StmtTree}
 use Rattle.brace_syntax.specs.declared.tree.StmtTree.TheVariants as stmt
 use Rattle.brace_syntax.specs.declared.stmt.Heading.{Heading}
 use Rattle.brace_syntax.specs.Tables.{Is, ident, type_name}
-use Rattle.brace_syntax.specs.inner.Cursor.{Input, Parser, kind, next, place, sees, after, name, pure, ◌>>=◌}
+use Rattle.brace_syntax.specs.inner.Cursor.{Input, Parser, kind, next, place, sees, after, name, expect, pure, ◌>>=◌}
 use Rattle.brace_syntax.specs.Reads as g
 use Rattle.brace_syntax.specs.Reads.{ReadsExpr, ReadsStmt, ReadsStmts, ReadsBlock, ReadsField, ReadsMember, ReadsMembers, ReadsClass, ReadsClasses, Reads}
 use Rattle.brace_syntax.specs.inner.Descent as d
 use Rattle.brace_syntax.proofs.Inversions.{One, bound, same_value, same_input, no_fault, passed, expected, eaten, not_eaten, named_one, type_one}
 use Rattle.brace_syntax.proofs.Took.{Took, Sound}
+use Rattle.brace_syntax.proofs.Parts.{named_then, closed}
 use Rattle.brace_syntax.proofs.ExprRows.{expression-sound}
 use Rattle.brace_syntax.proofs.Loops.{Ended, ended_by}
 
@@ -62,38 +63,20 @@ unfolding d.assigned
 assigned-sound src i j x s e =
     let b1 = bound _ _ _ e in
     let t1 = expected m.Arrow i b1.input b1.value b1.first in
-    let s1 : b1.input.src ≡ src = t1.src ∙ s in
-    let b2 = bound _ _ _ b1.then_ in
-    let t2 = (expression-sound src) b1.input b2.input b2.value s1 b2.first in
-    let s2 : b2.input.src ≡ src = t2.kept in
-    let b3 = bound _ _ _ b2.then_ in
-    let t3 = expected m.Semicolon b2.input b3.input b3.value b3.first in
-    let s3 : b3.input.src ≡ src = t3.src ∙ s2 in
-    let ej : b3.input ≡ j = same_input _ _ _ _ b3.then_ in
-    let ev : (let r : ExprTree = b2.value in r) ≡ x = same_value _ _ _ _ b3.then_ in
-    let ex : (let r : ExprTree = b2.value in r) ≡ x = cc in
-    let er : b3.input.rest ≡ j.rest = ap (λ (z : Input). z.rest) ej in
-    let ec : i.rest ≡ (t1.token ∷ t2.taken ++ (t3.token ∷ [])) ++ j.rest = (t1.cut ∙ ap (λ (z : List Token). t1.token ∷ z) (t2.cut ∙ (ap (λ (z : List Token). t2.taken ++ z) (t3.cut ∙ ap (λ (z : List Token). t3.token ∷ z) er) ∙ sym (append_assoc t2.taken (t3.token ∷ []) j.rest)))) in
-    record { taken = t1.token ∷ t2.taken ++ (t3.token ∷ []); cut = ec; kept = sym (ap (λ (z : Input). z.src) ej) ∙ s3; reads = subst (λ (z : ExprTree). Assigned src (t1.token ∷ t2.taken ++ (t3.token ∷ [])) z) ex (record { arrow = t1.token; inner = t2.taken; semicolon = t3.token; whole = refl; is_arrow = t1.says.0; is_semicolon = t3.says.0; reads = t2.reads }) }
+    let t2 = closed src (ReadsExpr src g.choices) m.Semicolon (λ y. y) d.expression (expression-sound src) b1.input j x (t1.src ∙ s) b1.then_ in
+    let all : List Token = t1.token ∷ t2.taken ++ (t2.closing ∷ []) in
+    let ec : i.rest ≡ all ++ j.rest = t1.cut ∙ ap (λ (z : List Token). t1.token ∷ z) t2.cut in
+    record { taken = all; cut = ec; kept = t2.kept; reads = subst (λ (z : ExprTree). Assigned src all z) t2.gives (record { arrow = t1.token; inner = t2.taken; semicolon = t2.closing; whole = refl; is_arrow = t1.says.0; is_semicolon = t2.is_closing; reads = t2.reads }) }
 
 pub condition-sound : (src : List ℕ) (i j : Input) (x : ExprTree) → i.src ≡ src → d.condition i ≡ Ok (x, j) → Took src (Enclosed src) x i j
 unfolding d.condition
 condition-sound src i j x s e =
     let b1 = bound _ _ _ e in
     let t1 = expected m.OpenParen i b1.input b1.value b1.first in
-    let s1 : b1.input.src ≡ src = t1.src ∙ s in
-    let b2 = bound _ _ _ b1.then_ in
-    let t2 = (expression-sound src) b1.input b2.input b2.value s1 b2.first in
-    let s2 : b2.input.src ≡ src = t2.kept in
-    let b3 = bound _ _ _ b2.then_ in
-    let t3 = expected m.CloseParen b2.input b3.input b3.value b3.first in
-    let s3 : b3.input.src ≡ src = t3.src ∙ s2 in
-    let ej : b3.input ≡ j = same_input _ _ _ _ b3.then_ in
-    let ev : (let r : ExprTree = b2.value in r) ≡ x = same_value _ _ _ _ b3.then_ in
-    let ex : (let r : ExprTree = b2.value in r) ≡ x = cc in
-    let er : b3.input.rest ≡ j.rest = ap (λ (z : Input). z.rest) ej in
-    let ec : i.rest ≡ (t1.token ∷ t2.taken ++ (t3.token ∷ [])) ++ j.rest = (t1.cut ∙ ap (λ (z : List Token). t1.token ∷ z) (t2.cut ∙ (ap (λ (z : List Token). t2.taken ++ z) (t3.cut ∙ ap (λ (z : List Token). t3.token ∷ z) er) ∙ sym (append_assoc t2.taken (t3.token ∷ []) j.rest)))) in
-    record { taken = t1.token ∷ t2.taken ++ (t3.token ∷ []); cut = ec; kept = sym (ap (λ (z : Input). z.src) ej) ∙ s3; reads = subst (λ (z : ExprTree). Enclosed src (t1.token ∷ t2.taken ++ (t3.token ∷ [])) z) ex (record { opening = t1.token; inner = t2.taken; closing = t3.token; whole = refl; is_opening = t1.says.0; is_closing = t3.says.0; reads = t2.reads }) }
+    let t2 = closed src (ReadsExpr src g.choices) m.CloseParen (λ y. y) d.expression (expression-sound src) b1.input j x (t1.src ∙ s) b1.then_ in
+    let all : List Token = t1.token ∷ t2.taken ++ (t2.closing ∷ []) in
+    let ec : i.rest ≡ all ++ j.rest = t1.cut ∙ ap (λ (z : List Token). t1.token ∷ z) t2.cut in
+    record { taken = all; cut = ec; kept = t2.kept; reads = subst (λ (z : ExprTree). Enclosed src all z) t2.gives (record { opening = t1.token; inner = t2.taken; closing = t2.closing; whole = refl; is_opening = t1.says.0; is_closing = t2.is_closing; reads = t2.reads }) }
 
 pub constant-sound : (src : List ℕ) (i j : Input) (x : StmtTree) → i.src ≡ src → kind i ≡ Some k.KwConst → d.constant i ≡ Ok (x, j) → Took src (ReadsStmt src) x i j
 unfolding d.constant
@@ -102,76 +85,52 @@ constant-sound src i j x s h e =
     let s1 : (next i).src ≡ src = t1.src ∙ s in
     let b2 = bound _ _ _ e in
     let t2 = type_one (next i) b2.input b2.value b2.first in
-    let s2 : b2.input.src ≡ src = t2.src ∙ s1 in
-    let b3 = bound _ _ _ b2.then_ in
-    let t3 = named_one b2.input b3.input b3.value b3.first in
-    let s3 : b3.input.src ≡ src = t3.src ∙ s2 in
-    let b4 = bound _ _ _ b3.then_ in
-    let t4 = expected m.Assign b3.input b4.input b4.value b4.first in
-    let s4 : b4.input.src ≡ src = t4.src ∙ s3 in
-    let b5 = bound _ _ _ b4.then_ in
-    let t5 = (expression-sound src) b4.input b5.input b5.value s4 b5.first in
-    let s5 : b5.input.src ≡ src = t5.kept in
-    let b6 = bound _ _ _ b5.then_ in
-    let t6 = expected m.Semicolon b5.input b6.input b6.value b6.first in
-    let s6 : b6.input.src ≡ src = t6.src ∙ s5 in
-    let ej : b6.input ≡ j = same_input _ _ _ _ b6.then_ in
-    let a1 : place i ≡ t1.token.from = t1.says.1 in
-    let n3 : b3.value ≡ ident src t3.token = t3.says.1 ∙ ap (λ (z : List ℕ). ident z t3.token) s2 in
-    let ev : (let r : StmtTree = stmt.Const b2.value (b3.value) b5.value (place i) in r) ≡ x = same_value _ _ _ _ b6.then_ in
-    let ex : (let r : StmtTree = stmt.Const b2.value (ident src t3.token) b5.value t1.token.from in r) ≡ x = cc in
-    let er : b6.input.rest ≡ j.rest = ap (λ (z : Input). z.rest) ej in
-    let ec : i.rest ≡ (t1.token ∷ t2.token ∷ t3.token ∷ t4.token ∷ t5.taken ++ (t6.token ∷ [])) ++ j.rest = (t1.cut ∙ ap (λ (z : List Token). t1.token ∷ z) (t2.cut ∙ ap (λ (z : List Token). t2.token ∷ z) (t3.cut ∙ ap (λ (z : List Token). t3.token ∷ z) (t4.cut ∙ ap (λ (z : List Token). t4.token ∷ z) (t5.cut ∙ (ap (λ (z : List Token). t5.taken ++ z) (t6.cut ∙ ap (λ (z : List Token). t6.token ∷ z) er) ∙ sym (append_assoc t5.taken (t6.token ∷ []) j.rest))))))) in
-    record { taken = t1.token ∷ t2.token ∷ t3.token ∷ t4.token ∷ t5.taken ++ (t6.token ∷ []); cut = ec; kept = sym (ap (λ (z : Input). z.src) ej) ∙ s6; reads = subst (λ (z : StmtTree). ReadsStmt src (t1.token ∷ t2.token ∷ t3.token ∷ t4.token ∷ t5.taken ++ (t6.token ∷ [])) z) ex (g.const t5.taken t1.token t2.token t3.token t4.token t6.token b2.value b5.value t1.says.0 (subst (λ (z : List ℕ). type_name z t2.token ≡ Some b2.value) s1 t2.says) t3.says.0 t4.says.0 t6.says.0 t5.reads) }
+    let t3 = named_then src (λ n. expect m.Assign >>= (λ _. d.expression >>= (λ y. expect m.Semicolon >>= (λ _. pure (stmt.Const b2.value n y (place i)))))) b2.input (x, j) (t2.src ∙ s1) b2.then_ in
+    let b4 = bound _ _ _ t3.then_ in
+    let t4 = expected m.Assign t3.input b4.input b4.value b4.first in
+    let made : ExprTree → ℕ → StmtTree = λ y at. stmt.Const b2.value (ident src t3.token) y at in
+    let t5 = closed src (ReadsExpr src g.choices) m.Semicolon (λ y. made y (place i)) d.expression (expression-sound src) b4.input j x (t4.src ∙ t3.kept) b4.then_ in
+    let ex : made t5.inner t1.token.from ≡ x = ap (made t5.inner) (sym t1.says.1) ∙ t5.gives in
+    let all : List Token = t1.token ∷ t2.token ∷ t3.token ∷ t4.token ∷ t5.taken ++ (t5.closing ∷ []) in
+    let ec : i.rest ≡ all ++ j.rest = t1.cut ∙ ap (λ (z : List Token). t1.token ∷ z) (t2.cut ∙ ap (λ (z : List Token). t2.token ∷ z) (t3.cut ∙ ap (λ (z : List Token). t3.token ∷ z) (t4.cut ∙ ap (λ (z : List Token). t4.token ∷ z) t5.cut))) in
+    record { taken = all; cut = ec; kept = t5.kept; reads = subst (λ (z : StmtTree). ReadsStmt src all z) ex (g.const t5.taken t1.token t2.token t3.token t4.token t5.closing b2.value t5.inner t1.says.0 (subst (λ (z : List ℕ). type_name z t2.token ≡ Some b2.value) s1 t2.says) t3.is_word t4.says.0 t5.is_closing t5.reads) }
 
 pub assign_this-sound : (src : List ℕ) (i j : Input) (x : StmtTree) → i.src ≡ src → kind i ≡ Some k.KwThis → d.assign_this i ≡ Ok (x, j) → Took src (ReadsStmt src) x i j
 unfolding d.assign_this
 assign_this-sound src i j x s h e =
     let t1 = passed i k.KwThis h in
-    let s1 : (next i).src ≡ src = t1.src ∙ s in
     let b2 = bound _ _ _ e in
     let t2 = expected m.Dot (next i) b2.input b2.value b2.first in
-    let s2 : b2.input.src ≡ src = t2.src ∙ s1 in
-    let b3 = bound _ _ _ b2.then_ in
-    let t3 = named_one b2.input b3.input b3.value b3.first in
-    let s3 : b3.input.src ≡ src = t3.src ∙ s2 in
-    let b4 = bound _ _ _ b3.then_ in
-    let t4 = (assigned-sound src) b3.input b4.input b4.value s3 b4.first in
-    let s4 : b4.input.src ≡ src = t4.kept in
+    let t3 = named_then src (λ n. d.assigned >>= (λ y. pure (stmt.AssignThis n y (place i)))) b2.input (x, j) (t2.src ∙ (t1.src ∙ s)) b2.then_ in
+    let b4 = bound _ _ _ t3.then_ in
+    let t4 = assigned-sound src t3.input b4.input b4.value t3.kept b4.first in
     let ej : b4.input ≡ j = same_input _ _ _ _ b4.then_ in
-    let a1 : place i ≡ t1.token.from = t1.says.1 in
-    let n3 : b3.value ≡ ident src t3.token = t3.says.1 ∙ ap (λ (z : List ℕ). ident z t3.token) s2 in
-    let ev : (let r : StmtTree = stmt.AssignThis (b3.value) b4.value (place i) in r) ≡ x = same_value _ _ _ _ b4.then_ in
-    let ex : (let r : StmtTree = stmt.AssignThis (ident src t3.token) b4.value t1.token.from in r) ≡ x = cc in
-    let er : b4.input.rest ≡ j.rest = ap (λ (z : Input). z.rest) ej in
-    let ec : i.rest ≡ (t1.token ∷ t2.token ∷ t3.token ∷ t4.taken) ++ j.rest = (t1.cut ∙ ap (λ (z : List Token). t1.token ∷ z) (t2.cut ∙ ap (λ (z : List Token). t2.token ∷ z) (t3.cut ∙ ap (λ (z : List Token). t3.token ∷ z) (t4.cut ∙ ap (λ (z : List Token). t4.taken ++ z) er)))) in
-    record { taken = t1.token ∷ t2.token ∷ t3.token ∷ t4.taken; cut = ec; kept = sym (ap (λ (z : Input). z.src) ej) ∙ s4; reads = subst (λ (z : StmtTree). ReadsStmt src (t1.token ∷ t2.token ∷ t3.token ∷ t4.taken) z) ex (subst (λ (z : List Token). ReadsStmt src (t1.token ∷ t2.token ∷ t3.token ∷ z) (stmt.AssignThis (ident src t3.token) b4.value t1.token.from)) (sym t4.reads.whole) (g.assign_this t4.reads.inner t1.token t2.token t3.token t4.reads.arrow t4.reads.semicolon b4.value t1.says.0 t2.says.0 t3.says.0 t4.reads.is_arrow t4.reads.is_semicolon t4.reads.reads)) }
+    let made : ℕ → StmtTree = stmt.AssignThis (ident src t3.token) b4.value in
+    let ex : made t1.token.from ≡ x = ap made (sym t1.says.1) ∙ same_value _ _ _ _ b4.then_ in
+    let all : List Token = t1.token ∷ t2.token ∷ t3.token ∷ t4.taken in
+    let ec : i.rest ≡ all ++ j.rest = t1.cut ∙ ap (λ (z : List Token). t1.token ∷ z) (t2.cut ∙ ap (λ (z : List Token). t2.token ∷ z) (t3.cut ∙ ap (λ (z : List Token). t3.token ∷ z) (t4.cut ∙ ap (λ (z : Input). t4.taken ++ z.rest) ej))) in
+    record { taken = all; cut = ec; kept = sym (ap (λ (z : Input). z.src) ej) ∙ t4.kept; reads = subst (λ (z : StmtTree). ReadsStmt src all z) ex (subst (λ (z : List Token). ReadsStmt src (t1.token ∷ t2.token ∷ t3.token ∷ z) (made t1.token.from)) (sym t4.reads.whole) (g.assign_this t4.reads.inner t1.token t2.token t3.token t4.reads.arrow t4.reads.semicolon b4.value t1.says.0 t2.says.0 t3.is_word t4.reads.is_arrow t4.reads.is_semicolon t4.reads.reads)) }
 
 assign_by : (src : List ℕ) (b : Bool) (i i1 j : Input) (first : Ident) (x : StmtTree) → One (λ tok. (tok.kind ≡ k.Word) × (first ≡ ident i.src tok)) i i1 → i.src ≡ src
     → sees m.Dot i1 ≡ b → (if b then (name >>= (λ second. d.assigned >>= (λ y. pure (stmt.AssignLoop first second y)))) else d.assigned >>= (λ y. pure (stmt.Assign first y))) (after m.Dot i1) ≡ Ok (x, j) → Took src (ReadsStmt src) x i j
 assign_by src true i i1 j first x t1 s h e =
-    let s1 : i1.src ≡ src = t1.src ∙ s in
     let t2 = eaten m.Dot i1 h in
-    let s2 : (after m.Dot i1).src ≡ src = t2.src ∙ s1 in
-    let b3 = bound _ _ _ e in
-    let t3 = named_one (after m.Dot i1) b3.input b3.value b3.first in
-    let s3 : b3.input.src ≡ src = t3.src ∙ s2 in
-    let b4 = bound _ _ _ b3.then_ in
-    let t4 = assigned-sound src b3.input b4.input b4.value s3 b4.first in
-    let ej : b4.input ≡ j = same_input _ _ _ _ b4.then_ in
-    let er : b4.input.rest ≡ j.rest = ap (λ (z : Input). z.rest) ej in
     let n1 : first ≡ ident src t1.token = t1.says.1 ∙ ap (λ (z : List ℕ). ident z t1.token) s in
-    let n3 : b3.value ≡ ident src t3.token = t3.says.1 ∙ ap (λ (z : List ℕ). ident z t3.token) s2 in
-    let ev : stmt.AssignLoop first b3.value b4.value ≡ x = same_value _ _ _ _ b4.then_ in
-    let ex : stmt.AssignLoop (ident src t1.token) (ident src t3.token) b4.value ≡ x = cc in
-    let ec : i.rest ≡ (t1.token ∷ t2.token ∷ t3.token ∷ t4.taken) ++ j.rest = (t1.cut ∙ ap (λ (z : List Token). t1.token ∷ z) (t2.cut ∙ ap (λ (z : List Token). t2.token ∷ z) (t3.cut ∙ ap (λ (z : List Token). t3.token ∷ z) (t4.cut ∙ ap (λ (z : List Token). t4.taken ++ z) er)))) in
+    let t3 = named_then src (λ n. d.assigned >>= (λ y. pure (stmt.AssignLoop first n y))) (after m.Dot i1) (x, j) (t2.src ∙ (t1.src ∙ s)) e in
+    let b4 = bound _ _ _ t3.then_ in
+    let t4 = assigned-sound src t3.input b4.input b4.value t3.kept b4.first in
+    let ej : b4.input ≡ j = same_input _ _ _ _ b4.then_ in
+    let made : Ident → StmtTree = λ n. stmt.AssignLoop n (ident src t3.token) b4.value in
+    let ex : made (ident src t1.token) ≡ x = ap made (sym n1) ∙ same_value _ _ _ _ b4.then_ in
+    let all : List Token = t1.token ∷ t2.token ∷ t3.token ∷ t4.taken in
+    let ec : i.rest ≡ all ++ j.rest = t1.cut ∙ ap (λ (z : List Token). t1.token ∷ z) (t2.cut ∙ ap (λ (z : List Token). t2.token ∷ z) (t3.cut ∙ ap (λ (z : List Token). t3.token ∷ z) (t4.cut ∙ ap (λ (z : Input). t4.taken ++ z.rest) ej))) in
     record {
-      taken = t1.token ∷ t2.token ∷ t3.token ∷ t4.taken;
+      taken = all;
       cut = ec;
       kept = sym (ap (λ (z : Input). z.src) ej) ∙ t4.kept;
-      reads = subst (λ (z : StmtTree). ReadsStmt src (t1.token ∷ t2.token ∷ t3.token ∷ t4.taken) z) ex
-          (subst (λ (z : List Token). ReadsStmt src (t1.token ∷ t2.token ∷ t3.token ∷ z) (stmt.AssignLoop (ident src t1.token) (ident src t3.token) b4.value)) (sym t4.reads.whole)
-          (g.assign_loop t4.reads.inner t1.token t2.token t3.token t4.reads.arrow t4.reads.semicolon b4.value t1.says.0 t2.says t3.says.0 t4.reads.is_arrow t4.reads.is_semicolon t4.reads.reads));
+      reads = subst (λ (z : StmtTree). ReadsStmt src all z) ex
+          (subst (λ (z : List Token). ReadsStmt src (t1.token ∷ t2.token ∷ t3.token ∷ z) (made (ident src t1.token))) (sym t4.reads.whole)
+          (g.assign_loop t4.reads.inner t1.token t2.token t3.token t4.reads.arrow t4.reads.semicolon b4.value t1.says.0 t2.says t3.is_word t4.reads.is_arrow t4.reads.is_semicolon t4.reads.reads));
     }
 assign_by src false i i1 j first x t1 s h e =
     let s1 : i1.src ≡ src = t1.src ∙ s in

@@ -1,5 +1,6 @@
 -- Which tokens spell which operations, numbers, types and names.
-use Rattle.std.specs.Prelude.{◌≡◌, ◌-◌, ℕ, List, take, drop, Option, Some, None}
+use Rattle.std.specs.Prelude.{◌≡◌, ℕ, List, Option, Some, None}
+use Rattle.brace_tok.specs.Names.{text_at}
 use Rattle.brace_tok.specs.declared.kinds.Token.{Token}
 use Rattle.brace_tok.specs.declared.kinds.TokKind.{TokKind}
 use Rattle.brace_tok.specs.declared.kinds.TokKind.TheVariants as k
@@ -19,13 +20,9 @@ use Rattle.brace_syntax.specs.declared.tree.BinName.TheVariants as bin
 abbrev pub Is : TokKind → Token → Type 0
 Is kind tok = tok.kind ≡ kind
 
--- the bytes of the source that spell the token
-abbrev pub spelling : List ℕ → Token → List ℕ
-spelling src tok = take (tok.to - tok.from) (drop tok.from src)
-
 -- the name that a word spells, with its place
 abbrev pub ident : List ℕ → Token → Ident
-ident src tok = record { text = spelling src tok; at = tok.from }
+ident src tok = record { text = text_at src tok; at = tok.from }
 
 -- what stands between the operands of `||`
 abbrev pub either : TokKind → Option BinName
@@ -89,6 +86,7 @@ combines k.KwCount = Some comb.Count
 combines k.KwOr = Some comb.Or
 combines _ = None
 
+-- the number that a token of this kind spells at a place
 abbrev pub number_at : ℕ → TokKind → Option Number
 number_at at (k.Int n) = Some (record { digits = digits.Int n; at = at })
 number_at at (k.Fixed n) = Some (record { digits = digits.Fixed n; at = at })
@@ -98,6 +96,7 @@ number_at at _ = None
 abbrev pub number : Token → Option Number
 number tok = number_at tok.from tok.kind
 
+-- the type that a token of this kind names, where a word is this name
 abbrev pub type_at : Ident → TokKind → Option TyName
 type_at name k.KwInt = Some ty.Int
 type_at name k.KwFixed = Some ty.Fixed

@@ -15,9 +15,10 @@ use brace_tok::Token;
 use std::alloc::Global;
 
 /// The script that the tokens of a source of at most 1,048,576 bytes are. Gives `TooDeep` exactly
-/// where the scan for depth finds a token, at the first such token. Where it finds none, it gives
-/// the script where the tokens are one, `NoReading` at a token or at the end of the source where
-/// they are none, or in place of either `NoMemory`.
+/// where the tokens are too deep somewhere, at the first token up to which they are. Where they are
+/// nowhere too deep, it gives the script where they are one, `NoReading` where they are none, or in
+/// place of either `NoMemory`. `NoReading` stands at one of the tokens or at the end of the source;
+/// at which of them, no clause says.
 pub fn parse(alloc: Global, src: &[u8], toks: &[Token]) -> Result<Tree, SynFault>
     requires sized { length src.now ≤ 1048576 }
     requires spelled { Spells src.now toks.now }
@@ -28,7 +29,8 @@ pub fn parse(alloc: Global, src: &[u8], toks: &[Token]) -> Result<Tree, SynFault
         → MatchResult result (λ found. found ≡ tree) (λ fault. fault ≡ SynFault.NoMemory) }
     ensures deep { (at : ℕ) → FirstDeepAt toks.now at
         → MatchResult result (λ _. ⊥) (λ fault. fault ≡ SynFault.TooDeep at) }
-    ensures unread { NowhereDeep toks.now → NoScript src.now toks.now → MatchResult result (λ _. ⊥) IsUnread }
+    ensures unread { NowhereDeep toks.now → NoScript src.now toks.now
+        → MatchResult result (λ _. ⊥) IsUnread }
     ensures place { IfErr result (StandsIn src.now toks.now) }
 {
     if let Some(at) = first_deep(toks) {

@@ -126,7 +126,8 @@ impl<F: Fn(Global, &mut Tokens<'_>, usize, Start) -> Result<ExprTree, Stop>> Exp
     #[tactic(auto, unfolding(crate::specs::inner::Descent::one_argument))]
     fn one_argument(&self, tokens: &mut Tokens<'_>, name: UnName) -> Result<ExprTree, Stop>
         requires { Nests self.now.depth (F.pre self.now.expr) (F.post self.now.expr) }
-        ensures { Follows (spec.one_argument (spec.expr self.now.depth) name tokens.old) result tokens.new }
+        ensures { Follows (spec.one_argument (spec.expr self.now.depth) name tokens.old)
+            result tokens.new }
     {
         let at = tokens.pass();
         tokens.expect(Mark::OpenParen)?;
@@ -138,8 +139,8 @@ impl<F: Fn(Global, &mut Tokens<'_>, usize, Start) -> Result<ExprTree, Stop>> Exp
     #[tactic(auto, unfolding(crate::specs::inner::Descent::two_arguments))]
     fn two_arguments(&self, tokens: &mut Tokens<'_>, name: BinName) -> Result<ExprTree, Stop>
         requires { Nests self.now.depth (F.pre self.now.expr) (F.post self.now.expr) }
-        ensures { Follows (spec.two_arguments
-            (spec.expr self.now.depth) name tokens.old) result tokens.new }
+        ensures { Follows (spec.two_arguments (spec.expr self.now.depth) name tokens.old)
+            result tokens.new }
     {
         let at = tokens.pass();
         tokens.expect(Mark::OpenParen)?;
@@ -201,7 +202,8 @@ impl<F: Fn(Global, &mut Tokens<'_>, usize, Start) -> Result<ExprTree, Stop>> Exp
     #[inline(always)]
     fn operand(&self, tokens: &mut Tokens<'_>, level: Level) -> Result<ExprTree, Stop>
         requires { Nests self.now.depth (F.pre self.now.expr) (F.post self.now.expr) }
-        ensures { Follows (spec.operand (spec.expr self.now.depth) level tokens.old) result tokens.new }
+        ensures { Follows (spec.operand (spec.expr self.now.depth) level tokens.old)
+            result tokens.new }
     {
         match level {
             Level::Product => self.prefixed(tokens),
@@ -217,7 +219,8 @@ impl<F: Fn(Global, &mut Tokens<'_>, usize, Start) -> Result<ExprTree, Stop>> Exp
     #[tactic(auto, unfolding(crate::specs::inner::Descent::climb))]
     fn joined(&self, tokens: &mut Tokens<'_>, level: Level) -> Result<ExprTree, Stop>
         requires { Nests self.now.depth (F.pre self.now.expr) (F.post self.now.expr) }
-        ensures { Follows (spec.joined (spec.expr self.now.depth) level tokens.old) result tokens.new }
+        ensures { Follows (spec.joined (spec.expr self.now.depth) level tokens.old)
+            result tokens.new }
     {
         let mut left = self.operand(tokens, level)?;
         for _turn in 0..turns(level, tokens.left()) {
@@ -249,7 +252,8 @@ impl<F: Fn(Global, &mut Tokens<'_>, usize, Start) -> Result<ExprTree, Stop>> Exp
 
     fn begun(&self, tokens: &mut Tokens<'_>, start: Start) -> Result<ExprTree, Stop>
         requires { Nests self.now.depth (F.pre self.now.expr) (F.post self.now.expr) }
-        ensures { Follows (spec.begun (spec.expr self.now.depth) start tokens.old) result tokens.new }
+        ensures { Follows (spec.begun (spec.expr self.now.depth) start tokens.old)
+            result tokens.new }
     {
         match start {
             Start::Whole => self.choice(tokens),

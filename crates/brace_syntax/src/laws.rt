@@ -6,6 +6,6 @@ ghost use Rattle.brace_syntax.specs.declared.tree.Tree.{Tree};
 
 /// A list of tokens is at most one script.
 pub fn readings_are_unique()
-    ensures { (src : List ℕ) (toks : List Token) (a b : Tree) → Reads src toks a → Reads src toks b
-        → a ≡ b }
+    ensures { (src : List ℕ) (toks : List Token) (a b : Tree)
+        → Reads src toks a → Reads src toks b → a ≡ b }
 {}

@@ -142,7 +142,8 @@ impl<F: Fn(Global, &mut Tokens<'_>, usize) -> Result<List<StmtTree>, Stop>> Stmt
     #[tactic(auto, unfolding(crate::specs::inner::Descent::foreach))]
     fn foreach(&self, tokens: &mut Tokens<'_>) -> Result<StmtTree, Stop>
         requires { NestsBlocks self.now.depth (F.pre self.now.block) (F.post self.now.block) }
-        ensures { Follows (spec.foreach (spec.block_to self.now.depth) tokens.old) result tokens.new }
+        ensures { Follows (spec.foreach (spec.block_to self.now.depth) tokens.old)
+            result tokens.new }
     {
         let heading = ranging(self.alloc, tokens)?;
         let block = self.nested(tokens)?;
@@ -158,7 +159,8 @@ impl<F: Fn(Global, &mut Tokens<'_>, usize) -> Result<List<StmtTree>, Stop>> Stmt
     #[tactic(auto, unfolding(crate::specs::inner::Descent::statement))]
     fn statement(&self, tokens: &mut Tokens<'_>) -> Result<StmtTree, Stop>
         requires { NestsBlocks self.now.depth (F.pre self.now.block) (F.post self.now.block) }
-        ensures { Follows (spec.statement (spec.block_to self.now.depth) tokens.old) result tokens.new }
+        ensures { Follows (spec.statement (spec.block_to self.now.depth) tokens.old)
+            result tokens.new }
     {
         match tokens.peek() {
             Some(TokKind::KwConst) => constant(self.alloc, tokens),
@@ -172,7 +174,8 @@ impl<F: Fn(Global, &mut Tokens<'_>, usize) -> Result<List<StmtTree>, Stop>> Stmt
     #[tactic(auto, unfolding(crate::specs::inner::Descent::braced, crate::specs::inner::Descent::statements))]
     fn braced(&self, tokens: &mut Tokens<'_>) -> Result<List<StmtTree>, Stop>
         requires { NestsBlocks self.now.depth (F.pre self.now.block) (F.post self.now.block) }
-        ensures { Follows (spec.braced (spec.block_to self.now.depth) tokens.old) result tokens.new }
+        ensures { Follows (spec.braced (spec.block_to self.now.depth) tokens.old)
+            result tokens.new }
     {
         tokens.expect(Mark::OpenBrace)?;
         let mut found = List::new(self.alloc);

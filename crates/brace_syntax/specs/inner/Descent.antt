@@ -46,6 +46,7 @@ most _ left = left
 abbrev pub next_by : {A : Type 0} → (TokKind → Option A) → Parser (Option A)
 next_by table = λ i. Ok (option_and_then table (kind i), i)
 
+-- goes on by what was found, or else in the other way
 abbrev pub where_some : {A B : Type 0} → Option A → (A → Parser B) → Parser B → Parser B
 where_some None found missing = missing
 where_some (Some x) found missing = found x
@@ -65,9 +66,11 @@ named = do
   is_loop ← eat mark.Dot
   if is_loop then (do second ← name; pure (e.OfLoop first second)) else pure (e.Name first)
 
+-- a number
 unfoldable pub literal : Parser ExprTree
 literal = number >>= (λ n. pure (e.Lit n))
 
+-- `rand()`
 unfoldable pub random : Parser ExprTree
 random = do
   at ← pass
@@ -77,6 +80,7 @@ random = do
 
 -- The parameter reads an expression from either start.
 module _ (expr : Start → Parser ExprTree) where
+  -- `f(x)`
   unfoldable pub one_argument : UnName → Parser ExprTree
   one_argument called = do
     at ← pass
@@ -85,6 +89,7 @@ module _ (expr : Start → Parser ExprTree) where
     expect mark.CloseParen
     pure (e.Unary called x at)
 
+  -- `f(x, y)`
   unfoldable pub two_arguments : BinName → Parser ExprTree
   two_arguments called = do
     at ← pass
@@ -95,6 +100,7 @@ module _ (expr : Start → Parser ExprTree) where
     expect mark.CloseParen
     pure (e.Binary called x y at)
 
+  -- `(x)`
   unfoldable pub enclosed : Parser ExprTree
   enclosed = do
     pass
@@ -102,6 +108,7 @@ module _ (expr : Start → Parser ExprTree) where
     expect mark.CloseParen
     pure x
 
+  -- what binds tightest, by the kind of its first token
   abbrev pub primary_by : Option TokKind → Parser ExprTree
   primary_by (Some k.KwTrue) = pass >>= (λ at. pure (e.True at))
   primary_by (Some k.KwFalse) = pass >>= (λ at. pure (e.False at))
@@ -117,9 +124,11 @@ module _ (expr : Start → Parser ExprTree) where
   primary_by (Some k.KwRand) = random
   primary_by _ = literal
 
+  -- what binds tightest
   unfoldable pub primary : Parser ExprTree
   primary = peek >>= primary_by
 
+  -- `-x`, `!x`, or what binds tightest
   unfoldable pub prefixed : Parser ExprTree
   prefixed = do
     found ← next_by prefixes
@@ -135,26 +144,33 @@ module _ (expr : Start → Parser ExprTree) where
         (λ op. do at ← pass; right ← operand; climb table operand n (e.Binary op left right at))
         (pure left)
 
+  -- an operand of a level, and what is joined to it
   abbrev of_level : Level → Parser ExprTree → Parser ExprTree
   of_level at operand = do
     left ← operand
     (λ i. climb (joins at) operand (most at (turns i)) left i)
 
+  -- factors
   unfoldable pub product : Parser ExprTree
   product = of_level level.Product prefixed
 
+  -- summands
   unfoldable pub total : Parser ExprTree
   total = of_level level.Total product
 
+  -- one sum, or two that are compared
   unfoldable pub comparison : Parser ExprTree
   comparison = of_level level.Comparison total
 
+  -- what `&&` joins
   unfoldable pub conjunction : Parser ExprTree
   conjunction = of_level level.Conjunction comparison
 
+  -- what `||` joins
   unfoldable pub disjunction : Parser ExprTree
   disjunction = of_level level.Disjunction conjunction
 
+  -- the expressions of a level
   abbrev pub joined : Level → Parser ExprTree
   joined level.Product = product
   joined level.Total = total
@@ -162,6 +178,7 @@ module _ (expr : Start → Parser ExprTree) where
   joined level.Conjunction = conjunction
   joined level.Disjunction = disjunction
 
+  -- the operands of a level
   abbrev pub operand : Level → Parser ExprTree
   operand level.Product = prefixed
   operand level.Total = product
@@ -169,14 +186,19 @@ module _ (expr : Start → Parser ExprTree) where
   operand level.Conjunction = comparison
   operand level.Disjunction = conjunction
 
+  -- `c ? x : y`, or what `||` joins
   unfoldable pub choice : Parser ExprTree
   choice = do
     w ← disjunction
     is_asked ← (λ i. Ok (sees mark.Question i, i))
-    if is_asked
-        then (do at ← pass; x ← expr Whole; expect mark.Colon; y ← expr Whole; pure (e.Choice w x y at))
-        else pure w
+    if is_asked then (do
+      at ← pass
+      x ← expr Whole
+      expect mark.Colon
+      y ← expr Whole
+      pure (e.Choice w x y at)) else pure w
 
+  -- an expression from either start
   abbrev pub begun : Start → Parser ExprTree
   begun Whole = choice
   begun Operand = prefixed
@@ -211,6 +233,7 @@ constant = do
   expect mark.Semicolon
   pure (s.Const t found x at)
 
+-- `this.n <- x;`
 unfoldable pub assign_this : Parser StmtTree
 assign_this = do
   at ← pass
@@ -219,6 +242,7 @@ assign_this = do
   x ← assigned
   pure (s.AssignThis found x at)
 
+-- `n <- x;` or `q.n <- x;`
 unfoldable pub assign : Parser StmtTree
 assign = do
   first ← name
@@ -251,6 +275,7 @@ ranging = do
 
 -- The parameter reads a block.
 module _ (block : Parser (List StmtTree)) where
+  -- `if (c) { .. }`, with an `else` or without
   unfoldable pub when : Parser StmtTree
   when = do
     at ← pass
@@ -260,12 +285,14 @@ module _ (block : Parser (List StmtTree)) where
     if is_either then (do other ← block; pure (s.If x first (Some other) at))
         else pure (s.If x first None at)
 
+  -- `foreach (C q : Extent<D>) { .. }`
   unfoldable pub foreach : Parser StmtTree
   foreach = do
     h ← ranging
     each ← block
     pure (s.Foreach h.class h.variable h.other each h.at)
 
+  -- a statement, by the kind of its first token
   abbrev pub statement_by : Option TokKind → Parser StmtTree
   statement_by (Some k.KwConst) = constant
   statement_by (Some k.KwIf) = when
@@ -273,6 +300,7 @@ module _ (block : Parser (List StmtTree)) where
   statement_by (Some k.KwThis) = assign_this
   statement_by _ = assign
 
+  -- a statement
   unfoldable pub statement : Parser StmtTree
   statement = peek >>= statement_by
 
@@ -283,6 +311,7 @@ module _ (block : Parser (List StmtTree)) where
     is_end ← eat mark.CloseBrace
     if is_end then pure found else (do x ← statement; statements n (found ++ x ∷ []))
 
+  -- statements in braces
   unfoldable pub braced : Parser (List StmtTree)
   braced = do
     expect mark.OpenBrace
@@ -299,6 +328,7 @@ block = λ i. block_to (turns i) i
 
 -- ---- members and classes
 
+-- `[r];`
 unfoldable pub range : Parser Number
 range = do
   expect mark.OpenBracket
@@ -307,12 +337,14 @@ range = do
   expect mark.Semicolon
   pure n
 
+-- `#visible[r];`
 unfoldable pub visible : Parser MemberTree
 visible = do
   at ← pass
   n ← range
   pure (m.Visible n at)
 
+-- `#reach[r];`
 unfoldable pub reach : Parser MemberTree
 reach = do
   at ← pass
@@ -326,6 +358,7 @@ ruled = do
   if is_ruled then (do x ← expression; expect mark.Semicolon; pure (Some x))
       else (do expect mark.Semicolon; pure None)
 
+-- a state, from its word on
 unfoldable pub state : Bool → ℕ → Parser MemberTree
 state is_public at = do
   pass
@@ -334,6 +367,7 @@ state is_public at = do
   x ← ruled
   pure (m.State is_public t found x at)
 
+-- an effect, from its word on
 unfoldable pub effect : Bool → ℕ → Parser MemberTree
 effect is_public at = do
   pass
@@ -344,11 +378,13 @@ effect is_public at = do
   expect mark.Semicolon
   pure (m.Effect is_public t found c at)
 
+-- a state or an effect, by the kind of its first token
 abbrev pub field_by : Bool → ℕ → Option TokKind → Parser MemberTree
 field_by is_public at (Some k.KwState) = state is_public at
 field_by is_public at (Some k.KwEffect) = effect is_public at
 field_by is_public at _ = refuse
 
+-- a state or an effect
 unfoldable pub field : Bool → ℕ → Parser MemberTree
 field is_public at = peek >>= field_by is_public at
 
@@ -362,21 +398,25 @@ run at = do
   body ← block
   pure (m.Run body at)
 
+-- what follows `public`, by the kind of its first token
 abbrev pub public_by : ℕ → Option TokKind → Parser MemberTree
 public_by at (Some k.KwVoid) = run at
 public_by at _ = field true at
 
+-- a public field, or `run`
 unfoldable pub public : Parser MemberTree
 public = do
   at ← pass
   found ← peek
   public_by at found
 
+-- a private field
 unfoldable pub private : Parser MemberTree
 private = do
   at ← pass
   field false at
 
+-- `die when c;`
 unfoldable pub die : Parser MemberTree
 die = do
   at ← pass
@@ -385,6 +425,7 @@ die = do
   expect mark.Semicolon
   pure (m.Die x at)
 
+-- `n <- x;`
 unfoldable pub gift : Parser GiftTree
 gift = do
   state ← name
@@ -398,9 +439,11 @@ gifts_from (suc n) found = do
   is_end ← eat mark.CloseBrace
   if is_end then pure found else (do x ← gift; gifts_from n (found ++ x ∷ []))
 
+-- the gifts up to the closing brace
 unfoldable pub gifts : Parser (List GiftTree)
 gifts = λ i. gifts_from (turns i) [] i
 
+-- `spawn when c { .. }`
 unfoldable pub spawn : Parser MemberTree
 spawn = do
   at ← pass
@@ -410,6 +453,7 @@ spawn = do
   given ← gifts
   pure (m.Spawn x given at)
 
+-- a member, by the kind of its first token
 abbrev pub member_by : Option TokKind → Parser MemberTree
 member_by (Some k.Visible) = visible
 member_by (Some k.Reach) = reach
@@ -419,6 +463,7 @@ member_by (Some k.KwDie) = die
 member_by (Some k.KwSpawn) = spawn
 member_by _ = refuse
 
+-- a member of a class
 unfoldable pub member : Parser MemberTree
 member = peek >>= member_by
 
@@ -429,9 +474,11 @@ members_from (suc n) found = do
   is_end ← eat mark.CloseBrace
   if is_end then pure found else (do x ← member; members_from n (found ++ x ∷ []))
 
+-- the members up to the closing brace
 unfoldable pub members : Parser (List MemberTree)
 members = λ i. members_from (turns i) [] i
 
+-- a class
 unfoldable pub class : Parser ClassTree
 class = do
   at ← expect mark.Class
@@ -440,6 +487,7 @@ class = do
   all ← members
   pure (record { name = found; members = all; at = at })
 
+-- no token is left
 abbrev pub is_end : Parser Bool
 is_end = λ i. Ok (nat_eq (length i.rest) 0, i)
 
@@ -451,6 +499,7 @@ classes_from (suc n) found = do
   ends ← is_end
   if ends then pure (found ++ x ∷ []) else classes_from n (found ++ x ∷ [])
 
+-- a script
 unfoldable pub script : Parser Tree
 script = do
   all ← (λ i. classes_from (turns i) [] i)

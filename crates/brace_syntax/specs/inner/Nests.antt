@@ -10,6 +10,7 @@ use Rattle.brace_syntax.specs.inner.Cursor.{Input, Follows}
 use Rattle.brace_syntax.specs.declared.tree.StmtTree.{StmtTree}
 use Rattle.brace_syntax.specs.inner.Descent.{expr, block_to}
 
+-- the function can be called to read expressions of this depth, and reads them
 pub record Nests (depth : ℕ) (pre : Global → MutBor Input → ℕ → Start → Type 0)
     (post : Global → MutBor Input → ℕ → Start → Result ExprTree Stop → MutBor Input → Type 0)
     : Type 0 where
@@ -18,6 +19,7 @@ pub record Nests (depth : ℕ) (pre : Global → MutBor Input → ℕ → Start 
       → post alloc old depth start r new
       → Follows (expr depth start old.now) r new.now
 
+-- the function can be called to read blocks of this depth, and reads them
 pub record NestsBlocks (depth : ℕ) (pre : Global → MutBor Input → ℕ → Type 0)
     (post : Global → MutBor Input → ℕ → Result (List StmtTree) Stop → MutBor Input → Type 0)
     : Type 0 where
