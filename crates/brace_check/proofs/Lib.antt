@@ -2,7 +2,6 @@ pub mod Folds
 pub mod Equations
 pub mod ByKind
 pub mod TargetLemmas
-pub mod FirstLemmas
 pub mod Numbering
 pub mod BlockNumbering
 pub mod ConstantNumbers

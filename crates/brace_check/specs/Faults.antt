@@ -1,6 +1,6 @@
 -- Which fault of the check passes is answered.
-use Rattle.std.specs.Prelude.{◌≡◌, ℕ, nat_lt, Bool, true, false, ◌==◌, ◌&&◌, ◌||◌, List, ◌∷◌, ◌++◌, Option, Some, ⊤, if◌then◌else◌}
-use Rattle.std.specs.List.{AllByRecursion, reduce}
+use Rattle.std.specs.Prelude.{◌≡◌, ℕ, Bool, List, Option, Some, ⊤}
+use Rattle.brace_names.specs.Answered as answered
 use Rattle.brace_names.specs.declared.resolved.Resolved.{Resolved}
 use Rattle.brace_check.specs.declared.fault.CheckFault.{CheckFault}
 use Rattle.brace_check.specs.declared.fault.CheckFault.TheVariants as fault
@@ -36,24 +36,19 @@ rank fault.NoMemory = 0
 
 -- an earlier pass decides, then the rank
 abbrev pub is_before : CheckFault → CheckFault → Bool
-is_before f g = nat_lt (pass f) (pass g) || (pass f == pass g && nat_lt (rank f) (rank g))
+is_before = answered.is_before pass rank
 
 -- the one of two faults that is answered, of which the first was found first
 abbrev pub earlier : CheckFault → CheckFault → CheckFault
-earlier f g = if is_before g f then g else f
+earlier = answered.earlier pass rank
 
 -- the one of these faults, in the order in which they are found, that is answered
 abbrev pub first : List CheckFault → Option CheckFault
-first = reduce earlier
+first = answered.first pass rank
 
--- the fault is the first of these: it is before each that was found before it, and none that was
--- found after it is before it
-pub record IsFirst (f : CheckFault) (all : List CheckFault) : Type 0 where
-  pub earlier_ones : List CheckFault
-  pub later_ones : List CheckFault
-  pub stands : all ≡ earlier_ones ++ f ∷ later_ones
-  pub is_before_earlier_ones : AllByRecursion (λ g. is_before f g ≡ true) earlier_ones
-  pub no_later_one_is_before : AllByRecursion (λ g. is_before g f ≡ false) later_ones
+-- the fault is the first of these
+abbrev pub IsFirst : CheckFault → List CheckFault → Type 0
+IsFirst = answered.IsFirst pass rank
 
 -- the faults of a script with what its names stand for
 abbrev pub faults : Resolved → List CheckFault

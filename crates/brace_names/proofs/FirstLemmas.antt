@@ -1,10 +1,10 @@
--- The first of some faults, by pass and place.
-use Rattle.std.proofs.Common.{◌≡◌, sym, ap, subst, ◌∙◌, ℕ, ◌+◌, ◌<◌, ◌≤◌, nat_lt, Bool, true, false, List, length, get_or, arith, tests, inl, inr}
-use Rattle.std.specs.Prelude.{◌==◌, ◌&&◌, ◌||◌, if◌then◌else◌, Contains}
-use Rattle.std.proofs.lemmas.List.{get_or_default}
-use Rattle.std.proofs.lemmas.Bool.{cases_Bool, cases_lt, true≢false}
-use Rattle.brace_names.specs.declared.fault.NameFault.{NameFault}
-use Rattle.brace_names.specs.Faults.{pass, place, is_before, IsFirst}
+-- The first of some faults, by pass and rank, in the order in which they are found.
+use Rattle.std.proofs.Common.{◌≡◌, refl, sym, ap, subst, ◌∙◌, ℕ, nat_lt, Bool, true, false, List, [], ◌∷◌, ◌++◌, append_assoc, fold, Some, arith, tests, inl, inr}
+use Rattle.std.specs.Prelude.{◌==◌, ◌&&◌, ◌||◌, if◌then◌else◌}
+use Rattle.std.specs.List.{AllByRecursion}
+use Rattle.std.proofs.lemmas.Bool.{cases_Bool}
+use Rattle.std.proofs.lemmas.List.{append-nil}
+use Rattle.brace_names.specs.Answered.{is_before, earlier, first, IsFirst}
 
 abbrev lex : ℕ → ℕ → ℕ → ℕ → Bool
 lex a p b q = nat_lt a b || (a == b && nat_lt p q)
@@ -12,46 +12,63 @@ lex a p b q = nat_lt a b || (a == b && nat_lt p q)
 lex-transitive : (a p b q c r : ℕ) → lex a p b q ≡ true → lex b q c r ≡ true → lex a p c r ≡ true
 lex-transitive a p b q c r ab bc = grind (arith, tests)
 
-lex-irreflexive : (a p : ℕ) → lex a p a p ≡ false
-lex-irreflexive a p = grind (arith, tests)
+lex-past : (a p b q c r : ℕ) → lex a p b q ≡ true → lex c r b q ≡ false → lex a p c r ≡ true
+lex-past a p b q c r ab cb = grind (arith, tests)
 
--- what is not before a fault is not before one that is before it
-not_before : (f g h : NameFault) → is_before g h ≡ true → is_before f h ≡ false → is_before f g ≡ false
-not_before f g h gh fh = elim (cases_Bool (is_before f g)) [
-  | inl fg ↦ absurd (true≢false (sym (lex-transitive (pass f) (place f) (pass g) (place g) (pass h) (place h) fg gh) ∙ fh))
-  | inr apart ↦ apart
-]
+lex-apart : (a p b q : ℕ) → lex a p b q ≡ true → lex b q a p ≡ false
+lex-apart a p b q ab = grind (arith, tests)
 
--- the fault is one of these, and none of the first so many is before it
-pub record Best (best : NameFault) (faults : List NameFault) (n : ℕ) : Type 0 where
-  pub among : Contains faults best
-  pub first : (k : ℕ) (d : NameFault) → k < n → is_before (get_or faults k d) best ≡ false
+module _ {A : Type 0} where
+  each : (P Q : A → Type 0) → ((x : A) → P x → Q x) → (xs : List A) → AllByRecursion P xs → AllByRecursion Q xs
+  each P Q next [] done = tt
+  each P Q next (x ∷ xs) done = (next x done.0, each P Q next xs done.1)
 
-pub best_of_one : (faults : List NameFault) (f : NameFault) → 0 < length faults → f ≡ get_or faults 0 f → Best f faults 0
-best_of_one faults f some is = record { among = (0, some, sym is); first = λ k d few. absurd (omega (arith, few)) }
+  joined : (P : A → Type 0) (xs ys : List A) → AllByRecursion P xs → AllByRecursion P ys → AllByRecursion P (xs ++ ys)
+  joined P [] ys here there = there
+  joined P (x ∷ xs) ys here there = (here.0, joined P xs ys here.1 there)
 
--- what holds of the first n faults and of the next
-next : (faults : List NameFault) (best x : NameFault) (n : ℕ) → n < length faults → x ≡ get_or faults n x → is_before x best ≡ false
-    → ((k : ℕ) (d : NameFault) → k < n → is_before (get_or faults k d) best ≡ false)
-    → (k : ℕ) (d : NameFault) → k < n + 1 → is_before (get_or faults k d) best ≡ false
-next faults best x n inside is apart earlier k d few = elim (cases_lt k n) [
-  | inl below ↦ earlier k d below
-  | inr past ↦ ap (λ f. is_before f best) (ap (λ m. get_or faults m d) (let e : k ≡ n = omega (arith, few, past) in e) ∙ (get_or_default faults n d x inside ∙ sym is)) ∙ apart
-]
+module _ {A : Type 0} (pass rank : A → ℕ) where
+  -- a fault that is before the first one is before all
+  before_all : (f x : A) (all : List A) → IsFirst pass rank f all → is_before pass rank x f ≡ true → AllByRecursion (λ g. is_before pass rank x g ≡ true) all
+  before_all f x all best xf =
+      subst (λ (l : List A). AllByRecursion (λ g. is_before pass rank x g ≡ true) l) (sym best.stands)
+      (joined (λ g. is_before pass rank x g ≡ true) best.earlier_ones (f ∷ best.later_ones)
+      (each (λ g. is_before pass rank f g ≡ true) (λ g. is_before pass rank x g ≡ true)
+      (λ g fg. lex-transitive (pass x) (rank x) (pass f) (rank f) (pass g) (rank g) xf fg) best.earlier_ones best.is_before_earlier_ones) (
+        xf,
+        each (λ g. is_before pass rank g f ≡ false) (λ g. is_before pass rank x g ≡ true)
+            (λ g gf. lex-past (pass x) (rank x) (pass f) (rank f) (pass g) (rank g) xf gf) best.later_ones best.no_later_one_is_before,
+      ))
 
--- the best of one fault more
-pub best_next : (faults : List NameFault) (f x : NameFault) (n : ℕ) → n < length faults → x ≡ get_or faults n x → Best f faults n
-    → Best (if is_before x f then x else f) faults (n + 1)
-best_next faults f x n inside is best = elim (cases_Bool (is_before x f)) [
-  | inl before ↦ rw before (record {
-    among = (n, inside, sym is);
-    first = next faults x x n inside is (lex-irreflexive (pass x) (place x)) (λ k d few. not_before (get_or faults k d) x f before (best.first k d few));
-  })
-  | inr apart ↦ rw apart (record { among = best.among; first = next faults f x n inside is apart best.first })
-]
+  -- one fault more is found
+  step : (f x : A) (all : List A) → IsFirst pass rank f all → IsFirst pass rank (earlier pass rank f x) (all ++ x ∷ [])
+  step f x all best = elim (cases_Bool (is_before pass rank x f)) [
+    | inl before ↦ rw before (record {
+      earlier_ones = all;
+      later_ones = [];
+      stands = refl;
+      is_before_earlier_ones = before_all f x all best before;
+      no_later_one_is_before = tt;
+    })
+    | inr apart ↦ rw apart (record {
+      earlier_ones = best.earlier_ones;
+      later_ones = best.later_ones ++ x ∷ [];
+      stands = ap (λ (l : List A). l ++ x ∷ []) best.stands ∙ append_assoc best.earlier_ones (f ∷ best.later_ones) (x ∷ []);
+      is_before_earlier_ones = best.is_before_earlier_ones;
+      no_later_one_is_before = joined (λ g. is_before pass rank g f ≡ false) best.later_ones (x ∷ []) best.no_later_one_is_before (apart, tt);
+    })
+  ]
 
-pub first_of_best : (faults : List NameFault) (f : NameFault) (n : ℕ) → length faults ≤ n → Best f faults n → IsFirst f faults
-first_of_best faults f n all best = record {
-  among = best.among;
-  first = λ g there. subst (λ (x : NameFault). is_before x f ≡ false) there.2 (best.first there.0 g (omega (arith, there.1, all)));
-}
+  steps : (f : A) (done xs : List A) → IsFirst pass rank f done → IsFirst pass rank (fold (earlier pass rank) f xs) (done ++ xs)
+  steps f done [] best = subst (λ (l : List A). IsFirst pass rank f l) (sym (append-nil done)) best
+  steps f done (x ∷ xs) best =
+      subst (λ (l : List A). IsFirst pass rank (fold (earlier pass rank) (earlier pass rank f x) xs) l) (append_assoc done (x ∷ []) xs)
+      (steps (earlier pass rank f x) (done ++ x ∷ []) xs (step f x done best))
+
+  -- what is answered is the first of the faults
+  pub first_is_first : (all : List A) (f : A) → first pass rank all ≡ Some f → IsFirst pass rank f all
+  first_is_first [] f h = absurd (cc)
+  first_is_first (x ∷ xs) f h =
+      let e : fold (earlier pass rank) x xs ≡ f = cc in
+      subst (λ (g : A). IsFirst pass rank g (x ∷ xs)) e
+      (steps x (x ∷ []) xs (record { earlier_ones = []; later_ones = []; stands = refl; is_before_earlier_ones = tt; no_later_one_is_before = tt }))

@@ -1,5 +1,5 @@
 -- The faults of a script's names, which of them is answered, and what its names stand for.
-use Rattle.std.specs.Prelude.{◌≡◌, ℕ, ◌+◌, ◌≤◌, nat_lt, Bool, false, ◌==◌, ◌&&◌, ◌||◌, List, [], ◌∷◌, ◌++◌, flat_map, Option, Some, None, slice_get, Contains, ⊤}
+use Rattle.std.specs.Prelude.{◌≡◌, ℕ, ◌+◌, ◌≤◌, Bool, List, [], ◌∷◌, ◌++◌, flat_map, Option, Some, None, slice_get, ⊤}
 use Rattle.brace_syntax.specs.declared.tree.Tree.{Tree}
 use Rattle.brace_names.specs.declared.fault.NameFault.{NameFault}
 use Rattle.brace_names.specs.declared.fault.NameFault.TheVariants as fault
@@ -9,25 +9,30 @@ use Rattle.brace_names.specs.declared.resolved.Binding.{Binding}
 use Rattle.brace_names.specs.declared.finding.Finding.{Finding}
 use Rattle.brace_names.specs.declared.finding.Finding.TheVariants as finding
 use Rattle.brace_names.specs.Found.{found}
+use Rattle.brace_names.specs.Answered as answered
 
+-- a finding that is a fault
 abbrev pub fault_of : Finding → List NameFault
 fault_of (finding.Fault f) = f ∷ []
 fault_of (finding.Names b) = []
 fault_of (finding.Site at) = []
 fault_of (finding.Assignment at) = []
 
+-- a finding that a name stands for something
 abbrev pub binding_of : Finding → List Binding
 binding_of (finding.Fault f) = []
 binding_of (finding.Names b) = b ∷ []
 binding_of (finding.Site at) = []
 binding_of (finding.Assignment at) = []
 
+-- the place of a finding that is a site
 abbrev pub site_of : Finding → List ℕ
 site_of (finding.Fault f) = []
 site_of (finding.Names b) = []
 site_of (finding.Site at) = at ∷ []
 site_of (finding.Assignment at) = []
 
+-- the place of a finding that is an assignment
 abbrev pub assignment_of : Finding → List ℕ
 assignment_of (finding.Fault f) = []
 assignment_of (finding.Names b) = []
@@ -78,17 +83,24 @@ place fault.NoMemory = 0
 
 -- an earlier pass decides, then the place
 abbrev pub is_before : NameFault → NameFault → Bool
-is_before f g = nat_lt (pass f) (pass g) || (pass f == pass g && nat_lt (place f) (place g))
+is_before = answered.is_before pass place
 
--- the fault is one of these, and none of them is before it
-pub record IsFirst (f : NameFault) (all : List NameFault) : Type 0 where
-  pub among : Contains all f
-  pub first : (g : NameFault) → Contains all g → is_before g f ≡ false
+-- the one of two faults that is answered, of which the first was found first
+abbrev pub earlier : NameFault → NameFault → NameFault
+earlier = answered.earlier pass place
+
+-- the one of these faults, in the order in which they are found, that is answered
+abbrev pub first : List NameFault → Option NameFault
+first = answered.first pass place
+
+-- the fault is the first of these
+abbrev pub IsFirst : NameFault → List NameFault → Type 0
+IsFirst = answered.IsFirst pass place
 
 -- what a fault says of a script
 abbrev pub Refuses : Tree → NameFault → Type 0
 Refuses tree fault.NoMemory = ⊤
-Refuses tree f = IsFirst f (faults tree)
+Refuses tree f = first (faults tree) ≡ Some f
 
 -- the places rise, from one that the first is not below
 abbrev pub AreRising : ℕ → List ℕ → Type 0

@@ -3,4 +3,5 @@ pub mod Classes
 pub mod Scopes
 pub mod Findings
 pub mod Found
+pub mod Answered
 pub mod Faults

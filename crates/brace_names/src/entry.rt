@@ -2,7 +2,7 @@ ghost use Rattle.std.specs.Prelude.{◌≡◌, ℕ, List, [], ◌++◌, map, fla
 ghost use Rattle.brace_tok.specs.declared.kinds.Token.{Token};
 ghost use Rattle.brace_tok.specs.Spells.{Spells};
 ghost use Rattle.brace_syntax.specs.Reads.{Reads};
-ghost use Rattle.brace_names.specs.Faults.{fault_of, binding_of, site_of, assignment_of, too_many, faults_among, faults, bindings, pass, place, is_before, IsFirst, Refuses, AreRising};
+ghost use Rattle.brace_names.specs.Faults.{fault_of, binding_of, site_of, assignment_of, too_many, faults_among, faults, bindings, pass, place, is_before, earlier, first, Refuses, AreRising};
 ghost use Rattle.brace_names.specs.declared.fault.NameFault.TheVariants as fault;
 
 use crate::class::found;
@@ -117,21 +117,21 @@ fn is_before(f: NameFault, g: NameFault) -> bool
     pass(f) < pass(g) || pass(f) == pass(g) && place(f) < place(g)
 }
 
-// The fault that is before the other; of two of one pass and place, the second.
+// The one of two faults that is answered, of which the first was found first.
 fn earlier(f: NameFault, g: NameFault) -> NameFault
-    ensures { result ≡ (if is_before f g then f else g) }
+    ensures { result ≡ earlier f g }
 {
-    if is_before(f, g) { f } else { g }
+    if is_before(g, f) { g } else { f }
 }
 
-// The first of the faults.
+// The fault that is answered.
 fn first(faults: &[NameFault]) -> Option<NameFault>
-    ensures none { IfNone result (faults.now ≡ []) }
-    ensures first { IfSome result (λ f. IsFirst f faults.now) }
+    ensures { result ≡ first faults.now }
 {
-    let mut best = *faults.first()?;
-    for fault in faults {
-        best = earlier(*fault, best);
+    let (head, rest) = faults.split_first()?;
+    let mut best = *head;
+    for fault in rest {
+        best = earlier(best, *fault);
     }
     Some(best)
 }

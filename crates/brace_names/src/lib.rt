@@ -7,6 +7,7 @@ mod entry;
 mod expr;
 mod fault;
 mod finding;
+pub mod laws;
 mod names;
 mod place;
 mod resolved;

@@ -1,4 +1,5 @@
-// What no clause says: the answers of scripts worked by hand, and of scripts at the limits and one past them.
+// What no clause says: the answers of scripts worked by hand, and of scripts at the limits and one
+// past them.
 use crate::{NameFault, resolve};
 use brace_syntax::{Tree, parse};
 use brace_tok::tokens;
@@ -109,7 +110,8 @@ const REFUSED: [(&str, &str); 51] = [
     ),
     (
         "UnknownName(",
-        "class A{$public void run(){foreach(B q:Extent<B>){const fixed m=@q.n;}}public state int n;}class B{$}",
+        "class A{$public void run(){foreach(B q:Extent<B>){const int m=@q.n;}}public state int n;}\
+         class B{$}",
     ),
     (
         "UnknownName(",
@@ -238,7 +240,8 @@ fn repeated(
     Ok(text)
 }
 
-// Fronts, pieces, numbers and backs of scripts; the kind of the fault at the mark, or nothing where there is none.
+// Fronts, pieces, numbers and backs of scripts; the kind of the fault at the mark, or nothing where
+// there is none.
 const LIMITS: [(&str, &str, u32, &str, &str); 17] = [
     ("", "class C#{$}", 16, "", ""),
     ("", "class C#{$}", 16, "class @D{$}", "TooMany(Classes, "),
@@ -354,15 +357,17 @@ fn counts_to_its_limits(rt: HostRuntime) -> Result<(), AllocError> {
 }
 
 // A script whose names have one letter, and each bound name in turn with what it stands for.
-const NAMED: &str =
-    "class A{$public state int n:m+this.n;public effect int m:max;die when n<m;spawn when n<0{n<-n;x<-x;}\
+const NAMED: &str = "class A{$public state int n:m+this.n;public effect int m:max;die when n<m;\
+     spawn when n<0{n<-n;x<-x;}\
      public void run(){const int k=n;if(k<1){const int l=k;m<-l;}else{const int j=k;this.m<-j;}\
-     foreach(B q:Extent<B>){foreach(A p:Extent<A>){q.e<-p.n;}}const int i=k;}}class B{$public effect int f:sum;public effect int e:sum;}";
+     foreach(B q:Extent<B>){foreach(A p:Extent<A>){q.e<-p.n;}}const int i=k;}}\
+     class B{$public effect int f:sum;public effect int e:sum;}";
 
 const BOUND: &str =
-    "m Effect(0) n State(2) n State(2) m Effect(0) n State(2) n State(2) n State(2) x State(0) x State(0) n State(2) k Local(0) \
-     k Local(0) m Effect(0) l Local(1) k Local(0) m Effect(0) j Local(2) B Class(1) B Class(1) A Class(0) A Class(0) q Loop(0) \
-     e Effect(1) p Loop(1) n State(2) k Local(0) ";
+    "m Effect(0) n State(2) n State(2) m Effect(0) n State(2) n State(2) n State(2) x State(0) \
+     x State(0) n State(2) k Local(0) k Local(0) m Effect(0) l Local(1) k Local(0) m Effect(0) \
+     j Local(2) B Class(1) B Class(1) A Class(0) A Class(0) q Loop(0) e Effect(1) \
+     p Loop(1) n State(2) k Local(0) ";
 
 #[test]
 fn tells_what_names_stand_for(rt: HostRuntime) -> Result<(), AllocError> {
