@@ -36,11 +36,11 @@ fn worth(seat: &Seat, e: &Expr, locals: &[Value], ledger: &mut Ledger) -> Option
 
 /// Evaluates a statement, and answers whether it was cut short by a fault.
 #[cycle(walk)]
-fn statement(
+fn statement<'a>(
     alloc: Global,
-    scene: &Scene,
+    scene: &Scene<'a>,
     s: &Stmt,
-    seat: &Seat,
+    seat: &Seat<'a>,
     locals: &mut [Value],
     trail: &mut Vec<Bound>,
     ledger: &mut Ledger,
@@ -87,11 +87,11 @@ fn statement(
 
 /// Evaluates statements in turn up to the first that is cut short, and answers whether one was.
 #[cycle(walk)]
-fn statements(
+fn statements<'a>(
     alloc: Global,
-    scene: &Scene,
+    scene: &Scene<'a>,
     body: &List<Stmt>,
-    seat: &Seat,
+    seat: &Seat<'a>,
     locals: &mut [Value],
     trail: &mut Vec<Bound>,
     ledger: &mut Ledger,
@@ -116,11 +116,11 @@ fn statements(
 
 /// Evaluates a block, sets its constants back, and answers whether it was cut short.
 #[cycle(walk)]
-fn block(
+fn block<'a>(
     alloc: Global,
-    scene: &Scene,
+    scene: &Scene<'a>,
     body: &List<Stmt>,
-    seat: &Seat,
+    seat: &Seat<'a>,
     locals: &mut [Value],
     ledger: &mut Ledger,
 ) -> Result<bool, NoMemory>
@@ -136,19 +136,19 @@ fn block(
 {
     let mut trail = Vec::new(alloc);
     let stopped = statements(alloc, scene, body, seat, locals, &mut trail, ledger)?;
-    unbind(locals, trail.as_slice());
+    unbind(locals, trail);
     Ok(stopped)
 }
 
 /// Evaluates a loop's block at each agent of a class that `this` sees. A fault ends its iteration
 /// alone.
 #[cycle(walk)]
-fn iterations(
+fn iterations<'a>(
     alloc: Global,
-    scene: &Scene,
+    scene: &Scene<'a>,
     class: u32,
     body: &List<Stmt>,
-    seat: &Seat,
+    seat: &Seat<'a>,
     locals: &mut [Value],
     ledger: &mut Ledger,
 ) -> Result<(), NoMemory>
@@ -200,12 +200,12 @@ fn open_block(body: &List<Stmt>, locals: &mut Vec<Value>) -> Result<(), NoMemory
 }
 
 /// Evaluates the query of an agent of a class.
-fn query_of_class(
+fn query_of_class<'a>(
     alloc: Global,
-    scene: &Scene,
+    scene: &Scene<'a>,
     class: &Class,
     tick: u64,
-    this: &Agent,
+    this: &'a Agent,
     ledger: &mut Ledger,
 ) -> Result<(), NoMemory>
     requires scene { IsScene scene.now }
@@ -228,11 +228,11 @@ fn query_of_class(
 }
 
 /// Evaluates the query of an agent; one without a class has none.
-fn query(
+fn query<'a>(
     alloc: Global,
-    scene: &Scene,
+    scene: &Scene<'a>,
     tick: u64,
-    this: &Agent,
+    this: &'a Agent,
     ledger: &mut Ledger,
 ) -> Result<(), NoMemory>
     requires scene { IsScene scene.now }

@@ -1,4 +1,4 @@
-ghost use Rattle.std.specs.Prelude.{◌≡◌, ◌≤◌, ◌<◌, IfOk, IfSome, map, length};
+ghost use Rattle.std.specs.Prelude.{◌≡◌, ◌<◌, List, [], ◌∷◌, ◌++◌, length, slice_set, slice_index_or, pos, IfOk, IfSome, map};
 ghost use Rattle.brace_model.specs.World.{RisesById, class_of};
 ghost use Rattle.brace_model.specs.Query.{Saying};
 ghost use Rattle.brace_model.specs.Total.{identity, joined};
@@ -51,6 +51,21 @@ fn joined(comb: Comb, total: i128, v: Value) -> Option<i128>
         Comb::Min => Some(total.min(n)),
         Comb::Max | Comb::Or => Some(total.max(n)),
         Comb::Count => total.checked_add(1),
+    }
+}
+
+/// Joins one more value to the total at a place.
+fn join_at(totals: &mut [i128], at: usize, comb: Comb, v: Value) -> Result<(), NoMemory>
+    requires { at < length totals.old }
+    ensures { IfOk result (λ _. totals.new
+        ≡ slice_set totals.old at (joined comb (slice_index_or totals.old at (pos 0)) v)) }
+{
+    match joined(comb, totals[at], v) {
+        Some(total) => {
+            totals[at] = total;
+            Ok(())
+        }
+        None => Err(NoMemory),
     }
 }
 
@@ -117,7 +132,7 @@ impl<'a> Scene<'a> {
         };
         let at = self.starts[i].saturating_add(effect as usize);
         if at < totals.len() {
-            totals[at] = joined(target.comb, totals[at], v).ok_or(NoMemory)?;
+            join_at(totals, at, target.comb, v)?;
         }
         Ok(())
     }

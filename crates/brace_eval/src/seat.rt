@@ -46,11 +46,11 @@ pub fn bind(
     Ok(())
 }
 
-/// Sets back all constants of a trail.
-pub fn unbind(locals: &mut [Value], trail: &[Bound])
-    ensures { locals.new ≡ undone trail.now locals.old }
+/// Sets back all constants of a trail, the last one bound first.
+pub fn unbind(locals: &mut [Value], mut trail: Vec<Bound>)
+    ensures { locals.new ≡ undone trail.items locals.old }
 {
-    for bound in trail.iter().rev() {
+    while let Some(bound) = trail.pop() {
         if bound.place < locals.len() {
             locals[bound.place] = bound.before;
         }

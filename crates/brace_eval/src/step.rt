@@ -33,10 +33,11 @@ impl Nexts {
         ensures living { IfOk result (λ _. self.new.living.items ≡ with_one self.old.living.items left.agent) }
         ensures born { IfOk result (λ _. self.new.born.items ≡ with_one self.old.born.items left.child) }
     {
-        if let Some(agent) = left.agent {
+        let Left { agent, child } = left;
+        if let Some(agent) = agent {
             self.living.push(agent)?;
         }
-        if let Some(child) = left.child {
+        if let Some(child) = child {
             self.born.push(child)?;
         }
         Ok(())
@@ -44,12 +45,12 @@ impl Nexts {
 }
 
 /// What all agents leave, each with its own totals, or the least fault of their updates.
-fn updates(
+fn updates<'a>(
     alloc: Global,
     program: &Program,
     tick: u64,
-    agents: &[Agent],
-    totals: &[i128],
+    agents: &'a [Agent],
+    totals: &'a [i128],
     drawer: &mut Drawer,
 ) -> Result<Nexts, StepFault>
     requires ticks { tick ≤ 2 ^ 32 }

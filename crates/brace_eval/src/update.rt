@@ -212,12 +212,12 @@ fn child(
 }
 
 /// What an agent of a class leaves, with its own totals, or the fault of its update.
-fn left_of_class(
+fn left_of_class<'a>(
     alloc: Global,
     class: &Class,
     tick: u64,
-    a: &Agent,
-    totals: &[i128],
+    a: &'a Agent,
+    totals: &'a [i128],
     drawer: &mut Drawer,
 ) -> Result<Left, StepFault>
     requires ticks { tick ≤ 2 ^ 32 }
@@ -267,12 +267,12 @@ fn update_fault(tick: u64, a: &Agent, stop: Stop) -> Fault
 
 /// What an agent leaves, with its own totals, or the fault of its update. One without a class stays
 /// as it is.
-pub fn left_by(
+pub fn left_by<'a>(
     alloc: Global,
     program: &Program,
     tick: u64,
-    a: &Agent,
-    totals: &[i128],
+    a: &'a Agent,
+    totals: &'a [i128],
     drawer: &mut Drawer,
 ) -> Result<Left, StepFault>
     requires ticks { tick ≤ 2 ^ 32 }
