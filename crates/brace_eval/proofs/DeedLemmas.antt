@@ -24,44 +24,68 @@ followed-silent d true e = rw e refl
 followed-silent d false e =
     let said = append-nil d.said in
     let faults = append-nil d.faults in
-    rw e (λ i. record { said = said i; faults = faults i; stopped = sym e i; scope = d.scope })
+    let plain : Deed = record { said = d.said ++ []; faults = d.faults ++ []; stopped = false; scope = d.scope } in
+    let first : followed_by d silent ≡ plain = rw e refl in
+    let second : plain ≡ d = λ i. record { said = said i; faults = faults i; stopped = sym e i; scope = d.scope } in
+    first ∙ second
+
+-- what was done before stands before what is done then
+abbrev after : Deed → Deed → Deed
+after d next = record next { said = d.said ++ next.said; faults = d.faults ++ next.faults }
+
+followed-going : (d : Deed) (f : Scope → Deed) → d.stopped ≡ false → followed_by d f ≡ after d (f d.scope)
+followed-going d f e = rw e refl
+
+followed-stopped : (d : Deed) (f : Scope → Deed) → d.stopped ≡ true → followed_by d f ≡ d
+followed-stopped d f e = rw e refl
+
+after-after : (c d e : Deed) → after (after c d) e ≡ after c (after d e)
+after-after c d e =
+    let said = append_assoc c.said d.said e.said in
+    let faults = append_assoc c.faults d.faults e.faults in
+    λ i. record { said = said i; faults = faults i; stopped = e.stopped; scope = e.scope }
 
 followed-assoc : (d : Deed) (f g : Scope → Deed) (b : Bool) → d.stopped ≡ b → (c : Bool) → (f d.scope).stopped ≡ c
     → followed_by (followed_by d f) g ≡ followed_by d (λ s. followed_by (f s) g)
-followed-assoc d f g true e c h = rw (e, e) refl
-followed-assoc d f g false e true h = rw (e, h) refl
+followed-assoc d f g true e c h =
+    ap (λ (x : Deed). followed_by x g) (followed-stopped d f e) ∙ followed-stopped d g e
+    ∙ sym (followed-stopped d (λ s. followed_by (f s) g) e)
+followed-assoc d f g false e true h =
+    ap (λ (x : Deed). followed_by x g) (followed-going d f e) ∙ followed-stopped (after d (f d.scope)) g h
+    ∙ ap (after d) (sym (followed-stopped (f d.scope) g h))
+    ∙ sym (followed-going d (λ s. followed_by (f s) g) e)
 followed-assoc d f g false e false h =
-    let said = append_assoc d.said (f d.scope).said (g (f d.scope).scope).said in
-    let faults = append_assoc d.faults (f d.scope).faults (g (f d.scope).scope).faults in
-    rw (e, h) (λ i. record { said = said i; faults = faults i; stopped = (g (f d.scope).scope).stopped; scope = (g (f d.scope).scope).scope })
+    ap (λ (x : Deed). followed_by x g) (followed-going d f e) ∙ followed-going (after d (f d.scope)) g h
+    ∙ after-after d (f d.scope) (g (f d.scope).scope)
+    ∙ ap (after d) (sym (followed-going (f d.scope) g h))
+    ∙ sym (followed-going d (λ s. followed_by (f s) g) e)
+
+-- two ways to go on that agree in the scope that is left
+followed-same : (d : Deed) (f g : Scope → Deed) (b : Bool) → d.stopped ≡ b → f d.scope ≡ g d.scope
+    → followed_by d f ≡ followed_by d g
+followed-same d f g true e same = followed-stopped d f e ∙ sym (followed-stopped d g e)
+followed-same d f g false e same = followed-going d f e ∙ ap (after d) same ∙ sym (followed-going d g e)
 
 -- a block and one statement more
 pub block-snoc : (fs : List (Scope → Deed)) (f : Scope → Deed) (scope : Scope)
     → block (fs ++ f ∷ []) scope ≡ followed_by (block fs scope) f
 block-snoc [] f scope = followed-silent (f scope) _ refl
 block-snoc (h ∷ fs) f scope =
-    continue (h scope) (h scope).stopped refl
+    followed-same (h scope) (block (fs ++ f ∷ [])) (λ s. followed_by (block fs s) f) _ refl (block-snoc fs f (h scope).scope)
     ∙ sym (followed-assoc (h scope) (block fs) f _ refl _ refl)
-  where
-    continue : (d : Deed) (b : Bool) → d.stopped ≡ b
-        → followed_by d (block (fs ++ f ∷ [])) ≡ followed_by d (λ s. followed_by (block fs s) f)
-    continue d true e = rw e refl
-    continue d false e =
-        let next = block-snoc fs f d.scope in
-        rw e (ap (λ (n : Deed). record n { said = d.said ++ n.said; faults = d.faults ++ n.faults }) next)
+
+cut_short : (d : Deed) (f g : Scope → Deed) (b : Bool) → d.stopped ≡ b → (followed_by d g).stopped ≡ true
+    → ((g d.scope).stopped ≡ true → f d.scope ≡ g d.scope) → followed_by d f ≡ followed_by d g
+cut_short d f g true e h same = followed-stopped d f e ∙ sym (followed-stopped d g e)
+cut_short d f g false e h same =
+    followed-same d f g false e (same (sym (ap (λ (x : Deed). x.stopped) (followed-going d g e)) ∙ h))
 
 -- a block that is cut short does nothing further
 pub block-stopped : (fs gs : List (Scope → Deed)) (scope : Scope) → (block fs scope).stopped ≡ true
     → block (fs ++ gs) scope ≡ block fs scope
-block-stopped [] gs scope e = absurd (cc)
-block-stopped (h ∷ fs) gs scope e = continue (h scope) (h scope).stopped refl e
-  where
-    continue : (d : Deed) (b : Bool) → d.stopped ≡ b → (followed_by d (block fs)).stopped ≡ true
-        → followed_by d (block (fs ++ gs)) ≡ followed_by d (block fs)
-    continue d true e h = rw e refl
-    continue d false e h =
-        let next = block-stopped fs gs d.scope (rw e at h) in
-        rw e (ap (λ (n : Deed). record n { said = d.said ++ n.said; faults = d.faults ++ n.faults }) next)
+block-stopped [] gs scope e = absurd (let no : false ≡ true = e in cc)
+block-stopped (h ∷ fs) gs scope e =
+    cut_short (h scope) (block (fs ++ gs)) (block fs) _ refl e (block-stopped fs gs (h scope).scope)
 
 -- ---- ledgers
 
@@ -180,19 +204,15 @@ pub record BlockStep (scene : Scene) (fs : List (Scope → Deed)) (start : Scope
   pub stopped : (block fs start).stopped ≡ last.stopped
   pub scope : (block fs start).scope ≡ last.scope
 
-followed-going : (d : Deed) (f : Scope → Deed) → d.stopped ≡ false
-    → followed_by d f ≡ record (f d.scope) { said = d.said ++ (f d.scope).said; faults = d.faults ++ (f d.scope).faults }
-followed-going d f e = rw e refl
-
 pub block-step : (scene : Scene) (fs gs : List (Scope → Deed)) (f : Scope → Deed) (start here : Scope) (a b c : Ledger)
     → gs ≡ fs ++ f ∷ [] → (block fs start).stopped ≡ false → (block fs start).scope ≡ here
     → NotesDeed scene (block fs start) a b → NotesDeed scene (f here) b c
     → BlockStep scene gs start (f here) a c
 block-step scene fs gs f start here a b c more going at first second =
     let d = block fs start in
-    let next : Scope → Deed = λ s. record (f s) { said = d.said ++ (f s).said; faults = d.faults ++ (f s).faults } in
-    let whole : block gs start ≡ next here =
-    ap (λ (hs : List (Scope → Deed)). block hs start) more ∙ block-snoc fs f start ∙ followed-going d f going ∙ ap next at in
+    let whole : block gs start ≡ after d (f here) =
+    ap (λ (hs : List (Scope → Deed)). block hs start) more ∙ block-snoc fs f start ∙ followed-going d f going
+    ∙ ap (λ (s : Scope). after d (f s)) at in
     record {
       noted = subst (λ (e : Deed). NotesDeed scene e a c) (sym whole)
           (notes-then scene d.said (f here).said d.faults (f here).faults a b c first second);

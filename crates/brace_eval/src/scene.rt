@@ -55,10 +55,10 @@ fn joined(comb: Comb, total: i128, v: Value) -> Option<i128>
 }
 
 /// Joins one more value to the total at a place.
-fn join_at(totals: &mut [i128], at: usize, comb: Comb, v: Value) -> Result<(), NoMemory>
-    requires { at < length totals.old }
-    ensures { IfOk result (λ _. totals.new
-        ≡ slice_set totals.old at (joined comb (slice_index_or totals.old at (pos 0)) v)) }
+fn join_at(totals: &mut Vec<i128>, at: usize, comb: Comb, v: Value) -> Result<(), NoMemory>
+    requires { at < length totals.old.items }
+    ensures { IfOk result (λ _. totals.new.items
+        ≡ slice_set totals.old.items at (joined comb (slice_index_or totals.old.items at (pos 0)) v)) }
 {
     match joined(comb, totals[at], v) {
         Some(total) => {

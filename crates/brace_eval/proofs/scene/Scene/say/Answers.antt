@@ -1,4 +1,4 @@
-use Rattle.std.proofs.Common.{◌≡◌, ◌∙◌, sym, ap, subst, ℕ, ◌<◌, ◌+◌, List, [], length, take, get_or, Option, Some, None, Err, Ok, arith, ℤ, pos}
+use Rattle.std.proofs.Common.{◌≡◌, ◌∙◌, sym, ap, subst, ℕ, ◌<◌, ◌+◌, List, [], length, take, get_or, set, Option, Some, None, Err, Ok, arith, ℤ, pos}
 use Rattle.std.specs.Prelude.{slice_get, option_copied}
 use Rattle.std.specs.List.Sorted.{IsBinarySearchResult}
 use Rattle.std.specs.Ordering.{nat_cmp}
@@ -6,6 +6,7 @@ use Rattle.brace_model.specs.declared.program.Effect.{Effect}
 use Rattle.brace_model.specs.declared.world.Agent.{Agent}
 use Rattle.brace_model.specs.World.{class_of}
 use Rattle.brace_model.specs.Query.{Saying}
+use Rattle.brace_model.specs.Total.{joined}
 use Rattle.brace_eval.specs.inner.Tables.{effects_in, table_of}
 use Rattle.brace_eval.proofs.TableLemmas.{item-some, item-none, search-none, search-some, table-nobody, table-past, table-room, table-hit}
 use Rattle.brace_eval.proofs.scene.Scene.say.Goals as goal
@@ -68,4 +69,6 @@ returns-in_ok-join_at c said is =
     let small = c.args.totals.now.small in
     let same : c.saturating_add-at.result ≡ length (table_of program [] (take c.in-Ok.i agents)) + c.args.effect = grind (arith, room, len, at, c.len.ensures, c.saturating_add-at.ensures, c.args.totals.now.ok, small) in
     let hit = table-hit program said s agents c.in-Ok.i c.index-self-i.result le c.requires.rises id c.in-Some.target.now c.saturating_add-at.result has same in
-    ?
+    c.in_ok-join_at.ensures
+    ∙ ap (λ (l : List ℤ). set l c.saturating_add-at.result (joined c.in-Some.target.now.comb (get_or l c.saturating_add-at.result (pos 0)) c.args.v)) is
+    ∙ sym hit
