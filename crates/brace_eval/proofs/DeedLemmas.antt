@@ -1,6 +1,7 @@
 -- What a block does, cut at a statement, and ledgers that stand for it.
 use Rattle.std.proofs.Common.{◌≡◌, ◌∙◌, sym, refl, ap, subst, ℕ, suc, ◌+◌, ◌<◌, ◌≤◌, List, [], ◌∷◌, ◌++◌, true, false, Bool, length, take, get_or, map, Option, Some, None, Result, Ok, Err, arith, add-one, append_assoc, flat_map}
 use Rattle.std.specs.List.{filter}
+use Rattle.std.specs.Prelude.{IfOk}
 use Rattle.std.specs.Result.{result_ok}
 use Rattle.std.proofs.lemmas.List.{map-append, append-nil, take_all}
 use Rattle.std.proofs.lemmas.List.Elements.{filter-append}
@@ -8,13 +9,15 @@ use Rattle.std.proofs.lemmas.Grind.{flat_map-append}
 use Rattle.std.proofs.lemmas.List.Sums.{fold-append}
 use Rattle.std.proofs.Math.Seq.{take-suc}
 use Rattle.brace_model.specs.declared.program.Value.{Value}
+use Rattle.brace_model.specs.declared.program.Value.TheVariants.{Int, Fixed, Flag}
 use Rattle.brace_model.specs.declared.fault.Fault.{Fault}
 use Rattle.brace_model.specs.declared.world.Agent.{Agent}
 use Rattle.brace_model.specs.FaultOrder.{least, earlier, with_earlier}
 use Rattle.brace_model.specs.Value.{Scope, Worth}
-use Rattle.brace_model.specs.Query.{Saying, Deed, silent, deed_of, halted, followed_by, block}
+use Rattle.brace_model.specs.Query.{Saying, Deed, silent, deed_of, halted, followed_by, block, chosen}
 use Rattle.brace_eval.specs.declared.scene.Scene.{Scene}
 use Rattle.brace_eval.specs.declared.ledger.Ledger.{Ledger}
+use Rattle.brace_eval.specs.inner.Walks.{is_true}
 use Rattle.brace_eval.specs.inner.Tables.{Keeps, Notes, NotesDeed}
 
 -- ---- blocks
@@ -234,3 +237,20 @@ iterated-step scene scope ds es d a b c more first second =
     subst (λ (xs : List Saying). Notes scene xs (flat_map (λ (e : Deed). e.faults) es) a c) (sym said)
     (subst (λ (gs : List Fault). Notes scene (flat_map (λ (e : Deed). e.said) ds ++ d.said) gs a c) (sym faults)
     (notes-then scene _ d.said _ d.faults a b c first second))
+
+pub if_ok : {T E : Type 0} (r : Result T E) (P Q : T → Type 0) → ((x : T) → P x → Q x) → IfOk r P → IfOk r Q
+if_ok (Ok x) P Q f h = f x h
+if_ok (Err e) P Q f h = h
+
+-- a value chooses by whether it is true
+pub chosen-first : (v : Value) (a b : Deed) → is_true v ≡ true → chosen v a b ≡ a
+chosen-first (Int n) a b e = absurd (cc)
+chosen-first (Fixed n) a b e = absurd (cc)
+chosen-first (Flag true) a b e = refl
+chosen-first (Flag false) a b e = absurd (cc)
+
+pub chosen-second : (v : Value) (a b : Deed) → is_true v ≡ false → chosen v a b ≡ b
+chosen-second (Int n) a b e = refl
+chosen-second (Fixed n) a b e = refl
+chosen-second (Flag true) a b e = absurd (cc)
+chosen-second (Flag false) a b e = refl

@@ -1,3 +1,5 @@
 pub mod TableLemmas
 pub mod DeedLemmas
 pub mod TrailLemmas
+pub mod PlaceLemmas
+pub mod StatementEquations

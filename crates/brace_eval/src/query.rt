@@ -1,6 +1,6 @@
-ghost use Rattle.std.specs.Prelude.{◌≡◌, ◌++◌, ◌≤◌, ◌^◌, [], map, sum, replicate, false, Some, IfOk};
+ghost use Rattle.std.specs.Prelude.{◌≡◌, ◌++◌, ◌≤◌, ◌^◌, [], map, sum, replicate, false, ◌&&◌, ◌==◌, Some, IfOk};
 ghost use Rattle.std.specs.Result.{result_ok};
-ghost use Rattle.brace_model.specs.World.{no_value};
+ghost use Rattle.brace_model.specs.World.{no_value, sees};
 ghost use Rattle.brace_model.specs.Value.{value};
 ghost use Rattle.brace_model.specs.Query.{silent, deed_of, statement, block, iterated, seen_by, inside, constants, query_in, query_of, said_in, query_faults};
 ghost use Rattle.brace_eval.specs.declared.scene.Scene.{Scene};
@@ -9,8 +9,8 @@ ghost use Rattle.brace_eval.specs.inner.Walks.{scope_at, undone};
 
 use crate::ledger::Ledger;
 use crate::scene::Scene;
-use crate::seat::{Bound, Seat, bind, unbind};
-use brace_model::{Agent, Class, Expr, Stmt, Value, class_of, sees};
+use crate::seat::{Bound, Seat, bind, is_true, unbind};
+use brace_model::{Agent, Class, Expr, Program, Stmt, Value, class_of, sees};
 use brace_num::{List, NoMemory};
 use std::alloc::Global;
 
@@ -32,6 +32,13 @@ fn worth(seat: &Seat, e: &Expr, locals: &[Value], ledger: &mut Ledger) -> Option
             None
         }
     }
+}
+
+/// Whether a loop over a class takes an agent.
+fn is_taken(program: &Program, class: u32, this: &Agent, other: &Agent) -> bool
+    ensures { result ≡ (other.now.class == class) && sees program.now this.now other.now }
+{
+    other.class == class && sees(program, this, other)
 }
 
 /// Evaluates a statement, and answers whether it was cut short by a fault.
@@ -67,8 +74,13 @@ fn statement<'a>(
             None => Ok(true),
         },
         Stmt::If(condition, a, b) => match worth(seat, condition, locals, ledger) {
-            Some(Value::Flag(true)) => block(alloc, scene, a, seat, locals, ledger),
-            Some(_) => block(alloc, scene, b, seat, locals, ledger),
+            Some(v) => {
+                if is_true(v) {
+                    block(alloc, scene, a, seat, locals, ledger)
+                } else {
+                    block(alloc, scene, b, seat, locals, ledger)
+                }
+            }
             None => Ok(true),
         },
         Stmt::Foreach(class, body, _) => {
@@ -163,7 +175,7 @@ fn iterations<'a>(
     ensures seed { ledger.new.drawer.seed ≡ ledger.old.drawer.seed }
 {
     for other in scene.agents {
-        if other.class == class && sees(scene.program, seat.this, other) {
+        if is_taken(scene.program, class, seat.this, other) {
             block(alloc, scene, body, &seat.inside(other), locals, ledger)?;
         }
     }

@@ -2,7 +2,7 @@ ghost use Rattle.std.specs.Prelude.{◌≡◌, ◌≤◌, ◌^◌, ℕ, List, If
 ghost use Rattle.brace_model.specs.declared.program.Value.{Value};
 ghost use Rattle.brace_model.specs.Value.{agent_of, value};
 ghost use Rattle.brace_model.specs.Query.{inside, query_fault};
-ghost use Rattle.brace_eval.specs.inner.Walks.{scope_at, undone};
+ghost use Rattle.brace_eval.specs.inner.Walks.{is_true, scope_at, undone};
 
 use crate::expression::eval;
 use brace_draw::Drawer;
@@ -23,6 +23,16 @@ pub struct Seat<'a> {
 pub struct Bound {
     pub place: usize,
     pub before: Value,
+}
+
+/// Whether a value is the flag `true`.
+pub fn is_true(v: Value) -> bool
+    ensures { result ≡ is_true v }
+{
+    match v {
+        Value::Flag(b) => b,
+        _ => false,
+    }
 }
 
 /// Binds a constant, and notes what it was.

@@ -5,10 +5,11 @@ ghost use Rattle.brace_model.specs.World.{class_of};
 ghost use Rattle.brace_model.specs.Value.{value};
 ghost use Rattle.brace_model.specs.Next.{ruled, condition_in, holds, spawns_in, gifts_in, rules_in, moved, changed, with_gifts, child_in, values_of, update_fault, next_in};
 ghost use Rattle.brace_eval.specs.Scopes.{scope_of};
-ghost use Rattle.brace_eval.specs.inner.Updates.{is_true, with_stop, worths, gift_worths, Meets, Reaches};
+ghost use Rattle.brace_eval.specs.inner.Updates.{with_stop, worths, gift_worths, Meets, Reaches};
 
 use crate::expression::eval;
 use crate::fault::StepFault;
+use crate::seat::is_true;
 use brace_draw::Drawer;
 use brace_model::{
     Agent, Class, Env, Expr, Fault, Gift, Phase, Program, State, Stop, Value, class_of, number,
@@ -98,7 +99,7 @@ fn condition(
 {
     match e {
         None => false,
-        Some(e) => is_true(kept(first, eval(e, env, drawer))),
+        Some(e) => is_held(first, eval(e, env, drawer)),
     }
 }
 
@@ -124,11 +125,15 @@ fn gifts(
     Ok(given)
 }
 
-/// Whether there is a value, and it is true.
-fn is_true(v: Option<Value>) -> bool
-    ensures { result ≡ is_true v }
+/// Whether the outcome of a condition is `true`; a stop is kept.
+fn is_held(first: &mut Option<Stop>, outcome: Result<Value, Stop>) -> bool
+    ensures held { result ≡ holds outcome }
+    ensures met { Meets (outcome ∷ []) first.old first.new }
 {
-    v == Some(Value::Flag(true))
+    match kept(first, outcome) {
+        Some(v) => is_true(v),
+        None => false,
+    }
 }
 
 /// A coordinate's new value, moved into reach of its old one.
@@ -202,7 +207,7 @@ fn child(
     let Some(spawn) = &class.spawn else {
         return Ok(None);
     };
-    if !is_true(kept(first, eval(&spawn.when, env, drawer))) {
+    if !is_held(first, eval(&spawn.when, env, drawer)) {
         return Ok(None);
     }
     let given = gifts(alloc, spawn.gifts.as_slice(), env, drawer, first)?;

@@ -28,11 +28,6 @@ worths scope states values = map (λ p. ruled scope p.0.rule p.1) (zip states va
 abbrev pub gift_worths : Scope → List Gift → List Worth
 gift_worths scope gifts = map (λ g. value g.value scope) gifts
 
--- there is a value, and it is true
-abbrev pub is_true : Option Value → Bool
-is_true (Some (Flag true)) = true
-is_true _ = false
-
 -- no class has a negative reach
 abbrev pub Reaches : Program → Type 0
 Reaches program =
