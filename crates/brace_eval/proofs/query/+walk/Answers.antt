@@ -9,6 +9,7 @@ use Rattle.brace_model.specs.declared.world.Agent.{Agent}
 use Rattle.brace_model.specs.World.{sees}
 use Rattle.brace_model.specs.Value.{value, agent_of, Scope}
 use Rattle.brace_model.specs.Query.{Deed, silent, bound, deed_of, saying, closed, chosen, block, statement, inside, iterated}
+use Rattle.brace_eval.specs.declared.ledger.Ledger.{Ledger}
 use Rattle.brace_eval.specs.inner.Tables.{NotesDeed, Notes}
 use Rattle.brace_eval.specs.inner.Walks.{scope_at}
 use Rattle.brace_eval.proofs.StatementEquations.{does-Const, does-If, does-Foreach, does-Assign}
@@ -122,9 +123,34 @@ iterations-loop-other-preserved t c =
     let p : Agent → Bool = λ b. (b.class == c.args.class) && sees scene.program.now c.args.seat.now.this.now b in
     let agents = scene.agents.now in
     let i = c.loop-other.other-index in
+    let a = c.other-item.result in
+    let old = c.args.ledger.now in
+    let es = map deed (filter p (take (i + 1) agents)) in
     elim c.if-is_taken.branch [
-      | iterations-then-is_taken+in_ok-block w ↦ ?
-      | iterations-else-is_taken w ↦ ?
+      | iterations-then-is_taken+in_ok-block w ↦
+          let same : scope_at w.inside.result c.loop-other.ledger.drawer.seed c.loop-other.locals ≡ inside here a =
+          w.inside.ensures.scope c.loop-other.ledger.drawer.seed c.loop-other.locals
+          ∙ ap (λ (n : ℕ). inside (scope_at c.args.seat.now n c.loop-other.locals) a) c.loop-other.invariant.seed
+          ∙ ap (λ (l : List Value). inside (scope_at c.args.seat.now old.drawer.seed l) a) c.loop-other.invariant.locals in
+          let second : NotesDeed scene (deed a) c.loop-other.ledger w.block.new.ledger =
+          subst (λ (s : Scope). NotesDeed scene (block (map st c.args.body.now) s) c.loop-other.ledger w.block.new.ledger) same w.in_ok-block.ensures.noted in
+          let noted : NotesDeed scene (iterated here es) old w.block.new.ledger =
+          iterated-step scene here (map deed (filter p (take i agents))) es (deed a) old c.loop-other.ledger w.block.new.ledger
+              (seen-more p deed agents i a c.loop-other-test.true c.other-item.is (sym c.is_taken.ensures ∙ w.if-is_taken.true)) c.loop-other.invariant.noted second in
+          record {
+            noted = subst (λ (l : Ledger). NotesDeed scene (iterated here es) old l) (sym w.ledger-is) noted;
+            locals = w.locals-is ∙ w.in_ok-block.ensures.locals ∙ c.loop-other.invariant.locals;
+            seed = ap (λ (l : Ledger). l.drawer.seed) w.ledger-is ∙ w.in_ok-block.ensures.seed ∙ c.loop-other.invariant.seed;
+          }
+      | iterations-else-is_taken w ↦
+          let noted : NotesDeed scene (iterated here es) old c.loop-other.ledger =
+          subst (λ (ds : List Deed). NotesDeed scene (iterated here ds) old c.loop-other.ledger)
+              (sym (unseen-more p deed agents i a c.loop-other-test.true c.other-item.is (sym c.is_taken.ensures ∙ w.if-is_taken.false))) c.loop-other.invariant.noted in
+          record {
+            noted = subst (λ (l : Ledger). NotesDeed scene (iterated here es) old l) (sym w.ledger-is) noted;
+            locals = w.locals-is ∙ c.loop-other.invariant.locals;
+            seed = ap (λ (l : Ledger). l.drawer.seed) w.ledger-is ∙ c.loop-other.invariant.seed;
+          }
     ]
 
 pub statements-returns-then-branch-clause-noted : goal.statements-returns-then-branch-clause-noted
