@@ -1,6 +1,6 @@
-ghost use Rattle.std.specs.Prelude.{◌≡◌, ◌+◌, ◌-◌, ◌^◌, ◌≤◌, length, min, option_copied, IfOk};
+ghost use Rattle.std.specs.Prelude.{◌≡◌, ◌+◌, ◌-◌, ◌^◌, ◌≤◌, length, min, nat_lt, ◌||◌, option_copied, IfOk};
 ghost use Rattle.brace_model.specs.World.{world_with};
-ghost use Rattle.brace_model.specs.Step.{count_values, first_too_far, spawn_site, birth_fault, grown};
+ghost use Rattle.brace_model.specs.Step.{most_agents, most_values, greatest_id, count_values, first_too_far, spawn_site, birth_fault, grown};
 
 use brace_model::{Agent, Fault, Phase, Program, class_of};
 use brace_num::{Kind, NoMemory};
@@ -21,19 +21,27 @@ fn count_values(agents: &[Agent]) -> usize
     count
 }
 
+/// Whether these are too many agents, or values of their states, or an id is too great.
+fn is_too_far(agents: usize, values: usize, id: u64) -> bool
+    ensures { result ≡ (nat_lt most_agents agents || (nat_lt most_values values || nat_lt greatest_id id)) }
+{
+    agents > MOST_AGENTS || values > MOST_VALUES || id > GREATEST_ID
+}
+
 /// The child of the least rank with which a world has too many agents or values, or an id too great.
 pub fn first_too_far<'a>(living: &[Agent], next: u64, born: &'a [Agent]) -> Option<&'a Agent>
     ensures { option_copied result ≡ first_too_far living.now next born.now }
 {
+    let mut agents = living.len();
     let mut values = count_values(living);
-    for i in 0..born.len() {
-        values = values.saturating_add(born[i].states.as_slice().len());
-        if living.len().saturating_add(i) >= MOST_AGENTS
-            || values > MOST_VALUES
-            || next.saturating_add(i as u64) > GREATEST_ID
-        {
-            return Some(&born[i]);
+    let mut id = next;
+    for child in born {
+        agents = agents.saturating_add(1);
+        values = values.saturating_add(child.states.as_slice().len());
+        if is_too_far(agents, values, id) {
+            return Some(child);
         }
+        id = id.saturating_add(1);
     }
     None
 }
@@ -70,13 +78,14 @@ fn spawn_site(program: &Program, a: &Agent) -> u32
 pub fn grown(
     mut living: Vec<Agent>,
     next: u64,
-    born: Vec<Agent>,
+    mut born: Vec<Agent>,
 ) -> Result<(Vec<Agent>, u64), NoMemory>
     requires { next + length born.items ≤ 2 ^ 63 }
     ensures { IfOk result (λ all. world_with all.0.items all.1 ≡ grown next living.items born.items) }
 {
     let mut id = next;
-    for child in born {
+    born.reverse();
+    while let Some(child) = born.pop() {
         living.push(Agent {
             class: child.class,
             id,

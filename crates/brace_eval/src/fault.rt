@@ -1,3 +1,5 @@
+ghost use Rattle.std.specs.Prelude.{◌≡◌};
+
 use brace_model::Fault;
 use brace_num::NoMemory;
 use std::alloc::AllocFailed;

@@ -1,11 +1,11 @@
-ghost use Rattle.std.specs.Prelude.{◌≡◌, ◌≤◌, ◌^◌, ◌∷◌, [], pos, ◌≤ℤ◌, IfOk, IfErr, Ok, Err, Some, None};
+ghost use Rattle.std.specs.Prelude.{◌≡◌, ◌≤◌, ◌^◌, ◌∷◌, [], pos, ◌≤ℤ◌, IfOk, IfErr, Ok, Err, Some, None, slice_set};
 
 ghost use Rattle.std.specs.Result.{result_ok};
 ghost use Rattle.brace_model.specs.World.{class_of};
 ghost use Rattle.brace_model.specs.Value.{value};
 ghost use Rattle.brace_model.specs.Next.{ruled, condition_in, holds, spawns_in, gifts_in, rules_in, moved, changed, with_gifts, child_in, values_of, update_fault, next_in};
 ghost use Rattle.brace_eval.specs.Scopes.{scope_of};
-ghost use Rattle.brace_eval.specs.inner.Updates.{with_stop, worths, gift_worths, Meets, Reaches};
+ghost use Rattle.brace_eval.specs.inner.Updates.{with_one, with_stop, worths, gift_worths, Meets, Reaches};
 
 use crate::expression::eval;
 use crate::fault::StepFault;
@@ -62,6 +62,16 @@ fn ruled(rule: &Option<Expr>, old: Value, env: &Env, drawer: &mut Drawer) -> Res
     }
 }
 
+/// Adds a value, where there is one.
+fn add(values: &mut Vec<Value>, v: Option<Value>) -> Result<(), NoMemory>
+    ensures { IfOk result (λ _. values.new.items ≡ with_one values.old.items v) }
+{
+    if let Some(v) = v {
+        values.push(v)?;
+    }
+    Ok(())
+}
+
 /// The values of the rules of states that do not stop.
 fn ruled_states(
     alloc: Global,
@@ -78,9 +88,8 @@ fn ruled_states(
 {
     let mut new = Vec::new(alloc);
     for i in 0..states.len().min(values.len()) {
-        if let Some(value) = kept(first, ruled(&states[i].rule, values[i], env, drawer)) {
-            new.push(value)?;
-        }
+        let outcome = ruled(&states[i].rule, values[i], env, drawer);
+        add(&mut new, kept(first, outcome))?;
     }
     Ok(new)
 }
@@ -118,9 +127,8 @@ fn gifts(
 {
     let mut given = Vec::new(alloc);
     for gift in gifts {
-        if let Some(value) = kept(first, eval(&gift.value, env, drawer)) {
-            given.push(value)?;
-        }
+        let outcome = eval(&gift.value, env, drawer);
+        add(&mut given, kept(first, outcome))?;
     }
     Ok(given)
 }
@@ -166,15 +174,22 @@ fn updated(a: &Agent, class: &Class, mut new: Vec<Value>) -> Agent
     }
 }
 
+/// Puts a value in the place of a state, where there is one.
+fn put(states: &mut [Value], place: u32, v: Value)
+    ensures { states.new ≡ slice_set states.old place v }
+{
+    let at = place as usize;
+    if at < states.len() {
+        states[at] = v;
+    }
+}
+
 /// Puts gifts in the places of some states.
 fn give(states: &mut [Value], gifts: &[Gift], given: &[Value])
     ensures { states.new ≡ with_gifts states.old gifts.now given.now }
 {
     for i in 0..gifts.len().min(given.len()) {
-        let at = gifts[i].state as usize;
-        if at < states.len() {
-            states[at] = given[i];
-        }
+        put(states, gifts[i].state, given[i]);
     }
 }
 
