@@ -5,3 +5,5 @@ pub mod PlaceLemmas
 pub mod StatementEquations
 pub mod UpdateLemmas
 pub mod BirthLemmas
+pub mod StepLemmas
+pub mod NumberLemmas

@@ -97,7 +97,7 @@ row-hit n id (f ∷ effects) (suc k) e xs s same field is =
     ap (λ (l : List Value). total_of f.comb l ∷ totals_from (suc n) id effects (xs ++ s ∷ [])) here
     ∙ ap (λ (l : List ℤ). total_of f.comb (said_to id n xs) ∷ l) rest
 
-row-length : (n id : ℕ) (effects : List Effect) (xs : List Saying)
+pub row-length : (n id : ℕ) (effects : List Effect) (xs : List Saying)
     → length (totals_from n id effects xs) ≡ length effects
 row-length n id [] xs = refl
 row-length n id (e ∷ effects) xs = ap suc (row-length (suc n) id effects xs)

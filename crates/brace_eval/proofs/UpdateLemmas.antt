@@ -13,7 +13,11 @@ use Rattle.brace_model.specs.declared.fault.Stop.{Stop}
 use Rattle.std.specs.Prelude.{option_copied}
 use Rattle.brace_model.specs.declared.job.Env.{Env}
 use Rattle.brace_model.specs.Value.{Worth, Scope}
-use Rattle.brace_model.specs.Next.{earlier_stop, first_stop, values_of}
+use Rattle.std.specs.Prelude.{if◌then◌else◌}
+use Rattle.brace_model.specs.declared.program.Class.{Class}
+use Rattle.brace_model.specs.declared.fault.Fault.{Fault}
+use Rattle.brace_model.specs.declared.world.Agent.{Agent}
+use Rattle.brace_model.specs.Next.{Next, earlier_stop, first_stop, values_of, rules_in, condition_in, spawns_in, gifts_in, update_in, update_fault, unless_stopped, left_by, next_of, holds, changed, child_in}
 use Rattle.brace_eval.specs.inner.Updates.{with_one, with_stop, Meets}
 
 -- the pair at a place, and one pair more
@@ -91,3 +95,29 @@ scope_from env seed = record {
   locals = env.locals.now;
   totals = env.totals.now;
 }
+
+-- ---- an agent of a class
+
+module _ (scope : Scope) (class : Class) (a : Agent) where
+  abbrev ok : Next → Result Next Fault
+  ok n = Ok n
+
+  -- the stop of an update, once all of it was evaluated
+  pub all-met : (b c d : Option Stop) → Meets (rules_in scope class a) None b → Meets (condition_in scope class.die ∷ []) b c
+      → Meets (spawns_in scope class.spawn ∷ gifts_in scope class.spawn) c d → d ≡ first_stop (update_in scope class a)
+  all-met b c d rules dies spawns =
+      let births = spawns_in scope class.spawn ∷ gifts_in scope class.spawn in
+      meets-then (rules_in scope class a) (condition_in scope class.die ∷ births) None b d rules
+          (meets-then (condition_in scope class.die ∷ []) births b c d dies spawns) [] refl
+
+  pub next-stopped : (tick : ℕ) (stop : Stop) → first_stop (update_in scope class a) ≡ Some stop
+      → next_of tick class a scope ≡ Err (update_fault tick a stop)
+  next-stopped tick stop is = ap (λ (s : Option Stop). unless_stopped tick a s (left_by scope class a)) is
+
+  pub next-left : (tick : ℕ) (agent child : Option Agent) → first_stop (update_in scope class a) ≡ None
+      → agent ≡ (if holds (condition_in scope class.die) then None else Some (changed class a (values_of (rules_in scope class a))))
+      → child ≡ child_in scope class a class.spawn
+      → next_of tick class a scope ≡ Ok (record { agent = agent; child = child })
+  next-left tick agent child is lives born =
+      let left : left_by scope class a ≡ record { agent = agent; child = child } = λ i. record { agent = sym lives i; child = sym born i } in
+      ap (λ (s : Option Stop). unless_stopped tick a s (left_by scope class a)) is ∙ ap ok left

@@ -1,4 +1,4 @@
-ghost use Rattle.std.specs.Prelude.{◌≡◌, ◌+◌, ◌-◌, ◌^◌, ◌≤◌, length, min, nat_lt, ◌||◌, option_copied, IfOk};
+ghost use Rattle.std.specs.Prelude.{◌≡◌, ◌+◌, ◌-◌, ◌^◌, ◌≤◌, length, min, nat_lt, ◌||◌, option_copied, IfNone, IfOk};
 ghost use Rattle.brace_model.specs.World.{world_with};
 ghost use Rattle.brace_model.specs.Step.{most_agents, most_values, greatest_id, count_values, first_too_far, spawn_site, birth_fault, grown};
 
@@ -30,7 +30,9 @@ fn is_too_far(agents: usize, values: usize, id: u64) -> bool
 
 /// The child of the least rank with which a world has too many agents or values, or an id too great.
 pub fn first_too_far<'a>(living: &[Agent], next: u64, born: &'a [Agent]) -> Option<&'a Agent>
-    ensures { option_copied result ≡ first_too_far living.now next born.now }
+    requires { next ≤ 2 ^ 63 }
+    ensures first { option_copied result ≡ first_too_far living.now next born.now }
+    ensures fits { IfNone result (next + length born.now ≤ 2 ^ 63) }
 {
     let mut agents = living.len();
     let mut values = count_values(living);

@@ -1,4 +1,4 @@
-ghost use Rattle.std.specs.Prelude.{◌≡◌, ◌≤◌, ◌^◌, ◌∷◌, [], pos, ◌≤ℤ◌, IfOk, IfErr, Ok, Err, Some, None, slice_set};
+ghost use Rattle.std.specs.Prelude.{◌≡◌, ◌≤◌, ◌^◌, ◌∷◌, [], pos, ◌≤ℤ◌, IfOk, IfErr, Ok, Err, Some, None, slice_set, if◌then◌else◌};
 
 ghost use Rattle.std.specs.Result.{result_ok};
 ghost use Rattle.brace_model.specs.World.{class_of};
@@ -174,6 +174,17 @@ fn updated(a: &Agent, class: &Class, mut new: Vec<Value>) -> Agent
     }
 }
 
+/// An agent of a class with its new states, unless it dies.
+fn survivor(dies: bool, a: &Agent, class: &Class, new: Vec<Value>) -> Option<Agent>
+    requires { pos 0 ≤ℤ class.now.reach }
+    ensures { result ≡ (if dies then None else Some (changed class.now a.now new.items)) }
+{
+    if dies {
+        return None;
+    }
+    Some(updated(a, class, new))
+}
+
 /// Puts a value in the place of a state, where there is one.
 fn put(states: &mut [Value], place: u32, v: Value)
     ensures { states.new ≡ slice_set states.old place v }
@@ -264,7 +275,7 @@ fn left_of_class<'a>(
     match first {
         Some(stop) => Err(StepFault::Fault(update_fault(tick, a, stop))),
         None => Ok(Left {
-            agent: if dies { None } else { Some(updated(a, class, new)) },
+            agent: survivor(dies, a, class, new),
             child,
         }),
     }

@@ -5,8 +5,8 @@ use Rattle.std.specs.Prelude.{option_copied}
 use Rattle.brace_eval.proofs.BirthLemmas.{too_far_at, too_far_none, too_far_is}
 use Rattle.brace_eval.proofs.births.first_too_far.Goals as goal
 
-pub returns-then-is_too_far : goal.returns-then-is_too_far
-returns-then-is_too_far c =
+pub returns-then-is_too_far-clause-first : goal.returns-then-is_too_far-clause-first
+returns-then-is_too_far-clause-first c =
     let i = c.loop-child.child-index in
     let here = sym (too_far_is c.args.living.now c.args.born.now i c.child-item.result c.loop-child-test.true c.child-item.is c.args.next c.saturating_add-agents.result c.saturating_add-values.result c.loop-child.id
         (c.saturating_add-agents.ensures ∙ ap (λ (n : ℕ). min (n + 1) 18446744073709551615) c.loop-child.invariant.agents)
@@ -16,5 +16,5 @@ returns-then-is_too_far c =
         ∙ sym c.is_too_far.ensures ∙ c.if-is_too_far.true in
     too_far_at c.args.living.now c.args.next c.args.born.now i c.child-item.result c.loop-child-test.true c.child-item.is c.loop-child.invariant.before here
 
-pub returns : goal.returns
-returns c = sym (too_far_none c.args.living.now c.args.next c.args.born.now (λ r le. c.loop-child.invariant.before r (omega (arith, le, c.loop-child-test.false))))
+pub returns-clause-first : goal.returns-clause-first
+returns-clause-first c = sym (too_far_none c.args.living.now c.args.next c.args.born.now (λ r le. c.loop-child.invariant.before r (omega (arith, le, c.loop-child-test.false))))

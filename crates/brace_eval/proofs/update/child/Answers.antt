@@ -23,9 +23,9 @@ returns-clause-met c =
     let held : holds w ≡ true = ap holds (sym is) ∙ sym c.is_held.ensures.held ∙ c.if-not-is_held.false in
     let first : Meets (w ∷ []) c.args.first.now c.is_held.new.first =
     subst (λ (x : Worth). Meets (x ∷ []) c.args.first.now c.is_held.new.first) is c.is_held.ensures.met in
-    let second : Meets (gift_worths scope spawn.gifts) c.is_held.new.first c.gifts-given.new.first =
-    subst (λ (n : ℕ). Meets (gift_worths (scope_from c.args.env.now n) spawn.gifts) c.is_held.new.first c.gifts-given.new.first) c.eval.ensures.seed
+    let second : Meets (gift_worths scope spawn.gifts) c.is_held.new.first c.gifts.new.first =
+    subst (λ (n : ℕ). Meets (gift_worths (scope_from c.args.env.now n) spawn.gifts) c.is_held.new.first c.gifts.new.first) c.eval.ensures.seed
     (rw c.as_slice.ensures at c.in_ok-given.ensures.met) in
-    let all = meets-then (w ∷ []) (gift_worths scope spawn.gifts) c.args.first.now c.is_held.new.first c.gifts-given.new.first first second in
-    subst (λ (s : Option Spawn). Meets (spawns_in scope s ∷ gifts_in scope s) c.args.first.now c.gifts-given.new.first) (sym c.in-Some.is)
-    (subst (λ (b : Bool). Meets (w ∷ (if b then gift_worths scope spawn.gifts else [])) c.args.first.now c.gifts-given.new.first) (sym held) all)
+    let all = meets-then (w ∷ []) (gift_worths scope spawn.gifts) c.args.first.now c.is_held.new.first c.gifts.new.first first second in
+    subst (λ (s : Option Spawn). Meets (spawns_in scope s ∷ gifts_in scope s) c.args.first.now c.gifts.new.first) (sym c.in-Some.is)
+    (subst (λ (b : Bool). Meets (w ∷ (if b then gift_worths scope spawn.gifts else [])) c.args.first.now c.gifts.new.first) (sym held) all)
