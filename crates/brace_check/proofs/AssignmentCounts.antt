@@ -1,5 +1,5 @@
 -- The checks of names count the assignments that the program has.
-use Rattle.std.proofs.Common.{◌≡◌, refl, sym, ap, subst, ◌∙◌, ℕ, ◌+◌, ◌≤◌, Bool, true, false, List, [], ◌∷◌, ◌++◌, map, flat_map, length, length-append, arith}
+use Rattle.std.proofs.Common.{◌≡◌, refl, sym, ap, subst, ◌∙◌, ℕ, suc, ◌+◌, ◌≤◌, Bool, true, false, List, [], ◌∷◌, ◌++◌, map, flat_map, length, length-append, arith}
 use Rattle.std.specs.Prelude.{Option, Some, None, sum, sum_by, slice_get, unwrap_or, option_to_list, if◌then◌else◌}
 use Rattle.std.proofs.lemmas.List.{append-nil, length-map}
 use Rattle.std.proofs.lemmas.List.Sums.{sum_by-cons, sum_by-append}
@@ -258,7 +258,7 @@ block_count xs n scope k =
 -- the gifts of a `spawn`
 gifts_length : (gifts : List GiftTree) (scope : Scope) (k : ℕ) → length ((gifts_in gifts scope).behind k) ≡ length gifts
 gifts_length [] scope k = refl
-gifts_length (g ∷ gifts) scope k = ap (λ (l : ℕ). 1 + l) (gifts_length gifts scope (k + length (expression g.value scope).sites))
+gifts_length (g ∷ gifts) scope k = ap (λ (l : ℕ). suc l) (gifts_length gifts scope (k + length (expression g.value scope).sites))
 
 gifts_count : (gifts : List GiftTree) (n : scopes.Scope) → count (flat_map (names.gift n) gifts) ≡ length gifts
 gifts_count [] n = nil
@@ -267,7 +267,7 @@ gifts_count (g ∷ gifts) n =
     said_one (names.gift n g) (f.names_field g.state.at g.state (look n.own g.state.text)) g.state.at g.value n 1 refl (field_none g.state.at g.state (look n.own g.state.text)) refl in
     let rest : count (flat_map (names.gift n) gifts) ≡ length gifts = gifts_count gifts n in
     let both : count (names.gift n g ++ flat_map (names.gift n) gifts) ≡ count (names.gift n g) + count (flat_map (names.gift n) gifts) = count-both (names.gift n g) (flat_map (names.gift n) gifts) in
-    let total : count (names.gift n g ++ flat_map (names.gift n) gifts) ≡ 1 + length gifts = omega (arith, here, rest, both) in
+    let total : count (names.gift n g ++ flat_map (names.gift n) gifts) ≡ suc (length gifts) = omega (arith, here, rest, both) in
     total
 
 faults_none : (kind : ℕ → NameFault) (places : List ℕ) → count (f.faults_at kind places) ≡ 0
@@ -290,7 +290,7 @@ module _ (targets : List (ℕ × Target)) (headings : List Heading) (all : Known
   share_count (m.Run block_ at) k =
       let b : List Stmt = (block (map part block_) (outermost targets headings number true)).behind k in
       let h : count (names.block (map names.part block_) (scopes.outermost all own true)) ≡ said b = block_count block_ (scopes.outermost all own true) (outermost targets headings number true) k in
-      let total : count (names.block (map names.part block_) (scopes.outermost all own true)) ≡ (said b + 0) + 0 = omega (arith, h) in
+      let total : count (names.block (map names.part block_) (scopes.outermost all own true)) ≡ (0 + said b) + 0 = omega (arith, h) in
       total
   share_count (m.Die x at) k = none_in x (scopes.outermost all own false)
   share_count (m.Spawn x gifts at) k =
@@ -307,7 +307,7 @@ module _ (targets : List (ℕ × Target)) (headings : List Heading) (all : Known
       let g : count (f.site at) ≡ 0 = one_site at in
       let h : count (names.expression x n) ≡ 0 = none_in x n in
       let l : length ((gifts_in gifts scope).behind j) ≡ length gifts = gifts_length gifts scope j in
-      let total : count (names.expression x n ++ ((given ++ again) ++ f.site at)) ≡ 0 + (length ((gifts_in gifts scope).behind j) + 0) = omega (arith, a, b, c, d, e, g, h, l) in
+      let total : count (names.expression x n ++ ((given ++ again) ++ f.site at)) ≡ 0 + (0 + length ((gifts_in gifts scope).behind j)) = omega (arith, a, b, c, d, e, g, h, l) in
       total
 
   shares_count : (xs : List MemberTree) (k : ℕ) → count (flat_map (names.member all own) xs) ≡ share_said ((shares targets headings number xs).behind k)

@@ -208,6 +208,9 @@ module _ (targets : List (ℕ × Target)) (trees : List ClassTree) (program : Pr
       (all_back (Fine targets) (names.members (known trees) class) (flat_map (names.members (known trees)) classes) fine)
       (nil_back (flat_map (member targets headings number) class.members) (checks.classes_from targets headings (number + 1) classes) clean))
 
+among_all : (trees : List ClassTree) (i : ℕ) (class : ClassTree) → slice_get trees i ≡ Some class → slice_get trees (0 + i) ≡ Some class
+among_all trees i class at = let same : i ≡ 0 + i = omega arith in subst (λ (k : ℕ). slice_get trees k ≡ Some class) same at
+
 -- no more is found than is allowed
 few_found : (places_ : List ℕ) (limit : ℕ) (w : Which) → name_faults.too_many w (slice_get places_ limit) ≡ [] → length places_ ≤ limit
 few_found [] limit w h = omega arith
@@ -241,11 +244,11 @@ declarations_have_none (class ∷ classes) =
     (fault_if_none (has_position class) (NoPosition class.name.at)))
     (declarations_have_none classes)
 
-class_names-map : (targets : List (ℕ × Target)) (headings : List Heading) (number : ℕ) (classes : List ClassTree) (n : ℕ)
-    → map (λ (c : Class). c.name) ((classes_from targets headings number classes).behind n) ≡ map text (map (λ (class : ClassTree). class.name) classes)
-class_names-map targets headings number [] n = refl
-class_names-map targets headings number (class ∷ classes) n =
-    ap (λ (l : List (List ℕ)). class.name.text ∷ l) (class_names-map targets headings (number + 1) classes (n + length (class_of targets headings number class).sites))
+class_names-map : (targets : List (ℕ × Target)) (declared : List Heading) (number : ℕ) (classes : List ClassTree) (n : ℕ)
+    → map (λ (c : Class). c.name) ((classes_from targets declared number classes).behind n) ≡ map text (map (λ (class : ClassTree). class.name) classes)
+class_names-map targets declared number [] n = refl
+class_names-map targets declared number (class ∷ classes) n =
+    ap (λ (l : List (List ℕ)). class.name.text ∷ l) (class_names-map targets declared (number + 1) classes (n + length (class_of targets declared number class).sites))
 
 module _ (src : List ℕ) (r : Resolved) (is : IsResolved src r) (clean : faults r ≡ []) where
   abbrev trees_ : List ClassTree
@@ -309,7 +312,7 @@ module _ (src : List ℕ) (r : Resolved) (is : IsResolved src r) (clean : faults
       (places-both (f.faults_at DuplicateClass (repeated names_of_classes)) (too_many which.Classes (slice_get names_of_classes 16)) [] []
       (faults_have_none DuplicateClass (repeated names_of_classes)) (too_many_has_none which.Classes (slice_get names_of_classes 16)))
       (declarations_have_none trees_))
-      ∙ classes_counted targets_ trees_ (program_of r) kept_ 0 trees_ (λ i class at. at) fine_members clean
+      ∙ classes_counted targets_ trees_ (program_of r) kept_ 0 trees_ (among_all trees_) fine_members clean
 
   few_numbered : length (classes_from targets_ (map heading trees_) 0 trees_).sites ≤ 4096
   few_numbered = subst (λ (l : List ℕ). length l ≤ 4096) count_is few_sites
@@ -319,7 +322,7 @@ module _ (src : List ℕ) (r : Resolved) (is : IsResolved src r) (clean : faults
       let c : CheckedClass (program_of r) number class = accepted_checked r clean number class at in
       let here : 0 + number ≡ number = omega arith in
       let n : NamedClass (program_of r) number class =
-      classes_named targets_ trees_ (program_of r) kept_ 0 trees_ 0 (λ i class at. at) fine_declared fine_members clean (script_worded src is.toks trees_ is.spelled is.read)
+      classes_named targets_ trees_ (program_of r) kept_ 0 trees_ 0 (among_all trees_) fine_declared fine_members clean (script_worded src is.toks trees_ is.spelled is.read)
       number class at number here in
       record {
         class_is_named = n.class_is_named;

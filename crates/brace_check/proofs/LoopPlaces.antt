@@ -1,7 +1,8 @@
 -- The loops of a script stand at places of their own.
-use Rattle.std.proofs.Common.{◌≡◌, refl, sym, ap, subst, ◌∙◌, ℕ, ◌+◌, ◌≤◌, ◌<◌, List, [], ◌∷◌, ◌++◌, map, flat_map, length, arith}
+use Rattle.std.proofs.Common.{◌≡◌, refl, sym, ap, subst, ◌∙◌, ℕ, ◌+◌, ◌≤◌, ◌<◌, Bool, true, List, [], ◌∷◌, ◌++◌, map, flat_map, length, take, zero, suc, arith}
 use Rattle.std.specs.Prelude.{false, Some, None, nat_eq, slice_get, unwrap_or}
 use Rattle.std.specs.List.{AllByRecursion, IsDistinct, concat}
+use Rattle.std.proofs.Math.Seq.{take-append_seam}
 use Rattle.std.proofs.lemmas.Bool.{ne_eqb}
 use Rattle.std.proofs.lemmas.List.{append-nil}
 use Rattle.std.proofs.lemmas.Grind.{flat_map-append}
@@ -187,10 +188,15 @@ module _ (src : List ℕ) (targets : List (ℕ × Target)) (headings : List Head
       subst (λ (l : List ℕ). Sub l (a ++ b)) (sym (flat_map-append (λ (query : List Stmt). flat_map loop_offsets query) one rest))
       (join (query_loops one) (query_loops rest) a b (at_member own a x n h) (at_members own b xs k g))
 
+  first_places : (places : List ℕ) (toks : List Token) → Sub places toks → (n : ℕ) → Sub (take n places) toks
+  first_places _ _ none zero = none
+  first_places _ _ none (suc n) = none
+  first_places _ _ (skip tok places toks h) n = skip tok (take n places) toks (first_places places toks h n)
+  first_places _ _ (keep tok places toks h) zero = nowhere (tok ∷ toks)
+  first_places _ _ (keep tok places toks h) (suc n) = keep tok (take n places) toks (first_places places toks h n)
+
   front : (xs ys : List ℕ) (toks : List Token) → Sub (xs ++ ys) toks → Sub xs toks
-  front [] ys toks h = nowhere toks
-  front (x ∷ xs) ys _ (skip tok _ toks h) = skip tok (x ∷ xs) toks (front (x ∷ xs) ys toks h)
-  front (_ ∷ xs) ys _ (keep tok _ toks h) = keep tok xs toks (front xs ys toks h)
+  front xs ys toks h = subst (λ (l : List ℕ). Sub l toks) (take-append_seam xs ys) (first_places (xs ++ ys) toks h (length xs))
 
   first_query : (queries : List (List Stmt)) (toks : List Token) → Sub (query_loops queries) toks → Sub (flat_map loop_offsets (unwrap_or (slice_get queries 0) [])) toks
   first_query [] toks h = nowhere toks

@@ -1,5 +1,5 @@
 -- The query and the `spawn` of a class in which nothing is found are well formed, and the sites that are counted are its sites.
-use Rattle.std.proofs.Common.{◌≡◌, refl, sym, ap, subst, ◌∙◌, ℕ, ◌+◌, Bool, true, false, List, [], ◌∷◌, ◌++◌, map, flat_map, length, append_assoc, arith, inl, inr}
+use Rattle.std.proofs.Common.{◌≡◌, refl, sym, ap, subst, ◌∙◌, ℕ, ◌+◌, Bool, true, false, List, [], ◌∷◌, ◌++◌, map, flat_map, length, append_assoc, arith, tests, inl, inr}
 use Rattle.std.specs.Prelude.{nat_eq, ◌&&◌, Option, Some, None, is_some, option_map, option_and_then, slice_get, unwrap_or}
 use Rattle.std.specs.List.{AllByRecursion, IsDistinct, list_all, filter}
 use Rattle.std.specs.Str.{bytes_eq}
@@ -195,6 +195,9 @@ module _ (n : scopes.Scope) (c : Scope) (m : Names) (tied : Tied n c m) (hd : He
         (subst (λ (l : List Ident). IsDistinct bytes_eq (map text l)) (all_states n.own (given_names gifts) (are_states gifts h))
         (names_differ DuplicateName c.targets (states_given n gifts) fine))
 
+append_none : (t l : List ℕ) → l ≡ t ++ [] → l ≡ t
+append_none t l h = h ∙ append-nil t
+
 -- a `spawn` that is well formed, whose gifts are to states that differ
 pub record Born (m : Names) (states : List State) (s : Spawn) : Type 0 where
   pub is : is_spawn m states (Some s) ≡ true
@@ -252,9 +255,6 @@ module _ (targets : List (ℕ × Target)) (headings : List Heading) (own : ℕ) 
           tt,
         );
       }
-    where
-      append_none : (t l : List ℕ) → l ≡ t ++ [] → l ≡ t
-      append_none t l h = h ∙ append-nil t
 
   member_ok : (x : MemberTree) → AllFine targets (names.member all table_ x) → checks.member targets headings own x ≡ []
       → MembersOk states rule query (places (names.member all table_ x)) (share targets headings own x)

@@ -160,11 +160,14 @@ module _ (targets : List (ℕ × Target)) (headings : List Heading) (own : ℕ) 
   fields_count [] n states effects = refl
   fields_count (m.State shared type name x at ∷ members) n states effects =
       let k : ℕ = n + length (share targets headings own (m.State shared type name x at)).sites in
-      ap suc (fields_count members k (states + 1) effects)
+      let rest : length (fields_behind (states + 1) effects members) ≡ length (states_at members k) + length (flat_map effect_of members) = fields_count members k (states + 1) effects in
+      let total : suc (length (fields_behind (states + 1) effects members)) ≡ suc (length (states_at members k)) + length (flat_map effect_of members) = omega (arith, rest) in
+      total
   fields_count (m.Effect shared type name c at ∷ members) n states effects =
       let k : ℕ = n + length (share targets headings own (m.Effect shared type name c at)).sites in
       let rest : length (fields_behind states (effects + 1) members) ≡ length (states_at members k) + length (flat_map effect_of members) = fields_count members k states (effects + 1) in
-      ap suc rest ∙ (let flip : suc (length (states_at members k) + length (flat_map effect_of members)) ≡ length (states_at members k) + suc (length (flat_map effect_of members)) = omega arith in flip)
+      let total : suc (length (fields_behind states (effects + 1) members)) ≡ length (states_at members k) + suc (length (flat_map effect_of members)) = omega (arith, rest) in
+      total
   fields_count (m.Visible range at ∷ members) n states effects = fields_count members (n + 0) states effects
   fields_count (m.Reach range at ∷ members) n states effects = fields_count members (n + 0) states effects
   fields_count (m.Run block at ∷ members) n states effects = fields_count members (n + length (share targets headings own (m.Run block at)).sites) states effects
@@ -186,16 +189,16 @@ module _ (targets : List (ℕ × Target)) (headings : List Heading) (own : ℕ) 
   apart_from name (m.Die x at ∷ members) n h = apart_from name members (n + length (share targets headings own (m.Die x at)).sites) h.1
   apart_from name (m.Spawn x gifts at ∷ members) n h = apart_from name members (n + length (share targets headings own (m.Spawn x gifts at)).sites) h.1
 
+  insert : (x one : List ℕ) (xs ys : List (List ℕ)) → Apart x (xs ++ ys) → bytes_eq x one ≡ false → Apart x (xs ++ one ∷ ys)
+  insert x one [] ys h apart = (apart, h)
+  insert x one (z ∷ xs) ys h apart = (h.0, insert x one xs ys h.1 apart)
+
   -- one name more between names that differ
   differ_between : (one : List ℕ) (xs ys : List (List ℕ)) → IsDistinct bytes_eq (xs ++ ys) → Apart one xs → Apart one ys → IsDistinct bytes_eq (xs ++ one ∷ ys)
   unfolding IsDistinct
   differ_between one [] ys h here there = (there, h)
   differ_between one (x ∷ xs) ys h here there =
       (insert x one xs ys h.0 (bytes-apart one x here.0), differ_between one xs ys h.1 here.1 there)
-    where
-      insert : (x one : List ℕ) (xs ys : List (List ℕ)) → Apart x (xs ++ ys) → bytes_eq x one ≡ false → Apart x (xs ++ one ∷ ys)
-      insert x one [] ys h apart = (apart, h)
-      insert x one (z ∷ xs) ys h apart = (h.0, insert x one xs ys h.1 apart)
 
   -- the fields of a class have names of their own each
   pub fields_differ : (members : List MemberTree) (n : ℕ) → IsDistinct bytes_eq (titles members) → IsDistinct bytes_eq (state_names members n ++ effect_names members)
@@ -233,10 +236,15 @@ module _ (targets : List (ℕ × Target)) (headings : List Heading) (own : ℕ) 
   not_later axis (m.Spawn x gifts at ∷ members) h = not_later axis members h.1
 
   placed_here : (axis : List ℕ) (s : State) (states : List State) → bytes_eq s.name axis ≡ true → placed axis (s ∷ states) ≡ (s.shared && same_type s.ty ty.Fixed)
-  placed_here axis s states same = rw same refl
+  placed_here axis s states same =
+      let first : place_of axis (s ∷ states) ≡ 0 = rw same refl in
+      ap (λ (k : ℕ). is_position axis (slice_get (s ∷ states) k)) first ∙ ap (λ (b : Bool). b && (s.shared && same_type s.ty ty.Fixed)) same
 
   placed_later : (axis : List ℕ) (s : State) (states : List State) → bytes_eq s.name axis ≡ false → placed axis (s ∷ states) ≡ placed axis states
-  placed_later axis s states apart = rw apart refl
+  placed_later axis s states apart =
+      let more : 1 + place_of axis states ≡ suc (place_of axis states) = omega arith in
+      let far : place_of axis (s ∷ states) ≡ suc (place_of axis states) = rw apart more in
+      ap (λ (k : ℕ). is_position axis (slice_get (s ∷ states) k)) far
 
   -- a state is the coordinate, or one behind it is
   abbrev here : List ℕ → Bool → TyName → Ident → Option ExprTree → ℕ → List MemberTree → Bool

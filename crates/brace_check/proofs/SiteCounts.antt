@@ -24,18 +24,21 @@ use Rattle.brace_check.proofs.BlockNumbering.{block_sites}
 use Rattle.brace_check.proofs.ShareNumbers.{ruled_sites, ruled-append, asked_sites, born_sites, asking_sites, SharesRise, share_rises}
 use Rattle.brace_check.proofs.CheckedMembers.{both_true}
 
--- how often a number stands in a list
+-- how often a number stands in a place, and in a list
+abbrev here : ℕ → ℕ → ℕ
+here x y = cond (nat_eq x y) 1 0
+
 times : ℕ → List ℕ → ℕ
 times x [] = 0
-times x (y ∷ ys) = cond (nat_eq x y) 1 0 + times x ys
+times x (y ∷ ys) = here x y + times x ys
 
 times-append : (x : ℕ) (xs ys : List ℕ) → times x (xs ++ ys) ≡ times x xs + times x ys
 unfolding times
-times-append x [] ys = refl
+times-append x [] ys = let none : times x ys ≡ 0 + times x ys = omega arith in none
 times-append x (y ∷ xs) ys =
     let rest : times x (xs ++ ys) ≡ times x xs + times x ys = times-append x xs ys in
-    let here : cond (nat_eq x y) 1 0 + times x (xs ++ ys) ≡ (cond (nat_eq x y) 1 0 + times x xs) + times x ys = omega (arith, rest) in
-    here
+    let total : here x y + times x (xs ++ ys) ≡ (here x y + times x xs) + times x ys = omega (arith, rest) in
+    total
 
 -- what rises from above a number does not have it
 times-above : (lo hi x : ℕ) (xs : List ℕ) → x < lo → Rises lo hi xs → times x xs ≡ 0
@@ -44,7 +47,10 @@ times-above lo hi x [] under h = refl
 times-above lo hi x (y ∷ ys) under h =
     let at : lo ≤ y = h.0 in
     let apart : nat_eq x y ≡ false = ne_eqb x y (λ e. let same : x ≡ y = e in absurd (omega (arith, under, at, same))) in
-    rw apart (times-above (y + 1) hi x ys (omega (arith, under, at)) h.1)
+    let none : here x y ≡ 0 = ap (λ (b : Bool). cond b 1 0) apart in
+    let rest : times x ys ≡ 0 = times-above (y + 1) hi x ys (omega (arith, under, at)) h.1 in
+    let total : here x y + times x ys ≡ 0 = omega (arith, none, rest) in
+    total
 
 -- nor does what rises to below it
 times-past : (lo hi x : ℕ) (xs : List ℕ) → hi ≤ x → Rises lo hi xs → times x xs ≡ 0
@@ -53,7 +59,10 @@ times-past lo hi x [] past h = refl
 times-past lo hi x (y ∷ ys) past h =
     let on : y + 1 ≤ hi = bounds_rise (y + 1) hi ys h.1 in
     let apart : nat_eq x y ≡ false = ne_eqb x y (λ e. let same : x ≡ y = e in absurd (omega (arith, on, past, same))) in
-    rw apart (times-past (y + 1) hi x ys past h.1)
+    let none : here x y ≡ 0 = ap (λ (b : Bool). cond b 1 0) apart in
+    let rest : times x ys ≡ 0 = times-past (y + 1) hi x ys past h.1 in
+    let total : here x y + times x ys ≡ 0 = omega (arith, none, rest) in
+    total
 
 -- and it has each number once
 times-once : (lo hi x : ℕ) (xs : List ℕ) → Rises lo hi xs → times x xs ≤ 1
@@ -63,9 +72,15 @@ times-once lo hi x (y ∷ ys) h = elim (cases_Bool (nat_eq x y)) [
   | inl same ↦
       let e : x ≡ y = grind (arith, tests) in
       let under : x < y + 1 = omega (arith, e) in
-      let none : times x ys ≡ 0 = times-above (y + 1) hi x ys under h.1 in
-      rw (same, none) (let one : 1 + 0 ≤ 1 = omega arith in one)
-  | inr apart ↦ rw apart (times-once (y + 1) hi x ys h.1)
+      let one : here x y ≡ 1 = ap (λ (b : Bool). cond b 1 0) same in
+      let rest : times x ys ≡ 0 = times-above (y + 1) hi x ys under h.1 in
+      let total : here x y + times x ys ≤ 1 = omega (arith, one, rest) in
+      total
+  | inr apart ↦
+      let none : here x y ≡ 0 = ap (λ (b : Bool). cond b 1 0) apart in
+      let rest : times x ys ≤ 1 = times-once (y + 1) hi x ys h.1 in
+      let total : here x y + times x ys ≤ 1 = omega (arith, none, rest) in
+      total
 ]
 
 -- a number stands once at most in a list, and only between bounds
@@ -125,7 +140,10 @@ total-shared x a b =
     ap (times x) (flat_map-append sites_of_spawn a.spawn b.spawn) ∙ times-append x (born_sites a.spawn) (born_sites b.spawn) in
     let s : times x (asking_sites (a.queries ++ b.queries)) ≡ times x (asking_sites a.queries) + times x (asking_sites b.queries) =
     ap (times x) (flat_map-append block_sites a.queries b.queries) ∙ times-append x (asking_sites a.queries) (asking_sites b.queries) in
-    omega (arith, p, q, r, s)
+    let total : times x (ruled_sites (a.states ++ b.states)) + (times x (asked_sites (a.die ++ b.die)) + (times x (born_sites (a.spawn ++ b.spawn)) + times x (asking_sites (a.queries ++ b.queries))))
+        ≡ (times x (ruled_sites a.states) + (times x (asked_sites a.die) + (times x (born_sites a.spawn) + times x (asking_sites a.queries))))
+        + (times x (ruled_sites b.states) + (times x (asked_sites b.die) + (times x (born_sites b.spawn) + times x (asking_sites b.queries)))) = omega (arith, p, q, r, s) in
+    total
 
 -- a member has sites of one kind
 module _ (targets : List (ℕ × Target)) (headings : List Heading) (own : ℕ) (x : ℕ) where
@@ -144,6 +162,13 @@ module _ (targets : List (ℕ × Target)) (headings : List Heading) (own : ℕ) 
   third : (n k : ℕ) (a : ℕ) → Once n k x a → Once n k x (0 + (0 + (a + 0)))
   third n k a h = once_less n k x (0 + (0 + (a + 0))) a (omega arith) h
 
+  fourth : (n k : ℕ) (a : ℕ) → Once n k x a → Once n k x (0 + (0 + (0 + a)))
+  fourth n k a h = once_less n k x (0 + (0 + (0 + a))) a (omega arith) h
+
+  nothing_once : (n : ℕ) → Once n (n + 0) x (total_times x no_share)
+  unfolding total_times times
+  nothing_once n = none_once n
+
   member_once : (one : MemberTree) (n : ℕ) → SharesRise ((share targets headings own one).behind n) n (n + length (share targets headings own one).sites) → counted one n
   unfolding total_times times
   member_once (m.Visible range at) n h = none_once n
@@ -153,15 +178,11 @@ module _ (targets : List (ℕ × Target)) (headings : List Heading) (own : ℕ) 
       alone n _ (times x (ruled_sites ((share targets headings own (m.State shared type name r at)).behind n).states)) (once_rising n _ x _ h.rules)
   member_once (m.Die e at) n h = second n _ (times x (asked_sites ((share targets headings own (m.Die e at)).behind n).die)) (once_rising n _ x _ h.dies)
   member_once (m.Spawn e gifts at) n h = third n _ (times x (born_sites ((share targets headings own (m.Spawn e gifts at)).behind n).spawn)) (once_rising n _ x _ h.spawns)
-  member_once (m.Run b at) n h = once_rising n _ x _ h.queries
+  member_once (m.Run b at) n h = fourth n _ (times x (asking_sites ((share targets headings own (m.Run b at)).behind n).queries)) (once_rising n _ x _ h.queries)
 
   -- all members have each site once
   members_once : (members : List MemberTree) (n : ℕ) → Once n (n + length (shares targets headings own members).sites) x (total_times x ((shares targets headings own members).behind n))
-  members_once [] n = nothing n
-    where
-      nothing : (n : ℕ) → Once n (n + 0) x (total_times x no_share)
-      unfolding total_times times
-      nothing n = none_once n
+  members_once [] n = nothing_once n
   members_once (one ∷ members) n =
       let a : Sited Share = share targets headings own one in
       let b : Sited Share = shares targets headings own members in
@@ -180,13 +201,15 @@ module _ {A : Type 0} (f : A → List ℕ) (x : ℕ) where
   first_times (y ∷ ys) =
       let whole : times x (f y ++ flat_map f ys) ≡ times x (f y) + times x (flat_map f ys) = times-append x (f y) (flat_map f ys) in
       let front : times x (f y ++ []) ≡ times x (f y) = ap (times x) (append-nil (f y)) in
-      omega (arith, whole, front)
+      let total : times x (f y ++ []) ≤ times x (f y ++ flat_map f ys) = omega (arith, whole, front) in
+      total
 
 first_query_times : (x : ℕ) (queries : List (List Stmt)) → times x (block_sites (unwrap_or (slice_get queries 0) [])) ≤ times x (asking_sites queries)
 first_query_times x [] = omega arith
 first_query_times x (y ∷ ys) =
     let whole : times x (block_sites y ++ asking_sites ys) ≡ times x (block_sites y) + times x (asking_sites ys) = times-append x (block_sites y) (asking_sites ys) in
-    omega (arith, whole)
+    let total : times x (block_sites y) ≤ times x (block_sites y ++ asking_sites ys) = omega (arith, whole) in
+    total
 
 module _ (targets : List (ℕ × Target)) (headings : List Heading) (x : ℕ) where
   abbrev class_times : ℕ → ClassTree → ℕ → ℕ
@@ -206,7 +229,9 @@ module _ (targets : List (ℕ × Target)) (headings : List Heading) (x : ℕ) wh
       let d : times x dies ≤ times x (asked_sites s.die) = first_times sites_of x s.die in
       let b : times x spawns ≤ times x (born_sites s.spawn) = first_times sites_of_spawn x s.spawn in
       let k : times x query ≤ times x (asking_sites s.queries) = first_query_times x s.queries in
-      omega (arith, p, q, r, d, b, k)
+      let total : times x (rules ++ (dies ++ (spawns ++ query))) ≤ times x rules + (times x (asked_sites s.die) + (times x (born_sites s.spawn) + times x (asking_sites s.queries))) =
+      omega (arith, p, q, r, d, b, k) in
+      total
 
   class_once : (number : ℕ) (class : ClassTree) (n : ℕ) → Once n (n + length (class_of targets headings number class).sites) x (class_times number class n)
   class_once number class n =
@@ -235,16 +260,16 @@ unfolding times
 not_in x [] h = tt
 not_in x (y ∷ ys) h = elim (cases_Bool (nat_eq x y)) [
   | inl same ↦ let some : 1 + times x ys ≡ 0 = subst (λ (b : Bool). cond b 1 0 + times x ys ≡ 0) same h in absurd (omega (arith, some))
-  | inr apart ↦ (apart, not_in x ys (subst (λ (b : Bool). cond b 1 0 + times x ys ≡ 0) apart h))
+  | inr apart ↦ let rest : 0 + times x ys ≡ 0 = subst (λ (b : Bool). cond b 1 0 + times x ys ≡ 0) apart h in (apart, not_in x ys (omega (arith, rest)))
 ]
 
 less_behind : (x y : ℕ) (ys : List ℕ) → times x ys ≤ times x (y ∷ ys)
 unfolding times
-less_behind x y ys = omega arith
+less_behind x y ys = let h : times x ys ≤ here x y + times x ys = omega arith in h
 
 one_more : (x : ℕ) (xs : List ℕ) → times x (x ∷ xs) ≡ 1 + times x xs
 unfolding times
-one_more x xs = let self : nat_eq x x ≡ true = grind arith in rw self refl
+one_more x xs = let self : nat_eq x x ≡ true = grind arith in ap (λ (b : Bool). cond b 1 0 + times x xs) self
 
 -- numbers of which each stands once differ
 differ : (xs : List ℕ) → ((x : ℕ) → times x xs ≤ 1) → IsDistinct nat_eq xs

@@ -82,6 +82,7 @@ module _ {A : Type 0} where
   slice_get-seam [] y ys = refl
   slice_get-seam (x ∷ xs) y ys = slice_get-seam xs y ys
 
+module _ {A : Type 0} where
   -- a table of names keeps what holds of its entries
   pub named_too : (P : A → Type 0) (table : List (List ℕ × A)) (name : List ℕ) (x : A) → AllByRecursion (λ e. P e.1) table → P x
       → AllByRecursion (λ e. P e.1) (with_name table name x)
