@@ -1,7 +1,6 @@
 -- The sites of a class rise over its rules, over each of its conditions, and over its query.
 use Rattle.std.proofs.Common.{◌≡◌, refl, sym, ap, subst, ◌∙◌, ℕ, ◌+◌, ◌≤◌, List, [], ◌∷◌, ◌++◌, map, flat_map, length, length-append, append_assoc, arith}
-use Rattle.std.specs.Prelude.{true, false, Option, Some, None, option_to_list, slice_get, unwrap_or}
-use Rattle.std.specs.List.{range_with_len}
+use Rattle.std.specs.Prelude.{true, false, Option, Some, None, option_to_list}
 use Rattle.std.proofs.lemmas.List.{append-nil}
 use Rattle.std.proofs.lemmas.Grind.{flat_map-append}
 use Rattle.brace_syntax.specs.declared.tree.ExprTree.{ExprTree}
@@ -17,11 +16,10 @@ use Rattle.brace_model.specs.declared.program.Spawn.{Spawn}
 use Rattle.brace_model.specs.Sites.{sites_of, sites_among, sites_of_spawn}
 use Rattle.brace_check.specs.declared.heading.Heading.{Heading}
 use Rattle.brace_check.specs.declared.share.Share.{Share}
-use Rattle.brace_check.specs.Headings.{type_named}
 use Rattle.brace_check.specs.Scopes.{Scope, outermost, stands, number_of}
-use Rattle.brace_check.specs.Meanings.{Sited, plain, followed, with_sites, expression, block, part}
+use Rattle.brace_check.specs.Meanings.{Sited, followed, expression, block, part}
 use Rattle.brace_check.specs.Programs.{rule, gifts_in, spawn_of, no_share, share, shared_by, shares}
-use Rattle.brace_check.proofs.Rising.{Rises, rises-joined, range_rises, bounds_rise}
+use Rattle.brace_check.proofs.Rising.{Rises, rises-joined, range_rises}
 use Rattle.brace_check.proofs.Numbering.{Numbered, plain_numbered, made_numbered, followed_numbered, expression_numbered}
 use Rattle.brace_check.proofs.BlockNumbering.{block_sites, block_numbered}
 
@@ -49,7 +47,7 @@ none_rises : (lo hi : ℕ) → lo ≤ hi → SharesRise no_share lo hi
 none_rises lo hi under = record { rules = under; dies = under; spawns = under; queries = under }
 
 -- the rules of two lists of states
-ruled-append : (xs ys : List State) → ruled_sites (xs ++ ys) ≡ ruled_sites xs ++ ruled_sites ys
+pub ruled-append : (xs ys : List State) → ruled_sites (xs ++ ys) ≡ ruled_sites xs ++ ruled_sites ys
 ruled-append xs ys =
     ap sites_among (flat_map-append (λ s. option_to_list s.rule) xs ys)
     ∙ flat_map-append sites_of (flat_map (λ s. option_to_list s.rule) xs) (flat_map (λ s. option_to_list s.rule) ys)
@@ -105,7 +103,7 @@ spawn_numbered condition gifts at scope =
     (λ n. refl)
 
 -- the sites of one member rise
-share_rises : (targets : List (ℕ × Target)) (headings : List Heading) (own : ℕ) (member : MemberTree) (n : ℕ)
+pub share_rises : (targets : List (ℕ × Target)) (headings : List Heading) (own : ℕ) (member : MemberTree) (n : ℕ)
     → SharesRise ((share targets headings own member).behind n) n (n + length (share targets headings own member).sites)
 share_rises targets headings own (m.Visible range at) n = none_rises n (n + 0) (under_more n 0)
 share_rises targets headings own (m.Reach range at) n = none_rises n (n + 0) (under_more n 0)

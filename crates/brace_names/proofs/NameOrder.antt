@@ -1,8 +1,7 @@
 -- The places of what names stand for are places of tokens, in the same order.
-use Rattle.std.proofs.Common.{◌≡◌, refl, sym, ap, subst, ◌∙◌, ℕ, ◌+◌, ◌<◌, ◌≤◌, Bool, true, false, List, [], ◌∷◌, ◌++◌, map, flat_map, length, arith, append_assoc, ◌⊎◌, inl, inr}
-use Rattle.std.specs.Prelude.{⊤, Option, Some, None, not, ◌&&◌, if◌then◌else◌, slice_get}
+use Rattle.std.proofs.Common.{◌≡◌, refl, sym, ap, subst, ◌∙◌, ℕ, ◌+◌, ◌≤◌, Bool, true, false, List, [], ◌∷◌, ◌++◌, map, flat_map, length, arith}
+use Rattle.std.specs.Prelude.{Option, Some, None, not, ◌&&◌, if◌then◌else◌}
 use Rattle.std.specs.Str.{bytes_eq}
-use Rattle.std.proofs.lemmas.Bool.{cases_Bool}
 use Rattle.std.proofs.lemmas.List.{append-nil}
 use Rattle.std.proofs.lemmas.List.Concat.{flat_map-append, flat_map-cons}
 use Rattle.brace_tok.specs.declared.kinds.Token.{Token}
@@ -18,7 +17,6 @@ use Rattle.brace_names.specs.declared.scope.Local.TheVariants as local
 use Rattle.brace_names.specs.declared.finding.Finding.{Finding}
 use Rattle.brace_names.specs.declared.finding.Finding.TheVariants as finding
 use Rattle.brace_names.specs.declared.resolved.Binding.{Binding}
-use Rattle.brace_names.specs.declared.resolved.Target.{Target}
 use Rattle.brace_names.specs.Scopes.{Scope, is_taken, class_number, field_in, constant_of}
 use Rattle.brace_names.specs.Findings as f
 use Rattle.brace_names.specs.Tables.{look}
@@ -215,7 +213,7 @@ rises_from : (low higher : ℕ) (ps : List ℕ) → low ≤ higher → AreRising
 rises_from low higher [] le r = tt
 rises_from low higher (p ∷ ps) le r = (omega (arith, le, r.0), r.1)
 
-places_rise : (low high : ℕ) (toks : List Token) (ps : List ℕ) → Sub ps toks → Rises low high toks → AreRising low ps
+pub places_rise : (low high : ℕ) (toks : List Token) (ps : List ℕ) → Sub ps toks → Rises low high toks → AreRising low ps
 places_rise low high _ _ none r = tt
 places_rise low high _ _ (skip tok ps toks s) r = rises_from low tok.to ps (omega (arith, r.0, r.1)) (places_rise tok.to high toks ps s r.2)
 places_rise low high _ _ (keep tok ps toks s) r = (r.0, rises_from (tok.from + 1) tok.to ps (omega (arith, r.1)) (places_rise tok.to high toks ps s r.2))
