@@ -1,1 +1,8 @@
+pub mod Draws
+pub mod Entering
+pub mod FirstFault
+pub mod LawfulAgent
+pub mod Order
+pub mod Records
 pub mod Texts
+pub mod Values

@@ -1,11 +1,18 @@
-//! Published rows: a line for each agent of a tick.
+//! Agent files, made agents, and published rows: a line for each agent of a tick.
 #![tactic(auto)]
 
 mod agent;
+mod file;
+mod kinds;
+mod made;
+mod record;
+mod register;
+#[cfg(test)]
+mod tests;
 mod tick;
 
 pub use agent::print_agent;
+pub use file::read_agents;
+pub use kinds::{RowFault, RowKind};
+pub use made::make_agents;
 pub use tick::print_tick;
-
-#[cfg(test)]
-mod tests;

@@ -1,0 +1,26 @@
+use Rattle.std.proofs.Common.{◌∙◌, ap, rules}
+use Rattle.std.specs.Prelude.{nat_le}
+use Rattle.std.proofs.lemmas.List.Sorted.{IsNonDecreasingBy-from_sort_by_key}
+use Rattle.brace_model.specs.declared.world.Agent.{Agent}
+use Rattle.brace_model.specs.Step.{greatest_id}
+use Rattle.brace_model.specs.World.{world_of}
+use Rattle.brace_rows.proofs.LawfulAgent.{all_in_order}
+use Rattle.brace_rows.proofs.Order.{rising_are_numbered, sorted_by_id, sorted_rises}
+use Rattle.brace_rows.proofs.file.in_order.Goals as goal
+
+pub unreachable-requires : goal.unreachable-requires
+unreachable-requires c =
+    let old = c.args.agents.items in
+    let new = c.sort_by_key.new.self.items in
+    let moves = c.in_ok-sort_by_key.ensures.permutation in
+    let up = IsNonDecreasingBy-from_sort_by_key (λ (a : Agent). a.id) new c.in_ok-sort_by_key.ensures.sorted (λ a r q k. search rules) in
+    let low = all_in_order (λ (a : Agent). nat_le a.id greatest_id) old new moves c.requires.in_range in
+    c.in-None.ensures.none (rising_are_numbered new (sorted_rises old new c.requires.differ moves up) low)
+
+pub returns-clause-world : goal.returns-clause-world
+returns-clause-world c =
+    let old = c.args.agents.items in
+    let new = c.sort_by_key.new.self.items in
+    let moves = c.in_ok-sort_by_key.ensures.permutation in
+    let up = IsNonDecreasingBy-from_sort_by_key (λ (a : Agent). a.id) new c.in_ok-sort_by_key.ensures.sorted (λ a r q k. search rules) in
+    c.in-Some.ensures.world ∙ ap world_of (sorted_by_id old new c.requires.differ moves (sorted_rises old new c.requires.differ moves up))

@@ -1,0 +1,3 @@
+pub mod AgentFile
+pub mod MadeAgents
+pub mod inner
