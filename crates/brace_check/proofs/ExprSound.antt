@@ -121,7 +121,7 @@ module _ (scope : Scope) (names : Names) (agrees : Agrees scope names) where
   this_sound at (Some (target.Effect i)) clean t h n = named_sound at (Some (target.Effect i)) tt clean t h n
 
   -- the agent of a loop
-  agent_is : (k class : ℕ) → slice_get scope.over k ≡ Some class → class_named names (loop_agent k) ≡ Some class
+  pub agent_is : (k class : ℕ) → slice_get scope.over k ≡ Some class → class_named names (loop_agent k) ≡ Some class
   agent_is zero class is = agrees.outer ∙ is
   agent_is (suc zero) class is = agrees.inner ∙ is
   agent_is (suc (suc k)) class is =
@@ -130,7 +130,7 @@ module _ (scope : Scope) (names : Names) (agrees : Agrees scope names) where
       let never : None ≡ Some class = sym past ∙ is in
       absurd (cc)
 
-  may_from : (shared same : Bool) → (not same && is_private (Some shared)) ≡ false → (shared || same) ≡ true
+  pub may_from : (shared same : Bool) → (not same && is_private (Some shared)) ≡ false → (shared || same) ≡ true
   may_from true same h = refl
   may_from false true h = refl
   may_from false false h = absurd (true≢false h)

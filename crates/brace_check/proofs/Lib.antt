@@ -13,3 +13,16 @@ pub mod ExprSound
 pub mod RulesTyped
 pub mod Accepted
 mod Examples
+pub mod Places
+pub mod Ties
+pub mod ExprTied
+pub mod Said
+pub mod BlockTied
+pub mod FieldNumbers
+pub mod NamesDiffer
+pub mod Words
+pub mod LoopPlaces
+pub mod SiteCounts
+pub mod AssignmentCounts
+pub mod MembersTied
+pub mod LawfulProof

@@ -49,7 +49,7 @@ none_rises : (lo hi : ℕ) → lo ≤ hi → SharesRise no_share lo hi
 none_rises lo hi under = record { rules = under; dies = under; spawns = under; queries = under }
 
 -- the rules of two lists of states
-ruled-append : (xs ys : List State) → ruled_sites (xs ++ ys) ≡ ruled_sites xs ++ ruled_sites ys
+pub ruled-append : (xs ys : List State) → ruled_sites (xs ++ ys) ≡ ruled_sites xs ++ ruled_sites ys
 ruled-append xs ys =
     ap sites_among (flat_map-append (λ s. option_to_list s.rule) xs ys)
     ∙ flat_map-append sites_of (flat_map (λ s. option_to_list s.rule) xs) (flat_map (λ s. option_to_list s.rule) ys)
@@ -105,7 +105,7 @@ spawn_numbered condition gifts at scope =
     (λ n. refl)
 
 -- the sites of one member rise
-share_rises : (targets : List (ℕ × Target)) (headings : List Heading) (own : ℕ) (member : MemberTree) (n : ℕ)
+pub share_rises : (targets : List (ℕ × Target)) (headings : List Heading) (own : ℕ) (member : MemberTree) (n : ℕ)
     → SharesRise ((share targets headings own member).behind n) n (n + length (share targets headings own member).sites)
 share_rises targets headings own (m.Visible range at) n = none_rises n (n + 0) (under_more n 0)
 share_rises targets headings own (m.Reach range at) n = none_rises n (n + 0) (under_more n 0)

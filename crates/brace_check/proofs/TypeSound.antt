@@ -80,12 +80,12 @@ locals = fold-ExprTree (Scope → List ℕ) locals_step
 abbrev pub Knows : Scope → Names → List ℕ → Type 0
 Knows scope names = AllByRecursion (λ n. constant_type names.known n ≡ slice_get scope.constants n)
 
-module _ (P : ℕ → Type 0) where
-  pub all_front : (xs ys : List ℕ) → AllByRecursion P (xs ++ ys) → AllByRecursion P xs
+module _ {A : Type 0} (P : A → Type 0) where
+  pub all_front : (xs ys : List A) → AllByRecursion P (xs ++ ys) → AllByRecursion P xs
   all_front [] ys h = tt
   all_front (x ∷ xs) ys h = (h.0, all_front xs ys h.1)
 
-  pub all_back : (xs ys : List ℕ) → AllByRecursion P (xs ++ ys) → AllByRecursion P ys
+  pub all_back : (xs ys : List A) → AllByRecursion P (xs ++ ys) → AllByRecursion P ys
   all_back [] ys h = h
   all_back (x ∷ xs) ys h = all_back xs ys h.1
 

@@ -6,4 +6,5 @@ pub mod Found
 pub mod Faults
 pub mod Meanings
 pub mod Programs
+pub mod Resolved
 pub mod Checked

@@ -1,4 +1,6 @@
-ghost use Rattle.std.specs.Prelude.{◌≡◌, [], IfOk, OnOk, IfErr};
+ghost use Rattle.std.specs.Prelude.{◌≡◌, ℕ, List, [], IfOk, OnOk, IfErr};
+ghost use Rattle.brace_model.specs.Lawful.{LawfulProgram};
+ghost use Rattle.brace_check.specs.Resolved.{IsResolved};
 ghost use Rattle.brace_check.specs.Faults.{pass, rank, is_before, earlier, first, faults, Refuses};
 ghost use Rattle.brace_check.specs.Programs.{program_of};
 
@@ -74,11 +76,13 @@ fn first(faults: &[CheckFault]) -> Option<CheckFault>
 /// the nine passes that has one, and in it the one at the least offset; of wrong types the first in
 /// finishing order. `NoMemory` comes only where the allocator refused, or where more than
 /// 4,294,967,295 things of one kind are numbered, which no script of 1,048,576 bytes has. A refused
-/// call gives nothing back.
+/// call gives nothing back. Of a script that is read from a source and resolved the program is
+/// lawful.
 pub fn check(alloc: Global, r: Resolved) -> Result<Program, CheckFault>
     ensures program { IfOk result (λ p. p ≡ program_of r) }
     ensures faultless { OnOk result (faults r ≡ []) }
     ensures first { IfErr result (Refuses r) }
+    ensures lawful { (src : List ℕ) → IsResolved src r → IfOk result LawfulProgram }
 {
     let targets = Targets::of(alloc, r.bindings.as_slice())?;
     let classes = r.tree.classes.as_slice();

@@ -215,7 +215,7 @@ rises_from : (low higher : ℕ) (ps : List ℕ) → low ≤ higher → AreRising
 rises_from low higher [] le r = tt
 rises_from low higher (p ∷ ps) le r = (omega (arith, le, r.0), r.1)
 
-places_rise : (low high : ℕ) (toks : List Token) (ps : List ℕ) → Sub ps toks → Rises low high toks → AreRising low ps
+pub places_rise : (low high : ℕ) (toks : List Token) (ps : List ℕ) → Sub ps toks → Rises low high toks → AreRising low ps
 places_rise low high _ _ none r = tt
 places_rise low high _ _ (skip tok ps toks s) r = rises_from low tok.to ps (omega (arith, r.0, r.1)) (places_rise tok.to high toks ps s r.2)
 places_rise low high _ _ (keep tok ps toks s) r = (r.0, rises_from (tok.from + 1) tok.to ps (omega (arith, r.1)) (places_rise tok.to high toks ps s r.2))

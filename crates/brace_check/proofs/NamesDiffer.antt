@@ -1,0 +1,291 @@
+-- What the checks of names say of the names of classes and fields, how many there are, and positions.
+use Rattle.std.proofs.Common.{◌≡◌, refl, sym, ap, subst, ◌∙◌, ℕ, zero, suc, ◌+◌, ◌<◌, ◌≤◌, Bool, true, false, List, [], ◌∷◌, ◌++◌, map, flat_map, length, length-append, arith, inl, inr}
+use Rattle.std.specs.Prelude.{◌&&◌, ◌||◌, IsTrue, Option, Some, None, slice_get, codes, if◌then◌else◌}
+use Rattle.std.specs.Option.{option_map}
+use Rattle.std.specs.List.{AllByRecursion, IsDistinct, list_all, list_any, position_or_len}
+use Rattle.std.specs.Str.{bytes_eq}
+use Rattle.std.proofs.lemmas.Bool.{cases_Bool, true≢false, false≢true}
+use Rattle.std.proofs.lemmas.List.{map-append}
+use Rattle.std.proofs.lemmas.List.Folds.{list_any-append, list_all-append}
+use Rattle.std.proofs.lemmas.Option.{slice_get-get_or}
+use Rattle.std.proofs.lemmas.Slice.Eq.{bytes_eq-Decides}
+use Rattle.brace_syntax.specs.declared.tree.Ident.{Ident}
+use Rattle.brace_syntax.specs.declared.tree.TyName.{TyName}
+use Rattle.brace_syntax.specs.declared.tree.TyName.TheVariants as tyname
+use Rattle.brace_syntax.specs.declared.tree.ExprTree.{ExprTree}
+use Rattle.brace_syntax.specs.declared.tree.MemberTree.{MemberTree}
+use Rattle.brace_syntax.specs.declared.tree.MemberTree.TheVariants as m
+use Rattle.brace_syntax.specs.declared.tree.ClassTree.{ClassTree}
+use Rattle.brace_names.specs.declared.finding.Finding.{Finding}
+use Rattle.brace_names.specs.declared.fault.NameFault.{NameFault}
+use Rattle.brace_names.specs.declared.fault.Which.{Which}
+use Rattle.brace_names.specs.declared.resolved.Target.{Target}
+use Rattle.brace_names.specs.declared.declared.Field.{Field}
+use Rattle.brace_names.specs.Tables.{repeated, repeated_after}
+use Rattle.brace_names.specs.Classes.{title, fields, fields_behind, is_coordinate, has_position}
+use Rattle.brace_names.specs.Findings.{faults_at}
+use Rattle.brace_names.specs.Found.{too_many, position}
+use Rattle.brace_model.specs.declared.program.Ty.TheVariants as ty
+use Rattle.brace_model.specs.declared.program.State.{State}
+use Rattle.brace_model.specs.declared.program.Effect.{Effect}
+use Rattle.brace_model.specs.Typing.{same_type}
+use Rattle.brace_model.specs.Lawful.{is_position}
+use Rattle.brace_check.specs.declared.heading.Heading.{Heading}
+use Rattle.brace_check.specs.Headings.{type_named}
+use Rattle.brace_check.specs.Scopes.{outermost}
+use Rattle.brace_check.specs.Programs.{rule, share, shares, effect_of, place_of}
+use Rattle.brace_check.proofs.Places.{AllFine}
+use Rattle.brace_check.proofs.Ties.{each, joined}
+
+-- equal bytes
+bytes-flip : (a b : List ℕ) → bytes_eq a b ≡ true → bytes_eq b a ≡ true
+bytes-flip a b h = let same : a ≡ b = (bytes_eq-Decides a b).0 h in (bytes_eq-Decides b a).1 (sym same)
+
+pub bytes-apart : (a b : List ℕ) → bytes_eq a b ≡ false → bytes_eq b a ≡ false
+bytes-apart a b h = elim (cases_Bool (bytes_eq b a)) [
+  | inl same ↦ absurd (true≢false (sym (bytes-flip b a same) ∙ h))
+  | inr apart ↦ apart
+]
+
+abbrev pub Apart : List ℕ → List (List ℕ) → Type 0
+Apart name = AllByRecursion (λ other. bytes_eq name other ≡ false)
+
+-- names of which none is repeated differ
+abbrev pub text : Ident → List ℕ
+text name = name.text
+
+none_if : (test : Bool) (at : ℕ) (rest : List ℕ) → (if test then at ∷ [] else []) ++ rest ≡ [] → test ≡ false
+none_if true at rest h = absurd (cc)
+none_if false at rest h = refl
+
+rest_if : (test : Bool) (at : ℕ) (rest : List ℕ) → (if test then at ∷ [] else []) ++ rest ≡ [] → rest ≡ []
+rest_if true at rest h = absurd (cc)
+rest_if false at rest h = h
+
+or_left : (a b : Bool) → (a || b) ≡ false → a ≡ false
+or_left true b h = absurd (true≢false h)
+or_left false b h = refl
+
+or_right : (a b : Bool) → (a || b) ≡ false → b ≡ false
+or_right true b h = absurd (true≢false h)
+or_right false b h = h
+
+or_false : (b : Bool) → (b || false) ≡ b
+or_false true = refl
+or_false false = refl
+
+abbrev New : List (List ℕ) → List ℕ → Type 0
+New earlier name = list_any (bytes_eq name) earlier ≡ false
+
+new_one : (earlier : List (List ℕ)) (one name : List ℕ) → New (earlier ++ one ∷ []) name → (list_any (bytes_eq name) earlier || (bytes_eq name one || false)) ≡ false
+new_one earlier one name h = sym (list_any-append (bytes_eq name) earlier (one ∷ [])) ∙ h
+
+record Fresh (earlier : List (List ℕ)) (names : List (List ℕ)) : Type 0 where
+  new : AllByRecursion (New earlier) names
+  differ : IsDistinct bytes_eq names
+
+fresh : (earlier : List (List ℕ)) (names : List Ident) → repeated_after earlier names ≡ [] → Fresh earlier (map text names)
+unfolding IsDistinct
+fresh earlier [] h = record { new = tt; differ = tt }
+fresh earlier (name ∷ names) h =
+    let later : Fresh (earlier ++ name.text ∷ []) (map text names) =
+    fresh (earlier ++ name.text ∷ []) names (rest_if (list_any (bytes_eq name.text) earlier) name.at (repeated_after (earlier ++ name.text ∷ []) names) h) in
+    record {
+      new = (
+        none_if (list_any (bytes_eq name.text) earlier) name.at (repeated_after (earlier ++ name.text ∷ []) names) h,
+        each (New (earlier ++ name.text ∷ [])) (New earlier)
+            (λ other is. or_left (list_any (bytes_eq other) earlier) (bytes_eq other name.text || false) (new_one earlier name.text other is)) (map text names) later.new,
+      );
+      differ = (
+        each (New (earlier ++ name.text ∷ [])) (λ other. bytes_eq name.text other ≡ false)
+            (λ other is. bytes-apart other name.text (or_left (bytes_eq other name.text) false (or_right (list_any (bytes_eq other) earlier) (bytes_eq other name.text || false) (new_one earlier name.text other is))))
+            (map text names) later.new,
+        later.differ,
+      );
+    }
+
+none_at : (kind : ℕ → NameFault) (targets : List (ℕ × Target)) (places : List ℕ) → AllFine targets (faults_at kind places) → places ≡ []
+none_at kind targets [] fine = refl
+none_at kind targets (p ∷ places) fine = absurd (true≢false fine.0)
+
+pub names_differ : (kind : ℕ → NameFault) (targets : List (ℕ × Target)) (names : List Ident) → AllFine targets (faults_at kind (repeated names)) → IsDistinct bytes_eq (map text names)
+names_differ kind targets names fine = (fresh [] names (none_at kind targets (repeated names) fine)).differ
+
+-- nothing stands past a limit
+within : {A : Type 0} (xs : List A) (limit : ℕ) → slice_get xs limit ≡ None → length xs ≤ limit
+within [] limit h = omega arith
+within (x ∷ xs) zero h = absurd (cc)
+within (x ∷ xs) (suc limit) h = let rest : length xs ≤ limit = within xs limit h in omega (arith, rest)
+
+no_more : (which : Which) (targets : List (ℕ × Target)) (o : Option Ident) → AllFine targets (too_many which o) → o ≡ None
+no_more which targets None fine = refl
+no_more which targets (Some name) fine = absurd (true≢false fine.0)
+
+no_field : (o : Option (Ident × Field)) → option_map (λ one. one.0) o ≡ None → o ≡ None
+no_field None h = refl
+no_field (Some one) h = absurd (cc)
+
+pub few_names : (which : Which) (targets : List (ℕ × Target)) (names : List Ident) (limit : ℕ) → AllFine targets (too_many which (slice_get names limit)) → length names ≤ limit
+few_names which targets names limit fine = within names limit (no_more which targets (slice_get names limit) fine)
+
+pub few_of : (which : Which) (targets : List (ℕ × Target)) (all : List (Ident × Field)) (limit : ℕ)
+    → AllFine targets (too_many which (option_map (λ one. one.0) (slice_get all limit))) → length all ≤ limit
+few_of which targets all limit fine =
+    within all limit (no_field (slice_get all limit) (no_more which targets (option_map (λ one. one.0) (slice_get all limit)) fine))
+
+positioned : (targets : List (ℕ × Target)) (test : Bool) (x : Finding) → AllFine targets (if test then [] else x ∷ []) → ((AllFine targets (x ∷ [])) → true ≡ false) → test ≡ true
+positioned targets true x fine never = refl
+positioned targets false x fine never = absurd (true≢false (never fine))
+
+pub has_its_position : (targets : List (ℕ × Target)) (class : ClassTree) → AllFine targets (position class) → has_position class ≡ true
+has_its_position targets class fine = positioned targets (has_position class) _ fine (λ h. h.0)
+
+-- the names of the states and effects of members are among their titles
+module _ (targets : List (ℕ × Target)) (headings : List Heading) (own : ℕ) where
+  abbrev states_at : List MemberTree → ℕ → List State
+  states_at members n = ((shares targets headings own members).behind n).states
+
+  abbrev state_names : List MemberTree → ℕ → List (List ℕ)
+  state_names members n = map (λ s. s.name) (states_at members n)
+
+  abbrev effect_names : List MemberTree → List (List ℕ)
+  effect_names members = map (λ e. e.name) (flat_map effect_of members)
+
+  abbrev titles : List MemberTree → List (List ℕ)
+  titles members = map text (map title members)
+
+  -- how many there are
+  pub fields_count : (members : List MemberTree) (n states effects : ℕ)
+      → length (fields_behind states effects members) ≡ length (states_at members n) + length (flat_map effect_of members)
+  fields_count [] n states effects = refl
+  fields_count (m.State shared type name x at ∷ members) n states effects =
+      let k : ℕ = n + length (share targets headings own (m.State shared type name x at)).sites in
+      let rest : length (fields_behind (states + 1) effects members) ≡ length (states_at members k) + length (flat_map effect_of members) = fields_count members k (states + 1) effects in
+      let total : suc (length (fields_behind (states + 1) effects members)) ≡ suc (length (states_at members k)) + length (flat_map effect_of members) = omega (arith, rest) in
+      total
+  fields_count (m.Effect shared type name c at ∷ members) n states effects =
+      let k : ℕ = n + length (share targets headings own (m.Effect shared type name c at)).sites in
+      let rest : length (fields_behind states (effects + 1) members) ≡ length (states_at members k) + length (flat_map effect_of members) = fields_count members k states (effects + 1) in
+      let total : suc (length (fields_behind states (effects + 1) members)) ≡ length (states_at members k) + suc (length (flat_map effect_of members)) = omega (arith, rest) in
+      total
+  fields_count (m.Visible range at ∷ members) n states effects = fields_count members (n + 0) states effects
+  fields_count (m.Reach range at ∷ members) n states effects = fields_count members (n + 0) states effects
+  fields_count (m.Run block at ∷ members) n states effects = fields_count members (n + length (share targets headings own (m.Run block at)).sites) states effects
+  fields_count (m.Die x at ∷ members) n states effects = fields_count members (n + length (share targets headings own (m.Die x at)).sites) states effects
+  fields_count (m.Spawn x gifts at ∷ members) n states effects = fields_count members (n + length (share targets headings own (m.Spawn x gifts at)).sites) states effects
+
+  -- a name that is apart from all titles is apart from all fields
+  apart_from : (name : List ℕ) (members : List MemberTree) (n : ℕ) → Apart name (titles members) → Apart name (state_names members n) × Apart name (effect_names members)
+  apart_from name [] n h = (tt, tt)
+  apart_from name (m.State shared type word x at ∷ members) n h =
+      let rest : Apart name (state_names members _) × Apart name (effect_names members) = apart_from name members (n + length (share targets headings own (m.State shared type word x at)).sites) h.1 in
+      ((h.0, rest.0), rest.1)
+  apart_from name (m.Effect shared type word c at ∷ members) n h =
+      let rest : Apart name (state_names members (n + 0)) × Apart name (effect_names members) = apart_from name members (n + 0) h.1 in
+      (rest.0, (h.0, rest.1))
+  apart_from name (m.Visible range at ∷ members) n h = apart_from name members (n + 0) h.1
+  apart_from name (m.Reach range at ∷ members) n h = apart_from name members (n + 0) h.1
+  apart_from name (m.Run block at ∷ members) n h = apart_from name members (n + length (share targets headings own (m.Run block at)).sites) h.1
+  apart_from name (m.Die x at ∷ members) n h = apart_from name members (n + length (share targets headings own (m.Die x at)).sites) h.1
+  apart_from name (m.Spawn x gifts at ∷ members) n h = apart_from name members (n + length (share targets headings own (m.Spawn x gifts at)).sites) h.1
+
+  insert : (x one : List ℕ) (xs ys : List (List ℕ)) → Apart x (xs ++ ys) → bytes_eq x one ≡ false → Apart x (xs ++ one ∷ ys)
+  insert x one [] ys h apart = (apart, h)
+  insert x one (z ∷ xs) ys h apart = (h.0, insert x one xs ys h.1 apart)
+
+  -- one name more between names that differ
+  differ_between : (one : List ℕ) (xs ys : List (List ℕ)) → IsDistinct bytes_eq (xs ++ ys) → Apart one xs → Apart one ys → IsDistinct bytes_eq (xs ++ one ∷ ys)
+  unfolding IsDistinct
+  differ_between one [] ys h here there = (there, h)
+  differ_between one (x ∷ xs) ys h here there =
+      (insert x one xs ys h.0 (bytes-apart one x here.0), differ_between one xs ys h.1 here.1 there)
+
+  -- the fields of a class have names of their own each
+  pub fields_differ : (members : List MemberTree) (n : ℕ) → IsDistinct bytes_eq (titles members) → IsDistinct bytes_eq (state_names members n ++ effect_names members)
+  unfolding IsDistinct
+  fields_differ [] n h = tt
+  fields_differ (m.State shared type name x at ∷ members) n h =
+      let k : ℕ = n + length (share targets headings own (m.State shared type name x at)).sites in
+      let apart : Apart name.text (state_names members k) × Apart name.text (effect_names members) = apart_from name.text members k h.0 in
+      (joined (λ other. bytes_eq name.text other ≡ false) (state_names members k) (effect_names members) apart.0 apart.1, fields_differ members k h.1)
+  fields_differ (m.Effect shared type name c at ∷ members) n h =
+      let apart : Apart name.text (state_names members (n + 0)) × Apart name.text (effect_names members) = apart_from name.text members (n + 0) h.0 in
+      differ_between name.text (state_names members (n + 0)) (effect_names members) (fields_differ members (n + 0) h.1) apart.0 apart.1
+  fields_differ (m.Visible range at ∷ members) n h = fields_differ members (n + 0) h.1
+  fields_differ (m.Reach range at ∷ members) n h = fields_differ members (n + 0) h.1
+  fields_differ (m.Run block at ∷ members) n h = fields_differ members (n + length (share targets headings own (m.Run block at)).sites) h.1
+  fields_differ (m.Die x at ∷ members) n h = fields_differ members (n + length (share targets headings own (m.Die x at)).sites) h.1
+  fields_differ (m.Spawn x gifts at ∷ members) n h = fields_differ members (n + length (share targets headings own (m.Spawn x gifts at)).sites) h.1
+
+  -- a coordinate is the first state of its name
+  abbrev placed : List ℕ → List State → Bool
+  placed axis states = is_position axis (slice_get states (place_of axis states))
+
+  not_later : (axis : List ℕ) (members : List MemberTree) → Apart axis (titles members) → list_any (is_coordinate axis) members ≡ false
+  not_later axis [] h = refl
+  not_later axis (m.State true tyname.Fixed name x at ∷ members) h = rw h.0 (not_later axis members h.1)
+  not_later axis (m.State true tyname.Int name x at ∷ members) h = not_later axis members h.1
+  not_later axis (m.State true tyname.Bool name x at ∷ members) h = not_later axis members h.1
+  not_later axis (m.State true (tyname.Other other) name x at ∷ members) h = not_later axis members h.1
+  not_later axis (m.State false type name x at ∷ members) h = not_later axis members h.1
+  not_later axis (m.Effect shared type name c at ∷ members) h = not_later axis members h.1
+  not_later axis (m.Visible range at ∷ members) h = not_later axis members h.1
+  not_later axis (m.Reach range at ∷ members) h = not_later axis members h.1
+  not_later axis (m.Run block at ∷ members) h = not_later axis members h.1
+  not_later axis (m.Die x at ∷ members) h = not_later axis members h.1
+  not_later axis (m.Spawn x gifts at ∷ members) h = not_later axis members h.1
+
+  placed_here : (axis : List ℕ) (s : State) (states : List State) → bytes_eq s.name axis ≡ true → placed axis (s ∷ states) ≡ (s.shared && same_type s.ty ty.Fixed)
+  placed_here axis s states same =
+      let first : place_of axis (s ∷ states) ≡ 0 = rw same refl in
+      ap (λ (k : ℕ). is_position axis (slice_get (s ∷ states) k)) first ∙ ap (λ (b : Bool). b && (s.shared && same_type s.ty ty.Fixed)) same
+
+  placed_later : (axis : List ℕ) (s : State) (states : List State) → bytes_eq s.name axis ≡ false → placed axis (s ∷ states) ≡ placed axis states
+  placed_later axis s states apart =
+      let more : 1 + place_of axis states ≡ suc (place_of axis states) = omega arith in
+      let far : place_of axis (s ∷ states) ≡ suc (place_of axis states) = rw apart more in
+      ap (λ (k : ℕ). is_position axis (slice_get (s ∷ states) k)) far
+
+  -- a state is the coordinate, or one behind it is
+  abbrev here : List ℕ → Bool → TyName → Ident → Option ExprTree → ℕ → List MemberTree → Bool
+  here axis shared type name x at members = list_any (is_coordinate axis) (m.State shared type name x at ∷ members)
+
+  stands_here : (axis : List ℕ) (shared : Bool) (type : TyName) (name : Ident) (x : Option ExprTree) (at : ℕ) (members : List MemberTree)
+      → list_any (is_coordinate axis) members ≡ false → here axis shared type name x at members ≡ true → (shared && same_type (type_named type) ty.Fixed) ≡ true
+  stands_here axis true tyname.Fixed name x at members none is = refl
+  stands_here axis true tyname.Int name x at members none is = absurd (true≢false (sym is ∙ none))
+  stands_here axis true tyname.Bool name x at members none is = absurd (true≢false (sym is ∙ none))
+  stands_here axis true (tyname.Other other) name x at members none is = absurd (true≢false (sym is ∙ none))
+  stands_here axis false type name x at members none is = absurd (true≢false (sym is ∙ none))
+
+  stands_later : (axis : List ℕ) (shared : Bool) (type : TyName) (name : Ident) (x : Option ExprTree) (at : ℕ) (members : List MemberTree)
+      → bytes_eq axis name.text ≡ false → here axis shared type name x at members ≡ true → list_any (is_coordinate axis) members ≡ true
+  stands_later axis true tyname.Fixed name x at members apart is = subst (λ (b : Bool). (b || list_any (is_coordinate axis) members) ≡ true) apart is
+  stands_later axis true tyname.Int name x at members apart is = is
+  stands_later axis true tyname.Bool name x at members apart is = is
+  stands_later axis true (tyname.Other other) name x at members apart is = is
+  stands_later axis false type name x at members apart is = is
+
+  -- a class with a coordinate has its place
+  pub is_placed : (axis : List ℕ) (members : List MemberTree) (n : ℕ) → IsDistinct bytes_eq (titles members) → list_any (is_coordinate axis) members ≡ true
+      → placed axis (states_at members n) ≡ true
+  unfolding IsDistinct
+  is_placed axis [] n h is = absurd (true≢false (sym is))
+  is_placed axis (m.State shared type name x at ∷ members) n h is =
+      let k : ℕ = n + length (share targets headings own (m.State shared type name x at)).sites in
+      let s : State = record { name = name.text; ty = type_named type; shared = shared; rule = (rule x (outermost targets headings own false)).behind n } in
+      elim (cases_Bool (bytes_eq name.text axis)) [
+        | inl same ↦
+            let one : name.text ≡ axis = (bytes_eq-Decides name.text axis).0 same in
+            let later : list_any (is_coordinate axis) members ≡ false = not_later axis members (subst (λ (name : List ℕ). Apart name (titles members)) one h.0) in
+            placed_here axis s (states_at members k) same ∙ stands_here axis shared type name x at members later is
+        | inr apart ↦
+            placed_later axis s (states_at members k) apart
+                ∙ is_placed axis members k h.1 (stands_later axis shared type name x at members (bytes-apart name.text axis apart) is)
+      ]
+  is_placed axis (m.Effect shared type name c at ∷ members) n h is = is_placed axis members (n + 0) h.1 is
+  is_placed axis (m.Visible range at ∷ members) n h is = is_placed axis members (n + 0) h.1 is
+  is_placed axis (m.Reach range at ∷ members) n h is = is_placed axis members (n + 0) h.1 is
+  is_placed axis (m.Run block at ∷ members) n h is = is_placed axis members (n + length (share targets headings own (m.Run block at)).sites) h.1 is
+  is_placed axis (m.Die x at ∷ members) n h is = is_placed axis members (n + length (share targets headings own (m.Die x at)).sites) h.1 is
+  is_placed axis (m.Spawn x gifts at ∷ members) n h is = is_placed axis members (n + length (share targets headings own (m.Spawn x gifts at)).sites) h.1 is
