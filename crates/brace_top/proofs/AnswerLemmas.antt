@@ -1,118 +1,183 @@
 -- The answer of a command, from what its parts come to.
-use Rattle.std.proofs.Common.{◌≡◌, ◌∙◌, refl, sym, ap, subst, ℕ, List, [], true, false, Bool, Option, Some, None, Result, Ok, Err, IfOk, IfErr, codes, inl, inr, nat_lt, length, if◌then◌else◌}
+use Rattle.std.proofs.Common.{◌≡◌, ◌∙◌, refl, sym, ap, subst, ℕ, List, [], true, false, Bool, Option, Some, None, Result, Ok, Err, IfOk, IfErr, codes, inl, inr, if◌then◌else◌, nat_lt, length, ◌≤◌, arith}
+use Rattle.std.proofs.lemmas.Bool.Decides.{nat_tests}
+use Rattle.brace_io.specs.declared.shelf.Shelf as shelf_trait
+use Rattle.brace_io.specs.declared.sink.Sink as sink_trait
 use Rattle.brace_io.specs.Counts.{Rose}
-use Rattle.brace_io.specs.Shelves.{Files, StoppedAt}
+use Rattle.brace_io.specs.Shelves.{Files, StoppedAt, Holds, Lacks, HoldsOver}
 use Rattle.brace_io.specs.Sinks.{Gains, GainsFront}
 use Rattle.brace_model.specs.declared.fault.Fault.{Fault as RunFault}
 use Rattle.brace_model.specs.declared.program.Program.{Program}
-use Rattle.brace_model.specs.World.{World}
+use Rattle.brace_model.specs.World.{World, world_of}
+use Rattle.brace_rows.specs.declared.kinds.RowFault.{RowFault}
+use Rattle.brace_rows.specs.declared.kinds.RowFault.TheVariants as row_fault
+use Rattle.brace_rows.specs.declared.kinds.RowKind.{RowKind}
+use Rattle.brace_rows.specs.AgentFile as file
 use Rattle.brace_top.specs.declared.answer.Answer.{Answer}
 use Rattle.brace_top.specs.declared.answer.Stopped.{Stopped}
 use Rattle.brace_top.specs.declared.answer.Stopped.TheVariants as stopped_is
 use Rattle.brace_top.specs.declared.job.RunFault.{RunFault as GivenUp}
 use Rattle.brace_top.specs.declared.job.RunFault.TheVariants as run_fault
+use Rattle.brace_top.specs.declared.limits.TheConstants.{AGENTS_LIMIT}
+use Rattle.brace_top.specs.declared.script_fault.ScriptFault.{ScriptFault}
+use Rattle.brace_top.specs.declared.script_fault.ScriptFault.TheVariants as script_fault
 use Rattle.brace_top.specs.declared.status.Status.{Status}
 use Rattle.brace_top.specs.declared.status.Status.TheVariants.{Done, Usage, Script, Agents, Fault, ReadFault, WriteFault, NoMemory, Absent}
-use Rattle.brace_top.specs.Answer.{ShelfCall, SinkCall, Among, LeavesFront, IsEnd, IsAnswer, CountsReads}
-use Rattle.brace_top.specs.Commands.{Command, RunCommand, Format}
+use Rattle.brace_top.specs.Answer.{ShelfCall, SinkCall, shelf_call, sink_call, Among, LeavesFront, IsEnd, IsAnswer, CountsReads}
+use Rattle.brace_top.specs.Commands.{Command, RunCommand}
 use Rattle.brace_top.specs.Messages.{named_message, usage_message, write_fault_message}
-use Rattle.brace_top.specs.Outcome.{Outcome, Refusal, refused, shown_outcome, ended, end_status, end_message, loaded, thin_file, script_of, agents_of, source_of, every_tick, ran, with_program, with_world, run_outcome, with_source, CommandOutcome, Formats, Reads}
+use Rattle.brace_top.specs.Outcome.{Outcome, Refusal, refusal, refused, shown, ended, end_status, end_message, loaded, source_of, ComesTo, refused_at, stands_for, unless_faulty, world_from, agents_of, job_of, ran, followed_by, has_births, run_outcome, CommandOutcome, Reads}
 use Rattle.brace_top.specs.Status.{has_run}
-use Rattle.brace_top.specs.inner.Settled.{stopped_by, is_work, stopped_status, stopped_message, status_in, message_in, IsRefusalOf, refuses_file, is_stop, GivesNothing, IsStopped, IsCarriedOut}
+use Rattle.brace_top.specs.inner.Settled.{stopped_by, is_work, stopped_status, stopped_message, status_in, message_in, IsRefusedAs, IsScriptRefused, IsRecordRefused, refuses_file, is_stop, GivesNothing, IsLoaded, IsUnloaded, IsStopped, IsCarriedOut, IsServed}
+use Rattle.brace_top.proofs.StatusLemmas.{stop_runs, stop_usage, stop_writes, work_refusal, work_usage, carried_reads, carried_writes}
 
--- ---- what is loaded
+-- ---- what is not loaded
 
--- what bytes within the limit come to
-abbrev pub meant : {A : Type 0} → Status → (List ℕ → Option A) → List ℕ → Result (List ℕ) Refusal → Result A Refusal
-meant status meaning name (Err r) = Err r
-meant status meaning name (Ok bytes) = thin_file status name (meaning bytes)
+-- what gives nothing gives nothing of what may be made of it
+nothing_as : (of_ to_ : Files → Refusal → Type 0) (name : List ℕ) (shelf : ShelfCall) (message : List ℕ) (status : Status)
+    → ((files : Files) (r : Refusal) → of_ files r → to_ files r)
+    → GivesNothing of_ name shelf message status → GivesNothing to_ name shelf message status
+nothing_as of_ to_ name shelf message ReadFault up is = is
+nothing_as of_ to_ name shelf message NoMemory up is = is
+nothing_as of_ to_ name shelf message Done up is = absurd (let e = is.stops in cc)
+nothing_as of_ to_ name shelf message Usage up is = absurd (let e = is.stops in cc)
+nothing_as of_ to_ name shelf message Fault up is = absurd (let e = is.stops in cc)
+nothing_as of_ to_ name shelf message WriteFault up is = absurd (let e = is.stops in cc)
+nothing_as of_ to_ name shelf message Script up is = record { stops = refl; found = λ files told. up files _ (is.found files told) }
+nothing_as of_ to_ name shelf message Agents up is = record { stops = refl; found = λ files told. up files _ (is.found files told) }
+nothing_as of_ to_ name shelf message Absent up is = record { stops = refl; found = λ files told. up files _ (is.found files told) }
 
-meant_if : {A : Type 0} (status : Status) (meaning : List ℕ → Option A) (name bytes : List ℕ) (r : Refusal) (b : Bool)
-    → (if b then Err r else thin_file status name (meaning bytes)) ≡ meant status meaning name (if b then Err r else Ok bytes)
-meant_if status meaning name bytes r true = refl
-meant_if status meaning name bytes r false = refl
+pub unloaded_as : {A B : Type 0} (of_ : Files → Result A Refusal → Type 0) (to_ : Files → Result B Refusal → Type 0) (name : List ℕ) (shelf : ShelfCall) (stopped : Stopped)
+    → ((files : Files) (r : Refusal) → of_ files (Err r) → to_ files (Err r)) → IsUnloaded of_ name shelf stopped → IsUnloaded to_ name shelf stopped
+unloaded_as of_ to_ name shelf stopped up is = record {
+  nothing = nothing_as (λ files r. of_ files (Err r)) (λ files r. to_ files (Err r)) name shelf _ _ up is.nothing;
+  counts = is.counts;
+}
 
-loaded_meant : {A : Type 0} (status : Status) (limit : ℕ) (meaning : List ℕ → Option A) (name : List ℕ) (file : Option (List ℕ))
-    → loaded status limit meaning name file ≡ meant status meaning name (loaded status limit Some name file)
-loaded_meant status limit meaning name None = refl
-loaded_meant status limit meaning name (Some bytes) = meant_if status meaning name bytes _ (nat_lt limit (length bytes))
+-- what is not loaded later, where no read failed before, is not loaded
+pub unloaded_later : {S A : Type 0} (of_shelf : shelf_trait.Ghosts S) (comes_to : Files → Result A Refusal → Type 0) (name : List ℕ) (s m t : S) (stopped : Stopped)
+    → of_shelf.held m ≡ of_shelf.held s → of_shelf.faults m ≡ of_shelf.faults s
+    → IsUnloaded comes_to name (shelf_call of_shelf m t) stopped → IsUnloaded comes_to name (shelf_call of_shelf s t) stopped
+unloaded_later of_shelf comes_to name s m t stopped held faults is = rw (held, faults) at is
 
--- a file that was loaded stands for what its bytes mean
-pub loaded_as : {A : Type 0} (status : Status) (limit : ℕ) (meaning : List ℕ → Option A) (name : List ℕ) (file : Option (List ℕ)) (bytes : List ℕ) (is : Option A)
-    → loaded status limit Some name file ≡ Ok bytes → meaning bytes ≡ is → loaded status limit meaning name file ≡ thin_file status name is
-loaded_as status limit meaning name file bytes is e f =
-    loaded_meant status limit meaning name file ∙ ap (meant status meaning name) e ∙ ap (thin_file status name) f
+refusing : (P : Files → Refusal → Type 0) (name : List ℕ) (shelf : ShelfCall) (message : List ℕ) (status : Status) → refuses_file status ≡ true
+    → ((files : Files) → shelf.held ≡ Some files → P files (record { status = status; message = message })) → GivesNothing P name shelf message status
+refusing P name shelf message Script r found = record { stops = refl; found = found }
+refusing P name shelf message Agents r found = record { stops = refl; found = found }
+refusing P name shelf message Absent r found = record { stops = refl; found = found }
+refusing P name shelf message ReadFault r found = absurd cc
+refusing P name shelf message NoMemory r found = absurd cc
+refusing P name shelf message Done r found = absurd cc
+refusing P name shelf message Usage r found = absurd cc
+refusing P name shelf message Fault r found = absurd cc
+refusing P name shelf message WriteFault r found = absurd cc
 
--- a file that gives no bytes stands for nothing
-pub nothing_as : {A : Type 0} (of : Status) (limit : ℕ) (meaning : List ℕ → Option A) (name : List ℕ) (shelf : ShelfCall) (message : List ℕ) (status : Status)
-    → GivesNothing (λ files. loaded of limit Some name (files name)) name shelf message status
-    → GivesNothing (λ files. loaded of limit meaning name (files name)) name shelf message status
-nothing_as of limit meaning name shelf message ReadFault is = is
-nothing_as of limit meaning name shelf message NoMemory is = is
-nothing_as of limit meaning name shelf message Done is = absurd (let e = is.stops in cc)
-nothing_as of limit meaning name shelf message Usage is = absurd (let e = is.stops in cc)
-nothing_as of limit meaning name shelf message Fault is = absurd (let e = is.stops in cc)
-nothing_as of limit meaning name shelf message WriteFault is = absurd (let e = is.stops in cc)
-nothing_as of limit meaning name shelf message Script is =
-    record { stops = refl; found = λ files told. loaded_meant of limit meaning name (files name) ∙ ap (meant of meaning name) (is.found files told) }
-nothing_as of limit meaning name shelf message Agents is =
-    record { stops = refl; found = λ files told. loaded_meant of limit meaning name (files name) ∙ ap (meant of meaning name) (is.found files told) }
-nothing_as of limit meaning name shelf message Absent is =
-    record { stops = refl; found = λ files told. loaded_meant of limit meaning name (files name) ∙ ap (meant of meaning name) (is.found files told) }
+refusing_counts : (shelf : ShelfCall) (status : Status) → refuses_file status ≡ true → shelf.faults_after ≡ shelf.faults_before → CountsReads shelf status
+refusing_counts shelf Script r same = same
+refusing_counts shelf Agents r same = same
+refusing_counts shelf Absent r same = same
+refusing_counts shelf ReadFault r same = absurd cc
+refusing_counts shelf NoMemory r same = absurd cc
+refusing_counts shelf Done r same = absurd cc
+refusing_counts shelf Usage r same = absurd cc
+refusing_counts shelf Fault r same = absurd cc
+refusing_counts shelf WriteFault r same = absurd cc
 
-refused_is : {A : Type 0} (loading : Files → Result A Refusal) (name : List ℕ) (shelf : ShelfCall) (message : List ℕ) (status : Status)
-    → refuses_file status ≡ true → ((files : Files) → shelf.held ≡ Some files → loading files ≡ Err (record { status = status; message = message }))
-    → GivesNothing loading name shelf message status
-refused_is loading name shelf message Script r found = record { stops = refl; found = found }
-refused_is loading name shelf message Agents r found = record { stops = refl; found = found }
-refused_is loading name shelf message Absent r found = record { stops = refl; found = found }
-refused_is loading name shelf message ReadFault r found = absurd cc
-refused_is loading name shelf message NoMemory r found = absurd cc
-refused_is loading name shelf message Done r found = absurd cc
-refused_is loading name shelf message Usage r found = absurd cc
-refused_is loading name shelf message Fault r found = absurd cc
-refused_is loading name shelf message WriteFault r found = absurd cc
+-- an answer that refuses a file as it is owed
+answer_unloads : {A : Type 0} (comes_to : Files → Result A Refusal → Type 0) (name : List ℕ) (shelf : ShelfCall) (status : Status) (message : List ℕ) (a : Answer)
+    → refuses_file status ≡ true → shelf.faults_after ≡ shelf.faults_before → a.status ≡ status → a.message.items ≡ message
+    → ((files : Files) → shelf.held ≡ Some files → comes_to files (Err (record { status = status; message = message })))
+    → IsUnloaded comes_to name shelf (stopped_is.Refused a)
+answer_unloads comes_to name shelf status message a r same ends says found = record {
+  nothing =
+      subst (λ (s : Status). GivesNothing (λ files x. comes_to files (Err x)) name shelf a.message.items s) (sym ends)
+      (subst (λ (m : List ℕ). GivesNothing (λ files x. comes_to files (Err x)) name shelf m status) (sym says) (refusing _ name shelf message status r found));
+  counts = subst (CountsReads shelf) (sym ends) (refusing_counts shelf status r same);
+}
+
+-- no file is loaded where memory is refused
+pub memory_unloads : {A : Type 0} (comes_to : Files → Result A Refusal → Type 0) (name : List ℕ) (shelf : ShelfCall) → IsUnloaded comes_to name shelf stopped_is.NoMemory
+memory_unloads comes_to name shelf = record { nothing = refl; counts = tt }
+
+-- a file that the shelf tells, within its limit, absent, or past the limit
+pub file_loaded : (held : Option Files) (files : Files) (status : Status) (limit : ℕ) (name bytes : List ℕ) → held ≡ Some files → Holds held name bytes → length bytes ≤ limit
+    → loaded status limit name (files name) ≡ Ok bytes
+file_loaded held files status limit name bytes told holds le =
+    let at_ : files name ≡ Some bytes = subst (λ (h : Option Files). Holds h name bytes) told holds refl in
+    let over : nat_lt limit (length bytes) ≡ false = grind (arith, nat_tests, le) in
+    ap (loaded status limit name) at_ ∙ ap (λ (b : Bool). if b then Err (refusal status name (codes ": TooLong")) else Ok bytes) over
+
+pub file_absent : (held : Option Files) (files : Files) (status : Status) (limit : ℕ) (name : List ℕ) → held ≡ Some files → Lacks held name
+    → loaded status limit name (files name) ≡ Err (refusal Absent name (codes ": absent"))
+file_absent held files status limit name told lacks =
+    ap (loaded status limit name) (subst (λ (h : Option Files). Lacks h name) told lacks)
+
+pub file_long : (held : Option Files) (files : Files) (status : Status) (limit : ℕ) (name : List ℕ) → held ≡ Some files → HoldsOver held name limit
+    → loaded status limit name (files name) ≡ Err (refusal status name (codes ": TooLong"))
+file_long held files status limit name told long =
+    let (file, (at_, lt)) = subst (λ (h : Option Files). HoldsOver h name limit) told long refl in
+    let over : nat_lt limit (length file) ≡ true = grind (arith, nat_tests, lt) in
+    ap (loaded status limit name) at_ ∙ ap (λ (b : Bool). if b then Err (refusal status name (codes ": TooLong")) else Ok file) over
 
 -- a refusal that is owed
-pub refusal_gives : {A : Type 0} (loading : Files → Result A Refusal) (name : List ℕ) (shelf : ShelfCall) (status : Status) (rest : List ℕ) (stopped : Stopped)
-    → refuses_file status ≡ true → IsRefusalOf name status rest stopped
-    → ((files : Files) → shelf.held ≡ Some files → loading files ≡ Err (record { status = status; message = named_message name rest }))
-    → GivesNothing loading name shelf (stopped_message stopped) (stopped_status stopped)
-refusal_gives loading name shelf status rest (stopped_is.Refused a) r is found =
-    subst (λ (s : Status). GivesNothing loading name shelf a.message.items s) (sym is.ends)
-    (subst (λ (m : List ℕ). GivesNothing loading name shelf m status) (sym is.says) (refused_is loading name shelf _ status r found))
-refusal_gives loading name shelf status rest stopped_is.WriteFault r is found = absurd is
-refusal_gives loading name shelf status rest stopped_is.NoMemory r is found = refl
+pub refusal_unloads : {A : Type 0} (comes_to : Files → Result A Refusal → Type 0) (name : List ℕ) (shelf : ShelfCall) (status : Status) (message : List ℕ) (stopped : Stopped)
+    → refuses_file status ≡ true → shelf.faults_after ≡ shelf.faults_before → IsRefusedAs status message stopped
+    → ((files : Files) → shelf.held ≡ Some files → comes_to files (Err (record { status = status; message = message }))) → IsUnloaded comes_to name shelf stopped
+refusal_unloads comes_to name shelf status message (stopped_is.Refused a) r same is found = answer_unloads comes_to name shelf status message a r same is.ends is.says found
+refusal_unloads comes_to name shelf status message stopped_is.WriteFault r same is found = absurd is
+refusal_unloads comes_to name shelf status message stopped_is.NoMemory r same is found = memory_unloads comes_to name shelf
 
 -- a read that failed
-pub fault_gives : {A : Type 0} (loading : Files → Result A Refusal) (name : List ℕ) (shelf : ShelfCall) (stopped : Stopped)
-    → IsRefusalOf name ReadFault (codes ": read fault") stopped → Rose shelf.faults_before shelf.faults_after → StoppedAt shelf.held shelf.stage name
-    → GivesNothing loading name shelf (stopped_message stopped) (stopped_status stopped)
-fault_gives loading name shelf (stopped_is.Refused a) is rose at_ =
-    subst (λ (s : Status). GivesNothing loading name shelf a.message.items s) (sym is.ends) (record { failed = rose; stopped = at_; says = is.says })
-fault_gives loading name shelf stopped_is.WriteFault is rose at_ = absurd is
-fault_gives loading name shelf stopped_is.NoMemory is rose at_ = refl
+pub fault_unloads : {A : Type 0} (comes_to : Files → Result A Refusal → Type 0) (name : List ℕ) (shelf : ShelfCall) (stopped : Stopped)
+    → IsRefusedAs ReadFault (named_message name (codes ": read fault")) stopped → Rose shelf.faults_before shelf.faults_after → StoppedAt shelf.held shelf.stage name
+    → IsUnloaded comes_to name shelf stopped
+fault_unloads comes_to name shelf (stopped_is.Refused a) is rose at_ = record {
+  nothing =
+      subst (λ (s : Status). GivesNothing (λ files x. comes_to files (Err x)) name shelf a.message.items s) (sym is.ends)
+      (record { failed = rose; stopped = at_; says = is.says });
+  counts = subst (CountsReads shelf) (sym is.ends) rose;
+}
+fault_unloads comes_to name shelf stopped_is.WriteFault is rose at_ = absurd is
+fault_unloads comes_to name shelf stopped_is.NoMemory is rose at_ = memory_unloads comes_to name shelf
 
--- a refusal counts as its status
-pub refusal_counts : (name : List ℕ) (shelf : ShelfCall) (status : Status) (rest : List ℕ) (stopped : Stopped)
-    → IsRefusalOf name status rest stopped → CountsReads shelf status → CountsReads shelf (stopped_status stopped)
-refusal_counts name shelf status rest (stopped_is.Refused a) is counts = subst (CountsReads shelf) (sym is.ends) counts
-refusal_counts name shelf status rest stopped_is.WriteFault is counts = absurd is
-refusal_counts name shelf status rest stopped_is.NoMemory is counts = tt
+-- a script that means something
+pub script_loaded : {A : Type 0} (means : List ℕ → A → Type 0) (refuses : List ℕ → ScriptFault → Type 0) (name src : List ℕ) (shelf : ShelfCall) (a : A)
+    → IsLoaded (λ files found. source_of files name ≡ found) shelf src → means src a → IsLoaded (λ files. ComesTo means refuses files name) shelf a
+script_loaded means refuses name src shelf a is it = record { found = λ files told. stands_for src a (is.found files told) it; counts = is.counts }
+
+-- a script that is refused at a place
+pub script_unloads : {A : Type 0} (means : List ℕ → A → Type 0) (refuses : List ℕ → ScriptFault → Type 0) (name src : List ℕ) (shelf : ShelfCall) (fault : ScriptFault) (stopped : Stopped)
+    → shelf.faults_after ≡ shelf.faults_before → ((files : Files) → shelf.held ≡ Some files → source_of files name ≡ Ok src) → refuses src fault
+    → IsScriptRefused name src fault stopped → IsUnloaded (λ files. ComesTo means refuses files name) name shelf stopped
+script_unloads means refuses name src shelf (script_fault.Refused kind at) stopped same source found is =
+    refusal_unloads _ name shelf Script _ stopped refl same is (λ files told. refused_at src kind at (source files told) found)
+script_unloads means refuses name src shelf script_fault.NoMemory stopped same source found is =
+    subst (λ (e : Stopped). IsUnloaded (λ files. ComesTo means refuses files name) name shelf e) (sym is) (memory_unloads _ name shelf)
+
+-- an agent file that is refused for a record
+pub record_unloads : (program : Program) (name bytes : List ℕ) (shelf : ShelfCall) (fault : RowFault) (stopped : Stopped)
+    → shelf.faults_after ≡ shelf.faults_before → ((files : Files) → shelf.held ≡ Some files → loaded Agents AGENTS_LIMIT name (files name) ≡ Ok bytes)
+    → ((number : ℕ) (kind : RowKind) → fault ≡ row_fault.Bad number kind → file.first_fault program (file.records_of bytes) ≡ Some (number, kind))
+    → IsRecordRefused name fault stopped → IsUnloaded (λ files found. agents_of files program name ≡ found) name shelf stopped
+record_unloads program name bytes shelf (row_fault.Bad number kind) stopped same source first is =
+    refusal_unloads _ name shelf Agents _ stopped refl same is
+    (λ files told. ap (world_from program name) (source files told) ∙ ap (unless_faulty name _) (first number kind refl))
+record_unloads program name bytes shelf row_fault.NoMemory stopped same source first is =
+    subst (λ (e : Stopped). IsUnloaded (λ files found. agents_of files program name ≡ found) name shelf e) (sym is) (memory_unloads _ name shelf)
 
 -- ---- a command that goes no further than its files
 
-pub nothing_stops : {A : Type 0} (loading : Files → Result A Refusal) (name : List ℕ) (shelf : ShelfCall) (message : List ℕ) (status : Status)
-    → GivesNothing loading name shelf message status → is_stop status ≡ true
-nothing_stops loading name shelf message ReadFault is = refl
-nothing_stops loading name shelf message NoMemory is = refl
-nothing_stops loading name shelf message Done is = is.stops
-nothing_stops loading name shelf message Usage is = is.stops
-nothing_stops loading name shelf message Script is = is.stops
-nothing_stops loading name shelf message Agents is = is.stops
-nothing_stops loading name shelf message Fault is = is.stops
-nothing_stops loading name shelf message WriteFault is = is.stops
-nothing_stops loading name shelf message Absent is = is.stops
+nothing_stops : (P : Files → Refusal → Type 0) (name : List ℕ) (shelf : ShelfCall) (message : List ℕ) (status : Status)
+    → GivesNothing P name shelf message status → is_stop status ≡ true
+nothing_stops P name shelf message ReadFault is = refl
+nothing_stops P name shelf message NoMemory is = refl
+nothing_stops P name shelf message Done is = is.stops
+nothing_stops P name shelf message Usage is = is.stops
+nothing_stops P name shelf message Script is = is.stops
+nothing_stops P name shelf message Agents is = is.stops
+nothing_stops P name shelf message Fault is = is.stops
+nothing_stops P name shelf message WriteFault is = is.stops
+nothing_stops P name shelf message Absent is = is.stops
 
 refusal_answer : (files : Files) (command : Option Command) (out : SinkCall) (message : List ℕ) (status : Status)
     → CommandOutcome files command (refused (record { status = status; message = message })) → out.after ≡ out.before
@@ -121,22 +186,39 @@ refusal_answer : (files : Files) (command : Option Command) (out : SinkCall) (me
 refusal_answer files command out message status is same end = record { one = _; is = is; holds = end }
 
 -- a file that a command reads and that gives nothing stops it
-pub stops : {A : Type 0} (loading : Files → Result A Refusal) (name : List ℕ) (command : Option Command) (shelf : ShelfCall) (message : List ℕ) (status : Status)
+stops : (P : Files → Refusal → Type 0) (name : List ℕ) (command : Option Command) (shelf : ShelfCall) (message : List ℕ) (status : Status)
     → ((files : Files) → shelf.held ≡ Some files → Reads files command name)
-    → ((files : Files) (r : Refusal) → shelf.held ≡ Some files → loading files ≡ Err r → CommandOutcome files command (refused r))
-    → GivesNothing loading name shelf message status → IsStopped command shelf message status
-stops loading name command shelf message ReadFault reads up is files out told same = record { one = name; is = reads files told; holds = is }
-stops loading name command shelf message NoMemory reads up is files out told same = record { front = inl same; says = is }
-stops loading name command shelf message Script reads up is files out told same =
+    → ((files : Files) (r : Refusal) → shelf.held ≡ Some files → P files r → CommandOutcome files command (refused r))
+    → GivesNothing P name shelf message status → IsStopped command shelf message status
+stops P name command shelf message ReadFault reads up is files out told same = record { one = name; is = reads files told; holds = is }
+stops P name command shelf message NoMemory reads up is files out told same = record { front = inl same; says = is }
+stops P name command shelf message Script reads up is files out told same =
     refusal_answer files command out message Script (up files _ told (is.found files told)) same (record { ends = refl; gained = same; says = refl })
-stops loading name command shelf message Agents reads up is files out told same =
+stops P name command shelf message Agents reads up is files out told same =
     refusal_answer files command out message Agents (up files _ told (is.found files told)) same (record { ends = refl; gained = same; says = refl })
-stops loading name command shelf message Absent reads up is files out told same =
+stops P name command shelf message Absent reads up is files out told same =
     refusal_answer files command out message Absent (up files _ told (is.found files told)) same (record { ends = refl; gained = same; says = refl })
-stops loading name command shelf message Done reads up is files out told same = absurd (let e = is.stops in cc)
-stops loading name command shelf message Usage reads up is files out told same = absurd (let e = is.stops in cc)
-stops loading name command shelf message Fault reads up is files out told same = absurd (let e = is.stops in cc)
-stops loading name command shelf message WriteFault reads up is files out told same = absurd (let e = is.stops in cc)
+stops P name command shelf message Done reads up is files out told same = absurd (let e = is.stops in cc)
+stops P name command shelf message Usage reads up is files out told same = absurd (let e = is.stops in cc)
+stops P name command shelf message Fault reads up is files out told same = absurd (let e = is.stops in cc)
+stops P name command shelf message WriteFault reads up is files out told same = absurd (let e = is.stops in cc)
+
+pub stopped_serves : {S O A : Type 0} (of_shelf : shelf_trait.Ghosts S) (of_sink : sink_trait.Ghosts O) (command : Command) (s t : S) (o : O)
+    (comes_to : Files → Result A Refusal → Type 0) (name : List ℕ) (e : Stopped)
+    → ((files : Files) → of_shelf.held s ≡ Some files → Reads files (Some command) name)
+    → ((files : Files) (r : Refusal) → of_shelf.held s ≡ Some files → comes_to files (Err r) → CommandOutcome files (Some command) (refused r))
+    → IsUnloaded comes_to name (shelf_call of_shelf s t) e → IsServed of_shelf of_sink command s t o o (Err e)
+stopped_serves of_shelf of_sink command s t o comes_to name e reads up is =
+    let P : Files → Refusal → Type 0 = λ files r. comes_to files (Err r) in
+    let stop = nothing_stops P name (shelf_call of_shelf s t) _ _ is.nothing in
+    record {
+      answered = λ files told. stops P name (Some command) (shelf_call of_shelf s t) _ _ reads up is.nothing files (sink_call of_sink o o) told refl;
+      reads = is.counts;
+      writes = stop_writes (sink_call of_sink o o) _ stop;
+      untouched = λ r. refl;
+      clean = stop_runs _ _ stop;
+      known = stop_usage _ stop;
+    }
 
 -- ---- a command that is carried out
 
@@ -177,6 +259,21 @@ pub answers : (these : Outcome → Type 0) (files : Files) (command : Option Com
     → ((o : Outcome) → these o → CommandOutcome files command o) → IsCarriedOut these out message status → IsAnswer files command shelf out message status
 answers these files command shelf out message status up is =
     carried_answer files command shelf out message status (carried_as these (CommandOutcome files command) out message status up is)
+
+-- a command whose work was carried out is served
+pub work_serves : {S O : Type 0} (of_shelf : shelf_trait.Ghosts S) (of_sink : sink_trait.Ghosts O) (command : Command) (s t : S) (o p : O) (r : Result Answer Stopped)
+    (these : Outcome → Type 0) → of_shelf.faults t ≡ of_shelf.faults s
+    → ((files : Files) (x : Outcome) → of_shelf.held s ≡ Some files → these x → CommandOutcome files (Some command) x)
+    → IsCarriedOut these (sink_call of_sink o p) (message_in r) (status_in r) → is_work (status_in r) ≡ true
+    → (has_run (status_in r) ≡ true → of_sink.clean p ≡ true) → IsServed of_shelf of_sink command s t o p r
+work_serves of_shelf of_sink command s t o p r these same up is work clean = record {
+  answered = λ files told. answers these files (Some command) (shelf_call of_shelf s t) (sink_call of_sink o p) _ _ (λ x of_these. up files x told of_these) is;
+  reads = carried_reads these (sink_call of_sink o p) (shelf_call of_shelf s t) _ _ is same;
+  writes = carried_writes these (sink_call of_sink o p) _ _ is;
+  untouched = work_refusal _ _ work;
+  clean = clean;
+  known = work_usage _ work;
+}
 
 -- ---- what the parts carry out
 
@@ -220,48 +317,43 @@ ended_works (Some f) (Ok a) status err = ap is_work status
 ended_works found (Err e) status err = ap (λ (s : Stopped). is_work (stopped_status s)) err
 
 -- a text that is all of a command, or a front of it
-pub shown_carried : (text : List ℕ) (out : SinkCall) → Gains out.before out.after text → IsCarriedOut (λ o. o ≡ shown_outcome text) out [] Done
+pub shown_carried : (text : List ℕ) (out : SinkCall) → Gains out.before out.after text → IsCarriedOut (λ o. o ≡ shown text) out [] Done
 shown_carried text out gains = record { one = _; is = refl; holds = record { ends = refl; gained = gains; says = refl } }
 
 pub unshown_carried : (text : List ℕ) (out : SinkCall) → Rose out.faults_before out.faults_after → GainsFront out.before out.after text
-    → IsCarriedOut (λ o. o ≡ shown_outcome text) out write_fault_message WriteFault
+    → IsCarriedOut (λ o. o ≡ shown text) out write_fault_message WriteFault
 unshown_carried text out rose front = record { one = _; is = refl; holds = record { runs = refl; failed = rose; front = front; says = refl } }
 
--- a refusal with nothing written
-pub refused_carried : (outcomes : Outcome → Type 0) (message : List ℕ) (out : SinkCall) (r : Result Answer Stopped)
-    → outcomes (refused (record { status = Script; message = message })) → out.after ≡ out.before
-    → IfOk r (λ a. a.status ≡ Script) → IfOk r (λ a. a.message.items ≡ message) → IfErr r (λ e. e ≡ stopped_is.NoMemory)
-    → IsCarriedOut outcomes out (message_in r) (status_in r)
-refused_carried outcomes message out (Ok a) is same status said err =
-    subst (λ (s : Status). IsCarriedOut outcomes out a.message.items s) (sym status)
-    (record { one = _; is = is; holds = record { ends = refl; gained = same; says = said } })
-refused_carried outcomes message out (Err e) is same status said err =
-    subst (λ (s : Stopped). IsCarriedOut outcomes out (stopped_message s) (stopped_status s)) (sym err)
-    (record { front = inl same; says = refl })
+-- ---- the outcomes of a run
 
--- ---- the outcomes of a run and of a formatting
+-- a program with births
+pub births_refused : (files : Files) (run : RunCommand) (program : Program) → has_births program ≡ true
+    → refused (refusal Script run.script (codes ": NotThin")) ≡ run_outcome files run program
+births_refused files run program e =
+    sym (ap (λ (b : Bool). if b then refused (refusal Script run.script (codes ": NotThin"))
+    else followed_by (λ start. ran (job_of run program start)) (agents_of files program run.agents)) e)
 
--- a refused script
-pub outcome_script : (files : Files) (run : RunCommand) (r : Refusal) → script_of files run.script ≡ Err r → refused r ≡ run_outcome files run
-outcome_script files run r e = sym (ap (with_program files run) e)
+-- a program without births
+goes_on : (files : Files) (run : RunCommand) (program : Program) → has_births program ≡ false
+    → run_outcome files run program ≡ followed_by (λ start. ran (job_of run program start)) (agents_of files program run.agents)
+goes_on files run program e =
+    ap (λ (b : Bool). if b then refused (refusal Script run.script (codes ": NotThin"))
+    else followed_by (λ start. ran (job_of run program start)) (agents_of files program run.agents)) e
 
 -- a refused agent file
-pub outcome_agents : (files : Files) (run : RunCommand) (program : Program) (r : Refusal) → script_of files run.script ≡ Ok program
-    → agents_of files program run.agents ≡ Err r → refused r ≡ run_outcome files run
-outcome_agents files run program r e f = sym (ap (with_program files run) e ∙ ap (with_world run program) f)
+pub agents_refused : (files : Files) (run : RunCommand) (program : Program) (r : Refusal) → has_births program ≡ false
+    → agents_of files program run.agents ≡ Err r → refused r ≡ run_outcome files run program
+agents_refused files run program r e f = sym (goes_on files run program e ∙ ap (followed_by (λ start. ran (job_of run program start))) f)
 
 -- a run
-pub outcome_run : (files : Files) (run : RunCommand) (program : Program) (world : World) → script_of files run.script ≡ Ok program
-    → agents_of files program run.agents ≡ Ok world → ran (every_tick program run.ticks world) ≡ run_outcome files run
-outcome_run files run program world e f = sym (ap (with_program files run) e ∙ ap (with_world run program) f)
+pub run_ended : (files : Files) (run : RunCommand) (program : Program) (start : World) → has_births program ≡ false
+    → agents_of files program run.agents ≡ Ok start → ran (job_of run program start) ≡ run_outcome files run program
+run_ended files run program start e f = sym (goes_on files run program e ∙ ap (followed_by (λ start. ran (job_of run program start))) f)
 
--- a script that is refused before it is read
-pub source_refused : (name : List ℕ) (files : Files) (r : Refusal) → source_of files name ≡ Err r → CommandOutcome files (Some (Format name)) (refused r)
-source_refused name files r e = subst (λ (s : Result (List ℕ) Refusal). with_source name (refused r) s) (sym e) refl
-
--- a script that is read
-pub source_read : (name src : List ℕ) (files : Files) (o : Outcome) → source_of files name ≡ Ok src → Formats name src o → CommandOutcome files (Some (Format name)) o
-source_read name src files o e is = subst (λ (s : Result (List ℕ) Refusal). with_source name o s) (sym e) is
+-- the world of an agent file
+pub world_read : (program : Program) (files : Files) (name bytes : List ℕ) (world : World) → loaded Agents AGENTS_LIMIT name (files name) ≡ Ok bytes
+    → file.first_fault program (file.records_of bytes) ≡ None → world ≡ world_of (file.by_id (file.agents_in program (file.records_of bytes))) → agents_of files program name ≡ Ok world
+world_read program files name bytes world e none is = ap (world_from program name) e ∙ ap (unless_faulty name _) none ∙ ap (λ (w : World). Ok w) (sym is)
 
 -- words that are no command
 pub usage_answer : (found : Option Command) (files : Files) (shelf : ShelfCall) (out : SinkCall) → found ≡ None → out.after ≡ out.before

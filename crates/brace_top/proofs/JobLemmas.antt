@@ -1,18 +1,17 @@
--- The run of a job tick by tick, and what its text adds to a sink.
-use Rattle.std.proofs.Common.{◌≡◌, ◌∙◌, sym, refl, ap, subst, ℕ, ◌+◌, ◌-◌, ◌%◌, ◌≤◌, ◌<◌, List, ◌++◌, true, length, length-append, take, Option, Some, None, Ok, Err, arith, zero-add, append_assoc}
+-- The run of a job from tick 0, tick by tick, and what its text adds to a sink.
+use Rattle.std.proofs.Common.{◌≡◌, ◌∙◌, sym, ap, subst, ℕ, ◌+◌, ◌-◌, ◌≤◌, ◌<◌, List, ◌++◌, true, length, length-append, take, Option, Some, None, Result, Ok, Err, arith, zero-add, append_assoc}
 use Rattle.std.specs.Result.{result_err}
 use Rattle.std.proofs.lemmas.List.{take_all, take-append-le}
 use Rattle.std.proofs.Math.Seq.{take-append-add}
 use Rattle.brace_io.specs.Counts.{Rose}
 use Rattle.brace_io.specs.Sinks.{with_piece, Gains, GainsFront}
 use Rattle.brace_io.proofs.WholeLemmas.{Gains-none, with_piece-twice}
-use Rattle.brace_model.specs.declared.program.Program.{Program}
+use Rattle.brace_model.specs.declared.job.Job.{Job}
 use Rattle.brace_model.specs.declared.fault.Fault.{Fault}
 use Rattle.brace_model.specs.World.{World}
 use Rattle.brace_model.specs.Step.{step}
 use Rattle.brace_model.specs.Run.{world_after, first_fault}
-use Rattle.brace_model.specs.Published.{rows, tick_text, text_of_ticks, published}
-use Rattle.brace_top.specs.Outcome.{every_tick}
+use Rattle.brace_model.specs.Published.{tick_text, text_of_ticks, published}
 use Rattle.brace_model.proofs.RunLemmas.{world_after-zero, world_after-next, world_after-ended, text-next, text-ended, text-front}
 
 -- one piece, and then another
@@ -37,92 +36,73 @@ front_more a b c p q rest h (n, (le, k)) =
 pub front_whole : (a b : Option (List ℕ)) (p rest : List ℕ) → Gains a b p → GainsFront a b (p ++ rest)
 front_whole a b p rest h = (length p, (simp length-append (omega arith), h ∙ ap (with_piece a) (sym (take-append-le (length p) p rest (omega arith) ∙ take_all (length p) p (omega arith)))))
 
-divides : (n : ℕ) → n % 1 ≡ 0
-divides n = omega arith
-
 -- a whole piece is a front of itself
 pub front_all : (a b : Option (List ℕ)) (p : List ℕ) → Gains a b p → GainsFront a b p
 front_all a b p h = (length p, (omega arith, h ∙ ap (with_piece a) (sym (take_all (length p) p (omega arith)))))
 
--- each tick of such a job is published
-pub published-every : (program : Program) (last : ℕ) (start : World) (n : ℕ) (world : World) → world_after (every_tick program last start) n ≡ Ok world
-    → tick_text (every_tick program last start) true (0 + n) (world_after (every_tick program last start) n) ≡ rows program n world.agents
-published-every program last start n world e =
-    let tick : 0 + n ≡ n = zero-add n in
-    rw (e, tick, divides n) refl
+module _ (job : Job) (fresh : job.first ≡ 0) where
+  at_tick : (n : ℕ) → job.first + n ≡ n
+  at_tick n = ap (λ (m : ℕ). m + n) fresh ∙ zero-add n
 
--- the text of one tick more
-pub text-more : (program : Program) (last : ℕ) (start : World) (n : ℕ) (world : World) → world_after (every_tick program last start) n ≡ Ok world
-    → text_of_ticks (every_tick program last start) true (n + 1) ≡ text_of_ticks (every_tick program last start) true n ++ rows program n world.agents
-text-more program last start n world e =
-    text-next (every_tick program last start) true n ∙ ap (λ (l : List ℕ). text_of_ticks (every_tick program last start) true n ++ l) (published-every program last start n world e)
+  -- the text of one tick more
+  text-more : (n : ℕ) (world : World) → world_after job n ≡ Ok world
+      → text_of_ticks job true (n + 1) ≡ text_of_ticks job true n ++ tick_text job true n (Ok world)
+  text-more n world e =
+      text-next job true n
+      ∙ ap (λ (l : List ℕ). text_of_ticks job true n ++ l)
+      (ap (λ (m : ℕ). tick_text job true m (world_after job n)) (at_tick n) ∙ ap (tick_text job true n) e)
 
--- the text of the ticks so far begins the published text
-pub text-begins : (program : Program) (last : ℕ) (start : World) (n : ℕ) → n ≤ last + 1
-    → (rest : List ℕ) × (published (every_tick program last start) true ≡ text_of_ticks (every_tick program last start) true n ++ rest)
-text-begins program last start n le =
-    let (rest, e) = text-front (every_tick program last start) true n (last + 1 - n) in
-    let whole : 1 + (last - 0) ≡ n + (last + 1 - n) = omega arith in
-    (rest, ap (λ (m : ℕ). text_of_ticks (every_tick program last start) true m) whole ∙ e)
+  -- the text of the ticks so far begins the published text
+  text-begins : (n : ℕ) → n ≤ job.last + 1 → (rest : List ℕ) × (published job true ≡ text_of_ticks job true n ++ rest)
+  text-begins n le =
+      let (rest, e) = text-front job true n (job.last + 1 - n) in
+      let whole : 1 + (job.last - job.first) ≡ n + (job.last + 1 - n) = omega (arith, fresh) in
+      (rest, ap (λ (m : ℕ). text_of_ticks job true m) whole ∙ e)
 
--- what was written so far, and then a front of the next tick's rows, is a front of the published text
-pub front_of_run : (program : Program) (last : ℕ) (start : World) (n : ℕ) (world : World) (a b c : Option (List ℕ)) → n ≤ last → world_after (every_tick program last start) n ≡ Ok world
-    → Gains a b (text_of_ticks (every_tick program last start) true n) → GainsFront b c (rows program n world.agents) → GainsFront a c (published (every_tick program last start) true)
-front_of_run program last start n world a b c le is h k =
-    let (rest, e) = text-begins program last start (n + 1) (omega arith) in
-    let text = text_of_ticks (every_tick program last start) true n in
-    let parts : published (every_tick program last start) true ≡ text ++ (rows program n world.agents ++ rest) =
-    e ∙ ap (λ (l : List ℕ). l ++ rest) (text-more program last start n world is) ∙ append_assoc text (rows program n world.agents) rest in
-    subst (λ (l : List ℕ). GainsFront a c l) (sym parts) (front_more a b c text (rows program n world.agents) rest h k)
+  -- what was written so far, and then a front of the next tick's text, is a front of the published text
+  pub front_of_run : (n : ℕ) (world : World) (a b c : Option (List ℕ)) → n ≤ job.last → world_after job n ≡ Ok world
+      → Gains a b (text_of_ticks job true n) → GainsFront b c (tick_text job true n (Ok world)) → GainsFront a c (published job true)
+  front_of_run n world a b c le is h k =
+      let (rest, e) = text-begins (n + 1) (omega arith) in
+      let text = text_of_ticks job true n in
+      let parts : published job true ≡ text ++ (tick_text job true n (Ok world) ++ rest) =
+      e ∙ ap (λ (l : List ℕ). l ++ rest) (text-more n world is) ∙ append_assoc text (tick_text job true n (Ok world)) rest in
+      subst (λ (l : List ℕ). GainsFront a c l) (sym parts) (front_more a b c text (tick_text job true n (Ok world)) rest h k)
 
--- what was written so far is a front of the published text
-pub front_so_far : (program : Program) (last : ℕ) (start : World) (n : ℕ) (a b : Option (List ℕ)) → n ≤ last + 1
-    → Gains a b (text_of_ticks (every_tick program last start) true n) → GainsFront a b (published (every_tick program last start) true)
-front_so_far program last start n a b le h =
-    let (rest, e) = text-begins program last start n le in
-    subst (λ (l : List ℕ). GainsFront a b l) (sym e) (front_whole a b _ rest h)
+  -- what was written so far is a front of the published text
+  pub front_so_far : (n : ℕ) (a b : Option (List ℕ)) → n ≤ job.last + 1 → Gains a b (text_of_ticks job true n) → GainsFront a b (published job true)
+  front_so_far n a b le h =
+      let (rest, e) = text-begins n le in
+      subst (λ (l : List ℕ). GainsFront a b l) (sym e) (front_whole a b _ rest h)
 
--- a run that reached its last tick
-pub reached : (program : Program) (last : ℕ) (start : World) (n : ℕ) (world : World) → n ≡ last → world_after (every_tick program last start) n ≡ Ok world → first_fault (every_tick program last start) ≡ None
-reached program last start n world same e = ap (λ (m : ℕ). result_err (world_after (every_tick program last start) m)) (omega arith) ∙ ap result_err e
+  -- a run that reached its last tick
+  pub reached : (n : ℕ) (world : World) → n ≡ job.last → world_after job n ≡ Ok world → first_fault job ≡ None
+  reached n world same e = ap (λ (m : ℕ). result_err (world_after job m)) (omega (arith, fresh, same)) ∙ ap result_err e
 
-pub text-reached : (program : Program) (last : ℕ) (start : World) (n : ℕ) → n ≡ last → published (every_tick program last start) true ≡ text_of_ticks (every_tick program last start) true (n + 1)
-text-reached program last start n same = ap (λ (m : ℕ). text_of_ticks (every_tick program last start) true m) (omega arith)
+  pub text-reached : (n : ℕ) → n ≡ job.last → published job true ≡ text_of_ticks job true (n + 1)
+  text-reached n same = ap (λ (m : ℕ). text_of_ticks job true m) (omega (arith, fresh, same))
 
--- a run that ended in a fault
-pub faulted : (program : Program) (last : ℕ) (start : World) (n : ℕ) (world : World) (fault : Fault) → n < last → world_after (every_tick program last start) n ≡ Ok world → step program 0 n world ≡ Err fault
-    → world_after (every_tick program last start) (n + 1) ≡ Err fault
-faulted program last start n world fault lt e is =
-    world_after-next (every_tick program last start) n world e ∙ ap (λ (t : ℕ). step program 0 t world) (zero-add n) ∙ is
+  -- a run that ended in a fault
+  pub first-faulted : (n : ℕ) (fault : Fault) → n < job.last → world_after job (n + 1) ≡ Err fault → first_fault job ≡ Some fault
+  first-faulted n fault lt e =
+      let at_end : job.last - job.first ≡ n + 1 + (job.last - (n + 1)) = omega (arith, fresh) in
+      ap (λ (m : ℕ). result_err (world_after job m)) at_end ∙ ap result_err (world_after-ended job (n + 1) (job.last - (n + 1)) fault e)
 
-pub first-faulted : (program : Program) (last : ℕ) (start : World) (n : ℕ) (fault : Fault) → n < last → world_after (every_tick program last start) (n + 1) ≡ Err fault → first_fault (every_tick program last start) ≡ Some fault
-first-faulted program last start n fault lt e =
-    let at_end : last - 0 ≡ n + 1 + (last - (n + 1)) = omega arith in
-    ap (λ (m : ℕ). result_err (world_after (every_tick program last start) m)) at_end ∙ ap result_err (world_after-ended (every_tick program last start) (n + 1) (last - (n + 1)) fault e)
+  pub text-faulted : (n : ℕ) (fault : Fault) → n < job.last → world_after job (n + 1) ≡ Err fault → published job true ≡ text_of_ticks job true (n + 1)
+  text-faulted n fault lt e =
+      let whole : 1 + (job.last - job.first) ≡ n + 1 + (job.last - n) = omega (arith, fresh) in
+      ap (λ (m : ℕ). text_of_ticks job true m) whole ∙ text-ended job true (n + 1) (job.last - n) fault e
 
-pub text-faulted : (program : Program) (last : ℕ) (start : World) (n : ℕ) (fault : Fault) → n < last → world_after (every_tick program last start) (n + 1) ≡ Err fault
-    → published (every_tick program last start) true ≡ text_of_ticks (every_tick program last start) true (n + 1)
-text-faulted program last start n fault lt e =
-    let whole : 1 + (last - 0) ≡ n + 1 + (last - n) = omega arith in
-    ap (λ (m : ℕ). text_of_ticks (every_tick program last start) true m) whole ∙ text-ended (every_tick program last start) true (n + 1) (last - n) fault e
+  -- the text of the first tick
+  pub gains_first : (a b : Option (List ℕ)) → Gains a b (tick_text job true 0 (Ok job.start)) → Gains a b (text_of_ticks job true (0 + 1))
+  gains_first a b h = subst (λ (l : List ℕ). Gains a b l) (sym (text-more 0 job.start (world_after-zero job))) h
 
--- the rows of the start world are the text of the first tick
-pub gains_first : (program : Program) (last : ℕ) (start : World) (a b : Option (List ℕ)) → Gains a b (rows program 0 start.agents) → Gains a b (text_of_ticks (every_tick program last start) true (0 + 1))
-gains_first program last start a b h = subst (λ (l : List ℕ). Gains a b l) (sym (text-more program last start 0 start (world_after-zero (every_tick program last start)))) h
+  -- the text of the next tick behind the text so far
+  pub gains_run : (n : ℕ) (world : World) (a b c : Option (List ℕ)) → world_after job n ≡ Ok world
+      → Gains a b (text_of_ticks job true n) → Gains b c (tick_text job true n (Ok world)) → Gains a c (text_of_ticks job true (n + 1))
+  gains_run n world a b c is h k = subst (λ (l : List ℕ). Gains a c l) (sym (text-more n world is)) (gains_then a b c _ _ h k)
 
--- the rows of the next tick behind the text so far
-pub gains_run : (program : Program) (last : ℕ) (start : World) (n : ℕ) (world : World) (a b c : Option (List ℕ)) → world_after (every_tick program last start) n ≡ Ok world
-    → Gains a b (text_of_ticks (every_tick program last start) true n) → Gains b c (rows program n world.agents) → Gains a c (text_of_ticks (every_tick program last start) true (n + 1))
-gains_run program last start n world a b c is h k = subst (λ (l : List ℕ). Gains a c l) (sym (text-more program last start n world is)) (gains_then a b c _ _ h k)
-
--- the world of the next tick
-pub world_next : (program : Program) (last : ℕ) (start : World) (n s : ℕ) (world next : World) → world_after (every_tick program last start) n ≡ Ok world → s ≡ 0 → step program s n world ≡ Ok next
-    → world_after (every_tick program last start) (n + 1) ≡ Ok next
-world_next program last start n s world next e seed is =
-    world_after-next (every_tick program last start) n world e ∙ ap (λ (t : ℕ). step program 0 t world) (zero-add n) ∙ ap (λ (m : ℕ). step program m n world) (sym seed) ∙ is
-
--- the fault of the next tick
-pub fault_next : (program : Program) (last : ℕ) (start : World) (n s : ℕ) (world : World) (fault : Fault) → world_after (every_tick program last start) n ≡ Ok world → s ≡ 0 → step program s n world ≡ Err fault
-    → world_after (every_tick program last start) (n + 1) ≡ Err fault
-fault_next program last start n s world fault e seed is =
-    world_after-next (every_tick program last start) n world e ∙ ap (λ (t : ℕ). step program 0 t world) (zero-add n) ∙ ap (λ (m : ℕ). step program m n world) (sym seed) ∙ is
+  -- what a tick comes to
+  pub world_next : (n : ℕ) (world : World) (found : Result World Fault) → world_after job n ≡ Ok world → step job.program job.seed n world ≡ found
+      → world_after job (n + 1) ≡ found
+  world_next n world found e is = world_after-next job n world e ∙ ap (λ (t : ℕ). step job.program job.seed t world) (at_tick n) ∙ is

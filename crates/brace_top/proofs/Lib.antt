@@ -1,12 +1,6 @@
-pub mod RuleLemmas
-pub mod Cuts
-pub mod AgentLines
-pub mod ThinLemmas
-pub mod ThinNames
-pub mod WorldLemmas
-pub mod ThinRules
 pub mod JobLemmas
 pub mod AnswerLemmas
 pub mod OneOutcome
 pub mod StatusLemmas
 pub mod PlaceLemmas
+pub mod ScriptLemmas

@@ -1,22 +1,35 @@
 -- A command over files has at most one status, one text, and one message apart from the place of NoReading.
-use Rattle.std.proofs.Common.{◌≡◌, ◌∙◌, refl, sym, ap, subst, ℕ, ◌+◌, ◌<◌, List, Bool, true, false, nat_lt, slice_get, Option, Some, None, Result, Ok, Err, inl, inr, arith}
+use Rattle.std.proofs.Common.{◌≡◌, ◌∙◌, refl, sym, ap, subst, ℕ, ◌+◌, ◌<◌, ◌⊎◌, List, [], Bool, true, false, nat_lt, slice_get, Option, Some, None, Result, Ok, Err, inl, inr, arith}
+use Rattle.std.specs.Prelude.{⊤}
 use Rattle.std.proofs.lemmas.Bool.Decides.{nat_tests}
 use Rattle.brace_io.specs.Shelves.{Files}
 use Rattle.brace_tok.specs.declared.kinds.Token.{Token}
+use Rattle.brace_tok.specs.declared.fault.TokFault.{TokFault}
+use Rattle.brace_tok.specs.declared.fault.TokFault.TheVariants as tok
+use Rattle.brace_tok.specs.Answers.{IsFault}
+use Rattle.brace_tok.specs.Spells.{FirstFault}
 use Rattle.brace_tok.proofs.Unique.{one_list, no_list, one_fault}
+use Rattle.brace_syntax.specs.declared.fault.SynFault.{SynFault}
+use Rattle.brace_syntax.specs.declared.fault.SynFault.TheVariants as syn
 use Rattle.brace_syntax.specs.declared.tree.Tree.{Tree}
 use Rattle.brace_syntax.specs.Depth.{NowhereDeep, FirstDeepAt}
 use Rattle.brace_syntax.specs.Reads.{Reads}
+use Rattle.brace_syntax.specs.Refusals as grammar
 use Rattle.brace_syntax.proofs.ClassFound.{one_tree}
-use Rattle.brace_show.specs.Canonical.{canonical}
-use Rattle.brace_top.specs.declared.script_fault.ScriptKind.{ScriptKind}
+use Rattle.brace_names.specs.declared.fault.NameFault.{NameFault}
+use Rattle.brace_names.specs.declared.fault.NameFault.TheVariants as name
+use Rattle.brace_names.specs.Faults as names
+use Rattle.brace_check.specs.declared.fault.CheckFault.{CheckFault}
+use Rattle.brace_check.specs.declared.fault.CheckFault.TheVariants as check
+use Rattle.brace_check.specs.Faults as checks
+use Rattle.brace_check.specs.Programs.{program_of}
+use Rattle.brace_model.specs.declared.program.Program.{Program}
 use Rattle.brace_top.specs.declared.script_fault.ScriptKind.TheVariants as kind
-use Rattle.brace_tok.specs.declared.fault.TokFault.{TokFault}
-use Rattle.brace_tok.specs.declared.fault.TokFault.TheVariants as tok
-use Rattle.brace_tok.specs.Spells.{FirstFault}
-use Rattle.brace_top.specs.Formatting.{IsTree, IsTooDeep, IsNoReading, Refuses}
-use Rattle.brace_top.specs.Commands.{Command, Run, Format}
-use Rattle.brace_top.specs.Outcome.{Outcome, Refusal, Formats, shown, unread, with_source, CommandOutcome, SameMessage, source_of, script_message}
+use Rattle.brace_top.specs.declared.script_fault.ScriptFault.{ScriptFault}
+use Rattle.brace_top.specs.declared.script_fault.ScriptFault.TheVariants.{Refused, NoMemory}
+use Rattle.brace_top.specs.Commands.{Command, Run, Format, Check}
+use Rattle.brace_top.specs.Scripts.{IsTree, Means, resolved, NoTree, in_tokens, in_grammar, Refuses, without_tree, in_names, in_checks, token_fault, grammar_fault, name_fault, check_fault}
+use Rattle.brace_top.specs.Outcome.{Outcome, Refusal, ComesTo, unloaded, refused_at, stands_for, Follows, followed_by, CommandOutcome, SameMessage, source_of, script_message}
 
 pub record Agree (o p : Outcome) : Type 0 where
   pub status : o.status ≡ p.status
@@ -29,22 +42,6 @@ same o p q e f = let g : o ≡ p = e ∙ sym f in record { status = ap (λ (x : 
 -- tokens that are nowhere too deep have no first place at which they are
 not_deep : (toks : List Token) (at_ : ℕ) → NowhereDeep toks → FirstDeepAt toks at_ → ⊥
 not_deep toks at_ shallow first = let e : true ≡ false = sym first.deep ∙ shallow (first.number + 1) in absurd cc
-
--- a script that has a tree is not refused
-not_refused : (src : List ℕ) (tree : Tree) (k : ScriptKind) (at_ : ℕ) → IsTree src tree → Refuses src k at_ → ⊥
-not_refused src tree kind.BadByte at_ t f = no_list src t.tokens _ t.spells f
-not_refused src tree kind.OpenComment at_ t f = no_list src t.tokens _ t.spells f
-not_refused src tree kind.WideLiteral at_ t f = no_list src t.tokens _ t.spells f
-not_refused src tree kind.LongWord at_ t f = no_list src t.tokens _ t.spells f
-not_refused src tree kind.TooDeep at_ t d =
-    not_deep t.tokens at_ t.shallow (subst (λ (l : List Token). FirstDeepAt l at_) (one_list src d.tokens t.tokens d.spells t.spells) d.deep)
-not_refused src tree kind.NoReading at_ t n =
-    n.none tree (subst (λ (l : List Token). Reads src l tree) (one_list src t.tokens n.tokens t.spells n.spells) t.reads)
-
-one_tree_of : (src : List ℕ) (a b : Tree) → IsTree src a → IsTree src b → a ≡ b
-one_tree_of src a b t u = one_tree src t.tokens a b t.reads (subst (λ (l : List Token). Reads src l b) (one_list src u.tokens t.tokens u.spells t.spells) u.reads)
-
--- ---- one message
 
 equal_by : (a b : Bool) (m n : ℕ) → nat_lt m n ≡ a → nat_lt n m ≡ b → (m < n → ⊥) → (n < m → ⊥) → m ≡ n
 equal_by true b m n e f below above = let l : m < n = grind (arith, nat_tests) in absurd (below l)
@@ -66,67 +63,206 @@ one_deep toks a b d e =
     let s : Some d.token ≡ Some e.token = sym d.stands ∙ ap (slice_get toks) n ∙ e.stands in
     sym d.place ∙ ap (λ (t : Option Token). from_of t) s ∙ e.place
 
--- the kind and the place of a fault of the tokens
-abbrev kind_of : TokFault → ScriptKind
-kind_of (tok.BadByte at_) = kind.BadByte
-kind_of (tok.OpenComment at_) = kind.OpenComment
-kind_of (tok.WideLiteral at_) = kind.WideLiteral
-kind_of (tok.LongWord at_) = kind.LongWord
-kind_of tok.NoMemory = kind.NoReading
+-- a fault of the script, and no want of memory
+abbrev IsTold : ScriptFault → Type 0
+IsTold (Refused kind at) = ⊤
+IsTold NoMemory = ⊥
 
-abbrev place_of : TokFault → ℕ
-place_of (tok.BadByte at_) = at_
-place_of (tok.OpenComment at_) = at_
-place_of (tok.WideLiteral at_) = at_
-place_of (tok.LongWord at_) = at_
-place_of tok.NoMemory = 0
+-- the message of a fault
+abbrev message_of : List ℕ → List ℕ → ScriptFault → List ℕ
+message_of name src (Refused kind at) = script_message name src kind at
+message_of name src NoMemory = []
 
--- why a script is refused with a message
-data Found (name src : List ℕ) : List ℕ → Type 0 where
-  in_tokens : (f : TokFault) → FirstFault src f → Found name src (script_message name src (kind_of f) (place_of f))
-  too_deep : (at_ : ℕ) → IsTooDeep src at_ → Found name src (script_message name src kind.TooDeep at_)
-  no_reading : (at_ : ℕ) → IsNoReading src at_ → Found name src (script_message name src kind.NoReading at_)
+-- both are NoReading, each at some place
+record BothUnread (x y : ScriptFault) : Type 0 where
+  place_x : ℕ
+  place_y : ℕ
+  is_x : x ≡ Refused kind.NoReading place_x
+  is_y : y ≡ Refused kind.NoReading place_y
 
-found : (name src : List ℕ) (k : ScriptKind) (at_ : ℕ) → Refuses src k at_ → Found name src (script_message name src k at_)
-found name src kind.BadByte at_ r = in_tokens (tok.BadByte at_) r
-found name src kind.OpenComment at_ r = in_tokens (tok.OpenComment at_) r
-found name src kind.WideLiteral at_ r = in_tokens (tok.WideLiteral at_) r
-found name src kind.LongWord at_ r = in_tokens (tok.LongWord at_) r
-found name src kind.TooDeep at_ r = too_deep at_ r
-found name src kind.NoReading at_ r = no_reading at_ r
+abbrev Same : ScriptFault → ScriptFault → Type 0
+Same x y = (x ≡ y) ⊎ BothUnread x y
 
-one_message : (name src a b : List ℕ) → Found name src a → Found name src b → SameMessage a b
-one_message name src _ _ (in_tokens f r) (in_tokens g s) =
-    inl (ap (λ (x : TokFault). script_message name src (kind_of x) (place_of x)) (one_fault src f g r s))
-one_message name src _ _ (in_tokens f r) (too_deep at_ d) = absurd (no_list src d.tokens f d.spells r)
-one_message name src _ _ (in_tokens f r) (no_reading at_ n) = absurd (no_list src n.tokens f n.spells r)
-one_message name src _ _ (too_deep at_ d) (in_tokens f r) = absurd (no_list src d.tokens f d.spells r)
-one_message name src _ _ (no_reading at_ n) (in_tokens f r) = absurd (no_list src n.tokens f n.spells r)
-one_message name src _ _ (too_deep a d) (too_deep b e) =
-    inl (ap (script_message name src kind.TooDeep)
-    (one_deep e.tokens a b (subst (λ (l : List Token). FirstDeepAt l a) (one_list src d.tokens e.tokens d.spells e.spells) d.deep) e.deep))
-one_message name src _ _ (too_deep a d) (no_reading b n) =
-    absurd (not_deep n.tokens a n.shallow (subst (λ (l : List Token). FirstDeepAt l a) (one_list src d.tokens n.tokens d.spells n.spells) d.deep))
-one_message name src _ _ (no_reading b n) (too_deep a d) =
-    absurd (not_deep n.tokens a n.shallow (subst (λ (l : List Token). FirstDeepAt l a) (one_list src d.tokens n.tokens d.spells n.spells) d.deep))
-one_message name src _ _ (no_reading a n) (no_reading b m) =
-    inr (record { name = name; source = src; place_a = a; place_b = b; is_a = refl; is_b = refl })
+-- ---- tokens, depth and grammar
+
+first_of_tokens : (src : List ℕ) (f : TokFault) → IsTold (token_fault f) → IsFault src f → FirstFault src f
+first_of_tokens src (tok.BadByte at) t r = r
+first_of_tokens src (tok.OpenComment at) t r = r
+first_of_tokens src (tok.WideLiteral at) t r = r
+first_of_tokens src (tok.LongWord at) t r = r
+first_of_tokens src tok.NoMemory t r = absurd t
+
+one_of_grammar : (src : List ℕ) (toks : List Token) (f g : SynFault) → IsTold (grammar_fault f) → IsTold (grammar_fault g)
+    → grammar.Refuses src toks f → grammar.Refuses src toks g → Same (grammar_fault f) (grammar_fault g)
+one_of_grammar src toks (syn.TooDeep a) (syn.TooDeep b) t u r s = inl (ap (λ (n : ℕ). Refused kind.TooDeep n) (one_deep toks a b r s))
+one_of_grammar src toks (syn.TooDeep a) (syn.NoReading b) t u r s = absurd (not_deep toks a s.0 r)
+one_of_grammar src toks (syn.NoReading a) (syn.TooDeep b) t u r s = absurd (not_deep toks b r.0 s)
+one_of_grammar src toks (syn.NoReading a) (syn.NoReading b) t u r s = inr (record { place_x = a; place_y = b; is_x = refl; is_y = refl })
+one_of_grammar src toks syn.NoMemory g t u r s = absurd t
+one_of_grammar src toks (syn.TooDeep a) syn.NoMemory t u r s = absurd u
+one_of_grammar src toks (syn.NoReading a) syn.NoMemory t u r s = absurd u
+
+one_without_tree : (src : List ℕ) (x y : ScriptFault) → IsTold x → IsTold y → NoTree src x → NoTree src y → Same x y
+one_without_tree src _ _ t u (in_tokens f r) (in_tokens g s) =
+    inl (ap (λ (z : TokFault). token_fault z) (one_fault src f g (first_of_tokens src f t r) (first_of_tokens src g u s)))
+one_without_tree src _ _ t u (in_tokens f r) (in_grammar toks g spells s at_) = absurd (no_list src toks f spells (first_of_tokens src f t r))
+one_without_tree src _ _ t u (in_grammar toks g spells s at_) (in_tokens f r) = absurd (no_list src toks f spells (first_of_tokens src f u r))
+one_without_tree src _ _ t u (in_grammar toks f spells r at_) (in_grammar others g spelled s to_) =
+    one_of_grammar src toks f g t u r (subst (λ (l : List Token). grammar.Refuses src l g) (one_list src others toks spelled spells) s)
+
+-- a script that has a tree is not refused by its tokens or the grammar
+read_by_grammar : (src : List ℕ) (toks : List Token) (tree : Tree) (f : SynFault) → IsTold (grammar_fault f) → NowhereDeep toks → Reads src toks tree → grammar.Refuses src toks f → ⊥
+read_by_grammar src toks tree (syn.TooDeep at) t shallow reads r = not_deep toks at shallow r
+read_by_grammar src toks tree (syn.NoReading at) t shallow reads r = r.1 tree reads
+read_by_grammar src toks tree syn.NoMemory t shallow reads r = absurd t
+
+has_tree : (src : List ℕ) (tree : Tree) (x : ScriptFault) → IsTold x → IsTree src tree → NoTree src x → ⊥
+has_tree src tree _ t is (in_tokens f r) = no_list src is.tokens f is.spells (first_of_tokens src f t r)
+has_tree src tree _ t is (in_grammar toks f spells r at_) =
+    read_by_grammar src is.tokens tree f t is.shallow is.reads (subst (λ (l : List Token). grammar.Refuses src l f) (one_list src toks is.tokens spells is.spells) r)
+
+one_tree_of : (src : List ℕ) (a b : Tree) → IsTree src a → IsTree src b → a ≡ b
+one_tree_of src a b t u = one_tree src t.tokens a b t.reads (subst (λ (l : List Token). Reads src l b) (one_list src u.tokens t.tokens u.spells t.spells) u.reads)
+
+-- ---- names and checks
+
+first_of_names : (tree : Tree) (f : NameFault) → IsTold (name_fault f) → names.Refuses tree f → names.first (names.faults tree) ≡ Some f
+first_of_names tree (name.DuplicateClass at) t r = r
+first_of_names tree (name.DuplicateName at) t r = r
+first_of_names tree (name.UnknownClass at) t r = r
+first_of_names tree (name.UnknownName at) t r = r
+first_of_names tree (name.UnknownType at) t r = r
+first_of_names tree (name.NoPosition at) t r = r
+first_of_names tree (name.TooMany which at) t r = r
+first_of_names tree name.NoMemory t r = absurd t
+
+first_of_checks : (tree : Tree) (f : CheckFault) → IsTold (check_fault f) → checks.Refuses (resolved tree) f → checks.first (checks.faults (resolved tree)) ≡ Some f
+first_of_checks tree (check.OtherAgentInUpdate at) t r = r
+first_of_checks tree (check.ReadsEffectInQuery at) t r = r
+first_of_checks tree (check.AssignsState at) t r = r
+first_of_checks tree (check.AssignsEffect at) t r = r
+first_of_checks tree (check.PrivateOfOtherClass at) t r = r
+first_of_checks tree (check.NestedTooDeep at) t r = r
+first_of_checks tree (check.BadRange at) t r = r
+first_of_checks tree (check.WrongCombinator at) t r = r
+first_of_checks tree (check.WrongType at) t r = r
+first_of_checks tree check.NoMemory t r = absurd t
+
+-- no list has both no fault and a first one
+no_first : {A : Type 0} (f : A) → None ≡ Some f → ⊥
+no_first f e = absurd cc
+
+faultless_names : (all : List NameFault) (f : NameFault) → all ≡ [] → names.first all ≡ Some f → ⊥
+faultless_names all f none e = no_first f (sym (ap names.first none) ∙ e)
+
+faultless_checks : (all : List CheckFault) (f : CheckFault) → all ≡ [] → checks.first all ≡ Some f → ⊥
+faultless_checks all f none e = no_first f (sym (ap checks.first none) ∙ e)
+
+abbrev from_some : {A : Type 0} → A → Option A → A
+from_some other None = other
+from_some other (Some a) = a
+
+-- two first faults of one list
+one_first : {A : Type 0} (a b : A) (x : Option A) → x ≡ Some a → x ≡ Some b → a ≡ b
+one_first a b x e f = ap (from_some a) (sym e ∙ f)
+
+one_refusal : (src : List ℕ) (x y : ScriptFault) → IsTold x → IsTold y → Refuses src x → Refuses src y → Same x y
+one_refusal src _ _ t u (without_tree x r) (without_tree y s) = one_without_tree src x y t u r s
+one_refusal src _ _ t u (without_tree x r) (in_names tree g is s) = absurd (has_tree src tree x t is r)
+one_refusal src _ _ t u (without_tree x r) (in_checks tree g is named s) = absurd (has_tree src tree x t is r)
+one_refusal src _ _ t u (in_names tree f is r) (without_tree y s) = absurd (has_tree src tree y u is s)
+one_refusal src _ _ t u (in_checks tree f is named r) (without_tree y s) = absurd (has_tree src tree y u is s)
+one_refusal src _ _ t u (in_names tree f is r) (in_names other g it s) =
+    let moved = one_tree_of src other tree it is in
+    inl (ap (λ (z : NameFault). name_fault z)
+    (one_first f g _ (first_of_names tree f t r) (subst (λ (w : Tree). names.first (names.faults w) ≡ Some g) moved (first_of_names other g u s))))
+one_refusal src _ _ t u (in_names tree f is r) (in_checks other g it named s) =
+    let moved = one_tree_of src other tree it is in
+    absurd (faultless_names _ f (subst (λ (w : Tree). names.faults w ≡ []) moved named) (first_of_names tree f t r))
+one_refusal src _ _ t u (in_checks other g it named s) (in_names tree f is r) =
+    let moved = one_tree_of src other tree it is in
+    absurd (faultless_names _ f (subst (λ (w : Tree). names.faults w ≡ []) moved named) (first_of_names tree f u r))
+one_refusal src _ _ t u (in_checks tree f is named r) (in_checks other g it faultless s) =
+    let moved = one_tree_of src other tree it is in
+    inl (ap (λ (z : CheckFault). check_fault z)
+    (one_first f g _ (first_of_checks tree f t r) (subst (λ (w : Tree). checks.first (checks.faults (resolved w)) ≡ Some g) moved (first_of_checks other g u s))))
+
+-- a script that has a program is not refused
+not_refused : (src : List ℕ) (program : Program) (x : ScriptFault) → IsTold x → Means src program → Refuses src x → ⊥
+not_refused src program _ t m (without_tree x r) = has_tree src m.tree x t m.is r
+not_refused src program _ t m (in_names tree f is r) =
+    faultless_names _ f (subst (λ (w : Tree). names.faults w ≡ []) (one_tree_of src m.tree tree m.is is) m.named) (first_of_names tree f t r)
+not_refused src program _ t m (in_checks tree f is named r) =
+    faultless_checks _ f (subst (λ (w : Tree). checks.faults (resolved w) ≡ []) (one_tree_of src m.tree tree m.is is) m.checked) (first_of_checks tree f t r)
+
+one_program : (src : List ℕ) (a b : Program) → Means src a → Means src b → a ≡ b
+one_program src a b m n = m.stands_for ∙ ap (λ (t : Tree). program_of (resolved t)) (one_tree_of src m.tree n.tree m.is n.is) ∙ sym n.stands_for
 
 -- ---- one outcome
 
-formats_agree : (name src : List ℕ) (o p : Outcome) → Formats name src o → Formats name src p → Agree o p
-formats_agree name src _ _ (shown s a) (shown u b) =
-    record { status = refl; out = a.says ∙ ap canonical (one_tree_of src a.tree b.tree a.is b.is) ∙ sym b.says; err = inl refl }
-formats_agree name src _ _ (shown s a) (unread k at_ r) = absurd (not_refused src a.tree k at_ a.is r)
-formats_agree name src _ _ (unread k at_ r) (shown u b) = absurd (not_refused src b.tree k at_ b.is r)
-formats_agree name src _ _ (unread k at_ r) (unread l to_ s) =
-    record { status = refl; out = refl; err = one_message name src _ _ (found name src k at_ r) (found name src l to_ s) }
+same_message : (name src : List ℕ) (x y : ScriptFault) → Same x y → SameMessage (message_of name src x) (message_of name src y)
+same_message name src x y (inl e) = inl (ap (message_of name src) e)
+same_message name src x y (inr b) =
+    inr (record { name = name; source = src; place_a = b.place_x; place_b = b.place_y; is_a = ap (message_of name src) b.is_x; is_b = ap (message_of name src) b.is_y })
 
-sources_agree : (name : List ℕ) (o p : Outcome) (found : Result (List ℕ) Refusal) → with_source name o found → with_source name p found → Agree o p
-sources_agree name o p (Err r) e f = same o p _ e f
-sources_agree name o p (Ok src) e f = formats_agree name src o p e f
+-- what one script means, and why it is refused, exclude one another, and each is one
+record Decides {A : Type 0} (means : List ℕ → A → Type 0) (refuses : List ℕ → ScriptFault → Type 0) : Type 0 where
+  one : (src : List ℕ) (a b : A) → means src a → means src b → a ≡ b
+  never : (src : List ℕ) (a : A) (x : ScriptFault) → IsTold x → means src a → refuses src x → ⊥
+  alike : (src : List ℕ) (x y : ScriptFault) → IsTold x → IsTold y → refuses src x → refuses src y → Same x y
+
+-- the bytes of a script that was loaded twice
+abbrev bytes_of : Result (List ℕ) Refusal → List ℕ
+bytes_of (Ok src) = src
+bytes_of (Err r) = []
+
+abbrev why : Refusal → Result (List ℕ) Refusal → Refusal
+why other (Ok src) = other
+why other (Err r) = r
+
+one_source : (files : Files) (name src to_ : List ℕ) → source_of files name ≡ Ok src → source_of files name ≡ Ok to_ → to_ ≡ src
+one_source files name src to_ e f = ap bytes_of (sym f ∙ e)
+
+one_why : (files : Files) (name : List ℕ) (r s : Refusal) → source_of files name ≡ Err r → source_of files name ≡ Err s → r ≡ s
+one_why files name r s e f = ap (why r) (sym e ∙ f)
+
+not_both : (files : Files) (name src : List ℕ) (r : Refusal) → source_of files name ≡ Ok src → source_of files name ≡ Err r → ⊥
+not_both files name src r e f = let g : Ok src ≡ Err r = sym e ∙ f in absurd cc
+
+module _ {A : Type 0} (means : List ℕ → A → Type 0) (refuses : List ℕ → ScriptFault → Type 0) (decides : Decides means refuses) (files : Files) (name : List ℕ) (next : A → Outcome) where
+  found_agree : (a b : Result A Refusal) → ComesTo means refuses files name a → ComesTo means refuses files name b → Agree (followed_by next a) (followed_by next b)
+  found_agree _ _ (unloaded r e) (unloaded s f) = same _ _ (followed_by next (Err s)) (ap (λ (x : Refusal). followed_by next (Err x)) (one_why files name r s e f)) refl
+  found_agree _ _ (unloaded r e) (refused_at src k at_ f n) = absurd (not_both files name src r f e)
+  found_agree _ _ (unloaded r e) (stands_for src a f m) = absurd (not_both files name src r f e)
+  found_agree _ _ (refused_at src k at_ f n) (unloaded r e) = absurd (not_both files name src r f e)
+  found_agree _ _ (stands_for src a f m) (unloaded r e) = absurd (not_both files name src r f e)
+  found_agree _ _ (refused_at src k at_ e n) (refused_at to_ l at'_ f m) =
+      let moved = subst (λ (s : List ℕ). refuses s (Refused l at'_)) (one_source files name src to_ e f) m in
+      let from_ : script_message name src l at'_ ≡ script_message name to_ l at'_ = ap (λ (s : List ℕ). script_message name s l at'_) (sym (one_source files name src to_ e f)) in
+      record {
+        status = refl;
+        out = refl;
+        err = subst (λ (m : List ℕ). SameMessage (script_message name src k at_) m) from_
+            (same_message name src (Refused k at_) (Refused l at'_) (decides.alike src (Refused k at_) (Refused l at'_) tt tt n moved));
+      }
+  found_agree _ _ (refused_at src k at_ e n) (stands_for to_ a f m) =
+      absurd (decides.never src a (Refused k at_) tt (subst (λ (s : List ℕ). means s a) (one_source files name src to_ e f) m) n)
+  found_agree _ _ (stands_for to_ a f m) (refused_at src k at_ e n) =
+      absurd (decides.never src a (Refused k at_) tt (subst (λ (s : List ℕ). means s a) (one_source files name src to_ e f) m) n)
+  found_agree _ _ (stands_for src a e m) (stands_for to_ b f n) =
+      same _ _ (followed_by next (Ok b)) (ap (λ (x : A). followed_by next (Ok x)) (decides.one src a b m (subst (λ (s : List ℕ). means s b) (one_source files name src to_ e f) n))) refl
+
+  follows_agree : (o p : Outcome) → Follows (ComesTo means refuses files name) next o → Follows (ComesTo means refuses files name) next p → Agree o p
+  follows_agree o p f g = rw (f.follows, g.follows) (found_agree f.found g.found f.is g.is)
+
+trees : Decides IsTree NoTree
+trees = record { one = one_tree_of; never = λ src a x t m r. has_tree src a x t m r; alike = one_without_tree }
+
+programs : Decides Means Refuses
+programs = record { one = one_program; never = λ src a x t m r. not_refused src a x t m r; alike = one_refusal }
 
 pub commands_agree : (files : Files) (command : Option Command) (o p : Outcome) → CommandOutcome files command o → CommandOutcome files command p → Agree o p
 commands_agree files None o p e f = same o p _ e f
-commands_agree files (Some (Run run)) o p e f = same o p _ e f
-commands_agree files (Some (Format name)) o p e f = sources_agree name o p (source_of files name) e f
+commands_agree files (Some (Run run)) o p e f = follows_agree Means Refuses programs files run.script _ o p e f
+commands_agree files (Some (Format name)) o p e f = follows_agree IsTree NoTree trees files name _ o p e f
+commands_agree files (Some (Check name)) o p e f = follows_agree Means Refuses programs files name _ o p e f

@@ -12,7 +12,8 @@ use Rattle.brace_top.specs.Messages.{named_message, write_fault_message, no_memo
 use Rattle.brace_top.specs.Outcome.{Outcome, CommandOutcome, Reads}
 use Rattle.brace_top.specs.Status.{has_run}
 
--- a shelf over a call: the files that it held before, where it tells them, where it stands after, and its failures
+-- a shelf over a call: the files that it held before, where it tells them, where it stands after,
+-- and its failures
 pub record ShelfCall : Type 0 where
   pub held : Option Files
   pub stage : Stage
@@ -44,7 +45,8 @@ sink_call of before after = record {
   faults_after = of.faults after;
 }
 
--- the count of the shelf's failures rose where a read fault is answered; it is the same at every other status, but for want of memory
+-- the count of the shelf's failures rose where a read fault is answered; it is the same at every
+-- other status, but for want of memory
 abbrev pub CountsReads : ShelfCall → Status → Type 0
 CountsReads shelf ReadFault = Rose shelf.faults_before shelf.faults_after
 CountsReads shelf NoMemory = ⊤
@@ -91,12 +93,14 @@ LeavesFront outcomes out =
     (out.after ≡ out.before) ⊎ Among outcomes (λ o. GainsFront out.before out.after o.out)
 
 -- memory was refused: nothing more is said than what may stand on the sink
-pub record IsGivenUp (outcomes : Outcome → Type 0) (out : SinkCall) (message : List ℕ) : Type 0 where
+pub record IsGivenUp (outcomes : Outcome → Type 0) (out : SinkCall) (message : List ℕ)
+    : Type 0 where
   pub front : LeavesFront outcomes out
   pub says : message ≡ no_memory_message
 
--- the answer to a command, by its status. 8 names a file that the command reads, at which the shelf stopped; 9 comes where a write
--- of an outcome's text failed; 11 is free; any other status is an outcome's, with its text and its message
+-- the answer to a command, by its status. 8 names a file that the command reads, at which the shelf
+-- stopped; 9 comes where a write of an outcome's text failed; 11 is free; any other status is an
+-- outcome's, with its text and its message
 abbrev pub IsAnswer : Files → Option Command → ShelfCall → SinkCall → List ℕ → Status → Type 0
 IsAnswer files command shelf out message ReadFault =
     Among (Reads files command) (IsUnread shelf message)
@@ -116,13 +120,19 @@ pub record IsCutOff (err : SinkCall) (message : List ℕ) : Type 0 where
 abbrev pub IsSaid : SinkCall → List ℕ → Type 0
 IsSaid err message = Gains err.before err.after message ⊎ IsCutOff err message
 
--- a call: its words and its status, and what it did to its shelf, to the sink of its text and to that of its message
+-- a call: its words and its status, and what it did to its shelf, to the sink of its text and to
+-- that of its message
 pub record Call : Type 0 where
   pub words : List (List ℕ)
   pub status : Status
   pub shelf : ShelfCall
   pub out : SinkCall
   pub err : SinkCall
+
+-- a call of these words with this status
+abbrev pub call_of : List (List ℕ) → Status → ShelfCall → SinkCall → SinkCall → Call
+call_of words status shelf out err =
+    record { words = words; status = status; shelf = shelf; out = out; err = err }
 
 -- over these files the call answers its words, and says its message
 pub record Answers (files : Files) (call : Call) : Type 0 where

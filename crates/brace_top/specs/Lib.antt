@@ -1,12 +1,8 @@
 pub mod Answer
 pub mod Commands
-pub mod Formatting
 pub mod Messages
 pub mod Outcome
 pub mod Places
+pub mod Scripts
 pub mod Status
-pub mod Thin
-pub mod ThinAgents
-pub mod ThinSteps
-pub mod ThinTokens
 pub mod inner

@@ -4,7 +4,11 @@ use Rattle.brace_num.specs.declared.kinds.Kind.{Kind}
 use Rattle.brace_num.specs.declared.kinds.Kind.TheVariants.{Overflow, DivZero, NegRoot, TooMany}
 use Rattle.brace_num.specs.Spelling.{canonical_count}
 use Rattle.brace_top.specs.declared.script_fault.ScriptKind.{ScriptKind}
-use Rattle.brace_top.specs.declared.script_fault.ScriptKind.TheVariants.{BadByte, OpenComment, WideLiteral, LongWord, TooDeep, NoReading}
+use Rattle.brace_top.specs.declared.script_fault.ScriptKind.TheVariants as kind
+use Rattle.brace_names.specs.declared.fault.Which.{Which}
+use Rattle.brace_rows.specs.declared.kinds.RowKind.{RowKind}
+use Rattle.brace_rows.specs.declared.kinds.RowKind.TheVariants as row
+use Rattle.brace_names.specs.declared.fault.Which.TheVariants as which
 use Rattle.brace_model.specs.declared.fault.Fault.{Fault}
 use Rattle.brace_model.specs.declared.fault.Phase.{Phase}
 use Rattle.brace_model.specs.declared.fault.Phase.TheVariants.{Query, Update, Birth}
@@ -13,20 +17,59 @@ use Rattle.brace_model.specs.declared.fault.Phase.TheVariants.{Query, Update, Bi
 abbrev pub named_message : List ℕ → List ℕ → List ℕ
 named_message name rest = codes "brace: " ++ (name ++ (rest ++ 10 ∷ []))
 
--- the word of a script's refusal
-abbrev pub script_word : ScriptKind → List ℕ
-script_word BadByte = codes "BadByte"
-script_word OpenComment = codes "OpenComment"
-script_word WideLiteral = codes "WideLiteral"
-script_word LongWord = codes "LongWord"
-script_word TooDeep = codes "TooDeep"
-script_word NoReading = codes "NoReading"
+-- what there is too much of, behind the word `TooMany`
+abbrev pub which_word : Which → List ℕ
+which_word which.Classes = codes "classes"
+which_word which.Fields = codes "fields"
+which_word which.Sites = codes "sites"
+which_word which.Assignments = codes "assignments"
 
--- the message that names a place in a file, and what is found there: `brace: NAME:LINE:COLUMN: KIND`
+-- the word of a script's refusal; `TooMany` says of what
+abbrev pub script_word : ScriptKind → List ℕ
+script_word kind.BadByte = codes "BadByte"
+script_word kind.OpenComment = codes "OpenComment"
+script_word kind.WideLiteral = codes "WideLiteral"
+script_word kind.LongWord = codes "LongWord"
+script_word kind.TooDeep = codes "TooDeep"
+script_word kind.NoReading = codes "NoReading"
+script_word kind.DuplicateClass = codes "DuplicateClass"
+script_word kind.DuplicateName = codes "DuplicateName"
+script_word kind.UnknownClass = codes "UnknownClass"
+script_word kind.UnknownName = codes "UnknownName"
+script_word kind.UnknownType = codes "UnknownType"
+script_word kind.NoPosition = codes "NoPosition"
+script_word (kind.TooMany of) = codes "TooMany " ++ which_word of
+script_word kind.OtherAgentInUpdate = codes "OtherAgentInUpdate"
+script_word kind.ReadsEffectInQuery = codes "ReadsEffectInQuery"
+script_word kind.AssignsState = codes "AssignsState"
+script_word kind.AssignsEffect = codes "AssignsEffect"
+script_word kind.PrivateOfOtherClass = codes "PrivateOfOtherClass"
+script_word kind.NestedTooDeep = codes "NestedTooDeep"
+script_word kind.BadRange = codes "BadRange"
+script_word kind.WrongCombinator = codes "WrongCombinator"
+script_word kind.WrongType = codes "WrongType"
+
+-- the message that names a place in a file, and what is found there:
+-- `brace: NAME:LINE:COLUMN: KIND`
 abbrev pub placed_message : List ℕ → ℕ → ℕ → List ℕ → List ℕ
 placed_message name line column kind =
     named_message name
-    (codes ":" ++ (canonical_count line ++ (codes ":" ++ (canonical_count column ++ (codes ": " ++ kind)))))
+    (codes ":" ++ (canonical_count line
+    ++ (codes ":" ++ (canonical_count column ++ (codes ": " ++ kind)))))
+
+-- the word of a record's refusal; `BadValue` says in which field, counted from 0
+abbrev pub row_word : RowKind → List ℕ
+row_word row.UnknownClass = codes "UnknownClass"
+row_word row.WrongLength = codes "WrongLength"
+row_word (row.BadValue field) = codes "BadValue " ++ canonical_count field
+row_word row.DuplicateId = codes "DuplicateId"
+row_word row.TooMany = codes "TooMany"
+
+-- the message that names a record of a file, counted from 1: `brace: NAME: record N: KIND`
+abbrev pub record_message : List ℕ → ℕ → RowKind → List ℕ
+record_message name number kind =
+    named_message name
+    (codes ": record " ++ (canonical_count number ++ (codes ": " ++ row_word kind)))
 
 -- the message where the words are no command
 abbrev pub usage_message : List ℕ
@@ -68,6 +111,7 @@ agents_text f =
 abbrev pub site_text : Fault → List ℕ
 site_text f = codes " site " ++ (canonical_count f.site ++ (codes ": " ++ kind_word f.kind))
 
--- the message of a fault of the run: `brace: tick T PHASE agent A site S: KIND`, with the loops' agents behind A
+-- the message of a fault of the run: `brace: tick T PHASE agent A site S: KIND`, with the loops'
+-- agents behind A
 abbrev pub fault_message : Fault → List ℕ
 fault_message f = codes "brace: tick " ++ (canonical_count f.tick ++ (agents_text f ++ site_text f))

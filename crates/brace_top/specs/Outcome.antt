@@ -1,24 +1,30 @@
--- What a command comes to with no fault of the outside and with ample memory: its status and its texts.
-use Rattle.std.specs.Prelude.{◌≡◌, ◌⊎◌, ℕ, List, [], length, nat_lt, codes, true, if◌then◌else◌, Option, Some, None, Result, Ok, Err}
+-- What a command comes to with no fault of the outside and with ample memory: its status and its
+-- texts.
+use Rattle.std.specs.Prelude.{◌≡◌, ◌⊎◌, ℕ, List, [], length, nat_lt, codes, Bool, true, false, if◌then◌else◌, is_some, Option, Some, None, Result, Ok, Err}
+use Rattle.std.specs.List.{list_any}
 use Rattle.brace_io.specs.Shelves.{Files}
 use Rattle.brace_model.specs.declared.program.Program.{Program}
 use Rattle.brace_model.specs.declared.fault.Fault.{Fault}
 use Rattle.brace_model.specs.declared.job.Job.{Job}
-use Rattle.brace_model.specs.World.{World}
+use Rattle.brace_model.specs.World.{World, world_of}
 use Rattle.brace_model.specs.Run.{first_fault}
 use Rattle.brace_model.specs.Published.{published}
+use Rattle.brace_show.specs.Canonical.{canonical}
+use Rattle.brace_syntax.specs.declared.tree.Tree.{Tree}
 use Rattle.brace_top.specs.declared.status.Status.{Status}
 use Rattle.brace_top.specs.declared.status.Status.TheVariants.{Done, Usage, Script, Agents, Absent}
 use Rattle.brace_top.specs.declared.status.Status.TheVariants as ended_by
 use Rattle.brace_top.specs.declared.limits.TheConstants.{SCRIPT_LIMIT, AGENTS_LIMIT}
-use Rattle.brace_top.specs.Commands.{Command, RunCommand, Run, Format, command_of}
+use Rattle.brace_top.specs.Commands.{Command, RunCommand, Run, Format, Check, command_of, script_in}
+use Rattle.brace_top.specs.declared.script_fault.ScriptFault.{ScriptFault}
+use Rattle.brace_top.specs.declared.script_fault.ScriptFault.TheVariants as fault
 use Rattle.brace_top.specs.declared.script_fault.ScriptKind.{ScriptKind}
 use Rattle.brace_top.specs.declared.script_fault.ScriptKind.TheVariants.{NoReading}
-use Rattle.brace_top.specs.Messages.{named_message, placed_message, script_word, usage_message, fault_message}
+use Rattle.brace_top.specs.Messages.{named_message, placed_message, record_message, script_word, usage_message, fault_message}
 use Rattle.brace_top.specs.Places.{line_number, column_number}
-use Rattle.brace_top.specs.Formatting.{Shows, Refuses}
-use Rattle.brace_top.specs.Thin.{thin_program}
-use Rattle.brace_top.specs.ThinAgents.{thin_agents}
+use Rattle.brace_top.specs.Scripts.{IsTree, Means, NoTree, Refuses}
+use Rattle.brace_rows.specs.declared.kinds.RowKind.{RowKind}
+use Rattle.brace_rows.specs.AgentFile as file
 
 -- the status, all of the text on standard output, and the message on standard error
 pub record Outcome : Type 0 where
@@ -31,37 +37,91 @@ pub record Refusal : Type 0 where
   pub status : Status
   pub message : List ℕ
 
--- what a file's bytes stand for, or that they are not thin
-abbrev pub thin_file : {A : Type 0} → Status → List ℕ → Option A → Result A Refusal
-thin_file status name None =
-    Err (record { status = status; message = named_message name (codes ": NotThin") })
-thin_file status name (Some a) = Ok a
+-- a refusal that names the file and what is behind its name
+abbrev pub refusal : Status → List ℕ → List ℕ → Refusal
+refusal status name rest = record { status = status; message = named_message name rest }
 
--- what a named file within its limit stands for, or why it is refused: it is absent, or too long, or not thin
-abbrev pub loaded : {A : Type 0} → Status → ℕ → (List ℕ → Option A) → List ℕ → Option (List ℕ) → Result A Refusal
-loaded status limit meaning name None =
-    Err (record { status = Absent; message = named_message name (codes ": absent") })
-loaded status limit meaning name (Some bytes) =
-    if nat_lt limit (length bytes)
-    then Err (record { status = status; message = named_message name (codes ": TooLong") })
-    else thin_file status name (meaning bytes)
+-- the bytes of a named file within its limit, or why it is refused: it is absent or too long
+abbrev pub loaded : Status → ℕ → List ℕ → Option (List ℕ) → Result (List ℕ) Refusal
+loaded status limit name None = Err (refusal Absent name (codes ": absent"))
+loaded status limit name (Some bytes) =
+    if nat_lt limit (length bytes) then Err (refusal status name (codes ": TooLong")) else Ok bytes
 
--- the program of a script within its limit
-abbrev pub script_of : Files → List ℕ → Result Program Refusal
-script_of files name = loaded Script SCRIPT_LIMIT thin_program name (files name)
+-- the bytes of a script within its limit
+abbrev pub source_of : Files → List ℕ → Result (List ℕ) Refusal
+source_of files name = loaded Script SCRIPT_LIMIT name (files name)
+
+-- the message that refuses a script at a place
+abbrev pub script_message : List ℕ → List ℕ → ScriptKind → ℕ → List ℕ
+script_message name src kind at =
+    placed_message name (line_number src at) (column_number src at) (script_word kind)
+
+-- a script that is refused at a place
+abbrev pub script_refusal : List ℕ → List ℕ → ScriptKind → ℕ → Refusal
+script_refusal name src kind at =
+    record { status = Script; message = script_message name src kind at }
+
+-- what the script of a name comes to: what its bytes mean, or why it is refused
+pub data ComesTo {A : Type 0} (means : List ℕ → A → Type 0)
+    (refuses : List ℕ → ScriptFault → Type 0) (files : Files) (name : List ℕ)
+    : Result A Refusal → Type 0 where
+  unloaded : (r : Refusal) → source_of files name ≡ Err r → ComesTo means refuses files name (Err r)
+  refused_at : (src : List ℕ) (kind : ScriptKind) (at : ℕ) → source_of files name ≡ Ok src
+      → refuses src (fault.Refused kind at)
+      → ComesTo means refuses files name (Err (script_refusal name src kind at))
+  stands_for : (src : List ℕ) (a : A) → source_of files name ≡ Ok src → means src a
+      → ComesTo means refuses files name (Ok a)
+
+-- the tree of the script of a name
+abbrev pub TreeOf : Files → List ℕ → Result Tree Refusal → Type 0
+TreeOf files name = ComesTo IsTree NoTree files name
+
+-- the program of the script of a name
+abbrev pub ProgramOf : Files → List ℕ → Result Program Refusal → Type 0
+ProgramOf files name = ComesTo Means Refuses files name
+
+-- a world, unless a record of its file is faulty: the number of the first one, and its kind
+abbrev pub unless_faulty : List ℕ → World → Option (ℕ × RowKind) → Result World Refusal
+unless_faulty name world None = Ok world
+unless_faulty name world (Some (number, kind)) =
+    Err (record { status = Agents; message = record_message name number kind })
+
+-- the world of the bytes of an agent file, or the refusal of its first faulty record
+abbrev pub world_from : Program → List ℕ → Result (List ℕ) Refusal → Result World Refusal
+world_from program name (Err r) = Err r
+world_from program name (Ok bytes) =
+    let records = file.records_of bytes in
+    unless_faulty name (world_of (file.by_id (file.agents_in program records)))
+    (file.first_fault program records)
 
 -- the world of an agent file within its limit
 abbrev pub agents_of : Files → Program → List ℕ → Result World Refusal
-agents_of files program name = loaded Agents AGENTS_LIMIT (thin_agents program) name (files name)
+agents_of files program name =
+    world_from program name (loaded Agents AGENTS_LIMIT name (files name))
 
--- a job from tick 0 whose ticks are all published, with the seed 0
-abbrev pub every_tick : Program → ℕ → World → Job
-every_tick program last start =
-    record { program = program; seed = 0; first = 0; last = last; every = 1; start = start }
+-- the job of a run from tick 0
+abbrev pub job_of : RunCommand → Program → World → Job
+job_of run program start = record {
+  program = program;
+  seed = run.seed;
+  first = 0;
+  last = run.ticks;
+  every = run.every;
+  start = start;
+}
 
 -- a command that is refused: nothing is written, and why
 abbrev pub refused : Refusal → Outcome
 refused r = record { status = r.status; out = []; err = r.message }
+
+-- a text that is written whole
+abbrev pub shown : List ℕ → Outcome
+shown text = record { status = Done; out = text; err = [] }
+
+-- the outcome of what follows on a file that is accepted, or its refusal
+abbrev pub followed_by : {A : Type 0} → (A → Outcome) → Result A Refusal → Outcome
+followed_by next (Err r) = refused r
+followed_by next (Ok a) = next a
 
 -- the status of a run that reaches its last tick, or ends in its first fault
 abbrev pub end_status : Option Fault → Status
@@ -81,54 +141,32 @@ ended text found = record { status = end_status found; out = text; err = end_mes
 abbrev pub ran : Job → Outcome
 ran job = ended (published job true) (first_fault job)
 
--- the outcome of a run whose script is accepted, from what its agent file comes to
-abbrev pub with_world : RunCommand → Program → Result World Refusal → Outcome
-with_world run program (Err r) = refused r
-with_world run program (Ok world) = ran (every_tick program run.ticks world)
+-- a class of the program bears children
+abbrev pub has_births : Program → Bool
+has_births program = list_any (λ c. is_some c.spawn) program.classes
 
--- the outcome of a run, from what its script comes to
-abbrev pub with_program : Files → RunCommand → Result Program Refusal → Outcome
-with_program files run (Err r) = refused r
-with_program files run (Ok program) = with_world run program (agents_of files program run.agents)
+-- the outcome of a run of a program, of which one with births is refused, as none is run yet
+abbrev pub run_outcome : Files → RunCommand → Program → Outcome
+run_outcome files run program =
+    if has_births program then refused (refusal Script run.script (codes ": NotThin"))
+    else followed_by (λ start. ran (job_of run program start)) (agents_of files program run.agents)
 
--- the outcome of a run
-abbrev pub run_outcome : Files → RunCommand → Outcome
-run_outcome files run = with_program files run (script_of files run.script)
-
--- the bytes of a script within its limit
-abbrev pub source_of : Files → List ℕ → Result (List ℕ) Refusal
-source_of files name = loaded Script SCRIPT_LIMIT Some name (files name)
-
--- the message that refuses a script at a place
-abbrev pub script_message : List ℕ → List ℕ → ScriptKind → ℕ → List ℕ
-script_message name src kind at_ =
-    placed_message name (line_number src at_) (column_number src at_) (script_word kind)
-
--- a script without a tree, refused at the place where that is found
-abbrev pub refused_at : List ℕ → List ℕ → ScriptKind → ℕ → Outcome
-refused_at name src kind at_ =
-    refused (record { status = Script; message = script_message name src kind at_ })
-
--- a text that is written whole
-abbrev pub shown_outcome : List ℕ → Outcome
-shown_outcome text = record { status = Done; out = text; err = [] }
-
--- an outcome of a script's formatting: its canonical text, or its refusal
-pub data Formats (name src : List ℕ) : Outcome → Type 0 where
-  shown : (text : List ℕ) → Shows src text → Formats name src (shown_outcome text)
-  unread : (kind : ScriptKind) (at_ : ℕ) → Refuses src kind at_
-      → Formats name src (refused_at name src kind at_)
-
--- an outcome of a formatting, from what its script comes to
-abbrev pub with_source : List ℕ → Outcome → Result (List ℕ) Refusal → Type 0
-with_source name o (Err r) = o ≡ refused r
-with_source name o (Ok src) = Formats name src o
+-- an outcome of what follows on one of the things that a script comes to
+pub record Follows {A : Type 0} (comes_to : Result A Refusal → Type 0) (next : A → Outcome)
+    (o : Outcome) : Type 0 where
+  pub found : Result A Refusal
+  pub is : comes_to found
+  pub follows : o ≡ followed_by next found
 
 -- an outcome of a command, or of words that are none
 abbrev pub CommandOutcome : Files → Option Command → Outcome → Type 0
 CommandOutcome files None o = o ≡ record { status = Usage; out = []; err = usage_message }
-CommandOutcome files (Some (Run run)) o = o ≡ run_outcome files run
-CommandOutcome files (Some (Format name)) o = with_source name o (source_of files name)
+CommandOutcome files (Some (Run run)) o =
+    Follows (ProgramOf files run.script) (run_outcome files run) o
+CommandOutcome files (Some (Format name)) o =
+    Follows (TreeOf files name) (λ tree. shown (canonical tree)) o
+CommandOutcome files (Some (Check name)) o =
+    Follows (ProgramOf files name) (λ program. shown []) o
 
 -- an outcome of words over the files that a shelf holds
 abbrev pub HasOutcome : List (List ℕ) → Files → Outcome → Type 0
@@ -147,9 +185,9 @@ pub record AreNoReadings (a b : List ℕ) : Type 0 where
 abbrev pub SameMessage : List ℕ → List ℕ → Type 0
 SameMessage a b = (a ≡ b) ⊎ AreNoReadings a b
 
--- a command reads the file of this name where every file before it is accepted: its script, then the agents of a run
+-- a command reads the file of this name where every file before it is accepted: its script, then
+-- the agents of a run
 pub data Reads (files : Files) : Option Command → List ℕ → Type 0 where
-  reads_script : (run : RunCommand) → Reads files (Some (Run run)) run.script
-  reads_agents : (run : RunCommand) (program : Program) → script_of files run.script ≡ Ok program
-      → Reads files (Some (Run run)) run.agents
-  reads_source : (name : List ℕ) → Reads files (Some (Format name)) name
+  reads_script : (command : Command) → Reads files (Some command) (script_in command)
+  reads_agents : (run : RunCommand) (program : Program) → ProgramOf files run.script (Ok program)
+      → has_births program ≡ false → Reads files (Some (Run run)) run.agents

@@ -15,7 +15,7 @@ code_of WriteFault = 9
 code_of NoMemory = 11
 code_of Absent = 12
 
--- a run was begun: it reached its last tick or ended in a fault
+-- all was written, or a run ended in a fault
 abbrev pub has_run : Status → Bool
 has_run Done = true
 has_run Fault = true
@@ -32,5 +32,6 @@ is_refusal _ = false
 -- the way that a number stands for
 abbrev pub status_of : ℕ → Status
 status_of code =
-    if code == 0 then Done else if code == 2 then Usage else if code == 3 then Script else if code == 4 then Agents else if code == 7 then Fault
-    else if code == 8 then ReadFault else if code == 9 then WriteFault else if code == 12 then Absent else NoMemory
+    if code == 0 then Done else if code == 2 then Usage else if code == 3 then Script
+    else if code == 4 then Agents else if code == 7 then Fault else if code == 8 then ReadFault
+    else if code == 9 then WriteFault else if code == 12 then Absent else NoMemory

@@ -1,7 +1,7 @@
-ghost use Rattle.std.specs.Prelude.{◌≡◌};
+ghost use Rattle.std.specs.Prelude.{◌≡◌, ℕ, List, IfOk};
 ghost use Rattle.brace_top.specs.Answer.{IsSaid, sink_call};
 ghost use Rattle.brace_top.specs.Messages.{named_message};
-ghost use Rattle.brace_top.specs.inner.Settled.{status_in, message_in, IsRefusalOf};
+ghost use Rattle.brace_top.specs.inner.Settled.{status_in, message_in, IsRefusedAs};
 
 use crate::messages::named_message;
 use crate::status::Status;
@@ -47,14 +47,22 @@ impl From<NoMemory> for Stopped {
     }
 }
 
-/// The refusal of the file of a name.
-pub fn refused(alloc: Global, name: &str, status: Status, rest: &[u8]) -> Stopped
-    ensures { IsRefusalOf name.now status rest.now result }
+/// The refusal with a message, unless memory was refused for it.
+pub fn refuse(status: Status, message: Result<Vec<u8>, NoMemory>) -> Stopped
+    ensures owed { (said : List ℕ) → IfOk message (λ text. text.items ≡ said)
+        → IsRefusedAs status said result }
 {
-    match named_message(alloc, name, rest) {
+    match message {
         Ok(message) => Stopped::Refused(Answer { status, message }),
         Err(NoMemory) => Stopped::NoMemory,
     }
+}
+
+/// The refusal of the file of a name.
+pub fn refuse_file(alloc: Global, name: &str, status: Status, rest: &[u8]) -> Stopped
+    ensures { IsRefusedAs status (named_message name.now rest.now) result }
+{
+    refuse(status, named_message(alloc, name, rest))
 }
 
 /// Says the message of a command, and gives its status.

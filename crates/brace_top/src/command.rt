@@ -1,6 +1,6 @@
 ghost use Rattle.std.specs.Prelude.{◌≡◌, ◌↔◌, map, string_bytes, IfSome, IsSome, None, true, false};
 ghost use Rattle.brace_io.specs.Shelves.{Idle, writes};
-ghost use Rattle.brace_top.specs.Answer.{IsAnswered, CountsReads, CountsWrites, shelf_call, sink_call};
+ghost use Rattle.brace_top.specs.Answer.{IsAnswered, call_of, CountsReads, CountsWrites, shelf_call, sink_call};
 ghost use Rattle.brace_top.specs.Commands.{command_of};
 ghost use Rattle.brace_top.specs.Status.{has_run, is_refusal, status_of, code_of};
 
@@ -13,22 +13,18 @@ use std::alloc::Global;
 use std::sync::Wait;
 use std::thread::Threads;
 
-/// Carries a command out.
+/// Carries a command out, and says its message.
 fn carry_out<S: Shelf, O: Sink, E: Sink>(
+    err: &mut E,
     alloc: Global,
     words: &[String],
     shelf: &mut S,
     out: &mut O,
-    err: &mut E,
 ) -> Status
     requires { S.stage shelf.old ≡ Idle }
-    ensures answered { IsAnswered (record {
-      words = map string_bytes words.now;
-      status = result;
-      shelf = shelf_call S.Shelf shelf.old shelf.new;
-      out = sink_call O.Sink out.old out.new;
-      err = sink_call E.Sink err.old err.new;
-    }) }
+    ensures answered { IsAnswered (call_of (map string_bytes words.now) result
+        (shelf_call S.Shelf shelf.old shelf.new) (sink_call O.Sink out.old out.new)
+        (sink_call E.Sink err.old err.new)) }
     ensures usage { (result ≡ Status.Usage) ↔ (command_of (map string_bytes words.now) ≡ None) }
     ensures reads { CountsReads (shelf_call S.Shelf shelf.old shelf.new) result }
     ensures writes { CountsWrites (sink_call O.Sink out.old out.new) result }
@@ -47,7 +43,8 @@ fn carry_out<S: Shelf, O: Sink, E: Sink>(
     }
 }
 
-/// Carries a command out without a thread, and answers its status: a number of the table below. It never answers None.
+/// Carries a command out without a thread, and answers its status: a number of the table below. It
+/// never answers None.
 ///
 /// | Status | When it comes |
 /// |---|---|
@@ -60,8 +57,9 @@ fn carry_out<S: Shelf, O: Sink, E: Sink>(
 /// | 11 | the allocator refused memory |
 /// | 12 | a named file is not held |
 ///
-/// `words` are those after the program's name. A file is read from `shelf`, rows or the canonical text go to `out`, and one line for
-/// each status other than 0 goes to `err`, whose faults change no status.
+/// `words` are those after the program's name. A file is read from `shelf`, rows or the canonical
+/// text go to `out`, and one line for each status other than 0 goes to `err`, whose faults change
+/// no status.
 pub fn run_alone<S: Shelf, O: Sink, E: Sink>(
     alloc: Global,
     words: &[String],
@@ -72,26 +70,28 @@ pub fn run_alone<S: Shelf, O: Sink, E: Sink>(
     requires { S.stage shelf.old ≡ Idle }
     ensures always { IsSome result }
     ensures known { IfSome result (λ code. code_of (status_of code) ≡ code) }
-    ensures answered { IfSome result (λ code. IsAnswered (record {
-      words = map string_bytes words.now;
-      status = status_of code;
-      shelf = shelf_call S.Shelf shelf.old shelf.new;
-      out = sink_call O.Sink out.old out.new;
-      err = sink_call E.Sink err.old err.new;
-    })) }
-    ensures usage { IfSome result (λ code. (code ≡ 2) ↔ (command_of (map string_bytes words.now) ≡ None)) }
-    ensures reads { IfSome result (λ code. CountsReads (shelf_call S.Shelf shelf.old shelf.new) (status_of code)) }
-    ensures writes { IfSome result (λ code. CountsWrites (sink_call O.Sink out.old out.new) (status_of code)) }
-    ensures untouched { IfSome result (λ code. is_refusal (status_of code) ≡ true → out.new ≡ out.old) }
+    ensures answered { IfSome result (λ code. IsAnswered (call_of (map string_bytes words.now)
+        (status_of code) (shelf_call S.Shelf shelf.old shelf.new)
+        (sink_call O.Sink out.old out.new) (sink_call E.Sink err.old err.new))) }
+    ensures usage { IfSome result
+        (λ code. (code ≡ 2) ↔ (command_of (map string_bytes words.now) ≡ None)) }
+    ensures reads { IfSome result
+        (λ code. CountsReads (shelf_call S.Shelf shelf.old shelf.new) (status_of code)) }
+    ensures writes { IfSome result
+        (λ code. CountsWrites (sink_call O.Sink out.old out.new) (status_of code)) }
+    ensures untouched { IfSome result
+        (λ code. is_refusal (status_of code) ≡ true → out.new ≡ out.old) }
     ensures untouched_by_usage { IfSome result (λ code. code ≡ 2 → out.new ≡ out.old) }
-    ensures clean { IfSome result (λ code. has_run (status_of code) ≡ true → O.clean out.new ≡ true) }
+    ensures clean { IfSome result
+        (λ code. has_run (status_of code) ≡ true → O.clean out.new ≡ true) }
     ensures held { S.held shelf.new ≡ S.held shelf.old }
     ensures not_writing { writes (S.stage shelf.new) ≡ false }
 {
-    Some(carry_out(alloc, words, shelf, out, err).code())
+    Some(carry_out(err, alloc, words, shelf, out).code())
 }
 
-/// Carries a command out, and answers its status, as [`run_alone`] does; commands with several workers will use `rt` and `gate`.
+/// Carries a command out, and answers its status, as [`run_alone`] does; commands with several
+/// workers will use `rt` and `gate`.
 pub fn run<R: Threads + Wait + Sync, S: Shelf + Send, O: Sink + Send, E: Sink, G: Gate + Sync>(
     _rt: &R,
     alloc: Global,
@@ -103,13 +103,9 @@ pub fn run<R: Threads + Wait + Sync, S: Shelf + Send, O: Sink + Send, E: Sink, G
 ) -> u8
     requires { S.stage shelf.old ≡ Idle }
     ensures known { code_of (status_of result) ≡ result }
-    ensures answered { IsAnswered (record {
-      words = map string_bytes words.now;
-      status = status_of result;
-      shelf = shelf_call S.Shelf shelf.old shelf.new;
-      out = sink_call O.Sink out.old out.new;
-      err = sink_call E.Sink err.old err.new;
-    }) }
+    ensures answered { IsAnswered (call_of (map string_bytes words.now) (status_of result)
+        (shelf_call S.Shelf shelf.old shelf.new) (sink_call O.Sink out.old out.new)
+        (sink_call E.Sink err.old err.new)) }
     ensures usage { (result ≡ 2) ↔ (command_of (map string_bytes words.now) ≡ None) }
     ensures reads { CountsReads (shelf_call S.Shelf shelf.old shelf.new) (status_of result) }
     ensures writes { CountsWrites (sink_call O.Sink out.old out.new) (status_of result) }

@@ -1,22 +1,23 @@
-ghost use Rattle.std.specs.Prelude.{◌≡◌, ◌≢◌, ◌≤◌, ◌^◌, IfOk, IfErr, Some, true, false};
-ghost use Rattle.brace_io.specs.Shelves.{Files, writes};
-ghost use Rattle.brace_model.specs.Rules.{RulesAlone};
-ghost use Rattle.brace_top.specs.Answer.{IsAnswer, CountsReads, CountsWrites, shelf_call, sink_call};
+//! How each command is carried out.
+ghost use Rattle.std.specs.Prelude.{◌≡◌, ◌≤◌, ◌^◌, IfOk, IfErr, true, false};
+ghost use Rattle.brace_io.specs.Shelves.{writes};
+ghost use Rattle.brace_model.specs.Lawful.{LawfulProgram};
+ghost use Rattle.brace_top.specs.Answer.{sink_call};
 ghost use Rattle.brace_top.specs.Commands as asked;
-ghost use Rattle.brace_top.specs.Outcome.{every_tick, end_status, end_message, ran};
-ghost use Rattle.brace_top.specs.Status.{has_run, is_refusal};
-ghost use Rattle.brace_top.specs.inner.Settled.{IsCarriedOut, is_work, status_in, message_in};
-ghost use Rattle.brace_top.specs.inner.Words.{said, said_run, HasTicks};
+ghost use Rattle.brace_top.specs.Outcome.{has_births, shown, end_status, end_message, ran, job_of};
+ghost use Rattle.brace_top.specs.Status.{has_run};
+ghost use Rattle.brace_top.specs.inner.Settled.{IsCarriedOut, IsServed, is_work, status_in, message_in};
+ghost use Rattle.brace_top.specs.inner.Words.{said, said_run, IsInRange, IsRunInRange};
 
-use crate::answer::{Answer, Stopped};
-use crate::format::format_script;
+use crate::answer::{Answer, Stopped, refuse_file};
 use crate::job::run_ticks;
-use crate::load::{load_program, load_world};
+use crate::load::{load_program, load_tree, load_world};
 use crate::messages::fault_message;
 use crate::status::Status;
 use crate::words::{Command, RunCommand};
-use brace_io::{Shelf, Sink};
-use brace_model::{Fault, Program, World};
+use brace_io::{Shelf, Sink, write_whole};
+use brace_model::{Fault, Job, Program, World};
+use brace_show::show;
 use std::alloc::Global;
 
 /// The answer of a run that ended, with the fault in which it ended, if any.
@@ -37,49 +38,117 @@ fn ended(alloc: Global, found: Option<Fault>) -> Result<Answer, Stopped>
     }
 }
 
-/// Runs a program from a start world, and hands the sink on what was written.
-fn run_world<O: Sink>(
-    alloc: Global,
-    program: &Program,
-    last: u64,
-    start: World,
-    out: &mut O,
-) -> Result<Answer, Stopped>
-    requires ticks { last ≤ 2 ^ 32 }
-    requires rules { RulesAlone program.now }
-    ensures carried_out { IsCarriedOut (λ o. o ≡ ran (every_tick program.now last start))
-        (sink_call O.Sink out.old out.new) (message_in result) (status_in result) }
+/// Runs a job from tick 0, and hands the sink on what was written.
+fn run_whole<O: Sink>(alloc: Global, job: &Job, out: &mut O) -> Result<Answer, Stopped>
+    requires lawful { LawfulProgram job.now.program }
+    requires fresh { job.now.first ≡ 0 }
+    requires ticks { job.now.last ≤ 2 ^ 32 }
+    requires every { 1 ≤ job.now.every }
+    ensures carried_out { IsCarriedOut (λ o. o ≡ ran job.now) (sink_call O.Sink out.old out.new)
+        (message_in result) (status_in result) }
     ensures work { is_work (status_in result) ≡ true }
     ensures clean { has_run (status_in result) ≡ true → O.clean out.new ≡ true }
 {
-    let found = run_ticks(alloc, program, last, start, out)?;
+    let found = run_ticks(alloc, job, out)?;
     out.flush()?;
     ended(alloc, found)
 }
 
-/// Carries a run out: reads the script, then the agents, then runs.
-fn run_job<S: Shelf, O: Sink>(
+/// Writes a text that is all that a command writes.
+fn write_text<O: Sink>(alloc: Global, text: &[u8], out: &mut O) -> Result<Answer, Stopped>
+    ensures carried_out { IsCarriedOut (λ o. o ≡ shown text.now) (sink_call O.Sink out.old out.new)
+        (message_in result) (status_in result) }
+    ensures work { is_work (status_in result) ≡ true }
+    ensures clean { has_run (status_in result) ≡ true → O.clean out.new ≡ true }
+{
+    write_whole(out, text)?;
+    out.flush()?;
+    Ok(Answer {
+        status: Status::Done,
+        message: Vec::new(alloc),
+    })
+}
+
+/// Whether a class of a program bears children.
+fn has_births(program: &Program) -> bool
+    ensures { result ≡ has_births program.now }
+{
+    program
+        .classes
+        .as_slice()
+        .iter()
+        .any(|class| class.spawn.is_some())
+}
+
+/// The job of a run.
+fn job_of(run: &RunCommand, program: Program, start: World) -> Job
+    ensures { result ≡ job_of (said_run run.now) program start }
+{
+    Job {
+        program,
+        seed: run.seed,
+        first: 0,
+        last: run.ticks,
+        every: run.every,
+        start,
+    }
+}
+
+/// Runs a script from an agent file.
+fn run_script<S: Shelf, O: Sink>(
     alloc: Global,
     run: &RunCommand,
     shelf: &mut S,
     out: &mut O,
 ) -> Result<Answer, Stopped>
     requires stage { writes (S.stage shelf.old) ≡ false }
-    requires ticks { run.now.ticks ≤ 2 ^ 32 }
-    ensures answered { (files : Files) → S.held shelf.old ≡ Some files
-        → IsAnswer files (Some (asked.Run (said_run run.now))) (shelf_call S.Shelf shelf.old shelf.new)
-        (sink_call O.Sink out.old out.new) (message_in result) (status_in result) }
-    ensures reads { CountsReads (shelf_call S.Shelf shelf.old shelf.new) (status_in result) }
-    ensures writes { CountsWrites (sink_call O.Sink out.old out.new) (status_in result) }
-    ensures untouched { is_refusal (status_in result) ≡ true → out.new ≡ out.old }
-    ensures clean { has_run (status_in result) ≡ true → O.clean out.new ≡ true }
-    ensures known { status_in result ≢ Status.Usage }
+    requires range { IsRunInRange run.now }
+    ensures served { IsServed S.Shelf O.Sink (asked.Run (said_run run.now))
+        shelf.old shelf.new out.old out.new result }
     ensures held { S.held shelf.new ≡ S.held shelf.old }
     ensures not_writing { writes (S.stage shelf.new) ≡ false }
 {
     let program = load_program(alloc, shelf, run.script)?;
-    let world = load_world(alloc, shelf, &program, run.agents)?;
-    run_world(alloc, &program, run.ticks, world, out)
+    if has_births(&program) {
+        return Err(refuse_file(alloc, run.script, Status::Script, b": NotThin"));
+    }
+    let start = load_world(alloc, shelf, &program, run.agents)?;
+    run_whole(alloc, &job_of(run, program, start), out)
+}
+
+/// Writes the canonical text of a script.
+fn format_script<S: Shelf, O: Sink>(
+    alloc: Global,
+    name: &str,
+    shelf: &mut S,
+    out: &mut O,
+) -> Result<Answer, Stopped>
+    requires stage { writes (S.stage shelf.old) ≡ false }
+    ensures served { IsServed S.Shelf O.Sink (asked.Format name.now)
+        shelf.old shelf.new out.old out.new result }
+    ensures held { S.held shelf.new ≡ S.held shelf.old }
+    ensures not_writing { writes (S.stage shelf.new) ≡ false }
+{
+    let tree = load_tree(alloc, shelf, name)?;
+    let text = show(alloc, &tree)?;
+    write_text(alloc, text.as_slice(), out)
+}
+
+/// Checks a script, and writes nothing.
+fn check_script<S: Shelf, O: Sink>(
+    alloc: Global,
+    name: &str,
+    shelf: &mut S,
+    out: &mut O,
+) -> Result<Answer, Stopped>
+    requires stage { writes (S.stage shelf.old) ≡ false }
+    ensures served { IsServed S.Shelf O.Sink (asked.Check name.now)
+        shelf.old shelf.new out.old out.new result }
+    ensures held { S.held shelf.new ≡ S.held shelf.old }
+    ensures not_writing { writes (S.stage shelf.new) ≡ false }
+{
+    let _program = load_program(alloc, shelf, name)?;
+    write_text(alloc, b"", out)
 }
 
 /// Carries a command out.
@@ -90,20 +159,15 @@ pub fn answer_command<S: Shelf, O: Sink>(
     out: &mut O,
 ) -> Result<Answer, Stopped>
     requires stage { writes (S.stage shelf.old) ≡ false }
-    requires ticks { HasTicks command.now }
-    ensures answered { (files : Files) → S.held shelf.old ≡ Some files
-        → IsAnswer files (Some (said command.now)) (shelf_call S.Shelf shelf.old shelf.new)
-        (sink_call O.Sink out.old out.new) (message_in result) (status_in result) }
-    ensures reads { CountsReads (shelf_call S.Shelf shelf.old shelf.new) (status_in result) }
-    ensures writes { CountsWrites (sink_call O.Sink out.old out.new) (status_in result) }
-    ensures untouched { is_refusal (status_in result) ≡ true → out.new ≡ out.old }
-    ensures clean { has_run (status_in result) ≡ true → O.clean out.new ≡ true }
-    ensures known { status_in result ≢ Status.Usage }
+    requires range { IsInRange command.now }
+    ensures served { IsServed S.Shelf O.Sink (said command.now)
+        shelf.old shelf.new out.old out.new result }
     ensures held { S.held shelf.new ≡ S.held shelf.old }
     ensures not_writing { writes (S.stage shelf.new) ≡ false }
 {
     match command {
-        Command::Run(run) => run_job(alloc, run, shelf, out),
+        Command::Run(run) => run_script(alloc, run, shelf, out),
         Command::Format(name) => format_script(alloc, name, shelf, out),
+        Command::Check(name) => check_script(alloc, name, shelf, out),
     }
 }

@@ -1,16 +1,14 @@
 ghost use Rattle.std.specs.Prelude.{◌≡◌, ◌≤◌, ◌^◌, ℕ, List, Option, IfOk, OnOk, IfErr, OnErr, true, Some, None};
 ghost use Rattle.brace_io.specs.Counts.{Rose};
 ghost use Rattle.brace_io.specs.Sinks.{Gains, GainsFront};
-ghost use Rattle.brace_model.specs.Rules.{RulesAlone};
+ghost use Rattle.brace_model.specs.Lawful.{LawfulProgram};
 ghost use Rattle.brace_model.specs.Run.{first_fault};
-ghost use Rattle.brace_model.specs.Published.{rows, published};
-ghost use Rattle.brace_top.specs.Outcome.{every_tick};
+ghost use Rattle.brace_model.specs.Published.{is_published, tick_text, published};
 
 use crate::answer::Stopped;
-use crate::step::{StepFault, step};
-use brace_draw::Drawer;
+use brace_eval::{StepFault, plain_step};
 use brace_io::{Failed, Sink, write_whole};
-use brace_model::{Fault, Program, World};
+use brace_model::{Fault, Job, World};
 use brace_num::NoMemory;
 use brace_rows::print_tick;
 use std::alloc::Global;
@@ -57,55 +55,69 @@ impl From<RunFault> for Stopped {
     }
 }
 
-/// Writes the rows of a tick, through a buffer that is used for each tick anew.
+/// Whether a tick of a run from tick 0 is published.
+fn is_published(job: &Job, tick: u64) -> bool
+    requires { 1 ≤ job.now.every }
+    ensures { result ≡ is_published job.now true tick }
+{
+    tick % job.every == 0 || tick == job.last
+}
+
+/// Writes the rows of a tick where it is published, through a buffer that is used for each tick
+/// anew.
 fn publish<O: Sink>(
     text: &mut Vec<u8>,
-    program: &Program,
+    job: &Job,
     tick: u64,
     world: &World,
     out: &mut O,
 ) -> Result<(), RunFault>
-    ensures all { OnOk result (Gains (O.written out.old) (O.written out.new) (rows program.now tick world.now.agents)) }
-    ensures front { OnErr result (GainsFront (O.written out.old) (O.written out.new) (rows program.now tick world.now.agents)) }
-    ensures rose { IfErr result (λ fault. fault ≡ RunFault.Write → Rose (O.faults out.old) (O.faults out.new)) }
+    requires every { 1 ≤ job.now.every }
+    ensures all { OnOk result (Gains (O.written out.old) (O.written out.new)
+        (tick_text job.now true tick (Ok world.now))) }
+    ensures front { OnErr result (GainsFront (O.written out.old) (O.written out.new)
+        (tick_text job.now true tick (Ok world.now))) }
+    ensures rose { IfErr result
+        (λ fault. fault ≡ RunFault.Write → Rose (O.faults out.old) (O.faults out.new)) }
     ensures never_falls { O.faults out.old ≤ O.faults out.new }
 {
+    if !is_published(job, tick) {
+        return Ok(());
+    }
     text.clear();
-    print_tick(text, program, tick, world)?;
+    print_tick(text, &job.program, tick, world)?;
     write_whole(out, text.as_slice())?;
     Ok(())
 }
 
-/// Runs a program of rules alone from tick 0 and a start world up to a last tick of at most 2^32, and writes the rows of each tick
-/// that is reached. It answers the run's first fault, if it ends in one.
-pub fn run_ticks<O: Sink>(
-    alloc: Global,
-    program: &Program,
-    last: u64,
-    start: World,
-    out: &mut O,
-) -> Result<Option<Fault>, RunFault>
-    requires ticks { last ≤ 2 ^ 32 }
-    requires rules { RulesAlone program.now }
-    ensures found { IfOk result (λ found. first_fault (every_tick program.now last start) ≡ found) }
-    ensures all { OnOk result (Gains (O.written out.old) (O.written out.new) (published (every_tick program.now last start) true)) }
-    ensures front { OnErr result (GainsFront (O.written out.old) (O.written out.new) (published (every_tick program.now last start) true)) }
-    ensures rose { IfErr result (λ fault. fault ≡ RunFault.Write → Rose (O.faults out.old) (O.faults out.new)) }
+/// Runs a job from tick 0 up to its last tick, at most 2^32, and writes the rows of each published
+/// tick that is reached. It answers the run's first fault, if it ends in one.
+pub fn run_ticks<O: Sink>(alloc: Global, job: &Job, out: &mut O) -> Result<Option<Fault>, RunFault>
+    requires lawful { LawfulProgram job.now.program }
+    requires fresh { job.now.first ≡ 0 }
+    requires ticks { job.now.last ≤ 2 ^ 32 }
+    requires every { 1 ≤ job.now.every }
+    ensures found { IfOk result (λ found. first_fault job.now ≡ found) }
+    ensures all { OnOk result
+        (Gains (O.written out.old) (O.written out.new) (published job.now true)) }
+    ensures front { OnErr result
+        (GainsFront (O.written out.old) (O.written out.new) (published job.now true)) }
+    ensures rose { IfErr result
+        (λ fault. fault ≡ RunFault.Write → Rose (O.faults out.old) (O.faults out.new)) }
     ensures never_falls { O.faults out.old ≤ O.faults out.new }
 {
     let mut text = Vec::new(alloc);
-    let mut drawer = Drawer::make(0);
-    let mut world = start;
-    if let Err(fault) = publish(&mut text, program, 0, &world, out) {
+    if let Err(fault) = publish(&mut text, job, 0, &job.start, out) {
         return Err(fault);
     }
-    for tick in 0..last {
-        match step(alloc, program, tick, &world, &mut drawer) {
+    let mut world = job.start.copy(alloc)?;
+    for tick in 0..job.last {
+        match plain_step(alloc, job, tick, &world) {
             Ok(next) => world = next,
             Err(StepFault::Fault(fault)) => return Ok(Some(fault)),
             Err(StepFault::NoMemory) => return Err(RunFault::NoMemory),
         }
-        if let Err(fault) = publish(&mut text, program, tick + 1, &world, out) {
+        if let Err(fault) = publish(&mut text, job, tick + 1, &world, out) {
             return Err(fault);
         }
     }

@@ -1,18 +1,23 @@
-ghost use Rattle.std.specs.Prelude.{◌≡◌, ◌≤◌, length, List, Ok, Some, IfOk, IfErr, MatchResult, true, false};
-ghost use Rattle.brace_io.specs.Shelves.{Files, writes};
-ghost use Rattle.brace_model.specs.Rules.{RulesAlone};
-ghost use Rattle.brace_top.specs.Answer.{CountsReads, shelf_call};
+//! What the named files of a command come to.
+ghost use Rattle.std.specs.Prelude.{◌≡◌, ◌≤◌, length, Some, IfOk, MatchResult, true, false};
+ghost use Rattle.brace_io.specs.Shelves.{writes};
+ghost use Rattle.brace_model.specs.Lawful.{LawfulProgram};
+ghost use Rattle.brace_top.specs.Answer.{shelf_call};
+ghost use Rattle.brace_top.specs.Outcome.{loaded, source_of, agents_of, TreeOf, ProgramOf};
 ghost use Rattle.brace_top.specs.declared.limits.TheConstants.{SCRIPT_LIMIT};
-ghost use Rattle.brace_top.specs.Outcome.{loaded, source_of, script_of, agents_of};
-ghost use Rattle.brace_top.specs.inner.Settled.{GivesNothing, refuses_file, stopped_status, stopped_message};
+ghost use Rattle.brace_top.specs.inner.Settled.{IsLoaded, IsUnloaded, IsScriptRefused, IsRecordRefused, refuses_file};
 
-use crate::agents::{AgentsFault, read_thin_agents};
-use crate::answer::{Stopped, refused};
+use crate::answer::{Stopped, refuse, refuse_file};
 use crate::limits::{AGENTS_LIMIT, SCRIPT_LIMIT};
+use crate::messages::{placed_message, record_message};
+use crate::places::{column_number, line_number};
+use crate::script::{read_program, read_tree};
+use crate::script_fault::ScriptFault;
 use crate::status::Status;
-use crate::thin::{ThinFault, read_thin};
 use brace_io::{Shelf, WholeFault, read_whole};
 use brace_model::{Program, World};
+use brace_rows::{RowFault, read_agents};
+use brace_syntax::Tree;
 use std::alloc::Global;
 
 /// The bytes of the file of a name, at most `limit`; `status` is that of a longer file.
@@ -25,60 +30,88 @@ fn load_file<S: Shelf>(
 ) -> Result<Vec<u8>, Stopped>
     requires stage { writes (S.stage shelf.old) ≡ false }
     requires refusal { refuses_file status ≡ true }
-    ensures loaded { IfOk result (λ bytes. (files : Files) → S.held shelf.old ≡ Some files
-        → loaded status limit Some name.now (files name.now) ≡ Ok bytes.items) }
+    ensures loads { MatchResult result
+        (λ bytes. IsLoaded (λ files found. loaded status limit name.now (files name.now) ≡ found)
+        (shelf_call S.Shelf shelf.old shelf.new) bytes.items)
+        (IsUnloaded (λ files found. loaded status limit name.now (files name.now) ≡ found) name.now
+        (shelf_call S.Shelf shelf.old shelf.new)) }
     ensures within { IfOk result (λ bytes. length bytes.items ≤ limit) }
-    ensures refused { IfErr result (λ stopped. GivesNothing
-        (λ files. loaded status limit Some name.now (files name.now)) name.now
-        (shelf_call S.Shelf shelf.old shelf.new) (stopped_message stopped) (stopped_status stopped)) }
-    ensures reads { MatchResult result (λ _. S.faults shelf.new ≡ S.faults shelf.old)
-        (λ stopped. CountsReads (shelf_call S.Shelf shelf.old shelf.new) (stopped_status stopped)) }
     ensures held { S.held shelf.new ≡ S.held shelf.old }
     ensures not_writing { writes (S.stage shelf.new) ≡ false }
 {
     match read_whole(alloc, shelf, name, limit) {
         Ok(bytes) => Ok(bytes),
-        Err(WholeFault::Absent) => Err(refused(alloc, name, Status::Absent, b": absent")),
-        Err(WholeFault::TooLong) => Err(refused(alloc, name, status, b": TooLong")),
-        Err(WholeFault::Failed) => Err(refused(alloc, name, Status::ReadFault, b": read fault")),
+        Err(WholeFault::Absent) => Err(refuse_file(alloc, name, Status::Absent, b": absent")),
+        Err(WholeFault::TooLong) => Err(refuse_file(alloc, name, status, b": TooLong")),
+        Err(WholeFault::Failed) => Err(refuse_file(
+            alloc,
+            name,
+            Status::ReadFault,
+            b": read fault",
+        )),
         Err(WholeFault::NoMemory) => Err(Stopped::NoMemory),
     }
 }
 
-/// The bytes of the script of a name.
-pub fn load_source<S: Shelf>(alloc: Global, shelf: &mut S, name: &str) -> Result<Vec<u8>, Stopped>
-    requires { writes (S.stage shelf.old) ≡ false }
-    ensures loaded { IfOk result (λ src. (files : Files) → S.held shelf.old ≡ Some files
-        → source_of files name.now ≡ Ok src.items) }
-    ensures within { IfOk result (λ src. length src.items ≤ SCRIPT_LIMIT) }
-    ensures refused { IfErr result (λ stopped. GivesNothing (λ files. source_of files name.now) name.now
-        (shelf_call S.Shelf shelf.old shelf.new) (stopped_message stopped) (stopped_status stopped)) }
-    ensures reads { MatchResult result (λ _. S.faults shelf.new ≡ S.faults shelf.old)
-        (λ stopped. CountsReads (shelf_call S.Shelf shelf.old shelf.new) (stopped_status stopped)) }
-    ensures held { S.held shelf.new ≡ S.held shelf.old }
-    ensures not_writing { writes (S.stage shelf.new) ≡ false }
+/// The refusal of a script at the place where its fault is found.
+fn refuse_script(alloc: Global, name: &str, src: &[u8], fault: ScriptFault) -> Stopped
+    ensures { IsScriptRefused name.now src.now fault result }
 {
-    load_file(alloc, shelf, name, SCRIPT_LIMIT, Status::Script)
+    match fault {
+        ScriptFault::Refused(kind, at) => {
+            let line = line_number(src, at as usize);
+            let column = column_number(src, at as usize);
+            let message = placed_message(alloc, name, line, column, kind.word());
+            refuse(Status::Script, message)
+        }
+        ScriptFault::NoMemory => Stopped::NoMemory,
+    }
 }
 
-/// The program of the script of a name, which is one of rules alone.
-pub fn load_program<S: Shelf>(alloc: Global, shelf: &mut S, name: &str) -> Result<Program, Stopped>
+/// The refusal of an agent file for the fault of a record.
+fn refuse_record(alloc: Global, name: &str, fault: RowFault) -> Stopped
+    ensures { IsRecordRefused name.now fault result }
+{
+    match fault {
+        RowFault::Bad(number, kind) => {
+            refuse(Status::Agents, record_message(alloc, name, number, kind))
+        }
+        RowFault::NoMemory => Stopped::NoMemory,
+    }
+}
+
+/// The tree of the script of a name.
+pub fn load_tree<S: Shelf>(alloc: Global, shelf: &mut S, name: &str) -> Result<Tree, Stopped>
     requires { writes (S.stage shelf.old) ≡ false }
-    ensures loaded { IfOk result (λ program. (files : Files) → S.held shelf.old ≡ Some files
-        → script_of files name.now ≡ Ok program) }
-    ensures rules { IfOk result (λ program. RulesAlone program) }
-    ensures refused { IfErr result (λ stopped. GivesNothing (λ files. script_of files name.now) name.now
-        (shelf_call S.Shelf shelf.old shelf.new) (stopped_message stopped) (stopped_status stopped)) }
-    ensures reads { MatchResult result (λ _. S.faults shelf.new ≡ S.faults shelf.old)
-        (λ stopped. CountsReads (shelf_call S.Shelf shelf.old shelf.new) (stopped_status stopped)) }
+    ensures loads { MatchResult result
+        (IsLoaded (λ files. TreeOf files name.now) (shelf_call S.Shelf shelf.old shelf.new))
+        (IsUnloaded (λ files. TreeOf files name.now) name.now
+        (shelf_call S.Shelf shelf.old shelf.new)) }
     ensures held { S.held shelf.new ≡ S.held shelf.old }
     ensures not_writing { writes (S.stage shelf.new) ≡ false }
 {
     let src = load_file(alloc, shelf, name, SCRIPT_LIMIT, Status::Script)?;
-    match read_thin(alloc, src.as_slice()) {
+    match read_tree(alloc, src.as_slice()) {
+        Ok(tree) => Ok(tree),
+        Err(fault) => Err(refuse_script(alloc, name, src.as_slice(), fault)),
+    }
+}
+
+/// The program of the script of a name.
+pub fn load_program<S: Shelf>(alloc: Global, shelf: &mut S, name: &str) -> Result<Program, Stopped>
+    requires { writes (S.stage shelf.old) ≡ false }
+    ensures loads { MatchResult result
+        (IsLoaded (λ files. ProgramOf files name.now) (shelf_call S.Shelf shelf.old shelf.new))
+        (IsUnloaded (λ files. ProgramOf files name.now) name.now
+        (shelf_call S.Shelf shelf.old shelf.new)) }
+    ensures lawful { IfOk result LawfulProgram }
+    ensures held { S.held shelf.new ≡ S.held shelf.old }
+    ensures not_writing { writes (S.stage shelf.new) ≡ false }
+{
+    let src = load_file(alloc, shelf, name, SCRIPT_LIMIT, Status::Script)?;
+    match read_program(alloc, src.as_slice()) {
         Ok(program) => Ok(program),
-        Err(ThinFault::NotThin) => Err(refused(alloc, name, Status::Script, b": NotThin")),
-        Err(ThinFault::NoMemory) => Err(Stopped::NoMemory),
+        Err(fault) => Err(refuse_script(alloc, name, src.as_slice(), fault)),
     }
 }
 
@@ -90,19 +123,17 @@ pub fn load_world<S: Shelf>(
     name: &str,
 ) -> Result<World, Stopped>
     requires { writes (S.stage shelf.old) ≡ false }
-    ensures loaded { IfOk result (λ world. (files : Files) → S.held shelf.old ≡ Some files
-        → agents_of files program.now name.now ≡ Ok world) }
-    ensures refused { IfErr result (λ stopped. GivesNothing (λ files. agents_of files program.now name.now) name.now
-        (shelf_call S.Shelf shelf.old shelf.new) (stopped_message stopped) (stopped_status stopped)) }
-    ensures reads { MatchResult result (λ _. S.faults shelf.new ≡ S.faults shelf.old)
-        (λ stopped. CountsReads (shelf_call S.Shelf shelf.old shelf.new) (stopped_status stopped)) }
+    ensures loads { MatchResult result
+        (IsLoaded (λ files found. agents_of files program.now name.now ≡ found)
+        (shelf_call S.Shelf shelf.old shelf.new))
+        (IsUnloaded (λ files found. agents_of files program.now name.now ≡ found) name.now
+        (shelf_call S.Shelf shelf.old shelf.new)) }
     ensures held { S.held shelf.new ≡ S.held shelf.old }
     ensures not_writing { writes (S.stage shelf.new) ≡ false }
 {
     let bytes = load_file(alloc, shelf, name, AGENTS_LIMIT, Status::Agents)?;
-    match read_thin_agents(alloc, program, bytes.as_slice()) {
+    match read_agents(alloc, program, bytes.as_slice()) {
         Ok(world) => Ok(world),
-        Err(AgentsFault::NotThin) => Err(refused(alloc, name, Status::Agents, b": NotThin")),
-        Err(AgentsFault::NoMemory) => Err(Stopped::NoMemory),
+        Err(fault) => Err(refuse_record(alloc, name, fault)),
     }
 }

@@ -1,8 +1,9 @@
 ghost use Rattle.std.specs.Prelude.{◌≡◌, ◌++◌, IfOk, OnOk};
-ghost use Rattle.brace_top.specs.Messages.{named_message, placed_message, phase_word, kind_word, loop_text, agents_text, site_text, fault_message};
+ghost use Rattle.brace_top.specs.Messages.{named_message, placed_message, row_word, record_message, phase_word, kind_word, loop_text, agents_text, site_text, fault_message};
 
 use brace_model::{Fault, Phase};
 use brace_num::{Kind, NoMemory, print_count};
+use brace_rows::RowKind;
 use std::alloc::Global;
 
 /// The message that begins with a file's name.
@@ -25,7 +26,7 @@ pub fn placed_message(
     column: u64,
     kind: &[u8],
 ) -> Result<Vec<u8>, NoMemory>
-    ensures { IfOk result (λ message. message.items ≡ placed_message name.now line column kind.now) }
+    ensures { IfOk result (λ text. text.items ≡ placed_message name.now line column kind.now) }
 {
     let mut rest = Vec::new(alloc);
     rest.push(b':')?;
@@ -34,6 +35,40 @@ pub fn placed_message(
     print_count(&mut rest, column)?;
     rest.extend_from_slice(b": ")?;
     rest.extend_from_slice(kind)?;
+    named_message(alloc, name, rest.as_slice())
+}
+
+/// The word of a record's refusal, and the field of a bad value, behind a message.
+fn add_row_word(message: &mut Vec<u8>, kind: RowKind) -> Result<(), NoMemory>
+    ensures { OnOk result (message.new.items ≡ message.old.items ++ row_word kind) }
+{
+    match kind {
+        RowKind::UnknownClass => message.extend_from_slice(b"UnknownClass")?,
+        RowKind::WrongLength => message.extend_from_slice(b"WrongLength")?,
+        RowKind::BadValue(field) => {
+            message.extend_from_slice(b"BadValue ")?;
+            print_count(message, u64::from(field))?;
+        }
+        RowKind::DuplicateId => message.extend_from_slice(b"DuplicateId")?,
+        RowKind::TooMany => message.extend_from_slice(b"TooMany")?,
+    }
+    Ok(())
+}
+
+/// The message that names a record of a file, counted from 1, and what is wrong with it.
+pub fn record_message(
+    alloc: Global,
+    name: &str,
+    number: u64,
+    kind: RowKind,
+) -> Result<Vec<u8>, NoMemory>
+    ensures { IfOk result (λ text. text.items ≡ record_message name.now number kind) }
+{
+    let mut rest = Vec::new(alloc);
+    rest.extend_from_slice(b": record ")?;
+    print_count(&mut rest, number)?;
+    rest.extend_from_slice(b": ")?;
+    add_row_word(&mut rest, kind)?;
     named_message(alloc, name, rest.as_slice())
 }
 

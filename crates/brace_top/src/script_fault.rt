@@ -1,16 +1,13 @@
-ghost use Rattle.std.specs.Prelude.{◌≡◌, List, ℕ};
-ghost use Rattle.brace_syntax.specs.Refusals.{Refuses, StandsIn};
-ghost use Rattle.brace_tok.specs.Answers.{IsFault};
-ghost use Rattle.brace_tok.specs.Spells.{Spells};
-ghost use Rattle.brace_tok.specs.declared.kinds.Token.{Token};
-ghost use Rattle.brace_top.specs.Formatting.{IsRefusal};
+ghost use Rattle.std.specs.Prelude.{◌≡◌};
 ghost use Rattle.brace_top.specs.Messages.{script_word};
+ghost use Rattle.brace_top.specs.Scripts.{token_fault, grammar_fault, name_fault, check_fault};
 
-use brace_num::NoMemory;
+use brace_check::CheckFault;
+use brace_names::{NameFault, Which};
 use brace_syntax::SynFault;
 use brace_tok::TokFault;
 
-/// What is found where a script has no tree.
+/// What is found where a script has no tree or no program, in the order in which it is tried.
 #[derive(Debug, Clone, Copy, PartialEq, Eq, Drop)]
 pub enum ScriptKind {
     BadByte,
@@ -19,9 +16,25 @@ pub enum ScriptKind {
     LongWord,
     TooDeep,
     NoReading,
+    DuplicateClass,
+    DuplicateName,
+    UnknownClass,
+    UnknownName,
+    UnknownType,
+    NoPosition,
+    TooMany(Which),
+    OtherAgentInUpdate,
+    ReadsEffectInQuery,
+    AssignsState,
+    AssignsEffect,
+    PrivateOfOtherClass,
+    NestedTooDeep,
+    BadRange,
+    WrongCombinator,
+    WrongType,
 }
 
-/// Why a script has no canonical text.
+/// Why a script has no tree or no program.
 #[derive(Debug, Clone, Copy, PartialEq, Eq, Drop)]
 pub enum ScriptFault {
     /// It is refused at this offset.
@@ -42,12 +55,31 @@ impl ScriptKind {
             ScriptKind::LongWord => b"LongWord",
             ScriptKind::TooDeep => b"TooDeep",
             ScriptKind::NoReading => b"NoReading",
+            ScriptKind::DuplicateClass => b"DuplicateClass",
+            ScriptKind::DuplicateName => b"DuplicateName",
+            ScriptKind::UnknownClass => b"UnknownClass",
+            ScriptKind::UnknownName => b"UnknownName",
+            ScriptKind::UnknownType => b"UnknownType",
+            ScriptKind::NoPosition => b"NoPosition",
+            ScriptKind::TooMany(Which::Classes) => b"TooMany classes",
+            ScriptKind::TooMany(Which::Fields) => b"TooMany fields",
+            ScriptKind::TooMany(Which::Sites) => b"TooMany sites",
+            ScriptKind::TooMany(Which::Assignments) => b"TooMany assignments",
+            ScriptKind::OtherAgentInUpdate => b"OtherAgentInUpdate",
+            ScriptKind::ReadsEffectInQuery => b"ReadsEffectInQuery",
+            ScriptKind::AssignsState => b"AssignsState",
+            ScriptKind::AssignsEffect => b"AssignsEffect",
+            ScriptKind::PrivateOfOtherClass => b"PrivateOfOtherClass",
+            ScriptKind::NestedTooDeep => b"NestedTooDeep",
+            ScriptKind::BadRange => b"BadRange",
+            ScriptKind::WrongCombinator => b"WrongCombinator",
+            ScriptKind::WrongType => b"WrongType",
         }
     }
 }
 
 impl From<TokFault> for ScriptFault {
-    ghost from_gives = { λ fault found. (src : List ℕ) → IsFault src fault → IsRefusal src found };
+    ghost from_gives = { λ fault found. found ≡ token_fault fault };
 
     fn from(fault: TokFault) -> ScriptFault {
         match fault {
@@ -61,8 +93,7 @@ impl From<TokFault> for ScriptFault {
 }
 
 impl From<SynFault> for ScriptFault {
-    ghost from_gives = { λ fault found. (src : List ℕ) (toks : List Token) → Spells src toks
-        → Refuses src toks fault → StandsIn src toks fault → IsRefusal src found };
+    ghost from_gives = { λ fault found. found ≡ grammar_fault fault };
 
     fn from(fault: SynFault) -> ScriptFault {
         match fault {
@@ -73,12 +104,48 @@ impl From<SynFault> for ScriptFault {
     }
 }
 
-impl From<NoMemory> for ScriptFault {
-    ghost use Rattle.brace_top.specs.declared.script_fault.ScriptFault.TheVariants as kind;
+impl From<NameFault> for ScriptFault {
+    ghost from_gives = { λ fault found. found ≡ name_fault fault };
 
-    ghost from_gives = { λ _ found. found ≡ kind.NoMemory };
+    fn from(fault: NameFault) -> ScriptFault {
+        match fault {
+            NameFault::DuplicateClass(at) => ScriptFault::Refused(ScriptKind::DuplicateClass, at),
+            NameFault::DuplicateName(at) => ScriptFault::Refused(ScriptKind::DuplicateName, at),
+            NameFault::UnknownClass(at) => ScriptFault::Refused(ScriptKind::UnknownClass, at),
+            NameFault::UnknownName(at) => ScriptFault::Refused(ScriptKind::UnknownName, at),
+            NameFault::UnknownType(at) => ScriptFault::Refused(ScriptKind::UnknownType, at),
+            NameFault::NoPosition(at) => ScriptFault::Refused(ScriptKind::NoPosition, at),
+            NameFault::TooMany(which, at) => {
+                ScriptFault::Refused(ScriptKind::TooMany(which), at)
+            }
+            NameFault::NoMemory => ScriptFault::NoMemory,
+        }
+    }
+}
 
-    fn from(_: NoMemory) -> ScriptFault {
-        ScriptFault::NoMemory
+impl From<CheckFault> for ScriptFault {
+    ghost from_gives = { λ fault found. found ≡ check_fault fault };
+
+    fn from(fault: CheckFault) -> ScriptFault {
+        match fault {
+            CheckFault::OtherAgentInUpdate(at) => {
+                ScriptFault::Refused(ScriptKind::OtherAgentInUpdate, at)
+            }
+            CheckFault::ReadsEffectInQuery(at) => {
+                ScriptFault::Refused(ScriptKind::ReadsEffectInQuery, at)
+            }
+            CheckFault::AssignsState(at) => ScriptFault::Refused(ScriptKind::AssignsState, at),
+            CheckFault::AssignsEffect(at) => ScriptFault::Refused(ScriptKind::AssignsEffect, at),
+            CheckFault::PrivateOfOtherClass(at) => {
+                ScriptFault::Refused(ScriptKind::PrivateOfOtherClass, at)
+            }
+            CheckFault::NestedTooDeep(at) => ScriptFault::Refused(ScriptKind::NestedTooDeep, at),
+            CheckFault::BadRange(at) => ScriptFault::Refused(ScriptKind::BadRange, at),
+            CheckFault::WrongCombinator(at) => {
+                ScriptFault::Refused(ScriptKind::WrongCombinator, at)
+            }
+            CheckFault::WrongType(at) => ScriptFault::Refused(ScriptKind::WrongType, at),
+            CheckFault::NoMemory => ScriptFault::NoMemory,
+        }
     }
 }

@@ -1,30 +1,19 @@
-use Rattle.std.proofs.Common.{refl}
-use Rattle.std.specs.Prelude.{None}
 use Rattle.std.proofs.lemmas.Result.{err_from_is_err_and}
-use Rattle.brace_top.specs.declared.limits.TheConstants.{SCRIPT_LIMIT}
-use Rattle.brace_top.specs.declared.status.Status.TheVariants.{Script}
-use Rattle.brace_top.specs.Outcome.{script_of}
-use Rattle.brace_top.specs.Thin.{thin_program}
-use Rattle.brace_top.proofs.AnswerLemmas.{nothing_as, loaded_as, refusal_gives}
-use Rattle.brace_top.proofs.ThinRules.{thin_rules}
+use Rattle.brace_top.specs.Outcome.{ProgramOf, unloaded}
+use Rattle.brace_top.specs.Scripts.{Means, Refuses}
+use Rattle.brace_top.proofs.AnswerLemmas.{unloaded_as, script_loaded, script_unloads}
 use Rattle.brace_top.proofs.load.load_program.Goals as goal
 
-pub returns-in_err-src-clause-refused : goal.returns-in_err-src-clause-refused
-returns-in_err-src-clause-refused g c =
+pub returns-in_err-src-clause-loads : goal.returns-in_err-src-clause-loads
+returns-in_err-src-clause-loads g c =
     let p = err_from_is_err_and c.from_residual.result c.from_residual.ensures.1 in
-    rw (p.1, p.2) (nothing_as Script SCRIPT_LIMIT thin_program c.args.name.now _ _ _ c.in_err-src.ensures.refused)
+    rw (p.1, p.2) (unloaded_as _ (λ files. ProgramOf files c.args.name.now) c.args.name.now _ _ (λ files r e. unloaded r e) c.in_err-src.ensures.loads)
 
-pub returns-in-Ok-clause-loaded : goal.returns-in-Ok-clause-loaded
-returns-in-Ok-clause-loaded g c files told =
-    loaded_as Script SCRIPT_LIMIT thin_program c.args.name.now (files c.args.name.now) c.in_ok-src.src.items _
-    (c.in_ok-src.ensures.loaded files told) (rw c.as_slice.ensures.value at c.in-Ok.ensures.read)
+pub returns-in-Ok-clause-loads : goal.returns-in-Ok-clause-loads
+returns-in-Ok-clause-loads g c =
+    script_loaded Means Refuses c.args.name.now c.in_ok-src.src.items _ _ c.in_ok-src.ensures.loads (rw c.as_slice.ensures.value at c.in-Ok.ensures.read)
 
-pub returns-in-Ok-clause-rules : goal.returns-in-Ok-clause-rules
-returns-in-Ok-clause-rules g c = thin_rules _ _ c.in-Ok.ensures.read
-
-pub returns-in-Err-NotThin-clause-refused : goal.returns-in-Err-NotThin-clause-refused
-returns-in-Err-NotThin-clause-refused g c =
-    let none = c.in-Err-NotThin.ensures.refused (rw c.in-Err-NotThin.field-0-is refl) in
-    refusal_gives (λ files. script_of files c.args.name.now) c.args.name.now _ Script _ _ refl c.refused.ensures
-    (λ files told. loaded_as Script SCRIPT_LIMIT thin_program c.args.name.now (files c.args.name.now) c.in_ok-src.src.items None
-    (c.in_ok-src.ensures.loaded files told) (rw c.as_slice.ensures.value at none))
+pub returns-clause-loads : goal.returns-clause-loads
+returns-clause-loads g c =
+    script_unloads Means Refuses c.args.name.now c.in_ok-src.src.items _ _ _ c.in_ok-src.ensures.loads.counts c.in_ok-src.ensures.loads.found
+    (rw c.as_slice.ensures.value at c.in-Err.ensures.refused) (rw c.as_slice-in-Err.ensures.value at c.refuse_script.ensures)
