@@ -1,5 +1,5 @@
 -- The command, as clap's definitions see it: a mode, options with one value, and flags.
-use Rattle.std.specs.Prelude.{List, [], ◌∷◌, ◌++◌, map, fold, true, Some, codes}
+use Rattle.std.specs.Prelude.{List, ◌∷◌, ◌++◌, map, fold, true, Some, codes}
 use Rattle.clap.specs.Walk.{Rule, Text}
 use Rattle.clap.specs.Simple.{App, new_app, new_rule, on_top, with_rule}
 use Rattle.clap.specs.declared.builder.action.ArgAction.TheVariants.{Set, SetTrue}

@@ -1,5 +1,5 @@
 -- The line that words are, by clap's definition of what a simple command finds in them.
-use Rattle.std.specs.Prelude.{ℕ, ◌≤◌, ◌^◌, List, Bool, if◌then◌else◌, Option, None, Some, IfSome, codes, option_and_then}
+use Rattle.std.specs.Prelude.{◌≤◌, ◌^◌, List, Bool, if◌then◌else◌, Option, None, Some, IfSome, codes, option_and_then}
 use Rattle.std.specs.List.{list_all}
 use Rattle.clap.specs.Walk.{Row, Text, first_of, is_empty}
 use Rattle.clap.specs.Simple.{matches_of}

@@ -1,5 +1,5 @@
 -- The options and flags of a command line, and what each mode takes of them.
-use Rattle.std.specs.Prelude.{ℕ, ◌-◌, ◌^◌, List, [], ◌∷◌, ◌++◌, Bool, true, is_some, codes}
+use Rattle.std.specs.Prelude.{◌-◌, ◌^◌, List, [], ◌∷◌, ◌++◌, Bool, true, is_some, codes}
 use Rattle.std.specs.List.{list_all}
 use Rattle.clap.specs.Walk.{Text}
 use Rattle.brace_words.specs.declared.line.Line.{Line}

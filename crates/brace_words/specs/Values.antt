@@ -1,5 +1,5 @@
 -- Which texts are values of options, and what stands for an option or a flag.
-use Rattle.std.specs.Prelude.{ℕ, List, Bool, true, false, not, ◌&&◌, ◌==◌, nat_le, length, Option, None, Some, bytes_eq, codes, option_and_then}
+use Rattle.std.specs.Prelude.{ℕ, Bool, true, false, not, ◌&&◌, ◌==◌, nat_le, length, Option, None, Some, bytes_eq, codes, option_and_then}
 use Rattle.clap.specs.Walk.{Text}
 use Rattle.brace_num.specs.Spelling.{count_of}
 

@@ -1,4 +1,4 @@
-use Rattle.std.proofs.Common.{◌≡◌, ◌∙◌, ap₂}
+use Rattle.std.proofs.Common.{◌∙◌, ap₂}
 use Rattle.std.proofs.lemmas.Result.{IfOk-weaker}
 use Rattle.clap.specs.Simple.{with_rule}
 use Rattle.brace_words.proofs.command.command.Goals as goal
