@@ -33,7 +33,7 @@ by_getters : (m : ArgMatches) (rows : List Row) → rows_of (found_of m) ≡ row
     → by_name rows ≡ first_value (found_of m)
 by_getters m rows e =
     subst (λ rs. by_name rs ≡ first_value (found_of m)) e
-        (λ i name. sym (first_value-rows (found_of m) name) i)
+    (λ i name. sym (first_value-rows (found_of m) name) i)
 
 -- where clap takes the words, they are the line that was found and that its mode takes
 pub line_said : (c : Command) (words : List Text) (m : ArgMatches) → app_of c ≡ brace
@@ -44,10 +44,10 @@ unfolding line_of
 line_said c words m as_brace none rows =
     let n : fault_of brace words ≡ [] =
     subst (λ (a : App). fault_of a words ≡ []) as_brace
-        (none (ap is_simple_and_free as_brace ∙ brace_free)) in
+    (none (ap is_simple_and_free as_brace ∙ brace_free)) in
     let r : rows_of (found_of m) ≡ matches_of brace words =
     subst (λ (a : App). rows_of (found_of m) ≡ matches_of a words) as_brace
-        (rows (ap is_simple as_brace ∙ brace_simple)).0 in
+    (rows (ap is_simple as_brace ∙ brace_simple)).0 in
     rw n (ap (λ (found : Found). option_and_then taken (line_found found)) (by_getters m _ r))
 
 some_kind : (k : ErrorKind) (ks : Kinds) → IsAmong k ks → is_empty ks ≡ false
@@ -62,7 +62,7 @@ unfolding line_of
 no_line c words e as_brace has other =
     let h : HasKind (fault_of brace words) e =
     subst (λ (a : App). HasKind (fault_of a words) e) as_brace
-        (has (ap is_simple_and_free as_brace ∙ brace_free)) in
+    (has (ap is_simple_and_free as_brace ∙ brace_free)) in
     elim h [
       | inl memory ↦ absurd (other memory)
       | inr among ↦ rw (some_kind (kind_of e) (fault_of brace words) among) refl

@@ -20,13 +20,14 @@ flag_rule name = record (new_rule name) { long = Some name; action = Some SetTru
 -- a command that takes no program's name among its words, and has no help and no version flag
 abbrev pub bare : App
 bare = on_top (λ s. record s {
-      no_binary_name = true;
-      disable_help_flag = true;
-      disable_version_flag = true;
-    }) (new_app (codes "brace"))
+  no_binary_name = true;
+  disable_help_flag = true;
+  disable_version_flag = true;
+}) (new_app (codes "brace"))
 
+-- what may stand in the words
 abbrev pub rules : List Rule
-rules = mode_rule ∷ map (λ o. option_rule o.name) options ++ map (λ f. flag_rule f.name) flags
+rules = mode_rule ∷ map (λ o. option_rule o.name) options ++ map flag_rule flags
 
 -- the command with a mode, all options and all flags
 abbrev pub brace : App

@@ -9,11 +9,11 @@ use Rattle.brace_words.specs.declared.mode.Mode.{Mode}
 use Rattle.brace_words.specs.Command.{brace}
 use Rattle.brace_words.specs.Modes.{mode_named}
 use Rattle.brace_words.specs.Options.{options, takes}
-use Rattle.brace_words.specs.Values.{Found, is_free_or, is_set, number_in}
+use Rattle.brace_words.specs.Values.{Found, is_absent_or, is_set, number_in}
 
 -- each text that stands for an option is a value of it
 abbrev pub has_values : Found → Bool
-has_values found = list_all (λ o. is_free_or o.is_value (found o.name)) options
+has_values found = list_all (λ o. is_absent_or o.is_value (found o.name)) options
 
 -- what was found, as a line of a mode
 abbrev pub said_by : Found → Mode → Line

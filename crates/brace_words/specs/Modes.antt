@@ -30,7 +30,7 @@ admits needed given = given
 admits may given = true
 admits never given = not given
 
--- the stands of `run`, of `resume`, of `check` and `fmt`, of `plan`, and of `trial`
+-- a use for `run`, for `resume`, for `check` and `fmt`, for `plan`, and for `trial`
 abbrev pub modes_are : Use → Use → Use → Use → Use → Mode → Use
 modes_are run resume judged plan trial mode.Run = run
 modes_are run resume judged plan trial mode.Resume = resume

@@ -17,9 +17,9 @@ abbrev pub is_number : ℕ → ℕ → Text → Bool
 is_number least most text = is_within least most (count_of text)
 
 -- what stands for an option, if anything does, is a value of it
-abbrev pub is_free_or : (Text → Bool) → Option Text → Bool
-is_free_or is_value None = true
-is_free_or is_value (Some text) = is_value text
+abbrev pub is_absent_or : (Text → Bool) → Option Text → Bool
+is_absent_or is_value None = true
+is_absent_or is_value (Some text) = is_value text
 
 -- what stands for each option and flag by its name, if anything does
 abbrev pub Found : Type 0

@@ -1,7 +1,7 @@
 ghost use Rattle.std.specs.Prelude.{◌≡◌, IfErr, IfOk, None, Some, map, string_bytes, true};
-ghost use Rattle.clap.specs.Matches.{first_value, found_of};
 ghost use Rattle.brace_words.specs.Lines.{IsInRange, line_found, line_of};
 ghost use Rattle.brace_words.specs.Options.{takes};
+ghost use Rattle.brace_words.specs.inner.Getters.{found_in};
 
 use crate::command::command;
 use crate::mode::mode_named;
@@ -30,7 +30,8 @@ const WORKERS_LIMIT: u32 = 16;
 /// the mode needs, have one that it does not take, or give an option what is no value of it.
 pub fn read_line(alloc: Global, words: &[String]) -> Result<Line, LineFault>
     ensures line { IfOk result (λ line. line_of (map string_bytes words.now) ≡ Some line) }
-    ensures usage { IfErr result (λ fault. fault ≡ LineFault.Usage → line_of (map string_bytes words.now) ≡ None) }
+    ensures usage { IfErr result (λ fault. fault ≡ LineFault.Usage
+        → line_of (map string_bytes words.now) ≡ None) }
     ensures taken { IfOk result (λ line. takes line ≡ true) }
     ensures bounds { IfOk result IsInRange }
 {
@@ -54,8 +55,9 @@ pub fn read_line(alloc: Global, words: &[String]) -> Result<Line, LineFault>
 
 // The line that clap found, whatever its mode takes.
 fn line_found(alloc: Global, matches: &ArgMatches<'_>) -> Result<Line, LineFault>
-    ensures line { IfOk result (λ line. line_found (first_value (found_of matches.now)) ≡ Some line) }
-    ensures usage { IfErr result (λ fault. fault ≡ LineFault.Usage → line_found (first_value (found_of matches.now)) ≡ None) }
+    ensures line { IfOk result (λ line. line_found (found_in matches.now) ≡ Some line) }
+    ensures usage { IfErr result (λ fault. fault ≡ LineFault.Usage
+        → line_found (found_in matches.now) ≡ None) }
     ensures bounds { IfOk result IsInRange }
 {
     let Some(name) = matches.get_str("MODE") else {

@@ -1,6 +1,6 @@
 ghost use Rattle.std.specs.Prelude.{◌≡◌, ◌≤◌, IfSome, IfOk, IfErr, true, false};
-ghost use Rattle.clap.specs.Matches.{first_value, found_of};
-ghost use Rattle.brace_words.specs.Values.{is_name, is_number, is_free_or, is_set, number_in};
+ghost use Rattle.brace_words.specs.Values.{is_name, is_number, is_absent_or, is_set, number_in};
+ghost use Rattle.brace_words.specs.inner.Getters.{found_in};
 
 use crate::LineFault;
 use brace_num::{NoMemory, Text, read_count};
@@ -13,9 +13,11 @@ pub(crate) fn name_of(
     matches: &ArgMatches<'_>,
     option: &str,
 ) -> Result<Option<Text>, LineFault>
-    ensures name { IfOk result (λ name. name ≡ first_value (found_of matches.now) option.now) }
-    ensures taken { IfOk result (λ name. is_free_or is_name (first_value (found_of matches.now) option.now) ≡ true) }
-    ensures usage { IfErr result (λ fault. fault ≡ LineFault.Usage → is_free_or is_name (first_value (found_of matches.now) option.now) ≡ false) }
+    ensures name { IfOk result (λ name. name ≡ found_in matches.now option.now) }
+    ensures taken { IfOk result (λ name.
+        is_absent_or is_name (found_in matches.now option.now) ≡ true) }
+    ensures usage { IfErr result (λ fault. fault ≡ LineFault.Usage
+        → is_absent_or is_name (found_in matches.now option.now) ≡ false) }
 {
     match matches.get_str(option) {
         None => Ok(None),
@@ -37,10 +39,12 @@ pub(crate) fn number_of(
     least: u64,
     most: u64,
 ) -> Result<Option<u64>, LineFault>
-    ensures number { IfOk result (λ n. n ≡ number_in (first_value (found_of matches.now)) option.now) }
+    ensures number { IfOk result (λ n. n ≡ number_in (found_in matches.now) option.now) }
     ensures bounds { IfOk result (λ n. IfSome n (λ n. (least ≤ n) × (n ≤ most))) }
-    ensures taken { IfOk result (λ n. is_free_or (is_number least most) (first_value (found_of matches.now) option.now) ≡ true) }
-    ensures usage { IfErr result (λ fault. fault ≡ LineFault.Usage → is_free_or (is_number least most) (first_value (found_of matches.now) option.now) ≡ false) }
+    ensures taken { IfOk result (λ n.
+        is_absent_or (is_number least most) (found_in matches.now option.now) ≡ true) }
+    ensures usage { IfErr result (λ fault. fault ≡ LineFault.Usage
+        → is_absent_or (is_number least most) (found_in matches.now option.now) ≡ false) }
 {
     let Some(digits) = matches.get_str(option) else {
         return Ok(None);
@@ -58,10 +62,12 @@ pub(crate) fn small_number_of(
     least: u32,
     most: u32,
 ) -> Result<Option<u32>, LineFault>
-    ensures number { IfOk result (λ n. n ≡ number_in (first_value (found_of matches.now)) option.now) }
+    ensures number { IfOk result (λ n. n ≡ number_in (found_in matches.now) option.now) }
     ensures bounds { IfOk result (λ n. IfSome n (λ n. (least ≤ n) × (n ≤ most))) }
-    ensures taken { IfOk result (λ n. is_free_or (is_number least most) (first_value (found_of matches.now) option.now) ≡ true) }
-    ensures usage { IfErr result (λ fault. fault ≡ LineFault.Usage → is_free_or (is_number least most) (first_value (found_of matches.now) option.now) ≡ false) }
+    ensures taken { IfOk result (λ n.
+        is_absent_or (is_number least most) (found_in matches.now option.now) ≡ true) }
+    ensures usage { IfErr result (λ fault. fault ≡ LineFault.Usage
+        → is_absent_or (is_number least most) (found_in matches.now option.now) ≡ false) }
 {
     match number_of(matches, option, u64::from(least), u64::from(most))? {
         Some(n) => Ok(Some(n as u32)),
@@ -71,7 +77,7 @@ pub(crate) fn small_number_of(
 
 /// Whether a flag stands.
 pub(crate) fn is_set(matches: &ArgMatches<'_>, flag: &str) -> bool
-    ensures { result ≡ is_set (first_value (found_of matches.now)) flag.now }
+    ensures { result ≡ is_set (found_in matches.now) flag.now }
 {
     matches!(matches.get_str(flag), Some("true"))
 }

@@ -7,4 +7,5 @@ abbrev pub is_bare : Line → Bool
 is_bare line =
     is_none line.agents && (is_none line.from && (is_none line.ticks && (is_none line.count
     && (is_none line.seed && (is_none line.every && (is_none line.epoch && (is_none line.cuts
-    && (is_none line.workers && (is_none line.order && (is_none line.save && not line.stats))))))))))
+    && (is_none line.workers && (is_none line.order
+    && (is_none line.save && not line.stats))))))))))

@@ -20,7 +20,7 @@ returns-in_err-line-clause-usage c =
     let said = line_said c.in-Ok.command (map string_bytes c.args.words.now) matches c.in-Ok.ensures
     c.in-Ok-try_get_matches_from.ensures.kinds c.in-Ok-try_get_matches_from.ensures.matches in
     let none : line_found (first_value (found_of matches)) ≡ None
-        → line_of (map string_bytes c.args.words.now) ≡ None =
+    → line_of (map string_bytes c.args.words.now) ≡ None =
     λ h. said ∙ ap (option_and_then taken) h in
     search (rules, none)
 
