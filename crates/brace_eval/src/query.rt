@@ -261,12 +261,7 @@ fn query<'a>(
 }
 
 /// Evaluates the queries of all agents, by rising id.
-pub fn queries(
-    alloc: Global,
-    scene: &Scene,
-    tick: u64,
-    ledger: &mut Ledger,
-) -> Result<(), NoMemory>
+pub fn queries(alloc: Global, scene: &Scene, tick: u64, ledger: &mut Ledger) -> Result<(), NoMemory>
     requires scene { IsScene scene.now }
     requires ticks { tick ≤ 2 ^ 32 }
     requires nothing { Keeps scene.now [] [] ledger.old }
