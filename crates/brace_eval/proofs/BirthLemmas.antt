@@ -1,5 +1,5 @@
 -- The first child that goes too far, and the ids of children.
-use Rattle.std.proofs.Common.{◌≡◌, ◌∙◌, sym, ap, refl, ℕ, zero, suc, ◌+◌, ◌<◌, ◌≤◌, List, [], ◌∷◌, ◌++◌, length, take, get_or, true, false, Bool, Option, Some, None, arith, add-one, min, append_assoc}
+use Rattle.std.proofs.Common.{◌≡◌, ◌∙◌, sym, ap, refl, ℕ, zero, suc, ◌+◌, ◌<◌, ◌≤◌, List, [], ◌∷◌, ◌++◌, length, take, get_or, true, false, Bool, Some, None, arith, min, append_assoc}
 use Rattle.std.specs.Prelude.{leb, slice_get, ◌||◌}
 use Rattle.std.proofs.Math.Seq.{take-suc}
 use Rattle.std.proofs.lemmas.List.{length-append, length-take-le}
@@ -10,7 +10,6 @@ use Rattle.std.proofs.lemmas.Bool.Decides.{leb_tells}
 use Rattle.std.proofs.lemmas.Option.{slice_get-get_or}
 use mathlib.Core.Logic.{⊎_elim}
 use Rattle.brace_model.specs.declared.world.Agent.{Agent}
-use Rattle.brace_model.specs.World.{World, world_with}
 use Rattle.brace_model.specs.Step.{goes_too_far, first_too_far, count_values, most_agents, most_values, greatest_id}
 
 -- the first of some numbers at which a test is true
@@ -40,7 +39,7 @@ module _ (living : List Agent) (next : ℕ) (born : List Agent) where
   too_far_at i child le is before here =
       let zero_i : 0 + i ≡ i = omega arith in
       let found = found_at (goes_too_far living next born) 0 (length born) i le (λ r low high. before r (omega (arith, high)))
-          (ap (goes_too_far living next born) zero_i ∙ here) in
+      (ap (goes_too_far living next born) zero_i ∙ here) in
       ap Some is ∙ sym (slice_get-get_or born i child le) ∙ ap (slice_get born) (sym zero_i)
       ∙ ap (option_and_then (slice_get born)) (sym found)
 
@@ -54,15 +53,15 @@ pub lt-cut : (k x m : ℕ) → k < m → leb (suc k) (min x m) ≡ leb (suc k) x
 lt-cut k x m below =
     ⊎_elim
     (λ (a : (leb (suc k) (min x m) ≡ true) × (suc k ≤ min x m)).
-        ⊎_elim
-        (λ (b : (leb (suc k) x ≡ true) × (suc k ≤ x)). a.0 ∙ sym b.0)
-        (λ (b : (leb (suc k) x ≡ false) × (x < suc k)). absurd (omega (arith, a.1, b.1)))
-        (leb_tells (suc k) x))
+    ⊎_elim
+    (λ (b : (leb (suc k) x ≡ true) × (suc k ≤ x)). a.0 ∙ sym b.0)
+    (λ (b : (leb (suc k) x ≡ false) × (x < suc k)). absurd (omega (arith, a.1, b.1)))
+    (leb_tells (suc k) x))
     (λ (a : (leb (suc k) (min x m) ≡ false) × (min x m < suc k)).
-        ⊎_elim
-        (λ (b : (leb (suc k) x ≡ true) × (suc k ≤ x)). absurd (omega (arith, a.1, b.1, below)))
-        (λ (b : (leb (suc k) x ≡ false) × (x < suc k)). a.0 ∙ sym b.0)
-        (leb_tells (suc k) x))
+    ⊎_elim
+    (λ (b : (leb (suc k) x ≡ true) × (suc k ≤ x)). absurd (omega (arith, a.1, b.1, below)))
+    (λ (b : (leb (suc k) x ≡ false) × (x < suc k)). a.0 ∙ sym b.0)
+    (leb_tells (suc k) x))
     (leb_tells (suc k) (min x m))
 
 -- with one child more there are so many agents and values

@@ -1,9 +1,9 @@
 -- What a block does, cut at a statement, and ledgers that stand for it.
-use Rattle.std.proofs.Common.{◌≡◌, ◌∙◌, sym, refl, ap, subst, ℕ, suc, ◌+◌, ◌<◌, ◌≤◌, List, [], ◌∷◌, ◌++◌, true, false, Bool, length, take, get_or, map, Option, Some, None, Result, Ok, Err, arith, add-one, append_assoc, flat_map}
+use Rattle.std.proofs.Common.{◌≡◌, ◌∙◌, sym, refl, ap, subst, ℕ, ◌+◌, ◌<◌, List, [], ◌∷◌, ◌++◌, true, false, Bool, length, take, get_or, map, Option, Some, None, Result, Ok, Err, add-one, append_assoc, flat_map}
 use Rattle.std.specs.List.{filter}
 use Rattle.std.specs.Prelude.{IfOk}
 use Rattle.std.specs.Result.{result_ok}
-use Rattle.std.proofs.lemmas.List.{map-append, append-nil, take_all}
+use Rattle.std.proofs.lemmas.List.{map-append, append-nil}
 use Rattle.std.proofs.lemmas.List.Elements.{filter-append}
 use Rattle.std.proofs.lemmas.Grind.{flat_map-append}
 use Rattle.std.proofs.lemmas.List.Sums.{fold-append}
@@ -14,7 +14,7 @@ use Rattle.brace_model.specs.declared.fault.Fault.{Fault}
 use Rattle.brace_model.specs.declared.world.Agent.{Agent}
 use Rattle.brace_model.specs.FaultOrder.{least, earlier, with_earlier}
 use Rattle.brace_model.specs.Value.{Scope, Worth}
-use Rattle.brace_model.specs.Query.{Saying, Deed, silent, deed_of, halted, followed_by, block, chosen}
+use Rattle.brace_model.specs.Query.{Saying, Deed, silent, deed_of, followed_by, block, chosen}
 use Rattle.brace_eval.specs.declared.scene.Scene.{Scene}
 use Rattle.brace_eval.specs.declared.ledger.Ledger.{Ledger}
 use Rattle.brace_eval.specs.inner.Walks.{is_true}

@@ -2,10 +2,8 @@
 use Rattle.std.proofs.Common.{◌≡◌, ◌∙◌, sym, refl, ap, subst, ℕ, zero, suc, ◌+◌, ◌<◌, ◌≤◌, ◌^◌, ℤ, List, [], ◌∷◌, ◌++◌, length, get_or, map, filter_map, arith, Option, Some, None, Result, Ok, Err, Bool, true, false}
 use Rattle.std.specs.Prelude.{if◌then◌else◌}
 use Rattle.std.specs.Result.{result_ok}
-use Rattle.std.specs.List.{All}
 use Rattle.std.specs.List.Sorted.{IsStrictlyIncreasing}
 use Rattle.std.proofs.lemmas.List.{map-append, length-map}
-use Rattle.std.proofs.lemmas.List.Elements.{All-head, All-tail}
 use Rattle.brace_model.specs.declared.program.Class.{Class}
 use Rattle.brace_model.specs.declared.program.Program.{Program}
 use Rattle.brace_model.specs.declared.fault.Fault.{Fault}
@@ -52,25 +50,26 @@ rise-below low (n ∷ rest) high r (suc k) le = rise-below (suc n) rest high r.1
 increasing-rise : (low : ℕ) (ns : List ℕ) (high : ℕ) → IsStrictlyIncreasing ns → (0 < length ns → low ≤ get_or ns 0 0)
     → ((k : ℕ) → k < length ns → get_or ns k 0 < high) → low ≤ high → Rise low ns high
 increasing-rise low [] high rises first below le = le
-increasing-rise low (n ∷ rest) high rises first below le =
-    (first (omega arith),
-    increasing-rise (suc n) rest high (λ k within.
-            let same : suc k + 1 ≡ suc (k + 1) = omega arith in
-            subst (λ (j : ℕ). get_or rest k 0 < get_or (n ∷ rest) j 0) same (rises (suc k) (omega (arith, within)))) (λ some. rises 0 (omega (arith, some)))
-        (λ k within. below (suc k) (omega (arith, within))) (below 0 (omega arith)))
+increasing-rise low (n ∷ rest) high rises first below le = (
+  first (omega arith),
+  increasing-rise (suc n) rest high (λ k within.
+      let same : suc k + 1 ≡ suc (k + 1) = omega arith in
+      subst (λ (j : ℕ). get_or rest k 0 < get_or (n ∷ rest) j 0) same (rises (suc k) (omega (arith, within)))) (λ some. rises 0 (omega (arith, some)))
+      (λ k within. below (suc k) (omega (arith, within))) (below 0 (omega arith)),
+)
 
 -- the ids of a numbered world rise
 world-rise : (world : World) → IsNumbered world → Rise 0 (ids world.agents) world.next
 world-rise world w =
     increasing-rise 0 (ids world.agents) world.next w.rises (λ some. omega arith)
-        (λ k within.
-            let len : length (ids world.agents) ≡ length world.agents = length-map world.agents (λ (a : Agent). a.id) in
-            let d : Agent = record { class = 0; id = 0; states = [] } in
-            let le : k < length world.agents = omega (arith, within, len) in
-            let below = w.below k d le in
-            let is = id_at world.agents k d le in
-            omega (arith, below, is))
-        (omega arith)
+    (λ k within.
+    let len : length (ids world.agents) ≡ length world.agents = length-map world.agents (λ (a : Agent). a.id) in
+    let d : Agent = record { class = 0; id = 0; states = [] } in
+    let le : k < length world.agents = omega (arith, within, len) in
+    let below = w.below k d le in
+    let is = id_at world.agents k d le in
+    omega (arith, below, is))
+    (omega arith)
 
 -- the ids of children
 rise-numbered : (next : ℕ) (born : List Agent) → Rise next (ids (numbered next born)) (next + length born)

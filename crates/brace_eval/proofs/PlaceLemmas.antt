@@ -1,5 +1,5 @@
 -- Places for the constants of a block.
-use Rattle.std.proofs.Common.{◌≡◌, ◌∙◌, sym, refl, ap, ℕ, zero, suc, ◌+◌, ◌<◌, List, [], ◌∷◌, ◌++◌, length, take, get_or, map, replicate, arith}
+use Rattle.std.proofs.Common.{◌≡◌, ◌∙◌, ap, ℕ, zero, suc, ◌+◌, ◌<◌, List, [], ◌∷◌, ◌++◌, length, take, get_or, map, replicate, arith}
 use Rattle.std.specs.Prelude.{sum}
 use Rattle.std.proofs.lemmas.List.Sums.{fold-append}
 use Rattle.brace_model.specs.declared.program.Stmt.{Stmt}

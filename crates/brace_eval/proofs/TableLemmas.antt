@@ -1,12 +1,12 @@
 -- The table of totals after one saying more.
-use Rattle.std.proofs.Common.{◌≡◌, ◌∙◌, sym, refl, ap, subst, ℕ, zero, suc, ◌+◌, ◌-◌, ◌<◌, ◌≤◌, ℤ, pos, List, [], ◌∷◌, ◌++◌, true, false, Bool, length, take, drop, get_or, set, map, Option, Some, None, Result, Ok, Err, arith, add-one, flat_map}
+use Rattle.std.proofs.Common.{◌≡◌, ◌∙◌, sym, refl, ap, subst, ℕ, zero, suc, ◌+◌, ◌-◌, ◌<◌, ◌≤◌, ℤ, pos, List, [], ◌∷◌, ◌++◌, true, false, Bool, length, take, get_or, set, map, Some, None, Ok, Err, arith, add-one, flat_map}
 use Rattle.std.specs.Prelude.{◌==◌, ◌&&◌, slice_get}
-use Rattle.std.specs.List.{filter, fold}
-use Rattle.std.specs.List.Sorted.{IsStrictlyIncreasing, IsBinarySearchResult}
+use Rattle.std.specs.List.{filter}
+use Rattle.std.specs.List.Sorted.{IsBinarySearchResult}
 use Rattle.std.specs.Ordering.{nat_cmp}
 use Rattle.std.proofs.lemmas.List.Sorted.{searched}
 use Rattle.std.proofs.Math.Nat.{eq-or-lt_of_le}
-use Rattle.std.specs.Prelude.{◌⊎◌, eqb, leb}
+use Rattle.std.specs.Prelude.{eqb, leb}
 use Rattle.std.proofs.lemmas.Option.{slice_get_read, slice_get_past}
 use Rattle.std.proofs.lemmas.Bool.{ne_eqb, eq-eqb}
 use Rattle.std.proofs.lemmas.Bool.Decides.{eqb_tells, leb_tells}
@@ -14,7 +14,7 @@ use Rattle.std.proofs.lemmas.List.Kept.{AllPairs-from_increasing}
 use mathlib.Core.Logic.{⊎_elim}
 use Rattle.std.proofs.Math.Seq.{take-suc, get_or-append_seam}
 use Rattle.std.proofs.lemmas.Grind.{flat_map-append}
-use Rattle.std.proofs.lemmas.List.{get_or_append_left as get_or-append_left, map-append, append-nil, length-append, set-append_left, set-append_right, length-map, get_or-map}
+use Rattle.std.proofs.lemmas.List.{get_or_append_left as get_or-append_left, map-append, append-nil, length-append, set-append_left, set-append_right, length-map}
 use Rattle.std.proofs.lemmas.List.Elements.{filter-append}
 use Rattle.std.proofs.lemmas.List.Sums.{fold-append}
 use Rattle.std.proofs.lemmas.List.Folds.{length-flat_map-take}
@@ -138,7 +138,7 @@ module _ (f g : Agent → List ℤ) where
       let past : length (f a) ≤ at = omega (arith, before) in
       let first : g a ≡ f a = others 0 a (omega arith) (λ no. omega (arith, no)) in
       let rest = flat-set agents i k (at - length (f a)) d v (omega arith) room (omega (arith, before)) here
-          (λ j e le ne. others (suc j) e (omega arith) (λ no. ne (omega (arith, no)))) in
+      (λ j e le ne. others (suc j) e (omega arith) (λ no. ne (omega (arith, no)))) in
       ap (λ (l : List ℤ). l ++ flat_map g agents) first
       ∙ ap (λ (l : List ℤ). f a ++ l) rest
       ∙ sym (set-append_right (f a) (flat_map f agents) (length (f a)) at v refl past)
@@ -203,9 +203,9 @@ module _ (agents : List Agent) (rises : RisesById agents) where
   differ i j a b ne same =
       ⊎_elim
       (λ (le : (leb (suc i) j ≡ true) × (suc i ≤ j)).
-          let lt = AllPairs-from_increasing (ids agents) rises i j 0 le.1 b in omega (arith, lt, same))
+      let lt = AllPairs-from_increasing (ids agents) rises i j 0 le.1 b in omega (arith, lt, same))
       (λ (le : (leb (suc i) j ≡ false) × (j < suc i)).
-          let lt = AllPairs-from_increasing (ids agents) rises j i 0 (omega (arith, le.1, ne)) a in omega (arith, lt, same))
+      let lt = AllPairs-from_increasing (ids agents) rises j i 0 (omega (arith, le.1, ne)) a in omega (arith, lt, same))
       (leb_tells (suc i) j)
 
   no_falls : (i j : ℕ) → i ≤ j → j < length (ids agents) → get_or (ids agents) i 0 ≤ get_or (ids agents) j 0
@@ -245,7 +245,7 @@ module _ (program : Program) (xs : List Saying) (s : Saying) (agents : List Agen
   table-nobody none =
       let len : length (ids agents) ≡ length agents = length-map agents (λ (a : Agent). a.id) in
       flat-same (row_of program xs) (row_of program (xs ++ s ∷ [])) agents (λ j d le.
-          row-other program xs s (get_or agents j d) (λ same. none j (omega (arith, len)) (id_at agents j d le ∙ sym same)))
+      row-other program xs s (get_or agents j d) (λ same. none j (omega (arith, len)) (id_at agents j d le ∙ sym same)))
 
   module _ (i : ℕ) (d : Agent) (le : i < length agents) (rises : RisesById agents)
       (is : get_or (ids agents) i 0 ≡ s.target) where
@@ -258,12 +258,12 @@ module _ (program : Program) (xs : List Saying) (s : Saying) (agents : List Agen
         → table_of program (xs ++ s ∷ []) agents ≡ table_of program xs agents
     table-past none =
         flat-same (row_of program xs) (row_of program (xs ++ s ∷ [])) agents (λ j e within.
-            ⊎_elim
-            (λ (same : (eqb j i ≡ true) × (j ≡ i)).
-                row-past program xs s (get_or agents j e)
-                (ap (λ (a : Agent). slice_get (effects_in (class_of program a)) s.field) (ap (λ (n : ℕ). get_or agents n e) same.1 ∙ get_or_default agents i e d le) ∙ none))
-            (λ (ne : (eqb j i ≡ false) × (j ≡ i → ⊥)). others j e within ne.1)
-            (eqb_tells j i))
+        ⊎_elim
+        (λ (same : (eqb j i ≡ true) × (j ≡ i)).
+        row-past program xs s (get_or agents j e)
+        (ap (λ (a : Agent). slice_get (effects_in (class_of program a)) s.field) (ap (λ (n : ℕ). get_or agents n e) same.1 ∙ get_or_default agents i e d le) ∙ none))
+        (λ (ne : (eqb j i ≡ false) × (j ≡ i → ⊥)). others j e within ne.1)
+        (eqb_tells j i))
 
     module _ (e : Effect) (at : ℕ) (has : slice_get (effects_in (class_of program (get_or agents i d))) s.field ≡ Some e)
         (stands : at ≡ length (table_of program [] (take i agents)) + s.field) where
@@ -315,12 +315,12 @@ pub more-starts : (program : Program) (agents : List Agent) (i : ℕ) (starts : 
 more-starts program agents i starts n long is so j d le =
     ⊎_elim
     (λ (old : (leb (suc j) i ≡ true) × (suc j ≤ i)).
-        get_or-append_left starts (n ∷ []) d j (omega (arith, old.1, long)) ∙ so j d (omega (arith, old.1, long)))
+    get_or-append_left starts (n ∷ []) d j (omega (arith, old.1, long)) ∙ so j d (omega (arith, old.1, long)))
     (λ (new : (leb (suc j) i ≡ false) × (i < suc j)).
-        let last : j ≡ length starts = omega (arith, new.1, le, length-append starts (n ∷ []), long) in
-        ap (λ (k : ℕ). get_or (starts ++ n ∷ []) k d) last
-        ∙ get_or-append_seam starts n [] d ∙ is
-        ∙ ap (λ (k : ℕ). length (table_of program [] (take k agents))) (sym (last ∙ long)))
+    let last : j ≡ length starts = omega (arith, new.1, le, length-append starts (n ∷ []), long) in
+    ap (λ (k : ℕ). get_or (starts ++ n ∷ []) k d) last
+    ∙ get_or-append_seam starts n [] d ∙ is
+    ∙ ap (λ (k : ℕ). length (table_of program [] (take k agents))) (sym (last ∙ long)))
     (leb_tells (suc j) i)
 
 pub more-rows : (program : Program) (agents : List Agent) (i : ℕ) (a : Agent) (table : List ℤ) → i < length agents

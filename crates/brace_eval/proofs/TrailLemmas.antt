@@ -1,5 +1,5 @@
 -- Constants that are bound and set back.
-use Rattle.std.proofs.Common.{◌≡◌, ◌∙◌, sym, refl, ap, ℕ, zero, suc, List, [], ◌∷◌, ◌++◌, ◌≤◌, length, set, get_or, arith}
+use Rattle.std.proofs.Common.{◌≡◌, ◌∙◌, refl, ap, ℕ, zero, suc, List, [], ◌∷◌, ◌++◌, ◌≤◌, length, set, get_or, arith}
 use Rattle.brace_model.specs.declared.program.Value.{Value}
 use Rattle.brace_eval.specs.declared.seat.Bound.{Bound}
 use Rattle.brace_eval.specs.inner.Walks.{undone}

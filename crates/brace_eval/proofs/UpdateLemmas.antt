@@ -7,7 +7,6 @@ use Rattle.std.proofs.lemmas.List.{take_all, map-append, append-nil}
 use Rattle.std.proofs.lemmas.List.Elements.{filter_map-append}
 use Rattle.std.proofs.lemmas.List.Sums.{fold-append}
 use Rattle.std.proofs.Math.Seq.{take-suc}
-use Rattle.brace_model.specs.declared.program.State.{State}
 use Rattle.brace_model.specs.declared.program.Value.{Value}
 use Rattle.brace_model.specs.declared.fault.Stop.{Stop}
 use Rattle.std.specs.Prelude.{option_copied}
@@ -108,7 +107,7 @@ module _ (scope : Scope) (class : Class) (a : Agent) where
   all-met b c d rules dies spawns =
       let births = spawns_in scope class.spawn ∷ gifts_in scope class.spawn in
       meets-then (rules_in scope class a) (condition_in scope class.die ∷ births) None b d rules
-          (meets-then (condition_in scope class.die ∷ []) births b c d dies spawns) [] refl
+      (meets-then (condition_in scope class.die ∷ []) births b c d dies spawns) [] refl
 
   pub next-stopped : (tick : ℕ) (stop : Stop) → first_stop (update_in scope class a) ≡ Some stop
       → next_of tick class a scope ≡ Err (update_fault tick a stop)

@@ -7,7 +7,9 @@ use brace_num::{Kind, NoMemory};
 
 /// The most agents of a world, the most values of their states, and the greatest id.
 const MOST_AGENTS: usize = 1_048_576;
+
 const MOST_VALUES: usize = 4_194_304;
+
 const GREATEST_ID: u64 = 9_223_372_036_854_775_807;
 
 /// How many values the states of agents have; at most the greatest number.
@@ -28,7 +30,8 @@ fn is_too_far(agents: usize, values: usize, id: u64) -> bool
     agents > MOST_AGENTS || values > MOST_VALUES || id > GREATEST_ID
 }
 
-/// The child of the least rank with which a world has too many agents or values, or an id too great.
+/// The child of the least rank with which a world has too many agents or values, or an id too
+/// great.
 pub fn first_too_far<'a>(living: &[Agent], next: u64, born: &'a [Agent]) -> Option<&'a Agent>
     requires { next ≤ 2 ^ 63 }
     ensures first { option_copied result ≡ first_too_far living.now next born.now }

@@ -2,10 +2,10 @@ ghost use Rattle.std.specs.Prelude.{◌≡◌, ◌++◌, ◌≤◌, ◌^◌, [],
 ghost use Rattle.std.specs.Result.{result_ok};
 ghost use Rattle.brace_model.specs.World.{no_value, sees};
 ghost use Rattle.brace_model.specs.Value.{value};
-ghost use Rattle.brace_model.specs.Query.{silent, deed_of, statement, block, iterated, seen_by, inside, constants, query_in, query_of, said_in, query_faults};
+ghost use Rattle.brace_model.specs.Query.{silent, deed_of, constants, query_in, query_of, said_in, query_faults};
 ghost use Rattle.brace_eval.specs.declared.scene.Scene.{Scene};
 ghost use Rattle.brace_eval.specs.inner.Tables.{IsScene, NotesDeed, Keeps};
-ghost use Rattle.brace_eval.specs.inner.Walks.{scope_at, undone};
+ghost use Rattle.brace_eval.specs.inner.Walks.{scope_at, undone, deed_at, block_at, loop_at};
 
 use crate::ledger::Ledger;
 use crate::scene::Scene;
@@ -55,12 +55,12 @@ fn statement<'a>(
     requires scene { IsScene scene.now }
     requires ticks { seat.now.tick ≤ 2 ^ 32 }
     ensures noted { IfOk result (λ _. NotesDeed scene.now
-        (statement scene.now.program.now scene.now.agents.now s.now (scope_at seat.now ledger.old.drawer.seed locals.old))
+        (deed_at scene.now seat.now ledger.old.drawer locals.old s.now)
         ledger.old ledger.new) }
     ensures stopped { IfOk result (λ stopped. stopped
-        ≡ (statement scene.now.program.now scene.now.agents.now s.now (scope_at seat.now ledger.old.drawer.seed locals.old)).stopped) }
+        ≡ (deed_at scene.now seat.now ledger.old.drawer locals.old s.now).stopped) }
     ensures scope { IfOk result (λ stopped. stopped ≡ false
-        → (statement scene.now.program.now scene.now.agents.now s.now (scope_at seat.now ledger.old.drawer.seed locals.old)).scope
+        → (deed_at scene.now seat.now ledger.old.drawer locals.old s.now).scope
         ≡ scope_at seat.now ledger.old.drawer.seed locals.new) }
     ensures undone { IfOk result (λ _. undone trail.new.items locals.new ≡ undone trail.old.items locals.old) }
     ensures seed { ledger.new.drawer.seed ≡ ledger.old.drawer.seed }
@@ -111,10 +111,10 @@ fn statements<'a>(
     requires scene { IsScene scene.now }
     requires ticks { seat.now.tick ≤ 2 ^ 32 }
     ensures noted { IfOk result (λ _. NotesDeed scene.now
-        (block (map (statement scene.now.program.now scene.now.agents.now) body.now) (scope_at seat.now ledger.old.drawer.seed locals.old))
+        (block_at scene.now seat.now ledger.old.drawer locals.old body.now)
         ledger.old ledger.new) }
     ensures stopped { IfOk result (λ stopped. stopped
-        ≡ (block (map (statement scene.now.program.now scene.now.agents.now) body.now) (scope_at seat.now ledger.old.drawer.seed locals.old)).stopped) }
+        ≡ (block_at scene.now seat.now ledger.old.drawer locals.old body.now).stopped) }
     ensures undone { IfOk result (λ _. undone trail.new.items locals.new ≡ undone trail.old.items locals.old) }
     ensures seed { ledger.new.drawer.seed ≡ ledger.old.drawer.seed }
 {
@@ -139,10 +139,10 @@ fn block<'a>(
     requires scene { IsScene scene.now }
     requires ticks { seat.now.tick ≤ 2 ^ 32 }
     ensures noted { IfOk result (λ _. NotesDeed scene.now
-        (block (map (statement scene.now.program.now scene.now.agents.now) body.now) (scope_at seat.now ledger.old.drawer.seed locals.old))
+        (block_at scene.now seat.now ledger.old.drawer locals.old body.now)
         ledger.old ledger.new) }
     ensures stopped { IfOk result (λ stopped. stopped
-        ≡ (block (map (statement scene.now.program.now scene.now.agents.now) body.now) (scope_at seat.now ledger.old.drawer.seed locals.old)).stopped) }
+        ≡ (block_at scene.now seat.now ledger.old.drawer locals.old body.now).stopped) }
     ensures locals { IfOk result (λ _. locals.new ≡ locals.old) }
     ensures seed { ledger.new.drawer.seed ≡ ledger.old.drawer.seed }
 {
@@ -167,9 +167,7 @@ fn iterations<'a>(
     requires scene { IsScene scene.now }
     requires ticks { seat.now.tick ≤ 2 ^ 32 }
     ensures noted { IfOk result (λ _. NotesDeed scene.now
-        (iterated (scope_at seat.now ledger.old.drawer.seed locals.old)
-        (map (λ b. block (map (statement scene.now.program.now scene.now.agents.now) body.now) (inside (scope_at seat.now ledger.old.drawer.seed locals.old) b))
-        (seen_by scene.now.program.now scene.now.agents.now seat.now.this.now class)))
+        (loop_at scene.now seat.now ledger.old.drawer locals.old class body.now)
         ledger.old ledger.new) }
     ensures locals { IfOk result (λ _. locals.new ≡ locals.old) }
     ensures seed { ledger.new.drawer.seed ≡ ledger.old.drawer.seed }
@@ -261,12 +259,7 @@ fn query<'a>(
 }
 
 /// Evaluates the queries of all agents, by rising id.
-pub fn queries(
-    alloc: Global,
-    scene: &Scene,
-    tick: u64,
-    ledger: &mut Ledger,
-) -> Result<(), NoMemory>
+pub fn queries(alloc: Global, scene: &Scene, tick: u64, ledger: &mut Ledger) -> Result<(), NoMemory>
     requires scene { IsScene scene.now }
     requires ticks { tick ≤ 2 ^ 32 }
     requires nothing { Keeps scene.now [] [] ledger.old }

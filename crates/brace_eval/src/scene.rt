@@ -71,7 +71,8 @@ fn join_at(totals: &mut Vec<i128>, at: usize, comb: Comb, v: Value) -> Result<()
 
 /// Adds the totals of no value of some effects to a table.
 fn open_row(effects: &[Effect], totals: &mut Vec<i128>) -> Result<(), NoMemory>
-    ensures { IfOk result (λ _. totals.new.items ≡ totals.old.items ++ map (λ e. identity e.comb) effects.now) }
+    ensures { IfOk result (λ _. totals.new.items ≡
+        totals.old.items ++ map (λ e. identity e.comb) effects.now) }
 {
     for effect in effects {
         totals.push(identity(effect.comb))?;

@@ -55,10 +55,16 @@ fn updates<'a>(
 ) -> Result<Nexts, StepFault>
     requires ticks { tick ≤ 2 ^ 32 }
     requires reach { Reaches program.now }
-    requires totals { totals.now ≡ table_of program.now (said_in program.now drawer.old.seed tick agents.now) agents.now }
-    ensures passes { IfOk result (λ _. least (filter_map result_err (all_next program.now drawer.old.seed tick agents.now)) ≡ None) }
-    ensures living { IfOk result (λ nexts. living (filter_map result_ok (all_next program.now drawer.old.seed tick agents.now)) ≡ nexts.living.items) }
-    ensures born { IfOk result (λ nexts. children (filter_map result_ok (all_next program.now drawer.old.seed tick agents.now)) ≡ nexts.born.items) }
+    requires totals { totals.now ≡ table_of program.now
+        (said_in program.now drawer.old.seed tick agents.now) agents.now }
+    ensures passes { IfOk result (λ _. least
+        (filter_map result_err (all_next program.now drawer.old.seed tick agents.now)) ≡ None) }
+    ensures living { IfOk result (λ nexts. living
+        (filter_map result_ok (all_next program.now drawer.old.seed tick agents.now)) ≡
+        nexts.living.items) }
+    ensures born { IfOk result (λ nexts. children
+        (filter_map result_ok (all_next program.now drawer.old.seed tick agents.now)) ≡
+        nexts.born.items) }
     ensures faulted { IfErr result (λ e. (fault : Fault) → e ≡ StepFault.Fault fault
         → least (filter_map result_err (all_next program.now drawer.old.seed tick agents.now)) ≡ Some fault) }
 {
@@ -87,14 +93,9 @@ fn updates<'a>(
 ///
 /// The queries of all agents are evaluated to the end of each iteration, and the values said are
 /// joined at once in one table of totals. Then each agent's rules, deaths and births are evaluated
-/// over its old states and its totals. The tick is at most 2^32. `NoMemory` where memory is refused,
-/// or where a total is beyond 128 bits.
-pub fn plain_step(
-    alloc: Global,
-    job: &Job,
-    tick: u64,
-    world: &World,
-) -> Result<World, StepFault>
+/// over its old states and its totals. The tick is at most 2^32. `NoMemory` where memory is
+/// refused, or where a total is beyond 128 bits.
+pub fn plain_step(alloc: Global, job: &Job, tick: u64, world: &World) -> Result<World, StepFault>
     requires lawful { LawfulProgram job.now.program }
     requires ticks { tick ≤ 2 ^ 32 }
     ensures stepped { IfOk result (λ next.
@@ -114,7 +115,9 @@ pub fn plain_step(
         return Err(StepFault::Fault(fault));
     }
     let Ledger {
-        totals, mut drawer, ..
+        totals,
+        mut drawer,
+        ..
     } = ledger;
     let nexts = updates(alloc, &job.program, tick, agents, &totals, &mut drawer)?;
     if let Some(child) = first_too_far(&nexts.living, world.next(), &nexts.born) {

@@ -1,5 +1,4 @@
 ghost use Rattle.std.specs.Prelude.{◌≡◌, ◌≤◌, ◌^◌, ◌∷◌, [], pos, ◌≤ℤ◌, IfOk, IfErr, Ok, Err, Some, None, slice_set, if◌then◌else◌};
-
 ghost use Rattle.std.specs.Result.{result_ok};
 ghost use Rattle.brace_model.specs.World.{class_of};
 ghost use Rattle.brace_model.specs.Value.{value};
@@ -82,8 +81,10 @@ fn ruled_states(
     first: &mut Option<Stop>,
 ) -> Result<Vec<Value>, NoMemory>
     requires { env.now.tick ≤ 2 ^ 32 }
-    ensures ruled { IfOk result (λ new. values_of (worths (scope_of env.now drawer.old) states.now values.now) ≡ new.items) }
-    ensures met { IfOk result (λ _. Meets (worths (scope_of env.now drawer.old) states.now values.now) first.old first.new) }
+    ensures ruled { IfOk result (λ new. values_of (worths (scope_of env.now drawer.old) states.now values.now) ≡
+        new.items) }
+    ensures met { IfOk result (λ _. Meets
+        (worths (scope_of env.now drawer.old) states.now values.now) first.old first.new) }
     ensures seed { drawer.new.seed ≡ drawer.old.seed }
 {
     let mut new = Vec::new(alloc);
@@ -95,12 +96,7 @@ fn ruled_states(
 }
 
 /// Whether a condition holds; one that is not written never does.
-fn condition(
-    e: &Option<Expr>,
-    env: &Env,
-    drawer: &mut Drawer,
-    first: &mut Option<Stop>,
-) -> bool
+fn condition(e: &Option<Expr>, env: &Env, drawer: &mut Drawer, first: &mut Option<Stop>) -> bool
     requires { env.now.tick ≤ 2 ^ 32 }
     ensures holds { result ≡ holds (condition_in (scope_of env.now drawer.old) e.now) }
     ensures met { Meets (condition_in (scope_of env.now drawer.old) e.now ∷ []) first.old first.new }
@@ -121,8 +117,10 @@ fn gifts(
     first: &mut Option<Stop>,
 ) -> Result<Vec<Value>, NoMemory>
     requires { env.now.tick ≤ 2 ^ 32 }
-    ensures given { IfOk result (λ given. values_of (gift_worths (scope_of env.now drawer.old) gifts.now) ≡ given.items) }
-    ensures met { IfOk result (λ _. Meets (gift_worths (scope_of env.now drawer.old) gifts.now) first.old first.new) }
+    ensures given { IfOk result (λ given. values_of (gift_worths (scope_of env.now drawer.old) gifts.now) ≡
+        given.items) }
+    ensures met { IfOk result (λ _. Meets
+        (gift_worths (scope_of env.now drawer.old) gifts.now) first.old first.new) }
     ensures seed { drawer.new.seed ≡ drawer.old.seed }
 {
     let mut given = Vec::new(alloc);
@@ -224,7 +222,8 @@ fn child(
 ) -> Result<Option<Agent>, NoMemory>
     requires ticks { env.now.tick ≤ 2 ^ 32 }
     requires reach { pos 0 ≤ℤ class.now.reach }
-    ensures child { IfOk result (λ child. child ≡ child_in (scope_of env.now drawer.old) class.now a.now class.now.spawn) }
+    ensures child { IfOk result (λ child. child ≡
+        child_in (scope_of env.now drawer.old) class.now a.now class.now.spawn) }
     ensures met { IfOk result (λ _. Meets
         (spawns_in (scope_of env.now drawer.old) class.now.spawn ∷ gifts_in (scope_of env.now drawer.old) class.now.spawn)
         first.old first.new) }

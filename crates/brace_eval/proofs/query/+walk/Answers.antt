@@ -1,19 +1,18 @@
-use Rattle.std.proofs.Common.{◌≡◌, ◌∙◌, sym, ap, subst, refl, [], ◌∷◌, ◌++◌, false, true, map, take, drop, length, ◌≤◌, ◌<◌, ◌+◌, Some, None, arith, List, Bool, ℕ, get_or}
+use Rattle.std.proofs.Common.{◌≡◌, ◌∙◌, sym, ap, subst, refl, true, map, take, drop, length, ◌≤◌, ◌<◌, ◌+◌, List, Bool, ℕ, get_or}
 use Rattle.std.specs.Prelude.{IfOk, ◌==◌, ◌&&◌}
-use Rattle.std.specs.List.{filter, flat_map}
+use Rattle.std.specs.List.{filter}
 use Rattle.std.proofs.lemmas.List.{take_all, take-append-drop, map-append}
 use Rattle.brace_model.specs.declared.program.Value.{Value}
-use Rattle.brace_model.specs.declared.program.Value.TheVariants.{Flag}
 use Rattle.brace_model.specs.declared.program.Stmt.{Stmt}
 use Rattle.brace_model.specs.declared.world.Agent.{Agent}
 use Rattle.brace_model.specs.World.{sees}
 use Rattle.brace_model.specs.Value.{value, agent_of, Scope}
 use Rattle.brace_model.specs.Query.{Deed, silent, bound, deed_of, saying, closed, chosen, block, statement, inside, iterated}
 use Rattle.brace_eval.specs.declared.ledger.Ledger.{Ledger}
-use Rattle.brace_eval.specs.inner.Tables.{NotesDeed, Notes}
+use Rattle.brace_eval.specs.inner.Tables.{NotesDeed}
 use Rattle.brace_eval.specs.inner.Walks.{scope_at}
 use Rattle.brace_eval.proofs.StatementEquations.{does-Const, does-If, does-Foreach, does-Assign}
-use Rattle.brace_eval.proofs.DeedLemmas.{if_ok, chosen-first, chosen-second, worth-then, worth-stops, notes-nothing, map-more, seen-more, unseen-more, block-step, block-stopped, iterated-step, BlockStep}
+use Rattle.brace_eval.proofs.DeedLemmas.{if_ok, chosen-first, chosen-second, worth-then, worth-stops, notes-nothing, map-more, seen-more, unseen-more, block-step, block-stopped, iterated-step}
 use Rattle.brace_eval.proofs.query.+walk.Goals as goal
 use Rattle.brace_eval.proofs.query.+walk.Goals.{iterations-then-is_taken+in_ok-block, iterations-else-is_taken}
 
@@ -26,7 +25,7 @@ statement-returns-in_ok-bind-in-Some-clause-noted t c =
     let does = does-Const scene.program.now scene.agents.now c.args.s.now here c.in-Const.n c.in-Const.e c.in-Const.is in
     subst (λ (d : Deed). NotesDeed scene d c.args.ledger.now c.worth.new.ledger) (sym does)
     (worth-then scene here (value c.in-Const.e here) f c.in-Some.v c.args.ledger.now c.worth.new.ledger c.worth.new.ledger
-        (sym c.in-Some.ensures.value) (c.in-Some.ensures.noted scene) (notes-nothing scene c.worth.new.ledger c.worth.new.ledger refl refl))
+    (sym c.in-Some.ensures.value) (c.in-Some.ensures.noted scene) (notes-nothing scene c.worth.new.ledger c.worth.new.ledger refl refl))
 
 pub statement-returns-in-None-clause-noted : goal.statement-returns-in-None-clause-noted
 statement-returns-in-None-clause-noted t c =
@@ -51,10 +50,10 @@ statement-returns-then-is_true-clause-noted t c =
     subst (λ (d : Deed). IfOk c.block.result (λ x. NotesDeed scene d c.args.ledger.now c.block.new.ledger)) (sym does)
     (if_ok c.block.result _ (λ x. NotesDeed scene (deed_of here (value c.in-If.condition here) f) c.args.ledger.now c.block.new.ledger)
     (λ x second. worth-then scene here (value c.in-If.condition here) f v c.args.ledger.now c.worth-in-If.new.ledger c.block.new.ledger
-        (sym c.in-Some-worth.ensures.value) (c.in-Some-worth.ensures.noted scene)
-        (subst (λ (d : Deed). NotesDeed scene (closed here d) c.worth-in-If.new.ledger c.block.new.ledger) (sym way) second))
+    (sym c.in-Some-worth.ensures.value) (c.in-Some-worth.ensures.noted scene)
+    (subst (λ (d : Deed). NotesDeed scene (closed here d) c.worth-in-If.new.ledger c.block.new.ledger) (sym way) second))
     (subst (λ (n : ℕ). IfOk c.block.result (λ x. NotesDeed scene (block (map st c.in-If.a) (scope_at c.args.seat.now n c.args.locals.now)) c.worth-in-If.new.ledger c.block.new.ledger))
-        c.in-Some-worth.ensures.seed c.block.ensures.noted))
+    c.in-Some-worth.ensures.seed c.block.ensures.noted))
 
 pub statement-returns-else-is_true-clause-noted : goal.statement-returns-else-is_true-clause-noted
 statement-returns-else-is_true-clause-noted t c =
@@ -69,10 +68,10 @@ statement-returns-else-is_true-clause-noted t c =
     subst (λ (d : Deed). IfOk c.block-else-is_true.result (λ x. NotesDeed scene d c.args.ledger.now c.block-else-is_true.new.ledger)) (sym does)
     (if_ok c.block-else-is_true.result _ (λ x. NotesDeed scene (deed_of here (value c.in-If.condition here) f) c.args.ledger.now c.block-else-is_true.new.ledger)
     (λ x second. worth-then scene here (value c.in-If.condition here) f v c.args.ledger.now c.worth-in-If.new.ledger c.block-else-is_true.new.ledger
-        (sym c.in-Some-worth.ensures.value) (c.in-Some-worth.ensures.noted scene)
-        (subst (λ (d : Deed). NotesDeed scene (closed here d) c.worth-in-If.new.ledger c.block-else-is_true.new.ledger) (sym way) second))
+    (sym c.in-Some-worth.ensures.value) (c.in-Some-worth.ensures.noted scene)
+    (subst (λ (d : Deed). NotesDeed scene (closed here d) c.worth-in-If.new.ledger c.block-else-is_true.new.ledger) (sym way) second))
     (subst (λ (n : ℕ). IfOk c.block-else-is_true.result (λ x. NotesDeed scene (block (map st c.in-If.b) (scope_at c.args.seat.now n c.args.locals.now)) c.worth-in-If.new.ledger c.block-else-is_true.new.ledger))
-        c.in-Some-worth.ensures.seed c.block-else-is_true.ensures.noted))
+    c.in-Some-worth.ensures.seed c.block-else-is_true.ensures.noted))
 
 pub statement-returns-in-None-worth-clause-noted : goal.statement-returns-in-None-worth-clause-noted
 statement-returns-in-None-worth-clause-noted t c =
@@ -102,7 +101,7 @@ statement-returns-in_ok-say-in-Some-worth-2-clause-noted t c =
     let who = c.id_of.ensures c.args.ledger.now.drawer.seed c.args.locals.now in
     subst (λ (d : Deed). NotesDeed scene d c.args.ledger.now c.say.new.self) (sym does)
     (worth-then scene here (value c.in-Assign.e here) f c.in-Some-worth-2.v c.args.ledger.now c.worth-in-Assign.new.ledger c.say.new.self
-        (sym c.in-Some-worth-2.ensures.value) (c.in-Some-worth-2.ensures.noted scene) (rw who at c.in_ok-say-in-Some-worth-2.ensures.noted))
+    (sym c.in-Some-worth-2.ensures.value) (c.in-Some-worth-2.ensures.noted scene) (rw who at c.in_ok-say-in-Some-worth-2.ensures.noted))
 
 pub statement-returns-in-None-worth-2-clause-noted : goal.statement-returns-in-None-worth-2-clause-noted
 statement-returns-in-None-worth-2-clause-noted t c =
@@ -136,7 +135,7 @@ iterations-loop-other-preserved t c =
           subst (λ (s : Scope). NotesDeed scene (block (map st c.args.body.now) s) c.loop-other.ledger w.block.new.ledger) same w.in_ok-block.ensures.noted in
           let noted : NotesDeed scene (iterated here es) old w.block.new.ledger =
           iterated-step scene here (map deed (filter p (take i agents))) es (deed a) old c.loop-other.ledger w.block.new.ledger
-              (seen-more p deed agents i a c.loop-other-test.true c.other-item.is (sym c.is_taken.ensures ∙ w.if-is_taken.true)) c.loop-other.invariant.noted second in
+          (seen-more p deed agents i a c.loop-other-test.true c.other-item.is (sym c.is_taken.ensures ∙ w.if-is_taken.true)) c.loop-other.invariant.noted second in
           record {
             noted = subst (λ (l : Ledger). NotesDeed scene (iterated here es) old l) (sym w.ledger-is) noted;
             locals = w.locals-is ∙ w.in_ok-block.ensures.locals ∙ c.loop-other.invariant.locals;
@@ -145,7 +144,7 @@ iterations-loop-other-preserved t c =
       | iterations-else-is_taken w ↦
           let noted : NotesDeed scene (iterated here es) old c.loop-other.ledger =
           subst (λ (ds : List Deed). NotesDeed scene (iterated here ds) old c.loop-other.ledger)
-              (sym (unseen-more p deed agents i a c.loop-other-test.true c.other-item.is (sym c.is_taken.ensures ∙ w.if-is_taken.false))) c.loop-other.invariant.noted in
+          (sym (unseen-more p deed agents i a c.loop-other-test.true c.other-item.is (sym c.is_taken.ensures ∙ w.if-is_taken.false))) c.loop-other.invariant.noted in
           record {
             noted = subst (λ (l : Ledger). NotesDeed scene (iterated here es) old l) (sym w.ledger-is) noted;
             locals = w.locals-is ∙ c.loop-other.invariant.locals;
@@ -170,7 +169,7 @@ statements-returns-then-branch-clause-noted t c =
     let cut : c.in_ok-statement.field-0 ≡ (f here).stopped =
     subst (λ (n : ℕ). c.in_ok-statement.field-0 ≡ (f (scope_at c.args.seat.now n c.loop-s.locals)).stopped) c.loop-s.invariant.seed c.in_ok-statement.ensures.stopped in
     let step = block-step scene (map st (take i body)) (map st (take (i + 1) body)) f start here c.args.ledger.now c.loop-s.ledger c.statement.new.ledger
-        (map-more st body i c.s-item.result le is) c.loop-s.invariant.going c.loop-s.invariant.scope c.loop-s.invariant.noted second in
+    (map-more st body i c.s-item.result le is) c.loop-s.invariant.going c.loop-s.invariant.scope c.loop-s.invariant.noted second in
     let halted : (block (map st (take (i + 1) body)) start).stopped ≡ true = step.stopped ∙ sym cut ∙ c.if-branch.true in
     let whole : block (map st body) start ≡ block (map st (take (i + 1) body)) start =
     ap (λ (l : List Stmt). block (map st l) start) (sym (take-append-drop (i + 1) body))
@@ -195,7 +194,7 @@ statements-returns-then-branch-clause-stopped t c =
     let cut : c.in_ok-statement.field-0 ≡ (f here).stopped =
     subst (λ (n : ℕ). c.in_ok-statement.field-0 ≡ (f (scope_at c.args.seat.now n c.loop-s.locals)).stopped) c.loop-s.invariant.seed c.in_ok-statement.ensures.stopped in
     let step = block-step scene (map st (take i body)) (map st (take (i + 1) body)) f start here c.args.ledger.now c.loop-s.ledger c.statement.new.ledger
-        (map-more st body i c.s-item.result le is) c.loop-s.invariant.going c.loop-s.invariant.scope c.loop-s.invariant.noted second in
+    (map-more st body i c.s-item.result le is) c.loop-s.invariant.going c.loop-s.invariant.scope c.loop-s.invariant.noted second in
     let halted : (block (map st (take (i + 1) body)) start).stopped ≡ true = step.stopped ∙ sym cut ∙ c.if-branch.true in
     let whole : block (map st body) start ≡ block (map st (take (i + 1) body)) start =
     ap (λ (l : List Stmt). block (map st l) start) (sym (take-append-drop (i + 1) body))
@@ -220,7 +219,7 @@ statements-loop-s-preserved t c =
     let cut : c.in_ok-statement.field-0 ≡ (f here).stopped =
     subst (λ (n : ℕ). c.in_ok-statement.field-0 ≡ (f (scope_at c.args.seat.now n c.loop-s.locals)).stopped) c.loop-s.invariant.seed c.in_ok-statement.ensures.stopped in
     let step = block-step scene (map st (take i body)) (map st (take (i + 1) body)) f start here c.args.ledger.now c.loop-s.ledger c.statement.new.ledger
-        (map-more st body i c.s-item.result le is) c.loop-s.invariant.going c.loop-s.invariant.scope c.loop-s.invariant.noted second in
+    (map-more st body i c.s-item.result le is) c.loop-s.invariant.going c.loop-s.invariant.scope c.loop-s.invariant.noted second in
     let left : (f here).scope ≡ scope_at c.args.seat.now seed c.statement.new.locals =
     subst (λ (n : ℕ). (f (scope_at c.args.seat.now n c.loop-s.locals)).scope ≡ scope_at c.args.seat.now n c.statement.new.locals) c.loop-s.invariant.seed
     (c.in_ok-statement.ensures.scope c.if-branch.false) in

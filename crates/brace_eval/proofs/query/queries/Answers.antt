@@ -1,4 +1,4 @@
-use Rattle.std.proofs.Common.{◌≡◌, ◌∙◌, ◌+◌, ◌++◌, sym, subst, take, List, ℕ, flat_map}
+use Rattle.std.proofs.Common.{◌∙◌, ◌+◌, ◌++◌, sym, subst, take, List, ℕ, flat_map}
 use Rattle.brace_model.specs.declared.fault.Fault.{Fault}
 use Rattle.brace_model.specs.declared.world.Agent.{Agent}
 use Rattle.brace_model.specs.Query.{Saying, Deed, query_of}

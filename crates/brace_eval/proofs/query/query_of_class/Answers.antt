@@ -1,4 +1,4 @@
-use Rattle.std.proofs.Common.{◌≡◌, ◌∙◌, sym, ap, subst, map, List, ◌++◌, replicate, None}
+use Rattle.std.proofs.Common.{◌≡◌, ◌∙◌, ap, subst, map, List, ◌++◌, replicate, None}
 use Rattle.std.specs.Prelude.{sum}
 use Rattle.brace_model.specs.declared.program.Value.{Value}
 use Rattle.brace_model.specs.World.{no_value}

@@ -1,7 +1,5 @@
-use Rattle.std.proofs.Common.{◌≡◌, ◌∙◌, sym, ap, subst, refl, [], ◌∷◌}
-use Rattle.brace_model.specs.Value.{value, Worth}
-use Rattle.brace_model.specs.Query.{Deed, silent, deed_of, halted, query_fault}
-use Rattle.brace_eval.specs.inner.Tables.{NotesDeed, Notes}
+use Rattle.std.proofs.Common.{sym, refl, [], ◌∷◌}
+use Rattle.brace_model.specs.Query.{query_fault}
 use Rattle.brace_eval.specs.inner.Walks.{scope_at}
 use Rattle.brace_eval.proofs.DeedLemmas.{nothing-then, notes-nothing}
 use Rattle.brace_eval.proofs.query.worth.Goals as goal

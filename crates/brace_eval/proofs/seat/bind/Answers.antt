@@ -1,4 +1,3 @@
-use Rattle.std.proofs.Common.{◌≡◌, ◌∙◌, sym, ap}
 use Rattle.brace_eval.proofs.TrailLemmas.{rebound}
 use Rattle.brace_eval.proofs.seat.bind.Goals as goal
 

@@ -1,4 +1,4 @@
-use Rattle.std.proofs.Common.{◌≡◌, ◌∙◌, List, sym, ap}
+use Rattle.std.proofs.Common.{◌∙◌, List, sym, ap}
 use Rattle.brace_eval.specs.declared.seat.Bound.{Bound}
 use Rattle.brace_eval.specs.inner.Walks.{undone}
 use Rattle.brace_eval.proofs.TrailLemmas.{undone-snoc, undone-past}

@@ -1,7 +1,6 @@
 use Rattle.std.proofs.Common.{◌≡◌, ◌∙◌, ◌+◌, ◌≤◌, ◌^◌, sym, ap, subst, length, filter_map, List, ℕ, arith, Option, Some, None, Result, Ok, Err}
-use Rattle.std.specs.Prelude.{option_map, slice_get}
+use Rattle.std.specs.Prelude.{option_map}
 use Rattle.std.specs.Result.{result_ok, result_err}
-use Rattle.brace_model.specs.declared.program.Class.{Class}
 use Rattle.brace_model.specs.declared.program.Program.{Program}
 use Rattle.brace_model.specs.declared.fault.Fault.{Fault}
 use Rattle.brace_model.specs.declared.world.Agent.{Agent}
@@ -45,14 +44,14 @@ returns-in-Some-first_too_far-clause-faulted c fault e =
     let bs = c.in_ok-nexts.nexts.born.items in
     let far : (o : Option Agent) → o ≡ first_too_far c.deref-2.result.now c.next.result c.deref-3.result.now → first_too_far ls world.next bs ≡ o =
     λ o is. sym (is ∙ ap (λ (l : List Agent). first_too_far l c.next.result c.deref-3.result.now) c.deref-2.ensures.value
-        ∙ ap (λ (n : ℕ). first_too_far ls n c.deref-3.result.now) c.next.ensures.same ∙ ap (first_too_far ls world.next) c.deref-3.ensures.value) in
+    ∙ ap (λ (n : ℕ). first_too_far ls n c.deref-3.result.now) c.next.ensures.same ∙ ap (first_too_far ls world.next) c.deref-3.ensures.value) in
     let born : (o : Option Agent) → o ≡ first_too_far c.deref-2.result.now c.next.result c.deref-3.result.now
-        → step program seed tick world ≡ unless_faulty None None (option_map (birth_fault program tick) o) (grown world.next ls bs) =
+    → step program seed tick world ≡ unless_faulty None None (option_map (birth_fault program tick) o) (grown world.next ls bs) =
     λ o is. step-born program seed tick world ls bs o queries
-        (nexts (λ (rs : List (Result Next Fault)). least (filter_map result_err rs) ≡ None) c.in_ok-nexts.ensures.passes)
-        (nexts (λ (rs : List (Result Next Fault)). living (filter_map result_ok rs) ≡ ls) c.in_ok-nexts.ensures.living)
-        (nexts (λ (rs : List (Result Next Fault)). children (filter_map result_ok rs) ≡ bs) c.in_ok-nexts.ensures.born)
-        (far o is) in
+    (nexts (λ (rs : List (Result Next Fault)). least (filter_map result_err rs) ≡ None) c.in_ok-nexts.ensures.passes)
+    (nexts (λ (rs : List (Result Next Fault)). living (filter_map result_ok rs) ≡ ls) c.in_ok-nexts.ensures.living)
+    (nexts (λ (rs : List (Result Next Fault)). children (filter_map result_ok rs) ≡ bs) c.in_ok-nexts.ensures.born)
+    (far o is) in
     let same : c.birth_fault.result ≡ fault = cc in
     born (Some c.in-Some-first_too_far.child.now) c.in-Some-first_too_far.ensures.first ∙ ap failed (sym c.birth_fault.ensures ∙ same)
 
@@ -71,7 +70,7 @@ unreachable-requires c =
     let fits = c.in_default-first_too_far.ensures.fits in
     let few : world.next + length bs ≤ 2 ^ 63 = omega (arith, fits, c.next.ensures.same, ap length c.deref-3.ensures.value) in
     let w = numbered_grown program seed tick world ls bs c.agents-agents.ensures.numbered
-        (nexts (λ (rs : List (Result Next Fault)). living (filter_map result_ok rs) ≡ ls) c.in_ok-nexts.ensures.living) few in
+    (nexts (λ (rs : List (Result Next Fault)). living (filter_map result_ok rs) ≡ ls) c.in_ok-nexts.ensures.living) few in
     let same : grown world.next ls bs ≡ world_with c.in_ok-agents.agents.items c.in_ok-agents.next =
     ap (λ (n : ℕ). grown n ls bs) (sym c.next-2.ensures.same) ∙ sym c.in_ok-agents.ensures in
     c.in-None.ensures.none (subst IsNumbered same w)
@@ -103,14 +102,14 @@ returns-clause-stepped c =
     let bs = c.in_ok-nexts.nexts.born.items in
     let far : (o : Option Agent) → o ≡ first_too_far c.deref-2.result.now c.next.result c.deref-3.result.now → first_too_far ls world.next bs ≡ o =
     λ o is. sym (is ∙ ap (λ (l : List Agent). first_too_far l c.next.result c.deref-3.result.now) c.deref-2.ensures.value
-        ∙ ap (λ (n : ℕ). first_too_far ls n c.deref-3.result.now) c.next.ensures.same ∙ ap (first_too_far ls world.next) c.deref-3.ensures.value) in
+    ∙ ap (λ (n : ℕ). first_too_far ls n c.deref-3.result.now) c.next.ensures.same ∙ ap (first_too_far ls world.next) c.deref-3.ensures.value) in
     let born : (o : Option Agent) → o ≡ first_too_far c.deref-2.result.now c.next.result c.deref-3.result.now
-        → step program seed tick world ≡ unless_faulty None None (option_map (birth_fault program tick) o) (grown world.next ls bs) =
+    → step program seed tick world ≡ unless_faulty None None (option_map (birth_fault program tick) o) (grown world.next ls bs) =
     λ o is. step-born program seed tick world ls bs o queries
-        (nexts (λ (rs : List (Result Next Fault)). least (filter_map result_err rs) ≡ None) c.in_ok-nexts.ensures.passes)
-        (nexts (λ (rs : List (Result Next Fault)). living (filter_map result_ok rs) ≡ ls) c.in_ok-nexts.ensures.living)
-        (nexts (λ (rs : List (Result Next Fault)). children (filter_map result_ok rs) ≡ bs) c.in_ok-nexts.ensures.born)
-        (far o is) in
+    (nexts (λ (rs : List (Result Next Fault)). least (filter_map result_err rs) ≡ None) c.in_ok-nexts.ensures.passes)
+    (nexts (λ (rs : List (Result Next Fault)). living (filter_map result_ok rs) ≡ ls) c.in_ok-nexts.ensures.living)
+    (nexts (λ (rs : List (Result Next Fault)). children (filter_map result_ok rs) ≡ bs) c.in_ok-nexts.ensures.born)
+    (far o is) in
     let whole : grown world.next ls bs ≡ c.in-Some-with_next.next =
     ap (λ (n : ℕ). grown n ls bs) (sym c.next-2.ensures.same) ∙ sym c.in_ok-agents.ensures ∙ sym c.in-Some-with_next.ensures.world in
     born None c.in_default-first_too_far.ensures.first ∙ ap stepped whole

@@ -1,4 +1,4 @@
-use Rattle.std.proofs.Common.{◌≡◌, sym, subst, [], ◌∷◌, Option, false}
+use Rattle.std.proofs.Common.{sym, subst, [], ◌∷◌, Option, false}
 use Rattle.brace_model.specs.declared.program.Expr.{Expr}
 use Rattle.brace_model.specs.declared.program.Value.TheVariants.{Flag}
 use Rattle.brace_model.specs.Next.{condition_in}

@@ -1,9 +1,8 @@
-use Rattle.std.proofs.Common.{◌≡◌, ◌∙◌, ◌+◌, ◌++◌, ◌∷◌, [], sym, ap, subst, map, take, List, ℕ, Option}
+use Rattle.std.proofs.Common.{◌≡◌, ◌∙◌, ◌+◌, ◌++◌, ◌∷◌, [], sym, ap, subst, map, take, List, ℕ}
 use Rattle.std.proofs.lemmas.List.{take_all}
 use Rattle.brace_model.specs.declared.program.Gift.{Gift}
 use Rattle.brace_model.specs.declared.program.Value.{Value}
-use Rattle.brace_model.specs.declared.fault.Stop.{Stop}
-use Rattle.brace_model.specs.Value.{Worth, Scope, value}
+use Rattle.brace_model.specs.Value.{Worth, value}
 use Rattle.brace_model.specs.Next.{values_of}
 use Rattle.brace_eval.specs.Scopes.{scope_of}
 use Rattle.brace_eval.specs.inner.Updates.{Meets, with_one}

@@ -1,4 +1,4 @@
-use Rattle.std.proofs.Common.{◌≡◌, ◌∙◌, sym, ap, List, arith, get_or, pos}
+use Rattle.std.proofs.Common.{◌∙◌, sym, ap, List, arith, get_or, pos}
 use Rattle.std.specs.Prelude.{slice_set}
 use Rattle.brace_model.specs.declared.program.Value.TheVariants.{Int}
 use Rattle.brace_model.specs.declared.program.Gift.{Gift}

@@ -1,4 +1,4 @@
-use Rattle.std.proofs.Common.{◌≡◌, ◌∙◌, sym, ap, subst, [], ◌∷◌, Option, Some, Err}
+use Rattle.std.proofs.Common.{sym, subst, [], ◌∷◌, Some, Err}
 use Rattle.brace_model.specs.declared.fault.Stop.{Stop}
 use Rattle.brace_model.specs.Value.{Worth}
 use Rattle.brace_eval.specs.inner.Updates.{Meets}

@@ -1,11 +1,10 @@
-use Rattle.std.proofs.Common.{◌≡◌, ◌∙◌, sym, ap, subst, [], ◌∷◌, List, ℕ, Bool, Option, Some, None, Result, Ok, Err}
+use Rattle.std.proofs.Common.{◌≡◌, ◌∙◌, sym, ap, subst, [], ◌∷◌, List, ℕ, Bool, Some, None, Result, Err}
 use Rattle.std.specs.Prelude.{if◌then◌else◌}
 use Rattle.brace_model.specs.declared.program.State.{State}
 use Rattle.brace_model.specs.declared.program.Value.{Value}
 use Rattle.brace_model.specs.declared.fault.Fault.{Fault}
-use Rattle.brace_model.specs.declared.world.Agent.{Agent}
 use Rattle.brace_model.specs.Query.{opening_scope}
-use Rattle.brace_model.specs.Next.{Next, rules_in, condition_in, spawns_in, gifts_in, holds, changed, child_in, values_of, update_fault}
+use Rattle.brace_model.specs.Next.{Next, rules_in, condition_in, spawns_in, gifts_in, holds, changed, child_in, values_of}
 use Rattle.brace_eval.specs.inner.Updates.{Meets, worths}
 use Rattle.brace_eval.proofs.UpdateLemmas.{all-met, next-stopped, next-left}
 use Rattle.brace_eval.proofs.update.left_of_class.Goals as goal

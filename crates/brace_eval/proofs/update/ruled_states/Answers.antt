@@ -1,11 +1,11 @@
-use Rattle.std.proofs.Common.{◌≡◌, ◌∙◌, ◌+◌, ◌++◌, ◌∷◌, [], ◌≤◌, ◌<◌, length, min, sym, ap, subst, map, take, zip, get_or, List, ℕ, arith}
+use Rattle.std.proofs.Common.{◌≡◌, ◌∙◌, ◌+◌, ◌++◌, ◌∷◌, [], sym, ap, subst, map, take, zip, List, arith}
 use Rattle.brace_model.specs.declared.program.State.{State}
 use Rattle.brace_model.specs.declared.program.Value.{Value}
 use Rattle.brace_model.specs.Value.{Worth}
 use Rattle.brace_model.specs.Next.{values_of, ruled}
 use Rattle.brace_eval.specs.Scopes.{scope_of}
 use Rattle.brace_eval.specs.inner.Updates.{Meets, with_one}
-use Rattle.brace_eval.proofs.UpdateLemmas.{zip-more, zip-all, values-more, meets-then, scope_from}
+use Rattle.brace_eval.proofs.UpdateLemmas.{zip-more, zip-all, values-more, meets-then}
 use Rattle.brace_eval.proofs.update.ruled_states.Goals as goal
 
 pub loop-i-preserved : goal.loop-i-preserved

@@ -1,4 +1,4 @@
-use Rattle.std.proofs.Common.{◌≡◌, ◌++◌, [], length, take}
+use Rattle.std.proofs.Common.{◌≡◌, [], length, take}
 use Rattle.brace_model.specs.World.{ids}
 use Rattle.brace_eval.specs.inner.Tables.{AreStarts, table_of}
 use Rattle.brace_eval.proofs.scene.Scene.open.Given as goal
