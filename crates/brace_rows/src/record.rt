@@ -87,8 +87,8 @@ fn id_in_range(count: Option<u64>) -> Option<u64>
     ensures { result ≡ id_in_range count }
 {
     match count {
-        Some(id) => { if id <= GREATEST_ID { Some(id) } else { None } }
-        None => None,
+        Some(id) if id <= GREATEST_ID => Some(id),
+        _ => None,
     }
 }
 

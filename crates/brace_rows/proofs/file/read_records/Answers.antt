@@ -1,4 +1,4 @@
-use Rattle.std.proofs.Common.{◌≡◌, ◌∙◌, Bor, List, ℕ, None, Some, Ok, ap, sym, subst, inl}
+use Rattle.std.proofs.Common.{◌≡◌, ◌∙◌, Bor, List, ℕ, None, Some, Ok, ap, sym, subst, inl, rules}
 use Rattle.csv.specs.Reading.{default_config, reader_state}
 use Rattle.csv.specs.Records.{fields_of}
 use Rattle.csv.proofs.ReadFacts.{rows-end}
@@ -40,22 +40,13 @@ returns-in-Some-clause-first c number kind e =
     read_fault c.args.program.now rows (records_left (reader_state c.read_byte_record.new.self) rest) fields c.loop-number.register.agents.items c.loop-number.number c.in-Some.kind read (sym c.in-Some.is ∙ c.in_ok-kind-in-Ok-true.ensures.judged)
     ∙ same_fault c.loop-number.number number c.in-Some.kind kind e
 
-pub returns-in-Ok-false-clause-agents : goal.returns-in-Ok-false-clause-agents
-returns-in-Ok-false-clause-agents c =
+pub returns-in-Ok-false : goal.returns-in-Ok-false
+returns-in-Ok-false c =
     let (left, so_far) = c.loop-number.invariant in
     let rows = records_of c.args.bytes.now in
     let agents = c.loop-number.register.agents.items in
     let r = rw c.in-Ok-false.field-0-test at c.in-Ok-false.ensures.reads so_far.trim so_far.ready in
     let none = rows-end (λ (s : Bor (List ℕ)). Some s.now) c.loop-number.reader c.read_byte_record.new.self _ default_config left so_far.config so_far.known r in
     let over = left_none (reader_state c.loop-number.reader) left none in
-    (read_all c.args.program.now rows agents c.loop-number.number (subst (λ l. ReadTo c.args.program.now rows l agents c.loop-number.number) over so_far.read)).0
-
-pub returns-in-Ok-false-clause-faultless : goal.returns-in-Ok-false-clause-faultless
-returns-in-Ok-false-clause-faultless c =
-    let (left, so_far) = c.loop-number.invariant in
-    let rows = records_of c.args.bytes.now in
-    let agents = c.loop-number.register.agents.items in
-    let r = rw c.in-Ok-false.field-0-test at c.in-Ok-false.ensures.reads so_far.trim so_far.ready in
-    let none = rows-end (λ (s : Bor (List ℕ)). Some s.now) c.loop-number.reader c.read_byte_record.new.self _ default_config left so_far.config so_far.known r in
-    let over = left_none (reader_state c.loop-number.reader) left none in
-    (read_all c.args.program.now rows agents c.loop-number.number (subst (λ l. ReadTo c.args.program.now rows l agents c.loop-number.number) over so_far.read)).1
+    let both = read_all c.args.program.now rows agents c.loop-number.number (subst (λ l. ReadTo c.args.program.now rows l agents c.loop-number.number) over so_far.read) in
+    record { agents = both.0; register = so_far.register; faultless = both.1; first = search rules }
