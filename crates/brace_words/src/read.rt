@@ -6,7 +6,7 @@ ghost use Rattle.brace_words.specs.inner.Getters.{found_in};
 use crate::command::command;
 use crate::mode::mode_named;
 use crate::options::takes;
-use crate::values::{is_set, name_of, number_of, small_number_of};
+use crate::values::{is_set, name_of, number_of, small};
 use crate::{Line, LineFault};
 use clap::ArgMatches;
 use clap::error::ErrorKind;
@@ -16,13 +16,13 @@ use std::alloc::Global;
 const TICKS_LIMIT: u64 = 4_294_967_296;
 
 /// The most agents that are made.
-const COUNT_LIMIT: u32 = 1_048_576;
+const COUNT_LIMIT: u64 = 1_048_576;
 
 /// The most ticks of an epoch.
 const EPOCH_LIMIT: u64 = 16;
 
 /// The most workers.
-const WORKERS_LIMIT: u32 = 16;
+const WORKERS_LIMIT: u64 = 16;
 
 /// The line that the words after the program's name are.
 ///
@@ -72,12 +72,12 @@ fn line_found(alloc: Global, matches: &ArgMatches<'_>) -> Result<Line, LineFault
         agents: name_of(alloc, matches, "agents")?,
         from: name_of(alloc, matches, "from")?,
         ticks: number_of(matches, "ticks", 0, TICKS_LIMIT)?,
-        count: small_number_of(matches, "count", 0, COUNT_LIMIT)?,
+        count: small(number_of(matches, "count", 0, COUNT_LIMIT)?),
         seed: number_of(matches, "seed", 0, u64::MAX)?,
         every: number_of(matches, "every", 1, TICKS_LIMIT)?,
         epoch: number_of(matches, "epoch", 1, EPOCH_LIMIT)?,
         cuts: name_of(alloc, matches, "cuts")?,
-        workers: small_number_of(matches, "workers", 1, WORKERS_LIMIT)?,
+        workers: small(number_of(matches, "workers", 1, WORKERS_LIMIT)?),
         order: number_of(matches, "order", 0, u64::MAX)?,
         invert: is_set(matches, "invert"),
         save: name_of(alloc, matches, "save")?,

@@ -11,7 +11,7 @@ const LINES: [(&str, &str); 14] = [
     ),
     (
         "--save=c --stats --order 7 --workers 16 --cuts k --epoch=1 --every 4294967296 \
-         -- seed=18446744073709551615 --invert --ticks=4294967296 --agents=a --script=s run",
+         --seed=18446744073709551615 --invert --ticks=4294967296 --agents=a --script=s run",
         "Run script s agents a cuts k save c ticks 4294967296 seed 18446744073709551615 \
          every 4294967296 epoch 1 workers 16 order 7 invert stats",
     ),
@@ -21,7 +21,7 @@ const LINES: [(&str, &str); 14] = [
     ),
     (
         "--from - resume --stats --invert --save - --script - --ticks 0 \
-         -- order 18446744073709551615 --workers 1 --epoch 16 --every 1 --cuts -",
+         --order 18446744073709551615 --workers 1 --epoch 16 --every 1 --cuts -",
         "Resume script - from - cuts - save - ticks 0 every 1 epoch 16 workers 1 \
          order 18446744073709551615 invert stats",
     ),
@@ -32,7 +32,7 @@ const LINES: [(&str, &str); 14] = [
     ("trial --count 0 --ticks 0", "Trial ticks 0 count 0"),
     (
         "trial --stats --invert --order 1 --workers 2 --epoch 5 --seed 0 --count 1048576 \
-         -- ticks 20",
+         --ticks 20",
         "Trial ticks 20 count 1048576 seed 0 epoch 5 workers 2 order 1 invert stats",
     ),
     ("check --script=-x", "Check script -x"),

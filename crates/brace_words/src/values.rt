@@ -1,4 +1,4 @@
-ghost use Rattle.std.specs.Prelude.{◌≡◌, ◌≤◌, IfSome, IfOk, IfErr, true, false};
+ghost use Rattle.std.specs.Prelude.{◌≡◌, ◌<◌, ◌≤◌, ◌^◌, IfSome, IfOk, IfErr, true, false};
 ghost use Rattle.brace_words.specs.Values.{is_name, is_number, is_absent_or, is_set, number_in};
 ghost use Rattle.brace_words.specs.inner.Getters.{found_in};
 
@@ -55,23 +55,14 @@ pub(crate) fn number_of(
     }
 }
 
-/// The same of a number that 32 bits hold.
-pub(crate) fn small_number_of(
-    matches: &ArgMatches<'_>,
-    option: &str,
-    least: u32,
-    most: u32,
-) -> Result<Option<u32>, LineFault>
-    ensures number { IfOk result (λ n. n ≡ number_in (found_in matches.now) option.now) }
-    ensures bounds { IfOk result (λ n. IfSome n (λ n. (least ≤ n) × (n ≤ most))) }
-    ensures taken { IfOk result (λ n.
-        is_absent_or (is_number least most) (found_in matches.now option.now) ≡ true) }
-    ensures usage { IfErr result (λ fault. fault ≡ LineFault.Usage
-        → is_absent_or (is_number least most) (found_in matches.now option.now) ≡ false) }
+/// The same number, where 32 bits hold it.
+pub(crate) fn small(number: Option<u64>) -> Option<u32>
+    requires { IfSome number (λ n. n < 2 ^ 32) }
+    ensures { result ≡ number }
 {
-    match number_of(matches, option, u64::from(least), u64::from(most))? {
-        Some(n) => Ok(Some(n as u32)),
-        None => Ok(None),
+    match number {
+        Some(n) => Some(n as u32),
+        None => None,
     }
 }
 
