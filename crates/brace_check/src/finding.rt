@@ -84,7 +84,8 @@ pub fn cross_to(
     variable: &Ident,
     name: &Ident,
 ) -> Result<(), NoMemory>
-    ensures { OnOk result (out.new.items ≡ out.old.items ++ crosses_to scope.now variable.now name.now) }
+    ensures { OnOk result (out.new.items ≡ out.old.items
+        ++ crosses_to scope.now variable.now name.now) }
 {
     let class = scope.loop_class(scope.stands(variable.at));
     cross(out, scope, variable.at, class, scope.stands(name.at))
@@ -97,7 +98,8 @@ pub fn read_of_loop(
     variable: &Ident,
     name: &Ident,
 ) -> Result<(), NoMemory>
-    ensures { OnOk result (out.new.items ≡ out.old.items ++ reads_of_loop scope.now variable.now name.now) }
+    ensures { OnOk result (out.new.items ≡ out.old.items
+        ++ reads_of_loop scope.now variable.now name.now) }
 {
     if scope.in_query() {
         read(out, scope, variable.at, scope.stands(name.at))?;

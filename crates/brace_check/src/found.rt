@@ -112,8 +112,10 @@ fn block(
     scope: &mut Scope,
     statements: &List<StmtTree>,
 ) -> Result<(), NoMemory>
-    ensures found { OnOk result (out.new.items ≡ out.old.items ++ block (map part statements.now) scope.old) }
-    ensures behind { OnOk result (scope.new ≡ past (constants_in (map part statements.now)) scope.old) }
+    ensures found { OnOk result (out.new.items ≡ out.old.items
+        ++ block (map part statements.now) scope.old) }
+    ensures behind { OnOk result (scope.new
+        ≡ past (constants_in (map part statements.now)) scope.old) }
 {
     for s in statements.as_slice() {
         statement(out, scope, s)?;
@@ -161,7 +163,8 @@ fn member(
     own: u32,
     one: &MemberTree,
 ) -> Result<(), NoMemory>
-    ensures { OnOk result (out.new.items ≡ out.old.items ++ member targets.now headings.now own one.now) }
+    ensures { OnOk result (out.new.items ≡ out.old.items
+        ++ member targets.now headings.now own one.now) }
 {
     match one {
         MemberTree::Visible(number, _) | MemberTree::Reach(number, _) => range(out, number),

@@ -56,7 +56,8 @@ pub fn comb_named(name: CombName) -> Comb
 
 fn add(heading: &mut Heading, member: &MemberTree) -> Result<(), NoMemory>
     ensures states { OnOk result (heading.new.states ≡ heading.old.states ++ state_of member.now) }
-    ensures effects { OnOk result (heading.new.effects ≡ heading.old.effects ++ effect_of member.now) }
+    ensures effects { OnOk result (heading.new.effects ≡ heading.old.effects
+        ++ effect_of member.now) }
 {
     match member {
         MemberTree::State(shared, name, _, _, _) => {

@@ -95,8 +95,10 @@ fn named(
     at: u32,
     target: Option<Target>,
 ) -> Result<Expr, NoMemory>
-    ensures noted { OnOk result (sites.new.items ≡ sites.old.items ++ (named scope.now at target).sites) }
-    ensures meant { IfOk result (λ e. e ≡ (named scope.now at target).behind (length sites.old.items)) }
+    ensures noted { OnOk result (sites.new.items ≡ sites.old.items
+        ++ (named scope.now at target).sites) }
+    ensures meant { IfOk result (λ e. e
+        ≡ (named scope.now at target).behind (length sites.old.items)) }
 {
     match target {
         Some(Target::Local(number)) => Ok(Expr::Local(number)),
@@ -123,8 +125,10 @@ pub fn expression(
     scope: &Scope,
     x: &ExprTree,
 ) -> Result<Expr, NoMemory>
-    ensures noted { OnOk result (sites.new.items ≡ sites.old.items ++ (expression x.now scope.now).sites) }
-    ensures meant { IfOk result (λ e. e ≡ (expression x.now scope.now).behind (length sites.old.items)) }
+    ensures noted { OnOk result (sites.new.items ≡ sites.old.items
+        ++ (expression x.now scope.now).sites) }
+    ensures meant { IfOk result (λ e. e
+        ≡ (expression x.now scope.now).behind (length sites.old.items)) }
 {
     match x {
         ExprTree::Lit(number) => Ok(Expr::Lit(literal(number.digits))),

@@ -141,7 +141,8 @@ pub fn program(
     headings: &[Heading],
     trees: &[ClassTree],
 ) -> Result<Program, NoMemory>
-    ensures { IfOk result (λ p. p ≡ program_with (classes_from targets.now headings.now 0 trees.now)) }
+    ensures { IfOk result (λ p. p
+        ≡ program_with (classes_from targets.now headings.now 0 trees.now)) }
 {
     let mut sites = Vec::new(alloc);
     let classes = classes(alloc, &mut sites, targets, headings, trees)?;

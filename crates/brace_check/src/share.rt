@@ -26,7 +26,8 @@ fn rule(
     scope: &Scope,
     x: &Option<ExprTree>,
 ) -> Result<Option<Expr>, NoMemory>
-    ensures noted { OnOk result (sites.new.items ≡ sites.old.items ++ (rule x.now scope.now).sites) }
+    ensures noted { OnOk result (sites.new.items ≡ sites.old.items
+        ++ (rule x.now scope.now).sites) }
     ensures meant { IfOk result (λ r. r ≡ (rule x.now scope.now).behind (length sites.old.items)) }
 {
     match x {
@@ -42,7 +43,8 @@ fn gifts(
     scope: &Scope,
     given: &List<GiftTree>,
 ) -> Result<List<Gift>, NoMemory>
-    ensures noted { OnOk result (sites.new.items ≡ sites.old.items ++ (gifts_in given.now scope.now).sites) }
+    ensures noted { OnOk result (sites.new.items ≡ sites.old.items
+        ++ (gifts_in given.now scope.now).sites) }
     ensures meant { IfOk result (λ gifts. gifts
         ≡ (gifts_in given.now scope.now).behind (length sites.old.items)) }
 {

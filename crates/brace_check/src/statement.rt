@@ -27,7 +27,8 @@ fn assigned(
     at: u32,
     x: &ExprTree,
 ) -> Result<Stmt, NoMemory>
-    ensures noted { OnOk result (sites.new.items ≡ sites.old.items ++ (expression x.now scope.now).sites) }
+    ensures noted { OnOk result (sites.new.items ≡ sites.old.items
+        ++ (expression x.now scope.now).sites) }
     ensures meant { IfOk result (λ s. s
         ≡ (assigned who effect at (expression x.now scope.now)).behind (length sites.old.items)) }
 {
@@ -44,7 +45,8 @@ fn assigned_of_loop(
     name: &Ident,
     x: &ExprTree,
 ) -> Result<Stmt, NoMemory>
-    ensures noted { OnOk result (sites.new.items ≡ sites.old.items ++ (expression x.now scope.now).sites) }
+    ensures noted { OnOk result (sites.new.items ≡ sites.old.items
+        ++ (expression x.now scope.now).sites) }
     ensures meant { IfOk result (λ s. s
         ≡ (assigned_of_loop variable.now name.now x.now scope.now).behind
         (length sites.old.items)) }
@@ -61,8 +63,10 @@ fn statement(
     scope: &mut Scope,
     s: &StmtTree,
 ) -> Result<Stmt, NoMemory>
-    ensures noted { OnOk result (sites.new.items ≡ sites.old.items ++ ((part s.now).here scope.old).sites) }
-    ensures meant { IfOk result (λ stmt. stmt ≡ ((part s.now).here scope.old).behind (length sites.old.items)) }
+    ensures noted { OnOk result (sites.new.items ≡ sites.old.items
+        ++ ((part s.now).here scope.old).sites) }
+    ensures meant { IfOk result (λ stmt. stmt
+        ≡ ((part s.now).here scope.old).behind (length sites.old.items)) }
     ensures behind { OnOk result (scope.new ≡ behind (part s.now) scope.old) }
 {
     match s {
@@ -115,7 +119,8 @@ pub fn block(
         ++ (block (map part statements.now) scope.old).sites) }
     ensures meant { IfOk result (λ b. b
         ≡ (block (map part statements.now) scope.old).behind (length sites.old.items)) }
-    ensures behind { OnOk result (scope.new ≡ past (constants_in (map part statements.now)) scope.old) }
+    ensures behind { OnOk result (scope.new
+        ≡ past (constants_in (map part statements.now)) scope.old) }
 {
     let mut meant = List::new(alloc);
     for s in statements.as_slice() {
