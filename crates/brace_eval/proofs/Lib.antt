@@ -7,3 +7,4 @@ pub mod UpdateLemmas
 pub mod BirthLemmas
 pub mod StepLemmas
 pub mod NumberLemmas
+pub mod LawLemmas

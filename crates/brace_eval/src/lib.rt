@@ -4,6 +4,7 @@
 mod births;
 mod expression;
 mod fault;
+pub mod laws;
 mod ledger;
 mod operations;
 mod query;
