@@ -1,5 +1,5 @@
 -- Small scripts computed both ways, by the meaning itself.
-use Rattle.std.proofs.Common.{◌≡◌, ap, refl, ℕ, ℤ, pos, List, [], ◌∷◌, ◌++◌, map, true, false, Option, Some, None}
+use Rattle.std.proofs.Common.{◌≡◌, ◌∙◌, ap, refl, ℕ, ℤ, pos, List, [], ◌∷◌, ◌++◌, map, true, false, Option, Some, None}
 use Rattle.brace_num.specs.declared.kinds.Kind.TheVariants.{DivZero}
 use Rattle.brace_model.specs.declared.program.Value.TheVariants.{Int, Flag}
 use Rattle.brace_model.specs.declared.program.Comb.{Comb}
@@ -13,7 +13,8 @@ use Rattle.brace_model.specs.declared.program.Program.{Program}
 use Rattle.brace_model.specs.declared.fault.Fault.{Fault}
 use Rattle.brace_model.specs.declared.fault.Phase.TheVariants.{Query}
 use Rattle.brace_model.specs.declared.world.Agent.{Agent}
-use Rattle.brace_model.specs.Query.{Saying, said_in, query_faults}
+use Rattle.brace_model.specs.Value.{Scope}
+use Rattle.brace_model.specs.Query.{Saying, Deed, silent, statement, query_of, said_in, query_faults}
 use Rattle.brace_model.specs.Total.{total_of, said_to}
 use Rattle.brace_model.specs.FaultOrder.{least}
 use Rattle.brace_model.proofs.ValueEquations.{value-Lit, value-Field, value-Local, value-Binary, statement-Const, statement-If, statement-Foreach, statement-Assign, constants-Const, constants-If, constants-Foreach, constants-Assign}
@@ -84,18 +85,70 @@ quotients_least = ap least quotients_both
 abbrev choice_with : List Stmt → List Stmt → Stmt
 choice_with = If (Binary op.Lt None (Local 1) (Lit (Int (pos 8))))
 
-inverse_constants : inverse_query (Foreach 0 (own_loop ∷ Const 1 (Field who.Outer 2) ∷ choice ∷ []) 1 ∷ [])
-    ≡ Foreach 0 (If (Lit (Flag false)) (Const 0 (Lit (Flag false)) ∷ []) [] ∷ Const 1 (Field who.Outer 2) ∷ choice_with (Assign who.Outer 0 (Local 1) 4 ∷ []) [] ∷ []) 1 ∷ []
+abbrev inverse_part : List Stmt
+inverse_part = Foreach 0 (If (Lit (Flag false)) (Const 0 (Lit (Flag false)) ∷ []) [] ∷ Const 1 (Field who.Outer 2) ∷ choice_with (Assign who.Outer 0 (Local 1) 4 ∷ []) [] ∷ []) 1 ∷ []
+
+inverse_constants : inverse_query (Foreach 0 (own_loop ∷ Const 1 (Field who.Outer 2) ∷ choice ∷ []) 1 ∷ []) ≡ inverse_part
 inverse_constants = simp (inverse_of-Const, inverse_of-If, inverse_of-Foreach, inverse_of-Assign, assignments-Const, constant_numbers-Const)
 
+abbrev forward_part : List Stmt
+forward_part = Foreach 0 (own_loop ∷ Const 1 (Field who.Outer 2) ∷ choice_with [] (Assign who.This 0 (Local 1) 5 ∷ []) ∷ []) 1 ∷ []
+
+forward_constants : forward_query (Foreach 0 (own_loop ∷ Const 1 (Field who.Outer 2) ∷ choice ∷ []) 1 ∷ []) ≡ forward_part
+forward_constants = simp (forward_of-Const, forward_of-If, forward_of-Foreach, forward_of-Assign)
+
+abbrev seven : Agent
+seven = agent 1 (pos 0) (pos 7)
+
+abbrev eight : Agent
+eight = agent 2 (pos 1000000) (pos 8)
+
 abbrev seven_and_eight : List Agent
-seven_and_eight = agent 1 (pos 0) (pos 7) ∷ agent 2 (pos 1000000) (pos 8) ∷ []
+seven_and_eight = seven ∷ eight ∷ []
+
+-- what the two say by a query, one after the other
+two_say : (query : List Stmt) (one other : List Saying)
+    → (query_of (script (pos 3000000) comb.Sum query) 0 0 seven_and_eight seven).said ≡ one → (query_of (script (pos 3000000) comb.Sum query) 0 0 seven_and_eight eight).said ≡ other
+    → said_in (script (pos 3000000) comb.Sum query) 0 0 seven_and_eight ≡ one ++ (other ++ [])
+two_say query one other is_one is_other =
+    ap (λ t. t ++ ((query_of (script (pos 3000000) comb.Sum query) 0 0 seven_and_eight eight).said ++ [])) is_one ∙ ap (λ t. one ++ (t ++ [])) is_other
+
+-- the scope in the outer loop, behind the inner one
+abbrev behind : Agent → Agent → ℤ → Scope
+behind this other n = record { tick = 0; seed = 0; this = this; outer = Some other; inner = None; locals = Flag false ∷ Int n ∷ []; totals = [] }
+
+abbrev one_said : Scope → Saying → Deed
+one_said scope said = record { said = said ∷ []; faults = []; stopped = false; scope = scope }
+
+ruleset choice_rules = (statement-If, statement-Assign, value-Lit, value-Local, value-Binary)
+
+else_said : (m : Program) (w : List Agent) (a : List Stmt) → statement m w (choice_with a (Assign who.This 0 (Local 1) 5 ∷ [])) (behind seven eight (pos 8)) ≡ one_said (behind seven eight (pos 8)) (saying 1 (pos 8))
+else_said m w a = simp choice_rules
+
+then_said : (m : Program) (w : List Agent) (b : List Stmt) → statement m w (choice_with (Assign who.Outer 0 (Local 1) 4 ∷ []) b) (behind eight seven (pos 7)) ≡ one_said (behind eight seven (pos 7)) (saying 1 (pos 7))
+then_said m w b = simp choice_rules
+
+none_said : (m : Program) (w : List Agent) (b : List Stmt) → statement m w (choice_with [] b) (behind eight seven (pos 7)) ≡ silent (behind eight seven (pos 7))
+none_said m w b = simp choice_rules
+
+ruleset loop_rules = (value-Field, value-Local, statement-Const, statement-Foreach, statement-Assign, constants-Const, constants-If, constants-Foreach, constants-Assign)
 
 constants_alone : said_in constants_in_loops 0 0 seven_and_eight ≡ saying 1 (pos 8) ∷ saying 1 (pos 8) ∷ saying 2 (pos 7) ∷ saying 1 (pos 7) ∷ []
-constants_alone = simp (value-Lit, value-Field, value-Local, value-Binary, statement-Const, statement-If, statement-Foreach, statement-Assign, constants-Const, constants-If, constants-Foreach, constants-Assign)
+constants_alone = two_say (Foreach 0 (own_loop ∷ Const 1 (Field who.Outer 2) ∷ choice ∷ []) 1 ∷ []) (saying 1 (pos 8) ∷ saying 1 (pos 8) ∷ []) (saying 2 (pos 7) ∷ saying 1 (pos 7) ∷ [])
+    (simp (else_said, loop_rules)) (simp (then_said, loop_rules))
+
+forward_says : said_in (script (pos 3000000) comb.Sum forward_part) 0 0 seven_and_eight ≡ saying 1 (pos 8) ∷ saying 1 (pos 8) ∷ saying 2 (pos 7) ∷ []
+forward_says = two_say forward_part (saying 1 (pos 8) ∷ saying 1 (pos 8) ∷ []) (saying 2 (pos 7) ∷ [])
+    (simp (else_said, loop_rules)) (simp (none_said, loop_rules))
+
+inverse_says : said_in (script (pos 3000000) comb.Sum inverse_part) 0 0 seven_and_eight ≡ saying 1 (pos 7) ∷ []
+inverse_says = two_say inverse_part [] (saying 1 (pos 7) ∷ []) (simp (loop_rules, choice_rules)) (simp (loop_rules, choice_rules))
 
 constants_both : said_by_both constants_in_loops 0 0 seven_and_eight ≡ saying 1 (pos 8) ∷ saying 1 (pos 8) ∷ saying 2 (pos 7) ∷ saying 1 (pos 7) ∷ []
-constants_both = simp (forward_of-Const, forward_of-If, forward_of-Foreach, forward_of-Assign, inverse_of-Const, inverse_of-If, inverse_of-Foreach, inverse_of-Assign, assignments-Const, constant_numbers-Const, value-Lit, value-Field, value-Local, value-Binary, statement-Const, statement-If, statement-Foreach, statement-Assign, constants-Const, constants-If, constants-Foreach, constants-Assign)
+constants_both =
+    ap (λ q. said_in (script (pos 3000000) comb.Sum q) 0 0 seven_and_eight ++ said_in (inverse_program constants_in_loops) 0 0 seven_and_eight) forward_constants
+    ∙ ap (λ q. said_in (script (pos 3000000) comb.Sum forward_part) 0 0 seven_and_eight ++ said_in (script (pos 3000000) comb.Sum q) 0 0 seven_and_eight) inverse_constants
+    ∙ ap (λ t. t ++ said_in (script (pos 3000000) comb.Sum inverse_part) 0 0 seven_and_eight) forward_says ∙ ap (λ t. (saying 1 (pos 8) ∷ saying 1 (pos 8) ∷ saying 2 (pos 7) ∷ []) ++ t) inverse_says
 
 -- ranges
 neighbours_range : range_of neighbours true ≡ pos 2000000
