@@ -1,5 +1,5 @@
 -- Blocks of statements, for proofs that go down them.
-use Rattle.std.proofs.Common.{◌≡◌, ◌∙◌, refl, sym, ap, subst, ℕ, ◌+◌, List, [], ◌∷◌, ◌++◌, map, flat_map, sum, Bool, true, false, ◌==◌, arith, append_assoc}
+use Rattle.std.proofs.Common.{sym, subst, ℕ, List, [], ◌∷◌, map}
 use Rattle.brace_model.specs.declared.program.Who.{Who}
 use Rattle.brace_model.specs.declared.program.Expr.{Expr}
 use Rattle.brace_model.specs.declared.program.Stmt.{Stmt, roll-Stmt}

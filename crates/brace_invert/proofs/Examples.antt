@@ -1,5 +1,5 @@
 -- Small scripts computed both ways, by the meaning itself.
-use Rattle.std.proofs.Common.{◌≡◌, ◌∙◌, ap, refl, ℕ, ℤ, pos, List, [], ◌∷◌, ◌++◌, map, true, false, Option, Some, None}
+use Rattle.std.proofs.Common.{◌≡◌, ◌∙◌, ap, refl, ℕ, ℤ, pos, List, [], ◌∷◌, ◌++◌, map, true, false, Some, None}
 use Rattle.brace_num.specs.declared.kinds.Kind.TheVariants.{DivZero}
 use Rattle.brace_model.specs.declared.program.Value.TheVariants.{Int, Flag}
 use Rattle.brace_model.specs.declared.program.Comb.{Comb}
@@ -18,11 +18,11 @@ use Rattle.brace_model.specs.Query.{Saying, Deed, silent, statement, query_of, s
 use Rattle.brace_model.specs.Total.{total_of, said_to}
 use Rattle.brace_model.specs.FaultOrder.{least}
 use Rattle.brace_model.proofs.ValueEquations.{value-Lit, value-Field, value-Local, value-Binary, statement-Const, statement-If, statement-Foreach, statement-Assign, constants-Const, constants-If, constants-Foreach, constants-Assign}
-use Rattle.brace_model.proofs.LawEquations.{assignments-Const, assignments-If, assignments-Foreach, assignments-Assign, constant_numbers-Const, constant_numbers-Assign}
-use Rattle.brace_invert.specs.Split.{forward_query, inverse_query, forward_program, inverse_program}
+use Rattle.brace_model.proofs.LawEquations.{assignments-Const, assignments-Assign, constant_numbers-Const}
+use Rattle.brace_invert.specs.Split.{forward_query, inverse_query, inverse_program}
 use Rattle.brace_invert.specs.Range.{range_of}
 use Rattle.brace_invert.specs.Inversion.{said_by_both, found_by_both}
-use Rattle.brace_invert.specs.inner.Worked.{script, agent, neighbours, pairs, quotient, quotients, own_loop, choice, constants_in_loops}
+use Rattle.brace_invert.specs.inner.Worked.{script, agent, neighbours, pairs, quotients, own_loop, choice, constants_in_loops}
 use Rattle.brace_invert.proofs.PartEquations.{forward_of-Const, forward_of-If, forward_of-Foreach, forward_of-Assign, inverse_of-Const, inverse_of-If, inverse_of-Foreach, inverse_of-Assign}
 use Rattle.brace_invert.proofs.RangeLemmas.{says_within-Const, says_within-If, says_within-Foreach, says_within-Assign}
 

@@ -1,21 +1,20 @@
 -- How a block and its two parts stand to each other.
-use Rattle.std.proofs.Common.{◌≡◌, ◌∙◌, refl, sym, ap, subst, ℕ, ◌+◌, List, [], ◌∷◌, ◌++◌, map, flat_map, sum, Bool, true, false, ◌==◌, arith, append_assoc}
+use Rattle.std.proofs.Common.{◌≡◌, ◌∙◌, refl, sym, ap, subst, ℕ, ◌+◌, List, [], ◌∷◌, ◌++◌, map, flat_map, sum, Bool, true, false, ◌==◌, arith}
 use Rattle.brace_model.specs.declared.program.Who.{Who}
 use Rattle.brace_model.specs.declared.program.Expr.{Expr}
 use Rattle.brace_model.specs.declared.program.Stmt.{Stmt}
 use Rattle.std.specs.Prelude.{if◌then◌else◌}
-use Rattle.std.proofs.lemmas.List.Concat.{flat_map-append}
 use Rattle.brace_model.specs.declared.program.Who.TheVariants.{This, Outer, Inner}
 use Rattle.brace_model.specs.declared.program.Stmt.TheVariants.{Const, If, Foreach, Assign}
 use Rattle.brace_model.specs.Sites.{constant_numbers, assignments}
-use Rattle.brace_model.proofs.LawEquations.{assignments-Const, assignments-If, assignments-Foreach, assignments-Assign}
-use Rattle.brace_invert.specs.Split.{forward_of, inverse_of, places, inner_loop, forward_query, inverse_query}
+use Rattle.brace_model.proofs.LawEquations.{assignments-If, assignments-Foreach, assignments-Assign}
+use Rattle.brace_invert.specs.Split.{forward_of, inverse_of, places}
 use Rattle.brace_invert.proofs.PartEquations.{forward_of-Const, forward_of-If, forward_of-Foreach, forward_of-Assign, inverse_of-Const, inverse_of-If, inverse_of-Foreach, inverse_of-Assign}
 use Rattle.brace_invert.proofs.Blocks as b
 use Rattle.brace_invert.proofs.Blocks.{Plain, plain}
 use Rattle.brace_invert.proofs.Pruned as p
 use Rattle.brace_invert.proofs.Pruned.{Pruned}
-use Rattle.brace_invert.proofs.Numbers.{count-cons, count-append, numbers_kept, assignments-places}
+use Rattle.brace_invert.proofs.Numbers.{count-cons, count-append, numbers_kept}
 
 -- a block, its forward part and its inverse part
 pub data Halves : List Stmt → List Stmt → List Stmt → Type 0 where

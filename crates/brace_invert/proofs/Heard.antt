@@ -1,9 +1,8 @@
 -- What is said to an agent of an area is said over the owner's list as over the world.
-use Rattle.std.proofs.Common.{◌≡◌, ◌∙◌, refl, sym, ap, subst, ℕ, zero, suc, ℤ, pos, ◌≤ℤ◌, ◌+ℤ◌, List, [], ◌∷◌, ◌++◌, map, filter, flat_map, Bool, true, false, cond, Option, Some, None, Ok, Err, arith, ⊎_elim, ◌<◌, length}
-use Rattle.std.specs.Prelude.{◌&&◌, ◌==◌, not, if◌then◌else◌, is_none, unwrap_or, slice_get}
+use Rattle.std.proofs.Common.{◌≡◌, ◌∙◌, refl, sym, ap, subst, ℕ, List, [], ◌∷◌, ◌++◌, map, filter, flat_map, Bool, true, false, cond, Option, Some, None, Ok, Err, arith}
+use Rattle.std.specs.Prelude.{◌&&◌, if◌then◌else◌, is_none, unwrap_or}
 use Rattle.std.specs.List.{All, Contains}
 use Rattle.std.proofs.lemmas.List.Elements.{All-nil, All-cons, All-contains, filter-append, Contains-append_right}
-use Rattle.brace_num.specs.declared.kinds.Area.{Area}
 use Rattle.brace_model.specs.declared.program.Who.{Who}
 use Rattle.brace_model.specs.declared.program.Who.TheVariants as who
 use Rattle.brace_model.specs.declared.program.Value.{Value}
@@ -15,14 +14,12 @@ use Rattle.brace_model.specs.declared.program.Program.{Program}
 use Rattle.brace_model.specs.declared.world.Agent.{Agent}
 use Rattle.brace_model.specs.World.{sees}
 use Rattle.brace_model.specs.Value.{Scope, Worth, value, agent_of}
-use Rattle.brace_model.specs.Query.{Saying, Deed, silent, halted, deed_of, followed_by, closed, bound, inside, chosen, iterated, seen_by, saying, statement}
+use Rattle.brace_model.specs.Query.{Saying, Deed, deed_of, followed_by, bound, inside, chosen, seen_by, statement}
 use Rattle.brace_model.proofs.ValueEquations.{statement-Const, statement-If, statement-Foreach, statement-Assign}
 use Rattle.brace_invert.proofs.Outward as o
 use Rattle.brace_invert.proofs.Outward.{Depth, Outward}
-use Rattle.brace_invert.proofs.Blocks.{plain}
 use Rattle.brace_invert.proofs.Typed.{both_hold}
-use Rattle.brace_invert.proofs.Runs.{run, constant_deed, if_deed, loop_deed, say_deed, goes_to, stops_at, by_stop}
-use Rattle.brace_invert.proofs.Owners.{Fewer, fewer_const, fewer_say, fewer_if, fewer_loop, fewer_run}
+use Rattle.brace_invert.proofs.Runs.{run, goes_to, stops_at, by_stop}
 
 -- all agents of a scope are held
 abbrev pub holds_one : (Agent → Bool) → Option Agent → Bool

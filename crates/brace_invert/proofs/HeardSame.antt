@@ -1,8 +1,7 @@
 -- Over the owner's list the inverse program says to the agents of the area what it says over the world.
-use Rattle.std.proofs.Common.{◌≡◌, ◌∙◌, refl, sym, ap, subst, ℕ, zero, suc, ℤ, pos, ◌≤ℤ◌, ◌+ℤ◌, List, [], ◌∷◌, ◌++◌, map, filter, flat_map, Bool, true, false, cond, Option, Some, None, Ok, Err, arith, ◌<◌, length}
-use Rattle.std.specs.Prelude.{◌&&◌, ◌||◌, ◌==◌, not, if◌then◌else◌, slice_get, option_map}
-use Rattle.std.specs.List.{All, Contains, list_any}
-use Rattle.std.specs.List.Sorted.{IsStrictlyIncreasing}
+use Rattle.std.proofs.Common.{◌≡◌, ◌∙◌, refl, sym, ap, ℕ, zero, suc, ℤ, pos, ◌≤ℤ◌, ◌+ℤ◌, List, [], ◌∷◌, ◌++◌, map, filter, flat_map, Bool, true, false, cond, Option, Some, None, Ok, Err, arith, ◌<◌}
+use Rattle.std.specs.Prelude.{◌&&◌, ◌||◌, ◌==◌, if◌then◌else◌, slice_get}
+use Rattle.std.specs.List.{Contains, list_any}
 use Rattle.std.proofs.lemmas.List.Elements.{All-contains, filter-append, Contains-append_right}
 use Rattle.std.proofs.lemmas.Int.{ints}
 use Rattle.brace_num.specs.declared.kinds.Area.{Area}
@@ -18,14 +17,14 @@ use Rattle.brace_model.specs.declared.program.Program.{Program}
 use Rattle.brace_model.specs.declared.world.Agent.{Agent}
 use Rattle.brace_model.specs.World.{RisesById, ids, class_of, sees}
 use Rattle.brace_model.specs.Value.{Scope, Worth, value}
-use Rattle.brace_model.specs.Query.{Saying, Deed, silent, halted, deed_of, followed_by, closed, inside, chosen, iterated, seen_by, statement, opening_scope, query_of, said_in}
+use Rattle.brace_model.specs.Query.{Saying, Deed, deed_of, followed_by, inside, chosen, statement, opening_scope, query_of, said_in}
 use Rattle.brace_model.specs.Total.{said_to}
 use Rattle.brace_model.specs.Typing.{in_turn, scope_after}
 use Rattle.brace_model.specs.Lawful.{query_scope, LawfulProgram}
 use Rattle.brace_model.proofs.ValueEquations.{statement-Const, statement-If, statement-Foreach, statement-Assign}
 use Rattle.brace_invert.specs.Split.{inverse_query, inverse_program}
 use Rattle.brace_invert.specs.Range.{greatest_visible, says_within, says_in_inner_loops, range_of}
-use Rattle.brace_invert.specs.Held.{is_near, is_in, HoldsNear}
+use Rattle.brace_invert.specs.Held.{is_in, HoldsNear}
 use Rattle.brace_invert.proofs.RangeLemmas.{greatest_in_range}
 use Rattle.brace_invert.proofs.Sublists.{Rising, rising_from}
 use Rattle.brace_invert.proofs.Blocks.{plain}

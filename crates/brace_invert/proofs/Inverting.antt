@@ -1,6 +1,6 @@
 -- Inversion over whole worlds: what both programs say and find.
-use Rattle.std.proofs.Common.{◌≡◌, ◌∙◌, refl, sym, ap, subst, ℕ, ◌<◌, List, [], ◌∷◌, ◌++◌, map, filter, flat_map, sum, Bool, true, false, Option, Some, None, arith, ⊎_elim, inl, inr, ◌⊎◌}
-use Rattle.std.specs.Prelude.{◌↔◌, ◌==◌, ◌&&◌, not, option_map, slice_get, IsTrue, is_some, replicate, slice_index_or}
+use Rattle.std.proofs.Common.{◌≡◌, ◌∙◌, refl, sym, ap, subst, ℕ, List, [], ◌∷◌, map, filter, flat_map, Bool, true, false, Option, Some, None, arith, ⊎_elim, inl}
+use Rattle.std.specs.Prelude.{◌↔◌, ◌==◌, ◌&&◌, not, option_map, IsTrue, replicate, slice_index_or}
 use Rattle.std.specs.List.{All, Contains}
 use Rattle.std.specs.List.Sorted.{IsPermutation}
 use Rattle.std.specs.declared.cmp.Ordering.{Ordering}
@@ -19,10 +19,10 @@ use Rattle.brace_model.specs.declared.fault.Fault.{Fault}
 use Rattle.brace_model.specs.declared.world.Agent.{Agent}
 use Rattle.brace_model.specs.World.{no_value, class_of, reaches_to, sees}
 use Rattle.brace_model.specs.Value.{Scope}
-use Rattle.brace_model.specs.Query.{Saying, Deed, silent, block, iterated, statement_step, statement, inside, seen_by, constants, opening_scope, query_in, query_of, said_in, query_faults}
+use Rattle.brace_model.specs.Query.{Saying, Deed, silent, block, iterated, statement_step, statement, inside, seen_by, opening_scope, query_in, query_of, said_in, query_faults}
 use Rattle.brace_model.specs.Sites.{sites_in}
 use Rattle.brace_model.specs.Typing.{in_turn, scope_after}
-use Rattle.brace_model.specs.Lawful.{query_scope, LawfulClass, LawfulProgram}
+use Rattle.brace_model.specs.Lawful.{query_scope, LawfulProgram}
 use Rattle.brace_model.specs.Total.{said_to}
 use Rattle.std.proofs.lemmas.List.Sorted.{IsPermutation-map}
 use Rattle.brace_model.specs.FaultOrder.{phase_rank, comes_before, least}
@@ -31,8 +31,7 @@ use Rattle.brace_invert.specs.Split.{with_query, with_queries, forward_query, in
 use Rattle.brace_invert.specs.Inversion.{said_by_both, found_by_both, ComesAfter, IsForeseen}
 use Rattle.brace_invert.proofs.Sublists.{rising_from}
 use Rattle.brace_invert.proofs.Blocks.{plain}
-use Rattle.brace_invert.proofs.Pruned.{Pruned}
-use Rattle.brace_invert.proofs.Halves.{Halves, halves, forward_pruned, inverse_pruned}
+use Rattle.brace_invert.proofs.Halves.{halves}
 use Rattle.brace_invert.proofs.Numbers.{constants_kept}
 use Rattle.brace_invert.proofs.Typed.{is_there}
 use Rattle.brace_invert.proofs.LawfulParts.{IsPart, forward_is_part, inverse_is_part}

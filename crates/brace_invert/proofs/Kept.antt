@@ -1,7 +1,7 @@
 -- A fault of the inverse program at an assignment to an agent of the area is one over the owner's list.
-use Rattle.std.proofs.Common.{◌≡◌, ◌∙◌, refl, sym, ap, subst, eq-eqb, ℕ, zero, suc, List, [], ◌∷◌, ◌++◌, map, filter, flat_map, Bool, true, false, cond, Option, Some, None, Ok, Err, arith, ⊎_elim, ◌<◌, length}
-use Rattle.std.specs.Prelude.{◌&&◌, ◌||◌, ◌==◌, if◌then◌else◌, option_map, unwrap_or}
-use Rattle.std.specs.List.{Contains, list_any}
+use Rattle.std.proofs.Common.{◌≡◌, ◌∙◌, refl, sym, ap, subst, eq-eqb, ℕ, zero, suc, List, [], ◌∷◌, ◌++◌, map, filter, flat_map, Bool, true, false, cond, Some, Ok, Err, arith, ⊎_elim}
+use Rattle.std.specs.Prelude.{◌&&◌, ◌||◌, ◌==◌, if◌then◌else◌, option_map}
+use Rattle.std.specs.List.{Contains}
 use Rattle.std.proofs.lemmas.List.{append-nil}
 use Rattle.std.proofs.lemmas.List.Elements.{Contains-append_left, Contains-append_right, Contains-append_cases}
 use Rattle.brace_model.specs.declared.program.Who.{Who}
@@ -18,22 +18,21 @@ use Rattle.brace_model.specs.declared.fault.Fault.{Fault}
 use Rattle.brace_model.specs.declared.fault.Stop.{Stop}
 use Rattle.brace_model.specs.declared.world.Agent.{Agent}
 use Rattle.brace_model.specs.World.{sees}
-use Rattle.brace_model.specs.Value.{Scope, Worth, value, agent_of}
-use Rattle.brace_model.specs.Query.{Deed, query_fault, halted, deed_of, followed_by, closed, inside, chosen, seen_by, saying, statement}
+use Rattle.brace_model.specs.Value.{Scope, Worth, value}
+use Rattle.brace_model.specs.Query.{Deed, query_fault, deed_of, followed_by, closed, inside, chosen, statement}
 use Rattle.brace_model.specs.Sites.{sites_of, sites_in}
 use Rattle.brace_model.proofs.LawEquations.{sites_in-Assign}
-use Rattle.brace_model.proofs.ValueEquations.{statement-Const, statement-If, statement-Foreach, statement-Assign}
+use Rattle.brace_model.proofs.ValueEquations.{statement-If, statement-Foreach, statement-Assign}
 use Rattle.brace_invert.specs.Assigned.{is_one_of, targets_at_step, targets_at, id_in}
 use Rattle.brace_invert.proofs.PartEquations.{joined}
 use Rattle.brace_invert.proofs.Blocks as b
 use Rattle.brace_invert.proofs.Blocks.{Plain, plain}
 use Rattle.brace_invert.proofs.Numbers.{sites-If, sites-Foreach}
-use Rattle.brace_model.specs.Query.{Saying}
 use Rattle.brace_model.specs.Typing.{Names, scope_after}
 use Rattle.brace_invert.proofs.Typed.{both_hold, After, after_split, formed_if, formed_loop}
 use Rattle.brace_invert.proofs.Sites.{FaultsAt, value_sited}
 use Rattle.brace_invert.proofs.Runs.{run, goes_to, stops_at, by_stop, grown}
-use Rattle.brace_invert.proofs.Traces.{none_within, Sited, IsAt, sited_const, sited_if, sited_loop, sited_say, sited_run, only_one}
+use Rattle.brace_invert.proofs.Traces.{none_within, sited_const, sited_if, sited_loop, sited_say, sited_run, only_one}
 use Rattle.brace_invert.proofs.Owners.{Fewer, fewer_const, fewer_say, fewer_if, fewer_loop, fewer_run}
 use Rattle.brace_invert.proofs.Outward as o
 use Rattle.brace_invert.proofs.Outward.{Depth, Outward}

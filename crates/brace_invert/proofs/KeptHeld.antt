@@ -1,11 +1,9 @@
 -- Over the owner's list the inverse program meets each fault that it meets over the world at an assignment to an agent of the area.
-use Rattle.std.proofs.Common.{◌≡◌, ◌∙◌, refl, sym, ap, subst, ℕ, zero, suc, List, [], ◌∷◌, ◌++◌, map, filter, flat_map, Bool, true, false, cond, Option, Some, None, arith, ⊎_elim, ◌<◌, length}
+use Rattle.std.proofs.Common.{◌≡◌, ◌∙◌, refl, sym, ap, subst, ℕ, List, [], ◌∷◌, map, filter, flat_map, Bool, true, false, cond, Option, Some, None, arith, ⊎_elim}
 use Rattle.std.specs.Prelude.{◌&&◌, option_map}
 use Rattle.std.specs.List.{Contains}
 use Rattle.std.proofs.lemmas.List.Elements.{Contains-append_left, Contains-append_right, Contains-append_cases}
 use Rattle.brace_num.specs.declared.kinds.Area.{Area}
-use Rattle.brace_model.specs.declared.program.Who.{Who}
-use Rattle.brace_model.specs.declared.program.Stmt.{Stmt}
 use Rattle.brace_model.specs.declared.program.Class.{Class}
 use Rattle.brace_model.specs.declared.program.Program.{Program}
 use Rattle.brace_model.specs.declared.fault.Fault.{Fault}
@@ -13,24 +11,23 @@ use Rattle.brace_model.specs.declared.world.Agent.{Agent}
 use Rattle.brace_model.specs.World.{RisesById, ids, class_of}
 use Rattle.brace_model.specs.Query.{Deed, opening_scope, query_of, query_faults}
 use Rattle.brace_model.specs.Sites.{sites_in}
-use Rattle.brace_model.specs.Typing.{Names, in_turn, scope_after}
+use Rattle.brace_model.specs.Typing.{in_turn, scope_after}
 use Rattle.brace_model.specs.Lawful.{query_scope, LawfulProgram}
 use Rattle.brace_invert.specs.Split.{with_query, inverse_query, inverse_program}
 use Rattle.brace_invert.specs.Range.{says_in_inner_loops, range_of}
 use Rattle.brace_invert.specs.Held.{is_in, HoldsNear}
-use Rattle.brace_invert.specs.Assigned.{targets_at, id_in, IsAtAssignmentTo}
+use Rattle.brace_invert.specs.Assigned.{targets_at, IsAtAssignmentTo}
 use Rattle.brace_invert.proofs.Sublists.{Rising, rising_from, sub-Rising}
 use Rattle.brace_invert.proofs.Blocks.{plain}
 use Rattle.brace_invert.proofs.Numbers.{sites_kept}
 use Rattle.brace_invert.proofs.Typed.{After, renamed, part_formed, both_hold, is_there}
 use Rattle.brace_invert.proofs.LawfulParts.{inverse_is_part}
-use Rattle.brace_invert.proofs.Runs.{run}
-use Rattle.brace_invert.proofs.Traces.{none_within, Sited, IsAt, sited_run}
+use Rattle.brace_invert.proofs.Traces.{none_within, sited_run}
 use Rattle.brace_invert.proofs.Inverting.{class_same, part_deed, part_of}
 use Rattle.brace_invert.proofs.Outward as o
 use Rattle.brace_invert.proofs.Heard as h
 use Rattle.brace_invert.proofs.HeardSame.{one_agent, reaches_it, query_outward}
-use Rattle.brace_invert.proofs.Kept.{Kept, kept_run}
+use Rattle.brace_invert.proofs.Kept.{kept_run}
 
 -- faults that are kept of each agent
 agents_step : (f e : Agent → Deed) (held : Agent → Bool) (x : Agent) (xs : List Agent) (g : Fault) (hx : Bool) → held x ≡ hx → (Contains (e x).faults g → (hx ≡ true) × Contains (f x).faults g)

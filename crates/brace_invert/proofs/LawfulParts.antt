@@ -1,8 +1,7 @@
 -- A program whose queries are parts of a lawful one's is lawful.
-use Rattle.std.proofs.Common.{◌≡◌, ◌∙◌, refl, sym, ap, subst, ℕ, zero, suc, ◌+◌, ◌≤◌, List, [], ◌∷◌, ◌++◌, map, flat_map, length, sum, Bool, true, false, Option, Some, None, arith}
-use Rattle.std.specs.Prelude.{IsTrue, ◌&&◌, is_some, option_map, slice_get, nat_lt, nat_eq, codes}
+use Rattle.std.proofs.Common.{◌≡◌, ◌∙◌, refl, sym, ap, subst, ℕ, ◌≤◌, List, [], ◌∷◌, ◌++◌, map, flat_map, sum, Bool, false, Option, Some, None, arith}
+use Rattle.std.specs.Prelude.{IsTrue, ◌&&◌, is_some, option_map, slice_get, nat_lt, nat_eq}
 use Rattle.std.specs.List.{IsDistinct, list_all, sum_by}
-use Rattle.std.specs.List.Sorted.{IsStrictlyIncreasing}
 use Rattle.std.specs.Str.{bytes_eq}
 use Rattle.std.proofs.lemmas.Option.{slice_get-map}
 use Rattle.std.proofs.lemmas.List.{length-map}
@@ -18,14 +17,14 @@ use Rattle.brace_model.specs.declared.program.Stmt.{Stmt}
 use Rattle.brace_model.specs.declared.program.Class.{Class}
 use Rattle.brace_model.specs.declared.program.Program.{Program}
 use Rattle.brace_model.specs.Query.{constants}
-use Rattle.brace_model.specs.Sites.{rule_sites, die_sites, spawn_sites, query_sites, class_sites, all_sites, sites_in, constant_numbers, loop_offsets, assignments, class_assignments}
+use Rattle.brace_model.specs.Sites.{rule_sites, die_sites, spawn_sites, class_sites, constant_numbers, loop_offsets, class_assignments}
 use Rattle.brace_model.specs.Typing.{Names, is_of_type, type_of, in_turn, scope_after}
 use Rattle.brace_model.specs.Lawful.{rule_scope, query_scope, is_ruled, is_given, is_spawn, LawfulClass, LawfulProgram}
 use Rattle.brace_invert.specs.Split.{with_query, with_queries, forward_query, inverse_query, forward_program, inverse_program}
 use Rattle.brace_invert.proofs.Sublists.{Sub, none, sub-refl, sub-append, sub-IsStrictlyIncreasing, sub-list_all, sub-IsDistinct}
 use Rattle.brace_invert.proofs.Blocks.{plain}
 use Rattle.brace_invert.proofs.Pruned.{Pruned}
-use Rattle.brace_invert.proofs.Halves.{Halves, halves, forward_pruned, inverse_pruned}
+use Rattle.brace_invert.proofs.Halves.{halves, forward_pruned, inverse_pruned}
 use Rattle.brace_invert.proofs.Numbers.{numbers_kept, constants_kept, sites_kept, loops_kept, assignments_kept}
 use Rattle.brace_invert.proofs.Typed.{renamed, type_same, part_formed, is_there}
 

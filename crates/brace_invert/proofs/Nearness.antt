@@ -1,6 +1,6 @@
 -- Who sees an agent of an area, or is seen by one, stands near it.
-use Rattle.std.proofs.Common.{◌≡◌, ◌∙◌, refl, sym, ap, subst, ℕ, zero, suc, ℤ, pos, ◌≤ℤ◌, ◌+ℤ◌, ◌-ℤ◌, List, [], ◌∷◌, Bool, true, false, Option, Some, None, arith}
-use Rattle.std.specs.Prelude.{◌&&◌, not, ◌==◌, int_le, fold, slice_get, nat_abs, IsTrue}
+use Rattle.std.proofs.Common.{◌≡◌, refl, subst, ℕ, zero, suc, ℤ, pos, ◌≤ℤ◌, ◌+ℤ◌, ◌-ℤ◌, List, [], ◌∷◌, true, Option, Some, None, arith}
+use Rattle.std.specs.Prelude.{not, ◌==◌, int_le, fold, slice_get}
 use Rattle.std.specs.Int.{int_max}
 use Rattle.std.proofs.lemmas.Int.{ints}
 use Rattle.brace_num.specs.declared.kinds.Area.{Area}
@@ -8,12 +8,12 @@ use Rattle.brace_model.specs.declared.program.Class.{Class}
 use Rattle.brace_model.specs.declared.program.Program.{Program}
 use Rattle.brace_model.specs.declared.world.Agent.{Agent}
 use Rattle.brace_model.specs.World.{class_of, x_of, y_of, is_within, reaches_to, sees}
-use Rattle.brace_model.specs.Lawful.{LawfulProgram, is_distance}
+use Rattle.brace_model.specs.Lawful.{LawfulProgram}
 use Rattle.brace_num.specs.Areas.{outside, gap_to}
 use Rattle.brace_invert.specs.Range.{greatest_visible}
 use Rattle.brace_invert.proofs.RangeLemmas.{distance_low}
 use Rattle.brace_invert.proofs.Typed.{both_hold}
-use Rattle.brace_invert.specs.Held.{stands_near, is_near, is_in}
+use Rattle.brace_invert.specs.Held.{stands_near, is_near}
 
 -- two numbers within a distance, as an order of each
 within_up : (v p q : ℤ) → is_within v p q ≡ true → (p -ℤ q) ≤ℤ v

@@ -1,10 +1,9 @@
 -- What a part of a block keeps of the block's numbers: all constants, some sites, loops and assignments, in their order.
-use Rattle.std.proofs.Common.{◌≡◌, ◌∙◌, refl, sym, ap, subst, ℕ, ◌+◌, ◌≤◌, List, [], ◌∷◌, ◌++◌, map, flat_map, sum, Bool, true, false, ◌==◌, arith, append_assoc, ◌<◌, length, get_or, take}
+use Rattle.std.proofs.Common.{◌≡◌, ◌∙◌, refl, sym, ap, ℕ, ◌+◌, ◌≤◌, List, [], ◌∷◌, ◌++◌, map, flat_map, sum, false, arith, append_assoc, ◌<◌, length, get_or, take}
 use Rattle.std.specs.List.{concat, sum_by}
 use Rattle.std.proofs.lemmas.List.{append-nil, map-append, take_more, length-append}
 use Rattle.std.proofs.lemmas.List.Concat.{flat_map-append}
 use Rattle.std.proofs.lemmas.List.Sums.{sum-map, sum_by-cons, sum_by-append}
-use Rattle.brace_model.specs.declared.program.Who.{Who}
 use Rattle.brace_model.specs.declared.program.Value.TheVariants.{Flag}
 use Rattle.brace_model.specs.declared.program.Expr.{Expr}
 use Rattle.brace_model.specs.declared.program.Expr.TheVariants.{Lit}
@@ -15,7 +14,7 @@ use Rattle.brace_model.specs.Sites.{sites_of, sites_in, constant_numbers, loop_o
 use Rattle.brace_model.proofs.ValueEquations.{constants-Const, constants-If, constants-Foreach, constants-Assign}
 use Rattle.brace_model.proofs.LawEquations.{sites_of-Lit, sites_in-Const, sites_in-If, sites_in-Foreach, sites_in-Assign, constant_numbers-Const, constant_numbers-If, constant_numbers-Foreach, constant_numbers-Assign, loop_offsets-Const, loop_offsets-If, loop_offsets-Foreach, loop_offsets-Assign, assignments-Const, assignments-If, assignments-Foreach, assignments-Assign}
 use Rattle.brace_invert.specs.Split.{unread, places}
-use Rattle.brace_invert.proofs.Sublists.{Sub, none, skip, keep, sub-refl, sub-append, sub-right, sub-by}
+use Rattle.brace_invert.proofs.Sublists.{Sub, none, keep, sub-refl, sub-append, sub-right, sub-by}
 use Rattle.brace_invert.proofs.Blocks as b
 use Rattle.brace_invert.proofs.Blocks.{Plain, plain}
 use Rattle.brace_invert.proofs.Pruned as pruned

@@ -1,6 +1,6 @@
 -- Blocks of an inverse program: values are said to the agents of loops alone.
-use Rattle.std.proofs.Common.{◌≡◌, ◌∙◌, refl, sym, ap, subst, ℕ, zero, suc, ◌≤◌, List, [], ◌∷◌, ◌++◌, map, flat_map, sum, Bool, true, false, Option, Some, None, arith, ◌==◌}
-use Rattle.std.specs.Prelude.{◌||◌, ◌&&◌, if◌then◌else◌, nat_lt, is_none, not}
+use Rattle.std.proofs.Common.{◌≡◌, ◌∙◌, refl, sym, subst, ℕ, List, [], ◌∷◌, ◌++◌, map, flat_map, sum, Bool, true, false, Option, Some, None, ◌==◌}
+use Rattle.std.specs.Prelude.{◌||◌, if◌then◌else◌, is_none, not}
 use Rattle.std.specs.Option.{option_and_then}
 use Rattle.std.specs.List.{list_any}
 use Rattle.brace_model.specs.declared.program.Value.TheVariants.{Flag}
@@ -14,10 +14,10 @@ use Rattle.brace_model.specs.declared.program.Stmt.TheVariants.{Const, If, Forea
 use Rattle.brace_model.specs.declared.program.Ty.{Ty}
 use Rattle.brace_model.specs.Typing.{Names, only, class_named, effect_named, takes, within_loop, scope_after}
 use Rattle.brace_model.specs.Sites.{constant_numbers, assignments}
-use Rattle.brace_invert.specs.Split.{unread, places, inner_loop, loop_part, inverse_of}
+use Rattle.brace_invert.specs.Split.{unread, places, inverse_of}
 use Rattle.brace_invert.specs.Range.{says_within}
 use Rattle.brace_invert.proofs.PartEquations.{inverse_of-Const, inverse_of-If, inverse_of-Foreach, inverse_of-Assign}
-use Rattle.brace_invert.proofs.RangeLemmas.{says_within-Const, says_within-If, says_within-Foreach, says_within-Assign}
+use Rattle.brace_invert.proofs.RangeLemmas.{says_within-If, says_within-Foreach, says_within-Assign}
 use Rattle.brace_invert.proofs.Blocks as b
 use Rattle.brace_invert.proofs.Blocks.{Plain}
 use Rattle.brace_invert.proofs.Typed.{After, after_split, formed_const, formed_if, formed_loop, formed_assign, only_where}

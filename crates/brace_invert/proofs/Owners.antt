@@ -1,6 +1,6 @@
 -- What the owner of an area needs to hold of a world.
-use Rattle.std.proofs.Common.{◌≡◌, ◌∙◌, refl, sym, ap, subst, ℕ, zero, suc, ℤ, pos, ◌≤ℤ◌, ◌+ℤ◌, List, [], ◌∷◌, ◌++◌, map, filter, flat_map, Bool, true, false, cond, Option, Some, None, Ok, Err, arith, ⊎_elim}
-use Rattle.std.specs.Prelude.{◌&&◌, ◌==◌, not, if◌then◌else◌}
+use Rattle.std.proofs.Common.{◌≡◌, ◌∙◌, refl, sym, ap, subst, ℕ, ℤ, pos, ◌≤ℤ◌, ◌+ℤ◌, List, [], ◌∷◌, ◌++◌, map, filter, flat_map, Bool, true, false, cond, Option, Some, None, Ok, Err, arith, ⊎_elim}
+use Rattle.std.specs.Prelude.{◌&&◌, ◌==◌, if◌then◌else◌}
 use Rattle.std.specs.List.{Contains}
 use Rattle.std.proofs.lemmas.List.Elements.{Contains-append_left, Contains-append_right, Contains-append_cases}
 use Rattle.brace_num.specs.declared.kinds.Area.{Area}
@@ -15,21 +15,21 @@ use Rattle.brace_model.specs.declared.program.Program.{Program}
 use Rattle.brace_model.specs.declared.fault.Fault.{Fault}
 use Rattle.brace_model.specs.declared.world.Agent.{Agent}
 use Rattle.brace_model.specs.World.{class_of, sees}
-use Rattle.brace_model.specs.Value.{Scope, Worth, value, agent_of}
-use Rattle.brace_model.specs.Query.{Deed, silent, halted, deed_of, followed_by, closed, bound, inside, chosen, iterated, seen_by, saying, statement, opening_scope, query_in, query_of, query_faults}
+use Rattle.brace_model.specs.Value.{Scope, Worth, value}
+use Rattle.brace_model.specs.Query.{Deed, silent, halted, deed_of, followed_by, closed, bound, inside, chosen, iterated, seen_by, statement, opening_scope, query_in, query_of, query_faults}
 use Rattle.brace_model.specs.Lawful.{LawfulProgram}
 use Rattle.brace_model.proofs.ValueEquations.{statement-Const, statement-If, statement-Foreach, statement-Assign}
-use Rattle.brace_invert.specs.Split.{with_queries, forward_query, inverse_query, forward_program, inverse_program}
+use Rattle.brace_invert.specs.Split.{forward_query, forward_program}
 use Rattle.brace_invert.specs.Range.{greatest_visible, says_in_inner_loops, range_of}
-use Rattle.brace_invert.specs.Held.{is_near, is_in, HoldsNear}
+use Rattle.brace_invert.specs.Held.{is_in, HoldsNear}
 use Rattle.brace_invert.proofs.RangeLemmas.{greatest_in_range}
 use Rattle.brace_invert.proofs.Blocks as b
 use Rattle.brace_invert.proofs.Blocks.{Plain, plain}
 use Rattle.brace_invert.proofs.Typed.{both_hold}
-use Rattle.brace_invert.proofs.Runs.{run, constant_deed, if_deed, loop_deed, say_deed, goes_to, stops_at, by_stop}
+use Rattle.brace_invert.proofs.Runs.{run, if_deed, loop_deed, goes_to, stops_at, by_stop}
 use Rattle.brace_invert.proofs.Traces.{deed_scope, if_scope, loop_scope, inside_this}
 use Rattle.brace_invert.proofs.Inverting.{seen_same}
-use Rattle.brace_invert.proofs.Nearness.{seen_near, seer_near, nearer}
+use Rattle.brace_invert.proofs.Nearness.{seen_near, nearer}
 
 -- of two tests the second lets through what passes the first
 filter_step : {A : Type 0} (t h : A → Bool) (x : A) (xs : List A) (hx tx : Bool) → h x ≡ hx → t x ≡ tx → (tx ≡ true → hx ≡ true) → filter t (filter h xs) ≡ filter t xs

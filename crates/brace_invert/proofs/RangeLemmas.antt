@@ -1,6 +1,6 @@
 -- The greatest visible range is a distance, and which statements say a value in an inner loop.
-use Rattle.std.proofs.Common.{◌≡◌, ◌∙◌, refl, sym, ap, ℕ, zero, suc, ℤ, pos, List, [], ◌∷◌, map, Bool, true, false, Some, arith, ◌≤ℤ◌}
-use Rattle.std.specs.Prelude.{◌||◌, ◌&&◌, fold, int_le, IsTrue, slice_get}
+use Rattle.std.proofs.Common.{◌≡◌, ◌∙◌, refl, sym, ap, ℕ, suc, ℤ, pos, List, [], ◌∷◌, map, Bool, true, false, Some, arith, ◌≤ℤ◌}
+use Rattle.std.specs.Prelude.{◌||◌, ◌&&◌, fold, IsTrue, slice_get}
 use Rattle.std.specs.List.{list_any}
 use Rattle.std.specs.Int.{int_max}
 use Rattle.brace_model.specs.declared.program.Who.{Who}

@@ -1,10 +1,9 @@
 -- Where expressions and blocks fault: at their own sites.
-use Rattle.std.proofs.Common.{◌≡◌, ◌∙◌, refl, sym, ap, subst, ℕ, zero, suc, ℤ, ◌+◌, ◌<◌, List, [], ◌∷◌, ◌++◌, map, flat_map, length, Bool, true, false, Option, Some, None, Result, Ok, Err, arith, ⊎_elim}
-use Rattle.std.specs.Prelude.{◌&&◌, if◌then◌else◌, is_some, is_none, option_map, nat_lt, slice_index_or, pos}
+use Rattle.std.proofs.Common.{◌≡◌, ◌∙◌, refl, sym, ap, subst, ℕ, ℤ, List, [], ◌∷◌, ◌++◌, Bool, true, false, Option, Some, None, Result, Ok, Err, arith}
+use Rattle.std.specs.Prelude.{if◌then◌else◌, slice_index_or, pos}
 use Rattle.std.specs.List.{Contains}
 use Rattle.std.specs.Option.{option_and_then, option_to_list}
-use Rattle.std.proofs.lemmas.List.{append-nil}
-use Rattle.std.proofs.lemmas.List.Elements.{Contains-append_left, Contains-append_right, Contains-append_cases}
+use Rattle.std.proofs.lemmas.List.Elements.{Contains-append_left, Contains-append_right}
 use Rattle.brace_num.specs.declared.kinds.Kind.{Kind}
 use Rattle.brace_model.specs.declared.program.Ty.{Ty}
 use Rattle.brace_model.specs.declared.program.Value.{Value}
@@ -13,12 +12,11 @@ use Rattle.brace_model.specs.declared.program.UnOp.{UnOp}
 use Rattle.brace_model.specs.declared.program.UnOp.TheVariants as un
 use Rattle.brace_model.specs.declared.program.BinOp.{BinOp}
 use Rattle.brace_model.specs.declared.program.BinOp.TheVariants as bin
-use Rattle.brace_model.specs.declared.program.Who.{Who}
 use Rattle.brace_model.specs.declared.program.Expr.{Expr, roll-Expr}
 use Rattle.brace_model.specs.declared.program.Expr.TheOpen as expr
 use Rattle.brace_model.specs.declared.program.Expr.TheFolds.{map-Expr, ind-Expr, fold-roll-Expr}
 use Rattle.brace_model.specs.declared.fault.Stop.{Stop}
-use Rattle.brace_model.specs.Typing.{Names, is_sited, unary_faults, binary_faults, unary_type, binary_type, choice_type, total_type, type_step, type_of}
+use Rattle.brace_model.specs.Typing.{Names, is_sited, unary_faults, binary_faults, unary_type, binary_type, choice_type, type_step, type_of}
 use Rattle.brace_model.specs.Sites.{sites_step, sites_of}
 use Rattle.brace_model.specs.Value.{Scope, Worth, made, unary, strict, binary, choose, with_value, total_read, value_step, value}
 use Rattle.brace_invert.proofs.Typed.{two_steps}

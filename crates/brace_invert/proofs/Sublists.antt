@@ -1,10 +1,10 @@
 -- Lists of which some elements are left out, and what stays true of them.
-use Rattle.std.proofs.Common.{◌≡◌, ◌∙◌, refl, sym, ap, subst, ℕ, zero, suc, ◌+◌, ◌<◌, ◌≤◌, List, [], ◌∷◌, ◌++◌, length, Bool, true, false, arith, ⊎_elim}
-use Rattle.std.specs.Prelude.{IsTrue, ◌&&◌, nat_eq, slice_index_or, slice_index}
-use Rattle.std.specs.List.{All, AllByRecursion, AllPairs, Contains, IsDistinct, list_all}
+use Rattle.std.proofs.Common.{◌≡◌, refl, sym, subst, ℕ, zero, suc, ◌+◌, ◌<◌, List, [], ◌∷◌, ◌++◌, Bool, true, false, arith}
+use Rattle.std.specs.Prelude.{IsTrue, ◌&&◌, nat_eq, slice_index}
+use Rattle.std.specs.List.{All, AllPairs, Contains, IsDistinct, list_all}
 use Rattle.std.specs.List.Sorted.{IsStrictlyIncreasing}
 use Rattle.std.proofs.lemmas.List.Kept.{AllPairs-from_increasing}
-use Rattle.std.proofs.lemmas.List.Elements.{All-nil, All-cons, All-head, All-tail, All-contains, All-contains_itself, All-from_recursion, recursion_from_All, Contains-append_left, Contains-append_right, Contains-append_cases}
+use Rattle.std.proofs.lemmas.List.Elements.{All-nil, All-cons, All-head, All-tail, All-contains, All-contains_itself, All-from_recursion, recursion_from_All, Contains-append_right}
 use Rattle.std.proofs.lemmas.Map.Keys.{IsDistinct-head, IsDistinct-tail, IsDistinct-cons}
 
 -- the first list is the second with some elements left out

@@ -1,5 +1,5 @@
 -- Where a block faults; and that a part of it faults as the block does, or behind a fault of the block.
-use Rattle.std.proofs.Common.{◌≡◌, ◌∙◌, refl, sym, ap, subst, ℕ, zero, suc, ◌<◌, List, [], ◌∷◌, ◌++◌, map, flat_map, Bool, true, false, Option, Some, None, Ok, Err, arith, ⊎_elim, inl, inr, ◌⊎◌}
+use Rattle.std.proofs.Common.{◌≡◌, ◌∙◌, refl, sym, ap, subst, ℕ, zero, suc, List, [], ◌∷◌, ◌++◌, map, flat_map, Bool, true, false, Some, Ok, Err, arith, ⊎_elim, inl, inr}
 use Rattle.std.specs.Prelude.{if◌then◌else◌, is_none}
 use Rattle.std.specs.List.{Contains}
 use Rattle.std.proofs.lemmas.List.{append-nil}
@@ -16,12 +16,11 @@ use Rattle.brace_model.specs.declared.fault.Phase.TheVariants.{Query}
 use Rattle.brace_model.specs.declared.fault.Stop.{Stop}
 use Rattle.brace_model.specs.declared.world.Agent.{Agent}
 use Rattle.brace_model.specs.Value.{Scope, Worth, value, agent_of}
-use Rattle.brace_model.specs.Query.{Deed, silent, halted, query_fault, deed_of, followed_by, closed, bound, inside, chosen, iterated, seen_by, saying, statement}
+use Rattle.brace_model.specs.Query.{Deed, silent, halted, query_fault, deed_of, followed_by, closed, bound, inside, chosen, seen_by, saying, statement}
 use Rattle.brace_model.specs.Sites.{sites_of, sites_in, constant_numbers}
 use Rattle.brace_model.specs.Typing.{Names, scope_after}
 use Rattle.brace_model.proofs.ValueEquations.{statement-Const, statement-If, statement-Foreach, statement-Assign}
 use Rattle.brace_model.proofs.LawEquations.{sites_in-Const, sites_in-Assign}
-use Rattle.brace_invert.specs.Split.{places}
 use Rattle.brace_invert.specs.Inversion.{ComesAfter, IsForeseen}
 use Rattle.brace_invert.proofs.Sublists.{Rising, rising-left, rising-right, rising-between, sub-Contains}
 use Rattle.brace_invert.proofs.Blocks as b
@@ -29,7 +28,7 @@ use Rattle.brace_invert.proofs.Blocks.{Plain, plain}
 use Rattle.brace_invert.proofs.Pruned as pruned
 use Rattle.brace_invert.proofs.Pruned.{Pruned}
 use Rattle.brace_invert.proofs.Numbers.{sites-If, sites-Foreach, sites_kept}
-use Rattle.brace_invert.proofs.Typed.{After, IsFormed, renamed, after_split, formed_const, formed_if, formed_loop, formed_assign, part_formed}
+use Rattle.brace_invert.proofs.Typed.{After, renamed, after_split, formed_const, formed_if, formed_loop, formed_assign, part_formed}
 use Rattle.brace_invert.proofs.Sites.{FaultsAt, value_sited}
 use Rattle.brace_invert.proofs.Runs.{run, if_deed, loop_deed, goes_to, stops_at, by_stop, never_both, Goes, goes_itself, goes_run, head_if, head_loop, head_away, head_say, places_run}
 

@@ -1,6 +1,6 @@
 -- Types of expressions and blocks, in a program whose classes have other queries; a part of a well-formed block is well formed.
 use Rattle.std.proofs.Common.{◌≡◌, ◌∙◌, refl, sym, ap, subst, ℕ, List, [], ◌∷◌, ◌++◌, map, flat_map, length, Bool, true, false, Option, Some, None}
-use Rattle.std.specs.Prelude.{IsTrue, ◌&&◌, if◌then◌else◌, is_some, is_none, option_map, slice_get, nat_lt}
+use Rattle.std.specs.Prelude.{◌&&◌, if◌then◌else◌, is_some, is_none, option_map, slice_get, nat_lt}
 use Rattle.std.specs.Option.{option_and_then}
 use Rattle.std.proofs.lemmas.Option.{slice_get-map}
 use Rattle.std.proofs.lemmas.List.{length-map, map-append}
@@ -8,18 +8,16 @@ use Rattle.brace_model.specs.declared.program.Ty.{Ty}
 use Rattle.brace_model.specs.declared.program.Ty.TheVariants as ty
 use Rattle.brace_model.specs.declared.program.Value.TheVariants.{Flag}
 use Rattle.brace_model.specs.declared.program.Who.{Who}
-use Rattle.brace_model.specs.declared.program.Who.TheVariants.{This, Outer, Inner}
+use Rattle.brace_model.specs.declared.program.Who.TheVariants.{This}
 use Rattle.brace_model.specs.declared.program.Effect.{Effect}
-use Rattle.brace_model.specs.declared.program.State.{State}
 use Rattle.brace_model.specs.declared.program.Class.{Class}
-use Rattle.brace_model.specs.declared.program.Expr.{Expr, roll-Expr}
+use Rattle.brace_model.specs.declared.program.Expr.{Expr}
 use Rattle.brace_model.specs.declared.program.Expr.TheVariants.{Lit}
 use Rattle.brace_model.specs.declared.program.Expr.TheOpen as expr
 use Rattle.brace_model.specs.declared.program.Expr.TheFolds.{map-Expr, ind-Expr, fold-roll-Expr}
 use Rattle.brace_model.specs.declared.program.Stmt.{Stmt}
 use Rattle.brace_model.specs.declared.program.Stmt.TheVariants.{Const, If, Foreach, Assign}
-use Rattle.brace_model.specs.declared.program.Stmt.TheOpen as layer
-use Rattle.brace_model.specs.Typing.{Names, only, class_named, state_type, effect_named, unary_type, binary_type, choice_type, total_type, is_sited, is_sum, same_type, unary_faults, binary_faults, type_step, type_of, is_of_type, within_loop, takes, in_turn, scope_step, scope_after}
+use Rattle.brace_model.specs.Typing.{Names, only, class_named, state_type, effect_named, unary_type, binary_type, choice_type, is_sited, is_sum, same_type, unary_faults, binary_faults, type_step, type_of, is_of_type, within_loop, takes, in_turn, scope_after}
 use Rattle.brace_model.specs.Sites.{constant_numbers}
 use Rattle.brace_model.proofs.LawEquations.{type_of-Lit, scope_after-Const, scope_after-If, scope_after-Foreach, scope_after-Assign}
 use Rattle.brace_invert.specs.Split.{unread, places, with_query}

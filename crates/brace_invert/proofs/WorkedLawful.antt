@@ -1,5 +1,5 @@
 -- The small scripts that inversion is worked on are lawful.
-use Rattle.std.proofs.Common.{◌≡◌, refl, sym, ap, subst, ℕ, zero, suc, ℤ, pos, List, [], ◌∷◌, ◌++◌, map, flat_map, sum, true, Some, None, arith, ◌≤◌}
+use Rattle.std.proofs.Common.{◌≡◌, refl, sym, ap, subst, ℕ, zero, suc, ℤ, List, [], ◌∷◌, ◌++◌, map, flat_map, sum, true, Some, arith, ◌≤◌}
 use Rattle.std.specs.Prelude.{IsTrue, is_some, slice_get, nat_lt, nat_eq, ◌&&◌}
 use Rattle.std.specs.List.{IsDistinct, list_all}
 use Rattle.std.specs.List.Sorted.{IsStrictlyIncreasing}

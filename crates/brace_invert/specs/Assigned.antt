@@ -1,5 +1,5 @@
 -- Faults at assignments: to whom the value would have been said.
-use Rattle.std.specs.Prelude.{ℕ, ◌==◌, List, [], ◌∷◌, ◌++◌, flat_map, if◌then◌else◌, Option, Some, None, Bool, ◌≡◌}
+use Rattle.std.specs.Prelude.{ℕ, ◌==◌, List, [], ◌∷◌, ◌++◌, flat_map, if◌then◌else◌, Option, Some, Bool, ◌≡◌}
 use Rattle.std.specs.List.{Contains, list_any}
 use Rattle.brace_model.specs.declared.program.Who.{Who}
 use Rattle.brace_model.specs.declared.program.Who.TheVariants.{This, Outer, Inner}

@@ -1,5 +1,5 @@
 -- What the owner of an area holds: of the agents of a world all that are near the area.
-use Rattle.std.specs.Prelude.{ℤ, pos, int_le, List, filter, Bool, true, false, Option, Some, None, ◌≡◌}
+use Rattle.std.specs.Prelude.{ℤ, pos, int_le, List, Bool, true, false, Option, Some, None, ◌≡◌}
 use Rattle.std.specs.List.{Contains}
 use Rattle.brace_num.specs.declared.kinds.Area.{Area}
 use Rattle.brace_model.specs.declared.program.Class.{Class}

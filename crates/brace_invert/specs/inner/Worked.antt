@@ -1,19 +1,17 @@
 -- Small scripts that inversion is worked on.
-use Rattle.std.specs.Prelude.{ℕ, ℤ, pos, List, [], ◌∷◌, true, Option, Some, None, codes}
+use Rattle.std.specs.Prelude.{ℕ, ℤ, pos, List, [], ◌∷◌, true, Some, None, codes}
 use Rattle.brace_model.specs.declared.program.Ty.{Ty}
 use Rattle.brace_model.specs.declared.program.Ty.TheVariants as ty
 use Rattle.brace_model.specs.declared.program.Comb.{Comb}
 use Rattle.brace_model.specs.declared.program.Comb.TheVariants as comb
-use Rattle.brace_model.specs.declared.program.Value.{Value}
 use Rattle.brace_model.specs.declared.program.Value.TheVariants.{Int, Fixed}
 use Rattle.brace_model.specs.declared.program.BinOp.TheVariants as op
 use Rattle.brace_model.specs.declared.program.Who.TheVariants as who
 use Rattle.brace_model.specs.declared.program.Expr.{Expr}
-use Rattle.brace_model.specs.declared.program.Expr.TheVariants.{Lit, Field, Total, Local, Binary}
+use Rattle.brace_model.specs.declared.program.Expr.TheVariants.{Lit, Field, Local, Binary}
 use Rattle.brace_model.specs.declared.program.Stmt.{Stmt}
 use Rattle.brace_model.specs.declared.program.Stmt.TheVariants.{Const, If, Foreach, Assign}
 use Rattle.brace_model.specs.declared.program.State.{State}
-use Rattle.brace_model.specs.declared.program.Effect.{Effect}
 use Rattle.brace_model.specs.declared.program.Class.{Class}
 use Rattle.brace_model.specs.declared.program.Program.{Program}
 use Rattle.brace_model.specs.declared.world.Agent.{Agent}

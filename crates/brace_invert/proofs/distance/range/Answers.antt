@@ -1,4 +1,4 @@
-use Rattle.std.proofs.Common.{◌≡◌, ◌*ℤ◌, ◌≤ℤ◌, pos, arith, rules}
+use Rattle.std.proofs.Common.{arith}
 use Rattle.brace_invert.proofs.RangeLemmas.{greatest_in_range}
 use Rattle.brace_invert.proofs.distance.range.Goals as goal
 

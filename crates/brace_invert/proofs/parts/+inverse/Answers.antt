@@ -1,4 +1,4 @@
-use Rattle.std.proofs.Common.{◌≡◌, ◌∙◌, ◌++◌, sym, ap, subst, OnOk, flat_map, true, false}
+use Rattle.std.proofs.Common.{◌≡◌, ◌∙◌, ◌++◌, ap, subst, OnOk, flat_map}
 use Rattle.brace_invert.specs.Split.{inverse_of}
 use Rattle.brace_invert.proofs.PartEquations.{inverse_if, inverse_inner, inverse_outer}
 use Rattle.brace_invert.proofs.parts.+inverse.Goals as goal

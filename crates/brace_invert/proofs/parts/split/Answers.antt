@@ -1,4 +1,4 @@
-use Rattle.std.proofs.Common.{◌≡◌, sym, subst}
+use Rattle.std.proofs.Common.{sym, subst}
 use Rattle.brace_model.specs.Lawful.{LawfulProgram}
 use Rattle.brace_invert.proofs.LawfulParts.{forward_is_lawful, inverse_is_lawful}
 use Rattle.brace_invert.proofs.parts.split.Goals as goal
