@@ -1,0 +1,209 @@
+-- What a part of a block keeps of the block's numbers: all constants, some sites, loops and assignments, in their order.
+use Rattle.std.proofs.Common.{◌≡◌, ◌∙◌, refl, sym, ap, ℕ, ◌+◌, ◌≤◌, List, [], ◌∷◌, ◌++◌, map, flat_map, sum, false, arith, append_assoc, ◌<◌, length, get_or, take}
+use Rattle.std.specs.List.{concat, sum_by}
+use Rattle.std.proofs.lemmas.List.{append-nil, map-append, take_more, length-append}
+use Rattle.std.proofs.lemmas.List.Concat.{flat_map-append}
+use Rattle.std.proofs.lemmas.List.Sums.{sum-map, sum_by-cons, sum_by-append}
+use Rattle.brace_model.specs.declared.program.Value.TheVariants.{Flag}
+use Rattle.brace_model.specs.declared.program.Expr.{Expr}
+use Rattle.brace_model.specs.declared.program.Expr.TheVariants.{Lit}
+use Rattle.brace_model.specs.declared.program.Stmt.{Stmt}
+use Rattle.brace_model.specs.declared.program.Stmt.TheVariants.{Const, If, Foreach, Assign}
+use Rattle.brace_model.specs.Query.{constants}
+use Rattle.brace_model.specs.Sites.{sites_of, sites_in, constant_numbers, loop_offsets, assignments}
+use Rattle.brace_model.proofs.ValueEquations.{constants-Const, constants-If, constants-Foreach, constants-Assign}
+use Rattle.brace_model.proofs.LawEquations.{sites_of-Lit, sites_in-Const, sites_in-If, sites_in-Foreach, sites_in-Assign, constant_numbers-Const, constant_numbers-If, constant_numbers-Foreach, constant_numbers-Assign, loop_offsets-Const, loop_offsets-If, loop_offsets-Foreach, loop_offsets-Assign, assignments-Const, assignments-If, assignments-Foreach, assignments-Assign}
+use Rattle.brace_invert.specs.Split.{unread, places}
+use Rattle.brace_invert.proofs.Sublists.{Sub, none, keep, sub-refl, sub-append, sub-right, sub-by}
+use Rattle.brace_invert.proofs.Blocks as b
+use Rattle.brace_invert.proofs.Blocks.{Plain, plain}
+use Rattle.brace_invert.proofs.Pruned as pruned
+use Rattle.brace_invert.proofs.Pruned.{Pruned}
+
+-- counts over a list
+pub count-cons : {A : Type 0} (f : A → ℕ) (x : A) (xs : List A) → sum (map f (x ∷ xs)) ≡ f x + sum (map f xs)
+count-cons f x xs = sum-map f (x ∷ xs) ∙ sum_by-cons f x xs ∙ ap (λ n. f x + n) (sym (sum-map f xs))
+
+pub count-append : {A : Type 0} (f : A → ℕ) (xs ys : List A) → sum (map f (xs ++ ys)) ≡ sum (map f xs) + sum (map f ys)
+count-append f xs ys = sum-map f (xs ++ ys) ∙ sum_by-append f xs ys ∙ ap (λ n. n + sum_by f ys) (sym (sum-map f xs)) ∙ ap (λ n. sum (map f xs) + n) (sym (sum-map f ys))
+
+pub concat-map : {A : Type 0} (f : A → List ℕ) (xs : List A) → concat (map f xs) ≡ flat_map f xs
+concat-map f [] = refl
+concat-map f (x ∷ xs) = ap (λ t. f x ++ t) (concat-map f xs)
+
+-- what blocks carry
+pub sites-If : (c : Expr) (a b : List Stmt) → sites_in (If c a b) ≡ sites_of c ++ (flat_map sites_in a ++ flat_map sites_in b)
+sites-If c a b = sites_in-If c a b ∙ ap (λ t. sites_of c ++ (t ++ concat (map sites_in b))) (concat-map sites_in a) ∙ ap (λ t. sites_of c ++ (flat_map sites_in a ++ t)) (concat-map sites_in b)
+
+pub sites-Foreach : (class : ℕ) (body : List Stmt) (at : ℕ) → sites_in (Foreach class body at) ≡ flat_map sites_in body
+sites-Foreach class body at = sites_in-Foreach class body at ∙ concat-map sites_in body
+
+pub numbers-If : (c : Expr) (a b : List Stmt) → constant_numbers (If c a b) ≡ flat_map constant_numbers a ++ flat_map constant_numbers b
+numbers-If c a b = constant_numbers-If c a b ∙ ap (λ t. t ++ concat (map constant_numbers b)) (concat-map constant_numbers a) ∙ ap (λ t. flat_map constant_numbers a ++ t) (concat-map constant_numbers b)
+
+pub numbers-Foreach : (class : ℕ) (body : List Stmt) (at : ℕ) → constant_numbers (Foreach class body at) ≡ flat_map constant_numbers body
+numbers-Foreach class body at = constant_numbers-Foreach class body at ∙ concat-map constant_numbers body
+
+pub loops-If : (c : Expr) (a b : List Stmt) → loop_offsets (If c a b) ≡ flat_map loop_offsets a ++ flat_map loop_offsets b
+loops-If c a b = loop_offsets-If c a b ∙ ap (λ t. t ++ concat (map loop_offsets b)) (concat-map loop_offsets a) ∙ ap (λ t. flat_map loop_offsets a ++ t) (concat-map loop_offsets b)
+
+pub loops-Foreach : (class : ℕ) (body : List Stmt) (at : ℕ) → loop_offsets (Foreach class body at) ≡ at ∷ flat_map loop_offsets body
+loops-Foreach class body at = loop_offsets-Foreach class body at ∙ ap (λ t. at ∷ t) (concat-map loop_offsets body)
+
+-- constants that nothing reads
+numbers-unread : (ns : List ℕ) → flat_map constant_numbers (map unread ns) ≡ ns
+numbers-unread [] = refl
+numbers-unread (n ∷ ns) = ap (λ t. t ++ flat_map constant_numbers (map unread ns)) (constant_numbers-Const n (Lit (Flag false))) ∙ ap (λ t. n ∷ t) (numbers-unread ns)
+
+sites-unread : (ns : List ℕ) → flat_map sites_in (map unread ns) ≡ []
+sites-unread [] = refl
+sites-unread (n ∷ ns) = ap (λ t. t ++ flat_map sites_in (map unread ns)) (sites_in-Const n (Lit (Flag false)) ∙ sites_of-Lit (Flag false)) ∙ sites-unread ns
+
+loops-unread : (ns : List ℕ) → flat_map loop_offsets (map unread ns) ≡ []
+loops-unread [] = refl
+loops-unread (n ∷ ns) = ap (λ t. t ++ flat_map loop_offsets (map unread ns)) (loop_offsets-Const n (Lit (Flag false))) ∙ loops-unread ns
+
+assignments-unread : (ns : List ℕ) → sum (map assignments (map unread ns)) ≡ 0
+assignments-unread [] = refl
+assignments-unread (n ∷ ns) =
+    let rest = assignments-unread ns in
+    let here = assignments-Const n (Lit (Flag false)) in
+    let all = count-cons assignments (unread n) (map unread ns) in
+    omega (arith, rest, here, all)
+
+pub numbers-places : (ns : List ℕ) → flat_map constant_numbers (places ns) ≡ ns
+numbers-places [] = refl
+numbers-places (n ∷ ns) = append-nil (constant_numbers (If (Lit (Flag false)) (map unread (n ∷ ns)) [])) ∙ numbers-If (Lit (Flag false)) (map unread (n ∷ ns)) []
+    ∙ append-nil (flat_map constant_numbers (map unread (n ∷ ns))) ∙ numbers-unread (n ∷ ns)
+
+sites-places : (ns : List ℕ) → flat_map sites_in (places ns) ≡ []
+sites-places [] = refl
+sites-places (n ∷ ns) = append-nil (sites_in (If (Lit (Flag false)) (map unread (n ∷ ns)) [])) ∙ sites-If (Lit (Flag false)) (map unread (n ∷ ns)) []
+    ∙ ap (λ t. t ++ (flat_map sites_in (map unread (n ∷ ns)) ++ [])) (sites_of-Lit (Flag false)) ∙ append-nil (flat_map sites_in (map unread (n ∷ ns))) ∙ sites-unread (n ∷ ns)
+
+loops-places : (ns : List ℕ) → flat_map loop_offsets (places ns) ≡ []
+loops-places [] = refl
+loops-places (n ∷ ns) = append-nil (loop_offsets (If (Lit (Flag false)) (map unread (n ∷ ns)) [])) ∙ loops-If (Lit (Flag false)) (map unread (n ∷ ns)) []
+    ∙ append-nil (flat_map loop_offsets (map unread (n ∷ ns))) ∙ loops-unread (n ∷ ns)
+
+pub assignments-places : (ns : List ℕ) → sum (map assignments (places ns)) ≡ 0
+assignments-places [] = refl
+assignments-places (n ∷ ns) =
+    let inside = assignments-unread (n ∷ ns) in
+    let here = assignments-If (Lit (Flag false)) (map unread (n ∷ ns)) [] in
+    omega (arith, inside, here)
+
+-- the constants of a part are those of its block
+pub numbers_kept : (s p : List Stmt) → Pruned s p → flat_map constant_numbers p ≡ flat_map constant_numbers s
+numbers_kept _ _ pruned.none = refl
+numbers_kept _ _ (pruned.const n e s p h) = ap (λ t. constant_numbers (Const n e) ++ t) (numbers_kept s p h)
+numbers_kept _ _ (pruned.cond c a pa b pb s p ha hb h) =
+    ap (λ t. t ++ flat_map constant_numbers p) (numbers-If c pa pb ∙ ap (λ t. t ++ flat_map constant_numbers pb) (numbers_kept a pa ha) ∙ ap (λ t. flat_map constant_numbers a ++ t) (numbers_kept b pb hb) ∙ sym (numbers-If c a b))
+    ∙ ap (λ t. constant_numbers (If c a b) ++ t) (numbers_kept s p h)
+numbers_kept _ _ (pruned.loop class at body pb s p hb h) =
+    ap (λ t. t ++ flat_map constant_numbers p) (numbers-Foreach class pb at ∙ numbers_kept body pb hb ∙ sym (numbers-Foreach class body at))
+    ∙ ap (λ t. constant_numbers (Foreach class body at) ++ t) (numbers_kept s p h)
+numbers_kept _ _ (pruned.away class at body s p h) =
+    flat_map-append constant_numbers (places (flat_map constant_numbers body)) p
+    ∙ ap (λ t. t ++ flat_map constant_numbers p) (numbers-places (flat_map constant_numbers body) ∙ sym (numbers-Foreach class body at))
+    ∙ ap (λ t. constant_numbers (Foreach class body at) ++ t) (numbers_kept s p h)
+numbers_kept _ _ (pruned.kept who effect e at s p h) = ap (λ t. constant_numbers (Assign who effect e at) ++ t) (numbers_kept s p h)
+numbers_kept _ _ (pruned.left_out who effect e at s p h) = numbers_kept s p h ∙ ap (λ t. t ++ flat_map constant_numbers s) (sym (constant_numbers-Assign who effect e at))
+
+-- how many constants a block declares
+pub constants_are : (s : List Stmt) → Plain s → length (flat_map constant_numbers s) ≡ sum (map constants s)
+constants_are _ b.none = refl
+constants_are _ (b.const n e s h) =
+    let rest = constants_are s h in
+    let all = count-cons constants (Const n e) s in
+    let one = constants-Const n e in
+    ap (λ t. length (t ++ flat_map constant_numbers s)) (constant_numbers-Const n e) ∙ omega (arith, rest, all, one)
+constants_are _ (b.cond c x y s hx hy h) =
+    let rest = constants_are s h in
+    let first = constants_are x hx in
+    let second = constants_are y hy in
+    let all = count-cons constants (If c x y) s in
+    let one = constants-If c x y in
+    let counted = length-append (flat_map constant_numbers x) (flat_map constant_numbers y) in
+    let joined = length-append (flat_map constant_numbers x ++ flat_map constant_numbers y) (flat_map constant_numbers s) in
+    ap (λ t. length (t ++ flat_map constant_numbers s)) (numbers-If c x y) ∙ omega (arith, rest, first, second, all, one, counted, joined)
+constants_are _ (b.loop class at body s hb h) =
+    let rest = constants_are s h in
+    let inside = constants_are body hb in
+    let all = count-cons constants (Foreach class body at) s in
+    let one = constants-Foreach class body at in
+    let joined = length-append (flat_map constant_numbers body) (flat_map constant_numbers s) in
+    ap (λ t. length (t ++ flat_map constant_numbers s)) (numbers-Foreach class body at) ∙ omega (arith, rest, inside, all, one, joined)
+constants_are _ (b.say who effect e at s h) =
+    let rest = constants_are s h in
+    let all = count-cons constants (Assign who effect e at) s in
+    let one = constants-Assign who effect e at in
+    ap (λ t. length (t ++ flat_map constant_numbers s)) (constant_numbers-Assign who effect e at) ∙ omega (arith, rest, all, one)
+
+pub constants_kept : (s p : List Stmt) → Pruned s p → sum (map constants p) ≡ sum (map constants s)
+constants_kept s p h = sym (constants_are p (plain p)) ∙ ap length (numbers_kept s p h) ∙ constants_are s (plain s)
+
+-- the sites of a part are some of its block's
+pub sites_kept : (s p : List Stmt) → Pruned s p → Sub (flat_map sites_in p) (flat_map sites_in s)
+sites_kept _ _ pruned.none = none
+sites_kept _ _ (pruned.const n e s p h) = sub-append _ _ _ _ (sub-refl (sites_in (Const n e))) (sites_kept s p h)
+sites_kept _ _ (pruned.cond c a pa x px s p ha hx h) =
+    sub-append (sites_in (If c pa px)) (sites_in (If c a x)) _ _
+    (sub-by _ _ _ _ (sites-If c pa px) (sites-If c a x) (sub-append _ _ _ _ (sub-refl (sites_of c)) (sub-append _ _ _ _ (sites_kept a pa ha) (sites_kept x px hx))))
+    (sites_kept s p h)
+sites_kept _ _ (pruned.loop class at body pb s p hb h) =
+    sub-append (sites_in (Foreach class pb at)) (sites_in (Foreach class body at)) _ _ (sub-by _ _ _ _ (sites-Foreach class pb at) (sites-Foreach class body at) (sites_kept body pb hb)) (sites_kept s p h)
+sites_kept _ _ (pruned.away class at body s p h) =
+    sub-by _ _ _ _ (flat_map-append sites_in (places (flat_map constant_numbers body)) p ∙ ap (λ t. t ++ flat_map sites_in p) (sites-places (flat_map constant_numbers body))) refl
+    (sub-right (sites_in (Foreach class body at)) _ _ (sites_kept s p h))
+sites_kept _ _ (pruned.kept who effect e at s p h) = sub-append _ _ _ _ (sub-refl (sites_in (Assign who effect e at))) (sites_kept s p h)
+sites_kept _ _ (pruned.left_out who effect e at s p h) = sub-right (sites_in (Assign who effect e at)) _ _ (sites_kept s p h)
+
+-- so are the offsets of its loops
+pub loops_kept : (s p : List Stmt) → Pruned s p → Sub (flat_map loop_offsets p) (flat_map loop_offsets s)
+loops_kept _ _ pruned.none = none
+loops_kept _ _ (pruned.const n e s p h) = sub-append _ _ _ _ (sub-refl (loop_offsets (Const n e))) (loops_kept s p h)
+loops_kept _ _ (pruned.cond c a pa x px s p ha hx h) =
+    sub-append (loop_offsets (If c pa px)) (loop_offsets (If c a x)) _ _
+    (sub-by _ _ _ _ (loops-If c pa px) (loops-If c a x) (sub-append _ _ _ _ (loops_kept a pa ha) (loops_kept x px hx))) (loops_kept s p h)
+loops_kept _ _ (pruned.loop class at body pb s p hb h) =
+    sub-append (loop_offsets (Foreach class pb at)) (loop_offsets (Foreach class body at)) _ _
+    (sub-by _ _ _ _ (loops-Foreach class pb at) (loops-Foreach class body at) (keep at _ _ (loops_kept body pb hb))) (loops_kept s p h)
+loops_kept _ _ (pruned.away class at body s p h) =
+    sub-by _ _ _ _ (flat_map-append loop_offsets (places (flat_map constant_numbers body)) p ∙ ap (λ t. t ++ flat_map loop_offsets p) (loops-places (flat_map constant_numbers body))) refl
+    (sub-right (loop_offsets (Foreach class body at)) _ _ (loops_kept s p h))
+loops_kept _ _ (pruned.kept who effect e at s p h) = sub-append _ _ _ _ (sub-refl (loop_offsets (Assign who effect e at))) (loops_kept s p h)
+loops_kept _ _ (pruned.left_out who effect e at s p h) = sub-right (loop_offsets (Assign who effect e at)) _ _ (loops_kept s p h)
+
+-- a part has no more assignments than its block
+pub assignments_kept : (s p : List Stmt) → Pruned s p → sum (map assignments p) ≤ sum (map assignments s)
+assignments_kept _ _ pruned.none = omega arith
+assignments_kept _ _ (pruned.const n e s p h) =
+    omega (arith, assignments_kept s p h, count-cons assignments (Const n e) s, count-cons assignments (Const n e) p)
+assignments_kept _ _ (pruned.cond c a pa x px s p ha hx h) =
+    omega (arith, assignments_kept s p h, assignments_kept a pa ha, assignments_kept x px hx, assignments-If c a x, assignments-If c pa px, count-cons assignments (If c a x) s, count-cons assignments (If c pa px) p)
+assignments_kept _ _ (pruned.loop class at body pb s p hb h) =
+    omega (arith, assignments_kept s p h, assignments_kept body pb hb, assignments-Foreach class body at, assignments-Foreach class pb at, count-cons assignments (Foreach class body at) s, count-cons assignments (Foreach class pb at) p)
+assignments_kept _ _ (pruned.away class at body s p h) =
+    omega (arith, assignments_kept s p h, count-append assignments (places (flat_map constant_numbers body)) p, assignments-places (flat_map constant_numbers body), count-cons assignments (Foreach class body at) s)
+assignments_kept _ _ (pruned.kept who effect e at s p h) =
+    omega (arith, assignments_kept s p h, count-cons assignments (Assign who effect e at) s, count-cons assignments (Assign who effect e at) p)
+assignments_kept _ _ (pruned.left_out who effect e at s p h) = omega (arith, assignments_kept s p h, count-cons assignments (Assign who effect e at) s)
+
+flat_map-take_more : {A B : Type 0} (f : A → List B) (xs : List A) (i : ℕ) (x : A) → i < length xs → x ≡ get_or xs i x → flat_map f (take (i + 1) xs) ≡ flat_map f (take i xs) ++ f x
+flat_map-take_more f xs i x below is =
+    ap (flat_map f) (take_more xs i x below ∙ ap (λ y. take i xs ++ y ∷ []) (sym is)) ∙ flat_map-append f (take i xs) (x ∷ []) ∙ ap (λ t. flat_map f (take i xs) ++ t) (append-nil (f x))
+
+-- declarations that are added one statement after another
+pub unread_more : (first : List Stmt) (xs : List Stmt) (i : ℕ) (x : Stmt) → i < length xs → x ≡ get_or xs i x
+    → (first ++ map unread (flat_map constant_numbers (take i xs))) ++ map unread (constant_numbers x) ≡ first ++ map unread (flat_map constant_numbers (take (i + 1) xs))
+unread_more first xs i x below is =
+    append_assoc first (map unread (flat_map constant_numbers (take i xs))) (map unread (constant_numbers x))
+    ∙ ap (λ t. first ++ t) (sym (map-append unread (flat_map constant_numbers (take i xs)) (constant_numbers x)) ∙ ap (map unread) (sym (flat_map-take_more constant_numbers xs i x below is)))
+
+pub unread-If : (first : List Stmt) (c : Expr) (a b : List Stmt) → (first ++ map unread (flat_map constant_numbers a)) ++ map unread (flat_map constant_numbers b) ≡ first ++ map unread (constant_numbers (If c a b))
+unread-If first c a b =
+    append_assoc first (map unread (flat_map constant_numbers a)) (map unread (flat_map constant_numbers b))
+    ∙ ap (λ t. first ++ t) (sym (map-append unread (flat_map constant_numbers a) (flat_map constant_numbers b)) ∙ ap (map unread) (sym (numbers-If c a b)))
+
+pub ruleset unread_rules = (unread_more, unread-If, numbers-Foreach, constant_numbers-Const, constant_numbers-Assign)
