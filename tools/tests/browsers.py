@@ -1,0 +1,111 @@
+"""Headless browsers for tests, by what Python has: Chromium over its pipe, Firefox over its port."""
+import base64
+import json
+import os
+import shutil
+import socket
+import subprocess
+import tempfile
+import time
+
+
+class Chromium:
+    """Speaks the DevTools protocol over two pipes: messages of JSON, each ended by a zero byte."""
+
+    names = ("chromium", "chromium-browser", "google-chrome")
+
+    def __init__(self, program, width, height, dark):
+        self.folder = tempfile.mkdtemp(prefix="view-test-")
+        read_here, write_there = os.pipe()
+        read_there, self.pen = os.pipe()
+        words = [program, "--headless=new", "--no-sandbox", "--disable-gpu", "--no-first-run",
+                 "--disable-dev-shm-usage", "--remote-debugging-pipe",
+                 f"--user-data-dir={self.folder}", f"--window-size={width},{height}"]
+        # The browser reads from 3 and writes to 4; the shell puts the pipes there.
+        shell = f'exec "$@" 3<&{read_there} 4>&{write_there}'
+        self.job = subprocess.Popen(
+            ["/bin/bash", "-c", shell, "browser", *words], pass_fds=(read_there, write_there),
+            stdout=subprocess.DEVNULL, stderr=subprocess.DEVNULL)
+        os.close(read_there)
+        os.close(write_there)
+        self.answers = os.fdopen(read_here, "rb")
+        self.calls = 0
+        self.session = None
+        target = self.call("Target.createTarget", url="about:blank")["targetId"]
+        self.session = self.call("Target.attachToTarget", targetId=target, flatten=True)["sessionId"]
+        self.call("Emulation.setDeviceMetricsOverride", width=width, height=height,
+                  deviceScaleFactor=1, mobile=False)
+        scheme = {"name": "prefers-color-scheme", "value": "dark" if dark else "light"}
+        self.call("Emulation.setEmulatedMedia", features=[scheme])
+
+    def call(self, method, **params):
+        self.calls += 1
+        message = {"id": self.calls, "method": method, "params": params}
+        if self.session:
+            message["sessionId"] = self.session
+        os.write(self.pen, json.dumps(message).encode() + b"\0")
+        while True:
+            answer = json.loads(self.message())
+            if answer.get("id") == self.calls:
+                if "error" in answer:
+                    raise RuntimeError(f"{method}: {answer['error']}")
+                return answer["result"]
+
+    def message(self):
+        parts = bytearray()
+        while (byte := self.answers.read(1)) != b"\0":
+            if not byte:
+                raise RuntimeError("the browser ended")
+            parts += byte
+        return bytes(parts)
+
+    def open(self, path):
+        self.call("Page.enable")
+        self.call("Page.navigate", url="file://" + os.path.abspath(path))
+        wait(lambda: self.value("document.readyState") == "complete")
+
+    def value(self, source):
+        """What an expression of JavaScript comes to in the page."""
+        answer = self.call("Runtime.evaluate", expression=source, returnByValue=True,
+                           awaitPromise=True)
+        if "exceptionDetails" in answer:
+            raise RuntimeError(answer["exceptionDetails"]["exception"].get("description", source))
+        return answer["result"].get("value")
+
+    def choose(self, selector, paths):
+        """Gives files to an input, as a person would by its dialog."""
+        root = self.call("DOM.getDocument")["root"]["nodeId"]
+        node = self.call("DOM.querySelector", nodeId=root, selector=selector)["nodeId"]
+        self.call("DOM.setFileInputFiles", nodeId=node, files=[os.path.abspath(p) for p in paths])
+
+    def point(self, x, y):
+        self.call("Input.dispatchMouseEvent", type="mouseMoved", x=x, y=y)
+
+    def picture(self):
+        return base64.b64decode(self.call("Page.captureScreenshot", format="png")["data"])
+
+    def close(self):
+        self.session = None
+        try:
+            self.call("Browser.close")
+        except (RuntimeError, OSError):
+            pass
+        end(self.job, self.folder)
+
+
+def wait(is_done, seconds=60):
+    """Waits until `is_done()`; raises TimeoutError after so many seconds."""
+    last = time.monotonic() + seconds
+    while not is_done():
+        if time.monotonic() > last:
+            raise TimeoutError(f"nothing within {seconds} seconds")
+        time.sleep(0.05)
+
+
+def end(job, folder):
+    try:
+        job.wait(10)
+    except subprocess.TimeoutExpired:
+        job.kill()
+        job.wait()
+    shutil.rmtree(folder, ignore_errors=True)
