@@ -1,4 +1,4 @@
-"""Headless browsers for tests, by what Python has: Chromium over its pipe, Firefox over its port."""
+"""Headless browsers for tests, by what Python has: Chromium by pipes, Firefox by a local port."""
 import base64
 import json
 import os
@@ -32,7 +32,8 @@ class Chromium:
         self.calls = 0
         self.session = None
         target = self.call("Target.createTarget", url="about:blank")["targetId"]
-        self.session = self.call("Target.attachToTarget", targetId=target, flatten=True)["sessionId"]
+        attached = self.call("Target.attachToTarget", targetId=target, flatten=True)
+        self.session = attached["sessionId"]
         self.call("Emulation.setDeviceMetricsOverride", width=width, height=height,
                   deviceScaleFactor=1, mobile=False)
         scheme = {"name": "prefers-color-scheme", "value": "dark" if dark else "light"}
@@ -62,7 +63,8 @@ class Chromium:
     def open(self, path):
         self.call("Page.enable")
         self.call("Page.navigate", url="file://" + os.path.abspath(path))
-        wait(lambda: self.value("document.readyState") == "complete")
+        wait(lambda: self.value("document.readyState") == "complete"
+             and self.value("location.protocol") == "file:")
 
     def value(self, source):
         """What an expression of JavaScript comes to in the page."""
@@ -90,6 +92,100 @@ class Chromium:
             self.call("Browser.close")
         except (RuntimeError, OSError):
             pass
+        end(self.job, self.folder)
+
+
+class Firefox:
+    """Speaks Marionette over a local port: messages of JSON, each behind its length and a colon."""
+
+    names = ("firefox-esr", "firefox")
+
+    def __init__(self, program, width, height, dark):
+        self.folder = tempfile.mkdtemp(prefix="view-test-")
+        with socket.socket() as free:
+            free.bind(("127.0.0.1", 0))
+            port = free.getsockname()[1]
+        settings = {"marionette.port": port, "layout.css.prefers-color-scheme.content-override":
+                    0 if dark else 1, "datareporting.policy.dataSubmissionEnabled": False}
+        with open(os.path.join(self.folder, "user.js"), "w", encoding="utf-8") as file:
+            for name, value in settings.items():
+                file.write(f"user_pref({json.dumps(name)}, {json.dumps(value)});\n")
+        words = [program, "--headless", "--marionette", "--no-remote", "--profile", self.folder]
+        self.job = subprocess.Popen(words, stdout=subprocess.DEVNULL, stderr=subprocess.DEVNULL)
+        self.calls = 0
+        wait(lambda: self.connect(port), 120)
+        self.message()
+        self.call("WebDriver:NewSession", {})
+        # The window's frame takes some of its size.
+        self.call("WebDriver:SetWindowRect", {"width": width, "height": height + 86})
+
+    def connect(self, port):
+        try:
+            self.line = socket.create_connection(("127.0.0.1", port), 60)
+        except OSError:
+            return False
+        self.answers = self.line.makefile("rb")
+        return True
+
+    def message(self):
+        length = b""
+        while (byte := self.answers.read(1)) != b":":
+            if not byte:
+                raise RuntimeError("the browser ended")
+            length += byte
+        return json.loads(self.answers.read(int(length)))
+
+    def call(self, method, params):
+        self.calls += 1
+        text = json.dumps([0, self.calls, method, params]).encode()
+        self.line.sendall(b"%d:%s" % (len(text), text))
+        _, _, error, result = self.message()
+        if error:
+            raise RuntimeError(f"{method}: {error}")
+        return result
+
+    def open(self, path):
+        self.call("WebDriver:Navigate", {"url": "file://" + os.path.abspath(path)})
+
+    def value(self, source):
+        """What an expression of JavaScript comes to in the page's own scope."""
+        script = """
+            const made = document.createElement('script'), root = document.documentElement;
+            made.textContent = `document.documentElement.dataset.answer =
+                JSON.stringify(${arguments[0]}) ?? 'null'`;
+            root.append(made);
+            made.remove();
+            const answer = root.dataset.answer;
+            delete root.dataset.answer;
+            return answer;"""
+        answer = self.call("WebDriver:ExecuteScript", {"script": script, "args": [source]})["value"]
+        if answer is None:
+            raise RuntimeError(f"no answer to {source}")
+        return json.loads(answer)
+
+    def choose(self, selector, paths):
+        """Gives files to an input, as a person would by its dialog."""
+        found = self.call("WebDriver:FindElement", {"using": "css selector", "value": selector})
+        element = next(iter(found["value"].values()))
+        self.value(f"void (document.querySelector({json.dumps(selector)}).value = '')")
+        text = "\n".join(os.path.abspath(path) for path in paths)
+        self.call("WebDriver:ElementSendKeys", {"id": element, "text": text})
+
+    def point(self, x, y):
+        move = {"type": "pointerMove", "x": x, "y": y, "duration": 0, "origin": "viewport"}
+        mouse = {"type": "pointer", "id": "mouse", "actions": [move]}
+        self.call("WebDriver:PerformActions", {"actions": [mouse]})
+
+    def picture(self):
+        shot = {"full": False, "hash": False}
+        return base64.b64decode(self.call("WebDriver:TakeScreenshot", shot)["value"])
+
+    def close(self):
+        try:
+            self.call("Marionette:Quit", {"flags": ["eForceQuit"]})
+        except (RuntimeError, OSError, ValueError):
+            pass
+        self.line.close()
         end(self.job, self.folder)
 
 
