@@ -167,7 +167,6 @@ class Firefox:
         """Gives files to an input, as a person would by its dialog."""
         found = self.call("WebDriver:FindElement", {"using": "css selector", "value": selector})
         element = next(iter(found["value"].values()))
-        self.value(f"void (document.querySelector({json.dumps(selector)}).value = '')")
         text = "\n".join(os.path.abspath(path) for path in paths)
         self.call("WebDriver:ElementSendKeys", {"id": element, "text": text})
 
