@@ -1,7 +1,7 @@
 #!/usr/bin/env python3
 """Opens tools/view.html in each browser that is installed, gives it rows, and looks at the page.
 
-    tools/tests/test_view.py [--rows FOLDER] [--pictures FOLDER]
+    tools/tests/test_view.py [--program PROGRAM] [--rows FOLDER] [--pictures FOLDER]
 
 The rows are those of each example's `command`; with --rows they are FOLDER/NAME.csv. With
 --pictures the first browser's view of each example is kept as FOLDER/NAME.png. Run by hand; where
@@ -49,6 +49,7 @@ BAD = [
 
 # How each example is shown in its picture: a tick, and what else is set.
 SCENES = {
+    "drift": (200, "$('trail').value = 30; $('charted').value = '0 2'"),
     "flock": (40, "$('trail').value = 12; $('charted').value = '0 4'"),
     "epidemic": (20, "$('colour').value = 'ill'; $('charted').value = '0 3'"),
     "orbit": (60, "$('trail').value = 20; $('charted').value = '0 4'; shown.followed = 20"),
@@ -57,7 +58,7 @@ SCENES = {
 Example = collections.namedtuple("Example", "name script rows")
 
 
-def examples(folder, given):
+def examples(folder, given, program):
     """The examples whose rows are there or can be made now."""
     for name in sorted(os.listdir(os.path.join(TOP, "examples"))):
         here = os.path.join(TOP, "examples", name)
@@ -65,7 +66,7 @@ def examples(folder, given):
         rows = os.path.join(given or folder, f"{name}.csv")
         if given is None:
             with open(os.path.join(here, "command"), encoding="utf-8") as file:
-                words = shlex.split(file.read())
+                words = [program, *shlex.split(file.read())[1:]]
             with open(rows, "wb") as out:
                 made = subprocess.run(words, cwd=TOP, stdout=out, stderr=subprocess.PIPE, text=True)
             if made.returncode != 0:
@@ -185,6 +186,19 @@ def check_playing(checks, page, folder):
         checks.same(f"the key {key}", page.text("tick"), tick)
 
 
+def check_drop(checks, page):
+    """Files that are dropped on the page are read as those that are chosen."""
+    before = page.browser.value("shown.loads")
+    page.do("""const dropped = new DataTransfer();
+        dropped.items.add(new File(['3,A,1,1.000000,2.000000\\n'], 'dropped.csv'));
+        dropped.items.add(new File(['class A { state fixed x; state fixed y; }'], 'a.brasil'));
+        document.body.dispatchEvent(
+            new DragEvent('drop', { dataTransfer: dropped, bubbles: true, cancelable: true }));""")
+    browsers.wait(lambda: page.browser.value(f"shown.loaded > {before}"))
+    checks.same("dropped files", page.text("loaded"), "dropped.csv · a.brasil")
+    checks.same("dropped tick", page.text("tick"), "3")
+
+
 def check_misfit(checks, page, folder):
     rows, script = os.path.join(folder, "rows.csv"), os.path.join(folder, "other.brasil")
     with open(rows, "w", encoding="utf-8") as file:
@@ -222,6 +236,7 @@ def run(kind, program, shown, folder, pictures):
         check_bad_files(checks, page, folder)
         check_misfit(checks, page, folder)
         check_playing(checks, page, folder)
+        check_drop(checks, page)
     finally:
         browser.close()
     print(f"{os.path.basename(program)}: {checks.count - checks.failed} passed, "
@@ -231,8 +246,9 @@ def run(kind, program, shown, folder, pictures):
 
 def main():
     words = argparse.ArgumentParser(description=__doc__.split("\n", 1)[0], allow_abbrev=False)
-    words.add_argument("--rows", metavar="FOLDER")
-    words.add_argument("--pictures", metavar="FOLDER")
+    words.add_argument("--program", default="./brace", help="what runs the examples, ./brace else")
+    words.add_argument("--rows", metavar="FOLDER", help="where NAME.csv is, for each example")
+    words.add_argument("--pictures", metavar="FOLDER", help="where NAME.png is to be kept")
     asked = words.parse_args()
     installed = []
     for kind in (browsers.Chromium, browsers.Firefox):
@@ -244,7 +260,7 @@ def main():
         return 0
     failed = 0
     with tempfile.TemporaryDirectory() as folder:
-        shown = list(examples(folder, asked.rows))
+        shown = list(examples(folder, asked.rows, asked.program))
         for number, (kind, program) in enumerate(installed):
             failed += run(kind, program, shown, folder, asked.pictures if number == 0 else None)
     return 1 if failed else 0
