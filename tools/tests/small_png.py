@@ -31,7 +31,7 @@ def pixels(png):
 
 
 def unfiltered(kind, line, above, size):
-    for i in range(len(line)):
+    for i in range(len(line) if kind else 0):
         left, up = line[i - size] if i >= size else 0, above[i]
         corner = above[i - size] if i >= size else 0
         if kind == 1:
@@ -41,9 +41,10 @@ def unfiltered(kind, line, above, size):
         elif kind == 3:
             line[i] = (line[i] + (left + up) // 2) & 255
         elif kind == 4:
-            near = min((abs(up - corner), 0, left), (abs(left - corner), 1, up),
-                       (abs(left + up - 2 * corner), 2, corner))
-            line[i] = (line[i] + near[2]) & 255
+            by_left, by_up = abs(up - corner), abs(left - corner)
+            by_corner = abs(left + up - 2 * corner)
+            other = left if by_left <= by_up else up
+            line[i] = (line[i] + (other if min(by_left, by_up) <= by_corner else corner)) & 255
     return line
 
 
@@ -52,10 +53,14 @@ def palette(lines):
     counts = collections.Counter(colour for line in lines for colour in line)
     kept = [colour for colour, _ in counts.most_common(256)]
     numbers = {colour: i for i, colour in enumerate(kept)}
+    near = {}
     for colour in counts:
-        if colour not in numbers:
-            numbers[colour] = min(range(len(kept)), key=lambda i: sum(
+        # Colours that are all but the same share the search for the nearest one.
+        like = tuple(part >> 3 for part in colour)
+        if colour not in numbers and like not in near:
+            near[like] = min(range(len(kept)), key=lambda i: sum(
                 (a - b) ** 2 for a, b in zip(kept[i], colour)))
+        numbers.setdefault(colour, near.get(like))
     return numbers, kept
 
 

@@ -218,7 +218,7 @@ def check_misfit(checks, page, folder):
 def take_picture(page, example, folder):
     tick, settings = SCENES.get(example.name, (0, ""))
     page.browser.point(WIDTH - 2, 2)
-    page.do(f"{settings}; recolour(); rechart(); go({tick})")
+    page.do(f"{settings}; recolour(); rechart(); go({tick}); fitTick()")
     browsers.wait(lambda: page.text("agent") != "", 20)
     with open(os.path.join(folder, f"{example.name}.png"), "wb") as file:
         file.write(small_png.smaller(page.browser.picture()))
