@@ -141,6 +141,8 @@ def check_example(checks, page, example):
     checks.same(f"{example.name} last tick", page.text("tick"), str(tick))
     checks.same(f"{example.name} agents", page.text("count"), str(len(dots)))
     checks.same(f"{example.name} dots", page.painted(dots), len(dots))
+    checks.same(f"{example.name} x to the right and y up",
+                page.browser.value("toX(1) > toX(0) && toY(1) < toY(0)"), True)
     wanted = []
     for kind, states in plot.read_script(example.script).items():
         wanted += [f"{kind}.{name}" for name, _ in states]
