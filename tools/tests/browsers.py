@@ -2,6 +2,7 @@
 import base64
 import json
 import os
+import select
 import shutil
 import socket
 import subprocess
@@ -28,7 +29,8 @@ class Chromium:
             stdout=subprocess.DEVNULL, stderr=subprocess.DEVNULL)
         os.close(read_there)
         os.close(write_there)
-        self.answers = os.fdopen(read_here, "rb")
+        self.answers = read_here
+        self.rest = b""
         self.calls = 0
         self.session = None
         target = self.call("Target.createTarget", url="about:blank")["targetId"]
@@ -53,12 +55,15 @@ class Chromium:
                 return answer["result"]
 
     def message(self):
-        parts = bytearray()
-        while (byte := self.answers.read(1)) != b"\0":
-            if not byte:
+        while b"\0" not in self.rest:
+            if not select.select([self.answers], [], [], 60)[0]:
+                raise TimeoutError("the page does not answer")
+            piece = os.read(self.answers, 1 << 16)
+            if not piece:
                 raise RuntimeError("the browser ended")
-            parts += byte
-        return bytes(parts)
+            self.rest += piece
+        text, self.rest = self.rest.split(b"\0", 1)
+        return text
 
     def open(self, path):
         self.call("Page.enable")
@@ -92,6 +97,8 @@ class Chromium:
             self.call("Browser.close")
         except (RuntimeError, OSError):
             pass
+        os.close(self.pen)
+        os.close(self.answers)
         end(self.job, self.folder)
 
 
