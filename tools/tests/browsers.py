@@ -9,6 +9,9 @@ import subprocess
 import tempfile
 import time
 
+# The seconds after which a browser that does not answer is given up; a busy machine is slow.
+PATIENCE = 180
+
 
 class Chromium:
     """Speaks the DevTools protocol over two pipes: messages of JSON, each ended by a zero byte."""
@@ -33,8 +36,12 @@ class Chromium:
         self.rest = b""
         self.calls = 0
         self.session = None
-        target = self.call("Target.createTarget", url="about:blank")["targetId"]
-        attached = self.call("Target.attachToTarget", targetId=target, flatten=True)
+        try:
+            target = self.call("Target.createTarget", url="about:blank")["targetId"]
+            attached = self.call("Target.attachToTarget", targetId=target, flatten=True)
+        except (RuntimeError, OSError):
+            end(self.job, self.folder)
+            raise
         self.session = attached["sessionId"]
         self.call("Emulation.setDeviceMetricsOverride", width=width, height=height,
                   deviceScaleFactor=1, mobile=False)
@@ -56,7 +63,7 @@ class Chromium:
 
     def message(self):
         while b"\0" not in self.rest:
-            if not select.select([self.answers], [], [], 60)[0]:
+            if not select.select([self.answers], [], [], PATIENCE)[0]:
                 raise TimeoutError("the page does not answer")
             piece = os.read(self.answers, 1 << 16)
             if not piece:
@@ -120,15 +127,19 @@ class Firefox:
         words = [program, "--headless", "--marionette", "--no-remote", "--profile", self.folder]
         self.job = subprocess.Popen(words, stdout=subprocess.DEVNULL, stderr=subprocess.DEVNULL)
         self.calls = 0
-        wait(lambda: self.connect(port), 120)
-        self.message()
-        self.call("WebDriver:NewSession", {})
-        # The window's frame takes some of its size.
-        self.call("WebDriver:SetWindowRect", {"width": width, "height": height + 86})
+        try:
+            wait(lambda: self.connect(port), PATIENCE)
+            self.message()
+            self.call("WebDriver:NewSession", {})
+            # The window's frame takes some of its size.
+            self.call("WebDriver:SetWindowRect", {"width": width, "height": height + 86})
+        except (RuntimeError, OSError):
+            end(self.job, self.folder)
+            raise
 
     def connect(self, port):
         try:
-            self.line = socket.create_connection(("127.0.0.1", port), 60)
+            self.line = socket.create_connection(("127.0.0.1", port), PATIENCE)
         except OSError:
             return False
         self.answers = self.line.makefile("rb")
@@ -195,7 +206,7 @@ class Firefox:
         end(self.job, self.folder)
 
 
-def wait(is_done, seconds=60):
+def wait(is_done, seconds=PATIENCE):
     """Waits until `is_done()`; raises TimeoutError after so many seconds."""
     last = time.monotonic() + seconds
     while not is_done():
@@ -205,6 +216,7 @@ def wait(is_done, seconds=60):
 
 
 def end(job, folder):
+    """Ends a browser that was told to quit, or does not answer, and takes its folder away."""
     try:
         job.wait(10)
     except subprocess.TimeoutExpired:

@@ -153,7 +153,7 @@ def check_example(checks, page, example):
     x, y = page.browser.value(f"(([x, y]) => [toX(x), toY(y) + plane.getBoundingClientRect().top])"
                               f"({json.dumps(dots[0])})")
     page.browser.point(round(x), round(y))
-    browsers.wait(lambda: page.browser.value("$('agent').querySelector('table') !== null"), 20)
+    browsers.wait(lambda: page.browser.value("$('agent').querySelector('table') !== null"))
     with open(example.rows, encoding="utf-8") as file:
         rows = {line.rstrip().split(",", 1)[1] for line in file if line.startswith(f"{tick},")}
     shown = page.browser.value("[...$('agent').querySelectorAll('td')].map(c => c.textContent)")
@@ -221,7 +221,7 @@ def take_picture(page, example, folder):
     tick, settings = SCENES.get(example.name, (0, ""))
     page.browser.point(WIDTH - 2, 2)
     page.do(f"{settings}; recolour(); rechart(); go({tick}); fitTick()")
-    browsers.wait(lambda: page.text("agent") != "", 20)
+    browsers.wait(lambda: page.text("agent") != "")
     with open(os.path.join(folder, f"{example.name}.png"), "wb") as file:
         file.write(small_png.smaller(page.browser.picture()))
 
