@@ -1,0 +1,339 @@
+#!/usr/bin/env python3
+"""Draws published rows as SVG, for papers: the agents of one tick, or a column over all ticks.
+
+    plot.py rows.csv --script fish.brasil --tick 100 --out school.svg
+    plot.py rows.csv --script fish.brasil --series vx --out speed.svg
+
+A column is named as in the script, or by CLASS.NAME; without a script by its number, from 1.
+"""
+import argparse
+import math
+import os
+import re
+import sys
+from html import escape
+
+COLOURS = ["#2f7ed8", "#e07b1a", "#2a9d60", "#c9408c", "#8a63d2", "#c4483a", "#1f9eab", "#8f8a2c"]
+SCALE = ["#3a6fd8", "#1fa3a8", "#5fb04a", "#e0a020", "#d9482b"]
+FORMS = {"fixed": r"-?[0-9]+\.[0-9]{1,6}", "int": "-?[0-9]+", "bool": "(?:true|false)"}
+VALUE = re.compile("|".join(f"(?P<{kind}>{form})" for kind, form in FORMS.items()))
+DIGITS, NAME = re.compile("[0-9]+"), re.compile(r"[A-Za-z_]\w*", re.A)
+WIDTH, HEIGHT = 640, 480
+LEFT, RIGHT, TOP, BOTTOM = 70, 620, 40, 430
+
+
+class Refusal(Exception):
+    """What is wrong with a file or with what was asked, in one line."""
+
+
+def read_script(path):
+    """The classes of a script: to each name the names and types of its states, in order."""
+    with open(path, encoding="utf-8", errors="replace") as file:
+        bare = re.sub(r"//[^\n]*|/\*.*?\*/", " ", file.read(), flags=re.S)
+    classes, states = {}, None
+    for name, kind, state in re.findall(
+            r"\bclass\s+(\w+)\s*\{|\bstate\s+(\w+)\s+(\w+)\s*[:;]", bare, re.A):
+        if name:
+            states = classes.setdefault(name, [])
+        elif states is not None:
+            states.append((state, kind))
+    if not classes:
+        raise Refusal(f"{path}: has no class")
+    return classes
+
+
+def number(text):
+    return float(text == "true" if text in ("true", "false") else text)
+
+
+def kinds_of(texts):
+    """The types of spelled values."""
+    kinds = []
+    for column, text in enumerate(texts, 1):
+        found = VALUE.fullmatch(text)
+        if not found:
+            raise Refusal(f"has {text[:60]!r} for value {column}")
+        kinds.append(found.lastgroup)
+    return kinds
+
+
+class Rows:
+    """A file of rows; `types` has the types of each class's values, first those of the script."""
+
+    def __init__(self, path, types):
+        self.path = path
+        self.types = types
+        self.forms = {}
+
+    def read(self, last=math.inf):
+        """Gives tick, class, id and the texts of the values of each row up to the tick `last`."""
+        before = (-1, -1)
+        with open(self.path, encoding="utf-8", errors="replace", newline="\n") as file:
+            for count, line in enumerate(file, 1):
+                try:
+                    row = self.row(line, before)
+                except Refusal as refusal:
+                    raise Refusal(f"{self.path}: row {count} {refusal}") from None
+                if row[0] > last:
+                    return
+                before = row[0], row[2]
+                yield row
+        if before == (-1, -1):
+            raise Refusal(f"{self.path}: the file has no rows")
+
+    def row(self, line, before):
+        if not line.endswith("\n"):
+            raise Refusal("ends before its line feed; is the file cut off?")
+        line = line.rstrip("\r\n")
+        parts = line.split(",", 3)
+        if len(parts) < 4:
+            raise Refusal(f"is not tick,class,id,values: {line[:60]!r}")
+        for what, text, form in zip(("a tick", "a class", "an id"), parts, (DIGITS, NAME, DIGITS)):
+            if not form.fullmatch(text):
+                raise Refusal(f"has {text[:60]!r} for {what}")
+        tick, kind, name = int(parts[0]), parts[1], int(parts[2])
+        if tick < before[0]:
+            raise Refusal(f"is of tick {tick}, behind rows of tick {before[0]}")
+        if (tick, name) <= before:
+            raise Refusal(f"has the id {name} behind {before[1]}; in a tick ids rise")
+        return tick, kind, name, self.values(kind, parts[3])
+
+    def values(self, kind, text):
+        texts = text.split(",")
+        if kind not in self.forms:
+            wanted = self.types.setdefault(kind, kinds_of(texts))
+            self.forms[kind] = re.compile(",".join(FORMS[value] for value in wanted))
+        if not self.forms[kind].fullmatch(text):
+            raise Refusal(f"has values of the types {' '.join(kinds_of(texts))}, and {kind} has "
+                          f"{' '.join(self.types[kind]) or 'none'}")
+        return texts
+
+
+class Columns:
+    """Names the columns of each class: by the script, or else by their numbers."""
+
+    def __init__(self, script):
+        self.states = read_script(script) if script else None
+        self.types = {name: [kind for _, kind in states]
+                      for name, states in (self.states or {}).items()}
+
+    def known(self, kind):
+        if self.states is not None and kind not in self.states:
+            raise Refusal(f"the script has no class {kind}, and the rows have")
+
+    def names(self, kind):
+        if self.states is not None:
+            return [name for name, _ in self.states[kind]]
+        return [str(i) for i in range(1, len(self.types[kind]) + 1)]
+
+    def index(self, kind, column):
+        """The place of a column in a class, or None; CLASS.NAME is of that class alone."""
+        owner, _, name = column.rpartition(".")
+        names = self.names(kind)
+        return names.index(name) if owner in ("", kind) and name in names else None
+
+    def place(self, kind):
+        """The places of x and y; without a script the first two columns of fixed values."""
+        if self.states is not None:
+            return self.index(kind, "x"), self.index(kind, "y")
+        fixed = [i for i, value in enumerate(self.types[kind]) if value == "fixed"]
+        return tuple((fixed + [None, None])[:2])
+
+
+def round_step(least):
+    """The step of 1, 2 or 5 times a power of ten that is at least `least`."""
+    power = 10 ** math.floor(math.log10(least))
+    return next(times * power for times in (1, 2, 5, 10) if times * power >= least * 0.999)
+
+
+def brief(number):
+    return f"{number:.6g}"
+
+
+class Axes:
+    """Two axes over the frame of the picture; with `square` one unit is as long up as across."""
+
+    def __init__(self, across, up, square=False):
+        (self.left, right), (self.low, top) = wide(across), wide(up)
+        self.by_x = (RIGHT - LEFT) / (right - self.left)
+        self.by_y = (BOTTOM - TOP) / (top - self.low)
+        if square:
+            self.by_x = self.by_y = min(self.by_x, self.by_y)
+            self.left = (self.left + right) / 2 - (RIGHT - LEFT) / 2 / self.by_x
+            self.low = (self.low + top) / 2 - (BOTTOM - TOP) / 2 / self.by_y
+
+    def x(self, value):
+        return LEFT + (value - self.left) * self.by_x
+
+    def y(self, value):
+        return BOTTOM - (value - self.low) * self.by_y
+
+    def drawn(self):
+        parts = ['<g stroke="#d5d9e0" fill="none">']
+        labels = ['<g fill="#4a5361">']
+        step = round_step(80 / self.by_x)
+        for i in range(math.ceil(self.left / step), 1 + math.floor(
+                (self.left + (RIGHT - LEFT) / self.by_x) / step)):
+            x = self.x(i * step)
+            parts.append(f'<path d="M{x:.1f} {TOP}V{BOTTOM}"/>')
+            labels.append(f'<text x="{x:.1f}" y="{BOTTOM + 18}" text-anchor="middle">'
+                          f'{brief(i * step)}</text>')
+        step = round_step(50 / self.by_y)
+        for i in range(math.ceil(self.low / step), 1 + math.floor(
+                (self.low + (BOTTOM - TOP) / self.by_y) / step)):
+            y = self.y(i * step)
+            parts.append(f'<path d="M{LEFT} {y:.1f}H{RIGHT}"/>')
+            labels.append(f'<text x="{LEFT - 8}" y="{y + 4:.1f}" text-anchor="end">'
+                          f'{brief(i * step)}</text>')
+        frame = f'<path d="M{LEFT} {TOP}H{RIGHT}V{BOTTOM}H{LEFT}Z"/>'
+        return parts + [frame, "</g>"] + labels + ["</g>"]
+
+
+def wide(ends):
+    """The ends of an axis, a little apart where they are one."""
+    low, top = ends
+    pad = (top - low) * 0.04 or max(abs(low) * 0.04, 0.5)
+    return low - pad, top + pad
+
+
+def picture(title, key, across, parts):
+    """The text of an SVG file: its title, the key's colours and words, the axis, what is drawn."""
+    lines = [f'<svg xmlns="http://www.w3.org/2000/svg" viewBox="0 0 {WIDTH} {HEIGHT}" '
+             f'width="{WIDTH}" height="{HEIGHT}" font-family="sans-serif" font-size="12">',
+             f'<rect width="{WIDTH}" height="{HEIGHT}" fill="#ffffff"/>',
+             f'<text x="{LEFT}" y="26" font-size="15" fill="#1c2430">{escape(title)}</text>']
+    at = RIGHT
+    for colour, word in reversed(key):
+        at -= 7 * len(word)
+        lines += [f'<text x="{at}" y="26" fill="#1c2430">{escape(word)}</text>',
+                  f'<circle cx="{at - 10}" cy="22" r="5" fill="{colour}"/>']
+        at -= 34
+    middle = (LEFT + RIGHT) // 2
+    lines += parts + [f'<text x="{middle}" y="{HEIGHT - 10}" text-anchor="middle" fill="#4a5361">'
+                      f"{escape(across)}</text>", "</svg>", ""]
+    return "\n".join(lines)
+
+
+def shade(part):
+    """The colour at a part, from 0 to 1, of the scale."""
+    at = min(len(SCALE) - 1.001, max(0.0, part * (len(SCALE) - 1)))
+    low, high = SCALE[int(at)], SCALE[int(at) + 1]
+    mixed = []
+    for i in (1, 3, 5):
+        begin, end = int(low[i:i + 2], 16), int(high[i:i + 2], 16)
+        mixed.append(round(begin + (at - int(at)) * (end - begin)))
+    return "#%02x%02x%02x" % tuple(mixed)
+
+
+def draw_tick(path, columns, tick, colour):
+    """The agents of one tick, as dots on the plane."""
+    dots, last = [], None
+    for last, kind, _, texts in Rows(path, columns.types).read(tick):
+        columns.known(kind)
+        across, up = columns.place(kind)
+        if last == tick and across is not None and up is not None:
+            index = columns.index(kind, colour) if colour else None
+            value = None if index is None else number(texts[index])
+            dots.append((number(texts[across]), number(texts[up]), kind, value))
+    if not dots:
+        raise Refusal(f"{path}: has no agents at tick {tick}; the last tick read is {last}")
+    axes = Axes((min(x for x, *_ in dots), max(x for x, *_ in dots)),
+                (min(y for _, y, *_ in dots), max(y for _, y, *_ in dots)), square=True)
+    kinds = sorted({kind for _, _, kind, _ in dots}, key=list(columns.types).index)
+    fills = {kind: COLOURS[i % len(COLOURS)] for i, kind in enumerate(kinds)}
+    key = [(fills[kind], kind) for kind in kinds]
+    if colour:
+        values = [value for *_, value in dots if value is not None]
+        if not values:
+            raise Refusal(f"no class at tick {tick} has a column {colour}")
+        low, top = min(values), max(values)
+        key = [(SCALE[0], f"{colour} {brief(low)}"), (SCALE[-1], brief(top))]
+    radius = 3 if len(dots) < 2000 else 1.5
+    parts = axes.drawn()
+    for x, y, kind, value in dots:
+        fill = fills[kind] if not colour else (
+            "#9aa3af" if value is None else shade((value - low) / ((top - low) or 1)))
+        parts.append(f'<circle cx="{axes.x(x):.2f}" cy="{axes.y(y):.2f}" r="{radius}" '
+                     f'fill="{fill}"/>')
+    return picture(f"tick {tick}, {len(dots)} agents", key, "x", parts)
+
+
+def draw_series(path, columns, column):
+    """The least, mean and greatest value of a column over all ticks."""
+    owner, found = None, {}
+    for tick, kind, _, texts in Rows(path, columns.types).read():
+        columns.known(kind)
+        index = columns.index(kind, column)
+        if index is None:
+            continue
+        if owner not in (None, kind):
+            raise Refusal(f"{column} is a column of {owner} and of {kind}; say {owner}.{column}")
+        owner, value = kind, number(texts[index])
+        least, total, count, greatest = found.get(tick, (value, 0.0, 0, value))
+        found[tick] = min(least, value), total + value, count + 1, max(greatest, value)
+    if not found:
+        raise Refusal(f"{path}: no class has a column {column}")
+    axes = Axes((min(found), max(found)),
+                (min(f[0] for f in found.values()), max(f[3] for f in found.values())))
+
+    def points(value):
+        return [f"{axes.x(tick):.2f},{axes.y(value(figures)):.2f}"
+                for tick, figures in found.items()]
+
+    band = " ".join(points(lambda f: f[3]) + points(lambda f: f[0])[::-1])
+    mean = " ".join(points(lambda f: f[1] / f[2]))
+    parts = axes.drawn() + [
+        f'<polygon points="{band}" fill="{COLOURS[0]}" fill-opacity="0.2"/>',
+        f'<polyline points="{mean}" fill="none" stroke="{COLOURS[0]}" stroke-width="2"/>']
+    name = column if "." in column else f"{owner}.{column}"
+    return picture(name, [(COLOURS[0], "mean"), ("#c5dbf5", "least to greatest")], "tick", parts)
+
+
+def save(path, text):
+    """Writes a file whole or not at all."""
+    part = f"{path}.{os.getpid()}.part"
+    try:
+        with open(part, "x", encoding="utf-8") as file:
+            file.write(text)
+        os.replace(part, path)
+    except OSError:
+        if os.path.exists(part):
+            os.remove(part)
+        raise
+
+
+def whole(text):
+    if not re.fullmatch("[0-9]{1,19}", text):
+        raise argparse.ArgumentTypeError(f"{text!r} is no tick")
+    return int(text)
+
+
+def main():
+    words = argparse.ArgumentParser(
+        prog="plot.py", description="Draws published rows as an SVG picture.", allow_abbrev=False)
+    words.add_argument("rows", help="the rows that brace run wrote")
+    words.add_argument("--script", help="the script, which names the columns")
+    what = words.add_mutually_exclusive_group(required=True)
+    what.add_argument("--tick", type=whole, help="draw the agents of this tick")
+    what.add_argument("--series", metavar="COLUMN", help="draw a column over all ticks")
+    words.add_argument("--colour", metavar="COLUMN", help="colour the agents by a column")
+    words.add_argument("--out", required=True, metavar="PICTURE.svg")
+    asked = words.parse_args()
+    if asked.colour and asked.series:
+        words.error("--colour goes with --tick")
+    try:
+        columns = Columns(asked.script)
+        if asked.series:
+            text = draw_series(asked.rows, columns, asked.series)
+        else:
+            text = draw_tick(asked.rows, columns, asked.tick, asked.colour)
+        save(asked.out, text)
+    except Refusal as refusal:
+        sys.exit(f"plot.py: {refusal}")
+    except OSError as error:
+        name = asked.out if str(error.filename).endswith(".part") else error.filename
+        sys.exit(f"plot.py: {name}: {error.strerror}")
+
+
+if __name__ == "__main__":
+    main()

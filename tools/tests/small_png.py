@@ -1,0 +1,78 @@
+"""Makes a screenshot smaller: a PNG of 8-bit RGB or RGBA becomes one of at most 256 colours."""
+import collections
+import struct
+import zlib
+
+SIGNATURE = b"\x89PNG\r\n\x1a\n"
+
+
+def chunks(png):
+    at = len(SIGNATURE)
+    while at < len(png):
+        length, = struct.unpack(">I", png[at:at + 4])
+        yield png[at + 4:at + 8], png[at + 8:at + 8 + length]
+        at += length + 12
+
+
+def pixels(png):
+    """The width of a picture, and its lines as lists of (red, green, blue)."""
+    parts = collections.defaultdict(bytes)
+    for name, content in chunks(png):
+        parts[name] += content
+    width, height, depth, form = struct.unpack(">IIBB", parts[b"IHDR"][:10])
+    assert depth == 8 and form in (2, 6), "a PNG of 8-bit RGB or RGBA"
+    size = 3 if form == 2 else 4
+    data, above, lines = zlib.decompress(parts[b"IDAT"]), bytearray(width * size), []
+    for row in range(height):
+        at = row * (width * size + 1)
+        above = unfiltered(data[at], bytearray(data[at + 1:at + 1 + width * size]), above, size)
+        lines.append(list(zip(above[0::size], above[1::size], above[2::size])))
+    return width, lines
+
+
+def unfiltered(kind, line, above, size):
+    for i in range(len(line) if kind else 0):
+        left, up = line[i - size] if i >= size else 0, above[i]
+        corner = above[i - size] if i >= size else 0
+        if kind == 1:
+            line[i] = (line[i] + left) & 255
+        elif kind == 2:
+            line[i] = (line[i] + up) & 255
+        elif kind == 3:
+            line[i] = (line[i] + (left + up) // 2) & 255
+        elif kind == 4:
+            by_left, by_up = abs(up - corner), abs(left - corner)
+            by_corner = abs(left + up - 2 * corner)
+            other = left if by_left <= by_up else up
+            line[i] = (line[i] + (other if min(by_left, by_up) <= by_corner else corner)) & 255
+    return line
+
+
+def palette(lines):
+    """To each colour the number of its like among the 256 most frequent, and these."""
+    counts = collections.Counter(colour for line in lines for colour in line)
+    kept = [colour for colour, _ in counts.most_common(256)]
+    numbers = {colour: i for i, colour in enumerate(kept)}
+    near = {}
+    for colour in counts:
+        # Colours that are all but the same share the search for the nearest one.
+        like = tuple(part >> 3 for part in colour)
+        if colour not in numbers and like not in near:
+            near[like] = min(range(len(kept)), key=lambda i: sum(
+                (a - b) ** 2 for a, b in zip(kept[i], colour)))
+        numbers.setdefault(colour, near.get(like))
+    return numbers, kept
+
+
+def smaller(png):
+    width, lines = pixels(png)
+    numbers, kept = palette(lines)
+    data = b"".join(b"\0" + bytes(numbers[colour] for colour in line) for line in lines)
+    head = struct.pack(">IIBBBBB", width, len(lines), 8, 3, 0, 0, 0)
+    colours = b"".join(bytes(colour) for colour in kept)
+    made = SIGNATURE
+    for name, content in ((b"IHDR", head), (b"PLTE", colours),
+                          (b"IDAT", zlib.compress(data, 9)), (b"IEND", b"")):
+        made += struct.pack(">I", len(content)) + name + content
+        made += struct.pack(">I", zlib.crc32(name + content))
+    return made

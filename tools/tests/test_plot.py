@@ -1,0 +1,102 @@
+#!/usr/bin/env python3
+"""Draws small runs with tools/plot.py: what the pictures hold, what is refused, what is left."""
+import os
+import subprocess
+import sys
+import tempfile
+import xml.etree.ElementTree
+
+PLOT = os.path.join(os.path.dirname(os.path.realpath(__file__)), "..", "plot.py")
+SVG = "{http://www.w3.org/2000/svg}"
+SCRIPT = """class A { // state int none;
+  public state fixed x : x + 1.0; public state fixed y; public state int n; }
+class B { public state bool b; public state fixed x; public state fixed y; }
+"""
+ROWS = "".join(f"{tick},A,1,{tick}.000000,2.000000,{tick * tick}\n{tick},A,2,0.500000,-1.000000,0\n"
+               f"{tick},B,3,true,4.000000,1.000000\n" for tick in (0, 3, 6))
+
+# Words behind the rows, and how many dots or points the picture has.
+DRAWN = [
+    ("--script s --tick 3", ("circle", 3)),
+    ("--tick 6", ("circle", 3)),
+    ("--script s --tick 3 --colour n", ("circle", 3)),
+    ("--script s --series n", ("polyline", 3)),
+    ("--script s --series B.b", ("polyline", 3)),
+    ("--series A.3", ("polyline", 3)),
+]
+
+# Words, what the rows are, and the line of the refusal.
+REFUSED = [
+    ("--tick 4", ROWS, "rows: has no agents at tick 4; the last tick read is 3"),
+    ("--tick 9", ROWS, "rows: has no agents at tick 9; the last tick read is 6"),
+    ("--script s --series z", ROWS, "rows: no class has a column z"),
+    ("--script s --series x", ROWS, "x is a column of A and of B; say A.x"),
+    ("--script s --tick 0 --colour z", ROWS, "no class at tick 0 has a column z"),
+    ("--script absent --tick 0", ROWS, "absent: No such file or directory"),
+    ("--script rows --tick 0", ROWS, "rows: has no class"),
+    ("--script s --tick 0", "0,C,1,2\n", "the script has no class C, and the rows have"),
+    ("--script s --tick 0", "0,A,1,2\n",
+     "rows: row 1 has values of the types int, and A has fixed fixed int"),
+    ("--tick 0", "", "rows: the file has no rows"),
+    ("--tick 0", "0,A,1\n", "rows: row 1 is not tick,class,id,values: '0,A,1'"),
+    ("--tick 0", "0,A,1,2.000000,no\n", "rows: row 1 has 'no' for value 2"),
+    ("--tick 0", "-1,A,1,2\n", "rows: row 1 has '-1' for a tick"),
+    ("--tick 0", "0,A,1,2\n0,A,1,2\n", "rows: row 2 has the id 1 behind 1; in a tick ids rise"),
+    ("--series 1", "1,A,1,2\n0,A,1,2\n", "rows: row 2 is of tick 0, behind rows of tick 1"),
+    ("--series 1", "1,A,1,2\n2,A,1,",
+     "rows: row 2 ends before its line feed; is the file cut off?"),
+]
+
+
+def plot(folder, words, out="out.svg"):
+    return subprocess.run([sys.executable, PLOT, "rows", *words.split(), "--out", out], cwd=folder,
+                          capture_output=True, text=True)
+
+
+def write(folder, name, text):
+    with open(os.path.join(folder, name), "w", encoding="utf-8") as file:
+        file.write(text)
+
+
+def drawn(folder, words, form):
+    """The number of dots inside the frame, or of points of the line."""
+    plot(folder, words)
+    root = xml.etree.ElementTree.parse(os.path.join(folder, "out.svg")).getroot()
+    if form == "circle":
+        return sum(float(dot.get("cy")) > 30 for dot in root.iter(SVG + form))
+    return len(next(root.iter(SVG + form)).get("points").split())
+
+
+def main():
+    count = failed = 0
+
+    def same(what, found, wanted):
+        nonlocal count, failed
+        count += 1
+        if found != wanted:
+            failed += 1
+            print(f"FAILED {what}: {found!r}, wanted {wanted!r}")
+
+    with tempfile.TemporaryDirectory() as folder:
+        write(folder, "s", SCRIPT)
+        write(folder, "rows", ROWS)
+        for words, (form, wanted) in DRAWN:
+            same(words, drawn(folder, words, form), wanted)
+        write(folder, "out.svg", "old")
+        for words, rows, line in REFUSED:
+            write(folder, "rows", rows)
+            made = plot(folder, words)
+            same(words, (made.returncode, made.stderr, made.stdout), (1, f"plot.py: {line}\n", ""))
+        with open(os.path.join(folder, "out.svg"), encoding="utf-8") as file:
+            same("a refusal leaves the picture", file.read(), "old")
+        write(folder, "rows", ROWS)
+        made = plot(folder, "--tick 0", "none/out.svg")
+        same("no folder", made.stderr, "plot.py: none/out.svg: No such file or directory\n")
+        same("two pictures", plot(folder, "--tick 0 --series x").returncode, 2)
+        same("what is left", sorted(os.listdir(folder)), ["out.svg", "rows", "s"])
+    print(f"{count - failed} passed, {failed} failed")
+    return 1 if failed else 0
+
+
+if __name__ == "__main__":
+    sys.exit(main())
