@@ -1,10 +1,20 @@
-//! The evaluator of expressions, straight over their trees.
+//! The evaluator of expressions, and one tick of a world, straight over the trees of a program.
 #![tactic(auto)]
 
+mod births;
 mod expression;
+mod fault;
+mod ledger;
 mod operations;
+mod query;
+mod scene;
+mod seat;
+mod step;
+mod update;
 
 pub use expression::eval;
+pub use fault::StepFault;
+pub use step::plain_step;
 
 #[cfg(test)]
 mod tests;

@@ -1,0 +1,9 @@
+pub mod TableLemmas
+pub mod DeedLemmas
+pub mod TrailLemmas
+pub mod PlaceLemmas
+pub mod StatementEquations
+pub mod UpdateLemmas
+pub mod BirthLemmas
+pub mod StepLemmas
+pub mod NumberLemmas

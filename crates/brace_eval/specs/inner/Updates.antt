@@ -1,0 +1,39 @@
+-- The stops of an update, one outcome after another. Only the crate's own functions cite this.
+use Rattle.std.specs.Prelude.{◌≡◌, ◌≤ℤ◌, ℕ, pos, List, [], ◌∷◌, ◌++◌, map, zip, slice_get, Option, Some, None}
+use Rattle.brace_model.specs.declared.fault.Stop.{Stop}
+use Rattle.brace_model.specs.declared.program.Gift.{Gift}
+use Rattle.brace_model.specs.declared.program.State.{State}
+use Rattle.brace_model.specs.declared.program.Value.{Value}
+use Rattle.brace_model.specs.declared.program.Class.{Class}
+use Rattle.brace_model.specs.declared.program.Program.{Program}
+use Rattle.brace_model.specs.Value.{Scope, Worth, value}
+use Rattle.brace_model.specs.Next.{earlier_stop, first_stop, ruled}
+
+-- the stop of the lesser site: of one, and of one that was met before it, if any was
+abbrev pub with_stop : Option Stop → Stop → Stop
+with_stop None stop = stop
+with_stop (Some met) stop = earlier_stop met stop
+
+-- the stop of the least site, after some outcomes more
+abbrev pub Meets : List Worth → Option Stop → Option Stop → Type 0
+Meets outcomes before after =
+    (met : List Worth) → before ≡ first_stop met → after ≡ first_stop (met ++ outcomes)
+
+-- what the rules of states come to over their values
+abbrev pub worths : Scope → List State → List Value → List Worth
+worths scope states values = map (λ p. ruled scope p.0.rule p.1) (zip states values)
+
+-- what gifts come to
+abbrev pub gift_worths : Scope → List Gift → List Worth
+gift_worths scope gifts = map (λ g. value g.value scope) gifts
+
+-- no class has a negative reach
+abbrev pub Reaches : Program → Type 0
+Reaches program =
+    (number : ℕ) (class : Class) → slice_get program.classes number ≡ Some class
+    → pos 0 ≤ℤ class.reach
+
+-- a list, and behind it one element that may be there
+abbrev pub with_one : {A : Type 0} → List A → Option A → List A
+with_one xs None = xs
+with_one xs (Some x) = xs ++ x ∷ []

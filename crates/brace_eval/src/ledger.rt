@@ -1,0 +1,50 @@
+ghost use Rattle.std.specs.Prelude.{◌≡◌, ◌∷◌, [], IfOk};
+ghost use Rattle.brace_model.specs.FaultOrder.{with_earlier};
+ghost use Rattle.brace_model.specs.Query.{Saying};
+ghost use Rattle.brace_eval.specs.declared.scene.Scene.{Scene};
+ghost use Rattle.brace_eval.specs.inner.Tables.{IsScene, Notes};
+
+use crate::scene::Scene;
+use brace_draw::Drawer;
+use brace_model::{Fault, Value, earlier};
+use brace_num::NoMemory;
+
+/// What was said and what faulted so far in a tick.
+#[derive(Debug, Drop)]
+pub struct Ledger {
+    /// The totals of all agents, each at the place that the scene has for it.
+    pub totals: Vec<i128>,
+    /// The least fault.
+    pub least: Option<Fault>,
+    pub drawer: Drawer,
+}
+
+/// The earlier of a fault and one that was found before it, if any was.
+pub fn with_earlier(found: Option<Fault>, fault: Fault) -> Fault
+    ensures { result ≡ with_earlier found fault }
+{
+    match found {
+        None => fault,
+        Some(found) => earlier(found, fault),
+    }
+}
+
+impl Ledger {
+    /// Notes a fault.
+    pub fn fault(&mut self, fault: Fault)
+        ensures noted { (scene : Scene) → Notes scene [] (fault ∷ []) self.old self.new }
+        ensures seed { self.new.drawer.seed ≡ self.old.drawer.seed }
+    {
+        self.least = Some(with_earlier(self.least, fault));
+    }
+
+    /// Joins a value to an effect of the agent of an id; there may be none.
+    pub fn say(&mut self, scene: &Scene, id: u64, effect: u32, v: Value) -> Result<(), NoMemory>
+        requires { IsScene scene.now }
+        ensures noted { IfOk result (λ _.
+            Notes scene.now (record { target = id; field = effect; value = v } ∷ []) [] self.old self.new) }
+        ensures seed { self.new.drawer.seed ≡ self.old.drawer.seed }
+    {
+        scene.say(&mut self.totals, id, effect, v)
+    }
+}

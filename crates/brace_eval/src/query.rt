@@ -1,0 +1,276 @@
+ghost use Rattle.std.specs.Prelude.{◌≡◌, ◌++◌, ◌≤◌, ◌^◌, [], map, sum, replicate, false, ◌&&◌, ◌==◌, Some, IfOk};
+ghost use Rattle.std.specs.Result.{result_ok};
+ghost use Rattle.brace_model.specs.World.{no_value, sees};
+ghost use Rattle.brace_model.specs.Value.{value};
+ghost use Rattle.brace_model.specs.Query.{silent, deed_of, constants, query_in, query_of, said_in, query_faults};
+ghost use Rattle.brace_eval.specs.declared.scene.Scene.{Scene};
+ghost use Rattle.brace_eval.specs.inner.Tables.{IsScene, NotesDeed, Keeps};
+ghost use Rattle.brace_eval.specs.inner.Walks.{scope_at, undone, deed_at, block_at, loop_at};
+
+use crate::ledger::Ledger;
+use crate::scene::Scene;
+use crate::seat::{Bound, Seat, bind, is_true, unbind};
+use brace_model::{Agent, Class, Expr, Program, Stmt, Value, class_of, sees};
+use brace_num::{List, NoMemory};
+use std::alloc::Global;
+
+/// The value of an expression, or None where it stops; the fault is noted.
+fn worth(seat: &Seat, e: &Expr, locals: &[Value], ledger: &mut Ledger) -> Option<Value>
+    requires { seat.now.tick ≤ 2 ^ 32 }
+    ensures value { result ≡ result_ok (value e.now (scope_at seat.now ledger.old.drawer.seed locals.now)) }
+    ensures noted { (scene : Scene) → NotesDeed scene
+        (deed_of (scope_at seat.now ledger.old.drawer.seed locals.now)
+        (value e.now (scope_at seat.now ledger.old.drawer.seed locals.now))
+        (λ _. silent (scope_at seat.now ledger.old.drawer.seed locals.now)))
+        ledger.old ledger.new }
+    ensures seed { ledger.new.drawer.seed ≡ ledger.old.drawer.seed }
+{
+    match seat.value(e, locals, &mut ledger.drawer) {
+        Ok(v) => Some(v),
+        Err(stop) => {
+            ledger.fault(seat.fault(stop));
+            None
+        }
+    }
+}
+
+/// Whether a loop over a class takes an agent.
+fn is_taken(program: &Program, class: u32, this: &Agent, other: &Agent) -> bool
+    ensures { result ≡ (other.now.class == class) && sees program.now this.now other.now }
+{
+    other.class == class && sees(program, this, other)
+}
+
+/// Evaluates a statement, and answers whether it was cut short by a fault.
+#[cycle(walk)]
+fn statement<'a>(
+    alloc: Global,
+    scene: &Scene<'a>,
+    s: &Stmt,
+    seat: &Seat<'a>,
+    locals: &mut [Value],
+    trail: &mut Vec<Bound>,
+    ledger: &mut Ledger,
+) -> Result<bool, NoMemory>
+    requires scene { IsScene scene.now }
+    requires ticks { seat.now.tick ≤ 2 ^ 32 }
+    ensures noted { IfOk result (λ _. NotesDeed scene.now
+        (deed_at scene.now seat.now ledger.old.drawer locals.old s.now)
+        ledger.old ledger.new) }
+    ensures stopped { IfOk result (λ stopped. stopped
+        ≡ (deed_at scene.now seat.now ledger.old.drawer locals.old s.now).stopped) }
+    ensures scope { IfOk result (λ stopped. stopped ≡ false
+        → (deed_at scene.now seat.now ledger.old.drawer locals.old s.now).scope
+        ≡ scope_at seat.now ledger.old.drawer.seed locals.new) }
+    ensures undone { IfOk result (λ _. undone trail.new.items locals.new ≡ undone trail.old.items locals.old) }
+    ensures seed { ledger.new.drawer.seed ≡ ledger.old.drawer.seed }
+{
+    match s {
+        Stmt::Const(n, e) => match worth(seat, e, locals, ledger) {
+            Some(v) => {
+                bind(locals, trail, *n, v)?;
+                Ok(false)
+            }
+            None => Ok(true),
+        },
+        Stmt::If(condition, a, b) => match worth(seat, condition, locals, ledger) {
+            Some(v) => {
+                if is_true(v) {
+                    block(alloc, scene, a, seat, locals, ledger)
+                } else {
+                    block(alloc, scene, b, seat, locals, ledger)
+                }
+            }
+            None => Ok(true),
+        },
+        Stmt::Foreach(class, body, _) => {
+            iterations(alloc, scene, *class, body, seat, locals, ledger)?;
+            Ok(false)
+        }
+        Stmt::Assign(who, effect, e, _) => match worth(seat, e, locals, ledger) {
+            Some(v) => {
+                ledger.say(scene, seat.id_of(*who), *effect, v)?;
+                Ok(false)
+            }
+            None => Ok(true),
+        },
+    }
+}
+
+/// Evaluates statements in turn up to the first that is cut short, and answers whether one was.
+#[cycle(walk)]
+fn statements<'a>(
+    alloc: Global,
+    scene: &Scene<'a>,
+    body: &List<Stmt>,
+    seat: &Seat<'a>,
+    locals: &mut [Value],
+    trail: &mut Vec<Bound>,
+    ledger: &mut Ledger,
+) -> Result<bool, NoMemory>
+    requires scene { IsScene scene.now }
+    requires ticks { seat.now.tick ≤ 2 ^ 32 }
+    ensures noted { IfOk result (λ _. NotesDeed scene.now
+        (block_at scene.now seat.now ledger.old.drawer locals.old body.now)
+        ledger.old ledger.new) }
+    ensures stopped { IfOk result (λ stopped. stopped
+        ≡ (block_at scene.now seat.now ledger.old.drawer locals.old body.now).stopped) }
+    ensures undone { IfOk result (λ _. undone trail.new.items locals.new ≡ undone trail.old.items locals.old) }
+    ensures seed { ledger.new.drawer.seed ≡ ledger.old.drawer.seed }
+{
+    for s in body.as_slice() {
+        if statement(alloc, scene, s, seat, locals, trail, ledger)? {
+            return Ok(true);
+        }
+    }
+    Ok(false)
+}
+
+/// Evaluates a block, sets its constants back, and answers whether it was cut short.
+#[cycle(walk)]
+fn block<'a>(
+    alloc: Global,
+    scene: &Scene<'a>,
+    body: &List<Stmt>,
+    seat: &Seat<'a>,
+    locals: &mut [Value],
+    ledger: &mut Ledger,
+) -> Result<bool, NoMemory>
+    requires scene { IsScene scene.now }
+    requires ticks { seat.now.tick ≤ 2 ^ 32 }
+    ensures noted { IfOk result (λ _. NotesDeed scene.now
+        (block_at scene.now seat.now ledger.old.drawer locals.old body.now)
+        ledger.old ledger.new) }
+    ensures stopped { IfOk result (λ stopped. stopped
+        ≡ (block_at scene.now seat.now ledger.old.drawer locals.old body.now).stopped) }
+    ensures locals { IfOk result (λ _. locals.new ≡ locals.old) }
+    ensures seed { ledger.new.drawer.seed ≡ ledger.old.drawer.seed }
+{
+    let mut trail = Vec::new(alloc);
+    let stopped = statements(alloc, scene, body, seat, locals, &mut trail, ledger)?;
+    unbind(locals, trail);
+    Ok(stopped)
+}
+
+/// Evaluates a loop's block at each agent of a class that `this` sees. A fault ends its iteration
+/// alone.
+#[cycle(walk)]
+fn iterations<'a>(
+    alloc: Global,
+    scene: &Scene<'a>,
+    class: u32,
+    body: &List<Stmt>,
+    seat: &Seat<'a>,
+    locals: &mut [Value],
+    ledger: &mut Ledger,
+) -> Result<(), NoMemory>
+    requires scene { IsScene scene.now }
+    requires ticks { seat.now.tick ≤ 2 ^ 32 }
+    ensures noted { IfOk result (λ _. NotesDeed scene.now
+        (loop_at scene.now seat.now ledger.old.drawer locals.old class body.now)
+        ledger.old ledger.new) }
+    ensures locals { IfOk result (λ _. locals.new ≡ locals.old) }
+    ensures seed { ledger.new.drawer.seed ≡ ledger.old.drawer.seed }
+{
+    for other in scene.agents {
+        if is_taken(scene.program, class, seat.this, other) {
+            block(alloc, scene, body, &seat.inside(other), locals, ledger)?;
+        }
+    }
+    Ok(())
+}
+
+/// A place for each constant of a statement.
+#[cycle(places)]
+fn open_statement(s: &Stmt, locals: &mut Vec<Value>) -> Result<(), NoMemory>
+    ensures { IfOk result (λ _. locals.new.items
+        ≡ locals.old.items ++ replicate (constants s.now) no_value) }
+{
+    match s {
+        Stmt::Const(_, _) => Ok(locals.push(Value::Flag(false))?),
+        Stmt::If(_, a, b) => {
+            open_block(a, locals)?;
+            open_block(b, locals)
+        }
+        Stmt::Foreach(_, body, _) => open_block(body, locals),
+        Stmt::Assign(_, _, _, _) => Ok(()),
+    }
+}
+
+/// A place for each constant of a block.
+#[cycle(places)]
+fn open_block(body: &List<Stmt>, locals: &mut Vec<Value>) -> Result<(), NoMemory>
+    ensures { IfOk result (λ _. locals.new.items
+        ≡ locals.old.items ++ replicate (sum (map constants body.now)) no_value) }
+{
+    for s in body.as_slice() {
+        open_statement(s, locals)?;
+    }
+    Ok(())
+}
+
+/// Evaluates the query of an agent of a class.
+fn query_of_class<'a>(
+    alloc: Global,
+    scene: &Scene<'a>,
+    class: &Class,
+    tick: u64,
+    this: &'a Agent,
+    ledger: &mut Ledger,
+) -> Result<(), NoMemory>
+    requires scene { IsScene scene.now }
+    requires ticks { tick ≤ 2 ^ 32 }
+    ensures noted { IfOk result (λ _. NotesDeed scene.now
+        (query_in scene.now.program.now ledger.old.drawer.seed tick scene.now.agents.now this.now (Some class.now))
+        ledger.old ledger.new) }
+    ensures seed { ledger.new.drawer.seed ≡ ledger.old.drawer.seed }
+{
+    let mut locals = Vec::new(alloc);
+    open_block(&class.query, &mut locals)?;
+    let seat = Seat {
+        tick,
+        this,
+        outer: None,
+        inner: None,
+    };
+    block(alloc, scene, &class.query, &seat, &mut locals, ledger)?;
+    Ok(())
+}
+
+/// Evaluates the query of an agent; one without a class has none.
+fn query<'a>(
+    alloc: Global,
+    scene: &Scene<'a>,
+    tick: u64,
+    this: &'a Agent,
+    ledger: &mut Ledger,
+) -> Result<(), NoMemory>
+    requires scene { IsScene scene.now }
+    requires ticks { tick ≤ 2 ^ 32 }
+    ensures noted { IfOk result (λ _. NotesDeed scene.now
+        (query_of scene.now.program.now ledger.old.drawer.seed tick scene.now.agents.now this.now)
+        ledger.old ledger.new) }
+    ensures seed { ledger.new.drawer.seed ≡ ledger.old.drawer.seed }
+{
+    match class_of(scene.program, this) {
+        Some(class) => query_of_class(alloc, scene, class, tick, this, ledger),
+        None => Ok(()),
+    }
+}
+
+/// Evaluates the queries of all agents, by rising id.
+pub fn queries(alloc: Global, scene: &Scene, tick: u64, ledger: &mut Ledger) -> Result<(), NoMemory>
+    requires scene { IsScene scene.now }
+    requires ticks { tick ≤ 2 ^ 32 }
+    requires nothing { Keeps scene.now [] [] ledger.old }
+    ensures kept { IfOk result (λ _. Keeps scene.now
+        (said_in scene.now.program.now ledger.old.drawer.seed tick scene.now.agents.now)
+        (query_faults scene.now.program.now ledger.old.drawer.seed tick scene.now.agents.now)
+        ledger.new) }
+    ensures seed { ledger.new.drawer.seed ≡ ledger.old.drawer.seed }
+{
+    for this in scene.agents {
+        query(alloc, scene, tick, this, ledger)?;
+    }
+    Ok(())
+}
