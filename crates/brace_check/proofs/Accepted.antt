@@ -1,5 +1,5 @@
 -- What holds of the program of a script in which nothing is found.
-use Rattle.std.proofs.Common.{◌≡◌, refl, sym, ap, subst, ◌∙◌, ℕ, zero, suc, ◌+◌, false, List, [], ◌∷◌, map, flat_map, length, arith}
+use Rattle.std.proofs.Common.{◌≡◌, refl, subst, ℕ, zero, suc, ◌+◌, false, List, [], ◌∷◌, map, flat_map, length, arith}
 use Rattle.std.specs.Prelude.{Some, slice_get, unwrap_or, option_to_list}
 use Rattle.brace_syntax.specs.declared.tree.ClassTree.{ClassTree}
 use Rattle.brace_names.specs.declared.resolved.Target.{Target}

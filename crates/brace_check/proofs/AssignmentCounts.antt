@@ -1,14 +1,12 @@
 -- The checks of names count the assignments that the program has.
 use Rattle.std.proofs.Common.{◌≡◌, refl, sym, ap, subst, ◌∙◌, ℕ, suc, ◌+◌, ◌≤◌, Bool, true, false, List, [], ◌∷◌, ◌++◌, map, flat_map, length, length-append, arith}
 use Rattle.std.specs.Prelude.{Option, Some, None, sum, sum_by, slice_get, unwrap_or, option_to_list, if◌then◌else◌}
-use Rattle.std.proofs.lemmas.List.{append-nil, length-map}
 use Rattle.std.proofs.lemmas.List.Sums.{sum_by-cons, sum_by-append}
 use Rattle.std.proofs.lemmas.Grind.{flat_map-append}
 use Rattle.brace_syntax.specs.declared.tree.Ident.{Ident}
 use Rattle.brace_syntax.specs.declared.tree.TyName.{TyName}
 use Rattle.brace_syntax.specs.declared.tree.TyName.TheVariants as tyname
 use Rattle.brace_syntax.specs.declared.tree.ExprTree.{ExprTree}
-use Rattle.brace_syntax.specs.declared.tree.ExprTree.TheVariants as e
 use Rattle.brace_syntax.specs.declared.tree.StmtTree.{StmtTree}
 use Rattle.brace_syntax.specs.declared.tree.StmtTree.TheVariants as s
 use Rattle.brace_syntax.specs.declared.tree.GiftTree.{GiftTree}
@@ -19,7 +17,6 @@ use Rattle.brace_names.specs.declared.resolved.Target.{Target}
 use Rattle.brace_names.specs.declared.fault.NameFault.{NameFault}
 use Rattle.brace_names.specs.declared.fault.NameFault.TheVariants.{DuplicateName}
 use Rattle.brace_names.specs.declared.declared.Field.{Field}
-use Rattle.brace_names.specs.declared.declared.Field.TheVariants as field
 use Rattle.brace_names.specs.declared.scope.Local.{Local}
 use Rattle.brace_names.specs.declared.scope.Local.TheVariants as local
 use Rattle.brace_names.specs.declared.finding.Finding.{Finding}
@@ -32,10 +29,7 @@ use Rattle.brace_names.specs.Found as names
 use Rattle.brace_names.specs.Faults.{assignment_of}
 use Rattle.brace_names.proofs.FoundEquations as q
 use Rattle.brace_model.specs.declared.program.Who.TheVariants.{This}
-use Rattle.brace_model.specs.declared.program.Expr.{Expr}
 use Rattle.brace_model.specs.declared.program.Stmt.{Stmt}
-use Rattle.brace_model.specs.declared.program.Stmt.TheVariants as stmt
-use Rattle.brace_model.specs.declared.program.Gift.{Gift}
 use Rattle.brace_model.specs.declared.program.Spawn.{Spawn}
 use Rattle.brace_model.specs.declared.program.Class.{Class}
 use Rattle.brace_model.specs.Sites.{assignments, class_assignments}
@@ -169,7 +163,7 @@ parts_count (y ∷ ys) n scope k =
     let h : count ((names.part y.0).found n) ≡ assignments head = y.1 n scope k in
     let g : count (names.block (map names.part (stmts_of ys)) (names.behind (names.part y.0) n)) ≡ said tail = parts_count ys (names.behind (names.part y.0) n) (behind (part y.0) scope) j in
     let both : count ((names.part y.0).found n ++ names.block (map names.part (stmts_of ys)) (names.behind (names.part y.0) n))
-        ≡ count ((names.part y.0).found n) + count (names.block (map names.part (stmts_of ys)) (names.behind (names.part y.0) n)) =
+    ≡ count ((names.part y.0).found n) + count (names.block (map names.part (stmts_of ys)) (names.behind (names.part y.0) n)) =
     count-both ((names.part y.0).found n) (names.block (map names.part (stmts_of ys)) (names.behind (names.part y.0) n)) in
     let whole : said (head ∷ tail) ≡ assignments head + said tail = sum_by-cons (λ (k : ℕ). k) (assignments head) (map assignments tail) in
     omega (arith, h, g, both, whole)
@@ -369,6 +363,6 @@ module _ (targets : List (ℕ × Target)) (headings : List Heading) (all : Known
   unfolding count
   few_assignments classes before limit few =
       let both : length (flat_map assignment_of (before ++ flat_map (names.members all) classes))
-          ≡ length (flat_map assignment_of before) + length (flat_map assignment_of (flat_map (names.members all) classes)) = count-both before (flat_map (names.members all) classes) in
+      ≡ length (flat_map assignment_of before) + length (flat_map assignment_of (flat_map (names.members all) classes)) = count-both before (flat_map (names.members all) classes) in
       let h : sum_by class_assignments ((classes_from targets headings 0 classes).behind 0) ≤ length (flat_map assignment_of (flat_map (names.members all) classes)) = classes_count 0 classes 0 in
       omega (arith, few, both, h)

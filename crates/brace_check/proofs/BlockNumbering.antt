@@ -1,10 +1,7 @@
 -- The sites of statements are numbered in finishing order.
-use Rattle.std.proofs.Common.{◌≡◌, refl, sym, ap, subst, ◌∙◌, ℕ, ◌+◌, List, [], ◌∷◌, ◌++◌, map, flat_map, append_assoc}
-use Rattle.std.specs.Prelude.{Option, Some, None}
+use Rattle.std.proofs.Common.{◌≡◌, refl, sym, ap, subst, ◌∙◌, ℕ, List, [], ◌∷◌, ◌++◌, map, flat_map}
+use Rattle.std.specs.Prelude.{Some, None}
 use Rattle.std.specs.List.{concat}
-use Rattle.std.proofs.lemmas.List.{append-nil}
-use Rattle.brace_syntax.specs.declared.tree.Ident.{Ident}
-use Rattle.brace_syntax.specs.declared.tree.ExprTree.{ExprTree}
 use Rattle.brace_syntax.specs.declared.tree.StmtTree.{StmtTree}
 use Rattle.brace_syntax.specs.declared.tree.StmtTree.TheVariants as s
 use Rattle.brace_model.specs.declared.program.Who.{Who}
@@ -15,8 +12,8 @@ use Rattle.brace_model.specs.declared.program.Stmt.TheVariants as stmt
 use Rattle.brace_model.specs.Sites.{sites_of, sites_in}
 use Rattle.brace_model.proofs.LawEquations.{sites_in-Const, sites_in-If, sites_in-Foreach, sites_in-Assign}
 use Rattle.brace_check.specs.Scopes.{Scope, Part, stands, number_of, inside, past, behind, constants_in}
-use Rattle.brace_check.specs.Meanings.{Sited, plain, followed, with_sites, agent_of, expression, assigned, block, otherwise, part, part_step}
-use Rattle.brace_check.proofs.ByKind.{ProvedStmt, stmts_of, Statements, of_statement, proved, stmts-proved}
+use Rattle.brace_check.specs.Meanings.{Sited, plain, followed, with_sites, agent_of, expression, assigned, block, part, part_step}
+use Rattle.brace_check.proofs.ByKind.{ProvedStmt, stmts_of, Statements, proved, stmts-proved}
 use Rattle.brace_check.proofs.Folds.{of-Const, of-when, of-either, of-Foreach, of-Assign, of-AssignThis, of-AssignLoop}
 use Rattle.brace_check.proofs.Numbering.{Numbered, plain_numbered, made_numbered, followed_numbered, expression_numbered}
 

@@ -1,5 +1,5 @@
 -- Statements in which nothing is found are well formed, and the sites that are counted in them are theirs.
-use Rattle.std.proofs.Common.{◌≡◌, refl, sym, ap, subst, ◌∙◌, ℕ, zero, suc, ◌+◌, ◌<◌, ◌≤◌, nat_lt, Bool, true, false, List, [], ◌∷◌, ◌++◌, map, length, length-append, append_assoc, arith, tests}
+use Rattle.std.proofs.Common.{◌≡◌, refl, sym, ap, subst, ◌∙◌, ℕ, suc, ◌+◌, ◌<◌, ◌≤◌, nat_lt, Bool, true, false, List, [], ◌∷◌, ◌++◌, map, length, length-append, append_assoc, arith, tests}
 use Rattle.std.specs.Prelude.{nat_le, ◌&&◌, Option, Some, None, is_some, is_none, option_map, option_and_then, slice_get, if◌then◌else◌}
 use Rattle.std.specs.Str.{bytes_eq}
 use Rattle.std.proofs.lemmas.Bool.{true≢false}
@@ -12,7 +12,6 @@ use Rattle.brace_syntax.specs.declared.tree.ExprTree.{ExprTree}
 use Rattle.brace_syntax.specs.declared.tree.StmtTree.{StmtTree}
 use Rattle.brace_syntax.specs.declared.tree.StmtTree.TheVariants as s
 use Rattle.brace_syntax.specs.declared.tree.StmtTree.TheOpen as layer
-use Rattle.brace_names.specs.declared.resolved.Target.{Target}
 use Rattle.brace_names.specs.declared.finding.Finding.{Finding}
 use Rattle.brace_names.specs.declared.fault.NameFault.{NameFault}
 use Rattle.brace_names.specs.declared.fault.NameFault.TheVariants.{DuplicateName, UnknownClass}
@@ -28,12 +27,10 @@ use Rattle.brace_model.specs.declared.program.Who.TheVariants.{This}
 use Rattle.brace_model.specs.declared.program.Expr.{Expr}
 use Rattle.brace_model.specs.declared.program.Stmt.{Stmt}
 use Rattle.brace_model.specs.declared.program.Stmt.TheVariants as stmt
-use Rattle.brace_model.specs.declared.program.Class.{Class}
 use Rattle.brace_model.specs.Typing.{Names, only, is_of_type, within_loop, in_turn, scope_after, type_of as type_in}
 use Rattle.brace_model.proofs.LawEquations.{scope_after-Const, scope_after-If, scope_after-Foreach}
 use Rattle.brace_check.specs.declared.fault.CheckFault.{CheckFault}
 use Rattle.brace_check.specs.declared.fault.CheckFault.TheVariants.{NestedTooDeep}
-use Rattle.brace_check.specs.declared.heading.Heading.{Heading}
 use Rattle.brace_check.specs.Headings.{type_named}
 use Rattle.brace_check.specs.Scopes.{Scope, Part, stands, number_of, inside, past, behind, constants_in}
 use Rattle.brace_check.specs.Findings.{assigns, crosses_to, nests, wanted, wanted_of_loop}
@@ -44,9 +41,9 @@ use Rattle.brace_check.specs.Meanings as means
 use Rattle.brace_check.proofs.ByKind.{ProvedStmt, stmts_of, Statements, proved, stmts-proved}
 use Rattle.brace_check.proofs.Folds.{of-Const, of-when, of-either, of-Foreach, of-Assign, of-AssignThis, of-AssignLoop}
 use Rattle.brace_check.proofs.CheckedMembers.{nil_front, nil_back, both_true}
-use Rattle.brace_check.proofs.TypeSound.{Agrees, heading_of, all_front, all_back, same-self, not_if}
+use Rattle.brace_check.proofs.TypeSound.{Agrees, heading_of, all_front, all_back, not_if}
 use Rattle.brace_check.proofs.Places.{Fine, AllFine, found_among}
-use Rattle.brace_check.proofs.Ties.{Tied, tied_past, tied_declared, tied_inside, slice_get-seam}
+use Rattle.brace_check.proofs.Ties.{Tied, tied_past, tied_declared, tied_inside}
 use Rattle.brace_check.proofs.ExprTied.{places, places-both, loop_places, TiedIn}
 use Rattle.brace_check.proofs.Said.{in_value, has_type, said_to_this, said_to_loop}
 
@@ -324,8 +321,7 @@ module _ (class variable other : Ident) (a : List StmtTree) (at : ℕ) (first : 
       let run : List Stmt = (block (map part a) (inside number c)).behind k in
       let under : number < length c.headings = found_among (bytes_eq class.text) (λ (j : ℕ). j < length c.headings) n.known.classes number tied.classes is in
       let count : length m.classes ≡ length c.headings = sym (length-map m.classes heading_of) ∙ ap length tied.agrees.headings in
-      let there : number < length m.classes = omega (arith, under, count) in
-      (
+      let there : number < length m.classes = omega (arith, under, count) in (
         places-both head body [] (block (map part a) (inside number c)).sites
             (places-both (f.loops_over n class other) (f.declares n variable) [] []
             (places-both (f.names_class class.at (class_number n class.text)) (again n) [] [] (no_class class.at (class_number n class.text))
@@ -351,7 +347,7 @@ module _ (class variable other : Ident) (a : List StmtTree) (at : ℕ) (first : 
         (all_front (Fine c.targets) (f.names_class class.at (class_number n class.text)) (again n) over) in
         let stands_for : ℕ = number_of (stands c class.at) in
         let done : (places (head ++ body) ≡ (block (map part a) (inside stands_for c)).sites)
-            × (scope_after (stmt.Foreach stands_for ((block (map part a) (inside stands_for c)).behind k) at) m ≡ Some m) =
+        × (scope_after (stmt.Foreach stands_for ((block (map part a) (inside stands_for c)).behind k) at) m ≡ Some m) =
         foreach_step n c m tied fine stands_for (named.is ∙ ap (λ (j : ℕ). Some j) (sym named.stands_for)) clean k in
         record {
           sites = done.0;

@@ -1,6 +1,6 @@
 -- What holds of the members of a class in which nothing is found.
-use Rattle.std.proofs.Common.{◌≡◌, refl, sym, ap, subst, ◌∙◌, ℕ, zero, suc, ◌+◌, ◌≤◌, ◌<◌, nat_lt, Bool, true, false, List, [], ◌∷◌, ◌++◌, map, flat_map, length, arith, tests}
-use Rattle.std.specs.Prelude.{not, ◌&&◌, nat_eq, IsTrue, Option, Some, None, slice_get, unwrap_or, sum}
+use Rattle.std.proofs.Common.{◌≡◌, refl, sym, subst, ℕ, zero, suc, ◌+◌, ◌≤◌, ◌<◌, nat_lt, Bool, true, false, List, [], ◌∷◌, ◌++◌, map, flat_map, length, arith, tests}
+use Rattle.std.specs.Prelude.{not, ◌&&◌, nat_eq, IsTrue, slice_get, unwrap_or, sum}
 use Rattle.std.specs.List.{AllByRecursion, IsDistinct, list_all, range_with_len}
 use Rattle.std.proofs.lemmas.Bool.{true≢false, ne_eqb}
 use Rattle.brace_syntax.specs.declared.tree.MemberTree.{MemberTree}
@@ -13,10 +13,9 @@ use Rattle.brace_model.specs.Lawful.{is_distance, combines}
 use Rattle.brace_check.specs.declared.fault.CheckFault.{CheckFault}
 use Rattle.brace_check.specs.declared.fault.CheckFault.TheVariants.{BadRange, WrongCombinator}
 use Rattle.brace_check.specs.declared.heading.Heading.{Heading}
-use Rattle.brace_check.specs.declared.share.Share.{Share}
 use Rattle.brace_check.specs.Headings.{type_named, comb_named}
 use Rattle.brace_check.specs.Scopes.{outermost}
-use Rattle.brace_check.specs.Findings.{fault_if, millionths, ranges, joins}
+use Rattle.brace_check.specs.Findings.{fault_if, millionths}
 use Rattle.brace_check.specs.Found.{member}
 use Rattle.brace_check.specs.Programs.{effect_of, visible_of, reach_of, first_or_0, share, shares}
 use Rattle.brace_check.proofs.Rising.{Rises, range_rises}

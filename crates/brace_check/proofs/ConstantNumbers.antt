@@ -1,10 +1,8 @@
 -- The constants of a class are numbered in text order.
-use Rattle.std.proofs.Common.{◌≡◌, refl, sym, ap, subst, ◌∙◌, ℕ, ◌+◌, List, [], ◌∷◌, ◌++◌, map, flat_map, length, length-append, arith}
+use Rattle.std.proofs.Common.{◌≡◌, refl, sym, ap, subst, ◌∙◌, ℕ, ◌+◌, List, [], ◌∷◌, ◌++◌, map, flat_map, length, length-append}
 use Rattle.std.specs.Prelude.{Some, None, sum}
 use Rattle.std.specs.List.{concat, range_with_len}
 use Rattle.std.proofs.lemmas.List.Sums.{sum_by-cons}
-use Rattle.brace_syntax.specs.declared.tree.Ident.{Ident}
-use Rattle.brace_syntax.specs.declared.tree.ExprTree.{ExprTree}
 use Rattle.brace_syntax.specs.declared.tree.StmtTree.{StmtTree}
 use Rattle.brace_syntax.specs.declared.tree.StmtTree.TheVariants as s
 use Rattle.brace_model.specs.declared.program.Ty.{Ty}
@@ -19,7 +17,7 @@ use Rattle.brace_model.proofs.LawEquations.{constant_numbers-Const, constant_num
 use Rattle.brace_model.proofs.ValueEquations.{constants-Const, constants-If, constants-Foreach, constants-Assign}
 use Rattle.brace_check.specs.Scopes.{Scope, Part, stands, number_of, inside, past, behind, constants_in}
 use Rattle.brace_check.specs.Meanings.{Sited, agent_of, expression, block, part, part_step}
-use Rattle.brace_check.proofs.ByKind.{ProvedStmt, stmts_of, Statements, of_statement, proved, stmts-proved}
+use Rattle.brace_check.proofs.ByKind.{ProvedStmt, stmts_of, Statements, proved, stmts-proved}
 use Rattle.brace_check.proofs.Folds.{of-Const, of-when, of-either, of-Foreach, of-Assign, of-AssignThis, of-AssignLoop}
 use Rattle.brace_check.proofs.Numbering.{numbers-joined}
 

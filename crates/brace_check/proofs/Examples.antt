@@ -1,7 +1,6 @@
 -- Small scripts, with the fault that is answered or the program that they stand for, computed by the definitions.
-use Rattle.std.proofs.Common.{◌≡◌, refl, ℕ, ℤ, pos, List, [], ◌∷◌, true, false, Some, None, codes}
+use Rattle.std.proofs.Common.{◌≡◌, refl, ℕ, pos, List, [], ◌∷◌, true, false, Some, None, codes}
 use Rattle.brace_syntax.specs.declared.tree.Ident.{Ident}
-use Rattle.brace_syntax.specs.declared.tree.Number.{Number}
 use Rattle.brace_syntax.specs.declared.tree.TyName.TheVariants as type
 use Rattle.brace_syntax.specs.declared.tree.CombName.TheVariants as comb
 use Rattle.brace_syntax.specs.declared.tree.BinName.TheVariants as op
@@ -12,7 +11,6 @@ use Rattle.brace_syntax.specs.declared.tree.StmtTree.{StmtTree}
 use Rattle.brace_syntax.specs.declared.tree.StmtTree.TheVariants as s
 use Rattle.brace_syntax.specs.declared.tree.MemberTree.{MemberTree}
 use Rattle.brace_syntax.specs.declared.tree.MemberTree.TheVariants as m
-use Rattle.brace_syntax.specs.declared.tree.ClassTree.{ClassTree}
 use Rattle.brace_names.specs.declared.resolved.Target.{Target}
 use Rattle.brace_names.specs.declared.resolved.Target.TheVariants as target
 use Rattle.brace_names.specs.declared.resolved.Binding.{Binding}
@@ -22,7 +20,6 @@ use Rattle.brace_model.specs.declared.program.Value.TheVariants as val
 use Rattle.brace_model.specs.declared.program.BinOp.TheVariants as bin
 use Rattle.brace_model.specs.declared.program.Who.TheVariants as who
 use Rattle.brace_model.specs.declared.program.Expr.TheVariants as expr
-use Rattle.brace_model.specs.declared.program.Program.{Program}
 use Rattle.brace_check.specs.declared.fault.CheckFault.TheVariants as fault
 use Rattle.brace_check.specs.Faults.{first, faults}
 use Rattle.brace_check.specs.Programs.{program_of}

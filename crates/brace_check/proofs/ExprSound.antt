@@ -1,47 +1,40 @@
 -- Where the checks give an expression a type, what it means has that type: kind by kind.
-use Rattle.std.proofs.Common.{◌≡◌, refl, sym, ap, subst, ◌∙◌, ℕ, zero, suc, ◌+◌, ◌≤◌, Bool, true, false, List, [], ◌∷◌, ◌++◌, map, length, arith, inl, inr}
-use Rattle.std.specs.Prelude.{nat_eq, not, ◌&&◌, ◌||◌, ◌==◌, Option, Some, None, option_map, option_and_then, slice_get, Result, Ok, Err, if◌then◌else◌}
-use Rattle.std.specs.List.{AllByRecursion}
-use Rattle.std.proofs.lemmas.Option.{slice_get-map, slice_get_past}
+use Rattle.std.proofs.Common.{◌≡◌, refl, sym, ap, subst, ◌∙◌, ℕ, zero, suc, ◌+◌, ◌≤◌, Bool, true, false, List, [], ◌∷◌, ◌++◌, length, arith, inl, inr}
+use Rattle.std.specs.Prelude.{not, ◌&&◌, ◌||◌, ◌==◌, Option, Some, None, option_map, option_and_then, slice_get, Ok, if◌then◌else◌}
+use Rattle.std.proofs.lemmas.Option.{slice_get_past}
 use Rattle.std.proofs.lemmas.Bool.{true≢false, cases_Bool}
 use Rattle.brace_syntax.specs.declared.tree.Ident.{Ident}
 use Rattle.brace_syntax.specs.declared.tree.Digits.{Digits}
 use Rattle.brace_syntax.specs.declared.tree.Digits.TheVariants as d
 use Rattle.brace_syntax.specs.declared.tree.ExprTree.{ExprTree}
 use Rattle.brace_syntax.specs.declared.tree.ExprTree.TheVariants as e
-use Rattle.brace_syntax.specs.declared.tree.ExprTree.TheOpen as layer
-use Rattle.brace_syntax.specs.declared.tree.ExprTree.TheFolds.{fold-ExprTree}
 use Rattle.brace_names.specs.declared.resolved.Target.{Target}
 use Rattle.brace_names.specs.declared.resolved.Target.TheVariants as target
 use Rattle.brace_model.specs.declared.program.Ty.{Ty}
 use Rattle.brace_model.specs.declared.program.Ty.TheVariants as ty
 use Rattle.brace_model.specs.declared.program.Value.TheVariants as val
-use Rattle.brace_model.specs.declared.program.Who.{Who}
-use Rattle.brace_model.specs.declared.program.Who.TheVariants.{This, Outer, Inner}
+use Rattle.brace_model.specs.declared.program.Who.TheVariants.{This}
 use Rattle.brace_model.specs.declared.program.UnOp.{UnOp}
 use Rattle.brace_model.specs.declared.program.BinOp.{BinOp}
 use Rattle.brace_model.specs.declared.program.Expr.{Expr}
 use Rattle.brace_model.specs.declared.program.Expr.TheVariants as expr
-use Rattle.brace_model.specs.declared.program.State.{State}
 use Rattle.brace_model.specs.declared.program.Effect.{Effect}
-use Rattle.brace_model.specs.declared.program.Class.{Class}
 use Rattle.brace_model.specs.Typing.{Names, same_type, only, type_of_value, class_named, may_name, state_type, effect_named, constant_type, is_sited, is_sum, unary_faults, binary_faults, unary_type, binary_type, choice_type, total_type, type_of as type_in}
 use Rattle.brace_model.proofs.LawEquations as model
 use Rattle.brace_check.specs.declared.fault.CheckFault.{CheckFault}
 use Rattle.brace_check.specs.declared.fault.CheckFault.TheVariants.{OtherAgentInUpdate, ReadsEffectInQuery, PrivateOfOtherClass}
 use Rattle.brace_check.specs.declared.heading.StateHeading.{StateHeading}
 use Rattle.brace_check.specs.declared.heading.EffectHeading.{EffectHeading}
-use Rattle.brace_check.specs.declared.heading.Heading.{Heading}
 use Rattle.brace_check.specs.Scopes.{Scope, stands, state_in, effect_in, number_of, loop_class}
 use Rattle.brace_check.specs.Types.{unary_named, binary_named, digits_type, field_type, name_type, of_loop_type, typed_at, with_type, type_of}
-use Rattle.brace_check.specs.Findings.{fault_if, reads, is_shared, is_private, crosses, reads_of_loop}
+use Rattle.brace_check.specs.Findings.{reads, is_private, crosses, reads_of_loop}
 use Rattle.brace_check.specs.Found.{expression as found_in}
-use Rattle.brace_check.specs.Meanings.{Sited, plain, literal, total, named, loop_agent, agent_of, unary, binary, choice, expression}
+use Rattle.brace_check.specs.Meanings.{Sited, literal, total, named, loop_agent, agent_of, expression}
 use Rattle.brace_check.proofs.ByKind.{Expressions, of_expression}
-use Rattle.brace_check.proofs.Folds.{of-Lit, of-True, of-False, of-Name, of-OfThis, of-OfLoop, of-Unary, of-Binary, of-Choice, of-Rand}
+use Rattle.brace_check.proofs.Folds.{of-Name, of-Unary, of-Binary, of-Choice}
 use Rattle.brace_check.proofs.Equations.{type-Lit, type-True, type-False, type-Name, type-OfThis, type-OfLoop, type-Unary, type-Binary, type-Choice, type-Rand, found-Name, found-OfThis, found-OfLoop, found-Unary, found-Binary, found-Choice, meant-Lit, meant-True, meant-False, meant-Name, meant-OfThis, meant-OfLoop, meant-Unary, meant-Binary, meant-Choice, meant-Rand}
 use Rattle.brace_check.proofs.CheckedMembers.{nil_front, nil_back}
-use Rattle.brace_check.proofs.TypeSound.{Agrees, local_of, locals_step, locals, Knows, all_front, all_back, same-self, sited, TypeOk, type_ok, typed_ok, not_if, EffectIs, effect_heading, state_typed, effect_is, own_may, own_is}
+use Rattle.brace_check.proofs.TypeSound.{Agrees, local_of, locals_step, locals, Knows, all_front, all_back, same-self, sited, TypeOk, type_ok, typed_ok, not_if, EffectIs, state_typed, effect_is, own_may, own_is}
 
 record Mapped {A : Type 0} (f : A → Ty) (o : Option A) (t : Ty) : Type 0 where
   pub inner : A

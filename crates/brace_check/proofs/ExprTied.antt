@@ -1,7 +1,6 @@
 -- The sites that the checks of names count in an expression are those that it has, and its constants are known.
-use Rattle.std.proofs.Common.{◌≡◌, refl, sym, ap, subst, ◌∙◌, ℕ, Bool, true, false, List, [], ◌∷◌, ◌++◌, flat_map, append_assoc, inl, inr}
-use Rattle.std.specs.Prelude.{not, ◌&&◌, Option, Some, None, slice_get, if◌then◌else◌}
-use Rattle.std.specs.List.{AllByRecursion}
+use Rattle.std.proofs.Common.{◌≡◌, refl, sym, ap, subst, ◌∙◌, ℕ, Bool, true, false, List, [], ◌∷◌, ◌++◌, flat_map, append_assoc}
+use Rattle.std.specs.Prelude.{not, ◌&&◌, Option, Some, None, if◌then◌else◌}
 use Rattle.std.specs.Str.{bytes_eq}
 use Rattle.std.proofs.lemmas.Bool.{true≢false}
 use Rattle.std.proofs.lemmas.Grind.{flat_map-append}
@@ -13,7 +12,6 @@ use Rattle.brace_syntax.specs.declared.tree.BinName.TheVariants as bin
 use Rattle.brace_syntax.specs.declared.tree.ExprTree.{ExprTree}
 use Rattle.brace_syntax.specs.declared.tree.ExprTree.TheVariants as e
 use Rattle.brace_names.specs.declared.resolved.Target.{Target}
-use Rattle.brace_names.specs.declared.resolved.Target.TheVariants as target
 use Rattle.brace_names.specs.declared.declared.Field.{Field}
 use Rattle.brace_names.specs.declared.declared.Field.TheVariants as field
 use Rattle.brace_names.specs.declared.scope.Local.{Local}
@@ -28,10 +26,9 @@ use Rattle.brace_names.specs.Faults.{site_of}
 use Rattle.brace_names.proofs.FoundEquations as q
 use Rattle.brace_model.specs.declared.program.Expr.{Expr}
 use Rattle.brace_model.specs.Typing.{Names, is_sum, unary_faults, binary_faults}
-use Rattle.brace_check.specs.declared.fault.CheckFault.{CheckFault}
 use Rattle.brace_check.specs.declared.fault.CheckFault.TheVariants.{ReadsEffectInQuery}
 use Rattle.brace_check.specs.declared.heading.EffectHeading.{EffectHeading}
-use Rattle.brace_check.specs.Scopes.{Scope, stands, effect_in}
+use Rattle.brace_check.specs.Scopes.{Scope, stands}
 use Rattle.brace_check.specs.Types.{unary_named, binary_named}
 use Rattle.brace_check.specs.Findings.{reads}
 use Rattle.brace_check.specs.Found.{expression as found_in}

@@ -1,9 +1,8 @@
 -- The numbers that the checks of names give to fields and classes are those of the program.
-use Rattle.std.proofs.Common.{◌≡◌, refl, sym, ap, subst, ◌∙◌, ℕ, zero, suc, ◌+◌, ◌<◌, ◌≤◌, Bool, true, false, List, [], ◌∷◌, ◌++◌, map, flat_map, fold, length, length-append, append_assoc, arith, inl, inr}
+use Rattle.std.proofs.Common.{◌≡◌, refl, sym, ap, subst, ◌∙◌, ℕ, ◌+◌, ◌<◌, ◌≤◌, Bool, true, false, List, [], ◌∷◌, ◌++◌, map, flat_map, fold, length, length-append, append_assoc, arith, inl, inr}
 use Rattle.std.specs.Prelude.{cond, Option, Some, None, option_map, option_and_then, slice_get}
 use Rattle.std.specs.List.{AllByRecursion}
 use Rattle.std.specs.Map.{lookup}
-use Rattle.std.specs.Str.{bytes_eq}
 use Rattle.std.proofs.lemmas.Bool.{cases_Bool, true≢false}
 use Rattle.std.proofs.lemmas.List.{length-map}
 use Rattle.std.proofs.lemmas.Option.{slice_get-map}
@@ -16,15 +15,15 @@ use Rattle.brace_syntax.specs.declared.tree.MemberTree.TheVariants as m
 use Rattle.brace_syntax.specs.declared.tree.ClassTree.{ClassTree}
 use Rattle.brace_names.specs.declared.declared.Field.{Field}
 use Rattle.brace_names.specs.declared.declared.Field.TheVariants as field
-use Rattle.brace_names.specs.Tables.{look, has, with_name, table}
-use Rattle.brace_names.specs.Classes.{Known, known, fields_behind, fields, numbered_from, is_sum}
+use Rattle.brace_names.specs.Tables.{has, with_name, table}
+use Rattle.brace_names.specs.Classes.{known, fields_behind, fields, numbered_from, is_sum}
 use Rattle.brace_model.specs.Typing as model
 use Rattle.brace_check.specs.declared.heading.StateHeading.{StateHeading}
 use Rattle.brace_check.specs.declared.heading.EffectHeading.{EffectHeading}
 use Rattle.brace_check.specs.declared.heading.Heading.{Heading}
 use Rattle.brace_check.specs.Headings.{type_named, comb_named, state_of, effect_of, heading}
-use Rattle.brace_check.proofs.Rising.{Rises, rises-joined, bounds_rise}
-use Rattle.brace_check.proofs.Ties.{StateIs, EffectIn, FieldIs, FieldsFit, each, named_too, slice_get-seam}
+use Rattle.brace_check.proofs.Rising.{Rises, rises-joined}
+use Rattle.brace_check.proofs.Ties.{FieldIs, FieldsFit, each, named_too, slice_get-seam}
 
 sums_alike : (c : CombName) → model.is_sum (comb_named c) ≡ is_sum c
 sums_alike combname.Sum = refl
@@ -59,8 +58,7 @@ fields_of : (states : List StateHeading) (effects : List EffectHeading) (members
 fields_of states effects [] = tt
 fields_of states effects (m.State shared type name x at ∷ members) =
     let one : StateHeading = record { ty = type_named type; shared = shared } in
-    let seam : (states ++ one ∷ []) ++ flat_map state_of members ≡ states ++ one ∷ flat_map state_of members = append_assoc states (one ∷ []) (flat_map state_of members) in
-    (
+    let seam : (states ++ one ∷ []) ++ flat_map state_of members ≡ states ++ one ∷ flat_map state_of members = append_assoc states (one ∷ []) (flat_map state_of members) in (
       record { heading = one; is = slice_get-seam states one (flat_map state_of members) },
       subst (λ (l : List StateHeading). AllOf l (effects ++ flat_map effect_of members) (fields_behind (length states + 1) (length effects) members)) seam
           (subst (λ (k : ℕ). AllOf ((states ++ one ∷ []) ++ flat_map state_of members) (effects ++ flat_map effect_of members) (fields_behind k (length effects) members))
@@ -68,8 +66,7 @@ fields_of states effects (m.State shared type name x at ∷ members) =
     )
 fields_of states effects (m.Effect shared type name c at ∷ members) =
     let one : EffectHeading = record { ty = type_named type; shared = shared; comb = comb_named c } in
-    let seam : (effects ++ one ∷ []) ++ flat_map effect_of members ≡ effects ++ one ∷ flat_map effect_of members = append_assoc effects (one ∷ []) (flat_map effect_of members) in
-    (
+    let seam : (effects ++ one ∷ []) ++ flat_map effect_of members ≡ effects ++ one ∷ flat_map effect_of members = append_assoc effects (one ∷ []) (flat_map effect_of members) in (
       record { heading = one; is = slice_get-seam effects one (flat_map effect_of members); adds = sums_alike c },
       subst (λ (l : List EffectHeading). AllOf (states ++ flat_map state_of members) l (fields_behind (length states) (length effects + 1) members)) seam
           (subst (λ (k : ℕ). AllOf (states ++ flat_map state_of members) ((effects ++ one ∷ []) ++ flat_map effect_of members) (fields_behind (length states) k members))

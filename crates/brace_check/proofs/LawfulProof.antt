@@ -1,6 +1,6 @@
 -- The program of a script that is read from a source, and in which nothing is found, is lawful.
-use Rattle.std.proofs.Common.{◌≡◌, refl, sym, ap, subst, ◌∙◌, ℕ, zero, suc, ◌+◌, ◌<◌, ◌≤◌, Bool, true, false, List, [], ◌∷◌, ◌++◌, map, flat_map, length, append_assoc, arith}
-use Rattle.std.specs.Prelude.{nat_lt, nat_eq, ◌&&◌, IsTrue, Option, Some, None, slice_get, unwrap_or, codes, is_some, if◌then◌else◌}
+use Rattle.std.proofs.Common.{◌≡◌, refl, sym, ap, subst, ◌∙◌, ℕ, zero, suc, ◌+◌, ◌<◌, ◌≤◌, Bool, true, false, List, [], ◌∷◌, ◌++◌, map, flat_map, length, arith}
+use Rattle.std.specs.Prelude.{nat_eq, ◌&&◌, IsTrue, Option, Some, None, slice_get, codes, is_some, if◌then◌else◌}
 use Rattle.std.specs.Option.{option_map}
 use Rattle.std.specs.List.{AllByRecursion, IsDistinct, list_all, list_any}
 use Rattle.std.specs.Str.{bytes_eq}
@@ -9,11 +9,8 @@ use Rattle.std.proofs.lemmas.List.{length-map}
 use Rattle.std.proofs.lemmas.Grind.{flat_map-append}
 use Rattle.std.proofs.lemmas.Option.{slice_get-map}
 use Rattle.brace_num.specs.Names.{is_name}
-use Rattle.brace_syntax.specs.Reads.{ReadsClasses}
 use Rattle.brace_syntax.specs.declared.tree.Ident.{Ident}
 use Rattle.brace_syntax.specs.declared.tree.ClassTree.{ClassTree}
-use Rattle.brace_syntax.specs.declared.tree.Tree.{Tree}
-use Rattle.brace_tok.specs.declared.kinds.Token.{Token}
 use Rattle.brace_names.specs.declared.resolved.Target.{Target}
 use Rattle.brace_names.specs.declared.resolved.Binding.{Binding}
 use Rattle.brace_names.specs.declared.resolved.Resolved.{Resolved}
@@ -24,7 +21,7 @@ use Rattle.brace_names.specs.declared.fault.Which.{Which}
 use Rattle.brace_names.specs.declared.fault.Which.TheVariants as which
 use Rattle.brace_names.specs.declared.declared.Field.{Field}
 use Rattle.brace_names.specs.Tables.{table, repeated}
-use Rattle.brace_names.specs.Classes.{Known, known, title, fields, is_coordinate, has_position}
+use Rattle.brace_names.specs.Classes.{known, title, fields, is_coordinate, has_position}
 use Rattle.brace_names.specs.Scopes as scopes
 use Rattle.brace_names.specs.Findings as f
 use Rattle.brace_names.specs.Found as names
@@ -35,7 +32,6 @@ use Rattle.brace_names.proofs.NameOrder.{bindings_rise}
 use Rattle.brace_names.proofs.TreeOrder.{of_script}
 use Rattle.brace_model.specs.declared.program.State.{State}
 use Rattle.brace_model.specs.declared.program.Spawn.{Spawn}
-use Rattle.brace_model.specs.declared.program.Stmt.{Stmt}
 use Rattle.brace_model.specs.declared.program.Class.{Class}
 use Rattle.brace_model.specs.declared.program.Program.{Program}
 use Rattle.brace_model.specs.Typing.{Names, in_turn, scope_after}
@@ -58,9 +54,9 @@ use Rattle.brace_check.proofs.Places.{Fine, AllFine, all_fine}
 use Rattle.brace_check.proofs.Ties.{Tied}
 use Rattle.brace_check.proofs.FieldNumbers.{fields_fit, others_fit, classes_fit, own_rises}
 use Rattle.brace_check.proofs.NamesDiffer.{text, names_differ, few_names, few_of, has_its_position, fields_count, fields_differ, is_placed}
-use Rattle.brace_check.proofs.MembersTied.{MembersOk, members_ok, Born, Asked, first_asked}
+use Rattle.brace_check.proofs.MembersTied.{MembersOk, members_ok, Born, first_asked}
 use Rattle.brace_check.proofs.ExprTied.{places, places-both}
-use Rattle.brace_check.proofs.Words.{Worded, WordedClass, script_worded, fields_named}
+use Rattle.brace_check.proofs.Words.{WordedClass, script_worded, fields_named}
 use Rattle.brace_check.proofs.LoopPlaces.{loops_apart}
 use Rattle.brace_check.proofs.SiteCounts.{sites_differ, sites_below}
 use Rattle.brace_check.proofs.AssignmentCounts.{few_assignments}
@@ -198,7 +194,7 @@ module _ (targets : List (ℕ × Target)) (trees : List ClassTree) (program : Pr
   classes_counted number [] among fine clean = refl
   classes_counted number (class ∷ classes) among fine clean =
       let ok : MembersOk ((shares targets headings number class.members).behind 0).states (rule_scope program number) (query_scope program number)
-          (places (names.members (known trees) class)) (shares targets headings number class.members) =
+      (places (names.members (known trees) class)) (shares targets headings number class.members) =
       class_members number class 0 (among_first number class classes among)
       (all_front (Fine targets) (names.members (known trees) class) (flat_map (names.members (known trees)) classes) fine)
       (nil_front (flat_map (member targets headings number) class.members) (checks.classes_from targets headings (number + 1) classes) clean) in

@@ -17,7 +17,6 @@ use Rattle.brace_syntax.specs.declared.tree.StmtTree.TheVariants as s
 use Rattle.brace_syntax.specs.declared.tree.StmtTree.TheOpen as layer
 use Rattle.brace_syntax.specs.declared.tree.StmtTree.TheFolds.{fold-StmtTree}
 use Rattle.brace_syntax.specs.declared.tree.MemberTree.{MemberTree}
-use Rattle.brace_syntax.specs.declared.tree.MemberTree.TheVariants as m
 use Rattle.brace_syntax.specs.declared.tree.ClassTree.{ClassTree}
 use Rattle.brace_names.specs.declared.resolved.Target.{Target}
 use Rattle.brace_names.specs.Faults.{AreRising}
@@ -29,11 +28,10 @@ use Rattle.brace_model.specs.declared.program.Class.{Class}
 use Rattle.brace_model.specs.Sites.{loop_offsets}
 use Rattle.brace_model.proofs.LawEquations.{loop_offsets-Const, loop_offsets-If, loop_offsets-Foreach, loop_offsets-Assign}
 use Rattle.brace_check.specs.declared.heading.Heading.{Heading}
-use Rattle.brace_check.specs.declared.share.Share.{Share}
 use Rattle.brace_check.specs.Scopes.{Scope, Part, outermost, stands, number_of, inside, past, behind, constants_in}
 use Rattle.brace_check.specs.Meanings.{Sited, agent_of, expression, block, part, part_step}
 use Rattle.brace_check.specs.Programs.{share, shares, class_of, classes_from}
-use Rattle.brace_check.proofs.ByKind.{ProvedStmt, stmts_of, Statements, of_statement, proved, stmts-proved}
+use Rattle.brace_check.proofs.ByKind.{ProvedStmt, stmts_of, Statements, proved, stmts-proved}
 use Rattle.brace_check.proofs.Folds.{of-Const, of-when, of-either, of-Foreach, of-Assign, of-AssignThis, of-AssignLoop}
 
 -- the places of the loops of a statement of a script

@@ -1,6 +1,6 @@
 -- The query and the `spawn` of a class in which nothing is found are well formed, and the sites that are counted are its sites.
-use Rattle.std.proofs.Common.{◌≡◌, refl, sym, ap, subst, ◌∙◌, ℕ, ◌+◌, Bool, true, false, List, [], ◌∷◌, ◌++◌, map, flat_map, length, append_assoc, arith, tests, inl, inr}
-use Rattle.std.specs.Prelude.{nat_eq, ◌&&◌, Option, Some, None, is_some, option_map, option_and_then, slice_get, unwrap_or}
+use Rattle.std.proofs.Common.{◌≡◌, refl, sym, ap, subst, ◌∙◌, ℕ, ◌+◌, true, false, List, [], ◌∷◌, ◌++◌, map, flat_map, length, append_assoc, arith, tests, inl, inr}
+use Rattle.std.specs.Prelude.{nat_eq, Option, Some, None, is_some, option_map, option_and_then, slice_get, unwrap_or}
 use Rattle.std.specs.List.{AllByRecursion, IsDistinct, list_all, filter}
 use Rattle.std.specs.Str.{bytes_eq}
 use Rattle.std.proofs.lemmas.Bool.{cases_Bool, true≢false}
@@ -8,7 +8,6 @@ use Rattle.std.proofs.lemmas.List.{append-nil}
 use Rattle.std.proofs.lemmas.Option.{slice_get-map}
 use Rattle.std.proofs.lemmas.Slice.Eq.{bytes_eq-Decides}
 use Rattle.brace_syntax.specs.declared.tree.Ident.{Ident}
-use Rattle.brace_syntax.specs.declared.tree.StmtTree.{StmtTree}
 use Rattle.brace_syntax.specs.declared.tree.ExprTree.{ExprTree}
 use Rattle.brace_syntax.specs.declared.tree.GiftTree.{GiftTree}
 use Rattle.brace_syntax.specs.declared.tree.MemberTree.{MemberTree}
@@ -28,7 +27,6 @@ use Rattle.brace_names.specs.Found.{is_state, states_given, gifts_found}
 use Rattle.brace_model.specs.declared.program.Ty.{Ty}
 use Rattle.brace_model.specs.declared.program.Ty.TheVariants as ty
 use Rattle.brace_model.specs.declared.program.State.{State}
-use Rattle.brace_model.specs.declared.program.Expr.{Expr}
 use Rattle.brace_model.specs.declared.program.Stmt.{Stmt}
 use Rattle.brace_model.specs.declared.program.Gift.{Gift}
 use Rattle.brace_model.specs.declared.program.Spawn.{Spawn}
@@ -39,17 +37,17 @@ use Rattle.brace_check.specs.declared.heading.StateHeading.{StateHeading}
 use Rattle.brace_check.specs.declared.heading.Heading.{Heading}
 use Rattle.brace_check.specs.declared.share.Share.{Share}
 use Rattle.brace_check.specs.Headings.{type_named}
-use Rattle.brace_check.specs.Scopes.{Scope, outermost, stands, state_in, number_of}
+use Rattle.brace_check.specs.Scopes.{Scope, outermost, stands, number_of}
 use Rattle.brace_check.specs.Findings.{gives, given_type}
 use Rattle.brace_check.specs.Found.{valued}
 use Rattle.brace_check.specs.Found as checks
-use Rattle.brace_check.specs.Meanings.{Sited, expression, block, part}
+use Rattle.brace_check.specs.Meanings.{Sited, expression, part}
 use Rattle.brace_check.specs.Programs.{gifts_in, share, shares}
 use Rattle.brace_check.proofs.CheckedMembers.{nil_front, nil_back, both_true}
 use Rattle.brace_check.proofs.TypeSound.{all_front, all_back, same-self, state_heading}
 use Rattle.brace_check.proofs.Places.{Fine, AllFine, found_among}
 use Rattle.brace_check.proofs.Ties.{Tied, FieldIs, StateIs, joined}
-use Rattle.brace_check.proofs.ExprTied.{places, places-both, TiedIn, expression_tied}
+use Rattle.brace_check.proofs.ExprTied.{places, places-both, TiedIn}
 use Rattle.brace_check.proofs.Said.{in_value, has_type}
 use Rattle.brace_check.proofs.BlockTied.{RunTied, TreesTied, block_tied, no_typed}
 use Rattle.brace_check.proofs.FieldNumbers.{RisesTo, OneName, one_name}

@@ -1,13 +1,11 @@
 -- What the checks of names say of the names of classes and fields, how many there are, and positions.
-use Rattle.std.proofs.Common.{◌≡◌, refl, sym, ap, subst, ◌∙◌, ℕ, zero, suc, ◌+◌, ◌<◌, ◌≤◌, Bool, true, false, List, [], ◌∷◌, ◌++◌, map, flat_map, length, length-append, arith, inl, inr}
-use Rattle.std.specs.Prelude.{◌&&◌, ◌||◌, IsTrue, Option, Some, None, slice_get, codes, if◌then◌else◌}
+use Rattle.std.proofs.Common.{◌≡◌, refl, sym, ap, subst, ◌∙◌, ℕ, zero, suc, ◌+◌, ◌≤◌, Bool, true, false, List, [], ◌∷◌, ◌++◌, map, flat_map, length, arith, inl, inr}
+use Rattle.std.specs.Prelude.{◌&&◌, ◌||◌, Option, Some, None, slice_get, if◌then◌else◌}
 use Rattle.std.specs.Option.{option_map}
-use Rattle.std.specs.List.{AllByRecursion, IsDistinct, list_all, list_any, position_or_len}
+use Rattle.std.specs.List.{AllByRecursion, IsDistinct, list_any}
 use Rattle.std.specs.Str.{bytes_eq}
-use Rattle.std.proofs.lemmas.Bool.{cases_Bool, true≢false, false≢true}
-use Rattle.std.proofs.lemmas.List.{map-append}
-use Rattle.std.proofs.lemmas.List.Folds.{list_any-append, list_all-append}
-use Rattle.std.proofs.lemmas.Option.{slice_get-get_or}
+use Rattle.std.proofs.lemmas.Bool.{cases_Bool, true≢false}
+use Rattle.std.proofs.lemmas.List.Folds.{list_any-append}
 use Rattle.std.proofs.lemmas.Slice.Eq.{bytes_eq-Decides}
 use Rattle.brace_syntax.specs.declared.tree.Ident.{Ident}
 use Rattle.brace_syntax.specs.declared.tree.TyName.{TyName}
@@ -22,12 +20,11 @@ use Rattle.brace_names.specs.declared.fault.Which.{Which}
 use Rattle.brace_names.specs.declared.resolved.Target.{Target}
 use Rattle.brace_names.specs.declared.declared.Field.{Field}
 use Rattle.brace_names.specs.Tables.{repeated, repeated_after}
-use Rattle.brace_names.specs.Classes.{title, fields, fields_behind, is_coordinate, has_position}
+use Rattle.brace_names.specs.Classes.{title, fields_behind, is_coordinate, has_position}
 use Rattle.brace_names.specs.Findings.{faults_at}
 use Rattle.brace_names.specs.Found.{too_many, position}
 use Rattle.brace_model.specs.declared.program.Ty.TheVariants as ty
 use Rattle.brace_model.specs.declared.program.State.{State}
-use Rattle.brace_model.specs.declared.program.Effect.{Effect}
 use Rattle.brace_model.specs.Typing.{same_type}
 use Rattle.brace_model.specs.Lawful.{is_position}
 use Rattle.brace_check.specs.declared.heading.Heading.{Heading}
@@ -281,7 +278,7 @@ module _ (targets : List (ℕ × Target)) (headings : List Heading) (own : ℕ) 
             placed_here axis s (states_at members k) same ∙ stands_here axis shared type name x at members later is
         | inr apart ↦
             placed_later axis s (states_at members k) apart
-                ∙ is_placed axis members k h.1 (stands_later axis shared type name x at members (bytes-apart name.text axis apart) is)
+            ∙ is_placed axis members k h.1 (stands_later axis shared type name x at members (bytes-apart name.text axis apart) is)
       ]
   is_placed axis (m.Effect shared type name c at ∷ members) n h is = is_placed axis members (n + 0) h.1 is
   is_placed axis (m.Visible range at ∷ members) n h is = is_placed axis members (n + 0) h.1 is

@@ -1,9 +1,9 @@
 -- What is found in a script without faults of names: each name that stands for something is found by its place.
 use Rattle.std.proofs.Common.{◌≡◌, refl, sym, ap, subst, ◌∙◌, ℕ, ◌+◌, ◌≤◌, Bool, true, false, List, [], ◌∷◌, ◌++◌, map, flat_map, fold, arith, inl, inr}
-use Rattle.std.specs.Prelude.{⊤, nat_eq, cond, Option, Some, None, is_some}
+use Rattle.std.specs.Prelude.{⊤, nat_eq, cond, Some, None, is_some}
 use Rattle.std.specs.List.{AllByRecursion}
 use Rattle.std.specs.Map.{lookup}
-use Rattle.std.proofs.lemmas.Bool.{cases_Bool, ne_eqb, true≢false}
+use Rattle.std.proofs.lemmas.Bool.{cases_Bool, ne_eqb}
 use Rattle.brace_names.specs.declared.finding.Finding.{Finding}
 use Rattle.brace_names.specs.declared.finding.Finding.TheVariants as finding
 use Rattle.brace_names.specs.declared.resolved.Target.{Target}

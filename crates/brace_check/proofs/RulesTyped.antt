@@ -1,6 +1,6 @@
 -- The rules of an accepted script have the types of their states in its program, and its conditions are bool.
-use Rattle.std.proofs.Common.{◌≡◌, refl, sym, ap, subst, ◌∙◌, ℕ, ◌+◌, ◌≤◌, Bool, true, false, List, [], ◌∷◌, ◌++◌, map, flat_map, length, arith}
-use Rattle.std.specs.Prelude.{not, Option, Some, None, slice_get, Result, Ok, Err}
+use Rattle.std.proofs.Common.{◌≡◌, refl, sym, ap, ◌∙◌, ℕ, ◌+◌, ◌≤◌, Bool, true, false, List, [], ◌∷◌, ◌++◌, map, flat_map, length, arith}
+use Rattle.std.specs.Prelude.{not, Some, None, slice_get, Result, Ok, Err}
 use Rattle.std.specs.List.{AllByRecursion, list_all}
 use Rattle.std.proofs.lemmas.Bool.{true≢false}
 use Rattle.std.proofs.lemmas.List.{map-append}
@@ -14,22 +14,19 @@ use Rattle.brace_model.specs.declared.program.Ty.{Ty}
 use Rattle.brace_model.specs.declared.program.Ty.TheVariants as ty
 use Rattle.brace_model.specs.declared.program.Expr.{Expr}
 use Rattle.brace_model.specs.declared.program.State.{State}
-use Rattle.brace_model.specs.declared.program.Class.{Class}
 use Rattle.brace_model.specs.declared.program.Program.{Program}
 use Rattle.brace_model.specs.Typing.{Names, same_type, is_of_type, constant_type, type_of as type_in}
 use Rattle.brace_model.specs.Lawful.{rule_scope, is_ruled}
-use Rattle.brace_check.specs.declared.fault.CheckFault.{CheckFault}
 use Rattle.brace_check.specs.declared.fault.CheckFault.TheVariants.{WrongType}
 use Rattle.brace_check.specs.declared.heading.StateHeading.{StateHeading}
 use Rattle.brace_check.specs.declared.heading.EffectHeading.{EffectHeading}
 use Rattle.brace_check.specs.declared.heading.Heading.{Heading}
-use Rattle.brace_check.specs.declared.share.Share.{Share}
 use Rattle.brace_check.specs.Headings.{type_named, comb_named, state_of, effect_of, heading}
 use Rattle.brace_check.specs.Scopes.{Scope, outermost}
 use Rattle.brace_check.specs.Types.{type_of, place}
-use Rattle.brace_check.specs.Findings.{fault_if, misfits}
+use Rattle.brace_check.specs.Findings.{misfits}
 use Rattle.brace_check.specs.Found.{expression as found_in, valued, member}
-use Rattle.brace_check.specs.Meanings.{Sited, expression}
+use Rattle.brace_check.specs.Meanings.{expression}
 use Rattle.brace_check.specs.Programs as programs
 use Rattle.brace_check.specs.Programs.{share, shares, class_of, classes_from}
 use Rattle.brace_check.proofs.CheckedMembers.{nil_front, nil_back, both_true}

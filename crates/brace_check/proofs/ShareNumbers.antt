@@ -1,7 +1,6 @@
 -- The sites of a class rise over its rules, over each of its conditions, and over its query.
 use Rattle.std.proofs.Common.{◌≡◌, refl, sym, ap, subst, ◌∙◌, ℕ, ◌+◌, ◌≤◌, List, [], ◌∷◌, ◌++◌, map, flat_map, length, length-append, append_assoc, arith}
-use Rattle.std.specs.Prelude.{true, false, Option, Some, None, option_to_list, slice_get, unwrap_or}
-use Rattle.std.specs.List.{range_with_len}
+use Rattle.std.specs.Prelude.{true, false, Option, Some, None, option_to_list}
 use Rattle.std.proofs.lemmas.List.{append-nil}
 use Rattle.std.proofs.lemmas.Grind.{flat_map-append}
 use Rattle.brace_syntax.specs.declared.tree.ExprTree.{ExprTree}
@@ -17,11 +16,10 @@ use Rattle.brace_model.specs.declared.program.Spawn.{Spawn}
 use Rattle.brace_model.specs.Sites.{sites_of, sites_among, sites_of_spawn}
 use Rattle.brace_check.specs.declared.heading.Heading.{Heading}
 use Rattle.brace_check.specs.declared.share.Share.{Share}
-use Rattle.brace_check.specs.Headings.{type_named}
 use Rattle.brace_check.specs.Scopes.{Scope, outermost, stands, number_of}
-use Rattle.brace_check.specs.Meanings.{Sited, plain, followed, with_sites, expression, block, part}
+use Rattle.brace_check.specs.Meanings.{Sited, followed, expression, block, part}
 use Rattle.brace_check.specs.Programs.{rule, gifts_in, spawn_of, no_share, share, shared_by, shares}
-use Rattle.brace_check.proofs.Rising.{Rises, rises-joined, range_rises, bounds_rise}
+use Rattle.brace_check.proofs.Rising.{Rises, rises-joined, range_rises}
 use Rattle.brace_check.proofs.Numbering.{Numbered, plain_numbered, made_numbered, followed_numbered, expression_numbered}
 use Rattle.brace_check.proofs.BlockNumbering.{block_sites, block_numbered}
 

@@ -1,6 +1,6 @@
 -- Each site of a program stands at one place of it, and all are numbered below their count.
-use Rattle.std.proofs.Common.{◌≡◌, refl, sym, ap, subst, ◌∙◌, ℕ, zero, suc, ◌+◌, ◌<◌, ◌≤◌, nat_lt, Bool, true, false, List, [], ◌∷◌, ◌++◌, map, flat_map, length, length-append, arith, tests, inl, inr, ◌⊎◌}
-use Rattle.std.specs.Prelude.{nat_eq, cond, ◌&&◌, Option, Some, None, slice_get, unwrap_or, option_to_list}
+use Rattle.std.proofs.Common.{◌≡◌, refl, sym, ap, subst, ◌∙◌, ℕ, ◌+◌, ◌<◌, ◌≤◌, nat_lt, Bool, true, false, List, [], ◌∷◌, ◌++◌, flat_map, length, length-append, arith, tests, inl, inr}
+use Rattle.std.specs.Prelude.{nat_eq, cond, slice_get, unwrap_or, option_to_list}
 use Rattle.std.specs.List.{AllByRecursion, IsDistinct, list_all}
 use Rattle.std.proofs.lemmas.Bool.{cases_Bool, cases_lt, ne_eqb}
 use Rattle.std.proofs.lemmas.List.{append-nil}
@@ -9,10 +9,7 @@ use Rattle.brace_syntax.specs.declared.tree.MemberTree.{MemberTree}
 use Rattle.brace_syntax.specs.declared.tree.MemberTree.TheVariants as m
 use Rattle.brace_syntax.specs.declared.tree.ClassTree.{ClassTree}
 use Rattle.brace_names.specs.declared.resolved.Target.{Target}
-use Rattle.brace_model.specs.declared.program.Expr.{Expr}
 use Rattle.brace_model.specs.declared.program.Stmt.{Stmt}
-use Rattle.brace_model.specs.declared.program.State.{State}
-use Rattle.brace_model.specs.declared.program.Spawn.{Spawn}
 use Rattle.brace_model.specs.declared.program.Class.{Class}
 use Rattle.brace_model.specs.Sites.{sites_of, sites_among, sites_of_spawn, class_sites}
 use Rattle.brace_check.specs.declared.heading.Heading.{Heading}
@@ -141,8 +138,8 @@ total-shared x a b =
     let s : times x (asking_sites (a.queries ++ b.queries)) ≡ times x (asking_sites a.queries) + times x (asking_sites b.queries) =
     ap (times x) (flat_map-append block_sites a.queries b.queries) ∙ times-append x (asking_sites a.queries) (asking_sites b.queries) in
     let total : times x (ruled_sites (a.states ++ b.states)) + (times x (asked_sites (a.die ++ b.die)) + (times x (born_sites (a.spawn ++ b.spawn)) + times x (asking_sites (a.queries ++ b.queries))))
-        ≡ (times x (ruled_sites a.states) + (times x (asked_sites a.die) + (times x (born_sites a.spawn) + times x (asking_sites a.queries))))
-        + (times x (ruled_sites b.states) + (times x (asked_sites b.die) + (times x (born_sites b.spawn) + times x (asking_sites b.queries)))) = omega (arith, p, q, r, s) in
+    ≡ (times x (ruled_sites a.states) + (times x (asked_sites a.die) + (times x (born_sites a.spawn) + times x (asking_sites a.queries))))
+    + (times x (ruled_sites b.states) + (times x (asked_sites b.die) + (times x (born_sites b.spawn) + times x (asking_sites b.queries)))) = omega (arith, p, q, r, s) in
     total
 
 -- a member has sites of one kind

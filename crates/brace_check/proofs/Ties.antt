@@ -1,19 +1,18 @@
 -- How the scope of the checks of names, the scope of the check passes and what is in scope in the program are tied at a place.
-use Rattle.std.proofs.Common.{◌≡◌, refl, sym, ap, subst, ◌∙◌, ℕ, zero, suc, ◌+◌, ◌<◌, ◌≤◌, Bool, true, false, List, [], ◌∷◌, ◌++◌, map, length, length-append, arith, inl, inr}
-use Rattle.std.specs.Prelude.{nat_eq, ◌==◌, Option, Some, None, is_none, option_and_then, slice_get, if◌then◌else◌}
+use Rattle.std.proofs.Common.{◌≡◌, refl, sym, ap, subst, ◌∙◌, ℕ, zero, suc, ◌+◌, ◌<◌, Bool, true, false, List, [], ◌∷◌, ◌++◌, length, length-append, arith, inl, inr}
+use Rattle.std.specs.Prelude.{◌==◌, Option, Some, option_and_then, slice_get, if◌then◌else◌}
 use Rattle.std.specs.List.{AllByRecursion}
 use Rattle.std.proofs.lemmas.Bool.{cases_Bool, ne_eqb}
-use Rattle.std.proofs.lemmas.List.{append-nil}
 use Rattle.std.proofs.lemmas.Option.{slice_get_within}
 use Rattle.brace_syntax.specs.declared.tree.Ident.{Ident}
 use Rattle.brace_names.specs.declared.declared.Field.{Field}
 use Rattle.brace_names.specs.declared.declared.Field.TheVariants as field
 use Rattle.brace_names.specs.declared.scope.Local.{Local}
 use Rattle.brace_names.specs.declared.scope.Local.TheVariants as local
-use Rattle.brace_names.specs.Tables.{look, has, with_name}
+use Rattle.brace_names.specs.Tables.{has, with_name}
 use Rattle.brace_names.specs.Scopes as names
 use Rattle.brace_model.specs.declared.program.Ty.{Ty}
-use Rattle.brace_model.specs.Typing.{Names, constant_type, is_sum, within_loop}
+use Rattle.brace_model.specs.Typing.{Names, constant_type, is_sum}
 use Rattle.brace_check.specs.declared.heading.StateHeading.{StateHeading}
 use Rattle.brace_check.specs.declared.heading.EffectHeading.{EffectHeading}
 use Rattle.brace_check.specs.declared.heading.Heading.{Heading}
@@ -115,18 +114,22 @@ module _ (over : List ℕ) (constants more : List Ty) (known : List (ℕ × Ty))
   under_more : (k : ℕ × Ty) → k.0 < length constants → k.0 < length (constants ++ more)
   under_more k few = let size : length (constants ++ more) ≡ length constants + length more = length-append constants more in omega (arith, few, size)
 
+-- constants leave the rest of the scope as it is
+agrees_past : (c : Scope) (m : Names) (types : List Ty) (known : List (ℕ × Ty)) → Agrees c m → Agrees (past types c) (record m { known = known })
+agrees_past c m types known h = record {
+  headings = h.headings;
+  own = h.own;
+  in_rule = h.in_rule;
+  outer = h.outer;
+  inner = h.inner;
+  few = h.few;
+}
+
 -- behind things in which constants stand
 pub tied_past : (n : names.Scope) (c : Scope) (m : Names) (count : ℕ) (types : List Ty) → length types ≡ count → Tied n c m
     → Tied (names.past count n) (past types c) m
 tied_past n c m count types same h = record {
-  agrees = record {
-    headings = h.agrees.headings;
-    own = h.agrees.own;
-    in_rule = h.agrees.in_rule;
-    outer = h.agrees.outer;
-    inner = h.agrees.inner;
-    few = h.agrees.few;
-  };
+  agrees = agrees_past c m types m.known h.agrees;
   own = h.own;
   others = h.others;
   classes = h.classes;
@@ -149,14 +152,7 @@ tied_declared n c m name t h =
     let is : constant_type ((length c.constants, t) ∷ m.known) (length c.constants) ≡ slice_get (c.constants ++ t ∷ []) (length c.constants) =
     ap (λ (b : Bool). if b then Some t else constant_type m.known (length c.constants)) self ∙ sym (slice_get-seam c.constants t []) in
     record {
-      agrees = record {
-        headings = h.agrees.headings;
-        own = h.agrees.own;
-        in_rule = h.agrees.in_rule;
-        outer = h.agrees.outer;
-        inner = h.agrees.inner;
-        few = h.agrees.few;
-      };
+      agrees = agrees_past c m (t ∷ []) ((length c.constants, t) ∷ m.known) h.agrees;
       own = h.own;
       others = h.others;
       classes = h.classes;
@@ -167,8 +163,11 @@ tied_declared n c m name t h =
           (each (λ (e : List ℕ × Local). LocalIs c.over c.constants m.known e.1) (λ (e : List ℕ × Local). LocalIs c.over (c.constants ++ t ∷ []) ((length c.constants, t) ∷ m.known) e.1)
           (λ e is. local_declared c.over c.constants [] m.known t e.1 is) n.locals h.locals)
           (subst (ConstantIs (c.constants ++ t ∷ []) ((length c.constants, t) ∷ m.known)) (sym h.constants) (record { under = last; is = is }));
-      known = (last, each (λ (k : ℕ × Ty). k.0 < length c.constants) (λ (k : ℕ × Ty). k.0 < length (c.constants ++ t ∷ []))
-          (λ k few. under_more c.over c.constants (t ∷ []) m.known k few) m.known h.known);
+      known = (
+        last,
+        each (λ (k : ℕ × Ty). k.0 < length c.constants) (λ (k : ℕ × Ty). k.0 < length (c.constants ++ t ∷ []))
+            (λ k few. under_more c.over c.constants (t ∷ []) m.known k few) m.known h.known,
+      );
     }
 
 local_inside : (over : List ℕ) (class : ℕ) (constants : List Ty) (known : List (ℕ × Ty)) (l : Local) → LocalIs over constants known l → LocalIs (over ++ class ∷ []) constants known l

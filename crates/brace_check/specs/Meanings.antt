@@ -1,6 +1,6 @@
 -- What expressions and statements of a script mean: the same with numbers for names, and each site
 -- numbered by how many sites come before it in finishing order.
-use Rattle.std.specs.Prelude.{ℕ, nat_eq, ◌+◌, pos, Bool, true, false, List, [], ◌∷◌, ◌++◌, map, length, Option, Some, None, if◌then◌else◌}
+use Rattle.std.specs.Prelude.{ℕ, nat_eq, ◌+◌, Bool, true, false, List, [], ◌∷◌, ◌++◌, length, Option, Some, None, if◌then◌else◌}
 use Rattle.brace_model.specs.declared.program.Ty.{Ty}
 use Rattle.brace_model.specs.declared.program.Ty.TheVariants as ty
 use Rattle.brace_model.specs.declared.program.Value.{Value}

@@ -1,5 +1,5 @@
 -- What is in scope at a place of a script, and what the names there stand for.
-use Rattle.std.specs.Prelude.{ℕ, nat_eq, Bool, List, [], ◌∷◌, ◌++◌, fold, flat_map, Option, Some, None, is_some, option_map, option_and_then, slice_get, if◌then◌else◌}
+use Rattle.std.specs.Prelude.{ℕ, nat_eq, Bool, List, [], ◌∷◌, ◌++◌, fold, flat_map, Option, Some, None, is_some, option_and_then, slice_get, if◌then◌else◌}
 use Rattle.std.specs.Map.{lookup}
 use Rattle.brace_model.specs.declared.program.Ty.{Ty}
 use Rattle.brace_names.specs.declared.resolved.Target.{Target}

@@ -9,7 +9,7 @@ use std::alloc::{AllocError, Global};
 const POSITION: &str = "public state fixed x;public state fixed y;";
 
 // The texts of a fault's kind, and scripts that have it at the mark.
-const REFUSED: [(&str, &str); 77] = [
+const REFUSED: [(&str, &str); 79] = [
     ("OtherAgentInUpdate", "class A{$public state int n:@q.n;}"),
     (
         "OtherAgentInUpdate",
@@ -66,6 +66,10 @@ const REFUSED: [(&str, &str); 77] = [
     ),
     (
         "AssignsEffect",
+        "class A{$public effect int e:sum;public effect int f:sum;spawn when true{@f<-1;e<-1;}}",
+    ),
+    (
+        "AssignsEffect",
         "class A{$public void run(){foreach(B q:Extent<B>){q.e<-1;}}}class B{$private effect int \
          e:sum;spawn when true{@e<-1;}}",
     ),
@@ -88,6 +92,11 @@ const REFUSED: [(&str, &str); 77] = [
         "PrivateOfOtherClass",
         "class A{$public void run(){foreach(A p:Extent<A>){foreach(A q:Extent<A>){foreach(B \
          r:Extent<B>){const int k=@r.n;}}}}}class B{$private state int n;}",
+    ),
+    (
+        "PrivateOfOtherClass",
+        "class A{$public void run(){foreach(B q:Extent<B>){const int k=@q.n+q.n;}}}\
+         class B{$private state int n;}",
     ),
     (
         "NestedTooDeep",

@@ -1,8 +1,7 @@
 -- The places of what names stand for are places of tokens, in the same order.
-use Rattle.std.proofs.Common.{◌≡◌, refl, sym, ap, subst, ◌∙◌, ℕ, ◌+◌, ◌<◌, ◌≤◌, Bool, true, false, List, [], ◌∷◌, ◌++◌, map, flat_map, length, arith, append_assoc, ◌⊎◌, inl, inr}
-use Rattle.std.specs.Prelude.{⊤, Option, Some, None, not, ◌&&◌, if◌then◌else◌, slice_get}
+use Rattle.std.proofs.Common.{◌≡◌, refl, sym, ap, subst, ◌∙◌, ℕ, ◌+◌, ◌≤◌, Bool, true, false, List, [], ◌∷◌, ◌++◌, map, flat_map, length, arith}
+use Rattle.std.specs.Prelude.{Option, Some, None, not, ◌&&◌, if◌then◌else◌}
 use Rattle.std.specs.Str.{bytes_eq}
-use Rattle.std.proofs.lemmas.Bool.{cases_Bool}
 use Rattle.std.proofs.lemmas.List.{append-nil}
 use Rattle.std.proofs.lemmas.List.Concat.{flat_map-append, flat_map-cons}
 use Rattle.brace_tok.specs.declared.kinds.Token.{Token}
@@ -18,7 +17,6 @@ use Rattle.brace_names.specs.declared.scope.Local.TheVariants as local
 use Rattle.brace_names.specs.declared.finding.Finding.{Finding}
 use Rattle.brace_names.specs.declared.finding.Finding.TheVariants as finding
 use Rattle.brace_names.specs.declared.resolved.Binding.{Binding}
-use Rattle.brace_names.specs.declared.resolved.Target.{Target}
 use Rattle.brace_names.specs.Scopes.{Scope, is_taken, class_number, field_in, constant_of}
 use Rattle.brace_names.specs.Findings as f
 use Rattle.brace_names.specs.Tables.{look}

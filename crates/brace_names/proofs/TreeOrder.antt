@@ -1,5 +1,5 @@
 -- What the names of a script that is read stand for is in the order of its tokens.
-use Rattle.std.proofs.Common.{◌≡◌, refl, sym, ap, subst, ◌∙◌, ℕ, ◌+◌, ◌<◌, ◌≤◌, Bool, true, false, List, [], ◌∷◌, ◌++◌, map, flat_map, length, arith}
+use Rattle.std.proofs.Common.{◌≡◌, refl, sym, subst, ℕ, Bool, true, false, List, [], ◌∷◌, ◌++◌, map, flat_map}
 use Rattle.std.specs.Prelude.{Option, Some, None, if◌then◌else◌, slice_get}
 use Rattle.std.specs.Option.{option_map}
 use Rattle.std.proofs.lemmas.List.Concat.{flat_map-cons}
@@ -25,7 +25,7 @@ use Rattle.brace_names.specs.Tables.{table, repeated}
 use Rattle.brace_names.specs.Classes.{Known, known, title, fields, has_position}
 use Rattle.brace_names.specs.Scopes.{Scope, outermost, inside, past}
 use Rattle.brace_names.specs.Findings as f
-use Rattle.brace_names.specs.Found.{expression, part, behind, constants_in, block, rule, gift, states_given, gifts_found, member, members, too_many, position, declarations, class_names, found}
+use Rattle.brace_names.specs.Found.{expression, part, behind, constants_in, block, gift, states_given, gifts_found, member, members, too_many, position, declarations, class_names, found}
 use Rattle.brace_names.proofs.FoundEquations as q
 use Rattle.brace_names.proofs.NameOrder as o
 use Rattle.brace_names.proofs.NameOrder.{Named, Silent, append, over, silent, padded, before, silent_both, quiet_nothing, quiet_typed, quiet_declares, quiet_operation, quiet_if, quiet_fault}

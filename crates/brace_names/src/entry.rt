@@ -128,9 +128,9 @@ fn earlier(f: NameFault, g: NameFault) -> NameFault
 fn first(faults: &[NameFault]) -> Option<NameFault>
     ensures { result ≡ first faults.now }
 {
-    let (head, rest) = faults.split_first()?;
-    let mut best = *head;
-    for fault in rest {
+    let (start, later) = faults.split_first()?;
+    let mut best = *start;
+    for fault in later {
         best = earlier(best, *fault);
     }
     Some(best)

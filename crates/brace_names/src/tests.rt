@@ -9,7 +9,7 @@ use std::alloc::{AllocError, Global};
 const POSITION: &str = "public state fixed x;public state fixed y;";
 
 // The texts of a fault's kind, and scripts that have it at the mark.
-const REFUSED: [(&str, &str); 51] = [
+const REFUSED: [(&str, &str); 52] = [
     (
         "DuplicateClass(",
         "class A{$}class B{$}class @A{$}class A{$}",
@@ -143,6 +143,10 @@ const REFUSED: [(&str, &str); 51] = [
         "UnknownName(",
         "class A{public state int n:@m;public state float k;}",
     ),
+    (
+        "UnknownName(",
+        "class A{$public state float k;public state int n:@m;}",
+    ),
     ("UnknownType(", "class A{$public state @A n;}"),
     ("UnknownType(", "class A{$public effect @float n:sum;}"),
     ("UnknownType(", "class A{$public void run(){const @B n=1;}}"),
@@ -242,7 +246,7 @@ fn repeated(
 
 // Fronts, pieces, numbers and backs of scripts; the kind of the fault at the mark, or nothing where
 // there is none.
-const LIMITS: [(&str, &str, u32, &str, &str); 17] = [
+const LIMITS: [(&str, &str, u32, &str, &str); 19] = [
     ("", "class C#{$}", 16, "", ""),
     ("", "class C#{$}", 16, "class @D{$}", "TooMany(Classes, "),
     ("class C{$", "public state int n#;", 62, "}", ""),
@@ -316,6 +320,20 @@ const LIMITS: [(&str, &str, u32, &str, &str); 17] = [
         4096,
         "@this.e<-1;}}",
         "TooMany(Assignments, ",
+    ),
+    (
+        "class C{$public effect int e:sum;public void run(){",
+        "e<- -1;",
+        4096,
+        "@e<- -1;}}",
+        "TooMany(Assignments, ",
+    ),
+    (
+        "class C{$",
+        "public state int n#;",
+        63,
+        "}class @D{}",
+        "NoPosition(",
     ),
     (
         "class C{$public effect int e:sum;public void run(){",

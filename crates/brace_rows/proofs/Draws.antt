@@ -1,6 +1,6 @@
 -- Made agents: the draws in turn, and a lawful world.
-use Rattle.std.proofs.Common.{◌≡◌, ◌≤◌, ◌<◌, ◌+◌, ◌*◌, ◌^◌, ◌∙◌, ℕ, zero, suc, Bool, true, ◌&&◌, List, [], ◌∷◌, ◌++◌, length, map, get_or, Option, Some, None, add-one, sym, refl, ap, ap₂, subst, arith}
-use Rattle.std.specs.Prelude.{nat_le, slice_get, sum_by}
+use Rattle.std.proofs.Common.{◌≡◌, ◌≤◌, ◌<◌, ◌+◌, ◌*◌, ◌^◌, ◌∙◌, ℕ, zero, suc, true, ◌&&◌, [], ◌∷◌, ◌++◌, length, map, get_or, Option, Some, None, sym, refl, ap, ap₂, arith}
+use Rattle.std.specs.Prelude.{nat_le, slice_get}
 use Rattle.std.specs.Fn.{iterate}
 use Rattle.std.specs.List.{list_all, range_with_len}
 use Rattle.std.proofs.lemmas.Bool.{le-leb, false≢true}
@@ -68,9 +68,9 @@ fits_four (Some class) id x y e = e
 pub made_are_lawful : (program : Program) (seed count : ℕ) → has_four_fixed program ≡ true → count ≤ 2 ^ 20 → LawfulAgents program (made_agents seed count)
 made_are_lawful program seed count four few = record {
   each_is_lawful = list_all-from_AllPass (is_lawful_agent program) (made_agents seed count) (λ k d below.
-    let lt : k < count = omega (arith, below, length_made seed count) in
-    rw (at_place seed count k d lt)
-    (ap₂ (λ a b. a && b) (le-leb k greatest_id (omega (arith, lt, few))) (fits_four (slice_get program.classes 0) k (drawn seed (2 * k + 1)) (drawn seed (2 * k + 2)) four)));
+      let lt : k < count = omega (arith, below, length_made seed count) in
+      rw (at_place seed count k d lt)
+      (ap₂ (λ a b. a && b) (le-leb k greatest_id (omega (arith, lt, few))) (fits_four (slice_get program.classes 0) k (drawn seed (2 * k + 1)) (drawn seed (2 * k + 2)) four)));
   few_agents = omega (arith, length_made seed count, few);
   few_values = let four = four_values seed count 0 in omega (arith, four, few);
 }

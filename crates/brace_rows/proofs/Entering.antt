@@ -1,5 +1,5 @@
 -- One agent more among those that are read.
-use Rattle.std.proofs.Common.{◌≡◌, ◌≤◌, ◌<◌, ◌+◌, ◌∙◌, ℕ, Bool, true, false, ◌||◌, List, [], ◌∷◌, ◌++◌, length, map, Option, Some, None, Ok, Err, sym, refl, ap, ap₂, subst, arith, cond, ltb, eqb}
+use Rattle.std.proofs.Common.{◌≡◌, ◌≤◌, ◌+◌, ◌∙◌, ℕ, Bool, true, false, ◌||◌, List, [], ◌∷◌, ◌++◌, length, Some, None, Ok, sym, refl, ap, ap₂, subst, arith, cond}
 use Rattle.std.specs.Prelude.{nat_eq, nat_lt, not}
 use Rattle.std.specs.BTreeSet as tree
 use Rattle.std.specs.BTreeSet.{BTreeSet}
@@ -15,7 +15,6 @@ use Rattle.std.proofs.lemmas.Map.Keys.{IsDistinct-push}
 use Rattle.brace_model.specs.declared.world.Agent.{Agent}
 use Rattle.brace_model.specs.World.{ids}
 use Rattle.brace_model.specs.Step.{most_agents, most_values, count_values}
-use Rattle.brace_rows.specs.declared.kinds.RowKind.{RowKind}
 use Rattle.brace_rows.specs.declared.kinds.RowKind.TheVariants.{DuplicateId, TooMany}
 use Rattle.brace_rows.specs.AgentFile.{are_too_many, fault_behind}
 

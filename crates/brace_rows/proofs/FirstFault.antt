@@ -1,5 +1,5 @@
 -- The first faulty record of a file, found by reading the records in turn.
-use Rattle.std.proofs.Common.{◌≡◌, ◌≤◌, ◌<◌, ◌+◌, ◌-◌, ◌∙◌, ℕ, zero, suc, Bool, Result, Err, List, [], ◌∷◌, ◌++◌, length, take, map, Option, Some, None, sym, refl, ap, ap₂, subst, arith, append-nil, append_assoc, length-append, get_or}
+use Rattle.std.proofs.Common.{◌≡◌, ◌≤◌, ◌<◌, ◌+◌, ◌-◌, ◌∙◌, ℕ, zero, suc, Result, Err, List, [], ◌∷◌, ◌++◌, length, take, Option, Some, None, sym, refl, ap, ap₂, subst, arith, append-nil, append_assoc, length-append, get_or}
 use Rattle.std.specs.Prelude.{filter_map, slice_get, option_map}
 use Rattle.std.specs.List.{range_with_len, cons_option}
 use Rattle.std.proofs.Math.Seq.{take-append_seam, get_or-append_seam}
@@ -11,7 +11,7 @@ use Rattle.brace_model.specs.declared.world.Agent.{Agent}
 use Rattle.brace_rows.specs.declared.kinds.RowKind.{RowKind}
 use Rattle.brace_rows.specs.declared.kinds.RowFault.{RowFault}
 use Rattle.brace_rows.specs.declared.kinds.RowFault.TheVariants.{Bad}
-use Rattle.brace_rows.specs.AgentFile.{Fields, agent_of, agents_in, fault_behind, fault_at, faults_in, first_fault}
+use Rattle.brace_rows.specs.AgentFile.{Fields, agent_of, agents_in, fault_behind, fault_at, first_fault}
 
 -- a number gives nothing, from s on, n of them
 none_given : {X : Type 0} (f : ℕ → Option X) (n s : ℕ) → ((k : ℕ) → s ≤ k → k < s + n → f k ≡ None) → filter_map f (range_with_len s n) ≡ []
@@ -60,9 +60,9 @@ read_more program rows rest fields agents after n r none more = record {
   place = omega (arith, r.place, length-append r.before (fields ∷ []));
   gives = more ∙ ap (λ l. l ++ agents_in program (fields ∷ [])) r.gives ∙ sym (filter_map-append _ r.before (fields ∷ []));
   faultless = λ k from below. ⊎_elim
-    (λ lt. r.faultless k from lt)
-    (λ ge. let same : n ≡ k = omega (arith, ge, below) in subst (λ i. fault_at program rows i ≡ None) same (fault_here program rows rest fields agents n r ∙ sym none))
-    (cases_lt k n);
+      (λ lt. r.faultless k from lt)
+      (λ ge. let same : n ≡ k = omega (arith, ge, below) in subst (λ i. fault_at program rows i ≡ None) same (fault_here program rows rest fields agents n r ∙ sym none))
+      (cases_lt k n);
 }
 
 -- the next record has a fault
@@ -80,10 +80,11 @@ pub read_all : (program : Program) (rows : List Fields) (agents : List Agent) (n
     → (agents ≡ agents_in program rows) × (first_fault program rows ≡ None)
 read_all program rows agents n r =
     let whole : rows ≡ r.before = r.parts ∙ append-nil r.before in
-    let long = ap length whole in
-    (r.gives ∙ ap (agents_in program) (sym whole),
-    ap (λ l. slice_get l 0) (none_given (λ i. option_map (λ k. (i, k)) (fault_at program rows i)) (length rows) 1
-    (λ k from below. ap (option_map (λ q. (k, q))) (r.faultless k from (omega (arith, below, r.place, long))))))
+    let long = ap length whole in (
+      r.gives ∙ ap (agents_in program) (sym whole),
+      ap (λ l. slice_get l 0) (none_given (λ i. option_map (λ k. (i, k)) (fault_at program rows i)) (length rows) 1
+          (λ k from below. ap (option_map (λ q. (k, q))) (r.faultless k from (omega (arith, below, r.place, long))))),
+    )
 
 -- two answers that are one name one record and one kind
 pub same_fault : {W : Type 0} (n m : ℕ) (k j : RowKind) → ◌≡◌ {A = Result W RowFault} (Err (Bad n k)) (Err (Bad m j)) → ◌≡◌ {A = Option (ℕ × RowKind)} (Some (n, k)) (Some (m, j))

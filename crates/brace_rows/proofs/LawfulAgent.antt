@@ -1,6 +1,6 @@
 -- Agents that are read are lawful.
-use Rattle.std.proofs.Common.{◌≡◌, ◌≤◌, ◌<◌, ◌+◌, ◌∙◌, ℕ, zero, suc, Bool, true, false, ◌&&◌, List, [], ◌∷◌, ◌++◌, length, drop, map, zip, get_or, Option, Some, None, ℤ, Result, Ok, Err, sym, refl, ap, ap₂, subst, arith, cond, eqb, leb, inl, inr}
-use Rattle.std.specs.Prelude.{◌⊎◌, nat_le, is_none, option_map, slice_get, unwrap_or, position, filter_map}
+use Rattle.std.proofs.Common.{◌≡◌, ◌+◌, ◌∙◌, ℕ, Bool, true, false, ◌&&◌, List, [], ◌∷◌, ◌++◌, length, drop, map, zip, get_or, Option, Some, None, ℤ, Result, Ok, Err, sym, refl, ap, ap₂, subst, arith, eqb, inl, inr}
+use Rattle.std.specs.Prelude.{◌⊎◌, nat_le, option_map, slice_get, unwrap_or, position}
 use Rattle.std.specs.Cmp.Lexicographic.{pointwise}
 use Rattle.std.specs.List.{list_all, cons_option}
 use Rattle.std.specs.List.Sorted.{IsPermutation}
@@ -25,7 +25,7 @@ use Rattle.brace_model.specs.Lawful.{LawfulAgents, has_states, is_lawful_agent}
 use Rattle.brace_model.specs.Step.{greatest_id}
 use Rattle.brace_model.specs.Typing.{same_type, type_of_value}
 use Rattle.brace_rows.specs.declared.kinds.RowKind.{RowKind}
-use Rattle.brace_rows.specs.AgentFile.{Fields, field, flag_of, value_of, values_in, complete, id_in_range, id_of, states_in, class_named, agent_with, agent_of_class, agent_in, agent_of, agents_in, are_too_many}
+use Rattle.brace_rows.specs.AgentFile.{Fields, field, flag_of, value_of, values_in, complete, id_in_range, id_of, class_named, agent_with, agent_of_class, agent_in, agent_of, agents_in, are_too_many}
 use Rattle.brace_rows.proofs.Entering.{few_agents, few_values}
 use Rattle.brace_rows.proofs.Values.{there, complete_all, complete_gap}
 

@@ -1,8 +1,8 @@
 -- Agents by rising id: there is one such order of agents whose ids differ.
-use Rattle.std.proofs.Common.{◌≡◌, ◌≤◌, ◌<◌, ◌+◌, ◌-◌, ◌^◌, ◌∙◌, ℕ, zero, suc, Bool, true, false, List, [], ◌∷◌, ◌++◌, length, map, get_or, Option, Some, None, sym, refl, ap, ap₂, subst, arith, cond, ltb, eqb, inl, inr, ⊎_elim}
-use Rattle.std.specs.Prelude.{◌⊎◌, ⊤, nat_eq, nat_le, nat_lt, slice_get, unwrap_or, option_map}
+use Rattle.std.proofs.Common.{◌≡◌, ◌≤◌, ◌<◌, ◌+◌, ◌-◌, ◌^◌, ℕ, zero, suc, true, false, List, [], ◌∷◌, length, get_or, Option, sym, refl, ap, ap₂, subst, arith, cond, inl, inr, ⊎_elim}
+use Rattle.std.specs.Prelude.{◌⊎◌, ⊤, nat_eq, nat_le, nat_lt, unwrap_or, option_map}
 use Rattle.std.specs.List.{All, AllByRecursion, IsDistinct, list_all}
-use Rattle.std.specs.List.Sorted.{IsPermutation, IsNonDecreasing, IsNonDecreasingBy, IsStrictlySortedBy}
+use Rattle.std.specs.List.Sorted.{IsPermutation, IsNonDecreasingBy, IsStrictlySortedBy}
 use Rattle.std.specs.Ordering.{nat_cmp}
 use Rattle.std.specs.declared.cmp.Ordering.TheVariants.{Less}
 use Rattle.std.proofs.lemmas.Bool.{cases_Bool, cases_lt, ltb-true, leb-true}
@@ -138,9 +138,9 @@ pub sorted_rises : (xs ys : List Agent) → IsDistinct nat_eq (ids xs) → IsPer
 sorted_rises xs ys d p up =
     let apart : IsDistinct nat_eq (ids ys) = IsDistinct-IsPermutation nat_eq same_test (ids xs) (ids ys) (IsPermutation-map (λ (a : Agent). a.id) xs ys p) d in
     IsStrictlyIncreasing-from_distinct (ids ys) (λ i j e le lt.
-        let d : Agent = record { class = 0; id = 0; states = [] } in
-        let below : j < length ys = omega (arith, lt, length-map ys (λ (a : Agent). a.id)) in
-        rw (get_or-map (λ (a : Agent). a.id) ys i d e (omega (arith, le, below)), get_or-map (λ (a : Agent). a.id) ys j d e below) (up i j d le below)) apart
+    let d : Agent = record { class = 0; id = 0; states = [] } in
+    let below : j < length ys = omega (arith, lt, length-map ys (λ (a : Agent). a.id)) in
+    rw (get_or-map (λ (a : Agent). a.id) ys i d e (omega (arith, le, below)), get_or-map (λ (a : Agent). a.id) ys j d e below) (up i j d le below)) apart
 
 -- such an order is that of the definition
 pub sorted_by_id : (xs ys : List Agent) → IsDistinct nat_eq (ids xs) → IsPermutation xs ys → RisesById ys → ys ≡ by_id xs
@@ -173,8 +173,9 @@ rising_are_numbered xs up low = record { rises = up; below = below_next; in_rang
     below_next k d lt =
         let at_end : k + (length xs - 1 - k) ≡ length xs - 1 = omega (arith, lt) in
         let top : (get_or xs k d).id ≤ (get_or xs (length xs - 1) d).id =
-            subst (λ i. (get_or xs k d).id ≤ (get_or xs i d).id) at_end (last_above xs up (length xs - 1 - k) k d (omega (arith, lt))) in
+        subst (λ i. (get_or xs k d).id ≤ (get_or xs i d).id) at_end (last_above xs up (length xs - 1 - k) k d (omega (arith, lt))) in
         rw (next_of_last xs d (omega (arith, lt))) (omega (arith, top))
+
     next_in_range : least_next xs ≤ 2 ^ 63
     next_in_range = ⊎_elim
         (λ some.

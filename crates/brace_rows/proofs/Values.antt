@@ -1,7 +1,7 @@
 -- The values of a record's fields, read in turn.
-use Rattle.std.proofs.Common.{◌≡◌, ◌≤◌, ◌<◌, ◌+◌, ◌-◌, ◌∙◌, ℕ, zero, suc, Bool, true, false, List, [], ◌∷◌, ◌++◌, length, take, drop, map, zip, get_or, Option, Some, None, Ok, Err, sym, refl, ap, ap₂, subst, arith, cond, ltb, eqb, append-nil}
-use Rattle.std.specs.Prelude.{filter_map, is_none, option_map, position, min}
-use Rattle.std.specs.List.{position_or_len, cons_option}
+use Rattle.std.proofs.Common.{◌≡◌, ◌≤◌, ◌<◌, ◌+◌, ◌∙◌, ℕ, false, List, [], ◌∷◌, ◌++◌, length, take, drop, map, zip, get_or, Option, Some, None, Ok, Err, sym, refl, ap, ap₂, subst, arith, cond, ltb, append-nil}
+use Rattle.std.specs.Prelude.{filter_map, is_none, position}
+use Rattle.std.specs.List.{position_or_len}
 use Rattle.std.proofs.Common.{⊎_elim}
 use Rattle.std.proofs.lemmas.Bool.{cases_lt, lt-ltb}
 use Rattle.std.proofs.lemmas.Bool.Decides.{nat_tests}
@@ -32,9 +32,9 @@ not_below_itself n = grind (arith, nat_tests)
 pub complete_all : (read : List (Option Value)) (values : List Value) → there values ≡ read → complete read ≡ Ok values
 complete_all read values same =
     let at_end : position_or_len is_none (there values) ≡ length (there values) =
-        ap (position_or_len is_none) (sym (append-nil (there values))) ∙ first_gap values [] ∙ sym (length-map values Some ∙ omega arith) in
+    ap (position_or_len is_none) (sym (append-nil (there values))) ∙ first_gap values [] ∙ sym (length-map values Some ∙ omega arith) in
     let none : position is_none (there values) ≡ None =
-        ap (λ i. cond (ltb i (length (there values))) (Some i) None) at_end ∙ ap (λ b. cond b (Some (length (there values))) None) (not_below_itself (length (there values))) in
+    ap (λ i. cond (ltb i (length (there values))) (Some i) None) at_end ∙ ap (λ b. cond b (Some (length (there values))) None) (not_below_itself (length (there values))) in
     subst (λ l. complete l ≡ Ok values) same (ap (without_gap (there values)) none ∙ ap Ok (kept values))
 
 -- a value is missing behind those that are there
@@ -44,7 +44,7 @@ complete_gap values rest =
     let gap : position_or_len is_none read ≡ length values = first_gap values (None ∷ rest) ∙ omega arith in
     let long : length values < length read = omega (arith, length-append (there values) (None ∷ rest), length-map values Some) in
     let some : position is_none read ≡ Some (length values) =
-        ap (λ i. cond (ltb i (length read)) (Some i) None) gap ∙ ap (λ b. cond b (Some (length values)) None) (lt-ltb (length values) (length read) long) in
+    ap (λ i. cond (ltb i (length read)) (Some i) None) gap ∙ ap (λ b. cond b (Some (length values)) None) (lt-ltb (length values) (length read) long) in
     ap (without_gap read) some
 
 pub length_values : (states : List State) (fields : Fields) → length fields ≡ length states + 2 → length (values_in states fields) ≡ length states
@@ -82,8 +82,8 @@ read_bad states fields values i s long below is so_far none =
     let read = values_in states fields in
     let size = length_values states fields long in
     let cut : read ≡ there values ++ None ∷ drop (i + 1) read =
-        sym (take-append-drop i read)
-        ∙ ap₂ (λ (a b : List (Option Value)). a ++ b) (sym so_far) (at_drop_more (λ l. l) read i None (omega (arith, size, below)) ∙ ap (λ v. v ∷ drop (i + 1) read) (value_at_place states fields i s None long below is ∙ sym none)) in
+    sym (take-append-drop i read)
+    ∙ ap₂ (λ (a b : List (Option Value)). a ++ b) (sym so_far) (at_drop_more (λ l. l) read i None (omega (arith, size, below)) ∙ ap (λ v. v ∷ drop (i + 1) read) (value_at_place states fields i s None long below is ∙ sym none)) in
     let many : length values ≡ i = omega (arith, length-map values Some, ap length so_far, length-take i read, size, below) in
     sym (ap complete cut ∙ complete_gap values (drop (i + 1) read) ∙ ap (λ n. Err (n + 2)) many)
 
@@ -98,6 +98,6 @@ field_some fields i text e = sym (field-get fields i text (sym e))
 
 pub field_none : (fields : Fields) (i : ℕ) → None ≡ field_at fields i → [] ≡ field i fields
 field_none fields i e = ⊎_elim
-  (λ below. absurd (field-there fields i below (sym e)))
-  (λ over. sym (get_or_past fields i [] over))
-  (cases_lt i (length fields))
+    (λ below. absurd (field-there fields i below (sym e)))
+    (λ over. sym (get_or_past fields i [] over))
+    (cases_lt i (length fields))

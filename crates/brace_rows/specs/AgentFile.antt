@@ -55,7 +55,8 @@ class_named program name = position (λ c. bytes_eq c.name name) program.classes
 
 -- the states of the class of a number
 abbrev pub states_in : Program → ℕ → List State
-states_in program class = unwrap_or (option_map (λ c. c.states) (slice_get program.classes class)) []
+states_in program class =
+    unwrap_or (option_map (λ c. c.states) (slice_get program.classes class)) []
 
 -- the field at a place
 abbrev pub field : ℕ → Fields → List ℕ

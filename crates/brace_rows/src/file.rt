@@ -25,10 +25,13 @@ use std::alloc::Global;
 /// Records are csv's, with no header line. A record is the name of a class, an id, and a value for
 /// each state of the class. It takes time in proportion to the bytes, and a sort by id.
 pub fn read_agents(alloc: Global, program: &Program, bytes: &[u8]) -> Result<World, RowFault>
-    ensures world { IfOk result (λ world. world ≡ world_of (by_id (agents_in program.now (records_of bytes.now)))) }
+    ensures world { IfOk result (λ world. world ≡
+        world_of (by_id (agents_in program.now (records_of bytes.now)))) }
     ensures faultless { OnOk result (first_fault program.now (records_of bytes.now) ≡ None) }
-    ensures first { (number : ℕ) (kind : RowKind) → result ≡ Err (Bad number kind) → first_fault program.now (records_of bytes.now) ≡ Some (number, kind) }
-    ensures agents { IfOk result (λ world. IsPermutation (agents_in program.now (records_of bytes.now)) world.agents) }
+    ensures first { (number : ℕ) (kind : RowKind) → result ≡ Err (Bad number kind)
+        → first_fault program.now (records_of bytes.now) ≡ Some (number, kind) }
+    ensures agents { IfOk result (λ world. IsPermutation
+        (agents_in program.now (records_of bytes.now)) world.agents) }
     ensures numbered { IfOk result IsNumbered }
     ensures lawful { IfOk result (λ world. LawfulAgents program.now world.agents) }
 {
@@ -47,10 +50,12 @@ impl From<NoMemory> for RowFault {
 }
 
 fn read_records(alloc: Global, program: &Program, bytes: &[u8]) -> Result<Register, RowFault>
-    ensures agents { IfOk result (λ register. register.agents.items ≡ agents_in program.now (records_of bytes.now)) }
+    ensures agents { IfOk result (λ register. register.agents.items ≡
+        agents_in program.now (records_of bytes.now)) }
     ensures register { IfOk result IsRegister }
     ensures faultless { OnOk result (first_fault program.now (records_of bytes.now) ≡ None) }
-    ensures first { (number : ℕ) (kind : RowKind) → result ≡ Err (Bad number kind) → first_fault program.now (records_of bytes.now) ≡ Some (number, kind) }
+    ensures first { (number : ℕ) (kind : RowKind) → result ≡ Err (Bad number kind)
+        → first_fault program.now (records_of bytes.now) ≡ Some (number, kind) }
 {
     let mut reader = ReaderBuilder::new()
         .has_headers(false)
@@ -81,8 +86,10 @@ fn enter_record(
     register: &mut Register,
 ) -> Result<Option<RowKind>, NoMemory>
     requires { IsRegister register.old }
-    ensures judged { IfOk result (λ fault. fault ≡ fault_behind register.old.agents.items (agent_of program.now (fields_of row.now))) }
-    ensures entered { result ≡ Ok None → register.new.agents.items ≡ register.old.agents.items ++ agents_in program.now (fields_of row.now ∷ []) }
+    ensures judged { IfOk result (λ fault. fault ≡
+        fault_behind register.old.agents.items (agent_of program.now (fields_of row.now))) }
+    ensures entered { result ≡ Ok None → register.new.agents.items ≡
+        register.old.agents.items ++ agents_in program.now (fields_of row.now ∷ []) }
     ensures register { result ≡ Ok None → IsRegister register.new }
 {
     match read_agent(alloc, program, row)? {

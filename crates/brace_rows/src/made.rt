@@ -17,7 +17,8 @@ pub fn make_agents(alloc: Global, seed: u64, count: u32) -> Result<World, NoMemo
     requires { count ≤ 2 ^ 20 }
     ensures world { IfOk result (λ world. world ≡ world_of (made_agents seed count)) }
     ensures numbered { IfOk result IsNumbered }
-    ensures lawful { (program : Program) → has_four_fixed program ≡ true → IfOk result (λ world. LawfulAgents program world.agents) }
+    ensures lawful { (program : Program) → has_four_fixed program ≡ true
+        → IfOk result (λ world. LawfulAgents program world.agents) }
 {
     let mut generator = Generator::new(seed);
     let mut agents = Vec::with_capacity(alloc, count as usize)?;
@@ -31,7 +32,8 @@ pub fn make_agents(alloc: Global, seed: u64, count: u32) -> Result<World, NoMemo
 }
 
 fn make_agent(alloc: Global, generator: &mut Generator, id: u32) -> Result<Agent, NoMemory>
-    ensures agent { IfOk result (λ agent. agent ≡ agent_at id (following generator.old) (following (following generator.old))) }
+    ensures agent { IfOk result (λ agent. agent ≡
+        agent_at id (following generator.old) (following (following generator.old))) }
     ensures drawn { OnOk result (generator.new ≡ following (following generator.old)) }
 {
     let x = coordinate(generator.draw());

@@ -87,13 +87,7 @@ fn id_in_range(count: Option<u64>) -> Option<u64>
     ensures { result ≡ id_in_range count }
 {
     match count {
-        Some(id) => {
-            if id <= GREATEST_ID {
-                Some(id)
-            } else {
-                None
-            }
-        }
+        Some(id) => { if id <= GREATEST_ID { Some(id) } else { None } }
         None => None,
     }
 }

@@ -99,39 +99,105 @@ const FILES: [(&[u8], Result<&str, RowFault>); 52] = [
     (b"", Ok("")),
     (b"P,7,0,0", Ok("0,P,7,0.000000,0.000000\n")),
     (b"\"P\",7,\"0\",0\r\n", Ok("0,P,7,0.000000,0.000000\n")),
-    (b"P,7,0,0\rP,8,0,0\r", Ok("0,P,7,0.000000,0.000000\n0,P,8,0.000000,0.000000\n")),
+    (
+        b"P,7,0,0\rP,8,0,0\r",
+        Ok("0,P,7,0.000000,0.000000\n0,P,8,0.000000,0.000000\n"),
+    ),
     (b"\xEF\xBB\xBFP,7,0,0\n", Ok("0,P,7,0.000000,0.000000\n")),
-    (b"P,7,0,0\n\xEF\xBB\xBFP,8,0,0\n", Err(RowFault::Bad(2, RowKind::UnknownClass))),
+    (
+        b"P,7,0,0\n\xEF\xBB\xBFP,8,0,0\n",
+        Err(RowFault::Bad(2, RowKind::UnknownClass)),
+    ),
     (b"\n\r\nP,7,0,0\n\n\n", Ok("0,P,7,0.000000,0.000000\n")),
-    (b"\n\nP,7,0,0\n\nR,8,0,0\n", Err(RowFault::Bad(2, RowKind::UnknownClass))),
+    (
+        b"\n\nP,7,0,0\n\nR,8,0,0\n",
+        Err(RowFault::Bad(2, RowKind::UnknownClass)),
+    ),
     (b"  \n", Err(RowFault::Bad(1, RowKind::UnknownClass))),
-    (b"\"\"\nP,7,0,0\n", Err(RowFault::Bad(1, RowKind::UnknownClass))),
-    (b"class,id,x,y\nP,7,0,0\n", Err(RowFault::Bad(1, RowKind::UnknownClass))),
+    (
+        b"\"\"\nP,7,0,0\n",
+        Err(RowFault::Bad(1, RowKind::UnknownClass)),
+    ),
+    (
+        b"class,id,x,y\nP,7,0,0\n",
+        Err(RowFault::Bad(1, RowKind::UnknownClass)),
+    ),
     (b"\"P,7,0,0\n", Err(RowFault::Bad(1, RowKind::UnknownClass))),
-    (b"P,7,0,\"0\nP,8,0,0\n", Err(RowFault::Bad(1, RowKind::BadValue(3)))),
-    (b"P\"x,7,0,0\n", Err(RowFault::Bad(1, RowKind::UnknownClass))),
-    (b"\"P\"x,7,0,0\n", Err(RowFault::Bad(1, RowKind::UnknownClass))),
+    (
+        b"P,7,0,\"0\nP,8,0,0\n",
+        Err(RowFault::Bad(1, RowKind::BadValue(3))),
+    ),
+    (
+        b"P\"x,7,0,0\n",
+        Err(RowFault::Bad(1, RowKind::UnknownClass)),
+    ),
+    (
+        b"\"P\"x,7,0,0\n",
+        Err(RowFault::Bad(1, RowKind::UnknownClass)),
+    ),
     (b"\0", Err(RowFault::Bad(1, RowKind::UnknownClass))),
     (b"P,7,0,0\0\n", Err(RowFault::Bad(1, RowKind::BadValue(3)))),
-    (b"\xFF,7,0,0\n", Err(RowFault::Bad(1, RowKind::UnknownClass))),
+    (
+        b"\xFF,7,0,0\n",
+        Err(RowFault::Bad(1, RowKind::UnknownClass)),
+    ),
     (b"P,\xC3,0,0\n", Err(RowFault::Bad(1, RowKind::BadValue(1)))),
     (b"P,7,\xFF,0\n", Err(RowFault::Bad(1, RowKind::BadValue(2)))),
-    (b"P,9223372036854775807,0,0\n", Ok("0,P,9223372036854775807,0.000000,0.000000\n")),
-    (b"P,9223372036854775808,0,0\n", Err(RowFault::Bad(1, RowKind::BadValue(1)))),
-    (b"P,18446744073709551616,0,0\n", Err(RowFault::Bad(1, RowKind::BadValue(1)))),
+    (
+        b"P,9223372036854775807,0,0\n",
+        Ok("0,P,9223372036854775807,0.000000,0.000000\n"),
+    ),
+    (
+        b"P,9223372036854775808,0,0\n",
+        Err(RowFault::Bad(1, RowKind::BadValue(1))),
+    ),
+    (
+        b"P,18446744073709551616,0,0\n",
+        Err(RowFault::Bad(1, RowKind::BadValue(1))),
+    ),
     (b"P,-1,0,0\n", Err(RowFault::Bad(1, RowKind::BadValue(1)))),
     (b"P,,0,0\n", Err(RowFault::Bad(1, RowKind::BadValue(1)))),
     (b"P, 7,0,0\n", Err(RowFault::Bad(1, RowKind::BadValue(1)))),
-    (b"Quail,1,9223372036854.775807,9223372036854775807,true\n", Ok("0,Quail,1,9223372036854.775807,9223372036854775807,true\n")),
-    (b"Quail,1,-9223372036854.775808,-9223372036854775808,false\n", Ok("0,Quail,1,-9223372036854.775808,-9223372036854775808,false\n")),
-    (b"Quail,1,9223372036854.775808,0,true\n", Err(RowFault::Bad(1, RowKind::BadValue(2)))),
-    (b"Quail,1,-9223372036854.775809,0,true\n", Err(RowFault::Bad(1, RowKind::BadValue(2)))),
-    (b"Quail,1,0,9223372036854775808,true\n", Err(RowFault::Bad(1, RowKind::BadValue(3)))),
-    (b"Quail,1,0,-9223372036854775809,true\n", Err(RowFault::Bad(1, RowKind::BadValue(3)))),
-    (b"Quail,1,0,18446744073709551616,true\n", Err(RowFault::Bad(1, RowKind::BadValue(3)))),
-    (b"Quail,1,0,1.0,true\n", Err(RowFault::Bad(1, RowKind::BadValue(3)))),
-    (b"Quail,1,0,0,True\n", Err(RowFault::Bad(1, RowKind::BadValue(4)))),
-    (b"P,7,0.0000000,0\n", Err(RowFault::Bad(1, RowKind::BadValue(2)))),
+    (
+        b"Quail,1,9223372036854.775807,9223372036854775807,true\n",
+        Ok("0,Quail,1,9223372036854.775807,9223372036854775807,true\n"),
+    ),
+    (
+        b"Quail,1,-9223372036854.775808,-9223372036854775808,false\n",
+        Ok("0,Quail,1,-9223372036854.775808,-9223372036854775808,false\n"),
+    ),
+    (
+        b"Quail,1,9223372036854.775808,0,true\n",
+        Err(RowFault::Bad(1, RowKind::BadValue(2))),
+    ),
+    (
+        b"Quail,1,-9223372036854.775809,0,true\n",
+        Err(RowFault::Bad(1, RowKind::BadValue(2))),
+    ),
+    (
+        b"Quail,1,0,9223372036854775808,true\n",
+        Err(RowFault::Bad(1, RowKind::BadValue(3))),
+    ),
+    (
+        b"Quail,1,0,-9223372036854775809,true\n",
+        Err(RowFault::Bad(1, RowKind::BadValue(3))),
+    ),
+    (
+        b"Quail,1,0,18446744073709551616,true\n",
+        Err(RowFault::Bad(1, RowKind::BadValue(3))),
+    ),
+    (
+        b"Quail,1,0,1.0,true\n",
+        Err(RowFault::Bad(1, RowKind::BadValue(3))),
+    ),
+    (
+        b"Quail,1,0,0,True\n",
+        Err(RowFault::Bad(1, RowKind::BadValue(4))),
+    ),
+    (
+        b"P,7,0.0000000,0\n",
+        Err(RowFault::Bad(1, RowKind::BadValue(2))),
+    ),
     (b"P,7,0,0\t\n", Err(RowFault::Bad(1, RowKind::BadValue(3)))),
     (b"R\n", Err(RowFault::Bad(1, RowKind::UnknownClass))),
     (b"P\n", Err(RowFault::Bad(1, RowKind::WrongLength))),
@@ -139,15 +205,36 @@ const FILES: [(&[u8], Result<&str, RowFault>); 52] = [
     (b"P,x,y,z,\n", Err(RowFault::Bad(1, RowKind::WrongLength))),
     (b"P,x,y,z\n", Err(RowFault::Bad(1, RowKind::BadValue(1)))),
     (b"P,7,y,z\n", Err(RowFault::Bad(1, RowKind::BadValue(2)))),
-    (b"P,7,0,0\nP,7,0,0\n", Err(RowFault::Bad(2, RowKind::DuplicateId))),
-    (b"P,8,0,0\nP,7,0,0\nQuail,008,0,0,true\n", Err(RowFault::Bad(3, RowKind::DuplicateId))),
-    (b"P,7,0,0\nP,7,y,0\n", Err(RowFault::Bad(2, RowKind::BadValue(2)))),
-    (b"P,7,0,0\nR\nP,7,0,0\n", Err(RowFault::Bad(2, RowKind::UnknownClass))),
+    (
+        b"P,7,0,0\nP,7,0,0\n",
+        Err(RowFault::Bad(2, RowKind::DuplicateId)),
+    ),
+    (
+        b"P,8,0,0\nP,7,0,0\nQuail,008,0,0,true\n",
+        Err(RowFault::Bad(3, RowKind::DuplicateId)),
+    ),
+    (
+        b"P,7,0,0\nP,7,y,0\n",
+        Err(RowFault::Bad(2, RowKind::BadValue(2))),
+    ),
+    (
+        b"P,7,0,0\nR\nP,7,0,0\n",
+        Err(RowFault::Bad(2, RowKind::UnknownClass)),
+    ),
     (b"P,7,0\nR\n", Err(RowFault::Bad(1, RowKind::WrongLength))),
-    (b"P,7,0,0\nP,9,x,0\nP,7,0,0\nR", Err(RowFault::Bad(2, RowKind::BadValue(2)))),
+    (
+        b"P,7,0,0\nP,9,x,0\nP,7,0,0\nR",
+        Err(RowFault::Bad(2, RowKind::BadValue(2))),
+    ),
     (b"P,007,-0,00.50\n", Ok("0,P,7,0.000000,0.500000\n")),
-    (b"P,7,0,0\nQuail,2,2.5,-3,true\nP,0,1,-2\n", Ok("0,P,0,1.000000,-2.000000\n0,Quail,2,2.500000,-3,true\n0,P,7,0.000000,0.000000\n")),
-    (b"P,2,0,0\nP,1,0,0\n", Ok("0,P,1,0.000000,0.000000\n0,P,2,0.000000,0.000000\n")),
+    (
+        b"P,7,0,0\nQuail,2,2.5,-3,true\nP,0,1,-2\n",
+        Ok("0,P,0,1.000000,-2.000000\n0,Quail,2,2.500000,-3,true\n0,P,7,0.000000,0.000000\n"),
+    ),
+    (
+        b"P,2,0,0\nP,1,0,0\n",
+        Ok("0,P,1,0.000000,0.000000\n0,P,2,0.000000,0.000000\n"),
+    ),
 ];
 
 #[test]

@@ -15,14 +15,22 @@ pub fn canonical_texts_are_read_back()
         → Spells src toks → Reads src toks tree → ReadsBack (canonical tree) tree }
 {}
 
-/// Scripts that are the same apart from places have one canonical text. So the canonical text of
-/// what is read back from a canonical text is that text.
+/// Scripts that are the same apart from places have one canonical text.
 pub fn alike_scripts_have_one_text()
     ensures { (tree other : Tree) → Alike tree other → canonical tree ≡ canonical other }
 {}
 
-/// The tokens of the canonical text of a script are nowhere too deep where those that the script was
-/// read from are not. So no canonical text of a script that the parser took is refused for depth.
+/// Whatever script the canonical text of a script is read as has that same text.
+pub fn canonical_texts_stay()
+    ensures { (src : List ℕ) (toks : List Token) (tree : Tree)
+        → Spells src toks → Reads src toks tree → (again : List Token) (back : Tree)
+        → Spells (canonical tree) again → Reads (canonical tree) again back
+        → canonical back ≡ canonical tree }
+{}
+
+/// The tokens of the canonical text of a script are nowhere too deep where those that the script
+/// was read from are not. So no canonical text of a script that the parser took is refused for
+/// depth.
 pub fn canonical_texts_are_no_deeper()
     ensures { (src : List ℕ) (toks : List Token) (tree : Tree)
         → Spells src toks → Reads src toks tree → NowhereDeep toks

@@ -1,5 +1,5 @@
-use Rattle.std.proofs.Common.{◌≡◌, ◌++◌, [], length, map, flat_map, take, drop, fold, ◌+◌}
-use Rattle.brace_check.specs.Faults.{earlier, first}
+use Rattle.std.proofs.Common.{◌≡◌, drop, fold}
+use Rattle.brace_check.specs.Faults.{earlier}
 use Rattle.brace_check.proofs.entry.first.Given as goal
 
 abbrev pub invariant-loop-fault : goal.invariant-loop-fault

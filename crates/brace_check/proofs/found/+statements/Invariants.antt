@@ -1,4 +1,4 @@
-use Rattle.std.proofs.Common.{◌≡◌, ◌++◌, [], length, map, flat_map, take, drop, fold, ◌+◌}
+use Rattle.std.proofs.Common.{◌≡◌, ◌++◌, map, drop}
 use Rattle.brace_check.specs.Scopes.{past, constants_in}
 use Rattle.brace_check.specs.Found.{part, block}
 use Rattle.brace_check.proofs.found.+statements.Given as goal

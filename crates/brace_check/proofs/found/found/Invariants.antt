@@ -1,4 +1,4 @@
-use Rattle.std.proofs.Common.{◌≡◌, ◌++◌, [], length, map, flat_map, take, drop, fold, ◌+◌}
+use Rattle.std.proofs.Common.{◌≡◌, ◌++◌, drop}
 use Rattle.brace_check.specs.Found.{classes_from}
 use Rattle.brace_check.proofs.found.found.Given as goal
 

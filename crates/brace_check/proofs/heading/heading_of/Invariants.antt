@@ -1,4 +1,4 @@
-use Rattle.std.proofs.Common.{◌≡◌, ◌++◌, [], length, map, flat_map, take, drop, fold, ◌+◌}
+use Rattle.std.proofs.Common.{◌≡◌, flat_map, take}
 use Rattle.brace_check.specs.Headings.{state_of, effect_of}
 use Rattle.brace_check.proofs.heading.heading_of.Given as goal
 

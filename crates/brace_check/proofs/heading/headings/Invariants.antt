@@ -1,4 +1,4 @@
-use Rattle.std.proofs.Common.{◌≡◌, ◌++◌, [], length, map, flat_map, take, drop, fold, ◌+◌}
+use Rattle.std.proofs.Common.{◌≡◌, map, take}
 use Rattle.brace_check.specs.Headings.{heading}
 use Rattle.brace_check.proofs.heading.headings.Given as goal
 

@@ -1,4 +1,4 @@
-use Rattle.std.proofs.Common.{◌≡◌, ◌++◌, [], length, map, flat_map, take, drop, fold, ◌+◌}
+use Rattle.std.proofs.Common.{◌≡◌, drop, ◌+◌}
 use Rattle.brace_check.specs.Programs.{place_of}
 use Rattle.brace_check.proofs.program.place_of.Given as goal
 

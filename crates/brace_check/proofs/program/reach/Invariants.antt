@@ -1,4 +1,4 @@
-use Rattle.std.proofs.Common.{◌≡◌, ◌++◌, [], length, map, flat_map, take, drop, fold, ◌+◌}
+use Rattle.std.proofs.Common.{◌≡◌, flat_map, drop}
 use Rattle.brace_check.specs.Programs.{reach_of, first_or_0}
 use Rattle.brace_check.proofs.program.reach.Given as goal
 

@@ -1,4 +1,4 @@
-use Rattle.std.proofs.Common.{◌≡◌, ◌++◌, [], length, map, flat_map, take, drop, fold, ◌+◌}
+use Rattle.std.proofs.Common.{◌≡◌, ◌++◌, length, drop}
 use Rattle.brace_check.specs.Programs.{shares, shared_by}
 use Rattle.brace_check.proofs.share.shares.Given as goal
 

@@ -1,4 +1,4 @@
-use Rattle.std.proofs.Common.{◌∙◌, ℕ, List, subst, sym, ap, map, flat_map}
+use Rattle.std.proofs.Common.{◌∙◌, List, subst, sym, ap, map, flat_map}
 use Rattle.brace_names.specs.declared.resolved.Binding.{Binding}
 use Rattle.brace_names.specs.Found.{found}
 use Rattle.brace_names.specs.Faults.{binding_of, AreRising}

@@ -1,11 +1,8 @@
-use Rattle.std.proofs.Common.{◌≡◌, ◌∙◌, ◌++◌, ◌∷◌, [], Bor, List, ℕ, None, Some, Ok, ap, sym, subst, inl}
+use Rattle.std.proofs.Common.{◌≡◌, ◌∙◌, Bor, List, ℕ, None, Some, Ok, ap, sym, subst, inl}
 use Rattle.csv.specs.Reading.{default_config, reader_state}
 use Rattle.csv.specs.Records.{fields_of}
 use Rattle.csv.proofs.ReadFacts.{rows-end}
-use Rattle.brace_rows.specs.declared.kinds.RowFault.{RowFault}
-use Rattle.brace_rows.specs.declared.kinds.RowFault.TheVariants.{Bad}
-use Rattle.brace_rows.specs.declared.kinds.RowKind.{RowKind}
-use Rattle.brace_rows.specs.AgentFile.{agent_of, agents_in, fault_behind, first_fault, records_of}
+use Rattle.brace_rows.specs.AgentFile.{records_of}
 use Rattle.brace_rows.proofs.FirstFault.{ReadTo, read_all, read_fault, read_more, same_fault}
 use Rattle.brace_rows.proofs.Records.{left_none, read_one, records_left}
 use Rattle.brace_rows.proofs.file.read_records.Goals as goal

@@ -1,4 +1,4 @@
-use Rattle.std.proofs.Common.{◌≡◌, ◌++◌, [], length, map, flat_map, take, drop, fold, ◌+◌}
+use Rattle.std.proofs.Common.{◌≡◌, drop, fold}
 use Rattle.brace_check.specs.Scopes.{with_binding, targets_of}
 use Rattle.brace_check.proofs.targets.Targets.of.Given as goal
 

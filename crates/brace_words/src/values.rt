@@ -1,0 +1,83 @@
+ghost use Rattle.std.specs.Prelude.{◌≡◌, ◌≤◌, IfSome, IfOk, IfErr, true, false};
+ghost use Rattle.brace_words.specs.Values.{is_name, is_number, is_absent_or, is_set, number_in};
+ghost use Rattle.brace_words.specs.inner.Getters.{found_in};
+
+use crate::LineFault;
+use brace_num::{NoMemory, Text, read_count};
+use clap::ArgMatches;
+use std::alloc::Global;
+
+/// The name that stands for an option, if any. Usage where it is empty.
+pub(crate) fn name_of(
+    alloc: Global,
+    matches: &ArgMatches<'_>,
+    option: &str,
+) -> Result<Option<Text>, LineFault>
+    ensures name { IfOk result (λ name. name ≡ found_in matches.now option.now) }
+    ensures taken { IfOk result (λ name.
+        is_absent_or is_name (found_in matches.now option.now) ≡ true) }
+    ensures usage { IfErr result (λ fault. fault ≡ LineFault.Usage
+        → is_absent_or is_name (found_in matches.now option.now) ≡ false) }
+{
+    match matches.get_str(option) {
+        None => Ok(None),
+        Some("") => Err(LineFault::Usage),
+        Some(name) => Ok(Some(text_of(alloc, name)?)),
+    }
+}
+
+fn text_of(alloc: Global, name: &str) -> Result<Text, NoMemory>
+    ensures { IfOk result (λ text. text ≡ name.now) }
+{
+    Ok(Text::from_string(String::from_str(alloc, name)?))
+}
+
+/// The number from `least` to `most` that stands for an option, if any. Usage where it is none.
+pub(crate) fn number_of(
+    matches: &ArgMatches<'_>,
+    option: &str,
+    least: u64,
+    most: u64,
+) -> Result<Option<u64>, LineFault>
+    ensures number { IfOk result (λ n. n ≡ number_in (found_in matches.now) option.now) }
+    ensures bounds { IfOk result (λ n. IfSome n (λ n. (least ≤ n) × (n ≤ most))) }
+    ensures taken { IfOk result (λ n.
+        is_absent_or (is_number least most) (found_in matches.now option.now) ≡ true) }
+    ensures usage { IfErr result (λ fault. fault ≡ LineFault.Usage
+        → is_absent_or (is_number least most) (found_in matches.now option.now) ≡ false) }
+{
+    let Some(digits) = matches.get_str(option) else {
+        return Ok(None);
+    };
+    match read_count(digits.as_bytes()) {
+        Some(n) if least <= n && n <= most => Ok(Some(n)),
+        _ => Err(LineFault::Usage),
+    }
+}
+
+/// The same of a number that 32 bits hold.
+pub(crate) fn small_number_of(
+    matches: &ArgMatches<'_>,
+    option: &str,
+    least: u32,
+    most: u32,
+) -> Result<Option<u32>, LineFault>
+    ensures number { IfOk result (λ n. n ≡ number_in (found_in matches.now) option.now) }
+    ensures bounds { IfOk result (λ n. IfSome n (λ n. (least ≤ n) × (n ≤ most))) }
+    ensures taken { IfOk result (λ n.
+        is_absent_or (is_number least most) (found_in matches.now option.now) ≡ true) }
+    ensures usage { IfErr result (λ fault. fault ≡ LineFault.Usage
+        → is_absent_or (is_number least most) (found_in matches.now option.now) ≡ false) }
+{
+    match number_of(matches, option, u64::from(least), u64::from(most))? {
+        Some(n) => Ok(Some(n as u32)),
+        None => Ok(None),
+    }
+}
+
+/// Whether a flag stands.
+pub(crate) fn is_set(matches: &ArgMatches<'_>, flag: &str) -> bool
+    ensures { result ≡ is_set (found_in matches.now) flag.now }
+{
+    matches!(matches.get_str(flag), Some("true"))
+}
