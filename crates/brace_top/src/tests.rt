@@ -82,7 +82,7 @@ type Case = (
     &'static str,
 );
 
-const RUNS: [Case; 18] = [
+const RUNS: [Case; 20] = [
     (RUN, STEPS, AGENT, 0, ROWS, ""),
     (RUN, STEPS, "", 0, "", ""),
     (
@@ -198,7 +198,16 @@ const RUNS: [Case; 18] = [
         "brace: tick 0 update agent 1 site 1: DivZero\n",
     ),
     (RUN, BEARING, "", 3, "", "brace: s: NotThin\n"),
-    (RUN, STEPS, "\"P\",7,0,0\r\n", 4, "", "brace: a: NotThin\n"),
+    (RUN, STEPS, "\"P\",7,0,0\r\n", 0, ROWS, ""),
+    (
+        RUN,
+        STEPS,
+        "P,7,0,0\nP,7,1,1\n",
+        4,
+        "",
+        "brace: a: record 2: DuplicateId\n",
+    ),
+    (RUN, STEPS, "P,7,0,x\n", 4, "", "brace: a: record 1: BadValue 3\n"),
 ];
 
 const REFUSALS: [Case; 16] = [
