@@ -109,15 +109,27 @@ ruleset worked_rules = (
   assignments-Assign,
 )
 
-pub neighbours_is_lawful : LawfulProgram neighbours
+neighbours_is_lawful : LawfulProgram neighbours
 unfolding IsDistinct
 neighbours_is_lawful = is_lawful _ _ _ refl refl (simp worked_rules) (simp worked_rules) (simp worked_rules tt) (simp worked_rules) (simp worked_rules (omega arith)) (simp worked_rules (tt, tt))
 
-pub pairs_is_lawful : LawfulProgram pairs
+pairs_is_lawful : LawfulProgram pairs
 unfolding IsDistinct
 pairs_is_lawful = is_lawful _ _ _ refl refl (simp worked_rules) (simp worked_rules) (simp worked_rules tt) (simp worked_rules) (simp worked_rules (omega arith)) (simp worked_rules ((refl, tt), (tt, tt)))
 
-pub constants_in_loops_is_lawful : LawfulProgram constants_in_loops
+constants_in_loops_is_lawful : LawfulProgram constants_in_loops
 unfolding IsDistinct
 constants_in_loops_is_lawful =
     is_lawful _ _ _ refl refl (simp worked_rules) (simp worked_rules) (simp worked_rules ((refl, tt), (tt, tt))) (simp worked_rules) (simp worked_rules (omega arith)) (simp worked_rules ((refl, tt), (tt, tt)))
+
+-- a program that is one of them is lawful
+pub lawful_neighbours : (p : Program) → p ≡ neighbours → LawfulProgram p
+lawful_neighbours p is = subst LawfulProgram (sym is) neighbours_is_lawful
+
+pub lawful_pairs : (p : Program) → p ≡ pairs → LawfulProgram p
+lawful_pairs p is = subst LawfulProgram (sym is) pairs_is_lawful
+
+pub lawful_constants : (p : Program) → p ≡ constants_in_loops → LawfulProgram p
+lawful_constants p is = subst LawfulProgram (sym is) constants_in_loops_is_lawful
+
+pub ruleset lawful_rules = (lawful_neighbours, lawful_pairs, lawful_constants)

@@ -149,6 +149,7 @@ fn split_queries(alloc: Global, program: &Program) -> Result<Queries, NoMemory>
 }
 
 #[test]
+#[tactic(auto, using(crate::proofs::WorkedLawful::lawful_rules))]
 fn splits_an_outer_loop(rt: HostRuntime) {
     let program = neighbours(rt.alloc()).expect(&rt, "memory");
     let queries = split_queries(rt.alloc(), &program).expect(&rt, "memory");
@@ -167,6 +168,7 @@ fn splits_an_outer_loop(rt: HostRuntime) {
 }
 
 #[test]
+#[tactic(auto, using(crate::proofs::WorkedLawful::lawful_rules))]
 fn splits_an_inner_loop(rt: HostRuntime) {
     let program = pairs(rt.alloc()).expect(&rt, "memory");
     let queries = split_queries(rt.alloc(), &program).expect(&rt, "memory");
@@ -186,6 +188,7 @@ fn splits_an_inner_loop(rt: HostRuntime) {
 }
 
 #[test]
+#[tactic(auto, using(crate::proofs::WorkedLawful::lawful_rules))]
 fn keeps_constants_and_conditions(rt: HostRuntime) {
     let program = constants_in_loops(rt.alloc()).expect(&rt, "memory");
     let queries = split_queries(rt.alloc(), &program).expect(&rt, "memory");
