@@ -1,9 +1,9 @@
 -- What a block does, cut at a statement, and ledgers that stand for it.
-use Rattle.std.proofs.Common.{◌≡◌, ◌∙◌, sym, refl, ap, subst, ℕ, ◌+◌, ◌<◌, List, [], ◌∷◌, ◌++◌, true, false, Bool, length, take, get_or, map, Option, Some, None, Result, Ok, Err, add-one, append_assoc, flat_map}
+use Rattle.std.proofs.Common.{◌≡◌, ◌∙◌, sym, refl, ap, subst, ℕ, ◌+◌, ◌<◌, List, [], ◌∷◌, ◌++◌, true, false, Bool, length, take, drop, get_or, map, Option, Some, None, Result, Ok, Err, add-one, append_assoc, flat_map}
 use Rattle.std.specs.List.{filter}
 use Rattle.std.specs.Prelude.{IfOk}
 use Rattle.std.specs.Result.{result_ok}
-use Rattle.std.proofs.lemmas.List.{map-append, append-nil}
+use Rattle.std.proofs.lemmas.List.{map-append, append-nil, take-append-drop}
 use Rattle.std.proofs.lemmas.List.Elements.{filter-append}
 use Rattle.std.proofs.lemmas.Grind.{flat_map-append}
 use Rattle.std.proofs.lemmas.List.Sums.{fold-append}
@@ -14,10 +14,12 @@ use Rattle.brace_model.specs.declared.fault.Fault.{Fault}
 use Rattle.brace_model.specs.declared.world.Agent.{Agent}
 use Rattle.brace_model.specs.FaultOrder.{least, earlier, with_earlier}
 use Rattle.brace_model.specs.Value.{Scope, Worth}
-use Rattle.brace_model.specs.Query.{Saying, Deed, silent, deed_of, followed_by, block, chosen}
+use Rattle.brace_model.specs.declared.program.Stmt.{Stmt}
+use Rattle.brace_model.specs.Query.{Saying, Deed, silent, deed_of, followed_by, block, chosen, statement}
 use Rattle.brace_eval.specs.declared.scene.Scene.{Scene}
 use Rattle.brace_eval.specs.declared.ledger.Ledger.{Ledger}
-use Rattle.brace_eval.specs.inner.Walks.{is_true}
+use Rattle.brace_eval.specs.declared.seat.Seat.{Seat}
+use Rattle.brace_eval.specs.inner.Walks.{is_true, scope_at, block_in}
 use Rattle.brace_eval.specs.inner.Tables.{Keeps, Notes, NotesDeed}
 
 -- ---- blocks
@@ -222,6 +224,51 @@ block-step scene fs gs f start here a b c more going at first second =
       stopped = ap (λ (e : Deed). e.stopped) whole;
       scope = ap (λ (e : Deed). e.scope) whole;
     }
+
+-- the first statements of a block, after the last of which a scope is left
+pub record Turn (scene : Scene) (done : Deed) (cut : Bool) (left : Scope) (a c : Ledger) : Type 0 where
+  pub noted : NotesDeed scene done a c
+  pub stopped : done.stopped ≡ cut
+  pub scope : done.scope ≡ left
+
+-- a loop over the statements of a block at a seat
+module _ (scene : Scene) (seat : Seat) (seed : ℕ) (locals : List Value) (body : List Stmt) where
+  abbrev st : Stmt → Scope → Deed
+  st = statement scene.program.now scene.agents.now
+
+  abbrev start : Scope
+  start = scope_at seat seed locals
+
+  pub statement-turn : (items : List Stmt) (i : ℕ) (s : Stmt) (now : List Value) (n : ℕ) (stopped : Bool) (a b c : Ledger)
+      → items ≡ body → i < length items → s ≡ get_or items i s → n ≡ seed
+      → (block_in scene (take i body) start).stopped ≡ false
+      → (block_in scene (take i body) start).scope ≡ scope_at seat seed now
+      → NotesDeed scene (block_in scene (take i body) start) a b
+      → NotesDeed scene (st s (scope_at seat n now)) b c
+      → stopped ≡ (st s (scope_at seat n now)).stopped
+      → Turn scene (block_in scene (take (i + 1) body) start) stopped (st s (scope_at seat n now)).scope a c
+  statement-turn items i s now n stopped a b c items_are within is seed_is going at first second cut =
+      let here = scope_at seat seed now in
+      let inside : i < length body = subst (λ (l : List Stmt). i < length l) items_are within in
+      let got : s ≡ get_or body i s = subst (λ (l : List Stmt). s ≡ get_or l i s) items_are is in
+      let noted : NotesDeed scene (st s here) b c =
+      subst (λ (m : ℕ). NotesDeed scene (st s (scope_at seat m now)) b c) seed_is second in
+      let step = block-step scene (map st (take i body)) (map st (take (i + 1) body)) (st s) start here a b c
+      (map-more st body i s inside got) going at first noted in
+      let same : st s here ≡ st s (scope_at seat n now) = ap (λ (m : ℕ). st s (scope_at seat m now)) (sym seed_is) in
+      record {
+        noted = step.noted;
+        stopped = step.stopped ∙ ap (λ (d : Deed). d.stopped) same ∙ sym cut;
+        scope = step.scope ∙ ap (λ (d : Deed). d.scope) same;
+      }
+
+  -- a block that is cut short ends there
+  pub cut-there : (i : ℕ) → (block_in scene (take i body) start).stopped ≡ true
+      → block_in scene body start ≡ block_in scene (take i body) start
+  cut-there i halted =
+      ap (λ (l : List Stmt). block (map st l) start) (sym (take-append-drop i body))
+      ∙ ap (λ (fs : List (Scope → Deed)). block fs start) (map-append st (take i body) (drop i body))
+      ∙ block-stopped (map st (take i body)) (map st (drop i body)) start halted
 
 -- one iteration more
 pub iterated-step : (scene : Scene) (scope : Scope) (ds es : List Deed) (d : Deed) (a b c : Ledger) → es ≡ ds ++ d ∷ []

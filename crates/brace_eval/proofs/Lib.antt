@@ -1,4 +1,5 @@
 pub mod TableLemmas
+pub mod SceneLemmas
 pub mod DeedLemmas
 pub mod TrailLemmas
 pub mod PlaceLemmas

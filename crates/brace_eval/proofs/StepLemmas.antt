@@ -1,5 +1,5 @@
 -- What the agents of a world leave, one after another.
-use Rattle.std.proofs.Common.{◌≡◌, ◌∙◌, sym, refl, ap, ℕ, suc, ◌+◌, ◌<◌, ◌≤◌, ℤ, List, [], ◌∷◌, ◌++◌, length, take, drop, get_or, filter_map, add-one, arith, Option, Some, None, Result, Ok, Err}
+use Rattle.std.proofs.Common.{◌≡◌, ◌∙◌, sym, refl, ap, subst, ℕ, suc, ◌+◌, ◌<◌, ◌≤◌, ℤ, List, [], ◌∷◌, ◌++◌, length, take, drop, get_or, filter_map, add-one, arith, Option, Some, None, Result, Ok, Err}
 use Rattle.std.specs.Result.{result_ok, result_err}
 use Rattle.std.proofs.lemmas.List.{append-nil, length-append}
 use Rattle.std.proofs.lemmas.List.Elements.{filter_map-append}
@@ -120,6 +120,36 @@ module _ (program : Program) (seed tick : ℕ) (world : World) where
       ∙ ap (λ (l : List Agent). last None None l (children left) (first_too_far l world.next (children left))) lives
       ∙ ap (λ (b : List Agent). last None None ls b (first_too_far ls world.next b)) births
       ∙ ap (last None None ls bs) far
+
+-- what the updates of all agents leave
+pub record Leaves (program : Program) (seed tick : ℕ) (agents ls bs : List Agent) : Type 0 where
+  pub passes : least (filter_map result_err (all_next program seed tick agents)) ≡ None
+  pub living : living (filter_map result_ok (all_next program seed tick agents)) ≡ ls
+  pub born : children (filter_map result_ok (all_next program seed tick agents)) ≡ bs
+
+-- the same, by other names of the program, of the seed and of the agents
+module _ (program : Program) (seed tick : ℕ) (world : World) where
+  pub quiet-told : (p : Program) (n : ℕ) (agents : List Agent) → p ≡ program → n ≡ seed → agents ≡ world.agents
+      → least (query_faults p n tick agents) ≡ None → least (query_faults program seed tick world.agents) ≡ None
+  quiet-told p n agents program_is seed_is agents_are quiet =
+      subst (λ (q : Program). least (query_faults q seed tick world.agents) ≡ None) program_is
+      (subst (λ (m : ℕ). least (query_faults p m tick world.agents) ≡ None) seed_is
+      (subst (λ (l : List Agent). least (query_faults p n tick l) ≡ None) agents_are quiet))
+
+  pub leaves-told : (n : ℕ) (agents ls bs : List Agent) → n ≡ seed → agents ≡ world.agents
+      → Leaves program n tick agents ls bs → Leaves program seed tick world.agents ls bs
+  leaves-told n agents ls bs seed_is agents_are leaves =
+      subst (λ (m : ℕ). Leaves program m tick world.agents ls bs) seed_is
+      (subst (λ (l : List Agent). Leaves program n tick l ls bs) agents_are leaves)
+
+  pub step-told : (ls bs stay born : List Agent) (next : ℕ) (o : Option Agent)
+      → least (query_faults program seed tick world.agents) ≡ None → Leaves program seed tick world.agents ls bs
+      → stay ≡ ls → next ≡ world.next → born ≡ bs → o ≡ first_too_far stay next born
+      → step program seed tick world ≡ unless_faulty None None (option_map (birth_fault program tick) o) (grown world.next ls bs)
+  step-told ls bs stay born next o quiet leaves stay_is next_is born_is far =
+      step-born program seed tick world ls bs o quiet leaves.passes leaves.living leaves.born
+      (sym (far ∙ ap (λ (l : List Agent). first_too_far l next born) stay_is
+      ∙ ap (λ (n : ℕ). first_too_far ls n born) next_is ∙ ap (first_too_far ls world.next) born_is))
 
 -- a distance is not negative
 pub reach_fits : (reach : ℤ) → IsTrue (is_distance reach) → pos 0 ≤ℤ reach

@@ -1,5 +1,5 @@
 -- What outcomes come to, one after another: their values, and the stop of the least site.
-use Rattle.std.proofs.Common.{◌≡◌, ◌∙◌, sym, ap, refl, ℕ, ◌+◌, ◌<◌, ◌≤◌, List, [], ◌∷◌, ◌++◌, length, take, get_or, map, filter_map, zip, Option, Some, None, Result, Ok, Err, arith, add-one, min, append_assoc}
+use Rattle.std.proofs.Common.{◌≡◌, ◌∙◌, sym, ap, subst, refl, ℕ, ℤ, ◌+◌, ◌<◌, ◌≤◌, List, [], ◌∷◌, ◌++◌, length, take, get_or, map, filter_map, zip, Option, Some, None, Result, Ok, Err, arith, add-one, min, append_assoc}
 use Rattle.std.specs.Result.{result_ok, result_err}
 use Rattle.std.specs.List.{reduce, fold}
 use Rattle.std.proofs.lemmas.Slice.Zip.{get_or-zip, length-zip}
@@ -14,10 +14,12 @@ use Rattle.brace_model.specs.declared.job.Env.{Env}
 use Rattle.brace_model.specs.Value.{Worth, Scope}
 use Rattle.std.specs.Prelude.{if◌then◌else◌}
 use Rattle.brace_model.specs.declared.program.Class.{Class}
+use Rattle.brace_model.specs.declared.program.State.{State}
 use Rattle.brace_model.specs.declared.fault.Fault.{Fault}
 use Rattle.brace_model.specs.declared.world.Agent.{Agent}
+use Rattle.brace_model.specs.Query.{opening_scope}
 use Rattle.brace_model.specs.Next.{Next, earlier_stop, first_stop, values_of, rules_in, condition_in, spawns_in, gifts_in, update_in, update_fault, unless_stopped, left_by, next_of, holds, changed, child_in}
-use Rattle.brace_eval.specs.inner.Updates.{with_one, with_stop, Meets}
+use Rattle.brace_eval.specs.inner.Updates.{with_one, with_stop, Meets, worths}
 
 -- the pair at a place, and one pair more
 pub zip-more : {A B C : Type 0} (f : A × B → C) (xs : List A) (ys : List B) (i : ℕ) (x : A) (y : B) → i < length xs → i < length ys
@@ -120,3 +122,21 @@ module _ (scope : Scope) (class : Class) (a : Agent) where
   next-left tick agent child is lives born =
       let left : left_by scope class a ≡ record { agent = agent; child = child } = λ i. record { agent = sym lives i; child = sym born i } in
       ap (λ (s : Option Stop). unless_stopped tick a s (left_by scope class a)) is ∙ ap ok left
+
+-- the stop of an update, by what its parts told of it
+module _ (seed tick : ℕ) (totals : List ℤ) (class : Class) (a : Agent) where
+  abbrev scope_by : ℕ → Scope
+  scope_by n = opening_scope n tick [] totals a
+
+  pub all-told : (states : List State) (values : List Value) (n m : ℕ) (b c d : Option Stop)
+      → states ≡ class.states → values ≡ a.states → n ≡ seed → m ≡ seed
+      → Meets (worths (scope_by seed) states values) None b
+      → Meets (condition_in (scope_by n) class.die ∷ []) b c
+      → Meets (spawns_in (scope_by m) class.spawn ∷ gifts_in (scope_by m) class.spawn) c d
+      → d ≡ first_stop (update_in (scope_by seed) class a)
+  all-told states values n m b c d states_are values_are before between rules dies spawns =
+      all-met (scope_by seed) class a b c d
+      (subst (λ (vs : List Value). Meets (worths (scope_by seed) class.states vs) None b) values_are
+      (subst (λ (ss : List State). Meets (worths (scope_by seed) ss values) None b) states_are rules))
+      (subst (λ (k : ℕ). Meets (condition_in (scope_by k) class.die ∷ []) b c) before dies)
+      (subst (λ (k : ℕ). Meets (spawns_in (scope_by k) class.spawn ∷ gifts_in (scope_by k) class.spawn) c d) between spawns)

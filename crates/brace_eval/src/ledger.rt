@@ -41,8 +41,8 @@ impl Ledger {
     /// Joins a value to an effect of the agent of an id; there may be none.
     pub fn say(&mut self, scene: &Scene, id: u64, effect: u32, v: Value) -> Result<(), NoMemory>
         requires { IsScene scene.now }
-        ensures noted { IfOk result (λ _.
-            Notes scene.now (record { target = id; field = effect; value = v } ∷ []) [] self.old self.new) }
+        ensures noted { IfOk result (λ _. Notes scene.now
+            (record { target = id; field = effect; value = v } ∷ []) [] self.old self.new) }
         ensures seed { self.new.drawer.seed ≡ self.old.drawer.seed }
     {
         scene.say(&mut self.totals, id, effect, v)

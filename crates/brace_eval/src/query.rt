@@ -1,11 +1,11 @@
-ghost use Rattle.std.specs.Prelude.{◌≡◌, ◌++◌, ◌≤◌, ◌^◌, [], map, sum, replicate, false, ◌&&◌, ◌==◌, Some, IfOk};
+ghost use Rattle.std.specs.Prelude.{◌≡◌, ◌++◌, ◌≤◌, ◌^◌, [], map, sum, replicate, false, ◌&&◌, ◌==◌, IfOk};
 ghost use Rattle.std.specs.Result.{result_ok};
 ghost use Rattle.brace_model.specs.World.{no_value, sees};
 ghost use Rattle.brace_model.specs.Value.{value};
-ghost use Rattle.brace_model.specs.Query.{silent, deed_of, constants, query_in, query_of, said_in, query_faults};
+ghost use Rattle.brace_model.specs.Query.{constants, said_in, query_faults};
 ghost use Rattle.brace_eval.specs.declared.scene.Scene.{Scene};
-ghost use Rattle.brace_eval.specs.inner.Tables.{IsScene, NotesDeed, Keeps};
-ghost use Rattle.brace_eval.specs.inner.Walks.{scope_at, undone, deed_at, block_at, loop_at};
+ghost use Rattle.brace_eval.specs.inner.Tables.{IsScene, Keeps};
+ghost use Rattle.brace_eval.specs.inner.Walks.{scope_at, undone, deed_at, block_at, NotesWorth, NotesStatement, NotesBlock, NotesLoop, NotesQuery, NotesQueryIn};
 
 use crate::ledger::Ledger;
 use crate::scene::Scene;
@@ -17,12 +17,10 @@ use std::alloc::Global;
 /// The value of an expression, or None where it stops; the fault is noted.
 fn worth(seat: &Seat, e: &Expr, locals: &[Value], ledger: &mut Ledger) -> Option<Value>
     requires { seat.now.tick ≤ 2 ^ 32 }
-    ensures value { result ≡ result_ok (value e.now (scope_at seat.now ledger.old.drawer.seed locals.now)) }
-    ensures noted { (scene : Scene) → NotesDeed scene
-        (deed_of (scope_at seat.now ledger.old.drawer.seed locals.now)
-        (value e.now (scope_at seat.now ledger.old.drawer.seed locals.now))
-        (λ _. silent (scope_at seat.now ledger.old.drawer.seed locals.now)))
-        ledger.old ledger.new }
+    ensures value { result
+        ≡ result_ok (value e.now (scope_at seat.now ledger.old.drawer.seed locals.now)) }
+    ensures noted { (scene : Scene)
+        → NotesWorth scene seat.now locals.now e.now ledger.old ledger.new }
     ensures seed { ledger.new.drawer.seed ≡ ledger.old.drawer.seed }
 {
     match seat.value(e, locals, &mut ledger.drawer) {
@@ -46,23 +44,23 @@ fn is_taken(program: &Program, class: u32, this: &Agent, other: &Agent) -> bool
 fn statement<'a>(
     alloc: Global,
     scene: &Scene<'a>,
-    s: &Stmt,
     seat: &Seat<'a>,
+    s: &Stmt,
     locals: &mut [Value],
     trail: &mut Vec<Bound>,
     ledger: &mut Ledger,
 ) -> Result<bool, NoMemory>
     requires scene { IsScene scene.now }
     requires ticks { seat.now.tick ≤ 2 ^ 32 }
-    ensures noted { IfOk result (λ _. NotesDeed scene.now
-        (deed_at scene.now seat.now ledger.old.drawer locals.old s.now)
+    ensures noted { IfOk result (λ _. NotesStatement scene.now seat.now locals.old s.now
         ledger.old ledger.new) }
     ensures stopped { IfOk result (λ stopped. stopped
-        ≡ (deed_at scene.now seat.now ledger.old.drawer locals.old s.now).stopped) }
+        ≡ (deed_at scene.now seat.now ledger.old locals.old s.now).stopped) }
     ensures scope { IfOk result (λ stopped. stopped ≡ false
-        → (deed_at scene.now seat.now ledger.old.drawer locals.old s.now).scope
+        → (deed_at scene.now seat.now ledger.old locals.old s.now).scope
         ≡ scope_at seat.now ledger.old.drawer.seed locals.new) }
-    ensures undone { IfOk result (λ _. undone trail.new.items locals.new ≡ undone trail.old.items locals.old) }
+    ensures undone { IfOk result (λ _.
+        undone trail.new.items locals.new ≡ undone trail.old.items locals.old) }
     ensures seed { ledger.new.drawer.seed ≡ ledger.old.drawer.seed }
 {
     match s {
@@ -76,15 +74,15 @@ fn statement<'a>(
         Stmt::If(condition, a, b) => match worth(seat, condition, locals, ledger) {
             Some(v) => {
                 if is_true(v) {
-                    block(alloc, scene, a, seat, locals, ledger)
+                    block(alloc, scene, seat, a, locals, ledger)
                 } else {
-                    block(alloc, scene, b, seat, locals, ledger)
+                    block(alloc, scene, seat, b, locals, ledger)
                 }
             }
             None => Ok(true),
         },
         Stmt::Foreach(class, body, _) => {
-            iterations(alloc, scene, *class, body, seat, locals, ledger)?;
+            iterations(alloc, scene, seat, *class, body, locals, ledger)?;
             Ok(false)
         }
         Stmt::Assign(who, effect, e, _) => match worth(seat, e, locals, ledger) {
@@ -102,24 +100,24 @@ fn statement<'a>(
 fn statements<'a>(
     alloc: Global,
     scene: &Scene<'a>,
-    body: &List<Stmt>,
     seat: &Seat<'a>,
+    body: &List<Stmt>,
     locals: &mut [Value],
     trail: &mut Vec<Bound>,
     ledger: &mut Ledger,
 ) -> Result<bool, NoMemory>
     requires scene { IsScene scene.now }
     requires ticks { seat.now.tick ≤ 2 ^ 32 }
-    ensures noted { IfOk result (λ _. NotesDeed scene.now
-        (block_at scene.now seat.now ledger.old.drawer locals.old body.now)
+    ensures undone { IfOk result (λ _.
+        undone trail.new.items locals.new ≡ undone trail.old.items locals.old) }
+    ensures noted { IfOk result (λ _. NotesBlock scene.now seat.now locals.old body.now
         ledger.old ledger.new) }
     ensures stopped { IfOk result (λ stopped. stopped
-        ≡ (block_at scene.now seat.now ledger.old.drawer locals.old body.now).stopped) }
-    ensures undone { IfOk result (λ _. undone trail.new.items locals.new ≡ undone trail.old.items locals.old) }
+        ≡ (block_at scene.now seat.now ledger.old locals.old body.now).stopped) }
     ensures seed { ledger.new.drawer.seed ≡ ledger.old.drawer.seed }
 {
     for s in body.as_slice() {
-        if statement(alloc, scene, s, seat, locals, trail, ledger)? {
+        if statement(alloc, scene, seat, s, locals, trail, ledger)? {
             return Ok(true);
         }
     }
@@ -131,23 +129,22 @@ fn statements<'a>(
 fn block<'a>(
     alloc: Global,
     scene: &Scene<'a>,
-    body: &List<Stmt>,
     seat: &Seat<'a>,
+    body: &List<Stmt>,
     locals: &mut [Value],
     ledger: &mut Ledger,
 ) -> Result<bool, NoMemory>
     requires scene { IsScene scene.now }
     requires ticks { seat.now.tick ≤ 2 ^ 32 }
-    ensures noted { IfOk result (λ _. NotesDeed scene.now
-        (block_at scene.now seat.now ledger.old.drawer locals.old body.now)
+    ensures noted { IfOk result (λ _. NotesBlock scene.now seat.now locals.old body.now
         ledger.old ledger.new) }
     ensures stopped { IfOk result (λ stopped. stopped
-        ≡ (block_at scene.now seat.now ledger.old.drawer locals.old body.now).stopped) }
+        ≡ (block_at scene.now seat.now ledger.old locals.old body.now).stopped) }
     ensures locals { IfOk result (λ _. locals.new ≡ locals.old) }
     ensures seed { ledger.new.drawer.seed ≡ ledger.old.drawer.seed }
 {
     let mut trail = Vec::new(alloc);
-    let stopped = statements(alloc, scene, body, seat, locals, &mut trail, ledger)?;
+    let stopped = statements(alloc, scene, seat, body, locals, &mut trail, ledger)?;
     unbind(locals, trail);
     Ok(stopped)
 }
@@ -158,23 +155,22 @@ fn block<'a>(
 fn iterations<'a>(
     alloc: Global,
     scene: &Scene<'a>,
+    seat: &Seat<'a>,
     class: u32,
     body: &List<Stmt>,
-    seat: &Seat<'a>,
     locals: &mut [Value],
     ledger: &mut Ledger,
 ) -> Result<(), NoMemory>
     requires scene { IsScene scene.now }
     requires ticks { seat.now.tick ≤ 2 ^ 32 }
-    ensures noted { IfOk result (λ _. NotesDeed scene.now
-        (loop_at scene.now seat.now ledger.old.drawer locals.old class body.now)
+    ensures noted { IfOk result (λ _. NotesLoop scene.now seat.now locals.old class body.now
         ledger.old ledger.new) }
     ensures locals { IfOk result (λ _. locals.new ≡ locals.old) }
     ensures seed { ledger.new.drawer.seed ≡ ledger.old.drawer.seed }
 {
     for other in scene.agents {
         if is_taken(scene.program, class, seat.this, other) {
-            block(alloc, scene, body, &seat.inside(other), locals, ledger)?;
+            block(alloc, scene, &seat.inside(other), body, locals, ledger)?;
         }
     }
     Ok(())
@@ -220,8 +216,7 @@ fn query_of_class<'a>(
 ) -> Result<(), NoMemory>
     requires scene { IsScene scene.now }
     requires ticks { tick ≤ 2 ^ 32 }
-    ensures noted { IfOk result (λ _. NotesDeed scene.now
-        (query_in scene.now.program.now ledger.old.drawer.seed tick scene.now.agents.now this.now (Some class.now))
+    ensures noted { IfOk result (λ _. NotesQueryIn scene.now class.now tick this.now
         ledger.old ledger.new) }
     ensures seed { ledger.new.drawer.seed ≡ ledger.old.drawer.seed }
 {
@@ -233,7 +228,7 @@ fn query_of_class<'a>(
         outer: None,
         inner: None,
     };
-    block(alloc, scene, &class.query, &seat, &mut locals, ledger)?;
+    block(alloc, scene, &seat, &class.query, &mut locals, ledger)?;
     Ok(())
 }
 
@@ -247,9 +242,7 @@ fn query<'a>(
 ) -> Result<(), NoMemory>
     requires scene { IsScene scene.now }
     requires ticks { tick ≤ 2 ^ 32 }
-    ensures noted { IfOk result (λ _. NotesDeed scene.now
-        (query_of scene.now.program.now ledger.old.drawer.seed tick scene.now.agents.now this.now)
-        ledger.old ledger.new) }
+    ensures noted { IfOk result (λ _. NotesQuery scene.now tick this.now ledger.old ledger.new) }
     ensures seed { ledger.new.drawer.seed ≡ ledger.old.drawer.seed }
 {
     match class_of(scene.program, this) {

@@ -57,8 +57,8 @@ fn joined(comb: Comb, total: i128, v: Value) -> Option<i128>
 /// Joins one more value to the total at a place.
 fn join_at(totals: &mut Vec<i128>, at: usize, comb: Comb, v: Value) -> Result<(), NoMemory>
     requires { at < length totals.old.items }
-    ensures { IfOk result (λ _. totals.new.items
-        ≡ slice_set totals.old.items at (joined comb (slice_index_or totals.old.items at (pos 0)) v)) }
+    ensures { IfOk result (λ _. totals.new.items ≡ slice_set totals.old.items at
+        (joined comb (slice_index_or totals.old.items at (pos 0)) v)) }
 {
     match joined(comb, totals[at], v) {
         Some(total) => {
@@ -121,8 +121,8 @@ impl<'a> Scene<'a> {
         requires { IsScene self.now }
         ensures { IfOk result (λ _. (said : List Saying)
             → totals.old.items ≡ table_of self.now.program.now said self.now.agents.now
-            → totals.new.items ≡ table_of self.now.program.now (said ++ record { target = id; field = effect; value = v } ∷ [])
-            self.now.agents.now) }
+            → totals.new.items ≡ table_of self.now.program.now
+            (said ++ record { target = id; field = effect; value = v } ∷ []) self.now.agents.now) }
     {
         let Ok(i) = self.ids.binary_search(&id) else {
             return Ok(());

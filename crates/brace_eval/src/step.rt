@@ -30,8 +30,12 @@ struct Nexts {
 impl Nexts {
     /// Adds what one more agent leaves.
     fn add(&mut self, left: Left) -> Result<(), NoMemory>
-        ensures living { IfOk result (λ _. self.new.living.items ≡ with_one self.old.living.items left.agent) }
-        ensures born { IfOk result (λ _. self.new.born.items ≡ with_one self.old.born.items left.child) }
+        ensures living {
+            IfOk result (λ _. self.new.living.items ≡ with_one self.old.living.items left.agent)
+        }
+        ensures born {
+            IfOk result (λ _. self.new.born.items ≡ with_one self.old.born.items left.child)
+        }
     {
         let Left { agent, child } = left;
         if let Some(agent) = agent {
@@ -66,7 +70,8 @@ fn updates<'a>(
         (filter_map result_ok (all_next program.now drawer.old.seed tick agents.now)) ≡
         nexts.born.items) }
     ensures faulted { IfErr result (λ e. (fault : Fault) → e ≡ StepFault.Fault fault
-        → least (filter_map result_err (all_next program.now drawer.old.seed tick agents.now)) ≡ Some fault) }
+        → least (filter_map result_err
+        (all_next program.now drawer.old.seed tick agents.now)) ≡ Some fault) }
 {
     let mut nexts = Nexts {
         living: Vec::new(alloc),

@@ -81,8 +81,8 @@ fn ruled_states(
     first: &mut Option<Stop>,
 ) -> Result<Vec<Value>, NoMemory>
     requires { env.now.tick ≤ 2 ^ 32 }
-    ensures ruled { IfOk result (λ new. values_of (worths (scope_of env.now drawer.old) states.now values.now) ≡
-        new.items) }
+    ensures ruled { IfOk result (λ new. values_of
+        (worths (scope_of env.now drawer.old) states.now values.now) ≡ new.items) }
     ensures met { IfOk result (λ _. Meets
         (worths (scope_of env.now drawer.old) states.now values.now) first.old first.new) }
     ensures seed { drawer.new.seed ≡ drawer.old.seed }
@@ -99,7 +99,9 @@ fn ruled_states(
 fn condition(e: &Option<Expr>, env: &Env, drawer: &mut Drawer, first: &mut Option<Stop>) -> bool
     requires { env.now.tick ≤ 2 ^ 32 }
     ensures holds { result ≡ holds (condition_in (scope_of env.now drawer.old) e.now) }
-    ensures met { Meets (condition_in (scope_of env.now drawer.old) e.now ∷ []) first.old first.new }
+    ensures met {
+        Meets (condition_in (scope_of env.now drawer.old) e.now ∷ []) first.old first.new
+    }
     ensures seed { drawer.new.seed ≡ drawer.old.seed }
 {
     match e {
@@ -117,8 +119,8 @@ fn gifts(
     first: &mut Option<Stop>,
 ) -> Result<Vec<Value>, NoMemory>
     requires { env.now.tick ≤ 2 ^ 32 }
-    ensures given { IfOk result (λ given. values_of (gift_worths (scope_of env.now drawer.old) gifts.now) ≡
-        given.items) }
+    ensures given { IfOk result (λ given. values_of
+        (gift_worths (scope_of env.now drawer.old) gifts.now) ≡ given.items) }
     ensures met { IfOk result (λ _. Meets
         (gift_worths (scope_of env.now drawer.old) gifts.now) first.old first.new) }
     ensures seed { drawer.new.seed ≡ drawer.old.seed }
@@ -225,8 +227,8 @@ fn child(
     ensures child { IfOk result (λ child. child ≡
         child_in (scope_of env.now drawer.old) class.now a.now class.now.spawn) }
     ensures met { IfOk result (λ _. Meets
-        (spawns_in (scope_of env.now drawer.old) class.now.spawn ∷ gifts_in (scope_of env.now drawer.old) class.now.spawn)
-        first.old first.new) }
+        (spawns_in (scope_of env.now drawer.old) class.now.spawn
+        ∷ gifts_in (scope_of env.now drawer.old) class.now.spawn) first.old first.new) }
     ensures seed { drawer.new.seed ≡ drawer.old.seed }
 {
     let Some(spawn) = &class.spawn else {
@@ -252,7 +254,8 @@ fn left_of_class<'a>(
 ) -> Result<Left, StepFault>
     requires ticks { tick ≤ 2 ^ 32 }
     requires reach { pos 0 ≤ℤ class.now.reach }
-    ensures left { IfOk result (λ left. next_in drawer.old.seed tick (Some class.now) totals.now a.now
+    ensures left { IfOk result (λ left.
+        next_in drawer.old.seed tick (Some class.now) totals.now a.now
         ≡ Ok (record { agent = left.agent; child = left.child })) }
     ensures fault { IfErr result (λ e. (fault : Fault) → e ≡ StepFault.Fault fault
         → next_in drawer.old.seed tick (Some class.now) totals.now a.now ≡ Err fault) }
@@ -307,7 +310,8 @@ pub fn left_by<'a>(
 ) -> Result<Left, StepFault>
     requires ticks { tick ≤ 2 ^ 32 }
     requires reach { Reaches program.now }
-    ensures left { IfOk result (λ left. next_in drawer.old.seed tick (class_of program.now a.now) totals.now a.now
+    ensures left { IfOk result (λ left.
+        next_in drawer.old.seed tick (class_of program.now a.now) totals.now a.now
         ≡ Ok (record { agent = left.agent; child = left.child })) }
     ensures fault { IfErr result (λ e. (fault : Fault) → e ≡ StepFault.Fault fault
         → next_in drawer.old.seed tick (class_of program.now a.now) totals.now a.now ≡ Err fault) }

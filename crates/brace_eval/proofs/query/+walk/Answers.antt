@@ -1,7 +1,7 @@
-use Rattle.std.proofs.Common.{◌≡◌, ◌∙◌, sym, ap, subst, refl, true, map, take, drop, length, ◌≤◌, ◌<◌, ◌+◌, List, Bool, ℕ, get_or}
+use Rattle.std.proofs.Common.{◌≡◌, ◌∙◌, sym, ap, subst, refl, map, take, length, ◌≤◌, ◌+◌, List, Bool, ℕ}
 use Rattle.std.specs.Prelude.{IfOk, ◌==◌, ◌&&◌}
 use Rattle.std.specs.List.{filter}
-use Rattle.std.proofs.lemmas.List.{take_all, take-append-drop, map-append}
+use Rattle.std.proofs.lemmas.List.{take_all}
 use Rattle.brace_model.specs.declared.program.Value.{Value}
 use Rattle.brace_model.specs.declared.program.Stmt.{Stmt}
 use Rattle.brace_model.specs.declared.world.Agent.{Agent}
@@ -12,7 +12,7 @@ use Rattle.brace_eval.specs.declared.ledger.Ledger.{Ledger}
 use Rattle.brace_eval.specs.inner.Tables.{NotesDeed}
 use Rattle.brace_eval.specs.inner.Walks.{scope_at}
 use Rattle.brace_eval.proofs.StatementEquations.{does-Const, does-If, does-Foreach, does-Assign}
-use Rattle.brace_eval.proofs.DeedLemmas.{if_ok, chosen-first, chosen-second, worth-then, worth-stops, notes-nothing, map-more, seen-more, unseen-more, block-step, block-stopped, iterated-step}
+use Rattle.brace_eval.proofs.DeedLemmas.{if_ok, chosen-first, chosen-second, worth-then, worth-stops, notes-nothing, seen-more, unseen-more, statement-turn, cut-there, iterated-step}
 use Rattle.brace_eval.proofs.query.+walk.Goals as goal
 use Rattle.brace_eval.proofs.query.+walk.Goals.{iterations-then-is_taken+in_ok-block, iterations-else-is_taken}
 
@@ -20,7 +20,6 @@ pub statement-returns-in_ok-bind-in-Some-clause-noted : goal.statement-returns-i
 statement-returns-in_ok-bind-in-Some-clause-noted t c =
     let here = scope_at c.args.seat.now c.args.ledger.now.drawer.seed c.args.locals.now in
     let scene = c.args.scene.now in
-    let st = statement scene.program.now scene.agents.now in
     let f : Value → Deed = λ v. silent (bound here c.in-Const.n v) in
     let does = does-Const scene.program.now scene.agents.now c.args.s.now here c.in-Const.n c.in-Const.e c.in-Const.is in
     subst (λ (d : Deed). NotesDeed scene d c.args.ledger.now c.worth.new.ledger) (sym does)
@@ -31,7 +30,6 @@ pub statement-returns-in-None-clause-noted : goal.statement-returns-in-None-clau
 statement-returns-in-None-clause-noted t c =
     let here = scope_at c.args.seat.now c.args.ledger.now.drawer.seed c.args.locals.now in
     let scene = c.args.scene.now in
-    let st = statement scene.program.now scene.agents.now in
     let f : Value → Deed = λ v. silent (bound here c.in-Const.n v) in
     let does = does-Const scene.program.now scene.agents.now c.args.s.now here c.in-Const.n c.in-Const.e c.in-Const.is in
     subst (λ (d : Deed). NotesDeed scene d c.args.ledger.now c.worth.new.ledger) (sym does)
@@ -44,12 +42,11 @@ statement-returns-then-is_true-clause-noted t c =
     let st = statement scene.program.now scene.agents.now in
     let f : Value → Deed = λ v. closed here (chosen v (block (map st c.in-If.a) here) (block (map st c.in-If.b) here)) in
     let does = does-If scene.program.now scene.agents.now c.args.s.now here c.in-If.condition c.in-If.a c.in-If.b c.in-If.is in
-    let v = c.in-Some-worth.v in
-    let way : chosen v (block (map st c.in-If.a) here) (block (map st c.in-If.b) here) ≡ block (map st c.in-If.a) here =
-    chosen-first v (block (map st c.in-If.a) here) (block (map st c.in-If.b) here) (sym c.is_true.ensures ∙ c.if-is_true.true) in
+    let way : chosen c.in-Some-worth.v (block (map st c.in-If.a) here) (block (map st c.in-If.b) here) ≡ block (map st c.in-If.a) here =
+    chosen-first c.in-Some-worth.v (block (map st c.in-If.a) here) (block (map st c.in-If.b) here) (sym c.is_true.ensures ∙ c.if-is_true.true) in
     subst (λ (d : Deed). IfOk c.block.result (λ x. NotesDeed scene d c.args.ledger.now c.block.new.ledger)) (sym does)
     (if_ok c.block.result _ (λ x. NotesDeed scene (deed_of here (value c.in-If.condition here) f) c.args.ledger.now c.block.new.ledger)
-    (λ x second. worth-then scene here (value c.in-If.condition here) f v c.args.ledger.now c.worth-in-If.new.ledger c.block.new.ledger
+    (λ x second. worth-then scene here (value c.in-If.condition here) f c.in-Some-worth.v c.args.ledger.now c.worth-in-If.new.ledger c.block.new.ledger
     (sym c.in-Some-worth.ensures.value) (c.in-Some-worth.ensures.noted scene)
     (subst (λ (d : Deed). NotesDeed scene (closed here d) c.worth-in-If.new.ledger c.block.new.ledger) (sym way) second))
     (subst (λ (n : ℕ). IfOk c.block.result (λ x. NotesDeed scene (block (map st c.in-If.a) (scope_at c.args.seat.now n c.args.locals.now)) c.worth-in-If.new.ledger c.block.new.ledger))
@@ -62,12 +59,11 @@ statement-returns-else-is_true-clause-noted t c =
     let st = statement scene.program.now scene.agents.now in
     let f : Value → Deed = λ v. closed here (chosen v (block (map st c.in-If.a) here) (block (map st c.in-If.b) here)) in
     let does = does-If scene.program.now scene.agents.now c.args.s.now here c.in-If.condition c.in-If.a c.in-If.b c.in-If.is in
-    let v = c.in-Some-worth.v in
-    let way : chosen v (block (map st c.in-If.a) here) (block (map st c.in-If.b) here) ≡ block (map st c.in-If.b) here =
-    chosen-second v (block (map st c.in-If.a) here) (block (map st c.in-If.b) here) (sym c.is_true.ensures ∙ c.if-is_true.false) in
+    let way : chosen c.in-Some-worth.v (block (map st c.in-If.a) here) (block (map st c.in-If.b) here) ≡ block (map st c.in-If.b) here =
+    chosen-second c.in-Some-worth.v (block (map st c.in-If.a) here) (block (map st c.in-If.b) here) (sym c.is_true.ensures ∙ c.if-is_true.false) in
     subst (λ (d : Deed). IfOk c.block-else-is_true.result (λ x. NotesDeed scene d c.args.ledger.now c.block-else-is_true.new.ledger)) (sym does)
     (if_ok c.block-else-is_true.result _ (λ x. NotesDeed scene (deed_of here (value c.in-If.condition here) f) c.args.ledger.now c.block-else-is_true.new.ledger)
-    (λ x second. worth-then scene here (value c.in-If.condition here) f v c.args.ledger.now c.worth-in-If.new.ledger c.block-else-is_true.new.ledger
+    (λ x second. worth-then scene here (value c.in-If.condition here) f c.in-Some-worth.v c.args.ledger.now c.worth-in-If.new.ledger c.block-else-is_true.new.ledger
     (sym c.in-Some-worth.ensures.value) (c.in-Some-worth.ensures.noted scene)
     (subst (λ (d : Deed). NotesDeed scene (closed here d) c.worth-in-If.new.ledger c.block-else-is_true.new.ledger) (sym way) second))
     (subst (λ (n : ℕ). IfOk c.block-else-is_true.result (λ x. NotesDeed scene (block (map st c.in-If.b) (scope_at c.args.seat.now n c.args.locals.now)) c.worth-in-If.new.ledger c.block-else-is_true.new.ledger))
@@ -154,79 +150,27 @@ iterations-loop-other-preserved t c =
 
 pub statements-returns-then-branch-clause-noted : goal.statements-returns-then-branch-clause-noted
 statements-returns-then-branch-clause-noted t c =
-    let scene = c.args.scene.now in
-    let st = statement scene.program.now scene.agents.now in
-    let seed = c.args.ledger.now.drawer.seed in
-    let start = scope_at c.args.seat.now seed c.args.locals.now in
-    let body : List Stmt = c.args.body.now in
-    let i = c.loop-s.s-index in
-    let f = st c.s-item.result in
-    let here = scope_at c.args.seat.now seed c.loop-s.locals in
-    let le : i < length body = subst (λ (l : List Stmt). i < length l) c.as_slice-s-items.ensures c.loop-s-test.true in
-    let is : c.s-item.result ≡ get_or body i c.s-item.result = subst (λ (l : List Stmt). c.s-item.result ≡ get_or l i c.s-item.result) c.as_slice-s-items.ensures c.s-item.is in
-    let second : NotesDeed scene (f here) c.loop-s.ledger c.statement.new.ledger =
-    subst (λ (n : ℕ). NotesDeed scene (f (scope_at c.args.seat.now n c.loop-s.locals)) c.loop-s.ledger c.statement.new.ledger) c.loop-s.invariant.seed c.in_ok-statement.ensures.noted in
-    let cut : c.in_ok-statement.field-0 ≡ (f here).stopped =
-    subst (λ (n : ℕ). c.in_ok-statement.field-0 ≡ (f (scope_at c.args.seat.now n c.loop-s.locals)).stopped) c.loop-s.invariant.seed c.in_ok-statement.ensures.stopped in
-    let step = block-step scene (map st (take i body)) (map st (take (i + 1) body)) f start here c.args.ledger.now c.loop-s.ledger c.statement.new.ledger
-    (map-more st body i c.s-item.result le is) c.loop-s.invariant.going c.loop-s.invariant.scope c.loop-s.invariant.noted second in
-    let halted : (block (map st (take (i + 1) body)) start).stopped ≡ true = step.stopped ∙ sym cut ∙ c.if-branch.true in
-    let whole : block (map st body) start ≡ block (map st (take (i + 1) body)) start =
-    ap (λ (l : List Stmt). block (map st l) start) (sym (take-append-drop (i + 1) body))
-    ∙ ap (λ (fs : List (Scope → Deed)). block fs start) (map-append st (take (i + 1) body) (drop (i + 1) body))
-    ∙ block-stopped (map st (take (i + 1) body)) (map st (drop (i + 1) body)) start halted in
-    subst (λ (d : Deed). NotesDeed scene d c.args.ledger.now c.statement.new.ledger) (sym whole) step.noted
+    let turn = statement-turn c.args.scene.now c.args.seat.now c.args.ledger.now.drawer.seed c.args.locals.now c.args.body.now _ c.loop-s.s-index c.s-item.result c.loop-s.locals c.loop-s.ledger.drawer.seed c.in_ok-statement.field-0 c.args.ledger.now c.loop-s.ledger c.statement.new.ledger
+    c.as_slice-s-items.ensures c.loop-s-test.true c.s-item.is c.loop-s.invariant.seed c.loop-s.invariant.going c.loop-s.invariant.scope c.loop-s.invariant.noted c.in_ok-statement.ensures.noted c.in_ok-statement.ensures.stopped in
+    let whole = cut-there c.args.scene.now c.args.seat.now c.args.ledger.now.drawer.seed c.args.locals.now c.args.body.now (c.loop-s.s-index + 1) (turn.stopped ∙ c.if-branch.true) in
+    subst (λ (d : Deed). NotesDeed c.args.scene.now d c.args.ledger.now c.statement.new.ledger) (sym whole) turn.noted
 
 pub statements-returns-then-branch-clause-stopped : goal.statements-returns-then-branch-clause-stopped
 statements-returns-then-branch-clause-stopped t c =
-    let scene = c.args.scene.now in
-    let st = statement scene.program.now scene.agents.now in
-    let seed = c.args.ledger.now.drawer.seed in
-    let start = scope_at c.args.seat.now seed c.args.locals.now in
-    let body : List Stmt = c.args.body.now in
-    let i = c.loop-s.s-index in
-    let f = st c.s-item.result in
-    let here = scope_at c.args.seat.now seed c.loop-s.locals in
-    let le : i < length body = subst (λ (l : List Stmt). i < length l) c.as_slice-s-items.ensures c.loop-s-test.true in
-    let is : c.s-item.result ≡ get_or body i c.s-item.result = subst (λ (l : List Stmt). c.s-item.result ≡ get_or l i c.s-item.result) c.as_slice-s-items.ensures c.s-item.is in
-    let second : NotesDeed scene (f here) c.loop-s.ledger c.statement.new.ledger =
-    subst (λ (n : ℕ). NotesDeed scene (f (scope_at c.args.seat.now n c.loop-s.locals)) c.loop-s.ledger c.statement.new.ledger) c.loop-s.invariant.seed c.in_ok-statement.ensures.noted in
-    let cut : c.in_ok-statement.field-0 ≡ (f here).stopped =
-    subst (λ (n : ℕ). c.in_ok-statement.field-0 ≡ (f (scope_at c.args.seat.now n c.loop-s.locals)).stopped) c.loop-s.invariant.seed c.in_ok-statement.ensures.stopped in
-    let step = block-step scene (map st (take i body)) (map st (take (i + 1) body)) f start here c.args.ledger.now c.loop-s.ledger c.statement.new.ledger
-    (map-more st body i c.s-item.result le is) c.loop-s.invariant.going c.loop-s.invariant.scope c.loop-s.invariant.noted second in
-    let halted : (block (map st (take (i + 1) body)) start).stopped ≡ true = step.stopped ∙ sym cut ∙ c.if-branch.true in
-    let whole : block (map st body) start ≡ block (map st (take (i + 1) body)) start =
-    ap (λ (l : List Stmt). block (map st l) start) (sym (take-append-drop (i + 1) body))
-    ∙ ap (λ (fs : List (Scope → Deed)). block fs start) (map-append st (take (i + 1) body) (drop (i + 1) body))
-    ∙ block-stopped (map st (take (i + 1) body)) (map st (drop (i + 1) body)) start halted in
-    sym (ap (λ (d : Deed). d.stopped) whole ∙ halted)
+    let turn = statement-turn c.args.scene.now c.args.seat.now c.args.ledger.now.drawer.seed c.args.locals.now c.args.body.now _ c.loop-s.s-index c.s-item.result c.loop-s.locals c.loop-s.ledger.drawer.seed c.in_ok-statement.field-0 c.args.ledger.now c.loop-s.ledger c.statement.new.ledger
+    c.as_slice-s-items.ensures c.loop-s-test.true c.s-item.is c.loop-s.invariant.seed c.loop-s.invariant.going c.loop-s.invariant.scope c.loop-s.invariant.noted c.in_ok-statement.ensures.noted c.in_ok-statement.ensures.stopped in
+    let whole = cut-there c.args.scene.now c.args.seat.now c.args.ledger.now.drawer.seed c.args.locals.now c.args.body.now (c.loop-s.s-index + 1) (turn.stopped ∙ c.if-branch.true) in
+    sym (ap (λ (d : Deed). d.stopped) whole ∙ turn.stopped ∙ c.if-branch.true)
 
 pub statements-loop-s-preserved : goal.statements-loop-s-preserved
 statements-loop-s-preserved t c =
-    let scene = c.args.scene.now in
-    let st = statement scene.program.now scene.agents.now in
-    let seed = c.args.ledger.now.drawer.seed in
-    let start = scope_at c.args.seat.now seed c.args.locals.now in
-    let body : List Stmt = c.args.body.now in
-    let i = c.loop-s.s-index in
-    let f = st c.s-item.result in
-    let here = scope_at c.args.seat.now seed c.loop-s.locals in
-    let le : i < length body = subst (λ (l : List Stmt). i < length l) c.as_slice-s-items.ensures c.loop-s-test.true in
-    let is : c.s-item.result ≡ get_or body i c.s-item.result = subst (λ (l : List Stmt). c.s-item.result ≡ get_or l i c.s-item.result) c.as_slice-s-items.ensures c.s-item.is in
-    let second : NotesDeed scene (f here) c.loop-s.ledger c.statement.new.ledger =
-    subst (λ (n : ℕ). NotesDeed scene (f (scope_at c.args.seat.now n c.loop-s.locals)) c.loop-s.ledger c.statement.new.ledger) c.loop-s.invariant.seed c.in_ok-statement.ensures.noted in
-    let cut : c.in_ok-statement.field-0 ≡ (f here).stopped =
-    subst (λ (n : ℕ). c.in_ok-statement.field-0 ≡ (f (scope_at c.args.seat.now n c.loop-s.locals)).stopped) c.loop-s.invariant.seed c.in_ok-statement.ensures.stopped in
-    let step = block-step scene (map st (take i body)) (map st (take (i + 1) body)) f start here c.args.ledger.now c.loop-s.ledger c.statement.new.ledger
-    (map-more st body i c.s-item.result le is) c.loop-s.invariant.going c.loop-s.invariant.scope c.loop-s.invariant.noted second in
-    let left : (f here).scope ≡ scope_at c.args.seat.now seed c.statement.new.locals =
-    subst (λ (n : ℕ). (f (scope_at c.args.seat.now n c.loop-s.locals)).scope ≡ scope_at c.args.seat.now n c.statement.new.locals) c.loop-s.invariant.seed
-    (c.in_ok-statement.ensures.scope c.if-branch.false) in
+    let turn = statement-turn c.args.scene.now c.args.seat.now c.args.ledger.now.drawer.seed c.args.locals.now c.args.body.now _ c.loop-s.s-index c.s-item.result c.loop-s.locals c.loop-s.ledger.drawer.seed c.in_ok-statement.field-0 c.args.ledger.now c.loop-s.ledger c.statement.new.ledger
+    c.as_slice-s-items.ensures c.loop-s-test.true c.s-item.is c.loop-s.invariant.seed c.loop-s.invariant.going c.loop-s.invariant.scope c.loop-s.invariant.noted c.in_ok-statement.ensures.noted c.in_ok-statement.ensures.stopped in
     record {
-      going = step.stopped ∙ sym cut ∙ c.if-branch.false;
-      scope = step.scope ∙ left;
-      noted = step.noted;
+      going = turn.stopped ∙ c.if-branch.false;
+      scope = turn.scope ∙ c.in_ok-statement.ensures.scope c.if-branch.false
+          ∙ ap (λ (n : ℕ). scope_at c.args.seat.now n c.statement.new.locals) c.loop-s.invariant.seed;
+      noted = turn.noted;
       undone = c.in_ok-statement.ensures.undone ∙ c.loop-s.invariant.undone;
       seed = c.in_ok-statement.ensures.seed ∙ c.loop-s.invariant.seed;
     }
