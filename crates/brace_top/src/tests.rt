@@ -207,7 +207,14 @@ const RUNS: [Case; 20] = [
         "",
         "brace: a: record 2: DuplicateId\n",
     ),
-    (RUN, STEPS, "P,7,0,x\n", 4, "", "brace: a: record 1: BadValue 3\n"),
+    (
+        RUN,
+        STEPS,
+        "P,7,0,x\n",
+        4,
+        "",
+        "brace: a: record 1: BadValue 3\n",
+    ),
 ];
 
 const REFUSALS: [Case; 16] = [

@@ -89,7 +89,7 @@ abbrev pub NotesQueryIn : Scene → Class → ℕ → Agent → Ledger → Ledge
 NotesQueryIn scene class tick this before after =
     let world = scene.agents.now in
     NotesDeed scene
-        (query_in scene.program.now before.drawer.seed tick world this (Some class)) before after
+    (query_in scene.program.now before.drawer.seed tick world this (Some class)) before after
 
 -- a ledger came to stand for the query of an agent, too
 abbrev pub NotesQuery : Scene → ℕ → Agent → Ledger → Ledger → Type 0
