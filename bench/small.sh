@@ -1,5 +1,5 @@
 #!/usr/bin/env bash
-# Runs 20 ticks of a thin script over 10,000, 100,000 and 1,000,000 agents, and writes seconds, peak
+# Runs 20 ticks of a small script over 10,000, 100,000 and 1,000,000 agents, and writes seconds, peak
 # memory and the ratios between them into docs/PERFORMANCE.md.
 set -eu
 top=$(cd "$(dirname "$0")/.." && pwd)
@@ -29,5 +29,5 @@ for count in (10_000, 100_000, 1_000_000):
             f.write(f"P,{i},{x},{r.randrange(1000)},{r.randrange(-2, 3)},0\n")
     words = [program, "run", "--script", f"{work}/s", "--agents", f"{work}/a", "--ticks", "20"]
     rows.append((count, *measured(words)))
-table("Twenty ticks of a thin script", "agents", rows)
+table("Twenty ticks of a small script", "agents", rows)
 P
