@@ -41,7 +41,8 @@ pub trait Actor<F: Freight> {
 
     /// Hands it the piece of the name that it takes next, after `next` gave Take.
     fn give(&mut self, piece: F)
-        requires turn { IsTake (due F.schedule (setting self.old) (number self.old) (past self.old)) }
+        requires turn { IsTake
+            (due F.schedule (setting self.old) (number self.old) (past self.old)) }
         requires right { (name : Name) →
             due F.schedule (setting self.old) (number self.old) (past self.old) ≡ Take name →
             F.right (setting self.old) name piece }

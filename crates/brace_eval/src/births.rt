@@ -25,7 +25,8 @@ fn count_values(agents: &[Agent]) -> usize
 
 /// Whether these are too many agents, or values of their states, or an id is too great.
 fn is_too_far(agents: usize, values: usize, id: u64) -> bool
-    ensures { result ≡ (nat_lt most_agents agents || (nat_lt most_values values || nat_lt greatest_id id)) }
+    ensures { result ≡ (nat_lt most_agents agents
+        || (nat_lt most_values values || nat_lt greatest_id id)) }
 {
     agents > MOST_AGENTS || values > MOST_VALUES || id > GREATEST_ID
 }
@@ -86,7 +87,8 @@ pub fn grown(
     mut born: Vec<Agent>,
 ) -> Result<(Vec<Agent>, u64), NoMemory>
     requires { next + length born.items ≤ 2 ^ 63 }
-    ensures { IfOk result (λ all. world_with all.0.items all.1 ≡ grown next living.items born.items) }
+    ensures { IfOk result (λ all. world_with all.0.items all.1
+        ≡ grown next living.items born.items) }
 {
     let mut id = next;
     born.reverse();

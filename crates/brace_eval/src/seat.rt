@@ -38,7 +38,8 @@ pub fn is_true(v: Value) -> bool
 /// Binds a constant, and notes what it was.
 pub fn bind(locals: &mut [Value], trail: &mut Vec<Bound>, n: u32, v: Value) -> Result<(), NoMemory>
     ensures bound { IfOk result (λ _. locals.new ≡ slice_set locals.old n v) }
-    ensures undone { IfOk result (λ _. undone trail.new.items locals.new ≡ undone trail.old.items locals.old) }
+    ensures undone { IfOk result (λ _. undone trail.new.items locals.new
+        ≡ undone trail.old.items locals.old) }
 {
     let place = n as usize;
     if place < locals.len() {

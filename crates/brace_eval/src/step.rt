@@ -30,8 +30,10 @@ struct Nexts {
 impl Nexts {
     /// Adds what one more agent leaves.
     fn add(&mut self, left: Left) -> Result<(), NoMemory>
-        ensures living { IfOk result (λ _. self.new.living.items ≡ with_one self.old.living.items left.agent) }
-        ensures born { IfOk result (λ _. self.new.born.items ≡ with_one self.old.born.items left.child) }
+        ensures living { IfOk result (λ _. self.new.living.items
+            ≡ with_one self.old.living.items left.agent) }
+        ensures born { IfOk result (λ _. self.new.born.items
+            ≡ with_one self.old.born.items left.child) }
     {
         let Left { agent, child } = left;
         if let Some(agent) = agent {

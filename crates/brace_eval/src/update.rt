@@ -99,7 +99,8 @@ fn ruled_states(
 fn condition(e: &Option<Expr>, env: &Env, drawer: &mut Drawer, first: &mut Option<Stop>) -> bool
     requires { env.now.tick ≤ 2 ^ 32 }
     ensures holds { result ≡ holds (condition_in (scope_of env.now drawer.old) e.now) }
-    ensures met { Meets (condition_in (scope_of env.now drawer.old) e.now ∷ []) first.old first.new }
+    ensures met { Meets (condition_in (scope_of env.now drawer.old) e.now ∷ [])
+        first.old first.new }
     ensures seed { drawer.new.seed ≡ drawer.old.seed }
 {
     match e {

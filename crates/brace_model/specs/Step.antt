@@ -87,8 +87,7 @@ unless_faulty None None (Some birth) world = Err birth
 unless_faulty None None None world = Ok world
 
 -- the least fault of the queries if there is one, else the least of the updates, else that of the
--- first birth that
--- goes too far, else the next world
+-- first birth that goes too far, else the next world
 abbrev pub step : Program → ℕ → ℕ → World → Result World Fault
 step program seed tick world =
     let nexts = all_next program seed tick world.agents in

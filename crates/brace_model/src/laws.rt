@@ -11,7 +11,8 @@ pub fn fault_order_is_total()
     ensures itself { (a : Fault) → comes_before a a ≡ false }
     ensures in_turn { (a b c : Fault) → IsTrue (comes_before a b) → IsTrue (comes_before b c)
         → IsTrue (comes_before a c) }
-    ensures one_of_two { (a b : Fault) → comes_before a b ≡ false → comes_before b a ≡ false → a ≡ b }
+    ensures one_of_two { (a b : Fault) → comes_before a b ≡ false → comes_before b a ≡ false
+        → a ≡ b }
 {}
 
 /// The least of some faults is the one among them that none of them comes before, and there is one
@@ -21,5 +22,6 @@ pub fn least_is_least()
         → least faults ≡ Some f
         ↔ (Contains faults f × All (λ g. comes_before g f ≡ false) faults) }
     ensures none { (faults : List Fault) → least faults ≡ None ↔ faults ≡ [] }
-    ensures any_order { (faults others : List Fault) → IsPermutation faults others → least faults ≡ least others }
+    ensures any_order { (faults others : List Fault) → IsPermutation faults others
+        → least faults ≡ least others }
 {}

@@ -71,7 +71,8 @@ fn rises(agents: &[Agent]) -> bool
 
 /// Whether each agent's id is below a number.
 fn are_below(agents: &[Agent], next: u64) -> bool
-    ensures { MatchBool result (All (λ a. a.id < next) agents.now) (All (λ a. a.id < next) agents.now → ⊥) }
+    ensures { MatchBool result
+        (All (λ a. a.id < next) agents.now) (All (λ a. a.id < next) agents.now → ⊥) }
 {
     agents.iter().all(|agent| agent.id < next)
 }

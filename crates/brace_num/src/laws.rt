@@ -28,5 +28,6 @@ pub fn roots_are_greatest()
 /// the divisor.
 pub fn quotients_leave_remainders()
     ensures gives_back { (a d : ℤ) → (int_div a d *ℤ d) +ℤ int_rem a d ≡ a }
-    ensures near_zero { (a d : ℤ) → 0 < unsigned_abs d → unsigned_abs (int_rem a d) < unsigned_abs d }
+    ensures near_zero { (a d : ℤ) → 0 < unsigned_abs d
+        → unsigned_abs (int_rem a d) < unsigned_abs d }
 {}

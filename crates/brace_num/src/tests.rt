@@ -15,6 +15,17 @@ const DIV_ZERO: Result<i64, Kind> = Err(Kind::DivZero);
 
 const NEG_ROOT: Result<i64, Kind> = Err(Kind::NegRoot);
 
+// What two operands give that are both the least number, or both the greatest.
+const OF_EQUAL_ENDS: [Result<i64, Kind>; 7] = [
+    OVERFLOW,
+    Ok(0),
+    OVERFLOW,
+    Ok(1),
+    Ok(0),
+    OVERFLOW,
+    Ok(1_000_000),
+];
+
 #[test]
 fn one_operand_at_the_ends_and_about_zero(rt: HostRuntime) {
     for (a, results, whole) in [
@@ -40,19 +51,7 @@ fn one_operand_at_the_ends_and_about_zero(rt: HostRuntime) {
 #[test]
 fn two_operands_at_the_ends_and_about_zero(rt: HostRuntime) {
     for (a, b, results) in [
-        (
-            LEAST,
-            LEAST,
-            [
-                OVERFLOW,
-                Ok(0),
-                OVERFLOW,
-                Ok(1),
-                Ok(0),
-                OVERFLOW,
-                Ok(1_000_000),
-            ],
-        ),
+        (LEAST, LEAST, OF_EQUAL_ENDS),
         (
             LEAST,
             -1,
@@ -256,19 +255,7 @@ fn two_operands_at_the_ends_and_about_zero(rt: HostRuntime) {
                 OVERFLOW,
             ],
         ),
-        (
-            MOST,
-            MOST,
-            [
-                OVERFLOW,
-                Ok(0),
-                OVERFLOW,
-                Ok(1),
-                Ok(0),
-                OVERFLOW,
-                Ok(1_000_000),
-            ],
-        ),
+        (MOST, MOST, OF_EQUAL_ENDS),
     ] {
         assert_eq!(rt;
             [

@@ -9,7 +9,8 @@ use brace_num::{NoMemory, print_count, print_fixed, print_int};
 ///
 /// A class number that the program lacks prints an empty name.
 pub fn print_agent(out: &mut Vec<u8>, program: &Program, agent: &Agent) -> Result<(), NoMemory>
-    ensures printed { OnOk result (out.new.items ≡ out.old.items ++ agent_text program.now agent.now) }
+    ensures printed { OnOk result (out.new.items
+        ≡ out.old.items ++ agent_text program.now agent.now) }
     ensures kept { OnErr result (out.new.items ≡ out.old.items) }
 {
     let before = out.len();
@@ -23,7 +24,8 @@ pub fn print_agent(out: &mut Vec<u8>, program: &Program, agent: &Agent) -> Resul
 // A refused append may leave a part of the text behind `out`.
 #[tactic(auto, using(brace_num::proofs::Printings::starts_more, crate::proofs::Texts::starts_here))]
 fn append_agent(out: &mut Vec<u8>, program: &Program, agent: &Agent) -> Result<(), NoMemory>
-    ensures printed { OnOk result (out.new.items ≡ out.old.items ++ agent_text program.now agent.now) }
+    ensures printed { OnOk result (out.new.items
+        ≡ out.old.items ++ agent_text program.now agent.now) }
     ensures only_appends { take (length out.old.items) out.new.items ≡ out.old.items }
 {
     out.extend_from_slice(name_of_class(program, agent))?;
@@ -43,7 +45,8 @@ fn name_of_class<'a>(program: &'a Program, agent: &Agent) -> &'a [u8]
 
 #[tactic(auto, using(brace_num::proofs::Printings::starts_more, crate::proofs::Texts::starts_here))]
 fn append_values(out: &mut Vec<u8>, values: &[Value]) -> Result<(), NoMemory>
-    ensures printed { OnOk result (out.new.items ≡ out.old.items ++ flat_map (λ v. 44 ∷ spelled v) values.now) }
+    ensures printed { OnOk result (out.new.items
+        ≡ out.old.items ++ flat_map (λ v. 44 ∷ spelled v) values.now) }
     ensures only_appends { take (length out.old.items) out.new.items ≡ out.old.items }
 {
     for value in values {
@@ -54,7 +57,8 @@ fn append_values(out: &mut Vec<u8>, values: &[Value]) -> Result<(), NoMemory>
 }
 
 fn print_value(out: &mut Vec<u8>, value: Value) -> Result<(), NoMemory>
-    ensures printed { OnOk result (out.new.items ≡ out.old.items ++ spelled value) }
+    ensures printed { OnOk result (out.new.items
+        ≡ out.old.items ++ spelled value) }
     ensures kept { OnErr result (out.new.items ≡ out.old.items) }
 {
     match value {

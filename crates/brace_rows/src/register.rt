@@ -38,8 +38,10 @@ impl Register {
     /// One agent more, or why it is none of a file. After a fault the register is of no more use.
     pub fn enter(&mut self, agent: Agent) -> Result<Option<RowKind>, NoMemory>
         requires { IsRegister self.old }
-        ensures judged { IfOk result (λ fault. fault ≡ fault_behind self.old.agents.items (Ok agent)) }
-        ensures entered { result ≡ Ok None → self.new.agents.items ≡ self.old.agents.items ++ agent ∷ [] }
+        ensures judged { IfOk result (λ fault. fault
+            ≡ fault_behind self.old.agents.items (Ok agent)) }
+        ensures entered { result ≡ Ok None
+            → self.new.agents.items ≡ self.old.agents.items ++ agent ∷ [] }
         ensures register { result ≡ Ok None → IsRegister self.new }
     {
         if !self.ids.insert(agent.id)? {

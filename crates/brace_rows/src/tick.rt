@@ -15,7 +15,8 @@ pub fn print_tick(
     tick: u64,
     world: &World,
 ) -> Result<(), NoMemory>
-    ensures printed { OnOk result (out.new.items ≡ out.old.items ++ rows program.now tick world.now.agents) }
+    ensures printed { OnOk result (out.new.items
+        ≡ out.old.items ++ rows program.now tick world.now.agents) }
     ensures kept { OnErr result (out.new.items ≡ out.old.items) }
 {
     let before = out.len();
@@ -34,7 +35,8 @@ fn append_rows(
     tick: u64,
     agents: &[Agent],
 ) -> Result<(), NoMemory>
-    ensures printed { OnOk result (out.new.items ≡ out.old.items ++ rows program.now tick agents.now) }
+    ensures printed { OnOk result (out.new.items
+        ≡ out.old.items ++ rows program.now tick agents.now) }
     ensures only_appends { take (length out.old.items) out.new.items ≡ out.old.items }
 {
     for agent in agents {
@@ -50,7 +52,8 @@ fn append_row(
     tick: u64,
     agent: &Agent,
 ) -> Result<(), NoMemory>
-    ensures printed { OnOk result (out.new.items ≡ out.old.items ++ row program.now tick agent.now) }
+    ensures printed { OnOk result (out.new.items
+        ≡ out.old.items ++ row program.now tick agent.now) }
     ensures only_appends { take (length out.old.items) out.new.items ≡ out.old.items }
 {
     print_count(out, tick)?;
