@@ -9,4 +9,5 @@ draw = random.Random(3).random
 for number in range(BIRDS):
     kind = "Gull" if number % 2 == 0 else "Crow"
     x, y, angle = SIDE * (draw() - 0.5), SIDE * (draw() - 0.5), 2 * math.pi * draw()
-    print(f"{kind},{number},{x:.3f},{y:.3f},{0.5 * math.cos(angle):.3f},{0.5 * math.sin(angle):.3f},0,0")
+    vx, vy = 0.5 * math.cos(angle), 0.5 * math.sin(angle)
+    print(f"{kind},{number},{x:.3f},{y:.3f},{vx:.3f},{vy:.3f},0,0")
