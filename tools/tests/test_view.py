@@ -52,7 +52,7 @@ SCENES = {
     "birds": (40, "$('trail').value = 8; $('charted').value = '0 5'"),
     "door": (40, "$('colour').value = 'crowd'; $('charted').value = '0 3'"),
     "drift": (24, "$('trail').value = 24; $('charted').value = '0 2'"),
-    "flock": (100, "$('trail').value = 12; $('charted').value = '0 6'"),
+    "flock": (100, "$('colour').value = 'wx'; $('trail').value = 12; $('charted').value = '0 6'"),
     "epidemic": (10, "$('colour').value = 'ill'; $('charted').value = '0 3'"),
     "road": (150, "$('colour').value = 'v'; $('charted').value = '0 4'"),
     "rumour": (120, "$('colour').value = 'news'; $('charted').value = '0 2'"),
