@@ -126,7 +126,9 @@ def table(script, rows, name):
     figures, ticks = FIGURES[name]
     found, lines = world(script, rows, ticks), []
     for tick in ticks:
-        told = figures(found.get(tick, []), found[ticks[0]])
+        if tick not in found:
+            return f"no agents at tick {tick}"
+        told = figures(found[tick], found[ticks[0]])
         if not lines:
             lines = [f"| tick | {' | '.join(told)} |", "|---" * (1 + len(told)) + "|"]
         lines.append(f"| {tick} | {' | '.join(map(str, told.values()))} |")
@@ -159,7 +161,7 @@ def check(same, name, program, printed):
             made = subprocess.run([program, *shlex.split(command)[1:]], cwd=TOP, stdout=out,
                                   stderr=subprocess.PIPE, text=True)
         same("run", (made.returncode, made.stderr), (0, ""))
-        told = table(os.path.join(TOP, path), rows, name)
+        told = table(os.path.join(TOP, path), rows, name) if made.returncode == 0 else "no figures"
     if printed:
         print(f"{name}\n{told}")
     same("README has the figures", told in page, True)
