@@ -9,3 +9,5 @@ pub mod BirthLemmas
 pub mod StepLemmas
 pub mod NumberLemmas
 pub mod LawLemmas
+pub mod TypeLemmas
+pub mod LawfulLemmas
