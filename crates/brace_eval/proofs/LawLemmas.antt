@@ -1,6 +1,6 @@
 -- A step from a numbered world leads to a numbered world.
-use Rattle.std.proofs.Common.{◌≡◌, ◌∙◌, sym, refl, ap, subst, ℕ, zero, suc, ◌+◌, ◌<◌, ◌≤◌, ◌^◌, List, [], ◌∷◌, length, get_or, filter_map, Option, Some, None, Result, Ok, Err, Bool, true, false, arith, leb-false}
-use Rattle.std.specs.Prelude.{◌||◌, slice_get, option_map}
+use Rattle.std.proofs.Common.{◌≡◌, ◌∙◌, sym, refl, ap, subst, ℕ, zero, suc, ◌+◌, ◌<◌, ◌≤◌, ◌^◌, List, [], ◌∷◌, ◌++◌, length, get_or, filter_map, Option, Some, None, Result, Ok, Err, Bool, true, false, arith, leb-false}
+use Rattle.std.specs.Prelude.{leb, ◌||◌, take, slice_get, option_map}
 use Rattle.std.specs.Option.{option_and_then}
 use Rattle.std.specs.Result.{result_ok, result_err}
 use Rattle.std.specs.List.{range_with_len, find}
@@ -11,7 +11,7 @@ use Rattle.brace_model.specs.declared.world.Agent.{Agent}
 use Rattle.brace_model.specs.World.{World, IsNumbered}
 use Rattle.brace_model.specs.FaultOrder.{least}
 use Rattle.brace_model.specs.Query.{query_faults}
-use Rattle.brace_model.specs.Step.{step, all_next, living, children, goes_too_far, first_too_far, birth_fault, grown, unless_faulty, greatest_id}
+use Rattle.brace_model.specs.Step.{step, all_next, living, children, goes_too_far, first_too_far, birth_fault, grown, unless_faulty, most_agents, most_values, greatest_id, count_values}
 use Rattle.brace_eval.proofs.NumberLemmas.{numbered_grown}
 
 abbrev pub stepped : World → Result World Fault
@@ -64,9 +64,10 @@ none-passes p a (suc n) none i le = by_first (p a) refl i le (λ q. none-passes 
         let same : a + suc i ≡ a + 1 + i = omega arith in
         ap p same ∙ rest (rw here at none) i (omega (arith, le))
 
-pub second-false : (a b : Bool) → (a || b) ≡ false → b ≡ false
-second-false true b e = absurd (cc)
-second-false false b e = e
+none-true : (a b c : Bool) → (a || (b || c)) ≡ false → (a ≡ false) × (b ≡ false) × (c ≡ false)
+none-true true b c e = absurd (cc)
+none-true false true c e = absurd (cc)
+none-true false false c e = (refl, refl, e)
 
 module _ (ls : List Agent) (next : ℕ) where
   none-found : (bs : List Agent) (o : Option ℕ) → find (goes_too_far ls next bs) (range_with_len 0 (length bs)) ≡ o
@@ -76,6 +77,15 @@ module _ (ls : List Agent) (next : ℕ) where
       let d : Agent = record { class = 0; id = 0; states = [] } in
       let within = found-within (goes_too_far ls next bs) 0 (length bs) i is in
       absurd (some-none (get_or bs i d) (sym (slice_get-get_or bs i d (omega (arith, within))) ∙ far))
+
+  -- a birth that does not go too far keeps to each limit
+  pub keeps-limits : (bs : List Agent) (r : ℕ) → goes_too_far ls next bs r ≡ false
+      → (length (ls ++ take (suc r) bs) < suc most_agents) × (count_values (ls ++ take (suc r) bs) < suc most_values) × (next + r < suc greatest_id)
+  keeps-limits bs r e =
+      let agents : ℕ = length (ls ++ take (suc r) bs) in
+      let values : ℕ = count_values (ls ++ take (suc r) bs) in
+      let (few, small, low) = none-true (leb (suc most_agents) agents) (leb (suc most_values) values) (leb (suc greatest_id) (next + r)) e in
+      (leb-false (suc most_agents) agents few, leb-false (suc most_values) values small, leb-false (suc greatest_id) (next + r) low)
 
   -- where no birth goes too far, the last one does not
   pub last-fits : (b : Agent) (bs : List Agent) → first_too_far ls next (b ∷ bs) ≡ None → goes_too_far ls next (b ∷ bs) (length bs) ≡ false
@@ -88,8 +98,8 @@ module _ (ls : List Agent) (next : ℕ) where
   ids-fit : (bs : List Agent) → next ≤ 2 ^ 63 → first_too_far ls next bs ≡ None → next + length bs ≤ 2 ^ 63
   ids-fit [] low far = omega (arith, low)
   ids-fit (b ∷ bs) low far =
-      let id : next + length bs < suc greatest_id = leb-false (suc greatest_id) (next + length bs) (second-false _ _ (second-false _ _ (last-fits b bs far))) in
-      omega (arith, id)
+      let (few, small, low) = keeps-limits (b ∷ bs) (length bs) (last-fits b bs far) in
+      omega (arith, low)
 
 pub steps-numbered : (program : Program) (seed tick : ℕ) (world next : World) → IsNumbered world
     → step program seed tick world ≡ stepped next → IsNumbered next

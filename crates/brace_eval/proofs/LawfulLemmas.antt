@@ -1,6 +1,6 @@
 -- A step from lawful agents leads to lawful agents.
-use Rattle.std.proofs.Common.{◌≡◌, ◌∙◌, sym, refl, ap, subst, ℕ, zero, suc, ◌+◌, ◌<◌, ◌≤◌, ℤ, List, [], ◌∷◌, ◌++◌, length, take, take_all, map, filter_map, zip, arith, Option, Some, None, Result, Ok, Err, Bool, true, false, le-leb, leb-false, length-append, append-nil, codes}
-use Rattle.std.specs.Prelude.{leb, ◌&&◌, ◌||◌, if◌then◌else◌, slice_get, slice_set, option_map}
+use Rattle.std.proofs.Common.{◌≡◌, ◌∙◌, sym, refl, ap, subst, ℕ, zero, suc, ◌+◌, ◌<◌, ◌≤◌, ℤ, List, [], ◌∷◌, ◌++◌, length, take, take_all, map, filter_map, zip, arith, Option, Some, None, Result, Ok, Err, Bool, true, false, le-leb, length-append, append-nil, codes}
+use Rattle.std.specs.Prelude.{leb, ◌&&◌, if◌then◌else◌, slice_get, slice_set, option_map}
 use Rattle.std.specs.List.{AllZip, list_all, cons_option, reduce}
 use Rattle.std.specs.Option.{option_and_then}
 use Rattle.std.specs.Result.{result_ok, result_err}
@@ -32,7 +32,7 @@ use Rattle.brace_model.specs.Lawful.{LawfulProgram, LawfulClass, LawfulAgents, i
 use Rattle.brace_eval.specs.Typed.{Fits}
 use Rattle.brace_eval.proofs.TypeLemmas.{passed, only_same, one_type, IsOf, just, sound}
 use Rattle.brace_eval.proofs.NumberLemmas.{ok, same-next, not-both, same-agent, none-some}
-use Rattle.brace_eval.proofs.LawLemmas.{stepped, stepped-ok, unmapped, second-false, last-fits}
+use Rattle.brace_eval.proofs.LawLemmas.{stepped, stepped-ok, unmapped, keeps-limits, last-fits}
 
 -- ---- tests
 
@@ -43,10 +43,6 @@ both false q e = absurd (cc)
 so : (p q : Bool) → p ≡ true → q ≡ true → (p && q) ≡ true
 so true q e f = f
 so false q e f = absurd (cc)
-
-first-false : (p q : Bool) → (p || q) ≡ false → p ≡ false
-first-false true q e = absurd (cc)
-first-false false q e = refl
 
 own_type : (t : Ty) → same_type t t ≡ true
 own_type ty.Int = refl
@@ -434,15 +430,11 @@ kept_lawful : (program : Program) (next : ℕ) (ls bs : List Agent) → AreLawfu
 kept_lawful program next ls [] lives bears few values far =
     subst (LawfulAgents program) (sym (append-nil ls)) (record { each_is_lawful = lives; few_agents = few; few_values = values })
 kept_lawful program next ls (b ∷ bs) lives bears few values far =
-    let last = last-fits ls next b bs far in
+    let (agents, sums, low) = keeps-limits ls next (b ∷ bs) (length bs) (last-fits ls next b bs far) in
     let all : take (suc (length bs)) (b ∷ bs) ≡ b ∷ bs = take_all (suc (length bs)) (b ∷ bs) (omega arith) in
-    let agents = leb-false (suc most_agents) (length (ls ++ take (suc (length bs)) (b ∷ bs))) (first-false _ _ last) in
-    let rest = second-false _ _ last in
-    let sums = leb-false (suc most_values) (count_values (ls ++ take (suc (length bs)) (b ∷ bs))) (first-false _ _ rest) in
-    let ids : next + length bs < suc greatest_id = leb-false (suc greatest_id) (next + length bs) (second-false _ _ rest) in
     let long = ap (λ (l : List Agent). length (ls ++ l)) all ∙ length-append ls (b ∷ bs) in
     let many = ap (λ (l : List Agent). count_values (ls ++ l)) all ∙ sum_by-append (λ (a : Agent). length a.states) ls (b ∷ bs) in
-    grown_lawful program next ls (b ∷ bs) lives bears (omega (arith, ids)) (within _ _ most_agents agents long) (within _ _ most_values sums many)
+    grown_lawful program next ls (b ∷ bs) lives bears (omega (arith, low)) (within _ _ most_agents agents long) (within _ _ most_values sums many)
 
 pub steps-lawful : (program : Program) (seed tick : ℕ) (world after : World) → LawfulProgram program → LawfulAgents program world.agents
     → step program seed tick world ≡ stepped after → LawfulAgents program after.agents

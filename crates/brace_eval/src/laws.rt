@@ -1,14 +1,15 @@
-//! Facts on values and steps that hold always. The functions do nothing; their clauses are the laws.
+//! Facts on values and steps that hold always. The functions do nothing; their clauses are the
+//! laws.
 ghost use Rattle.std.specs.Prelude.{◌≡◌, ℕ, Ok, Some};
-ghost use Rattle.brace_model.specs.declared.program.Program.{Program};
-ghost use Rattle.brace_model.specs.World.{World, IsNumbered};
-ghost use Rattle.brace_model.specs.Step.{step};
-ghost use Rattle.brace_model.specs.Lawful.{LawfulProgram, LawfulAgents};
 ghost use Rattle.brace_model.specs.declared.program.Expr.{Expr};
+ghost use Rattle.brace_model.specs.declared.program.Program.{Program};
 ghost use Rattle.brace_model.specs.declared.program.Ty.{Ty};
 ghost use Rattle.brace_model.specs.declared.program.Value.{Value};
+ghost use Rattle.brace_model.specs.World.{World, IsNumbered};
 ghost use Rattle.brace_model.specs.Value.{Scope, value};
 ghost use Rattle.brace_model.specs.Typing.{Names, type_of, type_of_value};
+ghost use Rattle.brace_model.specs.Lawful.{LawfulProgram, LawfulAgents};
+ghost use Rattle.brace_model.specs.Step.{step};
 ghost use Rattle.brace_eval.specs.Typed.{Fits};
 
 /// The value of a well-typed expression is of its type, where each name has a value of its type.
