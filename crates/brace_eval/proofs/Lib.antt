@@ -11,3 +11,4 @@ pub mod NumberLemmas
 pub mod LawLemmas
 pub mod TypeLemmas
 pub mod LawfulLemmas
+pub mod WorkedLawful
