@@ -4,7 +4,7 @@ ghost use Rattle.std.specs.Prelude.{◌≡◌, Some, IfOk};
 ghost use Rattle.brace_model.specs.declared.program.Expr.TheVariants.{Lit, Field, Binary};
 ghost use Rattle.brace_model.specs.declared.program.Who.TheVariants.{This};
 ghost use Rattle.brace_model.specs.Lawful.{LawfulProgram};
-ghost use Rattle.brace_eval.specs.inner.Worked.{state, script, mortal, dividing, bearing, passing};
+ghost use Rattle.brace_eval.specs.inner.Worked.{state, states, script, counting, mortal, dividing, walking, bearing, passing};
 
 use crate::{eval, plain_step};
 use brace_draw::Drawer;
@@ -96,15 +96,27 @@ fn with_own(
     Ok(Expr::Binary(op, site, own, other))
 }
 
-/// One class B with a reach of 1.0 that counts ticks, with these deaths and births.
-fn script(alloc: Global, die: Option<Expr>, spawn: Option<Spawn>) -> Result<Program, NoMemory>
-    ensures { IfOk result (λ program. program ≡ script die spawn) }
+/// The states x, y and a, of which x and a may have rules.
+fn states(alloc: Global, moved: Option<Expr>, tick: Option<Expr>) -> Result<List<State>, NoMemory>
+    ensures { IfOk result (λ list. list ≡ states moved tick) }
 {
-    let counted = with_own(alloc, BinOp::Add, Some(0), 2, Value::Int(1))?;
-    let mut states = List::new(alloc);
-    states.push(state(alloc, "x", Ty::Fixed, None)?)?;
-    states.push(state(alloc, "y", Ty::Fixed, None)?)?;
-    states.push(state(alloc, "a", Ty::Int, Some(counted))?)?;
+    let mut list = List::new(alloc);
+    list.push(state(alloc, "x", Ty::Fixed, moved)?)?;
+    list.push(state(alloc, "y", Ty::Fixed, None)?)?;
+    list.push(state(alloc, "a", Ty::Int, tick)?)?;
+    Ok(list)
+}
+
+/// One class B with these states, deaths and births.
+fn script(
+    alloc: Global,
+    reach: i64,
+    states: List<State>,
+    die: Option<Expr>,
+    spawn: Option<Spawn>,
+) -> Result<Program, NoMemory>
+    ensures { IfOk result (λ program. program ≡ script reach states die spawn) }
+{
     let mut classes = List::new(alloc);
     classes.push(Class {
         name: text(alloc, "B")?,
@@ -112,7 +124,7 @@ fn script(alloc: Global, die: Option<Expr>, spawn: Option<Spawn>) -> Result<Prog
         effects: List::new(alloc),
         query: List::new(alloc),
         visible: 0,
-        reach: 1_000_000,
+        reach,
         x: 0,
         y: 1,
         die,
@@ -124,12 +136,21 @@ fn script(alloc: Global, die: Option<Expr>, spawn: Option<Spawn>) -> Result<Prog
     })
 }
 
+/// One class with a reach of 1.0 that counts ticks.
+fn counting(alloc: Global, die: Option<Expr>, spawn: Option<Spawn>) -> Result<Program, NoMemory>
+    ensures { IfOk result (λ program. program ≡ counting die spawn) }
+{
+    let counted = with_own(alloc, BinOp::Add, Some(0), 2, Value::Int(1))?;
+    let states = states(alloc, None, Some(counted))?;
+    script(alloc, 1_000_000, states, die, spawn)
+}
+
 /// An agent dies at a count of 2.
 fn mortal(alloc: Global) -> Result<Program, NoMemory>
     ensures { IfOk result (λ program. program ≡ mortal) }
 {
     let is_old = with_own(alloc, BinOp::Ge, None, 2, Value::Int(2))?;
-    script(alloc, Some(is_old), None)
+    counting(alloc, Some(is_old), None)
 }
 
 /// An agent dies where 1 / count is above 0.
@@ -140,11 +161,22 @@ fn dividing(alloc: Global) -> Result<Program, NoMemory>
     let count = Boxed::new(alloc, Expr::Field(Who::This, 2))?;
     let quotient = Boxed::new(alloc, Expr::Binary(BinOp::Div, Some(1), one, count))?;
     let zero = Boxed::new(alloc, Expr::Lit(Value::Int(0)))?;
-    script(
+    counting(
         alloc,
         Some(Expr::Binary(BinOp::Gt, None, quotient, zero)),
         None,
     )
+}
+
+/// An agent moves by 50.0, and dies to the right of 50.0.
+fn walking(alloc: Global) -> Result<Program, NoMemory>
+    ensures { IfOk result (λ program. program ≡ walking) }
+{
+    let fifty = Value::Fixed(50_000_000);
+    let moved = with_own(alloc, BinOp::Add, Some(0), 0, fifty)?;
+    let is_far = with_own(alloc, BinOp::Gt, None, 0, fifty)?;
+    let states = states(alloc, Some(moved), None)?;
+    script(alloc, 100_000_000, states, Some(is_far), None)
 }
 
 /// A new agent has a child to its right, whose count is 7.
@@ -165,7 +197,7 @@ fn bearing(alloc: Global) -> Result<Program, NoMemory>
         gifts,
         site: 2,
     };
-    script(alloc, None, Some(spawn))
+    counting(alloc, None, Some(spawn))
 }
 
 /// A new agent has a child and dies.
@@ -178,7 +210,7 @@ fn passing(alloc: Global) -> Result<Program, NoMemory>
         gifts: List::new(alloc),
         site: 1,
     };
-    script(alloc, Some(is_new), Some(spawn))
+    counting(alloc, Some(is_new), Some(spawn))
 }
 
 /// A row of an agent: its id, its place along x in millionths, and its count.
@@ -237,6 +269,13 @@ fn steps_over_deaths(rt: HostRuntime) -> Result<(), Fail> {
         (2, "next 2"),
     ] {
         let text = stepped(alloc, mortal(alloc)?, &[(1, 0, count)], 2)?;
+        assert_eq!(rt; text.as_str(), want);
+    }
+    for (x, want) in [
+        (5_000_000, "1 [Fixed(55000000), Fixed(0), Int(0)], next 2"),
+        (55_000_000, "next 2"),
+    ] {
+        let text = stepped(alloc, walking(alloc)?, &[(1, x, 0)], 2)?;
         assert_eq!(rt; text.as_str(), want);
     }
     let text = stepped(alloc, dividing(alloc)?, &[(1, 0, 0)], 2)?;

@@ -1,5 +1,5 @@
 -- Small scripts with deaths and births that the plain step is worked on.
-use Rattle.std.specs.Prelude.{ℕ, pos, List, [], ◌∷◌, true, Option, Some, None, codes}
+use Rattle.std.specs.Prelude.{ℕ, ℤ, pos, List, [], ◌∷◌, true, Option, Some, None, codes}
 use Rattle.brace_model.specs.declared.program.Ty.{Ty}
 use Rattle.brace_model.specs.declared.program.Ty.TheVariants as ty
 use Rattle.brace_model.specs.declared.program.Value.TheVariants.{Int, Fixed}
@@ -25,19 +25,23 @@ count = Field who.This 2
 abbrev pub counted : Expr
 counted = Binary op.Add (Some 0) count (Lit (Int (pos 1)))
 
--- a class B with a reach of 1.0 that counts ticks, with these deaths and births
-abbrev pub class : Option Expr → Option Spawn → Class
-class die spawn = record {
+-- the states x, y and a, of which x and a may have rules
+abbrev pub states : Option Expr → Option Expr → List State
+states move tick =
+    state (codes "x") ty.Fixed move
+    ∷ state (codes "y") ty.Fixed None
+    ∷ state (codes "a") ty.Int tick
+    ∷ []
+
+-- a class B with these states, deaths and births
+abbrev pub class : ℤ → List State → Option Expr → Option Spawn → Class
+class reach states die spawn = record {
   name = codes "B";
   visible = pos 0;
-  reach = pos 1000000;
+  reach = reach;
   x = 0;
   y = 1;
-  states =
-      state (codes "x") ty.Fixed None
-      ∷ state (codes "y") ty.Fixed None
-      ∷ state (codes "a") ty.Int (Some counted)
-      ∷ [];
+  states = states;
   effects = [];
   query = [];
   die = die;
@@ -45,19 +49,32 @@ class die spawn = record {
 }
 
 -- a script of this one class
-abbrev pub script : Option Expr → Option Spawn → Program
-script die spawn = record { classes = class die spawn ∷ []; sites = [] }
+abbrev pub script : ℤ → List State → Option Expr → Option Spawn → Program
+script reach states die spawn = record { classes = class reach states die spawn ∷ []; sites = [] }
+
+-- a class with a reach of 1.0 that counts ticks
+abbrev pub counting : Option Expr → Option Spawn → Program
+counting = script (pos 1000000) (states None (Some counted))
 
 -- an agent dies at a count of 2
 abbrev pub mortal : Program
-mortal = script (Some (Binary op.Ge None count (Lit (Int (pos 2))))) None
+mortal = counting (Some (Binary op.Ge None count (Lit (Int (pos 2))))) None
 
 -- an agent dies where 1 / count is above 0
 abbrev pub dividing : Program
-dividing = script (Some (Binary op.Gt None quotient (Lit (Int (pos 0))))) None
+dividing = counting (Some (Binary op.Gt None quotient (Lit (Int (pos 0))))) None
   where
     quotient : Expr
     quotient = Binary op.Div (Some 1) (Lit (Int (pos 1))) count
+
+-- an agent moves by 50.0, and dies to the right of 50.0
+abbrev pub walking : Program
+walking =
+    script (pos 100000000) (states (Some (Binary op.Add (Some 0) (Field who.This 0) fifty)) None)
+    (Some (Binary op.Gt None (Field who.This 0) fifty)) None
+  where
+    fifty : Expr
+    fifty = Lit (Fixed (pos 50000000))
 
 -- the count is 0
 abbrev pub is_new : Expr
@@ -73,7 +90,7 @@ to_the_right = Binary op.Add (Some 1) (Field who.This 0) (Lit (Fixed (pos 500000
 
 -- a new agent has a child to its right, whose count is 7
 abbrev pub bearing : Program
-bearing = script None (Some (record {
+bearing = counting None (Some (record {
   when = is_new;
   gifts = gift 0 to_the_right ∷ gift 2 (Lit (Int (pos 7))) ∷ [];
   site = 2;
@@ -81,4 +98,4 @@ bearing = script None (Some (record {
 
 -- a new agent has a child and dies
 abbrev pub passing : Program
-passing = script (Some is_new) (Some (record { when = is_new; gifts = []; site = 1 }))
+passing = counting (Some is_new) (Some (record { when = is_new; gifts = []; site = 1 }))
