@@ -188,6 +188,11 @@ drop_cut [] i d h = absurd (omega arith)
 drop_cut (x ∷ xs) zero d h = refl
 drop_cut (x ∷ xs) (suc i) d h = drop_cut xs i d (omega arith)
 
+pub any_default : (l : List Entry) (i : ℕ) (d e : Entry) → i < length l → get_or l i d ≡ get_or l i e
+any_default [] i d e h = absurd (omega arith)
+any_default (y ∷ l) zero d e h = refl
+any_default (y ∷ l) (suc i) d e h = any_default l i d e (omega arith)
+
 pub joined_at : (xs : List Entry) (at : ℕ) (z e j : Entry) → IsRising xs → IsRank xs e at
     → CanMerge xs (e ∷ []) → at < length xs → z ≡ get_or xs at z → by_place z e ≡ Equal
     → IsAlike z j → tally j.total ≡ join (tally z.total) (tally e.total)
@@ -227,17 +232,13 @@ put_at xs at e rising rank joins new =
     (put_in (take at xs) (drop at xs) e (subst IsRising cut rising) before (subst (λ l. CanMerge l (e ∷ [])) cut joins)
     (⊎_elim behind none (cases_lt at (length xs))))
   where
-    same : (l : List Entry) (i : ℕ) (d : Entry) → i < length l → get_or l i d ≡ get_or l i (get_or l i d)
-    same [] i d h = absurd (omega arith)
-    same (y ∷ l) zero d h = refl
-    same (y ∷ l) (suc i) d h = same l i d (omega arith)
     behind : at < length xs → IsBelow e (drop at xs)
     behind within =
         let z = get_or xs at e in
         let split = drop_cut xs at e within in
         let first : is_lt (by_place z e) ≡ false =
         All-head (λ k. is_lt (by_place k e) ≡ false) z (drop (suc at) xs) (subst (All (λ k. is_lt (by_place k e) ≡ false)) split rank.behind) in
-        let less = greater-less z e (greater (by_place z e) first (new z within (same xs at e within))) in
+        let less = greater-less z e (greater (by_place z e) first (new z within (any_default xs at e (get_or xs at e) within))) in
         let rest = rising-below z (drop (suc at) xs) (rising-part (take at xs) (z ∷ drop (suc at) xs) (subst IsRising (sym (cut_at xs at e within)) rising)) in
         subst (IsBelow e) (sym split) (less, below-trans e z (drop (suc at) xs) less rest)
     none : length xs ≤ at → IsBelow e (drop at xs)
@@ -306,3 +307,18 @@ pub more_joined : (old more new : List Entry) → IsRising more → IsPartialOf 
     → (t f : ℕ) → total_at t f new ≡ both (total_at t f old) (total_at t f more)
 more_joined old more new rising p t f =
     p.totals t f ∙ total-append t f None old more ∙ total-behind t f (total_at t f old) more rising
+
+-- a walk where both lists are seen to have a first entry
+pub opened : (given m l r xs ys : List Entry) (x y : Entry) → Walk given m l r → l ≡ x ∷ xs → r ≡ y ∷ ys
+    → Walk given m (x ∷ xs) (y ∷ ys)
+opened given m l r xs ys x y w p q =
+    subst (λ (k : List Entry). Walk given m k (y ∷ ys)) p (subst (λ (k : List Entry). Walk given m l k) q w)
+
+pub rising-nil : IsRising []
+unfolding IsStrictlySortedBy
+rising-nil = tt
+
+pub is_equal : (o : Ordering) → is_eq o ≡ true → o ≡ Equal
+is_equal Less h = absurd (cc)
+is_equal Equal h = refl
+is_equal Greater h = absurd (cc)
