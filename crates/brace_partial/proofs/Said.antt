@@ -4,7 +4,8 @@ use Rattle.std.specs.Int.{w64}
 use Rattle.std.specs.Int.RustNames.{FitsSigned}
 use Rattle.std.specs.List.{filter}
 use Rattle.std.specs.List.Sorted.{IsPermutation, IsStrictlySortedBy}
-use Rattle.std.proofs.lemmas.List.{map-append, length-append}
+use Rattle.std.proofs.lemmas.List.{map-append, length-append, length-map}
+use Rattle.std.proofs.lemmas.List.Sums.{length-filter, count_by-le-length}
 use Rattle.std.proofs.lemmas.List.Elements.{filter-append, All-filter, All-map, All-nil, All-cons, All-head, All-tail}
 use Rattle.brace_model.specs.declared.program.Comb.{Comb}
 use Rattle.brace_model.specs.declared.program.Value.{Value}
@@ -12,10 +13,11 @@ use Rattle.brace_model.specs.World.{number}
 use Rattle.brace_model.specs.Query.{Saying}
 use Rattle.brace_model.specs.Total.{said_to}
 use Rattle.brace_comb.specs.declared.entry.Entry.{Entry}
+use Rattle.brace_comb.specs.declared.total.Total.{Total}
 use Rattle.brace_comb.specs.Totals.{Tally, tally, tally_of, join, IsBounded, CanJoin}
 use Rattle.brace_comb.proofs.Joins.{join-append, tally_of-bounded}
 use Rattle.brace_comb.proofs.Permutations.{fold-IsPermutation}
-use Rattle.brace_partial.specs.Entries.{IsRising, given_by, both, total_at, CanMerge}
+use Rattle.brace_partial.specs.Entries.{IsRising, given_by, both, total_at, CanMerge, single}
 use Rattle.brace_partial.specs.Partials.{IsPartialOf, total_said, sayings_to, AreTotalsOf}
 use Rattle.brace_partial.proofs.Entries.{Gives, total_from, total-append, given-some, given-none, gives_or_misses, gives_or_none, at-total, total-behind}
 use Rattle.brace_partial.proofs.Groups.{rising_same, Has, as_of, as_of-has, as_of-turn}
@@ -183,3 +185,23 @@ may_merge combs xs ys a b p q fit few t f s r sa rb =
         All-cons (λ s. FitsSigned w64 (number s.value)) x xs
         (All-head (λ s. FitsSigned w64 (number s.value)) x (xs ++ ys) h)
         (All-front xs ys (All-tail (λ s. FitsSigned w64 (number s.value)) x (xs ++ ys) h))
+
+-- the same where few values are said in all
+pub may_merge_few : (combs : ℕ → ℕ → Comb) (xs ys : List Saying) (a b : List Entry)
+    → AreTotalsOf combs xs a → AreTotalsOf combs ys b
+    → All (λ s. FitsSigned w64 (number s.value)) (xs ++ ys) → length (xs ++ ys) ≤ 2 ^ 52 → CanMerge a b
+may_merge_few combs xs ys a b p q fit few = may_merge combs xs ys a b p q fit each
+  where
+    each : (t f : ℕ) → length (said_to t f (xs ++ ys)) ≤ 2 ^ 52
+    each t f =
+        let l = xs ++ ys in
+        let same : length (said_to t f l) ≡ length (filter (hits t f) l) = length-map (filter (hits t f) l) (λ (s : Saying). s.value) in
+        let counted = length-filter (hits t f) l in
+        let most = count_by-le-length (hits t f) l in
+        omega (arith, same, counted, most, few)
+
+-- the entry of one value
+pub one_said : (combs : ℕ → ℕ → Comb) (s : Saying) (total : Total)
+    → tally total ≡ tally_of (combs s.target s.field) (s.value ∷ [])
+    → AreTotalsOf combs (s ∷ []) (single s.target s.field total)
+one_said combs s total is = alone combs (record { target = s.target; field = s.field; total = total }) s.value [] is

@@ -79,6 +79,9 @@ impl Partial {
             → AreTotalsOf combs (xs ++ ys) self.new) }
         ensures kept { OnErr result (self.new ≡ self.old) }
     {
+        if entries.is_empty() {
+            return Ok(());
+        }
         self.entries = merged(self.alloc, self.entries.as_slice(), entries)?;
         Ok(())
     }
