@@ -1,12 +1,12 @@
 -- Totals of values said: of lists one behind the other, in any order, and what may be merged.
-use Rattle.std.proofs.Common.{◌≡◌, ◌∙◌, refl, sym, ap, ap₂, subst, ℕ, ◌+◌, ◌^◌, ◌≤◌, List, [], ◌∷◌, ◌++◌, length, map, Bool, true, false, ◌==◌, ◌&&◌, ⊎_elim, Option, Some, None, fold, All, arith, eq-eqb, append-nil, append_assoc, get_or, if◌then◌else◌}
+use Rattle.std.proofs.Common.{◌≡◌, ◌∙◌, refl, sym, ap, ap₂, subst, ℕ, ◌+◌, ◌^◌, ◌≤◌, List, [], ◌∷◌, ◌++◌, length, map, Bool, true, false, ◌==◌, ◌&&◌, ⊎_elim, Option, Some, None, fold, All, arith, eq-eqb, append-nil, append_assoc, get_or, take, take-suc, add-one, length-take-le, ◌<◌, if◌then◌else◌}
 use Rattle.std.specs.Int.{w64}
 use Rattle.std.specs.Int.RustNames.{FitsSigned}
 use Rattle.std.specs.List.{filter}
 use Rattle.std.specs.List.Sorted.{IsPermutation, IsStrictlySortedBy}
 use Rattle.std.proofs.lemmas.List.{map-append, length-append, length-map}
 use Rattle.std.proofs.lemmas.List.Sums.{length-filter, count_by-le-length}
-use Rattle.std.proofs.lemmas.List.Elements.{filter-append, All-filter, All-map, All-nil, All-cons, All-head, All-tail}
+use Rattle.std.proofs.lemmas.List.Elements.{filter-append, All-filter, All-map, All-take, All-append, All-nil, All-cons, All-head, All-tail}
 use Rattle.brace_model.specs.declared.program.Comb.{Comb}
 use Rattle.brace_model.specs.declared.program.Value.{Value}
 use Rattle.brace_model.specs.World.{number}
@@ -205,3 +205,40 @@ pub one_said : (combs : ℕ → ℕ → Comb) (s : Saying) (total : Total)
     → tally total ≡ tally_of (combs s.target s.field) (s.value ∷ [])
     → AreTotalsOf combs (s ∷ []) (single s.target s.field total)
 one_said combs s total is = alone combs (record { target = s.target; field = s.field; total = total }) s.value [] is
+
+-- what a loop over values says: those so far, and the next one
+module _ {X : Type 0} (h : X → Saying) (combs : ℕ → ℕ → Comb) (said : List X) (i : ℕ) (d : X) where
+  so_far : i < length said → map h (take (i + 1) said) ≡ map h (take i said) ++ h (get_or said i d) ∷ []
+  so_far within =
+      ap (λ (n : ℕ). map h (take n said)) (add-one i)
+      ∙ ap (map h) (take-suc said i d within) ∙ map-append h (take i said) (get_or said i d ∷ [])
+
+  pub may_say : (a : List Entry) (total : Total) → AreTotalsOf combs (map h (take i said)) a
+      → i < length said → (let s = h (get_or said i d) in tally total ≡ tally_of (combs s.target s.field) (s.value ∷ []))
+      → All (λ x. FitsSigned w64 (number (h x).value)) said → length said ≤ 2 ^ 51
+      → (let s = h (get_or said i d) in CanMerge a (single s.target s.field total))
+  may_say a total p within is fit few =
+      let s = h (get_or said i d) in
+      let xs = map h (take i said) in
+      let all : All (λ s. FitsSigned w64 (number s.value)) (xs ++ s ∷ []) =
+      subst (All (λ s. FitsSigned w64 (number s.value))) (so_far within)
+      (All-map (λ s. FitsSigned w64 (number s.value)) h (take (i + 1) said) (All-take (λ x. FitsSigned w64 (number (h x).value)) (i + 1) said fit)) in
+      let len : length (xs ++ s ∷ []) ≡ length (take (i + 1) said) = ap length (sym (so_far within)) ∙ length-map (take (i + 1) said) h in
+      let short = length-take-le (i + 1) said in
+      may_merge_few combs xs (s ∷ []) a (single s.target s.field total) p (one_said combs s total is) all (omega (arith, len, short, few))
+
+  pub said_next : (a : List Entry) → i < length said
+      → AreTotalsOf combs (map h (take i said) ++ h (get_or said i d) ∷ []) a → AreTotalsOf combs (map h (take (i + 1) said)) a
+  said_next a within p = subst (λ (l : List Saying). AreTotalsOf combs l a) (sym (so_far within)) p
+
+pub may_merge_said : {X : Type 0} (h : X → Saying) (combs : ℕ → ℕ → Comb) (xs ys : List X) (a b : List Entry)
+    → AreTotalsOf combs (map h xs) a → AreTotalsOf combs (map h ys) b
+    → All (λ x. FitsSigned w64 (number (h x).value)) xs → All (λ x. FitsSigned w64 (number (h x).value)) ys
+    → length xs ≤ 2 ^ 51 → length ys ≤ 2 ^ 51 → CanMerge a b
+may_merge_said h combs xs ys a b p q fit fit' few few' =
+    let len = length-append (map h xs) (map h ys) in
+    let len' = length-map xs h in
+    let len'' = length-map ys h in
+    may_merge_few combs (map h xs) (map h ys) a b p q
+    (All-append (λ s. FitsSigned w64 (number s.value)) (map h xs) (map h ys) (All-map (λ s. FitsSigned w64 (number s.value)) h xs fit) (All-map (λ s. FitsSigned w64 (number s.value)) h ys fit'))
+    (omega (arith, len, len', len'', few, few'))
