@@ -1,5 +1,5 @@
 -- The order and the grouping in which entries are given: they come to one list.
-use Rattle.std.proofs.Common.{◌≡◌, ◌∙◌, refl, sym, ap, ap₂, subst, ℕ, List, [], ◌∷◌, ◌++◌, ⊎_elim, Option, Some, None, Ordering, Less, Equal, Greater, fold, All}
+use Rattle.std.proofs.Common.{◌≡◌, ◌∙◌, refl, sym, ap, ap₂, subst, ℕ, List, [], ◌∷◌, ◌++◌, ⊎_elim, Option, Some, None, Ordering, Less, Equal, Greater, fold}
 use Rattle.std.specs.List.{AllByRecursion}
 use Rattle.std.specs.List.Sorted.{IsPermutation, IsStrictlySortedBy}
 use Rattle.std.proofs.lemmas.List.Elements.{recursion_from_All}
@@ -12,7 +12,7 @@ use Rattle.brace_comb.proofs.Joins.{join-assoc, join-comm, as_seen}
 use Rattle.brace_comb.proofs.Permutations.{fold-IsPermutation}
 use Rattle.brace_partial.specs.Entries.{by_place, IsRising, given_by, both, total_at, AreOf}
 use Rattle.brace_partial.specs.Partials.{IsPartialOf}
-use Rattle.brace_partial.proofs.Entries.{IsAlike, Gives, IsBelow, step, total_from, total-append, equal-alike, greater-less, below-trans, given-some, gives_or_none, both-none, rest-none, head-total, total-behind}
+use Rattle.brace_partial.proofs.Entries.{IsAlike, total_from, total-append, equal-alike, greater-less, below-trans, given-some, gives_or_none, both-none, rest-none, head-total, total-behind}
 
 -- rising lists of the same totals are the same
 
@@ -61,12 +61,14 @@ rising_same (x ∷ xs) (y ∷ ys) p q same = split (by_place x y) refl (rising_s
       where
         some_same : {A : Type 0} {a b : A} → Some a ≡ Some b → a ≡ b
         some_same e = cc
+
         gone : (t f : ℕ) → given_by t f x ≡ None → given_by t f (record y { target = x.target; field = x.field }) ≡ None
         gone t f none =
             ⊎_elim
             (λ gives. let some = given-some t f x gives in absurd (cc))
             (λ e. e)
             (gives_or_none t f (record y { target = x.target; field = x.field }))
+
         rest : IsAlike x y → (t f : ℕ) → total_at t f xs ≡ total_at t f ys
         rest alike t f =
             ⊎_elim
@@ -180,11 +182,11 @@ module _ (combs : ℕ → ℕ → Comb) where
   grouped xs ys part entries p q x y = record {
     rising = y.rising;
     totals = λ t f.
-    y.totals t f
-    ∙ total-append t f None xs part
-    ∙ total-behind t f (total_at t f xs) part x.rising
-    ∙ ap (both (total_at t f xs)) (x.totals t f)
-    ∙ sym (total-both t f xs ys (recursion_from_All IsOf xs p) (recursion_from_All IsOf ys q));
+        y.totals t f
+        ∙ total-append t f None xs part
+        ∙ total-behind t f (total_at t f xs) part x.rising
+        ∙ ap (both (total_at t f xs)) (x.totals t f)
+        ∙ sym (total-both t f xs ys (recursion_from_All IsOf xs p) (recursion_from_All IsOf ys q));
   }
 
   abbrev of_step : ℕ → ℕ → Option Tally → Entry → Option Tally

@@ -14,12 +14,12 @@ use Rattle.brace_model.specs.Query.{Saying}
 use Rattle.brace_model.specs.Total.{said_to}
 use Rattle.brace_comb.specs.declared.entry.Entry.{Entry}
 use Rattle.brace_comb.specs.declared.total.Total.{Total}
-use Rattle.brace_comb.specs.Totals.{Tally, tally, tally_of, join, IsBounded, CanJoin}
+use Rattle.brace_comb.specs.Totals.{Tally, tally, tally_of, IsBounded}
 use Rattle.brace_comb.proofs.Joins.{join-append, tally_of-bounded}
 use Rattle.brace_comb.proofs.Permutations.{fold-IsPermutation}
-use Rattle.brace_partial.specs.Entries.{IsRising, given_by, both, total_at, CanMerge, single}
+use Rattle.brace_partial.specs.Entries.{IsRising, both, total_at, CanMerge, single}
 use Rattle.brace_partial.specs.Partials.{IsPartialOf, total_said, sayings_to, AreTotalsOf}
-use Rattle.brace_partial.proofs.Entries.{Gives, total_from, total-append, given-some, given-none, gives_or_misses, gives_or_none, at-total, total-behind}
+use Rattle.brace_partial.proofs.Entries.{total-append, given-some, given-none, gives_or_misses, at-total, total-behind}
 use Rattle.brace_partial.proofs.Groups.{rising_same, Has, as_of, as_of-has, as_of-turn}
 
 abbrev hits : ℕ → ℕ → Saying → Bool
@@ -42,12 +42,12 @@ pub said_more : (combs : ℕ → ℕ → Comb) (xs ys : List Saying) (a b entrie
 said_more combs xs ys a b entries p q is = record {
   rising = is.rising;
   totals = λ t f.
-  is.totals t f
-  ∙ total-append t f None a b
-  ∙ total-behind t f (total_at t f a) b q.rising
-  ∙ ap₂ both (p.totals t f) (q.totals t f)
-  ∙ said-both (combs t f) (said_to t f xs) (said_to t f ys)
-  ∙ ap (total_said (combs t f)) (sym (said_to-append t f xs ys));
+      is.totals t f
+      ∙ total-append t f None a b
+      ∙ total-behind t f (total_at t f a) b q.rising
+      ∙ ap₂ both (p.totals t f) (q.totals t f)
+      ∙ said-both (combs t f) (said_to t f xs) (said_to t f ys)
+      ∙ ap (total_said (combs t f)) (sym (said_to-append t f xs ys));
 }
 
 pub one_totals : (combs : ℕ → ℕ → Comb) (said : List Saying) (a b : List Entry)
@@ -179,6 +179,7 @@ may_merge combs xs ys a b p q fit few t f s r sa rb =
     All-back : (xs ys : List Saying) → All (λ s. FitsSigned w64 (number s.value)) (xs ++ ys) → All (λ s. FitsSigned w64 (number s.value)) ys
     All-back [] ys h = h
     All-back (x ∷ xs) ys h = All-back xs ys (All-tail (λ s. FitsSigned w64 (number s.value)) x (xs ++ ys) h)
+
     All-front : (xs ys : List Saying) → All (λ s. FitsSigned w64 (number s.value)) (xs ++ ys) → All (λ s. FitsSigned w64 (number s.value)) xs
     All-front [] ys h = All-nil (λ s. FitsSigned w64 (number s.value))
     All-front (x ∷ xs) ys h =

@@ -1,15 +1,15 @@
 -- A walk along two rising lists of entries: what is merged so far, and what is left of each.
-use Rattle.std.proofs.Common.{◌≡◌, ◌∙◌, refl, sym, ap, ap₂, subst, ℕ, zero, suc, ◌<◌, ◌≤◌, List, [], ◌∷◌, ◌++◌, length, take, drop, get_or, set, insert, true, false, ⊎_elim, Option, Some, None, Ordering, Less, Equal, Greater, is_lt, is_eq, All, append_assoc, append-nil, take-append-drop, drop_of_length-le, arith}
+use Rattle.std.proofs.Common.{◌≡◌, ◌∙◌, refl, sym, ap, ap₂, subst, ℕ, zero, suc, ◌<◌, ◌≤◌, List, [], ◌∷◌, ◌++◌, length, take, drop, get_or, set, insert, true, false, ⊎_elim, Some, None, Ordering, Less, Equal, Greater, is_lt, is_eq, All, append_assoc, append-nil, take-append-drop, drop_of_length-le, arith}
 use Rattle.std.specs.List.{AllByRecursion, AllWithin}
 use Rattle.std.proofs.lemmas.Bool.{cases_lt}
 use Rattle.std.proofs.lemmas.List.Elements.{recursion_from_All, All-from_recursion, All-head}
 use Rattle.std.specs.List.Sorted.{IsStrictlySortedBy, IsPartitionedBy, IsPartitionPoint}
 use Rattle.brace_comb.specs.declared.entry.Entry.{Entry}
-use Rattle.brace_comb.specs.Totals.{Tally, tally, join, CanJoin}
+use Rattle.brace_comb.specs.Totals.{tally, join, CanJoin}
 use Rattle.brace_partial.specs.Entries.{by_place, IsRising, given_by, both, total_at, CanMerge}
 use Rattle.brace_partial.specs.Partials.{IsPartialOf}
 use Rattle.brace_partial.specs.inner.Ranks.{IsRank}
-use Rattle.brace_partial.proofs.Entries.{IsAlike, Gives, IsBelow, total_from, total-append, equal-alike, greater-less, below-trans, below-alike, given-some, gives_or_none, both-none, past, head-total, tail-total, part-total, rising-tail, rising-below, rising-part, rising-between, rising-swapped, rising-push, front-none, less-trans, total-behind}
+use Rattle.brace_partial.proofs.Entries.{IsAlike, Gives, IsBelow, total_from, total-append, equal-alike, greater-less, below-trans, below-alike, given-some, gives_or_none, both-none, past, head-total, tail-total, part-total, rising-below, rising-part, rising-between, rising-swapped, rising-push, front-none, less-trans, total-behind}
 
 pub record Walk (given m xs ys : List Entry) : Type 0 where
   pub left : IsRising (m ++ xs)
@@ -50,11 +50,11 @@ take_right given m xs ys y w less =
       left = subst IsRising (sym (snoc m xs y)) (rising-between m ys xs y w.right w.left less);
       right = subst IsRising (sym (snoc m ys y)) w.right;
       totals = λ t f.
-      ap (total_at t f) (snoc m (xs ++ ys) y)
-      ∙ total-append t f None m (y ∷ (xs ++ ys))
-      ∙ past t f (total_at t f m) y xs ys less
-      ∙ sym (total-append t f None m (xs ++ y ∷ ys))
-      ∙ w.totals t f;
+          ap (total_at t f) (snoc m (xs ++ ys) y)
+          ∙ total-append t f None m (y ∷ (xs ++ ys))
+          ∙ past t f (total_at t f m) y xs ys less
+          ∙ sym (total-append t f None m (xs ++ y ∷ ys))
+          ∙ w.totals t f;
       joins = right-tail xs ys y below w.joins;
     }
 
@@ -80,6 +80,7 @@ in_place t f m xs zs x y e rising same same' total =
         (λ gives. let some = given-some t f x (is.0 ∙ gives.0, is.1 ∙ gives.1) in absurd (cc))
         (λ e. e)
         (gives_or_none t f z)
+
     hit : Gives t f x → both (total_at t f m) (given_by t f e)
         ≡ both (both (total_at t f m) (given_by t f x)) (given_by t f y)
     hit gives =
@@ -90,6 +91,7 @@ in_place t f m xs zs x y e rising same same' total =
         ap₂ both none ge
         ∙ ap Some total
         ∙ sym (ap₂ both (ap₂ both none gx) gy)
+
     miss : given_by t f x ≡ None → both (total_at t f m) (given_by t f e)
         ≡ both (both (total_at t f m) (given_by t f x)) (given_by t f y)
     miss none =
@@ -98,6 +100,7 @@ in_place t f m xs zs x y e rising same same' total =
         ap (both (total_at t f m)) ge
         ∙ both-none (total_at t f m)
         ∙ sym (ap₂ both (ap (both (total_at t f m)) none ∙ both-none (total_at t f m)) gy ∙ both-none (total_at t f m))
+
     here : both (total_at t f m) (given_by t f e)
         ≡ both (both (total_at t f m) (given_by t f x)) (given_by t f y)
     here = ⊎_elim hit miss (gives_or_none t f x)
@@ -114,12 +117,12 @@ take_both given m xs ys x y e w equal is total =
       left = subst IsRising (sym (snoc m xs e)) (rising-swapped m xs x e is w.left);
       right = subst IsRising (sym (snoc m ys e)) (rising-swapped m ys y e alike w.right);
       totals = λ t f.
-      ap (total_at t f) (snoc m (xs ++ ys) e)
-      ∙ in_place t f m xs (xs ++ ys) x y e w.left same is total
-      ∙ total-append t f None m (x ∷ y ∷ (xs ++ ys))
-      ∙ past t f (both (total_at t f m) (given_by t f x)) y xs ys (below-alike x y xs same below)
-      ∙ sym (total-append t f None m (x ∷ (xs ++ y ∷ ys)))
-      ∙ w.totals t f;
+          ap (total_at t f) (snoc m (xs ++ ys) e)
+          ∙ in_place t f m xs (xs ++ ys) x y e w.left same is total
+          ∙ total-append t f None m (x ∷ y ∷ (xs ++ ys))
+          ∙ past t f (both (total_at t f m) (given_by t f x)) y xs ys (below-alike x y xs same below)
+          ∙ sym (total-append t f None m (x ∷ (xs ++ y ∷ ys)))
+          ∙ w.totals t f;
       joins = left-tail xs ys x below (right-tail (x ∷ xs) ys y above w.joins);
     }
 
@@ -241,6 +244,7 @@ put_at xs at e rising rank joins new =
         let less = greater-less z e (greater (by_place z e) first (new z within (any_default xs at e (get_or xs at e) within))) in
         let rest = rising-below z (drop (suc at) xs) (rising-part (take at xs) (z ∷ drop (suc at) xs) (subst IsRising (sym (cut_at xs at e within)) rising)) in
         subst (IsBelow e) (sym split) (less, below-trans e z (drop (suc at) xs) less rest)
+
     none : length xs ≤ at → IsBelow e (drop at xs)
     none long = subst (IsBelow e) (sym (drop_of_length-le xs long)) tt
 
@@ -276,6 +280,7 @@ ranked_at e xs at within point = record {
     is_less Less h = refl
     is_less Equal h = absurd (cc)
     is_less Greater h = absurd (cc)
+
     front : (l : List Entry) (i : ℕ) → i ≤ length l → AllWithin (λ k. is_lt (by_place k e) ≡ true) l 0 i
         → All (λ k. by_place k e ≡ Less) (take i l)
     front l zero le h k d in' = absurd (omega (arith, in'))
@@ -283,6 +288,7 @@ ranked_at e xs at within point = record {
     front (x ∷ l) (suc i) le h zero d in' = is_less (by_place x e) (h zero d (omega arith) (omega arith))
     front (x ∷ l) (suc i) le h (suc k) d in' =
         front l i (omega arith) (λ n d' lo hi. h (suc n) d' (omega arith) (omega arith)) k d (omega (arith, in'))
+
     back : (l : List Entry) (i : ℕ) → i ≤ length l → AllWithin (λ k. is_lt (by_place k e) ≡ false) l i (length l)
         → All (λ k. is_lt (by_place k e) ≡ false) (drop i l)
     back l zero le h k d in' = h k d (omega arith) in'
@@ -297,10 +303,10 @@ pub more_given : (given old more new : List Entry) → IsPartialOf (old ++ more)
 more_given given old more new p q = record {
   rising = p.rising;
   totals = λ t f.
-  p.totals t f
-  ∙ total-append t f None old more
-  ∙ ap (λ s. total_from t f s more) (q.totals t f)
-  ∙ sym (total-append t f None given more);
+      p.totals t f
+      ∙ total-append t f None old more
+      ∙ ap (λ s. total_from t f s more) (q.totals t f)
+      ∙ sym (total-append t f None given more);
 }
 
 pub more_joined : (old more new : List Entry) → IsRising more → IsPartialOf (old ++ more) new

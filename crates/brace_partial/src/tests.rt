@@ -133,8 +133,14 @@ fn numbers_come_to_one_entry_for_each_effect(rt: HostRuntime) -> Result<(), Fail
         ),
     ] {
         let expected = entries_of(totals);
-        assert_eq!(rt; merged_of(alloc, comb, &a, &b)?.entries(), expected.as_slice());
-        assert_eq!(rt; merged_of(alloc, comb, &b, &a)?.entries(), expected.as_slice());
+        assert_eq!(rt;
+            merged_of(alloc, comb, &a, &b)?.entries(),
+            expected.as_slice()
+        );
+        assert_eq!(rt;
+            merged_of(alloc, comb, &b, &a)?.entries(),
+            expected.as_slice()
+        );
     }
     Ok(())
 }
@@ -159,8 +165,14 @@ fn flags_come_to_one_entry_for_each_effect(rt: HostRuntime) -> Result<(), Fail> 
         ),
     ] {
         let expected = entries_of(totals);
-        assert_eq!(rt; merged_of(alloc, comb, &a, &b)?.entries(), expected.as_slice());
-        assert_eq!(rt; merged_of(alloc, comb, &b, &a)?.entries(), expected.as_slice());
+        assert_eq!(rt;
+            merged_of(alloc, comb, &a, &b)?.entries(),
+            expected.as_slice()
+        );
+        assert_eq!(rt;
+            merged_of(alloc, comb, &b, &a)?.entries(),
+            expected.as_slice()
+        );
     }
     Ok(())
 }
@@ -175,8 +187,17 @@ fn nothing_given_adds_nothing(rt: HostRuntime) -> Result<(), Fail> {
         total: Total::Least(5, 1),
     }];
     assert_eq!(rt; Partial::make(alloc).entries(), &[] as &[Entry]);
-    assert_eq!(rt; merged_of(alloc, Comb::Min, &[], &[])?.entries(), &[] as &[Entry]);
-    assert_eq!(rt; merged_of(alloc, Comb::Min, &a, &[])?.entries(), one.as_slice());
-    assert_eq!(rt; merged_of(alloc, Comb::Min, &[], &a)?.entries(), one.as_slice());
+    assert_eq!(rt;
+        merged_of(alloc, Comb::Min, &[], &[])?.entries(),
+        &[] as &[Entry]
+    );
+    assert_eq!(rt;
+        merged_of(alloc, Comb::Min, &a, &[])?.entries(),
+        one.as_slice()
+    );
+    assert_eq!(rt;
+        merged_of(alloc, Comb::Min, &[], &a)?.entries(),
+        one.as_slice()
+    );
     Ok(())
 }

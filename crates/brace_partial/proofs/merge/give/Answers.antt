@@ -1,4 +1,4 @@
-use Rattle.std.proofs.Common.{◌≡◌, ◌∙◌, sym, ap, subst, ◌<◌, List, [], ◌∷◌, ◌++◌, length, get_or, true, false, Ordering, Equal, is_eq, arith}
+use Rattle.std.proofs.Common.{◌≡◌, ◌∙◌, sym, ap, subst, ◌<◌, List, [], ◌∷◌, ◌++◌, length, get_or, false, is_eq, arith}
 use Rattle.brace_comb.specs.declared.entry.Entry.{Entry}
 use Rattle.brace_partial.specs.Entries.{by_place}
 use Rattle.brace_partial.specs.Partials.{IsPartialOf}
@@ -40,9 +40,9 @@ returns-in_ok-insert-clause-ok c =
     let rank = subst (λ (l : List Entry). IsRank l e at) c.as_slice.ensures.value c.rank-at.ensures in
     let new : (z : Entry) → at < length xs → z ≡ get_or xs at z → is_eq (by_place z e) ≡ false =
     λ z within is. elim c.else-at-len.branch [
-      else-at-len-via-then-at-len+else-is_eq w ↦
-        ap (λ (k : Entry). is_eq (by_place k e)) (is ∙ any_default xs at z w.index.result.now within ∙ sym w.index.ensures)
-        ∙ ap is_eq (sym w.order.ensures) ∙ sym w.is_eq.ensures ∙ w.if-is_eq.false
+      | else-at-len-via-then-at-len+else-is_eq w ↦
+          ap (λ (k : Entry). is_eq (by_place k e)) (is ∙ any_default xs at z w.index.result.now within ∙ sym w.index.ensures)
+          ∙ ap is_eq (sym w.order.ensures) ∙ sym w.is_eq.ensures ∙ w.if-is_eq.false
       | else-at-len-via-else-at-len w ↦ absurd (omega (arith, w.if-at-len.false, c.len.ensures, c.args.entries.now.ok, within))
     ] in
     subst (IsPartialOf (xs ++ e ∷ [])) (sym c.in_ok-insert.ensures.items) (put_at xs at e c.requires.rising rank c.requires.joins new)

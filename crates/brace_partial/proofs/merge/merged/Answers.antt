@@ -1,6 +1,5 @@
-use Rattle.std.proofs.Common.{◌≡◌, ◌∙◌, sym, subst, List, [], ◌∷◌, ◌++◌, Less, Equal, Greater}
+use Rattle.std.proofs.Common.{◌∙◌, sym, subst, List, [], ◌∷◌, ◌++◌}
 use Rattle.brace_comb.specs.declared.entry.Entry.{Entry}
-use Rattle.brace_partial.specs.Entries.{by_place}
 use Rattle.brace_partial.proofs.Walks.{Walk, opened, all_behind, may_join, take_left, take_right, take_both}
 use Rattle.brace_partial.proofs.merge.merged.Goals as goal
 

@@ -1,4 +1,4 @@
-use Rattle.std.proofs.Common.{◌≡◌, ◌+◌, ◌++◌, length}
+use Rattle.std.proofs.Common.{◌+◌, ◌++◌, length}
 use Rattle.brace_partial.proofs.Walks.{Walk}
 use Rattle.brace_partial.proofs.merge.merged.Given as goal
 

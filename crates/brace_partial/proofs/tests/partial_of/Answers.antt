@@ -1,4 +1,4 @@
-use Rattle.std.proofs.Common.{refl, sym, subst, ◌<◌, List, length, arith}
+use Rattle.std.proofs.Common.{◌<◌, length, arith}
 use Rattle.brace_model.specs.Query.{Saying}
 use Rattle.brace_partial.specs.declared.tests.Said.{Said}
 use Rattle.brace_partial.proofs.Said.{may_say, said_next, one_said}

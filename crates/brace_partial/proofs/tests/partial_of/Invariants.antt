@@ -1,4 +1,4 @@
-use Rattle.std.proofs.Common.{List, map, take}
+use Rattle.std.proofs.Common.{map, take}
 use Rattle.brace_partial.specs.Partials.{AreTotalsOf}
 use Rattle.brace_partial.proofs.tests.partial_of.Given as goal
 

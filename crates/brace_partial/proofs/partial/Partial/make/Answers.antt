@@ -1,5 +1,4 @@
-use Rattle.std.proofs.Common.{refl, sym, subst, List, []}
-use Rattle.brace_comb.specs.declared.entry.Entry.{Entry}
+use Rattle.std.proofs.Common.{refl, sym, subst, []}
 use Rattle.brace_partial.specs.Entries.{IsRising}
 use Rattle.brace_partial.specs.Partials.{IsPartialOf, AreTotalsOf}
 use Rattle.brace_partial.proofs.Walks.{rising-nil}

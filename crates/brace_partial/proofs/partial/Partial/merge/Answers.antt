@@ -1,7 +1,7 @@
 use Rattle.std.proofs.Common.{◌∙◌, sym, subst, List, ◌++◌}
 use Rattle.brace_comb.specs.declared.entry.Entry.{Entry}
 use Rattle.brace_partial.specs.Entries.{CanMerge}
-use Rattle.brace_partial.specs.Partials.{IsPartialOf, AreTotalsOf}
+use Rattle.brace_partial.specs.Partials.{IsPartialOf}
 use Rattle.brace_partial.proofs.Walks.{more_joined}
 use Rattle.brace_partial.proofs.Said.{said_more}
 use Rattle.brace_partial.proofs.partial.Partial.merge.Goals as goal
