@@ -21,7 +21,8 @@ total_said comb (v ∷ values) = Some (tally_of comb (v ∷ values))
 
 -- values said to one effect of an agent
 abbrev pub sayings_to : ℕ → ℕ → List Value → List Saying
-sayings_to target field values = map (λ v. record { target = target; field = field; value = v }) values
+sayings_to target field values =
+    map (λ v. record { target = target; field = field; value = v }) values
 
 -- rising entries: one for each effect of an agent to which a value is said, with the total of all
 -- values said to it

@@ -30,7 +30,8 @@ fn partial_of(alloc: Global, comb: Comb, said: &[Said]) -> Result<Partial, NoMem
     requires fit { All (λ s. FitsSigned w64 (number s.value)) said.now }
     requires few { length said.now ≤ 2 ^ 51 }
     ensures { IfOk result (λ partial. AreTotalsOf (λ t f. comb)
-        (map (λ s. record { target = s.target; field = s.field; value = s.value }) said.now) partial) }
+        (map (λ s. record { target = s.target; field = s.field; value = s.value }) said.now)
+        partial) }
 {
     let mut partial = Partial::make(alloc);
     for s in said {
