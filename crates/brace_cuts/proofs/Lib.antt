@@ -1,0 +1,7 @@
+pub mod Areas
+pub mod FirstFault
+pub mod Lines
+pub mod Orders
+pub mod PlanLemmas
+pub mod Reading
+pub mod Strips
