@@ -1,16 +1,14 @@
 //! The plan of a text.
-ghost use Rattle.std.specs.Prelude.{◌≡◌, ◌<◌, ◌==◌, nat_lt, ℕ, ◌&&◌, length, slice_get, map, option_map, unwrap_or, IfOk, IfErr, OnOk, Ok, Err, Some, None};
-ghost use Rattle.brace_cuts.specs.Space.{rises, parts_of};
+ghost use Rattle.std.specs.Prelude.{◌≡◌, ◌<◌, ◌==◌, ℕ, ◌&&◌, length, slice_get, map, option_map, unwrap_or, IfOk, IfErr, OnOk, Ok, Err, Some, None};
 ghost use Rattle.brace_cuts.specs.CutPlans.{lines_of, without_last_end, lines_in, is_later, is_rising, are_alike, fault_of, fault_behind, first_fault, IsPlan};
 ghost use Rattle.brace_cuts.specs.declared.kinds.PlanKind.{PlanKind};
 ghost use Rattle.brace_cuts.specs.declared.kinds.PlanFault.TheVariants.{Bad};
 
 use crate::line::{pieces, read_line};
+use crate::space::{are_too_many, both_rise};
 use crate::{CutLine, CutPlan, Cuts, PlanFault, PlanKind};
 use brace_num::{List, NoMemory};
 use std::alloc::Global;
-
-const MOST_PARTS: u128 = 64;
 
 /// The plan of a text, for epochs of so many ticks (at least 1); or the first faulty line with its
 /// first fault.
@@ -118,24 +116,6 @@ fn is_rising(earlier: &[CutLine], line: &CutLine) -> bool
     both_rise(&line.cuts) && is_later(earlier.last(), line.tick)
 }
 
-fn both_rise(cuts: &Cuts) -> bool
-    ensures { result ≡ (rises cuts.now.xs && rises cuts.now.ys) }
-{
-    rises(cuts.xs.as_slice()) && rises(cuts.ys.as_slice())
-}
-
-// Whether each number is below the next.
-fn rises(cuts: &[i64]) -> bool
-    ensures { result ≡ rises cuts.now }
-{
-    for i in 1..cuts.len() {
-        if cuts[i - 1] >= cuts[i] {
-            return false;
-        }
-    }
-    true
-}
-
 fn is_later(before: Option<&CutLine>, tick: u64) -> bool
     ensures { result ≡ is_later (option_map (λ line. line.now) before.entry) tick }
 {
@@ -156,15 +136,8 @@ fn is_like_first(earlier: &[CutLine], line: &CutLine) -> bool
 }
 
 fn are_alike(a: &Cuts, b: &Cuts) -> bool
-    ensures { result ≡ (length a.now.xs == length b.now.xs && length a.now.ys == length b.now.ys) }
+    ensures { result ≡
+        (length a.now.xs == length b.now.xs && length a.now.ys == length b.now.ys) }
 {
     a.xs.as_slice().len() == b.xs.as_slice().len() && a.ys.as_slice().len() == b.ys.as_slice().len()
-}
-
-fn are_too_many(cuts: &Cuts) -> bool
-    ensures { result ≡ nat_lt 64 (parts_of cuts.now) }
-{
-    let columns = cuts.xs.as_slice().len() as u128 + 1;
-    let rows = cuts.ys.as_slice().len() as u128 + 1;
-    rows * columns > MOST_PARTS
 }

@@ -1,4 +1,4 @@
-ghost use Rattle.std.specs.Prelude.{◌≡◌, ◌<◌, ◌≤◌, ◌↔◌, ℕ, pos, ◌-ℤ◌, IfOk, IsTrue, length};
+ghost use Rattle.std.specs.Prelude.{◌≡◌, ◌<◌, ◌≤◌, ◌↔◌, ℕ, nat_lt, pos, ◌-ℤ◌, ◌&&◌, IfOk, IsTrue, length};
 ghost use Rattle.std.specs.Int.{int_max};
 ghost use Rattle.std.specs.List.{list_all};
 ghost use Rattle.brace_num.specs.Areas.{apart, gap, gap_to};
@@ -6,6 +6,8 @@ ghost use Rattle.brace_cuts.specs.Space.{LawfulCuts, rises, can_cut, strip, low_
 
 use brace_num::{Area, List, NoMemory};
 use std::alloc::Global;
+
+const MOST_PARTS: u128 = 64;
 
 /// Where the plane is cut: along x and along y, in millionths. A point on a cut is on its higher
 /// side.
@@ -16,6 +18,25 @@ pub struct Cuts {
 }
 
 impl Cuts {
+    /// Whether the cuts rise along x and along y, are above the least number of 64 bits, and make
+    /// at most 64 parts.
+    pub fn are_lawful(&self) -> bool
+        ensures { IsTrue result ↔ LawfulCuts self.now }
+    {
+        both_rise(self)
+            && can_all_cut(self.xs.as_slice())
+            && can_all_cut(self.ys.as_slice())
+            && !are_too_many(self)
+    }
+
+    /// How many parts there are, at most 64.
+    pub fn parts(&self) -> u32
+        requires { LawfulCuts self.now }
+        ensures { result ≡ parts_of self.now }
+    {
+        ((self.ys.as_slice().len() + 1) * (self.xs.as_slice().len() + 1)) as u32
+    }
+
     /// The number of the part that owns a point, given in millionths. Each point has one owner.
     ///
     /// It takes a binary search along x and one along y.
@@ -80,6 +101,39 @@ impl Cuts {
             ys: copy_numbers(alloc, &self.ys)?,
         })
     }
+}
+
+// Whether the cuts along x rise, and those along y.
+pub(crate) fn both_rise(cuts: &Cuts) -> bool
+    ensures { result ≡ (rises cuts.now.xs && rises cuts.now.ys) }
+{
+    rises(cuts.xs.as_slice()) && rises(cuts.ys.as_slice())
+}
+
+// Whether each number is below the next.
+fn rises(cuts: &[i64]) -> bool
+    ensures { result ≡ rises cuts.now }
+{
+    for i in 1..cuts.len() {
+        if cuts[i - 1] >= cuts[i] {
+            return false;
+        }
+    }
+    true
+}
+
+fn can_all_cut(cuts: &[i64]) -> bool
+    ensures { result ≡ list_all can_cut cuts.now }
+{
+    cuts.iter().all(|cut| *cut > i64::MIN)
+}
+
+pub(crate) fn are_too_many(cuts: &Cuts) -> bool
+    ensures { result ≡ nat_lt 64 (parts_of cuts.now) }
+{
+    let columns = cuts.xs.as_slice().len() as u128 + 1;
+    let rows = cuts.ys.as_slice().len() as u128 + 1;
+    rows * columns > MOST_PARTS
 }
 
 // The strip of a number: how many cuts it is not below.

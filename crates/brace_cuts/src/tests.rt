@@ -1,13 +1,29 @@
+ghost use Rattle.std.specs.Prelude.{IfOk};
+ghost use Rattle.brace_cuts.specs.Space.{LawfulCuts};
+
 use crate::{CutPlan, Cuts, PlanFault, PlanKind, read_plan};
-use brace_num::{Area, List, NoMemory};
+use brace_num::{Area, List};
 use std::alloc::Global;
 use std::test::Fail;
 
-fn cuts_of(alloc: Global, xs: &[i64], ys: &[i64]) -> Result<Cuts, NoMemory> {
-    Ok(Cuts {
+fn cuts_of(alloc: Global, xs: &[i64], ys: &[i64]) -> Result<Cuts, Fail>
+    ensures { IfOk result LawfulCuts }
+{
+    let cuts = Cuts {
         xs: List::from_vec(Vec::from_slice(alloc, xs)?),
         ys: List::from_vec(Vec::from_slice(alloc, ys)?),
-    })
+    };
+    if !cuts.are_lawful() {
+        return Err("no cuts".into());
+    }
+    Ok(cuts)
+}
+
+fn plan_of(alloc: Global, text: &[u8], epoch: u64) -> Result<Result<CutPlan, PlanFault>, Fail> {
+    if epoch == 0 {
+        return Err("no epoch".into());
+    }
+    Ok(read_plan(alloc, text, epoch))
 }
 
 // A plan's lines: tick, cuts along x, cuts along y.
@@ -129,7 +145,7 @@ const REFUSALS: [(&[u8], u64, u64, PlanKind); 44] = [
 fn reads_plans(rt: HostRuntime) -> Result<(), Fail> {
     let alloc = rt.alloc();
     for (text, epoch, wanted) in PLANS {
-        let plan = read_plan(alloc, text, epoch).ok().ok_or("a plan")?;
+        let plan = plan_of(alloc, text, epoch)?.ok().ok_or("a plan")?;
         assert!(rt; is_plan(&plan, wanted));
         assert!(rt; is_plan(&plan.copy(alloc)?, wanted));
     }
@@ -140,7 +156,7 @@ fn reads_plans(rt: HostRuntime) -> Result<(), Fail> {
 fn answers_the_first_fault_of_the_first_faulty_line(rt: HostRuntime) -> Result<(), Fail> {
     let alloc = rt.alloc();
     for (text, epoch, line, kind) in REFUSALS {
-        let fault = read_plan(alloc, text, epoch).err();
+        let fault = plan_of(alloc, text, epoch)?.err();
         assert_eq!(rt;
             fault,
             Some(PlanFault::Bad(line, kind)),
@@ -225,64 +241,86 @@ fn area(x0: i64, x1: i64, y0: i64, y1: i64) -> Area {
     Area { x0, x1, y0, y1 }
 }
 
+fn area_of(cuts: &Cuts, p: u32) -> Option<Area> {
+    if cuts.are_lawful() && p < cuts.parts() {
+        Some(cuts.area(p))
+    } else {
+        None
+    }
+}
+
 #[test]
 fn areas_include_their_ends(rt: HostRuntime) -> Result<(), Fail> {
     let alloc = rt.alloc();
     let (low, high) = (i64::MIN, i64::MAX);
     let cuts = cuts_of(alloc, &[-5, 7], &[10])?;
-    for (p, wanted) in [
-        (0, area(low, -6, low, 9)),
-        (1, area(-5, 6, low, 9)),
-        (2, area(7, high, low, 9)),
-        (3, area(low, -6, 10, high)),
-        (4, area(-5, 6, 10, high)),
-        (5, area(7, high, 10, high)),
-    ] {
-        assert_eq!(rt; cuts.area(p), wanted, "part {p}");
-    }
     let ends = cuts_of(alloc, &[-high, high], &[])?;
-    assert_eq!(rt; ends.area(0), area(low, low, low, high));
-    assert_eq!(rt; ends.area(1), area(-high, high - 1, low, high));
-    assert_eq!(rt; ends.area(2), area(high, high, low, high));
-    assert_eq!(rt;
-        cuts_of(alloc, &[], &[])?.area(0),
-        area(low, high, low, high)
-    );
+    let whole = cuts_of(alloc, &[], &[])?;
+    for (cuts, p, wanted) in [
+        (&cuts, 0, area(low, -6, low, 9)),
+        (&cuts, 1, area(-5, 6, low, 9)),
+        (&cuts, 2, area(7, high, low, 9)),
+        (&cuts, 3, area(low, -6, 10, high)),
+        (&cuts, 4, area(-5, 6, 10, high)),
+        (&cuts, 5, area(7, high, 10, high)),
+        (&ends, 0, area(low, low, low, high)),
+        (&ends, 1, area(-high, high - 1, low, high)),
+        (&ends, 2, area(high, high, low, high)),
+        (&whole, 0, area(low, high, low, high)),
+    ] {
+        assert_eq!(rt; area_of(cuts, p), Some(wanted), "part {p}");
+    }
     Ok(())
 }
+
+// The gap of two parts, and whether they are near at a distance.
+fn gap_of(cuts: &Cuts, p: u32, q: u32, d: i64) -> Option<(u64, bool)> {
+    if cuts.are_lawful() && p < cuts.parts() && q < cuts.parts() {
+        Some((cuts.gap(p, q), cuts.near(p, q, d)))
+    } else {
+        None
+    }
+}
+
+// Two parts, their gap, a distance, and whether they are near at it.
+const GAPS: [(u32, u32, u64, i64, bool); 13] = [
+    (5, 5, 0, 0, true),
+    (5, 5, 0, -1, false),
+    (0, 1, 1, 0, false),
+    (0, 1, 1, 1, true),
+    (1, 0, 1, i64::MAX, true),
+    (0, 5, 1, 1, true),
+    (1, 3, 14, 13, false),
+    (1, 3, 14, 14, true),
+    (0, 3, 26, 26, true),
+    (3, 0, 26, 25, false),
+    (1, 9, 91, 90, false),
+    (0, 11, 91, 91, true),
+    (3, 4, 26, 26, true),
+];
 
 #[test]
 fn gaps_are_those_of_the_nearest_points(rt: HostRuntime) -> Result<(), Fail> {
     let alloc = rt.alloc();
     let cuts = cuts_of(alloc, &[-5, 7, 20], &[10, 100])?;
-    for (p, q, wanted) in [
-        (5, 5, 0),
-        (0, 1, 1),
-        (1, 0, 1),
-        (0, 5, 1),
-        (1, 3, 14),
-        (0, 3, 26),
-        (3, 0, 26),
-        (1, 9, 91),
-        (0, 11, 91),
-        (3, 4, 26),
-    ] {
-        assert_eq!(rt; cuts.gap(p, q), wanted, "{p}, {q}");
-        assert!(rt; cuts.near(p, q, wanted as i64));
-        assert!(rt; wanted == 0 || !cuts.near(p, q, wanted as i64 - 1));
+    for (p, q, gap, d, near) in GAPS {
+        assert_eq!(rt;
+            gap_of(&cuts, p, q, d),
+            Some((gap, near)),
+            "{p}, {q} at {d}"
+        );
     }
     let ends = cuts_of(alloc, &[-i64::MAX, i64::MAX], &[])?;
-    assert_eq!(rt; ends.gap(0, 2), u64::MAX);
-    assert!(rt; !ends.near(2, 0, i64::MAX));
+    assert_eq!(rt; gap_of(&ends, 2, 0, i64::MAX), Some((u64::MAX, false)));
     Ok(())
 }
 
 #[test]
 fn cuts_hold_from_the_tick_of_their_line_on(rt: HostRuntime) -> Result<(), Fail> {
     let alloc = rt.alloc();
-    let plan = read_plan(alloc, b"at 0 x 1 y\nat 2 x -1 y\nat 8 x 3 y", 2)
-        .ok()
-        .ok_or("a plan")?;
+    let Ok(plan) = read_plan(alloc, b"at 0 x 1 y\nat 2 x -1 y\nat 8 x 3 y", 2) else {
+        return Err("no plan".into());
+    };
     for (tick, wanted) in [
         (0, 1_000_000),
         (1, 1_000_000),
