@@ -1,0 +1,7 @@
+pub mod Settings
+pub mod Steps
+pub mod Continued
+pub mod Owned
+pub mod Finds
+pub mod Right
+pub mod Counts
