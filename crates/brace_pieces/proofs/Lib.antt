@@ -2,3 +2,4 @@ pub mod Examples
 pub mod Pairs
 pub mod ScheduleLemmas
 pub mod CutLemmas
+pub mod WorkedLawful

@@ -5,3 +5,4 @@ pub mod Owned
 pub mod Finds
 pub mod Right
 pub mod Counts
+pub mod inner

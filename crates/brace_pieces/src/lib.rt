@@ -6,6 +6,8 @@ pub mod laws;
 mod lists;
 mod piece;
 mod setting;
+#[cfg(test)]
+mod tests;
 
 pub use lists::{border_of, hand_of, moves_of};
 pub use piece::{Cause, Piece, Shown};

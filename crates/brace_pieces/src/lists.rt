@@ -3,7 +3,9 @@ ghost use Rattle.std.specs.Int.{int_max};
 ghost use Rattle.brace_num.specs.Areas.{outside, gap_to};
 ghost use Rattle.brace_cuts.specs.Space.{LawfulCuts, parts_of};
 ghost use Rattle.brace_invert.specs.Held.{is_near};
-ghost use Rattle.brace_pieces.specs.Settings.{LawfulSetting, range, cuts_of, parts};
+ghost use Rattle.brace_cuts.specs.CutPlans.{IsPlan};
+ghost use Rattle.brace_model.specs.Lawful.{LawfulProgram};
+ghost use Rattle.brace_pieces.specs.Settings.{range, cuts_of, parts};
 ghost use Rattle.brace_pieces.specs.Owned.{owns, owned, held};
 
 use crate::Setting;
@@ -65,7 +67,7 @@ fn owned_by(
     agents: &[Agent],
     to: u32,
 ) -> Result<List<Agent>, NoMemory>
-    requires { LawfulSetting setting.now }
+    requires { IsPlan setting.now.epoch setting.now.cuts }
     ensures { IfOk result (λ found. found
         ≡ owned setting.now.job.program (cuts_of setting.now tick) to agents.now) }
 {
@@ -107,7 +109,8 @@ pub fn border_of(
     agents: &[Agent],
     to: u32,
 ) -> Result<List<Agent>, NoMemory>
-    requires lawful { LawfulSetting setting.now }
+    requires lawful { LawfulProgram setting.now.job.program }
+    requires plan { IsPlan setting.now.epoch setting.now.cuts }
     requires is_part { to < parts setting.now }
     ensures near { IfOk result (λ found. found
         ≡ held setting.now.job.program (cuts_of setting.now tick) (range setting.now) to agents.now) }
@@ -126,8 +129,7 @@ pub fn moves_of(
     agents: &[Agent],
     to: u32,
 ) -> Result<List<Agent>, NoMemory>
-    requires lawful { LawfulSetting setting.now }
-    requires is_part { to < parts setting.now }
+    requires { IsPlan setting.now.epoch setting.now.cuts }
     ensures theirs { IfOk result (λ found. found
         ≡ owned setting.now.job.program (cuts_of setting.now tick) to agents.now) }
 {
@@ -143,8 +145,7 @@ pub fn hand_of(
     agents: &[Agent],
     to: u32,
 ) -> Result<List<Agent>, NoMemory>
-    requires lawful { LawfulSetting setting.now }
-    requires is_part { to < parts setting.now }
+    requires { IsPlan setting.now.epoch setting.now.cuts }
     ensures theirs { IfOk result (λ found. found
         ≡ owned setting.now.job.program (cuts_of setting.now tick) to agents.now) }
 {

@@ -6,4 +6,4 @@ use Rattle.brace_pieces.proofs.lists.owned_by.Goals as goal
 pub owns-requires : goal.owns-requires
 owns-requires c =
     let s = c.args.setting.now in
-    subst LawfulCuts (sym c.cuts_at-cuts.ensures) (cuts_lawful s.epoch s.cuts c.args.tick c.requires.plan_is_lawful)
+    subst LawfulCuts (sym c.cuts_at-cuts.ensures) (cuts_lawful s.epoch s.cuts c.args.tick c.requires)
