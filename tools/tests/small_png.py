@@ -48,20 +48,29 @@ def unfiltered(kind, line, above, size):
     return line
 
 
+def spread(colours):
+    """How far the colours reach in red, green or blue, in which, and where the middle is."""
+    ends = [(min(values), max(values)) for values in zip(*colours)]
+    low, high, part = max(((low, high, i) for i, (low, high) in enumerate(ends)),
+                          key=lambda end: end[1] - end[0])
+    return high - low, part, (low + high) / 2
+
+
 def palette(lines):
-    """To each colour the number of its like among the 256 most frequent, and these."""
+    """To each colour the number of its box, and the most frequent colour of each box, at most 256.
+
+    The box that reaches farthest is parted until there are enough, so that rare colours stay."""
     counts = collections.Counter(colour for line in lines for colour in line)
-    kept = [colour for colour, _ in counts.most_common(256)]
-    numbers = {colour: i for i, colour in enumerate(kept)}
-    near = {}
-    for colour in counts:
-        # Colours that are all but the same share the search for the nearest one.
-        like = tuple(part >> 3 for part in colour)
-        if colour not in numbers and like not in near:
-            near[like] = min(range(len(kept)), key=lambda i: sum(
-                (a - b) ** 2 for a, b in zip(kept[i], colour)))
-        numbers.setdefault(colour, near.get(like))
-    return numbers, kept
+    boxes = [(*spread(counts), list(counts))]
+    while len(boxes) < 256 and max(boxes)[0] > 0:
+        widest = max(boxes)
+        _, part, middle, colours = widest
+        boxes.remove(widest)
+        for half in ([colour for colour in colours if colour[part] <= middle],
+                     [colour for colour in colours if colour[part] > middle]):
+            boxes.append((*spread(half), half))
+    numbers = {colour: i for i, (*_, colours) in enumerate(boxes) for colour in colours}
+    return numbers, [max(colours, key=counts.get) for *_, colours in boxes]
 
 
 def smaller(png):

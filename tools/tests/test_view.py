@@ -49,9 +49,13 @@ BAD = [
 
 # How each example is shown in its picture: a tick, and what else is set.
 SCENES = {
-    "drift": (200, "$('trail').value = 30; $('charted').value = '0 2'"),
-    "flock": (40, "$('trail').value = 12; $('charted').value = '0 4'"),
-    "epidemic": (20, "$('colour').value = 'ill'; $('charted').value = '0 3'"),
+    "birds": (40, "$('trail').value = 8; $('charted').value = '0 5'"),
+    "door": (40, "$('colour').value = 'crowd'; $('charted').value = '0 3'"),
+    "drift": (24, "$('trail').value = 24; $('charted').value = '0 2'"),
+    "flock": (100, "$('colour').value = 'wx'; $('trail').value = 12; $('charted').value = '0 6'"),
+    "epidemic": (10, "$('colour').value = 'ill'; $('charted').value = '0 3'"),
+    "road": (150, "$('colour').value = 'v'; $('charted').value = '0 4'"),
+    "rumour": (120, "$('colour').value = 'news'; $('charted').value = '0 2'"),
     "orbit": (60, "$('trail').value = 20; $('charted').value = '0 4'; shown.followed = 20"),
 }
 
@@ -63,6 +67,8 @@ def examples(folder, given, program):
     for name in sorted(os.listdir(os.path.join(TOP, "examples"))):
         here = os.path.join(TOP, "examples", name)
         script = os.path.join(here, f"{name}.brasil")
+        if not os.path.exists(script):
+            continue
         rows = os.path.join(given or folder, f"{name}.csv")
         if given is None:
             with open(os.path.join(here, "command"), encoding="utf-8") as file:

@@ -1,22 +1,20 @@
 -- A step from a numbered world leads to a numbered world.
-use Rattle.std.proofs.Common.{◌≡◌, ◌∙◌, sym, refl, ap, subst, ℕ, zero, suc, ◌+◌, ◌<◌, ◌≤◌, ◌^◌, List, [], ◌∷◌, length, get_or, filter_map, Option, Some, None, Result, Ok, Err, Bool, true, false, arith}
-use Rattle.std.specs.Prelude.{leb, ◌||◌, slice_get, option_map}
+use Rattle.std.proofs.Common.{◌≡◌, ◌∙◌, sym, refl, ap, subst, ℕ, zero, suc, ◌+◌, ◌<◌, ◌≤◌, ◌^◌, List, [], ◌∷◌, ◌++◌, length, get_or, filter_map, Option, Some, None, Result, Ok, Err, Bool, true, false, arith, leb-false}
+use Rattle.std.specs.Prelude.{leb, ◌||◌, take, slice_get, option_map}
 use Rattle.std.specs.Option.{option_and_then}
 use Rattle.std.specs.Result.{result_ok, result_err}
 use Rattle.std.specs.List.{range_with_len, find}
-use Rattle.std.proofs.lemmas.Bool.Decides.{leb_tells}
 use Rattle.std.proofs.lemmas.Option.{slice_get-get_or}
-use mathlib.Core.Logic.{⊎_elim}
 use Rattle.brace_model.specs.declared.program.Program.{Program}
 use Rattle.brace_model.specs.declared.fault.Fault.{Fault}
 use Rattle.brace_model.specs.declared.world.Agent.{Agent}
 use Rattle.brace_model.specs.World.{World, IsNumbered}
 use Rattle.brace_model.specs.FaultOrder.{least}
 use Rattle.brace_model.specs.Query.{query_faults}
-use Rattle.brace_model.specs.Step.{step, all_next, living, children, goes_too_far, first_too_far, birth_fault, grown, unless_faulty, greatest_id}
+use Rattle.brace_model.specs.Step.{step, all_next, living, children, goes_too_far, first_too_far, birth_fault, grown, unless_faulty, most_agents, most_values, greatest_id, count_values}
 use Rattle.brace_eval.proofs.NumberLemmas.{numbered_grown}
 
-abbrev stepped : World → Result World Fault
+abbrev pub stepped : World → Result World Fault
 stepped w = Ok w
 
 abbrev failed : Fault → Result World Fault
@@ -29,7 +27,7 @@ same-world : (v w : World) → stepped v ≡ stepped w → v ≡ w
 same-world v w e = cc
 
 -- a step that has no fault has no birth that goes too far
-stepped-ok : (q u b : Option Fault) (w next : World) → unless_faulty q u b w ≡ stepped next → (b ≡ None) × (w ≡ next)
+pub stepped-ok : (q u b : Option Fault) (w next : World) → unless_faulty q u b w ≡ stepped next → (b ≡ None) × (w ≡ next)
 stepped-ok (Some f) u b w next is = absurd (not-both f next is)
 stepped-ok None (Some f) b w next is = absurd (not-both f next is)
 stepped-ok None None (Some f) w next is = absurd (not-both f next is)
@@ -41,7 +39,7 @@ some-none a e = cc
 same-number : (i j : ℕ) → Some i ≡ Some j → i ≡ j
 same-number i j e = cc
 
-unmapped : (f : Agent → Fault) (o : Option Agent) → option_map f o ≡ None → o ≡ None
+pub unmapped : (f : Agent → Fault) (o : Option Agent) → option_map f o ≡ None → o ≡ None
 unmapped f None e = refl
 unmapped f (Some a) e = absurd (some-none (f a) e)
 
@@ -66,9 +64,10 @@ none-passes p a (suc n) none i le = by_first (p a) refl i le (λ q. none-passes 
         let same : a + suc i ≡ a + 1 + i = omega arith in
         ap p same ∙ rest (rw here at none) i (omega (arith, le))
 
-second-false : (a b : Bool) → (a || b) ≡ false → b ≡ false
-second-false true b e = absurd (cc)
-second-false false b e = e
+none-true : (a b c : Bool) → (a || (b || c)) ≡ false → (a ≡ false) × (b ≡ false) × (c ≡ false)
+none-true true b c e = absurd (cc)
+none-true false true c e = absurd (cc)
+none-true false false c e = (refl, refl, e)
 
 module _ (ls : List Agent) (next : ℕ) where
   none-found : (bs : List Agent) (o : Option ℕ) → find (goes_too_far ls next bs) (range_with_len 0 (length bs)) ≡ o
@@ -79,18 +78,28 @@ module _ (ls : List Agent) (next : ℕ) where
       let within = found-within (goes_too_far ls next bs) 0 (length bs) i is in
       absurd (some-none (get_or bs i d) (sym (slice_get-get_or bs i d (omega (arith, within))) ∙ far))
 
+  -- a birth that does not go too far keeps to each limit
+  pub keeps-limits : (bs : List Agent) (r : ℕ) → goes_too_far ls next bs r ≡ false
+      → (length (ls ++ take (suc r) bs) < suc most_agents) × (count_values (ls ++ take (suc r) bs) < suc most_values) × (next + r < suc greatest_id)
+  keeps-limits bs r e =
+      let agents : ℕ = length (ls ++ take (suc r) bs) in
+      let values : ℕ = count_values (ls ++ take (suc r) bs) in
+      let (few, small, low) = none-true (leb (suc most_agents) agents) (leb (suc most_values) values) (leb (suc greatest_id) (next + r)) e in
+      (leb-false (suc most_agents) agents few, leb-false (suc most_values) values small, leb-false (suc greatest_id) (next + r) low)
+
+  -- where no birth goes too far, the last one does not
+  pub last-fits : (b : Agent) (bs : List Agent) → first_too_far ls next (b ∷ bs) ≡ None → goes_too_far ls next (b ∷ bs) (length bs) ≡ false
+  last-fits b bs far =
+      let all : List Agent = b ∷ bs in
+      let same : length bs ≡ 0 + length bs = omega arith in
+      ap (goes_too_far ls next all) same ∙ none-passes (goes_too_far ls next all) 0 (length all) (none-found all _ refl far) (length bs) (omega arith)
+
   -- where no birth goes too far, the ids suffice
   ids-fit : (bs : List Agent) → next ≤ 2 ^ 63 → first_too_far ls next bs ≡ None → next + length bs ≤ 2 ^ 63
   ids-fit [] low far = omega (arith, low)
   ids-fit (b ∷ bs) low far =
-      let all : List Agent = b ∷ bs in
-      let none = none-found all _ refl far in
-      let last : goes_too_far ls next all (0 + length bs) ≡ false = none-passes (goes_too_far ls next all) 0 (length all) none (length bs) (omega arith) in
-      let id : leb (suc greatest_id) (next + (0 + length bs)) ≡ false = second-false _ _ (second-false _ _ last) in
-      ⊎_elim
-      (λ (le : (leb (suc greatest_id) (next + (0 + length bs)) ≡ true) × (suc greatest_id ≤ next + (0 + length bs))). absurd (let no_way : true ≡ false = sym le.0 ∙ id in cc))
-      (λ (le : (leb (suc greatest_id) (next + (0 + length bs)) ≡ false) × (next + (0 + length bs) < suc greatest_id)). omega (arith, le.1))
-      (leb_tells (suc greatest_id) (next + (0 + length bs)))
+      let (few, small, low) = keeps-limits (b ∷ bs) (length bs) (last-fits b bs far) in
+      omega (arith, low)
 
 pub steps-numbered : (program : Program) (seed tick : ℕ) (world next : World) → IsNumbered world
     → step program seed tick world ≡ stepped next → IsNumbered next

@@ -9,3 +9,6 @@ pub mod BirthLemmas
 pub mod StepLemmas
 pub mod NumberLemmas
 pub mod LawLemmas
+pub mod TypeLemmas
+pub mod LawfulLemmas
+pub mod WorkedLawful

@@ -81,22 +81,22 @@ rise-numbered next (c ∷ born) =
 
 -- ---- an agent that lives on keeps its id
 
-abbrev ok : Next → Result Next Fault
+abbrev pub ok : Next → Result Next Fault
 ok n = Ok n
 
-abbrev failed : Fault → Result Next Fault
+abbrev pub failed : Fault → Result Next Fault
 failed f = Err f
 
-same-next : (m n : Next) → ok m ≡ ok n → m ≡ n
+pub same-next : (m n : Next) → ok m ≡ ok n → m ≡ n
 same-next m n e = cc
 
-not-both : (f : Fault) (n : Next) → failed f ≡ ok n → ⊥
+pub not-both : (f : Fault) (n : Next) → failed f ≡ ok n → ⊥
 not-both f n e = cc
 
-same-agent : (a b : Agent) → Some a ≡ Some b → a ≡ b
+pub same-agent : (a b : Agent) → Some a ≡ Some b → a ≡ b
 same-agent a b e = cc
 
-none-some : (a : Agent) (o : Option Agent) → o ≡ None → o ≡ Some a → ⊥
+pub none-some : (a : Agent) (o : Option Agent) → o ≡ None → o ≡ Some a → ⊥
 none-some a o e f = cc
 
 left-keeps : (scope : Scope) (class : Class) (a b : Agent) (dies : Bool) → holds (condition_in scope class.die) ≡ dies

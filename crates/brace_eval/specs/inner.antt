@@ -1,3 +1,4 @@
 pub mod Tables
 pub mod Walks
 pub mod Updates
+pub mod Worked

@@ -1,5 +1,5 @@
 -- The answer of a command, from what its parts come to.
-use Rattle.std.proofs.Common.{◌≡◌, ◌∙◌, refl, sym, ap, subst, ℕ, List, [], true, false, Bool, Option, Some, None, Result, Ok, Err, IfOk, IfErr, codes, inl, inr, if◌then◌else◌, nat_lt, length, ◌≤◌, arith}
+use Rattle.std.proofs.Common.{◌≡◌, ◌∙◌, refl, sym, ap, subst, ℕ, List, [], true, false, Bool, Option, Some, None, Result, Ok, Err, IfOk, IfErr, codes, option_and_then, inl, inr, if◌then◌else◌, nat_lt, length, ◌≤◌, arith}
 use Rattle.std.proofs.lemmas.Bool.Decides.{nat_tests}
 use Rattle.brace_io.specs.declared.shelf.Shelf as shelf_trait
 use Rattle.brace_io.specs.declared.sink.Sink as sink_trait
@@ -13,6 +13,8 @@ use Rattle.brace_rows.specs.declared.kinds.RowFault.{RowFault}
 use Rattle.brace_rows.specs.declared.kinds.RowFault.TheVariants as row_fault
 use Rattle.brace_rows.specs.declared.kinds.RowKind.{RowKind}
 use Rattle.brace_rows.specs.AgentFile as file
+use Rattle.brace_words.specs.declared.line.Line.{Line}
+use Rattle.brace_words.specs.Lines.{line_of}
 use Rattle.brace_top.specs.declared.answer.Answer.{Answer}
 use Rattle.brace_top.specs.declared.answer.Stopped.{Stopped}
 use Rattle.brace_top.specs.declared.answer.Stopped.TheVariants as stopped_is
@@ -24,9 +26,9 @@ use Rattle.brace_top.specs.declared.script_fault.ScriptFault.TheVariants as scri
 use Rattle.brace_top.specs.declared.status.Status.{Status}
 use Rattle.brace_top.specs.declared.status.Status.TheVariants.{Done, Usage, Script, Agents, Fault, ReadFault, WriteFault, NoMemory, Absent}
 use Rattle.brace_top.specs.Answer.{ShelfCall, SinkCall, shelf_call, sink_call, Among, LeavesFront, IsEnd, IsAnswer, CountsReads}
-use Rattle.brace_top.specs.Commands.{Command, RunCommand}
-use Rattle.brace_top.specs.Messages.{named_message, usage_message, write_fault_message}
-use Rattle.brace_top.specs.Outcome.{Outcome, Refusal, refusal, refused, shown, ended, end_status, end_message, loaded, source_of, ComesTo, refused_at, stands_for, unless_faulty, world_from, agents_of, job_of, ran, followed_by, has_births, run_outcome, CommandOutcome, Reads}
+use Rattle.brace_top.specs.Commands.{Command, RunCommand, TrialCommand, Trial, command_in, command_of}
+use Rattle.brace_top.specs.Messages.{named_message, usage_message, write_fault_message, no_memory_message}
+use Rattle.brace_top.specs.Outcome.{Outcome, Refusal, TrialProgram, refusal, refused, shown, ended, end_status, end_message, loaded, ComesTo, refused_at, stands_for, unless_faulty, world_from, agents_of, job_of, ran, followed_by, has_births, run_outcome, CommandOutcome, Reads}
 use Rattle.brace_top.specs.Status.{has_run}
 use Rattle.brace_top.specs.inner.Settled.{stopped_by, is_work, stopped_status, stopped_message, status_in, message_in, IsRefusedAs, IsScriptRefused, IsRecordRefused, refuses_file, is_stop, GivesNothing, IsLoaded, IsUnloaded, IsStopped, IsCarriedOut, IsServed}
 use Rattle.brace_top.proofs.StatusLemmas.{stop_runs, stop_usage, stop_writes, work_refusal, work_usage, carried_reads, carried_writes}
@@ -141,18 +143,18 @@ fault_unloads comes_to name shelf stopped_is.WriteFault is rose at_ = absurd is
 fault_unloads comes_to name shelf stopped_is.NoMemory is rose at_ = memory_unloads comes_to name shelf
 
 -- a script that means something
-pub script_loaded : {A : Type 0} (means : List ℕ → A → Type 0) (refuses : List ℕ → ScriptFault → Type 0) (name src : List ℕ) (shelf : ShelfCall) (a : A)
-    → IsLoaded (λ files found. source_of files name ≡ found) shelf src → means src a → IsLoaded (λ files. ComesTo means refuses files name) shelf a
-script_loaded means refuses name src shelf a is it = record { found = λ files told. stands_for src a (is.found files told) it; counts = is.counts }
+pub script_loaded : {A : Type 0} (means : List ℕ → A → Type 0) (refuses : List ℕ → ScriptFault → Type 0) (source : Files → Result (List ℕ) Refusal) (name src : List ℕ) (shelf : ShelfCall) (a : A)
+    → IsLoaded (λ files found. source files ≡ found) shelf src → means src a → IsLoaded (λ files. ComesTo means refuses name (source files)) shelf a
+script_loaded means refuses source name src shelf a is it = record { found = λ files told. stands_for src a (is.found files told) it; counts = is.counts }
 
 -- a script that is refused at a place
-pub script_unloads : {A : Type 0} (means : List ℕ → A → Type 0) (refuses : List ℕ → ScriptFault → Type 0) (name src : List ℕ) (shelf : ShelfCall) (fault : ScriptFault) (stopped : Stopped)
-    → shelf.faults_after ≡ shelf.faults_before → ((files : Files) → shelf.held ≡ Some files → source_of files name ≡ Ok src) → refuses src fault
-    → IsScriptRefused name src fault stopped → IsUnloaded (λ files. ComesTo means refuses files name) name shelf stopped
-script_unloads means refuses name src shelf (script_fault.Refused kind at) stopped same source found is =
-    refusal_unloads _ name shelf Script _ stopped refl same is (λ files told. refused_at src kind at (source files told) found)
-script_unloads means refuses name src shelf script_fault.NoMemory stopped same source found is =
-    subst (λ (e : Stopped). IsUnloaded (λ files. ComesTo means refuses files name) name shelf e) (sym is) (memory_unloads _ name shelf)
+pub script_unloads : {A : Type 0} (means : List ℕ → A → Type 0) (refuses : List ℕ → ScriptFault → Type 0) (source : Files → Result (List ℕ) Refusal) (name src : List ℕ) (shelf : ShelfCall) (fault : ScriptFault)
+    (stopped : Stopped) → shelf.faults_after ≡ shelf.faults_before → ((files : Files) → shelf.held ≡ Some files → source files ≡ Ok src) → refuses src fault
+    → IsScriptRefused name src fault stopped → IsUnloaded (λ files. ComesTo means refuses name (source files)) name shelf stopped
+script_unloads means refuses source name src shelf (script_fault.Refused kind at) stopped same given found is =
+    refusal_unloads _ name shelf Script _ stopped refl same is (λ files told. refused_at src kind at (given files told) found)
+script_unloads means refuses source name src shelf script_fault.NoMemory stopped same given found is =
+    subst (λ (e : Stopped). IsUnloaded (λ files. ComesTo means refuses name (source files)) name shelf e) (sym is) (memory_unloads _ name shelf)
 
 -- an agent file that is refused for a record
 pub record_unloads : (program : Program) (name bytes : List ℕ) (shelf : ShelfCall) (fault : RowFault) (stopped : Stopped)
@@ -187,10 +189,10 @@ refusal_answer files command out message status is same end = record { one = _; 
 
 -- a file that a command reads and that gives nothing stops it
 stops : (P : Files → Refusal → Type 0) (name : List ℕ) (command : Option Command) (shelf : ShelfCall) (message : List ℕ) (status : Status)
-    → ((files : Files) → shelf.held ≡ Some files → Reads files command name)
+    → ((files : Files) → shelf.held ≡ Some files → status ≡ ReadFault → Reads files command name)
     → ((files : Files) (r : Refusal) → shelf.held ≡ Some files → P files r → CommandOutcome files command (refused r))
     → GivesNothing P name shelf message status → IsStopped command shelf message status
-stops P name command shelf message ReadFault reads up is files out told same = record { one = name; is = reads files told; holds = is }
+stops P name command shelf message ReadFault reads up is files out told same = record { one = name; is = reads files told refl; holds = is }
 stops P name command shelf message NoMemory reads up is files out told same = record { front = inl same; says = is }
 stops P name command shelf message Script reads up is files out told same =
     refusal_answer files command out message Script (up files _ told (is.found files told)) same (record { ends = refl; gained = same; says = refl })
@@ -203,12 +205,13 @@ stops P name command shelf message Usage reads up is files out told same = absur
 stops P name command shelf message Fault reads up is files out told same = absurd (let e = is.stops in cc)
 stops P name command shelf message WriteFault reads up is files out told same = absurd (let e = is.stops in cc)
 
-pub stopped_serves : {S O A : Type 0} (of_shelf : shelf_trait.Ghosts S) (of_sink : sink_trait.Ghosts O) (command : Command) (s t : S) (o : O)
+-- a file that gives nothing stops a command, which reads it where its status says that a read failed
+stop_serves : {S O A : Type 0} (of_shelf : shelf_trait.Ghosts S) (of_sink : sink_trait.Ghosts O) (command : Command) (s t : S) (o : O)
     (comes_to : Files → Result A Refusal → Type 0) (name : List ℕ) (e : Stopped)
-    → ((files : Files) → of_shelf.held s ≡ Some files → Reads files (Some command) name)
+    → ((files : Files) → of_shelf.held s ≡ Some files → stopped_status e ≡ ReadFault → Reads files (Some command) name)
     → ((files : Files) (r : Refusal) → of_shelf.held s ≡ Some files → comes_to files (Err r) → CommandOutcome files (Some command) (refused r))
     → IsUnloaded comes_to name (shelf_call of_shelf s t) e → IsServed of_shelf of_sink command s t o o (Err e)
-stopped_serves of_shelf of_sink command s t o comes_to name e reads up is =
+stop_serves of_shelf of_sink command s t o comes_to name e reads up is =
     let P : Files → Refusal → Type 0 = λ files r. comes_to files (Err r) in
     let stop = nothing_stops P name (shelf_call of_shelf s t) _ _ is.nothing in
     record {
@@ -219,6 +222,29 @@ stopped_serves of_shelf of_sink command s t o comes_to name e reads up is =
       clean = stop_runs _ _ stop;
       known = stop_usage _ stop;
     }
+
+pub stopped_serves : {S O A : Type 0} (of_shelf : shelf_trait.Ghosts S) (of_sink : sink_trait.Ghosts O) (command : Command) (s t : S) (o : O)
+    (comes_to : Files → Result A Refusal → Type 0) (name : List ℕ) (e : Stopped)
+    → ((files : Files) → of_shelf.held s ≡ Some files → Reads files (Some command) name)
+    → ((files : Files) (r : Refusal) → of_shelf.held s ≡ Some files → comes_to files (Err r) → CommandOutcome files (Some command) (refused r))
+    → IsUnloaded comes_to name (shelf_call of_shelf s t) e → IsServed of_shelf of_sink command s t o o (Err e)
+stopped_serves of_shelf of_sink command s t o comes_to name e reads up is =
+    stop_serves of_shelf of_sink command s t o comes_to name e (λ files told failed. reads files told) up is
+
+-- the script of a trial stops it where no read failed
+pub trial_stopped_serves : {S O : Type 0} (of_shelf : shelf_trait.Ghosts S) (of_sink : sink_trait.Ghosts O) (trial : TrialCommand) (s : S) (o : O) (e : Stopped)
+    → (stopped_status e ≡ ReadFault → ⊥) → IsUnloaded (λ files. TrialProgram) (codes "trial") (shelf_call of_shelf s s) e
+    → IsServed of_shelf of_sink (Trial trial) s s o o (Err e)
+trial_stopped_serves of_shelf of_sink trial s o e never is =
+    stop_serves of_shelf of_sink (Trial trial) s s o (λ files. TrialProgram) (codes "trial") e (λ files told failed. absurd (never failed))
+    (λ files r told found. record { found = Err r; is = found; follows = refl }) is
+
+-- no read fails where a script is refused
+pub script_unread : (name src : List ℕ) (fault : ScriptFault) (stopped : Stopped) → IsScriptRefused name src fault stopped → stopped_status stopped ≡ ReadFault → ⊥
+script_unread name src (script_fault.Refused kind at) (stopped_is.Refused a) is e = let f : Script ≡ ReadFault = sym is.ends ∙ e in absurd cc
+script_unread name src (script_fault.Refused kind at) stopped_is.WriteFault is e = absurd is
+script_unread name src (script_fault.Refused kind at) stopped_is.NoMemory is e = absurd cc
+script_unread name src script_fault.NoMemory stopped is e = let f : NoMemory ≡ ReadFault = sym (ap stopped_status is) ∙ e in absurd cc
 
 -- ---- a command that is carried out
 
@@ -316,6 +342,15 @@ ended_works None (Ok a) status err = ap is_work status
 ended_works (Some f) (Ok a) status err = ap is_work status
 ended_works found (Err e) status err = ap (λ (s : Stopped). is_work (stopped_status s)) err
 
+-- what is carried out for an outcome is carried out for one that is the same
+pub carried_for : (o p : Outcome) (out : SinkCall) (message : List ℕ) (status : Status) → o ≡ p
+    → IsCarriedOut (λ x. x ≡ o) out message status → IsCarriedOut (λ x. x ≡ p) out message status
+carried_for o p out message status e is = subst (λ (q : Outcome). IsCarriedOut (λ x. x ≡ q) out message status) e is
+
+-- memory was refused, and nothing was written
+pub memory_carried : (these : Outcome → Type 0) (out : SinkCall) → out.after ≡ out.before → IsCarriedOut these out no_memory_message NoMemory
+memory_carried these out same = record { front = inl same; says = refl }
+
 -- a text that is all of a command, or a front of it
 pub shown_carried : (text : List ℕ) (out : SinkCall) → Gains out.before out.after text → IsCarriedOut (λ o. o ≡ shown text) out [] Done
 shown_carried text out gains = record { one = _; is = refl; holds = record { ends = refl; gained = gains; says = refl } }
@@ -354,6 +389,26 @@ run_ended files run program start e f = sym (goes_on files run program e ∙ ap 
 pub world_read : (program : Program) (files : Files) (name bytes : List ℕ) (world : World) → loaded Agents AGENTS_LIMIT name (files name) ≡ Ok bytes
     → file.first_fault program (file.records_of bytes) ≡ None → world ≡ world_of (file.by_id (file.agents_in program (file.records_of bytes))) → agents_of files program name ≡ Ok world
 world_read program files name bytes world e none is = ap (world_from program name) e ∙ ap (unless_faulty name _) none ∙ ap (λ (w : World). Ok w) (sym is)
+
+-- ---- the words
+
+-- the command of words that are a line
+pub command_of_line : (words : List (List ℕ)) (line : Line) (found : Option Command) → line_of words ≡ Some line → command_in line ≡ found → command_of words ≡ found
+command_of_line words line found e f = ap (option_and_then command_in) e ∙ f
+
+-- words that are no line
+pub command_of_none : (words : List (List ℕ)) → line_of words ≡ None → command_of words ≡ None
+command_of_none words e = ap (option_and_then command_in) e
+
+-- memory was refused before anything was written
+pub memory_answer : (files : Files) (found : Option Command) (shelf : ShelfCall) (out : SinkCall) → out.after ≡ out.before
+    → IsAnswer files found shelf out no_memory_message NoMemory
+memory_answer files found shelf out same = record { front = inl same; says = refl }
+
+-- what answers a command answers words that ask for it
+pub asked_answer : (files : Files) (found : Option Command) (command : Command) (shelf : ShelfCall) (out : SinkCall) (message : List ℕ) (status : Status)
+    → found ≡ Some command → IsAnswer files (Some command) shelf out message status → IsAnswer files found shelf out message status
+asked_answer files found command shelf out message status e is = subst (λ (c : Option Command). IsAnswer files c shelf out message status) (sym e) is
 
 -- words that are no command
 pub usage_answer : (found : Option Command) (files : Files) (shelf : ShelfCall) (out : SinkCall) → found ≡ None → out.after ≡ out.before

@@ -10,7 +10,7 @@ use Rattle.brace_model.specs.declared.job.Job.{Job}
 use Rattle.brace_model.specs.declared.fault.Fault.{Fault}
 use Rattle.brace_model.specs.World.{World}
 use Rattle.brace_model.specs.Step.{step}
-use Rattle.brace_model.specs.Run.{world_after, first_fault}
+use Rattle.brace_model.specs.Run.{world_after, end_of, first_fault}
 use Rattle.brace_model.specs.Published.{tick_text, text_of_ticks, published}
 use Rattle.brace_model.proofs.RunLemmas.{world_after-zero, world_after-next, world_after-ended, text-next, text-ended, text-front}
 
@@ -76,17 +76,23 @@ module _ (job : Job) (fresh : job.first ≡ 0) where
       subst (λ (l : List ℕ). GainsFront a b l) (sym e) (front_whole a b _ rest h)
 
   -- a run that reached its last tick
+  pub end_reached : (n : ℕ) (world : World) → n ≡ job.last → world_after job n ≡ Ok world → end_of job ≡ Ok world
+  end_reached n world same e = ap (λ (m : ℕ). world_after job m) (omega (arith, fresh, same)) ∙ e
+
   pub reached : (n : ℕ) (world : World) → n ≡ job.last → world_after job n ≡ Ok world → first_fault job ≡ None
-  reached n world same e = ap (λ (m : ℕ). result_err (world_after job m)) (omega (arith, fresh, same)) ∙ ap result_err e
+  reached n world same e = ap result_err (end_reached n world same e)
 
   pub text-reached : (n : ℕ) → n ≡ job.last → published job true ≡ text_of_ticks job true (n + 1)
   text-reached n same = ap (λ (m : ℕ). text_of_ticks job true m) (omega (arith, fresh, same))
 
   -- a run that ended in a fault
-  pub first-faulted : (n : ℕ) (fault : Fault) → n < job.last → world_after job (n + 1) ≡ Err fault → first_fault job ≡ Some fault
-  first-faulted n fault lt e =
+  pub end_faulted : (n : ℕ) (fault : Fault) → n < job.last → world_after job (n + 1) ≡ Err fault → end_of job ≡ Err fault
+  end_faulted n fault lt e =
       let at_end : job.last - job.first ≡ n + 1 + (job.last - (n + 1)) = omega (arith, fresh) in
-      ap (λ (m : ℕ). result_err (world_after job m)) at_end ∙ ap result_err (world_after-ended job (n + 1) (job.last - (n + 1)) fault e)
+      ap (λ (m : ℕ). world_after job m) at_end ∙ world_after-ended job (n + 1) (job.last - (n + 1)) fault e
+
+  pub first-faulted : (n : ℕ) (fault : Fault) → n < job.last → world_after job (n + 1) ≡ Err fault → first_fault job ≡ Some fault
+  first-faulted n fault lt e = ap result_err (end_faulted n fault lt e)
 
   pub text-faulted : (n : ℕ) (fault : Fault) → n < job.last → world_after job (n + 1) ≡ Err fault → published job true ≡ text_of_ticks job true (n + 1)
   text-faulted n fault lt e =

@@ -1,5 +1,5 @@
 -- A command over files has at most one status, one text, and one message apart from the place of NoReading.
-use Rattle.std.proofs.Common.{◌≡◌, ◌∙◌, refl, sym, ap, subst, ℕ, ◌+◌, ◌<◌, ◌⊎◌, List, [], Bool, true, false, nat_lt, slice_get, Option, Some, None, Result, Ok, Err, inl, inr, arith}
+use Rattle.std.proofs.Common.{◌≡◌, ◌∙◌, refl, sym, ap, subst, ℕ, ◌+◌, ◌<◌, ◌⊎◌, List, [], Bool, true, false, codes, nat_lt, slice_get, Option, Some, None, Result, Ok, Err, inl, inr, arith}
 use Rattle.std.specs.Prelude.{⊤}
 use Rattle.std.proofs.lemmas.Bool.Decides.{nat_tests}
 use Rattle.brace_io.specs.Shelves.{Files}
@@ -26,8 +26,9 @@ use Rattle.brace_check.specs.Programs.{program_of}
 use Rattle.brace_model.specs.declared.program.Program.{Program}
 use Rattle.brace_top.specs.declared.script_fault.ScriptKind.TheVariants as kind
 use Rattle.brace_top.specs.declared.script_fault.ScriptFault.{ScriptFault}
+use Rattle.brace_top.specs.declared.trial.TheConstants.{TRIAL_SCRIPT}
 use Rattle.brace_top.specs.declared.script_fault.ScriptFault.TheVariants.{Refused, NoMemory}
-use Rattle.brace_top.specs.Commands.{Command, Run, Format, Check}
+use Rattle.brace_top.specs.Commands.{Command, Run, Format, Check, Trial}
 use Rattle.brace_top.specs.Scripts.{IsTree, Means, resolved, NoTree, in_tokens, in_grammar, Refuses, without_tree, in_names, in_checks, token_fault, grammar_fault, name_fault, check_fault}
 use Rattle.brace_top.specs.Outcome.{Outcome, Refusal, ComesTo, unloaded, refused_at, stands_for, Follows, followed_by, CommandOutcome, SameMessage, source_of, script_message}
 
@@ -220,25 +221,25 @@ abbrev why : Refusal → Result (List ℕ) Refusal → Refusal
 why other (Ok src) = other
 why other (Err r) = r
 
-one_source : (files : Files) (name src to_ : List ℕ) → source_of files name ≡ Ok src → source_of files name ≡ Ok to_ → to_ ≡ src
-one_source files name src to_ e f = ap bytes_of (sym f ∙ e)
+one_source : (source : Result (List ℕ) Refusal) (src to_ : List ℕ) → source ≡ Ok src → source ≡ Ok to_ → to_ ≡ src
+one_source source src to_ e f = ap bytes_of (sym f ∙ e)
 
-one_why : (files : Files) (name : List ℕ) (r s : Refusal) → source_of files name ≡ Err r → source_of files name ≡ Err s → r ≡ s
-one_why files name r s e f = ap (why r) (sym e ∙ f)
+one_why : (source : Result (List ℕ) Refusal) (r s : Refusal) → source ≡ Err r → source ≡ Err s → r ≡ s
+one_why source r s e f = ap (why r) (sym e ∙ f)
 
-not_both : (files : Files) (name src : List ℕ) (r : Refusal) → source_of files name ≡ Ok src → source_of files name ≡ Err r → ⊥
-not_both files name src r e f = let g : Ok src ≡ Err r = sym e ∙ f in absurd cc
+not_both : (source : Result (List ℕ) Refusal) (src : List ℕ) (r : Refusal) → source ≡ Ok src → source ≡ Err r → ⊥
+not_both source src r e f = let g : Ok src ≡ Err r = sym e ∙ f in absurd cc
 
-module _ {A : Type 0} (means : List ℕ → A → Type 0) (refuses : List ℕ → ScriptFault → Type 0) (decides : Decides means refuses) (files : Files) (name : List ℕ) (next : A → Outcome) where
-  found_agree : (a b : Result A Refusal) → ComesTo means refuses files name a → ComesTo means refuses files name b → Agree (followed_by next a) (followed_by next b)
-  found_agree _ _ (unloaded r e) (unloaded s f) = same _ _ (followed_by next (Err s)) (ap (λ (x : Refusal). followed_by next (Err x)) (one_why files name r s e f)) refl
-  found_agree _ _ (unloaded r e) (refused_at src k at_ f n) = absurd (not_both files name src r f e)
-  found_agree _ _ (unloaded r e) (stands_for src a f m) = absurd (not_both files name src r f e)
-  found_agree _ _ (refused_at src k at_ f n) (unloaded r e) = absurd (not_both files name src r f e)
-  found_agree _ _ (stands_for src a f m) (unloaded r e) = absurd (not_both files name src r f e)
+module _ {A : Type 0} (means : List ℕ → A → Type 0) (refuses : List ℕ → ScriptFault → Type 0) (decides : Decides means refuses) (name : List ℕ) (source : Result (List ℕ) Refusal) (next : A → Outcome) where
+  found_agree : (a b : Result A Refusal) → ComesTo means refuses name source a → ComesTo means refuses name source b → Agree (followed_by next a) (followed_by next b)
+  found_agree _ _ (unloaded r e) (unloaded s f) = same _ _ (followed_by next (Err s)) (ap (λ (x : Refusal). followed_by next (Err x)) (one_why source r s e f)) refl
+  found_agree _ _ (unloaded r e) (refused_at src k at_ f n) = absurd (not_both source src r f e)
+  found_agree _ _ (unloaded r e) (stands_for src a f m) = absurd (not_both source src r f e)
+  found_agree _ _ (refused_at src k at_ f n) (unloaded r e) = absurd (not_both source src r f e)
+  found_agree _ _ (stands_for src a f m) (unloaded r e) = absurd (not_both source src r f e)
   found_agree _ _ (refused_at src k at_ e n) (refused_at to_ l at'_ f m) =
-      let moved = subst (λ (s : List ℕ). refuses s (Refused l at'_)) (one_source files name src to_ e f) m in
-      let from_ : script_message name src l at'_ ≡ script_message name to_ l at'_ = ap (λ (s : List ℕ). script_message name s l at'_) (sym (one_source files name src to_ e f)) in
+      let moved = subst (λ (s : List ℕ). refuses s (Refused l at'_)) (one_source source src to_ e f) m in
+      let from_ : script_message name src l at'_ ≡ script_message name to_ l at'_ = ap (λ (s : List ℕ). script_message name s l at'_) (sym (one_source source src to_ e f)) in
       record {
         status = refl;
         out = refl;
@@ -246,13 +247,13 @@ module _ {A : Type 0} (means : List ℕ → A → Type 0) (refuses : List ℕ �
             (same_message name src (Refused k at_) (Refused l at'_) (decides.alike src (Refused k at_) (Refused l at'_) tt tt n moved));
       }
   found_agree _ _ (refused_at src k at_ e n) (stands_for to_ a f m) =
-      absurd (decides.never src a (Refused k at_) tt (subst (λ (s : List ℕ). means s a) (one_source files name src to_ e f) m) n)
+      absurd (decides.never src a (Refused k at_) tt (subst (λ (s : List ℕ). means s a) (one_source source src to_ e f) m) n)
   found_agree _ _ (stands_for to_ a f m) (refused_at src k at_ e n) =
-      absurd (decides.never src a (Refused k at_) tt (subst (λ (s : List ℕ). means s a) (one_source files name src to_ e f) m) n)
+      absurd (decides.never src a (Refused k at_) tt (subst (λ (s : List ℕ). means s a) (one_source source src to_ e f) m) n)
   found_agree _ _ (stands_for src a e m) (stands_for to_ b f n) =
-      same _ _ (followed_by next (Ok b)) (ap (λ (x : A). followed_by next (Ok x)) (decides.one src a b m (subst (λ (s : List ℕ). means s b) (one_source files name src to_ e f) n))) refl
+      same _ _ (followed_by next (Ok b)) (ap (λ (x : A). followed_by next (Ok x)) (decides.one src a b m (subst (λ (s : List ℕ). means s b) (one_source source src to_ e f) n))) refl
 
-  follows_agree : (o p : Outcome) → Follows (ComesTo means refuses files name) next o → Follows (ComesTo means refuses files name) next p → Agree o p
+  follows_agree : (o p : Outcome) → Follows (ComesTo means refuses name source) next o → Follows (ComesTo means refuses name source) next p → Agree o p
   follows_agree o p f g = rw (f.follows, g.follows) (found_agree f.found g.found f.is g.is)
 
 trees : Decides IsTree NoTree
@@ -263,6 +264,7 @@ programs = record { one = one_program; never = λ src a x t m r. not_refused src
 
 pub commands_agree : (files : Files) (command : Option Command) (o p : Outcome) → CommandOutcome files command o → CommandOutcome files command p → Agree o p
 commands_agree files None o p e f = same o p _ e f
-commands_agree files (Some (Run run)) o p e f = follows_agree Means Refuses programs files run.script _ o p e f
-commands_agree files (Some (Format name)) o p e f = follows_agree IsTree NoTree trees files name _ o p e f
-commands_agree files (Some (Check name)) o p e f = follows_agree Means Refuses programs files name _ o p e f
+commands_agree files (Some (Run run)) o p e f = follows_agree Means Refuses programs run.script (source_of files run.script) _ o p e f
+commands_agree files (Some (Format name)) o p e f = follows_agree IsTree NoTree trees name (source_of files name) _ o p e f
+commands_agree files (Some (Check name)) o p e f = follows_agree Means Refuses programs name (source_of files name) _ o p e f
+commands_agree files (Some (Trial trial)) o p e f = follows_agree Means Refuses programs (codes "trial") (Ok TRIAL_SCRIPT.now) _ o p e f

@@ -1,7 +1,9 @@
--- The words of the command line, and the command that they are.
-use Rattle.std.specs.Prelude.{ℕ, List, [], ◌∷◌, Bool, false, not, ◌&&◌, ◌||◌, ◌==◌, nat_le, bytes_eq, length, codes, if◌then◌else◌, Option, Some, None}
-use Rattle.brace_num.specs.Spelling.{count_of}
-use Rattle.brace_top.specs.declared.limits.TheConstants.{TICKS_LIMIT}
+-- The command that the words of a command line ask for.
+use Rattle.std.specs.Prelude.{ℕ, List, Bool, true, false, not, ◌&&◌, ◌==◌, if◌then◌else◌, Option, Some, None, is_some, option_map, option_and_then, unwrap_or}
+use Rattle.brace_words.specs.declared.line.Line.{Line}
+use Rattle.brace_words.specs.declared.mode.Mode.{Mode}
+use Rattle.brace_words.specs.declared.mode.Mode.TheVariants as mode
+use Rattle.brace_words.specs.Lines.{line_of}
 
 -- a run of a script from the agent file up to a last tick, with the seed of its draws; ticks that
 -- `every` divides are published, and the last one
@@ -12,52 +14,70 @@ pub record RunCommand : Type 0 where
   pub seed : ℕ
   pub every : ℕ
 
--- what the words ask for: a run, the canonical text of a script, or whether a script is accepted
+-- a run of the program's own script from so many made agents up to a last tick, with the seed of
+-- the agents and of the draws
+pub record TrialCommand : Type 0 where
+  pub count : ℕ
+  pub ticks : ℕ
+  pub seed : ℕ
+
+-- what the words ask for: a run, the canonical text of a script, whether a script is accepted, or a
+-- trial
 pub data Command : Type 0 where
   Run : RunCommand → Command
   Format : List ℕ → Command
   Check : List ℕ → Command
+  Trial : TrialCommand → Command
 
--- the name of a command's script
-abbrev pub script_in : Command → List ℕ
-script_in (Run run) = run.script
-script_in (Format name) = name
-script_in (Check name) = name
+-- the name of a command's script; a trial has its own
+abbrev pub script_in : Command → Option (List ℕ)
+script_in (Run run) = Some run.script
+script_in (Format name) = Some name
+script_in (Check name) = Some name
+script_in (Trial trial) = None
 
--- a name is not empty, and begins with `-` only where it is `-` alone
-abbrev pub is_name : List ℕ → Bool
-is_name [] = false
-is_name (c ∷ rest) = not (c == 45) || length rest == 0
+-- the mode is built
+abbrev pub is_built_mode : Mode → Bool
+is_built_mode mode.Resume = false
+is_built_mode mode.Plan = false
+is_built_mode _ = true
 
--- the run up to a last tick, where that is a number within the limit, with the seed 0; each tick is
--- published
-abbrev pub with_ticks : List ℕ → List ℕ → Option ℕ → Option Command
-with_ticks script agents None = None
-with_ticks script agents (Some ticks) =
-    if nat_le ticks TICKS_LIMIT
-    then Some (Run (record {
-      script = script;
-      agents = agents;
-      ticks = ticks;
-      seed = 0;
-      every = 1;
-    }))
-    else None
+-- the line asks for nothing that is not built yet
+abbrev pub built : Line → Bool
+built line =
+    is_built_mode line.mode && (not (is_some line.cuts) && (not (is_some line.order)
+    && (not (is_some line.epoch) && (not (is_some line.save) && (not line.invert
+    && (not line.stats && unwrap_or line.workers 1 == 1))))))
 
--- what a mode asks for of a script alone
-abbrev pub of_script : List ℕ → List ℕ → Option Command
-of_script mode script =
-    if bytes_eq mode (codes "fmt") then Some (Format script)
-    else if bytes_eq mode (codes "check") then Some (Check script) else None
+-- the run that a line asks for, where it names the script, the agent file and the last tick
+abbrev pub run_of : Line → Option (List ℕ) → Option (List ℕ) → Option ℕ → Option Command
+run_of line (Some script) (Some agents) (Some ticks) = Some (Run (record {
+  script = script;
+  agents = agents;
+  ticks = ticks;
+  seed = unwrap_or line.seed 0;
+  every = unwrap_or line.every 1;
+}))
+run_of line _ _ _ = None
 
--- the words are `run --script NAME --agents NAME --ticks N`, `fmt --script NAME` or
--- `check --script NAME`
+-- the trial that a line asks for, where it says how many agents are made, and the last tick
+abbrev pub trial_of : Line → Option ℕ → Option ℕ → Option Command
+trial_of line (Some count) (Some ticks) =
+    Some (Trial (record { count = count; ticks = ticks; seed = unwrap_or line.seed 0 }))
+trial_of line _ _ = None
+
+-- what a line of a mode asks for
+abbrev pub asked : Line → Mode → Option Command
+asked line mode.Run = run_of line line.script line.agents line.ticks
+asked line mode.Fmt = option_map Format line.script
+asked line mode.Check = option_map Check line.script
+asked line mode.Trial = trial_of line line.count line.ticks
+asked line _ = None
+
+-- what a line asks for, where it is built
+abbrev pub command_in : Line → Option Command
+command_in line = if built line then asked line line.mode else None
+
+-- what words ask for, where they are a line
 abbrev pub command_of : List (List ℕ) → Option Command
-command_of (mode ∷ s ∷ script ∷ a ∷ agents ∷ t ∷ ticks ∷ []) =
-    if bytes_eq mode (codes "run")
-    && (bytes_eq s (codes "--script") && (bytes_eq a (codes "--agents")
-    && (bytes_eq t (codes "--ticks") && (is_name script && is_name agents))))
-    then with_ticks script agents (count_of ticks) else None
-command_of (mode ∷ s ∷ script ∷ []) =
-    if bytes_eq s (codes "--script") && is_name script then of_script mode script else None
-command_of _ = None
+command_of words = option_and_then command_in (line_of words)

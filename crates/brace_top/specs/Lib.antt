@@ -5,4 +5,5 @@ pub mod Outcome
 pub mod Places
 pub mod Scripts
 pub mod Status
+pub mod Trials
 pub mod inner

@@ -7,7 +7,7 @@ use Rattle.brace_model.specs.declared.program.Program.{Program}
 use Rattle.brace_model.specs.declared.fault.Fault.{Fault}
 use Rattle.brace_model.specs.declared.job.Job.{Job}
 use Rattle.brace_model.specs.World.{World, world_of}
-use Rattle.brace_model.specs.Run.{first_fault}
+use Rattle.brace_model.specs.Run.{end_of, first_fault}
 use Rattle.brace_model.specs.Published.{published}
 use Rattle.brace_show.specs.Canonical.{canonical}
 use Rattle.brace_syntax.specs.declared.tree.Tree.{Tree}
@@ -15,7 +15,8 @@ use Rattle.brace_top.specs.declared.status.Status.{Status}
 use Rattle.brace_top.specs.declared.status.Status.TheVariants.{Done, Usage, Script, Agents, Absent}
 use Rattle.brace_top.specs.declared.status.Status.TheVariants as ended_by
 use Rattle.brace_top.specs.declared.limits.TheConstants.{SCRIPT_LIMIT, AGENTS_LIMIT}
-use Rattle.brace_top.specs.Commands.{Command, RunCommand, Run, Format, Check, command_of, script_in}
+use Rattle.brace_top.specs.declared.trial.TheConstants.{TRIAL_SCRIPT}
+use Rattle.brace_top.specs.Commands.{Command, RunCommand, TrialCommand, Run, Format, Check, Trial, command_of, script_in}
 use Rattle.brace_top.specs.declared.script_fault.ScriptFault.{ScriptFault}
 use Rattle.brace_top.specs.declared.script_fault.ScriptFault.TheVariants as fault
 use Rattle.brace_top.specs.declared.script_fault.ScriptKind.{ScriptKind}
@@ -23,8 +24,10 @@ use Rattle.brace_top.specs.declared.script_fault.ScriptKind.TheVariants.{NoReadi
 use Rattle.brace_top.specs.Messages.{named_message, placed_message, record_message, script_word, usage_message, fault_message}
 use Rattle.brace_top.specs.Places.{line_number, column_number}
 use Rattle.brace_top.specs.Scripts.{IsTree, Means, NoTree, Refuses}
+use Rattle.brace_top.specs.Trials.{trial_line}
 use Rattle.brace_rows.specs.declared.kinds.RowKind.{RowKind}
 use Rattle.brace_rows.specs.AgentFile as file
+use Rattle.brace_rows.specs.MadeAgents.{made_agents}
 
 -- the status, all of the text on standard output, and the message on standard error
 pub record Outcome : Type 0 where
@@ -63,22 +66,26 @@ script_refusal name src kind at =
 
 -- what the script of a name comes to: what its bytes mean, or why it is refused
 pub data ComesTo {A : Type 0} (means : List ℕ → A → Type 0)
-    (refuses : List ℕ → ScriptFault → Type 0) (files : Files) (name : List ℕ)
+    (refuses : List ℕ → ScriptFault → Type 0) (name : List ℕ) (source : Result (List ℕ) Refusal)
     : Result A Refusal → Type 0 where
-  unloaded : (r : Refusal) → source_of files name ≡ Err r → ComesTo means refuses files name (Err r)
-  refused_at : (src : List ℕ) (kind : ScriptKind) (at : ℕ) → source_of files name ≡ Ok src
+  unloaded : (r : Refusal) → source ≡ Err r → ComesTo means refuses name source (Err r)
+  refused_at : (src : List ℕ) (kind : ScriptKind) (at : ℕ) → source ≡ Ok src
       → refuses src (fault.Refused kind at)
-      → ComesTo means refuses files name (Err (script_refusal name src kind at))
-  stands_for : (src : List ℕ) (a : A) → source_of files name ≡ Ok src → means src a
-      → ComesTo means refuses files name (Ok a)
+      → ComesTo means refuses name source (Err (script_refusal name src kind at))
+  stands_for : (src : List ℕ) (a : A) → source ≡ Ok src → means src a
+      → ComesTo means refuses name source (Ok a)
 
 -- the tree of the script of a name
 abbrev pub TreeOf : Files → List ℕ → Result Tree Refusal → Type 0
-TreeOf files name = ComesTo IsTree NoTree files name
+TreeOf files name = ComesTo IsTree NoTree name (source_of files name)
 
 -- the program of the script of a name
 abbrev pub ProgramOf : Files → List ℕ → Result Program Refusal → Type 0
-ProgramOf files name = ComesTo Means Refuses files name
+ProgramOf files name = ComesTo Means Refuses name (source_of files name)
+
+-- the program of the script of a trial, which is judged as the script of a file named `trial` is
+abbrev pub TrialProgram : Result Program Refusal → Type 0
+TrialProgram = ComesTo Means Refuses (codes "trial") (Ok TRIAL_SCRIPT.now)
 
 -- a world, unless a record of its file is faulty: the number of the first one, and its kind
 abbrev pub unless_faulty : List ℕ → World → Option (ℕ × RowKind) → Result World Refusal
@@ -151,6 +158,27 @@ run_outcome files run program =
     if has_births program then refused (refusal Script run.script (codes ": NotThin"))
     else followed_by (λ start. ran (job_of run program start)) (agents_of files program run.agents)
 
+-- the job of a trial from tick 0, over made agents
+abbrev pub trial_job : TrialCommand → Program → Job
+trial_job trial program = record {
+  program = program;
+  seed = trial.seed;
+  first = 0;
+  last = trial.ticks;
+  every = 1;
+  start = world_of (made_agents trial.seed trial.count);
+}
+
+-- the outcome of a trial: the line of its last world, or its first fault with no text
+abbrev pub trial_end : TrialCommand → Program → Result World Fault → Outcome
+trial_end trial program (Ok world) =
+    shown (trial_line trial.count trial.ticks program world.agents)
+trial_end trial program (Err f) = ended [] (Some f)
+
+-- the outcome of a trial of a program
+abbrev pub trial_outcome : TrialCommand → Program → Outcome
+trial_outcome trial program = trial_end trial program (end_of (trial_job trial program))
+
 -- an outcome of what follows on one of the things that a script comes to
 pub record Follows {A : Type 0} (comes_to : Result A Refusal → Type 0) (next : A → Outcome)
     (o : Outcome) : Type 0 where
@@ -167,6 +195,7 @@ CommandOutcome files (Some (Format name)) o =
     Follows (TreeOf files name) (λ tree. shown (canonical tree)) o
 CommandOutcome files (Some (Check name)) o =
     Follows (ProgramOf files name) (λ program. shown []) o
+CommandOutcome files (Some (Trial trial)) o = Follows TrialProgram (trial_outcome trial) o
 
 -- an outcome of words over the files that a shelf holds
 abbrev pub HasOutcome : List (List ℕ) → Files → Outcome → Type 0
@@ -188,6 +217,7 @@ SameMessage a b = (a ≡ b) ⊎ AreNoReadings a b
 -- a command reads the file of this name where every file before it is accepted: its script, then
 -- the agents of a run
 pub data Reads (files : Files) : Option Command → List ℕ → Type 0 where
-  reads_script : (command : Command) → Reads files (Some command) (script_in command)
+  reads_script : (command : Command) (name : List ℕ) → script_in command ≡ Some name
+      → Reads files (Some command) name
   reads_agents : (run : RunCommand) (program : Program) → ProgramOf files run.script (Ok program)
       → has_births program ≡ false → Reads files (Some (Run run)) run.agents

@@ -1,17 +1,28 @@
-ghost use Rattle.std.specs.Prelude.{◌≡◌, ◌↔◌, map, string_bytes, IfSome, IsSome, None, true, false};
+ghost use Rattle.std.specs.Prelude.{◌≡◌, ◌⊎◌, map, string_bytes, IfSome, IsSome, None, true, false};
 ghost use Rattle.brace_io.specs.Shelves.{Idle, writes};
-ghost use Rattle.brace_top.specs.Answer.{IsAnswered, call_of, CountsReads, CountsWrites, shelf_call, sink_call};
+ghost use Rattle.brace_top.specs.Answer.{IsAnswered, IsSaid, call_of, CountsReads, CountsWrites, shelf_call, sink_call};
 ghost use Rattle.brace_top.specs.Commands.{command_of};
+ghost use Rattle.brace_top.specs.Messages.{usage_message};
 ghost use Rattle.brace_top.specs.Status.{has_run, is_refusal, status_of, code_of};
 
-use crate::answer::{say, tell};
+use crate::answer::{Stopped, say, tell};
 use crate::flow::answer_command;
 use crate::status::Status;
-use crate::words::read_command;
+use crate::words::command_in;
 use brace_io::{Gate, Shelf, Sink};
+use brace_words::{LineFault, read_line};
 use std::alloc::Global;
 use std::sync::Wait;
 use std::thread::Threads;
+
+/// Says that the words are no command.
+fn say_usage<E: Sink>(err: &mut E) -> Status
+    ensures status { result ≡ Status.Usage }
+    ensures said { IsSaid (sink_call E.Sink err.old err.new) usage_message }
+{
+    tell(err, b"brace: usage\n");
+    Status::Usage
+}
 
 /// Carries a command out, and says its message.
 fn carry_out<S: Shelf, O: Sink, E: Sink>(
@@ -25,7 +36,9 @@ fn carry_out<S: Shelf, O: Sink, E: Sink>(
     ensures answered { IsAnswered (call_of (map string_bytes words.now) result
         (shelf_call S.Shelf shelf.old shelf.new) (sink_call O.Sink out.old out.new)
         (sink_call E.Sink err.old err.new)) }
-    ensures usage { (result ≡ Status.Usage) ↔ (command_of (map string_bytes words.now) ≡ None) }
+    ensures usage { result ≡ Status.Usage → command_of (map string_bytes words.now) ≡ None }
+    ensures no_command { command_of (map string_bytes words.now) ≡ None
+        → (result ≡ Status.Usage) ⊎ (result ≡ Status.NoMemory) }
     ensures reads { CountsReads (shelf_call S.Shelf shelf.old shelf.new) result }
     ensures writes { CountsWrites (sink_call O.Sink out.old out.new) result }
     ensures untouched { is_refusal result ≡ true → out.new ≡ out.old }
@@ -34,11 +47,13 @@ fn carry_out<S: Shelf, O: Sink, E: Sink>(
     ensures held { S.held shelf.new ≡ S.held shelf.old }
     ensures not_writing { writes (S.stage shelf.new) ≡ false }
 {
-    match read_command(words) {
-        None => {
-            tell(err, b"brace: usage\n");
-            Status::Usage
-        }
+    let line = match read_line(alloc, words) {
+        Ok(line) => line,
+        Err(LineFault::Usage) => return say_usage(err),
+        Err(LineFault::NoMemory) => return say(err, Err(Stopped::NoMemory)),
+    };
+    match command_in(&line) {
+        None => say_usage(err),
         Some(command) => say(err, answer_command(alloc, &command, shelf, out)),
     }
 }
@@ -49,7 +64,7 @@ fn carry_out<S: Shelf, O: Sink, E: Sink>(
 /// | Status | When it comes |
 /// |---|---|
 /// | 0 | all was written |
-/// | 2 | the words are no line |
+/// | 2 | the words are no line, or ask for what is not [`built`](crate::built) yet |
 /// | 3, 4 | the script, the agent file is refused |
 /// | 7 | the run ended in a fault before its last tick |
 /// | 8 | a read failed |
@@ -74,7 +89,9 @@ pub fn run_alone<S: Shelf, O: Sink, E: Sink>(
         (status_of code) (shelf_call S.Shelf shelf.old shelf.new)
         (sink_call O.Sink out.old out.new) (sink_call E.Sink err.old err.new))) }
     ensures usage { IfSome result
-        (λ code. (code ≡ 2) ↔ (command_of (map string_bytes words.now) ≡ None)) }
+        (λ code. code ≡ 2 → command_of (map string_bytes words.now) ≡ None) }
+    ensures no_command { command_of (map string_bytes words.now) ≡ None
+        → IfSome result (λ code. (code ≡ 2) ⊎ (code ≡ 11)) }
     ensures reads { IfSome result
         (λ code. CountsReads (shelf_call S.Shelf shelf.old shelf.new) (status_of code)) }
     ensures writes { IfSome result
@@ -106,7 +123,9 @@ pub fn run<R: Threads + Wait + Sync, S: Shelf + Send, O: Sink + Send, E: Sink, G
     ensures answered { IsAnswered (call_of (map string_bytes words.now) (status_of result)
         (shelf_call S.Shelf shelf.old shelf.new) (sink_call O.Sink out.old out.new)
         (sink_call E.Sink err.old err.new)) }
-    ensures usage { (result ≡ 2) ↔ (command_of (map string_bytes words.now) ≡ None) }
+    ensures usage { result ≡ 2 → command_of (map string_bytes words.now) ≡ None }
+    ensures no_command { command_of (map string_bytes words.now) ≡ None
+        → (result ≡ 2) ⊎ (result ≡ 11) }
     ensures reads { CountsReads (shelf_call S.Shelf shelf.old shelf.new) (status_of result) }
     ensures writes { CountsWrites (sink_call O.Sink out.old out.new) (status_of result) }
     ensures untouched { is_refusal (status_of result) ≡ true → out.new ≡ out.old }

@@ -1,20 +1,22 @@
 //! How each command is carried out.
-ghost use Rattle.std.specs.Prelude.{◌≡◌, ◌≤◌, ◌^◌, IfOk, IfErr, true, false};
+ghost use Rattle.std.specs.Prelude.{◌≡◌, ◌≤◌, ◌^◌, [], Some, IfOk, IfErr, true, false};
 ghost use Rattle.brace_io.specs.Shelves.{writes};
 ghost use Rattle.brace_model.specs.Lawful.{LawfulProgram};
 ghost use Rattle.brace_top.specs.Answer.{sink_call};
 ghost use Rattle.brace_top.specs.Commands as asked;
-ghost use Rattle.brace_top.specs.Outcome.{has_births, shown, end_status, end_message, ran, job_of};
+ghost use Rattle.brace_model.specs.Run.{end_of};
+ghost use Rattle.brace_top.specs.Outcome.{has_births, shown, ended, end_status, end_message, ran, job_of, trial_end};
 ghost use Rattle.brace_top.specs.Status.{has_run};
 ghost use Rattle.brace_top.specs.inner.Settled.{IsCarriedOut, IsServed, is_work, status_in, message_in};
-ghost use Rattle.brace_top.specs.inner.Words.{said, said_run, IsInRange, IsRunInRange};
+ghost use Rattle.brace_top.specs.inner.Words.{said, said_run, said_trial, IsInRange, IsRunInRange, IsTrialInRange};
 
 use crate::answer::{Answer, Stopped, refuse_file};
 use crate::job::run_ticks;
-use crate::load::{load_program, load_tree, load_world};
+use crate::load::{load_program, load_tree, load_trial, load_world};
 use crate::messages::fault_message;
 use crate::status::Status;
-use crate::words::{Command, RunCommand};
+use crate::trial::{end_of, trial_job, trial_line};
+use crate::words::{Command, RunCommand, TrialCommand};
 use brace_io::{Shelf, Sink, write_whole};
 use brace_model::{Fault, Job, Program, World};
 use brace_show::show;
@@ -151,6 +153,59 @@ fn check_script<S: Shelf, O: Sink>(
     write_text(alloc, b"", out)
 }
 
+/// Ends a run that published nothing in its fault.
+fn end_in_fault<O: Sink>(alloc: Global, fault: Fault, out: &mut O) -> Result<Answer, Stopped>
+    ensures carried_out { IsCarriedOut (λ o. o ≡ ended [] (Some fault))
+        (sink_call O.Sink out.old out.new) (message_in result) (status_in result) }
+    ensures work { is_work (status_in result) ≡ true }
+    ensures clean { has_run (status_in result) ≡ true → O.clean out.new ≡ true }
+{
+    out.flush()?;
+    ended(alloc, Some(fault))
+}
+
+/// Runs the job of a trial, and writes the line of its last world.
+fn end_trial<O: Sink>(
+    alloc: Global,
+    trial: &TrialCommand,
+    job: &Job,
+    out: &mut O,
+) -> Result<Answer, Stopped>
+    requires lawful { LawfulProgram job.now.program }
+    requires fresh { job.now.first ≡ 0 }
+    requires ticks { job.now.last ≤ 2 ^ 32 }
+    ensures carried_out { IsCarriedOut
+        (λ o. o ≡ trial_end (said_trial trial.now) job.now.program (end_of job.now))
+        (sink_call O.Sink out.old out.new) (message_in result) (status_in result) }
+    ensures work { is_work (status_in result) ≡ true }
+    ensures clean { has_run (status_in result) ≡ true → O.clean out.new ≡ true }
+{
+    let end = end_of(alloc, job)?;
+    match end {
+        Ok(world) => {
+            let line = trial_line(alloc, trial, &job.program, world.agents())?;
+            write_text(alloc, line.as_slice(), out)
+        }
+        Err(fault) => end_in_fault(alloc, fault, out),
+    }
+}
+
+/// Runs the program's own script over made agents; no file is read.
+fn run_trial<S: Shelf, O: Sink>(
+    alloc: Global,
+    trial: &TrialCommand,
+    shelf: &S,
+    out: &mut O,
+) -> Result<Answer, Stopped>
+    requires { IsTrialInRange trial.now }
+    ensures { IsServed S.Shelf O.Sink (asked.Trial (said_trial trial.now))
+        shelf.now shelf.now out.old out.new result }
+{
+    let program = load_trial(alloc)?;
+    let job = trial_job(alloc, trial, program)?;
+    end_trial(alloc, trial, &job, out)
+}
+
 /// Carries a command out.
 pub fn answer_command<S: Shelf, O: Sink>(
     alloc: Global,
@@ -169,5 +224,6 @@ pub fn answer_command<S: Shelf, O: Sink>(
         Command::Run(run) => run_script(alloc, run, shelf, out),
         Command::Format(name) => format_script(alloc, name, shelf, out),
         Command::Check(name) => check_script(alloc, name, shelf, out),
+        Command::Trial(trial) => run_trial(alloc, trial, shelf, out),
     }
 }

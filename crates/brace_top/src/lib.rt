@@ -13,9 +13,11 @@ mod places;
 mod script;
 mod script_fault;
 mod status;
+mod trial;
 mod words;
 
 pub use command::{run, run_alone};
+pub use words::built;
 
 #[cfg(test)]
 mod tests;

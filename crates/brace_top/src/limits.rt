@@ -3,6 +3,3 @@ pub const SCRIPT_LIMIT: u64 = 1_048_576;
 
 /// The most bytes of an agent file.
 pub const AGENTS_LIMIT: u64 = 268_435_456;
-
-/// The greatest last tick of a run.
-pub const TICKS_LIMIT: u64 = 4_294_967_296;

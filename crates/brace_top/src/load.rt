@@ -1,11 +1,11 @@
 //! What the named files of a command come to.
-ghost use Rattle.std.specs.Prelude.{◌≡◌, ◌≤◌, length, Some, IfOk, MatchResult, true, false};
+ghost use Rattle.std.specs.Prelude.{◌≡◌, ◌≤◌, codes, length, Some, IfOk, IfErr, MatchResult, true, false};
 ghost use Rattle.brace_io.specs.Shelves.{writes};
 ghost use Rattle.brace_model.specs.Lawful.{LawfulProgram};
-ghost use Rattle.brace_top.specs.Answer.{shelf_call};
-ghost use Rattle.brace_top.specs.Outcome.{loaded, source_of, agents_of, TreeOf, ProgramOf};
+ghost use Rattle.brace_top.specs.Answer.{ShelfCall, shelf_call};
+ghost use Rattle.brace_top.specs.Outcome.{loaded, source_of, agents_of, TreeOf, ProgramOf, TrialProgram};
 ghost use Rattle.brace_top.specs.declared.limits.TheConstants.{SCRIPT_LIMIT};
-ghost use Rattle.brace_top.specs.inner.Settled.{IsLoaded, IsUnloaded, IsScriptRefused, IsRecordRefused, refuses_file};
+ghost use Rattle.brace_top.specs.inner.Settled.{IsLoaded, IsUnloaded, IsScriptRefused, IsRecordRefused, refuses_file, stopped_status};
 
 use crate::answer::{Stopped, refuse, refuse_file};
 use crate::limits::{AGENTS_LIMIT, SCRIPT_LIMIT};
@@ -14,6 +14,7 @@ use crate::places::{column_number, line_number};
 use crate::script::{read_program, read_tree};
 use crate::script_fault::ScriptFault;
 use crate::status::Status;
+use crate::trial::TRIAL_SCRIPT;
 use brace_io::{Shelf, WholeFault, read_whole};
 use brace_model::{Program, World};
 use brace_rows::{RowFault, read_agents};
@@ -112,6 +113,20 @@ pub fn load_program<S: Shelf>(alloc: Global, shelf: &mut S, name: &str) -> Resul
     match read_program(alloc, src.as_slice()) {
         Ok(program) => Ok(program),
         Err(fault) => Err(refuse_script(alloc, name, src.as_slice(), fault)),
+    }
+}
+
+/// The program of the script of a trial.
+pub fn load_trial(alloc: Global) -> Result<Program, Stopped>
+    ensures loads { (shelf : ShelfCall) → shelf.faults_after ≡ shelf.faults_before
+        → MatchResult result (IsLoaded (λ files. TrialProgram) shelf)
+        (IsUnloaded (λ files. TrialProgram) (codes "trial") shelf) }
+    ensures unread { IfErr result (λ stopped. stopped_status stopped ≡ Status.ReadFault → ⊥) }
+    ensures lawful { IfOk result LawfulProgram }
+{
+    match read_program(alloc, TRIAL_SCRIPT) {
+        Ok(program) => Ok(program),
+        Err(fault) => Err(refuse_script(alloc, "trial", TRIAL_SCRIPT, fault)),
     }
 }
 

@@ -72,6 +72,9 @@ const FORMAT: &str = "fmt --script s";
 
 const CHECK: &str = "check --script s";
 
+const PUBLISHED: &str =
+    "0,P,7,0.000000,0.000000\n3,P,7,4.500000,0.000000\n4,P,7,6.000000,0.000000\n";
+
 /// A command over a script and an agent file, and its status, its text and its message.
 type Case = (
     &'static str,
@@ -82,9 +85,33 @@ type Case = (
     &'static str,
 );
 
-const RUNS: [Case; 20] = [
+const RUNS: [Case; 23] = [
     (RUN, STEPS, AGENT, 0, ROWS, ""),
     (RUN, STEPS, "", 0, "", ""),
+    (
+        "run --script s --agents a --ticks 0",
+        STEPS,
+        "\"P\",7,0,0\r\n",
+        0,
+        "0,P,7,0.000000,0.000000\n",
+        "",
+    ),
+    (
+        "--every 3 --ticks=4 run --agents a --script s",
+        STEPS,
+        AGENT,
+        0,
+        PUBLISHED,
+        "",
+    ),
+    (
+        "run --script s --agents a --ticks 4 --every 3 --seed 18446744073709551615",
+        STEPS,
+        AGENT,
+        0,
+        PUBLISHED,
+        "",
+    ),
     (
         RUN_ONCE,
         CLAMPED,
@@ -217,7 +244,53 @@ const RUNS: [Case; 20] = [
     ),
 ];
 
-const REFUSALS: [Case; 16] = [
+/// Commands over no file that is read.
+const TRIALS: [Case; 7] = [
+    (
+        "trial --count 1 --ticks 0",
+        "",
+        "",
+        0,
+        "trial agents 1 ticks 0 x 236067972 y 278566908\n",
+        "",
+    ),
+    (
+        "trial --count 0 --ticks 20",
+        "",
+        "",
+        0,
+        "trial agents 0 ticks 20 x 0 y 0\n",
+        "",
+    ),
+    (
+        "trial --count 0 --ticks 0 --seed 7",
+        "",
+        "",
+        0,
+        "trial agents 0 ticks 0 x 0 y 0\n",
+        "",
+    ),
+    ("trial --ticks 20", "", "", 2, "", "brace: usage\n"),
+    (
+        "trial --count 1 --ticks 0 --workers 2",
+        "",
+        "",
+        2,
+        "",
+        "brace: usage\n",
+    ),
+    (
+        "trial --count 1 --ticks 0 --workers 1 --stats",
+        "",
+        "",
+        2,
+        "",
+        "brace: usage\n",
+    ),
+    ("plan --script s", STEPS, "", 2, "", "brace: usage\n"),
+];
+
+const REFUSALS: [Case; 20] = [
     (FORMAT, STEPS, "", 0, STEPS_SHOWN, ""),
     (FORMAT, SPREAD, "", 0, STEPS_SHOWN, ""),
     (FORMAT, STEPS_SHOWN, "", 0, STEPS_SHOWN, ""),
@@ -283,6 +356,31 @@ const REFUSALS: [Case; 16] = [
         "brace: s:1:109: ReadsEffectInQuery\n",
     ),
     ("check", STEPS, "", 2, "", "brace: usage\n"),
+    ("", STEPS, "", 2, "", "brace: usage\n"),
+    (
+        "run --script s --agents a --ticks 2 --cuts k",
+        STEPS,
+        AGENT,
+        2,
+        "",
+        "brace: usage\n",
+    ),
+    (
+        "run --script s --agents a --ticks 2 --ticks 3",
+        STEPS,
+        AGENT,
+        2,
+        "",
+        "brace: usage\n",
+    ),
+    (
+        "run --script s --agents a --ticks 4294967297",
+        STEPS,
+        AGENT,
+        2,
+        "",
+        "brace: usage\n",
+    ),
 ];
 
 /// The words of a text, parted by spaces.
@@ -315,7 +413,7 @@ fn ended(
 #[test]
 fn answers_commands(rt: HostRuntime) -> Result<(), Fail> {
     let alloc = rt.alloc();
-    for cases in [RUNS.as_slice(), REFUSALS.as_slice()] {
+    for cases in [RUNS.as_slice(), REFUSALS.as_slice(), TRIALS.as_slice()] {
         for (words, script, agents, wanted, text, message) in cases {
             let files = (*words, script.as_bytes(), *agents);
             let (status, out, err) = ended(alloc, files, Vec::new(alloc), Vec::new(alloc))?;

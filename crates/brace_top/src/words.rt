@@ -1,12 +1,11 @@
-ghost use Rattle.std.specs.Prelude.{◌≡◌, map, string_bytes, MatchOption, IfSome, None, Some, ◌≤◌, ◌^◌, ◌∷◌, [], List};
-ghost use Rattle.brace_num.specs.Spelling.{count_of};
-ghost use Rattle.brace_top.specs.Commands.{command_of, with_ticks, of_script, is_name};
+ghost use Rattle.std.specs.Prelude.{◌≡◌, MatchOption, IfSome, None, Some};
+ghost use Rattle.brace_words.specs.Lines as lines;
+ghost use Rattle.brace_top.specs.Commands.{built, command_in, run_of, trial_of};
 ghost use Rattle.brace_top.specs.inner.Words.{said, IsInRange};
 
-use crate::limits::TICKS_LIMIT;
-use brace_num::read_count;
+use brace_words::{Line, Mode};
 
-/// A run from an agent file up to a last tick, at most [`TICKS_LIMIT`].
+/// A run from an agent file up to a last tick, at most 2^32.
 #[derive(Debug, Clone, Copy)]
 pub struct RunCommand<'a> {
     pub script: &'a str,
@@ -18,6 +17,16 @@ pub struct RunCommand<'a> {
     pub every: u64,
 }
 
+/// A run of the program's own script up to a last tick, at most 2^32.
+#[derive(Debug, Clone, Copy)]
+pub struct TrialCommand {
+    /// How many agents are made, at most 2^20.
+    pub count: u32,
+    pub ticks: u64,
+    /// The seed of the agents and of all draws.
+    pub seed: u64,
+}
+
 /// What the words of a command ask for.
 #[derive(Debug, Clone, Copy)]
 pub enum Command<'a> {
@@ -27,81 +36,74 @@ pub enum Command<'a> {
     Format(&'a str),
     /// Whether the script of this name is accepted.
     Check(&'a str),
+    /// A trial.
+    Trial(TrialCommand),
 }
 
-/// Whether a word may name a file.
-fn is_name(word: &str) -> bool
-    ensures { result ≡ is_name word.now }
+/// Whether a line asks for nothing that is not built yet.
+///
+/// Not built are the modes `resume` and `plan`, more workers than one, and the options `--cuts`,
+/// `--order`, `--epoch`, `--save`, `--invert` and `--stats`.
+pub fn built(line: &Line) -> bool
+    ensures { result ≡ built line.now }
 {
-    match word.as_bytes() {
-        [] => false,
-        [b'-', rest @ ..] => rest.is_empty(),
-        _ => true,
-    }
+    !matches!(line.mode, Mode::Resume | Mode::Plan)
+        && line.cuts.is_none()
+        && line.order.is_none()
+        && line.epoch.is_none()
+        && line.save.is_none()
+        && !line.invert
+        && !line.stats
+        && line.workers.unwrap_or(1) == 1
 }
 
-/// The run up to a last tick that a word spells, within the limit.
-fn read_run<'a>(script: &'a str, agents: &'a str, ticks: &[u8]) -> Option<Command<'a>>
+/// The run that a line asks for, where it names the script, the agent file and the last tick.
+fn run_of(line: &Line) -> Option<Command<'_>>
+    requires { lines.IsInRange line.now }
     ensures command { MatchOption result
-        (with_ticks script.now agents.now (count_of ticks.now) ≡ None)
-        (λ command. with_ticks script.now agents.now (count_of ticks.now) ≡ Some (said command)) }
+        (run_of line.now line.now.script line.now.agents line.now.ticks ≡ None)
+        (λ command. run_of line.now line.now.script line.now.agents line.now.ticks
+        ≡ Some (said command)) }
     ensures range { IfSome result IsInRange }
 {
-    let ticks = read_count(ticks)?;
-    if ticks > TICKS_LIMIT {
-        return None;
-    }
     Some(Command::Run(RunCommand {
-        script,
-        agents,
-        ticks,
-        seed: 0,
-        every: 1,
+        script: line.script.as_ref()?.as_str(),
+        agents: line.agents.as_ref()?.as_str(),
+        ticks: line.ticks?,
+        seed: line.seed.unwrap_or(0),
+        every: line.every.unwrap_or(1),
     }))
 }
 
-/// What a mode asks for of a script alone.
-fn of_script<'a>(mode: &str, script: &'a str) -> Option<Command<'a>>
-    ensures command { MatchOption result (of_script mode.now script.now ≡ None)
-        (λ command. of_script mode.now script.now ≡ Some (said command)) }
+/// The trial that a line asks for, where it says how many agents are made, and the last tick.
+fn trial_of(line: &Line) -> Option<Command<'_>>
+    requires { lines.IsInRange line.now }
+    ensures command { MatchOption result (trial_of line.now line.now.count line.now.ticks ≡ None)
+        (λ command. trial_of line.now line.now.count line.now.ticks ≡ Some (said command)) }
     ensures range { IfSome result IsInRange }
 {
-    if mode == "fmt" {
-        Some(Command::Format(script))
-    } else if mode == "check" {
-        Some(Command::Check(script))
-    } else {
-        None
-    }
+    Some(Command::Trial(TrialCommand {
+        count: line.count?,
+        ticks: line.ticks?,
+        seed: line.seed.unwrap_or(0),
+    }))
 }
 
-/// The command that the words are, or None where they are none.
-pub fn read_command(words: &[String]) -> Option<Command<'_>>
-    ensures command { MatchOption result (command_of (map string_bytes words.now) ≡ None)
-        (λ command. command_of (map string_bytes words.now) ≡ Some (said command)) }
+/// The command that a line asks for, or None where it is not built yet.
+pub fn command_in(line: &Line) -> Option<Command<'_>>
+    requires { lines.IsInRange line.now }
+    ensures command { MatchOption result (command_in line.now ≡ None)
+        (λ command. command_in line.now ≡ Some (said command)) }
     ensures range { IfSome result IsInRange }
 {
-    match words {
-        [mode, s, script, a, agents, t, ticks] => {
-            if mode.as_str() != "run"
-                || s.as_str() != "--script"
-                || a.as_str() != "--agents"
-                || t.as_str() != "--ticks"
-            {
-                return None;
-            }
-            let (script, agents) = (script.as_str(), agents.as_str());
-            if !is_name(script) || !is_name(agents) {
-                return None;
-            }
-            read_run(script, agents, ticks.as_bytes())
-        }
-        [mode, s, script] => {
-            if s.as_str() != "--script" || !is_name(script.as_str()) {
-                return None;
-            }
-            of_script(mode.as_str(), script.as_str())
-        }
-        _ => None,
+    if !built(line) {
+        return None;
+    }
+    match line.mode {
+        Mode::Run => run_of(line),
+        Mode::Fmt => Some(Command::Format(line.script.as_ref()?.as_str())),
+        Mode::Check => Some(Command::Check(line.script.as_ref()?.as_str())),
+        Mode::Trial => trial_of(line),
+        Mode::Resume | Mode::Plan => None,
     }
 }

@@ -10,7 +10,7 @@ pub returns-in_err-_program-clause-served : goal.returns-in_err-_program-clause-
 returns-in_err-_program-clause-served g c =
     let p = err_from_is_err_and c.from_residual.result c.from_residual.ensures.1 in
     rw (p.1, p.2) (stopped_serves g.S.Shelf g.O.Sink (Check c.args.name.now) _ _ _ (λ files. ProgramOf files c.args.name.now) c.args.name.now _
-    (λ files told. reads_script _) (λ files r told is. record { found = Err r; is = is; follows = refl }) c.in_err-_program.ensures.loads)
+    (λ files told. reads_script _ _ refl) (λ files r told is. record { found = Err r; is = is; follows = refl }) c.in_err-_program.ensures.loads)
 
 pub returns-clause-served : goal.returns-clause-served
 returns-clause-served g c =

@@ -15,7 +15,7 @@ returns-in_err-program-clause-served g c =
     let run = said_run c.args.run.now in
     let p = err_from_is_err_and c.from_residual.result c.from_residual.ensures.1 in
     rw (p.1, p.2) (stopped_serves g.S.Shelf g.O.Sink (Run run) _ _ _ (λ files. ProgramOf files run.script) run.script _
-    (λ files told. reads_script _) (λ files r told is. record { found = Err r; is = is; follows = refl }) c.in_err-program.ensures.loads)
+    (λ files told. reads_script _ _ refl) (λ files r told is. record { found = Err r; is = is; follows = refl }) c.in_err-program.ensures.loads)
 
 pub returns-then-has_births-clause-served : goal.returns-then-has_births-clause-served
 returns-then-has_births-clause-served g c =
@@ -23,7 +23,7 @@ returns-then-has_births-clause-served g c =
     let program = c.in_ok-program.program in
     let turned_down : Files → Result Program Refusal → Type 0 = λ files found. CommandOutcome files (Some (Run run)) (followed_by (λ p. shown []) found) in
     stopped_serves g.S.Shelf g.O.Sink (Run run) _ _ _ turned_down run.script _
-    (λ files told. reads_script _) (λ files r told is. is)
+    (λ files told. reads_script _ _ refl) (λ files r told is. is)
     (refusal_unloads turned_down run.script _ Script _ _ refl c.in_ok-program.ensures.loads.counts c.refuse_file.ensures
     (λ files told. record { found = Ok program; is = c.in_ok-program.ensures.loads.found files told; follows = births_refused files run program (sym c.has_births.ensures ∙ c.if-has_births.true) }))
 

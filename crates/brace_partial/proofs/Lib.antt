@@ -1,0 +1,4 @@
+pub mod Entries
+pub mod Walks
+pub mod Groups
+pub mod Said
