@@ -1,6 +1,6 @@
 -- The continued worlds of a run: where an update faults, the agent stays as it is and has no child,
--- so that a part that is far from a fault may go on. Up to the run's first fault they are the worlds
--- of the run.
+-- so that a part that is far from a fault may go on. Up to the run's first fault they are the
+-- worlds of the run.
 use Rattle.std.specs.Prelude.{ℕ, zero, suc, ◌+◌, ◌-◌, ℤ, List, [], ◌∷◌, ◌++◌, map, filter_map, zip, take, length, Option, Some, None, option_map, unwrap_or, Result, Ok, Err, if◌then◌else◌}
 use Rattle.std.specs.List.{find, range_with_len}
 use Rattle.std.specs.Result.{result_err}

@@ -81,7 +81,8 @@ shares_from n id (e ∷ effects) sayings =
   where
     share_unless_silent : List Value → List Share
     share_unless_silent [] = []
-    share_unless_silent values = record { target = id; field = n; total = tally_of e.comb values } ∷ []
+    share_unless_silent values =
+        record { target = id; field = n; total = tally_of e.comb values } ∷ []
 
 -- what the agents of a part say to those of another
 abbrev pub shares : Setting → ℕ → ℕ → ℕ → List Agent → List Share

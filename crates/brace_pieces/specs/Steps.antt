@@ -99,4 +99,7 @@ abbrev pub schedule : Setting → Schedule
 schedule s =
     let actors = parts s + 1 in
     let pairs = pairs_below actors in
-    record { actors = actors; steps = map (λ at. filter (λ m. meet s at m.from m.to) pairs) (steps s) }
+    record {
+      actors = actors;
+      steps = map (λ at. filter (λ m. meet s at m.from m.to) pairs) (steps s);
+    }

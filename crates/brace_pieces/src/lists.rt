@@ -89,7 +89,8 @@ fn near_to(
     range: i64,
     agents: &[Agent],
 ) -> Result<List<Agent>, NoMemory>
-    ensures { IfOk result (λ found. found ≡ filter (is_near program.now area.now range) agents.now) }
+    ensures { IfOk result (λ found. found
+        ≡ filter (is_near program.now area.now range) agents.now) }
 {
     let mut found = List::new(alloc);
     for a in agents {
@@ -113,7 +114,8 @@ pub fn border_of(
     requires plan { IsPlan setting.now.epoch setting.now.cuts }
     requires is_part { to < parts setting.now }
     ensures near { IfOk result (λ found. found
-        ≡ held setting.now.job.program (cuts_of setting.now tick) (range setting.now) to agents.now) }
+        ≡ held setting.now.job.program (cuts_of setting.now tick) (range setting.now) to
+        agents.now) }
 {
     let area = setting.cuts.cuts_at(tick).area(to);
     let range = range(&setting.job.program, setting.invert);

@@ -1,3 +1,7 @@
+ghost use Rattle.std.specs.Prelude.{◌≡◌};
+ghost use Rattle.brace_cuts.specs.CutPlans.{IsPlan};
+ghost use Rattle.brace_pieces.specs.Settings.{parts};
+
 use brace_cuts::CutPlan;
 use brace_model::Job;
 
@@ -12,6 +16,16 @@ pub struct Setting {
     pub epoch: u64,
     /// Whether values are said by the owners of those to whom they are said.
     pub invert: bool,
+}
+
+impl Setting {
+    /// How many parts the plane has, in every tick.
+    pub fn parts(&self) -> u32
+        requires { IsPlan self.now.epoch self.now.cuts }
+        ensures { result ≡ parts self.now }
+    {
+        self.cuts.cuts_at(self.job.first).parts()
+    }
 }
 
 /// What is done in a step, in the order of a tick.

@@ -116,14 +116,56 @@ type Case<'a> = (&'a str, u64, u32, &'a [i64], &'a str, &'a str);
 
 const CASES: [Case; 7] = [
     // An agent on the cut belongs to its higher side; one exactly 2.0 away is shown.
-    ("at 0 x 2.0 y\n", 0, 1, &[0, -1, 2_000_000, 2_000_001], "0 2 3 ", "2 3 "),
-    ("at 0 x 2.0 y\n", 0, 0, &[0, 1_999_999, 2_000_000, 4_000_000], "0 1 2 ", "0 1 "),
+    (
+        "at 0 x 2.0 y\n",
+        0,
+        1,
+        &[0, -1, 2_000_000, 2_000_001],
+        "0 2 3 ",
+        "2 3 ",
+    ),
+    (
+        "at 0 x 2.0 y\n",
+        0,
+        0,
+        &[0, 1_999_999, 2_000_000, 4_000_000],
+        "0 1 2 ",
+        "0 1 ",
+    ),
     // Grid points on both sides of a cut are one millionth apart.
-    ("at 0 x 2.0 y\n", 0, 0, &[3_999_999, 4_000_000, 2_000_000], "0 2 ", ""),
+    (
+        "at 0 x 2.0 y\n",
+        0,
+        0,
+        &[3_999_999, 4_000_000, 2_000_000],
+        "0 2 ",
+        "",
+    ),
     // Other cuts hold from tick 2 on.
-    ("at 0 x 1 y\nat 2 x -1 y\n", 1, 0, &[0, -1_000_000], "0 1 ", "0 1 "),
-    ("at 0 x 1 y\nat 2 x -1 y\n", 2, 0, &[0, -1_000_000], "0 1 ", ""),
-    ("at 0 x 1 y\nat 2 x -1 y\n", 3, 1, &[0, -1_000_000], "0 1 ", "0 1 "),
+    (
+        "at 0 x 1 y\nat 2 x -1 y\n",
+        1,
+        0,
+        &[0, -1_000_000],
+        "0 1 ",
+        "0 1 ",
+    ),
+    (
+        "at 0 x 1 y\nat 2 x -1 y\n",
+        2,
+        0,
+        &[0, -1_000_000],
+        "0 1 ",
+        "",
+    ),
+    (
+        "at 0 x 1 y\nat 2 x -1 y\n",
+        3,
+        1,
+        &[0, -1_000_000],
+        "0 1 ",
+        "0 1 ",
+    ),
     // The ends of 64 bits.
     ("at 0 x y 0\n", 0, 0, &[i64::MIN, i64::MAX], "0 1 ", ""),
 ];
@@ -133,6 +175,9 @@ fn agents_go_to_their_parts(rt: HostRuntime) -> Result<(), Fail> {
     let alloc = rt.alloc();
     for (plan, tick, to, xs, near, theirs) in CASES {
         let setting = setting(alloc, plan)?;
+        if to >= setting.parts() {
+            return Err("no part".into());
+        }
         let agents = agents_at(alloc, xs)?;
         let border = border_of(alloc, &setting, tick, agents.as_slice(), to)?;
         let moves = moves_of(alloc, &setting, tick, agents.as_slice(), to)?;
