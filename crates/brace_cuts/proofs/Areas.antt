@@ -1,6 +1,6 @@
 -- Where the points of a part stand, and that each point has one part.
-use Rattle.std.proofs.Common.{◌≡◌, ◌∙◌, ℕ, zero, suc, ◌+◌, ◌*◌, ◌/◌, ◌%◌, ◌≤◌, ◌<◌, ℤ, pos, ◌-ℤ◌, ◌≤ℤ◌, List, [], ◌∷◌, length, get_or, Bool, true, false, refl, sym, ap, ap₂, subst, arith}
-use Rattle.std.specs.Prelude.{int_lt, int_le, ◌&&◌, max, FitsSigned}
+use Rattle.std.proofs.Common.{◌≡◌, ◌∙◌, ℕ, zero, suc, ◌+◌, ◌*◌, ◌/◌, ◌%◌, ◌≤◌, ◌<◌, ℤ, pos, ◌-ℤ◌, ◌≤ℤ◌, List, [], ◌∷◌, length, get_or, true, false, sym, ap, ap₂, subst, arith}
+use Rattle.std.specs.Prelude.{int_lt, int_le, max, FitsSigned}
 use Rattle.std.specs.Int.{int_max, w64}
 use Rattle.std.specs.List.{list_all}
 use Rattle.std.proofs.lemmas.Int.{ints}
@@ -61,11 +61,11 @@ max_of_two a b h g = grind (arith, h, g)
 outside_none : (low high p : ℤ) → low ≤ℤ p → p ≤ℤ high → outside low high p ≡ pos 0
 outside_none low high p h g = max_of_two (low -ℤ p) (p -ℤ high) (difference low p h) (difference p high g)
 
-none_outside : (low high p : ℤ) → outside low high p ≤ℤ pos 0 → (low ≤ℤ p) × (p ≤ℤ high)
+pub none_outside : (low high p : ℤ) → outside low high p ≤ℤ pos 0 → (low ≤ℤ p) × (p ≤ℤ high)
 none_outside low high p h =
     let (a, b) = max_zero (low -ℤ p) (p -ℤ high) h in (no_difference low p a, no_difference p high b)
 
-both_at_most : (a b : ℤ) → int_max a b ≡ pos 0 → (a ≤ℤ pos 0) × (b ≤ℤ pos 0)
+pub both_at_most : (a b : ℤ) → int_max a b ≡ pos 0 → (a ≤ℤ pos 0) × (b ≤ℤ pos 0)
 both_at_most a b e = (grind (arith, e), grind (arith, e))
 
 -- a point of an area has no gap to it

@@ -1,12 +1,11 @@
 -- The cuts of a line, read one by one, and the place of a part among parts that are borrowed.
 use Rattle.std.proofs.Common.{◌≡◌, ◌∙◌, ℕ, ◌+◌, ◌-◌, ◌<◌, ◌≤◌, ℤ, List, [], ◌∷◌, ◌++◌, length, get_or, take, drop, Bool, true, false, refl, sym, ap, ap₂, arith, Option, Some, None}
-use Rattle.std.specs.Prelude.{nat_lt, nat_le, ◌^◌, ◌&&◌, not, cond, if◌then◌else◌, map, filter_map, is_some, position, codes}
-use Rattle.std.specs.List.{list_all, prefix_len, position_or_len, cons_option}
+use Rattle.std.specs.Prelude.{nat_lt, ◌&&◌, not, cond, if◌then◌else◌, map, filter_map, is_some, position, codes}
+use Rattle.std.specs.List.{list_all, prefix_len, cons_option}
 use Rattle.std.specs.Str.{bytes_eq}
 use Rattle.std.proofs.lemmas.List.{take_more, map-append, length-map, take-append-drop, take_all, take-map, drop-map, length-drop}
 use Rattle.std.proofs.lemmas.List.Folds.{list_all-append}
 use Rattle.std.proofs.lemmas.List.Elements.{filter_map-append}
-use Rattle.brace_cuts.specs.declared.plan.CutLine.{CutLine}
 use Rattle.brace_cuts.specs.CutPlans.{tick_of, cut_of, cuts_of, line_with, line_around}
 
 prefix_len-map : {X Y : Type 0} (p : Y → Bool) (f : X → Y) (xs : List X) → prefix_len p (map f xs) ≡ prefix_len (λ x. p (f x)) xs

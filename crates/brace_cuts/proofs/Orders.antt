@@ -1,11 +1,10 @@
 -- Lines by rising tick: the last that is not later than a tick.
-use Rattle.std.proofs.Common.{◌≡◌, ◌∙◌, ℕ, zero, suc, ◌+◌, ◌-◌, ◌<◌, ◌≤◌, List, [], ◌∷◌, ◌++◌, length, get_or, take, Bool, true, false, refl, sym, ap, subst, arith, Option, Some, None}
-use Rattle.std.specs.Prelude.{nat_le, map, slice_get, slice_index, option_map, unwrap_or}
-use Rattle.std.specs.List.{last_or, filter}
-use Rattle.std.specs.List.Sorted.{IsStrictlyIncreasing, IsPartitionedBy, IsNonDecreasingBy}
+use Rattle.std.proofs.Common.{◌≡◌, ◌∙◌, ℕ, zero, suc, ◌+◌, ◌-◌, ◌<◌, ◌≤◌, List, [], ◌∷◌, length, get_or, take, true, false, refl, sym, ap, subst, arith, Option, Some, None}
+use Rattle.std.specs.Prelude.{nat_le, slice_get, slice_index, option_map, unwrap_or}
+use Rattle.std.specs.List.{last_or}
+use Rattle.std.specs.List.Sorted.{IsStrictlyIncreasing, IsPartitionedBy}
 use Rattle.std.proofs.lemmas.Bool.Decides.{nat_tests}
 use Rattle.std.proofs.lemmas.List.{length-map, get_or-map, length-take-le, get_or-take}
-use Rattle.brace_cuts.specs.declared.space.Cuts.{Cuts}
 use Rattle.brace_cuts.specs.declared.plan.CutLine.{CutLine}
 use Rattle.brace_cuts.specs.declared.plan.CutPlan.{CutPlan}
 use Rattle.brace_cuts.specs.Space.{cuts_at, no_cuts}

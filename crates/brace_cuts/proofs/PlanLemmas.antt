@@ -1,6 +1,6 @@
 -- A line of the form without a fault behind a plan's lines makes a plan with them.
 use Rattle.std.proofs.Common.{◌≡◌, ◌∙◌, ℕ, zero, suc, ◌+◌, ◌-◌, ◌<◌, ◌≤◌, ◌^◌, ◌%◌, ℤ, List, [], ◌∷◌, ◌++◌, length, get_or, take, drop, Bool, true, false, refl, sym, ap, ap₂, subst, arith, ⊎_elim, Option, Some, None}
-use Rattle.std.specs.Prelude.{nat_lt, nat_le, ◌==◌, ◌&&◌, not, if◌then◌else◌, map, filter_map, is_some, slice_get, slice_index, unwrap_or, codes, position}
+use Rattle.std.specs.Prelude.{nat_lt, nat_le, ◌==◌, ◌&&◌, not, if◌then◌else◌, filter_map, is_some, slice_get, slice_index, unwrap_or, codes, position}
 use Rattle.std.specs.List.{list_all, last_or, cons_option}
 use Rattle.std.specs.List.Sorted.{IsStrictlyIncreasing}
 use Rattle.std.specs.Str.{bytes_eq}
@@ -9,13 +9,11 @@ use Rattle.std.proofs.lemmas.Bool.{cases_lt}
 use Rattle.std.proofs.lemmas.Bool.Decides.{nat_tests}
 use Rattle.std.proofs.lemmas.List.{length-map, get_or-map, map-append, get_or_append_left}
 use Rattle.std.proofs.Common.{length-append}
-use Rattle.std.proofs.lemmas.Option.{slice_get_within}
 use Rattle.brace_num.specs.Spelling.{count_of, fixed_of}
 use Rattle.brace_cuts.specs.declared.plan.CutLine.{CutLine}
-use Rattle.brace_cuts.specs.declared.kinds.PlanKind.{PlanKind}
-use Rattle.brace_cuts.specs.declared.kinds.PlanKind.TheVariants.{BadLine, NotRising, OffEpoch, OtherCount, TooMany}
-use Rattle.brace_cuts.specs.Space.{rises, can_cut, parts_of, LawfulCuts}
-use Rattle.brace_cuts.specs.CutPlans.{tick_in_range, tick_of, cut_in_range, cut_of, cuts_of, parts_in, line_with, line_around, line_in, line_of, is_later, is_rising, are_alike, fault_of, ticks_of, IsInOrder, IsPlanLine, IsPlan}
+use Rattle.brace_cuts.specs.declared.kinds.PlanKind.TheVariants.{NotRising, OffEpoch, OtherCount, TooMany}
+use Rattle.brace_cuts.specs.Space.{rises, can_cut, parts_of}
+use Rattle.brace_cuts.specs.CutPlans.{tick_in_range, cut_in_range, cut_of, cuts_of, parts_in, line_with, line_around, line_in, line_of, is_later, is_rising, are_alike, fault_of, ticks_of, IsPlanLine, IsPlan}
 use Rattle.brace_cuts.proofs.Strips.{both_hold}
 use Rattle.brace_cuts.proofs.Orders.{last_is}
 

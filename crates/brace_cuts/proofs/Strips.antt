@@ -1,5 +1,5 @@
 -- Which strip a number is in: of rising cuts it is not below the first ones.
-use Rattle.std.proofs.Common.{◌≡◌, ◌∙◌, ℕ, zero, suc, ◌+◌, ◌≤◌, ◌<◌, ℤ, pos, List, [], ◌∷◌, length, get_or, take, drop, Bool, true, false, refl, sym, ap, subst, arith, ⊎_elim, ◌≤ℤ◌, zero-add}
+use Rattle.std.proofs.Common.{◌≡◌, ◌∙◌, ℕ, zero, suc, ◌+◌, ◌≤◌, ◌<◌, ℤ, List, [], ◌∷◌, length, get_or, take, drop, Bool, true, false, refl, sym, ap, subst, arith, ⊎_elim, ◌≤ℤ◌, zero-add}
 use Rattle.std.specs.Prelude.{int_lt, int_le, ◌&&◌, cond}
 use Rattle.std.specs.List.{filter, count_by}
 use Rattle.std.specs.List.Sorted.{IsPartitionedBy}

@@ -1,7 +1,7 @@
 -- The text of a cut plan: lines `at TICK x C.. y D..`, each with the cuts that hold from a tick on;
 -- its plan, or its first faulty line with that line's first fault. Lines are counted from 1.
 -- Byte 10 ends a line, byte 32 is the space.
-use Rattle.std.specs.Prelude.{◌≡◌, ℕ, ◌+◌, ◌-◌, ◌%◌, ◌^◌, ◌==◌, nat_lt, nat_le, ℤ, Bool, true, false, not, ◌&&◌, if◌then◌else◌, List, [], ◌∷◌, length, map, filter_map, take, drop, codes, slice_get, slice_index, slice_index_or, position, Option, Some, None, is_some, option_map, unwrap_or, IsTrue}
+use Rattle.std.specs.Prelude.{◌≡◌, ℕ, ◌+◌, ◌-◌, ◌%◌, ◌^◌, ◌==◌, nat_lt, nat_le, ℤ, Bool, not, ◌&&◌, if◌then◌else◌, List, [], ◌∷◌, length, map, filter_map, take, drop, codes, slice_get, slice_index, slice_index_or, position, Option, Some, None, is_some, option_map, unwrap_or, IsTrue}
 use Rattle.std.specs.List.{last_or, list_all, range_with_len, slice_split}
 use Rattle.std.specs.List.Sorted.{IsStrictlyIncreasing}
 use Rattle.std.specs.Str.{bytes_eq}

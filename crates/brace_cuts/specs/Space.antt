@@ -1,6 +1,6 @@
 -- The plane in parts: cuts along x and along y make strips, and two strips that cross make a part.
 -- Points are whole millionths of 64 bits. A cut belongs to the strip on its higher side.
-use Rattle.std.specs.Prelude.{◌≡◌, ℕ, ◌+◌, ◌*◌, ◌/◌, ◌%◌, ◌≤◌, nat_le, ℤ, pos, negsuc, ◌-ℤ◌, int_lt, int_le, Bool, true, ◌&&◌, IsTrue, List, [], ◌∷◌, length, slice_index_or, Option, None, option_map, unwrap_or}
+use Rattle.std.specs.Prelude.{ℕ, ◌+◌, ◌*◌, ◌/◌, ◌%◌, ◌≤◌, nat_le, ℤ, pos, negsuc, ◌-ℤ◌, ◌≤ℤ◌, int_lt, int_le, Bool, true, ◌&&◌, IsTrue, List, [], ◌∷◌, length, slice_index_or, None, option_map, unwrap_or}
 use Rattle.std.specs.List.{count_by, filter, last_or, list_all}
 use Rattle.brace_num.specs.Areas.{gap}
 use Rattle.brace_num.specs.declared.kinds.Area.{Area}
@@ -57,6 +57,10 @@ owner_of cuts x y = strip cuts.ys y * columns_of cuts + strip cuts.xs x
 -- two parts have at most a gap of d
 abbrev pub are_near : Cuts → ℕ → ℕ → ℤ → Bool
 are_near cuts p q d = int_le (gap (area_of cuts p) (area_of cuts q)) d
+
+-- two numbers are at most d apart
+abbrev pub AreWithin : ℤ → ℤ → ℤ → Type 0
+AreWithin d a b = ((a -ℤ b) ≤ℤ d) × ((b -ℤ a) ≤ℤ d)
 
 -- a number that may be a cut: some number of 64 bits is below it
 abbrev pub can_cut : ℤ → Bool

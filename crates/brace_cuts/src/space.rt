@@ -1,8 +1,8 @@
-ghost use Rattle.std.specs.Prelude.{◌≡◌, ◌<◌, ◌≤◌, ◌↔◌, ℕ, nat_lt, pos, ◌-ℤ◌, ◌&&◌, IfOk, IsTrue, length};
+ghost use Rattle.std.specs.Prelude.{◌≡◌, ◌<◌, ◌≤◌, ◌↔◌, ℕ, ℤ, nat_lt, pos, ◌-ℤ◌, ◌&&◌, IfOk, IsTrue, length};
 ghost use Rattle.std.specs.Int.{int_max};
 ghost use Rattle.std.specs.List.{list_all};
 ghost use Rattle.brace_num.specs.Areas.{apart, gap, gap_to};
-ghost use Rattle.brace_cuts.specs.Space.{LawfulCuts, rises, can_cut, strip, low_end, high_end, parts_of, area_of, owner_of, are_near};
+ghost use Rattle.brace_cuts.specs.Space.{LawfulCuts, rises, can_cut, strip, low_end, high_end, parts_of, area_of, owner_of, are_near, AreWithin};
 
 use brace_num::{Area, List, NoMemory};
 use std::alloc::Global;
@@ -82,12 +82,16 @@ impl Cuts {
         apart(a.x0, a.x1, b.x0, b.x1).max(apart(a.y0, a.y1, b.y0, b.y1))
     }
 
-    /// Whether two parts have at most a gap of `d` millionths.
+    /// Whether two parts have at most a gap of `d` millionths; so they do where some point of one
+    /// and some point of the other are at most `d` apart along x and along y.
     pub fn near(&self, p: u32, q: u32, d: i64) -> bool
         requires lawful { LawfulCuts self.now }
         requires p_in_range { p < parts_of self.now }
         requires q_in_range { q < parts_of self.now }
-        ensures { result ≡ are_near self.now p q d }
+        ensures near { result ≡ are_near self.now p q d }
+        ensures points { (x y u v : ℤ) → gap_to (area_of self.now p) x y ≡ pos 0
+            → gap_to (area_of self.now q) u v ≡ pos 0
+            → AreWithin d x u → AreWithin d y v → IsTrue result }
     {
         i128::from(self.gap(p, q)) <= i128::from(d)
     }

@@ -1,4 +1,4 @@
-use Rattle.std.proofs.Common.{◌≡◌, ◌∙◌, None, Bor, ap, sym, rules}
+use Rattle.std.proofs.Common.{◌≡◌, ◌∙◌, None, Bor, ap, sym}
 use Rattle.std.specs.Prelude.{◌&&◌, option_map}
 use Rattle.std.specs.List.{last_or}
 use Rattle.brace_cuts.specs.declared.plan.CutLine.{CutLine}

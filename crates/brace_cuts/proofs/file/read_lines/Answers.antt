@@ -1,8 +1,6 @@
-use Rattle.std.proofs.Common.{◌≡◌, ◌∙◌, ◌+◌, ◌<◌, ◌++◌, ◌∷◌, [], Bor, List, ℕ, Option, Some, None, length, map, drop, ap, sym, subst, arith, rules}
+use Rattle.std.proofs.Common.{◌≡◌, ◌∙◌, ◌+◌, ◌<◌, ◌++◌, ◌∷◌, [], Bor, List, ℕ, Some, None, length, map, drop, ap, sym, subst, arith, rules}
 use Rattle.std.proofs.lemmas.List.{length_push}
-use Rattle.brace_cuts.specs.CutPlans.{fault_behind, first_fault}
-use Rattle.brace_cuts.specs.declared.plan.CutLine.{CutLine}
-use Rattle.brace_cuts.specs.declared.kinds.PlanKind.{PlanKind}
+use Rattle.brace_cuts.specs.CutPlans.{fault_behind}
 use Rattle.brace_cuts.proofs.FirstFault.{ReadTo, read_none, same_fault}
 use Rattle.brace_cuts.proofs.PlanLemmas.{PlanSoFar, none_so_far, whole_plan}
 use Rattle.brace_cuts.proofs.Reading.{good_line, bad_line, no_line}

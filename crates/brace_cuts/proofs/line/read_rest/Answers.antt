@@ -1,8 +1,7 @@
-use Rattle.std.proofs.Common.{◌≡◌, ◌∙◌, ◌+◌, Bor, List, ℕ, ℤ, Some, None, Option, map, take, drop, ap, ap₂, sym}
-use Rattle.std.specs.Prelude.{position, codes}
+use Rattle.std.proofs.Common.{◌∙◌, Bor, List, ℕ, map, ap, sym}
+use Rattle.std.specs.Prelude.{codes}
 use Rattle.std.specs.Str.{bytes_eq}
-use Rattle.std.proofs.lemmas.List.{take-map, drop-map}
-use Rattle.brace_cuts.specs.CutPlans.{line_around, line_with, cuts_of, tick_of}
+use Rattle.brace_cuts.specs.CutPlans.{line_around}
 use Rattle.brace_cuts.proofs.Lines.{position-map, rest_is}
 use Rattle.brace_cuts.proofs.line.read_rest.Goals as goal
 
