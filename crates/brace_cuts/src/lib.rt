@@ -1,0 +1,16 @@
+//! The plane cut into parts: which part owns a point, how far parts stand from each other, and
+//! plans that say which cuts hold from which tick on.
+#![tactic(auto)]
+
+mod file;
+mod kinds;
+mod line;
+mod plan;
+mod space;
+#[cfg(test)]
+mod tests;
+
+pub use file::read_plan;
+pub use kinds::{PlanFault, PlanKind};
+pub use plan::{CutLine, CutPlan};
+pub use space::Cuts;

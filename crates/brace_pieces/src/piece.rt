@@ -1,0 +1,41 @@
+use brace_comb::Entry;
+use brace_model::{Agent, Census, Fault};
+use brace_num::List;
+
+/// The agents of a part in the world of a tick.
+#[derive(Debug, Drop)]
+pub struct Shown {
+    pub tick: u64,
+    /// By rising id.
+    pub agents: List<Agent>,
+    /// The next free id of that world.
+    pub next: u64,
+}
+
+/// Why a part does not go on.
+#[derive(Debug, Clone, Copy, PartialEq, Eq, Drop)]
+pub enum Cause {
+    /// A fault of the run.
+    Fault(Fault),
+    /// Memory was refused.
+    NoMemory,
+    /// The publisher takes nothing any more.
+    Closed,
+}
+
+/// What one part, or the publisher, hands to another in a step. Agents stand by rising id.
+#[derive(Debug, Drop)]
+pub enum Piece {
+    Border(List<Agent>),
+    /// By rising target, then field.
+    Effects(List<Entry>),
+    Census(Census),
+    Move(List<Agent>),
+    Hand(List<Agent>),
+    /// By rising tick.
+    Show(List<Shown>),
+    /// The publisher took what was shown.
+    Ack,
+    /// In place of any other piece: the sender goes no further.
+    Halt(Cause),
+}

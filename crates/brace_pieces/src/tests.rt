@@ -1,0 +1,190 @@
+// What no clause says: that the calls answer where memory is ample, over cuts and agents worked by
+// hand.
+ghost use Rattle.std.specs.Prelude.{◌≡◌, IfOk};
+ghost use Rattle.brace_model.specs.Lawful.{LawfulProgram};
+ghost use Rattle.brace_cuts.specs.CutPlans.{IsPlan};
+ghost use Rattle.brace_pieces.specs.inner.Worked.{state, resting};
+
+use crate::{Setting, border_of, hand_of, moves_of};
+use brace_cuts::read_plan;
+use brace_model::{Agent, Class, Job, Program, State, Ty, Value, World};
+use brace_num::{List, NoMemory, Text};
+use std::alloc::Global;
+use std::test::Fail;
+
+fn text(alloc: Global, name: &str) -> Result<Text, NoMemory>
+    ensures { IfOk result (λ text. text ≡ name.now) }
+{
+    let mut string = String::new(alloc);
+    string.push_str(name)?;
+    Ok(Text::from_string(string))
+}
+
+fn state(alloc: Global, name: &str) -> Result<State, NoMemory>
+    ensures { IfOk result (λ s. s ≡ state name.now) }
+{
+    Ok(State {
+        name: text(alloc, name)?,
+        ty: Ty::Fixed,
+        shared: true,
+        rule: None,
+    })
+}
+
+/// One class A that sees 2.0 far, and rests.
+fn resting(alloc: Global) -> Result<Program, NoMemory>
+    ensures { IfOk result (λ program. program ≡ resting) }
+{
+    let mut states = List::new(alloc);
+    states.push(state(alloc, "x")?)?;
+    states.push(state(alloc, "y")?)?;
+    let mut classes = List::new(alloc);
+    classes.push(Class {
+        name: text(alloc, "A")?,
+        states,
+        effects: List::new(alloc),
+        query: List::new(alloc),
+        visible: 2_000_000,
+        reach: 0,
+        x: 0,
+        y: 1,
+        die: None,
+        spawn: None,
+    })?;
+    Ok(Program {
+        classes,
+        sites: List::new(alloc),
+    })
+}
+
+/// Agents by rising number, at these places along x in millionths.
+fn agents_at(alloc: Global, xs: &[i64]) -> Result<Vec<Agent>, NoMemory> {
+    let mut agents = Vec::new(alloc);
+    for (id, x) in xs.iter().enumerate() {
+        let mut states = List::new(alloc);
+        states.push(Value::Fixed(*x))?;
+        states.push(Value::Fixed(0))?;
+        agents.push(Agent {
+            class: 0,
+            id: id as u64,
+            states,
+        })?;
+    }
+    Ok(agents)
+}
+
+/// A run over a plane that is cut by a plan, in epochs of two ticks.
+#[tactic(auto, using(crate::proofs::WorkedLawful::lawful_rules))]
+fn setting(alloc: Global, plan: &str) -> Result<Setting, Fail>
+    ensures plan { IfOk result (λ s. IsPlan s.epoch s.cuts) }
+    ensures lawful { IfOk result (λ s. LawfulProgram s.job.program) }
+{
+    let Ok(cuts) = read_plan(alloc, plan.as_bytes(), 2) else {
+        return Err("no plan".into());
+    };
+    let Some(start) = World::from_rising(Vec::new(alloc)) else {
+        return Err("no world".into());
+    };
+    let job = Job {
+        program: resting(alloc)?,
+        seed: 0,
+        first: 0,
+        last: 4,
+        every: 1,
+        start,
+    };
+    Ok(Setting {
+        job,
+        cuts,
+        epoch: 2,
+        invert: false,
+    })
+}
+
+/// The numbers of agents.
+fn told(alloc: Global, agents: &List<Agent>) -> Result<String, NoMemory> {
+    let mut text = String::new(alloc);
+    for agent in agents.as_slice() {
+        text.push_str(format!(in alloc; "{} ", agent.id)?.as_str())?;
+    }
+    Ok(text)
+}
+
+/// A plan, a tick, a part, agents along x, and which of these are shown to the part, and belong to
+/// it.
+type Case<'a> = (&'a str, u64, u32, &'a [i64], &'a str, &'a str);
+
+const CASES: [Case; 7] = [
+    // An agent on the cut belongs to its higher side; one exactly 2.0 away is shown.
+    (
+        "at 0 x 2.0 y\n",
+        0,
+        1,
+        &[0, -1, 2_000_000, 2_000_001],
+        "0 2 3 ",
+        "2 3 ",
+    ),
+    (
+        "at 0 x 2.0 y\n",
+        0,
+        0,
+        &[0, 1_999_999, 2_000_000, 4_000_000],
+        "0 1 2 ",
+        "0 1 ",
+    ),
+    // Grid points on both sides of a cut are one millionth apart.
+    (
+        "at 0 x 2.0 y\n",
+        0,
+        0,
+        &[3_999_999, 4_000_000, 2_000_000],
+        "0 2 ",
+        "",
+    ),
+    // Other cuts hold from tick 2 on.
+    (
+        "at 0 x 1 y\nat 2 x -1 y\n",
+        1,
+        0,
+        &[0, -1_000_000],
+        "0 1 ",
+        "0 1 ",
+    ),
+    (
+        "at 0 x 1 y\nat 2 x -1 y\n",
+        2,
+        0,
+        &[0, -1_000_000],
+        "0 1 ",
+        "",
+    ),
+    (
+        "at 0 x 1 y\nat 2 x -1 y\n",
+        3,
+        1,
+        &[0, -1_000_000],
+        "0 1 ",
+        "0 1 ",
+    ),
+    // The ends of 64 bits.
+    ("at 0 x y 0\n", 0, 0, &[i64::MIN, i64::MAX], "0 1 ", ""),
+];
+
+#[test]
+fn agents_go_to_their_parts(rt: HostRuntime) -> Result<(), Fail> {
+    let alloc = rt.alloc();
+    for (plan, tick, to, xs, near, theirs) in CASES {
+        let setting = setting(alloc, plan)?;
+        if to >= setting.parts() {
+            return Err("no part".into());
+        }
+        let agents = agents_at(alloc, xs)?;
+        let border = border_of(alloc, &setting, tick, agents.as_slice(), to)?;
+        let moves = moves_of(alloc, &setting, tick, agents.as_slice(), to)?;
+        let handed = hand_of(alloc, &setting, tick, agents.as_slice(), to)?;
+        assert_eq!(rt; told(alloc, &border)?.as_str(), near);
+        assert_eq!(rt; told(alloc, &moves)?.as_str(), theirs);
+        assert_eq!(rt; told(alloc, &handed)?.as_str(), theirs);
+    }
+    Ok(())
+}
