@@ -3,3 +3,7 @@ pub mod Pairs
 pub mod ScheduleLemmas
 pub mod CutLemmas
 pub mod WorkedLawful
+pub mod WorldLemmas
+pub mod FaultLemmas
+pub mod PlaceLemmas
+pub mod HaltLemmas

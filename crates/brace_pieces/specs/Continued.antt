@@ -79,16 +79,17 @@ continued_after s (suc n) = continued s (s.job.first + n) (continued_after s n)
 abbrev pub on : Setting → ℕ → World
 on s tick = continued_after s (tick - s.job.first)
 
+-- a fault that may be there, as a list
+abbrev pub listed : Option Fault → List Fault
+listed None = []
+listed (Some fault) = fault ∷ []
+
 -- the fault of the least parent of a continued world that goes too far
 abbrev pub birth_faults : Setting → ℕ → World → List Fault
 birth_faults s tick world =
     let left = all_left s tick world.agents in
     let far = first_too_far (living left) world.next (children left) in
     listed (option_map (birth_fault s.job.program tick) far)
-  where
-    listed : Option Fault → List Fault
-    listed None = []
-    listed (Some fault) = fault ∷ []
 
 -- the faults of the updates of the agents of a world
 abbrev pub update_faults : Setting → ℕ → List Agent → List Fault

@@ -5,4 +5,5 @@ pub mod Owned
 pub mod Finds
 pub mod Right
 pub mod Counts
+pub mod Halts
 pub mod inner

@@ -164,10 +164,11 @@ IsRightAt s number stage.Show tick from to (piece.Show list) = IsShown s tick fr
 IsRightAt s number stage.Show tick from to piece.Ack = from ≡ parts s
 IsRightAt s number at tick from to piece = ⊥
 
+-- a piece is right for a name, whose step is this one
+abbrev pub IsRightIn : Setting → Name → Piece → Option Step → Type 0
+IsRightIn s name p None = ⊥
+IsRightIn s name p (Some at) = IsRightAt s name.step at.stage at.tick name.from name.to p
+
 -- a piece is right for a name
 abbrev pub IsRight : Setting → Name → Piece → Type 0
-IsRight s name p = is_right_in (slice_get (steps s) name.step)
-  where
-    is_right_in : Option Step → Type 0
-    is_right_in None = ⊥
-    is_right_in (Some at) = IsRightAt s name.step at.stage at.tick name.from name.to p
+IsRight s name p = IsRightIn s name p (slice_get (steps s) name.step)

@@ -59,28 +59,6 @@ fn is_near(program: &Program, area: &Area, range: i64, a: &Agent) -> bool
     }
 }
 
-/// Of some agents those that a part owns under the cuts of a tick.
-fn owned_by(
-    alloc: Global,
-    setting: &Setting,
-    tick: u64,
-    agents: &[Agent],
-    to: u32,
-) -> Result<List<Agent>, NoMemory>
-    requires { IsPlan setting.now.epoch setting.now.cuts }
-    ensures { IfOk result (λ found. found
-        ≡ owned setting.now.job.program (cuts_of setting.now tick) to agents.now) }
-{
-    let cuts = setting.cuts.cuts_at(tick);
-    let mut found = List::new(alloc);
-    for a in agents {
-        if owns(&setting.job.program, cuts, to, a) {
-            found.push(a.copy(alloc)?)?;
-        }
-    }
-    Ok(found)
-}
-
 /// Of some agents those that stand within a range of an area.
 fn near_to(
     alloc: Global,
@@ -135,7 +113,14 @@ pub fn moves_of(
     ensures theirs { IfOk result (λ found. found
         ≡ owned setting.now.job.program (cuts_of setting.now tick) to agents.now) }
 {
-    owned_by(alloc, setting, tick, agents, to)
+    let cuts = setting.cuts.cuts_at(tick);
+    let mut found = List::new(alloc);
+    for a in agents {
+        if owns(&setting.job.program, cuts, to, a) {
+            found.push(a.copy(alloc)?)?;
+        }
+    }
+    Ok(found)
 }
 
 /// Of a part's agents those that belong to another part under the cuts that hold from a tick on,
@@ -151,5 +136,5 @@ pub fn hand_of(
     ensures theirs { IfOk result (λ found. found
         ≡ owned setting.now.job.program (cuts_of setting.now tick) to agents.now) }
 {
-    owned_by(alloc, setting, tick, agents, to)
+    moves_of(alloc, setting, tick, agents, to)
 }

@@ -1,7 +1,7 @@
 use Rattle.std.proofs.Common.{sym, subst}
 use Rattle.brace_cuts.specs.Space.{LawfulCuts}
 use Rattle.brace_pieces.proofs.CutLemmas.{cuts_lawful}
-use Rattle.brace_pieces.proofs.lists.owned_by.Goals as goal
+use Rattle.brace_pieces.proofs.lists.moves_of.Goals as goal
 
 pub owns-requires : goal.owns-requires
 owns-requires c =
