@@ -20,9 +20,14 @@ impl Model for MemFile {
 
     ghost Value = { Entry };
 
-    ghost view = { λ f. record { name = f.name; file = cond f.held (Some f.bytes.items) None; room = f.room } };
+    ghost view = { λ f. record {
+      name = f.name;
+      file = cond f.held (Some f.bytes.items) None;
+      room = f.room;
+    } };
 
-    ghost invariant = { λ f. (f.room ≤ vec_capacity f.bytes) × (f.held ≡ false → f.bytes.items ≡ []) };
+    ghost invariant = { λ f. (f.room ≤ vec_capacity f.bytes) × (f.held ≡ false
+        → f.bytes.items ≡ []) };
 }
 
 impl MemFile {
@@ -48,7 +53,8 @@ impl MemFile {
 
     /// The bytes, where the name is held.
     pub(crate) fn content(&self) -> Option<&[u8]>
-        ensures { MatchOption result (self.now.file ≡ None) (λ bytes. self.now.file ≡ Some bytes.now) }
+        ensures { MatchOption result (self.now.file ≡ None) (λ bytes. self.now.file
+            ≡ Some bytes.now) }
     {
         if self.held {
             Some(self.bytes.as_slice())
@@ -73,7 +79,8 @@ impl MemFile {
 
     /// Adds as much of the piece as there is room for, and answers its length.
     pub(crate) fn add(&mut self, piece: &[u8]) -> usize
-        ensures count { result ≡ min (length piece.now) (self.old.room - length (bytes_in self.old.file)) }
+        ensures count { result
+            ≡ min (length piece.now) (self.old.room - length (bytes_in self.old.file)) }
         ensures all { self.new ≡ record self.old {
           file = Some
               (bytes_in self.old.file ++ take result piece.now);
@@ -100,7 +107,10 @@ impl MemFile {
 
     /// Holds the bytes, with their length as its room.
     pub(crate) fn put(&mut self, bytes: Vec<u8>)
-        ensures { self.new ≡ record self.old { file = Some bytes.items; room = length bytes.items } }
+        ensures { self.new ≡ record self.old {
+          file = Some bytes.items;
+          room = length bytes.items;
+        } }
     {
         self.room = bytes.len();
         self.bytes = bytes;

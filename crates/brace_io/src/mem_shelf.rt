@@ -45,7 +45,13 @@ impl Model for MemShelf {
 
     ghost Value = { Shelved };
 
-    ghost view = { λ s. record { entries = s.files.items; fails = s.fails.items; calls = s.calls; faults = s.faults; stage = mem_stage s.doing s.name.numbers s.place } };
+    ghost view = { λ s. record {
+      entries = s.files.items;
+      fails = s.fails.items;
+      calls = s.calls;
+      faults = s.faults;
+      stage = mem_stage s.doing s.name.numbers s.place;
+    } };
 
     ghost invariant = { λ s. Spotted s.doing s.files.items s.name.numbers s.index };
 }
@@ -53,7 +59,13 @@ impl Model for MemShelf {
 impl MemShelf {
     /// An idle shelf that holds nothing; `fails` are the numbers of the calls that fail.
     pub fn make(alloc: Global, fails: Vec<u64>) -> MemShelf
-        ensures { result ≡ record { entries = []; fails = fails.items; calls = 0; faults = 0; stage = Idle } }
+        ensures { result ≡ record {
+          entries = [];
+          fails = fails.items;
+          calls = 0;
+          faults = 0;
+          stage = Idle;
+        } }
     {
         MemShelf {
             alloc,
@@ -106,7 +118,11 @@ impl MemShelf {
     /// refused memory changes nothing.
     pub fn prepare(&mut self, name: &str, room: u64) -> Result<(), NoMemory>
         ensures prepared { OnOk result (entry_of self.new.entries name.now ≡
-            Some (record { name = name.now; file = files_of self.old.entries name.now; room = room })) }
+            Some (record {
+              name = name.now;
+              file = files_of self.old.entries name.now;
+              room = room;
+            })) }
         ensures others { OthersAlone self.old.entries self.new.entries name.now }
         ensures rest { self.new ≡ record self.old { entries = self.new.entries } }
         ensures refused { OnErr result (self.new ≡ self.old) }
@@ -201,7 +217,10 @@ impl MemShelf {
 
     /// Counts a failure, and stops at the name of the file that is open.
     fn stop_here(&mut self)
-        ensures stopped { self.new ≡ record self.old { faults = next_count self.old.faults; stage = stopped_at self.old.stage } }
+        ensures stopped { self.new ≡ record self.old {
+          faults = next_count self.old.faults;
+          stage = stopped_at self.old.stage;
+        } }
         ensures never_falls { self.old.faults ≤ self.new.faults }
     {
         self.faults.raise();
@@ -235,7 +254,11 @@ impl Shelf for MemShelf {
         ensures idle { result ≡ Err ReadFault.Absent
             → self.new ≡ record self.old { calls = next_count self.old.calls; stage = Idle } }
         ensures stops { result ≡ Err ReadFault.Failed
-            → self.new ≡ record self.old { calls = next_count self.old.calls; faults = next_count self.old.faults; stage = Stopped (Some name.now) } }
+            → self.new ≡ record self.old {
+              calls = next_count self.old.calls;
+              faults = next_count self.old.faults;
+              stage = Stopped (Some name.now);
+            } }
     {
         if self.refuses() {
             self.stop(spoken(name));
@@ -261,10 +284,17 @@ impl Shelf for MemShelf {
         ensures bytes { IfOk result (λ n. buffer.new ≡
             take n (unread self.old.entries self.old.stage) ++ drop n buffer.old) }
         ensures moves { IfOk result (λ n. self.new ≡
-            record self.old { calls = next_count self.old.calls; stage = moved_on n self.old.stage }) }
+            record self.old {
+              calls = next_count self.old.calls;
+              stage = moved_on n self.old.stage;
+            }) }
         ensures untouched { OnErr result (buffer.new ≡ buffer.old) }
         ensures stops { OnErr result (self.new ≡
-            record self.old { calls = next_count self.old.calls; faults = next_count self.old.faults; stage = stopped_at self.old.stage }) }
+            record self.old {
+              calls = next_count self.old.calls;
+              faults = next_count self.old.faults;
+              stage = stopped_at self.old.stage;
+            }) }
     {
         if self.refuses() {
             self.stop_here();
@@ -284,9 +314,17 @@ impl Shelf for MemShelf {
             with_bytes [] (entry_of self.old.entries name.now)) }
         ensures others { OthersAlone self.old.entries self.new.entries name.now }
         ensures writes { OnOk result (self.new ≡
-            record self.old { entries = self.new.entries; calls = next_count self.old.calls; stage = Writing (Some name.now) }) }
+            record self.old {
+              entries = self.new.entries;
+              calls = next_count self.old.calls;
+              stage = Writing (Some name.now);
+            }) }
         ensures stops { OnErr result (self.new ≡
-            record self.old { calls = next_count self.old.calls; faults = next_count self.old.faults; stage = Stopped (Some name.now) }) }
+            record self.old {
+              calls = next_count self.old.calls;
+              faults = next_count self.old.faults;
+              stage = Stopped (Some name.now);
+            }) }
     {
         if self.refuses() {
             self.stop(spoken(name));
@@ -318,7 +356,11 @@ impl Shelf for MemShelf {
         ensures rest { OnOk result (self.new ≡
             record self.old { entries = self.new.entries; calls = next_count self.old.calls }) }
         ensures stops { OnErr result (self.new ≡
-            record self.old { calls = next_count self.old.calls; faults = next_count self.old.faults; stage = stopped_at self.old.stage }) }
+            record self.old {
+              calls = next_count self.old.calls;
+              faults = next_count self.old.faults;
+              stage = stopped_at self.old.stage;
+            }) }
     {
         if self.refuses() {
             self.stop_here();
@@ -337,7 +379,11 @@ impl Shelf for MemShelf {
         ensures ends { OnOk result (self.new ≡
             record self.old { calls = next_count self.old.calls; stage = Idle }) }
         ensures stops { OnErr result (self.new ≡
-            record self.old { calls = next_count self.old.calls; faults = next_count self.old.faults; stage = stopped_at self.old.stage }) }
+            record self.old {
+              calls = next_count self.old.calls;
+              faults = next_count self.old.faults;
+              stage = stopped_at self.old.stage;
+            }) }
     {
         if self.refuses() {
             self.stop_here();

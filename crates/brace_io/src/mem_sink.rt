@@ -28,7 +28,14 @@ impl Model for MemSink {
 
     ghost Value = { Kept };
 
-    ghost view = { λ s. record { written = s.bytes.items; room = s.room; fails = s.fails.items; calls = s.calls; faults = s.faults; clean = s.clean } };
+    ghost view = { λ s. record {
+      written = s.bytes.items;
+      room = s.room;
+      fails = s.fails.items;
+      calls = s.calls;
+      faults = s.faults;
+      clean = s.clean;
+    } };
 
     ghost invariant = { λ s. (vec_len s.bytes ≤ s.room) × (s.room ≤ vec_capacity s.bytes) };
 }
@@ -38,7 +45,14 @@ impl MemSink {
     /// calls that fail.
     pub fn make(alloc: Global, room: u64, fails: Vec<u64>) -> Result<MemSink, NoMemory>
         ensures { IfOk result (λ sink. sink ≡
-            record { written = []; room = room; fails = fails.items; calls = 0; faults = 0; clean = true }) }
+            record {
+              written = [];
+              room = room;
+              fails = fails.items;
+              calls = 0;
+              faults = 0;
+              clean = true;
+            }) }
     {
         Ok(MemSink {
             bytes: Vec::with_capacity(alloc, room as usize)?,
@@ -68,7 +82,8 @@ impl Sink for MemSink {
     fn write(&mut self, piece: &[u8]) -> Result<usize, Failed>
         ensures never_falls { self.old.faults ≤ self.new.faults }
         ensures fails { is_err result ≡ write_fails self.old piece.now }
-        ensures count { IfOk result (λ n. n ≡ min (length piece.now) (self.old.room - length self.old.written)) }
+        ensures count { IfOk result (λ n. n
+            ≡ min (length piece.now) (self.old.room - length self.old.written)) }
         ensures wrote { IfOk result (λ n. self.new ≡
             record self.old {
               written = self.old.written ++
@@ -77,7 +92,11 @@ impl Sink for MemSink {
               clean = false;
             }) }
         ensures failed { OnErr result (self.new ≡
-            record self.old { calls = next_count self.old.calls; faults = next_count self.old.faults; clean = false }) }
+            record self.old {
+              calls = next_count self.old.calls;
+              faults = next_count self.old.faults;
+              clean = false;
+            }) }
     {
         self.calls.raise();
         self.clean = false;
@@ -100,7 +119,10 @@ impl Sink for MemSink {
         ensures flushed { OnOk result (self.new ≡
             record self.old { calls = next_count self.old.calls; clean = true }) }
         ensures failed { OnErr result (self.new ≡
-            record self.old { calls = next_count self.old.calls; faults = next_count self.old.faults }) }
+            record self.old {
+              calls = next_count self.old.calls;
+              faults = next_count self.old.faults;
+            }) }
     {
         self.calls.raise();
         if self.fails.contains(&self.calls.number()) {

@@ -21,7 +21,8 @@ pub fn read_whole<S: Shelf>(
     ensures within { IfOk result (λ bytes. length bytes.items ≤ limit) }
     ensures reads { IfOk result (λ bytes. ReadsFrom (S.held shelf.old) (S.stage shelf.new) name.now
         (length bytes.items)) }
-    ensures lacks { IfErr result (λ fault. fault ≡ WholeFault.Absent → Lacks (S.held shelf.old) name.now) }
+    ensures lacks { IfErr result (λ fault. fault ≡ WholeFault.Absent
+        → Lacks (S.held shelf.old) name.now) }
     ensures idle { IfErr result (λ fault. fault ≡ WholeFault.Absent → S.stage shelf.new ≡ Idle) }
     ensures long { IfErr result (λ fault. fault ≡ WholeFault.TooLong
         → HoldsOver (S.held shelf.old) name.now limit) }
@@ -34,7 +35,8 @@ pub fn read_whole<S: Shelf>(
     ensures not_writing { writes (S.stage shelf.new) ≡ false }
     ensures absent { tells (S.held shelf.old) ≡ true → Lacks (S.held shelf.old) name.now
         → IfErr result (λ fault. (fault ≡ WholeFault.Absent) ⊎ (fault ≡ WholeFault.Failed)) }
-    ensures faults_alone { result ≢ Err WholeFault.Failed → S.faults shelf.new ≡ S.faults shelf.old }
+    ensures faults_alone { result ≢ Err WholeFault.Failed
+        → S.faults shelf.new ≡ S.faults shelf.old }
     ensures never_falls { S.faults shelf.old ≤ S.faults shelf.new }
     ensures rose { IfErr result (λ fault. fault ≡ WholeFault.Failed
         → Rose (S.faults shelf.old) (S.faults shelf.new)) }
@@ -70,7 +72,8 @@ fn read_on<S: Shelf>(
     ensures stops { IfErr result (λ fault. fault ≡ WholeFault.Failed
         → StoppedAt (S.held shelf.old) (S.stage shelf.new) name.now) }
     ensures not_writing { writes (S.stage shelf.new) ≡ false }
-    ensures faults_alone { result ≢ Err WholeFault.Failed → S.faults shelf.new ≡ S.faults shelf.old }
+    ensures faults_alone { result ≢ Err WholeFault.Failed
+        → S.faults shelf.new ≡ S.faults shelf.old }
     ensures never_falls { S.faults shelf.old ≤ S.faults shelf.new }
     ensures rose { IfErr result (λ fault. fault ≡ WholeFault.Failed
         → Rose (S.faults shelf.old) (S.faults shelf.new)) }

@@ -21,7 +21,8 @@ pub trait Shelf {
         requires { writes (stage self.old) ≡ false }
         ensures held_alone { held self.new ≡ held self.old }
         ensures has { OnOk result (Has (held self.old) name.now) }
-        ensures lacks { IfErr result (λ fault. fault ≡ ReadFault.Absent → Lacks (held self.old) name.now) }
+        ensures lacks { IfErr result (λ fault. fault ≡ ReadFault.Absent
+            → Lacks (held self.old) name.now) }
         ensures reads { OnOk result (ReadsFrom (held self.old) (stage self.new) name.now 0) }
         ensures idle { IfErr result (λ fault. fault ≡ ReadFault.Absent → stage self.new ≡ Idle) }
         ensures stops { IfErr result (λ fault. fault ≡ ReadFault.Failed
@@ -55,7 +56,8 @@ pub trait Shelf {
         requires { writes (stage self.old) ≡ false }
         ensures only { OnlyAt (held self.old) (held self.new) name.now }
         ensures empty { OnOk result (Holds (held self.new) name.now []) }
-        ensures kept_or_empty { OnErr result ((held_at (held self.new) name.now ≡ held_at (held self.old) name.now)
+        ensures kept_or_empty { OnErr result
+            ((held_at (held self.new) name.now ≡ held_at (held self.old) name.now)
             ⊎ Holds (held self.new) name.now []) }
         ensures writes { OnOk result (WritesTo (held self.new) (stage self.new) name.now) }
         ensures stops { OnErr result (StoppedAt (held self.new) (stage self.new) name.now) }
@@ -69,12 +71,16 @@ pub trait Shelf {
         ensures only { (name : List ℕ) → WritesTo (held self.old) (stage self.old) name
             → OnlyAt (held self.old) (held self.new) name }
         ensures within { IfOk result (λ n. n ≤ length piece.now) }
-        ensures adds { IfOk result (λ n. (name : List ℕ) → WritesTo (held self.old) (stage self.old) name
+        ensures adds { IfOk result (λ n. (name : List ℕ)
+            → WritesTo (held self.old) (stage self.old) name
             → Adds (held self.old) (held self.new) name (take n piece.now)) }
-        ensures adds_front { OnErr result ((name : List ℕ) → WritesTo (held self.old) (stage self.old) name
+        ensures adds_front { OnErr result ((name : List ℕ)
+            → WritesTo (held self.old) (stage self.old) name
             → AddsFront (held self.old) (held self.new) name piece.now) }
-        ensures writes { IfOk result (λ n. (n ≡ 0 → length piece.now ≡ 0) → stage self.new ≡ stage self.old) }
-        ensures stops { OnErr result ((name : List ℕ) → WritesTo (held self.old) (stage self.old) name
+        ensures writes { IfOk result (λ n. (n ≡ 0 → length piece.now ≡ 0)
+            → stage self.new ≡ stage self.old) }
+        ensures stops { OnErr result ((name : List ℕ)
+            → WritesTo (held self.old) (stage self.old) name
             → StoppedAt (held self.new) (stage self.new) name) }
         ensures stops_at_none { IfOk result (λ n. n ≡ 0 → 0 < length piece.now → (name : List ℕ)
             → WritesTo (held self.old) (stage self.old) name
@@ -89,7 +95,8 @@ pub trait Shelf {
         requires { IsWriting (held self.old) (stage self.old) }
         ensures held_alone { held self.new ≡ held self.old }
         ensures idle { OnOk result (stage self.new ≡ Idle) }
-        ensures stops { OnErr result ((name : List ℕ) → WritesTo (held self.old) (stage self.old) name
+        ensures stops { OnErr result ((name : List ℕ)
+            → WritesTo (held self.old) (stage self.old) name
             → StoppedAt (held self.new) (stage self.new) name) }
         ensures never_falls { faults self.old ≤ faults self.new }
         ensures rose { OnErr result (Rose (faults self.old) (faults self.new)) };

@@ -18,8 +18,10 @@ pub trait Sink {
     /// Writes a front of the piece, and answers its length in bytes.
     fn write(&mut self, piece: &[u8]) -> Result<usize, Failed>
         ensures within { IfOk result (λ n. n ≤ length piece.now) }
-        ensures adds { IfOk result (λ n. Gains (written self.old) (written self.new) (take n piece.now)) }
-        ensures adds_front { OnErr result (GainsFront (written self.old) (written self.new) piece.now) }
+        ensures adds { IfOk result
+            (λ n. Gains (written self.old) (written self.new) (take n piece.now)) }
+        ensures adds_front { OnErr result
+            (GainsFront (written self.old) (written self.new) piece.now) }
         ensures unclean { clean self.new ≡ false }
         ensures never_falls { faults self.old ≤ faults self.new }
         ensures rose { OnErr result (Rose (faults self.old) (faults self.new)) }

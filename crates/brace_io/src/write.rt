@@ -33,7 +33,8 @@ pub fn save_whole<S: Shelf>(shelf: &mut S, name: &str, piece: &[u8]) -> Result<(
     ensures only { OnlyAt (S.held shelf.old) (S.held shelf.new) name.now }
     ensures all { OnOk result (Holds (S.held shelf.new) name.now piece.now) }
     ensures idle { OnOk result (S.stage shelf.new ≡ Idle) }
-    ensures front { OnErr result (SavedFront (S.held shelf.old) (S.held shelf.new) name.now piece.now) }
+    ensures front { OnErr result
+        (SavedFront (S.held shelf.old) (S.held shelf.new) name.now piece.now) }
     ensures stops { OnErr result (StoppedAt (S.held shelf.new) (S.stage shelf.new) name.now) }
     ensures never_falls { S.faults shelf.old ≤ S.faults shelf.new }
     ensures rose { OnErr result (Rose (S.faults shelf.old) (S.faults shelf.new)) }

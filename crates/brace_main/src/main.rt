@@ -1,4 +1,5 @@
-//! The program: the host's files, standard output and standard error, and the words of the command line.
+//! The program: the host's files, standard output and standard error, and the words of the command
+//! line.
 #![tactic(auto)]
 
 use brace_io::{DirShelf, ErrSink, OpenGate, OutSink, Sink, write_whole};
@@ -16,7 +17,8 @@ fn words(rt: &HostRuntime, alloc: Global) -> io::Result<Vec<String>> {
     Ok(words)
 }
 
-/// The status where the words could not be read: memory was refused, or one of them is no text. Its message is written.
+/// The status where the words could not be read: memory was refused, or one of them is no text. Its
+/// message is written.
 fn unread<E: Sink>(err: &mut E, error: &io::Error) -> u8 {
     let (status, message): (u8, &[u8]) = match error.kind() {
         io::ErrorKind::OutOfMemory => (11, b"brace: no memory\n"),
