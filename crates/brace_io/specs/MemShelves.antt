@@ -50,6 +50,14 @@ spent entry = nat_le entry.room (length (bytes_in entry.file))
 abbrev pub call_fails : Shelved → Bool
 call_fails shelf = listed shelf.fails (next_count shelf.calls)
 
+-- a shelf after a call that failed and left this stage
+abbrev pub failed : Stage → Shelved → Shelved
+failed stage shelf = record shelf {
+  calls = next_count shelf.calls;
+  faults = next_count shelf.faults;
+  stage = stage;
+}
+
 -- the number of this call is listed, or the name was not prepared
 abbrev pub create_fails : Shelved → List ℕ → Bool
 create_fails shelf name = call_fails shelf || not (is_some (entry_of shelf.entries name))

@@ -1,7 +1,7 @@
 ghost use Rattle.std.specs.Prelude.{◌≡◌, ◌≢◌, ◌<◌, ◌≤◌, ◌+◌, ◌-◌, ◌++◌, ◌||◌, ◌&&◌, ◌↔◌, [], ℕ, List, Some, None, Ok, Err, is_err, is_some, not, nat_lt, IfOk, OnOk, IfErr, OnErr, MatchOption, min, take, drop, length, true, false};
 ghost use Rattle.std.specs.List.{position, position_or_len};
 ghost use Rattle.brace_io.specs.Counts.{next_count};
-ghost use Rattle.brace_io.specs.MemShelves.{Entry, Shelved, named, entry_of, file_in, files_of, bytes_in, spent, call_fails, create_fails, append_fails, entry_written, spent_at, room_left, with_bytes, with_more, unread, moved_on, stopped_at, OthersAlone};
+ghost use Rattle.brace_io.specs.MemShelves.{Entry, Shelved, named, entry_of, file_in, files_of, bytes_in, spent, call_fails, failed, create_fails, append_fails, entry_written, spent_at, room_left, with_bytes, with_more, unread, moved_on, stopped_at, OthersAlone};
 ghost use Rattle.brace_io.specs.Shelves.{Idle, Reading, Writing, Stopped, IsReading, IsWriting};
 
 use crate::count::Count;
@@ -166,8 +166,7 @@ impl MemShelf {
     fn stop(&mut self, name: Tag)
         ensures stopped { self.new ≡ record self.old {
           faults = next_count self.old.faults;
-          stage = Stopped
-              (Some name.numbers);
+          stage = Stopped (Some name.numbers);
         } }
         ensures never_falls { self.old.faults ≤ self.new.faults }
     {
@@ -254,11 +253,7 @@ impl Shelf for MemShelf {
         ensures idle { result ≡ Err ReadFault.Absent
             → self.new ≡ record self.old { calls = next_count self.old.calls; stage = Idle } }
         ensures stops { result ≡ Err ReadFault.Failed
-            → self.new ≡ record self.old {
-              calls = next_count self.old.calls;
-              faults = next_count self.old.faults;
-              stage = Stopped (Some name.now);
-            } }
+            → self.new ≡ failed (Stopped (Some name.now)) self.old }
     {
         if self.refuses() {
             self.stop(spoken(name));
@@ -289,12 +284,7 @@ impl Shelf for MemShelf {
               stage = moved_on n self.old.stage;
             }) }
         ensures untouched { OnErr result (buffer.new ≡ buffer.old) }
-        ensures stops { OnErr result (self.new ≡
-            record self.old {
-              calls = next_count self.old.calls;
-              faults = next_count self.old.faults;
-              stage = stopped_at self.old.stage;
-            }) }
+        ensures stops { OnErr result (self.new ≡ failed (stopped_at self.old.stage) self.old) }
     {
         if self.refuses() {
             self.stop_here();
@@ -319,12 +309,7 @@ impl Shelf for MemShelf {
               calls = next_count self.old.calls;
               stage = Writing (Some name.now);
             }) }
-        ensures stops { OnErr result (self.new ≡
-            record self.old {
-              calls = next_count self.old.calls;
-              faults = next_count self.old.faults;
-              stage = Stopped (Some name.now);
-            }) }
+        ensures stops { OnErr result (self.new ≡ failed (Stopped (Some name.now)) self.old) }
     {
         if self.refuses() {
             self.stop(spoken(name));
@@ -355,12 +340,7 @@ impl Shelf for MemShelf {
             → OthersAlone self.old.entries self.new.entries name }
         ensures rest { OnOk result (self.new ≡
             record self.old { entries = self.new.entries; calls = next_count self.old.calls }) }
-        ensures stops { OnErr result (self.new ≡
-            record self.old {
-              calls = next_count self.old.calls;
-              faults = next_count self.old.faults;
-              stage = stopped_at self.old.stage;
-            }) }
+        ensures stops { OnErr result (self.new ≡ failed (stopped_at self.old.stage) self.old) }
     {
         if self.refuses() {
             self.stop_here();
@@ -378,12 +358,7 @@ impl Shelf for MemShelf {
         ensures fails { is_err result ≡ call_fails self.old }
         ensures ends { OnOk result (self.new ≡
             record self.old { calls = next_count self.old.calls; stage = Idle }) }
-        ensures stops { OnErr result (self.new ≡
-            record self.old {
-              calls = next_count self.old.calls;
-              faults = next_count self.old.faults;
-              stage = stopped_at self.old.stage;
-            }) }
+        ensures stops { OnErr result (self.new ≡ failed (stopped_at self.old.stage) self.old) }
     {
         if self.refuses() {
             self.stop_here();

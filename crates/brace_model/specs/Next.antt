@@ -2,8 +2,8 @@
 -- one; or the fault of its update.
 -- Rules and the conditions of `die` and `spawn` are evaluated over the agent's own states and
 -- totals.
-use Rattle.std.specs.Prelude.{ℕ, nat_lt, ℤ, List, [], ◌∷◌, ◌++◌, map, filter_map, zip, fold, slice_set, Bool, true, false, if◌then◌else◌, Option, Some, None, Result, Ok, Err, option_map}
-use Rattle.std.specs.List.{reduce}
+use Rattle.std.specs.Prelude.{ℕ, nat_lt, ℤ, List, [], ◌∷◌, ◌++◌, map, filter_map, zip, fold, slice_set, Bool, true, false, if◌then◌else◌, Option, Some, None, is_some, Result, Ok, Err, option_map}
+use Rattle.std.specs.List.{list_any, reduce}
 use Rattle.std.specs.Result.{result_ok, result_err}
 use Rattle.brace_num.specs.Exact.{clamped}
 use Rattle.brace_model.specs.declared.program.Value.{Value}
@@ -46,6 +46,10 @@ condition_in scope (Some e) = value e scope
 abbrev pub holds : Worth → Bool
 holds (Ok (Flag true)) = true
 holds _ = false
+
+-- a class of the program has a `spawn`
+abbrev pub has_births : Program → Bool
+has_births program = list_any (λ class. is_some class.spawn) program.classes
 
 -- the condition under which an agent has a child
 abbrev pub spawns_in : Scope → Option Spawn → Worth

@@ -17,5 +17,5 @@ pub use job::{Env, Job};
 pub use program::{
     BinOp, Class, Comb, Effect, Expr, Gift, Program, Spawn, State, Stmt, Ty, UnOp, Value, Who,
 };
-pub use sight::{class_of, number, sees, value_at, x_of, y_of};
+pub use sight::{class_of, has_births, number, sees, value_at, x_of, y_of};
 pub use world::{Agent, Census, Parent, Values, World};

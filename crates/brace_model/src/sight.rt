@@ -1,4 +1,5 @@
 ghost use Rattle.std.specs.Prelude.{◌≡◌, option_map};
+ghost use Rattle.brace_model.specs.Next.{has_births};
 ghost use Rattle.brace_model.specs.World.{number, value_at, class_of, x_of, y_of, is_within, sees};
 
 use crate::{Agent, Class, Program, Value};
@@ -30,6 +31,17 @@ pub fn class_of<'a>(program: &'a Program, a: &Agent) -> Option<&'a Class>
     ensures { option_map (λ c. c.now) result ≡ class_of program.now a.now }
 {
     program.classes.as_slice().get(a.class as usize)
+}
+
+/// Whether a class of a program has a `spawn`. It takes no memory.
+pub fn has_births(program: &Program) -> bool
+    ensures { result ≡ has_births program.now }
+{
+    program
+        .classes
+        .as_slice()
+        .iter()
+        .any(|class| class.spawn.is_some())
 }
 
 /// Where an agent of a class stands along x, in millionths. It takes no memory.

@@ -32,13 +32,12 @@ use Rattle.brace_invert.proofs.Traces.{sited_run, none_within}
 use Rattle.brace_pieces.specs.declared.setting.Setting.{Setting}
 use Rattle.brace_pieces.specs.Continued.{listed, birth_faults, update_faults}
 use Rattle.brace_pieces.specs.Finds.{all_queries_found}
-use Rattle.brace_pieces.specs.Steps.{has_births}
 use Rattle.brace_pieces.proofs.WorldLemmas.{all_become_next, left_then}
 use Rattle.std.proofs.lemmas.Bool.{cases_Bool, true≢false}
 use Rattle.std.proofs.lemmas.Map.Keys.{any_passes_from_place}
 use Rattle.std.specs.Prelude.{slice_get}
 use Rattle.brace_model.specs.declared.program.Spawn.{Spawn}
-use Rattle.brace_model.specs.Next.{child_in}
+use Rattle.brace_model.specs.Next.{child_in, has_births}
 use Rattle.brace_model.specs.Value.{Scope}
 
 -- ---- the order of faults

@@ -11,7 +11,8 @@ use Rattle.brace_pieces.specs.declared.setting.Stage.{Stage}
 use Rattle.brace_pieces.specs.declared.setting.Stage.TheVariants.{Hand, Border, Effects, Census, Move, Show}
 use Rattle.brace_pieces.specs.declared.setting.Step.{Step}
 use Rattle.brace_pieces.specs.Settings.{is_end}
-use Rattle.brace_pieces.specs.Steps.{step, made_if, is_recut, has_births, show, steps_in}
+use Rattle.brace_model.specs.Next.{has_births}
+use Rattle.brace_pieces.specs.Steps.{step, made_if, is_recut, show, steps_in}
 use Rattle.brace_pieces.specs.Finds.{stage_of, found_at}
 use Rattle.brace_pieces.specs.Halts.{StandsFirst}
 

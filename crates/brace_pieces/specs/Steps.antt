@@ -1,10 +1,10 @@
 -- The steps of a run in their order, and who meets whom in each.
-use Rattle.std.specs.Prelude.{ℕ, ◌+◌, ◌-◌, ◌==◌, nat_lt, pos, int_le, List, [], ◌∷◌, ◌++◌, map, filter, flat_map, Bool, true, false, not, ◌&&◌, ◌||◌, if◌then◌else◌, is_some}
+use Rattle.std.specs.Prelude.{ℕ, ◌+◌, ◌-◌, ◌==◌, nat_lt, pos, int_le, List, [], ◌∷◌, ◌++◌, map, filter, flat_map, Bool, true, false, not, ◌&&◌, ◌||◌, if◌then◌else◌}
 use Rattle.std.specs.List.{range_with_len, list_any}
 use Rattle.std.specs.Int.{int_max}
 use Rattle.brace_num.specs.Areas.{gap}
 use Rattle.brace_core.specs.Schedule.{Schedule, Pair}
-use Rattle.brace_model.specs.declared.program.Program.{Program}
+use Rattle.brace_model.specs.Next.{has_births}
 use Rattle.brace_cuts.specs.declared.space.Cuts.{Cuts}
 use Rattle.brace_cuts.specs.Space.{area_of, are_near}
 use Rattle.brace_pieces.specs.declared.setting.Setting.{Setting}
@@ -23,10 +23,6 @@ made_if c s = if c then s ∷ [] else []
 -- other cuts hold from a tick on that is not the run's first
 abbrev pub is_recut : Setting → ℕ → Bool
 is_recut s tick = nat_lt s.job.first tick && list_any (λ line. line.tick == tick) s.cuts.lines
-
--- a class of the script has a `spawn`
-abbrev pub has_births : Program → Bool
-has_births program = list_any (λ class. is_some class.spawn) program.classes
 
 -- all is shown at a tick, where an epoch ends there
 abbrev pub show : Setting → ℕ → List Step

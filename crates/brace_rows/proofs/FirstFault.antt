@@ -1,34 +1,17 @@
 -- The first faulty record of a file, found by reading the records in turn.
-use Rattle.std.proofs.Common.{◌≡◌, ◌≤◌, ◌<◌, ◌+◌, ◌-◌, ◌∙◌, ℕ, zero, suc, Result, Err, List, [], ◌∷◌, ◌++◌, length, take, Option, Some, None, sym, refl, ap, ap₂, subst, arith, append-nil, append_assoc, length-append, get_or}
+use Rattle.std.proofs.Common.{◌≡◌, ◌≤◌, ◌<◌, ◌+◌, ◌-◌, ◌∙◌, ℕ, suc, Result, Err, List, [], ◌∷◌, ◌++◌, length, take, Option, Some, None, sym, refl, ap, ap₂, subst, arith, append-nil, append_assoc, length-append, get_or}
 use Rattle.std.specs.Prelude.{filter_map, slice_get, option_map}
-use Rattle.std.specs.List.{range_with_len, cons_option}
 use Rattle.std.proofs.Math.Seq.{take-append_seam, get_or-append_seam}
 use Rattle.std.proofs.Common.{⊎_elim}
 use Rattle.std.proofs.lemmas.Bool.{cases_lt}
 use Rattle.std.proofs.lemmas.List.Elements.{filter_map-append}
+use Rattle.brace_num.proofs.FirstGiven.{none_given, first_given}
 use Rattle.brace_model.specs.declared.program.Program.{Program}
 use Rattle.brace_model.specs.declared.world.Agent.{Agent}
 use Rattle.brace_rows.specs.declared.kinds.RowKind.{RowKind}
 use Rattle.brace_rows.specs.declared.kinds.RowFault.{RowFault}
 use Rattle.brace_rows.specs.declared.kinds.RowFault.TheVariants.{Bad}
 use Rattle.brace_rows.specs.AgentFile.{Fields, agent_of, agents_in, fault_behind, fault_at, first_fault}
-
--- a number gives nothing, from s on, n of them
-none_given : {X : Type 0} (f : ℕ → Option X) (n s : ℕ) → ((k : ℕ) → s ≤ k → k < s + n → f k ≡ None) → filter_map f (range_with_len s n) ≡ []
-none_given f zero s none = refl
-none_given f (suc n) s none =
-    ap (λ o. cons_option o (filter_map f (range_with_len (s + 1) n))) (none s (omega arith) (omega arith))
-    ∙ none_given f n (s + 1) (λ k from below. none k (omega (arith, from)) (omega (arith, below)))
-
--- the first number that gives something, d behind s
-first_given : {X : Type 0} (f : ℕ → Option X) (n d s j : ℕ) (x : X) → s + d ≡ j → d < n → ((k : ℕ) → s ≤ k → k < j → f k ≡ None) → f j ≡ Some x → slice_get (filter_map f (range_with_len s n)) 0 ≡ Some x
-first_given f zero d s j x at_j below none some = absurd (omega (arith, below))
-first_given f (suc n) zero s j x at_j below none some =
-    let here : j ≡ s = omega (arith, at_j) in
-    ap (λ o. slice_get (cons_option o (filter_map f (range_with_len (s + 1) n))) 0) (subst (λ i. f i ≡ Some x) here some)
-first_given f (suc n) (suc d) s j x at_j below none some =
-    ap (λ o. slice_get (cons_option o (filter_map f (range_with_len (s + 1) n))) 0) (none s (omega arith) (omega (arith, at_j)))
-    ∙ first_given f n d (s + 1) j x (omega (arith, at_j)) (omega (arith, below)) (λ k from under. none k (omega (arith, from)) under) some
 
 -- the records before number n are read and have no fault: their agents, and the records that follow
 pub record ReadTo (program : Program) (rows rest : List Fields) (agents : List Agent) (n : ℕ) : Type 0 where

@@ -28,7 +28,8 @@ use Rattle.brace_top.specs.declared.status.Status.TheVariants.{Done, Usage, Scri
 use Rattle.brace_top.specs.Answer.{ShelfCall, SinkCall, shelf_call, sink_call, Among, LeavesFront, IsEnd, IsAnswer, CountsReads}
 use Rattle.brace_top.specs.Commands.{Command, RunCommand, TrialCommand, Trial, command_in, command_of}
 use Rattle.brace_top.specs.Messages.{named_message, usage_message, write_fault_message, no_memory_message}
-use Rattle.brace_top.specs.Outcome.{Outcome, Refusal, TrialProgram, refusal, refused, shown, ended, end_status, end_message, loaded, ComesTo, refused_at, stands_for, unless_faulty, world_from, agents_of, job_of, ran, followed_by, has_births, run_outcome, CommandOutcome, Reads}
+use Rattle.brace_model.specs.Next.{has_births}
+use Rattle.brace_top.specs.Outcome.{Outcome, Refusal, TrialProgram, refusal, refused, shown, ended, end_status, end_message, loaded, ComesTo, refused_at, stands_for, unless_faulty, world_from, agents_of, job_of, ran, followed_by, run_outcome, CommandOutcome, Reads}
 use Rattle.brace_top.specs.Status.{has_run}
 use Rattle.brace_top.specs.inner.Settled.{stopped_by, is_work, stopped_status, stopped_message, status_in, message_in, IsRefusedAs, IsScriptRefused, IsRecordRefused, refuses_file, is_stop, GivesNothing, IsLoaded, IsUnloaded, IsStopped, IsCarriedOut, IsServed}
 use Rattle.brace_top.proofs.StatusLemmas.{stop_runs, stop_usage, stop_writes, work_refusal, work_usage, carried_reads, carried_writes}

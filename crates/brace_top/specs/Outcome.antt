@@ -1,11 +1,11 @@
 -- What a command comes to with no fault of the outside and with ample memory: its status and its
 -- texts.
-use Rattle.std.specs.Prelude.{◌≡◌, ◌⊎◌, ℕ, List, [], length, nat_lt, codes, Bool, true, false, if◌then◌else◌, is_some, Option, Some, None, Result, Ok, Err}
-use Rattle.std.specs.List.{list_any}
+use Rattle.std.specs.Prelude.{◌≡◌, ◌⊎◌, ℕ, List, [], length, nat_lt, codes, Bool, true, false, if◌then◌else◌, Option, Some, None, Result, Ok, Err}
 use Rattle.brace_io.specs.Shelves.{Files}
 use Rattle.brace_model.specs.declared.program.Program.{Program}
 use Rattle.brace_model.specs.declared.fault.Fault.{Fault}
 use Rattle.brace_model.specs.declared.job.Job.{Job}
+use Rattle.brace_model.specs.Next.{has_births}
 use Rattle.brace_model.specs.World.{World, world_of}
 use Rattle.brace_model.specs.Run.{end_of, first_fault}
 use Rattle.brace_model.specs.Published.{published}
@@ -147,10 +147,6 @@ ended text found = record { status = end_status found; out = text; err = end_mes
 -- the outcome of a job
 abbrev pub ran : Job → Outcome
 ran job = ended (published job true) (first_fault job)
-
--- a class of the program bears children
-abbrev pub has_births : Program → Bool
-has_births program = list_any (λ c. is_some c.spawn) program.classes
 
 -- the outcome of a run of a program, of which one with births is refused, as none is run yet
 abbrev pub run_outcome : Files → RunCommand → Program → Outcome

@@ -5,7 +5,7 @@ ghost use Rattle.brace_model.specs.Lawful.{LawfulProgram};
 ghost use Rattle.brace_top.specs.Answer.{sink_call};
 ghost use Rattle.brace_top.specs.Commands as asked;
 ghost use Rattle.brace_model.specs.Run.{end_of};
-ghost use Rattle.brace_top.specs.Outcome.{has_births, shown, ended, end_status, end_message, ran, job_of, trial_end};
+ghost use Rattle.brace_top.specs.Outcome.{shown, ended, end_status, end_message, ran, job_of, trial_end};
 ghost use Rattle.brace_top.specs.Status.{has_run};
 ghost use Rattle.brace_top.specs.inner.Settled.{IsCarriedOut, IsServed, is_work, status_in, message_in};
 ghost use Rattle.brace_top.specs.inner.Words.{said, said_run, said_trial, IsInRange, IsRunInRange, IsTrialInRange};
@@ -18,7 +18,7 @@ use crate::status::Status;
 use crate::trial::{end_of, trial_job, trial_line};
 use crate::words::{Command, RunCommand, TrialCommand};
 use brace_io::{Shelf, Sink, write_whole};
-use brace_model::{Fault, Job, Program, World};
+use brace_model::{Fault, Job, Program, World, has_births};
 use brace_show::show;
 use std::alloc::Global;
 
@@ -69,17 +69,6 @@ fn write_text<O: Sink>(alloc: Global, text: &[u8], out: &mut O) -> Result<Answer
         status: Status::Done,
         message: Vec::new(alloc),
     })
-}
-
-/// Whether a class of a program bears children.
-fn has_births(program: &Program) -> bool
-    ensures { result ≡ has_births program.now }
-{
-    program
-        .classes
-        .as_slice()
-        .iter()
-        .any(|class| class.spawn.is_some())
 }
 
 /// The job of a run.
