@@ -27,12 +27,6 @@ worths scope states values = map (λ p. ruled scope p.0.rule p.1) (zip states va
 abbrev pub gift_worths : Scope → List Gift → List Worth
 gift_worths scope gifts = map (λ g. value g.value scope) gifts
 
--- no class has a negative reach
-abbrev pub Reaches : Program → Type 0
-Reaches program =
-    (number : ℕ) (class : Class) → slice_get program.classes number ≡ Some class
-    → pos 0 ≤ℤ class.reach
-
 -- a list, and behind it one element that may be there
 abbrev pub with_one : {A : Type 0} → List A → Option A → List A
 with_one xs None = xs
