@@ -1,5 +1,5 @@
 -- What was heard after one saying more.
-use Rattle.std.proofs.Common.{◌≡◌, ◌∙◌, sym, refl, ap, subst, ℕ, ◌+◌, ◌-◌, ◌^◌, ◌<◌, ℤ, pos, ◌+ℤ◌, List, [], ◌∷◌, ◌++◌, length, take, get_or, set, min, Some, None, arith}
+use Rattle.std.proofs.Common.{◌≡◌, ◌∙◌, sym, refl, ap, subst, ℕ, ◌+◌, ◌-◌, ◌^◌, ◌<◌, ℤ, pos, ◌+ℤ◌, List, [], ◌∷◌, ◌++◌, length, map, take, get_or, set, min, Some, None, arith}
 use Rattle.std.specs.Prelude.{slice_get}
 use Rattle.brace_model.specs.declared.program.Comb.TheVariants.{Count}
 use Rattle.brace_model.specs.declared.program.Effect.{Effect}
@@ -8,10 +8,10 @@ use Rattle.brace_model.specs.declared.fault.Fault.{Fault}
 use Rattle.brace_model.specs.declared.world.Agent.{Agent}
 use Rattle.brace_model.specs.World.{RisesById, ids, class_of, no_value}
 use Rattle.brace_model.specs.Query.{Saying}
-use Rattle.brace_model.specs.Total.{joined}
+use Rattle.brace_model.specs.Total.{joined, totals_from}
 use Rattle.brace_eval.specs.declared.heard.Heard.{Heard}
-use Rattle.brace_eval.specs.Heard.{IsHeard, counted, counting, effects_in, table_of, said_by, faults_by}
-use Rattle.brace_eval.proofs.CountLemmas.{counted-at, counts-long}
+use Rattle.brace_eval.specs.Heard.{IsHeard, counted, counting, effects_in, row_of, table_of, said_by, faults_by}
+use Rattle.brace_eval.proofs.CountLemmas.{counted-at, counted-effects, counts-long}
 use Rattle.brace_eval.proofs.TableLemmas.{table-nobody, table-past, table-hit, table-room}
 
 module _ (program : Program) (agents : List Agent) (said : List Saying) (faults : List Fault) (heard : Heard)
@@ -100,3 +100,27 @@ grows-too p program list agents n seed tick asking said faults h before after sa
     (subst (λ (l : List Agent). Grows p l seed tick asking said faults before after) same_agents
     (subst (λ (m : ℕ). Grows p list m tick asking said faults before after) same_seed
     (subst (λ (g : Heard). Grows p list n tick asking said faults g after) same grows)))
+
+-- two programs whose classes have the same effects
+module _ (p q : Program) (alike : (a : Agent) → effects_in (class_of p a) ≡ effects_in (class_of q a)) (said : List Saying) where
+  table-alike : (agents : List Agent) → table_of p said agents ≡ table_of q said agents
+  table-alike [] = refl
+  table-alike (a ∷ agents) =
+      ap (λ (effects : List Effect). totals_from 0 a.id effects said ++ table_of p said agents) (alike a)
+      ∙ ap (λ (l : List ℤ). row_of q said a ++ l) (table-alike agents)
+
+counts-alike : (p q : Program) → ((a : Agent) → effects_in (class_of p a) ≡ effects_in (class_of q a))
+    → (a : Agent) → effects_in (class_of (counting p) a) ≡ effects_in (class_of (counting q) a)
+counts-alike p q alike a = counted-effects p a ∙ ap (map counted) (alike a) ∙ sym (counted-effects q a)
+
+-- hear alike
+pub heard-alike : (p q : Program) (agents : List Agent) (said : List Saying) (faults : List Fault) (heard : Heard)
+    → ((a : Agent) → effects_in (class_of p a) ≡ effects_in (class_of q a))
+    → IsHeard p agents said faults heard → IsHeard q agents said faults heard
+heard-alike p q agents said faults heard alike k = record {
+  totals = k.totals ∙ table-alike p q alike said agents;
+  counts = k.counts ∙ table-alike (counting p) (counting q) (counts-alike p q alike) said agents;
+  least = k.least;
+  each_starts = k.each_starts;
+  starts = λ i d le. k.starts i d le ∙ ap length (table-alike p q alike [] (take i agents));
+}

@@ -1,11 +1,9 @@
 -- The stops of an update, one outcome after another. Only the crate's own functions cite this.
-use Rattle.std.specs.Prelude.{◌≡◌, ◌≤ℤ◌, ℕ, pos, List, [], ◌∷◌, ◌++◌, map, zip, slice_get, Option, Some, None}
+use Rattle.std.specs.Prelude.{◌≡◌, List, [], ◌∷◌, ◌++◌, map, zip, Option, Some, None}
 use Rattle.brace_model.specs.declared.fault.Stop.{Stop}
 use Rattle.brace_model.specs.declared.program.Gift.{Gift}
 use Rattle.brace_model.specs.declared.program.State.{State}
 use Rattle.brace_model.specs.declared.program.Value.{Value}
-use Rattle.brace_model.specs.declared.program.Class.{Class}
-use Rattle.brace_model.specs.declared.program.Program.{Program}
 use Rattle.brace_model.specs.Value.{Scope, Worth, value}
 use Rattle.brace_model.specs.Next.{earlier_stop, first_stop, ruled}
 
