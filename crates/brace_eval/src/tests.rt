@@ -337,22 +337,16 @@ fn speaking(alloc: Global) -> Result<Program, NoMemory> {
         shared: true,
         comb: Comb::Sum,
     })?;
-    let mut classes = List::new(alloc);
-    classes.push(Class {
-        name: text(alloc, "B")?,
-        states: states(alloc, None, None)?,
-        effects,
-        query,
-        visible: 1_000_000,
-        reach: 0,
-        x: 0,
-        y: 1,
-        die: None,
-        spawn: None,
-    })?;
+    let Program { classes, sites } = script(alloc, 0, states(alloc, None, None)?, None, None)?;
+    let mut classes = classes.into_vec();
+    if let Some(class) = classes.first_mut() {
+        class.visible = 1_000_000;
+        class.effects = effects;
+        class.query = query;
+    }
     Ok(Program {
-        classes,
-        sites: List::new(alloc),
+        classes: List::from_vec(classes),
+        sites,
     })
 }
 
