@@ -1,9 +1,9 @@
 -- Scripts that are the same apart from places have the same faults, targets and programs.
-use Rattle.std.proofs.Common.{◌≡◌, refl, sym, ap, subst, ◌∙◌, ℕ, suc, List, [], ◌∷◌, ◌++◌, map, flat_map, length}
+use Rattle.std.proofs.Common.{◌≡◌, refl, sym, ap, subst, ◌∙◌, ℕ, List, [], ◌∷◌, ◌++◌, map, flat_map, length}
 use Rattle.std.specs.Prelude.{slice_get}
 use Rattle.brace_syntax.specs.declared.tree.ClassTree.{ClassTree}
 use Rattle.brace_syntax.specs.declared.tree.Tree.{Tree}
-use Rattle.brace_show.specs.Alike.{class_at_0 as tree_class_at_0, Alike}
+use Rattle.brace_show.specs.Alike.{Alike}
 use Rattle.brace_names.specs.declared.fault.NameFault.{NameFault}
 use Rattle.brace_names.specs.declared.fault.Which.TheVariants as which
 use Rattle.brace_names.specs.declared.finding.Finding.{Finding}

@@ -1,6 +1,6 @@
 -- A statement has the same faults and, but for offsets, one meaning wherever its names stand, as long as they stand for the same.
-use Rattle.std.proofs.Common.{◌≡◌, refl, sym, ap, subst, ◌∙◌, ℕ, ◌+◌, Bool, true, false, List, [], ◌∷◌, ◌++◌, map, length, inl, inr}
-use Rattle.std.specs.Prelude.{not, nat_le, Option, Some, None, option_and_then, Result, Ok, Err, if◌then◌else◌}
+use Rattle.std.proofs.Common.{◌≡◌, refl, sym, ap, subst, ◌∙◌, ℕ, ◌+◌, Bool, true, List, [], ◌∷◌, ◌++◌, map, length, inl}
+use Rattle.std.specs.Prelude.{not, nat_le, Option, Some, None, option_and_then, Result, Ok, Err}
 use Rattle.std.proofs.lemmas.Bool.{true≢false}
 use Rattle.std.proofs.lemmas.List.Sums.{sum_by-cons}
 use Rattle.brace_syntax.specs.declared.tree.Ident.{Ident}
@@ -16,7 +16,6 @@ use Rattle.brace_names.specs.declared.finding.Finding.{Finding}
 use Rattle.brace_names.specs.declared.resolved.Target.{Target}
 use Rattle.brace_names.specs.declared.resolved.Target.TheVariants as target
 use Rattle.brace_names.specs.declared.declared.Field.{Field}
-use Rattle.brace_names.specs.declared.scope.Local.{Local}
 use Rattle.brace_names.specs.Tables.{look as named_in}
 use Rattle.brace_names.specs.Scopes as scopes
 use Rattle.brace_names.specs.Scopes.{class_number}
@@ -30,14 +29,14 @@ use Rattle.brace_model.specs.declared.program.Expr.{Expr}
 use Rattle.brace_model.specs.declared.program.Stmt.{Stmt}
 use Rattle.brace_model.specs.declared.program.Stmt.TheVariants as stmt
 use Rattle.brace_model.specs.declared.program.Stmt.TheOpen as model
-use Rattle.brace_model.specs.declared.program.Stmt.TheFolds.{fold-Stmt, fold-roll-Stmt}
+use Rattle.brace_model.specs.declared.program.Stmt.TheFolds.{fold-roll-Stmt}
 use Rattle.brace_model.specs.Typing.{same_type}
 use Rattle.brace_check.specs.declared.fault.CheckFault.{CheckFault}
 use Rattle.brace_check.specs.declared.fault.CheckFault.TheVariants.{WrongType, NestedTooDeep}
 use Rattle.brace_check.specs.Headings.{type_named}
 use Rattle.brace_check.specs.Scopes.{Scope, Part, look, stands, number_of, loop_class, inside, past, behind, constants_in}
 use Rattle.brace_check.specs.Types.{place, type_of}
-use Rattle.brace_check.specs.Findings.{assigns, crosses, crosses_to, nests, said_type, wanted, wanted_of_loop, misfits, fault_if}
+use Rattle.brace_check.specs.Findings.{assigns, crosses, nests, wanted, misfits, fault_if}
 use Rattle.brace_check.specs.Found.{valued}
 use Rattle.brace_check.specs.Found as found
 use Rattle.brace_check.specs.Meanings.{Sited, plain, followed, with_sites, assigned, agent_of}
@@ -454,6 +453,23 @@ module _ (table : List (ℕ × Target)) where
             (said_same This (number_of (stands c name.at)) at spot (means.expression x c) (means.expression y d) (meant_in x n c asked all));
       }
 
+  -- a statement of each of the two kinds
+  this_part : (at : ℕ) (name : Ident) (x : ExprTree) (made : Ident → ExprTree → StmtTree) (spot : Ident → ℕ) (other : scopes.Scope → List Finding)
+      → ((named : Ident) (y : ExprTree) → found.part (made named y) ≡ record { constants = []; here = λ c. this_faults (spot named) (stands c named.at) y c })
+      → ((named : Ident) (y : ExprTree) → means.part (made named y) ≡ record { constants = []; here = λ c. assigned This (number_of (stands c named.at)) (spot named) (means.expression y c) })
+      → PartSame (names.plain 0 (λ n. f.assigns n at name ++ names.expression x n)) (record { constants = []; here = λ c. this_faults at (stands c name.at) x c })
+      (record { constants = []; here = λ c. assigned This (number_of (stands c name.at)) at (means.expression x c) })
+      (record { part = names.plain 0 other; tree = λ n. made (as_field (ident_at_0 name) (named_in n.own name.text)) (recoded (expr_at_0 x) n) })
+  this_part at name x made spot other founds meants = record {
+    constants = refl;
+    scope = λ n. refl;
+    same = refl;
+    step = λ n c asked fine.
+        let y : ExprTree = recoded (expr_at_0 x) n in
+        let named : Ident = as_field (ident_at_0 name) (named_in n.own name.text) in
+        stepped (made named y) _ _ _ _ c (founds named y) (meants named y) (this_step at name x n c asked fine (spot named));
+  }
+
   abbrev loop_faults : ℕ → Option Target → Option Target → ExprTree → Scope → List CheckFault
   loop_faults at v t x c = assigns at t ++ crosses c at (loop_class c v) t ++ valued (option_and_then (λ class. wanted c class t) (loop_class c v)) x c
 
@@ -519,26 +535,14 @@ module _ (table : List (ℕ × Target)) where
         (of-Foreach recoded_stmt_step (ident_at_0 class) (ident_at_0 variable) (ident_at_0 other) (map tree.stmt_at_0 (stmts_of a)) 0) (foreach_same class variable other (stmts_of a) at (trees_same a));
     assign = λ name x. back (s.Assign name x) (s.Assign (ident_at_0 name) (expr_at_0 x)) _ _ _ _
         (of-Assign names.part_step name x) (of-Assign found.part_step name x) (of-Assign means.part_step name x)
-        (of-Assign tree.stmt_step name x) (of-Assign recoded_stmt_step (ident_at_0 name) (expr_at_0 x)) (record {
-          constants = refl;
-          scope = λ n. refl;
-          same = refl;
-          step = λ n c asked fine.
-              let y : ExprTree = recoded (expr_at_0 x) n in
-              let named : Ident = as_field (ident_at_0 name) (named_in n.own name.text) in
-              stepped (s.Assign named y) _ _ _ _ c (of-Assign found.part_step named y) (of-Assign means.part_step named y) (this_step name.at name x n c asked fine named.at);
-        });
+        (of-Assign tree.stmt_step name x) (of-Assign recoded_stmt_step (ident_at_0 name) (expr_at_0 x))
+        (this_part name.at name x s.Assign (λ named. named.at) (λ n. f.assigns n 0 (ident_at_0 name) ++ names.expression (expr_at_0 x) n)
+        (of-Assign found.part_step) (of-Assign means.part_step));
     assign_this = λ name x at. back (s.AssignThis name x at) (s.AssignThis (ident_at_0 name) (expr_at_0 x) 0) _ _ _ _
         (of-AssignThis names.part_step name x at) (of-AssignThis found.part_step name x at) (of-AssignThis means.part_step name x at)
-        (of-AssignThis tree.stmt_step name x at) (of-AssignThis recoded_stmt_step (ident_at_0 name) (expr_at_0 x) 0) (record {
-          constants = refl;
-          scope = λ n. refl;
-          same = refl;
-          step = λ n c asked fine.
-              let y : ExprTree = recoded (expr_at_0 x) n in
-              let named : Ident = as_field (ident_at_0 name) (named_in n.own name.text) in
-              stepped (s.AssignThis named y 0) _ _ _ _ c (of-AssignThis found.part_step named y 0) (of-AssignThis means.part_step named y 0) (this_step at name x n c asked fine 0);
-        });
+        (of-AssignThis tree.stmt_step name x at) (of-AssignThis recoded_stmt_step (ident_at_0 name) (expr_at_0 x) 0)
+        (this_part at name x (λ named y. s.AssignThis named y 0) (λ named. 0) (λ n. f.assigns n 0 (ident_at_0 name) ++ names.expression (expr_at_0 x) n)
+        (λ named y. of-AssignThis found.part_step named y 0) (λ named y. of-AssignThis means.part_step named y 0));
     assign_loop = λ variable name x. back (s.AssignLoop variable name x) (s.AssignLoop (ident_at_0 variable) (ident_at_0 name) (expr_at_0 x)) _ _ _ _
         (of-AssignLoop names.part_step variable name x) (of-AssignLoop found.part_step variable name x) (of-AssignLoop means.part_step variable name x)
         (of-AssignLoop tree.stmt_step variable name x) (of-AssignLoop recoded_stmt_step (ident_at_0 variable) (ident_at_0 name) (expr_at_0 x)) (record {

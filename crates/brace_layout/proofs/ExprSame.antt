@@ -42,7 +42,7 @@ use Rattle.brace_check.proofs.Equations.{type-Lit, type-True, type-False, type-N
 use Rattle.brace_check.proofs.CheckedMembers.{nil_front, nil_back}
 use Rattle.brace_check.proofs.TypeSound.{all_front, all_back}
 use Rattle.brace_layout.specs.Unplaced.{check_fault_at_0}
-use Rattle.brace_layout.proofs.Codes.{code, Coded, AllCoded}
+use Rattle.brace_layout.proofs.Codes.{Coded, AllCoded}
 use Rattle.brace_layout.proofs.Recoded.{as_field, as_read, as_variable, as_loop_field, recoded, recoded-Lit, recoded-True, recoded-False, recoded-Name, recoded-OfThis, recoded-OfLoop, recoded-Unary, recoded-Binary, recoded-Choice, recoded-Rand}
 
 -- a type, or a fault at place 0

@@ -1,10 +1,8 @@
 -- A class has the same faults and, but for offsets, one meaning wherever its names stand, as long as they stand for the same.
-use Rattle.std.proofs.Common.{◌≡◌, refl, sym, ap, subst, ◌∙◌, ℕ, ◌+◌, ℤ, Bool, true, false, List, [], ◌∷◌, ◌++◌, map, flat_map, length, inl, inr}
-use Rattle.std.specs.Prelude.{not, Option, Some, None, option_map, slice_get, unwrap_or, codes}
+use Rattle.std.proofs.Common.{◌≡◌, refl, sym, ap, subst, ◌∙◌, ℕ, ◌+◌, ℤ, Bool, true, false, List, [], ◌∷◌, ◌++◌, map, flat_map, inr}
+use Rattle.std.specs.Prelude.{not, Option, Some, None, slice_get, unwrap_or, codes}
 use mathlib.Core.List.{map-append}
-use Rattle.std.proofs.lemmas.Bool.{true≢false}
 use Rattle.brace_syntax.specs.declared.tree.Ident.{Ident}
-use Rattle.brace_syntax.specs.declared.tree.Number.{Number}
 use Rattle.brace_syntax.specs.declared.tree.TyName.{TyName}
 use Rattle.brace_syntax.specs.declared.tree.CombName.{CombName}
 use Rattle.brace_syntax.specs.declared.tree.ExprTree.{ExprTree}
@@ -33,7 +31,6 @@ use Rattle.brace_model.specs.declared.program.Gift.{Gift}
 use Rattle.brace_model.specs.declared.program.Spawn.{Spawn}
 use Rattle.brace_model.specs.declared.program.Effect.{Effect}
 use Rattle.brace_model.specs.declared.program.Class.{Class}
-use Rattle.brace_model.specs.declared.program.Program.{Program}
 use Rattle.brace_model.specs.Lawful.{is_distance, combines}
 use Rattle.brace_check.specs.declared.fault.CheckFault.{CheckFault}
 use Rattle.brace_check.specs.declared.fault.CheckFault.TheVariants.{BadRange, WrongCombinator}
@@ -45,19 +42,19 @@ use Rattle.brace_check.specs.Headings as headed
 use Rattle.brace_check.specs.Headings.{type_named, comb_named, heading}
 use Rattle.brace_check.specs.Scopes.{Scope, look, outermost, stands, number_of}
 use Rattle.brace_check.specs.Types.{place, type_of}
-use Rattle.brace_check.specs.Findings.{gives, given_type, misfits, millionths, ranges, joins}
+use Rattle.brace_check.specs.Findings.{gives, given_type, misfits, millionths, joins}
 use Rattle.brace_check.specs.Found.{valued}
 use Rattle.brace_check.specs.Found as found
 use Rattle.brace_check.specs.Meanings.{Sited, plain, followed, with_sites}
 use Rattle.brace_check.specs.Meanings as means
-use Rattle.brace_check.specs.Programs.{rule, gifts_in, spawn_of, no_share, share, shared_by, shares, effect_of, visible_of, reach_of, first_or_0, place_of, class_with, class_of, classes_from, program_with}
+use Rattle.brace_check.specs.Programs.{rule, gifts_in, spawn_of, no_share, share, shared_by, shares, effect_of, visible_of, reach_of, first_or_0, place_of, class_with, class_of, classes_from}
 use Rattle.brace_check.proofs.CheckedMembers.{nil_front, nil_back}
 use Rattle.brace_check.proofs.TypeSound.{all_front, all_back}
-use Rattle.brace_layout.specs.Unplaced.{stmt_at_0, class_at_0, program_at_0}
+use Rattle.brace_layout.specs.Unplaced.{stmt_at_0, class_at_0}
 use Rattle.brace_layout.proofs.Codes.{Coded, AllCoded}
-use Rattle.brace_layout.proofs.Recoded.{as_field, recoded, trees_in, recoded_stmt, recoded_gift, recoded_rule, recoded_member, recoded_class}
+use Rattle.brace_layout.proofs.Recoded.{as_field, recoded, trees_in, recoded_gift, recoded_member, recoded_class}
 use Rattle.brace_layout.proofs.ScriptUnplaced.{own_zero}
-use Rattle.brace_layout.proofs.ExprSame.{faults_at_0, faults_both, fault_same, lengths_both, sense, SameSense, retargeted, field_stands, expression_same}
+use Rattle.brace_layout.proofs.ExprSame.{faults_at_0, faults_both, fault_same, sense, SameSense, retargeted, field_stands, expression_same}
 use Rattle.brace_layout.proofs.BlockSame.{SameUnder, same_, as_same, followed_same, made_same, value_same, type_same, recoded_trees, RunSame, block_same}
 
 -- what members have, at offset 0

@@ -1,12 +1,8 @@
 -- What is found in the names of a script at place 0 is what is found in the script, at place 0.
-use Rattle.std.proofs.Common.{◌≡◌, refl, sym, ap, subst, ◌∙◌, ℕ, ◌+◌, Bool, true, false, List, [], ◌∷◌, ◌++◌, map, flat_map, fold, inl, inr}
-use Rattle.std.specs.Prelude.{not, ◌&&◌, ◌||◌, Option, Some, None, slice_get, option_map, filter, codes, if◌then◌else◌}
+use Rattle.std.proofs.Common.{◌≡◌, refl, sym, ap, subst, ◌∙◌, ℕ, ◌+◌, Bool, true, false, List, [], ◌∷◌, ◌++◌, map}
+use Rattle.std.specs.Prelude.{not, ◌&&◌, Option, Some, None, if◌then◌else◌}
 use mathlib.Core.List.{map-append}
-use Rattle.std.specs.List.{list_any}
 use Rattle.std.specs.Str.{bytes_eq}
-use Rattle.std.proofs.lemmas.Bool.{cases_Bool}
-use Rattle.std.proofs.lemmas.Option.{slice_get-map}
-use Rattle.std.proofs.lemmas.Grind.{flat_map-append}
 use Rattle.std.proofs.lemmas.List.Sums.{sum_by-cons}
 use Rattle.brace_syntax.specs.declared.tree.Ident.{Ident}
 use Rattle.brace_syntax.specs.declared.tree.TyName.{TyName}
@@ -16,29 +12,19 @@ use Rattle.brace_syntax.specs.declared.tree.ExprTree.TheVariants as e
 use Rattle.brace_syntax.specs.declared.tree.StmtTree.{StmtTree}
 use Rattle.brace_syntax.specs.declared.tree.StmtTree.TheVariants as s
 use Rattle.brace_syntax.specs.declared.tree.StmtTree.TheOpen as layer
-use Rattle.brace_syntax.specs.declared.tree.GiftTree.{GiftTree}
-use Rattle.brace_syntax.specs.declared.tree.MemberTree.{MemberTree}
-use Rattle.brace_syntax.specs.declared.tree.MemberTree.TheVariants as m
-use Rattle.brace_syntax.specs.declared.tree.ClassTree.{ClassTree}
-use Rattle.brace_syntax.specs.declared.tree.Tree.{Tree}
-use Rattle.brace_show.specs.Alike.{ident_at_0, number_at_0, type_at_0, expr_step, expr_at_0, stmt_step, stmt_at_0, gift_at_0, member_at_0, class_at_0, Alike}
-use Rattle.brace_names.specs.declared.fault.NameFault.{NameFault}
-use Rattle.brace_names.specs.declared.fault.NameFault.TheVariants.{DuplicateName, DuplicateClass, UnknownClass}
-use Rattle.brace_names.specs.declared.fault.Which.{Which}
-use Rattle.brace_names.specs.declared.fault.Which.TheVariants as which
+use Rattle.brace_show.specs.Alike.{ident_at_0, number_at_0, type_at_0, expr_step, expr_at_0, stmt_step, stmt_at_0}
+use Rattle.brace_names.specs.declared.fault.NameFault.TheVariants.{DuplicateName, UnknownClass}
 use Rattle.brace_names.specs.declared.declared.Field.{Field}
 use Rattle.brace_names.specs.declared.scope.Local.{Local}
 use Rattle.brace_names.specs.declared.scope.Local.TheVariants as local
 use Rattle.brace_names.specs.declared.finding.Finding.{Finding}
 use Rattle.brace_names.specs.declared.finding.Finding.TheVariants as finding
-use Rattle.brace_names.specs.Tables.{look, with_name, table, repeated, repeated_after}
-use Rattle.brace_names.specs.Classes.{Known, known, title, is_sum, fields, fields_behind, numbered_from, is_coordinate, has_position}
-use Rattle.brace_names.specs.Scopes.{Scope, outermost, inside, past, declaring, is_taken, class_number, field_in, constant_of}
+use Rattle.brace_names.specs.Tables.{look}
+use Rattle.brace_names.specs.Scopes.{Scope, inside, past, is_taken, class_number, field_in, constant_of}
 use Rattle.brace_names.specs.Findings as f
-use Rattle.brace_names.specs.Found as names
 use Rattle.brace_names.specs.Found.{Part, behind, constants_in, block, expression, part, part_step}
 use Rattle.brace_names.proofs.FoundEquations as q
-use Rattle.brace_check.proofs.ByKind.{Expressions, of_expression, ProvedStmt, stmts_of, Statements, of_statement, proved, stmts-proved}
+use Rattle.brace_check.proofs.ByKind.{Expressions, of_expression, ProvedStmt, stmts_of, Statements, proved, stmts-proved}
 use Rattle.brace_check.proofs.Folds.{of-Lit, of-True, of-False, of-Name, of-OfThis, of-OfLoop, of-Unary, of-Binary, of-Choice, of-Rand, of-Const, of-when, of-either, of-Foreach, of-Assign, of-AssignThis, of-AssignLoop}
 use Rattle.brace_layout.specs.Unplaced.{name_fault_at_0}
 

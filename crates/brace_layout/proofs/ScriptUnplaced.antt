@@ -14,7 +14,7 @@ use Rattle.brace_syntax.specs.declared.tree.MemberTree.{MemberTree}
 use Rattle.brace_syntax.specs.declared.tree.MemberTree.TheVariants as m
 use Rattle.brace_syntax.specs.declared.tree.ClassTree.{ClassTree}
 use Rattle.brace_syntax.specs.declared.tree.Tree.{Tree}
-use Rattle.brace_show.specs.Alike.{ident_at_0, type_at_0, expr_at_0, stmt_at_0, gift_at_0, member_at_0, class_at_0}
+use Rattle.brace_show.specs.Alike.{ident_at_0, type_at_0, expr_at_0, gift_at_0, member_at_0, class_at_0}
 use Rattle.brace_names.specs.declared.fault.NameFault.{NameFault}
 use Rattle.brace_names.specs.declared.fault.NameFault.TheVariants as fault
 use Rattle.brace_names.specs.declared.fault.Which.{Which}
@@ -31,9 +31,9 @@ use Rattle.brace_names.specs.Scopes.{Scope, outermost}
 use Rattle.brace_names.specs.Findings as f
 use Rattle.brace_names.specs.Found as names
 use Rattle.brace_names.specs.Found.{is_state, states_given, declarations, class_names, members, found}
-use Rattle.brace_names.specs.Faults.{fault_of, binding_of, site_of, assignment_of, too_many, faults_among, faults, bindings}
+use Rattle.brace_names.specs.Faults.{fault_of, binding_of, site_of, assignment_of, too_many, faults_among, faults}
 use Rattle.brace_layout.specs.Unplaced.{name_fault_at_0, targets_in}
-use Rattle.brace_layout.proofs.NamesUnplaced.{finding_at_0, zeroed, both, expression_unplaced, block_unplaced, typed_at, assigns_at}
+use Rattle.brace_layout.proofs.NamesUnplaced.{zeroed, both, expression_unplaced, block_unplaced, typed_at, assigns_at}
 
 abbrev nought : ℕ → ℕ
 nought at = 0
