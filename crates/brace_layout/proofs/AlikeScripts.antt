@@ -1,9 +1,16 @@
 -- Scripts that are the same apart from places have the same faults, targets and programs.
 use Rattle.std.proofs.Common.{◌≡◌, refl, sym, ap, subst, ◌∙◌, ℕ, List, [], ◌∷◌, ◌++◌, map, flat_map, length}
 use Rattle.std.specs.Prelude.{slice_get}
+use Rattle.brace_tok.specs.declared.kinds.Token.{Token}
+use Rattle.brace_tok.proofs.Unique.{one_list}
 use Rattle.brace_syntax.specs.declared.tree.ClassTree.{ClassTree}
 use Rattle.brace_syntax.specs.declared.tree.Tree.{Tree}
+use Rattle.brace_syntax.specs.Reads.{Reads}
+use Rattle.brace_syntax.proofs.ClassFound.{one_tree as one_script}
 use Rattle.brace_show.specs.Alike.{Alike}
+use Rattle.brace_show.specs.Back.{ReadsBack}
+use Rattle.brace_show.specs.Canonical.{canonical}
+use Rattle.brace_show.proofs.ReadBack.{canonical_reads_back}
 use Rattle.brace_names.specs.declared.fault.NameFault.{NameFault}
 use Rattle.brace_names.specs.declared.fault.Which.TheVariants as which
 use Rattle.brace_names.specs.declared.finding.Finding.{Finding}
@@ -12,7 +19,7 @@ use Rattle.brace_names.specs.declared.resolved.Resolved.{Resolved}
 use Rattle.brace_names.specs.declared.resolved.Target.{Target}
 use Rattle.brace_names.specs.Classes.{Known, known}
 use Rattle.brace_names.specs.Found as names
-use Rattle.brace_names.specs.Faults.{fault_of, site_of, assignment_of, too_many, faults as name_faults}
+use Rattle.brace_names.specs.Faults.{fault_of, site_of, assignment_of, too_many, bindings, faults as name_faults}
 use Rattle.brace_names.proofs.NameOrder.{bindings_rise}
 use Rattle.brace_names.proofs.TreeOrder.{of_script}
 use Rattle.brace_model.specs.declared.program.Class.{Class}
@@ -29,6 +36,7 @@ use Rattle.brace_check.specs.Scopes.{targets_of}
 use Rattle.brace_check.proofs.CheckedMembers.{nil_front}
 use Rattle.brace_check.proofs.Places.{AllFine, all_fine}
 use Rattle.brace_check.proofs.TypeSound.{all_back}
+use Rattle.brace_layout.specs.Formatted.{IsFormatted}
 use Rattle.brace_layout.specs.Unplaced.{name_fault_at_0, check_fault_at_0, targets_in, class_at_0, program_at_0}
 use Rattle.brace_layout.proofs.Codes.{coded_table, all_there, Coded, AllCoded, all_coded}
 use Rattle.brace_layout.proofs.Recoded.{recoded_class}
@@ -140,3 +148,27 @@ module _ (src other : List ℕ) (r q : Resolved) (is : IsResolved src r) (also :
       ∙ (ap (λ (t : Tree). program_at_0 (coded_program t (targets_in r.tree))) (one_tree r.tree q.tree alike)
       ∙ (ap (λ (ts : List Target). program_at_0 (coded_program (tree_at_0 q.tree) ts)) (same_targets r.tree q.tree alike)
       ∙ sym (program_coded other q also (clean_either clean))))
+
+-- what a canonical text is resolved as
+module _ (src : List ℕ) (r : Resolved) (is : IsResolved src r) where
+  read_back : ReadsBack (canonical r.tree) r.tree
+  read_back = canonical_reads_back src is.toks r.tree is.spelled is.read
+
+  pub formatted : IsFormatted r
+  formatted = record {
+    again = record { tree = read_back.1; bindings = bindings read_back.1 };
+    resolved = record {
+      toks = read_back.0;
+      spelled = read_back.2;
+      read = read_back.3;
+      bound = refl;
+      faultless = none_either r.tree read_back.1 read_back.4 is.faultless;
+    };
+    alike = read_back.4;
+  }
+
+  pub alike_again : (q : Resolved) → IsResolved (canonical r.tree) q → Alike r.tree q.tree
+  alike_again q also =
+      let toks : read_back.0 ≡ also.toks = one_list (canonical r.tree) read_back.0 also.toks read_back.2 also.spelled in
+      let read : Reads (canonical r.tree) also.toks read_back.1 = subst (λ (l : List Token). Reads (canonical r.tree) l read_back.1) toks read_back.3 in
+      subst (Alike r.tree) (one_script (canonical r.tree) also.toks read_back.1 q.tree read also.read) read_back.4
