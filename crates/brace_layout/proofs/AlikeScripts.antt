@@ -40,7 +40,7 @@ use Rattle.brace_layout.specs.Formatted.{IsFormatted}
 use Rattle.brace_layout.specs.Unplaced.{name_fault_at_0, check_fault_at_0, targets_in, class_at_0, program_at_0}
 use Rattle.brace_layout.proofs.Codes.{coded_table, all_there, Coded, AllCoded, all_coded}
 use Rattle.brace_layout.proofs.Recoded.{recoded_class}
-use Rattle.brace_layout.proofs.ScriptUnplaced.{known_zero, tree_at_0, faults_unplaced, targets_unplaced}
+use Rattle.brace_layout.proofs.ScriptUnplaced.{nought, known_zero, tree_at_0, faults_unplaced, targets_unplaced}
 use Rattle.brace_layout.proofs.ExprSame.{faults_at_0}
 use Rattle.brace_layout.proofs.BlockSame.{SameUnder}
 use Rattle.brace_layout.proofs.MembersSame.{headings_same, classes_meant, classes_faults}
@@ -72,9 +72,6 @@ coded_faults tree ts = found.classes_from (coded_table ts) (map heading (coded_c
 
 abbrev coded_program : Tree → List Target → Program
 coded_program tree ts = program_with (classes_from (coded_table ts) (map heading (coded_classes tree)) 0 (coded_classes tree))
-
-abbrev nought : ℕ → ℕ
-nought at = 0
 
 same_length : (xs ys : List ℕ) → length xs ≡ length ys → map nought xs ≡ map nought ys
 same_length [] [] same = refl

@@ -6,3 +6,4 @@ pub mod ExprSame
 pub mod BlockSame
 pub mod MembersSame
 pub mod AlikeScripts
+mod Examples

@@ -35,7 +35,7 @@ use Rattle.brace_names.specs.Faults.{fault_of, binding_of, site_of, assignment_o
 use Rattle.brace_layout.specs.Unplaced.{name_fault_at_0, targets_in}
 use Rattle.brace_layout.proofs.NamesUnplaced.{zeroed, both, expression_unplaced, block_unplaced, typed_at, assigns_at}
 
-abbrev nought : ℕ → ℕ
+abbrev pub nought : ℕ → ℕ
 nought at = 0
 
 -- names that are repeated
