@@ -1,0 +1,11 @@
+pub mod AgentLines
+pub mod Begins
+pub mod Classes
+pub mod CountLines
+pub mod Ends
+pub mod Fitting
+pub mod Headings
+pub mod ReadBack
+pub mod Rises
+pub mod Runs
+pub mod Written
