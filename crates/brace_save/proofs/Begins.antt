@@ -70,7 +70,7 @@ pub one_more : (all start : List (List ℕ)) (i : ℕ) (text : List ℕ) → tak
 one_more all start i text e below is = take_more all i [] below ∙ ap (λ l. l ++ line all i ∷ []) e ∙ ap (λ t. start ++ t ∷ []) is
 
 -- the first line of a checkpoint tells its version
-first_is : (program : Program) (b : Bool) (m : Moment) → line (lines program b m) 0 ≡ version b
+pub first_is : (program : Program) (b : Bool) (m : Moment) → line (lines program b m) 0 ≡ version b
 first_is program true m = refl
 first_is program false m = refl
 

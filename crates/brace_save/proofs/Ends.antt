@@ -17,10 +17,10 @@ use Rattle.brace_save.proofs.Begins.{bad_at, cut_at, front_begins, one_more, lin
 use Rattle.brace_save.proofs.Rises.{next_may, moment_more}
 use Rattle.brace_save.proofs.Runs.{Fit, fit_first, agent_same, agents_first, no_end, no_end_missing}
 
-fit_of : (program : Program) (b : Bool) (m : Moment) → IsMoment program b m → Fit program m.world.agents
+pub fit_of : (program : Program) (b : Bool) (m : Moment) → IsMoment program b m → Fit program m.world.agents
 fit_of program b m is = record { lawful = is.lawful.each_is_lawful; values_fit = is.values_fit }
 
-fit_at : (program : Program) (xs more : List Agent) (a : Agent) → Fit program (xs ++ a ∷ more) → IsAgentLine program a (agent_text program a)
+pub fit_at : (program : Program) (xs more : List Agent) (a : Agent) → Fit program (xs ++ a ∷ more) → IsAgentLine program a (agent_text program a)
 fit_at program [] more a fit = (fit_first program a more fit).0
 fit_at program (x ∷ xs) more a fit = fit_at program xs more a (fit_first program x (xs ++ a ∷ more) fit).1
 

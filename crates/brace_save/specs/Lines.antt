@@ -4,9 +4,10 @@ use Rattle.std.specs.Prelude.{◌≡◌, ℕ, ◌+◌, ◌-◌, ◌≤◌, ◌==
 use Rattle.std.specs.List.{slice_split}
 use Rattle.std.specs.Str.{bytes_eq}
 use Rattle.brace_model.specs.declared.program.Program.{Program}
+use Rattle.brace_save.specs.declared.kinds.Point.{Point}
 use Rattle.brace_save.specs.declared.kinds.PointFault.{PointFault}
 use Rattle.brace_save.specs.declared.kinds.PointFault.TheVariants.{Incomplete, BadLine, OtherClasses, BadVersion}
-use Rattle.brace_save.specs.Texts.{Moment, IsMoment, lines}
+use Rattle.brace_save.specs.Texts.{Moment, IsMoment, lines, text}
 
 -- the parts of a file between its bytes 10
 abbrev pub parts : List ℕ → List (List ℕ)
@@ -33,6 +34,12 @@ Begin program some = (moment : Moment) × (rest : List (List ℕ)) × AreOf prog
 -- the lines are those of a checkpoint
 abbrev pub AreAll : Program → List (List ℕ) → Type 0
 AreAll program all = (moment : Moment) × AreOf program moment all
+
+-- the bytes are a text of the moment
+pub record IsText (program : Program) (moment : Moment) (bytes : List ℕ) : Type 0 where
+  pub tells_next : Bool
+  pub moment_is : IsMoment program tells_next moment
+  pub same : bytes ≡ text (lines program tells_next moment)
 
 -- line n of a file is the first with which no checkpoint begins; behind the lines of a checkpoint
 -- an unfinished line is one
@@ -65,3 +72,9 @@ pub data IsRead (program : Program) (all : List (List ℕ)) (rest : List ℕ) :
   bad : (n : ℕ) → IsFirstBad program all rest n
       → IsRead program all rest (Err (fault_of program all n))
   cut : Begin program all → (AreAll program all → ⊥) → IsRead program all rest (Err Incomplete)
+
+-- what an answer tells
+abbrev pub moment_told : Result Point PointFault → Result Moment PointFault
+moment_told (Ok point) =
+    Ok (record { tick = point.tick; seed = point.seed; world = point.world })
+moment_told (Err cause) = Err cause

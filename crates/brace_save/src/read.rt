@@ -1,5 +1,5 @@
 //! What a checkpoint tells.
-ghost use Rattle.std.specs.Prelude.{◌≡◌, ◌≤◌, ◌<◌, ◌+◌, ◌++◌, ◌∷◌, ℕ, [], List, length, map, codes, IfOk, OnOk, Ok, Err, MatchBool};
+ghost use Rattle.std.specs.Prelude.{◌≡◌, ◌≤◌, ◌<◌, ◌+◌, ◌++◌, ◌∷◌, ℕ, [], List, length, take, map, codes, IfOk, OnOk, Ok, Err, MatchBool};
 ghost use Rattle.std.specs.Str.{bytes_eq};
 ghost use Rattle.brace_model.specs.declared.program.Program.{Program};
 ghost use Rattle.brace_model.specs.declared.world.Agent.{Agent};
@@ -9,8 +9,8 @@ ghost use Rattle.brace_model.specs.World.{IsNumbered};
 ghost use Rattle.brace_save.specs.declared.kinds.Point.{Point};
 ghost use Rattle.brace_save.specs.declared.kinds.PointFault.{PointFault};
 ghost use Rattle.brace_save.specs.declared.kinds.PointFault.TheVariants as fault;
-ghost use Rattle.brace_save.specs.Lines.{AreOf, IsRead, parts, whole_lines, unfinished};
-ghost use Rattle.brace_save.specs.Texts.{count_line};
+ghost use Rattle.brace_save.specs.Lines.{AreOf, IsRead, IsText, moment_told, parts, whole_lines, unfinished};
+ghost use Rattle.brace_save.specs.Texts.{Moment, count_line};
 ghost use Rattle.brace_save.specs.inner.Spelled.{IsAgentLine};
 ghost use Rattle.brace_save.specs.inner.Steps.{IsCountAt, IsHeading, IsFront, MayFollow, line, told, place, version, front_length};
 
@@ -41,6 +41,25 @@ struct Heading {
 /// by its byte 10, with which no checkpoint begins. Where none is bad and the end line is missing
 /// the file is Incomplete. It takes time in proportion to the bytes.
 pub fn read_checkpoint(alloc: Global, program: &Program, bytes: &[u8]) -> Result<Point, PointFault>
+    ensures point { LawfulProgram program.now → (point : Point) → result ≡ Ok point
+        → IsRead program.now (whole_lines bytes.now) (unfinished bytes.now)
+        (Ok (record { tick = point.tick; seed = point.seed; world = point.world })) }
+    ensures refused { LawfulProgram program.now → (cause : PointFault) → result ≡ Err cause
+        → (cause ≡ fault.NoMemory → ⊥)
+        → IsRead program.now (whole_lines bytes.now) (unfinished bytes.now) (Err cause) }
+    ensures text { LawfulProgram program.now → (point : Point) → result ≡ Ok point → IsText
+        program.now (record { tick = point.tick; seed = point.seed; world = point.world }) bytes.now }
+    ensures read_back { LawfulProgram program.now → (moment : Moment)
+        → IsText program.now moment bytes.now → (result ≡ Err fault.NoMemory → ⊥)
+        → moment_told result ≡ Ok moment }
+    ensures cut { LawfulProgram program.now → (moment : Moment) (whole : List ℕ) (n : ℕ)
+        → IsText program.now moment whole → n < length whole → bytes.now ≡ take n whole
+        → (result ≡ Err fault.NoMemory → ⊥) → result ≡ Err fault.Incomplete }
+{
+    read_parts(alloc, program, bytes)
+}
+
+fn read_parts(alloc: Global, program: &Program, bytes: &[u8]) -> Result<Point, PointFault>
     ensures point { LawfulProgram program.now → (point : Point) → result ≡ Ok point
         → IsRead program.now (whole_lines bytes.now) (unfinished bytes.now)
         (Ok (record { tick = point.tick; seed = point.seed; world = point.world })) }

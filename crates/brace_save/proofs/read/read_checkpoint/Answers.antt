@@ -1,13 +1,16 @@
-use Rattle.std.proofs.Common.{◌≡◌, ◌==◌, ◌∙◌, ℕ, List, Bor, length, sym, ap, arith}
-use Rattle.std.proofs.lemmas.List.{length-map}
-use Rattle.std.proofs.lemmas.List.Splits.{length-slice_split}
-use Rattle.brace_save.specs.Lines.{parts}
+use Rattle.brace_save.specs.Lines.{moment_told}
+use Rattle.brace_save.proofs.Laws.{front_incomplete, incomplete_told, judged, read_text, text_read}
 use Rattle.brace_save.proofs.read.read_checkpoint.Goals as goal
 
-pub returns-clause-refused : goal.returns-clause-refused
-returns-clause-refused c = λ lawful cause err ok.
-    let many = length-slice_split (λ b. b == 10) c.args.bytes.now in
-    let same : length c.in_ok-parts.parts.items ≡ length (parts c.args.bytes.now) = sym (length-map c.in_ok-parts.parts.items (λ (p : Bor (List ℕ)). p.now)) ∙ ap length c.in_ok-parts.ensures in
-    let none : length c.as_slice.result.now ≡ 0 = omega (arith, c.in-empty.len_below) in
-    let items : length c.as_slice.result.now ≡ length c.in_ok-parts.parts.items = ap length c.as_slice.ensures.value in
-    absurd (omega (arith, many, same, none, items))
+pub returns-clause-text : goal.returns-clause-text
+returns-clause-text c = λ lawful point e. read_text c.args.program.now (record { tick = point.tick; seed = point.seed; world = point.world }) c.args.bytes.now (c.read_parts.ensures.point lawful point e)
+
+pub returns-clause-read_back : goal.returns-clause-read_back
+returns-clause-read_back c = λ lawful moment is ample.
+    text_read c.args.program.now moment c.args.bytes.now (moment_told c.read_parts.result) lawful is
+    (judged c.args.program.now c.args.bytes.now c.read_parts.result (c.read_parts.ensures.point lawful) (c.read_parts.ensures.refused lawful) ample)
+
+pub returns-clause-cut : goal.returns-clause-cut
+returns-clause-cut c = λ lawful moment whole n is below same ample.
+    incomplete_told c.read_parts.result (front_incomplete c.args.program.now moment whole c.args.bytes.now n (moment_told c.read_parts.result) lawful is below same
+    (judged c.args.program.now c.args.bytes.now c.read_parts.result (c.read_parts.ensures.point lawful) (c.read_parts.ensures.refused lawful) ample))
