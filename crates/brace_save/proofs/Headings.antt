@@ -129,3 +129,22 @@ seed_headed all b tick seed next e below is =
 
 pub next_headed : (all : List (List ℕ)) (tick seed next : ℕ) → Headed 3 true tick seed next all → 3 < length all → line all 3 ≡ count_line (codes "next ") next → Headed 4 true tick seed next all
 next_headed all tick seed next e below is = headed_more all 3 true tick seed next (count_line (codes "next ") next) e below is (omega arith) refl
+
+-- the first three lines are found
+pub record Seeded (all : List (List ℕ)) (b : Bool) (tick seed : ℕ) : Type 0 where
+  pub tick_in_range : tick ≤ 2 ^ 32
+  pub seed_in_range : seed < 2 ^ 64
+  pub there : 2 < length all
+  pub headed : (next : ℕ) → Headed 3 b tick seed next all
+
+pub seeded : (all : List (List ℕ)) (b c : Bool) (tick seed : ℕ) (r s : Result ℕ PointFault) → c ≡ b → (1 ≤ length all) × (line all 0 ≡ version c) → IsCountAt all 1 (codes "tick ") (2 ^ 32) r → r ≡ Ok tick
+    → IsCountAt all 2 (codes "seed ") (2 ^ 64 - 1) s → s ≡ Ok seed → Seeded all b tick seed
+seeded all b c tick seed r s same first at_tick told at_seed grown =
+    let (below, low, is) = count_found all 1 (codes "tick ") (2 ^ 32) tick r at_tick told in
+    let (below₂, low₂, is₂) = count_found all 2 (codes "seed ") (2 ^ 64 - 1) seed s at_seed grown in
+    record {
+      tick_in_range = low;
+      seed_in_range = omega (arith, low₂);
+      there = below₂;
+      headed = λ next. seed_headed all b tick seed next (tick_headed all b tick seed next first.0 (first.1 ∙ ap version same) below is) below₂ is₂;
+    }

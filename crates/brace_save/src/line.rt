@@ -6,28 +6,22 @@ ghost use Rattle.std.specs.Str.{bytes_eq};
 ghost use Rattle.brace_model.specs.declared.world.Agent.{Agent};
 ghost use Rattle.brace_model.specs.Lawful.{LawfulProgram, is_lawful_agent};
 ghost use Rattle.brace_model.specs.Published.{agent_text};
-ghost use Rattle.brace_rows.specs.AgentFile.{field, flag_of, value_of, id_in_range, id_of, class_named, values_in, complete, agent_of_class, agent_of};
+ghost use Rattle.brace_rows.specs.AgentFile.{field, value_of, values_in, complete, agent_of_class, agent_of};
 ghost use Rattle.brace_save.specs.Texts.{class_line, count_line, value_fits};
 ghost use Rattle.brace_save.specs.inner.Spelled.{IsAgentLine};
 
 use crate::write::append_class;
 use brace_model::{Agent, Class, Program, State, Ty, Value};
-use brace_num::{List, NoMemory, print_count, read_count, read_fixed, read_int};
-use brace_rows::print_agent;
+use brace_num::{List, NoMemory, print_count, read_count};
+use brace_rows::{class_named, print_agent, read_id, read_value};
 use std::alloc::{AllocError, Global};
 
-const GREATEST_ID: u64 = 9_223_372_036_854_775_807;
-
-/// What stands between the bytes of a kind.
-pub(crate) fn pieces<'a>(
-    alloc: Global,
-    bytes: &'a [u8],
-    end: u8,
-) -> Result<Vec<&'a [u8]>, AllocError>
-    ensures { IfOk result (λ pieces. map (λ p. p.now) pieces.items ≡
-        slice_split (λ b. b == end) bytes.now) }
+/// What stands between the commas of a line.
+fn fields_of<'a>(alloc: Global, line: &'a [u8]) -> Result<Vec<&'a [u8]>, AllocError>
+    ensures { IfOk result (λ fields. map (λ f. f.now) fields.items ≡
+        slice_split (λ b. b == 44) line.now) }
 {
-    bytes.split(move |byte| *byte == end).collect(alloc)
+    line.split(|byte| *byte == b',').collect(alloc)
 }
 
 /// The count of a line of a word and a count, at most so great; None where the line is none.
@@ -122,7 +116,7 @@ fn read_agent(alloc: Global, program: &Program, line: &[u8]) -> Result<Option<Ag
     ensures fit { IfOk result (λ agent. IfSome agent
         (λ a. IsTrue (list_all value_fits a.states))) }
 {
-    let fields = pieces(alloc, line, b',')?;
+    let fields = fields_of(alloc, line)?;
     read_fields(alloc, program, fields.as_slice())
 }
 
@@ -136,7 +130,7 @@ fn read_fields(
     ensures fit { IfOk result (λ agent. IfSome agent
         (λ a. IsTrue (list_all value_fits a.states))) }
 {
-    let Some(place) = place_of_class(program, field_at(fields, 0)) else {
+    let Some(place) = class_named(program, field_at(fields, 0)) else {
         return Ok(None);
     };
     let class = number_of(place)?;
@@ -177,16 +171,6 @@ pub(crate) fn field_at<'a>(fields: &[&'a [u8]], i: usize) -> &'a [u8]
     }
 }
 
-fn place_of_class(program: &Program, name: &[u8]) -> Option<usize>
-    ensures { result ≡ class_named program.now name.now }
-{
-    program
-        .classes
-        .as_slice()
-        .iter()
-        .position(|class| class.name.as_bytes() == name)
-}
-
 // No memory holds 2^32 classes.
 fn number_of(place: usize) -> Result<u32, NoMemory>
     ensures { IfOk result (λ number. number ≡ place) }
@@ -194,21 +178,6 @@ fn number_of(place: usize) -> Result<u32, NoMemory>
     match u32::try_from(place) {
         Ok(number) => Ok(number),
         Err(_) => Err(NoMemory),
-    }
-}
-
-fn read_id(text: &[u8]) -> Option<u64>
-    ensures { result ≡ id_of text.now }
-{
-    id_in_range(read_count(text))
-}
-
-fn id_in_range(count: Option<u64>) -> Option<u64>
-    ensures { result ≡ id_in_range count }
-{
-    match count {
-        Some(id) if id <= GREATEST_ID => Some(id),
-        _ => None,
     }
 }
 
@@ -224,9 +193,8 @@ fn read_values(
     ensures fit { IfOk result (λ values. IfSome values (λ v. IsTrue (list_all value_fits v))) }
 {
     let mut values = Vec::with_capacity(alloc, states.len())?;
-    for state in states {
-        let column = values.len() + 2;
-        let Some(value) = read_value(state.ty, field_at(fields, column)) else {
+    for i in 0..states.len() {
+        let Some(value) = fitting_value(states[i].ty, field_at(fields, i + 2)) else {
             return Ok(None);
         };
         values.push(value)?;
@@ -234,25 +202,9 @@ fn read_values(
     Ok(Some(List::from_vec(values)))
 }
 
-fn read_value(ty: Ty, text: &[u8]) -> Option<Value>
+fn fitting_value(ty: Ty, text: &[u8]) -> Option<Value>
     ensures reading { result ≡ value_of ty text.now }
     ensures fits { IfSome result (λ v. IsTrue (value_fits v)) }
 {
-    match ty {
-        Ty::Int => Some(Value::Int(read_int(text)?)),
-        Ty::Fixed => Some(Value::Fixed(read_fixed(text)?)),
-        Ty::Bool => Some(Value::Flag(read_flag(text)?)),
-    }
-}
-
-fn read_flag(text: &[u8]) -> Option<bool>
-    ensures { result ≡ flag_of text.now }
-{
-    if text == b"true".as_slice() {
-        Some(true)
-    } else if text == b"false".as_slice() {
-        Some(false)
-    } else {
-        None
-    }
+    read_value(ty, text)
 }

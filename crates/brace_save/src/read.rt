@@ -14,7 +14,7 @@ ghost use Rattle.brace_save.specs.Texts.{Moment, count_line};
 ghost use Rattle.brace_save.specs.inner.Spelled.{IsAgentLine};
 ghost use Rattle.brace_save.specs.inner.Steps.{IsCountAt, IsHeading, IsFront, MayFollow, line, told, place, version, front_length};
 
-use crate::line::{agent_in, count_in, field_at, is_class_line, is_end_line, pieces};
+use crate::line::{agent_in, count_in, field_at, is_class_line, is_end_line};
 use crate::{Point, PointFault};
 use brace_model::{Agent, Program, World};
 use brace_num::NoMemory;
@@ -41,12 +41,8 @@ struct Heading {
 /// by its byte 10, with which no checkpoint begins. Where none is bad and the end line is missing
 /// the file is Incomplete. It takes time in proportion to the bytes.
 pub fn read_checkpoint(alloc: Global, program: &Program, bytes: &[u8]) -> Result<Point, PointFault>
-    ensures point { LawfulProgram program.now → (point : Point) → result ≡ Ok point
-        → IsRead program.now (whole_lines bytes.now) (unfinished bytes.now)
-        (Ok (record { tick = point.tick; seed = point.seed; world = point.world })) }
-    ensures refused { LawfulProgram program.now → (cause : PointFault) → result ≡ Err cause
-        → (cause ≡ fault.NoMemory → ⊥)
-        → IsRead program.now (whole_lines bytes.now) (unfinished bytes.now) (Err cause) }
+    ensures judged { LawfulProgram program.now → (result ≡ Err fault.NoMemory → ⊥)
+        → IsRead program.now (whole_lines bytes.now) (unfinished bytes.now) (moment_told result) }
     ensures text { LawfulProgram program.now → (point : Point) → result ≡ Ok point → IsText
         program.now (record { tick = point.tick; seed = point.seed; world = point.world }) bytes.now }
     ensures read_back { LawfulProgram program.now → (moment : Moment)
@@ -87,7 +83,7 @@ impl From<NoMemory> for PointFault {
 fn split_lines<'a>(alloc: Global, bytes: &'a [u8]) -> Result<Vec<&'a [u8]>, NoMemory>
     ensures { IfOk result (λ split. map (λ p. p.now) split.items ≡ parts bytes.now) }
 {
-    Ok(pieces(alloc, bytes, b'\n')?)
+    Ok(bytes.split(|byte| *byte == b'\n').collect(alloc)?)
 }
 
 fn read_lines(
@@ -181,6 +177,13 @@ fn place_of(heading: Heading) -> usize
     ensures { result ≡ place heading.tells_next }
 {
     if heading.tells_next { 4 } else { 3 }
+}
+
+// How many lines stand before the end line.
+fn end_of(program: &Program, heading: Heading, agents: &[Agent]) -> usize
+    ensures { result ≡ front_length program.now heading.tells_next agents.now }
+{
+    place_of(heading) + program.classes.as_slice().len() + agents.len()
 }
 
 // The lines of classes, behind those of a heading.
@@ -284,7 +287,7 @@ fn read_end(
         → (cause : PointFault) → result ≡ Err cause → (cause ≡ fault.NoMemory → ⊥)
         → IsRead program.now (map (λ l. l.now) lines.now) rest.now (Err cause) }
 {
-    let end = place_of(heading) + program.classes.as_slice().len() + agents.len();
+    let end = end_of(program, heading, agents);
     if end >= lines.len() {
         return Err(PointFault::Incomplete);
     }

@@ -23,15 +23,15 @@ fn program_of(alloc: Global) -> Result<Program, NoMemory> {
     let mut classes = List::new(alloc);
     classes.push(Class {
         name: text_of(alloc, "P")?,
-        visible: 0,
-        reach: 0,
+        states,
         x: 0,
         y: 1,
-        states,
-        effects: List::new(alloc),
+        visible: 0,
+        reach: 0,
         query: List::new(alloc),
-        die: None,
+        effects: List::new(alloc),
         spawn: None,
+        die: None,
     })?;
     Ok(Program {
         classes,
@@ -69,6 +69,23 @@ fn writes_and_reads_a_checkpoint(rt: HostRuntime) -> Result<(), Fail> {
     for n in 0..TEXT.len() {
         let fault = read_checkpoint(alloc, &program, &TEXT[..n]).err();
         assert_eq!(rt; fault, Some(PointFault::Incomplete));
+    }
+    Ok(())
+}
+
+#[test]
+fn reads_the_next_free_id(rt: HostRuntime) -> Result<(), Fail> {
+    let alloc = rt.alloc();
+    let program = program_of(alloc)?;
+    let text = b"brace checkpoint 2\ntick 4294967296\nseed 18446744073709551615\nnext 12\n\
+class P x:fixed y:fixed n:int\nend 0\n";
+    match read_checkpoint(alloc, &program, text.as_slice()) {
+        Ok(point) => {
+            assert_eq!(rt; point.tick, 4_294_967_296);
+            assert_eq!(rt; point.seed, u64::MAX);
+            assert_eq!(rt; point.world.next(), 12);
+        }
+        Err(_) => return Err("it is a checkpoint".into()),
     }
     Ok(())
 }

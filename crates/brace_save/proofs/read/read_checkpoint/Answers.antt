@@ -2,6 +2,9 @@ use Rattle.brace_save.specs.Lines.{moment_told}
 use Rattle.brace_save.proofs.Laws.{front_incomplete, incomplete_told, judged, read_text, text_read}
 use Rattle.brace_save.proofs.read.read_checkpoint.Goals as goal
 
+pub returns-clause-judged : goal.returns-clause-judged
+returns-clause-judged c = λ lawful. judged c.args.program.now c.args.bytes.now c.read_parts.result (c.read_parts.ensures.point lawful) (c.read_parts.ensures.refused lawful)
+
 pub returns-clause-text : goal.returns-clause-text
 returns-clause-text c = λ lawful point e. read_text c.args.program.now (record { tick = point.tick; seed = point.seed; world = point.world }) c.args.bytes.now (c.read_parts.ensures.point lawful point e)
 

@@ -4,7 +4,6 @@ use Rattle.std.specs.Str.{bytes_eq}
 use Rattle.std.proofs.lemmas.Bool.{true≢false}
 use Rattle.std.proofs.lemmas.List.{length-map, nil_from_length}
 use Rattle.std.proofs.lemmas.Slice.Eq.{bytes_eq-Decides}
-use Rattle.brace_model.specs.declared.program.Class.{Class}
 use Rattle.brace_save.specs.declared.kinds.PointFault.TheVariants.{Incomplete, BadLine}
 use Rattle.brace_save.specs.Lines.{IsRead}
 use Rattle.brace_save.specs.Texts.{count_line, end_line}
@@ -18,9 +17,8 @@ returns-then-end-lines-clause-refused c = λ lawful none cause err ok.
     let all = map (λ (l : Bor (List ℕ)). l.now) c.args.lines.now in
     let same : Incomplete ≡ cause = cc in
     let long = length-map c.args.lines.now (λ (l : Bor (List ℕ)). l.now) in
-    let many : length c.as_slice.result.now ≡ length c.args.program.now.classes = ap (length {A = Class}) c.as_slice.ensures in
     subst (λ k. IsRead c.args.program.now all c.args.rest.now (Err k)) same
-    (end_missing c.args.program.now c.args.heading c.args.agents.now all c.args.rest.now lawful c.requires (omega (arith, long, many, c.place_of.ensures, c.if-end-lines.true)))
+    (end_missing c.args.program.now c.args.heading c.args.agents.now all c.args.rest.now lawful c.requires (omega (arith, long, c.end_of-end.ensures, c.if-end-lines.true)))
 
 pub returns-then-not-branch-clause-refused : goal.returns-then-not-branch-clause-refused
 returns-then-not-branch-clause-refused c = λ lawful none cause err ok.
@@ -28,8 +26,7 @@ returns-then-not-branch-clause-refused c = λ lawful none cause err ok.
     let agents = c.args.agents.now in
     let n = front_length c.args.program.now c.args.heading.tells_next agents in
     let long = length-map c.args.lines.now (λ (l : Bor (List ℕ)). l.now) in
-    let many : length c.as_slice.result.now ≡ length c.args.program.now.classes = ap (length {A = Class}) c.as_slice.ensures in
-    let at : c.place_of.result + length c.as_slice.result.now + length agents ≡ n = omega (arith, many, c.place_of.ensures) in
+    let at = c.end_of-end.ensures in
     let same : BadLine (n + 1) ≡ cause = ap (λ k. BadLine (k + 1)) (sym at) ∙ cc in
     let below : n < length c.args.lines.now = omega (arith, at, c.if-end-lines.false) in
     let differs : bytes_eq (count_line (codes "end ") (length agents)) c.field_at.result.now ≡ false = search rules in
@@ -44,8 +41,7 @@ returns-then-end-lines-2-clause-refused c = λ lawful none cause err ok.
     let agents = c.args.agents.now in
     let n = front_length c.args.program.now c.args.heading.tells_next agents in
     let long = length-map c.args.lines.now (λ (l : Bor (List ℕ)). l.now) in
-    let many : length c.as_slice.result.now ≡ length c.args.program.now.classes = ap (length {A = Class}) c.as_slice.ensures in
-    let at : c.place_of.result + length c.as_slice.result.now + length agents ≡ n = omega (arith, many, c.place_of.ensures) in
+    let at = c.end_of-end.ensures in
     let same : BadLine (n + 2) ≡ cause = ap (λ k. BadLine (k + 2)) (sym at) ∙ cc in
     let is : bytes_eq (count_line (codes "end ") (length agents)) c.field_at.result.now ≡ true = search rules in
     let end : line all n ≡ end_line agents = sym (c.field_at.ensures ∙ ap (line all) at) ∙ sym ((bytes_eq-Decides (end_line agents) c.field_at.result.now).0 is) in
@@ -64,8 +60,7 @@ returns-clause-whole c =
     let agents = c.args.agents.now in
     let n = front_length c.args.program.now c.args.heading.tells_next agents in
     let long = length-map c.args.lines.now (λ (l : Bor (List ℕ)). l.now) in
-    let many : length c.as_slice.result.now ≡ length c.args.program.now.classes = ap (length {A = Class}) c.as_slice.ensures in
-    let at : c.place_of.result + length c.as_slice.result.now + length agents ≡ n = omega (arith, many, c.place_of.ensures) in
+    let at = c.end_of-end.ensures in
     let is : bytes_eq (count_line (codes "end ") (length agents)) c.field_at.result.now ≡ true = search rules in
     let end : line all n ≡ end_line agents = sym (c.field_at.ensures ∙ ap (line all) at) ∙ sym ((bytes_eq-Decides (end_line agents) c.field_at.result.now).0 is) in
     let zero : length c.args.rest.now ≡ 0 = search rules in
