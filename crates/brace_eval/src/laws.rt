@@ -1,5 +1,5 @@
-//! Facts on values, steps and what was heard that hold always. The functions do nothing; their clauses are the
-//! laws.
+//! Facts on values, steps and what was heard that hold always. The functions do nothing; their
+//! clauses are the laws.
 ghost use Rattle.std.specs.Prelude.{◌≡◌, ℕ, List, Ok, Some};
 ghost use Rattle.brace_model.specs.declared.program.Expr.{Expr};
 ghost use Rattle.brace_model.specs.declared.program.Program.{Program};
