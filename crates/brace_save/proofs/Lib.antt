@@ -11,3 +11,4 @@ pub mod ReadBack
 pub mod Rises
 pub mod Runs
 pub mod Written
+pub mod Starts

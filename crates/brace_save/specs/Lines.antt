@@ -29,7 +29,8 @@ pub record AreOf (program : Program) (moment : Moment) (all : List (List ℕ)) :
 
 -- some checkpoint of the program's classes begins with these lines
 abbrev pub Begin : Program → List (List ℕ) → Type 0
-Begin program some = (moment : Moment) × (rest : List (List ℕ)) × AreOf program moment (some ++ rest)
+Begin program some =
+    (moment : Moment) × (rest : List (List ℕ)) × AreOf program moment (some ++ rest)
 
 -- the lines are those of a checkpoint
 abbrev pub AreAll : Program → List (List ℕ) → Type 0
@@ -73,8 +74,11 @@ pub data IsRead (program : Program) (all : List (List ℕ)) (rest : List ℕ) :
       → IsRead program all rest (Err (fault_of program all n))
   cut : Begin program all → (AreAll program all → ⊥) → IsRead program all rest (Err Incomplete)
 
+-- the moment that an accepted file tells
+abbrev pub moment_of : Point → Moment
+moment_of point = record { tick = point.tick; seed = point.seed; world = point.world }
+
 -- what an answer tells
 abbrev pub moment_told : Result Point PointFault → Result Moment PointFault
-moment_told (Ok point) =
-    Ok (record { tick = point.tick; seed = point.seed; world = point.world })
+moment_told (Ok point) = Ok (moment_of point)
 moment_told (Err cause) = Err cause

@@ -9,7 +9,7 @@ ghost use Rattle.brace_model.specs.World.{IsNumbered};
 ghost use Rattle.brace_save.specs.declared.kinds.Point.{Point};
 ghost use Rattle.brace_save.specs.declared.kinds.PointFault.{PointFault};
 ghost use Rattle.brace_save.specs.declared.kinds.PointFault.TheVariants as fault;
-ghost use Rattle.brace_save.specs.Lines.{AreOf, IsRead, IsText, moment_told, parts, whole_lines, unfinished};
+ghost use Rattle.brace_save.specs.Lines.{AreOf, IsRead, IsText, moment_of, moment_told, parts, whole_lines, unfinished};
 ghost use Rattle.brace_save.specs.Texts.{Moment, count_line};
 ghost use Rattle.brace_save.specs.inner.Spelled.{IsAgentLine};
 ghost use Rattle.brace_save.specs.inner.Steps.{IsCountAt, IsHeading, IsFront, MayFollow, line, told, place, version, front_length};
@@ -43,8 +43,8 @@ struct Heading {
 pub fn read_checkpoint(alloc: Global, program: &Program, bytes: &[u8]) -> Result<Point, PointFault>
     ensures judged { LawfulProgram program.now → (result ≡ Err fault.NoMemory → ⊥)
         → IsRead program.now (whole_lines bytes.now) (unfinished bytes.now) (moment_told result) }
-    ensures text { LawfulProgram program.now → (point : Point) → result ≡ Ok point → IsText
-        program.now (record { tick = point.tick; seed = point.seed; world = point.world }) bytes.now }
+    ensures text { LawfulProgram program.now → (point : Point) → result ≡ Ok point
+        → IsText program.now (moment_of point) bytes.now }
     ensures read_back { LawfulProgram program.now → (moment : Moment)
         → IsText program.now moment bytes.now → (result ≡ Err fault.NoMemory → ⊥)
         → moment_told result ≡ Ok moment }

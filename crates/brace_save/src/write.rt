@@ -28,7 +28,7 @@ pub fn write_checkpoint(
 }
 
 // A refused append may leave a part of the checkpoint behind `out`.
-#[tactic(auto, using(brace_num::proofs::Printings::starts_more, brace_rows::proofs::Texts::starts_here))]
+#[tactic(auto, using(crate::proofs::Starts::text_starts))]
 fn append_checkpoint(
     out: &mut Vec<u8>,
     program: &Program,
@@ -46,7 +46,7 @@ fn append_checkpoint(
     append_count(out, b"end ", world.agents().len() as u64)
 }
 
-#[tactic(auto, using(brace_num::proofs::Printings::starts_more, brace_rows::proofs::Texts::starts_here))]
+#[tactic(auto, using(crate::proofs::Starts::text_starts))]
 fn append_heading(
     out: &mut Vec<u8>,
     tells_next: bool,
@@ -66,7 +66,7 @@ fn append_heading(
     }
 }
 
-#[tactic(auto, using(brace_num::proofs::Printings::starts_more, brace_rows::proofs::Texts::starts_here))]
+#[tactic(auto, using(crate::proofs::Starts::text_starts))]
 fn append_start(out: &mut Vec<u8>, version: &[u8], tick: u64, seed: u64) -> Result<(), NoMemory>
     ensures printed { OnOk result (out.new.items ≡ out.old.items ++ text (version.now
         ∷ count_line (codes "tick ") tick ∷ count_line (codes "seed ") seed ∷ [])) }
@@ -77,7 +77,7 @@ fn append_start(out: &mut Vec<u8>, version: &[u8], tick: u64, seed: u64) -> Resu
     append_count(out, b"seed ", seed)
 }
 
-#[tactic(auto, using(brace_num::proofs::Printings::starts_more, brace_rows::proofs::Texts::starts_here))]
+#[tactic(auto, using(crate::proofs::Starts::text_starts))]
 fn append_line(out: &mut Vec<u8>, line: &[u8]) -> Result<(), NoMemory>
     ensures printed { OnOk result (out.new.items ≡ out.old.items ++ line.now ++ 10 ∷ []) }
     ensures only_appends { take (length out.old.items) out.new.items ≡ out.old.items }
@@ -87,7 +87,7 @@ fn append_line(out: &mut Vec<u8>, line: &[u8]) -> Result<(), NoMemory>
     Ok(())
 }
 
-#[tactic(auto, using(brace_num::proofs::Printings::starts_more, brace_rows::proofs::Texts::starts_here))]
+#[tactic(auto, using(crate::proofs::Starts::text_starts))]
 fn append_classes(out: &mut Vec<u8>, classes: &[Class]) -> Result<(), NoMemory>
     ensures printed { OnOk result (out.new.items
         ≡ out.old.items ++ flat_map (λ c. class_line c ++ 10 ∷ []) classes.now) }
@@ -99,7 +99,7 @@ fn append_classes(out: &mut Vec<u8>, classes: &[Class]) -> Result<(), NoMemory>
     Ok(())
 }
 
-#[tactic(auto, using(brace_num::proofs::Printings::starts_more, brace_rows::proofs::Texts::starts_here))]
+#[tactic(auto, using(crate::proofs::Starts::text_starts))]
 fn append_agents(out: &mut Vec<u8>, program: &Program, agents: &[Agent]) -> Result<(), NoMemory>
     ensures printed { OnOk result (out.new.items
         ≡ out.old.items ++ flat_map (λ a. agent_text program.now a ++ 10 ∷ []) agents.now) }
@@ -111,7 +111,7 @@ fn append_agents(out: &mut Vec<u8>, program: &Program, agents: &[Agent]) -> Resu
     Ok(())
 }
 
-#[tactic(auto, using(brace_num::proofs::Printings::starts_more, brace_rows::proofs::Texts::starts_here))]
+#[tactic(auto, using(crate::proofs::Starts::text_starts))]
 fn append_agent(out: &mut Vec<u8>, program: &Program, agent: &Agent) -> Result<(), NoMemory>
     ensures printed { OnOk result (out.new.items
         ≡ out.old.items ++ agent_text program.now agent.now ++ 10 ∷ []) }
@@ -122,7 +122,7 @@ fn append_agent(out: &mut Vec<u8>, program: &Program, agent: &Agent) -> Result<(
     Ok(())
 }
 
-#[tactic(auto, using(brace_num::proofs::Printings::starts_more, brace_rows::proofs::Texts::starts_here))]
+#[tactic(auto, using(crate::proofs::Starts::text_starts))]
 fn append_count(out: &mut Vec<u8>, word: &[u8], n: u64) -> Result<(), NoMemory>
     ensures printed { OnOk result (out.new.items
         ≡ out.old.items ++ count_line word.now n ++ 10 ∷ []) }
@@ -134,7 +134,7 @@ fn append_count(out: &mut Vec<u8>, word: &[u8], n: u64) -> Result<(), NoMemory>
     Ok(())
 }
 
-#[tactic(auto, using(brace_num::proofs::Printings::starts_more, brace_rows::proofs::Texts::starts_here))]
+#[tactic(auto, using(crate::proofs::Starts::text_starts))]
 fn append_class_line(out: &mut Vec<u8>, class: &Class) -> Result<(), NoMemory>
     ensures printed { OnOk result (out.new.items
         ≡ out.old.items ++ class_line class.now ++ 10 ∷ []) }
@@ -146,7 +146,7 @@ fn append_class_line(out: &mut Vec<u8>, class: &Class) -> Result<(), NoMemory>
 }
 
 /// Appends the line of a class, but for its end.
-#[tactic(auto, using(brace_num::proofs::Printings::starts_more, brace_rows::proofs::Texts::starts_here))]
+#[tactic(auto, using(crate::proofs::Starts::text_starts))]
 pub(crate) fn append_class(out: &mut Vec<u8>, class: &Class) -> Result<(), NoMemory>
     ensures printed { OnOk result (out.new.items ≡ out.old.items ++ class_line class.now) }
     ensures only_appends { take (length out.old.items) out.new.items ≡ out.old.items }
@@ -156,7 +156,7 @@ pub(crate) fn append_class(out: &mut Vec<u8>, class: &Class) -> Result<(), NoMem
     append_states(out, class.states.as_slice())
 }
 
-#[tactic(auto, using(brace_num::proofs::Printings::starts_more, brace_rows::proofs::Texts::starts_here))]
+#[tactic(auto, using(crate::proofs::Starts::text_starts))]
 fn append_states(out: &mut Vec<u8>, states: &[State]) -> Result<(), NoMemory>
     ensures printed { OnOk result (out.new.items
         ≡ out.old.items ++ flat_map state_text states.now) }
@@ -168,7 +168,7 @@ fn append_states(out: &mut Vec<u8>, states: &[State]) -> Result<(), NoMemory>
     Ok(())
 }
 
-#[tactic(auto, using(brace_num::proofs::Printings::starts_more, brace_rows::proofs::Texts::starts_here))]
+#[tactic(auto, using(crate::proofs::Starts::text_starts))]
 fn append_state(out: &mut Vec<u8>, state: &State) -> Result<(), NoMemory>
     ensures printed { OnOk result (out.new.items ≡ out.old.items ++ state_text state.now) }
     ensures only_appends { take (length out.old.items) out.new.items ≡ out.old.items }
