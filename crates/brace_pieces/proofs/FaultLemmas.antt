@@ -56,7 +56,7 @@ pub later_tick : (f g : Fault) → g.tick < f.tick → comes_before f g ≡ fals
 later_tick f g above = greater_first _ _ (greater f.tick g.tick above)
 
 -- nor does one of a later phase of the same tick
-later_phase : (f g : Fault) → g.tick ≡ f.tick → phase_rank g.phase < phase_rank f.phase → comes_before f g ≡ false
+pub later_phase : (f g : Fault) → g.tick ≡ f.tick → phase_rank g.phase < phase_rank f.phase → comes_before f g ≡ false
 later_phase f g same above =
     equal_first _ _ (ap (nat_cmp f.tick) same ∙ tied_itself nat_cmp_total f.tick)
     ∙ greater_first _ _ (greater (phase_rank f.phase) (phase_rank g.phase) above)

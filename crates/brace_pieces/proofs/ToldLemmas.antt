@@ -122,7 +122,7 @@ right_later s m n cause.Closed up h = h
 -- ---- the steps of a run but for the shows are of its ticks
 
 module _ (s : Setting) where
-  abbrev Ticks : Step → Type 0
+  abbrev pub Ticks : Step → Type 0
   Ticks at = (at.stage ≡ stage.Show → ⊥) → (s.job.first ≤ at.tick) × (at.tick < s.job.last)
 
   show_ticks : (t : ℕ) → All Ticks (show s t)
@@ -171,13 +171,13 @@ module _ (s : Setting) where
       All-append Ticks (show s s.job.first) (flat_map (steps_in s) (range_with_len s.job.first (s.job.last - s.job.first))) (show_ticks s.job.first)
       (subst (λ n. All Ticks (flat_map (steps_in s) (range_with_len s.job.first n))) (sym none) (All-nil Ticks))
 
-  steps_tick : All Ticks (steps s)
+  pub steps_tick : All Ticks (steps s)
   steps_tick = elim (cases_lt s.job.last s.job.first) [
     | inl down ↦ no_ticks down
     | inr up ↦ run_ticks s.job.last (omega arith) (omega (arith, up))
   ]
 
-at_place : {A : Type 0} (P : A → Type 0) (xs : List A) (k : ℕ) (x : A) → All P xs → slice_get xs k ≡ Some x → P x
+pub at_place : {A : Type 0} (P : A → Type 0) (xs : List A) (k : ℕ) (x : A) → All P xs → slice_get xs k ≡ Some x → P x
 at_place P [] k x all e = absurd (cc)
 at_place P (y ∷ xs) zero x all e = let same : y ≡ x = cc in subst P same (All-head P y xs all)
 at_place P (y ∷ xs) (suc k) x all e = at_place P xs k x (All-tail P y xs all) e
