@@ -1,0 +1,22 @@
+use Rattle.std.proofs.Common.{◌∙◌, ap, subst, arith}
+use Rattle.brace_lanes.specs.Places.{place, opposite}
+use Rattle.brace_lanes.specs.inner.Steps.{LooksAt}
+use Rattle.brace_lanes.proofs.PlaceLemmas.{opposite_is, words_below}
+use Rattle.brace_lanes.proofs.StepsKept.{looks}
+use Rattle.brace_lanes.proofs.steps.look.Goals as goal
+
+pub load-requires : goal.load-requires
+load-requires g c =
+    let p = c.requires.placed in (
+      p.same,
+      omega (arith, p.words, (words_below c.args.actors c.args.other c.args.own p.other_below p.own_below).0),
+      looks c.args.table.now.shared.table_id.slots c.args.seat.now.id c.args.seat.now.me c.args.actors c.args.own c.args.other p.actors p.own_below p.other_below p.serves,
+    )
+
+pub returns-clause-looked : goal.returns-clause-looked
+returns-clause-looked g c =
+    let p = c.requires.placed in
+    let n = c.args.actors in
+    let a = c.args.own in
+    let b = c.args.other in
+    subst (λ j. LooksAt j c.args.seat.now.me c.load.result c.load.new.seat.me) (ap (λ j. opposite j (place n b a)) p.actors ∙ opposite_is n a b p.own_below p.other_below) c.load.ensures.2

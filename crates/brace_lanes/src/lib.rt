@@ -1,0 +1,11 @@
+//! Lanes between actors on several threads, over a table whose rule each step keeps.
+#![tactic(auto)]
+
+mod lanes;
+mod plays;
+mod seat;
+mod steps;
+mod table;
+
+pub use lanes::Lanes;
+pub use seat::LaneSeat;

@@ -1,0 +1,121 @@
+ghost use Rattle.std.specs.Prelude.{◌≡◌, ◌+◌, ◌<◌, ℕ, [], cond, IfOk, OnOk};
+ghost use Rattle.std.specs.Bool.{OnTrue, OnFalse};
+ghost use Rattle.brace_core.specs.Exchanges.{Follows, IsAnswered, one_on};
+ghost use Rattle.brace_lanes.specs.Seats.{IsSameSeat, puts_of, takes_of, seen_of, misses_of};
+ghost use Rattle.brace_lanes.specs.Views.{Serves, newcomer, splitting};
+
+use crate::lanes::Lanes;
+use crate::steps;
+use crate::table::Place;
+use brace_core::{Freight, Name};
+use brace_num::NoMemory;
+use std::alloc::Global;
+use std::marker::Model;
+
+/// One of those that put to lanes and take from them, each for its actors, each on one thread.
+#[derive(Drop)]
+pub struct LaneSeat<F: Freight> {
+    pub(crate) place: Place<F>,
+    pub(crate) actors: usize,
+    pub(crate) put: Vec<u64>,
+    pub(crate) taken: Vec<u64>,
+}
+
+impl<F: Freight> Model for LaneSeat<F> {
+    ghost use Rattle.brace_lanes.specs.Seats.{OnSeat};
+    ghost use Rattle.brace_lanes.specs.inner.Sound.{IsSound};
+
+    ghost Value = { OnSeat F.Setting };
+
+    ghost view = { λ it. record { lanes = it.place.table_id; view = it.place.me.0 } };
+
+    ghost invariant = { λ it. IsSound F.schedule it.place it.actors it.put.items it.taken.items };
+}
+
+impl<F: Freight> LaneSeat<F> {
+    /// One more seat, behind those that the first has made.
+    pub(crate) fn split(&mut self, alloc: Global, lanes: &Lanes<F>) -> Result<LaneSeat<F>, NoMemory>
+        requires lanes { self.old.lanes ≡ lanes.now }
+        requires first { self.old.view.number ≡ 0 }
+        ensures first { OnOk result
+            (self.new ≡ record self.old { view = splitting self.old.view }) }
+        ensures made { IfOk result (λ seat.
+            seat ≡ record self.old { view = newcomer self.old.view }) }
+    {
+        let square = self.actors * self.actors;
+        let put = vec![in alloc; 0; square]?;
+        let taken = vec![in alloc; 0; square]?;
+        Ok(LaneSeat {
+            place: steps::split(&lanes.table, &mut self.place),
+            actors: self.actors,
+            put,
+            taken,
+        })
+    }
+
+    /// Counts a name that is put, the next of its lane, where as many names were put on this lane as
+    /// were taken from the opposite one.
+    pub(crate) fn count_put(&mut self, lanes: &Lanes<F>, name: Name)
+        requires lanes { self.old.lanes ≡ lanes.now }
+        requires served { Serves self.old.view name.from }
+        requires next { Follows (F.schedule self.old.view.setting) (puts_of self.old.view) name }
+        requires answered { IsAnswered (puts_of self.old.view) (takes_of self.old.view) name }
+        ensures lanes { self.new.lanes ≡ self.old.lanes }
+        ensures same { IsSameSeat self.old.view self.new.view }
+        ensures put { (p q : ℕ) →
+            puts_of self.new.view p q ≡ puts_of self.old.view p q + one_on name p q }
+        ensures taken { (p q : ℕ) → takes_of self.new.view p q ≡ takes_of self.old.view p q }
+        ensures misses { (p q : ℕ) → misses_of self.new.view p q ≡ misses_of self.old.view p q }
+    {
+        let own = name.from as usize;
+        let other = name.to as usize;
+        let at = own * self.actors + other;
+        let count = self.put[at];
+        steps::claim(&lanes.table, &mut self.place, self.actors, own, other);
+        steps::store_put(
+            &lanes.table,
+            &mut self.place,
+            self.actors,
+            own,
+            other,
+            count,
+        );
+        self.put[at] = count + 1;
+    }
+
+    /// Counts a name that is taken, the next of its lane, where the seat sees that it was put.
+    pub(crate) fn count_take(&mut self, lanes: &Lanes<F>, name: Name) -> bool
+        requires lanes { self.old.lanes ≡ lanes.now }
+        requires served { Serves self.old.view name.to }
+        requires next { Follows (F.schedule self.old.view.setting) (takes_of self.old.view) name }
+        ensures lanes { self.new.lanes ≡ self.old.lanes }
+        ensures same { IsSameSeat self.old.view self.new.view }
+        ensures put { (p q : ℕ) → puts_of self.new.view p q ≡ puts_of self.old.view p q }
+        ensures taken { (p q : ℕ) → takes_of self.new.view p q
+            ≡ takes_of self.old.view p q + cond result (one_on name p q) 0 }
+        ensures misses { (p q : ℕ) → misses_of self.new.view p q
+            ≡ misses_of self.old.view p q + cond result 0 (one_on name p q) }
+        ensures found { OnTrue result
+            (takes_of self.old.view name.from name.to < seen_of self.new.view name.from name.to) }
+        ensures missed { OnFalse result
+            (seen_of self.new.view name.from name.to ≡ takes_of self.old.view name.from name.to) }
+    {
+        let own = name.to as usize;
+        let other = name.from as usize;
+        let at = own * self.actors + other;
+        let count = self.taken[at];
+        if steps::look(&lanes.table, &mut self.place, self.actors, own, other) == count {
+            return false;
+        }
+        steps::store_taken(
+            &lanes.table,
+            &mut self.place,
+            self.actors,
+            own,
+            other,
+            count,
+        );
+        self.taken[at] = count + 1;
+        true
+    }
+}

@@ -1,0 +1,99 @@
+//! The steps of a seat on the words of lanes.
+ghost use Rattle.std.specs.Prelude.{◌≡◌, ◌<◌, ◌+◌, ◌^◌, [], slice_index};
+ghost use Rattle.brace_lanes.specs.Places.{place};
+ghost use Rattle.brace_lanes.specs.Views.{has_put, has_taken, newcomer, splitting};
+ghost use Rattle.brace_lanes.specs.inner.Steps.{IsPlaced, LooksAt, ClaimsAt};
+
+use crate::plays::{Claim, Cut, Look, StorePut, StoreTaken};
+use crate::table::{LaneTable, Place};
+use brace_core::Freight;
+
+/// How many names of the lane from the other actor to its own were put.
+pub(crate) fn look<F: Freight>(
+    table: &LaneTable<F>,
+    seat: &mut Place<F>,
+    actors: usize,
+    own: usize,
+    other: usize,
+) -> u64
+    requires placed { IsPlaced table.now.shared.table_id seat.old actors own other }
+    ensures same { (seat.new.table_id ≡ seat.old.table_id) × (seat.new.id ≡ seat.old.id) }
+    ensures looked { LooksAt (place actors own other) seat.old.me result seat.new.me }
+{
+    table.shared.load::<Look>(seat, other * actors + own)
+}
+
+/// How many names of the lane from its own actor to the other were taken, before one is put.
+pub(crate) fn claim<F: Freight>(
+    table: &LaneTable<F>,
+    seat: &mut Place<F>,
+    actors: usize,
+    own: usize,
+    other: usize,
+) -> u64
+    requires placed { IsPlaced table.now.shared.table_id seat.old actors own other }
+    requires answered { slice_index seat.old.me.0.put (place actors own other)
+        ≡ slice_index seat.old.me.0.taken (place actors own other) }
+    ensures same { (seat.new.table_id ≡ seat.old.table_id) × (seat.new.id ≡ seat.old.id) }
+    ensures claimed { ClaimsAt (place actors own other) seat.old.me result seat.new.me }
+{
+    table
+        .shared
+        .load::<Claim>(seat, actors * actors + (other * actors + own))
+}
+
+/// One more name of the lane from its own actor to the other is put.
+pub(crate) fn store_put<F: Freight>(
+    table: &LaneTable<F>,
+    seat: &mut Place<F>,
+    actors: usize,
+    own: usize,
+    other: usize,
+    count: u64,
+)
+    requires placed { IsPlaced table.now.shared.table_id seat.old actors own other }
+    requires count { slice_index seat.old.me.0.put (place actors own other) ≡ count }
+    requires answered { slice_index seat.old.me.0.taken (place actors own other) ≡ count }
+    requires short { count + 1 < 2 ^ 64 }
+    ensures same { (seat.new.table_id ≡ seat.old.table_id) × (seat.new.id ≡ seat.old.id) }
+    ensures put { seat.new.me ≡ (has_put seat.old.me.0 (place actors own other), seat.old.me.1) }
+{
+    table
+        .shared
+        .store::<StorePut>(seat, own * actors + other, count + 1);
+}
+
+/// One more name of the lane from the other actor to its own is taken.
+pub(crate) fn store_taken<F: Freight>(
+    table: &LaneTable<F>,
+    seat: &mut Place<F>,
+    actors: usize,
+    own: usize,
+    other: usize,
+    count: u64,
+)
+    requires placed { IsPlaced table.now.shared.table_id seat.old actors own other }
+    requires count { slice_index seat.old.me.0.taken (place actors own other) ≡ count }
+    requires seen { count < slice_index seat.old.me.0.seen (place actors own other) }
+    requires short { count + 1 < 2 ^ 64 }
+    ensures same { (seat.new.table_id ≡ seat.old.table_id) × (seat.new.id ≡ seat.old.id) }
+    ensures taken { seat.new.me
+        ≡ (has_taken seat.old.me.0 (place actors own other), seat.old.me.1) }
+{
+    table
+        .shared
+        .store::<StoreTaken>(seat, actors * actors + (own * actors + other), count + 1);
+}
+
+/// One more seat, behind those that the first has made.
+pub(crate) fn split<F: Freight>(table: &LaneTable<F>, first: &mut Place<F>) -> Place<F>
+    requires table { first.old.table_id ≡ table.now.shared.table_id }
+    requires words { 0 < table.now.shared.table_id.words }
+    requires first { first.old.me.0.number ≡ 0 }
+    ensures same { (first.new.table_id ≡ first.old.table_id) × (first.new.id ≡ first.old.id) }
+    ensures table { result.table_id ≡ first.old.table_id }
+    ensures first { first.new.me ≡ (splitting first.old.me.0, first.old.me.1) }
+    ensures made { result.me ≡ (newcomer first.old.me.0, []) }
+{
+    table.shared.split_seat::<Cut>(first)
+}
