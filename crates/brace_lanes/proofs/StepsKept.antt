@@ -16,7 +16,7 @@ use Rattle.brace_lanes.specs.inner.Steps.{Looks, Claims, StoresPut, StoresTaken}
 use Rattle.brace_lanes.proofs.PlaceLemmas.{place_below, words_below, apart, opposite_is, past_square, same_place, put_here, put_else, put_takes, taken_here, taken_else, taken_puts}
 use Rattle.brace_lanes.proofs.ViewLists.{each_after, alone_after, alone_more, at_end}
 
-zero_at : (m i : ℕ) → slice_index (replicate m 0) i ≡ 0
+pub zero_at : (m i : ℕ) → slice_index (replicate m 0) i ≡ 0
 zero_at zero i = refl
 zero_at (suc m) zero = refl
 zero_at (suc m) (suc i) = zero_at m i
@@ -73,6 +73,12 @@ module _ {S : Type 0} where
   apart_unless : (n seats made a b : ℕ) (words : List ℕ) (v : View S) → Fits n seats made words v → Serves v a → b < n → (c d : ℕ) → d < n → c % seats ≢ v.number → place n c d ≢ place n a b
   apart_unless n seats made a b words v f serves lb c d ld far e = far (ap (λ j. j % seats) ((apart n c d a b ld lb e).0) ∙ ap (λ j. a % j) (sym f.of_seats) ∙ serves)
 
+  -- what a claim finds
+  pub record IsLevel (n : ℕ) (words : List ℕ) (v : View S) (a b : ℕ) : Type 0 where
+    pub put : slice_index v.put (place n a b) ≡ put_of n words a b
+    pub low : taken_of n words a b ≤ put_of n words a b
+    pub high : put_of n words a b ≤ taken_of n words a b + 1
+
 module _ {X S : Type 0} where
   -- the rule after the seat of v wrote only words that it alone writes, and no put word became less
   kept_after : (n seats made : ℕ) (s : State X (View S)) (k : KeptAmong n seats made s) (id : ℕ) (v w : View S) (words : List ℕ) (homes : List (maybe.Option X)) → get_elem? s.views id ≡ some v → length words ≡ length s.words
@@ -113,41 +119,32 @@ module _ {X S : Type 0} where
           }
 
   -- the same where no word changed
-  kept_load : (n seats made : ℕ) (s : State X (View S)) (k : KeptAmong n seats made s) (id i : ℕ) (v w : View S) → get_elem? s.views id ≡ some v → w.number ≡ v.number → Fits n seats made s.words w
-      → IsKept record { words = slice_set s.words i (slice_index s.words i); homes = s.homes; views = set s.views id w }
-  kept_load n seats made s k id i v w at same mine =
-      subst (λ (ws : List ℕ). IsKept record { words = ws; homes = s.homes; views = set s.views id w }) (sym (set-get_or s.words i 0))
-      (n, seats, made, kept_after n seats made s k id v w s.words s.homes at refl same mine k.in_order k.answered (λ p q lp lq. omega arith) (λ a b la lb far. (refl, refl)))
+  kept_same : (n seats made : ℕ) (s : State X (View S)) (k : KeptAmong n seats made s) (id : ℕ) (v w : View S) (homes : List (maybe.Option X)) → get_elem? s.views id ≡ some v → w.number ≡ v.number → Fits n seats made s.words w
+      → KeptAmong n seats made record { words = s.words; homes = homes; views = set s.views id w }
+  kept_same n seats made s k id v w homes at same mine =
+      kept_after n seats made s k id v w s.words homes at refl same mine k.in_order k.answered (λ p q lp lq. omega arith) (λ a b la lb far. (refl, refl))
 
   -- the rule, among as many actors as the seat knows of
-  kept_at : (n m seats made : ℕ) (s : State X (View S)) (k : KeptAmong m seats made s) (id : ℕ) (v : View S) → get_elem? s.views id ≡ some v → v.actors ≡ n → KeptAmong n seats made s
+  pub kept_at : (n m seats made : ℕ) (s : State X (View S)) (k : KeptAmong m seats made s) (id : ℕ) (v : View S) → get_elem? s.views id ≡ some v → v.actors ≡ n → KeptAmong n seats made s
   kept_at n m seats made s k id v at among = subst (λ (j : ℕ). KeptAmong j seats made s) (sym ((k.each id v at).among) ∙ among) k
 
   -- a look at the put word of the lane from b to a
-  pub looks : (slots id : ℕ) (me : Me X (View S)) (n a b : ℕ) → me.0.actors ≡ n → a < n → b < n → Serves me.0 a
-      → Allows IsKept slots id me (place n b a) (λ m. m) (Looks (step slots (place n b a) 0 0 none) me)
-  looks slots id me n a b among la lb serves s (m, seats, made, kept) deep at small =
-      let v : View S = me.0 in
-      let k = kept_at n m seats made s kept id v at among in
-      let f = k.each id v at in
+  pub kept_looked : (n seats made : ℕ) (s : State X (View S)) (k : KeptAmong n seats made s) (id : ℕ) (v : View S) (homes : List (maybe.Option X)) (a b : ℕ) → get_elem? s.views id ≡ some v → a < n → b < n
+      → KeptAmong n seats made record { words = s.words; homes = homes; views = set s.views id (looked v (place n a b) (put_of n s.words b a)) }
+  kept_looked n seats made s k id v homes a b at la lb =
       let x : ℕ = put_of n s.words b a in
-      let here : opposite v.actors (place n b a) ≡ place n a b = ap (λ j. opposite j (place n b a)) among ∙ opposite_is n a b la lb in
-      let w : View S = looked v (opposite v.actors (place n b a)) x in
-      let fits : Fits n seats made s.words w = subst (λ j. Fits n seats made s.words (looked v j x)) (sym here) (fits_looked n seats made s.words v a b f la lb (x == slice_index v.taken (place n a b))) in
-      let low : slice_index v.taken (place n a b) ≤ x = let c = f.taken a b la lb serves in let o = k.in_order b a lb la in omega (arith, c, o) in
-      (w, keeps, tt, kept_load n seats made s k id (place n b a) v w at (number_looked v (opposite v.actors (place n b a)) x) fits, (refl, subst (λ j. slice_index v.taken j ≤ x) (sym here) low))
+      kept_same n seats made s k id v (looked v (place n a b) x) homes at (number_looked v (place n a b) x) (fits_looked n seats made s.words v a b (k.each id v at) la lb (x == slice_index v.taken (place n a b)))
+
+  pub look_low : (n seats made : ℕ) (s : State X (View S)) (k : KeptAmong n seats made s) (id : ℕ) (v : View S) (a b : ℕ) → get_elem? s.views id ≡ some v → a < n → b < n → Serves v a
+      → (slice_index v.taken (place n a b) ≡ taken_of n s.words b a) × (slice_index v.taken (place n a b) ≤ put_of n s.words b a)
+  look_low n seats made s k id v a b at la lb serves = let c = (k.each id v at).taken a b la lb serves in let o = k.in_order b a lb la in (c, omega (arith, c, o))
 
   -- a claim at the taken word of the lane from a to b
-  pub claims : (slots id : ℕ) (me : Me X (View S)) (n a b : ℕ) → me.0.actors ≡ n → a < n → b < n → Serves me.0 a → slice_index me.0.put (place n a b) ≡ slice_index me.0.taken (place n a b)
-      → Allows IsKept slots id me (n * n + place n b a) (λ m. m) (Claims (step slots (n * n + place n b a) 0 0 none) me)
-  claims slots id me n a b among la lb serves level s (m, seats, made, kept) deep at small =
-      let v : View S = me.0 in
-      let k = kept_at n m seats made s kept id v at among in
+  pub kept_claimed : (n seats made : ℕ) (s : State X (View S)) (k : KeptAmong n seats made s) (id : ℕ) (v : View S) (homes : List (maybe.Option X)) (at_lane : ℕ) → get_elem? s.views id ≡ some v
+      → KeptAmong n seats made record { words = s.words; homes = homes; views = set s.views id (claimed v at_lane) }
+  kept_claimed n seats made s k id v homes at_lane at =
       let f = k.each id v at in
-      let x : ℕ = taken_of n s.words a b in
-      let here : opposite v.actors ((n * n + place n b a) - v.actors * v.actors) ≡ place n a b = ap (λ j. opposite j ((n * n + place n b a) - j * j)) among ∙ ap (opposite n) (past_square n b a) ∙ opposite_is n a b la lb in
-      let w : View S = claimed v (opposite v.actors ((n * n + place n b a) - v.actors * v.actors)) in
-      let fits : Fits n seats made s.words w = record {
+      kept_same n seats made s k id v (claimed v at_lane) homes at refl record {
         among = f.among;
         of_seats = f.of_seats;
         square_put = f.square_put;
@@ -159,19 +156,23 @@ module _ {X S : Type 0} where
         put = f.put;
         taken = f.taken;
         seen = f.seen;
-      } in
+      }
+
+  pub claim_level : (n seats made : ℕ) (s : State X (View S)) (k : KeptAmong n seats made s) (id : ℕ) (v : View S) (a b : ℕ) → get_elem? s.views id ≡ some v → a < n → b < n → Serves v a → slice_index v.put (place n a b) ≡ slice_index v.taken (place n a b)
+      → IsLevel n s.words v a b
+  claim_level n seats made s k id v a b at la lb serves level =
+      let f = k.each id v at in
       let put = f.put a b la lb serves in
       let taken = f.taken a b la lb serves in
-      let low : x ≤ slice_index v.put (place n a b) = let o = k.in_order a b la lb in omega (arith, put, o) in
-      let high : slice_index v.put (place n a b) ≤ x + 1 = let o = k.in_order b a lb la in let p = k.answered b a lb la in omega (arith, level, taken, o, p) in
-      (w, keeps, tt, kept_load n seats made s k id (n * n + place n b a) v w at refl fits, (refl, subst (λ j. x ≤ slice_index v.put j) (sym here) low, subst (λ j. slice_index v.put j ≤ x + 1) (sym here) high))
+      let o = k.in_order b a lb la in
+      let p = k.answered b a lb la in
+      record { put = put; low = k.in_order a b la lb; high = omega (arith, level, put, taken, o, p) }
 
   -- a store of the put word of the lane from a to b
-  pub puts : (slots id : ℕ) (me : Me X (View S)) (n a b count : ℕ) → me.0.actors ≡ n → a < n → b < n → Serves me.0 a → slice_index me.0.put (place n a b) ≡ count → slice_index me.0.taken (place n a b) ≡ count
-      → Allows IsKept slots id me (place n a b) (λ _. count + 1) (λ _. StoresPut (step slots (place n a b) (count + 1) 0 none) me (count + 1))
-  puts slots id me n a b count among la lb serves was level s (m, seats, made, kept) deep at small =
-      let v : View S = me.0 in
-      let k = kept_at n m seats made s kept id v at among in
+  pub kept_put : (n seats made : ℕ) (s : State X (View S)) (k : KeptAmong n seats made s) (id : ℕ) (v : View S) (homes : List (maybe.Option X)) (a b count : ℕ) → get_elem? s.views id ≡ some v → a < n → b < n → Serves v a
+      → slice_index v.put (place n a b) ≡ count → slice_index v.taken (place n a b) ≡ count
+      → KeptAmong n seats made record { words = slice_set s.words (place n a b) (count + 1); homes = homes; views = set s.views id (has_put v (place n a b)) }
+  kept_put n seats made s k id v homes a b count at la lb serves was level =
       let f = k.each id v at in
       let x : ℕ = count + 1 in
       let words : List ℕ = slice_set s.words (place n a b) x in
@@ -198,26 +199,15 @@ module _ {X S : Type 0} where
             (λ is. ap (λ j. j + 1) was ∙ sym here) (λ c d lc ld o is. f.put c d lc ld is ∙ sym (else c d o));
         taken = λ c d lc ld is. f.taken c d lc ld is ∙ sym (other d c);
         seen = λ c d lc ld is. let y = f.seen c d lc ld is in let g = grows d c ld lc in omega (arith, y, g);
-      } in (
-        has_put v (place n a b),
-        keeps,
-        tt,
-        (
-          n,
-          seats,
-          made,
-          kept_after n seats made s k id v (has_put v (place n a b)) words s.homes at (length-set s.words (place n a b) x) refl fits in_order answered grows
-              (λ c d lc ld far. (else c d (apart_unless n seats made a b s.words v f serves lb c d ld far), other d c)),
-        ),
-        refl,
-      )
+      } in
+      kept_after n seats made s k id v (has_put v (place n a b)) words homes at (length-set s.words (place n a b) x) refl fits in_order answered grows
+      (λ c d lc ld far. (else c d (apart_unless n seats made a b s.words v f serves lb c d ld far), other d c))
 
   -- a store of the taken word of the lane from b to a
-  pub takes : (slots id : ℕ) (me : Me X (View S)) (n a b count : ℕ) → me.0.actors ≡ n → a < n → b < n → Serves me.0 a → slice_index me.0.taken (place n a b) ≡ count → count < slice_index me.0.seen (place n a b)
-      → Allows IsKept slots id me (n * n + place n a b) (λ _. count + 1) (λ _. StoresTaken (step slots (n * n + place n a b) (count + 1) 0 none) me (count + 1))
-  takes slots id me n a b count among la lb serves was saw s (m, seats, made, kept) deep at small =
-      let v : View S = me.0 in
-      let k = kept_at n m seats made s kept id v at among in
+  pub kept_taken : (n seats made : ℕ) (s : State X (View S)) (k : KeptAmong n seats made s) (id : ℕ) (v : View S) (homes : List (maybe.Option X)) (a b count : ℕ) → get_elem? s.views id ≡ some v → a < n → b < n → Serves v a
+      → slice_index v.taken (place n a b) ≡ count → count < slice_index v.seen (place n a b)
+      → KeptAmong n seats made record { words = slice_set s.words (n * n + place n a b) (count + 1); homes = homes; views = set s.views id (has_taken v (place n a b)) }
+  kept_taken n seats made s k id v homes a b count at la lb serves was saw =
       let f = k.each id v at in
       let x : ℕ = count + 1 in
       let words : List ℕ = slice_set s.words (n * n + place n a b) x in
@@ -248,38 +238,24 @@ module _ {X S : Type 0} where
       λ p q lp lq. each (λ c d y. y ≤ put_of n words d c) (let y = f.seen a b la lb serves in omega (arith, saw, y, other b a lb la)) (λ c d lc ld o. let w = k.in_order d c ld lc in omega (arith, w, other d c ld lc)) q p lq lp in
       let answered : (p q : ℕ) → p < n → q < n → put_of n words p q ≤ taken_of n words q p + 1 =
       λ p q lp lq. each (λ c d y. put_of n words c d ≤ y + 1) (let w = k.answered a b la lb in omega (arith, now, w, other a b la lb)) (λ c d lc ld o. let w = k.answered c d lc ld in omega (arith, w, other c d lc ld)) p q lp lq in
-      let at_word : place n a b ≡ (n * n + place n a b) - v.actors * v.actors = sym (ap (λ j. (n * n + place n a b) - j * j) among ∙ past_square n a b) in (
-        has_taken v (place n a b),
-        keeps,
-        tt,
-        (
-          n,
-          seats,
-          made,
-          kept_after n seats made s k id v (has_taken v (place n a b)) words s.homes at (length-set s.words (n * n + place n a b) x) refl fits in_order answered (λ p q lp lq. omega (arith, other p q lp lq))
-              (λ c d lc ld far. (other c d lc ld, else d c (apart_unless n seats made a b s.words v f serves lb c d ld far))),
-        ),
-        ap (λ j. (has_taken v j, me.1)) at_word,
-      )
+      kept_after n seats made s k id v (has_taken v (place n a b)) words homes at (length-set s.words (n * n + place n a b) x) refl fits in_order answered (λ p q lp lq. omega (arith, other p q lp lq))
+      (λ c d lc ld far. (other c d lc ld, else d c (apart_unless n seats made a b s.words v f serves lb c d ld far)))
 
   -- the first seat makes one more
-  pub splits : (id : ℕ) (v : View S) → v.number ≡ 0 → Splits {S = X} IsKept id v (splitting v) (newcomer v)
-  splits id v first s (n, seats, made, k) at = (
-    n,
-    seats,
-    made + 1,
-    record {
-      size = k.size;
-      in_order = k.in_order;
-      answered = k.answered;
-      each = λ j u e. elim (at_end (set s.views id (splitting v)) (newcomer v) u j e) [
-        | inl before ↦ each_after (Fits n seats (made + 1) s.words) s.views id (splitting v) one_more others j u before
-        | inr (last, is) ↦ subst (Fits n seats (made + 1) s.words) is new
-      ];
-      alone = alone_more (set s.views id (splitting v)) (newcomer v) apart_from (alone_after s.views id v (splitting v) at refl k.alone);
-      not_made = λ a b la lb late. k.not_made a b la lb (omega (arith, late));
-    },
-  )
+  pub kept_split : (n seats made : ℕ) (s : State X (View S)) (k : KeptAmong n seats made s) (id : ℕ) (v : View S) → get_elem? s.views id ≡ some v → v.number ≡ 0
+      → KeptAmong n seats (made + 1) record { words = s.words; homes = s.homes; views = set s.views id (splitting v) ++ newcomer v ∷ [] }
+  kept_split n seats made s k id v at first =
+      record {
+        size = k.size;
+        in_order = k.in_order;
+        answered = k.answered;
+        each = λ j u e. elim (at_end (set s.views id (splitting v)) (newcomer v) u j e) [
+          | inl before ↦ each_after (Fits n seats (made + 1) s.words) s.views id (splitting v) one_more others j u before
+          | inr (last, is) ↦ subst (Fits n seats (made + 1) s.words) is new
+        ];
+        alone = alone_more (set s.views id (splitting v)) (newcomer v) apart_from (alone_after s.views id v (splitting v) at refl k.alone);
+        not_made = λ a b la lb late. k.not_made a b la lb (omega (arith, late));
+      }
     where
       f : Fits n seats made s.words v
       f = k.each id v at
@@ -344,20 +320,16 @@ module _ {X S : Type 0} where
       apart_from = each_after (λ u. u.number ≢ v.made) s.views id (splitting v) (λ e. let b = f.below in omega (arith, e, many, b)) (λ j u far e same. let b = (k.each j u e).below in omega (arith, same, many, b))
 
   -- lanes that no seat has used, and the first seat
-  pub starts : (setting : S) (n seats slots : ℕ) (x : X) → IsKept (opened (replicate (word_count n) 0) (replicate slots x) (opening setting n seats 0 1))
-  starts setting n seats slots x = (
-    n,
-    seats,
-    1,
-    record {
-      size = length-replicate (word_count n) 0;
-      in_order = λ p q lp lq. let y = zero_at (word_count n) (place n p q) in let z = zero_at (word_count n) (n * n + place n q p) in omega (arith, y, z);
-      answered = λ p q lp lq. let y = zero_at (word_count n) (place n p q) in omega (arith, y);
-      each = λ j v e. subst (Fits n seats 1 (replicate (word_count n) 0)) (only j v e).1 first_fits;
-      alone = λ j k v w e h same. (only j v e).0 ∙ sym ((only k w h).0);
-      not_made = λ a b la lb late. (zero_at (word_count n) (place n a b), zero_at (word_count n) (n * n + place n a b));
-    },
-  )
+  pub kept_start : (setting : S) (n seats : ℕ) (homes : List (maybe.Option X)) → KeptAmong n seats 1 record { words = replicate (word_count n) 0; homes = homes; views = opening setting n seats 0 1 ∷ [] }
+  kept_start setting n seats homes =
+      record {
+        size = length-replicate (word_count n) 0;
+        in_order = λ p q lp lq. let y = zero_at (word_count n) (place n p q) in let z = zero_at (word_count n) (n * n + place n q p) in omega (arith, y, z);
+        answered = λ p q lp lq. let y = zero_at (word_count n) (place n p q) in omega (arith, y);
+        each = λ j v e. subst (Fits n seats 1 (replicate (word_count n) 0)) (only j v e).1 first_fits;
+        alone = λ j k v w e h same. (only j v e).0 ∙ sym ((only k w h).0);
+        not_made = λ a b la lb late. (zero_at (word_count n) (place n a b), zero_at (word_count n) (n * n + place n a b));
+      }
     where
       first_view : View S
       first_view = opening setting n seats 0 1

@@ -12,6 +12,12 @@ at_end [] a b (suc j) e = absurd (some-ne-none b (sym e))
 at_end (x ∷ xs) a b zero e = inl e
 at_end (x ∷ xs) a b (suc j) e = ⊎_elim (λ t. inl t) (λ t. inr (ap suc t.0, t.1)) (at_end xs a b j e)
 
+-- what was just written stands there
+pub view_here : {A : Type 0} (xs : List A) (j : ℕ) (a b : A) → get_elem? xs j ≡ some a → get_elem? (set xs j b) j ≡ some b
+view_here [] j a b e = absurd (some-ne-none a (sym e))
+view_here (x ∷ xs) zero a b e = refl
+view_here (x ∷ xs) (suc j) a b e = view_here xs j a b e
+
 module _ {S : Type 0} where
   pub each_after : (P : View S → Type 0) (views : List (View S)) (id : ℕ) (w : View S) → P w → ((j : ℕ) (v : View S) → j ≢ id → get_elem? views j ≡ some v → P v)
       → (j : ℕ) (v : View S) → get_elem? (set views id w) j ≡ some v → P v

@@ -1,10 +1,16 @@
--- What always holds of the words of lanes and of the views of all seats, in any schedule of threads.
-use Rattle.std.specs.Prelude.{◌≡◌, ◌≤◌, ◌<◌, ℕ, ◌+◌, ◌*◌, ◌%◌, List, length, slice_index}
-use mathlib.Core.Option.{some}
+-- What always holds of the words and slots of lanes and of the views of all seats, in any schedule
+-- of threads.
+use Rattle.std.specs.Prelude.{◌≡◌, ◌≤◌, ◌<◌, ◌⊎◌, ℕ, ◌+◌, ◌*◌, ◌%◌, List, Option as opt, None, Some, length, slice_index}
+use mathlib.Core.Option.{Option, some}
 use lib.ListN.{get_elem?}
 use Rattle.atomic_table.specs.Table.{State}
 use Rattle.brace_lanes.specs.declared.table.View.{View}
-use Rattle.brace_lanes.specs.Places.{place, word_count, put_of, taken_of}
+use Rattle.brace_lanes.specs.declared.table.Hand.{Hand}
+use Rattle.brace_lanes.specs.declared.table.Hand.TheVariants.{ToPut, ToTake}
+use Rattle.brace_core.specs.declared.name.Name.{Name}
+use Rattle.brace_core.specs.Schedule.{Schedule}
+use Rattle.brace_core.specs.Exchanges.{IsNext}
+use Rattle.brace_lanes.specs.Places.{place, slot, put_word, word_count, put_of, taken_of}
 use Rattle.brace_lanes.specs.Views.{Serves}
 
 -- a list has a number for each place among n actors
@@ -42,5 +48,43 @@ pub record KeptAmong {X S : Type 0} (n seats made : ℕ) (s : State X (View S)) 
   pub not_made : (a b : ℕ) → a < n → b < n → made ≤ a % seats →
       (put_of n s.words a b ≡ 0) × (taken_of n s.words b a ≡ 0)
 
-abbrev pub IsKept : {X S : Type 0} → State X (View S) → Type 0
-IsKept s = (n : ℕ) × (seats : ℕ) × (made : ℕ) × KeptAmong n seats made s
+-- a seat holds a slot for this
+abbrev pub IsHeld : {S : Type 0} → List (View S) → Hand → Type 0
+IsHeld {S} views hand =
+    (j : ℕ) × (v : View S) × (get_elem? views j ≡ some v) × (v.hand ≡ hand)
+
+module _ {F S : Type 0} (schedule : S → Schedule) (right : S → Name → F → Type 0) where
+  -- a piece is right for the name of a lane that so many come before
+  abbrev pub IsRightAt : S → ℕ → ℕ → ℕ → F → Type 0
+  IsRightAt setting n lane k piece = (name : Name) →
+      put_word n name.from name.to ≡ lane → IsNext (schedule setting) name k →
+      right setting name piece
+
+  -- a slot is at home with a piece that is right
+  abbrev pub IsFull : S → ℕ → List (Option (opt F)) → ℕ → ℕ → Type 0
+  IsFull setting n homes lane k = (piece : F)
+      × (get_elem? homes (slot n lane k) ≡ some (some (Some piece)))
+      × IsRightAt setting n lane k piece
+
+  -- all seats have one setting; the slots of the names in flight are at home with their pieces, but
+  -- for the oldest where it is held for a take; those of the names that come next are at home and
+  -- empty, but for the first where it is held for a put; and only the seats of a lane hold its slots
+  pub record SlotsKept (n : ℕ) (setting : S) (s : State (opt F) (View S)) : Type 0 where
+    pub settings : (j : ℕ) (v : View S) → get_elem? s.views j ≡ some v → v.setting ≡ setting
+    pub flying : (p q k : ℕ) → p < n → q < n →
+        taken_of n s.words p q ≤ k → k < put_of n s.words p q →
+        IsFull setting n s.homes (put_word n p q) k
+        ⊎ ((k ≡ taken_of n s.words p q) × IsHeld s.views (ToTake (place n q p)))
+    pub free : (p q k : ℕ) → p < n → q < n →
+        put_of n s.words p q ≤ k → k < taken_of n s.words p q + 2 →
+        (get_elem? s.homes (slot n (put_word n p q) k) ≡ some (some None))
+        ⊎ ((k ≡ put_of n s.words p q) × IsHeld s.views (ToPut (place n p q)))
+    pub putting : (j : ℕ) (v : View S) → get_elem? s.views j ≡ some v →
+        (a b : ℕ) → a < n → b < n → v.hand ≡ ToPut (place n a b) → Serves v a
+    pub taking : (j : ℕ) (v : View S) → get_elem? s.views j ≡ some v →
+        (a b : ℕ) → a < n → b < n → v.hand ≡ ToTake (place n a b) → Serves v a
+
+  -- the rule of words, views and slots
+  abbrev pub IsKept : State (opt F) (View S) → Type 0
+  IsKept s = (n : ℕ) × (seats : ℕ) × (made : ℕ) × (setting : S)
+      × KeptAmong n seats made s × SlotsKept n setting s

@@ -4,32 +4,33 @@ ghost use Rattle.brace_lanes.specs.inner.Steps.{Looks, Claims, StoresPut, Stores
 
 use crate::table::View;
 use atomic_table::{Play, Split};
+use brace_core::Freight;
 
 /// A load of the put word of a lane, by the seat that takes from it.
 pub(crate) struct Look;
 
-impl<X, S> Play<X, View<S>> for Look {
-    ghost then = { Looks };
+impl<F: Freight> Play<Option<F>, View<F::Setting>> for Look {
+    ghost then = { Looks F.schedule F.right };
 }
 
 /// A load of the taken word of a lane, by the seat that puts to it.
 pub(crate) struct Claim;
 
-impl<X, S> Play<X, View<S>> for Claim {
+impl<F, S> Play<Option<F>, View<S>> for Claim {
     ghost then = { Claims };
 }
 
 /// A store of the put word, one higher.
 pub(crate) struct StorePut;
 
-impl<X, S> Play<X, View<S>> for StorePut {
+impl<F, S> Play<Option<F>, View<S>> for StorePut {
     ghost then = { StoresPut };
 }
 
 /// A store of the taken word, one higher.
 pub(crate) struct StoreTaken;
 
-impl<X, S> Play<X, View<S>> for StoreTaken {
+impl<F, S> Play<Option<F>, View<S>> for StoreTaken {
     ghost then = { StoresTaken };
 }
 

@@ -1,5 +1,4 @@
-ghost use Rattle.std.specs.Prelude.{◌≡◌, ◌+◌, ◌<◌, ℕ, [], cond, IfOk, OnOk};
-ghost use Rattle.std.specs.Bool.{OnTrue, OnFalse};
+ghost use Rattle.std.specs.Prelude.{◌≡◌, ◌+◌, ◌<◌, ℕ, [], cond, is_some, IfNone, IfOk, IfSome, OnOk, OnSome};
 ghost use Rattle.brace_core.specs.Exchanges.{Follows, IsAnswered, one_on};
 ghost use Rattle.brace_lanes.specs.Seats.{IsSameSeat, puts_of, takes_of, seen_of, misses_of};
 ghost use Rattle.brace_lanes.specs.Views.{Serves, newcomer, splitting};
@@ -53,13 +52,14 @@ impl<F: Freight> LaneSeat<F> {
         })
     }
 
-    /// Counts a name that is put, the next of its lane, where as many names were put on this lane as
-    /// were taken from the opposite one.
-    pub(crate) fn count_put(&mut self, lanes: &Lanes<F>, name: Name)
+    /// Puts the piece of a name, the next of its lane, where as many names were put on this lane as
+    /// were taken from the opposite one. Its slot is empty, so this never waits; no memory is taken.
+    pub fn put(&mut self, lanes: &Lanes<F>, name: Name, piece: F)
         requires lanes { self.old.lanes ≡ lanes.now }
         requires served { Serves self.old.view name.from }
         requires next { Follows (F.schedule self.old.view.setting) (puts_of self.old.view) name }
         requires answered { IsAnswered (puts_of self.old.view) (takes_of self.old.view) name }
+        requires right { F.right self.old.view.setting name piece }
         ensures lanes { self.new.lanes ≡ self.old.lanes }
         ensures same { IsSameSeat self.old.view self.new.view }
         ensures put { (p q : ℕ) →
@@ -71,7 +71,9 @@ impl<F: Freight> LaneSeat<F> {
         let other = name.to as usize;
         let at = own * self.actors + other;
         let count = self.put[at];
+        let slot = (count % 2) as usize * (self.actors * self.actors) + at;
         steps::claim(&lanes.table, &mut self.place, self.actors, own, other);
+        steps::fill(&lanes.table, &mut self.place, slot, piece);
         steps::store_put(
             &lanes.table,
             &mut self.place,
@@ -83,8 +85,9 @@ impl<F: Freight> LaneSeat<F> {
         self.put[at] = count + 1;
     }
 
-    /// Counts a name that is taken, the next of its lane, where the seat sees that it was put.
-    pub(crate) fn count_take(&mut self, lanes: &Lanes<F>, name: Name) -> bool
+    /// Takes the piece of a name, the next to be taken of its lane. None where the look of this call
+    /// found no name put behind those that were taken. No memory is taken.
+    pub fn take(&mut self, lanes: &Lanes<F>, name: Name) -> Option<F>
         requires lanes { self.old.lanes ≡ lanes.now }
         requires served { Serves self.old.view name.to }
         requires next { Follows (F.schedule self.old.view.setting) (takes_of self.old.view) name }
@@ -92,12 +95,13 @@ impl<F: Freight> LaneSeat<F> {
         ensures same { IsSameSeat self.old.view self.new.view }
         ensures put { (p q : ℕ) → puts_of self.new.view p q ≡ puts_of self.old.view p q }
         ensures taken { (p q : ℕ) → takes_of self.new.view p q
-            ≡ takes_of self.old.view p q + cond result (one_on name p q) 0 }
+            ≡ takes_of self.old.view p q + cond (is_some result) (one_on name p q) 0 }
         ensures misses { (p q : ℕ) → misses_of self.new.view p q
-            ≡ misses_of self.old.view p q + cond result 0 (one_on name p q) }
-        ensures found { OnTrue result
+            ≡ misses_of self.old.view p q + cond (is_some result) 0 (one_on name p q) }
+        ensures right { IfSome result (λ piece. F.right self.old.view.setting name piece) }
+        ensures found { OnSome result
             (takes_of self.old.view name.from name.to < seen_of self.new.view name.from name.to) }
-        ensures missed { OnFalse result
+        ensures missed { IfNone result
             (seen_of self.new.view name.from name.to ≡ takes_of self.old.view name.from name.to) }
     {
         let own = name.to as usize;
@@ -105,8 +109,11 @@ impl<F: Freight> LaneSeat<F> {
         let at = own * self.actors + other;
         let count = self.taken[at];
         if steps::look(&lanes.table, &mut self.place, self.actors, own, other) == count {
-            return false;
+            return None;
         }
+        let lane = other * self.actors + own;
+        let slot = (count % 2) as usize * (self.actors * self.actors) + lane;
+        let piece = steps::clear(&lanes.table, &mut self.place, slot);
         steps::store_taken(
             &lanes.table,
             &mut self.place,
@@ -116,6 +123,13 @@ impl<F: Freight> LaneSeat<F> {
             count,
         );
         self.taken[at] = count + 1;
-        true
+        piece
+    }
+
+    /// Gives the seat up. What it has put can still be taken. No memory is taken.
+    pub fn close(self, lanes: &Lanes<F>)
+        requires lanes { self.lanes ≡ lanes.now }
+    {
+        drop(self);
     }
 }

@@ -1,8 +1,9 @@
-//! The steps of a seat on the words of lanes.
-ghost use Rattle.std.specs.Prelude.{◌≡◌, ◌<◌, ◌+◌, ◌^◌, [], slice_index};
-ghost use Rattle.brace_lanes.specs.Places.{place};
+//! The steps of a seat on the words and slots of lanes.
+ghost use Rattle.std.specs.Prelude.{◌≡◌, ◌<◌, ◌+◌, ◌^◌, [], ◌∷◌, None, Some, slice_index};
+ghost use Rattle.brace_lanes.specs.declared.table.Hand.TheVariants.{Empty, ToPut, ToTake};
+ghost use Rattle.brace_lanes.specs.Places.{place, slot};
 ghost use Rattle.brace_lanes.specs.Views.{has_put, has_taken, newcomer, splitting};
-ghost use Rattle.brace_lanes.specs.inner.Steps.{IsPlaced, LooksAt, ClaimsAt};
+ghost use Rattle.brace_lanes.specs.inner.Steps.{IsPlaced, IsOut, IsCarried, LooksAt, ClaimsAt};
 
 use crate::plays::{Claim, Cut, Look, StorePut, StoreTaken};
 use crate::table::{LaneTable, Place};
@@ -17,8 +18,10 @@ pub(crate) fn look<F: Freight>(
     other: usize,
 ) -> u64
     requires placed { IsPlaced table.now.shared.table_id seat.old actors own other }
+    requires idle { seat.old.me.0.hand ≡ Empty }
     ensures same { (seat.new.table_id ≡ seat.old.table_id) × (seat.new.id ≡ seat.old.id) }
-    ensures looked { LooksAt (place actors own other) seat.old.me result seat.new.me }
+    ensures looked { LooksAt F.schedule F.right actors (place actors other own)
+        (place actors own other) seat.old.me result seat.new.me }
 {
     table.shared.load::<Look>(seat, other * actors + own)
 }
@@ -32,14 +35,40 @@ pub(crate) fn claim<F: Freight>(
     other: usize,
 ) -> u64
     requires placed { IsPlaced table.now.shared.table_id seat.old actors own other }
+    requires idle { seat.old.me.0.hand ≡ Empty }
     requires answered { slice_index seat.old.me.0.put (place actors own other)
         ≡ slice_index seat.old.me.0.taken (place actors own other) }
     ensures same { (seat.new.table_id ≡ seat.old.table_id) × (seat.new.id ≡ seat.old.id) }
-    ensures claimed { ClaimsAt (place actors own other) seat.old.me result seat.new.me }
+    ensures claimed { ClaimsAt actors (place actors own other) seat.old.me result seat.new.me }
 {
     table
         .shared
         .load::<Claim>(seat, actors * actors + (other * actors + own))
+}
+
+/// Puts a piece into the slot that the seat holds, which is empty.
+pub(crate) fn fill<F: Freight>(table: &LaneTable<F>, seat: &mut Place<F>, place: usize, piece: F)
+    requires table { seat.old.table_id ≡ table.now.shared.table_id }
+    requires empty { seat.old.me.1 ≡ (place, None) ∷ [] }
+    ensures same { (seat.new.table_id ≡ seat.old.table_id) × (seat.new.id ≡ seat.old.id) }
+    ensures filled { seat.new.me ≡ (seat.old.me.0, (place, Some piece) ∷ []) }
+{
+    table.shared.exchange(seat, place, Some(piece));
+}
+
+/// What is in the slot that the seat holds, which is empty from now on.
+pub(crate) fn clear<F: Freight>(
+    table: &LaneTable<F>,
+    seat: &mut Place<F>,
+    place: usize,
+) -> Option<F>
+    requires table { seat.old.table_id ≡ table.now.shared.table_id }
+    requires held { IsOut place seat.old.me }
+    ensures same { (seat.new.table_id ≡ seat.old.table_id) × (seat.new.id ≡ seat.old.id) }
+    ensures found { seat.old.me.1 ≡ (place, result) ∷ [] }
+    ensures cleared { seat.new.me ≡ (seat.old.me.0, (place, None) ∷ []) }
+{
+    table.shared.exchange(seat, place, None)
 }
 
 /// One more name of the lane from its own actor to the other is put.
@@ -55,8 +84,10 @@ pub(crate) fn store_put<F: Freight>(
     requires count { slice_index seat.old.me.0.put (place actors own other) ≡ count }
     requires answered { slice_index seat.old.me.0.taken (place actors own other) ≡ count }
     requires short { count + 1 < 2 ^ 64 }
+    requires hand { seat.old.me.0.hand ≡ ToPut (place actors own other) }
+    requires piece { IsCarried F.schedule F.right actors (place actors own other) count seat.old.me }
     ensures same { (seat.new.table_id ≡ seat.old.table_id) × (seat.new.id ≡ seat.old.id) }
-    ensures put { seat.new.me ≡ (has_put seat.old.me.0 (place actors own other), seat.old.me.1) }
+    ensures put { seat.new.me ≡ (has_put seat.old.me.0 (place actors own other), []) }
 {
     table
         .shared
@@ -76,9 +107,10 @@ pub(crate) fn store_taken<F: Freight>(
     requires count { slice_index seat.old.me.0.taken (place actors own other) ≡ count }
     requires seen { count < slice_index seat.old.me.0.seen (place actors own other) }
     requires short { count + 1 < 2 ^ 64 }
+    requires hand { seat.old.me.0.hand ≡ ToTake (place actors own other) }
+    requires slot { seat.old.me.1 ≡ (slot actors (place actors other own) count, None) ∷ [] }
     ensures same { (seat.new.table_id ≡ seat.old.table_id) × (seat.new.id ≡ seat.old.id) }
-    ensures taken { seat.new.me
-        ≡ (has_taken seat.old.me.0 (place actors own other), seat.old.me.1) }
+    ensures taken { seat.new.me ≡ (has_taken seat.old.me.0 (place actors own other), []) }
 {
     table
         .shared

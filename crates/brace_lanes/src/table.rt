@@ -38,7 +38,7 @@ pub struct Plan<S> {
     pub seats: u64,
 }
 
-/// The rule of the words and views.
+/// The rule of the words, slots and views.
 pub struct LaneRule<F: Freight> {
     freight: PhantomData<F>,
 }
@@ -47,7 +47,7 @@ impl<F: Freight> TableRule<Option<F>, View<F::Setting>, Plan<F::Setting>> for La
     ghost use Rattle.brace_lanes.specs.Rule.{IsKept};
     ghost use Rattle.brace_lanes.specs.Views.{opening};
 
-    ghost holds = { λ plan. IsKept };
+    ghost holds = { λ plan. IsKept F.schedule F.right };
 
     ghost first = { λ plan. opening plan.setting.value plan.actors plan.seats 0 1 };
 }

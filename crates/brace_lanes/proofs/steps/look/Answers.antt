@@ -1,8 +1,9 @@
 use Rattle.std.proofs.Common.{◌∙◌, ap, subst, arith}
+use Rattle.std.specs.Prelude.{ℕ}
 use Rattle.brace_lanes.specs.Places.{place, opposite}
 use Rattle.brace_lanes.specs.inner.Steps.{LooksAt}
 use Rattle.brace_lanes.proofs.PlaceLemmas.{opposite_is, words_below}
-use Rattle.brace_lanes.proofs.StepsKept.{looks}
+use Rattle.brace_lanes.proofs.StepsAllowed.{looks}
 use Rattle.brace_lanes.proofs.steps.look.Goals as goal
 
 pub load-requires : goal.load-requires
@@ -10,7 +11,7 @@ load-requires g c =
     let p = c.requires.placed in (
       p.same,
       omega (arith, p.words, (words_below c.args.actors c.args.other c.args.own p.other_below p.own_below).0),
-      looks c.args.table.now.shared.table_id.slots c.args.seat.now.id c.args.seat.now.me c.args.actors c.args.own c.args.other p.actors p.own_below p.other_below p.serves,
+      looks g.F.Freight.schedule g.F.Freight.right c.args.table.now.shared.table_id.slots c.args.seat.now.id c.args.seat.now.me c.args.actors c.args.own c.args.other p.actors p.own_below p.other_below p.serves c.requires.idle,
     )
 
 pub returns-clause-looked : goal.returns-clause-looked
@@ -19,4 +20,5 @@ returns-clause-looked g c =
     let n = c.args.actors in
     let a = c.args.own in
     let b = c.args.other in
-    subst (λ j. LooksAt j c.args.seat.now.me c.load.result c.load.new.seat.me) (ap (λ j. opposite j (place n b a)) p.actors ∙ opposite_is n a b p.own_below p.other_below) c.load.ensures.2
+    subst (λ (z : ℕ × ℕ). LooksAt g.F.Freight.schedule g.F.Freight.right z.0 (place n b a) z.1 c.args.seat.now.me c.load.result c.load.new.seat.me)
+    (λ i. (p.actors i, (ap (λ j. opposite j (place n b a)) p.actors ∙ opposite_is n a b p.own_below p.other_below) i)) c.load.ensures.2

@@ -1,6 +1,6 @@
-use Rattle.std.proofs.Common.{arith}
+use Rattle.std.proofs.Common.{◌∙◌, ap, arith}
 use Rattle.brace_lanes.proofs.PlaceLemmas.{words_below}
-use Rattle.brace_lanes.proofs.StepsKept.{takes}
+use Rattle.brace_lanes.proofs.StepsAllowed.{takes_one}
 use Rattle.brace_lanes.proofs.steps.store_taken.Goals as goal
 
 pub store-requires : goal.store-requires
@@ -8,5 +8,5 @@ store-requires g c =
     let p = c.requires.placed in (
       p.same,
       omega (arith, p.words, (words_below c.args.actors c.args.own c.args.other p.own_below p.other_below).1),
-      takes c.args.table.now.shared.table_id.slots c.args.seat.now.id c.args.seat.now.me c.args.actors c.args.own c.args.other c.args.count p.actors p.own_below p.other_below p.serves c.requires.count c.requires.seen,
+      takes_one g.F.Freight.schedule g.F.Freight.right c.args.table.now.shared.table_id.slots c.args.seat.now.id c.args.seat.now.me c.args.actors c.args.own c.args.other c.args.count p.slots p.actors p.own_below p.other_below p.serves c.requires.hand c.requires.count c.requires.seen c.requires.slot,
     )

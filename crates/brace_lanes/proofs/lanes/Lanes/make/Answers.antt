@@ -2,16 +2,15 @@ use Rattle.std.proofs.Common.{◌≡◌, ◌∙◌, ◌+◌, ◌*◌, List, ℕ,
 use Rattle.atomic_table.specs.Table.{opening as opened}
 use Rattle.brace_lanes.specs.Views.{opening}
 use Rattle.brace_lanes.specs.Rule.{IsKept}
-use Rattle.brace_lanes.proofs.StepsKept.{starts}
+use Rattle.brace_lanes.proofs.StepsAllowed.{starts}
 use Rattle.brace_lanes.proofs.MakeLemmas.{some_seats, one_more}
 use Rattle.brace_lanes.proofs.lanes.Lanes.make.Goals as goal
 
 pub vacant-requires : goal.vacant-requires
 vacant-requires g c =
     let n = c.args.actors in
-    let slots = n * n + n * n in
     let zeros : c.as_slice.result.now ≡ replicate c.word_count.result 0 = search rules in
-    subst (λ (ws : List ℕ). IsKept (opened ws (replicate slots None) (opening c.of.result.value n c.from.result 0 1))) (sym (zeros ∙ ap (λ j. replicate j 0) c.word_count.ensures)) (starts c.of.result.value n c.from.result slots None)
+    subst (λ (ws : List ℕ). IsKept g.F.Freight.schedule g.F.Freight.right (opened ws (replicate (n * n + n * n) None) (opening c.of.result.value n c.from.result 0 1))) (sym (zeros ∙ ap (λ j. replicate j 0) c.word_count.ensures)) (starts g.F.Freight.schedule g.F.Freight.right c.of.result.value n c.from.result)
 
 pub index_mut-requires : goal.index_mut-requires
 index_mut-requires g c =
