@@ -3,10 +3,10 @@ ghost use Rattle.brace_core.specs.Lanes.{AreBelow};
 ghost use Rattle.brace_lanes.specs.Places.{word_count as words_among};
 ghost use Rattle.brace_lanes.specs.Seats.{new_seats};
 
+use crate::cargo::Cargo;
 use crate::seat::LaneSeat;
 use crate::table::{LaneTable, Plan};
 use atomic_table::Table;
-use brace_core::Freight;
 use brace_num::NoMemory;
 use std::alloc::Global;
 use std::cmp::max;
@@ -15,11 +15,11 @@ use std::snapshot::Snapshot;
 
 /// The lanes between all actors, for seats on several threads.
 #[derive(Drop)]
-pub struct Lanes<F: Freight> {
+pub struct Lanes<F: Cargo> {
     pub(crate) table: LaneTable<F>,
 }
 
-impl<F: Freight> Model for Lanes<F> {
+impl<F: Cargo> Model for Lanes<F> {
     ghost use Rattle.atomic_table.specs.Seated.{TableId};
 
     ghost Value = { TableId };
@@ -35,7 +35,7 @@ fn word_count(actors: usize) -> usize
     max(1, actors * actors + actors * actors)
 }
 
-impl<F: Freight> Lanes<F> {
+impl<F: Cargo> Lanes<F> {
     /// Lanes for a setting, on which nothing was put, and their seats by rising number. The seat of
     /// number s serves the actors whose numbers leave s by the number of seats. The number of actors
     /// is at most 65 and above every number in the names of the setting's schedule, which has at

@@ -2,14 +2,14 @@
 ghost use Rattle.brace_lanes.specs.Views.{splitting, newcomer};
 ghost use Rattle.brace_lanes.specs.inner.Steps.{Looks, Claims, StoresPut, StoresTaken};
 
+use crate::cargo::Cargo;
 use crate::table::View;
 use atomic_table::{Play, Split};
-use brace_core::Freight;
 
 /// A load of the put word of a lane, by the seat that takes from it.
 pub(crate) struct Look;
 
-impl<F: Freight> Play<Option<F>, View<F::Setting>> for Look {
+impl<F: Cargo> Play<Option<F>, View<F::Setting>> for Look {
     ghost then = { Looks F.schedule F.right };
 }
 

@@ -3,24 +3,25 @@ ghost use Rattle.brace_core.specs.Exchanges.{Follows, IsAnswered, one_on};
 ghost use Rattle.brace_lanes.specs.Seats.{IsSameSeat, puts_of, takes_of, seen_of, misses_of};
 ghost use Rattle.brace_lanes.specs.Views.{Serves, newcomer, splitting};
 
+use crate::cargo::Cargo;
 use crate::lanes::Lanes;
 use crate::steps;
 use crate::table::Place;
-use brace_core::{Freight, Name};
+use brace_core::Name;
 use brace_num::NoMemory;
 use std::alloc::Global;
 use std::marker::Model;
 
 /// One of those that put to lanes and take from them, each for its actors, each on one thread.
 #[derive(Drop)]
-pub struct LaneSeat<F: Freight> {
+pub struct LaneSeat<F: Cargo> {
     pub(crate) place: Place<F>,
     pub(crate) actors: usize,
     pub(crate) put: Vec<u64>,
     pub(crate) taken: Vec<u64>,
 }
 
-impl<F: Freight> Model for LaneSeat<F> {
+impl<F: Cargo> Model for LaneSeat<F> {
     ghost use Rattle.brace_lanes.specs.Seats.{OnSeat};
     ghost use Rattle.brace_lanes.specs.inner.Sound.{IsSound};
 
@@ -31,7 +32,7 @@ impl<F: Freight> Model for LaneSeat<F> {
     ghost invariant = { λ it. IsSound F.schedule it.place it.actors it.put.items it.taken.items };
 }
 
-impl<F: Freight> LaneSeat<F> {
+impl<F: Cargo> LaneSeat<F> {
     /// One more seat, behind those that the first has made.
     pub(crate) fn split(&mut self, alloc: Global, lanes: &Lanes<F>) -> Result<LaneSeat<F>, NoMemory>
         requires lanes { self.old.lanes ≡ lanes.now }

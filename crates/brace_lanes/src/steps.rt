@@ -5,12 +5,12 @@ ghost use Rattle.brace_lanes.specs.Places.{place, slot};
 ghost use Rattle.brace_lanes.specs.Views.{has_put, has_taken, newcomer, splitting};
 ghost use Rattle.brace_lanes.specs.inner.Steps.{IsPlaced, IsOut, IsCarried, LooksAt, ClaimsAt};
 
+use crate::cargo::Cargo;
 use crate::plays::{Claim, Cut, Look, StorePut, StoreTaken};
 use crate::table::{LaneTable, Place};
-use brace_core::Freight;
 
 /// How many names of the lane from the other actor to its own were put.
-pub(crate) fn look<F: Freight>(
+pub(crate) fn look<F: Cargo>(
     table: &LaneTable<F>,
     seat: &mut Place<F>,
     actors: usize,
@@ -27,7 +27,7 @@ pub(crate) fn look<F: Freight>(
 }
 
 /// How many names of the lane from its own actor to the other were taken, before one is put.
-pub(crate) fn claim<F: Freight>(
+pub(crate) fn claim<F: Cargo>(
     table: &LaneTable<F>,
     seat: &mut Place<F>,
     actors: usize,
@@ -47,7 +47,7 @@ pub(crate) fn claim<F: Freight>(
 }
 
 /// Puts a piece into the slot that the seat holds, which is empty.
-pub(crate) fn fill<F: Freight>(table: &LaneTable<F>, seat: &mut Place<F>, place: usize, piece: F)
+pub(crate) fn fill<F: Cargo>(table: &LaneTable<F>, seat: &mut Place<F>, place: usize, piece: F)
     requires table { seat.old.table_id ≡ table.now.shared.table_id }
     requires empty { seat.old.me.1 ≡ (place, None) ∷ [] }
     ensures same { (seat.new.table_id ≡ seat.old.table_id) × (seat.new.id ≡ seat.old.id) }
@@ -57,11 +57,7 @@ pub(crate) fn fill<F: Freight>(table: &LaneTable<F>, seat: &mut Place<F>, place:
 }
 
 /// What is in the slot that the seat holds, which is empty from now on.
-pub(crate) fn clear<F: Freight>(
-    table: &LaneTable<F>,
-    seat: &mut Place<F>,
-    place: usize,
-) -> Option<F>
+pub(crate) fn clear<F: Cargo>(table: &LaneTable<F>, seat: &mut Place<F>, place: usize) -> Option<F>
     requires table { seat.old.table_id ≡ table.now.shared.table_id }
     requires held { IsOut place seat.old.me }
     ensures same { (seat.new.table_id ≡ seat.old.table_id) × (seat.new.id ≡ seat.old.id) }
@@ -72,7 +68,7 @@ pub(crate) fn clear<F: Freight>(
 }
 
 /// One more name of the lane from its own actor to the other is put.
-pub(crate) fn store_put<F: Freight>(
+pub(crate) fn store_put<F: Cargo>(
     table: &LaneTable<F>,
     seat: &mut Place<F>,
     actors: usize,
@@ -95,7 +91,7 @@ pub(crate) fn store_put<F: Freight>(
 }
 
 /// One more name of the lane from the other actor to its own is taken.
-pub(crate) fn store_taken<F: Freight>(
+pub(crate) fn store_taken<F: Cargo>(
     table: &LaneTable<F>,
     seat: &mut Place<F>,
     actors: usize,
@@ -118,7 +114,7 @@ pub(crate) fn store_taken<F: Freight>(
 }
 
 /// One more seat, behind those that the first has made.
-pub(crate) fn split<F: Freight>(table: &LaneTable<F>, first: &mut Place<F>) -> Place<F>
+pub(crate) fn split<F: Cargo>(table: &LaneTable<F>, first: &mut Place<F>) -> Place<F>
     requires table { first.old.table_id ≡ table.now.shared.table_id }
     requires words { 0 < table.now.shared.table_id.words }
     requires first { first.old.me.0.number ≡ 0 }

@@ -1,6 +1,6 @@
 //! The table of words and slots that all seats share.
+use crate::cargo::Cargo;
 use atomic_table::{Seat, Table, TableRule};
-use brace_core::Freight;
 use std::alloc::Global;
 use std::collections::LinkedList;
 use std::marker::PhantomData;
@@ -39,11 +39,11 @@ pub struct Plan<S> {
 }
 
 /// The rule of the words, slots and views.
-pub struct LaneRule<F: Freight> {
+pub struct LaneRule<F: Cargo> {
     freight: PhantomData<F>,
 }
 
-impl<F: Freight> TableRule<Option<F>, View<F::Setting>, Plan<F::Setting>> for LaneRule<F> {
+impl<F: Cargo> TableRule<Option<F>, View<F::Setting>, Plan<F::Setting>> for LaneRule<F> {
     ghost use Rattle.brace_lanes.specs.Rule.{IsKept};
     ghost use Rattle.brace_lanes.specs.Views.{opening};
 
@@ -54,10 +54,10 @@ impl<F: Freight> TableRule<Option<F>, View<F::Setting>, Plan<F::Setting>> for La
 
 pub type LaneTable<F> = Table<
     Option<F>,
-    View<<F as Freight>::Setting>,
-    Plan<<F as Freight>::Setting>,
+    View<<F as Cargo>::Setting>,
+    Plan<<F as Cargo>::Setting>,
     LaneRule<F>,
     Global,
 >;
 
-pub type Place<F> = Seat<Option<F>, View<<F as Freight>::Setting>>;
+pub type Place<F> = Seat<Option<F>, View<<F as Cargo>::Setting>>;

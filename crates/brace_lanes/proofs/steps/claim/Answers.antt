@@ -11,7 +11,7 @@ load-requires g c =
     let p = c.requires.placed in (
       p.same,
       omega (arith, p.words, (words_below c.args.actors c.args.other c.args.own p.other_below p.own_below).1),
-      claims g.F.Freight.schedule g.F.Freight.right c.args.table.now.shared.table_id.slots c.args.seat.now.id c.args.seat.now.me c.args.actors c.args.own c.args.other p.actors p.own_below p.other_below p.serves c.requires.idle c.requires.answered,
+      claims g.F.Cargo.schedule g.F.Cargo.right c.args.table.now.shared.table_id.slots c.args.seat.now.id c.args.seat.now.me c.args.actors c.args.own c.args.other p.actors p.own_below p.other_below p.serves c.requires.idle c.requires.answered,
     )
 
 pub returns-clause-claimed : goal.returns-clause-claimed

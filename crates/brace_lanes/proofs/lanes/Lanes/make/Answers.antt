@@ -10,7 +10,7 @@ pub vacant-requires : goal.vacant-requires
 vacant-requires g c =
     let n = c.args.actors in
     let zeros : c.as_slice.result.now ≡ replicate c.word_count.result 0 = search rules in
-    subst (λ (ws : List ℕ). IsKept g.F.Freight.schedule g.F.Freight.right (opened ws (replicate (n * n + n * n) None) (opening c.of.result.value n c.from.result 0 1))) (sym (zeros ∙ ap (λ j. replicate j 0) c.word_count.ensures)) (starts g.F.Freight.schedule g.F.Freight.right c.of.result.value n c.from.result)
+    subst (λ (ws : List ℕ). IsKept g.F.Cargo.schedule g.F.Cargo.right (opened ws (replicate (n * n + n * n) None) (opening c.of.result.value n c.from.result 0 1))) (sym (zeros ∙ ap (λ j. replicate j 0) c.word_count.ensures)) (starts g.F.Cargo.schedule g.F.Cargo.right c.of.result.value n c.from.result)
 
 pub index_mut-requires : goal.index_mut-requires
 index_mut-requires g c =
@@ -18,10 +18,10 @@ index_mut-requires g c =
     omega (arith, some, c.loop.all.ok.0)
 
 pub split-requires-clause-lanes : goal.split-requires-clause-lanes
-split-requires-clause-lanes g c κs within = ap (λ s. s.lanes) (c.index_mut.ensures.value ∙ ap (λ l. get_or l 0 c.index_mut.result.now) c.loop.invariant)
+split-requires-clause-lanes g c = ap (λ s. s.lanes) (c.index_mut.ensures.value ∙ ap (λ l. get_or l 0 c.index_mut.result.now) c.loop.invariant)
 
 pub split-requires-clause-first : goal.split-requires-clause-first
-split-requires-clause-first g c κs within = ap (λ s. s.view.number) (c.index_mut.ensures.value ∙ ap (λ l. get_or l 0 c.index_mut.result.now) c.loop.invariant)
+split-requires-clause-first g c = ap (λ s. s.view.number) (c.index_mut.ensures.value ∙ ap (λ l. get_or l 0 c.index_mut.result.now) c.loop.invariant)
 
 pub loop-preserved : goal.loop-preserved
 loop-preserved g c =
