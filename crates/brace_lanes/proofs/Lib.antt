@@ -6,3 +6,4 @@ pub mod SlotsKept
 pub mod StepsAllowed
 pub mod SeatLemmas
 pub mod MakeLemmas
+pub mod TalkLemmas

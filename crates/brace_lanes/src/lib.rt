@@ -8,6 +8,8 @@ mod plays;
 mod seat;
 mod steps;
 mod table;
+#[cfg(test)]
+mod tests;
 
 pub use cargo::Cargo;
 pub use end::LaneEnd;
