@@ -48,6 +48,11 @@ pub record KeptAmong {X S : Type 0} (n seats made : ℕ) (s : State X (View S)) 
   pub not_made : (a b : ℕ) → a < n → b < n → made ≤ a % seats →
       (put_of n s.words a b ≡ 0) × (taken_of n s.words b a ≡ 0)
 
+-- a fact of every lane at every moment
+abbrev pub OnLanes : (X S : Type 0) → (ℕ → List ℕ → ℕ → ℕ → Type 0) → Type 0
+OnLanes X S P = (n seats made : ℕ) (s : State X (View S)) → KeptAmong n seats made s →
+    (p q : ℕ) → p < n → q < n → P n s.words p q
+
 -- a seat holds a slot for this
 abbrev pub IsHeld : {S : Type 0} → List (View S) → Hand → Type 0
 IsHeld {S} views hand =

@@ -4,6 +4,7 @@
 mod cargo;
 mod end;
 mod lanes;
+pub mod laws;
 mod plays;
 mod seat;
 mod steps;
