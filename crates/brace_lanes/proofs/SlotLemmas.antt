@@ -69,7 +69,9 @@ module _ {S : Type 0} where
   held_more views w hand (j, u, e, is) = (j, u, at_longer views (w ∷ []) j u e, is)
 
   -- one actor is served by one seat
+  pub one_place : {X : Type 0} (n seats made : ℕ) (s : State X (View S)) (k : KeptAmong n seats made s) (j id : ℕ) (u v : View S) (a : ℕ) → get_elem? s.views j ≡ some u → get_elem? s.views id ≡ some v → Serves u a → Serves v a → j ≡ id
+  one_place n seats made s k j id u v a e at hers his =
+      k.alone j id u v e at (sym hers ∙ ap (λ m. a % m) ((k.each j u e).of_seats ∙ sym ((k.each id v at).of_seats)) ∙ his)
+
   pub one_seat : {X : Type 0} (n seats made : ℕ) (s : State X (View S)) (k : KeptAmong n seats made s) (j id : ℕ) (u v : View S) (a : ℕ) → get_elem? s.views j ≡ some u → get_elem? s.views id ≡ some v → Serves u a → Serves v a → u ≡ v
-  one_seat n seats made s k j id u v a e at hers his =
-      let same : u.number ≡ v.number = sym hers ∙ ap (λ m. a % m) ((k.each j u e).of_seats ∙ sym ((k.each id v at).of_seats)) ∙ his in
-      some-injective u v (sym e ∙ ap (get_elem? s.views) (k.alone j id u v e at same) ∙ at)
+  one_seat n seats made s k j id u v a e at hers his = some-injective u v (sym e ∙ ap (get_elem? s.views) (one_place n seats made s k j id u v a e at hers his) ∙ at)

@@ -15,11 +15,11 @@ use Rattle.brace_lanes.specs.declared.table.Hand.{Hand}
 use Rattle.brace_lanes.specs.declared.table.Hand.TheVariants.{Empty, ToPut, ToTake}
 use Rattle.brace_lanes.specs.Places.{place, slot, slot_count, word_count, put_of, taken_of}
 use Rattle.brace_lanes.specs.Views.{Serves, opening, splitting, newcomer}
-use Rattle.brace_lanes.specs.Rule.{KeptAmong, IsRightAt, IsFull, IsHeld, SlotsKept}
+use Rattle.brace_lanes.specs.Rule.{KeptAmong, IsRightAt, IsFull, IsHeld, IsPutting, IsTaking, SlotsKept}
 use Rattle.brace_lanes.proofs.PlaceLemmas.{put_here, put_else, put_takes, taken_here, taken_else, taken_puts, place_below, same_place, apart}
 use Rattle.brace_lanes.proofs.ViewLists.{each_after, at_end, view_here}
 use Rattle.brace_lanes.proofs.StepsKept.{two_at_most, zero_at}
-use Rattle.brace_lanes.proofs.SlotLemmas.{slot_below, slots_apart, same_put, same_take, put_or_take, idle_or_put, idle_or_take, held_after, held_more, one_seat}
+use Rattle.brace_lanes.proofs.SlotLemmas.{slot_below, slots_apart, same_put, same_take, put_or_take, idle_or_put, idle_or_take, held_after, held_more, one_place, one_seat}
 
 vacant_at : {F : Type 0} (m i : ℕ) → i < m → get_elem? (map some (replicate {A = opt F} m None)) i ≡ some (some None)
 vacant_at zero i l = absurd (omega (arith, l))
@@ -38,19 +38,43 @@ module _ {F S : Type 0} (schedule : S → Schedule) (right : S → Name → F �
   Free n words homes views = (p q k : ℕ) → p < n → q < n → put_of n words p q ≤ k → k < taken_of n words p q + 2
       → (get_elem? homes (slot n (place n p q) k) ≡ some (some None)) ⊎ ((k ≡ put_of n words p q) × IsHeld views (ToPut (place n p q)))
 
+  -- what the rule says of the hands of all seats, and of one
+  abbrev Putting : ℕ → List ℕ → Homes → View S → Type 0
+  Putting n words homes v = (a b : ℕ) → a < n → b < n → v.hand ≡ ToPut (place n a b) → IsPutting n words homes v a b
+
+  abbrev Taking : ℕ → List ℕ → Homes → View S → Type 0
+  Taking n words homes v = (a b : ℕ) → a < n → b < n → v.hand ≡ ToTake (place n a b) → IsTaking n words homes v a b
+
   -- the view of one seat became w
   slots_after : (n : ℕ) (setting : S) (s : State (opt F) (View S)) (h : SlotsKept schedule right n setting s) (id : ℕ) (v w : View S) (words : List ℕ) (homes : Homes) → get_elem? s.views id ≡ some v → w.setting ≡ v.setting
-      → ((a b : ℕ) → a < n → b < n → w.hand ≡ ToPut (place n a b) → Serves w a)
-      → ((a b : ℕ) → a < n → b < n → w.hand ≡ ToTake (place n a b) → Serves w a)
+      → Putting n words homes w → ((j : ℕ) (u : View S) → j ≢ id → get_elem? s.views j ≡ some u → Putting n words homes u)
+      → Taking n words homes w → ((j : ℕ) (u : View S) → j ≢ id → get_elem? s.views j ≡ some u → Taking n words homes u)
       → Flying n setting words homes (set s.views id w) → Free n words homes (set s.views id w)
       → SlotsKept schedule right n setting record { words = words; homes = homes; views = set s.views id w }
-  slots_after n setting s h id v w words homes at same putting taking flying free = record {
+  slots_after n setting s h id v w words homes at same putting others_put taking others_take flying free = record {
     settings = each_after (λ (u : View S). u.setting ≡ setting) s.views id w (same ∙ h.settings id v at) (λ j u far e. h.settings j u e);
     flying = flying;
     free = free;
-    putting = each_after (λ (u : View S). (a b : ℕ) → a < n → b < n → u.hand ≡ ToPut (place n a b) → Serves u a) s.views id w putting (λ j u far e. h.putting j u e);
-    taking = each_after (λ (u : View S). (a b : ℕ) → a < n → b < n → u.hand ≡ ToTake (place n a b) → Serves u a) s.views id w taking (λ j u far e. h.taking j u e);
+    putting = each_after (Putting n words homes) s.views id w putting others_put;
+    taking = each_after (Taking n words homes) s.views id w taking others_take;
   }
+
+  -- where one more slot is out, those that were out are so still
+  stays_out : (homes : Homes) (i j : ℕ) → get_elem? homes i ≡ some none → get_elem? (set homes j none) i ≡ some none
+  stays_out homes i j was = elim (cases_eq i j) [
+    | inl same ↦ ap (get_elem? (set homes j none)) same ∙ view_here homes j none none (ap (get_elem? homes) (sym same) ∙ was)
+    | inr other ↦ set_else homes j i none other ∙ was
+  ]
+
+  putting_stays : (n : ℕ) (words : List ℕ) (homes : Homes) (i : ℕ) (u : View S) → Putting n words homes u → Putting n words (set homes i none) u
+  putting_stays n words homes i u was c d lc ld e =
+      let p = was c d lc ld e in
+      record { serves = p.serves; answered = p.answered; out = stays_out homes (slot n (place n c d) (put_of n words c d)) i p.out }
+
+  taking_stays : (n : ℕ) (words : List ℕ) (homes : Homes) (i : ℕ) (u : View S) → Taking n words homes u → Taking n words (set homes i none) u
+  taking_stays n words homes i u was c d lc ld e =
+      let p = was c d lc ld e in
+      record { serves = p.serves; found = p.found; out = stays_out homes (slot n (place n d c) (taken_of n words d c)) i p.out }
 
   -- a home that held something else is at another slot
   other_home : (homes : Homes) (i j : ℕ) (x y : opt F) → (x ≡ y → ⊥) → get_elem? homes i ≡ some (some x) → get_elem? homes j ≡ some (some y) → i ≢ j
@@ -80,15 +104,18 @@ module _ {F S : Type 0} (schedule : S → Schedule) (right : S → Name → F �
 
         pub look_slots : (x : F) × (get_elem? s.homes next_slot ≡ some (some (Some x))) × IsRightAt schedule right setting n (place n b a) next x × Looked
         look_slots = elim (h.flying b a next lb la (omega arith) more) [
-          | inl (x, home, fits) ↦ (x, home, fits, slots_after n setting s h id v w s.words (set s.homes next_slot none) at same putting taking flying (free x home))
-          | inr (is, (j, u, e, held)) ↦ absurd (idle_or_take (place n a b) (sym idle ∙ ap (λ (z : View S). z.hand) (sym (one_seat n seats made s k j id u v a e at (h.taking j u e a b la lb held) serves)) ∙ held))
+          | inl (x, home, fits) ↦ (x, home, fits, slots_after n setting s h id v w s.words (set s.homes next_slot none) at same putting (λ j u far e. putting_stays n s.words s.homes next_slot u (h.putting j u e)) (taking x home) (λ j u far e. taking_stays n s.words s.homes next_slot u (h.taking j u e)) flying (free x home))
+          | inr (is, (j, u, e, held)) ↦ absurd (idle_or_take (place n a b) (sym idle ∙ ap (λ (z : View S). z.hand) (sym (one_seat n seats made s k j id u v a e at ((h.taking j u e a b la lb held).serves) serves)) ∙ held))
         ]
           where
-            putting : (c d : ℕ) → c < n → d < n → w.hand ≡ ToPut (place n c d) → Serves w c
+            putting : Putting n s.words (set s.homes next_slot none) w
             putting c d lc ld e = absurd (put_or_take (place n c d) (place n a b) (sym e ∙ hand))
 
-            taking : (c d : ℕ) → c < n → d < n → w.hand ≡ ToTake (place n c d) → Serves w c
-            taking c d lc ld e = subst (λ j. Serves w j) ((apart n a b c d lb ld (same_take (place n a b) (place n c d) (sym hand ∙ e))).0) still
+            taking : (x : F) → get_elem? s.homes next_slot ≡ some (some (Some x)) → Taking n s.words (set s.homes next_slot none) w
+            taking x home c d lc ld e =
+                let (ea, eb) = apart n a b c d lb ld (same_take (place n a b) (place n c d) (sym hand ∙ e)) in
+                let mine : IsTaking n s.words (set s.homes next_slot none) w a b = record { serves = still; found = more; out = view_here s.homes next_slot (some (Some x)) none home } in
+                subst (λ (z : ℕ × ℕ). IsTaking n s.words (set s.homes next_slot none) w z.0 z.1) (λ i. (ea i, eb i)) mine
 
             flying : Flying n setting s.words (set s.homes next_slot none) (set s.views id w)
             flying p q i lp lq lo hi = elim (h.flying p q i lp lq lo hi) [
@@ -111,20 +138,23 @@ module _ {F S : Type 0} (schedule : S → Schedule) (right : S → Name → F �
             ]
 
       -- a claim
-      module _ (idle : v.hand ≡ Empty) (few : out < taken_of n s.words a b + 2) (w : View S) (hand : w.hand ≡ ToPut (place n a b)) (same : w.setting ≡ v.setting) (still : Serves w a) where
+      module _ (idle : v.hand ≡ Empty) (few : out < taken_of n s.words a b + 2) (answered : out ≤ taken_of n s.words b a) (w : View S) (hand : w.hand ≡ ToPut (place n a b)) (same : w.setting ≡ v.setting) (still : Serves w a) where
         abbrev Claimed : Type 0
         Claimed = SlotsKept schedule right n setting record { words = s.words; homes = set s.homes out_slot none; views = set s.views id w }
 
         pub claim_slots : (get_elem? s.homes out_slot ≡ some (some None)) × Claimed
         claim_slots = elim (h.free a b out la lb (omega arith) few) [
-          | inl empty ↦ (empty, slots_after n setting s h id v w s.words (set s.homes out_slot none) at same putting taking (flying empty) free)
-          | inr (is, (j, u, e, held)) ↦ absurd (idle_or_put (place n a b) (sym idle ∙ ap (λ (z : View S). z.hand) (sym (one_seat n seats made s k j id u v a e at (h.putting j u e a b la lb held) serves)) ∙ held))
+          | inl empty ↦ (empty, slots_after n setting s h id v w s.words (set s.homes out_slot none) at same (putting empty) (λ j u far e. putting_stays n s.words s.homes out_slot u (h.putting j u e)) taking (λ j u far e. taking_stays n s.words s.homes out_slot u (h.taking j u e)) (flying empty) free)
+          | inr (is, (j, u, e, held)) ↦ absurd (idle_or_put (place n a b) (sym idle ∙ ap (λ (z : View S). z.hand) (sym (one_seat n seats made s k j id u v a e at ((h.putting j u e a b la lb held).serves) serves)) ∙ held))
         ]
           where
-            putting : (c d : ℕ) → c < n → d < n → w.hand ≡ ToPut (place n c d) → Serves w c
-            putting c d lc ld e = subst (λ j. Serves w j) ((apart n a b c d lb ld (same_put (place n a b) (place n c d) (sym hand ∙ e))).0) still
+            putting : get_elem? s.homes out_slot ≡ some (some None) → Putting n s.words (set s.homes out_slot none) w
+            putting empty c d lc ld e =
+                let (ea, eb) = apart n a b c d lb ld (same_put (place n a b) (place n c d) (sym hand ∙ e)) in
+                let mine : IsPutting n s.words (set s.homes out_slot none) w a b = record { serves = still; answered = answered; out = view_here s.homes out_slot (some None) none empty } in
+                subst (λ (z : ℕ × ℕ). IsPutting n s.words (set s.homes out_slot none) w z.0 z.1) (λ i. (ea i, eb i)) mine
 
-            taking : (c d : ℕ) → c < n → d < n → w.hand ≡ ToTake (place n c d) → Serves w c
+            taking : Taking n s.words (set s.homes out_slot none) w
             taking c d lc ld e = absurd (put_or_take (place n a b) (place n c d) (sym hand ∙ e))
 
             flying : get_elem? s.homes out_slot ≡ some (some None) → Flying n setting s.words (set s.homes out_slot none) (set s.views id w)
@@ -157,12 +187,12 @@ module _ {F S : Type 0} (schedule : S → Schedule) (right : S → Name → F �
         put_homes = set s.homes out_slot (some (Some x))
 
         pub put_slots : SlotsKept schedule right n setting record { words = put_words; homes = put_homes; views = set s.views id w }
-        put_slots = slots_after n setting s h id v w put_words put_homes at same putting taking flying free
+        put_slots = slots_after n setting s h id v w put_words put_homes at same putting others_put taking others_take flying free
           where
-            putting : (c d : ℕ) → c < n → d < n → w.hand ≡ ToPut (place n c d) → Serves w c
+            putting : Putting n put_words put_homes w
             putting c d lc ld e = absurd (idle_or_put (place n c d) (sym hand ∙ e))
 
-            taking : (c d : ℕ) → c < n → d < n → w.hand ≡ ToTake (place n c d) → Serves w c
+            taking : Taking n put_words put_homes w
             taking c d lc ld e = absurd (idle_or_take (place n c d) (sym hand ∙ e))
 
             took : (p q : ℕ) → taken_of n put_words p q ≡ taken_of n s.words p q
@@ -174,6 +204,40 @@ module _ {F S : Type 0} (schedule : S → Schedule) (right : S → Name → F �
               | inl (ep, eq) ↦ inl (ep, eq, (λ j. put_of n put_words (ep j) (eq j)) ∙ put_here n s.words k.size a b (out + 1) la lb)
               | inr other ↦ inr (other, put_else n s.words k.size a b (out + 1) la lb p q other)
             ]
+
+            others_put : (j : ℕ) (u : View S) → j ≢ id → get_elem? s.views j ≡ some u → Putting n put_words put_homes u
+            others_put j u far e c d lc ld is =
+                let p = h.putting j u e c d lc ld is in
+                elim (put c d lc ld) [
+                  | inl (ec, ed, now) ↦ absurd (far (one_place n seats made s k j id u v a e at (subst (λ m. Serves u m) ec p.serves) serves))
+                  | inr (other, now) ↦ record {
+                    serves = p.serves;
+                    answered = let was = p.answered in omega (arith, was, now, took d c);
+                    out = ap (λ m. get_elem? put_homes (slot n (place n c d) m)) now
+                        ∙ set_else s.homes out_slot (slot n (place n c d) (put_of n s.words c d)) (some (Some x)) (λ same_slot. let (ec, ed, parity) = slots_apart n c d a b (put_of n s.words c d) out lc ld la lb same_slot in other (λ i. place n (ec i) (ed i)))
+                        ∙ p.out;
+                  }
+                ]
+
+            others_take : (j : ℕ) (u : View S) → j ≢ id → get_elem? s.views j ≡ some u → Taking n put_words put_homes u
+            others_take j u far e c d lc ld is =
+                let p = h.taking j u e c d lc ld is in
+                let was = p.found in
+                record {
+                  serves = p.serves;
+                  found = elim (put d c ld lc) [
+                    | inl (ed, ec, now) ↦ let o : put_of n s.words d c ≡ out = λ i. put_of n s.words (ed i) (ec i) in omega (arith, was, now, o, took d c)
+                    | inr (other, now) ↦ omega (arith, was, now, took d c)
+                  ];
+                  out = ap (λ m. get_elem? put_homes (slot n (place n d c) m)) (took d c)
+                      ∙ set_else s.homes out_slot (slot n (place n d c) (taken_of n s.words d c)) (some (Some x)) (λ same_slot.
+                      let (ed, ec, parity) = slots_apart n d c a b (taken_of n s.words d c) out ld lc la lb same_slot in
+                      let o : put_of n s.words d c ≡ out = λ i. put_of n s.words (ed i) (ec i) in
+                      let t : taken_of n s.words d c ≡ taken_of n s.words a b = λ i. taken_of n s.words (ed i) (ec i) in
+                      let one : taken_of n s.words d c ≡ out = one_turn (taken_of n s.words d c) out 2 (omega (arith, was, o)) (omega (arith, few, t)) parity in
+                      absurd (omega (arith, was, o, one)))
+                      ∙ p.out;
+                }
 
             gone : (p q : ℕ) → place n p q ≢ place n a b → v.hand ≡ ToPut (place n p q) → w.hand ≡ ToPut (place n p q)
             gone p q other e = absurd (other (same_put (place n p q) (place n a b) (sym e ∙ holds)))
@@ -234,12 +298,12 @@ module _ {F S : Type 0} (schedule : S → Schedule) (right : S → Name → F �
         took_homes = set s.homes next_slot (some None)
 
         pub take_slots : SlotsKept schedule right n setting record { words = took_words; homes = took_homes; views = set s.views id w }
-        take_slots = slots_after n setting s h id v w took_words took_homes at same putting taking flying free
+        take_slots = slots_after n setting s h id v w took_words took_homes at same putting others_put taking others_take flying free
           where
-            putting : (c d : ℕ) → c < n → d < n → w.hand ≡ ToPut (place n c d) → Serves w c
+            putting : Putting n took_words took_homes w
             putting c d lc ld e = absurd (idle_or_put (place n c d) (sym hand ∙ e))
 
-            taking : (c d : ℕ) → c < n → d < n → w.hand ≡ ToTake (place n c d) → Serves w c
+            taking : Taking n took_words took_homes w
             taking c d lc ld e = absurd (idle_or_take (place n c d) (sym hand ∙ e))
 
             puts : (p q : ℕ) → p < n → q < n → put_of n took_words p q ≡ put_of n s.words p q
@@ -250,6 +314,44 @@ module _ {F S : Type 0} (schedule : S → Schedule) (right : S → Name → F �
               | inl (eq, ep) ↦ inl (ep, eq, (λ j. taken_of n took_words (ep j) (eq j)) ∙ taken_here n s.words k.size a b (next + 1) la lb)
               | inr other ↦ inr (other, taken_else n s.words k.size a b (next + 1) la lb p q other)
             ]
+
+            others_take : (j : ℕ) (u : View S) → j ≢ id → get_elem? s.views j ≡ some u → Taking n took_words took_homes u
+            others_take j u far e c d lc ld is =
+                let p = h.taking j u e c d lc ld is in
+                let was = p.found in
+                elim (took d c ld lc) [
+                  | inl (ed, ec, now) ↦ absurd (far (one_place n seats made s k j id u v a e at (subst (λ m. Serves u m) ec p.serves) serves))
+                  | inr (other, now) ↦ record {
+                    serves = p.serves;
+                    found = omega (arith, was, now, puts d c ld lc);
+                    out = ap (λ m. get_elem? took_homes (slot n (place n d c) m)) now
+                        ∙ set_else s.homes next_slot (slot n (place n d c) (taken_of n s.words d c)) (some None) (λ same_slot. let (ed, ec, parity) = slots_apart n d c b a (taken_of n s.words d c) next ld lc lb la same_slot in other (λ i. place n (ec i) (ed i)))
+                        ∙ p.out;
+                  }
+                ]
+
+            others_put : (j : ℕ) (u : View S) → j ≢ id → get_elem? s.views j ≡ some u → Putting n took_words took_homes u
+            others_put j u far e c d lc ld is =
+                let p = h.putting j u e c d lc ld is in
+                let was = p.answered in
+                record {
+                  serves = p.serves;
+                  answered = elim (took d c ld lc) [
+                    | inl (ed, ec, now) ↦ let t : taken_of n s.words d c ≡ next = λ i. taken_of n s.words (ed i) (ec i) in omega (arith, was, now, t, puts c d lc ld)
+                    | inr (other, now) ↦ omega (arith, was, now, puts c d lc ld)
+                  ];
+                  out = ap (λ m. get_elem? took_homes (slot n (place n c d) m)) (puts c d lc ld)
+                      ∙ set_else s.homes next_slot (slot n (place n c d) (put_of n s.words c d)) (some None) (λ same_slot.
+                      let (ec, ed, parity) = slots_apart n c d b a (put_of n s.words c d) next lc ld lb la same_slot in
+                      let found = (h.taking id v at a b la lb holds).found in
+                      let o : put_of n s.words c d ≡ put_of n s.words b a = λ i. put_of n s.words (ec i) (ed i) in
+                      let t : taken_of n s.words d c ≡ taken_of n s.words a b = λ i. taken_of n s.words (ed i) (ec i) in
+                      let order = k.in_order a b la lb in
+                      let reply = k.answered a b la lb in
+                      let one : next ≡ put_of n s.words c d = one_turn next (put_of n s.words c d) 2 (omega (arith, found, o)) (omega (arith, was, t, order, reply)) (sym parity) in
+                      absurd (omega (arith, found, o, one)))
+                      ∙ p.out;
+                }
 
             keeps_put : (p q : ℕ) → IsHeld s.views (ToPut (place n p q)) → IsHeld (set s.views id w) (ToPut (place n p q))
             keeps_put p q held = held_after s.views id v w (ToPut (place n p q)) at (λ e. absurd (put_or_take (place n p q) (place n a b) (sym e ∙ holds))) held
@@ -315,8 +417,12 @@ module _ {F S : Type 0} (schedule : S → Schedule) (right : S → Name → F �
         | inl empty ↦ inl empty
         | inr (is, held) ↦ inr (is, keeps (ToPut (place n p q)) held)
       ];
-      putting = more (λ u. (c d : ℕ) → c < n → d < n → u.hand ≡ ToPut (place n c d) → Serves u c) (h.putting id v at) (λ j u far e. h.putting j u e) (λ c d lc ld e. absurd (idle_or_put (place n c d) e));
-      taking = more (λ u. (c d : ℕ) → c < n → d < n → u.hand ≡ ToTake (place n c d) → Serves u c) (h.taking id v at) (λ j u far e. h.taking j u e) (λ c d lc ld e. absurd (idle_or_take (place n c d) e));
+      putting = more (Putting n s.words s.homes)
+          (λ c d lc ld e. let p = h.putting id v at c d lc ld e in record { serves = p.serves; answered = p.answered; out = p.out })
+          (λ j u far e. h.putting j u e) (λ c d lc ld e. absurd (idle_or_put (place n c d) e));
+      taking = more (Taking n s.words s.homes)
+          (λ c d lc ld e. let p = h.taking id v at c d lc ld e in record { serves = p.serves; found = p.found; out = p.out })
+          (λ j u far e. h.taking j u e) (λ c d lc ld e. absurd (idle_or_take (place n c d) e));
     }
       where
         more : (P : View S → Type 0) → P (splitting v) → ((j : ℕ) (u : View S) → j ≢ id → get_elem? s.views j ≡ some u → P u) → P (newcomer v)
@@ -332,8 +438,8 @@ module _ {F S : Type 0} (schedule : S → Schedule) (right : S → Name → F �
     -- the seat stays idle
     pub idle_slots : (w : View S) → v.hand ≡ Empty → w.hand ≡ Empty → w.setting ≡ v.setting → SlotsKept schedule right n setting record { words = s.words; homes = s.homes; views = set s.views id w }
     idle_slots w idle hand same = slots_after n setting s h id v w s.words s.homes at same
-        (λ c d lc ld e. absurd (idle_or_put (place n c d) (sym hand ∙ e)))
-        (λ c d lc ld e. absurd (idle_or_take (place n c d) (sym hand ∙ e)))
+        (λ c d lc ld e. absurd (idle_or_put (place n c d) (sym hand ∙ e))) (λ j u far e. h.putting j u e)
+        (λ c d lc ld e. absurd (idle_or_take (place n c d) (sym hand ∙ e))) (λ j u far e. h.taking j u e)
         (λ p q i lp lq lo hi. elim (h.flying p q i lp lq lo hi) [
           | inl full ↦ inl full
           | inr (is, held) ↦ inr (is, held_after s.views id v w (ToTake (place n q p)) at (λ e. absurd (idle_or_take (place n q p) (sym idle ∙ e))) held)

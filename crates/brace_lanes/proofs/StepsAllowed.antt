@@ -105,7 +105,7 @@ module _ {F S : Type 0} (schedule : S → Schedule) (right : S → Name → F �
       let w : View S = claimed v place_at in
       let l = claim_level n seats made s k id v a b at la lb serves level in
       let here : opposite v.actors (word - v.actors * v.actors) ≡ place_at = ap (λ j. opposite j (word - j * j)) among ∙ ap (opposite n) (past_square n b a) ∙ opposite_is n a b la lb in
-      let (empty, slots_kept) = claim_slots schedule right n seats made setting s k h id v at a b la lb serves idle (let hi = l.high in omega (arith, hi)) w refl refl serves in
+      let (empty, slots_kept) = claim_slots schedule right n seats made setting s k h id v at a b la lb serves idle (let hi = l.high in omega (arith, hi)) (let p = l.put in let t = (look_low n seats made s k id v a b at la lb serves).0 in omega (arith, p, t, level)) w refl refl serves in
       let homes : List (Option (opt F)) = set s.homes (slot n place_at out) none in (
         w,
         takes (slot n place_at out) None,

@@ -1,7 +1,7 @@
 -- What always holds of the words and slots of lanes and of the views of all seats, in any schedule
 -- of threads.
 use Rattle.std.specs.Prelude.{◌≡◌, ◌≤◌, ◌<◌, ◌⊎◌, ℕ, ◌+◌, ◌*◌, ◌%◌, List, Option as opt, None, Some, length, slice_index}
-use mathlib.Core.Option.{Option, some}
+use mathlib.Core.Option.{Option, none, some}
 use lib.ListN.{get_elem?}
 use Rattle.atomic_table.specs.Table.{State}
 use Rattle.brace_lanes.specs.declared.table.View.{View}
@@ -58,6 +58,22 @@ abbrev pub IsHeld : {S : Type 0} → List (View S) → Hand → Type 0
 IsHeld {S} views hand =
     (j : ℕ) × (v : View S) × (get_elem? views j ≡ some v) × (v.hand ≡ hand)
 
+-- a seat holds a slot of the lane from a to b for a put: it serves a, it has put at most as many
+-- names as it has taken of the opposite lane, and the slot of the next name is out
+pub record IsPutting {F S : Type 0} (n : ℕ) (words : List ℕ) (homes : List (Option (opt F)))
+    (v : View S) (a b : ℕ) : Type 0 where
+  pub serves : Serves v a
+  pub answered : put_of n words a b ≤ taken_of n words b a
+  pub out : get_elem? homes (slot n (put_word n a b) (put_of n words a b)) ≡ some none
+
+-- a seat holds a slot of the lane from b to a for a take: it serves a, a name is in flight, and the
+-- slot of the oldest is out
+pub record IsTaking {F S : Type 0} (n : ℕ) (words : List ℕ) (homes : List (Option (opt F)))
+    (v : View S) (a b : ℕ) : Type 0 where
+  pub serves : Serves v a
+  pub found : taken_of n words b a < put_of n words b a
+  pub out : get_elem? homes (slot n (put_word n b a) (taken_of n words b a)) ≡ some none
+
 module _ {F S : Type 0} (schedule : S → Schedule) (right : S → Name → F → Type 0) where
   -- a piece is right for the name of a lane that so many come before
   abbrev pub IsRightAt : S → ℕ → ℕ → ℕ → F → Type 0
@@ -73,7 +89,7 @@ module _ {F S : Type 0} (schedule : S → Schedule) (right : S → Name → F �
 
   -- all seats have one setting; the slots of the names in flight are at home with their pieces, but
   -- for the oldest where it is held for a take; those of the names that come next are at home and
-  -- empty, but for the first where it is held for a put; and only the seats of a lane hold its slots
+  -- empty, but for the first where it is held for a put; and a slot is out where a seat holds it
   pub record SlotsKept (n : ℕ) (setting : S) (s : State (opt F) (View S)) : Type 0 where
     pub settings : (j : ℕ) (v : View S) → get_elem? s.views j ≡ some v → v.setting ≡ setting
     pub flying : (p q k : ℕ) → p < n → q < n →
@@ -85,9 +101,11 @@ module _ {F S : Type 0} (schedule : S → Schedule) (right : S → Name → F �
         (get_elem? s.homes (slot n (put_word n p q) k) ≡ some (some None))
         ⊎ ((k ≡ put_of n s.words p q) × IsHeld s.views (ToPut (place n p q)))
     pub putting : (j : ℕ) (v : View S) → get_elem? s.views j ≡ some v →
-        (a b : ℕ) → a < n → b < n → v.hand ≡ ToPut (place n a b) → Serves v a
+        (a b : ℕ) → a < n → b < n → v.hand ≡ ToPut (place n a b) →
+        IsPutting n s.words s.homes v a b
     pub taking : (j : ℕ) (v : View S) → get_elem? s.views j ≡ some v →
-        (a b : ℕ) → a < n → b < n → v.hand ≡ ToTake (place n a b) → Serves v a
+        (a b : ℕ) → a < n → b < n → v.hand ≡ ToTake (place n a b) →
+        IsTaking n s.words s.homes v a b
 
   -- the rule of words, views and slots
   abbrev pub IsKept : State (opt F) (View S) → Type 0
