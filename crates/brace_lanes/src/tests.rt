@@ -33,7 +33,8 @@ impl Freight for Number {
     ghost right = { λ setting name number. number.0 ≡ name.step };
 }
 
-/// Takes the number of a name within the looks that are left.
+/// Takes the number of a name within the looks that are left. Behind each look that found nothing
+/// the other thread may run.
 fn hear(
     lanes: &Lanes<Number>,
     seat: &mut LaneSeat<Number>,
@@ -54,6 +55,7 @@ fn hear(
         if let Some(number) = seat.take(lanes, name) {
             return Some(number);
         }
+        thread::yield_now();
     }
     None
 }
