@@ -16,9 +16,11 @@ use Rattle.brace_model.specs.FaultOrder.{least, earlier, with_earlier}
 use Rattle.brace_model.specs.Value.{Scope, Worth}
 use Rattle.brace_model.specs.declared.program.Stmt.{Stmt}
 use Rattle.brace_model.specs.Query.{Saying, Deed, silent, deed_of, followed_by, block, chosen, statement}
+use Rattle.brace_eval.specs.declared.heard.Heard.{Heard}
 use Rattle.brace_eval.specs.declared.scene.Scene.{Scene}
 use Rattle.brace_eval.specs.declared.ledger.Ledger.{Ledger}
 use Rattle.brace_eval.specs.declared.seat.Seat.{Seat}
+use Rattle.brace_eval.specs.Heard.{IsHeard}
 use Rattle.brace_eval.specs.inner.Walks.{is_true, scope_at, block_in}
 use Rattle.brace_eval.specs.inner.Tables.{Keeps, Notes, NotesDeed}
 
@@ -115,13 +117,10 @@ pub nothing-then : (scene : Scene) (said : List Saying) (faults : List Fault) (a
 nothing-then scene said faults a b c first second = notes-then scene [] said [] faults a b c first second
 
 -- the same ledger, but for its drawer
-pub notes-nothing : (scene : Scene) (a b : Ledger) → b.totals ≡ a.totals → b.least ≡ a.least
-    → Notes scene [] [] a b
-notes-nothing scene a b totals least xs fs k =
-    let kept : Keeps scene xs fs b = record {
-      totals = ap (λ t. t.items) totals ∙ k.totals;
-      least = least ∙ k.least;
-    } in
+pub notes-nothing : (scene : Scene) (a b : Ledger) → b.heard ≡ a.heard → Notes scene [] [] a b
+notes-nothing scene a b same xs fs k =
+    let kept : Keeps scene xs fs b =
+    subst (λ (h : Heard). IsHeard scene.program.now scene.agents.now xs fs h) (sym same) k in
     subst (λ (ys : List Saying). Keeps scene ys (fs ++ []) b) (sym (append-nil xs))
     (subst (λ (gs : List Fault). Keeps scene xs gs b) (sym (append-nil fs)) kept)
 
@@ -131,14 +130,25 @@ least-snoc [] fault = refl
 least-snoc (f ∷ faults) fault = ap (λ (g : Fault). Some g) (fold-append earlier f faults (fault ∷ []))
 
 -- a fault is noted
-pub notes-fault : (scene : Scene) (fault : Fault) (a b : Ledger) → b.totals ≡ a.totals
-    → b.least ≡ Some (with_earlier a.least fault) → Notes scene [] (fault ∷ []) a b
-notes-fault scene fault a b totals is xs fs k =
-    let kept : Keeps scene xs (fs ++ fault ∷ []) b = record {
-      totals = ap (λ t. t.items) totals ∙ k.totals;
-      least = is ∙ ap (λ (o : Option Fault). Some (with_earlier o fault)) k.least ∙ sym (least-snoc fs fault);
+pub notes-fault : (scene : Scene) (fault : Fault) (a b : Ledger)
+    → b.heard ≡ record a.heard { least = Some (with_earlier a.heard.least fault) } → Notes scene [] (fault ∷ []) a b
+notes-fault scene fault a b same xs fs k =
+    let kept : IsHeard scene.program.now scene.agents.now xs (fs ++ fault ∷ []) (record a.heard { least = Some (with_earlier a.heard.least fault) }) = record {
+      totals = k.totals;
+      counts = k.counts;
+      least = ap (λ (o : Option Fault). Some (with_earlier o fault)) k.least ∙ sym (least-snoc fs fault);
+      each_starts = k.each_starts;
+      starts = k.starts;
     } in
-    subst (λ (ys : List Saying). Keeps scene ys (fs ++ fault ∷ []) b) (sym (append-nil xs)) kept
+    subst (λ (ys : List Saying). Keeps scene ys (fs ++ fault ∷ []) b) (sym (append-nil xs))
+    (subst (λ (h : Heard). IsHeard scene.program.now scene.agents.now xs (fs ++ fault ∷ []) h) (sym same) kept)
+
+-- a value is noted
+pub notes-said : (scene : Scene) (s : Saying) (a b : Ledger)
+    → ((xs : List Saying) (fs : List Fault) → Keeps scene xs fs a → Keeps scene (xs ++ s ∷ []) fs b)
+    → Notes scene (s ∷ []) [] a b
+notes-said scene s a b joins xs fs k =
+    subst (λ (gs : List Fault). Keeps scene (xs ++ s ∷ []) gs b) (sym (append-nil fs)) (joins xs fs k)
 
 -- a fault comes to the same, whatever follows a value
 pub deed-stopped : (scope : Scope) (w : Worth) (f g : Value → Deed) → result_ok w ≡ None → deed_of scope w f ≡ deed_of scope w g

@@ -1,4 +1,7 @@
 pub mod TableLemmas
+pub mod CountLemmas
+pub mod HeardLemmas
+pub mod ToldLemmas
 pub mod SceneLemmas
 pub mod DeedLemmas
 pub mod TrailLemmas

@@ -17,7 +17,7 @@ use Rattle.brace_model.specs.Query.{Saying, said_in, query_faults}
 use Rattle.brace_model.specs.Total.{totals_from}
 use Rattle.brace_model.specs.Next.{Next, next, next_in, totals_in}
 use Rattle.brace_model.specs.Step.{step, all_next, living, children, first_too_far, birth_fault, grown, unless_faulty}
-use Rattle.brace_eval.specs.inner.Tables.{effects_in, row_of, table_of}
+use Rattle.brace_eval.specs.Heard.{effects_in, row_of, table_of}
 use Rattle.brace_eval.specs.inner.Updates.{with_one}
 use Rattle.brace_eval.proofs.TableLemmas.{row-length}
 use Rattle.brace_eval.proofs.DeedLemmas.{least-snoc}
@@ -127,14 +127,11 @@ pub record Leaves (program : Program) (seed tick : ℕ) (agents ls bs : List Age
   pub living : living (filter_map result_ok (all_next program seed tick agents)) ≡ ls
   pub born : children (filter_map result_ok (all_next program seed tick agents)) ≡ bs
 
--- the same, by other names of the program, of the seed and of the agents
+-- the same, by other names of the seed and of the agents
 module _ (program : Program) (seed tick : ℕ) (world : World) where
-  pub quiet-told : (p : Program) (n : ℕ) (agents : List Agent) → p ≡ program → n ≡ seed → agents ≡ world.agents
-      → least (query_faults p n tick agents) ≡ None → least (query_faults program seed tick world.agents) ≡ None
-  quiet-told p n agents program_is seed_is agents_are quiet =
-      subst (λ (q : Program). least (query_faults q seed tick world.agents) ≡ None) program_is
-      (subst (λ (m : ℕ). least (query_faults p m tick world.agents) ≡ None) seed_is
-      (subst (λ (l : List Agent). least (query_faults p n tick l) ≡ None) agents_are quiet))
+  pub quiet-told : (agents : List Agent) → agents ≡ world.agents
+      → least (query_faults program seed tick agents) ≡ None → least (query_faults program seed tick world.agents) ≡ None
+  quiet-told agents agents_are quiet = subst (λ (l : List Agent). least (query_faults program seed tick l) ≡ None) agents_are quiet
 
   pub leaves-told : (n : ℕ) (agents ls bs : List Agent) → n ≡ seed → agents ≡ world.agents
       → Leaves program n tick agents ls bs → Leaves program seed tick world.agents ls bs

@@ -28,7 +28,7 @@ use Rattle.brace_model.specs.World.{RisesById, ids, class_of}
 use Rattle.brace_model.proofs.WorldLemmas.{id_at}
 use Rattle.brace_model.specs.Query.{Saying}
 use Rattle.brace_model.specs.Total.{identity, joined, total_of, said_to, totals_from}
-use Rattle.brace_eval.specs.inner.Tables.{effects_in, row_of, table_of, AreStarts}
+use Rattle.brace_eval.specs.Heard.{effects_in, row_of, table_of, AreStarts}
 
 -- a saying is to an effect of an agent
 abbrev hits : ℕ → ℕ → Saying → Bool
@@ -143,7 +143,7 @@ module _ (f g : Agent → List ℤ) where
       ∙ ap (λ (l : List ℤ). f a ++ l) rest
       ∙ sym (set-append_right (f a) (flat_map f agents) (length (f a)) at v refl past)
 
-table-length : (program : Program) (xs : List Saying) (agents : List Agent)
+pub table-length : (program : Program) (xs : List Saying) (agents : List Agent)
     → length (table_of program xs agents) ≡ length (table_of program [] agents)
 table-length program xs [] = refl
 table-length program xs (a ∷ agents) =
@@ -171,7 +171,7 @@ row-past program xs s a none =
     let effects = effects_in (class_of program a) in
     row-miss 0 a.id effects xs s (λ m low high. field-miss a.id m s (past-length effects s.field m none (omega (arith, high))))
 
-pub item-some : (xs : List Effect) (i : ℕ) (x : Effect) → true ≡ leb (suc i) (length xs) → x ≡ get_or xs i x
+pub item-some : {A : Type 0} (xs : List A) (i : ℕ) (x : A) → true ≡ leb (suc i) (length xs) → x ≡ get_or xs i x
     → slice_get xs i ≡ Some x
 item-some xs i x t is =
     ⊎_elim
@@ -186,7 +186,7 @@ item-none xs i t =
     (λ (le : (leb (suc i) (length xs) ≡ false) × (length xs < suc i)). slice_get_past xs i (omega (arith, le.1)))
     (leb_tells (suc i) (length xs))
 
-got-length : (effects : List Effect) (k : ℕ) (e : Effect) → slice_get effects k ≡ Some e → k < length effects
+pub got-length : (effects : List Effect) (k : ℕ) (e : Effect) → slice_get effects k ≡ Some e → k < length effects
 got-length [] k e is = absurd (cc)
 got-length (f ∷ effects) zero e is = omega arith
 got-length (f ∷ effects) (suc k) e is = let rest = got-length effects k e is in omega (arith, rest)

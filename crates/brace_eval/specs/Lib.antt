@@ -1,3 +1,4 @@
 pub mod Scopes
 pub mod Typed
+pub mod Heard
 pub mod inner

@@ -1,16 +1,21 @@
-//! Facts on values and steps that hold always. The functions do nothing; their clauses are the
-//! laws.
-ghost use Rattle.std.specs.Prelude.{◌≡◌, ℕ, Ok, Some};
+//! Facts on values, steps and what was heard that hold always. The functions do nothing; their
+//! clauses are the laws.
+ghost use Rattle.std.specs.Prelude.{◌≡◌, ℕ, List, Ok, Some};
 ghost use Rattle.brace_model.specs.declared.program.Expr.{Expr};
 ghost use Rattle.brace_model.specs.declared.program.Program.{Program};
 ghost use Rattle.brace_model.specs.declared.program.Ty.{Ty};
 ghost use Rattle.brace_model.specs.declared.program.Value.{Value};
-ghost use Rattle.brace_model.specs.World.{World, IsNumbered};
+ghost use Rattle.brace_model.specs.declared.fault.Fault.{Fault};
+ghost use Rattle.brace_model.specs.declared.world.Agent.{Agent};
+ghost use Rattle.brace_model.specs.World.{World, IsNumbered, class_of};
+ghost use Rattle.brace_model.specs.Query.{Saying};
 ghost use Rattle.brace_model.specs.Value.{Scope, value};
 ghost use Rattle.brace_model.specs.Typing.{Names, type_of, type_of_value};
 ghost use Rattle.brace_model.specs.Lawful.{LawfulProgram, LawfulAgents};
 ghost use Rattle.brace_model.specs.Step.{step};
+ghost use Rattle.brace_eval.specs.declared.heard.Heard.{Heard};
 ghost use Rattle.brace_eval.specs.Typed.{Fits};
+ghost use Rattle.brace_eval.specs.Heard.{IsHeard, effects_in};
 
 /// The value of a well-typed expression is of its type, where each name has a value of its type.
 pub fn values_are_of_their_types()
@@ -32,4 +37,12 @@ pub fn steps_keep_worlds_lawful()
     ensures lawful { (program : Program) (seed tick : ℕ) (world next : World)
         → LawfulProgram program → LawfulAgents program world.agents
         → step program seed tick world ≡ Ok next → LawfulAgents program next.agents }
+{}
+
+/// What was heard is the same to two programs whose classes have the same effects.
+pub fn programs_of_the_same_effects_hear_alike()
+    ensures alike { (p q : Program) (agents : List Agent) (said : List Saying)
+        (faults : List Fault) (heard : Heard)
+        → ((a : Agent) → effects_in (class_of p a) ≡ effects_in (class_of q a))
+        → IsHeard p agents said faults heard → IsHeard q agents said faults heard }
 {}

@@ -4,18 +4,16 @@ ghost use Rattle.brace_model.specs.Query.{Saying};
 ghost use Rattle.brace_eval.specs.declared.scene.Scene.{Scene};
 ghost use Rattle.brace_eval.specs.inner.Tables.{IsScene, Notes};
 
+use crate::heard::Heard;
 use crate::scene::Scene;
 use brace_draw::Drawer;
 use brace_model::{Fault, Value, earlier};
 use brace_num::NoMemory;
 
-/// What was said and what faulted so far in a tick.
+/// What was said and what faulted so far in a tick, and the draws of the tick.
 #[derive(Debug, Drop)]
 pub struct Ledger {
-    /// The totals of all agents, each at the place that the scene has for it.
-    pub totals: Vec<i128>,
-    /// The least fault.
-    pub least: Option<Fault>,
+    pub heard: Heard,
     pub drawer: Drawer,
 }
 
@@ -35,7 +33,7 @@ impl Ledger {
         ensures noted { (scene : Scene) → Notes scene [] (fault ∷ []) self.old self.new }
         ensures seed { self.new.drawer.seed ≡ self.old.drawer.seed }
     {
-        self.least = Some(with_earlier(self.least, fault));
+        self.heard.least = Some(with_earlier(self.heard.least, fault));
     }
 
     /// Joins a value to an effect of the agent of an id; there may be none.
@@ -45,6 +43,6 @@ impl Ledger {
             (record { target = id; field = effect; value = v } ∷ []) [] self.old self.new) }
         ensures seed { self.new.drawer.seed ≡ self.old.drawer.seed }
     {
-        scene.say(&mut self.totals, id, effect, v)
+        scene.say(&mut self.heard, id, effect, v)
     }
 }

@@ -4,6 +4,8 @@
 mod births;
 mod expression;
 mod fault;
+mod hear;
+mod heard;
 pub mod laws;
 mod ledger;
 mod operations;
@@ -15,7 +17,9 @@ mod update;
 
 pub use expression::eval;
 pub use fault::StepFault;
+pub use heard::{Heard, effects_of};
 pub use step::plain_step;
+pub use update::{Left, left_by};
 
 #[cfg(test)]
 mod tests;

@@ -1,11 +1,11 @@
-ghost use Rattle.std.specs.Prelude.{◌≡◌, ◌++◌, ◌≤◌, ◌^◌, [], map, sum, replicate, false, ◌&&◌, ◌==◌, IfOk};
+ghost use Rattle.std.specs.Prelude.{◌≡◌, ◌++◌, ◌≤◌, ◌^◌, map, sum, replicate, false, ◌&&◌, ◌==◌, IfOk};
 ghost use Rattle.std.specs.Result.{result_ok};
 ghost use Rattle.brace_model.specs.World.{no_value, sees};
 ghost use Rattle.brace_model.specs.Value.{value};
-ghost use Rattle.brace_model.specs.Query.{constants, said_in, query_faults};
+ghost use Rattle.brace_model.specs.Query.{constants};
 ghost use Rattle.brace_eval.specs.declared.scene.Scene.{Scene};
-ghost use Rattle.brace_eval.specs.inner.Tables.{IsScene, Keeps};
-ghost use Rattle.brace_eval.specs.inner.Walks.{scope_at, undone, deed_at, block_at, NotesWorth, NotesStatement, NotesBlock, NotesLoop, NotesQuery, NotesQueryIn};
+ghost use Rattle.brace_eval.specs.inner.Tables.{IsScene};
+ghost use Rattle.brace_eval.specs.inner.Walks.{scope_at, undone, deed_at, block_at, NotesWorth, NotesStatement, NotesBlock, NotesLoop, NotesQuery, NotesQueryIn, NotesQueries};
 
 use crate::ledger::Ledger;
 use crate::scene::Scene;
@@ -251,18 +251,21 @@ fn query<'a>(
     }
 }
 
-/// Evaluates the queries of all agents, by rising id.
-pub fn queries(alloc: Global, scene: &Scene, tick: u64, ledger: &mut Ledger) -> Result<(), NoMemory>
+/// Evaluates the queries of some agents, one after another.
+pub fn queries<'a>(
+    alloc: Global,
+    scene: &Scene<'a>,
+    tick: u64,
+    asking: &'a [Agent],
+    ledger: &mut Ledger,
+) -> Result<(), NoMemory>
     requires scene { IsScene scene.now }
     requires ticks { tick ≤ 2 ^ 32 }
-    requires nothing { Keeps scene.now [] [] ledger.old }
-    ensures kept { IfOk result (λ _. Keeps scene.now
-        (said_in scene.now.program.now ledger.old.drawer.seed tick scene.now.agents.now)
-        (query_faults scene.now.program.now ledger.old.drawer.seed tick scene.now.agents.now)
-        ledger.new) }
+    ensures noted { IfOk result (λ _. NotesQueries scene.now tick asking.now
+        ledger.old ledger.new) }
     ensures seed { ledger.new.drawer.seed ≡ ledger.old.drawer.seed }
 {
-    for this in scene.agents {
+    for this in asking {
         query(alloc, scene, tick, this, ledger)?;
     }
     Ok(())

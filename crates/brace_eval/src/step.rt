@@ -2,16 +2,16 @@ ghost use Rattle.std.specs.Prelude.{◌≡◌, ◌≤◌, ◌^◌, [], filter_ma
 ghost use Rattle.std.specs.Result.{result_ok, result_err};
 ghost use Rattle.brace_model.specs.FaultOrder.{least};
 ghost use Rattle.brace_model.specs.Lawful.{LawfulProgram};
-ghost use Rattle.brace_model.specs.Query.{said_in};
+ghost use Rattle.brace_model.specs.World.{RisesById};
+ghost use Rattle.brace_model.specs.Query.{said_in, query_faults};
 ghost use Rattle.brace_model.specs.Step.{step, all_next, living, children};
-ghost use Rattle.brace_eval.specs.inner.Tables.{table_of};
-ghost use Rattle.brace_eval.specs.inner.Updates.{with_one, Reaches};
+ghost use Rattle.brace_eval.specs.Heard.{table_of};
+ghost use Rattle.brace_eval.specs.inner.Updates.{with_one};
 
 use crate::births::{birth_fault, first_too_far, grown};
 use crate::fault::StepFault;
-use crate::ledger::{Ledger, with_earlier};
-use crate::query::queries;
-use crate::scene::{Scene, effects_of};
+use crate::heard::{Heard, effects_of};
+use crate::ledger::with_earlier;
 use crate::update::{Left, left_by};
 use brace_draw::Drawer;
 use brace_model::{Agent, Fault, Job, Program, World};
@@ -56,7 +56,7 @@ fn updates<'a>(
     drawer: &mut Drawer,
 ) -> Result<Nexts, StepFault>
     requires ticks { tick ≤ 2 ^ 32 }
-    requires reach { Reaches program.now }
+    requires lawful { LawfulProgram program.now }
     requires totals { totals.now ≡ table_of program.now
         (said_in program.now drawer.old.seed tick agents.now) agents.now }
     ensures passes { IfOk result (λ _. least
@@ -92,6 +92,26 @@ fn updates<'a>(
     }
 }
 
+/// What all agents say to each other, and the least fault of their queries.
+fn all_heard(
+    alloc: Global,
+    program: &Program,
+    seed: u64,
+    tick: u64,
+    agents: &[Agent],
+) -> Result<Heard, NoMemory>
+    requires rises { RisesById agents.now }
+    requires ticks { tick ≤ 2 ^ 32 }
+    ensures totals { IfOk result (λ heard. heard.totals.items
+        ≡ table_of program.now (said_in program.now seed tick agents.now) agents.now) }
+    ensures least { IfOk result (λ heard. heard.least
+        ≡ least (query_faults program.now seed tick agents.now)) }
+{
+    let mut heard = Heard::nothing(alloc, program, agents)?;
+    heard.hear(alloc, program, seed, tick, agents, agents)?;
+    Ok(heard)
+}
+
 /// One tick of a job's program from a world: the next world, or the tick's least fault.
 ///
 /// The queries of all agents are evaluated to the end of each iteration, and the values said are
@@ -107,22 +127,19 @@ pub fn plain_step(alloc: Global, job: &Job, tick: u64, world: &World) -> Result<
         → step job.now.program job.now.seed tick world.now ≡ Err fault) }
 {
     let agents = world.agents();
-    let (scene, totals) = Scene::open(alloc, &job.program, agents)?;
-    let mut ledger = Ledger {
-        totals,
-        least: None,
-        drawer: Drawer::make(job.seed),
-    };
-    queries(alloc, &scene, tick, &mut ledger)?;
-    if let Some(fault) = ledger.least {
+    let heard = all_heard(alloc, &job.program, job.seed, tick, agents)?;
+    if let Some(fault) = heard.least {
         return Err(StepFault::Fault(fault));
     }
-    let Ledger {
-        totals,
-        mut drawer,
-        ..
-    } = ledger;
-    let nexts = updates(alloc, &job.program, tick, agents, &totals, &mut drawer)?;
+    let mut drawer = Drawer::make(job.seed);
+    let nexts = updates(
+        alloc,
+        &job.program,
+        tick,
+        agents,
+        &heard.totals,
+        &mut drawer,
+    )?;
     if let Some(child) = first_too_far(&nexts.living, world.next(), &nexts.born) {
         return Err(StepFault::Fault(birth_fault(&job.program, tick, child)));
     }

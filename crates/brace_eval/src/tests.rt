@@ -6,10 +6,11 @@ ghost use Rattle.brace_model.specs.declared.program.Who.TheVariants.{This};
 ghost use Rattle.brace_model.specs.Lawful.{LawfulProgram};
 ghost use Rattle.brace_eval.specs.inner.Worked.{state, states, script, counting, mortal, dividing, walking, bearing, passing};
 
-use crate::{eval, plain_step};
+use crate::{Heard, eval, plain_step};
 use brace_draw::Drawer;
 use brace_model::{
-    Agent, BinOp, Class, Env, Expr, Gift, Job, Program, Spawn, State, Stop, Ty, Value, Who, World,
+    Agent, BinOp, Class, Comb, Effect, Env, Expr, Gift, Job, Program, Spawn, State, Stmt, Stop, Ty,
+    Value, Who, World,
 };
 use brace_num::{Boxed, Kind, List, NoMemory, Text};
 use std::alloc::Global;
@@ -216,10 +217,8 @@ fn passing(alloc: Global) -> Result<Program, NoMemory>
 /// A row of an agent: its id, its place along x in millionths, and its count.
 type Row = (u64, i64, i64);
 
-/// The rows of the next world with its next free id, or the fault.
-fn stepped(alloc: Global, program: Program, rows: &[Row], next: u64) -> Result<String, Fail>
-    requires lawful { LawfulProgram program }
-{
+/// Agents of these rows.
+fn agents_of(alloc: Global, rows: &[Row]) -> Result<Vec<Agent>, NoMemory> {
     let mut agents = Vec::new(alloc);
     for (id, x, count) in rows {
         let mut states = List::new(alloc);
@@ -232,6 +231,14 @@ fn stepped(alloc: Global, program: Program, rows: &[Row], next: u64) -> Result<S
             states,
         })?;
     }
+    Ok(agents)
+}
+
+/// The rows of the next world with its next free id, or the fault.
+fn stepped(alloc: Global, program: Program, rows: &[Row], next: u64) -> Result<String, Fail>
+    requires lawful { LawfulProgram program }
+{
+    let agents = agents_of(alloc, rows)?;
     let (Some(start), Some(world)) = (
         World::from_rising(Vec::new(alloc)),
         World::with_next(agents, next),
@@ -314,5 +321,54 @@ fn steps_over_births(rt: HostRuntime) -> Result<(), Fail> {
         text.as_str(),
         "6 [Fixed(0), Fixed(0), Int(2)], 9 [Fixed(0), Fixed(0), Int(0)], next 10"
     );
+    Ok(())
+}
+
+/// One class, whose agents say 3 to the sum of each agent within 1.0.
+fn speaking(alloc: Global) -> Result<Program, NoMemory> {
+    let mut body = List::new(alloc);
+    body.push(Stmt::Assign(Who::Outer, 0, Expr::Lit(Value::Int(3)), 0))?;
+    let mut query = List::new(alloc);
+    query.push(Stmt::Foreach(0, body, 0))?;
+    let mut effects = List::new(alloc);
+    effects.push(Effect {
+        name: text(alloc, "sum")?,
+        ty: Ty::Int,
+        shared: true,
+        comb: Comb::Sum,
+    })?;
+    let Program { classes, sites } = script(alloc, 0, states(alloc, None, None)?, None, None)?;
+    let mut classes = classes.into_vec();
+    if let Some(class) = classes.first_mut() {
+        class.visible = 1_000_000;
+        class.effects = effects;
+        class.query = query;
+    }
+    Ok(Program {
+        classes: List::from_vec(classes),
+        sites,
+    })
+}
+
+#[test]
+fn hears_some_agents(rt: HostRuntime) -> Result<(), Fail> {
+    let alloc = rt.alloc();
+    let program = speaking(alloc)?;
+    let rows = [(4, 0, 0), (9, 500_000, 0), (12, 1_100_000, 0)];
+    let Some(world) = World::from_rising(agents_of(alloc, &rows)?) else {
+        return Err(Fail::from("no world"));
+    };
+    let agents = world.agents();
+    let Some((_, asking)) = agents.split_first() else {
+        return Err(Fail::from("no agents"));
+    };
+    let mut heard = Heard::nothing(alloc, &program, agents)?;
+    heard.hear(alloc, &program, 0, 0, agents, asking)?;
+    let text = format!(in alloc; "{:?} {:?}", heard.totals, heard.counts)?;
+    assert_eq!(rt; text.as_str(), "[3, 3, 3] [1, 1, 1]");
+    heard.join(&program, agents, 1, 0, 9, 2)?;
+    let (totals, counts) = heard.row(&program, agents, 1);
+    let text = format!(in alloc; "{:?} {:?}", totals, counts)?;
+    assert_eq!(rt; text.as_str(), "[12] [3]");
     Ok(())
 }

@@ -1,10 +1,11 @@
 ghost use Rattle.std.specs.Prelude.{◌≡◌, ◌≤◌, ◌^◌, ◌∷◌, [], pos, ◌≤ℤ◌, IfOk, IfErr, Ok, Err, Some, None, slice_set, if◌then◌else◌};
 ghost use Rattle.std.specs.Result.{result_ok};
 ghost use Rattle.brace_model.specs.World.{class_of};
+ghost use Rattle.brace_model.specs.Lawful.{LawfulProgram};
 ghost use Rattle.brace_model.specs.Value.{value};
 ghost use Rattle.brace_model.specs.Next.{ruled, condition_in, holds, spawns_in, gifts_in, rules_in, moved, changed, with_gifts, child_in, values_of, update_fault, next_in};
 ghost use Rattle.brace_eval.specs.Scopes.{scope_of};
-ghost use Rattle.brace_eval.specs.inner.Updates.{with_one, with_stop, worths, gift_worths, Meets, Reaches};
+ghost use Rattle.brace_eval.specs.inner.Updates.{with_one, with_stop, worths, gift_worths, Meets};
 
 use crate::expression::eval;
 use crate::fault::StepFault;
@@ -308,7 +309,7 @@ pub fn left_by<'a>(
     drawer: &mut Drawer,
 ) -> Result<Left, StepFault>
     requires ticks { tick ≤ 2 ^ 32 }
-    requires reach { Reaches program.now }
+    requires lawful { LawfulProgram program.now }
     ensures left { IfOk result (λ left.
         next_in drawer.old.seed tick (class_of program.now a.now) totals.now a.now
         ≡ Ok (record { agent = left.agent; child = left.child })) }

@@ -79,20 +79,20 @@ query_is_of m lawful seed t w a (Some class) e g h =
     let sited = sited_run m w class.query (plain class.query) (query_scope m a.class) last formed (opening_scope seed t class.query [] a) in
     record { tick = (sited.at g h).tick; phase = (sited.at g h).phase }
 
-queries_are_of : (m : Program) → LawfulProgram m → (seed t : ℕ) (w : List Agent) (g : Fault) → Contains (query_faults m seed t w) g → IsOf t Query g
+pub queries_are_of : (m : Program) → LawfulProgram m → (seed t : ℕ) (w : List Agent) (g : Fault) → Contains (query_faults m seed t w) g → IsOf t Query g
 queries_are_of m lawful seed t w g h = contains_some (IsOf t Query) (λ a. (query_of m seed t w a).faults) (λ a b y. query_is_of m lawful seed t w a (class_of m a) refl b y) w g h
 
 stopped_is_of : (t : ℕ) (a : Agent) (o : Option Stop) (left : Next) (g : Fault) → unless_stopped t a o left ≡ Err g → IsOf t Update g
 stopped_is_of t a None left g e = absurd (cc)
 stopped_is_of t a (Some stop) left g e = record { tick = cc; phase = cc }
 
-next_is_of : (seed t : ℕ) (class : Option Class) (totals : List ℤ) (a : Agent) (g : Fault) → next_in seed t class totals a ≡ Err g → IsOf t Update g
+pub next_is_of : (seed t : ℕ) (class : Option Class) (totals : List ℤ) (a : Agent) (g : Fault) → next_in seed t class totals a ≡ Err g → IsOf t Update g
 next_is_of seed t None totals a g e = absurd (cc)
 next_is_of seed t (Some class) totals a g e =
     let scope = opening_scope seed t [] totals a in
     stopped_is_of t a (first_stop (update_in scope class a)) (left_by scope class a) g e
 
-updates_are_of : (t : ℕ) (f : Agent → Result Next Fault) → ((a : Agent) (g : Fault) → f a ≡ Err g → IsOf t Update g) → (agents : List Agent) (g : Fault) → Contains (filter_map result_err (map f agents)) g → IsOf t Update g
+pub updates_are_of : (t : ℕ) (f : Agent → Result Next Fault) → ((a : Agent) (g : Fault) → f a ≡ Err g → IsOf t Update g) → (agents : List Agent) (g : Fault) → Contains (filter_map result_err (map f agents)) g → IsOf t Update g
 updates_are_of t f each [] g h = none_within (IsOf t Update g) g h
 updates_are_of t f each (a ∷ agents) g h = (elim (f a) as (λ r. ((e : Fault) → r ≡ Err e → IsOf t Update e) → Contains (cons_option (result_err r) (filter_map result_err (map f agents))) g → IsOf t Update g) [
   | Ok n ↦ λ one h. updates_are_of t f each agents g h
@@ -102,6 +102,15 @@ updates_are_of t f each (a ∷ agents) g h = (elim (f a) as (λ r. ((e : Fault) 
     only : (e g : Fault) → Contains (e ∷ []) g → IsOf t Update e → IsOf t Update g
     only e g (zero, below, is) of = subst (IsOf t Update) is of
     only e g (suc k, below, is) of = absurd (omega (arith, below))
+
+pub births_of : (m : Program) (t : ℕ) (o : Option Agent) (g : Fault) → option_map (birth_fault m t) o ≡ Some g → IsOf t Birth g
+births_of m t None g e = absurd (cc)
+births_of m t (Some child) g e = record { tick = cc; phase = cc }
+
+pub in_births : (o : Option Fault) (f : Fault) → Contains (listed o) f → o ≡ Some f
+in_births None f h = none_within (None ≡ Some f) f h
+in_births (Some g) f (zero, below, is) = ap Some is
+in_births (Some g) f (suc k, below, is) = absurd (omega (arith, below))
 
 -- ---- where no class has a `spawn` there are no children
 
@@ -194,11 +203,6 @@ module _ (s : Setting) (t : ℕ) (w : World) (lawful : LawfulProgram s.job.progr
       ap (λ ns. listed (option_map (birth_fault m t) (first_too_far (living ns) w.next (children ns))))
       (left_then s t w.agents ((least_none queries).0 no_query) ((least_none updates).0 no_update))
 
-  in_births : (o : Option Fault) (f : Fault) → Contains (listed o) f → o ≡ Some f
-  in_births None f h = none_within (None ≡ Some f) f h
-  in_births (Some g) f (zero, below, is) = ap Some is
-  in_births (Some g) f (suc k, below, is) = absurd (omega (arith, below))
-
   updates_found : least queries ≡ None → update_faults s t w.agents ≡ updates
   updates_found no_query = ap (filter_map result_err) (all_become_next s t w.agents ((least_none queries).0 no_query))
 
@@ -208,10 +212,6 @@ module _ (s : Setting) (t : ℕ) (w : World) (lawful : LawfulProgram s.job.progr
   updates_of : (g : Fault) → least updates ≡ Some g → IsOf t Update g
   updates_of g e = updates_are_of t (next m s.job.seed t w.agents) (λ a f is. next_is_of s.job.seed t (class_of m a) _ a f is) w.agents g (among updates g e)
 
-  births_of : (o : Option Agent) (g : Fault) → option_map (birth_fault m t) o ≡ Some g → IsOf t Birth g
-  births_of None g e = absurd (cc)
-  births_of (Some child) g e = record { tick = cc; phase = cc }
-
   -- what ends a tick is of this tick
   pub step_is_of : (g : Fault) → step m s.job.seed t w ≡ Err g → (phase : Phase) × IsOf t phase g
   step_is_of g e = (elim (least queries) as (λ o. least queries ≡ o → unless_faulty o (least updates) births new ≡ Err g → (phase : Phase) × IsOf t phase g) [
@@ -219,7 +219,7 @@ module _ (s : Setting) (t : ℕ) (w : World) (lawful : LawfulProgram s.job.progr
     | None ↦ λ no_query e. (elim (least updates) as (λ o. least updates ≡ o → unless_faulty None o births new ≡ Err g → (phase : Phase) × IsOf t phase g) [
       | Some u ↦ λ is e. let same : u ≡ g = cc in (Update, updates_of g (is ∙ ap Some same))
       | None ↦ λ no_update e. (elim births as (λ o. births ≡ o → unless_faulty None None o new ≡ Err g → (phase : Phase) × IsOf t phase g) [
-        | Some b ↦ λ is e. let same : b ≡ g = cc in (Birth, births_of (first_too_far (living left) w.next (children left)) g (is ∙ ap Some same))
+        | Some b ↦ λ is e. let same : b ≡ g = cc in (Birth, births_of m t (first_too_far (living left) w.next (children left)) g (is ∙ ap Some same))
         | None ↦ λ no_birth e. absurd (cc)
       ]) refl e
     ]) refl e

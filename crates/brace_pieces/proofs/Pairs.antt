@@ -11,18 +11,18 @@ use Rattle.brace_core.proofs.Lists.{pick_true, pick_false}
 use Rattle.brace_core.proofs.Lawful.{none_counted}
 use Rattle.brace_pieces.specs.Steps.{pairs_below}
 
-abbrev ordered : ℕ → ℕ → Pair
+abbrev pub ordered : ℕ → ℕ → Pair
 ordered p q = record { from = p; to = q }
 
 -- the pairs from one number
-abbrev row : ℕ → List ℕ → List Pair
+abbrev pub row : ℕ → List ℕ → List Pair
 row a bs = map (ordered a) bs
 
 -- the pairs from some numbers
-abbrev rows : List ℕ → List ℕ → List Pair
+abbrev pub rows : List ℕ → List ℕ → List Pair
 rows ns bs = flat_map (λ a. row a bs) ns
 
-abbrev has : ℕ → List ℕ → Bool
+abbrev pub has : ℕ → List ℕ → Bool
 has n ns = list_any (λ m. m == n) ns
 
 and_or : (x b c : Bool) → ((x && b) || (x && c)) ≡ (x && (b || c))
@@ -46,7 +46,7 @@ met_in_row : (a : ℕ) (bs : List ℕ) (p q : ℕ) → meets (row a bs) p q ≡ 
 met_in_row a [] p q = sym (and_right (a == p) false refl)
 met_in_row a (b ∷ bs) p q = ap (λ v. ((a == p) && (b == q)) || v) (met_in_row a bs p q) ∙ and_or (a == p) (b == q) (has q bs)
 
-met_in_rows : (ns bs : List ℕ) (p q : ℕ) → meets (rows ns bs) p q ≡ (has p ns && has q bs)
+pub met_in_rows : (ns bs : List ℕ) (p q : ℕ) → meets (rows ns bs) p q ≡ (has p ns && has q bs)
 met_in_rows [] bs p q = refl
 met_in_rows (a ∷ ns) bs p q =
     list_any-append (is_pair p q) (row a bs) (rows ns bs)
@@ -117,10 +117,10 @@ filtered_counts_less t p q (x ∷ xs) = elim (t x) as (λ v. count_by (is_pair p
 ]
 
 module _ (f : ℕ → ℕ → Bool) where
-  abbrev passes : Pair → Bool
+  abbrev pub passes : Pair → Bool
   passes m = f m.from m.to
 
-  met_where : (ps : List Pair) (p q : ℕ) → meets (filter passes ps) p q ≡ (f p q && meets ps p q)
+  pub met_where : (ps : List Pair) (p q : ℕ) → meets (filter passes ps) p q ≡ (f p q && meets ps p q)
   met_where ps p q = any-filter_same (is_pair p q) passes (f p q) (λ m is.
       let (x, y) = and_parts (m.from == p) (m.to == q) is in
       ap (λ a. f a m.to) (eqb-true m.from p x) ∙ ap (f p) (eqb-true m.to q y)) ps

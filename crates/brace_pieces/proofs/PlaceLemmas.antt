@@ -26,7 +26,7 @@ record FirstIn (xs : List Step) (a b : Step) : Type 0 where
 abbrev Avoids : List Step → Step → Type 0
 Avoids xs b = (i : ℕ) → slice_get xs i ≡ Some b → ⊥
 
-some_is : (x y : Step) → Some x ≡ Some y → x ≡ y
+pub some_is : (x y : Step) → Some x ≡ Some y → x ≡ y
 some_is x y e = cc
 
 avoids_none : (b : Step) → Avoids [] b
@@ -79,7 +79,7 @@ first_in_row f a b from (suc len) (suc k) low none h =
 
 -- ---- the steps of ticks
 
-no_show : (s : Setting) (phase : Phase) → Show ≡ stage_of s phase → ⊥
+pub no_show : (s : Setting) (phase : Phase) → Show ≡ stage_of s phase → ⊥
 no_show s Query e = absurd (cc)
 no_show s Update e = by_choice s.invert e
   where
@@ -97,7 +97,8 @@ no_hand s Update e = by_choice s.invert e
     by_choice false e = absurd (cc)
 no_hand s Birth e = absurd (cc)
 
-shape : (s : Setting) (v : ℕ) → steps_in s v ≡ made_if (is_recut s v) (step Hand v) ++ (step Border v ∷ (made_if (not s.invert) (step Effects v) ++ (made_if (has_births s.job.program) (step Census v) ++ (step Move v ∷ show s (v + 1)))))
+-- the steps of a tick, each by itself
+pub shape : (s : Setting) (v : ℕ) → steps_in s v ≡ made_if (is_recut s v) (step Hand v) ++ (step Border v ∷ (made_if (not s.invert) (step Effects v) ++ (made_if (has_births s.job.program) (step Census v) ++ (step Move v ∷ show s (v + 1)))))
 shape s v =
     let hand : List Step = made_if (is_recut s v) (step Hand v) in
     let effects : List Step = made_if (not s.invert) (step Effects v) in

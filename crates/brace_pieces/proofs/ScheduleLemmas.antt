@@ -66,7 +66,7 @@ meet_either_way s at p q =
     (ap (λ c. if c then parts_meet s at p q else is_show at.stage) (and_swap (nat_lt p (parts s)) (nat_lt q (parts s)))
     ∙ ap (λ m. if nat_lt q (parts s) && nat_lt p (parts s) then m else is_show at.stage) (parts_either_way s at.stage at.tick p q))
 
-meets_no_self : (s : Setting) (at : Step) (p : ℕ) → meet s at p p ≡ false
+pub meets_no_self : (s : Setting) (at : Step) (p : ℕ) → meet s at p p ≡ false
 meets_no_self s at p = and_left (not (p == p)) (if nat_lt p (parts s) && nat_lt p (parts s) then parts_meet s at p p else is_show at.stage) (ap not (eq-eqb p p refl))
 
 pub schedule_lawful : (s : Setting) → IsLawful (schedule s)

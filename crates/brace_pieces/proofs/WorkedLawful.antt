@@ -1,10 +1,14 @@
--- The small script that pieces are worked on is lawful.
-use Rattle.std.proofs.Common.{◌≡◌, refl, subst, ℕ, zero, suc, [], ◌∷◌, Some, arith}
+-- The small script that pieces are worked on is lawful, and so are runs of it.
+use Rattle.std.proofs.Common.{◌≡◌, refl, sym, subst, ℕ, zero, suc, ◌≤◌, ◌^◌, [], ◌∷◌, Some, arith}
 use Rattle.std.specs.Prelude.{slice_get}
 use Rattle.std.specs.List.{IsDistinct}
 use Rattle.std.specs.List.Sorted.{IsStrictlyIncreasing}
 use Rattle.brace_model.specs.declared.program.Class.{Class}
-use Rattle.brace_model.specs.Lawful.{LawfulClass, LawfulProgram}
+use Rattle.brace_model.specs.World.{IsNumbered, world_of}
+use Rattle.brace_model.specs.Lawful.{LawfulClass, LawfulProgram, LawfulAgents}
+use Rattle.brace_cuts.specs.CutPlans.{IsPlan}
+use Rattle.brace_pieces.specs.declared.setting.Setting.{Setting}
+use Rattle.brace_pieces.specs.Settings.{LawfulSetting}
 use Rattle.brace_pieces.specs.inner.Worked.{class, resting}
 
 none_rise : IsStrictlyIncreasing []
@@ -22,4 +26,19 @@ pub resting_lawful : LawfulProgram resting
 unfolding IsDistinct
 resting_lawful = record { few_classes = omega arith; class_names_differ = (tt, tt); classes_are_lawful = only_class; sites_in_range = refl; sites_differ = tt; few_assignments = omega arith; loops_differ = tt }
 
-pub ruleset lawful_rules = (resting_lawful)
+-- short runs of it without agents are lawful
+pub setting_lawful : (s : Setting) → s.job.program ≡ resting → s.job.start ≡ world_of [] → IsNumbered s.job.start → s.job.first ≤ 2 ^ 32 → s.job.last ≤ 2 ^ 32 → 1 ≤ s.job.every → 1 ≤ s.epoch → s.epoch ≤ 16 → IsPlan s.epoch s.cuts
+    → LawfulSetting s
+setting_lawful s same none numbered first last every ticks short plan = record {
+  job_is_lawful = record {
+    program_is_lawful = subst LawfulProgram (sym same) resting_lawful;
+    start_is_lawful = subst (λ w. LawfulAgents s.job.program w.agents) (sym none) (record { each_is_lawful = refl; few_agents = omega arith; few_values = omega arith });
+    first_in_range = first;
+    last_in_range = last;
+    publishes = every;
+  };
+  start_is_numbered = numbered;
+  epochs_have_ticks = ticks;
+  epochs_are_short = short;
+  plan_is_lawful = plan;
+}

@@ -25,7 +25,7 @@ use Rattle.brace_pieces.specs.declared.setting.Setting.{Setting}
 use Rattle.brace_pieces.specs.Continued.{said, totals_of, becomes, left_or_kept, all_becoming, all_left, fitting, continued, continued_after}
 
 -- totals hang on what is said to each effect, in whatever order
-totals_same : (n id : ℕ) (effects : List Effect) (xs ys : List Saying)
+pub totals_same : (n id : ℕ) (effects : List Effect) (xs ys : List Saying)
     → ((effect : ℕ) → IsPermutation (said_to id effect xs) (said_to id effect ys)) → totals_from n id effects xs ≡ totals_from n id effects ys
 totals_same n id [] xs ys h = refl
 totals_same n id (e ∷ effects) xs ys h =
@@ -92,7 +92,8 @@ seconds_numbered : (n : ℕ) (born : List Agent) → map (λ (p : ℕ × Agent).
 seconds_numbered n [] = refl
 seconds_numbered n (c ∷ born) = ap (λ rest. record c { id = n } ∷ rest) (seconds_numbered (suc n) born)
 
-seconds_both : (lives born : List Agent) (n : ℕ) → map (λ (p : ℕ × Agent). p.1) (map (λ a. (a.id, a)) lives ++ map (λ p. (p.0.id, p.1)) (zip born (numbered n born))) ≡ lives ++ numbered n born
+-- the agents of a continued world
+pub seconds_both : (lives born : List Agent) (n : ℕ) → map (λ (p : ℕ × Agent). p.1) (map (λ a. (a.id, a)) lives ++ map (λ p. (p.0.id, p.1)) (zip born (numbered n born))) ≡ lives ++ numbered n born
 seconds_both [] born n = seconds_numbered n born
 seconds_both (a ∷ lives) born n = ap (λ rest. a ∷ rest) (seconds_both lives born n)
 

@@ -2,8 +2,12 @@ pub mod Settings
 pub mod Steps
 pub mod Continued
 pub mod Owned
+pub mod Numbers
+pub mod Together
 pub mod Finds
 pub mod Right
+pub mod Heard
 pub mod Counts
 pub mod Halts
+pub mod Courses
 pub mod inner

@@ -73,27 +73,29 @@ pub record Share : Type 0 where
 abbrev pub share_of : Entry → Share
 share_of e = record { target = e.target; field = e.field; total = tally e.total }
 
+-- the share of an effect of an agent, by its number, unless no value is said
+abbrev pub share_unless_silent : ℕ → ℕ → Effect → List Value → List Share
+share_unless_silent id n e [] = []
+share_unless_silent id n e values =
+    record { target = id; field = n; total = tally_of e.comb values } ∷ []
+
 -- the shares of an agent's effects, numbered from n on, to which something is said
 abbrev pub shares_from : ℕ → ℕ → List Effect → List Saying → List Share
 shares_from n id [] sayings = []
 shares_from n id (e ∷ effects) sayings =
-    share_unless_silent (said_to id n sayings) ++ shares_from (n + 1) id effects sayings
-  where
-    share_unless_silent : List Value → List Share
-    share_unless_silent [] = []
-    share_unless_silent values =
-        record { target = id; field = n; total = tally_of e.comb values } ∷ []
+    share_unless_silent id n e (said_to id n sayings) ++ shares_from (n + 1) id effects sayings
+
+-- the shares of what is said to an agent of a class
+abbrev pub shares_to : List Saying → Agent → Option Class → List Share
+shares_to sayings a None = []
+shares_to sayings a (Some class) = shares_from 0 a.id class.effects sayings
 
 -- what the agents of a part say to those of another
 abbrev pub shares : Setting → ℕ → ℕ → ℕ → List Agent → List Share
 shares s tick from to world =
     let program = s.job.program in
-    flat_map (λ a. shares_to a (class_of program a) (said_by s tick from world))
+    flat_map (λ a. shares_to (said_by s tick from world) a (class_of program a))
     (owned program (cuts_of s tick) to world)
-  where
-    shares_to : Agent → Option Class → List Saying → List Share
-    shares_to a None sayings = []
-    shares_to a (Some class) sayings = shares_from 0 a.id class.effects sayings
 
 -- what the agents of a part leave to the next world
 abbrev pub census : Setting → ℕ → ℕ → List Agent → Census

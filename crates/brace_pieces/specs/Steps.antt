@@ -84,6 +84,10 @@ meet s at p q =
     not (p == q)
     && (if nat_lt p (parts s) && nat_lt q (parts s) then parts_meet s at p q else is_show at.stage)
 
+-- whom an actor meets in a step, by rising number
+abbrev pub met : Setting → Step → ℕ → List ℕ
+met s at p = filter (meet s at p) (range_with_len 0 (parts s + 1))
+
 -- all pairs of numbers below n
 abbrev pub pairs_below : ℕ → List Pair
 pairs_below n =

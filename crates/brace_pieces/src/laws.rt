@@ -1,19 +1,35 @@
 //! Facts on runs over cut planes that hold always. The functions do nothing; their clauses are the
 //! laws.
-ghost use Rattle.std.specs.Prelude.{◌≡◌, ℕ, Ok};
-ghost use Rattle.brace_core.specs.Schedule.{IsLawful};
+ghost use Rattle.std.specs.Prelude.{◌≡◌, ℕ, ◌+◌, ◌-◌, ◌<◌, ◌≤◌, ◌++◌, List, flat_map, false, Ok};
+ghost use Rattle.std.specs.List.{Contains, range_with_len};
+ghost use Rattle.std.specs.List.Sorted.{IsPermutation};
+ghost use Rattle.brace_core.specs.Schedule.{IsLawful, turn_at};
 ghost use Rattle.brace_core.specs.declared.name.Name.{Name};
+ghost use Rattle.brace_core.specs.declared.name.Turn.TheVariants.{Done};
 ghost use Rattle.brace_model.specs.declared.fault.Fault.{Fault};
-ghost use Rattle.brace_model.specs.World.{World};
+ghost use Rattle.brace_model.specs.declared.fault.Phase.TheVariants.{Query, Update, Birth};
+ghost use Rattle.brace_model.specs.declared.world.Agent.{Agent};
+ghost use Rattle.brace_model.specs.World.{World, RisesById, class_of};
+ghost use Rattle.brace_model.specs.Query.{query_of};
+ghost use Rattle.brace_model.specs.Total.{said_to};
+ghost use Rattle.brace_model.specs.Next.{has_births};
 ghost use Rattle.brace_model.specs.Run.{world_after};
 ghost use Rattle.brace_pieces.specs.declared.setting.Setting.{Setting};
+ghost use Rattle.brace_pieces.specs.declared.piece.Cause.{Cause};
 ghost use Rattle.brace_pieces.specs.declared.piece.Cause.TheVariants as cause;
 ghost use Rattle.brace_pieces.specs.declared.piece.Piece.TheVariants as piece;
-ghost use Rattle.brace_pieces.specs.Settings.{LawfulSetting};
-ghost use Rattle.brace_pieces.specs.Steps.{schedule};
-ghost use Rattle.brace_pieces.specs.Continued.{continued_after};
-ghost use Rattle.brace_pieces.specs.Right.{IsRight};
+ghost use Rattle.brace_pieces.specs.declared.setting.Stage.TheVariants.{Hand, Border, Move};
+ghost use Rattle.brace_pieces.specs.Settings.{LawfulSetting, range, cuts_of, parts};
+ghost use Rattle.brace_pieces.specs.Steps.{schedule, step, met};
+ghost use Rattle.brace_pieces.specs.Owned.{owned, held};
+ghost use Rattle.brace_pieces.specs.Numbers.{NumbersFit};
+ghost use Rattle.brace_pieces.specs.Together.{AreWhole, IsSorted, left_of, born_of, HaveClasses};
+ghost use Rattle.brace_pieces.specs.Continued.{continued, continued_after, said, becomes, on, birth_faults};
+ghost use Rattle.brace_pieces.specs.Finds.{queries_found, updates_found, stage_of};
+ghost use Rattle.brace_pieces.specs.Right.{IsRight, IsRightCause, IsTold, StandsBefore, Share, said_by, shares, shares_to, border, handed, moved};
+ghost use Rattle.brace_pieces.specs.Heard.{own, near, said_here, heard, joined, found_here, IsShareOf, IsPartOver};
 ghost use Rattle.brace_pieces.specs.Halts.{FollowsFirst};
+ghost use Rattle.brace_pieces.specs.Courses.{OnCourse, IsCourse, at_start, turn_of, past_of, gone_on};
 
 /// In the schedule of a run each pair that meets is of two different actors, meets both ways, and
 /// is there once.
@@ -32,4 +48,123 @@ pub fn continued_worlds_are_the_runs()
 pub fn halt_law()
     ensures { (s : Setting) (name : Name) (f : Fault) → LawfulSetting s
         → IsRight s name (piece.Halt (cause.Fault f)) → FollowsFirst s f }
+{}
+
+/// The parts make each world together. What a part holds, and what it owns where other cuts hold
+/// and in the next world, is what comes from its own agents and from those of the parts that it
+/// meets, put in order by id; so `held`, `recut` and `moved` say. What a part gives then is what
+/// its agents are in the next world and the children that they have (`given`), and without births
+/// the living alone. All parts together have each agent of a class once (`all`). In each continued
+/// world ids rise, each agent is of a class, and where the numbers of a setting fit 64 bits so do
+/// those of its agents (`rises`, `classed`, `whole`); the world behind one is the next tick's
+/// (`next`).
+pub fn parts_make_the_world()
+    ensures held { (s : Setting) (t p : ℕ) (world agents : List Agent) → LawfulSetting s
+        → p < parts s → RisesById world → AreWhole s.job.program world
+        → IsSorted (owned s.job.program (cuts_of s t) p world
+        ++ flat_map (λ q. border s t q p world) (met s (step Border t) p)) agents
+        → agents ≡ held s.job.program (cuts_of s t) (range s) p world }
+    ensures recut { (s : Setting) (t p : ℕ) (world agents : List Agent) → LawfulSetting s
+        → p < parts s → RisesById world → AreWhole s.job.program world
+        → IsSorted (owned s.job.program (cuts_of s t) p
+        (owned s.job.program (cuts_of s (t - 1)) p world)
+        ++ flat_map (λ q. handed s t q p world) (met s (step Hand t) p)) agents
+        → agents ≡ owned s.job.program (cuts_of s t) p world }
+    ensures moved { (s : Setting) (t p : ℕ) (world : World) (agents : List Agent)
+        → LawfulSetting s → p < parts s
+        → RisesById world.agents → RisesById (continued s t world).agents
+        → AreWhole s.job.program world.agents
+        → AreWhole s.job.program (continued s t world).agents
+        → IsSorted (moved s t p p world
+        ++ flat_map (λ q. moved s t q p world) (met s (step Move t) p)) agents
+        → agents ≡ owned s.job.program (cuts_of s t) p (continued s t world).agents }
+    ensures given { (s : Setting) (t p q : ℕ) (world : World) → LawfulSetting s
+        → RisesById world.agents → AreWhole s.job.program world.agents
+        → let own = owned s.job.program (cuts_of s t) p world.agents in
+        moved s t p q world ≡ owned s.job.program (cuts_of s t) q
+        (left_of s t world.agents own ++ born_of s t world own) }
+    ensures given_by_the_living { (s : Setting) (t p q : ℕ) (world : World) → LawfulSetting s
+        → has_births s.job.program ≡ false
+        → RisesById world.agents → AreWhole s.job.program world.agents
+        → let own = owned s.job.program (cuts_of s t) p world.agents in
+        moved s t p q world
+        ≡ owned s.job.program (cuts_of s t) q (left_of s t world.agents own) }
+    ensures all { (s : Setting) (t : ℕ) (world agents : List Agent) → LawfulSetting s
+        → RisesById world → HaveClasses s.job.program world
+        → IsSorted (flat_map (λ p. owned s.job.program (cuts_of s t) p world)
+        (range_with_len 0 (parts s))) agents
+        → agents ≡ world }
+    ensures rises { (s : Setting) (t : ℕ) → LawfulSetting s → RisesById (on s t).agents }
+    ensures whole { (s : Setting) (t : ℕ) → LawfulSetting s → NumbersFit s
+        → AreWhole s.job.program (on s t).agents }
+    ensures classed { (s : Setting) (t : ℕ) → LawfulSetting s → NumbersFit s
+        → HaveClasses s.job.program (on s t).agents }
+    ensures next { (s : Setting) (t : ℕ) → s.job.first ≤ t
+        → on s (t + 1) ≡ continued s t (on s t) }
+{}
+
+/// What a part does over the agents that it holds, and what it is told, is what is done over all.
+///
+/// Without inversion the query of each agent of a part does over the agents that the part holds
+/// what it does over all; and what the part tells another, it makes of the agents that it holds:
+/// to each that the other owns, and to each of its effects, what the part's agents say to it, in
+/// the order of the agents. To each effect of each agent of the part all say the values that the
+/// part hears, each as often; so each agent of the part becomes what it becomes by what the part
+/// hears. A share that it is told is of an effect of one of its agents, and the values that its
+/// shares stand for are enough. The faults that it meets are those that it finds.
+pub fn parts_hear_all()
+    ensures query { (s : Setting) (tick p : ℕ) (world : List Agent) → IsPartOver s tick p world
+        → s.invert ≡ false → (a : Agent) → Contains (own s tick p world) a
+        → query_of s.job.program s.job.seed tick (near s tick p world) a
+        ≡ query_of s.job.program s.job.seed tick world a }
+    ensures told { (s : Setting) (tick p : ℕ) (world : List Agent) → IsPartOver s tick p world
+        → s.invert ≡ false → (q : ℕ)
+        → shares s tick p q world
+        ≡ flat_map (λ b. shares_to (said_here s.job.program s tick p world) b
+        (class_of s.job.program b)) (own s tick q (near s tick p world)) }
+    ensures heard { (s : Setting) (tick p : ℕ) (world : List Agent) → IsPartOver s tick p world
+        → (b : Agent) → Contains (own s tick p world) b → (effect : ℕ)
+        → IsPermutation
+        (said_to b.id effect (said s tick world))
+        (said_to b.id effect (heard s tick p world)) }
+    ensures becomes { (s : Setting) (tick p : ℕ) (world : List Agent) → IsPartOver s tick p world
+        → (b : Agent) → Contains (own s tick p world) b
+        → becomes s tick (said s tick world) b ≡ becomes s tick (heard s tick p world) b }
+    ensures share { (s : Setting) (tick p : ℕ) (world : List Agent) → IsPartOver s tick p world
+        → (q : ℕ) (share : Share) → Contains (shares s tick q p world) share
+        → IsShareOf s.job.program (own s tick p world) (said_by s tick q world) share }
+    ensures joined { (s : Setting) (tick p : ℕ) (world : List Agent) → IsPartOver s tick p world
+        → s.invert ≡ false → (b : Agent) → Contains (own s tick p world) b
+        → becomes s tick (said s tick world) b ≡ becomes s tick (joined s tick p world) b }
+    ensures found { (s : Setting) (tick p : ℕ) (world : List Agent) → IsPartOver s tick p world
+        → found_here s tick p world ≡ queries_found s tick p world }
+{}
+
+/// Of a lawful run the faults that a part finds in its queries and updates, and those of births,
+/// may be told in each step behind the one in whose work they are found; and what may be told in a
+/// step may be told in each later one.
+pub fn found_faults_may_be_told()
+    ensures queries { (s : Setting) (tick p number : ℕ) (f : Fault) → LawfulSetting s
+        → Contains (queries_found s tick p (on s tick).agents) f
+        → StandsBefore s (step (stage_of s Query) tick) number → IsTold s number f }
+    ensures updates { (s : Setting) (tick p number : ℕ) (f : Fault) → LawfulSetting s
+        → Contains (updates_found s tick p (on s tick).agents) f
+        → StandsBefore s (step (stage_of s Update) tick) number → IsTold s number f }
+    ensures births { (s : Setting) (tick number : ℕ) (f : Fault)
+        → Contains (birth_faults s tick (on s tick)) f
+        → StandsBefore s (step (stage_of s Birth) tick) number → IsTold s number f }
+    ensures later { (s : Setting) (number other : ℕ) (c : Cause) → number ≤ other
+        → IsRightCause s number c → IsRightCause s other c }
+{}
+
+/// An actor's course makes the turns of the run's schedule, one by one. Its next turn is that of
+/// the schedule behind as many as it made; it made none at its start, and one more behind each.
+pub fn courses_are_the_turns()
+    ensures turn { (c : OnCourse) → IsCourse c
+        → turn_of c ≡ turn_at (schedule c.setting) c.actor (past_of c) }
+    ensures start { (s : Setting) (p : ℕ) → past_of (at_start s p) ≡ 0 }
+    ensures past { (c : OnCourse) → IsCourse c → (turn_of c ≡ Done → ⊥)
+        → past_of (gone_on c) ≡ past_of c + 1 }
+    ensures course { (c : OnCourse) → IsCourse c → (turn_of c ≡ Done → ⊥)
+        → IsCourse (gone_on c) }
 {}

@@ -2,13 +2,18 @@
 //! piece for each name.
 #![tactic(auto)]
 
+mod course;
 pub mod laws;
 mod lists;
+mod meet;
+mod numbers;
 mod piece;
 mod setting;
+mod steps;
 #[cfg(test)]
 mod tests;
 
-pub use lists::{border_of, hand_of, moves_of};
+pub use course::Course;
+pub use lists::{border_of, hand_of, moves_of, owns};
 pub use piece::{Cause, Piece, Shown};
 pub use setting::{Setting, Stage, Step};

@@ -16,7 +16,7 @@ use brace_num::{List, NoMemory};
 use std::alloc::Global;
 
 /// Whether a part owns an agent under some cuts.
-fn owns(program: &Program, cuts: &Cuts, p: u32, a: &Agent) -> bool
+pub fn owns(program: &Program, cuts: &Cuts, p: u32, a: &Agent) -> bool
     requires { LawfulCuts cuts.now }
     ensures { result ≡ owns program.now cuts.now p a.now }
 {

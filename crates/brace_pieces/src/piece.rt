@@ -1,6 +1,10 @@
+ghost use Rattle.std.specs.Prelude.{◌≡◌};
+
+use crate::Setting;
 use brace_comb::Entry;
+use brace_core::Freight;
 use brace_model::{Agent, Census, Fault};
-use brace_num::List;
+use brace_num::{List, NoMemory};
 
 /// The agents of a part in the world of a tick.
 #[derive(Debug, Drop)]
@@ -23,6 +27,16 @@ pub enum Cause {
     Closed,
 }
 
+impl From<NoMemory> for Cause {
+    ghost use Rattle.brace_pieces.specs.declared.piece.Cause.TheVariants as cause;
+
+    ghost from_gives = { λ _ c. c ≡ cause.NoMemory };
+
+    fn from(_: NoMemory) -> Cause {
+        Cause::NoMemory
+    }
+}
+
 /// What one part, or the publisher, hands to another in a step. Agents stand by rising id.
 #[derive(Debug, Drop)]
 pub enum Piece {
@@ -38,4 +52,15 @@ pub enum Piece {
     Ack,
     /// In place of any other piece: the sender goes no further.
     Halt(Cause),
+}
+
+impl Freight for Piece {
+    ghost use Rattle.brace_pieces.specs.Steps.{schedule};
+    ghost use Rattle.brace_pieces.specs.Right.{IsRight};
+
+    type Setting = Setting;
+
+    ghost schedule = { schedule };
+
+    ghost right = { IsRight };
 }

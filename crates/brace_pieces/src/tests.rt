@@ -1,11 +1,11 @@
 // What no clause says: that the calls answer where memory is ample, over cuts and agents worked by
 // hand.
-ghost use Rattle.std.specs.Prelude.{◌≡◌, IfOk};
-ghost use Rattle.brace_model.specs.Lawful.{LawfulProgram};
-ghost use Rattle.brace_cuts.specs.CutPlans.{IsPlan};
+ghost use Rattle.std.specs.Prelude.{◌≡◌, ◌+◌, ◌<◌, IfOk};
+ghost use Rattle.brace_pieces.specs.Settings.{LawfulSetting, parts};
 ghost use Rattle.brace_pieces.specs.inner.Worked.{state, resting};
 
-use crate::{Setting, border_of, hand_of, moves_of};
+use crate::{Course, Setting, border_of, hand_of, moves_of};
+use brace_core::Turn;
 use brace_cuts::read_plan;
 use brace_model::{Agent, Class, Job, Program, State, Ty, Value, World};
 use brace_num::{List, NoMemory, Text};
@@ -41,13 +41,13 @@ fn resting(alloc: Global) -> Result<Program, NoMemory>
     let mut classes = List::new(alloc);
     classes.push(Class {
         name: text(alloc, "A")?,
-        states,
-        effects: List::new(alloc),
-        query: List::new(alloc),
         visible: 2_000_000,
         reach: 0,
+        states,
         x: 0,
         y: 1,
+        effects: List::new(alloc),
+        query: List::new(alloc),
         die: None,
         spawn: None,
     })?;
@@ -73,11 +73,9 @@ fn agents_at(alloc: Global, xs: &[i64]) -> Result<Vec<Agent>, NoMemory> {
     Ok(agents)
 }
 
-/// A run over a plane that is cut by a plan, in epochs of two ticks.
-#[tactic(auto, using(crate::proofs::WorkedLawful::lawful_rules))]
+/// A run from tick 1 to tick 3 over a plane that is cut by a plan, in epochs of two ticks.
 fn setting(alloc: Global, plan: &str) -> Result<Setting, Fail>
-    ensures plan { IfOk result (λ s. IsPlan s.epoch s.cuts) }
-    ensures lawful { IfOk result (λ s. LawfulProgram s.job.program) }
+    ensures lawful { IfOk result LawfulSetting }
 {
     let Ok(cuts) = read_plan(alloc, plan.as_bytes(), 2) else {
         return Err("no plan".into());
@@ -88,8 +86,8 @@ fn setting(alloc: Global, plan: &str) -> Result<Setting, Fail>
     let job = Job {
         program: resting(alloc)?,
         seed: 0,
-        first: 0,
-        last: 4,
+        first: 1,
+        last: 3,
         every: 1,
         start,
     };
@@ -175,6 +173,7 @@ fn agents_go_to_their_parts(rt: HostRuntime) -> Result<(), Fail> {
     let alloc = rt.alloc();
     for (plan, tick, to, xs, near, theirs) in CASES {
         let setting = setting(alloc, plan)?;
+        setting.numbers_fit();
         if to >= setting.parts() {
             return Err("no part".into());
         }
@@ -185,6 +184,81 @@ fn agents_go_to_their_parts(rt: HostRuntime) -> Result<(), Fail> {
         assert_eq!(rt; told(alloc, &border)?.as_str(), near);
         assert_eq!(rt; told(alloc, &moves)?.as_str(), theirs);
         assert_eq!(rt; told(alloc, &handed)?.as_str(), theirs);
+    }
+    Ok(())
+}
+
+const WORK: u32 = 20;
+
+/// A plan, an actor, and its turns: a put to q is q, and a take from q is 10 + q.
+type Walk<'a> = (&'a str, u32, &'a [u32]);
+
+const WALKS: [Walk; 3] = [
+    // Tick 1 is shown at 2, an end; other cuts hold from 2 on; tick 2 is shown at 3, the last.
+    (
+        "at 0 x 1 y\nat 2 x -1 y\n",
+        0,
+        &[
+            1, 11, WORK, 1, 11, WORK, 1, 11, WORK, 2, 12, WORK, 1, 11, WORK, 1, 11, WORK, 1, 11,
+            WORK, 1, 11, WORK, 2, 12, WORK,
+        ],
+    ),
+    // The publisher meets each part where all is shown. No cuts are new after the last tick.
+    (
+        "at 0 x 1 y\nat 4 x 2 y\n",
+        2,
+        &[
+            WORK, WORK, WORK, 0, 1, 10, 11, WORK, WORK, WORK, WORK, 0, 1, 10, 11, WORK,
+        ],
+    ),
+    // Parts that are far apart do not meet, and none is handed to one whose area stays apart.
+    (
+        "at 0 x 0 9 y\nat 2 x 0 5 y\n",
+        0,
+        &[
+            1, 11, WORK, 1, 11, WORK, 1, 11, WORK, 3, 13, WORK, WORK, 1, 11, WORK, 1, 11, WORK, 1,
+            11, WORK, 3, 13, WORK,
+        ],
+    ),
+];
+
+/// All turns of an actor, at most 100.
+fn turns_of(alloc: Global, setting: &Setting, actor: u32) -> Result<Vec<u32>, NoMemory>
+    requires lawful { LawfulSetting setting.now }
+    requires is_actor { actor < parts setting.now + 1 }
+{
+    let mut course = Course::make(alloc, setting, actor)?;
+    let mut turns = Vec::new(alloc);
+    for _ in 0..100 {
+        match course.turn() {
+            Turn::Put(name) => {
+                turns.push(name.to)?;
+                course.go_on();
+            }
+            Turn::Take(name) => {
+                turns.push(name.from.saturating_add(10))?;
+                course.go_on();
+            }
+            Turn::Work => {
+                turns.push(WORK)?;
+                course.go_on();
+            }
+            Turn::Done => return Ok(turns),
+        }
+    }
+    Ok(turns)
+}
+
+#[test]
+fn actors_make_their_turns(rt: HostRuntime) -> Result<(), Fail> {
+    let alloc = rt.alloc();
+    for (plan, actor, wanted) in WALKS {
+        let setting = setting(alloc, plan)?;
+        if actor > setting.parts() {
+            return Err("no actor".into());
+        }
+        let turns = turns_of(alloc, &setting, actor)?;
+        assert_eq!(rt; turns.as_slice(), wanted);
     }
     Ok(())
 }

@@ -7,6 +7,7 @@ mod kinds;
 mod made;
 mod record;
 mod register;
+mod spell;
 #[cfg(test)]
 mod tests;
 mod tick;
@@ -15,4 +16,5 @@ pub use agent::print_agent;
 pub use file::read_agents;
 pub use kinds::{RowFault, RowKind};
 pub use made::make_agents;
+pub use spell::{class_named, read_id, read_value};
 pub use tick::print_tick;

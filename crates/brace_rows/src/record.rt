@@ -1,15 +1,14 @@
 //! The agent of one record.
-ghost use Rattle.std.specs.Prelude.{◌≡◌, ◌+◌, length, option_map, IfOk};
+ghost use Rattle.std.specs.Prelude.{◌≡◌, ◌+◌, length, IfOk};
 ghost use Rattle.csv.specs.Records.{fields_of};
-ghost use Rattle.brace_rows.specs.AgentFile.{field, flag_of, value_of, id_in_range, id_of, class_named, values_in, complete, agent_of_class, agent_of};
+ghost use Rattle.brace_rows.specs.AgentFile.{field, values_in, complete, agent_of_class, agent_of};
 
 use crate::RowKind;
-use brace_model::{Agent, Program, State, Ty, Value, Values};
-use brace_num::{List, NoMemory, read_count, read_fixed, read_int};
+use crate::spell::{class_named, read_id, read_value};
+use brace_model::{Agent, Program, State, Values};
+use brace_num::{List, NoMemory};
 use csv::ByteRecord;
 use std::alloc::Global;
-
-const GREATEST_ID: u64 = 9_223_372_036_854_775_807;
 
 /// The agent of a record by itself, or the first fault that no other record has part in.
 pub(crate) fn read_agent(
@@ -19,22 +18,12 @@ pub(crate) fn read_agent(
 ) -> Result<Result<Agent, RowKind>, NoMemory>
     ensures { IfOk result (λ agent. agent ≡ agent_of program.now (fields_of row.now)) }
 {
-    let Some(place) = place_of_class(program, field_at(row, 0)) else {
+    let Some(place) = class_named(program, field_at(row, 0)) else {
         return Ok(Err(RowKind::UnknownClass));
     };
     let class = number_of(place)?;
     let states = program.classes.as_slice()[place].states.as_slice();
     read_of_class(alloc, class, states, row)
-}
-
-fn place_of_class(program: &Program, name: &[u8]) -> Option<usize>
-    ensures { result ≡ class_named program.now name.now }
-{
-    program
-        .classes
-        .as_slice()
-        .iter()
-        .position(|class| class.name.as_bytes() == name)
 }
 
 // No memory holds 2^32 classes, or the fields of a record of as many.
@@ -77,21 +66,6 @@ fn read_of_class(
     }
 }
 
-fn read_id(text: &[u8]) -> Option<u64>
-    ensures { result ≡ id_of text.now }
-{
-    id_in_range(read_count(text))
-}
-
-fn id_in_range(count: Option<u64>) -> Option<u64>
-    ensures { result ≡ id_in_range count }
-{
-    match count {
-        Some(id) if id <= GREATEST_ID => Some(id),
-        _ => None,
-    }
-}
-
 // A value for each state, or the first field that spells none.
 fn read_values(
     alloc: Global,
@@ -110,26 +84,4 @@ fn read_values(
         values.push(value)?;
     }
     Ok(Ok(List::from_vec(values)))
-}
-
-fn read_value(ty: Ty, text: &[u8]) -> Option<Value>
-    ensures { result ≡ value_of ty text.now }
-{
-    match ty {
-        Ty::Int => Some(Value::Int(read_int(text)?)),
-        Ty::Fixed => Some(Value::Fixed(read_fixed(text)?)),
-        Ty::Bool => Some(Value::Flag(read_flag(text)?)),
-    }
-}
-
-fn read_flag(text: &[u8]) -> Option<bool>
-    ensures { result ≡ flag_of text.now }
-{
-    if text == b"true".as_slice() {
-        Some(true)
-    } else if text == b"false".as_slice() {
-        Some(false)
-    } else {
-        None
-    }
 }

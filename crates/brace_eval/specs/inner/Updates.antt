@@ -1,11 +1,9 @@
 -- The stops of an update, one outcome after another. Only the crate's own functions cite this.
-use Rattle.std.specs.Prelude.{◌≡◌, ◌≤ℤ◌, ℕ, pos, List, [], ◌∷◌, ◌++◌, map, zip, slice_get, Option, Some, None}
+use Rattle.std.specs.Prelude.{◌≡◌, List, [], ◌∷◌, ◌++◌, map, zip, Option, Some, None}
 use Rattle.brace_model.specs.declared.fault.Stop.{Stop}
 use Rattle.brace_model.specs.declared.program.Gift.{Gift}
 use Rattle.brace_model.specs.declared.program.State.{State}
 use Rattle.brace_model.specs.declared.program.Value.{Value}
-use Rattle.brace_model.specs.declared.program.Class.{Class}
-use Rattle.brace_model.specs.declared.program.Program.{Program}
 use Rattle.brace_model.specs.Value.{Scope, Worth, value}
 use Rattle.brace_model.specs.Next.{earlier_stop, first_stop, ruled}
 
@@ -26,12 +24,6 @@ worths scope states values = map (λ p. ruled scope p.0.rule p.1) (zip states va
 -- what gifts come to
 abbrev pub gift_worths : Scope → List Gift → List Worth
 gift_worths scope gifts = map (λ g. value g.value scope) gifts
-
--- no class has a negative reach
-abbrev pub Reaches : Program → Type 0
-Reaches program =
-    (number : ℕ) (class : Class) → slice_get program.classes number ≡ Some class
-    → pos 0 ≤ℤ class.reach
 
 -- a list, and behind it one element that may be there
 abbrev pub with_one : {A : Type 0} → List A → Option A → List A

@@ -13,7 +13,8 @@ use Rattle.brace_eval.specs.declared.ledger.Ledger.{Ledger}
 use Rattle.brace_eval.specs.declared.scene.Scene.{Scene}
 use Rattle.brace_eval.specs.declared.seat.Seat.{Seat}
 use Rattle.brace_eval.specs.declared.seat.Bound.{Bound}
-use Rattle.brace_eval.specs.inner.Tables.{NotesDeed}
+use Rattle.brace_eval.specs.Heard.{said_by, faults_by}
+use Rattle.brace_eval.specs.inner.Tables.{Notes, NotesDeed}
 
 -- the scope of a seat with these constants, and no totals
 abbrev pub scope_at : Seat → ℕ → List Value → Scope
@@ -96,3 +97,10 @@ abbrev pub NotesQuery : Scene → ℕ → Agent → Ledger → Ledger → Type 0
 NotesQuery scene tick this before after =
     let world = scene.agents.now in
     NotesDeed scene (query_of scene.program.now before.drawer.seed tick world this) before after
+
+-- a ledger came to stand for the queries of some agents, too
+abbrev pub NotesQueries : Scene → ℕ → List Agent → Ledger → Ledger → Type 0
+NotesQueries scene tick asking before after =
+    let seed = before.drawer.seed in
+    Notes scene (said_by scene.program.now seed tick scene.agents.now asking)
+    (faults_by scene.program.now seed tick scene.agents.now asking) before after

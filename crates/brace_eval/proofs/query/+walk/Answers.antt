@@ -24,7 +24,7 @@ statement-returns-in_ok-bind-in-Some-clause-noted t c =
     let does = does-Const scene.program.now scene.agents.now c.args.s.now here c.in-Const.n c.in-Const.e c.in-Const.is in
     subst (λ (d : Deed). NotesDeed scene d c.args.ledger.now c.worth.new.ledger) (sym does)
     (worth-then scene here (value c.in-Const.e here) f c.in-Some.v c.args.ledger.now c.worth.new.ledger c.worth.new.ledger
-    (sym c.in-Some.ensures.value) (c.in-Some.ensures.noted scene) (notes-nothing scene c.worth.new.ledger c.worth.new.ledger refl refl))
+    (sym c.in-Some.ensures.value) (c.in-Some.ensures.noted scene) (notes-nothing scene c.worth.new.ledger c.worth.new.ledger refl))
 
 pub statement-returns-in-None-clause-noted : goal.statement-returns-in-None-clause-noted
 statement-returns-in-None-clause-noted t c =

@@ -1,8 +1,10 @@
 use Rattle.std.proofs.Common.{◌≡◌, ◌∙◌, ◌+◌, ◌≤◌, ◌^◌, sym, ap, subst, length, ℕ, arith, Some, None, Result, Ok, Err}
 use Rattle.brace_model.specs.declared.fault.Fault.{Fault}
 use Rattle.brace_model.specs.World.{World, IsNumbered, world_with}
+use Rattle.brace_model.specs.Query.{said_in}
 use Rattle.brace_model.specs.Step.{grown}
-use Rattle.brace_eval.proofs.StepLemmas.{leaves-told, quiet-told, step-told, reach_fits}
+use Rattle.brace_eval.specs.Heard.{table_of}
+use Rattle.brace_eval.proofs.StepLemmas.{leaves-told, quiet-told, step-told}
 use Rattle.brace_eval.proofs.NumberLemmas.{numbered_grown}
 use Rattle.brace_eval.proofs.step.plain_step.Goals as goal
 
@@ -12,16 +14,21 @@ failed f = Err f
 abbrev stepped : World → Result World Fault
 stepped w = Ok w
 
-pub updates-requires-clause-reach : goal.updates-requires-clause-reach
-updates-requires-clause-reach c number class is = reach_fits class.reach (c.requires.lawful.classes_are_lawful number class is).reach_is_distance
+pub updates-requires-clause-totals : goal.updates-requires-clause-totals
+updates-requires-clause-totals c =
+    let job = c.args.job.now in
+    let agents = c.agents-agents.result.now in
+    c.deref.ensures.value ∙ c.in_ok-heard.ensures.totals
+    ∙ ap (λ (n : ℕ). table_of job.program (said_in job.program n c.args.tick agents) agents) (sym c.make-drawer.ensures)
 
 pub returns-in-Some-first_too_far-clause-faulted : goal.returns-in-Some-first_too_far-clause-faulted
 returns-in-Some-first_too_far-clause-faulted c fault e =
     let job = c.args.job.now in
     let world = c.args.world.now in
-    let leaves = leaves-told job.program job.seed c.args.tick world c.queries.new.ledger.drawer.seed c.agents-agents.result.now c.in_ok-nexts.nexts.living.items c.in_ok-nexts.nexts.born.items (c.in_ok-queries.ensures.seed ∙ c.make.ensures) c.agents-agents.ensures.same
+    let leaves = leaves-told job.program job.seed c.args.tick world c.make-drawer.result.seed c.agents-agents.result.now c.in_ok-nexts.nexts.living.items c.in_ok-nexts.nexts.born.items c.make-drawer.ensures c.agents-agents.ensures.same
     (record { passes = c.in_ok-nexts.ensures.passes; living = c.in_ok-nexts.ensures.living; born = c.in_ok-nexts.ensures.born }) in
-    let quiet = quiet-told job.program job.seed c.args.tick world c.in_ok-scene.scene.program.now c.make.result.seed c.in_ok-scene.scene.agents.now c.in_ok-scene.ensures.program c.make.ensures (c.in_ok-scene.ensures.agents ∙ c.agents-agents.ensures.same) (sym c.in_ok-queries.ensures.kept.least ∙ c.in_default.is) in
+    let quiet = quiet-told job.program job.seed c.args.tick world c.agents-agents.result.now c.agents-agents.ensures.same
+    (sym c.in_ok-heard.ensures.least ∙ c.in_default.is) in
     let told = step-told job.program job.seed c.args.tick world c.in_ok-nexts.nexts.living.items c.in_ok-nexts.nexts.born.items c.deref-2.result.now c.deref-3.result.now c.next.result (Some c.in-Some-first_too_far.child.now) quiet leaves
     c.deref-2.ensures.value c.next.ensures.same c.deref-3.ensures.value c.in-Some-first_too_far.ensures.first in
     let same : c.birth_fault.result ≡ fault = cc in
@@ -31,7 +38,7 @@ pub unreachable-requires : goal.unreachable-requires
 unreachable-requires c =
     let job = c.args.job.now in
     let world = c.args.world.now in
-    let leaves = leaves-told job.program job.seed c.args.tick world c.queries.new.ledger.drawer.seed c.agents-agents.result.now c.in_ok-nexts.nexts.living.items c.in_ok-nexts.nexts.born.items (c.in_ok-queries.ensures.seed ∙ c.make.ensures) c.agents-agents.ensures.same
+    let leaves = leaves-told job.program job.seed c.args.tick world c.make-drawer.result.seed c.agents-agents.result.now c.in_ok-nexts.nexts.living.items c.in_ok-nexts.nexts.born.items c.make-drawer.ensures c.agents-agents.ensures.same
     (record { passes = c.in_ok-nexts.ensures.passes; living = c.in_ok-nexts.ensures.living; born = c.in_ok-nexts.ensures.born }) in
     let ls = c.in_ok-nexts.nexts.living.items in
     let bs = c.in_ok-nexts.nexts.born.items in
@@ -51,9 +58,10 @@ pub returns-clause-stepped : goal.returns-clause-stepped
 returns-clause-stepped c =
     let job = c.args.job.now in
     let world = c.args.world.now in
-    let leaves = leaves-told job.program job.seed c.args.tick world c.queries.new.ledger.drawer.seed c.agents-agents.result.now c.in_ok-nexts.nexts.living.items c.in_ok-nexts.nexts.born.items (c.in_ok-queries.ensures.seed ∙ c.make.ensures) c.agents-agents.ensures.same
+    let leaves = leaves-told job.program job.seed c.args.tick world c.make-drawer.result.seed c.agents-agents.result.now c.in_ok-nexts.nexts.living.items c.in_ok-nexts.nexts.born.items c.make-drawer.ensures c.agents-agents.ensures.same
     (record { passes = c.in_ok-nexts.ensures.passes; living = c.in_ok-nexts.ensures.living; born = c.in_ok-nexts.ensures.born }) in
-    let quiet = quiet-told job.program job.seed c.args.tick world c.in_ok-scene.scene.program.now c.make.result.seed c.in_ok-scene.scene.agents.now c.in_ok-scene.ensures.program c.make.ensures (c.in_ok-scene.ensures.agents ∙ c.agents-agents.ensures.same) (sym c.in_ok-queries.ensures.kept.least ∙ c.in_default.is) in
+    let quiet = quiet-told job.program job.seed c.args.tick world c.agents-agents.result.now c.agents-agents.ensures.same
+    (sym c.in_ok-heard.ensures.least ∙ c.in_default.is) in
     let told = step-told job.program job.seed c.args.tick world c.in_ok-nexts.nexts.living.items c.in_ok-nexts.nexts.born.items c.deref-2.result.now c.deref-3.result.now c.next.result None quiet leaves
     c.deref-2.ensures.value c.next.ensures.same c.deref-3.ensures.value c.in_default-first_too_far.ensures.first in
     let whole : grown world.next c.in_ok-nexts.nexts.living.items c.in_ok-nexts.nexts.born.items ≡ c.in-Some-with_next.next =

@@ -5,7 +5,7 @@ use Rattle.brace_model.specs.World.{class_of}
 use Rattle.brace_model.specs.Query.{said_in}
 use Rattle.brace_model.specs.Next.{Next, next, next_in}
 use Rattle.brace_model.specs.FaultOrder.{with_earlier}
-use Rattle.brace_eval.specs.inner.Tables.{row_of, table_of}
+use Rattle.brace_eval.specs.Heard.{row_of, table_of}
 use Rattle.brace_eval.specs.inner.Updates.{with_one}
 use Rattle.brace_eval.proofs.DeedLemmas.{map-more}
 use Rattle.brace_eval.proofs.StepLemmas.{SoFar, so_far-ok, so_far-err, rest-long, row-first, rest-behind, next-row}

@@ -1,7 +1,7 @@
 use Rattle.std.proofs.Common.{◌≡◌, map, take, drop}
 use Rattle.brace_model.specs.Query.{said_in}
 use Rattle.brace_model.specs.Next.{next}
-use Rattle.brace_eval.specs.inner.Tables.{table_of}
+use Rattle.brace_eval.specs.Heard.{table_of}
 use Rattle.brace_eval.proofs.StepLemmas.{SoFar}
 use Rattle.brace_eval.proofs.step.updates.Given as goal
 

@@ -1,0 +1,254 @@
+-- An actor's course makes the turns of the run's schedule.
+use Rattle.std.proofs.Common.{◌≡◌, ◌∙◌, refl, sym, ap, ap₂, subst, ℕ, zero, suc, ◌+◌, ◌-◌, ◌*◌, ◌<◌, ◌≤◌, List, [], ◌∷◌, ◌++◌, map, filter, sum_by, length, take, get_or, Bool, true, false, cond, Option, Some, None, ◌==◌, ◌||◌, ◌&&◌, arith, inl, inr}
+use Rattle.std.specs.Prelude.{slice_get, is_some}
+use Rattle.std.specs.List.{range_with_len}
+use Rattle.std.proofs.lemmas.Bool.{eq-eqb, cases_lt, cases_eq}
+use Rattle.std.proofs.lemmas.List.Elements.{filter-append}
+use Rattle.std.proofs.lemmas.List.Sums.{sum_by-cons}
+use Rattle.std.proofs.lemmas.List.{append_assoc, length-append, length-map, get_or_append_left, get_or-append_right, get_or_past, get_or_default}
+use Rattle.brace_core.specs.declared.name.Turn.{Turn}
+use Rattle.brace_core.specs.declared.name.Turn.TheVariants.{Put, Take, Work, Done}
+use Rattle.brace_core.specs.Schedule.{Pair, meets, name, puts, takes, turns_from, turn_at}
+use Rattle.brace_core.specs.Schedule as core
+use Rattle.brace_core.proofs.Lists.{at_map}
+use Rattle.brace_pieces.specs.declared.setting.Setting.{Setting}
+use Rattle.brace_pieces.specs.declared.setting.Step.{Step}
+use Rattle.brace_pieces.specs.Settings.{parts}
+use Rattle.brace_pieces.specs.Steps.{steps, meet, met, pairs_below, schedule}
+use Rattle.brace_pieces.specs.Courses.{OnCourse, IsCourse, met_in, step_of, others_of, exchanges, turn_in, turn_of, turns_in, past_of, gone_behind, gone_on}
+use Rattle.brace_pieces.proofs.PlaceLemmas.{some_is}
+use Rattle.brace_pieces.proofs.Pairs.{has, met_where, met_in_rows}
+
+-- ---- whom an actor meets
+
+has_within : (n a q : ℕ) → a ≤ q → q < a + n → has q (range_with_len a n) ≡ true
+has_within zero a q low high = absurd (omega (arith, low, high))
+has_within (suc n) a q low high = elim (cases_eq a q) [
+  | inl same ↦ ap (λ v. v || has q (range_with_len (a + 1) n)) (eq-eqb a q same)
+  | inr other ↦ ap (λ v. (a == q) || v) (has_within n (a + 1) q (omega arith) (omega arith)) ∙ or_true (a == q)
+]
+  where
+    or_true : (v : Bool) → (v || true) ≡ true
+    or_true true = refl
+    or_true false = refl
+
+-- tests that agree on numbers in a row keep the same ones
+same_kept : (f g : ℕ → Bool) (n a : ℕ) → ((q : ℕ) → a ≤ q → q < a + n → f q ≡ g q) → filter f (range_with_len a n) ≡ filter g (range_with_len a n)
+same_kept f g zero a same = refl
+same_kept f g (suc n) a same =
+    ap (λ v. cond v (a ∷ filter f (range_with_len (a + 1) n)) (filter f (range_with_len (a + 1) n))) (same a (omega arith) (omega arith))
+    ∙ ap (λ xs. cond (g a) (a ∷ xs) xs) (same_kept f g n (a + 1) (λ q low high. same q (omega arith) (omega arith)))
+
+and_true : (v : Bool) → (v && true) ≡ v
+and_true true = refl
+and_true false = refl
+
+module _ (s : Setting) (p : ℕ) (is_actor : p < parts s + 1) where
+  -- the pairs of a step
+  abbrev pairs_in : Step → List Pair
+  pairs_in at = filter (λ m. meet s at m.from m.to) (pairs_below (parts s + 1))
+
+  met_same : (at : Step) → core.met (parts s + 1) (pairs_in at) p ≡ met s at p
+  met_same at =
+      let n : ℕ = parts s + 1 in
+      let all : List ℕ = range_with_len 0 n in
+      same_kept (meets (pairs_in at) p) (meet s at p) n 0 (λ q low high.
+      met_where (meet s at) (pairs_below n) p q
+      ∙ ap (λ v. meet s at p q && v) (met_in_rows all all p q ∙ ap₂ (λ a b. a && b) (has_within n 0 p (omega arith) (omega (arith, is_actor))) (has_within n 0 q (omega arith) (omega (arith, high))))
+      ∙ and_true (meet s at p q))
+
+  -- the turns in some steps in a row, which are numbered from k on
+  abbrev walk : ℕ → List Step → List Turn
+  walk k [] = []
+  walk k (at ∷ ats) = exchanges k p (met s at p) ++ (Work ∷ walk (suc k) ats)
+
+  turns_are : (k : ℕ) (ats : List Step) → turns_from k (parts s + 1) (map pairs_in ats) p ≡ walk k ats
+  turns_are k [] = refl
+  turns_are k (at ∷ ats) =
+      ap₂ (λ others rest. puts k p others ++ (takes k p others ++ (Work ∷ rest))) (met_same at) (turns_are (suc k) ats)
+      ∙ sym (append_assoc (puts k p (met s at p)) (takes k p (met s at p)) (Work ∷ walk (suc k) ats))
+
+-- ---- one turn of a list
+
+-- up to the work of a step, that and no later turn counts
+up_to : (ts rest : List Turn) (w d : Turn) (m : ℕ) → m ≤ length ts → get_or (ts ++ (w ∷ rest)) m d ≡ get_or ts m w
+up_to [] rest w d zero low = refl
+up_to [] rest w d (suc m) low = absurd (omega (arith, low))
+up_to (t ∷ ts) rest w d zero low = refl
+up_to (t ∷ ts) rest w d (suc m) low = up_to ts rest w d m (omega (arith, low))
+
+-- behind it only later ones
+from_there : (ts rest : List Turn) (w d : Turn) (n m : ℕ) → n ≡ length ts + 1 + m → get_or (ts ++ (w ∷ rest)) n d ≡ get_or rest m d
+from_there [] rest w d zero m e = absurd (omega (arith, e))
+from_there [] rest w d (suc n) m e = let same : n ≡ m = omega (arith, e) in ap (λ i. get_or rest i d) same
+from_there (t ∷ ts) rest w d zero m e = absurd (omega (arith, e))
+from_there (t ∷ ts) rest w d (suc n) m e = from_there ts rest w d n m (omega (arith, e))
+
+pub exchanges_long : (k p : ℕ) (others : List ℕ) → length (exchanges k p others) ≡ 2 * length others
+exchanges_long k p others =
+    omega (arith, length-append (puts k p others) (takes k p others), length-map others (λ q. Put (name k p q)), length-map others (λ q. Take (name k q p)))
+
+module _ (s : Setting) (p : ℕ) (is_actor : p < parts s + 1) where
+  turn_there : (k n : ℕ) (ats : List Step) (made : ℕ) → made ≤ 2 * length (met_in s (slice_get ats n) p)
+      → get_or (walk s p is_actor k ats) (sum_by (turns_in s p) (take n ats) + made) Done ≡ turn_in (k + n) p (met_in s (slice_get ats n) p) made (slice_get ats n)
+  turn_there k n [] made few = refl
+  turn_there k zero (at ∷ ats) made few =
+      let others : List ℕ = met s at p in
+      let here : k ≡ k + 0 = omega arith in
+      let none : 0 + made ≡ made = omega arith in
+      ap (λ i. get_or (exchanges k p others ++ (Work ∷ walk s p is_actor (suc k) ats)) i Done) none
+      ∙ up_to (exchanges k p others) (walk s p is_actor (suc k) ats) Work Done made (omega (arith, few, exchanges_long k p others))
+      ∙ ap (λ j. get_or (exchanges j p others) made Work) here
+  turn_there k (suc n) (at ∷ ats) made few =
+      let others : List ℕ = met s at p in
+      let before : ℕ = sum_by (turns_in s p) (take n ats) in
+      let there : suc k + n ≡ k + suc n = omega arith in
+      from_there (exchanges k p others) (walk s p is_actor (suc k) ats) Work Done (sum_by (turns_in s p) (at ∷ take n ats) + made) (before + made)
+      (omega (arith, exchanges_long k p others, sum_by-cons (turns_in s p) at (take n ats)))
+      ∙ turn_there (suc k) n ats made few
+      ∙ ap (λ j. turn_in j p (met_in s (slice_get ats n) p) made (slice_get ats n)) there
+
+-- the next turn on a course is that of the schedule
+pub course_turn : (c : OnCourse) → IsCourse c → turn_of c ≡ turn_at (schedule c.setting) c.actor (past_of c)
+course_turn c h =
+    let s : Setting = c.setting in
+    let p : ℕ = c.actor in
+    let first : 0 + c.number ≡ c.number = omega arith in
+    sym (ap (λ ts. get_or ts (past_of c) Done) (turns_are s p h.is_actor 0 (steps s))
+    ∙ turn_there s p h.is_actor 0 c.number (steps s) c.made h.before_work
+    ∙ ap (λ k. turn_in k p (others_of c) c.made (step_of c)) first)
+
+-- ---- the turns in a step
+
+at_map_or : (h : ℕ → Turn) (xs : List ℕ) (i d : ℕ) → i < length xs → get_or (map h xs) i Work ≡ h (get_or xs i d)
+at_map_or h xs i d low = at_map h xs i Work low ∙ ap h (get_or_default xs i 0 d low)
+
+module _ (k p : ℕ) (others : List ℕ) where
+  pub put_there : (i d : ℕ) → i < length others → get_or (exchanges k p others) i Work ≡ Put (name k p (get_or others i d))
+  put_there i d low =
+      get_or_append_left (puts k p others) (takes k p others) Work i (omega (arith, low, length-map others (λ q. Put (name k p q))))
+      ∙ at_map_or (λ q. Put (name k p q)) others i d low
+
+  pub take_there : (i j d : ℕ) → i ≡ length others + j → j < length others → get_or (exchanges k p others) i Work ≡ Take (name k (get_or others j d) p)
+  take_there i j d is low =
+      let back : i - length others ≡ j = omega (arith, is) in
+      get_or-append_right (puts k p others) (takes k p others) (length others) i Work (length-map others (λ q. Put (name k p q))) (omega (arith, is))
+      ∙ ap (λ n. get_or (takes k p others) n Work) back
+      ∙ at_map_or (λ q. Take (name k q p)) others j d low
+
+  pub work_there : (i : ℕ) → 2 * length others ≤ i → get_or (exchanges k p others) i Work ≡ Work
+  work_there i high = get_or_past (exchanges k p others) i Work (omega (arith, high, exchanges_long k p others))
+
+-- the turn of a course whose step and others are known
+turn_shape : (c : OnCourse) (o : Option Step) (others : List ℕ) → o ≡ step_of c → others ≡ others_of c → is_some o ≡ true
+    → turn_of c ≡ get_or (exchanges c.number c.actor others) c.made Work
+turn_shape c None others is same some = absurd (cc)
+turn_shape c (Some at) others is same some = sym (ap₂ (λ os o. turn_in c.number c.actor os c.made o) same is)
+
+module _ (c : OnCourse) (o : Option Step) (others : List ℕ) (is : o ≡ step_of c) (same : others ≡ others_of c) (some : is_some o ≡ true) where
+  pub puts_next : (q : ℕ) → c.made < length others → q ≡ get_or others c.made q → Put (name c.number c.actor q) ≡ turn_of c
+  puts_next q low at =
+      ap (λ q. Put (name c.number c.actor q)) at ∙ sym (put_there c.number c.actor others c.made q low) ∙ sym (turn_shape c o others is same some)
+
+  pub takes_next : (j q : ℕ) → c.made ≡ length others + j → j < length others → q ≡ get_or others j q → Take (name c.number q c.actor) ≡ turn_of c
+  takes_next j q behind low at =
+      ap (λ q. Take (name c.number q c.actor)) at ∙ sym (take_there c.number c.actor others c.made j q behind low) ∙ sym (turn_shape c o others is same some)
+
+  pub works_next : 2 * length others ≤ c.made → Work ≡ turn_of c
+  works_next high = sym (work_there c.number c.actor others c.made high) ∙ sym (turn_shape c o others is same some)
+
+-- ---- one turn on
+
+-- behind a put or a take it stands in the same step
+stays : (c : OnCourse) (o : Option Step) → c.made < 2 * length (met_in c.setting o c.actor)
+    → gone_behind c (turn_in c.number c.actor (met_in c.setting o c.actor) c.made o) ≡ record c { made = c.made + 1 }
+stays c None low = absurd (omega (arith, low))
+stays c (Some at) low =
+    let others : List ℕ = met c.setting at c.actor in
+    elim (cases_lt c.made (length others)) [
+      | inl first ↦ ap (gone_behind c) (put_there c.number c.actor others c.made 0 first)
+      | inr second ↦ ap (gone_behind c) (take_there c.number c.actor others c.made (c.made - length others) 0 (omega arith) (omega (arith, low)))
+    ]
+
+pub goes_within : (c : OnCourse) → c.made < 2 * length (others_of c) → gone_on c ≡ record c { made = c.made + 1 }
+goes_within c low = stays c (step_of c) low
+
+-- behind its work in the next one
+pub goes_behind : (c : OnCourse) (at : Step) → step_of c ≡ Some at → 2 * length (others_of c) ≤ c.made → gone_on c ≡ record c { number = c.number + 1; made = 0 }
+goes_behind c at is high =
+    let works : turn_of c ≡ Work = ap (turn_in c.number c.actor (others_of c) c.made) is ∙ work_there c.number c.actor (others_of c) c.made high in
+    ap (gone_behind c) works
+
+-- one more step before
+one_more : (f : Step → ℕ) (xs : List Step) (n : ℕ) (at : Step) → slice_get xs n ≡ Some at → sum_by f (take (suc n) xs) ≡ sum_by f (take n xs) + f at
+one_more f [] n at is = absurd (cc)
+one_more f (x ∷ xs) zero at is = let same : f x ≡ f at = ap f (some_is x at is) in omega (arith, same, sum_by-cons f x [])
+one_more f (x ∷ xs) (suc n) at is = omega (arith, one_more f xs n at is, sum_by-cons f x (take (suc n) xs), sum_by-cons f x (take n xs))
+
+-- each turn counts once
+pub one_past : (c : OnCourse) → IsCourse c → (turn_of c ≡ Done → ⊥) → past_of (gone_on c) ≡ past_of c + 1
+one_past c h left = elim (cases_lt c.made (2 * length (others_of c))) [
+  | inl low ↦ ap past_of (goes_within c low) ∙ within
+  | inr high ↦ behind (step_of c) refl high
+]
+  where
+    within : past_of (record c { made = c.made + 1 }) ≡ past_of c + 1
+    within = omega arith
+
+    behind : (o : Option Step) → step_of c ≡ o → 2 * length (others_of c) ≤ c.made → past_of (gone_on c) ≡ past_of c + 1
+    behind None is high = absurd (left (ap (turn_in c.number c.actor (others_of c) c.made) is))
+    behind (Some at) is high =
+        let others : length (others_of c) ≡ length (met c.setting at c.actor) = ap (λ o. length (met_in c.setting o c.actor)) is in
+        let more = one_more (turns_in c.setting c.actor) (steps c.setting) c.number at is in
+        let made = h.before_work in
+        let one : c.number + 1 ≡ suc c.number = omega arith in
+        let counted = ap (λ n. sum_by (turns_in c.setting c.actor) (take n (steps c.setting))) one ∙ more in
+        ap past_of (goes_behind c at is high) ∙ omega (arith, others, counted, made, high)
+
+-- it stays on the course
+pub course_within : (c : OnCourse) → IsCourse c → c.made < 2 * length (others_of c) → IsCourse (record c { made = c.made + 1 })
+course_within c h low = record { is_actor = h.is_actor; before_work = omega (arith, low) }
+
+pub course_behind : (c : OnCourse) → IsCourse c → IsCourse (record c { number = c.number + 1; made = 0 })
+course_behind c h = record { is_actor = h.is_actor; before_work = omega arith }
+
+pub stays_course : (c : OnCourse) → IsCourse c → (turn_of c ≡ Done → ⊥) → IsCourse (gone_on c)
+stays_course c h left = elim (cases_lt c.made (2 * length (others_of c))) [
+  | inl low ↦ subst IsCourse (sym (goes_within c low)) (course_within c h low)
+  | inr high ↦ behind (step_of c) refl high
+]
+  where
+    behind : (o : Option Step) → step_of c ≡ o → 2 * length (others_of c) ≤ c.made → IsCourse (gone_on c)
+    behind None is high = absurd (left (ap (turn_in c.number c.actor (others_of c) c.made) is))
+    behind (Some at) is high = subst IsCourse (sym (goes_behind c at is high)) (course_behind c h)
+
+-- a step that is there is one of all steps
+pub there_within : (xs : List Step) (n : ℕ) (at : Step) → slice_get xs n ≡ Some at → n + 1 ≤ length xs
+there_within [] n at is = absurd (cc)
+there_within (x ∷ xs) zero at is = omega arith
+there_within (x ∷ xs) (suc n) at is = omega (arith, there_within xs n at is)
+
+-- ---- numbers in a row, one by one
+
+row_more : (n a : ℕ) → range_with_len a (suc n) ≡ range_with_len a n ++ (a + n) ∷ []
+row_more zero a = let here : a ≡ a + 0 = omega arith in ap (λ b. b ∷ []) here
+row_more (suc n) a =
+    let there : a + 1 + n ≡ a + suc n = omega arith in
+    ap (λ xs. a ∷ xs) (row_more n (a + 1) ∙ ap (λ b. range_with_len (a + 1) n ++ b ∷ []) there)
+
+pub kept_more : (f : ℕ → Bool) (n : ℕ) → filter f (range_with_len 0 (n + 1)) ≡ filter f (range_with_len 0 n) ++ cond (f n) (n ∷ []) []
+kept_more f n =
+    let one : n + 1 ≡ suc n = omega arith in
+    let here : 0 + n ≡ n = omega arith in
+    ap (λ m. filter f (range_with_len 0 m)) one ∙ ap (filter f) (row_more n 0 ∙ ap (λ b. range_with_len 0 n ++ b ∷ []) here) ∙ filter-append f (range_with_len 0 n) (n ∷ [])
+
+kept_in_row : (f : ℕ → Bool) (n a : ℕ) → length (filter f (range_with_len a n)) ≤ n
+kept_in_row f zero a = omega arith
+kept_in_row f (suc n) a = elim (f a) as (λ v. length (cond v (a ∷ filter f (range_with_len (a + 1) n)) (filter f (range_with_len (a + 1) n))) ≤ suc n) [
+  | true ↦ omega (arith, kept_in_row f n (a + 1))
+  | false ↦ omega (arith, kept_in_row f n (a + 1))
+]
+
+-- of so many numbers no more are kept
+pub kept_few : (f : ℕ → Bool) (n : ℕ) (xs : List ℕ) → xs ≡ filter f (range_with_len 0 n) → length xs ≤ n
+kept_few f n xs same = omega (arith, ap length same, kept_in_row f n 0)

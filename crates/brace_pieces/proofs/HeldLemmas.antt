@@ -1,0 +1,118 @@
+-- What a part holds comes from its own agents and from those that the parts that it meets show it.
+use Rattle.std.proofs.Common.{◌≡◌, ◌∙◌, refl, sym, ap₂, subst, ℕ, ◌+◌, ◌-◌, ◌<◌, arith, ℤ, pos, List, ◌∷◌, ◌++◌, filter, flat_map, Bool, true, false, ◌&&◌, ◌||◌, Option, Some, None}
+use Rattle.std.specs.List.{list_any}
+use Rattle.std.specs.List.Sorted.{IsPermutation}
+use Rattle.std.proofs.lemmas.Bool.{eqb-true, and_parts}
+use Rattle.std.proofs.lemmas.List.Sorted.{IsPermutation-sym, IsPermutation-trans}
+use Rattle.brace_model.specs.declared.program.Class.{Class}
+use Rattle.brace_model.specs.declared.program.Program.{Program}
+use Rattle.brace_model.specs.declared.world.Agent.{Agent}
+use Rattle.brace_model.specs.World.{class_of, x_of, y_of, RisesById}
+use Rattle.brace_cuts.specs.declared.space.Cuts.{Cuts}
+use Rattle.brace_cuts.specs.Space.{area_of, owner_of}
+use Rattle.brace_invert.specs.Held.{stands_near, is_near}
+use Rattle.brace_pieces.specs.declared.setting.Setting.{Setting}
+use Rattle.brace_pieces.specs.declared.setting.Stage.TheVariants.{Hand, Border}
+use Rattle.brace_pieces.specs.Settings.{cuts_of, parts, range, greatest_reach, LawfulSetting}
+use Rattle.brace_pieces.specs.Steps.{step, meet, met}
+use Rattle.brace_pieces.specs.Owned.{owns_at, owns, owned, held}
+use Rattle.brace_pieces.specs.Right.{border, handed}
+use Rattle.brace_pieces.specs.Together.{IsWhole, AreWhole, IsSorted}
+use Rattle.brace_pieces.proofs.Merges.{together, covered, covered_none, filter_same, filter_both, flat_map_same, filter_rises, in_order}
+use Rattle.brace_pieces.proofs.Meetings.{gap_by_point, le_so, so_le, le_greater, no_gap, owner_is_part, owner_has, meets, range_some}
+use Rattle.brace_pieces.proofs.ScheduleLemmas.{meets_no_self}
+
+one_owner : (cuts : Cuts) (o : Option Class) (p q : ℕ) (a : Agent) → owns_at cuts p o a ≡ true → owns_at cuts q o a ≡ true → p ≡ q
+one_owner cuts None p q a e f = absurd (cc)
+one_owner cuts (Some c) p q a e f = sym (eqb-true (owner_of cuts (x_of c a) (y_of c a)) p e) ∙ eqb-true (owner_of cuts (x_of c a) (y_of c a)) q f
+
+-- only one part owns an agent
+pub one_owns : (m : Program) (cuts : Cuts) (p q : ℕ) (a : Agent) → owns m cuts p a ≡ true → owns m cuts q a ≡ true → p ≡ q
+one_owns m cuts p q a e f = one_owner cuts (class_of m a) p q a e f
+
+-- and passes a further test
+only_and : (m : Program) (cuts : Cuts) (n : Agent → Bool) (p q : ℕ) (a : Agent) → (owns m cuts p a && n a) ≡ true → (owns m cuts q a && n a) ≡ true → p ≡ q
+only_and m cuts n p q a e f = one_owns m cuts p q a (and_parts (owns m cuts p a) (n a) e).0 (and_parts (owns m cuts q a) (n a) f).0
+
+and_so : (a b : Bool) → (a ≡ true → b ≡ true) → a ≡ (a && b)
+and_so true b h = sym (h refl)
+and_so false b h = refl
+
+or_right : (a b : Bool) → b ≡ true → (a || b) ≡ true
+or_right true b e = refl
+or_right false b e = e
+
+module _ (s : Setting) (lawful : LawfulSetting s) (p : ℕ) (part : p < parts s) (t : ℕ) where
+  abbrev m : Program
+  m = s.job.program
+
+  abbrev now : Cuts
+  now = cuts_of s t
+
+  -- ---- what is shown at a border
+
+  abbrev near : Agent → Bool
+  near = is_near m (area_of now p) (range s)
+
+  own_near : (o : Option Class) (a : Agent) → ((c : Class) → o ≡ Some c → IsWhole c a) → owns_at now p o a ≡ true → stands_near (area_of now p) (range s) o a ≡ true
+  own_near None a on e = absurd (cc)
+  own_near (Some c) a on e =
+      let at : IsWhole c a = on c refl in
+      no_gap _ (range s) (owner_has s lawful t p (x_of c a) (y_of c a) (at.values_fit c.x) (at.values_fit c.y) (eqb-true (owner_of now (x_of c a) (y_of c a)) p e)) (range_some s lawful)
+
+  shown_by : (o : Option Class) (a : Agent) → ((c : Class) → o ≡ Some c → IsWhole c a)
+      → list_any (λ q. owns_at now q o a && stands_near (area_of now p) (range s) o a) (p ∷ met s (step Border t) p) ≡ stands_near (area_of now p) (range s) o a
+  shown_by None a on = covered_none (p ∷ met s (step Border t) p)
+  shown_by (Some c) a on =
+      let at : IsWhole c a = on c refl in
+      let x : ℤ = x_of c a in
+      let y : ℤ = y_of c a in
+      let owner : ℕ = owner_of now x y in
+      covered (meet s (step Border t) p) (parts s + 1) owner p (stands_near (area_of now p) (range s) (Some c) a) (λ close other.
+      let is_part : owner < parts s = owner_is_part s lawful t x y in
+      let gap_is = gap_by_point (area_of now p) (area_of now owner) x y (range s) (so_le _ _ close) (owner_has s lawful t owner x y (at.values_fit c.x) (at.values_fit c.y) refl) in
+      (omega (arith, is_part), meets s lawful (step Border t) p owner part other is_part (le_so _ _ (le_greater _ (range s) (greatest_reach m) gap_is))))
+
+  pub held_together : (w : List Agent) → AreWhole m w → IsPermutation (owned m now p w ++ flat_map (λ q. border s t q p w) (met s (step Border t) p)) (held m now (range s) p w)
+  held_together w on =
+      let u : ℕ → Agent → Bool = λ q a. owns m now q a && near a in
+      let own : owned m now p w ≡ filter (u p) w = filter_same (owns m now p) (u p) w (λ a h. and_so (owns m now p a) (near a) (own_near (class_of m a) a (λ c e. on a c h e))) in
+      let pieces : flat_map (λ q. border s t q p w) (met s (step Border t) p) ≡ flat_map (λ q. filter (u q) w) (met s (step Border t) p) = flat_map_same (λ q. border s t q p w) (λ q. filter (u q) w) (λ q. filter_both near (owns m now q) w) (met s (step Border t) p) in
+      subst (λ xs. IsPermutation xs (held m now (range s) p w)) (sym (ap₂ (λ xs ys. xs ++ ys) own pieces))
+      (together u (only_and m now near) (meet s (step Border t) p) (parts s + 1) p (meets_no_self s (step Border t) p) near w (λ a h. shown_by (class_of m a) a (λ c e. on a c h e)))
+
+  pub held_is : (w xs : List Agent) → RisesById w → AreWhole m w → IsSorted (owned m now p w ++ flat_map (λ q. border s t q p w) (met s (step Border t) p)) xs → xs ≡ held m now (range s) p w
+  held_is w xs up on sorted =
+      in_order xs (held m now (range s) p w) (IsPermutation-trans _ _ _ (IsPermutation-sym _ _ (held_together w on)) sorted.same) sorted.in_order (filter_rises near w up)
+
+  -- ---- what is handed where other cuts hold
+
+  abbrev before : Cuts
+  before = cuts_of s (t - 1)
+
+  handed_by : (o : Option Class) (a : Agent) → ((c : Class) → o ≡ Some c → IsWhole c a)
+      → list_any (λ q. owns_at before q o a && owns_at now p o a) (p ∷ met s (step Hand t) p) ≡ owns_at now p o a
+  handed_by None a on = covered_none (p ∷ met s (step Hand t) p)
+  handed_by (Some c) a on =
+      let at : IsWhole c a = on c refl in
+      let x : ℤ = x_of c a in
+      let y : ℤ = y_of c a in
+      let owner : ℕ = owner_of before x y in
+      covered (meet s (step Hand t) p) (parts s + 1) owner p (owns_at now p (Some c) a) (λ own other.
+      let is_part : owner < parts s = owner_is_part s lawful (t - 1) x y in
+      let here = owner_has s lawful (t - 1) owner x y (at.values_fit c.x) (at.values_fit c.y) refl in
+      let there = owner_has s lawful t p x y (at.values_fit c.x) (at.values_fit c.y) (eqb-true (owner_of now x y) p own) in
+      let gap_is = gap_by_point (area_of before owner) (area_of now p) x y (pos 0) (so_le _ _ (no_gap _ (pos 0) here (grind arith))) there in
+      (omega (arith, is_part), meets s lawful (step Hand t) p owner part other is_part (or_right _ _ (le_so _ _ gap_is))))
+
+  pub handed_together : (w : List Agent) → AreWhole m w → IsPermutation (owned m now p (owned m before p w) ++ flat_map (λ q. handed s t q p w) (met s (step Hand t) p)) (owned m now p w)
+  handed_together w on =
+      let u : ℕ → Agent → Bool = λ q a. owns m before q a && owns m now p a in
+      let own : owned m now p (owned m before p w) ≡ filter (u p) w = filter_both (owns m now p) (owns m before p) w in
+      let pieces : flat_map (λ q. handed s t q p w) (met s (step Hand t) p) ≡ flat_map (λ q. filter (u q) w) (met s (step Hand t) p) = flat_map_same (λ q. handed s t q p w) (λ q. filter (u q) w) (λ q. filter_both (owns m now p) (owns m before q) w) (met s (step Hand t) p) in
+      subst (λ xs. IsPermutation xs (owned m now p w)) (sym (ap₂ (λ xs ys. xs ++ ys) own pieces))
+      (together u (only_and m before (owns m now p)) (meet s (step Hand t) p) (parts s + 1) p (meets_no_self s (step Hand t) p) (owns m now p) w (λ a h. handed_by (class_of m a) a (λ c e. on a c h e)))
+
+  pub handed_is : (w xs : List Agent) → RisesById w → AreWhole m w → IsSorted (owned m now p (owned m before p w) ++ flat_map (λ q. handed s t q p w) (met s (step Hand t) p)) xs → xs ≡ owned m now p w
+  handed_is w xs up on sorted =
+      in_order xs (owned m now p w) (IsPermutation-trans _ _ _ (IsPermutation-sym _ _ (handed_together w on)) sorted.same) sorted.in_order (filter_rises (owns m now p) w up)

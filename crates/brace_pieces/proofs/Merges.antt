@@ -1,0 +1,251 @@
+-- Lists that are put together of the lists of several parts, and put in order by id.
+use Rattle.std.proofs.Common.{◌≡◌, ◌∙◌, ◌⊎◌, refl, sym, ap, ap₂, subst, ℕ, zero, suc, ◌+◌, ◌<◌, ◌≤◌, List, [], ◌∷◌, ◌++◌, filter, flat_map, length, Bool, true, false, cond, ◌||◌, ◌&&◌, ◌==◌, nat_eq, arith, inl, inr, AllPairs, Contains}
+use Rattle.std.specs.List.{list_any, range_with_len, IsDistinct}
+use Rattle.std.specs.List.Sorted.{IsPermutation, IsNonDecreasingBy}
+use Rattle.std.proofs.lemmas.Bool.{cases_Bool, cases_eq, ne_eqb, eq-eqb, true≢false}
+use Rattle.std.proofs.lemmas.Bool.Decides.{nat_tests}
+use Rattle.std.proofs.lemmas.List.{get_or-map, length-map}
+use Rattle.std.proofs.lemmas.List.Kept.{AllPairs-from_increasing, AllPairs-filter}
+use Rattle.std.proofs.lemmas.List.Sorted.{IsPermutation-refl, IsPermutation-sym, IsPermutation-trans, IsPermutation-cons, IsPermutation-middle, IsPermutation-append_right, IsPermutation-map, Contains-permutation}
+use Rattle.std.proofs.lemmas.Map.Keys.{IsDistinct-IsPermutation, IsStrictlyIncreasing-from_distinct, IsDistinct-from_apart}
+use Rattle.brace_model.specs.declared.world.Agent.{Agent}
+use Rattle.brace_model.specs.World.{RisesById, ids}
+use Rattle.brace_model.proofs.WorldLemmas.{id_at, RisesById-from_pairs}
+
+-- ---- by rising id
+
+-- each id is below those behind it
+abbrev pub Rises : List Agent → Type 0
+Rises xs = AllPairs (λ (a b : Agent). a.id < b.id) xs
+
+pub rises_by_pairs : (xs : List Agent) → RisesById xs → Rises xs
+rises_by_pairs xs up i j d lt within =
+    let long : length (ids xs) ≡ length xs = length-map xs (λ (a : Agent). a.id) in
+    let below = AllPairs-from_increasing (ids xs) up i j 0 lt (omega (arith, long, within)) in
+    let first = id_at xs i d (omega (arith, lt, within)) in
+    let second = id_at xs j d within in
+    omega (arith, below, first, second)
+
+pub pairs_by_rises : (xs : List Agent) → Rises xs → RisesById xs
+pairs_by_rises xs up = RisesById-from_pairs xs (λ k d within. up k (k + 1) d (omega arith) within)
+
+tail_rises : (x : Agent) (xs : List Agent) → Rises (x ∷ xs) → Rises xs
+tail_rises x xs up i j d lt within = up (suc i) (suc j) d (omega (arith, lt)) (omega (arith, within))
+
+-- of two rising lists of which each has what the other has, the rest has what the other's rest has
+rest_has : (x y : Agent) (xs ys : List Agent) → x ≡ y → Rises (x ∷ xs) → ((a : Agent) → Contains (x ∷ xs) a → Contains (y ∷ ys) a) → (a : Agent) → Contains xs a → Contains ys a
+rest_has x y xs ys same up each a (k, lt, is) = by_place (each a (suc k, omega (arith, lt), is))
+  where
+    by_place : Contains (y ∷ ys) a → Contains ys a
+    by_place (zero, lt', is') =
+        let below = up zero (suc k) a (omega arith) (omega (arith, lt)) in
+        let one = ap (λ (b : Agent). b.id) is in
+        let two = ap (λ (b : Agent). b.id) is' in
+        let three = ap (λ (b : Agent). b.id) same in
+        absurd (omega (arith, below, one, two, three))
+    by_place (suc m, lt', is') = (m, omega (arith, lt'), is')
+
+-- two rising lists with the same agents are one
+one_rising : (xs ys : List Agent) → Rises xs → Rises ys → ((a : Agent) → Contains xs a → Contains ys a) → ((a : Agent) → Contains ys a → Contains xs a) → xs ≡ ys
+one_rising [] [] u v h g = refl
+one_rising [] (y ∷ ys) u v h g = let (k, lt, is) = g y (0, omega arith, refl) in absurd (omega (arith, lt))
+one_rising (x ∷ xs) [] u v h g = let (k, lt, is) = h x (0, omega arith, refl) in absurd (omega (arith, lt))
+one_rising (x ∷ xs) (y ∷ ys) u v h g =
+    let same : x ≡ y = heads (h x (0, omega arith, refl)) (g y (0, omega arith, refl)) in
+    ap₂ (λ (a : Agent) (l : List Agent). a ∷ l) same
+    (one_rising xs ys (tail_rises x xs u) (tail_rises y ys v) (rest_has x y xs ys same u h) (rest_has y x ys xs (sym same) v g))
+  where
+    heads : Contains (y ∷ ys) x → Contains (x ∷ xs) y → x ≡ y
+    heads (zero, lt, is) other = sym is
+    heads (suc k, lt, is) (zero, lt', is') = is'
+    heads (suc k, lt, is) (suc m, lt', is') =
+        let low = v zero (suc k) x (omega arith) (omega (arith, lt)) in
+        let high = u zero (suc m) y (omega arith) (omega (arith, lt')) in
+        let one = ap (λ (b : Agent). b.id) is in
+        let two = ap (λ (b : Agent). b.id) is' in
+        absurd (omega (arith, low, high, one, two))
+
+same_test : (x y : ℕ) → nat_eq x y ≡ nat_eq y x
+same_test x y = grind (arith, nat_tests)
+
+ids_differ : (ys : List Agent) → Rises ys → IsDistinct nat_eq (ids ys)
+ids_differ ys up = IsDistinct-from_apart nat_eq (ids ys) (λ i j d lt within.
+    let long : length (ids ys) ≡ length ys = length-map ys (λ (a : Agent). a.id) in
+    let e : Agent = record { class = 0; id = 0; states = [] } in
+    let there : j < length ys = omega (arith, long, within) in
+    let below = up i j e lt there in
+    let first = get_or-map (λ (a : Agent). a.id) ys i e d (omega (arith, lt, there)) in
+    let second = get_or-map (λ (a : Agent). a.id) ys j e d there in
+    ne_eqb _ _ (λ same. omega (arith, below, first, second, same)))
+
+-- what has the agents of a rising list, in an order in which ids do not fall, is that list
+pub in_order : (xs ys : List Agent) → IsPermutation ys xs → IsNonDecreasingBy (λ (a : Agent). a.id) xs → RisesById ys → xs ≡ ys
+in_order xs ys p up rises =
+    let apart : IsDistinct nat_eq (ids xs) = IsDistinct-IsPermutation nat_eq same_test (ids ys) (ids xs) (IsPermutation-map (λ (a : Agent). a.id) ys xs p) (ids_differ ys (rises_by_pairs ys rises)) in
+    let long : length (ids xs) ≡ length xs = length-map xs (λ (a : Agent). a.id) in
+    let e : Agent = record { class = 0; id = 0; states = [] } in
+    let risen : RisesById xs = IsStrictlyIncreasing-from_distinct (ids xs) (λ i j d le within.
+    let there : j < length xs = omega (arith, long, within) in
+    let first = get_or-map (λ (a : Agent). a.id) xs i e d (omega (arith, le, there)) in
+    let second = get_or-map (λ (a : Agent). a.id) xs j e d there in
+    omega (arith, up i j e le there, first, second)) apart in
+    one_rising xs ys (rises_by_pairs xs risen) (rises_by_pairs ys rises)
+    (λ a h. Contains-permutation xs ys a (IsPermutation-sym ys xs p) h) (λ a h. Contains-permutation ys xs a p h)
+
+-- some of a rising list rise
+pub filter_rises : (t : Agent → Bool) (xs : List Agent) → RisesById xs → RisesById (filter t xs)
+filter_rises t xs up = pairs_by_rises (filter t xs) (AllPairs-filter (λ (a b : Agent). a.id < b.id) t xs (rises_by_pairs xs up))
+
+-- ---- of several parts
+
+-- a number is one of these
+abbrev pub has : ℕ → List ℕ → Bool
+has n ns = list_any (λ m. m == n) ns
+
+-- no number is there twice
+abbrev pub Apart : List ℕ → Type 0
+Apart [] = Unit {0}
+Apart (q ∷ ms) = (has q ms ≡ false) × Apart ms
+
+module _ (t : ℕ → Bool) where
+  has_not : (n a q : ℕ) → q < a → has q (filter t (range_with_len a n)) ≡ false
+  has_not zero a q low = refl
+  has_not (suc n) a q low = elim (t a) as (λ v. has q (cond v (a ∷ filter t (range_with_len (a + 1) n)) (filter t (range_with_len (a + 1) n))) ≡ false) [
+    | true ↦ ap (λ v. v || has q (filter t (range_with_len (a + 1) n))) (ne_eqb a q (λ e. omega (arith, low, e))) ∙ has_not n (a + 1) q (omega (arith, low))
+    | false ↦ has_not n (a + 1) q (omega (arith, low))
+  ]
+
+  -- numbers in a row that pass a test are apart
+  pub apart_in_row : (n a : ℕ) → Apart (filter t (range_with_len a n))
+  apart_in_row zero a = tt
+  apart_in_row (suc n) a = elim (t a) as (λ v. Apart (cond v (a ∷ filter t (range_with_len (a + 1) n)) (filter t (range_with_len (a + 1) n)))) [
+    | true ↦ (has_not n (a + 1) a (omega arith), apart_in_row n (a + 1))
+    | false ↦ apart_in_row n (a + 1)
+  ]
+
+  -- a number that does not pass is not there
+  pub has_failed : (n a q : ℕ) → t q ≡ false → has q (filter t (range_with_len a n)) ≡ false
+  has_failed zero a q fails = refl
+  has_failed (suc n) a q fails = by_test (t a) refl (has_failed n (a + 1) q fails)
+    where
+      by_test : (v : Bool) → t a ≡ v → has q (filter t (range_with_len (a + 1) n)) ≡ false → has q (cond v (a ∷ filter t (range_with_len (a + 1) n)) (filter t (range_with_len (a + 1) n))) ≡ false
+      by_test true passes rest =
+          ap (λ v. v || has q (filter t (range_with_len (a + 1) n))) (ne_eqb a q (λ e. true≢false (sym passes ∙ ap t e ∙ fails))) ∙ rest
+      by_test false none rest = rest
+
+  -- some number in a row that passes is one that another test wants
+  pub any_in_row : (u : ℕ → Bool) (n a q : ℕ) → a ≤ q → q < a + n → t q ≡ true → u q ≡ true → list_any u (filter t (range_with_len a n)) ≡ true
+  any_in_row u zero a q low high passes wanted = absurd (omega (arith, low, high))
+  any_in_row u (suc n) a q low high passes wanted = by_place (cases_eq a q) (λ other. any_in_row u n (a + 1) q (omega (arith, low, other)) (omega (arith, high)) passes wanted)
+    where
+      rest : Bool
+      rest = list_any u (filter t (range_with_len (a + 1) n))
+
+      by_test : (v : Bool) → rest ≡ true → list_any u (cond v (a ∷ filter t (range_with_len (a + 1) n)) (filter t (range_with_len (a + 1) n))) ≡ true
+      by_test true there = elim (u a) as (λ v. (v || rest) ≡ true) [
+        | true ↦ refl
+        | false ↦ there
+      ]
+      by_test false there = there
+
+      by_place : (a ≡ q) ⊎ (a ≡ q → ⊥) → ((a ≡ q → ⊥) → rest ≡ true) → list_any u (filter t (range_with_len a (suc n))) ≡ true
+      by_place (inl same) later =
+          ap (λ v. list_any u (cond v (a ∷ filter t (range_with_len (a + 1) n)) (filter t (range_with_len (a + 1) n)))) (ap t same ∙ passes)
+          ∙ ap (λ v. v || rest) (ap u same ∙ wanted)
+      by_place (inr other) later = by_test (t a) (later other)
+
+module _ {A : Type 0} where
+  -- what passes one of two tests that nothing passes both of
+  of_two : (p q : A → Bool) → ((a : A) → p a ≡ true → q a ≡ false) → (xs : List A) → IsPermutation (filter p xs ++ filter q xs) (filter (λ a. p a || q a) xs)
+  of_two p q only [] = IsPermutation-refl []
+  of_two p q only (x ∷ xs) = by_tests (p x) (q x) (only x) (of_two p q only xs)
+    where
+      joined : List A
+      joined = filter (λ a. p a || q a) xs
+
+      by_tests : (b c : Bool) → (b ≡ true → c ≡ false) → IsPermutation (filter p xs ++ filter q xs) joined → IsPermutation (cond b (x ∷ filter p xs) (filter p xs) ++ cond c (x ∷ filter q xs) (filter q xs)) (cond (b || c) (x ∷ joined) joined)
+      by_tests true true none rest = absurd (true≢false (none refl))
+      by_tests true false none rest = IsPermutation-cons x _ _ rest
+      by_tests false true none rest = IsPermutation-trans _ _ _ (IsPermutation-middle (filter p xs) x (filter q xs)) (IsPermutation-cons x _ _ rest)
+      by_tests false false none rest = rest
+
+  -- a test that only one number passes, for each of other numbers
+  none_other : (u : ℕ → A → Bool) → ((p q : ℕ) (a : A) → u p a ≡ true → u q a ≡ true → p ≡ q) → (q : ℕ) (ms : List ℕ) → has q ms ≡ false → (a : A) → u q a ≡ true → list_any (λ m. u m a) ms ≡ false
+  none_other u only q [] apart a here = refl
+  none_other u only q (m ∷ ms) apart a here = by_test (cases_Bool (u m a)) (λ rest. none_other u only q ms rest a here)
+    where
+      parts : (v w : Bool) → (v || w) ≡ false → (v ≡ false) × (w ≡ false)
+      parts true w e = absurd (true≢false e)
+      parts false w e = (refl, e)
+
+      by_test : (u m a ≡ true) ⊎ (u m a ≡ false) → (has q ms ≡ false → list_any (λ m. u m a) ms ≡ false) → (u m a || list_any (λ m. u m a) ms) ≡ false
+      by_test (inl there) later = absurd (true≢false (sym (eq-eqb m q (only m q a there here)) ∙ (parts (m == q) (has q ms) apart).0))
+      by_test (inr not_there) later = ap (λ v. v || list_any (λ m. u m a) ms) not_there ∙ later (parts (m == q) (has q ms) apart).1
+
+  -- the items of several parts, of which each has another one's
+  pub gathered : (u : ℕ → A → Bool) → ((p q : ℕ) (a : A) → u p a ≡ true → u q a ≡ true → p ≡ q) → (ms : List ℕ) → Apart ms → (xs : List A)
+      → IsPermutation (flat_map (λ q. filter (u q) xs) ms) (filter (λ a. list_any (λ q. u q a) ms) xs)
+  gathered u only [] apart xs = none_kept xs
+    where
+      none_kept : (xs : List A) → IsPermutation [] (filter (λ a. false) xs)
+      none_kept [] = IsPermutation-refl []
+      none_kept (x ∷ xs) = none_kept xs
+  gathered u only (q ∷ ms) apart xs =
+      IsPermutation-trans _ _ _ (IsPermutation-append_right (filter (u q) xs) _ _ (gathered u only ms apart.1 xs))
+      (of_two (u q) (λ a. list_any (λ m. u m a) ms) (none_other u only q ms apart.0) xs)
+
+  -- tests that agree on the items of a list keep the same ones
+  pub filter_same : (t u : A → Bool) (xs : List A) → ((a : A) → Contains xs a → t a ≡ u a) → filter t xs ≡ filter u xs
+  filter_same t u [] same = refl
+  filter_same t u (x ∷ xs) same =
+      ap₂ (λ b ys. cond b (x ∷ ys) ys) (same x (0, omega arith, refl)) (filter_same t u xs (λ a (k, lt, is). same a (suc k, omega (arith, lt), is)))
+
+  -- what passes two tests, one after the other
+  pub filter_both : (t u : A → Bool) (xs : List A) → filter t (filter u xs) ≡ filter (λ a. u a && t a) xs
+  filter_both t u [] = refl
+  filter_both t u (x ∷ xs) = elim (u x) as (λ v. filter t (cond v (x ∷ filter u xs) (filter u xs)) ≡ cond (v && t x) (x ∷ filter (λ a. u a && t a) xs) (filter (λ a. u a && t a) xs)) [
+    | true ↦ ap (λ ys. cond (t x) (x ∷ ys) ys) (filter_both t u xs)
+    | false ↦ filter_both t u xs
+  ]
+
+  pub flat_map_same : (f g : ℕ → List A) → ((q : ℕ) → f q ≡ g q) → (ms : List ℕ) → flat_map f ms ≡ flat_map g ms
+  flat_map_same f g same [] = refl
+  flat_map_same f g same (q ∷ ms) = ap₂ (λ xs ys. xs ++ ys) (same q) (flat_map_same f g same ms)
+
+-- of some parts none has what no part has
+pub covered_none : (ms : List ℕ) → list_any (λ q. false) ms ≡ false
+covered_none [] = refl
+covered_none (m ∷ ms) = covered_none ms
+
+and_false : (u : ℕ → Bool) (ms : List ℕ) → list_any (λ q. u q && false) ms ≡ false
+and_false u [] = refl
+and_false u (m ∷ ms) = elim (u m) as (λ v. ((v && false) || list_any (λ q. u q && false) ms) ≡ false) [
+  | true ↦ and_false u ms
+  | false ↦ and_false u ms
+]
+
+-- where one of some parts owns what is wanted, some part that owns it has it
+pub covered : (t : ℕ → Bool) (len owner p : ℕ) (n : Bool) → (n ≡ true → (owner ≡ p → ⊥) → (owner < len) × (t owner ≡ true))
+    → list_any (λ q. (owner == q) && n) (p ∷ filter t (range_with_len 0 len)) ≡ n
+covered t len owner p false met = and_false (λ q. owner == q) (p ∷ filter t (range_with_len 0 len))
+covered t len owner p true met = by_place (cases_eq owner p)
+  where
+    others : List ℕ
+    others = filter t (range_with_len 0 len)
+
+    by_place : (owner ≡ p) ⊎ (owner ≡ p → ⊥) → list_any (λ q. (owner == q) && true) (p ∷ others) ≡ true
+    by_place (inl same) = ap (λ v. (v && true) || list_any (λ q. (owner == q) && true) others) (eq-eqb owner p same)
+    by_place (inr other) =
+        let (low, passes) = met refl other in
+        ap (λ v. (v && true) || list_any (λ q. (owner == q) && true) others) (ne_eqb owner p other)
+        ∙ any_in_row t (λ q. (owner == q) && true) len 0 owner (omega arith) (omega (arith, low)) passes (ap (λ v. v && true) (eq-eqb owner owner refl))
+
+-- the items of a part and of those that pass a test are all that are wanted
+pub together : {A : Type 0} (u : ℕ → A → Bool) → ((p q : ℕ) (a : A) → u p a ≡ true → u q a ≡ true → p ≡ q)
+    → (t : ℕ → Bool) (len p : ℕ) → t p ≡ false → (n : A → Bool) (xs : List A)
+    → ((a : A) → Contains xs a → list_any (λ q. u q a) (p ∷ filter t (range_with_len 0 len)) ≡ n a)
+    → IsPermutation (filter (u p) xs ++ flat_map (λ q. filter (u q) xs) (filter t (range_with_len 0 len))) (filter n xs)
+together u only t len p never n xs all =
+    let others : List ℕ = filter t (range_with_len 0 len) in
+    subst (IsPermutation (filter (u p) xs ++ flat_map (λ q. filter (u q) xs) others)) (filter_same (λ a. list_any (λ q. u q a) (p ∷ others)) n xs all)
+    (gathered u only (p ∷ others) (has_failed t len 0 p never, apart_in_row t len 0) xs)

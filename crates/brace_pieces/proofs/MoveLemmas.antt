@@ -1,0 +1,315 @@
+-- The agents of the next world that a part owns come from its own agents, and from those of the
+-- parts that it meets.
+use Rattle.std.proofs.Common.{◌≡◌, ◌∙◌, ◌⊎◌, refl, sym, ap, ap₂, subst, ℕ, zero, suc, ◌+◌, ◌<◌, ◌≤◌, ℤ, pos, ◌≤ℤ◌, List, [], ◌∷◌, ◌++◌, map, filter, flat_map, zip, length, Bool, true, false, cond, ◌&&◌, ◌==◌, Option, Some, None, Result, Contains, inl, inr, arith, ⊎_elim, get_or}
+use Rattle.std.specs.Prelude.{fold, slice_get}
+use Rattle.std.specs.Int.{int_max}
+use Rattle.std.specs.List.{list_any}
+use Rattle.std.specs.List.Sorted.{IsPermutation}
+use Rattle.std.proofs.lemmas.Bool.{cases_lt, eqb-true, and_parts, true≢false}
+use Rattle.std.proofs.lemmas.List.{map-append, get_or-map, length-map}
+use Rattle.std.proofs.lemmas.List.Elements.{Contains-append_cases, at_from_Contains}
+use Rattle.std.proofs.lemmas.List.Sorted.{IsPermutation-sym, IsPermutation-trans, IsPermutation-map}
+use Rattle.brace_model.specs.declared.program.Class.{Class}
+use Rattle.brace_model.specs.declared.program.Program.{Program}
+use Rattle.brace_model.specs.declared.fault.Fault.{Fault}
+use Rattle.brace_model.specs.declared.world.Agent.{Agent}
+use Rattle.brace_model.specs.World.{World, class_of, x_of, y_of, RisesById}
+use Rattle.brace_model.specs.Next.{Next, next_in}
+use Rattle.brace_model.specs.Step.{living, children, numbered}
+use Rattle.brace_model.specs.Lawful.{LawfulProgram}
+use Rattle.brace_cuts.specs.declared.space.Cuts.{Cuts}
+use Rattle.brace_cuts.specs.Space.{owner_of, AreWithin}
+use Rattle.brace_cuts.proofs.Nearness.{points_near}
+use Rattle.brace_pieces.specs.declared.setting.Setting.{Setting}
+use Rattle.brace_pieces.specs.declared.setting.Stage.TheVariants.{Move}
+use Rattle.brace_pieces.specs.Settings.{cuts_of, parts, range, greatest_reach, LawfulSetting}
+use Rattle.brace_pieces.specs.Steps.{step, meet, met}
+use Rattle.brace_pieces.specs.Owned.{owns_at, owns, owned}
+use Rattle.brace_pieces.specs.Continued.{said, totals_of, becomes, left_or_kept, all_left, fitting, descent, continued}
+use Rattle.brace_pieces.specs.Right.{comes_from}
+use Rattle.brace_pieces.specs.Right as right
+use Rattle.brace_pieces.specs.Together.{IsWhole, AreWhole, IsSorted}
+use Rattle.brace_pieces.proofs.Merges.{Rises, rises_by_pairs, together, covered, covered_none, filter_both, flat_map_same, filter_rises, in_order}
+use Rattle.brace_pieces.proofs.Meetings.{owner_is_part, owner_has, meets}
+use Rattle.brace_pieces.proofs.ScheduleLemmas.{meets_no_self}
+use Rattle.brace_pieces.proofs.HeldLemmas.{one_owns}
+use Rattle.brace_pieces.proofs.HeirLemmas.{has_place, IsNear, IsHeir, agent_is_heir, child_is_heir}
+use Rattle.brace_pieces.proofs.Origins.{of_filter_map, of_map, of_take, of_numbered, of_id, id_of}
+
+-- ---- reach
+
+reach_up : (classes : List Class) (r : ℤ) → r ≤ℤ fold (λ r c. int_max r c.reach) r classes
+reach_up [] r = grind arith
+reach_up (c ∷ classes) r = let rest = reach_up classes (int_max r c.reach) in grind (arith, rest)
+
+reach_of_first : (r d most : ℤ) → int_max r d ≤ℤ most → d ≤ℤ most
+reach_of_first r d most h = grind (arith, h)
+
+-- no class moves farther than the greatest reach
+reach_within : (classes : List Class) (r : ℤ) (n : ℕ) (c : Class) → slice_get classes n ≡ Some c → c.reach ≤ℤ fold (λ r c. int_max r c.reach) r classes
+reach_within [] r n c e = absurd (cc)
+reach_within (d ∷ classes) r zero c e =
+    let same : d ≡ c = cc in
+    let most : ℤ = fold (λ r c. int_max r c.reach) (int_max r d.reach) classes in
+    subst (λ x. x.reach ≤ℤ most) same (reach_of_first r d.reach most (reach_up classes (int_max r d.reach)))
+reach_within (d ∷ classes) r (suc n) c e = reach_within classes (int_max r d.reach) n c e
+
+greater_still : (z d a b : ℤ) → z ≤ℤ d → d ≤ℤ b → z ≤ℤ int_max a b
+greater_still z d a b h g = grind (arith, h, g)
+
+turned : (d a b : ℤ) → AreWithin d a b → AreWithin d b a
+turned d a b (h, g) = (g, h)
+
+wider : (d a b v w : ℤ) → d ≤ℤ b → AreWithin d v w → AreWithin (int_max a b) v w
+wider d a b v w more (h, g) = (greater_still _ d a b h more, greater_still _ d a b g more)
+
+-- ---- heirs
+
+-- an agent of a class stands within its reach of where another stood, and is of its class
+pub record IsAfter (m : Program) (a b : Agent) : Type 0 where
+  pub same_class : b.class ≡ a.class
+  pub is_near : (c : Class) → class_of m a ≡ Some c → IsNear c a b
+
+-- an entry of a descent, with the agent that it comes from
+pub record ComesAfter (m : Program) (w : List Agent) (d : ℕ × Agent) : Type 0 where
+  pub from : Agent
+  pub there : Contains w from
+  pub same_id : from.id ≡ d.0
+  pub is_after : IsAfter m from d.1
+
+some_is : (a b : Agent) → Some a ≡ Some b → a ≡ b
+some_is a b e = cc
+
+class_is : (c d : Class) → Some c ≡ Some d → c ≡ d
+class_is c d e = cc
+
+no_agent : (b : Agent) → None ≡ Some b → ⊥
+no_agent b e = cc
+
+-- what each agent leaves, one by one
+pub left_each : (f : Agent → Result Next Fault) (agents : List Agent) → map (λ p. left_or_kept p.0 p.1) (zip agents (map f agents)) ≡ map (λ a. left_or_kept a (f a)) agents
+left_each f [] = refl
+left_each f (a ∷ agents) = ap (λ rest. left_or_kept a (f a) ∷ rest) (left_each f agents)
+
+-- of agents with rising ids only one has an id
+one_id : (w : List Agent) → Rises w → (a b : Agent) → Contains w a → Contains w b → a.id ≡ b.id → a ≡ b
+one_id w up a b has too same =
+    let (k, low, at) = at_from_Contains w a has in
+    let (j, high, there) = at_from_Contains w b too in
+    let first = ap (λ (x : Agent). x.id) (at a) in
+    let second = ap (λ (x : Agent). x.id) (there a) in
+    by_place k j low high (at a) (there a) (cases_lt k j) (cases_lt j k)
+  where
+    by_place : (k j : ℕ) → k < length w → j < length w → get_or w k a ≡ a → get_or w j a ≡ b → (k < j) ⊎ (j ≤ k) → (j < k) ⊎ (k ≤ j) → a ≡ b
+    by_place k j low high at there (inl less) back =
+        let below = up k j a less high in
+        let first = ap (λ (x : Agent). x.id) at in
+        let second = ap (λ (x : Agent). x.id) there in
+        absurd (omega (arith, below, first, second, same))
+    by_place k j low high at there (inr more) (inl less) =
+        let below = up j k a less low in
+        let first = ap (λ (x : Agent). x.id) at in
+        let second = ap (λ (x : Agent). x.id) there in
+        absurd (omega (arith, below, first, second, same))
+    by_place k j low high at there (inr more) (inr other) =
+        let one : k ≡ j = omega (arith, more, other) in
+        sym at ∙ ap (λ n. get_or w n a) one ∙ there
+
+module _ (s : Setting) (lawful : LawfulSetting s) (t : ℕ) where
+  abbrev m : Program
+  m = s.job.program
+
+  abbrev now : Cuts
+  now = cuts_of s t
+
+  lawful_program : LawfulProgram m
+  lawful_program = lawful.job_is_lawful.program_is_lawful
+
+  module _ (w : List Agent) (whole : AreWhole m w) where
+    abbrev leaves : Agent → Next
+    leaves a = left_or_kept a (becomes s t (said s t w) a)
+
+    -- what is known of an agent that another leaves, as itself or as a child
+    pub record Leaves (a b : Agent) : Type 0 where
+      pub same_id : b.id ≡ a.id
+      pub is_after : IsAfter m a b
+
+    by_heir : (a b : Agent) (c : Class) → class_of m a ≡ Some c → IsHeir c a b → Leaves a b
+    by_heir a b c is heir = record {
+      same_id = heir.same_id;
+      is_after = record { same_class = heir.same_class; is_near = λ d e. subst (λ x. IsNear x a b) (class_is c d (sym is ∙ e)) heir.is_near };
+    }
+
+    by_itself : (a b : Agent) → class_of m a ≡ None → Some a ≡ Some b → Leaves a b
+    by_itself a b is e = subst (Leaves a) (some_is a b e) (record { same_id = refl; is_after = record { same_class = refl; is_near = λ d f. absurd (nothing d (sym is ∙ f)) } })
+      where
+        nothing : (d : Class) → None ≡ Some d → ⊥
+        nothing d e = cc
+
+    agent_by : (o : Option Class) (a : Agent) → Contains w a → class_of m a ≡ o → (totals : List ℤ) (b : Agent) → (left_or_kept a (next_in s.job.seed t o totals a)).agent ≡ Some b → Leaves a b
+    agent_by None a has is totals b e = by_itself a b is e
+    agent_by (Some c) a has is totals b e =
+        by_heir a b c is (agent_is_heir c (has_place m a.class c (lawful_program.classes_are_lawful a.class c is)) a (whole a c has is).has_values s.job.seed t totals b e)
+
+    child_by : (o : Option Class) (a : Agent) → Contains w a → class_of m a ≡ o → (totals : List ℤ) (b : Agent) → (left_or_kept a (next_in s.job.seed t o totals a)).child ≡ Some b → Leaves a b
+    child_by None a has is totals b e = absurd (no_agent b e)
+    child_by (Some c) a has is totals b e =
+        by_heir a b c is (child_is_heir c (has_place m a.class c (lawful_program.classes_are_lawful a.class c is)) a (whole a c has is).has_values s.job.seed t totals b e)
+
+    pub agent_left : (a b : Agent) → Contains w a → (leaves a).agent ≡ Some b → Leaves a b
+    agent_left a b has e = agent_by (class_of m a) a has refl (totals_of (said s t w) a (class_of m a)) b e
+
+    pub child_left : (a b : Agent) → Contains w a → (leaves a).child ≡ Some b → Leaves a b
+    child_left a b has e = child_by (class_of m a) a has refl (totals_of (said s t w) a (class_of m a)) b e
+
+    comes : (a b : Agent) → Contains w a → Leaves a b → ComesAfter m w (b.id, b)
+    comes a b has l = record { from = a; there = has; same_id = sym l.same_id; is_after = l.is_after }
+
+    all_left_each : all_left s t w ≡ map leaves w
+    all_left_each = left_each (becomes s t (said s t w)) w
+
+    next_is : (n k : Next) → Some n ≡ Some k → n ≡ k
+    next_is n k e = cc
+
+    living_after : (b : Agent) → Contains (living (all_left s t w)) b → ComesAfter m w (b.id, b)
+    living_after b has =
+        let one = of_filter_map (λ n. n.agent) (map leaves w) b (subst (λ ns. Contains (living ns) b) all_left_each has) in
+        let two = of_map leaves w one.from one.there in
+        comes two.from b two.there (agent_left two.from b two.there (ap (λ n. n.agent) (next_is (leaves two.from) one.from two.made) ∙ one.made))
+
+    child_after : (b : Agent) → Contains (children (all_left s t w)) b → ComesAfter m w (b.id, b)
+    child_after b has =
+        let one = of_filter_map (λ n. n.child) (map leaves w) b (subst (λ ns. Contains (children ns) b) all_left_each has) in
+        let two = of_map leaves w one.from one.there in
+        comes two.from b two.there (child_left two.from b two.there (ap (λ n. n.child) (next_is (leaves two.from) one.from two.made) ∙ one.made))
+
+    with_id : (b : Agent) (n : ℕ) → ComesAfter m w (b.id, b) → ComesAfter m w (b.id, record b { id = n })
+    with_id b n after = record {
+      from = after.from;
+      there = after.there;
+      same_id = after.same_id;
+      is_after = record {
+        same_class = after.is_after.same_class;
+        is_near = λ c e. let near = after.is_after.is_near c e in record { as_long = near.as_long; along_x = near.along_x; along_y = near.along_y; stays_fit = near.stays_fit };
+      };
+    }
+
+    pair_is : (d e : ℕ × Agent) → Some d ≡ Some e → d ≡ e
+    pair_is d e is = cc
+
+    -- each entry of a descent comes from an agent of the world
+    pub descent_after : (free : ℕ) (d : ℕ × Agent) → Contains (descent s t (record { agents = w; next = free })) d → ComesAfter m w d
+    descent_after free d has =
+        let lives : List Agent = living (all_left s t w) in
+        let kids : List Agent = children (all_left s t w) in
+        let born : List Agent = fitting lives free kids in
+        ⊎_elim
+        (λ alive.
+        let one = of_map (λ a. (a.id, a)) lives d alive in
+        subst (ComesAfter m w) (pair_is (one.from.id, one.from) d one.made) (living_after one.from one.there))
+        (λ new.
+        let one = of_numbered free born d new in
+        subst (ComesAfter m w) (sym one.is) (with_id one.child one.number (child_after one.child (of_take _ kids one.child one.there))))
+        (Contains-append_cases (map (λ a. (a.id, a)) lives) (map (λ p. (p.0.id, p.1)) (zip born (numbered free born))) d has)
+
+  module _ (p : ℕ) (part : p < parts s) where
+    -- what a part gets of an agent that another owned
+    moved_by : (o : Option Class) (a b : Agent) → ((c : Class) → o ≡ Some c → IsWhole c a) → ((c : Class) → o ≡ Some c → IsWhole c b) → ((c : Class) → o ≡ Some c → IsNear c a b)
+        → ((c : Class) → o ≡ Some c → c.reach ≤ℤ greatest_reach m)
+        → list_any (λ q. owns_at now q o a && owns_at now p o b) (p ∷ met s (step Move t) p) ≡ owns_at now p o b
+    moved_by None a b one two near few = covered_none (p ∷ met s (step Move t) p)
+    moved_by (Some c) a b one two near few =
+        let at : IsWhole c a = one c refl in
+        let to : IsWhole c b = two c refl in
+        let way : IsNear c a b = near c refl in
+        let x : ℤ = x_of c a in
+        let y : ℤ = y_of c a in
+        let owner : ℕ = owner_of now x y in
+        covered (meet s (step Move t) p) (parts s + 1) owner p (owns_at now p (Some c) b) (λ own other.
+        let is_part : owner < parts s = owner_is_part s lawful t x y in
+        let here = owner_has s lawful t owner x y (at.values_fit c.x) (at.values_fit c.y) refl in
+        let there = owner_has s lawful t p (x_of c b) (y_of c b) (to.values_fit c.x) (to.values_fit c.y) (eqb-true (owner_of now (x_of c b) (y_of c b)) p own) in
+        let near_x = wider c.reach (range s) (greatest_reach m) (x_of c b) x (few c refl) (turned c.reach x (x_of c b) way.along_x) in
+        let near_y = wider c.reach (range s) (greatest_reach m) (y_of c b) y (few c refl) (turned c.reach y (y_of c b) way.along_y) in
+        (omega (arith, is_part), meets s lawful (step Move t) p owner part other is_part (points_near now p owner (x_of c b) (y_of c b) x y (int_max (range s) (greatest_reach m)) there here near_x near_y)))
+
+  pub few_reach : (a : Agent) (c : Class) → class_of m a ≡ Some c → c.reach ≤ℤ greatest_reach m
+  few_reach a c e = reach_within m.classes (pos 0) a.class c e
+
+  module _ (w : List Agent) (up : RisesById w) where
+    -- whose agents have an id: its owner's
+    pub owner_by_id : (q : ℕ) (a : Agent) → Contains w a → list_any (λ b. b.id == a.id) (owned m now q w) ≡ owns m now q a
+    owner_by_id q a has = by_owner (owns m now q a) refl
+      where
+        by_any : (v : Bool) → list_any (λ b. b.id == a.id) (owned m now q w) ≡ v → owns m now q a ≡ false → v ≡ false
+        by_any false is fails = refl
+        by_any true is fails =
+            let one = of_id (owns m now q) w a.id is in
+            absurd (true≢false (sym one.passes ∙ ap (owns m now q) (one_id w (rises_by_pairs w up) one.agent a one.there has one.same_id) ∙ fails))
+
+        by_owner : (v : Bool) → owns m now q a ≡ v → list_any (λ b. b.id == a.id) (owned m now q w) ≡ v
+        by_owner true is = id_of (owns m now q) w a has is
+        by_owner false is = by_any (list_any (λ b. b.id == a.id) (owned m now q w)) refl is
+
+    comes_is : (d : ℕ × Agent) (after : ComesAfter m w d) (q : ℕ) → comes_from (owned m now q w) d ≡ owns m now q after.from
+    comes_is d after q = ap (λ id. list_any (λ b. b.id == id) (owned m now q w)) (sym after.same_id) ∙ owner_by_id q after.from after.there
+
+  seconds_that : (test : Agent → Bool) (xs : List (ℕ × Agent)) → filter test (map (λ p. p.1) xs) ≡ map (λ p. p.1) (filter (λ d. test d.1) xs)
+  seconds_that test [] = refl
+  seconds_that test (x ∷ xs) = elim (test x.1) as (λ v. cond v (x.1 ∷ filter test (map (λ p. p.1) xs)) (filter test (map (λ p. p.1) xs)) ≡ map (λ p. p.1) (cond v (x ∷ filter (λ d. test d.1) xs) (filter (λ d. test d.1) xs))) [
+    | true ↦ ap (λ rest. x.1 ∷ rest) (seconds_that test xs)
+    | false ↦ seconds_that test xs
+  ]
+
+  seconds_all : (g : ℕ → List (ℕ × Agent)) (ms : List ℕ) → flat_map (λ q. map (λ p. p.1) (g q)) ms ≡ map (λ p. p.1) (flat_map g ms)
+  seconds_all g [] = refl
+  seconds_all g (q ∷ ms) = ap (λ rest. map (λ p. p.1) (g q) ++ rest) (seconds_all g ms) ∙ sym (map-append (λ (p : ℕ × Agent). p.1) (g q) (flat_map g ms))
+
+  module _ (p : ℕ) (part : p < parts s) (world : World) (up : RisesById world.agents) (whole : AreWhole m world.agents) (after : AreWhole m (continued s t world).agents) where
+    abbrev w : List Agent
+    w = world.agents
+
+    abbrev entries : List (ℕ × Agent)
+    entries = descent s t world
+
+    abbrev gives : ℕ → (ℕ × Agent) → Bool
+    gives q d = comes_from (owned m now q w) d && owns m now p d.1
+
+    given_once : (q r : ℕ) (d : ℕ × Agent) → gives q d ≡ true → gives r d ≡ true → q ≡ r
+    given_once q r d e f =
+        let one = of_id (owns m now q) w d.0 (and_parts (comes_from (owned m now q w) d) (owns m now p d.1) e).0 in
+        let two = of_id (owns m now r) w d.0 (and_parts (comes_from (owned m now r w) d) (owns m now p d.1) f).0 in
+        let same = one_id w (rises_by_pairs w up) one.agent two.agent one.there two.there (one.same_id ∙ sym two.same_id) in
+        one_owns m now q r one.agent one.passes (ap (owns m now r) same ∙ two.passes)
+
+    second_there : (xs : List (ℕ × Agent)) (d : ℕ × Agent) → Contains xs d → Contains (map (λ p. p.1) xs) d.1
+    second_there xs d (k, low, is) = (k, omega (arith, low, length-map xs (λ (p : ℕ × Agent). p.1)), get_or-map (λ (p : ℕ × Agent). p.1) xs k d d.1 low ∙ ap (λ (p : ℕ × Agent). p.1) is)
+
+    all_given : (d : ℕ × Agent) → Contains entries d → list_any (λ q. gives q d) (p ∷ met s (step Move t) p) ≡ owns m now p d.1
+    all_given d has =
+        let from = descent_after w whole world.next d has in
+        let ms : List ℕ = p ∷ met s (step Move t) p in
+        let class : Option Class = class_of m from.from in
+        let same : class_of m d.1 ≡ class = ap (slice_get m.classes) from.is_after.same_class in
+        ap (λ (f : ℕ → Bool). list_any (λ q. f q && owns m now p d.1) ms) (λ i q. comes_is w up d from q i)
+        ∙ ap (λ o. list_any (λ q. owns m now q from.from && owns_at now p o d.1) ms) same
+        ∙ moved_by p part class from.from d.1 (λ c e. whole from.from c from.there e) (λ c e. after d.1 c (second_there entries d has) (same ∙ e)) from.is_after.is_near (few_reach from.from)
+        ∙ ap (λ o. owns_at now p o d.1) (sym same)
+
+    moved_parts : (q : ℕ) → right.moved s t q p world ≡ map (λ d. d.1) (filter (gives q) entries)
+    moved_parts q = seconds_that (owns m now p) (filter (comes_from (owned m now q w)) entries) ∙ ap (map (λ d. d.1)) (filter_both (λ d. owns m now p d.1) (comes_from (owned m now q w)) entries)
+
+    pub moved_together : IsPermutation (right.moved s t p p world ++ flat_map (λ q. right.moved s t q p world) (met s (step Move t) p)) (owned m now p (continued s t world).agents)
+    moved_together =
+        let ms : List ℕ = met s (step Move t) p in
+        let lists : List (ℕ × Agent) = filter (gives p) entries ++ flat_map (λ q. filter (gives q) entries) ms in
+        let pieces = flat_map_same (λ q. right.moved s t q p world) (λ q. map (λ d. d.1) (filter (gives q) entries)) moved_parts ms ∙ seconds_all (λ q. filter (gives q) entries) ms in
+        let all = together gives given_once (meet s (step Move t) p) (parts s + 1) p (meets_no_self s (step Move t) p) (λ d. owns m now p d.1) entries all_given in
+        let given : map (λ d. d.1) lists ≡ right.moved s t p p world ++ flat_map (λ q. right.moved s t q p world) ms = map-append (λ (d : ℕ × Agent). d.1) (filter (gives p) entries) (flat_map (λ q. filter (gives q) entries) ms) ∙ sym (ap₂ (λ xs ys. xs ++ ys) (moved_parts p) pieces) in
+        let owned_is : map (λ d. d.1) (filter (λ d. owns m now p d.1) entries) ≡ owned m now p (continued s t world).agents = sym (seconds_that (owns m now p) entries) in
+        subst (λ xs. IsPermutation xs (owned m now p (continued s t world).agents)) given
+        (subst (IsPermutation (map (λ d. d.1) lists)) owned_is (IsPermutation-map (λ (d : ℕ × Agent). d.1) lists (filter (λ d. owns m now p d.1) entries) all))
+
+    pub moved_is : (xs : List Agent) → RisesById (continued s t world).agents → IsSorted (right.moved s t p p world ++ flat_map (λ q. right.moved s t q p world) (met s (step Move t) p)) xs → xs ≡ owned m now p (continued s t world).agents
+    moved_is xs rises sorted =
+        in_order xs (owned m now p (continued s t world).agents) (IsPermutation-trans _ _ _ (IsPermutation-sym _ _ moved_together) sorted.same) sorted.in_order (filter_rises (owns m now p) (continued s t world).agents rises)

@@ -1,0 +1,201 @@
+-- The shares that a part is told stand for all that is said to its agents.
+use Rattle.std.proofs.Common.{◌≡◌, ◌∙◌, refl, sym, ap, ap₂, subst, ℕ, zero, suc, ◌+◌, ◌<◌, ◌≤◌, List, [], ◌∷◌, ◌++◌, map, filter, flat_map, length, Bool, true, false, cond, ◌==◌, Option, Some, None, arith, ⊎_elim, inl, inr}
+use Rattle.std.specs.Prelude.{◌&&◌, slice_get}
+use Rattle.std.specs.List.{Contains}
+use Rattle.std.proofs.lemmas.Bool.{ne_eqb, eqb-true, and_left, and_right, cases_eq}
+use Rattle.std.proofs.lemmas.List.{append-nil, length-map}
+use Rattle.std.proofs.lemmas.List.Concat.{flat_map-append}
+use Rattle.std.proofs.lemmas.List.Elements.{All-contains, Contains-append_cases}
+use Rattle.brace_comb.specs.Totals.{tally_of}
+use Rattle.brace_model.specs.declared.program.Effect.{Effect}
+use Rattle.brace_model.specs.declared.program.Class.{Class}
+use Rattle.brace_model.specs.declared.program.Value.{Value}
+use Rattle.brace_model.specs.declared.program.Program.{Program}
+use Rattle.brace_model.specs.declared.world.Agent.{Agent}
+use Rattle.brace_model.specs.World.{ids, class_of}
+use Rattle.brace_model.specs.Query.{Saying}
+use Rattle.brace_model.specs.Total.{said_to, total_of, totals_from}
+use Rattle.brace_invert.proofs.Sublists.{Rising}
+use Rattle.brace_invert.proofs.Typed.{both_hold}
+use Rattle.brace_invert.proofs.Traces.{none_within}
+use Rattle.brace_pieces.specs.Right.{Share, share_unless_silent, shares_from, shares_to}
+use Rattle.brace_pieces.specs.Heard.{sayings_of, IsShareOf}
+use Rattle.brace_pieces.proofs.Partings.{behind, kept_twice}
+use Rattle.brace_pieces.proofs.Sayings.{joined_twice, said_to-each}
+
+-- ---- the shares of one agent
+
+-- what a share of other sayings says to an effect
+module _ (xs : List Saying) (id k : ℕ) where
+  abbrev values : List Value
+  values = said_to id k xs
+
+  abbrev given : Share → List Value
+  given e = said_to id k (sayings_of xs e)
+
+  none_pass : (t h : Saying → Bool) (ys : List Saying) → ((x : Saying) → h x ≡ true → t x ≡ false) → filter t (filter h ys) ≡ []
+  none_pass t h [] fails = refl
+  none_pass t h (y ∷ ys) fails = (elim (h y) as (λ c. h y ≡ c → filter t (cond c (y ∷ filter h ys) (filter h ys)) ≡ []) [
+    | true ↦ λ is. ap (λ c. cond c (y ∷ filter t (filter h ys)) (filter t (filter h ys))) (fails y is) ∙ none_pass t h ys fails
+    | false ↦ λ is. none_pass t h ys fails
+  ]) refl
+
+  other_target : (e : Share) → (e.target ≡ id → ⊥) → given e ≡ []
+  other_target e other = ap (map (λ x. x.value)) (none_pass (λ x. (x.target == id) && (x.field == k)) (λ x. (x.target == e.target) && (x.field == e.field)) xs (λ x h.
+      let (same, field) = both_hold (x.target == e.target) (x.field == e.field) h in
+      and_left (x.target == id) (x.field == k) (ne_eqb x.target id (λ is. other (sym (eqb-true x.target e.target same) ∙ is)))))
+
+  other_field : (e : Share) → (e.field ≡ k → ⊥) → given e ≡ []
+  other_field e other = ap (map (λ x. x.value)) (none_pass (λ x. (x.target == id) && (x.field == k)) (λ x. (x.target == e.target) && (x.field == e.field)) xs (λ x h.
+      let (target, same) = both_hold (x.target == e.target) (x.field == e.field) h in
+      and_right (x.target == id) (x.field == k) (ne_eqb x.field k (λ is. other (sym (eqb-true x.field e.field same) ∙ is)))))
+
+  this_field : (e : Share) → e.target ≡ id → e.field ≡ k → given e ≡ values
+  this_field e target field =
+      ap₂ (λ i f. map (λ x. x.value) (filter (λ x. (x.target == id) && (x.field == k)) (filter (λ x. (x.target == i) && (x.field == f)) xs))) target field
+      ∙ ap (map (λ x. x.value)) (kept_twice (λ x. (x.target == id) && (x.field == k)) (λ x. (x.target == id) && (x.field == k)) xs (λ x within passes. passes))
+
+  silent_field : (n : ℕ) (e : Effect) → (n ≡ k → ⊥) → (vs : List Value) → flat_map given (share_unless_silent id n e vs) ≡ []
+  silent_field n e other [] = refl
+  silent_field n e other (v ∷ vs) = append-nil _ ∙ other_field (record { target = id; field = n; total = tally_of e.comb (v ∷ vs) }) other
+
+  own_field : (n : ℕ) (e : Effect) → n ≡ k → (vs : List Value) → values ≡ vs → flat_map given (share_unless_silent id n e vs) ≡ values
+  own_field n e same [] is = sym is
+  own_field n e same (v ∷ vs) is = append-nil _ ∙ this_field (record { target = id; field = n; total = tally_of e.comb (v ∷ vs) }) refl same
+
+  above_field : (n : ℕ) (effects : List Effect) → k < n → flat_map given (shares_from n id effects xs) ≡ []
+  above_field n [] low = refl
+  above_field n (e ∷ effects) low =
+      flat_map-append given (share_unless_silent id n e (said_to id n xs)) (shares_from (n + 1) id effects xs)
+      ∙ ap₂ (λ a b. a ++ b) (silent_field n e (λ same. omega (arith, low, same)) (said_to id n xs)) (above_field (n + 1) effects (omega (arith, low)))
+
+  at_field : (n : ℕ) (effects : List Effect) → n ≤ k → k < n + length effects → flat_map given (shares_from n id effects xs) ≡ values
+  at_field n [] low high = absurd (omega (arith, low, high))
+  at_field n (e ∷ effects) low high =
+      flat_map-append given (share_unless_silent id n e (said_to id n xs)) (shares_from (n + 1) id effects xs)
+      ∙ (elim (cases_eq n k) [
+        | inl same ↦
+            ap₂ (λ a b. a ++ b) (own_field n e same (said_to id n xs) (ap (λ j. said_to id j xs) (sym same))) (above_field (n + 1) effects (omega (arith, same)))
+            ∙ append-nil values
+        | inr other ↦
+            ap₂ (λ a b. a ++ b) (silent_field n e other (said_to id n xs)) (at_field (n + 1) effects (omega (arith, low, other)) (omega (arith, high)))
+      ])
+
+  others_shares : (n : ℕ) (other : ℕ) (effects : List Effect) → (other ≡ id → ⊥) → flat_map given (shares_from n other effects xs) ≡ []
+  others_shares n other [] not_it = refl
+  others_shares n other (e ∷ effects) not_it =
+      flat_map-append given (share_unless_silent other n e (said_to other n xs)) (shares_from (n + 1) other effects xs)
+      ∙ ap₂ (λ a b. a ++ b) (one (said_to other n xs)) (others_shares (n + 1) other effects not_it)
+    where
+      one : (vs : List Value) → flat_map given (share_unless_silent other n e vs) ≡ []
+      one [] = refl
+      one (v ∷ vs) = append-nil _ ∙ other_target (record { target = other; field = n; total = tally_of e.comb (v ∷ vs) }) not_it
+
+-- ---- the one agent of an id
+
+all_silent : {A B : Type 0} (f : A → List B) (t : A → Bool) (xs : List A) → ((x : A) → Contains xs x → f x ≡ []) → flat_map f (filter t xs) ≡ []
+all_silent f t [] none = refl
+all_silent f t (x ∷ xs) none = (elim (t x) as (λ c. flat_map f (cond c (x ∷ filter t xs) (filter t xs)) ≡ []) [
+  | true ↦ ap (λ ys. ys ++ flat_map f (filter t xs)) (none x (0, omega arith, refl)) ∙ all_silent f t xs (λ y w. none y (behind x y xs w))
+  | false ↦ all_silent f t xs (λ y w. none y (behind x y xs w))
+])
+
+above_first : (x : Agent) (w : List Agent) (y : Agent) → Rising (ids (x ∷ w)) → Contains w y → x.id < y.id
+above_first x w y r there = All-contains (λ n. x.id < n) (ids w) y.id r.0 (contains_id w y there)
+  where
+    contains_id : (w : List Agent) (y : Agent) → Contains w y → Contains (ids w) y.id
+    contains_id [] y (k, below, is) = absurd (omega (arith, below))
+    contains_id (x ∷ w) y (zero, below, is) = (0, omega arith, ap (λ a. a.id) is)
+    contains_id (x ∷ w) y (suc k, below, is) = behind x.id y.id (ids w) (contains_id w y (k, omega (arith, below), is))
+
+alone : {B : Type 0} (f : Agent → List B) (t : Agent → Bool) (b : Agent) → t b ≡ true → (w : List Agent) → Rising (ids w) → Contains w b → ((x : Agent) → (x.id ≡ b.id → ⊥) → f x ≡ []) → flat_map f (filter t w) ≡ f b
+alone f t b passes [] r (k, below, is) silent = absurd (omega (arith, below))
+alone f t b passes (x ∷ w) r (zero, below, is) silent =
+    ap (λ c. flat_map f (cond c (x ∷ filter t w) (filter t w))) (ap t is ∙ passes)
+    ∙ ap₂ (λ ys zs. ys ++ zs) (ap f is) (all_silent f t w (λ y there. silent y (λ same. let up = above_first x w y r there in omega (arith, up, same, ap (λ a. a.id) is))))
+    ∙ append-nil (f b)
+alone f t b passes (x ∷ w) r (suc k, below, is) silent =
+    let there : Contains w b = (k, omega (arith, below), is) in
+    let up = above_first x w b r there in
+    skip (t x) (silent x (λ same. omega (arith, up, same))) ∙ alone f t b passes w r.1 there silent
+  where
+    skip : (c : Bool) → f x ≡ [] → flat_map f (cond c (x ∷ filter t w) (filter t w)) ≡ flat_map f (filter t w)
+    skip true none = ap (λ ys. ys ++ flat_map f (filter t w)) none
+    skip false none = refl
+
+-- what the shares of some agents say to an effect of one of them is what is said to it
+pub shares_say : (m : Program) (xs : List Saying) (t : Agent → Bool) (w : List Agent) → Rising (ids w) → (b : Agent) → Contains w b → t b ≡ true → (class : Class) → class_of m b ≡ Some class → (k : ℕ) → k < length class.effects
+    → said_to b.id k (flat_map (sayings_of xs) (flat_map (λ a. shares_to xs a (class_of m a)) (filter t w))) ≡ said_to b.id k xs
+shares_say m xs t w r b there passes class is k low =
+    said_to-each b.id k (sayings_of xs) (flat_map (λ a. shares_to xs a (class_of m a)) (filter t w))
+    ∙ joined_twice (given xs b.id k) (λ a. shares_to xs a (class_of m a)) (filter t w)
+    ∙ alone (λ a. flat_map (given xs b.id k) (shares_to xs a (class_of m a))) t b passes w r there (λ x other. silent x other (class_of m x))
+    ∙ ap (λ o. flat_map (given xs b.id k) (shares_to xs b o)) is
+    ∙ at_field xs b.id k 0 class.effects (omega arith) (omega (arith, low))
+  where
+    silent : (x : Agent) → (x.id ≡ b.id → ⊥) → (o : Option Class) → flat_map (given xs b.id k) (shares_to xs x o) ≡ []
+    silent x other None = refl
+    silent x other (Some c) = others_shares xs b.id k 0 x.id c.effects other
+
+-- ---- what a share is
+
+shared_value : (m : Program) (agents : List Agent) (xs : List Saying) (a : Agent) → Contains agents a → (class : Class) → class_of m a ≡ Some class → (n : ℕ) (e : Effect) → slice_get class.effects n ≡ Some e
+    → (g : Share) → Contains (share_unless_silent a.id n e (said_to a.id n xs)) g → IsShareOf m agents xs g
+shared_value m agents xs a there class is n e at g h = (elim (said_to a.id n xs) as (λ vs. said_to a.id n xs ≡ vs → Contains (share_unless_silent a.id n e vs) g → IsShareOf m agents xs g) [
+  | [] ↦ λ same h. none_within (IsShareOf m agents xs g) g h
+  | v ∷ vs ↦ λ same h. only (record { target = a.id; field = n; total = tally_of e.comb (v ∷ vs) }) g
+      (record {
+        agent = a;
+        class = class;
+        effect = e;
+        is_there = there;
+        is_target = refl;
+        has_class = is;
+        has_effect = at;
+        is_total = ap (tally_of e.comb) (sym same);
+        is_heard = λ none. some_heard v vs same none;
+      }) h
+]) refl h
+  where
+    only : (x y : Share) → IsShareOf m agents xs x → Contains (x ∷ []) y → IsShareOf m agents xs y
+    only x y it (zero, below, same) = subst (IsShareOf m agents xs) same it
+    only x y it (suc k, below, same) = absurd (omega (arith, below))
+
+    some_heard : (v : Value) (vs : List Value) → said_to a.id n xs ≡ v ∷ vs → length (filter (λ x. (x.target == a.id) && (x.field == n)) xs) ≡ 0 → ⊥
+    some_heard v vs same none =
+        let long : length (said_to a.id n xs) ≡ suc (length vs) = ap length same in
+        let mapped = length-map (filter (λ x. (x.target == a.id) && (x.field == n)) xs) (λ (x : Saying). x.value) in
+        omega (arith, long, mapped, none)
+
+shared_effects : (m : Program) (agents : List Agent) (xs : List Saying) (a : Agent) → Contains agents a → (class : Class) → class_of m a ≡ Some class → (n : ℕ) (effects : List Effect)
+    → ((k : ℕ) (e : Effect) → slice_get effects k ≡ Some e → slice_get class.effects (n + k) ≡ Some e)
+    → (g : Share) → Contains (shares_from n a.id effects xs) g → IsShareOf m agents xs g
+shared_effects m agents xs a there class is n [] at g h = none_within (IsShareOf m agents xs g) g h
+shared_effects m agents xs a there class is n (e ∷ effects) at g h =
+    ⊎_elim
+    (λ (y : Contains (share_unless_silent a.id n e (said_to a.id n xs)) g). shared_value m agents xs a there class is n e (let zero_more : n + 0 ≡ n = omega arith in subst (λ i. slice_get class.effects i ≡ Some e) zero_more (at 0 e refl)) g y)
+    (λ (y : Contains (shares_from (n + 1) a.id effects xs) g). shared_effects m agents xs a there class is (n + 1) effects
+    (λ k f is. let next : n + suc k ≡ n + 1 + k = omega arith in subst (λ i. slice_get class.effects i ≡ Some f) next (at (suc k) f is)) g y)
+    (Contains-append_cases (share_unless_silent a.id n e (said_to a.id n xs)) (shares_from (n + 1) a.id effects xs) g h)
+
+shared_agent : (m : Program) (agents : List Agent) (xs : List Saying) (a : Agent) → Contains agents a → (o : Option Class) → class_of m a ≡ o → (g : Share) → Contains (shares_to xs a o) g → IsShareOf m agents xs g
+shared_agent m agents xs a there None is g h = none_within (IsShareOf m agents xs g) g h
+shared_agent m agents xs a there (Some c) is g h =
+    shared_effects m agents xs a there c is 0 c.effects (λ k e at. let same : 0 + k ≡ k = omega arith in subst (λ i. slice_get c.effects i ≡ Some e) (sym same) at) g h
+
+-- each share is of an effect of one of the agents
+pub share_is : (m : Program) (agents some : List Agent) (xs : List Saying) → ((a : Agent) → Contains some a → Contains agents a) → (g : Share) → Contains (flat_map (λ a. shares_to xs a (class_of m a)) some) g → IsShareOf m agents xs g
+share_is m agents [] xs there g h = none_within (IsShareOf m agents xs g) g h
+share_is m agents (a ∷ some) xs there g h =
+    ⊎_elim
+    (λ (y : Contains (shares_to xs a (class_of m a)) g). shared_agent m agents xs a (there a (0, omega arith, refl)) (class_of m a) refl g y)
+    (λ (y : Contains (flat_map (λ b. shares_to xs b (class_of m b)) some) g). share_is m agents some xs (λ b w. there b (behind a b some w)) g y)
+    (Contains-append_cases (shares_to xs a (class_of m a)) (flat_map (λ b. shares_to xs b (class_of m b)) some) g h)
+
+-- ---- totals hang on what is said to the effects that a class has
+
+pub totals_within : (n id : ℕ) (effects : List Effect) (xs ys : List Saying) → ((k : ℕ) → n ≤ k → k < n + length effects → said_to id k xs ≡ said_to id k ys) → totals_from n id effects xs ≡ totals_from n id effects ys
+totals_within n id [] xs ys h = refl
+totals_within n id (e ∷ effects) xs ys h =
+    ap₂ (λ t ts. t ∷ ts) (ap (total_of e.comb) (h n (omega arith) (omega arith)))
+    (totals_within (suc n) id effects xs ys (λ k low high. h k (omega (arith, low)) (omega (arith, high))))

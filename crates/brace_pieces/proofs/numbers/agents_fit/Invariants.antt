@@ -1,0 +1,7 @@
+use Rattle.std.proofs.Common.{◌≡◌, take, true}
+use Rattle.std.specs.List.{list_all}
+use Rattle.brace_pieces.specs.Numbers.{agent_fits}
+use Rattle.brace_pieces.proofs.numbers.agents_fit.Given as goal
+
+abbrev pub invariant-loop-agent : goal.invariant-loop-agent
+invariant-loop-agent l = list_all agent_fits (take l.agent-index l.agents) ≡ true

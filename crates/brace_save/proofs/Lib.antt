@@ -1,0 +1,13 @@
+pub mod AgentLines
+pub mod Begins
+pub mod Classes
+pub mod CountLines
+pub mod Ends
+pub mod Feeds
+pub mod Fitting
+pub mod Headings
+pub mod Laws
+pub mod ReadBack
+pub mod Rises
+pub mod Runs
+pub mod Written

@@ -1,0 +1,13 @@
+//! Checkpoints: the world of a tick as a text, and back.
+#![tactic(auto)]
+
+mod kinds;
+mod line;
+mod read;
+#[cfg(test)]
+mod tests;
+mod write;
+
+pub use kinds::{Point, PointFault};
+pub use read::read_checkpoint;
+pub use write::write_checkpoint;
