@@ -4,6 +4,7 @@ use Rattle.std.specs.Prelude.{slice_index, slice_set, ◌==◌}
 use Rattle.std.proofs.lemmas.List.{get_or-set_other, get_or-set_same, set-get_or}
 use mathlib.Core.Option.{some, none, some-injective, some-ne-none}
 use mathlib.Core.Option as maybe
+use Rattle.brace_lanes.specs.declared.table.Hand.{Hand}
 use Rattle.brace_lanes.specs.declared.table.Hand.TheVariants.{ToPut, ToTake}
 use lib.ListN.{get_elem?, length-replicate}
 use Rattle.atomic_table.specs.Table.{Me, State, step, Act, keeps, Allows, Splits, opening as opened}
@@ -64,6 +65,26 @@ module _ {S : Type 0} where
     seen = seen_after n seats made words v a b f la lb;
   }
 
+  -- a view that keeps its counts fits, where they are so of other words
+  refits : (n seats made many : ℕ) (words later : List ℕ) (v : View S) (m : ℕ) (hand : Hand) → Fits n seats made words v → v.number < many → (v.number ≡ 0 → m ≡ many)
+      → ((a b : ℕ) → a < n → b < n → Serves v a → slice_index v.put (place n a b) ≡ put_of n later a b)
+      → ((a b : ℕ) → a < n → b < n → Serves v a → slice_index v.taken (place n a b) ≡ taken_of n later b a)
+      → ((a b : ℕ) → a < n → b < n → Serves v a → slice_index v.seen (place n a b) ≤ put_of n later b a)
+      → Fits n seats many later (record v { made = m; hand = hand })
+  refits n seats made many words later v m hand f below first put taken seen = record {
+    among = f.among;
+    of_seats = f.of_seats;
+    square_put = f.square_put;
+    square_taken = f.square_taken;
+    square_seen = f.square_seen;
+    square_misses = f.square_misses;
+    below = below;
+    first = first;
+    put = put;
+    taken = taken;
+    seen = seen;
+  }
+
   number_looked : (v : View S) (at n : ℕ) → (looked v at n).number ≡ v.number
   number_looked v at n = elim (n == slice_index v.taken at) as (λ hit. (cond hit (record v { seen = slice_set v.seen at n; misses = raised v.misses at }) (record v { seen = slice_set v.seen at n; hand = ToTake at })).number ≡ v.number) [
     | true ↦ refl
@@ -104,19 +125,10 @@ module _ {X S : Type 0} where
       still j u far e =
           let f = k.each j u e in
           let other : (a : ℕ) → Serves u a → a % seats ≢ v.number = λ a serves hit. far (k.alone j id u v e at (sym serves ∙ ap (λ m. a % m) f.of_seats ∙ hit)) in
-          record {
-            among = f.among;
-            of_seats = f.of_seats;
-            square_put = f.square_put;
-            square_taken = f.square_taken;
-            square_seen = f.square_seen;
-            square_misses = f.square_misses;
-            below = f.below;
-            first = f.first;
-            put = λ a b la lb serves. f.put a b la lb serves ∙ sym ((others a b la lb (other a serves)).0);
-            taken = λ a b la lb serves. f.taken a b la lb serves ∙ sym ((others a b la lb (other a serves)).1);
-            seen = λ a b la lb serves. let x = f.seen a b la lb serves in let y = grows b a lb la in omega (arith, x, y);
-          }
+          refits n seats made made s.words words u u.made u.hand f f.below f.first
+          (λ a b la lb serves. f.put a b la lb serves ∙ sym ((others a b la lb (other a serves)).0))
+          (λ a b la lb serves. f.taken a b la lb serves ∙ sym ((others a b la lb (other a serves)).1))
+          (λ a b la lb serves. let x = f.seen a b la lb serves in let y = grows b a lb la in omega (arith, x, y))
 
   -- the same where no word changed
   kept_same : (n seats made : ℕ) (s : State X (View S)) (k : KeptAmong n seats made s) (id : ℕ) (v w : View S) (homes : List (maybe.Option X)) → get_elem? s.views id ≡ some v → w.number ≡ v.number → Fits n seats made s.words w
@@ -144,19 +156,8 @@ module _ {X S : Type 0} where
       → KeptAmong n seats made record { words = s.words; homes = homes; views = set s.views id (claimed v at_lane) }
   kept_claimed n seats made s k id v homes at_lane at =
       let f = k.each id v at in
-      kept_same n seats made s k id v (claimed v at_lane) homes at refl record {
-        among = f.among;
-        of_seats = f.of_seats;
-        square_put = f.square_put;
-        square_taken = f.square_taken;
-        square_seen = f.square_seen;
-        square_misses = f.square_misses;
-        below = f.below;
-        first = f.first;
-        put = f.put;
-        taken = f.taken;
-        seen = f.seen;
-      }
+      kept_same n seats made s k id v (claimed v at_lane) homes at refl
+      (refits n seats made made s.words s.words v v.made (ToPut at_lane) f f.below f.first f.put f.taken f.seen)
 
   pub claim_level : (n seats made : ℕ) (s : State X (View S)) (k : KeptAmong n seats made s) (id : ℕ) (v : View S) (a b : ℕ) → get_elem? s.views id ≡ some v → a < n → b < n → Serves v a → slice_index v.put (place n a b) ≡ slice_index v.taken (place n a b)
       → IsLevel n s.words v a b
@@ -267,36 +268,13 @@ module _ {X S : Type 0} where
       square = length-replicate (v.actors * v.actors) 0 ∙ ap (λ j. j * j) f.among
 
       one_more : Fits n seats (made + 1) s.words (splitting v)
-      one_more = record {
-        among = f.among;
-        of_seats = f.of_seats;
-        square_put = f.square_put;
-        square_taken = f.square_taken;
-        square_seen = f.square_seen;
-        square_misses = f.square_misses;
-        below = let b = f.below in omega arith;
-        first = λ zero. ap (λ j. j + 1) many;
-        put = f.put;
-        taken = f.taken;
-        seen = f.seen;
-      }
+      one_more = refits n seats made (made + 1) s.words s.words v (v.made + 1) v.hand f (let b = f.below in omega (arith, b)) (λ zero. ap (λ j. j + 1) many) f.put f.taken f.seen
 
       others : (j : ℕ) (u : View S) → j ≢ id → get_elem? s.views j ≡ some u → Fits n seats (made + 1) s.words u
       others j u far e =
           let g = k.each j u e in
-          record {
-            among = g.among;
-            of_seats = g.of_seats;
-            square_put = g.square_put;
-            square_taken = g.square_taken;
-            square_seen = g.square_seen;
-            square_misses = g.square_misses;
-            below = let b = g.below in omega arith;
-            first = λ zero. absurd (far (k.alone j id u v e at (zero ∙ sym first)));
-            put = g.put;
-            taken = g.taken;
-            seen = g.seen;
-          }
+          refits n seats made (made + 1) s.words s.words u u.made u.hand g (let b = g.below in omega (arith, b))
+          (λ zero. absurd (far (k.alone j id u v e at (zero ∙ sym first)))) g.put g.taken g.seen
 
       late : (a : ℕ) → a % v.seats ≡ v.made → made ≤ a % seats
       late a serves = let m : a % seats ≡ made = ap (λ j. a % j) (sym f.of_seats) ∙ serves ∙ many in omega (arith, m)

@@ -29,8 +29,8 @@ put_of n words p q = slice_index words (put_word n p q)
 abbrev pub taken_of : ℕ → List ℕ → ℕ → ℕ → ℕ
 taken_of n words p q = slice_index words (taken_word n q p)
 
--- the slot of the name of a lane that so many come before: two a lane, by turns; a lane is told here
--- by its put word
+-- the slot of the name of a lane that so many come before: two a lane, by turns; a lane is told
+-- here by its put word
 abbrev pub slot : ℕ → ℕ → ℕ → ℕ
 slot n lane k = (k % 2) * (n * n) + lane
 

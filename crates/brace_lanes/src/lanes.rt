@@ -37,8 +37,8 @@ fn word_count(actors: usize) -> usize
 
 impl<F: Cargo> Lanes<F> {
     /// Lanes for a setting, on which nothing was put, and their seats by rising number. The seat of
-    /// number s serves the actors whose numbers leave s by the number of seats. The number of actors
-    /// is at most 65 and above every number in the names of the setting's schedule, which has at
+    /// number s serves the actors whose numbers leave s by the number of seats. There are at most
+    /// 65 actors, and more than every number in the names of the setting's schedule, which has at
     /// most 2^40 steps.
     pub fn make(
         alloc: Global,

@@ -6,7 +6,7 @@ ghost use Rattle.brace_lanes.specs.Views.{Serves, newcomer, splitting};
 use crate::cargo::Cargo;
 use crate::lanes::Lanes;
 use crate::steps;
-use crate::table::Place;
+use crate::table::{Place, Way};
 use brace_core::Name;
 use brace_num::NoMemory;
 use std::alloc::Global;
@@ -53,8 +53,9 @@ impl<F: Cargo> LaneSeat<F> {
         })
     }
 
-    /// Puts the piece of a name, the next of its lane, where as many names were put on this lane as
-    /// were taken from the opposite one. Its slot is empty, so this never waits; no memory is taken.
+    /// Puts the piece of a name, the next of its lane, where as many names were put on this lane
+    /// as were taken from the opposite one. Its slot is empty, so this never waits. No memory is
+    /// taken.
     pub fn put(&mut self, lanes: &Lanes<F>, name: Name, piece: F)
         requires lanes { self.old.lanes ≡ lanes.now }
         requires served { Serves self.old.view name.from }
@@ -70,24 +71,22 @@ impl<F: Cargo> LaneSeat<F> {
     {
         let own = name.from as usize;
         let other = name.to as usize;
+        let way = Way {
+            actors: self.actors,
+            own,
+            other,
+        };
         let at = own * self.actors + other;
         let count = self.put[at];
         let slot = (count % 2) as usize * (self.actors * self.actors) + at;
-        steps::claim(&lanes.table, &mut self.place, self.actors, own, other);
+        steps::claim(&lanes.table, &mut self.place, way);
         steps::fill(&lanes.table, &mut self.place, slot, piece);
-        steps::store_put(
-            &lanes.table,
-            &mut self.place,
-            self.actors,
-            own,
-            other,
-            count,
-        );
+        steps::store_put(&lanes.table, &mut self.place, way, count);
         self.put[at] = count + 1;
     }
 
-    /// Takes the piece of a name, the next to be taken of its lane. None where the look of this call
-    /// found no name put behind those that were taken. No memory is taken.
+    /// Takes the piece of a name, the next to be taken of its lane. None where the look of this
+    /// call found no name put behind those that were taken. No memory is taken.
     pub fn take(&mut self, lanes: &Lanes<F>, name: Name) -> Option<F>
         requires lanes { self.old.lanes ≡ lanes.now }
         requires served { Serves self.old.view name.to }
@@ -107,22 +106,20 @@ impl<F: Cargo> LaneSeat<F> {
     {
         let own = name.to as usize;
         let other = name.from as usize;
+        let way = Way {
+            actors: self.actors,
+            own,
+            other,
+        };
         let at = own * self.actors + other;
         let count = self.taken[at];
-        if steps::look(&lanes.table, &mut self.place, self.actors, own, other) == count {
+        if steps::look(&lanes.table, &mut self.place, way) == count {
             return None;
         }
         let lane = other * self.actors + own;
         let slot = (count % 2) as usize * (self.actors * self.actors) + lane;
         let piece = steps::clear(&lanes.table, &mut self.place, slot);
-        steps::store_taken(
-            &lanes.table,
-            &mut self.place,
-            self.actors,
-            own,
-            other,
-            count,
-        );
+        steps::store_taken(&lanes.table, &mut self.place, way, count);
         self.taken[at] = count + 1;
         piece
     }

@@ -1,49 +1,40 @@
 //! The steps of a seat on the words and slots of lanes.
 ghost use Rattle.std.specs.Prelude.{◌≡◌, ◌<◌, ◌+◌, ◌^◌, [], ◌∷◌, None, Some, slice_index};
 ghost use Rattle.brace_lanes.specs.declared.table.Hand.TheVariants.{Empty, ToPut, ToTake};
-ghost use Rattle.brace_lanes.specs.Places.{place, slot};
+ghost use Rattle.brace_lanes.specs.Places.{slot};
 ghost use Rattle.brace_lanes.specs.Views.{has_put, has_taken, newcomer, splitting};
-ghost use Rattle.brace_lanes.specs.inner.Steps.{IsPlaced, IsOut, IsCarried, LooksAt, ClaimsAt};
+ghost use Rattle.brace_lanes.specs.inner.Steps.{forth, back, IsPlaced, IsOut, IsCarried, LooksAt, ClaimsAt};
 
 use crate::cargo::Cargo;
 use crate::plays::{Claim, Cut, Look, StorePut, StoreTaken};
-use crate::table::{LaneTable, Place};
+use crate::table::{LaneTable, Place, Way};
 
 /// How many names of the lane from the other actor to its own were put.
-pub(crate) fn look<F: Cargo>(
-    table: &LaneTable<F>,
-    seat: &mut Place<F>,
-    actors: usize,
-    own: usize,
-    other: usize,
-) -> u64
-    requires placed { IsPlaced table.now.shared.table_id seat.old actors own other }
+pub(crate) fn look<F: Cargo>(table: &LaneTable<F>, seat: &mut Place<F>, way: Way) -> u64
+    requires placed { IsPlaced table.now.shared.table_id seat.old way }
     requires idle { seat.old.me.0.hand ≡ Empty }
     ensures same { (seat.new.table_id ≡ seat.old.table_id) × (seat.new.id ≡ seat.old.id) }
-    ensures looked { LooksAt F.schedule F.right actors (place actors other own)
-        (place actors own other) seat.old.me result seat.new.me }
-{
-    table.shared.load::<Look>(seat, other * actors + own)
-}
-
-/// How many names of the lane from its own actor to the other were taken, before one is put.
-pub(crate) fn claim<F: Cargo>(
-    table: &LaneTable<F>,
-    seat: &mut Place<F>,
-    actors: usize,
-    own: usize,
-    other: usize,
-) -> u64
-    requires placed { IsPlaced table.now.shared.table_id seat.old actors own other }
-    requires idle { seat.old.me.0.hand ≡ Empty }
-    requires answered { slice_index seat.old.me.0.put (place actors own other)
-        ≡ slice_index seat.old.me.0.taken (place actors own other) }
-    ensures same { (seat.new.table_id ≡ seat.old.table_id) × (seat.new.id ≡ seat.old.id) }
-    ensures claimed { ClaimsAt actors (place actors own other) seat.old.me result seat.new.me }
+    ensures looked { LooksAt F.schedule F.right way.actors (back way) (forth way) seat.old.me
+        result seat.new.me }
 {
     table
         .shared
-        .load::<Claim>(seat, actors * actors + (other * actors + own))
+        .load::<Look>(seat, way.other * way.actors + way.own)
+}
+
+/// How many names of the lane from its own actor to the other were taken, before one is put.
+pub(crate) fn claim<F: Cargo>(table: &LaneTable<F>, seat: &mut Place<F>, way: Way) -> u64
+    requires placed { IsPlaced table.now.shared.table_id seat.old way }
+    requires idle { seat.old.me.0.hand ≡ Empty }
+    requires answered { slice_index seat.old.me.0.put (forth way)
+        ≡ slice_index seat.old.me.0.taken (forth way) }
+    ensures same { (seat.new.table_id ≡ seat.old.table_id) × (seat.new.id ≡ seat.old.id) }
+    ensures claimed { ClaimsAt way.actors (forth way) seat.old.me result seat.new.me }
+{
+    table.shared.load::<Claim>(
+        seat,
+        way.actors * way.actors + (way.other * way.actors + way.own),
+    )
 }
 
 /// Puts a piece into the slot that the seat holds, which is empty.
@@ -68,49 +59,37 @@ pub(crate) fn clear<F: Cargo>(table: &LaneTable<F>, seat: &mut Place<F>, place: 
 }
 
 /// One more name of the lane from its own actor to the other is put.
-pub(crate) fn store_put<F: Cargo>(
-    table: &LaneTable<F>,
-    seat: &mut Place<F>,
-    actors: usize,
-    own: usize,
-    other: usize,
-    count: u64,
-)
-    requires placed { IsPlaced table.now.shared.table_id seat.old actors own other }
-    requires count { slice_index seat.old.me.0.put (place actors own other) ≡ count }
-    requires answered { slice_index seat.old.me.0.taken (place actors own other) ≡ count }
+pub(crate) fn store_put<F: Cargo>(table: &LaneTable<F>, seat: &mut Place<F>, way: Way, count: u64)
+    requires placed { IsPlaced table.now.shared.table_id seat.old way }
+    requires count { slice_index seat.old.me.0.put (forth way) ≡ count }
+    requires answered { slice_index seat.old.me.0.taken (forth way) ≡ count }
     requires short { count + 1 < 2 ^ 64 }
-    requires hand { seat.old.me.0.hand ≡ ToPut (place actors own other) }
-    requires piece { IsCarried F.schedule F.right actors (place actors own other) count seat.old.me }
+    requires hand { seat.old.me.0.hand ≡ ToPut (forth way) }
+    requires piece { IsCarried F.schedule F.right way.actors (forth way) count seat.old.me }
     ensures same { (seat.new.table_id ≡ seat.old.table_id) × (seat.new.id ≡ seat.old.id) }
-    ensures put { seat.new.me ≡ (has_put seat.old.me.0 (place actors own other), []) }
+    ensures put { seat.new.me ≡ (has_put seat.old.me.0 (forth way), []) }
 {
     table
         .shared
-        .store::<StorePut>(seat, own * actors + other, count + 1);
+        .store::<StorePut>(seat, way.own * way.actors + way.other, count + 1);
 }
 
 /// One more name of the lane from the other actor to its own is taken.
-pub(crate) fn store_taken<F: Cargo>(
-    table: &LaneTable<F>,
-    seat: &mut Place<F>,
-    actors: usize,
-    own: usize,
-    other: usize,
-    count: u64,
-)
-    requires placed { IsPlaced table.now.shared.table_id seat.old actors own other }
-    requires count { slice_index seat.old.me.0.taken (place actors own other) ≡ count }
-    requires seen { count < slice_index seat.old.me.0.seen (place actors own other) }
+pub(crate) fn store_taken<F: Cargo>(table: &LaneTable<F>, seat: &mut Place<F>, way: Way, count: u64)
+    requires placed { IsPlaced table.now.shared.table_id seat.old way }
+    requires count { slice_index seat.old.me.0.taken (forth way) ≡ count }
+    requires seen { count < slice_index seat.old.me.0.seen (forth way) }
     requires short { count + 1 < 2 ^ 64 }
-    requires hand { seat.old.me.0.hand ≡ ToTake (place actors own other) }
-    requires slot { seat.old.me.1 ≡ (slot actors (place actors other own) count, None) ∷ [] }
+    requires hand { seat.old.me.0.hand ≡ ToTake (forth way) }
+    requires slot { seat.old.me.1 ≡ (slot way.actors (back way) count, None) ∷ [] }
     ensures same { (seat.new.table_id ≡ seat.old.table_id) × (seat.new.id ≡ seat.old.id) }
-    ensures taken { seat.new.me ≡ (has_taken seat.old.me.0 (place actors own other), []) }
+    ensures taken { seat.new.me ≡ (has_taken seat.old.me.0 (forth way), []) }
 {
-    table
-        .shared
-        .store::<StoreTaken>(seat, actors * actors + (own * actors + other), count + 1);
+    table.shared.store::<StoreTaken>(
+        seat,
+        way.actors * way.actors + (way.own * way.actors + way.other),
+        count + 1,
+    );
 }
 
 /// One more seat, behind those that the first has made.

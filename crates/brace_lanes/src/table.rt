@@ -38,6 +38,14 @@ pub struct Plan<S> {
     pub seats: u64,
 }
 
+/// From an actor that a seat serves to another, among so many.
+#[derive(Clone, Copy)]
+pub(crate) struct Way {
+    pub(crate) actors: usize,
+    pub(crate) own: usize,
+    pub(crate) other: usize,
+}
+
 /// The rule of the words, slots and views.
 pub struct LaneRule<F: Cargo> {
     freight: PhantomData<F>,

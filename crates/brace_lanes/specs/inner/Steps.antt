@@ -6,9 +6,17 @@ use Rattle.atomic_table.specs.declared.shared.Seat.{Seat}
 use Rattle.brace_core.specs.declared.name.Name.{Name}
 use Rattle.brace_core.specs.Schedule.{Schedule}
 use Rattle.brace_lanes.specs.declared.table.View.{View}
-use Rattle.brace_lanes.specs.Places.{opposite, slot, slot_count, word_count}
+use Rattle.brace_lanes.specs.declared.table.Way.{Way}
+use Rattle.brace_lanes.specs.Places.{place, opposite, slot, slot_count, word_count}
 use Rattle.brace_lanes.specs.Views.{Serves, looked, claimed, has_put, has_taken}
 use Rattle.brace_lanes.specs.Rule.{IsRightAt}
+
+-- the place of what an actor of a seat does toward the other, and of what the other does toward it
+abbrev pub forth : Way → ℕ
+forth way = place way.actors way.own way.other
+
+abbrev pub back : Way → ℕ
+back way = place way.actors way.other way.own
 
 module _ {F S : Type 0} (schedule : S → Schedule) (right : S → Name → F → Type 0) where
   -- a look at a lane that comes to a place finds at least as many names put as this seat has taken;
@@ -60,13 +68,12 @@ module _ {F S : Type 0} where
       after ≡ (has_taken me.0 (p.word - me.0.actors * me.0.actors), rest me.1)
 
   -- a seat at a table, for a step of an actor that it serves toward another
-  pub record IsPlaced (table : TableId) (seat : Seat (opt F) (View S)) (n own other : ℕ)
-      : Type 0 where
+  pub record IsPlaced (table : TableId) (seat : Seat (opt F) (View S)) (way : Way) : Type 0 where
     pub same : seat.table_id ≡ table
-    pub actors : seat.me.0.actors ≡ n
-    pub few : n ≤ 65
-    pub words : table.words ≡ word_count n
-    pub slots : table.slots ≡ slot_count n
-    pub own_below : own < n
-    pub other_below : other < n
-    pub serves : Serves seat.me.0 own
+    pub actors : seat.me.0.actors ≡ way.actors
+    pub few : way.actors ≤ 65
+    pub words : table.words ≡ word_count way.actors
+    pub slots : table.slots ≡ slot_count way.actors
+    pub own_below : way.own < way.actors
+    pub other_below : way.other < way.actors
+    pub serves : Serves seat.me.0 way.own

@@ -15,7 +15,8 @@ abbrev pub talk : ℕ → Schedule
 talk steps = record { actors = 2; steps = replicate steps both }
 
 -- the seat serves an actor that put and took so many names
-pub record HasTalked {S : Type 0} (v : View S) (setting : S) (own other puts takes : ℕ) : Type 0 where
+pub record HasTalked {S : Type 0} (v : View S) (setting : S) (own other puts takes : ℕ)
+    : Type 0 where
   pub setting_is : v.setting ≡ setting
   pub serves : Serves v own
   pub put : puts_of v own other ≡ puts
