@@ -1,7 +1,8 @@
 #!/usr/bin/env bash
 # Times names on lanes between threads, and writes names a second into docs/PERFORMANCE.md: between
-# two actors on two threads, and in a ring of 16 actors, in which each puts a name to both neighbours
-# and takes one from both in each step, on 16 threads and on as many as there are processors.
+# two actors on two threads, and in a ring of 16 actors, in which each puts a name to both of its
+# neighbours and takes one from both in each step, on 16 threads and on as many as there are
+# processors.
 #
 # The program, bench/lanes/main.txt, is not proved. It is added as a crate to a copy of those below
 # it, and rt compiles it with checks. It reads a monotonic clock before its threads start and behind
