@@ -30,14 +30,8 @@ def machine():
     return f"{model}, {os.cpu_count()} cores, load {os.getloadavg()[0]:.1f}, median of {RUNS} runs"
 
 
-def table(title, unit, rows):
-    """Prints rows (a size, seconds, MiB) with the ratios between them, and puts them under the title on the page."""
-    lines = [f"| {unit} | seconds | MiB | x seconds | x MiB |", "|---|---|---|---|---|"]
-    before = None
-    for size, seconds, mib in rows:
-        ratios = f"{seconds / before[0]:.1f} | {mib / before[1]:.1f}" if before else " | "
-        lines.append(f"| {size:,} | {seconds:.3f} | {mib:.0f} | {ratios} |")
-        before = seconds, mib
+def written(title, lines):
+    """Prints the lines of a table, and puts them under the title on the page."""
     text = f"## {title}\n\n{machine()}\n\n" + "\n".join(lines) + "\n"
     print(text)
     page = "# Performance\n"
@@ -48,3 +42,14 @@ def table(title, unit, rows):
     page = old.sub("", page).rstrip("\n") + "\n\n" + text
     with open(PAGE, "w") as f:
         f.write(page)
+
+
+def table(title, unit, rows):
+    """Writes rows (a size, seconds, MiB) with the ratios between them under the title."""
+    lines = [f"| {unit} | seconds | MiB | x seconds | x MiB |", "|---|---|---|---|---|"]
+    before = None
+    for size, seconds, mib in rows:
+        ratios = f"{seconds / before[0]:.1f} | {mib / before[1]:.1f}" if before else " | "
+        lines.append(f"| {size:,} | {seconds:.3f} | {mib:.0f} | {ratios} |")
+        before = seconds, mib
+    written(title, lines)
