@@ -8,10 +8,9 @@ use Rattle.brace_core.specs.Exchanges.{one_on}
 use Rattle.brace_core.specs.Lanes.{AreBelow}
 use Rattle.brace_core.proofs.Lists.{pick_true, pick_false}
 use Rattle.brace_core.specs.Exchanges.{Follows, IsAnswered}
-use Rattle.atomic_table.specs.Seated.{TableId}
 use Rattle.brace_lanes.specs.declared.table.View.{View}
-use Rattle.brace_lanes.specs.Seats.{IsSameSeat, OnSeat, new_seats, puts_of, takes_of}
-use Rattle.brace_lanes.specs.Views.{Serves, opening}
+use Rattle.brace_lanes.specs.Seats.{IsSameSeat, puts_of, takes_of}
+use Rattle.brace_lanes.specs.Views.{Serves}
 use Rattle.brace_lanes.specs.inner.Talk.{HasTalked, both, talk}
 
 both_below : (p q : ℕ) → meets both p q ≡ true → (p < 2) × (q < 2)
@@ -92,10 +91,3 @@ module _ {S : Type 0} (steps_of : S → ℕ) (v : View S) (setting : S) (own oth
       put = put own other ∙ h.put;
       taken = taken other own ∙ (λ i. h.taken i + cond (is i) (one_here (name m other own) i) 0);
     }
-
-module _ {S : Type 0} (lanes : TableId) (setting : S) where
-  pub first_ready : HasTalked (opening setting 2 2 0 2) setting 0 1 0 0
-  first_ready = record { setting_is = refl; serves = refl; put = refl; taken = refl }
-
-  pub second_ready : HasTalked (opening setting 2 2 1 0) setting 1 0 0 0
-  second_ready = record { setting_is = refl; serves = refl; put = refl; taken = refl }

@@ -6,7 +6,8 @@ ghost use Rattle.brace_lanes.specs.Views.{Serves};
 ghost use Rattle.brace_lanes.specs.inner.Talk.{HasTalked, talk};
 
 use super::*;
-use brace_core::{Freight, Name};
+use brace_core::{Exchange, Freight, Name};
+use brace_num::NoMemory;
 use std::alloc::Global;
 use std::test::Fail;
 use std::thread;
@@ -122,5 +123,37 @@ fn two_seats_on_two_threads_take_10000_names_in_order(rt: HostRuntime) -> Result
     let (one, two) = converse(&rt, rt.alloc(), 10_000)?;
     assert_eq!(rt; one, 10_000);
     assert_eq!(rt; two, 10_000);
+    Ok(())
+}
+
+/// What an end takes behind its own put, where a take before that finds nothing.
+fn put_and_take(alloc: Global) -> Result<Option<Number>, NoMemory> {
+    let setting = Talk { steps: 1 };
+    let (lanes, mut seats) = Lanes::<Number>::make(alloc, &setting, 2, 1)?;
+    let Some(seat) = seats.pop() else {
+        return Ok(None);
+    };
+    let mut end = LaneEnd {
+        seat,
+        lanes: &lanes,
+    };
+    let name = Name {
+        step: 0,
+        from: 0,
+        to: 1,
+    };
+    if end.take(name).is_some() {
+        return Ok(None);
+    }
+    end.put(name, Number(0));
+    Ok(end.take(name))
+}
+
+#[test]
+fn an_end_takes_what_it_put(rt: HostRuntime) -> Result<(), Fail> {
+    let Some(number) = put_and_take(rt.alloc())? else {
+        return Err(Fail::from("nothing was taken"));
+    };
+    assert_eq!(rt; number.0, 0);
     Ok(())
 }
