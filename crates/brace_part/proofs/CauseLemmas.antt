@@ -1,0 +1,92 @@
+-- A cause that a part has is right in each step that is left.
+use Rattle.std.proofs.Common.{◌≡◌, ◌∙◌, refl, sym, ap, subst, ℕ, ◌+◌, ◌<◌, ◌≤◌, ◌⊎◌, List, [], ◌++◌, Bool, true, false, Option, Some, None, arith, inl, inr, ⊎_elim, Contains}
+use Rattle.std.specs.Prelude.{slice_get, if◌then◌else◌}
+use Rattle.std.proofs.lemmas.List.Elements.{Contains-append_cases}
+use Rattle.brace_core.specs.Schedule.{name}
+use Rattle.brace_model.specs.declared.fault.Fault.{Fault}
+use Rattle.brace_model.specs.declared.fault.Phase.TheVariants.{Update}
+use Rattle.brace_model.specs.FaultOrder.{least}
+use Rattle.brace_model.proofs.FaultLemmas.{least_is}
+use Rattle.brace_pieces.specs.declared.setting.Setting.{Setting}
+use Rattle.brace_pieces.specs.declared.setting.Stage.{Stage}
+use Rattle.brace_pieces.specs.declared.setting.Stage.TheVariants as stage
+use Rattle.brace_pieces.specs.declared.setting.Step.{Step}
+use Rattle.brace_pieces.specs.declared.piece.Cause.{Cause}
+use Rattle.brace_pieces.specs.declared.piece.Cause.TheVariants as cause
+use Rattle.brace_pieces.specs.declared.piece.Piece.TheVariants as piece
+use Rattle.brace_pieces.specs.Settings.{LawfulSetting}
+use Rattle.brace_pieces.specs.Steps.{step, steps}
+use Rattle.brace_pieces.specs.Continued.{on}
+use Rattle.brace_pieces.specs.Finds.{queries_found, updates_found, stage_of}
+use Rattle.brace_pieces.specs.Right.{StandsBefore, IsTold, IsRightCause, IsRight, IsRightIn, IsRightAt}
+use Rattle.brace_pieces.proofs.ToldLemmas.{query_told, update_told}
+use Rattle.brace_part.specs.Parts.{found_in_work, cause_of, IsCauseOf}
+use Rattle.brace_part.proofs.StepLemmas.{OfRun, of_run}
+use Rattle.brace_part.proofs.OutLemmas.{right_in}
+
+none_in : (f : Fault) → Contains [] f → ⊥
+none_in f (k, low, e) = omega (arith, low)
+
+fault_is : (c : Cause) (f : Fault) → Some c ≡ cause_of (Some f) → c ≡ cause.Fault f
+fault_is c f e = cc
+
+no_fault : (c : Cause) → Some c ≡ cause_of None → ⊥
+no_fault c e = cc
+
+module _ (s : Setting) (lawful : LawfulSetting s) (p k : ℕ) where
+  before : (st : Stage) (t : ℕ) → slice_get (steps s) k ≡ Some (step st t) → StandsBefore s (step st t) (k + 1)
+  before st t stands = record { place = k; stands_there = stands; before = omega arith }
+
+  updates_told : (st : Stage) (t : ℕ) → slice_get (steps s) k ≡ Some (step st t) → st ≡ stage_of s Update → (f : Fault) → Contains (updates_found s t p (on s t).agents) f → IsTold s (k + 1) f
+  updates_told st t stands is f has = update_told s lawful t p (k + 1) f has (subst (λ x. StandsBefore s (step x t) (k + 1)) is (before st t stands))
+
+  found_told : (st : Stage) (t : ℕ) → slice_get (steps s) k ≡ Some (step st t) → OfRun s st t → (f : Fault) → Contains (found_in_work s p st t) f → IsTold s (k + 1) f
+  found_told stage.Hand t stands run f has = absurd (none_in f has)
+  found_told stage.Border t stands run f has =
+      let updates : List Fault = if s.invert then updates_found s t p (on s t).agents else [] in
+      ⊎_elim (λ (y : Contains (queries_found s t p (on s t).agents) f). query_told s lawful t p (k + 1) f y (before stage.Border t stands))
+      (λ (y : Contains updates f). by_choice s.invert refl y)
+      (Contains-append_cases (queries_found s t p (on s t).agents) updates f has)
+    where
+      by_choice : (b : Bool) → s.invert ≡ b → Contains (if b then updates_found s t p (on s t).agents else []) f → IsTold s (k + 1) f
+      by_choice true is has = updates_told stage.Border t stands (sym (ap (λ c. if c then stage.Border else stage.Effects) is)) f has
+      by_choice false is has = absurd (none_in f has)
+  found_told stage.Effects t stands run f has = updates_told stage.Effects t stands (sym (ap (λ c. if c then stage.Border else stage.Effects) (run.apart refl))) f has
+  found_told stage.Census t stands run f has = absurd (none_in f has)
+  found_told stage.Move t stands run f has = absurd (none_in f has)
+  found_told stage.Show t stands run f has = absurd (none_in f has)
+
+  -- the cause that a work gives is right behind it
+  pub cause_told : (at : Step) → slice_get (steps s) k ≡ Some at → (c : Cause) → IsCauseOf (found_in_work s p at.stage at.tick) c → IsRightCause s (k + 1) c
+  cause_told at stands c (inl is) = by_least (least (found_in_work s p at.stage at.tick)) refl is
+    where
+      by_least : (o : Option Fault) → least (found_in_work s p at.stage at.tick) ≡ o → Some c ≡ cause_of o → IsRightCause s (k + 1) c
+      by_least None e is = absurd (no_fault c is)
+      by_least (Some f) e is =
+          subst (IsRightCause s (k + 1)) (sym (fault_is c f is))
+          (found_told at.stage at.tick stands (of_run s k at stands) f ((least_is (found_in_work s p at.stage at.tick) f).0 e).0)
+  cause_told at stands c (inr none) = subst (IsRightCause s (k + 1)) (sym none) tt
+
+-- ---- a Halt is right where its cause is
+
+halt_at : (s : Setting) (k p q t : ℕ) (c : Cause) (st : Stage) → IsRightCause s k c → IsRightAt s k st t p q (piece.Halt c)
+halt_at s k p q t c stage.Hand right = right
+halt_at s k p q t c stage.Border right = right
+halt_at s k p q t c stage.Effects right = right
+halt_at s k p q t c stage.Census right = right
+halt_at s k p q t c stage.Move right = right
+halt_at s k p q t c stage.Show right = right
+
+at_halt : (s : Setting) (k p q t : ℕ) (c : Cause) (st : Stage) → IsRightAt s k st t p q (piece.Halt c) → IsRightCause s k c
+at_halt s k p q t c stage.Hand right = right
+at_halt s k p q t c stage.Border right = right
+at_halt s k p q t c stage.Effects right = right
+at_halt s k p q t c stage.Census right = right
+at_halt s k p q t c stage.Move right = right
+at_halt s k p q t c stage.Show right = right
+
+pub halt_right : (s : Setting) (k p q : ℕ) (at : Step) (c : Cause) → slice_get (steps s) k ≡ Some at → IsRightCause s k c → IsRight s (name k p q) (piece.Halt c)
+halt_right s k p q at c stands right = right_in s k p q at (piece.Halt c) stands (halt_at s k p q at.tick c at.stage right)
+
+pub right_halt : (s : Setting) (k p q : ℕ) (at : Step) (c : Cause) → slice_get (steps s) k ≡ Some at → IsRight s (name k p q) (piece.Halt c) → IsRightCause s k c
+right_halt s k p q at c stands right = at_halt s k p q at.tick c at.stage (subst (IsRightIn s (name k p q) (piece.Halt c)) stands right)

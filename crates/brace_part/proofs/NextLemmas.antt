@@ -1,0 +1,203 @@
+-- What a part has behind a step is what the next one needs.
+use Rattle.std.proofs.Common.{◌≡◌, ◌∙◌, refl, sym, ap, ap₂, subst, ℕ, zero, suc, ◌+◌, ◌-◌, ◌<◌, ◌≤◌, List, [], ◌∷◌, ◌++◌, filter, Bool, true, false, cond, Option, Some, None, ◌==◌, ◌&&◌, ◌||◌, arith, inl, inr}
+use Rattle.std.specs.Prelude.{slice_get, not, nat_lt, nat_le, if◌then◌else◌, option_map, unwrap_or}
+use Rattle.std.specs.List.{last_or, list_any}
+use Rattle.std.proofs.lemmas.Bool.{cases_lt, cases_eq, cases_Bool, or_parts, true≢false}
+use Rattle.std.proofs.lemmas.Bool.Decides.{nat_tests}
+use Rattle.brace_cuts.specs.declared.plan.CutLine.{CutLine}
+use Rattle.brace_cuts.specs.Space.{no_cuts}
+use Rattle.brace_model.specs.declared.fault.Fault.{Fault}
+use Rattle.brace_model.specs.FaultOrder.{least}
+use Rattle.brace_model.specs.Next.{has_births}
+use Rattle.brace_model.specs.World.{World}
+use Rattle.brace_model.proofs.FaultLemmas.{least_none}
+use Rattle.brace_pieces.specs.declared.setting.Setting.{Setting}
+use Rattle.brace_pieces.specs.declared.setting.Stage.{Stage}
+use Rattle.brace_pieces.specs.declared.setting.Stage.TheVariants as stage
+use Rattle.brace_pieces.specs.declared.setting.Step.{Step}
+use Rattle.brace_pieces.specs.Settings.{cuts_of, cuts_shown, is_end}
+use Rattle.brace_pieces.specs.Steps.{step, is_recut, steps}
+use Rattle.brace_pieces.specs.Continued.{on, birth_faults}
+use Rattle.brace_pieces.specs.Finds.{queries_found, updates_found, finds}
+use Rattle.brace_pieces.specs.Right.{IsFaultless}
+use Rattle.brace_pieces.specs.inner.Walks.{steps_from, ticks_from, behind_effects, behind_move}
+use Rattle.brace_pieces.proofs.WalkLemmas.{next_in, next_of, next_is, is_low, no_tick, first_of_tick, first_behind_tick}
+use Rattle.brace_part.specs.declared.standing.Stance.{Stance}
+use Rattle.brace_part.specs.declared.standing.Stance.TheVariants.{Owns, Hears, Leaves}
+use Rattle.brace_part.specs.Parts.{own_under, own_before, found_in_work}
+use Rattle.brace_part.specs.inner.Ready.{IsReadyFor, IsReady, IsReadyBehind, IsFaultlessBefore, IsFaultlessAt}
+use Rattle.brace_part.proofs.StepLemmas.{OfRun, of_run}
+use Rattle.brace_pieces.proofs.Childless.{no_birth_faults}
+
+-- ---- cuts of a tick at which no line begins
+
+none_here : (a t u : ℕ) → t ≡ u + 1 → (a == t) ≡ false → nat_le a t ≡ nat_le a u
+none_here a t u is other = grind (arith, nat_tests, is, other)
+
+as_before : (lines : List CutLine) (t u : ℕ) → t ≡ u + 1 → list_any (λ line. line.tick == t) lines ≡ false → filter (λ line. nat_le line.tick t) lines ≡ filter (λ line. nat_le line.tick u) lines
+as_before [] t u is none = refl
+as_before (line ∷ lines) t u is none =
+    let (here, rest) = or_parts (line.tick == t) (list_any (λ line. line.tick == t) lines) none in
+    ap₂ (λ c xs. cond c (line ∷ xs) xs) (none_here line.tick t u is here) (as_before lines t u is rest)
+
+pub same_cuts : (s : Setting) (t u : ℕ) → t ≡ u + 1 → list_any (λ line. line.tick == t) s.cuts.lines ≡ false → cuts_of s t ≡ cuts_of s u
+same_cuts s t u is none = ap (λ lines. unwrap_or (option_map (λ line. line.cuts) (last_or None lines)) no_cuts) (as_before s.cuts.lines t u is none)
+
+and_second : (a b : Bool) → a ≡ true → (a && b) ≡ false → b ≡ false
+and_second true b is none = none
+and_second false b is none = absurd (true≢false (sym is))
+
+-- where other cuts hold from a tick on it is not the first
+pub recut_behind : (s : Setting) (t : ℕ) → is_recut s t ≡ true → s.job.first < t
+recut_behind s t is = by_test (nat_lt s.job.first t) refl is
+  where
+    low : nat_lt s.job.first t ≡ true → s.job.first < t
+    low e = grind (arith, nat_tests, e)
+
+    by_test : (v : Bool) → nat_lt s.job.first t ≡ v → (v && list_any (λ line. line.tick == t) s.cuts.lines) ≡ true → s.job.first < t
+    by_test true e is = low e
+    by_test false e is = absurd (true≢false (sym is))
+
+-- where no other cuts hold they are those before
+pub not_recut : (s : Setting) (t u : ℕ) → t ≡ u + 1 → s.job.first ≤ u → is_recut s t ≡ false → cuts_of s t ≡ cuts_of s u
+not_recut s t u is low none =
+    same_cuts s t u is (and_second (nat_lt s.job.first t) (list_any (λ line. line.tick == t) s.cuts.lines) (is_low s.job.first t (omega (arith, is, low))) none)
+
+-- the cuts under which all is shown
+pub shown_behind : (s : Setting) (t u : ℕ) → t ≡ u + 1 → s.job.first ≤ u → cuts_shown s t ≡ cuts_of s u
+shown_behind s t u is low =
+    let back : t - 1 ≡ u = omega (arith, is) in
+    ap (λ c. cuts_of s (if c then t - 1 else s.job.first)) (is_low s.job.first t (omega (arith, is, low))) ∙ ap (cuts_of s) back
+
+pub shown_first : (s : Setting) (t : ℕ) → t ≡ s.job.first → cuts_shown s t ≡ cuts_of s t
+shown_first s t is =
+    let none : nat_lt s.job.first t ≡ false = grind (arith, nat_tests, is) in
+    ap (λ c. cuts_of s (if c then t - 1 else s.job.first)) none ∙ ap (cuts_of s) (sym is)
+
+-- ---- the step behind one
+
+-- what is so of each first step of a tick is so of the first step from that tick on
+pub begins : (s : Setting) (t : ℕ) (Q : Option Step → Type 0) → t ≤ s.job.last
+    → (t < s.job.last → is_recut s t ≡ true → Q (Some (step stage.Hand t)))
+    → (t < s.job.last → is_recut s t ≡ false → Q (Some (step stage.Border t)))
+    → (t ≡ s.job.last → Q None) → Q (slice_get (ticks_from s t) 0)
+begins s t Q high hand border none = elim (cases_lt t s.job.last) [
+  | inl low ↦ subst Q (first_of_tick s t low) (by_test low (is_recut s t) refl)
+  | inr up ↦ subst Q (no_tick s t up) (none (omega (arith, high, up)))
+]
+  where
+    by_test : t < s.job.last → (v : Bool) → is_recut s t ≡ v → Q (if v then Some (step stage.Hand t) else Some (step stage.Border t))
+    by_test low true is = hand low is
+    by_test low false is = border low is
+
+not_last : (s : Setting) (t : ℕ) → t ≡ s.job.last → is_end s t ≡ true
+not_last s t is = grind (arith, nat_tests, is)
+
+pub reaches : (s : Setting) (t : ℕ) (Q : Option Step → Type 0) → t ≤ s.job.last
+    → (is_end s t ≡ true → Q (Some (step stage.Show t)))
+    → (is_end s t ≡ false → is_recut s t ≡ true → Q (Some (step stage.Hand t)))
+    → (is_end s t ≡ false → is_recut s t ≡ false → Q (Some (step stage.Border t)))
+    → Q (slice_get (steps_from s t) 0)
+reaches s t Q high show hand border = subst Q (first_behind_tick s t) (by_test (is_end s t) refl)
+  where
+    by_test : (v : Bool) → is_end s t ≡ v → Q (if v then Some (step stage.Show t) else slice_get (ticks_from s t) 0)
+    by_test true is = show is
+    by_test false is = begins s t Q high (λ low. hand is) (λ low. border is) (λ last. absurd (true≢false (sym (not_last s t last) ∙ is)))
+
+pub behind_low : (s : Setting) (t : ℕ) → t < s.job.last → slice_get (steps_from s (t + 1)) 0 ≡ behind_move s t
+behind_low s t low = sym (ap (λ c. if c then slice_get (steps_from s (t + 1)) 0 else None) (is_low t s.job.last low))
+
+-- ---- what a part has
+
+module _ (s : Setting) (p : ℕ) (childless : has_births s.job.program ≡ false) where
+  pub said_then_moved : behind_effects s ≡ stage.Move
+  said_then_moved = ap (λ c. if c then stage.Census else stage.Move) childless
+
+  moved_ready : (u : ℕ) → s.job.first ≤ u → u < s.job.last → (stance : Stance) → IsReadyBehind s p stage.Move u stance → IsReady s p (behind_move s u) stance
+  moved_ready u low high (Owns own) has =
+      let back : u ≡ u + 1 - 1 = omega arith in
+      subst (λ o. IsReady s p o (Owns own)) (behind_low s u high)
+      (reaches s (u + 1) (λ o. IsReady s p o (Owns own)) (omega (arith, high))
+      (λ ends. has ∙ sym (ap (λ cuts. own_under s p cuts (u + 1)) (shown_behind s (u + 1) u refl low)))
+      (λ other recut. has ∙ ap (λ c. own_under s p (cuts_of s c) (u + 1)) back)
+      (λ other none. has ∙ sym (ap (λ cuts. own_under s p cuts (u + 1)) (not_recut s (u + 1) u refl low none))))
+  moved_ready u low high (Hears agents heard) has = absurd has
+  moved_ready u low high (Leaves left) has = absurd has
+
+  shown_ready : (t : ℕ) → s.job.first ≤ t → t ≤ s.job.last → (stance : Stance) → IsReadyFor s p stage.Show t stance → IsReady s p (slice_get (ticks_from s t) 0) stance
+  shown_ready t low high (Owns own) has =
+      begins s t (λ o. IsReady s p o (Owns own)) high
+      (λ below recut. let first = recut_behind s t recut in has ∙ ap (λ cuts. own_under s p cuts t) (shown_behind s t (t - 1) (omega (arith, first)) (omega (arith, first))))
+      (λ below none. has ∙ ap (λ cuts. own_under s p cuts t) (by_first none))
+      (λ last. subst (λ u. own.items ≡ own_before s p stage.Show u) last has)
+    where
+      by_first : is_recut s t ≡ false → cuts_shown s t ≡ cuts_of s t
+      by_first none = elim (cases_lt s.job.first t) [
+        | inl first ↦ shown_behind s t (t - 1) (omega (arith, first)) (omega (arith, first)) ∙ sym (not_recut s t (t - 1) (omega (arith, first)) (omega (arith, first)) none)
+        | inr other ↦ shown_first s t (omega (arith, other, low))
+      ]
+  shown_ready t low high (Hears agents heard) has = absurd has
+  shown_ready t low high (Leaves left) has = absurd has
+
+  next_ready : (st : Stage) (t : ℕ) → OfRun s st t → (stance : Stance) → IsReadyBehind s p st t stance → IsReady s p (next_in s st t) stance
+  next_ready stage.Hand t run stance has = has
+  next_ready stage.Border t run stance has = subst (λ st. IsReadyFor s p (if s.invert then st else stage.Effects) t stance) (sym said_then_moved) has
+  next_ready stage.Effects t run stance has = subst (λ st. IsReadyFor s p st t stance) (sym said_then_moved) has
+  next_ready stage.Census t run stance has = absurd has
+  next_ready stage.Move t run stance has = moved_ready t run.low (run.below (λ e. absurd (cc))) stance has
+  next_ready stage.Show t run stance has = shown_ready t run.low run.high stance has
+
+  -- what a part has behind its work in a step is what the next one needs
+  pub ready_next : (k : ℕ) (at : Step) → slice_get (steps s) k ≡ Some at → (stance : Stance) → IsReadyBehind s p at.stage at.tick stance → IsReady s p (slice_get (steps s) (k + 1)) stance
+  ready_next k at is stance has = subst (λ o. IsReady s p o stance) (next_is s k at is) (next_ready at.stage at.tick (of_run s k at is) stance has)
+
+  -- ---- which faults it found
+
+  both_none : (xs ys : List Fault) → xs ++ ys ≡ [] → (xs ≡ []) × (ys ≡ [])
+  both_none [] ys e = (refl, e)
+  both_none (x ∷ xs) ys e = absurd (cc)
+
+  found_none : (xs : List Fault) → least xs ≡ None → xs ≡ []
+  found_none xs e = (least_none xs).0 e
+
+  abbrev queries : ℕ → List Fault
+  queries t = queries_found s t p (on s t).agents
+
+  abbrev updates : ℕ → List Fault
+  updates t = updates_found s t p (on s t).agents
+
+  finds_none : (t : ℕ) → queries t ≡ [] → updates t ≡ [] → finds s t p ≡ []
+  finds_none t asked told =
+      ap (λ xs. xs ++ updates t ++ birth_faults s t (on s t)) asked
+      ∙ ap (λ xs. [] ++ xs ++ birth_faults s t (on s t)) told
+      ∙ ap (λ xs. [] ++ [] ++ xs) (no_birth_faults s childless t (on s t))
+
+  one_more : (t : ℕ) → IsFaultless s t p → finds s t p ≡ [] → IsFaultless s (t + 1) p
+  one_more t before here u low high = elim (cases_lt u t) [
+    | inl less ↦ before u low less
+    | inr up ↦ let same : t ≡ u = omega (arith, up, high) in subst (λ v. finds s v p ≡ []) same here
+  ]
+
+  behind_queries : (t : ℕ) (b : Bool) → IsFaultless s t p → least (queries t ++ (if b then updates t else [])) ≡ None → IsFaultlessBefore s p (if b then stage.Move else stage.Effects) t
+  behind_queries t true before none =
+      let (asked, told) = both_none (queries t) (updates t) (found_none (queries t ++ updates t) none) in
+      one_more t before (finds_none t asked told)
+  behind_queries t false before none =
+      let (asked, told) = both_none (queries t) [] (found_none (queries t ++ []) none) in (before, asked)
+
+  next_faultless : (st : Stage) (t : ℕ) → OfRun s st t → IsFaultlessBefore s p st t → least (found_in_work s p st t) ≡ None → IsFaultlessAt s p (next_in s st t)
+  next_faultless stage.Hand t run before none = before
+  next_faultless stage.Border t run before none =
+      subst (λ st. IsFaultlessBefore s p (if s.invert then st else stage.Effects) t) (sym said_then_moved) (behind_queries t s.invert before none)
+  next_faultless stage.Effects t run before none =
+      subst (λ st. IsFaultlessBefore s p st t) (sym said_then_moved) (one_more t before.0 (finds_none t before.1 (found_none (updates t) none)))
+  next_faultless stage.Census t run before none = absurd (true≢false (sym (run.bears refl) ∙ childless))
+  next_faultless stage.Move t run before none =
+      let high = run.below (λ e. absurd (cc)) in
+      subst (IsFaultlessAt s p) (behind_low s t high)
+      (reaches s (t + 1) (IsFaultlessAt s p) (omega (arith, high)) (λ e. before) (λ e r. before) (λ e r. before))
+  next_faultless stage.Show t run before none = begins s t (IsFaultlessAt s p) run.high (λ low r. before) (λ low r. before) (λ last. tt)
+
+  -- a part that found no fault before a step nor in its work found none before the next one
+  pub faultless_next : (k : ℕ) (at : Step) → slice_get (steps s) k ≡ Some at → IsFaultlessBefore s p at.stage at.tick → least (found_in_work s p at.stage at.tick) ≡ None → IsFaultlessAt s p (slice_get (steps s) (k + 1))
+  faultless_next k at is before none = subst (IsFaultlessAt s p) (next_is s k at is) (next_faultless at.stage at.tick (of_run s k at is) before none)

@@ -1,0 +1,140 @@
+-- What holds of a part where it prepared a step.
+use Rattle.std.proofs.Common.{◌≡◌, ◌∙◌, refl, sym, ap, ap₂, subst, ℕ, zero, suc, ◌+◌, ◌-◌, ◌<◌, ◌≤◌, ◌⊎◌, List, [], ◌∷◌, ◌++◌, map, filter, take, drop, length, Bool, true, false, cond, not, ◌&&◌, Option, Some, None, ◌==◌, arith, inl, inr, true≢false}
+use Rattle.std.specs.Prelude.{slice_get, nat_lt, if◌then◌else◌}
+use Rattle.std.specs.List.{range_with_len}
+use Rattle.std.proofs.lemmas.Bool.{cases_lt, ne_eqb, and_right}
+use Rattle.std.proofs.lemmas.Bool.Decides.{nat_tests}
+use Rattle.std.proofs.lemmas.List.Elements.{All-nil}
+use Rattle.brace_core.specs.Schedule.{name}
+use Rattle.brace_pieces.specs.declared.setting.Setting.{Setting}
+use Rattle.brace_pieces.specs.declared.setting.Stage.{Stage}
+use Rattle.brace_pieces.specs.declared.setting.Stage.TheVariants as stage
+use Rattle.brace_pieces.specs.declared.setting.Step.{Step}
+use Rattle.brace_pieces.specs.declared.piece.Piece.{Piece}
+use Rattle.brace_pieces.specs.declared.piece.Piece.TheVariants as piece
+use Rattle.brace_pieces.specs.declared.piece.Shown.{Shown}
+use Rattle.brace_pieces.specs.Settings.{LawfulSetting, parts}
+use Rattle.brace_pieces.specs.Steps.{steps, met, meet, parts_meet, is_show}
+use Rattle.brace_pieces.specs.Right.{IsRightAt}
+use Rattle.brace_pieces.specs.Courses.{OnCourse, met_in, step_of, others_of}
+use Rattle.brace_pieces.proofs.CourseLemmas.{kept_more}
+use Rattle.brace_part.specs.declared.standing.Standing.{Standing}
+use Rattle.brace_part.specs.Parts.{kept_at, keeps_at, keeps_before}
+use Rattle.brace_part.specs.inner.Pieces.{AreOut, AreTaken}
+use Rattle.brace_part.specs.inner.Pieces.AreOut.{none_out, more_out}
+use Rattle.brace_part.specs.inner.Pieces.AreTaken.{none_taken, more_taken}
+use Rattle.brace_part.specs.inner.Ready.{IsReady, IsFaultlessAt, IsFaultlessBefore, brings_to, brings_at, AreKept}
+use Rattle.brace_part.specs.inner.Sound.{GoesOn}
+use Rattle.brace_part.proofs.StepLemmas.{of_run}
+use Rattle.brace_part.proofs.OutLemmas.{right_in}
+use Rattle.brace_part.proofs.ShownLemmas.{kept_is_shown}
+
+-- a part that made no turn in a step goes on where it has what it needs, and what it puts
+pub goes_on : (c : OnCourse) (standing : Standing) → c.made ≡ 0 → IsReady c.setting c.actor (step_of c) standing.stance → IsFaultlessAt c.setting c.actor (step_of c)
+    → AreOut c.setting c.number c.actor (others_of c) standing.out.items → standing.taken.items ≡ [] → standing.shown ≡ keeps_at c.setting c.actor (step_of c) → GoesOn c standing
+goes_on c standing start ready faultless out nothing keeps =
+    let none : 0 ≡ c.made - length (others_of c) = omega (arith, start) in
+    record {
+      ready = ready;
+      faultless = faultless;
+      puts = subst (λ n. AreOut c.setting c.number c.actor (drop n (others_of c)) standing.out.items) (sym start) out;
+      took = subst (λ n. AreTaken c.setting c.number c.actor (take n (others_of c)) standing.taken.items) none (subst (AreTaken c.setting c.number c.actor []) (sym nothing) none_taken);
+      keeps = keeps;
+    }
+
+-- ---- where all is shown
+
+pub none_kept : (f : ℕ → Bool) (n a : ℕ) → ((q : ℕ) → a ≤ q → q < a + n → f q ≡ false) → filter f (range_with_len a n) ≡ []
+none_kept f zero a none = refl
+none_kept f (suc n) a none =
+    ap (λ c. cond c (a ∷ filter f (range_with_len (a + 1) n)) (filter f (range_with_len (a + 1) n))) (none a (omega arith) (omega arith))
+    ∙ none_kept f n (a + 1) (λ q low high. none q (omega (arith, low)) (omega (arith, high)))
+
+pub not_below : (n : ℕ) → nat_lt n n ≡ false
+not_below n = grind (arith, nat_tests)
+
+other_than : (p n : ℕ) → p < n → p ≡ n → ⊥
+other_than p n low e = omega (arith, low, e)
+
+module _ (s : Setting) (p t : ℕ) (part : p < parts s) where
+  abbrev shows : Step
+  shows = record { stage = stage.Show; tick = t }
+
+  is_below : (q n : ℕ) → q < n → nat_lt q n ≡ true
+  is_below q n low = grind (arith, nat_tests, low)
+
+  no_part : (q : ℕ) → q < parts s → meet s shows p q ≡ false
+  no_part q low =
+      ap₂ (λ a b. not (p == q) && (if a && b then false else true)) (is_below p (parts s) part) (is_below q (parts s) low) ∙ and_right (not (p == q)) false refl
+
+  publisher : meet s shows p (parts s) ≡ true
+  publisher =
+      ap₂ (λ a b. not a && (if nat_lt p (parts s) && b then false else true)) (ne_eqb p (parts s) (other_than p (parts s) part)) (not_below (parts s))
+      ∙ ap (λ a. true && (if a && false then false else true)) (is_below p (parts s) part)
+
+  pub met_where_shown : met s shows p ≡ parts s ∷ []
+  met_where_shown =
+      kept_more (meet s shows p) (parts s)
+      ∙ ap₂ (λ xs c. xs ++ cond c (parts s ∷ []) []) (none_kept (meet s shows p) (parts s) 0 (λ q low high. no_part q (omega (arith, high)))) publisher
+
+-- what a part shows is right
+pub shows_right : (s : Setting) (k p : ℕ) (at : Step) (list : List Shown) → LawfulSetting s → p < parts s → slice_get (steps s) k ≡ Some at → at.stage ≡ stage.Show
+    → list ≡ brings_to s p at.stage at.tick → IsFaultlessBefore s p at.stage at.tick → AreOut s k p (met s at p) (piece.Show list ∷ [])
+shows_right s k p at list lawful part stands show brings faultless =
+    let t : ℕ = at.tick in
+    let low = (of_run s k at stands).low in
+    let right : IsRightAt s k stage.Show t p (parts s) (piece.Show list) = record {
+      is_part = part;
+      shown = subst (λ st. list ≡ brings_to s p st t) show brings ∙ kept_is_shown s lawful.plan_is_lawful p t low;
+      faultless = subst (λ st. IsFaultlessBefore s p st t) show faultless;
+    } in
+    let whom : met s at p ≡ parts s ∷ [] = subst (λ st. met s (record { stage = st; tick = t }) p ≡ parts s ∷ []) (sym show) (met_where_shown s p t part) in
+    subst (λ qs. AreOut s k p qs (piece.Show list ∷ [])) (sym whom)
+    (more_out (parts s) [] (piece.Show list) [] (right_in s k p (parts s) at (piece.Show list) stands (subst (λ st. IsRightAt s k st t p (parts s) (piece.Show list)) (sym show) right)) none_out)
+
+-- ---- where it prepared a step
+
+out_none : (s : Setting) (k p : ℕ) (qs : List ℕ) (out : List Piece) → qs ≡ [] → out ≡ [] → AreOut s k p qs out
+out_none s k p qs out none empty = subst (λ rs. AreOut s k p rs out) (sym none) (subst (AreOut s k p []) (sym empty) none_out)
+
+pub goes_nowhere : (c : OnCourse) (standing : Standing) → step_of c ≡ None → c.made ≡ 0 → IsReady c.setting c.actor (step_of c) standing.stance → IsFaultlessAt c.setting c.actor (step_of c)
+    → standing.shown ≡ brings_at c.setting c.actor (step_of c) → standing.out.items ≡ [] → standing.taken.items ≡ [] → GoesOn c standing
+goes_nowhere c standing none start ready faultless brings empty nothing =
+    goes_on c standing start ready faultless
+    (out_none c.setting c.number c.actor (others_of c) standing.out.items (ap (λ o. met_in c.setting o c.actor) none) empty) nothing
+    (brings ∙ ap (brings_at c.setting c.actor) none ∙ sym (ap (keeps_at c.setting c.actor) none))
+
+pub goes_showing : (c : OnCourse) (standing : Standing) (at : Step) (list : List Shown) → LawfulSetting c.setting → c.actor < parts c.setting → step_of c ≡ Some at → at.stage ≡ stage.Show → c.made ≡ 0
+    → IsReady c.setting c.actor (step_of c) standing.stance → IsFaultlessAt c.setting c.actor (step_of c) → list ≡ brings_at c.setting c.actor (step_of c)
+    → standing.out.items ≡ piece.Show list ∷ [] → standing.taken.items ≡ [] → standing.shown ≡ [] → GoesOn c standing
+goes_showing c standing at list lawful part is show start ready faultless brings puts nothing gone =
+    let s : Setting = c.setting in
+    let p : ℕ = c.actor in
+    let out : AreOut s c.number p (met s at p) (piece.Show list ∷ []) =
+    shows_right s c.number p at list lawful part is show (brings ∙ ap (brings_at s p) is) (subst (IsFaultlessAt s p) is faultless) in
+    goes_on c standing start ready faultless
+    (subst (λ qs. AreOut s c.number p qs standing.out.items) (sym (ap (λ o. met_in s o p) is)) (subst (AreOut s c.number p (met s at p)) (sym puts) out)) nothing
+    (gone ∙ sym (ap (keeps_at s p) is ∙ ap (λ st. keeps_before s p st at.tick) show))
+
+brings_keeps : (s : Setting) (p : ℕ) (st : Stage) (t : ℕ) → is_show st ≡ false → brings_to s p st t ≡ keeps_before s p st t
+brings_keeps s p stage.Hand t is = refl
+brings_keeps s p stage.Border t is = refl
+brings_keeps s p stage.Effects t is = refl
+brings_keeps s p stage.Census t is = refl
+brings_keeps s p stage.Move t is = refl
+brings_keeps s p stage.Show t is = absurd (true≢false is)
+
+pub goes_exchanging : (c : OnCourse) (standing : Standing) (at : Step) → step_of c ≡ Some at → is_show at.stage ≡ false → c.made ≡ 0
+    → IsReady c.setting c.actor (step_of c) standing.stance → IsFaultlessAt c.setting c.actor (step_of c) → standing.shown ≡ brings_at c.setting c.actor (step_of c)
+    → AreOut c.setting c.number c.actor (others_of c) standing.out.items → standing.taken.items ≡ [] → GoesOn c standing
+goes_exchanging c standing at is nothing_shown start ready faultless brings out nothing =
+    goes_on c standing start ready faultless out nothing
+    (brings ∙ ap (brings_at c.setting c.actor) is ∙ brings_keeps c.setting c.actor at.stage at.tick nothing_shown ∙ sym (ap (keeps_at c.setting c.actor) is))
+
+pub out_same : (s r : Setting) (k j p q : ℕ) (qs rs : List ℕ) (out : List Piece) → r ≡ s → j ≡ k → q ≡ p → rs ≡ qs → AreOut r j q rs out → AreOut s k p qs out
+out_same s r k j p q qs rs out a b c d h =
+    subst (λ s. AreOut s k p qs out) a (subst (λ k. AreOut r k p qs out) b (subst (λ p. AreOut r j p qs out) c (subst (λ qs. AreOut r j q qs out) d h)))
+
+pub kept_or_gone : (s : Setting) (p : ℕ) (old new : List Shown) → (new ≡ old) ⊎ (new ≡ []) → AreKept s p old → AreKept s p new
+kept_or_gone s p old new (inl same) kept = subst (AreKept s p) (sym same) kept
+kept_or_gone s p old new (inr gone) kept = subst (AreKept s p) (sym gone) (All-nil (λ w. w ≡ kept_at s p w.tick))

@@ -1,0 +1,51 @@
+-- The piece that a part makes for another is right.
+use Rattle.std.proofs.Common.{◌≡◌, ◌∙◌, refl, sym, ap, subst, ℕ, ◌<◌, List, [], ◌∷◌, ◌++◌, map, flat_map, Bool, true, false}
+use Rattle.std.specs.Prelude.{slice_get, if◌then◌else◌}
+use Rattle.brace_model.specs.declared.program.Program.{Program}
+use Rattle.brace_model.specs.declared.fault.Fault.{Fault}
+use Rattle.brace_model.specs.declared.world.Agent.{Agent}
+use Rattle.brace_model.specs.World.{World}
+use Rattle.brace_model.specs.Query.{Saying}
+use Rattle.brace_model.specs.Next.{has_births}
+use Rattle.brace_comb.specs.declared.entry.Entry.{Entry}
+use Rattle.brace_eval.specs.declared.heard.Heard.{Heard}
+use Rattle.brace_eval.specs.Heard.{IsHeard, said_by}
+use Rattle.brace_invert.specs.Split.{forward_program, inverse_program}
+use Rattle.brace_pieces.specs.declared.setting.Setting.{Setting}
+use Rattle.brace_pieces.specs.Settings.{LawfulSetting, cuts_of, parts}
+use Rattle.brace_pieces.specs.Numbers.{NumbersFit}
+use Rattle.brace_pieces.specs.Owned.{owned}
+use Rattle.brace_pieces.specs.Continued.{on}
+use Rattle.brace_pieces.specs.Right.{share_of, shares, moved}
+use Rattle.brace_pieces.specs.Heard.{near}
+use Rattle.brace_pieces.proofs.HeardHere.{StandInside, whole_inside, told_same}
+use Rattle.brace_pieces.proofs.GivenLemmas.{given_is}
+use Rattle.brace_pieces.proofs.OnLemmas.{on_rises, on_whole}
+use Rattle.brace_part.specs.inner.Tables.{said_over, faults_over, shares_in}
+use Rattle.brace_part.specs.inner.Ready.{HearsAsked, own_in, left_in}
+
+module _ (s : Setting) (lawful : LawfulSetting s) (numbers : NumbersFit s) (t p : ℕ) where
+  abbrev world : World
+  world = on s t
+
+  -- what its agents leave for another
+  pub moved_right : (childless : has_births s.job.program ≡ false) (q : ℕ) (left found : List Agent) → left ≡ left_in s p t → found ≡ owned s.job.program (cuts_of s t) q left → found ≡ moved s t p q world
+  moved_right childless q left found is given =
+      given ∙ ap (owned s.job.program (cuts_of s t) q) is
+      ∙ sym (given_is s t lawful world.agents (on_rises s lawful t) (on_whole s lawful numbers t) p childless q world.next)
+
+  pub inside : StandInside s t world.agents
+  inside = whole_inside s lawful t world.agents (on_whole s lawful numbers t)
+
+  -- what it tells another of what its queries say
+  pub told_right : (part : p < parts s) (plain : s.invert ≡ false) (q : ℕ) (held : List Agent) (heard : Heard) (entries : List Entry) → HearsAsked s p t held heard
+      → ((said : List Saying) (faults : List Fault) → IsHeard s.job.program held said faults heard → map share_of entries ≡ shares_in s.job.program (cuts_of s t) q held said)
+      → map share_of entries ≡ shares s t p q world.agents
+  told_right part plain q held heard entries h told =
+      let m : Program = s.job.program in
+      let own : List Agent = own_in s p t in
+      let list : List Agent = near s t p world.agents in
+      told (said_over s t own held) (faults_over s t own held) h.hears
+      ∙ ap (λ l. shares_in m (cuts_of s t) q l (said_over s t own l)) h.holds
+      ∙ ap (λ b. shares_in m (cuts_of s t) q list (if b then (said_by (forward_program m) s.job.seed t list own ++ said_by (inverse_program m) s.job.seed t list list) else said_by m s.job.seed t list own)) plain
+      ∙ sym (told_same s lawful t world.agents inside p part plain (on_rises s lawful t) q)

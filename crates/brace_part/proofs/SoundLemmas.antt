@@ -1,0 +1,138 @@
+-- A part is sound behind each of its turns.
+use Rattle.std.proofs.Common.{◌≡◌, ◌∙◌, refl, sym, ap, subst, ℕ, zero, suc, ◌+◌, ◌-◌, ◌*◌, ◌<◌, ◌≤◌, List, [], ◌∷◌, ◌++◌, take, drop, length, get_or, filter, Bool, true, false, cond, not, ◌&&◌, Option, Some, None, ◌==◌, arith, inl, inr}
+use Rattle.std.specs.Prelude.{slice_get, nat_lt, if◌then◌else◌}
+use Rattle.std.specs.List.{range_with_len}
+use Rattle.std.proofs.lemmas.Bool.{cases_eq, eq-eqb}
+use Rattle.std.proofs.lemmas.List.{length-append, length-take-le}
+use Rattle.brace_core.specs.declared.name.Name.{Name}
+use Rattle.brace_core.specs.Schedule.{name}
+use Rattle.brace_pieces.specs.declared.setting.Setting.{Setting}
+use Rattle.brace_pieces.specs.declared.setting.Step.{Step}
+use Rattle.brace_pieces.specs.declared.piece.Cause.{Cause}
+use Rattle.brace_pieces.specs.declared.piece.Piece.{Piece}
+use Rattle.brace_pieces.specs.declared.piece.Shown.{Shown}
+use Rattle.brace_pieces.specs.Settings.{parts}
+use Rattle.brace_pieces.specs.Steps.{met, meet, parts_meet, is_show}
+use Rattle.brace_pieces.specs.Right.{IsRight}
+use Rattle.brace_pieces.specs.Courses.{OnCourse, met_in, step_of, others_of, gone_on}
+use Rattle.brace_pieces.proofs.CourseLemmas.{goes_within, course_within}
+use Rattle.brace_part.specs.declared.query.Queries.{Queries}
+use Rattle.brace_part.specs.declared.standing.Standing.{Standing}
+use Rattle.brace_part.specs.declared.standing.Stance.{Stance}
+use Rattle.brace_part.specs.Parts.{keeps_at}
+use Rattle.brace_part.specs.inner.Pieces.{AreOut, AreTaken}
+use Rattle.brace_part.specs.inner.Pieces as pieces
+use Rattle.brace_part.specs.inner.Pieces.AreTaken.{none_taken, more_taken}
+use Rattle.brace_part.specs.inner.Ready.{IsReady, AreKept}
+use Rattle.brace_part.specs.inner.Sound.{GoesOn, IsHalted, IsSound}
+use Rattle.brace_part.proofs.OutLemmas.{puts_last, one_taken}
+use Rattle.brace_part.proofs.TurnLemmas.{PutsNext, TakesNext}
+
+abbrev pub one_on : OnCourse → OnCourse
+one_on c = record c { made = c.made + 1 }
+
+pub sound_within : (c : OnCourse) (queries : Queries) (old new : Standing) (was is : Option Cause) (room places : ℕ) → IsSound c queries old was room → c.made < 2 * length (others_of c)
+    → (is ≡ None → GoesOn (one_on c) new) → IsHalted c.setting c.number is → new.shown ≡ old.shown → places ≡ room → IsSound (gone_on c) queries new is places
+sound_within c queries old new was is room places h low goes halted shown same =
+    subst (λ d. IsSound d queries new is places) (sym (goes_within c low)) (record {
+      is_part = h.is_part;
+      course = course_within c h.course low;
+      goes_on = goes;
+      halted = halted;
+      kept = subst (AreKept c.setting c.actor) (sym shown) h.kept;
+      has_room = subst (λ r. parts c.setting ≤ r) (sym same) h.has_room;
+    })
+
+past_all : (n : ℕ) (xs : List ℕ) → length xs ≤ n → drop n xs ≡ []
+past_all zero [] high = refl
+past_all (suc n) [] high = refl
+past_all zero (x ∷ xs) high = absurd (omega (arith, high))
+past_all (suc n) (x ∷ xs) high = past_all n xs (omega (arith, high))
+
+module _ (c : OnCourse) (old new : Standing) (h : GoesOn c old) (stance : new.stance ≡ old.stance) (shown : new.shown ≡ old.shown) where
+  abbrev others : List ℕ
+  others = others_of c
+
+  -- behind a put
+  pub put_goes : (n : Name) → PutsNext c n → (piece : Piece) → old.out.items ≡ new.out.items ++ piece ∷ [] → new.taken.items ≡ old.taken.items → IsRight c.setting n piece × GoesOn (one_on c) new
+  put_goes n turn piece out taken =
+      let low = turn.low in
+      let q : ℕ = get_or others c.made 0 in
+      let (right, left) = puts_last c.setting c.number c.actor others c.made q new.out.items piece low refl (subst (AreOut c.setting c.number c.actor (drop c.made others)) out h.puts) in
+      let none : c.made - length others ≡ c.made + 1 - length others = omega (arith, low) in (
+        subst (λ m. IsRight c.setting m piece) (sym turn.same) right,
+        record {
+          ready = subst (IsReady c.setting c.actor (step_of c)) (sym stance) h.ready;
+          faultless = h.faultless;
+          puts = left;
+          took = subst (λ m. AreTaken c.setting c.number c.actor (take m others) new.taken.items) none (subst (AreTaken c.setting c.number c.actor (take (c.made - length others) others)) (sym taken) h.took);
+          keeps = shown ∙ h.keeps;
+        },
+      )
+
+  -- behind a take
+  pub take_goes : (n : Name) → TakesNext c n → (piece : Piece) → new.out.items ≡ old.out.items → new.taken.items ≡ old.taken.items ++ piece ∷ [] → IsRight c.setting n piece → pieces.GoesOn piece → GoesOn (one_on c) new
+  take_goes n turn piece out taken right goes =
+      let high = turn.high in
+      let i : ℕ = c.made - length others in
+      let more : i + 1 ≡ c.made + 1 - length others = omega (arith, high) in
+      let still : drop c.made others ≡ drop (c.made + 1) others = past_all c.made others high ∙ sym (past_all (c.made + 1) others (omega (arith, high))) in
+      record {
+        ready = subst (IsReady c.setting c.actor (step_of c)) (sym stance) h.ready;
+        faultless = h.faultless;
+        puts = subst (λ qs. AreOut c.setting c.number c.actor qs new.out.items) still (subst (AreOut c.setting c.number c.actor (drop c.made others)) (sym out) h.puts);
+        took = subst (λ m. AreTaken c.setting c.number c.actor (take m others) new.taken.items) more
+            (subst (AreTaken c.setting c.number c.actor (take (i + 1) others)) (sym taken)
+            (one_taken c.setting c.number c.actor others i (get_or others i 0) old.taken.items piece turn.low refl (subst (λ m. IsRight c.setting m piece) turn.same right) goes h.took));
+        keeps = shown ∙ h.keeps;
+      }
+
+-- ---- there is room for all that it takes
+
+kept_row : (f : ℕ → Bool) (n a : ℕ) → length (filter f (range_with_len a n)) ≤ n
+kept_row f zero a = omega arith
+kept_row f (suc n) a = elim (f a) as (λ v. length (cond v (a ∷ filter f (range_with_len (a + 1) n)) (filter f (range_with_len (a + 1) n))) ≤ suc n) [
+  | true ↦ omega (arith, kept_row f n (a + 1))
+  | false ↦ omega (arith, kept_row f n (a + 1))
+]
+
+one_missing : (f : ℕ → Bool) (n a q : ℕ) → a ≤ q → q < a + n → f q ≡ false → length (filter f (range_with_len a n)) + 1 ≤ n
+one_missing f zero a q low high none = absurd (omega (arith, low, high))
+one_missing f (suc n) a q low high none = elim (cases_eq a q) [
+  | inl same ↦ here (ap f same ∙ none)
+  | inr other ↦ there (f a) (one_missing f n (a + 1) q (omega (arith, low, other)) (omega (arith, high)) none)
+]
+  where
+    rest : List ℕ
+    rest = filter f (range_with_len (a + 1) n)
+
+    here : f a ≡ false → length (filter f (range_with_len a (suc n))) + 1 ≤ suc n
+    here lacks = let few = kept_row f n (a + 1) in let same = ap (λ v. length (cond v (a ∷ rest) rest)) lacks in omega (arith, few, same)
+
+    there : (v : Bool) → length rest + 1 ≤ n → length (cond v (a ∷ rest) rest) + 1 ≤ suc n
+    there true few = omega (arith, few)
+    there false few = omega (arith, few)
+
+not_itself : (s : Setting) (at : Step) (p : ℕ) → meet s at p p ≡ false
+not_itself s at p = ap (λ v. not v && (if nat_lt p (parts s) && nat_lt p (parts s) then parts_meet s at p p else is_show at.stage)) (eq-eqb p p refl)
+
+met_few : (s : Setting) (o : Option Step) (p : ℕ) → p < parts s → length (met_in s o p) ≤ parts s
+met_few s None p part = omega arith
+met_few s (Some at) p part = let few = one_missing (meet s at p) (parts s + 1) 0 p (omega arith) (omega (arith, part)) (not_itself s at p) in omega (arith, few)
+
+taken_long : (s : Setting) (k p : ℕ) (qs : List ℕ) (taken : List Piece) → AreTaken s k p qs taken → length taken ≡ length qs
+taken_long s k p qs taken none_taken = refl
+taken_long s k p qs taken (more_taken others pieces q piece h right goes) =
+    let rest = taken_long s k p others pieces h in
+    omega (arith, rest, length-append pieces (piece ∷ []), length-append others (q ∷ []))
+
+-- a part that takes a piece has a place for it
+pub has_place : (c : OnCourse) (standing : Standing) (n : Name) (room : ℕ) → c.actor < parts c.setting → GoesOn c standing → TakesNext c n → parts c.setting ≤ room → length standing.taken.items < room
+has_place c standing n room part h turn places =
+    let others : List ℕ = others_of c in
+    let i : ℕ = c.made - length others in
+    let low = turn.low in
+    let few = met_few c.setting (step_of c) c.actor part in
+    let long = taken_long c.setting c.number c.actor (take i others) standing.taken.items h.took in
+    let taken : length (take i others) ≡ i = length-take-le i others (omega (arith, low)) in
+    omega (arith, long, taken, low, few, places)

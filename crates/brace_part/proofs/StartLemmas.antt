@@ -1,0 +1,106 @@
+-- A part comes to its first step with what that needs.
+use Rattle.std.proofs.Common.{◌≡◌, ◌∙◌, refl, sym, ap, ap₂, subst, ℕ, ◌-◌, ◌<◌, ◌≤◌, List, [], ◌∷◌, ◌++◌, true, false, Option, Some, None, arith, inl, inr}
+use Rattle.std.specs.Prelude.{slice_get, nat_lt, if◌then◌else◌, is_some}
+use Rattle.std.proofs.lemmas.Bool.{cases_lt, true≢false}
+use Rattle.std.proofs.lemmas.Bool.Decides.{nat_tests}
+use Rattle.std.proofs.lemmas.List.Elements.{All-nil}
+use Rattle.brace_model.specs.Next.{has_births}
+use Rattle.brace_pieces.specs.declared.setting.Setting.{Setting}
+use Rattle.brace_pieces.specs.declared.setting.Stage.TheVariants as stage
+use Rattle.brace_pieces.specs.declared.setting.Step.{Step}
+use Rattle.brace_pieces.specs.declared.piece.Shown.{Shown}
+use Rattle.brace_pieces.specs.Settings.{cuts_of, cuts_shown, is_end}
+use Rattle.brace_pieces.specs.Steps.{step, steps}
+use Rattle.brace_pieces.specs.Continued.{continued_after}
+use Rattle.brace_pieces.specs.Owned.{owned}
+use Rattle.brace_pieces.specs.inner.Walks.{ticks_from}
+use Rattle.brace_pieces.proofs.WalkLemmas.{no_tick, first_behind_tick}
+use Rattle.brace_part.specs.declared.standing.Stance.{Stance}
+use Rattle.brace_part.specs.declared.standing.Stance.TheVariants.{Owns, Hears, Leaves}
+use Rattle.brace_part.specs.declared.standing.Standing.{Standing}
+use Rattle.brace_part.specs.Parts.{own_under, kept_at}
+use Rattle.brace_part.specs.inner.Ready.{IsReady, IsReadyFor, IsFaultlessAt, AreKept}
+use Rattle.brace_part.specs.inner.Sound.{ComesTo}
+use Rattle.brace_part.proofs.NextLemmas.{recut_behind, shown_first, reaches}
+use Rattle.brace_part.proofs.ShownLemmas.{is_noted, next_stays, first_noted, brings_first}
+use Rattle.brace_part.proofs.ComesLemmas.{note_of, kept_more}
+
+module _ (s : Setting) (p : ℕ) where
+  abbrev first : ℕ
+  first = s.job.first
+
+  no_end : s.job.last < first → is_end s first ≡ false
+  no_end down = grind (arith, nat_tests, down)
+
+  -- where the last tick is below the first no step is there
+  no_step : s.job.last < first → None ≡ slice_get (steps s) 0
+  no_step down =
+      no_tick s first (omega (arith, down))
+      ∙ sym (ap (λ c. if c then Some (step stage.Show first) else slice_get (ticks_from s first) 0) (no_end down))
+      ∙ first_behind_tick s first
+
+  no_recut : {A : Type 0} → first < first → A
+  no_recut low = absurd (omega (arith, low))
+
+  some_step : first ≤ s.job.last → is_some (slice_get (steps s) 0) ≡ true
+  some_step up = reaches s first (λ o. is_some o ≡ true) up (λ e. refl) (λ e r. refl) (λ e r. refl)
+
+  ready_first : first ≤ s.job.last → (stance : Stance) → IsReadyFor s p stage.Border first stance → IsReady s p (slice_get (steps s) 0) stance
+  ready_first up (Owns own) has =
+      reaches s first (λ o. IsReady s p o (Owns own)) up
+      (λ e. has ∙ sym (ap (λ cuts. own_under s p cuts first) (shown_first s first refl)))
+      (λ e r. no_recut (recut_behind s first r)) (λ e r. has)
+  ready_first up (Hears agents heard) has = absurd has
+  ready_first up (Leaves left) has = absurd has
+
+  ready_last : s.job.last < first → (stance : Stance) → IsReadyFor s p stage.Border first stance → IsReadyFor s p stage.Show s.job.last stance
+  ready_last down (Owns own) has =
+      let none : nat_lt first s.job.last ≡ false = grind (arith, nat_tests, down) in
+      let same : first - first ≡ s.job.last - first = omega (arith, down) in
+      has ∙ ap (λ n. owned s.job.program (cuts_of s first) p (continued_after s n).agents) same
+      ∙ sym (ap (λ c. own_under s p (cuts_of s (if c then s.job.last - 1 else first)) s.job.last) none)
+  ready_last down (Hears agents heard) has = absurd has
+  ready_last down (Leaves left) has = absurd has
+
+  faultless_first : first ≤ s.job.last → IsFaultlessAt s p (slice_get (steps s) 0)
+  faultless_first up =
+      reaches s first (IsFaultlessAt s p) up (λ e t low high. absurd (omega (arith, low, high)))
+      (λ e r. no_recut (recut_behind s first r)) (λ e r t low high. absurd (omega (arith, low, high)))
+
+  module _ (childless : has_births s.job.program ≡ false) where
+    note_first : (stance : Stance) → IsReadyFor s p stage.Border first stance → note_of s first stance ≡ kept_at s p first
+    note_first (Owns own) has =
+        ap₂ (λ agents n. record { tick = first; agents = agents; next = n })
+        (has ∙ sym (ap (λ cuts. own_under s p cuts first) (shown_first s first refl)))
+        (sym (next_stays s childless first (omega arith)))
+    note_first (Hears agents heard) has = absurd has
+    note_first (Leaves left) has = absurd has
+
+    -- a part that owns its agents of the first tick, and noted them where a step is there
+    pub comes_first : (standing : Standing) → IsReadyFor s p stage.Border first standing.stance
+        → (is_some (slice_get (steps s) 0) ≡ true → standing.shown ≡ (if is_noted s first then note_of s first standing.stance ∷ [] else []))
+        → (is_some (slice_get (steps s) 0) ≡ false → standing.shown ≡ []) → ComesTo s p 0 (slice_get (steps s) 0) standing
+    comes_first standing has noted none = elim (cases_lt s.job.last first) [
+      | inl down ↦ subst (λ o. ComesTo s p 0 o standing) (no_step down) (record {
+        ready = ready_last down standing.stance has;
+        faultless = tt;
+        brings = none (ap is_some (sym (no_step down)));
+      })
+      | inr up ↦ record {
+        ready = ready_first up standing.stance has;
+        faultless = faultless_first up;
+        brings = brings_first s childless p standing.shown
+            (noted (some_step up) ∙ first_noted s childless p (note_of s first standing.stance) (note_first standing.stance has)) up;
+      }
+    ]
+
+    -- and all that it keeps is its part of that world
+    pub kept_first : (stance : Stance) (shown : List Shown) → IsReadyFor s p stage.Border first stance
+        → shown ≡ (if is_noted s first then note_of s first stance ∷ [] else []) → AreKept s p shown
+    kept_first stance shown has noted =
+        subst (AreKept s p) (sym noted)
+        (kept_more s p [] (note_of s first stance) (is_noted s first) (All-nil (λ w. w ≡ kept_at s p w.tick)) (note_first stance has))
+
+-- what is added to nothing is all
+pub from_none : {A : Type 0} (old new more : List A) → old ≡ [] → new ≡ old ++ more → new ≡ more
+from_none old new more none is = is ∙ ap (λ l. l ++ more) none

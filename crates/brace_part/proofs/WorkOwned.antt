@@ -1,0 +1,59 @@
+-- What a part holds and owns behind what it took in a step.
+use Rattle.std.proofs.Common.{◌≡◌, ◌∙◌, sym, ap, ap₂, subst, ℕ, ◌+◌, ◌-◌, List, ◌++◌, flat_map}
+use Rattle.brace_model.specs.declared.world.Agent.{Agent}
+use Rattle.brace_model.specs.World.{World, RisesById}
+use Rattle.brace_cuts.specs.declared.space.Cuts.{Cuts}
+use Rattle.brace_pieces.specs.declared.setting.Setting.{Setting}
+use Rattle.brace_pieces.specs.declared.setting.Stage.TheVariants as stage
+use Rattle.brace_pieces.specs.declared.piece.Piece.{Piece}
+use Rattle.brace_pieces.specs.Settings.{cuts_of}
+use Rattle.brace_pieces.specs.Steps.{step, met}
+use Rattle.brace_pieces.specs.Owned.{owned}
+use Rattle.brace_pieces.specs.Continued.{continued, on}
+use Rattle.brace_pieces.specs.Together.{AreWhole, IsSorted}
+use Rattle.brace_pieces.specs.Heard.{near}
+use Rattle.brace_pieces.proofs.HeldLemmas.{held_is, handed_is}
+use Rattle.brace_pieces.proofs.MoveLemmas.{moved_is}
+use Rattle.brace_pieces.proofs.GivenLemmas.{given_is}
+use Rattle.brace_pieces.proofs.OnLemmas.{on_next}
+use Rattle.brace_part.specs.declared.work.Worker.{Worker}
+use Rattle.brace_part.specs.inner.Pieces.{brought}
+use Rattle.brace_part.specs.inner.Ready.{own_in, left_in}
+use Rattle.brace_part.specs.inner.Sound.{IsWorker, IsWork}
+use Rattle.brace_part.proofs.WorkTaken.{borders_bring, hands_bring, moves_bring}
+use Rattle.brace_part.proofs.WorkHeard.{step_ticks, rises, whole}
+
+module _ (worker : Worker) (part : IsWorker worker) (t : ℕ) (pieces : List Piece) (mine all : List Agent) (sorted : IsSorted (mine ++ flat_map brought pieces) all) where
+  abbrev s : Setting
+  s = worker.setting.now
+
+  abbrev now : Cuts
+  now = cuts_of s t
+
+  -- the sorted list, of its parts by other names
+  renamed : (own others : List Agent) → mine ≡ own → flat_map brought pieces ≡ others → IsSorted (own ++ others) all
+  renamed own others first rest = subst (λ xs. IsSorted xs all) (ap₂ (λ xs ys. xs ++ ys) first rest) sorted
+
+  pub holds_near : IsWork worker stage.Border t pieces → mine ≡ own_in s worker.part t → all ≡ near s t worker.part (on s t).agents
+  holds_near work same =
+      let brings = borders_bring s worker.number worker.part t work.stands (met s (step stage.Border t) worker.part) pieces work.took in
+      held_is s part.lawful worker.part part.is_part t (on s t).agents all (rises worker part t) (whole worker part t) (renamed _ _ same brings)
+
+  pub owns_recut : IsWork worker stage.Hand t pieces → (own : List Agent) → mine ≡ owned s.job.program now worker.part own → own ≡ owned s.job.program (cuts_of s (t - 1)) worker.part (on s t).agents → all ≡ owned s.job.program now worker.part (on s t).agents
+  owns_recut work own kept same =
+      let brings = hands_bring s worker.number worker.part t work.stands (met s (step stage.Hand t) worker.part) pieces work.took in
+      handed_is s part.lawful worker.part part.is_part t (on s t).agents all (rises worker part t) (whole worker part t) (renamed _ _ (kept ∙ ap (owned s.job.program now worker.part) same) brings)
+
+  pub owns_next : IsWork worker stage.Move t pieces → (left : List Agent) → mine ≡ owned s.job.program now worker.part left → left ≡ left_in s worker.part t → all ≡ owned s.job.program now worker.part (on s (t + 1)).agents
+  owns_next work left kept same =
+      let world : World = on s t in
+      let up = rises worker part t in
+      let on_all = whole worker part t in
+      let next : on s (t + 1) ≡ continued s t world = on_next s t (step_ticks s worker.number t stage.Move (λ e. absurd (cc)) work.stands).0 in
+      let given = kept ∙ ap (owned s.job.program now worker.part) same ∙ sym (given_is s t part.lawful world.agents up on_all worker.part part.childless worker.part world.next) in
+      let brings = moves_bring s worker.number worker.part t work.stands (met s (step stage.Move t) worker.part) pieces work.took in
+      moved_is s part.lawful t worker.part part.is_part world up on_all
+      (subst (λ w. AreWhole s.job.program w.agents) next (whole worker part (t + 1))) all
+      (subst (λ w. RisesById w.agents) next (rises worker part (t + 1)))
+      (renamed _ _ given brings)
+      ∙ sym (ap (λ w. owned s.job.program now worker.part w.agents) next)

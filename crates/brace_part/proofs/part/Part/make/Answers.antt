@@ -1,0 +1,65 @@
+use Rattle.std.proofs.Common.{rules, ◌≡◌, ◌∙◌, ◌≤◌, sym, ap, subst, [], ◌∷◌, true, false, if◌then◌else◌, arith}
+use Rattle.std.specs.Prelude.{slice_get, is_some}
+use Rattle.std.specs.Vec.{vec_capacity}
+use Rattle.std.proofs.lemmas.Bool.{true≢false}
+use Rattle.std.proofs.lemmas.List.Elements.{All-nil}
+use Rattle.brace_pieces.specs.declared.setting.Stage.TheVariants as stage
+use Rattle.brace_pieces.specs.Settings.{parts}
+use Rattle.brace_pieces.specs.Steps.{steps}
+use Rattle.brace_pieces.specs.Courses.{OnCourse, IsCourse, step_of}
+use Rattle.brace_part.specs.declared.standing.Stance.TheVariants.{Owns}
+use Rattle.brace_part.specs.declared.standing.Standing.{Standing}
+use Rattle.brace_part.specs.Parts.{kept_at}
+use Rattle.brace_part.specs.inner.Ready.{IsReadyFor, AreKept}
+use Rattle.brace_part.specs.inner.Sound.{IsPartOf, ComesTo}
+use Rattle.brace_part.proofs.ShownLemmas.{is_noted}
+use Rattle.brace_part.proofs.ComesLemmas.{note_of}
+use Rattle.brace_part.proofs.StartLemmas.{comes_first, kept_first, from_none}
+use Rattle.brace_part.proofs.part.Part.make.Goals as goal
+use Rattle.brace_part.proofs.part.Part.make.Goals.{then-is_some+in_ok-note, else-is_some}
+
+pub prepare-requires-clause-comes : goal.prepare-requires-clause-comes
+prepare-requires-clause-comes c =
+    let s = c.args.setting.now in
+    let start = c.in_ok-course.ensures.start in
+    let some_is : c.is_some.result ≡ is_some (slice_get (steps s) 0) = c.is_some.ensures ∙ ap is_some (c.step.ensures ∙ ap step_of start) in
+    subst (λ (d : OnCourse). ComesTo d.setting d.actor d.number (step_of d) c.if-is_some.standing) (sym start)
+    (elim c.if-is_some.branch [
+      | then-is_some+in_ok-note w ↦ subst (ComesTo s c.args.p 0 (slice_get (steps s) 0)) (sym w.standing-is)
+          (comes_first s c.args.p c.requires.childless _ c.requires.owns (λ some. from_none _ _ _ c.new-2.ensures w.in_ok-note.ensures.noted)
+          (λ none. absurd (true≢false (sym w.if-is_some.true ∙ some_is ∙ none))))
+      | else-is_some w ↦ subst (ComesTo s c.args.p 0 (slice_get (steps s) 0)) (sym w.standing-is)
+          (comes_first s c.args.p c.requires.childless _ c.requires.owns (λ some. absurd (true≢false (sym some ∙ sym some_is ∙ w.if-is_some.false)))
+          (λ none. c.new-2.ensures))
+    ])
+
+pub invariant_of-result : goal.invariant_of-result
+invariant_of-result c =
+    let s = c.args.setting.now in
+    let p = c.args.p in
+    let start = c.in_ok-course.ensures.start in
+    let kept : AreKept s p c.if-is_some.standing.shown = elim c.if-is_some.branch [
+      | then-is_some+in_ok-note w ↦ subst (λ (x : Standing). AreKept s p x.shown) (sym w.standing-is)
+          (kept_first s p c.requires.childless (Owns c.args.owned) w.note.new.shown c.requires.owns (from_none _ _ _ c.new-2.ensures w.in_ok-note.ensures.noted))
+      | else-is_some w ↦ subst (λ (x : Standing). AreKept s p x.shown) (sym w.standing-is) (subst (AreKept s p) (sym c.new-2.ensures) (All-nil (λ w. w ≡ kept_at s p w.tick)))
+    ] in
+    let taken : c.if-is_some.standing.taken ≡ c.in_ok-with_capacity.field-0 = elim c.if-is_some.branch [
+      | then-is_some+in_ok-note w ↦ ap (λ (x : Standing). x.taken) w.standing-is
+      | else-is_some w ↦ ap (λ (x : Standing). x.taken) w.standing-is
+    ] in
+    let places : parts s ≤ vec_capacity c.in_ok-with_capacity.field-0 = search rules in
+    record {
+      is_part = subst (λ (d : OnCourse). IsPartOf d.setting d.actor c.in_ok-queries.queries) (sym start) (record {
+        lawful = c.requires.lawful;
+        numbers = c.numbers_fit.ensures;
+        childless = c.requires.childless;
+        is_part = c.requires.is_part;
+        queries_are = c.in_ok-queries.ensures;
+      });
+      course = subst IsCourse (sym start) (record { is_actor = omega (arith, c.requires.is_part); before_work = omega arith });
+      goes_on = λ e. c.in_ok-prepare.ensures.goes_on;
+      halted = tt;
+      kept = c.prepare.ensures.kept (subst (λ (d : OnCourse). AreKept d.setting d.actor c.if-is_some.standing.shown) (sym start) kept);
+      has_room = subst (λ (d : OnCourse). parts d.setting ≤ vec_capacity c.prepare.new.standing.taken) (sym start)
+          (subst (λ t. parts s ≤ vec_capacity t) (sym (c.in_ok-prepare.ensures.taken ∙ taken)) places);
+    }

@@ -1,0 +1,51 @@
+use Rattle.std.proofs.Common.{rules, ◌≡◌, ◌∙◌, ◌+◌, ◌++◌, sym, ap, subst, [], ◌∷◌, None, arith, if◌then◌else◌}
+use Rattle.std.specs.Prelude.{slice_get}
+use Rattle.brace_model.specs.FaultOrder.{least}
+use Rattle.brace_pieces.specs.declared.setting.Stage.TheVariants as stage
+use Rattle.brace_pieces.specs.declared.setting.Setting.{Setting}
+use Rattle.brace_pieces.specs.Steps.{steps}
+use Rattle.brace_part.specs.declared.standing.Standing.{Standing}
+use Rattle.brace_part.specs.Parts.{found_in_work}
+use Rattle.brace_part.specs.inner.Ready.{IsReadyBehind, AreKept}
+use Rattle.brace_part.specs.inner.Sound.{ComesTo}
+use Rattle.brace_part.proofs.StepLemmas.{of_run}
+use Rattle.brace_part.proofs.ShownLemmas.{is_noted}
+use Rattle.brace_part.proofs.ComesLemmas.{note_of, comes_next, kept_there}
+use Rattle.brace_part.proofs.part.advance.Goals as goal
+
+pub note_next-requires : goal.note_next-requires
+note_next-requires c =
+    let high = (of_run c.args.course.now.setting c.args.number c.args.at c.requires.work.stands).high in
+    let last = c.requires.part.lawful.job_is_lawful.last_in_range in
+    omega (arith, high, last)
+
+pub prepare-requires-clause-comes : goal.prepare-requires-clause-comes
+prepare-requires-clause-comes c =
+    let s = c.args.course.now.setting in
+    let p = c.args.course.now.actor in
+    let at = c.args.at in
+    let st = c.in_ok-standing.field-0 in
+    let old = c.args.standing.now in
+    let has = subst (λ r. IsReadyBehind r p at.stage at.tick st) c.setting.ensures.setting (subst (λ q. IsReadyBehind c.setting.result.now q at.stage at.tick st) c.actor.ensures.actor c.in_ok-standing.ensures.ready) in
+    let none = subst (λ r. least (found_in_work r p at.stage at.tick) ≡ None) c.setting.ensures.setting (subst (λ q. least (found_in_work c.setting.result.now q at.stage at.tick) ≡ None) c.actor.ensures.actor c.in_ok-standing.ensures.passes) in
+    let moved = λ (m : at.stage ≡ stage.Move). subst (λ (r : Setting). c.note_next.new.shown ≡ old.shown ++ (if is_noted r (at.tick + 1) then note_of r (at.tick + 1) st ∷ [] else [])) c.setting-2.ensures.setting (c.in_ok-note_next.ensures.moved m) in
+    let new : Standing = record { stance = st; out = old.out; taken = c.clear.new.self; shown = c.note_next.new.shown; counts = old.counts } in
+    subst (λ n. ComesTo s p n (slice_get (steps s) n) new) (sym c.requires.behind)
+    (comes_next s p c.args.queries.now c.requires.part c.args.number at old c.requires.work new has none moved c.in_ok-note_next.ensures.stays)
+
+pub returns-in_err-prepare-clause-kept : goal.returns-in_err-prepare-clause-kept
+returns-in_err-prepare-clause-kept c =
+    c.prepare.ensures.kept
+    (kept_there c.args.course.now.setting c.args.course.now.actor c.args.queries.now c.requires.part c.args.number c.args.at c.args.standing.now c.requires.work c.requires.kept
+    c.setting.result.now c.setting-2.result.now c.actor.result c.in_ok-standing.field-0 c.note_next.new.shown c.setting.ensures.setting c.setting-2.ensures.setting c.actor.ensures.actor
+    c.in_ok-standing.ensures.ready c.in_ok-note_next.ensures.moved c.in_ok-note_next.ensures.stays)
+
+pub returns-clause-kept : goal.returns-clause-kept
+returns-clause-kept c =
+    c.prepare.ensures.kept
+    (kept_there c.args.course.now.setting c.args.course.now.actor c.args.queries.now c.requires.part c.args.number c.args.at c.args.standing.now c.requires.work c.requires.kept
+    c.setting.result.now c.setting-2.result.now c.actor.result c.in_ok-standing.field-0 c.note_next.new.shown c.setting.ensures.setting c.setting-2.ensures.setting c.actor.ensures.actor
+    c.in_ok-standing.ensures.ready c.in_ok-note_next.ensures.moved c.in_ok-note_next.ensures.stays)
+
+pub returns-in_err-note_next-clause-kept : goal.returns-in_err-note_next-clause-kept
+returns-in_err-note_next-clause-kept c = subst (AreKept c.args.course.now.setting c.args.course.now.actor) (sym c.in_err-note_next.ensures.kept) c.requires.kept

@@ -1,0 +1,28 @@
+use Rattle.std.proofs.Common.{◌≡◌, ◌∙◌, sym, ap, subst, inl, IfErr, rules}
+use Rattle.brace_model.specs.FaultOrder.{least}
+use Rattle.brace_pieces.specs.declared.setting.Stage.TheVariants as stage
+use Rattle.brace_part.specs.Parts.{IsCauseOf, cause_of}
+use Rattle.brace_part.specs.inner.Ready.{HearsAll}
+use Rattle.brace_part.proofs.WorkHeard.{asked_all, asked_least, query_is_least, found_inverted, found_plain, tick_fits}
+use Rattle.brace_part.proofs.work.Worker.behind_queries.Goals as goal
+
+pub returns-in-Some-clause-faulted : goal.returns-in-Some-clause-faulted
+returns-in-Some-clause-faulted c = inl (sym (ap cause_of (query_is_least c.args.self.now c.requires.worker c.args.tick c.in-Some.fault (sym (asked_least c.args.self.now c.requires.worker c.args.tick c.in_ok-held.held.items c.in_ok-held.heard c.in_ok-held.ensures.heard) ∙ c.in-Some.is))))
+
+pub update-requires-clause-ticks : goal.update-requires-clause-ticks
+update-requires-clause-ticks c = tick_fits c.args.self.now c.requires.worker c.args.tick stage.Border (λ e. absurd (cc)) c.requires.work.stands
+
+pub update-requires-clause-heard : goal.update-requires-clause-heard
+update-requires-clause-heard c =
+    subst (λ xs. HearsAll c.args.self.now.setting.now c.args.self.now.part c.args.tick xs c.in_ok-held.heard) (sym c.deref.ensures.value) (asked_all c.args.self.now c.requires.worker c.args.tick c.if-self.true c.in_ok-held.held.items c.in_ok-held.heard c.in_ok-held.ensures.heard)
+
+pub returns-in_err-update-clause-faulted : goal.returns-in_err-update-clause-faulted
+returns-in_err-update-clause-faulted c =
+    subst (λ found. IfErr c.from_residual-in_err-update.result (IsCauseOf found)) (sym (found_inverted c.args.self.now c.requires.worker c.args.tick c.if-self.true (sym (asked_least c.args.self.now c.requires.worker c.args.tick c.in_ok-held.held.items c.in_ok-held.heard c.in_ok-held.ensures.heard) ∙ c.in_default.is)))
+    (search (c.in_err-update.ensures, c.from_residual-in_err-update.ensures, rules))
+
+pub returns-then-self-clause-passes : goal.returns-then-self-clause-passes
+returns-then-self-clause-passes c = ap least (found_inverted c.args.self.now c.requires.worker c.args.tick c.if-self.true (sym (asked_least c.args.self.now c.requires.worker c.args.tick c.in_ok-held.held.items c.in_ok-held.heard c.in_ok-held.ensures.heard) ∙ c.in_default.is)) ∙ c.in_ok-update.ensures.passes
+
+pub returns-clause-passes : goal.returns-clause-passes
+returns-clause-passes c = ap least (found_plain c.args.self.now c.requires.worker c.args.tick c.if-self.false (sym (asked_least c.args.self.now c.requires.worker c.args.tick c.in_ok-held.held.items c.in_ok-held.heard c.in_ok-held.ensures.heard) ∙ c.in_default.is))

@@ -1,0 +1,130 @@
+-- A part of the plane as contracts see it: what it owns where it stands, what it keeps to be shown,
+-- which faults it finds in a work, and how much it gave.
+use Rattle.std.specs.Prelude.{◌≡◌, ◌⊎◌, ℕ, ◌+◌, ◌-◌, ◌%◌, ◌==◌, List, [], ◌++◌, map, filter, fold, sum, take, length, Bool, ◌||◌, if◌then◌else◌, Option, Some, None}
+use Rattle.std.specs.List.{range_with_len}
+use Rattle.brace_model.specs.declared.fault.Fault.{Fault}
+use Rattle.brace_model.specs.FaultOrder.{least}
+use Rattle.brace_model.specs.declared.world.Agent.{Agent}
+use Rattle.brace_cuts.specs.declared.space.Cuts.{Cuts}
+use Rattle.brace_pieces.specs.declared.setting.Setting.{Setting}
+use Rattle.brace_pieces.specs.declared.setting.Stage.{Stage}
+use Rattle.brace_pieces.specs.declared.setting.Stage.TheVariants.{Hand, Border, Effects, Census, Move, Show}
+use Rattle.brace_pieces.specs.declared.setting.Step.{Step}
+use Rattle.brace_pieces.specs.declared.piece.Cause.{Cause}
+use Rattle.brace_pieces.specs.declared.piece.Cause.TheVariants as cause
+use Rattle.brace_pieces.specs.declared.piece.Piece.{Piece}
+use Rattle.brace_pieces.specs.declared.piece.Piece.TheVariants.{Halt}
+use Rattle.brace_pieces.specs.declared.piece.Shown.{Shown}
+use Rattle.brace_pieces.specs.Settings.{cuts_of, cuts_shown, is_end, shown_from}
+use Rattle.brace_pieces.specs.Steps.{steps, met}
+use Rattle.brace_pieces.specs.Continued.{on}
+use Rattle.brace_pieces.specs.Owned.{owned}
+use Rattle.brace_pieces.specs.Finds.{queries_found, updates_found}
+use Rattle.brace_pieces.specs.Right.{border, shares, moved, handed}
+use Rattle.brace_pieces.specs.Courses.{OnCourse}
+use Rattle.brace_part.specs.declared.counts.Counts.{Counts}
+
+-- a part: where it stands in the schedule of its setting, the agents that it owns there, what it
+-- keeps to be shown, why it goes no further, and how much it gave
+pub record OnPart : Type 0 where
+  pub course : OnCourse
+  pub owns : List Agent
+  pub shown : List Shown
+  pub cause : Option Cause
+  pub counts : Counts
+
+-- the agents of a part in the world of a tick, under some cuts
+abbrev pub own_under : Setting → ℕ → Cuts → ℕ → List Agent
+own_under s p cuts tick = owned s.job.program cuts p (on s tick).agents
+
+-- the agents that a part owns before it makes a step: where other cuts begin to hold those under
+-- the cuts before
+abbrev pub own_before : Setting → ℕ → Stage → ℕ → List Agent
+own_before s p Hand tick = own_under s p (cuts_of s (tick - 1)) tick
+own_before s p Show tick = own_under s p (cuts_shown s tick) tick
+own_before s p _ tick = own_under s p (cuts_of s tick) tick
+
+-- the agents that a part owns where a step is next, or where none is left
+abbrev pub own_at : Setting → ℕ → Option Step → List Agent
+own_at s p (Some at) = own_before s p at.stage at.tick
+own_at s p None = own_before s p Show s.job.last
+
+-- a part that comes to a step is between two ticks: it evaluated no query of which it did not make
+-- the move
+abbrev pub is_settled : Stage → Type 0
+is_settled Effects = ⊥
+is_settled Census = ⊥
+is_settled Move = ⊥
+is_settled _ = Unit {0}
+
+abbrev pub IsSettled : Option Step → Type 0
+IsSettled None = Unit {0}
+IsSettled (Some at) = is_settled at.stage
+
+-- the ticks since the end before a tick, up to it, that are shown
+abbrev pub noted : Setting → ℕ → List ℕ
+noted s tick =
+    let from = shown_from s tick in
+    filter (λ t. is_end s t || (t % s.job.every == 0)) (range_with_len from (tick + 1 - from))
+
+-- a world as a part keeps it to be shown
+abbrev pub kept_at : Setting → ℕ → ℕ → Shown
+kept_at s p tick =
+    record { tick = tick; agents = own_before s p Show tick; next = (on s tick).next }
+
+-- what a part keeps to be shown where it comes to a step: nothing where all was put
+abbrev pub keeps_before : Setting → ℕ → Stage → ℕ → List Shown
+keeps_before s p Show tick = []
+keeps_before s p _ tick = if is_end s tick then [] else map (kept_at s p) (noted s tick)
+
+abbrev pub keeps_at : Setting → ℕ → Option Step → List Shown
+keeps_at s p (Some at) = keeps_before s p at.stage at.tick
+keeps_at s p None = []
+
+-- the faults that a part finds in the work of a step
+abbrev pub found_in_work : Setting → ℕ → Stage → ℕ → List Fault
+found_in_work s p Border tick =
+    queries_found s tick p (on s tick).agents
+    ++ (if s.invert then updates_found s tick p (on s tick).agents else [])
+found_in_work s p Effects tick = updates_found s tick p (on s tick).agents
+found_in_work s p _ tick = []
+
+-- the cause that a work gives to a part that went on: the least of the faults that it finds
+abbrev pub cause_of : Option Fault → Option Cause
+cause_of None = None
+cause_of (Some f) = Some (cause.Fault f)
+
+-- a cause is that of these faults, or memory was refused
+abbrev pub IsCauseOf : List Fault → Cause → Type 0
+IsCauseOf found c = (Some c ≡ cause_of (least found)) ⊎ (c ≡ cause.NoMemory)
+
+-- the cause of a part that took a piece: its own, else that of the piece
+abbrev pub cause_behind : Option Cause → Piece → Option Cause
+cause_behind (Some c) piece = Some c
+cause_behind None (Halt c) = Some c
+cause_behind None _ = None
+
+-- how much a part gives in a step to all whom it meets
+abbrev pub given : {A : Type 0} → Setting → Step → ℕ → (ℕ → List A) → ℕ
+given s at p piece = sum (map (λ q. length (piece q)) (met s at p))
+
+-- counts behind a step of a stage and tick
+abbrev pub counts_behind : Setting → ℕ → Step → Stage → ℕ → Counts → Counts
+counts_behind s p at Hand tick c =
+    record c { handed = c.handed + given s at p (λ q. handed s tick p q (on s tick).agents) }
+counts_behind s p at Border tick c =
+    record c { border = c.border + given s at p (λ q. border s tick p q (on s tick).agents) }
+counts_behind s p at Effects tick c =
+    record c { effects = c.effects + given s at p (λ q. shares s tick p q (on s tick).agents) }
+counts_behind s p at Move tick c =
+    record c { moved = c.moved + given s at p (λ q. moved s tick p q (on s tick)) }
+counts_behind s p at _ tick c = c
+
+-- nothing was given
+abbrev pub no_counts : Counts
+no_counts = record { border = 0; effects = 0; moved = 0; handed = 0 }
+
+-- how much a part gives in the steps up to the one of a number
+abbrev pub counts_up_to : Setting → ℕ → ℕ → Counts
+counts_up_to s p number =
+    fold (λ c at. counts_behind s p at at.stage at.tick c) no_counts (take (number + 1) (steps s))

@@ -1,0 +1,5 @@
+pub mod Pieces
+pub mod Tables
+pub mod Ready
+pub mod Sound
+pub mod Worked

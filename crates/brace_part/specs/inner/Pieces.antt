@@ -1,0 +1,46 @@
+-- The pieces that a part is to put, and those that it took. Only the crate's own functions cite
+-- this.
+use Rattle.std.specs.Prelude.{◌≡◌, ℕ, ◌+◌, List, [], ◌∷◌, ◌++◌, length}
+use Rattle.brace_core.specs.Schedule.{name}
+use Rattle.brace_model.specs.declared.world.Agent.{Agent}
+use Rattle.brace_pieces.specs.declared.setting.Setting.{Setting}
+use Rattle.brace_pieces.specs.declared.piece.Cause.{Cause}
+use Rattle.brace_pieces.specs.declared.piece.Piece.{Piece}
+use Rattle.brace_pieces.specs.declared.piece.Piece.TheVariants.{Border, Effects, Census, Move, Hand, Show, Ack, Halt}
+use Rattle.brace_pieces.specs.Right.{IsRight}
+use Rattle.brace_part.specs.declared.counts.Counts.{Counts}
+
+-- the agents that a piece brings
+abbrev pub brought : Piece → List Agent
+brought (Border agents) = agents
+brought (Move agents) = agents
+brought (Hand agents) = agents
+brought _ = []
+
+-- counts behind a piece that was given
+abbrev pub counted : Counts → Piece → Counts
+counted c (Border agents) = record c { border = c.border + length agents }
+counted c (Effects entries) = record c { effects = c.effects + length entries }
+counted c (Move agents) = record c { moved = c.moved + length agents }
+counted c (Hand agents) = record c { handed = c.handed + length agents }
+counted c _ = c
+
+-- pieces that a part puts in a step of a number: for each of those it meets a right one, that of
+-- the first being the last
+pub data AreOut (s : Setting) (k p : ℕ) : List ℕ → List Piece → Type 0 where
+  none_out : AreOut s k p [] []
+  more_out : (q : ℕ) (others : List ℕ) (piece : Piece) (pieces : List Piece)
+      → IsRight s (name k p q) piece → AreOut s k p others pieces
+      → AreOut s k p (q ∷ others) (pieces ++ piece ∷ [])
+
+-- a piece is no Halt
+abbrev pub GoesOn : Piece → Type 0
+GoesOn (Halt c) = ⊥
+GoesOn _ = Unit {0}
+
+-- pieces that a part took in a step of a number: of each of those it met a right one, in turn
+pub data AreTaken (s : Setting) (k p : ℕ) : List ℕ → List Piece → Type 0 where
+  none_taken : AreTaken s k p [] []
+  more_taken : (others : List ℕ) (pieces : List Piece) (q : ℕ) (piece : Piece)
+      → AreTaken s k p others pieces → IsRight s (name k q p) piece → GoesOn piece
+      → AreTaken s k p (others ++ q ∷ []) (pieces ++ piece ∷ [])

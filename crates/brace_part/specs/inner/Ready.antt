@@ -1,0 +1,101 @@
+-- What a part has when it comes to a step. Only the crate's own functions cite this.
+use Rattle.std.specs.Prelude.{◌≡◌, ℕ, ◌+◌, List, [], map, false, if◌then◌else◌, Option, Some, None}
+use Rattle.std.specs.List.{All, Contains}
+use Rattle.brace_model.specs.declared.fault.Fault.{Fault}
+use Rattle.brace_model.specs.declared.world.Agent.{Agent}
+use Rattle.brace_model.specs.Query.{Saying}
+use Rattle.brace_eval.specs.declared.heard.Heard.{Heard}
+use Rattle.brace_eval.specs.Heard.{IsHeard}
+use Rattle.brace_pieces.specs.declared.setting.Setting.{Setting}
+use Rattle.brace_pieces.specs.declared.setting.Stage.{Stage}
+use Rattle.brace_pieces.specs.declared.setting.Stage.TheVariants.{Hand, Border, Effects, Census, Move, Show}
+use Rattle.brace_pieces.specs.declared.setting.Step.{Step}
+use Rattle.brace_pieces.specs.declared.piece.Shown.{Shown}
+use Rattle.brace_pieces.specs.Settings.{cuts_of, shown_ticks}
+use Rattle.brace_pieces.specs.Continued.{said, becomes, on}
+use Rattle.brace_pieces.specs.Together.{left_of}
+use Rattle.brace_pieces.specs.Heard.{own, near}
+use Rattle.brace_pieces.specs.Finds.{queries_found, updates_found}
+use Rattle.brace_pieces.specs.Right.{IsFaultless}
+use Rattle.brace_part.specs.declared.standing.Stance.{Stance}
+use Rattle.brace_part.specs.declared.standing.Stance.TheVariants.{Owns, Hears, Leaves}
+use Rattle.brace_part.specs.Parts.{own_under, own_before, kept_at, keeps_before}
+use Rattle.brace_part.specs.inner.Tables.{said_over, faults_over}
+
+-- the agents of a part in the world of a tick
+abbrev pub own_in : Setting → ℕ → ℕ → List Agent
+own_in s p tick = own s tick p (on s tick).agents
+
+-- what the agents of a part leave in a tick
+abbrev pub left_in : Setting → ℕ → ℕ → List Agent
+left_in s p tick = left_of s tick (on s tick).agents (own_in s p tick)
+
+-- the faults of the updates of a part's own agents in a tick
+abbrev pub updates_in : Setting → ℕ → ℕ → List Fault
+updates_in s p tick = updates_found s tick p (on s tick).agents
+
+-- a part holds what it sees of a tick, and heard what the queries say that it evaluates
+pub record HearsAsked (s : Setting) (p tick : ℕ) (agents : List Agent) (heard : Heard)
+    : Type 0 where
+  pub holds : agents ≡ near s tick p (on s tick).agents
+  pub hears : IsHeard s.job.program agents (said_over s tick (own_in s p tick) agents)
+      (faults_over s tick (own_in s p tick) agents) heard
+
+-- a part holds what it sees of a tick, and heard enough for what becomes of its own agents
+pub record HearsAll (s : Setting) (p tick : ℕ) (agents : List Agent) (heard : Heard)
+    : Type 0 where
+  pub holds : agents ≡ near s tick p (on s tick).agents
+  pub told : List Saying
+  pub faults : List Fault
+  pub hears : IsHeard s.job.program agents told faults heard
+  pub becomes_so : (a : Agent) → Contains (own_in s p tick) a
+      → becomes s tick (said s tick (on s tick).agents) a ≡ becomes s tick told a
+
+-- what a part has is what a step of a stage and tick needs
+abbrev pub IsReadyFor : Setting → ℕ → Stage → ℕ → Stance → Type 0
+IsReadyFor s p Hand tick (Owns own) = own.items ≡ own_before s p Hand tick
+IsReadyFor s p Border tick (Owns own) = own.items ≡ own_before s p Border tick
+IsReadyFor s p Show tick (Owns own) = own.items ≡ own_before s p Show tick
+IsReadyFor s p Effects tick (Hears agents heard) =
+    (s.invert ≡ false) × HearsAsked s p tick agents.items heard
+IsReadyFor s p Move tick (Leaves left) = left.items ≡ left_in s p tick
+IsReadyFor s p at tick stance = ⊥
+
+abbrev pub IsReady : Setting → ℕ → Option Step → Stance → Type 0
+IsReady s p (Some at) stance = IsReadyFor s p at.stage at.tick stance
+IsReady s p None stance = IsReadyFor s p Show s.job.last stance
+
+-- what a part has behind its work in a step of a stage and tick
+abbrev pub IsReadyBehind : Setting → ℕ → Stage → ℕ → Stance → Type 0
+IsReadyBehind s p Hand tick stance = IsReadyFor s p Border tick stance
+IsReadyBehind s p Border tick stance =
+    IsReadyFor s p (if s.invert then Move else Effects) tick stance
+IsReadyBehind s p Effects tick stance = IsReadyFor s p Move tick stance
+IsReadyBehind s p Move tick (Owns own) =
+    own.items ≡ own_under s p (cuts_of s tick) (tick + 1)
+IsReadyBehind s p Show tick stance = IsReadyFor s p Show tick stance
+IsReadyBehind s p at tick stance = ⊥
+
+-- the part found no fault before a step
+abbrev pub IsFaultlessBefore : Setting → ℕ → Stage → ℕ → Type 0
+IsFaultlessBefore s p Effects tick =
+    IsFaultless s tick p × (queries_found s tick p (on s tick).agents ≡ [])
+IsFaultlessBefore s p Move tick = IsFaultless s (tick + 1) p
+IsFaultlessBefore s p _ tick = IsFaultless s tick p
+
+abbrev pub IsFaultlessAt : Setting → ℕ → Option Step → Type 0
+IsFaultlessAt s p (Some at) = IsFaultlessBefore s p at.stage at.tick
+IsFaultlessAt s p None = Unit {0}
+
+-- what a part keeps to be shown before it prepares a step: where all is shown all that it shows
+abbrev pub brings_to : Setting → ℕ → Stage → ℕ → List Shown
+brings_to s p Show tick = map (kept_at s p) (shown_ticks s tick)
+brings_to s p at tick = keeps_before s p at tick
+
+abbrev pub brings_at : Setting → ℕ → Option Step → List Shown
+brings_at s p (Some at) = brings_to s p at.stage at.tick
+brings_at s p None = []
+
+-- each world that a part keeps is its part of that world
+abbrev pub AreKept : Setting → ℕ → List Shown → Type 0
+AreKept s p worlds = All (λ w. w ≡ kept_at s p w.tick) worlds

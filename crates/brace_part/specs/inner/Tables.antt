@@ -1,0 +1,83 @@
+-- What a part hears and tells by its tables. Only the crate's own functions cite this.
+use Rattle.std.specs.Prelude.{◌≡◌, ℕ, ℤ, pos, List, [], ◌∷◌, ◌++◌, flat_map, if◌then◌else◌, Option, Some, None}
+use Rattle.std.specs.List.{Contains}
+use Rattle.brace_model.specs.declared.program.Comb.{Comb}
+use Rattle.brace_model.specs.declared.program.Comb.TheVariants.{Count}
+use Rattle.brace_model.specs.declared.program.Effect.{Effect}
+use Rattle.brace_model.specs.declared.program.Program.{Program}
+use Rattle.brace_model.specs.declared.fault.Fault.{Fault}
+use Rattle.brace_model.specs.declared.world.Agent.{Agent}
+use Rattle.brace_model.specs.World.{class_of}
+use Rattle.brace_model.specs.Query.{Saying}
+use Rattle.brace_comb.specs.declared.entry.Entry.{Entry}
+use Rattle.brace_comb.specs.Totals.{Tally, tally}
+use Rattle.brace_eval.specs.Heard.{AreTold, said_by, faults_by}
+use Rattle.brace_invert.specs.Split.{forward_program, inverse_program}
+use Rattle.brace_cuts.specs.declared.space.Cuts.{Cuts}
+use Rattle.brace_pieces.specs.declared.setting.Setting.{Setting}
+use Rattle.brace_pieces.specs.declared.piece.Piece.{Piece}
+use Rattle.brace_pieces.specs.declared.piece.Piece.TheVariants.{Effects}
+use Rattle.brace_pieces.specs.Owned.{owned}
+use Rattle.brace_pieces.specs.Right.{Share, shares_to}
+
+-- what the queries say that a part evaluates over all that it holds: those of its own agents; with
+-- inversion those of the forward program of its own, and of the inverse program of all
+abbrev pub said_over : Setting → ℕ → List Agent → List Agent → List Saying
+said_over s tick own held =
+    let program = s.job.program in
+    if s.invert
+    then (said_by (forward_program program) s.job.seed tick held own
+    ++ said_by (inverse_program program) s.job.seed tick held held)
+    else said_by program s.job.seed tick held own
+
+-- the faults of these queries
+abbrev pub faults_over : Setting → ℕ → List Agent → List Agent → List Fault
+faults_over s tick own held =
+    let program = s.job.program in
+    if s.invert
+    then (faults_by (forward_program program) s.job.seed tick held own
+    ++ faults_by (inverse_program program) s.job.seed tick held held)
+    else faults_by program s.job.seed tick held own
+
+-- the shares of the agents of a list that a part owns
+abbrev pub shares_in : Program → Cuts → ℕ → List Agent → List Saying → List Share
+shares_in program cuts to held said =
+    flat_map (λ b. shares_to said b (class_of program b)) (owned program cuts to held)
+
+-- a total of a combinator has this number and joins so many values
+pub record IsTotal (comb : Comb) (number count : ℤ) (t : Tally) : Type 0 where
+  pub combinator : t.comb ≡ comb
+  pub number_is : t.number ≡ number
+  pub count_is : pos t.count ≡ count
+
+-- a list, and behind it one element that may be there
+abbrev pub with_one : {A : Type 0} → List A → Option A → List A
+with_one xs None = xs
+with_one xs (Some x) = xs ++ x ∷ []
+
+-- an effect that counts the values said
+abbrev pub counting_effect : Effect → Effect
+counting_effect e = record e { comb = Count }
+
+-- an entry tells of values said to an effect of an agent of a list
+pub record TellsOf (program : Program) (held : List Agent) (entry : Entry) (told : List Saying)
+    : Type 0 where
+  pub agent : Agent
+  pub is_held : Contains held agent
+  pub is_target : agent.id ≡ entry.target
+  pub values : AreTold program agent entry.field (tally entry.total).number
+      (tally entry.total).count told
+
+-- entries tell of values said, entry by entry
+pub data TellsBy (program : Program) (held : List Agent) : List Entry → List Saying → Type 0 where
+  no_entry : TellsBy program held [] []
+  one_entry : (entry : Entry) (entries : List Entry) (told more : List Saying)
+      → TellsOf program held entry told → TellsBy program held entries more
+      → TellsBy program held (entry ∷ entries) (told ++ more)
+
+-- pieces tell of values said, piece by piece
+pub data TellBy (program : Program) (held : List Agent) : List Piece → List Saying → Type 0 where
+  no_piece : TellBy program held [] []
+  one_piece : (entries : List Entry) (pieces : List Piece) (told more : List Saying)
+      → TellsBy program held entries told → TellBy program held pieces more
+      → TellBy program held (Effects entries ∷ pieces) (told ++ more)

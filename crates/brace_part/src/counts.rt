@@ -1,0 +1,58 @@
+ghost use Rattle.std.specs.Prelude.{◌≡◌, ◌+◌, IfOk};
+ghost use Rattle.brace_part.specs.inner.Pieces.{counted};
+
+use brace_num::NoMemory;
+use brace_pieces::Piece;
+
+/// How much a part gave to others so far.
+#[derive(Debug, Clone, Copy, PartialEq, Eq, Drop)]
+pub struct Counts {
+    /// Agents shown to parts that do not own them, once for each part and tick.
+    pub border: u128,
+    /// Totals told to the owners of agents.
+    pub effects: u128,
+    /// Agents that went to another part by moving.
+    pub moved: u128,
+    /// Agents that went to another part where other cuts began to hold.
+    pub handed: u128,
+}
+
+/// Raises a count; `NoMemory` where 128 bits do not hold it.
+fn raise(count: &mut u128, by: usize) -> Result<(), NoMemory>
+    ensures { IfOk result (λ _. count.new ≡ count.old + by) }
+{
+    match count.checked_add(by as u128) {
+        Some(sum) => {
+            *count = sum;
+            Ok(())
+        }
+        None => Err(NoMemory),
+    }
+}
+
+impl Counts {
+    /// Nothing was given yet.
+    pub fn none() -> Counts
+        ensures { result ≡ record { border = 0; effects = 0; moved = 0; handed = 0 } }
+    {
+        Counts {
+            border: 0,
+            effects: 0,
+            moved: 0,
+            handed: 0,
+        }
+    }
+
+    /// Counts a piece; `NoMemory` where 128 bits do not hold a count.
+    pub fn add(&mut self, piece: &Piece) -> Result<(), NoMemory>
+        ensures { IfOk result (λ _. self.new ≡ counted self.old piece.now) }
+    {
+        match piece {
+            Piece::Border(agents) => raise(&mut self.border, agents.as_slice().len()),
+            Piece::Effects(entries) => raise(&mut self.effects, entries.as_slice().len()),
+            Piece::Move(agents) => raise(&mut self.moved, agents.as_slice().len()),
+            Piece::Hand(agents) => raise(&mut self.handed, agents.as_slice().len()),
+            Piece::Census(_) | Piece::Show(_) | Piece::Ack | Piece::Halt(_) => Ok(()),
+        }
+    }
+}

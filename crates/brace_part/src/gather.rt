@@ -1,0 +1,40 @@
+ghost use Rattle.std.specs.Prelude.{◌≡◌, ◌++◌, [], flat_map, IfOk, IfSome, IfNone};
+ghost use Rattle.std.specs.Vec.{vec_capacity};
+ghost use Rattle.brace_pieces.specs.Together.{IsSorted};
+ghost use Rattle.brace_part.specs.inner.Pieces.{brought};
+
+use brace_model::Agent;
+use brace_num::{List, NoMemory};
+use brace_pieces::Piece;
+
+/// The agents that a piece brings, if it brings some.
+fn list_in(piece: Piece) -> Option<List<Agent>>
+    ensures some { IfSome result (λ agents. brought piece ≡ agents) }
+    ensures none { IfNone result (brought piece ≡ []) }
+{
+    match piece {
+        Piece::Border(agents) => Some(agents),
+        Piece::Move(agents) => Some(agents),
+        Piece::Hand(agents) => Some(agents),
+        Piece::Effects(_entries) => None,
+        Piece::Census(_census) => None,
+        Piece::Show(_worlds) => None,
+        Piece::Ack => None,
+        Piece::Halt(_cause) => None,
+    }
+}
+
+/// Some agents and all that pieces bring, by rising id. The pieces go, and their places stay.
+pub fn gathered(mut agents: Vec<Agent>, pieces: &mut Vec<Piece>) -> Result<Vec<Agent>, NoMemory>
+    ensures sorted { IfOk result (λ all.
+        IsSorted (agents.items ++ flat_map brought pieces.old.items) all.items) }
+    ensures places { vec_capacity pieces.new ≡ vec_capacity pieces.old }
+{
+    while let Some(piece) = pieces.pop() {
+        if let Some(more) = list_in(piece) {
+            agents.append(&mut more.into_vec())?;
+        }
+    }
+    agents.sort_by_key(|a| a.id)?;
+    Ok(agents)
+}

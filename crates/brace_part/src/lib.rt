@@ -1,0 +1,18 @@
+//! One part of the plane as an actor: it exchanges pieces with the parts that it is near, evaluates
+//! the queries and the updates of the agents that it owns, and shows these to the publisher.
+#![tactic(auto)]
+
+mod counts;
+mod gather;
+mod part;
+mod prepare;
+mod query;
+mod standing;
+mod tell;
+#[cfg(test)]
+mod tests;
+mod update;
+mod work;
+
+pub use counts::Counts;
+pub use part::Part;

@@ -1,0 +1,381 @@
+ghost use Rattle.std.specs.Prelude.{◌≡◌, ◌⊎◌, ◌+◌, ◌^◌, ◌<◌, ◌≤◌, ◌++◌, [], ◌∷◌, Some, None, true, false, is_none, IfOk, IfErr, if◌then◌else◌, ◌||◌, ◌%◌, ◌==◌, ℕ};
+ghost use Rattle.std.specs.Vec.{vec_capacity};
+ghost use Rattle.brace_core.specs.declared.name.Name.{Name};
+ghost use Rattle.brace_core.specs.declared.name.Turn.TheVariants as turn;
+ghost use Rattle.brace_core.specs.Exchanges.{due, IsPut, IsTake};
+ghost use Rattle.brace_model.specs.FaultOrder.{least};
+ghost use Rattle.brace_model.specs.Next.{has_births};
+ghost use Rattle.brace_pieces.specs.declared.setting.Stage.TheVariants as stage;
+ghost use Rattle.brace_pieces.specs.declared.setting.Step.{Step};
+ghost use Rattle.brace_pieces.specs.declared.piece.Cause.{Cause};
+ghost use Rattle.brace_pieces.specs.declared.piece.Cause.TheVariants as cause;
+ghost use Rattle.brace_pieces.specs.declared.piece.Piece.TheVariants as piece;
+ghost use Rattle.brace_pieces.specs.Settings.{LawfulSetting, parts, is_end, cuts_of};
+ghost use Rattle.brace_pieces.specs.Steps.{schedule};
+ghost use Rattle.brace_pieces.specs.Right.{IsRight};
+ghost use Rattle.brace_pieces.specs.Courses.{OnCourse, at_start, step_of, gone_on, past_of};
+ghost use Rattle.brace_part.specs.Parts.{own_under, own_at, IsSettled, keeps_at, found_in_work, IsCauseOf, cause_of, cause_behind};
+ghost use Rattle.brace_part.specs.inner.Ready.{AreKept};
+ghost use Rattle.brace_part.specs.inner.Sound.{IsPartOf, IsAtWork, ComesTo, GoesOn, owns_in};
+
+use crate::counts::Counts;
+use crate::prepare::{prepared, prepared_show};
+use crate::query::Queries;
+use crate::standing::{Stance, Standing};
+use crate::work::{Worker, copied};
+use brace_core::{Actor, Turn};
+use brace_model::Agent;
+use brace_num::{List, NoMemory};
+use brace_pieces::{Cause, Course, Piece, Setting, Shown, Stage, Step};
+use std::alloc::Global;
+use std::marker::Model;
+use std::mem;
+
+/// A part of the plane. Contracts see where it stands in the schedule of its setting, the agents
+/// that it owns there, what it keeps to be shown, why it goes no further, and how much it gave.
+#[derive(Drop)]
+pub struct Part<'a> {
+    alloc: Global,
+    course: Course<'a>,
+    queries: Queries,
+    standing: Standing,
+    cause: Option<Cause>,
+}
+
+impl<'a> Model for Part<'a> {
+    ghost use Rattle.std.specs.Vec.{vec_capacity};
+    ghost use Rattle.brace_part.specs.Parts.{OnPart};
+    ghost use Rattle.brace_part.specs.inner.Sound.{IsSound, owns_in};
+
+    ghost Value = { OnPart };
+
+    ghost use Rattle.std.specs.Coded.{codes};
+    ghost use Rattle.brace_model.specs.contracts.program.Expr as expr;
+    ghost use Rattle.brace_model.specs.contracts.program.Stmt as stmt;
+
+    ghost coded = { Prim.hlevel (codes, expr.the_row.coded, stmt.the_row.coded) };
+
+    ghost view = { λ p. record {
+      course = p.course;
+      owns = owns_in p.standing.stance;
+      shown = p.standing.shown;
+      cause = p.cause;
+      counts = p.standing.counts;
+    } };
+
+    ghost invariant = { λ p. IsSound p.course p.queries p.standing p.cause
+        (vec_capacity p.standing.taken) };
+}
+
+/// Keeps a part's agents of a tick, where they are shown.
+fn note(
+    alloc: Global,
+    setting: &Setting,
+    tick: u64,
+    stance: &Stance,
+    shown: &mut List<Shown>,
+) -> Result<(), NoMemory>
+    ensures noted { IfOk result (λ _. shown.new ≡ shown.old
+        ++ (if is_end setting.now tick || (tick % setting.now.job.every == 0)
+        then record {
+          tick = tick;
+          agents = owns_in stance.now;
+          next = setting.now.job.start.next;
+        } ∷ []
+        else [])) }
+    ensures kept { IfErr result (λ _. shown.new ≡ shown.old) }
+{
+    if setting.is_end(tick) || tick.is_multiple_of(setting.job.every) {
+        let agents = copied(alloc, owned_in(stance))?;
+        shown.push(Shown {
+            tick,
+            agents: List::from_vec(agents),
+            next: setting.job.start.next(),
+        })?;
+    }
+    Ok(())
+}
+
+/// Keeps a part's agents of the next tick behind a move, where they are shown.
+fn note_next(
+    alloc: Global,
+    setting: &Setting,
+    at: Step,
+    stance: &Stance,
+    shown: &mut List<Shown>,
+) -> Result<(), NoMemory>
+    requires tick { at.tick ≤ 2 ^ 32 }
+    ensures moved { at.stage ≡ stage.Move → IfOk result (λ _. shown.new ≡ shown.old
+        ++ (if is_end setting.now (at.tick + 1) || ((at.tick + 1) % setting.now.job.every == 0)
+        then record {
+          tick = at.tick + 1;
+          agents = owns_in stance.now;
+          next = setting.now.job.start.next;
+        } ∷ []
+        else [])) }
+    ensures stays { (at.stage ≡ stage.Move → ⊥) → shown.new ≡ shown.old }
+    ensures kept { IfErr result (λ _. shown.new ≡ shown.old) }
+{
+    if at.stage == Stage::Move {
+        note(alloc, setting, at.tick + 1, stance, shown)?;
+    }
+    Ok(())
+}
+
+/// The agents that a part owns; none between the query of a tick and the move.
+fn owned_in(stance: &Stance) -> &[Agent]
+    ensures { result.now ≡ owns_in stance.now }
+{
+    match stance {
+        Stance::Owns(own) => own.as_slice(),
+        Stance::Hears(_, _) | Stance::Leaves(_) => &[],
+    }
+}
+
+/// Prepares what a part puts in its next step, in which it made no turn.
+fn prepare(
+    alloc: Global,
+    course: &Course,
+    queries: &Queries,
+    standing: &mut Standing,
+) -> Result<(), NoMemory>
+    requires part { IsPartOf course.now.setting course.now.actor queries.now }
+    requires start { course.now.made ≡ 0 }
+    requires comes { ComesTo course.now.setting course.now.actor course.now.number
+        (step_of course.now) standing.old }
+    requires nothing_taken { standing.old.taken.items ≡ [] }
+    ensures goes_on { IfOk result (λ _. GoesOn course.now standing.new) }
+    ensures kept { AreKept course.now.setting course.now.actor standing.old.shown
+        → AreKept course.now.setting course.now.actor standing.new.shown }
+    ensures taken { standing.new.taken ≡ standing.old.taken }
+{
+    standing.out.clear();
+    let Some(at) = course.step() else {
+        return Ok(());
+    };
+    if at.stage == Stage::Show {
+        standing.out = prepared_show(alloc, &mut standing.shown)?;
+        return Ok(());
+    }
+    let worker = Worker {
+        alloc,
+        setting: course.setting(),
+        part: course.actor(),
+        queries,
+        number: course.number(),
+    };
+    let counts = &mut standing.counts;
+    standing.out = prepared(&worker, at, &standing.stance, course.others(), counts)?;
+    Ok(())
+}
+
+/// Works in the step of a number, and prepares the next one, in which the course stands.
+fn advance(
+    alloc: Global,
+    course: &Course,
+    queries: &Queries,
+    number: u64,
+    at: Step,
+    standing: &mut Standing,
+) -> Result<(), Cause>
+    requires part { IsPartOf course.now.setting course.now.actor queries.now }
+    requires behind { course.now.number ≡ number + 1 }
+    requires start { course.now.made ≡ 0 }
+    requires work { IsAtWork course.now.setting course.now.actor number at standing.old }
+    requires kept { AreKept course.now.setting course.now.actor standing.old.shown }
+    ensures goes_on { IfOk result (λ _. GoesOn course.now standing.new) }
+    ensures passes { IfOk result (λ _. least (found_in_work course.now.setting course.now.actor
+        at.stage at.tick) ≡ None) }
+    ensures faulted { IfErr result (IsCauseOf (found_in_work course.now.setting
+        course.now.actor at.stage at.tick)) }
+    ensures kept { AreKept course.now.setting course.now.actor standing.new.shown }
+    ensures places { vec_capacity standing.new.taken ≡ vec_capacity standing.old.taken }
+{
+    let worker = Worker {
+        alloc,
+        setting: course.setting(),
+        part: course.actor(),
+        queries,
+        number,
+    };
+    let stance = mem::replace(&mut standing.stance, Stance::Owns(Vec::new(alloc)));
+    standing.stance = worker.worked(at, stance, &mut standing.taken)?;
+    let (stance, shown) = (&standing.stance, &mut standing.shown);
+    note_next(alloc, course.setting(), at, stance, shown)?;
+    standing.taken.clear();
+    prepare(alloc, course, queries, standing)?;
+    Ok(())
+}
+
+impl<'a> Part<'a> {
+    /// The part of a number in a lawful setting whose program has no `spawn`, before its first
+    /// turn. `owned` are its agents of the start world, by rising id. Behind this call nothing but
+    /// its works takes memory; where one of them finds none, the part goes no further.
+    pub fn make(
+        alloc: Global,
+        setting: &'a Setting,
+        p: u32,
+        owned: Vec<Agent>,
+    ) -> Result<Part<'a>, NoMemory>
+        requires lawful { LawfulSetting setting.now }
+        requires childless { has_births setting.now.job.program ≡ false }
+        requires is_part { p < parts setting.now }
+        requires owns { owned.items ≡ own_under setting.now p
+            (cuts_of setting.now setting.now.job.first) setting.now.job.first }
+        ensures start { IfOk result (λ part. part.course ≡ at_start setting.now p) }
+        ensures goes_on { IfOk result (λ part. part.cause ≡ None) }
+    {
+        setting.numbers_fit();
+        let course = Course::make(alloc, setting, p)?;
+        let queries = Queries::of(alloc, setting)?;
+        let mut standing = Standing {
+            stance: Stance::Owns(owned),
+            out: Vec::new(alloc),
+            taken: Vec::with_capacity(alloc, setting.parts() as usize)?,
+            shown: List::new(alloc),
+            counts: Counts::none(),
+        };
+        if course.step().is_some() {
+            let (stance, shown) = (&standing.stance, &mut standing.shown);
+            note(alloc, setting, setting.job.first, stance, shown)?;
+        }
+        prepare(alloc, &course, &queries, &mut standing)?;
+        Ok(Part {
+            alloc,
+            course,
+            queries,
+            standing,
+            cause: None,
+        })
+    }
+
+    /// The agents that it owns, by rising id; none between the query of a tick and the move.
+    pub fn owned(&self) -> &[Agent]
+        ensures same { result.now ≡ self.now.owns }
+        ensures owner { self.now.cause ≡ None → IsSettled (step_of self.now.course)
+            → self.now.owns ≡ own_at self.now.course.setting self.now.course.actor
+            (step_of self.now.course) }
+    {
+        owned_in(&self.standing.stance)
+    }
+
+    /// How much it gave to others so far, that of its step included.
+    pub fn counts(&self) -> Counts
+        ensures same { result ≡ self.now.counts }
+    {
+        self.standing.counts
+    }
+
+    /// Its agents of the shown ticks since the last end.
+    pub fn shown(&self) -> &[Shown]
+        ensures same { result.now ≡ self.now.shown }
+        ensures right { AreKept self.now.course.setting self.now.course.actor self.now.shown }
+        ensures all { self.now.cause ≡ None → self.now.shown ≡ keeps_at
+            self.now.course.setting self.now.course.actor (step_of self.now.course) }
+    {
+        self.standing.shown.as_slice()
+    }
+
+    /// Why it goes no further.
+    pub fn cause(&self) -> Option<Cause>
+        ensures { result ≡ self.now.cause }
+    {
+        self.cause
+    }
+}
+
+impl<'a> Actor<Piece> for Part<'a> {
+    ghost use Rattle.brace_pieces.specs.Courses.{past_of};
+
+    type Opening = ();
+
+    ghost setting = { λ part. part.course.setting };
+
+    ghost number = { λ part. part.course.actor };
+
+    ghost opening = { λ part. tt };
+
+    ghost past = { λ part. past_of part.course };
+
+    fn next(&self) -> Turn {
+        self.course.turn()
+    }
+
+    fn piece(&mut self) -> Piece
+        requires turn { IsPut (due schedule self.old.course.setting self.old.course.actor
+            (past_of self.old.course)) }
+        ensures right { (name : Name) → due schedule self.old.course.setting
+            self.old.course.actor (past_of self.old.course) ≡ turn.Put name
+            → IsRight self.old.course.setting name result }
+        ensures goes_on { past_of self.new.course ≡ past_of self.old.course + 1 }
+        ensures same_setting { self.new.course.setting ≡ self.old.course.setting }
+        ensures same_number { self.new.course.actor ≡ self.old.course.actor }
+        ensures course { self.new.course ≡ gone_on self.old.course }
+        ensures owns { self.new.owns ≡ self.old.owns }
+        ensures shown { self.new.shown ≡ self.old.shown }
+        ensures cause { self.new.cause ≡ self.old.cause }
+        ensures counts { self.new.counts ≡ self.old.counts }
+        ensures halts { (c : Cause) → self.old.cause ≡ Some c → result ≡ piece.Halt c }
+    {
+        self.course.go_on();
+        match self.cause {
+            Some(cause) => Piece::Halt(cause),
+            None => match self.standing.out.pop() {
+                Some(piece) => piece,
+                None => unreachable!(),
+            },
+        }
+    }
+
+    fn give(&mut self, piece: Piece)
+        requires turn { IsTake (due schedule self.old.course.setting self.old.course.actor
+            (past_of self.old.course)) }
+        requires right { (name : Name) → due schedule self.old.course.setting
+            self.old.course.actor (past_of self.old.course) ≡ turn.Take name
+            → IsRight self.old.course.setting name piece }
+        ensures course { self.new.course ≡ gone_on self.old.course }
+        ensures owns { self.new.owns ≡ self.old.owns }
+        ensures shown { self.new.shown ≡ self.old.shown }
+        ensures cause { self.new.cause ≡ cause_behind self.old.cause piece }
+        ensures counts { self.new.counts ≡ self.old.counts }
+        ensures goes_on { past_of self.new.course ≡ past_of self.old.course + 1 }
+        ensures same_setting { self.new.course.setting ≡ self.old.course.setting }
+        ensures same_number { self.new.course.actor ≡ self.old.course.actor }
+    {
+        self.course.go_on();
+        if self.cause.is_some() {
+            return;
+        }
+        match piece {
+            Piece::Halt(cause) => self.cause = Some(cause),
+            piece => self.standing.taken.push_reserved(piece),
+        }
+    }
+
+    fn work(&mut self)
+        requires turn { due schedule self.old.course.setting self.old.course.actor
+            (past_of self.old.course) ≡ turn.Work }
+        ensures goes_on { past_of self.new.course ≡ past_of self.old.course + 1 }
+        ensures same_setting { self.new.course.setting ≡ self.old.course.setting }
+        ensures same_number { self.new.course.actor ≡ self.old.course.actor }
+        ensures course { self.new.course ≡ gone_on self.old.course }
+        ensures stays { (c : Cause) → self.old.cause ≡ Some c → self.new.cause ≡ Some c }
+        ensures finds { (at : Step) → self.old.cause ≡ None → step_of self.old.course ≡ Some at
+            → (self.new.cause ≡ cause_of (least (found_in_work self.old.course.setting
+            self.old.course.actor at.stage at.tick))) ⊎ (self.new.cause ≡ Some cause.NoMemory) }
+    {
+        let at = self.course.step();
+        let number = self.course.number();
+        self.course.go_on();
+        if self.cause.is_some() {
+            return;
+        }
+        if let Some(at) = at {
+            let (course, queries) = (&self.course, &self.queries);
+            let worked = advance(self.alloc, course, queries, number, at, &mut self.standing);
+            if let Err(cause) = worked {
+                self.cause = Some(cause);
+            }
+        }
+    }
+}

@@ -1,0 +1,81 @@
+ghost use Rattle.std.specs.Prelude.{◌≡◌, ◌⊎◌, [], ◌∷◌, map, fold, IfOk};
+ghost use Rattle.brace_core.specs.Schedule.{name};
+ghost use Rattle.brace_pieces.specs.declared.piece.Piece.TheVariants as piece;
+ghost use Rattle.brace_pieces.specs.Right.{IsRight};
+ghost use Rattle.brace_part.specs.inner.Pieces.{counted, AreOut};
+ghost use Rattle.brace_part.specs.inner.Ready.{IsReadyFor};
+ghost use Rattle.brace_part.specs.inner.Sound.{IsWorker, IsNext, AreMet};
+
+use crate::counts::Counts;
+use crate::standing::Stance;
+use crate::tell::told_to;
+use crate::work::Worker;
+use brace_num::{List, NoMemory};
+use brace_pieces::{Piece, Shown, Stage, Step, border_of, hand_of, moves_of};
+use std::alloc::Global;
+
+/// What a part puts to another in a step that shows nothing to the publisher.
+fn piece_for(worker: &Worker, at: Step, stance: &Stance, to: u32) -> Result<Piece, NoMemory>
+    requires worker { IsWorker worker.now }
+    requires next { IsNext worker.now at }
+    requires ready { IsReadyFor worker.now.setting.now worker.now.part at.stage at.tick stance.now }
+    requires to { AreMet worker.now at (to ∷ []) }
+    ensures right { IfOk result
+        (IsRight worker.now.setting.now (name worker.now.number worker.now.part to)) }
+{
+    let (alloc, setting, tick) = (worker.alloc, worker.setting, at.tick);
+    match (at.stage, stance) {
+        (Stage::Hand, Stance::Owns(own)) => {
+            Ok(Piece::Hand(hand_of(alloc, setting, tick, own, to)?))
+        }
+        (Stage::Border, Stance::Owns(own)) => {
+            Ok(Piece::Border(border_of(alloc, setting, tick, own, to)?))
+        }
+        (Stage::Effects, Stance::Hears(held, heard)) => {
+            let cuts = setting.cuts.cuts_at(tick);
+            let entries = told_to(alloc, &setting.job.program, cuts, to, held, heard)?;
+            Ok(Piece::Effects(entries))
+        }
+        (Stage::Move, Stance::Leaves(left)) => {
+            Ok(Piece::Move(moves_of(alloc, setting, tick, left, to)?))
+        }
+        _ => unreachable!(),
+    }
+}
+
+/// What a part puts in a step to each whom it meets, the last one first, and counts it. The step
+/// shows nothing to the publisher.
+pub fn prepared(
+    worker: &Worker,
+    at: Step,
+    stance: &Stance,
+    others: &[u32],
+    counts: &mut Counts,
+) -> Result<Vec<Piece>, NoMemory>
+    requires worker { IsWorker worker.now }
+    requires next { IsNext worker.now at }
+    requires ready { IsReadyFor worker.now.setting.now worker.now.part at.stage at.tick stance.now }
+    requires others { AreMet worker.now at others.now }
+    ensures out { IfOk result (λ pieces. AreOut worker.now.setting.now worker.now.number
+        worker.now.part others.now pieces.items) }
+    ensures counts { IfOk result (λ pieces. counts.new ≡ fold counted counts.old pieces.items) }
+{
+    let mut pieces = Vec::with_capacity(worker.alloc, others.len())?;
+    for i in 0..others.len() {
+        let piece = piece_for(worker, at, stance, others[others.len() - 1 - i])?;
+        counts.add(&piece)?;
+        pieces.push(piece)?;
+    }
+    Ok(pieces)
+}
+
+/// What a part puts where all is shown: all that it keeps.
+pub fn prepared_show(alloc: Global, shown: &mut List<Shown>) -> Result<Vec<Piece>, NoMemory>
+    ensures out { IfOk result (λ pieces. pieces.items ≡ piece.Show shown.old ∷ []) }
+    ensures shown { IfOk result (λ _. shown.new ≡ []) }
+    ensures kept { (shown.new ≡ shown.old) ⊎ (shown.new ≡ []) }
+{
+    let mut pieces = Vec::with_capacity(alloc, 1)?;
+    pieces.push(Piece::Show(std::mem::replace(shown, List::new(alloc))))?;
+    Ok(pieces)
+}

@@ -1,0 +1,29 @@
+use crate::counts::Counts;
+use brace_eval::Heard;
+use brace_model::Agent;
+use brace_num::List;
+use brace_pieces::{Piece, Shown};
+
+/// What a part has between two of its works.
+#[derive(Debug, Drop)]
+pub enum Stance {
+    /// The agents that it owns, by rising id.
+    Owns(Vec<Agent>),
+    /// All agents that it holds, by rising id, and what its own said to them.
+    Hears(Vec<Agent>, Heard),
+    /// What its own agents leave, by rising id.
+    Leaves(Vec<Agent>),
+}
+
+/// What a part has, and what it exchanges in its step.
+#[derive(Debug, Drop)]
+pub struct Standing {
+    pub stance: Stance,
+    /// What it puts, the last first.
+    pub out: Vec<Piece>,
+    /// What it took.
+    pub taken: Vec<Piece>,
+    /// Its agents of the shown ticks since the last end.
+    pub shown: List<Shown>,
+    pub counts: Counts,
+}

@@ -1,0 +1,89 @@
+ghost use Rattle.std.specs.Prelude.{◌≡◌, ◌≤◌, ◌^◌, List, map, filter_map, IfOk, IfErr, None};
+ghost use Rattle.std.specs.Result.{result_ok, result_err};
+ghost use Rattle.brace_model.specs.declared.fault.Fault.{Fault};
+ghost use Rattle.brace_model.specs.FaultOrder.{least, with_earlier};
+ghost use Rattle.brace_model.specs.Lawful.{LawfulProgram};
+ghost use Rattle.brace_model.specs.Query.{Saying};
+ghost use Rattle.brace_model.specs.Step.{living};
+ghost use Rattle.brace_cuts.specs.CutPlans.{IsPlan};
+ghost use Rattle.brace_eval.specs.Heard.{IsHeard};
+ghost use Rattle.brace_pieces.specs.Settings.{cuts_of};
+ghost use Rattle.brace_pieces.specs.Continued.{becomes};
+ghost use Rattle.brace_pieces.specs.Owned.{owned};
+ghost use Rattle.brace_part.specs.Parts.{IsCauseOf};
+ghost use Rattle.brace_part.specs.inner.Tables.{with_one};
+
+use brace_draw::Drawer;
+use brace_eval::{Heard, StepFault, left_by};
+use brace_model::{Agent, Fault, earlier};
+use brace_num::NoMemory;
+use brace_pieces::{Cause, Setting, owns};
+use std::alloc::Global;
+
+/// The earlier of a fault and one that was found before it, if any was.
+fn with_earlier(found: Option<Fault>, fault: Fault) -> Fault
+    ensures { result ≡ with_earlier found fault }
+{
+    match found {
+        None => fault,
+        Some(found) => earlier(found, fault),
+    }
+}
+
+/// Adds an agent, where there is one.
+fn add(agents: &mut Vec<Agent>, agent: Option<Agent>) -> Result<(), NoMemory>
+    ensures { IfOk result (λ _. agents.new.items ≡ with_one agents.old.items agent) }
+{
+    if let Some(agent) = agent {
+        agents.push(agent)?;
+    }
+    Ok(())
+}
+
+/// What the agents of a part leave, by rising id, or the least fault of their updates. What was
+/// heard is of all that the part holds.
+pub fn updated(
+    alloc: Global,
+    setting: &Setting,
+    tick: u64,
+    part: u32,
+    held: &[Agent],
+    heard: &Heard,
+) -> Result<Vec<Agent>, Cause>
+    requires lawful { LawfulProgram setting.now.job.program }
+    requires plan { IsPlan setting.now.epoch setting.now.cuts }
+    requires ticks { tick ≤ 2 ^ 32 }
+    ensures left { IfOk result (λ left. (said : List Saying) (faults : List Fault)
+        → IsHeard setting.now.job.program held.now said faults heard.now
+        → left.items ≡ living (filter_map result_ok (map (becomes setting.now tick said)
+        (owned setting.now.job.program (cuts_of setting.now tick) part held.now)))) }
+    ensures passes { IfOk result (λ left. (said : List Saying) (faults : List Fault)
+        → IsHeard setting.now.job.program held.now said faults heard.now
+        → least (filter_map result_err (map (becomes setting.now tick said)
+        (owned setting.now.job.program (cuts_of setting.now tick) part held.now))) ≡ None) }
+    ensures faulted { IfErr result (λ c. (said : List Saying) (faults : List Fault)
+        → IsHeard setting.now.job.program held.now said faults heard.now
+        → IsCauseOf (filter_map result_err (map (becomes setting.now tick said)
+        (owned setting.now.job.program (cuts_of setting.now tick) part held.now))) c) }
+{
+    let program = &setting.job.program;
+    let cuts = setting.cuts.cuts_at(tick);
+    let mut drawer = Drawer::make(setting.job.seed);
+    let mut left = Vec::new(alloc);
+    let mut least = None;
+    for i in 0..held.len() {
+        let a = &held[i];
+        if owns(program, cuts, part, a) {
+            let (totals, _) = heard.row(program, held, i);
+            match left_by(alloc, program, tick, a, totals, &mut drawer) {
+                Ok(next) => add(&mut left, next.agent)?,
+                Err(StepFault::Fault(fault)) => least = Some(with_earlier(least, fault)),
+                Err(StepFault::NoMemory) => return Err(Cause::NoMemory),
+            }
+        }
+    }
+    match least {
+        None => Ok(left),
+        Some(fault) => Err(Cause::Fault(fault)),
+    }
+}
