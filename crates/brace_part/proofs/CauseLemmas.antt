@@ -1,5 +1,5 @@
 -- A cause that a part has is right in each step that is left.
-use Rattle.std.proofs.Common.{◌≡◌, ◌∙◌, refl, sym, ap, subst, ℕ, ◌+◌, ◌<◌, ◌≤◌, ◌⊎◌, List, [], ◌++◌, Bool, true, false, Option, Some, None, arith, inl, inr, ⊎_elim, Contains}
+use Rattle.std.proofs.Common.{◌≡◌, refl, sym, ap, subst, ℕ, ◌+◌, List, [], Bool, true, false, Option, Some, None, arith, inl, inr, ⊎_elim, Contains}
 use Rattle.std.specs.Prelude.{slice_get, if◌then◌else◌}
 use Rattle.std.proofs.lemmas.List.Elements.{Contains-append_cases}
 use Rattle.brace_core.specs.Schedule.{name}

@@ -1,7 +1,6 @@
 -- A part comes from its work to the next step.
-use Rattle.std.proofs.Common.{◌≡◌, ◌∙◌, refl, sym, ap, ap₂, subst, ℕ, ◌+◌, ◌<◌, ◌≤◌, List, [], ◌∷◌, ◌++◌, Bool, true, false, Option, Some, None, arith, inl, inr}
+use Rattle.std.proofs.Common.{◌≡◌, ◌∙◌, refl, sym, ap, ap₂, subst, ℕ, ◌+◌, ◌≤◌, List, [], ◌∷◌, ◌++◌, Bool, true, false, None, arith}
 use Rattle.std.specs.Prelude.{slice_get, if◌then◌else◌}
-use Rattle.std.proofs.lemmas.Bool.{cases_lt}
 use Rattle.std.proofs.lemmas.List.Elements.{All-nil, All-cons, All-append}
 use Rattle.brace_model.specs.FaultOrder.{least}
 use Rattle.brace_model.specs.Next.{has_births}
@@ -10,15 +9,13 @@ use Rattle.brace_pieces.specs.declared.setting.Stage.{Stage}
 use Rattle.brace_pieces.specs.declared.setting.Stage.TheVariants as stage
 use Rattle.brace_pieces.specs.declared.setting.Step.{Step}
 use Rattle.brace_pieces.specs.declared.piece.Shown.{Shown}
-use Rattle.brace_pieces.specs.Settings.{cuts_of}
 use Rattle.brace_pieces.specs.Steps.{steps}
-use Rattle.brace_pieces.specs.Courses.{OnCourse, step_of}
 use Rattle.brace_part.specs.declared.query.Queries.{Queries}
 use Rattle.brace_part.specs.declared.standing.Stance.{Stance}
 use Rattle.brace_part.specs.declared.standing.Stance.TheVariants.{Owns, Hears, Leaves}
 use Rattle.brace_part.specs.declared.standing.Standing.{Standing}
 use Rattle.brace_part.specs.Parts.{own_under, kept_at, found_in_work, keeps_before}
-use Rattle.brace_part.specs.inner.Ready.{IsReady, IsReadyBehind, IsFaultlessAt, AreKept, brings_at}
+use Rattle.brace_part.specs.inner.Ready.{IsReadyBehind, AreKept}
 use Rattle.brace_part.specs.inner.Sound.{IsPartOf, IsAtWork, ComesTo, owns_in}
 use Rattle.brace_part.proofs.StepLemmas.{of_run}
 use Rattle.brace_part.proofs.NextLemmas.{shown_behind, ready_next, faultless_next}

@@ -1,15 +1,14 @@
 -- What a part has behind a step is what the next one needs.
-use Rattle.std.proofs.Common.{◌≡◌, ◌∙◌, refl, sym, ap, ap₂, subst, ℕ, zero, suc, ◌+◌, ◌-◌, ◌<◌, ◌≤◌, List, [], ◌∷◌, ◌++◌, filter, Bool, true, false, cond, Option, Some, None, ◌==◌, ◌&&◌, ◌||◌, arith, inl, inr}
-use Rattle.std.specs.Prelude.{slice_get, not, nat_lt, nat_le, if◌then◌else◌, option_map, unwrap_or}
+use Rattle.std.proofs.Common.{◌≡◌, ◌∙◌, refl, sym, ap, ap₂, subst, ℕ, ◌+◌, ◌-◌, ◌<◌, ◌≤◌, List, [], ◌∷◌, ◌++◌, filter, Bool, true, false, cond, Option, Some, None, ◌==◌, ◌&&◌, arith, inl, inr}
+use Rattle.std.specs.Prelude.{slice_get, nat_lt, nat_le, if◌then◌else◌, option_map, unwrap_or}
 use Rattle.std.specs.List.{last_or, list_any}
-use Rattle.std.proofs.lemmas.Bool.{cases_lt, cases_eq, cases_Bool, or_parts, true≢false}
+use Rattle.std.proofs.lemmas.Bool.{cases_lt, or_parts, true≢false}
 use Rattle.std.proofs.lemmas.Bool.Decides.{nat_tests}
 use Rattle.brace_cuts.specs.declared.plan.CutLine.{CutLine}
 use Rattle.brace_cuts.specs.Space.{no_cuts}
 use Rattle.brace_model.specs.declared.fault.Fault.{Fault}
 use Rattle.brace_model.specs.FaultOrder.{least}
 use Rattle.brace_model.specs.Next.{has_births}
-use Rattle.brace_model.specs.World.{World}
 use Rattle.brace_model.proofs.FaultLemmas.{least_none}
 use Rattle.brace_pieces.specs.declared.setting.Setting.{Setting}
 use Rattle.brace_pieces.specs.declared.setting.Stage.{Stage}
@@ -21,7 +20,7 @@ use Rattle.brace_pieces.specs.Continued.{on, birth_faults}
 use Rattle.brace_pieces.specs.Finds.{queries_found, updates_found, finds}
 use Rattle.brace_pieces.specs.Right.{IsFaultless}
 use Rattle.brace_pieces.specs.inner.Walks.{steps_from, ticks_from, behind_effects, behind_move}
-use Rattle.brace_pieces.proofs.WalkLemmas.{next_in, next_of, next_is, is_low, no_tick, first_of_tick, first_behind_tick}
+use Rattle.brace_pieces.proofs.WalkLemmas.{next_in, next_is, is_low, no_tick, first_of_tick, first_behind_tick}
 use Rattle.brace_part.specs.declared.standing.Stance.{Stance}
 use Rattle.brace_part.specs.declared.standing.Stance.TheVariants.{Owns, Hears, Leaves}
 use Rattle.brace_part.specs.Parts.{own_under, own_before, found_in_work}

@@ -1,15 +1,14 @@
 -- The pieces that a part puts, and those that it took.
-use Rattle.std.proofs.Common.{◌≡◌, ◌∙◌, refl, sym, ap, subst, ℕ, zero, suc, ◌+◌, ◌-◌, ◌<◌, ◌≤◌, List, [], ◌∷◌, ◌++◌, take, drop, length, get_or, filter, Bool, true, false, cond, not, if◌then◌else◌, ◌&&◌, Option, Some, None, ◌==◌, arith, inl, inr, true≢false, All, Contains}
+use Rattle.std.proofs.Common.{◌≡◌, ◌∙◌, refl, sym, ap, subst, ℕ, suc, ◌+◌, ◌-◌, ◌<◌, List, [], ◌∷◌, ◌++◌, take, drop, length, get_or, Bool, true, false, not, if◌then◌else◌, ◌&&◌, Some, ◌==◌, arith, true≢false, Contains}
 use Rattle.std.specs.Prelude.{slice_get, nat_lt}
 use Rattle.std.specs.List.{range_with_len}
-use Rattle.std.proofs.lemmas.Bool.{cases_lt, and_parts}
+use Rattle.std.proofs.lemmas.Bool.{and_parts}
 use Rattle.std.proofs.lemmas.Grind.{common_steps}
 use Rattle.std.proofs.Math.Seq.{drop-cons}
 use Rattle.std.proofs.lemmas.Bool.Decides.{nat_tests}
 use Rattle.std.proofs.lemmas.List.Elements.{All-contains, filter_passes}
 use Rattle.brace_core.specs.Schedule.{name}
 use Rattle.brace_pieces.specs.declared.setting.Setting.{Setting}
-use Rattle.brace_pieces.specs.declared.setting.Stage.{Stage}
 use Rattle.brace_pieces.specs.declared.setting.Step.{Step}
 use Rattle.brace_pieces.specs.declared.piece.Piece.{Piece}
 use Rattle.brace_pieces.specs.Settings.{parts}
@@ -17,7 +16,7 @@ use Rattle.brace_pieces.specs.Steps.{steps, met, meet, parts_meet, is_show}
 use Rattle.brace_pieces.specs.Right.{IsRight, IsRightIn, IsRightAt}
 use Rattle.brace_part.specs.inner.Pieces.{AreOut, AreTaken, GoesOn}
 use Rattle.brace_part.specs.inner.Pieces.AreOut.{none_out, more_out}
-use Rattle.brace_part.specs.inner.Pieces.AreTaken.{none_taken, more_taken}
+use Rattle.brace_part.specs.inner.Pieces.AreTaken.{more_taken}
 
 -- in a step that shows nothing to the publisher a part meets parts alone
 met_passes : (s : Setting) (at : Step) (p q : ℕ) → Contains (met s at p) q → meet s at p q ≡ true

@@ -1,11 +1,10 @@
 -- What holds of a part where it prepared a step.
-use Rattle.std.proofs.Common.{◌≡◌, ◌∙◌, refl, sym, ap, ap₂, subst, ℕ, zero, suc, ◌+◌, ◌-◌, ◌<◌, ◌≤◌, ◌⊎◌, List, [], ◌∷◌, ◌++◌, map, filter, take, drop, length, Bool, true, false, cond, not, ◌&&◌, Option, Some, None, ◌==◌, arith, inl, inr, true≢false}
+use Rattle.std.proofs.Common.{◌≡◌, ◌∙◌, refl, sym, ap, ap₂, subst, ℕ, zero, suc, ◌+◌, ◌-◌, ◌<◌, ◌≤◌, ◌⊎◌, List, [], ◌∷◌, ◌++◌, filter, take, drop, length, Bool, true, false, cond, not, ◌&&◌, Some, None, ◌==◌, arith, inl, inr, true≢false}
 use Rattle.std.specs.Prelude.{slice_get, nat_lt, if◌then◌else◌}
 use Rattle.std.specs.List.{range_with_len}
-use Rattle.std.proofs.lemmas.Bool.{cases_lt, ne_eqb, and_right}
+use Rattle.std.proofs.lemmas.Bool.{ne_eqb, and_right}
 use Rattle.std.proofs.lemmas.Bool.Decides.{nat_tests}
 use Rattle.std.proofs.lemmas.List.Elements.{All-nil}
-use Rattle.brace_core.specs.Schedule.{name}
 use Rattle.brace_pieces.specs.declared.setting.Setting.{Setting}
 use Rattle.brace_pieces.specs.declared.setting.Stage.{Stage}
 use Rattle.brace_pieces.specs.declared.setting.Stage.TheVariants as stage
@@ -14,7 +13,7 @@ use Rattle.brace_pieces.specs.declared.piece.Piece.{Piece}
 use Rattle.brace_pieces.specs.declared.piece.Piece.TheVariants as piece
 use Rattle.brace_pieces.specs.declared.piece.Shown.{Shown}
 use Rattle.brace_pieces.specs.Settings.{LawfulSetting, parts}
-use Rattle.brace_pieces.specs.Steps.{steps, met, meet, parts_meet, is_show}
+use Rattle.brace_pieces.specs.Steps.{steps, met, meet, is_show}
 use Rattle.brace_pieces.specs.Right.{IsRightAt}
 use Rattle.brace_pieces.specs.Courses.{OnCourse, met_in, step_of, others_of}
 use Rattle.brace_pieces.proofs.CourseLemmas.{kept_more}
@@ -22,7 +21,7 @@ use Rattle.brace_part.specs.declared.standing.Standing.{Standing}
 use Rattle.brace_part.specs.Parts.{kept_at, keeps_at, keeps_before}
 use Rattle.brace_part.specs.inner.Pieces.{AreOut, AreTaken}
 use Rattle.brace_part.specs.inner.Pieces.AreOut.{none_out, more_out}
-use Rattle.brace_part.specs.inner.Pieces.AreTaken.{none_taken, more_taken}
+use Rattle.brace_part.specs.inner.Pieces.AreTaken.{none_taken}
 use Rattle.brace_part.specs.inner.Ready.{IsReady, IsFaultlessAt, IsFaultlessBefore, brings_to, brings_at, AreKept}
 use Rattle.brace_part.specs.inner.Sound.{GoesOn}
 use Rattle.brace_part.proofs.StepLemmas.{of_run}

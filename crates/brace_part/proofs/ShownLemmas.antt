@@ -1,8 +1,8 @@
 -- What a part keeps to be shown, from tick to tick.
-use Rattle.std.proofs.Common.{◌≡◌, ◌∙◌, refl, sym, ap, ap₂, subst, ℕ, zero, suc, ◌+◌, ◌-◌, ◌<◌, ◌≤◌, List, [], ◌∷◌, ◌++◌, map, filter, fold, Bool, true, false, cond, Option, Some, None, ◌==◌, ◌||◌, ◌&&◌, arith, inl, inr, append-nil}
-use Rattle.std.specs.Prelude.{slice_get, nat_lt, ◌%◌, if◌then◌else◌, is_some}
+use Rattle.std.proofs.Common.{◌≡◌, ◌∙◌, refl, sym, ap, ap₂, subst, ℕ, zero, suc, ◌+◌, ◌-◌, ◌<◌, ◌≤◌, List, [], ◌∷◌, ◌++◌, map, filter, fold, Bool, true, false, cond, Some, ◌==◌, ◌||◌, ◌&&◌, arith, inl, inr}
+use Rattle.std.specs.Prelude.{slice_get, nat_lt, ◌%◌, if◌then◌else◌}
 use Rattle.std.specs.List.{range_with_len, list_any}
-use Rattle.std.proofs.lemmas.Bool.{cases_lt, cases_eq, eq-eqb, eqb-true, ne_eqb, or_parts, or_from, true≢false}
+use Rattle.std.proofs.lemmas.Bool.{cases_lt, cases_eq, eq-eqb, ne_eqb, or_parts, or_from, true≢false}
 use Rattle.std.proofs.lemmas.Bool.Decides.{nat_tests}
 use Rattle.std.proofs.lemmas.List.{map-append}
 use Rattle.std.proofs.lemmas.List.Elements.{filter-append}
@@ -15,13 +15,13 @@ use Rattle.brace_pieces.specs.declared.setting.Stage.{Stage}
 use Rattle.brace_pieces.specs.declared.setting.Stage.TheVariants as stage
 use Rattle.brace_pieces.specs.declared.setting.Step.{Step}
 use Rattle.brace_pieces.specs.declared.piece.Shown.{Shown}
-use Rattle.brace_pieces.specs.Settings.{LawfulSetting, cuts_of, cuts_shown, is_end, shown_from, shown_ticks}
-use Rattle.brace_pieces.specs.Steps.{step, steps, is_recut}
+use Rattle.brace_pieces.specs.Settings.{cuts_shown, is_end, shown_from, shown_ticks}
+use Rattle.brace_pieces.specs.Steps.{steps}
 use Rattle.brace_pieces.specs.Continued.{on, continued_after}
 use Rattle.brace_pieces.specs.Right as right
-use Rattle.brace_pieces.specs.inner.Walks.{steps_from, ticks_from, behind_effects, behind_move}
+use Rattle.brace_pieces.specs.inner.Walks.{steps_from}
 use Rattle.brace_pieces.proofs.OnLemmas.{on_next}
-use Rattle.brace_pieces.proofs.WalkLemmas.{next_in, next_is, no_tick}
+use Rattle.brace_pieces.proofs.WalkLemmas.{next_in, next_is}
 use Rattle.brace_part.specs.Parts.{own_under, noted, kept_at, keeps_before}
 use Rattle.brace_part.specs.inner.Ready.{brings_to, brings_at}
 use Rattle.brace_pieces.proofs.Childless.{same_next}

@@ -16,14 +16,14 @@ use Rattle.brace_model.specs.World.{class_of}
 use Rattle.brace_model.specs.Query.{Saying}
 use Rattle.brace_model.specs.Total.{joined, total_of, said_to, totals_from}
 use Rattle.brace_comb.specs.Totals.{Tally}
-use Rattle.brace_eval.specs.Heard.{counting, effects_in, row_of}
+use Rattle.brace_eval.specs.Heard.{counted, counting, effects_in, row_of}
 use Rattle.brace_eval.proofs.CountLemmas.{counted-effects}
 use Rattle.brace_eval.proofs.TableLemmas.{row-length}
 use Rattle.std.proofs.lemmas.List.{length-map}
 use Rattle.brace_cuts.specs.declared.space.Cuts.{Cuts}
 use Rattle.brace_pieces.specs.Owned.{owns, owned}
 use Rattle.brace_pieces.specs.Right.{Share, share_unless_silent, shares_from, shares_to}
-use Rattle.brace_part.specs.inner.Tables.{IsTotal, counting_effect, shares_in}
+use Rattle.brace_part.specs.inner.Tables.{IsTotal, shares_in}
 
 take_more : {A : Type 0} (xs : List A) (i : ℕ) (x : A) → i < length xs → x ≡ get_or xs i x → take (i + 1) xs ≡ take i xs ++ x ∷ []
 take_more xs i x le is = ap (λ n. take n xs) (add-one i) ∙ take-suc xs i x le ∙ ap (λ y. take i xs ++ y ∷ []) (sym is)
@@ -66,7 +66,7 @@ counted_values k (v ∷ vs) = let rest = counted_values (k +ℤ pos 1) vs in ome
 
 -- and a count
 pub count_at : (n id : ℕ) (effects : List Effect) (said : List Saying) (i : ℕ) (t : ℤ) → i < length effects
-    → get_or (totals_from n id (map counting_effect effects) said) i t ≡ pos (length (said_to id (n + i) said))
+    → get_or (totals_from n id (map counted effects) said) i t ≡ pos (length (said_to id (n + i) said))
 count_at n id [] said i t le = absurd (omega (arith, le))
 count_at n id (f ∷ effects) said zero t le =
     let here : n ≡ n + 0 = omega arith in
@@ -84,7 +84,7 @@ pub record Reads (id : ℕ) (effects : List Effect) (said : List Saying) (i : �
 
 pub reads : (id : ℕ) (effects : List Effect) (said : List Saying) (totals counts : List ℤ) (i : ℕ) (e : Effect) (number count : ℤ)
     → i < length effects → e ≡ get_or effects i e → (d f : ℤ) → number ≡ get_or totals i d → count ≡ get_or counts i f
-    → totals ≡ totals_from 0 id effects said → counts ≡ totals_from 0 id (map counting_effect effects) said
+    → totals ≡ totals_from 0 id effects said → counts ≡ totals_from 0 id (map counted effects) said
     → Reads id effects said i e number count
 reads id effects said totals counts i e number count le is d f at many all numbers =
     let plain : 0 + i ≡ i = omega arith in
@@ -184,11 +184,11 @@ module _ (program : Program) (cuts : Cuts) (to : ℕ) where
 -- what is told of an agent, by its rows
 pub agent_told : (program : Program) (said : List Saying) (b : Agent) (effects : List Effect) (totals counts : List ℤ) (before after : List Share)
     → effects ≡ effects_in (class_of program b) → totals ≡ row_of program said b → counts ≡ row_of (counting program) said b
-    → (totals ≡ totals_from 0 b.id effects said → counts ≡ totals_from 0 b.id (map counting_effect effects) said
+    → (totals ≡ totals_from 0 b.id effects said → counts ≡ totals_from 0 b.id (map counted effects) said
     → after ≡ before ++ shares_from 0 b.id effects said)
     → after ≡ before ++ shares_from 0 b.id (effects_in (class_of program b)) said
 agent_told program said b effects totals counts before after are all numbers tells =
-    let counting_are : effects_in (class_of (counting program) b) ≡ map counting_effect effects = counted-effects program b ∙ ap (map counting_effect) (sym are) in
+    let counting_are : effects_in (class_of (counting program) b) ≡ map counted effects = counted-effects program b ∙ ap (map counted) (sym are) in
     tells (all ∙ ap (λ (l : List Effect). totals_from 0 b.id l said) (sym are))
     (numbers ∙ ap (λ (l : List Effect). totals_from 0 b.id l said) counting_are)
     ∙ ap (λ (l : List Effect). before ++ shares_from 0 b.id l said) are
@@ -200,11 +200,11 @@ shares_same program cuts to agents said i a le is test =
 
 -- where an agent's totals are as many as its effects, all are told
 pub all_taken : (id : ℕ) (effects : List Effect) (said : List Saying) (totals counts : List ℤ) (i : ℕ)
-    → totals ≡ totals_from 0 id effects said → counts ≡ totals_from 0 id (map counting_effect effects) said
+    → totals ≡ totals_from 0 id effects said → counts ≡ totals_from 0 id (map counted effects) said
     → min (min (length effects) (length totals)) (length counts) ≤ i → take i effects ≡ effects
 all_taken id effects said totals counts i all numbers le =
     let first : length totals ≡ length effects = ap length all ∙ row-length 0 id effects said in
-    let second : length counts ≡ length effects = ap length numbers ∙ row-length 0 id (map counting_effect effects) said ∙ length-map effects counting_effect in
+    let second : length counts ≡ length effects = ap length numbers ∙ row-length 0 id (map counted effects) said ∙ length-map effects counted in
     let past : length effects ≤ i = omega (arith, first, second, le) in
     grind (arith, past, common_steps)
 

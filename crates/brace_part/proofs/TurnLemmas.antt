@@ -1,14 +1,13 @@
 -- What the next turn of a part is, by where its course stands.
-use Rattle.std.proofs.Common.{◌≡◌, ◌∙◌, refl, sym, ap, subst, ℕ, ◌+◌, ◌-◌, ◌*◌, ◌<◌, ◌≤◌, List, length, get_or, Option, Some, None, arith, inl, inr}
+use Rattle.std.proofs.Common.{◌≡◌, ◌∙◌, refl, sym, subst, ℕ, ◌-◌, ◌*◌, ◌<◌, ◌≤◌, List, length, get_or, Option, Some, None, arith, inl, inr}
 use Rattle.std.proofs.lemmas.Bool.{cases_lt}
 use Rattle.brace_core.specs.declared.name.Name.{Name}
 use Rattle.brace_core.specs.declared.name.Turn.{Turn}
 use Rattle.brace_core.specs.declared.name.Turn.TheVariants.{Put, Take, Work, Done}
 use Rattle.brace_core.specs.Schedule.{name, turn_at}
 use Rattle.brace_core.specs.Exchanges.{IsPut, IsTake}
-use Rattle.brace_pieces.specs.declared.setting.Setting.{Setting}
 use Rattle.brace_pieces.specs.declared.setting.Step.{Step}
-use Rattle.brace_pieces.specs.Courses.{OnCourse, IsCourse, met_in, step_of, others_of, exchanges, turn_in, turn_of, past_of}
+use Rattle.brace_pieces.specs.Courses.{OnCourse, IsCourse, step_of, others_of, turn_in, turn_of, past_of}
 use Rattle.brace_pieces.specs.Steps.{schedule}
 use Rattle.brace_pieces.proofs.CourseLemmas.{put_there, take_there, work_there, course_turn}
 

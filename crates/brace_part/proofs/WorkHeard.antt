@@ -1,15 +1,13 @@
 -- What a part hears and finds in a step, and what its agents leave.
-use Rattle.std.proofs.Common.{◌≡◌, ◌∙◌, refl, sym, ap, ap₂, subst, ℕ, ◌+◌, ◌<◌, ◌≤◌, ◌^◌, List, [], ◌∷◌, ◌++◌, map, filter, filter_map, flat_map, Bool, true, false, Option, Some, None, Result, Ok, Err, arith, inl, inr, append-nil, IfOk, IfErr}
+use Rattle.std.proofs.Common.{◌≡◌, ◌∙◌, refl, sym, ap, ap₂, subst, ℕ, ◌<◌, ◌≤◌, ◌^◌, List, [], ◌∷◌, ◌++◌, map, filter_map, flat_map, Bool, true, false, Some, None, Result, Ok, Err, arith, IfOk, IfErr}
 use Rattle.std.specs.Prelude.{slice_get, if◌then◌else◌}
-use Rattle.std.specs.List.{All, Contains, cons_option}
+use Rattle.std.specs.List.{Contains, cons_option}
 use Rattle.std.specs.Result.{result_ok, result_err}
-use Rattle.std.proofs.lemmas.Bool.{cases_Bool}
 use Rattle.std.proofs.lemmas.List.Elements.{All-append, All-weaker, All-contains_itself, Contains-append_left}
 use Rattle.brace_model.specs.declared.program.Program.{Program}
 use Rattle.brace_model.specs.declared.fault.Fault.{Fault}
-use Rattle.brace_model.specs.declared.fault.Phase.TheVariants.{Query, Update}
 use Rattle.brace_model.specs.declared.world.Agent.{Agent}
-use Rattle.brace_model.specs.World.{World, RisesById}
+use Rattle.brace_model.specs.World.{RisesById}
 use Rattle.brace_model.specs.FaultOrder.{phase_rank, comes_before, least}
 use Rattle.brace_model.specs.Query.{Saying, said_in}
 use Rattle.brace_model.specs.Next.{Next}
@@ -29,12 +27,12 @@ use Rattle.brace_pieces.specs.declared.setting.Stage.{Stage}
 use Rattle.brace_pieces.specs.declared.setting.Stage.TheVariants as stage
 use Rattle.brace_pieces.specs.declared.piece.Cause.{Cause}
 use Rattle.brace_pieces.specs.declared.piece.Piece.{Piece}
-use Rattle.brace_pieces.specs.Settings.{LawfulSetting, cuts_of, range}
+use Rattle.brace_pieces.specs.Settings.{cuts_of, range}
 use Rattle.brace_pieces.specs.Steps.{step, steps}
 use Rattle.brace_pieces.specs.Owned.{owns, owned}
 use Rattle.brace_pieces.specs.Continued.{said, becomes, left_or_kept, on}
 use Rattle.brace_pieces.specs.Finds.{queries_found, updates_found}
-use Rattle.brace_pieces.specs.Together.{AreWhole, left_of}
+use Rattle.brace_pieces.specs.Together.{AreWhole}
 use Rattle.brace_pieces.specs.Right.{said_by}
 use Rattle.brace_pieces.specs.Heard.{own, near, said_here, heard, told, tellers, joined}
 use Rattle.brace_pieces.proofs.Meetings.{range_some}

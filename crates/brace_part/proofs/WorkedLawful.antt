@@ -1,10 +1,10 @@
 -- The small script that parts are run on is lawful, and so are runs of it and their schedules.
-use Rattle.std.proofs.Common.{◌≡◌, ◌∙◌, refl, sym, ap, subst, ℕ, zero, suc, ◌+◌, ◌-◌, ◌≤◌, ◌^◌, List, [], ◌∷◌, length, Some, arith, false, map, filter}
+use Rattle.std.proofs.Common.{◌≡◌, ◌∙◌, refl, sym, ap, subst, ℕ, zero, suc, ◌+◌, ◌-◌, ◌≤◌, ◌^◌, List, [], ◌∷◌, length, Some, arith, false, filter}
 use Rattle.std.specs.Prelude.{slice_get}
 use Rattle.std.specs.List.{IsDistinct}
 use Rattle.std.specs.List.Sorted.{IsStrictlyIncreasing}
 use Rattle.std.proofs.lemmas.List.{length-map}
-use Rattle.brace_core.specs.Schedule.{IsLawful, Pair}
+use Rattle.brace_core.specs.Schedule.{Pair}
 use Rattle.brace_core.specs.Lanes.{AreBelow}
 use Rattle.brace_core.proofs.Lawful.{names_below}
 use Rattle.brace_cuts.specs.CutPlans.{IsPlan}

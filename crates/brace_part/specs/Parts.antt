@@ -1,6 +1,6 @@
 -- A part of the plane as contracts see it: what it owns where it stands, what it keeps to be shown,
--- which faults it finds in a work, and how much it gave.
-use Rattle.std.specs.Prelude.{◌≡◌, ◌⊎◌, ℕ, ◌+◌, ◌-◌, ◌%◌, ◌==◌, List, [], ◌++◌, map, filter, fold, sum, take, length, Bool, ◌||◌, if◌then◌else◌, Option, Some, None}
+-- and which faults it finds in a work.
+use Rattle.std.specs.Prelude.{◌≡◌, ◌⊎◌, ℕ, ◌+◌, ◌-◌, ◌%◌, ◌==◌, List, [], ◌++◌, map, filter, ◌||◌, if◌then◌else◌, Option, Some, None}
 use Rattle.std.specs.List.{range_with_len}
 use Rattle.brace_model.specs.declared.fault.Fault.{Fault}
 use Rattle.brace_model.specs.FaultOrder.{least}
@@ -16,11 +16,9 @@ use Rattle.brace_pieces.specs.declared.piece.Piece.{Piece}
 use Rattle.brace_pieces.specs.declared.piece.Piece.TheVariants.{Halt}
 use Rattle.brace_pieces.specs.declared.piece.Shown.{Shown}
 use Rattle.brace_pieces.specs.Settings.{cuts_of, cuts_shown, is_end, shown_from}
-use Rattle.brace_pieces.specs.Steps.{steps, met}
 use Rattle.brace_pieces.specs.Continued.{on}
 use Rattle.brace_pieces.specs.Owned.{owned}
 use Rattle.brace_pieces.specs.Finds.{queries_found, updates_found}
-use Rattle.brace_pieces.specs.Right.{border, shares, moved, handed}
 use Rattle.brace_pieces.specs.Courses.{OnCourse}
 use Rattle.brace_part.specs.declared.counts.Counts.{Counts}
 
@@ -103,28 +101,3 @@ abbrev pub cause_behind : Option Cause → Piece → Option Cause
 cause_behind (Some c) piece = Some c
 cause_behind None (Halt c) = Some c
 cause_behind None _ = None
-
--- how much a part gives in a step to all whom it meets
-abbrev pub given : {A : Type 0} → Setting → Step → ℕ → (ℕ → List A) → ℕ
-given s at p piece = sum (map (λ q. length (piece q)) (met s at p))
-
--- counts behind a step of a stage and tick
-abbrev pub counts_behind : Setting → ℕ → Step → Stage → ℕ → Counts → Counts
-counts_behind s p at Hand tick c =
-    record c { handed = c.handed + given s at p (λ q. handed s tick p q (on s tick).agents) }
-counts_behind s p at Border tick c =
-    record c { border = c.border + given s at p (λ q. border s tick p q (on s tick).agents) }
-counts_behind s p at Effects tick c =
-    record c { effects = c.effects + given s at p (λ q. shares s tick p q (on s tick).agents) }
-counts_behind s p at Move tick c =
-    record c { moved = c.moved + given s at p (λ q. moved s tick p q (on s tick)) }
-counts_behind s p at _ tick c = c
-
--- nothing was given
-abbrev pub no_counts : Counts
-no_counts = record { border = 0; effects = 0; moved = 0; handed = 0 }
-
--- how much a part gives in the steps up to the one of a number
-abbrev pub counts_up_to : Setting → ℕ → ℕ → Counts
-counts_up_to s p number =
-    fold (λ c at. counts_behind s p at at.stage at.tick c) no_counts (take (number + 1) (steps s))

@@ -5,9 +5,9 @@ ghost use Rattle.brace_model.specs.Query.{Saying};
 ghost use Rattle.brace_model.specs.Total.{totals_from};
 ghost use Rattle.brace_comb.specs.Totals.{tally};
 ghost use Rattle.brace_cuts.specs.Space.{LawfulCuts};
-ghost use Rattle.brace_eval.specs.Heard.{IsHeard};
+ghost use Rattle.brace_eval.specs.Heard.{IsHeard, counted};
 ghost use Rattle.brace_pieces.specs.Right.{share_of, shares_from};
-ghost use Rattle.brace_part.specs.inner.Tables.{IsTotal, counting_effect, TellsOf, TellsBy, TellBy, shares_in};
+ghost use Rattle.brace_part.specs.inner.Tables.{IsTotal, TellsOf, TellsBy, TellBy, shares_in};
 
 use brace_comb::{Combine, Entry, Total};
 use brace_cuts::Cuts;
@@ -51,7 +51,7 @@ fn add_entries(
 ) -> Result<(), NoMemory>
     ensures told { OnOk result ((said : List Saying)
         → totals.now ≡ totals_from 0 target effects.now said
-        → counts.now ≡ totals_from 0 target (map counting_effect effects.now) said
+        → counts.now ≡ totals_from 0 target (map counted effects.now) said
         → map share_of entries.new
         ≡ map share_of entries.old ++ shares_from 0 target effects.now said) }
 {

@@ -1,12 +1,11 @@
 -- The pieces that a part is to put, and those that it took. Only the crate's own functions cite
 -- this.
-use Rattle.std.specs.Prelude.{◌≡◌, ℕ, ◌+◌, List, [], ◌∷◌, ◌++◌, length}
+use Rattle.std.specs.Prelude.{ℕ, ◌+◌, List, [], ◌∷◌, ◌++◌, length}
 use Rattle.brace_core.specs.Schedule.{name}
 use Rattle.brace_model.specs.declared.world.Agent.{Agent}
 use Rattle.brace_pieces.specs.declared.setting.Setting.{Setting}
-use Rattle.brace_pieces.specs.declared.piece.Cause.{Cause}
 use Rattle.brace_pieces.specs.declared.piece.Piece.{Piece}
-use Rattle.brace_pieces.specs.declared.piece.Piece.TheVariants.{Border, Effects, Census, Move, Hand, Show, Ack, Halt}
+use Rattle.brace_pieces.specs.declared.piece.Piece.TheVariants.{Border, Effects, Move, Hand, Halt}
 use Rattle.brace_pieces.specs.Right.{IsRight}
 use Rattle.brace_part.specs.declared.counts.Counts.{Counts}
 

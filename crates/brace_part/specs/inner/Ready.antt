@@ -8,7 +8,7 @@ use Rattle.brace_eval.specs.declared.heard.Heard.{Heard}
 use Rattle.brace_eval.specs.Heard.{IsHeard}
 use Rattle.brace_pieces.specs.declared.setting.Setting.{Setting}
 use Rattle.brace_pieces.specs.declared.setting.Stage.{Stage}
-use Rattle.brace_pieces.specs.declared.setting.Stage.TheVariants.{Hand, Border, Effects, Census, Move, Show}
+use Rattle.brace_pieces.specs.declared.setting.Stage.TheVariants.{Hand, Border, Effects, Move, Show}
 use Rattle.brace_pieces.specs.declared.setting.Step.{Step}
 use Rattle.brace_pieces.specs.declared.piece.Shown.{Shown}
 use Rattle.brace_pieces.specs.Settings.{cuts_of, shown_ticks}

@@ -1,8 +1,6 @@
 -- What holds of a part at every moment. Only the crate's own functions cite this.
 use Rattle.std.specs.Prelude.{◌≡◌, ℕ, ◌-◌, ◌<◌, ◌≤◌, List, [], length, take, drop, false, true, Option, Some, None, slice_get}
 use Rattle.std.specs.List.{All, Contains}
-use Rattle.brace_invert.specs.declared.parts.Forward.{Forward}
-use Rattle.brace_invert.specs.declared.parts.Inverse.{Inverse}
 use Rattle.brace_invert.specs.Split.{forward_program, inverse_program}
 use Rattle.brace_model.specs.declared.world.Agent.{Agent}
 use Rattle.brace_model.specs.Next.{has_births}
@@ -11,7 +9,6 @@ use Rattle.brace_pieces.specs.declared.setting.Stage.{Stage}
 use Rattle.brace_pieces.specs.declared.setting.Step.{Step}
 use Rattle.brace_pieces.specs.declared.piece.Cause.{Cause}
 use Rattle.brace_pieces.specs.declared.piece.Piece.{Piece}
-use Rattle.brace_pieces.specs.declared.piece.Shown.{Shown}
 use Rattle.brace_pieces.specs.Settings.{LawfulSetting, parts}
 use Rattle.brace_pieces.specs.Numbers.{NumbersFit}
 use Rattle.brace_pieces.specs.Steps.{step, steps, met, is_show}
@@ -22,7 +19,6 @@ use Rattle.brace_part.specs.declared.query.Queries.TheVariants.{Script, Inverted
 use Rattle.brace_part.specs.declared.standing.Stance.{Stance}
 use Rattle.brace_part.specs.declared.standing.Stance.TheVariants.{Owns, Hears, Leaves}
 use Rattle.brace_part.specs.declared.standing.Standing.{Standing}
-use Rattle.brace_part.specs.declared.counts.Counts.{Counts}
 use Rattle.brace_part.specs.declared.work.Worker.{Worker}
 use Rattle.brace_part.specs.Parts.{keeps_at}
 use Rattle.brace_part.specs.inner.Pieces.{AreOut, AreTaken}

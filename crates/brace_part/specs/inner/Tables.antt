@@ -2,8 +2,6 @@
 use Rattle.std.specs.Prelude.{◌≡◌, ℕ, ℤ, pos, List, [], ◌∷◌, ◌++◌, flat_map, if◌then◌else◌, Option, Some, None}
 use Rattle.std.specs.List.{Contains}
 use Rattle.brace_model.specs.declared.program.Comb.{Comb}
-use Rattle.brace_model.specs.declared.program.Comb.TheVariants.{Count}
-use Rattle.brace_model.specs.declared.program.Effect.{Effect}
 use Rattle.brace_model.specs.declared.program.Program.{Program}
 use Rattle.brace_model.specs.declared.fault.Fault.{Fault}
 use Rattle.brace_model.specs.declared.world.Agent.{Agent}
@@ -54,10 +52,6 @@ pub record IsTotal (comb : Comb) (number count : ℤ) (t : Tally) : Type 0 where
 abbrev pub with_one : {A : Type 0} → List A → Option A → List A
 with_one xs None = xs
 with_one xs (Some x) = xs ++ x ∷ []
-
--- an effect that counts the values said
-abbrev pub counting_effect : Effect → Effect
-counting_effect e = record e { comb = Count }
 
 -- an entry tells of values said to an effect of an agent of a list
 pub record TellsOf (program : Program) (held : List Agent) (entry : Entry) (told : List Saying)

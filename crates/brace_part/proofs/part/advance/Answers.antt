@@ -1,4 +1,4 @@
-use Rattle.std.proofs.Common.{rules, ◌≡◌, ◌∙◌, ◌+◌, ◌++◌, sym, ap, subst, [], ◌∷◌, None, arith, if◌then◌else◌}
+use Rattle.std.proofs.Common.{◌≡◌, ◌+◌, ◌++◌, sym, subst, [], ◌∷◌, None, arith, if◌then◌else◌}
 use Rattle.std.specs.Prelude.{slice_get}
 use Rattle.brace_model.specs.FaultOrder.{least}
 use Rattle.brace_pieces.specs.declared.setting.Stage.TheVariants as stage

@@ -1,7 +1,6 @@
-use Rattle.std.proofs.Common.{rules, ◌≡◌, ◌∙◌, sym, ap, ap₂, subst, [], ◌∷◌, Some, None, false, All, Contains}
+use Rattle.std.proofs.Common.{rules, ◌≡◌, ◌∙◌, sym, ap, ap₂, subst, [], Some, None, false, All, Contains}
 use Rattle.std.proofs.lemmas.List.Elements.{All-contains_itself}
 use Rattle.brace_pieces.specs.declared.setting.Stage.TheVariants as stage
-use Rattle.brace_pieces.specs.declared.piece.Piece.TheVariants as piece
 use Rattle.brace_pieces.specs.Steps.{met, is_show}
 use Rattle.brace_pieces.specs.Courses.{met_in, step_of, others_of}
 use Rattle.brace_part.proofs.PartLemmas.{goes_nowhere, goes_showing, goes_exchanging, out_same, kept_or_gone}

@@ -1,4 +1,4 @@
-use Rattle.std.proofs.Common.{rules, ◌≡◌, ◌∙◌, sym, ap, subst, [], ◌∷◌, Contains}
+use Rattle.std.proofs.Common.{◌∙◌, sym, ap, subst, [], Contains}
 use Rattle.std.proofs.lemmas.List.Elements.{All-head}
 use Rattle.brace_cuts.specs.Space.{LawfulCuts}
 use Rattle.brace_pieces.specs.declared.piece.Piece.TheVariants as piece

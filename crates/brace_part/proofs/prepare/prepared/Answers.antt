@@ -1,4 +1,4 @@
-use Rattle.std.proofs.Common.{rules, ◌≡◌, ◌∙◌, refl, sym, ap, subst, [], ◌∷◌, ◌++◌, length, drop, fold, get_or, ℕ, ◌+◌, ◌-◌, arith, Contains}
+use Rattle.std.proofs.Common.{rules, ◌≡◌, ◌∙◌, refl, sym, ap, subst, [], ◌∷◌, length, drop, fold, get_or, ℕ, ◌+◌, ◌-◌, arith, Contains}
 use Rattle.std.proofs.lemmas.List.Elements.{All-cons, All-nil}
 use Rattle.std.proofs.lemmas.List.Sums.{fold-append}
 use Rattle.brace_pieces.specs.Steps.{met}

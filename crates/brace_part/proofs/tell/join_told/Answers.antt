@@ -2,7 +2,6 @@ use Rattle.std.proofs.Common.{List, drop, subst, sym, ◌∙◌, ◌+◌, ◌∷
 use Rattle.brace_comb.specs.declared.entry.Entry.{Entry}
 use Rattle.brace_eval.specs.declared.heard.Heard.{Heard}
 use Rattle.brace_pieces.specs.declared.piece.Piece.{Piece}
-use Rattle.brace_pieces.specs.declared.piece.Piece.TheVariants as piece
 use Rattle.brace_part.specs.inner.Tables.{TellsBy, TellBy}
 use Rattle.brace_part.proofs.TableTells.{SoFarTold, told_next, told_last, piece_more, no_pieces, is_telling, next_of, none_left}
 use Rattle.brace_part.proofs.tell.join_told.Goals as goal

@@ -1,19 +1,16 @@
-use Rattle.std.proofs.Common.{rules, ◌≡◌, ◌∙◌, ◌≤◌, sym, ap, subst, [], ◌∷◌, true, false, if◌then◌else◌, arith}
+use Rattle.std.proofs.Common.{rules, ◌≡◌, ◌∙◌, ◌≤◌, sym, ap, subst, arith}
 use Rattle.std.specs.Prelude.{slice_get, is_some}
 use Rattle.std.specs.Vec.{vec_capacity}
 use Rattle.std.proofs.lemmas.Bool.{true≢false}
 use Rattle.std.proofs.lemmas.List.Elements.{All-nil}
-use Rattle.brace_pieces.specs.declared.setting.Stage.TheVariants as stage
 use Rattle.brace_pieces.specs.Settings.{parts}
 use Rattle.brace_pieces.specs.Steps.{steps}
 use Rattle.brace_pieces.specs.Courses.{OnCourse, IsCourse, step_of}
 use Rattle.brace_part.specs.declared.standing.Stance.TheVariants.{Owns}
 use Rattle.brace_part.specs.declared.standing.Standing.{Standing}
 use Rattle.brace_part.specs.Parts.{kept_at}
-use Rattle.brace_part.specs.inner.Ready.{IsReadyFor, AreKept}
+use Rattle.brace_part.specs.inner.Ready.{AreKept}
 use Rattle.brace_part.specs.inner.Sound.{IsPartOf, ComesTo}
-use Rattle.brace_part.proofs.ShownLemmas.{is_noted}
-use Rattle.brace_part.proofs.ComesLemmas.{note_of}
 use Rattle.brace_part.proofs.StartLemmas.{comes_first, kept_first, from_none}
 use Rattle.brace_part.proofs.part.Part.make.Goals as goal
 use Rattle.brace_part.proofs.part.Part.make.Goals.{then-is_some+in_ok-note, else-is_some}

@@ -1,19 +1,14 @@
-use Rattle.std.proofs.Common.{rules, ◌≡◌, ◌∙◌, ◌*◌, ◌<◌, ◌++◌, refl, sym, ap, subst, [], ◌∷◌, length, Some, None, true, arith}
-use Rattle.std.specs.Prelude.{is_some}
+use Rattle.std.proofs.Common.{rules, ◌∙◌, refl, sym, subst, Some, arith}
 use Rattle.std.specs.Vec.{vec_capacity}
-use Rattle.brace_core.specs.declared.name.Name.{Name}
-use Rattle.brace_core.specs.declared.name.Turn.TheVariants as turn
 use Rattle.brace_core.specs.Schedule.{turn_at}
-use Rattle.brace_core.specs.Exchanges.{IsPut, IsTake}
+use Rattle.brace_core.specs.Exchanges.{IsTake}
 use Rattle.brace_pieces.specs.Steps.{schedule}
 use Rattle.brace_pieces.specs.Right.{IsRight}
-use Rattle.brace_pieces.specs.Courses.{OnCourse, others_of, past_of}
+use Rattle.brace_pieces.specs.Courses.{OnCourse, past_of}
 use Rattle.brace_part.specs.declared.standing.Standing.{Standing}
 use Rattle.brace_part.specs.Parts.{OnPart}
 use Rattle.brace_part.specs.inner.Sound.{IsSound}
-use Rattle.brace_pieces.specs.declared.piece.Cause.{Cause}
-use Rattle.brace_pieces.specs.declared.piece.Piece.{Piece}
-use Rattle.brace_part.proofs.TurnLemmas.{some_take, take_due, take_of, take_named}
+use Rattle.brace_part.proofs.TurnLemmas.{some_take, take_due}
 use Rattle.brace_part.proofs.SoundLemmas.{sound_within, take_goes, has_place}
 use Rattle.brace_part.proofs.GoneLemmas.{took_next, take_halt, cause_none, no_cause, goes_unless}
 use Rattle.brace_part.proofs.part.PartActorPiece.give.Goals as goal

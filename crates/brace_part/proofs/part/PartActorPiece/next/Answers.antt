@@ -1,4 +1,4 @@
-use Rattle.std.proofs.Common.{◌≡◌, ◌∙◌, ap}
+use Rattle.std.proofs.Common.{◌∙◌, ap}
 use Rattle.brace_core.specs.Exchanges.{due}
 use Rattle.brace_pieces.specs.Steps.{schedule}
 use Rattle.brace_pieces.specs.Courses.{past_of}

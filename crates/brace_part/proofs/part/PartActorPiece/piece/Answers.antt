@@ -1,14 +1,14 @@
-use Rattle.std.proofs.Common.{rules, ◌≡◌, ◌∙◌, ◌*◌, ◌<◌, ◌++◌, refl, sym, ap, subst, [], ◌∷◌, length, Some, None, true, arith}
+use Rattle.std.proofs.Common.{rules, ◌≡◌, refl, sym, ap, subst, [], arith}
 use Rattle.std.specs.Prelude.{is_some}
 use Rattle.std.specs.Vec.{vec_capacity}
 use Rattle.brace_core.specs.declared.name.Name.{Name}
 use Rattle.brace_core.specs.declared.name.Turn.TheVariants as turn
 use Rattle.brace_core.specs.Schedule.{turn_at}
-use Rattle.brace_core.specs.Exchanges.{IsPut, IsTake}
+use Rattle.brace_core.specs.Exchanges.{IsPut}
 use Rattle.brace_pieces.specs.declared.piece.Piece.TheVariants as piece
 use Rattle.brace_pieces.specs.Steps.{schedule}
 use Rattle.brace_pieces.specs.Right.{IsRight}
-use Rattle.brace_pieces.specs.Courses.{OnCourse, others_of, past_of}
+use Rattle.brace_pieces.specs.Courses.{OnCourse, past_of}
 use Rattle.brace_part.specs.declared.standing.Standing.{Standing}
 use Rattle.brace_part.specs.Parts.{OnPart}
 use Rattle.brace_part.specs.inner.Sound.{IsHalted, IsSound}

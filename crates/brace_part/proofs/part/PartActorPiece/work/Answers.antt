@@ -1,16 +1,14 @@
-use Rattle.std.proofs.Common.{rules, ◌≡◌, ◌∙◌, ◌+◌, refl, sym, ap, subst, Some, None, true, false}
-use Rattle.std.specs.Prelude.{is_some}
+use Rattle.std.proofs.Common.{◌≡◌, ◌∙◌, ◌+◌, refl, sym, ap, subst, Some}
 use Rattle.std.specs.Vec.{vec_capacity}
 use Rattle.brace_core.specs.declared.name.Turn.TheVariants as turn
 use Rattle.brace_core.specs.Schedule.{turn_at}
 use Rattle.brace_pieces.specs.Steps.{schedule}
-use Rattle.brace_pieces.specs.Courses.{OnCourse, past_of}
-use Rattle.brace_pieces.specs.Right.{IsRightCause}
+use Rattle.brace_pieces.specs.Courses.{past_of}
 use Rattle.brace_part.specs.Parts.{OnPart, IsCauseOf, found_in_work}
 use Rattle.brace_part.specs.inner.Ready.{AreKept}
 use Rattle.brace_part.proofs.TurnLemmas.{work_due, work_named}
 use Rattle.brace_part.proofs.CauseLemmas.{cause_told}
-use Rattle.brace_part.proofs.GoneLemmas.{number_on, none_made, setting_on, actor_on, work_on, sound_on, halted_on, cause_none, no_cause}
+use Rattle.brace_part.proofs.GoneLemmas.{number_on, none_made, work_on, sound_on, halted_on, cause_none, no_cause}
 use Rattle.brace_part.proofs.part.PartActorPiece.work.Goals as goal
 
 pub go_on-requires : goal.go_on-requires

@@ -1,4 +1,4 @@
-use Rattle.std.proofs.Common.{◌≡◌, ◌∙◌, sym, ap, subst, inl, IfErr, rules}
+use Rattle.std.proofs.Common.{◌∙◌, sym, ap, subst, inl, IfErr, rules}
 use Rattle.brace_model.specs.FaultOrder.{least}
 use Rattle.brace_pieces.specs.declared.setting.Stage.TheVariants as stage
 use Rattle.brace_part.specs.Parts.{IsCauseOf, cause_of}
