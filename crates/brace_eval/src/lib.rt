@@ -18,6 +18,7 @@ mod update;
 pub use expression::eval;
 pub use fault::StepFault;
 pub use heard::{Heard, effects_of};
+pub use ledger::with_earlier;
 pub use step::plain_step;
 pub use update::{Left, left_by};
 

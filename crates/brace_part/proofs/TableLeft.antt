@@ -12,7 +12,7 @@ use Rattle.brace_model.specs.Total.{totals_from}
 use Rattle.brace_model.specs.Next.{Next, next_in}
 use Rattle.brace_model.specs.Step.{living, children}
 use Rattle.brace_eval.specs.Heard.{effects_in, row_of}
-use Rattle.brace_eval.specs.inner.Updates as eval
+use Rattle.brace_eval.specs.inner.Updates.{with_one}
 use Rattle.brace_eval.proofs.StepLemmas.{SoFar, so_far-ok, so_far-err}
 use Rattle.brace_cuts.specs.declared.space.Cuts.{Cuts}
 use Rattle.brace_pieces.specs.declared.setting.Setting.{Setting}
@@ -20,7 +20,6 @@ use Rattle.brace_pieces.specs.declared.piece.Cause.TheVariants as cause
 use Rattle.brace_pieces.specs.Continued.{becomes, totals_of}
 use Rattle.brace_pieces.specs.Owned.{owns, owned}
 use Rattle.brace_part.specs.Parts.{IsCauseOf, cause_of}
-use Rattle.brace_part.specs.inner.Tables.{with_one}
 use Rattle.brace_part.proofs.TableShares.{owns_one, owns_none}
 
 -- the agents that live on, and the least fault, of some updates
@@ -32,15 +31,11 @@ so_far : (rs : List (Result Next Fault)) (stay : List Agent) (found : Option Fau
     → SoFar rs stay (children (filter_map result_ok rs)) found
 so_far rs stay found h = record { lives = h.lives; births = refl; first = h.first }
 
-same_one : (xs : List Agent) (o : Option Agent) → with_one xs o ≡ eval.with_one xs o
-same_one xs None = refl
-same_one xs (Some x) = refl
-
 left_ok : (rs : List (Result Next Fault)) (n : Next) (stay : List Agent) (found : Option Fault) → AreLeft rs stay found
     → AreLeft (rs ++ Ok n ∷ []) (with_one stay n.agent) found
 left_ok rs n stay found h =
     let more = so_far-ok rs n stay (children (filter_map result_ok rs)) found (so_far rs stay found h) in
-    record { lives = same_one stay n.agent ∙ more.lives; first = more.first }
+    record { lives = more.lives; first = more.first }
 
 left_err : (rs : List (Result Next Fault)) (g : Fault) (stay : List Agent) (found : Option Fault) → AreLeft rs stay found
     → AreLeft (rs ++ Err g ∷ []) stay (Some (with_earlier found g))

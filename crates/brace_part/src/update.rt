@@ -1,34 +1,24 @@
 ghost use Rattle.std.specs.Prelude.{◌≡◌, ◌≤◌, ◌^◌, List, map, filter_map, IfOk, IfErr, None};
 ghost use Rattle.std.specs.Result.{result_ok, result_err};
 ghost use Rattle.brace_model.specs.declared.fault.Fault.{Fault};
-ghost use Rattle.brace_model.specs.FaultOrder.{least, with_earlier};
+ghost use Rattle.brace_model.specs.FaultOrder.{least};
 ghost use Rattle.brace_model.specs.Lawful.{LawfulProgram};
 ghost use Rattle.brace_model.specs.Query.{Saying};
 ghost use Rattle.brace_model.specs.Step.{living};
 ghost use Rattle.brace_cuts.specs.CutPlans.{IsPlan};
 ghost use Rattle.brace_eval.specs.Heard.{IsHeard};
+ghost use Rattle.brace_eval.specs.inner.Updates.{with_one};
 ghost use Rattle.brace_pieces.specs.Settings.{cuts_of};
 ghost use Rattle.brace_pieces.specs.Continued.{becomes};
 ghost use Rattle.brace_pieces.specs.Owned.{owned};
 ghost use Rattle.brace_part.specs.Parts.{IsCauseOf};
-ghost use Rattle.brace_part.specs.inner.Tables.{with_one};
 
 use brace_draw::Drawer;
-use brace_eval::{Heard, StepFault, left_by};
-use brace_model::{Agent, Fault, earlier};
+use brace_eval::{Heard, StepFault, left_by, with_earlier};
+use brace_model::{Agent, Fault};
 use brace_num::NoMemory;
 use brace_pieces::{Cause, Setting, owns};
 use std::alloc::Global;
-
-/// The earlier of a fault and one that was found before it, if any was.
-fn with_earlier(found: Option<Fault>, fault: Fault) -> Fault
-    ensures { result ≡ with_earlier found fault }
-{
-    match found {
-        None => fault,
-        Some(found) => earlier(found, fault),
-    }
-}
 
 /// Adds an agent, where there is one.
 fn add(agents: &mut Vec<Agent>, agent: Option<Agent>) -> Result<(), NoMemory>

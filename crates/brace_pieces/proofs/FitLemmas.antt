@@ -1,6 +1,6 @@
 -- Where the numbers that are written in an expression fit 64 bits, so does its value over an agent's
 -- own states and totals.
-use Rattle.std.proofs.Common.{◌≡◌, ◌∙◌, refl, sym, ap, subst, ℕ, zero, suc, ◌*◌, ◌^◌, ◌<◌, ◌≤◌, ℤ, pos, negsuc, List, [], ◌∷◌, Bool, true, false, ◌&&◌, ◌⊎◌, if◌then◌else◌, Option, Some, None, Result, Ok, Err, inl, inr, arith, unsigned_abs, int_div, int_rem, ◌*ℤ◌, ◌+ℤ◌, ◌-ℤ◌, neg_ℤ, FitsSigned, lit<, mod-lt, div-le_self}
+use Rattle.std.proofs.Common.{◌≡◌, ◌∙◌, refl, sym, ap, subst, ℕ, zero, suc, ◌*◌, ◌^◌, ◌<◌, ◌≤◌, ℤ, pos, negsuc, List, [], ◌∷◌, Bool, true, false, ◌&&◌, ◌⊎◌, if◌then◌else◌, Option, Some, None, Result, Ok, Err, inl, inr, arith, unsigned_abs, int_div, int_rem, ◌*ℤ◌, ◌+ℤ◌, ◌-ℤ◌, neg_ℤ, FitsSigned, div-le_self}
 use Rattle.std.specs.Prelude.{slice_set, slice_index_or, not}
 use Rattle.std.specs.List.{list_all}
 use Rattle.std.specs.Ordering.{int_eq}
@@ -10,8 +10,8 @@ use Rattle.std.proofs.lemmas.Int.{ints, clamps, quot_fits, rem_below}
 use Rattle.std.proofs.lemmas.Bool.{and_parts, cases_lt}
 use Rattle.std.proofs.lemmas.Bool.Decides.{nat_tests}
 use Rattle.std.proofs.Math.Nat.{mul-le-mul_right}
-use Rattle.rand_chacha.specs.Block.{block_word}
 use Rattle.brace_draw.specs.Draw.{draw_word, draw_value}
+use Rattle.brace_draw.proofs.Words.{word_low}
 use Rattle.brace_num.specs.declared.kinds.Kind.{Kind}
 use Rattle.brace_num.specs.declared.kinds.Kind.TheVariants.{Overflow, DivZero, NegRoot}
 use Rattle.brace_num.specs.Exact.{fits, fitting, is_zero, exact_add, exact_sub, exact_neg, exact_abs, exact_sqrt, exact_to_fixed, exact_int_rem, root}
@@ -117,10 +117,6 @@ rem_if true x y is f = err_sure DivZero
 rem_if false x y is f =
     let less = rem_below x y (some_abs y is) in
     ok_sure (int_rem x y) (abs_fits (int_rem x y) (omega (arith, less, abs_low y f)))
-
-word_low : (seed tick agent site : ℕ) → draw_word seed tick agent site < 2 ^ 32
-unfolding draw_word block_word
-word_low seed tick agent site = mod-lt _ (lit< tt)
 
 draw_fits : (seed tick agent site : ℕ) → FitsSigned w64 (pos (draw_value seed tick agent site))
 draw_fits seed tick agent site =

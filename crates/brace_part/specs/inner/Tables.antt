@@ -1,5 +1,5 @@
 -- What a part hears and tells by its tables. Only the crate's own functions cite this.
-use Rattle.std.specs.Prelude.{◌≡◌, ℕ, ℤ, pos, List, [], ◌∷◌, ◌++◌, flat_map, if◌then◌else◌, Option, Some, None}
+use Rattle.std.specs.Prelude.{◌≡◌, ℕ, ℤ, pos, List, [], ◌∷◌, ◌++◌, flat_map, if◌then◌else◌}
 use Rattle.std.specs.List.{Contains}
 use Rattle.brace_model.specs.declared.program.Comb.{Comb}
 use Rattle.brace_model.specs.declared.program.Program.{Program}
@@ -47,11 +47,6 @@ pub record IsTotal (comb : Comb) (number count : ℤ) (t : Tally) : Type 0 where
   pub combinator : t.comb ≡ comb
   pub number_is : t.number ≡ number
   pub count_is : pos t.count ≡ count
-
--- a list, and behind it one element that may be there
-abbrev pub with_one : {A : Type 0} → List A → Option A → List A
-with_one xs None = xs
-with_one xs (Some x) = xs ++ x ∷ []
 
 -- an entry tells of values said to an effect of an agent of a list
 pub record TellsOf (program : Program) (held : List Agent) (entry : Entry) (told : List Saying)
