@@ -247,6 +247,23 @@ module _ (s : Setting) (t : ℕ) (w : World) (lawful : LawfulProgram s.job.progr
     ]) refl e
   ]) refl e
 
+  -- and what ends a tick is found in it
+  pub step_found : (g : Fault) → step m s.job.seed t w ≡ Err g → Contains (found_over s t w g.phase) g
+  step_found g e = (elim (least queries) as (λ o. least queries ≡ o → unless_faulty o (least updates) births new ≡ Err g → Contains (found_over s t w g.phase) g) [
+    | Some q ↦ λ is e. let same : q ≡ g = cc in let least_is = is ∙ ap Some same in
+        subst (λ phase. Contains (found_over s t w phase) g) (sym (queries_of g least_is).phase) (among (all_queries_found s t w.agents) g (least_found s.invert ∙ least_is))
+    | None ↦ λ no_query e. (elim (least updates) as (λ o. least updates ≡ o → unless_faulty None o births new ≡ Err g → Contains (found_over s t w g.phase) g) [
+      | Some u ↦ λ is e. let same : u ≡ g = cc in let least_is = is ∙ ap Some same in
+          subst (λ phase. Contains (found_over s t w phase) g) (sym (updates_of g least_is).phase) (subst (λ faults. Contains faults g) (sym (updates_found no_query)) (among updates g least_is))
+      | None ↦ λ no_update e. (elim births as (λ o. births ≡ o → unless_faulty None None o new ≡ Err g → Contains (found_over s t w g.phase) g) [
+        | Some b ↦ λ is e. let same : b ≡ g = cc in let birth_is = is ∙ ap Some same in
+            subst (λ phase. Contains (found_over s t w phase) g) (sym (births_of m t (first_too_far (living left) w.next (children left)) g birth_is).phase)
+            (subst (λ faults. Contains faults g) (sym (births_found no_query no_update ∙ ap listed birth_is)) (0, omega arith, refl))
+        | None ↦ λ no_birth e. absurd (cc)
+      ]) refl e
+    ]) refl e
+  ]) refl e
+
   module _ (f : Fault) (at : f.tick ≡ t) where
     -- a fault of a query comes before all others
     query_first : (g : Fault) → least queries ≡ Some g → (phase : Phase) → f.phase ≡ phase → Contains (found_over s t w phase) f → EndsBefore s t w f g

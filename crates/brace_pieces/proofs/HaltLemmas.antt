@@ -29,14 +29,14 @@ use Rattle.brace_pieces.proofs.FaultLemmas.{found_over, later_tick, step_is_of, 
 use Rattle.brace_pieces.proofs.PlaceLemmas.{found_first}
 
 -- the last world of a run that ended, and the fault that its tick ended in
-record Ended (s : Setting) (n : ℕ) (g : Fault) : Type 0 where
+pub record Ended (s : Setting) (n : ℕ) (g : Fault) : Type 0 where
   pub ticks : ℕ
   pub before : ticks < n
   pub world : World
   pub there : world_after s.job ticks ≡ Ok world
   pub ends : step s.job.program s.job.seed (s.job.first + ticks) world ≡ Err g
 
-ended : (s : Setting) (n : ℕ) (g : Fault) → world_after s.job n ≡ Err g → Ended s n g
+pub ended : (s : Setting) (n : ℕ) (g : Fault) → world_after s.job n ≡ Err g → Ended s n g
 unfolding world_after
 ended s zero g e = absurd (cc)
 ended s (suc n) g e = (elim (world_after s.job n) as (λ r. world_after s.job n ≡ r → stepped s.job (s.job.first + n) r ≡ Err g → Ended s (suc n) g) [
@@ -44,7 +44,7 @@ ended s (suc n) g e = (elim (world_after s.job n) as (λ r. world_after s.job n 
   | Err f ↦ λ is e. let same : f ≡ g = cc in let h = ended s n g (is ∙ ap Err same) in record { ticks = h.ticks; before = omega (arith, h.before); world = h.world; there = h.there; ends = h.ends }
 ]) refl e
 
-found_same : (s : Setting) (t : ℕ) (phase : Phase) → found_in s t phase ≡ found_over s t (on s t) phase
+pub found_same : (s : Setting) (t : ℕ) (phase : Phase) → found_in s t phase ≡ found_over s t (on s t) phase
 found_same s t Query = refl
 found_same s t Update = refl
 found_same s t Birth = refl

@@ -27,3 +27,4 @@ pub mod ShareLemmas
 pub mod WalkLemmas
 pub mod CourseLemmas
 pub mod AllLemmas
+pub mod FoundLemmas

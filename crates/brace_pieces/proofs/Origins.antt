@@ -1,9 +1,10 @@
 -- Of what lists come: an item of a list that was made of others is made of one of their items.
-use Rattle.std.proofs.Common.{◌≡◌, ◌∙◌, ◌⊎◌, refl, sym, ap, ℕ, zero, suc, List, [], ◌∷◌, map, filter, filter_map, zip, take, get_or-take, Bool, true, false, cond, ◌||◌, Option, Some, None, Contains, inl, inr, arith}
+use Rattle.std.proofs.Common.{◌≡◌, ◌∙◌, ◌⊎◌, ⊎_elim, refl, sym, ap, subst, ℕ, zero, suc, List, [], ◌∷◌, ◌++◌, map, filter, filter_map, flat_map, zip, take, get_or-take, Bool, true, false, cond, ◌||◌, Option, Some, None, Contains, inl, inr, arith}
 use Rattle.std.specs.Prelude.{◌==◌}
 use Rattle.std.specs.List.{list_any, cons_option}
 use Rattle.std.proofs.lemmas.Bool.{eqb-true, eq-eqb}
 use Rattle.std.proofs.lemmas.List.{length-take}
+use Rattle.std.proofs.lemmas.List.Elements.{Contains-append_left, Contains-append_right, Contains-append_cases}
 use Rattle.brace_model.specs.declared.world.Agent.{Agent}
 use Rattle.brace_model.specs.Step.{numbered}
 
@@ -44,6 +45,45 @@ of_map f (x ∷ xs) b has = by_place (first_or (f x) (map f xs) b has) (of_map f
     by_place : (f x ≡ b) ⊎ Contains (map f xs) b → (Contains (map f xs) b → MadeOf (λ a. Some (f a)) xs b) → MadeOf (λ a. Some (f a)) (x ∷ xs) b
     by_place (inl same) rest = record { from = x; there = (0, omega arith, refl); made = ap Some same }
     by_place (inr behind) rest = one_more (λ a. Some (f a)) x xs b (rest behind)
+
+-- an item that gives something
+pub record GivenBy {A B : Type 0} (f : A → List B) (xs : List A) (b : B) : Type 0 where
+  pub from : A
+  pub there : Contains xs from
+  pub gives : Contains (f from) b
+
+pub of_flat_map : {A B : Type 0} (f : A → List B) (xs : List A) (b : B) → Contains (flat_map f xs) b → GivenBy f xs b
+of_flat_map f [] b (k, low, is) = absurd (omega (arith, low))
+of_flat_map f (x ∷ xs) b has = by_place (Contains-append_cases (f x) (flat_map f xs) b has) (of_flat_map f xs b)
+  where
+    later : GivenBy f xs b → GivenBy f (x ∷ xs) b
+    later g = record { from = g.from; there = one_on x xs g.from g.there; gives = g.gives }
+
+    by_place : Contains (f x) b ⊎ Contains (flat_map f xs) b → (Contains (flat_map f xs) b → GivenBy f xs b) → GivenBy f (x ∷ xs) b
+    by_place (inl here) rest = record { from = x; there = (0, omega arith, refl); gives = here }
+    by_place (inr behind) rest = later (rest behind)
+
+-- what an item gives all of them give
+pub flat_map_of : {A B : Type 0} (f : A → List B) (xs : List A) (a : A) (b : B) → Contains xs a → Contains (f a) b → Contains (flat_map f xs) b
+flat_map_of f [] a b (k, low, is) gives = absurd (omega (arith, low))
+flat_map_of f (x ∷ xs) a b has gives = by_place (first_or x xs a has) (λ behind. flat_map_of f xs a b behind gives)
+  where
+    by_place : (x ≡ a) ⊎ Contains xs a → (Contains xs a → Contains (flat_map f xs) b) → Contains (f x ++ flat_map f xs) b
+    by_place (inl same) rest = Contains-append_left (f x) (flat_map f xs) b (subst (λ y. Contains (f y) b) (sym same) gives)
+    by_place (inr behind) rest = Contains-append_right (f x) (flat_map f xs) b (rest behind)
+
+-- an item that passes a test is kept
+pub kept_of : {A : Type 0} (t : A → Bool) (xs : List A) (a : A) → Contains xs a → t a ≡ true → Contains (filter t xs) a
+kept_of t [] a (k, low, is) passes = absurd (omega (arith, low))
+kept_of t (x ∷ xs) a has passes = by_place (first_or x xs a has) (λ behind. kept_of t xs a behind passes)
+  where
+    by_test : (v : Bool) → Contains (filter t xs) a → Contains (cond v (x ∷ filter t xs) (filter t xs)) a
+    by_test true there = one_on x (filter t xs) a there
+    by_test false there = there
+
+    by_place : (x ≡ a) ⊎ Contains xs a → (Contains xs a → Contains (filter t xs) a) → Contains (cond (t x) (x ∷ filter t xs) (filter t xs)) a
+    by_place (inl same) rest = subst (λ v. Contains (cond v (x ∷ filter t xs) (filter t xs)) a) (sym (ap t same ∙ passes)) (0, omega arith, same)
+    by_place (inr behind) rest = by_test (t x) (rest behind)
 
 -- some first items are items
 pub of_take : {A : Type 0} (n : ℕ) (xs : List A) (a : A) → Contains (take n xs) a → Contains xs a

@@ -15,6 +15,7 @@ use Rattle.brace_model.specs.Value.{Scope, value}
 use Rattle.brace_model.specs.Query.{Deed, deed_of, closed, chosen, iterated, inside, seen_by, statement, opening_scope, query_in, query_of}
 use Rattle.brace_model.specs.Lawful.{LawfulProgram}
 use Rattle.brace_model.proofs.ValueEquations.{statement-Const, statement-If, statement-Foreach, statement-Assign}
+use Rattle.brace_invert.specs.Split.{with_queries}
 use Rattle.brace_invert.specs.Range.{greatest_visible}
 use Rattle.brace_invert.specs.Held.{is_in, HoldsNear}
 use Rattle.brace_invert.proofs.Blocks as b
@@ -22,6 +23,7 @@ use Rattle.brace_invert.proofs.Blocks.{Plain, plain}
 use Rattle.brace_invert.proofs.Typed.{both_hold}
 use Rattle.brace_invert.proofs.Runs.{run}
 use Rattle.brace_invert.proofs.Traces.{inside_this}
+use Rattle.brace_invert.proofs.Inverting.{seen_same}
 use Rattle.brace_invert.proofs.Heard.{alike_const, alike_if, alike_loop, alike_say}
 use Rattle.brace_invert.proofs.Nearness.{seen_near, nearer}
 use Rattle.brace_pieces.proofs.Partings.{kept_twice}
@@ -78,11 +80,22 @@ pub seen_held : (m : Program) → LawfulProgram m → (area : Area) (w : List Ag
 seen_held m lawful area w held holds a stands x within seen =
     holds x within (nearer m area x _ _ (plus_none (greatest_visible m)) (seen_near m lawful area a x (pos 0) (grind arith) seen stands))
 
+sight_held : (m : Program) (w : List Agent) (area : Area) (held : Agent → Bool) → LawfulProgram m → HoldsNear m area (greatest_visible m) w held → (a : Agent) → is_in m area a ≡ true
+    → (class : ℕ) → seen_by m (filter held w) a class ≡ seen_by m w a class
+sight_held m w area held lawful holds a stands class =
+    kept_twice (λ x. (x.class == class) && sees m a x) held w (λ x within passes.
+    seen_held m lawful area w held holds a stands x within (both_hold (x.class == class) (sees m a x) passes).1)
+
 -- the query of an agent of an area does over the agents that are held what it does over all
 pub query_held : (m : Program) (seed tick : ℕ) (w : List Agent) (area : Area) (held : Agent → Bool) → LawfulProgram m → HoldsNear m area (greatest_visible m) w held → (a : Agent) → is_in m area a ≡ true
     → query_of m seed tick (filter held w) a ≡ query_of m seed tick w a
 query_held m seed tick w area held lawful holds a stands =
-    agree_in m (filter held w) w a
-    (λ class. kept_twice (λ x. (x.class == class) && sees m a x) held w (λ x within passes.
-    seen_held m lawful area w held holds a stands x within (both_hold (x.class == class) (sees m a x) passes).1))
-    seed tick (class_of m a)
+    agree_in m (filter held w) w a (sight_held m w area held lawful holds a stands) seed tick (class_of m a)
+
+-- and so does a query that is made of it
+pub part_held : (part : List Stmt → List Stmt) (m : Program) (seed tick : ℕ) (w : List Agent) (area : Area) (held : Agent → Bool) → LawfulProgram m → HoldsNear m area (greatest_visible m) w held
+    → (a : Agent) → is_in m area a ≡ true → query_of (with_queries part m) seed tick (filter held w) a ≡ query_of (with_queries part m) seed tick w a
+part_held part m seed tick w area held lawful holds a stands =
+    agree_in (with_queries part m) (filter held w) w a
+    (λ class. seen_same part m (filter held w) a class ∙ sight_held m w area held lawful holds a stands class ∙ sym (seen_same part m w a class))
+    seed tick (class_of (with_queries part m) a)

@@ -52,11 +52,11 @@ given_within f t [] g h = h
 given_within f t (x ∷ xs) g h = more_given f t x xs g (t x) refl (given_within f t xs g) h
 
 -- errors as a list
-abbrev errors : Result Next Fault → List Fault
+abbrev pub errors : Result Next Fault → List Fault
 errors (Ok n) = []
 errors (Err f) = f ∷ []
 
-errors_are : (f : Agent → Result Next Fault) (agents : List Agent) → filter_map result_err (map f agents) ≡ flat_map (λ a. errors (f a)) agents
+pub errors_are : (f : Agent → Result Next Fault) (agents : List Agent) → filter_map result_err (map f agents) ≡ flat_map (λ a. errors (f a)) agents
 errors_are f [] = refl
 errors_are f (a ∷ agents) = (elim (f a) as (λ r. cons_option (result_err r) (filter_map result_err (map f agents)) ≡ errors r ++ flat_map (λ x. errors (f x)) agents) [
   | Ok n ↦ errors_are f agents

@@ -1,5 +1,6 @@
 -- Which faults a part finds in a tick, and in which step.
-use Rattle.std.specs.Prelude.{ℕ, List, ◌++◌, filter_map, flat_map, map, if◌then◌else◌}
+use Rattle.std.specs.Prelude.{ℕ, ◌<◌, List, ◌++◌, filter_map, flat_map, map, if◌then◌else◌}
+use Rattle.std.specs.List.{Contains}
 use Rattle.std.specs.Result.{result_err}
 use Rattle.brace_model.specs.declared.program.Program.{Program}
 use Rattle.brace_model.specs.declared.fault.Fault.{Fault}
@@ -13,7 +14,7 @@ use Rattle.brace_pieces.specs.declared.setting.Setting.{Setting}
 use Rattle.brace_pieces.specs.declared.setting.Stage.{Stage}
 use Rattle.brace_pieces.specs.declared.setting.Stage.TheVariants as stage
 use Rattle.brace_pieces.specs.declared.setting.Step.{Step}
-use Rattle.brace_pieces.specs.Settings.{range, cuts_of}
+use Rattle.brace_pieces.specs.Settings.{range, cuts_of, parts}
 use Rattle.brace_pieces.specs.Steps.{step}
 use Rattle.brace_pieces.specs.Continued.{said, becomes, on, update_faults, birth_faults}
 use Rattle.brace_pieces.specs.Owned.{owned, held}
@@ -48,6 +49,18 @@ finds s tick p =
     queries_found s tick p (on s tick).agents
     ++ updates_found s tick p (on s tick).agents
     ++ birth_faults s tick (on s tick)
+
+-- the faults of a phase of a tick that a part finds
+abbrev pub found_by : Setting → ℕ → ℕ → Phase → List Fault
+found_by s tick p Query = queries_found s tick p (on s tick).agents
+found_by s tick p Update = updates_found s tick p (on s tick).agents
+found_by s tick p Birth = birth_faults s tick (on s tick)
+
+-- a part of the run finds a fault of a phase of a tick
+pub record IsFoundBy (s : Setting) (tick : ℕ) (phase : Phase) (f : Fault) : Type 0 where
+  pub part : ℕ
+  pub is_part : part < parts s
+  pub finds : Contains (found_by s tick part phase) f
 
 -- the faults of the queries of all agents in a tick, by the script or by both programs of its
 -- inversion

@@ -33,6 +33,10 @@ parts s = parts_of (cuts_of s s.job.first)
 abbrev pub is_end : Setting → ℕ → Bool
 is_end s tick = (tick == s.job.last) || (nat_lt s.job.first tick && (tick % s.epoch == 0))
 
+-- the ticks in which epochs end, in order
+abbrev pub ends : Setting → List ℕ
+ends s = filter (is_end s) (range_with_len s.job.first (s.job.last + 1 - s.job.first))
+
 -- the ticks of a run before one
 abbrev pub ticks_before : Setting → ℕ → List ℕ
 ticks_before s tick = range_with_len s.job.first (tick - s.job.first)
@@ -40,8 +44,8 @@ ticks_before s tick = range_with_len s.job.first (tick - s.job.first)
 -- the first tick that is shown at an end: the one behind the end before, or the run's first
 abbrev pub shown_from : Setting → ℕ → ℕ
 shown_from s end =
-    let ends = filter (is_end s) (ticks_before s end) in
-    fold (λ from k. k + 1) s.job.first ends
+    let before = filter (is_end s) (ticks_before s end) in
+    fold (λ from k. k + 1) s.job.first before
 
 -- the ticks that are shown at an end: the end, and those since the end before that are published
 abbrev pub shown_ticks : Setting → ℕ → List ℕ

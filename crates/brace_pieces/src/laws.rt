@@ -1,19 +1,20 @@
 //! Facts on runs over cut planes that hold always. The functions do nothing; their clauses are the
 //! laws.
-ghost use Rattle.std.specs.Prelude.{◌≡◌, ℕ, ◌+◌, ◌-◌, ◌<◌, ◌≤◌, ◌++◌, List, flat_map, false, Ok};
+ghost use Rattle.std.specs.Prelude.{◌≡◌, ℕ, ◌+◌, ◌-◌, ◌<◌, ◌≤◌, ◌++◌, List, flat_map, false, Some, Ok};
 ghost use Rattle.std.specs.List.{Contains, range_with_len};
 ghost use Rattle.std.specs.List.Sorted.{IsPermutation};
 ghost use Rattle.brace_core.specs.Schedule.{IsLawful, turn_at};
 ghost use Rattle.brace_core.specs.declared.name.Name.{Name};
 ghost use Rattle.brace_core.specs.declared.name.Turn.TheVariants.{Done};
 ghost use Rattle.brace_model.specs.declared.fault.Fault.{Fault};
+ghost use Rattle.brace_model.specs.declared.fault.Phase.{Phase};
 ghost use Rattle.brace_model.specs.declared.fault.Phase.TheVariants.{Query, Update, Birth};
 ghost use Rattle.brace_model.specs.declared.world.Agent.{Agent};
 ghost use Rattle.brace_model.specs.World.{World, RisesById, class_of};
 ghost use Rattle.brace_model.specs.Query.{query_of};
 ghost use Rattle.brace_model.specs.Total.{said_to};
 ghost use Rattle.brace_model.specs.Next.{has_births};
-ghost use Rattle.brace_model.specs.Run.{world_after};
+ghost use Rattle.brace_model.specs.Run.{world_after, first_fault};
 ghost use Rattle.brace_pieces.specs.declared.setting.Setting.{Setting};
 ghost use Rattle.brace_pieces.specs.declared.piece.Cause.{Cause};
 ghost use Rattle.brace_pieces.specs.declared.piece.Cause.TheVariants as cause;
@@ -25,8 +26,8 @@ ghost use Rattle.brace_pieces.specs.Owned.{owned, held};
 ghost use Rattle.brace_pieces.specs.Numbers.{NumbersFit};
 ghost use Rattle.brace_pieces.specs.Together.{AreWhole, IsSorted, left_of, born_of, HaveClasses};
 ghost use Rattle.brace_pieces.specs.Continued.{continued, continued_after, said, becomes, on, birth_faults};
-ghost use Rattle.brace_pieces.specs.Finds.{queries_found, updates_found, stage_of};
-ghost use Rattle.brace_pieces.specs.Right.{IsRight, IsRightCause, IsTold, StandsBefore, Share, said_by, shares, shares_to, border, handed, moved};
+ghost use Rattle.brace_pieces.specs.Finds.{queries_found, updates_found, found_in, stage_of, IsFoundBy};
+ghost use Rattle.brace_pieces.specs.Right.{IsRight, IsRightCause, IsTold, StandsBefore, IsFaultless, Share, said_by, shares, shares_to, border, handed, moved};
 ghost use Rattle.brace_pieces.specs.Heard.{own, near, said_here, heard, joined, found_here, IsShareOf, IsPartOver};
 ghost use Rattle.brace_pieces.specs.Halts.{FollowsFirst};
 ghost use Rattle.brace_pieces.specs.Courses.{OnCourse, IsCourse, at_start, turn_of, past_of, gone_on};
@@ -155,6 +156,22 @@ pub fn found_faults_may_be_told()
         → StandsBefore s (step (stage_of s Birth) tick) number → IsTold s number f }
     ensures later { (s : Setting) (number other : ℕ) (c : Cause) → number ≤ other
         → IsRightCause s number c → IsRightCause s other c }
+{}
+
+/// Each fault of a continued world is found by a part. So where no part finds one before a tick,
+/// the run has a world there: the continued one. A run that ends in a first fault has a world in
+/// each tick up to that fault's, and finds it there.
+pub fn parts_find_all()
+    ensures found { (s : Setting) (t : ℕ) (phase : Phase) (f : Fault) → LawfulSetting s
+        → NumbersFit s → Contains (found_in s t phase) f → IsFoundBy s t phase f }
+    ensures reached { (s : Setting) (k : ℕ) → LawfulSetting s → NumbersFit s
+        → s.job.first ≤ k → k ≤ s.job.last → ((p : ℕ) → p < parts s → IsFaultless s k p)
+        → world_after s.job (k - s.job.first) ≡ Ok (on s k) }
+    ensures first { (s : Setting) (g : Fault) → LawfulSetting s → first_fault s.job ≡ Some g
+        → (s.job.first ≤ g.tick) × (g.tick < s.job.last) × Contains (found_in s g.tick g.phase) g }
+    ensures before { (s : Setting) (g : Fault) (t : ℕ) → LawfulSetting s
+        → first_fault s.job ≡ Some g → s.job.first ≤ t → t ≤ g.tick
+        → world_after s.job (t - s.job.first) ≡ Ok (on s t) }
 {}
 
 /// An actor's course makes the turns of the run's schedule, one by one. Its next turn is that of
