@@ -1,5 +1,5 @@
 -- What all find in a tick the parts find, and where they find nothing the run goes on.
-use Rattle.std.proofs.Common.{◌≡◌, ◌∙◌, refl, sym, ap, subst, ℕ, ◌+◌, ◌-◌, ◌<◌, ◌≤◌, ℤ, pos, ◌≤ℤ◌, ◌+ℤ◌, List, [], ◌∷◌, ◌++◌, flat_map, Bool, true, false, Option, Some, None, Result, Ok, Err, arith, ⊎_elim}
+use Rattle.std.proofs.Common.{◌≡◌, ◌∙◌, refl, sym, ap, subst, ℕ, ◌+◌, ◌-◌, ◌<◌, ◌≤◌, ℤ, pos, ◌≤ℤ◌, ◌+ℤ◌, List, [], ◌++◌, flat_map, Bool, true, false, Some, Result, Ok, Err, arith, ⊎_elim}
 use Rattle.std.specs.Prelude.{if◌then◌else◌}
 use Rattle.std.specs.List.{Contains}
 use Rattle.std.specs.Result.{result_err}

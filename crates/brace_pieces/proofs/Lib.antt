@@ -28,3 +28,5 @@ pub mod WalkLemmas
 pub mod CourseLemmas
 pub mod AllLemmas
 pub mod FoundLemmas
+pub mod EpochLemmas
+pub mod OrderLemmas

@@ -1,6 +1,6 @@
 //! Facts on runs over cut planes that hold always. The functions do nothing; their clauses are the
 //! laws.
-ghost use Rattle.std.specs.Prelude.{◌≡◌, ℕ, ◌+◌, ◌-◌, ◌<◌, ◌≤◌, ◌++◌, List, flat_map, false, Some, Ok};
+ghost use Rattle.std.specs.Prelude.{◌≡◌, ℕ, ◌+◌, ◌-◌, ◌<◌, ◌≤◌, ◌++◌, List, map, filter, flat_map, false, Some, Ok, slice_get, IsTrue};
 ghost use Rattle.std.specs.List.{Contains, range_with_len};
 ghost use Rattle.std.specs.List.Sorted.{IsPermutation};
 ghost use Rattle.brace_core.specs.Schedule.{IsLawful, turn_at};
@@ -19,9 +19,10 @@ ghost use Rattle.brace_pieces.specs.declared.setting.Setting.{Setting};
 ghost use Rattle.brace_pieces.specs.declared.piece.Cause.{Cause};
 ghost use Rattle.brace_pieces.specs.declared.piece.Cause.TheVariants as cause;
 ghost use Rattle.brace_pieces.specs.declared.piece.Piece.TheVariants as piece;
-ghost use Rattle.brace_pieces.specs.declared.setting.Stage.TheVariants.{Hand, Border, Move};
-ghost use Rattle.brace_pieces.specs.Settings.{LawfulSetting, range, cuts_of, parts};
-ghost use Rattle.brace_pieces.specs.Steps.{schedule, step, met};
+ghost use Rattle.brace_pieces.specs.declared.setting.Stage.TheVariants.{Hand, Border, Move, Show};
+ghost use Rattle.brace_pieces.specs.declared.setting.Step.{Step};
+ghost use Rattle.brace_pieces.specs.Settings.{LawfulSetting, range, cuts_of, cuts_shown, parts, is_end, ends, shown_ticks};
+ghost use Rattle.brace_pieces.specs.Steps.{schedule, step, steps, is_show, met};
 ghost use Rattle.brace_pieces.specs.Owned.{owned, held};
 ghost use Rattle.brace_pieces.specs.Numbers.{NumbersFit};
 ghost use Rattle.brace_pieces.specs.Together.{AreWhole, IsSorted, left_of, born_of, HaveClasses};
@@ -172,6 +173,25 @@ pub fn parts_find_all()
     ensures before { (s : Setting) (g : Fault) (t : ℕ) → LawfulSetting s
         → first_fault s.job ≡ Some g → s.job.first ≤ t → t ≤ g.tick
         → world_after s.job (t - s.job.first) ≡ Ok (on s t) }
+{}
+
+/// Each end of an epoch has one step, which shows it; these stand in the order of the ends. No
+/// step stands twice. Behind a step of a tick only later ends are shown, and before it only those
+/// up to its tick. The run's last tick is an end. In an epoch all is shown under the same cuts.
+pub fn ends_are_shown()
+    ensures shows { (s : Setting) → filter (λ at. is_show at.stage) (steps s)
+        ≡ map (step Show) (ends s) }
+    ensures once { (s : Setting) (i j : ℕ) (at : Step) → slice_get (steps s) i ≡ Some at
+        → slice_get (steps s) j ≡ Some at → i ≡ j }
+    ensures behind { (s : Setting) (i j : ℕ) (at : Step) (end : ℕ)
+        → slice_get (steps s) i ≡ Some at → is_show at.stage ≡ false
+        → slice_get (steps s) j ≡ Some (step Show end) → i < j → at.tick < end }
+    ensures before { (s : Setting) (i j : ℕ) (at : Step) (end : ℕ)
+        → slice_get (steps s) i ≡ Some at → is_show at.stage ≡ false
+        → slice_get (steps s) j ≡ Some (step Show end) → j < i → end ≤ at.tick }
+    ensures last { (s : Setting) → s.job.first ≤ s.job.last → Contains (ends s) s.job.last }
+    ensures cuts { (s : Setting) (end t : ℕ) → LawfulSetting s → IsTrue (is_end s end)
+        → Contains (shown_ticks s end) t → cuts_shown s t ≡ cuts_shown s end }
 {}
 
 /// An actor's course makes the turns of the run's schedule, one by one. Its next turn is that of
