@@ -17,4 +17,4 @@ pub use file::read_agents;
 pub use kinds::{RowFault, RowKind};
 pub use made::make_agents;
 pub use spell::{class_named, read_id, read_value};
-pub use tick::print_tick;
+pub use tick::{print_rows, print_tick};

@@ -19,8 +19,24 @@ pub fn print_tick(
         ≡ out.old.items ++ rows program.now tick world.now.agents) }
     ensures kept { OnErr result (out.new.items ≡ out.old.items) }
 {
+    print_rows(out, program, tick, world.agents())
+}
+
+/// Appends the rows of agents at a tick: a line `tick,class,id,values` for each, in their order.
+///
+/// A refused print leaves `out` as it was.
+pub fn print_rows(
+    out: &mut Vec<u8>,
+    program: &Program,
+    tick: u64,
+    agents: &[Agent],
+) -> Result<(), NoMemory>
+    ensures printed { OnOk result (out.new.items
+        ≡ out.old.items ++ rows program.now tick agents.now) }
+    ensures kept { OnErr result (out.new.items ≡ out.old.items) }
+{
     let before = out.len();
-    let printed = append_rows(out, program, tick, world.agents());
+    let printed = append_rows(out, program, tick, agents);
     if printed.is_err() {
         out.truncate(before);
     }

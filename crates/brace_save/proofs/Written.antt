@@ -1,8 +1,9 @@
 -- Text that is appended group by group of lines.
-use Rattle.std.proofs.Common.{◌≡◌, ◌∙◌, ℕ, Bool, List, [], ◌∷◌, ◌++◌, map, flat_map, refl, ap, sym, append-nil, append_assoc}
+use Rattle.std.proofs.Common.{◌≡◌, ◌∙◌, ℕ, Bool, true, false, List, [], ◌∷◌, ◌++◌, map, flat_map, refl, ap, sym, append-nil, append_assoc}
 use Rattle.brace_model.specs.declared.world.Agent.{Agent}
 use Rattle.brace_model.specs.declared.program.Class.{Class}
 use Rattle.brace_model.specs.declared.program.Program.{Program}
+use Rattle.brace_model.specs.World.{world_with}
 use Rattle.brace_model.specs.Published.{agent_text}
 use Rattle.brace_save.specs.Texts.{Moment, class_line, end_line, heading, lines, text}
 
@@ -18,6 +19,13 @@ text_of f (x ∷ xs) = ap (λ t. (f x ++ 10 ∷ []) ++ t) (text_of f xs)
 lines_more : (out a b : List ℕ) (start more : List (List ℕ)) → a ≡ out ++ text start → b ≡ a ++ text more → b ≡ out ++ text (start ++ more)
 lines_more out a b start more p q =
     q ∙ ap (λ l. l ++ text more) p ∙ append_assoc out (text start) (text more) ∙ ap (λ l. out ++ l) (sym (text_both start more))
+
+-- the lines before those of classes tell nothing of the agents
+pub heading_alike : (tells_next : Bool) (tick seed next : ℕ) (agents : List Agent)
+    → heading tells_next (record { tick = tick; seed = seed; world = world_with [] next })
+    ≡ heading tells_next (record { tick = tick; seed = seed; world = world_with agents next })
+heading_alike true tick seed next agents = refl
+heading_alike false tick seed next agents = refl
 
 -- the lines of a checkpoint, group by group
 pub checkpoint_appended : (program : Program) (tells_next : Bool) (m : Moment) (out a b c d : List ℕ) → a ≡ out ++ text (heading tells_next m)

@@ -10,4 +10,4 @@ mod write;
 
 pub use kinds::{Point, PointFault};
 pub use read::read_checkpoint;
-pub use write::write_checkpoint;
+pub use write::{write_checkpoint, write_moment};

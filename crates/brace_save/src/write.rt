@@ -1,4 +1,5 @@
 ghost use Rattle.std.specs.Prelude.{◌≡◌, ◌++◌, [], ◌∷◌, codes, flat_map, take, length, OnOk, OnErr};
+ghost use Rattle.brace_model.specs.World.{world_with};
 ghost use Rattle.brace_model.specs.Published.{agent_text};
 ghost use Rattle.brace_save.specs.Texts.{type_name, state_text, class_line, count_line, heading, text, checkpoint};
 
@@ -19,8 +20,25 @@ pub fn write_checkpoint(
         ++ checkpoint program.now (record { tick = tick; seed = seed; world = world.now })) }
     ensures kept { OnErr result (out.new.items ≡ out.old.items) }
 {
+    write_moment(out, program, tick, seed, world.agents(), world.next())
+}
+
+/// Appends the checkpoint of a tick's agents and next free id, which it tells exactly where a class
+/// of the program bears children. A refused write leaves `out` as it was.
+pub fn write_moment(
+    out: &mut Vec<u8>,
+    program: &Program,
+    tick: u64,
+    seed: u64,
+    agents: &[Agent],
+    next: u64,
+) -> Result<(), NoMemory>
+    ensures written { OnOk result (out.new.items ≡ out.old.items ++ checkpoint program.now
+        (record { tick = tick; seed = seed; world = world_with agents.now next })) }
+    ensures kept { OnErr result (out.new.items ≡ out.old.items) }
+{
     let before = out.len();
-    let written = append_checkpoint(out, program, tick, seed, world);
+    let written = append_checkpoint(out, program, tick, seed, agents, next);
     if written.is_err() {
         out.truncate(before);
     }
@@ -34,16 +52,17 @@ fn append_checkpoint(
     program: &Program,
     tick: u64,
     seed: u64,
-    world: &World,
+    agents: &[Agent],
+    next: u64,
 ) -> Result<(), NoMemory>
-    ensures printed { OnOk result (out.new.items ≡ out.old.items
-        ++ checkpoint program.now (record { tick = tick; seed = seed; world = world.now })) }
+    ensures printed { OnOk result (out.new.items ≡ out.old.items ++ checkpoint program.now
+        (record { tick = tick; seed = seed; world = world_with agents.now next })) }
     ensures only_appends { take (length out.old.items) out.new.items ≡ out.old.items }
 {
-    append_heading(out, has_births(program), tick, seed, world)?;
+    append_heading(out, has_births(program), tick, seed, next)?;
     append_classes(out, program.classes.as_slice())?;
-    append_agents(out, program, world.agents())?;
-    append_count(out, b"end ", world.agents().len() as u64)
+    append_agents(out, program, agents)?;
+    append_count(out, b"end ", agents.len() as u64)
 }
 
 #[tactic(auto, using(crate::proofs::Starts::text_starts))]
@@ -52,15 +71,15 @@ fn append_heading(
     tells_next: bool,
     tick: u64,
     seed: u64,
-    world: &World,
+    next: u64,
 ) -> Result<(), NoMemory>
     ensures printed { OnOk result (out.new.items ≡ out.old.items ++ text
-        (heading tells_next (record { tick = tick; seed = seed; world = world.now }))) }
+        (heading tells_next (record { tick = tick; seed = seed; world = world_with [] next }))) }
     ensures only_appends { take (length out.old.items) out.new.items ≡ out.old.items }
 {
     if tells_next {
         append_start(out, b"brace checkpoint 2", tick, seed)?;
-        append_count(out, b"next ", world.next())
+        append_count(out, b"next ", next)
     } else {
         append_start(out, b"brace checkpoint 1", tick, seed)
     }
