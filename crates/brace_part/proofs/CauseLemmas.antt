@@ -1,6 +1,7 @@
 -- A cause that a part has is right in each step that is left.
-use Rattle.std.proofs.Common.{◌≡◌, refl, sym, ap, subst, ℕ, ◌+◌, List, [], Bool, true, false, Option, Some, None, arith, inl, inr, ⊎_elim, Contains}
-use Rattle.std.specs.Prelude.{slice_get, if◌then◌else◌}
+use Rattle.std.proofs.Common.{◌≡◌, ◌∙◌, refl, sym, ap, subst, ℕ, ◌+◌, List, [], Bool, true, false, Option, Some, None, arith, inl, inr, ⊎_elim, Contains}
+use Rattle.std.specs.Prelude.{slice_get, is_some, if◌then◌else◌}
+use Rattle.std.proofs.lemmas.Bool.{cases_lt, true≢false}
 use Rattle.std.proofs.lemmas.List.Elements.{Contains-append_cases}
 use Rattle.brace_core.specs.Schedule.{name}
 use Rattle.brace_model.specs.declared.fault.Fault.{Fault}
@@ -20,7 +21,8 @@ use Rattle.brace_pieces.specs.Continued.{on}
 use Rattle.brace_pieces.specs.Finds.{queries_found, updates_found, stage_of}
 use Rattle.brace_pieces.specs.Right.{StandsBefore, IsTold, IsRightCause, IsRight, IsRightIn, IsRightAt}
 use Rattle.brace_pieces.proofs.ToldLemmas.{query_told, update_told}
-use Rattle.brace_part.specs.Parts.{found_in_work, cause_of, IsCauseOf}
+use Rattle.brace_part.specs.Parts.{found_in_work, cause_of, IsCauseOf, IsCauseBehind, IsCauseOfAll}
+use Rattle.brace_part.specs.inner.Sound.{IsHalted}
 use Rattle.brace_part.proofs.StepLemmas.{OfRun, of_run}
 use Rattle.brace_part.proofs.OutLemmas.{right_in}
 
@@ -90,3 +92,52 @@ halt_right s k p q at c stands right = right_in s k p q at (piece.Halt c) stands
 
 pub right_halt : (s : Setting) (k p q : ℕ) (at : Step) (c : Cause) → slice_get (steps s) k ≡ Some at → IsRight s (name k p q) (piece.Halt c) → IsRightCause s k c
 right_halt s k p q at c stands right = at_halt s k p q at.tick c at.stage (subst (IsRightIn s (name k p q) (piece.Halt c)) stands right)
+
+-- ---- a part has a cause for what it found
+
+none_some : {A : Type 0} (x : A) → None ≡ Some x → ⊥
+none_some x e = cc
+
+module _ (s : Setting) (p : ℕ) where
+  -- before its first step it made no work
+  pub found_first : (c : Option Cause) → IsCauseOfAll s p 0 c
+  found_first c = λ k at low stands f least. absurd (omega (arith, low))
+
+  -- a part without a cause found nothing, so that each may follow
+  pub found_more : (k : ℕ) (c : Option Cause) → IsCauseOfAll s p k None → IsCauseOfAll s p k c
+  found_more k c all = λ j at low stands f least. elim (all j at low stands f least) [
+    | inl is ↦ absurd (none_some (cause.Fault f) is)
+    | inr has ↦ absurd (none_some has.0 has.1.0)
+  ]
+
+  -- behind the work of one more step
+  found_next : (k : ℕ) (at : Step) (c : Option Cause) → slice_get (steps s) k ≡ Some at → IsCauseOfAll s p k c → IsCauseBehind s k (found_in_work s p at.stage at.tick) c → IsCauseOfAll s p (k + 1) c
+  found_next k at c is all here = λ j there low stands. elim (cases_lt j k) [
+    | inl less ↦ all j there less stands
+    | inr up ↦ at_last j there (omega (arith, low, up)) stands
+  ]
+    where
+      step_same : (a b : Step) → Some a ≡ Some b → a ≡ b
+      step_same a b e = cc
+
+      at_last : (j : ℕ) (there : Step) → k ≡ j → slice_get (steps s) j ≡ Some there → IsCauseBehind s j (found_in_work s p there.stage there.tick) c
+      at_last j there same stands =
+          let step_is : at ≡ there = step_same at there (sym is ∙ ap (slice_get (steps s)) same ∙ stands) in
+          subst (λ (x : Step). IsCauseBehind s j (found_in_work s p x.stage x.tick) c) step_is
+          (subst (λ n. IsCauseBehind s n (found_in_work s p at.stage at.tick) c) same here)
+
+  -- that found nothing
+  pub found_passed : (k : ℕ) (at : Step) (c : Option Cause) → slice_get (steps s) k ≡ Some at → least (found_in_work s p at.stage at.tick) ≡ None → IsCauseOfAll s p k c → IsCauseOfAll s p (k + 1) c
+  found_passed k at c is none all = found_next k at c is all (λ f some. absurd (none_some f (sym none ∙ some)))
+
+  -- of a part that had a cause
+  pub found_halted : (k : ℕ) (at : Step) (c : Option Cause) → slice_get (steps s) k ≡ Some at → is_some c ≡ true → IsHalted s k c → IsCauseOfAll s p k c → IsCauseOfAll s p (k + 1) c
+  found_halted k at None is some right all = absurd (true≢false (sym some))
+  found_halted k at (Some c) is some right all = found_next k at (Some c) is all (λ f least. inr (c, (refl, right)))
+
+  -- that gave it its cause
+  pub found_faulted : (k : ℕ) (at : Step) (c : Cause) → slice_get (steps s) k ≡ Some at → IsCauseOf (found_in_work s p at.stage at.tick) c → IsCauseOfAll s p k None → IsCauseOfAll s p (k + 1) (Some c)
+  found_faulted k at c is faulted all = found_next k at (Some c) is (found_more k (Some c) all) (λ f some. elim faulted [
+    | inl same ↦ inl (same ∙ ap cause_of some)
+    | inr memory ↦ inr (cause.NoMemory, (ap Some memory, tt))
+  ])

@@ -20,7 +20,7 @@ use Rattle.brace_pieces.proofs.CourseLemmas.{goes_behind, course_behind}
 use Rattle.brace_pieces.proofs.ToldLemmas.{right_later}
 use Rattle.brace_part.specs.declared.query.Queries.{Queries}
 use Rattle.brace_part.specs.declared.standing.Standing.{Standing}
-use Rattle.brace_part.specs.Parts.{OnPart, keeps_at}
+use Rattle.brace_part.specs.Parts.{OnPart, keeps_at, IsCauseOfAll}
 use Rattle.brace_part.specs.inner.Pieces.{AreOut, AreTaken}
 use Rattle.brace_part.specs.inner.Pieces as pieces
 use Rattle.brace_part.specs.inner.Pieces.AreOut.{none_out, more_out}
@@ -95,13 +95,14 @@ module _ (c : OnCourse) (turn : WorksNext c) where
   gone_is = goes_behind c turn.at turn.stands turn.high
 
   pub sound_behind : (queries : Queries) (old new : Standing) (was is : Option Cause) (room places : ℕ) → IsSound c queries old was room
-      → (is ≡ None → GoesOn (gone_on c) new) → IsHalted c.setting (c.number + 1) is → AreKept c.setting c.actor new.shown → places ≡ room → IsSound (gone_on c) queries new is places
-  sound_behind queries old new was is room places h goes halted kept same =
+      → (is ≡ None → GoesOn (gone_on c) new) → IsHalted c.setting (c.number + 1) is → IsCauseOfAll c.setting c.actor (c.number + 1) is → AreKept c.setting c.actor new.shown → places ≡ room → IsSound (gone_on c) queries new is places
+  sound_behind queries old new was is room places h goes halted found kept same =
       subst (λ d. IsSound d queries new is places) (sym gone_is) (record {
         is_part = h.is_part;
         course = course_behind c h.course;
         goes_on = λ none. subst (λ d. GoesOn d new) gone_is (goes none);
         halted = halted;
+        found = found;
         kept = kept;
         has_room = subst (λ r. parts c.setting ≤ r) (sym same) h.has_room;
       })
@@ -156,8 +157,8 @@ module _ (c : OnCourse) (d : OnCourse) (place : d ≡ gone_on c) (turn : WorksNe
       step_same a b e = cc
 
   pub sound_on : (queries : Queries) (old new : Standing) (was is : Option Cause) (room places : ℕ) → IsSound c queries old was room
-      → (is ≡ None → GoesOn d new) → IsHalted c.setting (c.number + 1) is → AreKept d.setting d.actor new.shown → places ≡ room → IsSound d queries new is places
-  sound_on queries old new was is room places h goes halted kept same =
+      → (is ≡ None → GoesOn d new) → IsHalted c.setting (c.number + 1) is → IsCauseOfAll c.setting c.actor (c.number + 1) is → AreKept d.setting d.actor new.shown → places ≡ room → IsSound d queries new is places
+  sound_on queries old new was is room places h goes halted found kept same =
       subst (λ x. IsSound x queries new is places) (sym place)
-      (sound_behind c turn queries old new was is room places h (λ none. subst (λ x. GoesOn x new) place (goes none)) halted
+      (sound_behind c turn queries old new was is room places h (λ none. subst (λ x. GoesOn x new) place (goes none)) halted found
       (subst (λ x. AreKept x.setting x.actor new.shown) place_is kept) same)

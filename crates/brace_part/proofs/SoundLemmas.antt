@@ -16,6 +16,7 @@ use Rattle.brace_pieces.specs.Courses.{OnCourse, met_in, step_of, others_of, gon
 use Rattle.brace_pieces.proofs.CourseLemmas.{goes_within, course_within}
 use Rattle.brace_part.specs.declared.query.Queries.{Queries}
 use Rattle.brace_part.specs.declared.standing.Standing.{Standing}
+use Rattle.brace_part.specs.Parts.{IsCauseOfAll}
 use Rattle.brace_part.specs.inner.Pieces.{AreOut, AreTaken}
 use Rattle.brace_part.specs.inner.Pieces as pieces
 use Rattle.brace_part.specs.inner.Pieces.AreTaken.{none_taken, more_taken}
@@ -28,13 +29,14 @@ abbrev pub one_on : OnCourse → OnCourse
 one_on c = record c { made = c.made + 1 }
 
 pub sound_within : (c : OnCourse) (queries : Queries) (old new : Standing) (was is : Option Cause) (room places : ℕ) → IsSound c queries old was room → c.made < 2 * length (others_of c)
-    → (is ≡ None → GoesOn (one_on c) new) → IsHalted c.setting c.number is → new.shown ≡ old.shown → places ≡ room → IsSound (gone_on c) queries new is places
-sound_within c queries old new was is room places h low goes halted shown same =
+    → (is ≡ None → GoesOn (one_on c) new) → IsHalted c.setting c.number is → IsCauseOfAll c.setting c.actor c.number is → new.shown ≡ old.shown → places ≡ room → IsSound (gone_on c) queries new is places
+sound_within c queries old new was is room places h low goes halted found shown same =
     subst (λ d. IsSound d queries new is places) (sym (goes_within c low)) (record {
       is_part = h.is_part;
       course = course_within c h.course low;
       goes_on = goes;
       halted = halted;
+      found = found;
       kept = subst (AreKept c.setting c.actor) (sym shown) h.kept;
       has_room = subst (λ r. parts c.setting ≤ r) (sym same) h.has_room;
     })

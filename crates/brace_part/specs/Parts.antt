@@ -1,6 +1,6 @@
 -- A part of the plane as contracts see it: what it owns where it stands, what it keeps to be shown,
 -- and which faults it finds in a work.
-use Rattle.std.specs.Prelude.{◌≡◌, ◌⊎◌, ℕ, ◌+◌, ◌-◌, ◌%◌, ◌==◌, List, [], ◌++◌, map, filter, ◌||◌, if◌then◌else◌, Option, Some, None}
+use Rattle.std.specs.Prelude.{◌≡◌, ◌⊎◌, ℕ, ◌+◌, ◌-◌, ◌<◌, ◌%◌, ◌==◌, List, [], ◌++◌, map, filter, ◌||◌, if◌then◌else◌, Option, Some, None, slice_get}
 use Rattle.std.specs.List.{range_with_len}
 use Rattle.brace_model.specs.declared.fault.Fault.{Fault}
 use Rattle.brace_model.specs.FaultOrder.{least}
@@ -16,9 +16,11 @@ use Rattle.brace_pieces.specs.declared.piece.Piece.{Piece}
 use Rattle.brace_pieces.specs.declared.piece.Piece.TheVariants.{Halt}
 use Rattle.brace_pieces.specs.declared.piece.Shown.{Shown}
 use Rattle.brace_pieces.specs.Settings.{cuts_of, cuts_shown, is_end, shown_from}
+use Rattle.brace_pieces.specs.Steps.{steps}
 use Rattle.brace_pieces.specs.Continued.{on}
 use Rattle.brace_pieces.specs.Owned.{owned}
 use Rattle.brace_pieces.specs.Finds.{queries_found, updates_found}
+use Rattle.brace_pieces.specs.Right.{IsRightCause}
 use Rattle.brace_pieces.specs.Courses.{OnCourse}
 use Rattle.brace_part.specs.declared.counts.Counts.{Counts}
 
@@ -101,3 +103,16 @@ abbrev pub cause_behind : Option Cause → Piece → Option Cause
 cause_behind (Some c) piece = Some c
 cause_behind None (Halt c) = Some c
 cause_behind None _ = None
+
+-- a part that found faults in the work of the step of a number has the least of them as its cause,
+-- or one that is right in that step
+abbrev pub IsCauseBehind : Setting → ℕ → List Fault → Option Cause → Type 0
+IsCauseBehind s number found c =
+    (f : Fault) → least found ≡ Some f
+    → (c ≡ Some (cause.Fault f)) ⊎ ((d : Cause) × ((c ≡ Some d) × IsRightCause s number d))
+
+-- a part has a cause for what it found in each of its works before the step of a number
+abbrev pub IsCauseOfAll : Setting → ℕ → ℕ → Option Cause → Type 0
+IsCauseOfAll s p number c =
+    (k : ℕ) (at : Step) → k < number → slice_get (steps s) k ≡ Some at
+    → IsCauseBehind s k (found_in_work s p at.stage at.tick) c

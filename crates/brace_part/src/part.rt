@@ -1,4 +1,4 @@
-ghost use Rattle.std.specs.Prelude.{◌≡◌, ◌⊎◌, ◌+◌, ◌^◌, ◌<◌, ◌≤◌, ◌++◌, [], ◌∷◌, Some, None, true, false, is_none, IfOk, IfErr, if◌then◌else◌, ◌||◌, ◌%◌, ◌==◌, ℕ};
+ghost use Rattle.std.specs.Prelude.{◌≡◌, ◌⊎◌, ◌+◌, ◌^◌, ◌<◌, ◌≤◌, ◌++◌, [], ◌∷◌, Some, None, true, false, is_none, IfSome, IfOk, IfErr, if◌then◌else◌, ◌||◌, ◌%◌, ◌==◌, ℕ};
 ghost use Rattle.std.specs.Vec.{vec_capacity};
 ghost use Rattle.brace_core.specs.declared.name.Name.{Name};
 ghost use Rattle.brace_core.specs.declared.name.Turn.TheVariants as turn;
@@ -12,9 +12,9 @@ ghost use Rattle.brace_pieces.specs.declared.piece.Cause.TheVariants as cause;
 ghost use Rattle.brace_pieces.specs.declared.piece.Piece.TheVariants as piece;
 ghost use Rattle.brace_pieces.specs.Settings.{LawfulSetting, parts, is_end, cuts_of};
 ghost use Rattle.brace_pieces.specs.Steps.{schedule};
-ghost use Rattle.brace_pieces.specs.Right.{IsRight};
+ghost use Rattle.brace_pieces.specs.Right.{IsRight, IsRightCause};
 ghost use Rattle.brace_pieces.specs.Courses.{OnCourse, at_start, step_of, gone_on, past_of};
-ghost use Rattle.brace_part.specs.Parts.{own_under, own_at, IsSettled, keeps_at, found_in_work, IsCauseOf, cause_of, cause_behind};
+ghost use Rattle.brace_part.specs.Parts.{own_under, own_at, IsSettled, keeps_at, found_in_work, IsCauseOf, IsCauseOfAll, cause_of, cause_behind};
 ghost use Rattle.brace_part.specs.inner.Ready.{AreKept};
 ghost use Rattle.brace_part.specs.inner.Sound.{IsPartOf, IsAtWork, ComesTo, GoesOn, owns_in};
 
@@ -276,9 +276,14 @@ impl<'a> Part<'a> {
         self.standing.shown.as_slice()
     }
 
-    /// Why it goes no further.
+    /// Why it goes no further. Where it found faults in a work that it made, it has a cause: the
+    /// least of them, or one that it had before that work.
     pub fn cause(&self) -> Option<Cause>
-        ensures { result ≡ self.now.cause }
+        ensures same { result ≡ self.now.cause }
+        ensures right { IfSome result
+            (IsRightCause self.now.course.setting self.now.course.number) }
+        ensures found { IsCauseOfAll self.now.course.setting self.now.course.actor
+            self.now.course.number self.now.cause }
     {
         self.cause
     }

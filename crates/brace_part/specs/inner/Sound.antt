@@ -1,5 +1,5 @@
 -- What holds of a part at every moment. Only the crate's own functions cite this.
-use Rattle.std.specs.Prelude.{◌≡◌, ℕ, ◌-◌, ◌<◌, ◌≤◌, List, [], length, take, drop, false, true, Option, Some, None, slice_get}
+use Rattle.std.specs.Prelude.{◌≡◌, ℕ, ◌-◌, ◌<◌, ◌≤◌, List, [], length, take, drop, false, true, Option, Some, None, IfSome, slice_get}
 use Rattle.std.specs.List.{All, Contains}
 use Rattle.brace_invert.specs.Split.{forward_program, inverse_program}
 use Rattle.brace_model.specs.declared.world.Agent.{Agent}
@@ -20,7 +20,7 @@ use Rattle.brace_part.specs.declared.standing.Stance.{Stance}
 use Rattle.brace_part.specs.declared.standing.Stance.TheVariants.{Owns, Hears, Leaves}
 use Rattle.brace_part.specs.declared.standing.Standing.{Standing}
 use Rattle.brace_part.specs.declared.work.Worker.{Worker}
-use Rattle.brace_part.specs.Parts.{keeps_at}
+use Rattle.brace_part.specs.Parts.{keeps_at, IsCauseOfAll}
 use Rattle.brace_part.specs.inner.Pieces.{AreOut, AreTaken}
 use Rattle.brace_part.specs.inner.Ready.{IsReady, IsReadyFor, IsFaultlessAt, IsFaultlessBefore, AreKept, brings_at}
 
@@ -85,8 +85,7 @@ pub record IsAtWork (s : Setting) (p number : ℕ) (at : Step) (standing : Stand
 
 -- a cause that a part has is right in every step that is left
 abbrev pub IsHalted : Setting → ℕ → Option Cause → Type 0
-IsHalted s number None = Unit {0}
-IsHalted s number (Some c) = IsRightCause s number c
+IsHalted s number c = IfSome c (IsRightCause s number)
 
 -- what holds of a part: it goes on where it has no cause, and has room for what it takes
 pub record IsSound (c : OnCourse) (queries : Queries) (standing : Standing)
@@ -95,6 +94,7 @@ pub record IsSound (c : OnCourse) (queries : Queries) (standing : Standing)
   pub course : IsCourse c
   pub goes_on : cause ≡ None → GoesOn c standing
   pub halted : IsHalted c.setting c.number cause
+  pub found : IsCauseOfAll c.setting c.actor c.number cause
   pub kept : AreKept c.setting c.actor standing.shown
   pub has_room : parts c.setting ≤ room
 

@@ -1,4 +1,4 @@
-use Rattle.std.proofs.Common.{rules, ◌≡◌, ◌∙◌, ◌≤◌, sym, ap, subst, arith}
+use Rattle.std.proofs.Common.{rules, ◌≡◌, ◌∙◌, ◌≤◌, sym, ap, subst, None, arith}
 use Rattle.std.specs.Prelude.{slice_get, is_some}
 use Rattle.std.specs.Vec.{vec_capacity}
 use Rattle.std.proofs.lemmas.Bool.{true≢false}
@@ -8,9 +8,10 @@ use Rattle.brace_pieces.specs.Steps.{steps}
 use Rattle.brace_pieces.specs.Courses.{OnCourse, IsCourse, step_of}
 use Rattle.brace_part.specs.declared.standing.Stance.TheVariants.{Owns}
 use Rattle.brace_part.specs.declared.standing.Standing.{Standing}
-use Rattle.brace_part.specs.Parts.{kept_at}
+use Rattle.brace_part.specs.Parts.{kept_at, IsCauseOfAll}
 use Rattle.brace_part.specs.inner.Ready.{AreKept}
 use Rattle.brace_part.specs.inner.Sound.{IsPartOf, ComesTo}
+use Rattle.brace_part.proofs.CauseLemmas.{found_first}
 use Rattle.brace_part.proofs.StartLemmas.{comes_first, kept_first, from_none}
 use Rattle.brace_part.proofs.part.Part.make.Goals as goal
 use Rattle.brace_part.proofs.part.Part.make.Goals.{then-is_some+in_ok-note, else-is_some}
@@ -56,6 +57,7 @@ invariant_of-result c =
       course = subst IsCourse (sym start) (record { is_actor = omega (arith, c.requires.is_part); before_work = omega arith });
       goes_on = λ e. c.in_ok-prepare.ensures.goes_on;
       halted = tt;
+      found = subst (λ (d : OnCourse). IsCauseOfAll d.setting d.actor d.number None) (sym start) (found_first s p None);
       kept = c.prepare.ensures.kept (subst (λ (d : OnCourse). AreKept d.setting d.actor c.if-is_some.standing.shown) (sym start) kept);
       has_room = subst (λ (d : OnCourse). parts d.setting ≤ vec_capacity c.prepare.new.standing.taken) (sym start)
           (subst (λ t. parts s ≤ vec_capacity t) (sym (c.in_ok-prepare.ensures.taken ∙ taken)) places);

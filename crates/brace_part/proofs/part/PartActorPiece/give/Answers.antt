@@ -6,10 +6,11 @@ use Rattle.brace_pieces.specs.Steps.{schedule}
 use Rattle.brace_pieces.specs.Right.{IsRight}
 use Rattle.brace_pieces.specs.Courses.{OnCourse, past_of}
 use Rattle.brace_part.specs.declared.standing.Standing.{Standing}
-use Rattle.brace_part.specs.Parts.{OnPart}
+use Rattle.brace_part.specs.Parts.{OnPart, IsCauseOfAll}
 use Rattle.brace_part.specs.inner.Sound.{IsSound}
 use Rattle.brace_part.proofs.TurnLemmas.{some_take, take_due}
 use Rattle.brace_part.proofs.SoundLemmas.{sound_within, take_goes, has_place}
+use Rattle.brace_part.proofs.CauseLemmas.{found_more}
 use Rattle.brace_part.proofs.GoneLemmas.{took_next, take_halt, cause_none, no_cause, goes_unless}
 use Rattle.brace_part.proofs.part.PartActorPiece.give.Goals as goal
 
@@ -28,7 +29,7 @@ invariant_of-self c =
     let room = vec_capacity i.standing.taken in
     subst (λ (d : OnCourse). IsSound d i.queries i.standing i.cause room) (sym c.go_on.ensures.place)
     (sound_within i.course i.queries i.standing i.standing i.cause i.cause room room c.self.invariant (omega (arith, low, high))
-    (λ none. absurd (no_cause i.cause (sym c.is_some.ensures ∙ c.if-is_some.true) none)) c.self.invariant.halted refl refl)
+    (λ none. absurd (no_cause i.cause (sym c.is_some.ensures ∙ c.if-is_some.true) none)) c.self.invariant.halted c.self.invariant.found refl refl)
 
 pub invariant_of-self-in-Halt : goal.invariant_of-self-in-Halt
 invariant_of-self-in-Halt c =
@@ -40,7 +41,8 @@ invariant_of-self-in-Halt c =
     let room = vec_capacity i.standing.taken in
     subst (λ (d : OnCourse). IsSound d i.queries i.standing (Some c.in-Halt.cause) room) (sym c.go_on.ensures.place)
     (sound_within cs i.queries i.standing i.standing i.cause (Some c.in-Halt.cause) room room c.self.invariant (omega (arith, low, high))
-    (λ none. absurd (no_cause (Some c.in-Halt.cause) refl none)) (take_halt cs took.0 c.in-Halt.cause took.1.0 (subst (IsRight cs.setting took.0) c.in-Halt.is took.1.1)) refl refl)
+    (λ none. absurd (no_cause (Some c.in-Halt.cause) refl none)) (take_halt cs took.0 c.in-Halt.cause took.1.0 (subst (IsRight cs.setting took.0) c.in-Halt.is took.1.1))
+    (found_more cs.setting cs.actor cs.number (Some c.in-Halt.cause) (subst (IsCauseOfAll cs.setting cs.actor cs.number) (cause_none i.cause (sym c.is_some.ensures ∙ c.if-is_some.false)) c.self.invariant.found)) refl refl)
 
 pub push_reserved-requires : goal.push_reserved-requires
 push_reserved-requires c =
@@ -62,4 +64,4 @@ invariant_of-self-in_default c =
     let new : Standing = record { stance = i.standing.stance; out = i.standing.out; taken = c.push_reserved.new.self; shown = i.standing.shown; counts = i.standing.counts } in
     subst (λ (d : OnCourse). IsSound d i.queries new i.cause (vec_capacity c.push_reserved.new.self)) (sym c.go_on.ensures.place)
     (sound_within cs i.queries i.standing new i.cause i.cause old (vec_capacity c.push_reserved.new.self) c.self.invariant (omega (arith, low, high))
-    (λ none. take_goes cs i.standing new (c.self.invariant.goes_on none) refl refl took.0 took.1.0 c.args.piece refl c.push_reserved.ensures.items took.1.1 (goes_unless c.args.piece (λ x e. c.in_default.not-Halt x e))) c.self.invariant.halted refl c.push_reserved.ensures.capacity)
+    (λ none. take_goes cs i.standing new (c.self.invariant.goes_on none) refl refl took.0 took.1.0 c.args.piece refl c.push_reserved.ensures.items took.1.1 (goes_unless c.args.piece (λ x e. c.in_default.not-Halt x e))) c.self.invariant.halted c.self.invariant.found refl c.push_reserved.ensures.capacity)

@@ -30,7 +30,7 @@ invariant_of-self c =
     let room = vec_capacity i.standing.taken in
     subst (λ (d : OnCourse). IsSound d i.queries i.standing i.cause room) (sym c.go_on.ensures.place)
     (sound_within i.course i.queries i.standing i.standing i.cause i.cause room room c.self.invariant (omega (arith, low))
-    (λ none. absurd (no_cause i.cause (ap is_some c.in-Some.is) none)) c.self.invariant.halted refl refl)
+    (λ none. absurd (no_cause i.cause (ap is_some c.in-Some.is) none)) c.self.invariant.halted c.self.invariant.found refl refl)
 
 pub unreachable-requires : goal.unreachable-requires
 unreachable-requires c =
@@ -50,7 +50,7 @@ invariant_of-self-in-None c =
     let new : Standing = record { stance = i.standing.stance; out = c.pop.new.self; taken = i.standing.taken; shown = i.standing.shown; counts = i.standing.counts } in
     subst (λ (d : OnCourse). IsSound d i.queries new i.cause room) (sym c.go_on.ensures.place)
     (sound_within i.course i.queries i.standing new i.cause i.cause room room c.self.invariant (omega (arith, low))
-    (λ none. (put_goes i.course i.standing new (c.self.invariant.goes_on none) refl refl next.0 next.1 c.in-Some-pop.piece c.in-Some-pop.ensures.items refl).1) c.self.invariant.halted refl refl)
+    (λ none. (put_goes i.course i.standing new (c.self.invariant.goes_on none) refl refl next.0 next.1 c.in-Some-pop.piece c.in-Some-pop.ensures.items refl).1) c.self.invariant.halted c.self.invariant.found refl refl)
 
 pub returns-in-Some-clause-right : goal.returns-in-Some-clause-right
 returns-in-Some-clause-right c =
