@@ -13,7 +13,7 @@ ghost use Rattle.brace_pieces.specs.declared.piece.Piece.TheVariants as piece;
 ghost use Rattle.brace_pieces.specs.Settings.{LawfulSetting, parts, is_end, cuts_of};
 ghost use Rattle.brace_pieces.specs.Steps.{schedule};
 ghost use Rattle.brace_pieces.specs.Right.{IsRight, IsRightCause};
-ghost use Rattle.brace_pieces.specs.Courses.{OnCourse, at_start, step_of, gone_on, past_of};
+ghost use Rattle.brace_pieces.specs.Courses.{OnCourse, IsCourse, at_start, step_of, gone_on, past_of};
 ghost use Rattle.brace_part.specs.Parts.{own_under, own_at, IsSettled, keeps_at, found_in_work, IsCauseOf, IsCauseOfAll, cause_of, cause_behind};
 ghost use Rattle.brace_part.specs.inner.Ready.{AreKept};
 ghost use Rattle.brace_part.specs.inner.Sound.{IsPartOf, IsAtWork, ComesTo, GoesOn, owns_in};
@@ -284,6 +284,7 @@ impl<'a> Part<'a> {
             (IsRightCause self.now.course.setting self.now.course.number) }
         ensures found { IsCauseOfAll self.now.course.setting self.now.course.actor
             self.now.course.number self.now.cause }
+        ensures course { IsCourse self.now.course }
     {
         self.cause
     }
