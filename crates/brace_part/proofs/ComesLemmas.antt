@@ -52,13 +52,14 @@ module _ (s : Setting) (p : ℕ) (queries : Queries) (part : IsPartOf s p querie
 
   -- it comes to the next step with what that needs
   pub comes_next : (new : Standing) → IsReadyBehind s p at.stage at.tick new.stance → least (found_in_work s p at.stage at.tick) ≡ None
-      → (at.stage ≡ stage.Move → new.shown ≡ noted_more new.stance) → ((at.stage ≡ stage.Move → ⊥) → new.shown ≡ old.shown) → ComesTo s p (k + 1) (slice_get (steps s) (k + 1)) new
-  comes_next new behind none moved stays = record {
+      → (at.stage ≡ stage.Move → new.shown ≡ noted_more new.stance) → ((at.stage ≡ stage.Move → ⊥) → new.shown ≡ old.shown) → new.counts ≡ old.counts → ComesTo s p (k + 1) (slice_get (steps s) (k + 1)) new
+  comes_next new behind none moved stays counts = record {
     ready = ready_next s p part.childless k at h.stands new.stance behind;
     faultless = faultless_next s p part.childless k at h.stands h.faultless none;
     brings = brings_next s part.childless p k at h.stands old.shown new.shown h.keeps
         (λ move. moved move ∙ one_noted s part.childless p at.tick (at.tick + 1) old.shown (note_of s (at.tick + 1) new.stance) refl (of_run s k at h.stands).low (note_at new.stance move behind)
         (subst (λ st. old.shown ≡ keeps_before s p st at.tick) move h.keeps)) stays;
+    counted = counts ∙ h.counted;
   }
 
   -- all worlds that it keeps behind a work are its parts of them

@@ -33,7 +33,7 @@ use Rattle.brace_part.proofs.TurnLemmas.{PutsNext, TakesNext, WorksNext, take_of
 
 out_long : (s : Setting) (k p : ℕ) (qs : List ℕ) (out : List Piece) → AreOut s k p qs out → length out ≡ length qs
 out_long s k p qs out none_out = refl
-out_long s k p qs out (more_out q others piece pieces right h) =
+out_long s k p qs out (more_out q others piece pieces right goes h) =
     let rest = out_long s k p others pieces h in
     omega (arith, rest, length-append pieces (piece ∷ []))
 
@@ -86,6 +86,7 @@ module _ (c : OnCourse) (turn : WorksNext c) where
         faultless = subst (IsFaultlessAt c.setting c.actor) turn.stands h.faultless;
         took = subst (λ qs. AreTaken c.setting c.number c.actor qs standing.taken.items) (all ∙ ap (λ o. met_in c.setting o c.actor) turn.stands) h.took;
         keeps = h.keeps ∙ ap (keeps_at c.setting c.actor) turn.stands;
+        counted = h.counted;
       }
 
   abbrev pub behind : OnCourse

@@ -4,6 +4,7 @@ pub mod TableLeft
 pub mod TableOnes
 pub mod TableShares
 pub mod TableTells
+pub mod KindLemmas
 pub mod WorkTaken
 pub mod WorkHeard
 pub mod WorkOwned
@@ -11,6 +12,7 @@ pub mod StepLemmas
 pub mod NextLemmas
 pub mod OutLemmas
 pub mod PieceLemmas
+pub mod CountLemmas
 pub mod ShownLemmas
 pub mod PartLemmas
 pub mod TurnLemmas

@@ -49,7 +49,7 @@ pub record HasLast (s : Setting) (k p q : ℕ) (others : List ℕ) (all : List P
   pub rest : AreOut s k p others pieces
 
 out_last : (s : Setting) (k p q : ℕ) (others : List ℕ) (all : List Piece) → AreOut s k p (q ∷ others) all → HasLast s k p q others all
-out_last s k p q others all (more_out q' others' piece pieces right rest) = record { pieces = pieces; piece = piece; same = refl; right = right; rest = rest }
+out_last s k p q others all (more_out q' others' piece pieces right goes rest) = record { pieces = pieces; piece = piece; same = refl; right = right; rest = rest }
 
 snoc_same : (xs ys : List Piece) (x y : Piece) → xs ++ x ∷ [] ≡ ys ++ y ∷ [] → (xs ≡ ys) × (x ≡ y)
 snoc_same [] [] x y e = (refl, cc)
@@ -89,15 +89,15 @@ module _ (s : Setting) (k p : ℕ) (others : List ℕ) where
   has_piece made low out = some_out (get_or others made 0) (drop (made + 1) others) [] (subst (λ qs. AreOut s k p qs []) (next_of made low) out) refl
 
   -- one more piece that it prepares
-  pub one_prepared : (i : ℕ) (q : ℕ) (pieces : List Piece) (piece : Piece) → i < length others → get_or others (length others - 1 - i) 0 ≡ q → IsRight s (name k p q) piece
+  pub one_prepared : (i : ℕ) (q : ℕ) (pieces : List Piece) (piece : Piece) → i < length others → get_or others (length others - 1 - i) 0 ≡ q → IsRight s (name k p q) piece → GoesOn piece
       → AreOut s k p (drop (length others - i) others) pieces → AreOut s k p (drop (length others - (i + 1)) others) (pieces ++ piece ∷ [])
-  one_prepared i q pieces piece low is right out =
+  one_prepared i q pieces piece low is right goes out =
       let made : ℕ = length others - (i + 1) in
       let back : length others - 1 - i ≡ made = omega (arith, low) in
       let behind : suc made ≡ length others - i = omega (arith, low) in
       let here : drop made others ≡ q ∷ drop (length others - i) others =
       drop-cons others made 0 (omega (arith, low)) ∙ ap (λ n. get_or others made 0 ∷ drop n others) behind ∙ ap (λ r. r ∷ drop (length others - i) others) (ap (λ n. get_or others n 0) (sym back) ∙ is) in
-      subst (λ qs. AreOut s k p qs (pieces ++ piece ∷ [])) (sym here) (more_out q (drop (length others - i) others) piece pieces right out)
+      subst (λ qs. AreOut s k p qs (pieces ++ piece ∷ [])) (sym here) (more_out q (drop (length others - i) others) piece pieces right goes out)
 
   pub none_prepared : AreOut s k p (drop (length others - 0) others) []
   none_prepared = let all : length others ≡ length others - 0 = omega arith in subst (λ n. AreOut s k p (drop n others) []) all (subst (λ qs. AreOut s k p qs []) (sym (nothing_behind others)) none_out)

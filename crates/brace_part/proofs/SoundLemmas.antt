@@ -9,11 +9,13 @@ use Rattle.brace_pieces.specs.declared.setting.Setting.{Setting}
 use Rattle.brace_pieces.specs.declared.setting.Step.{Step}
 use Rattle.brace_pieces.specs.declared.piece.Cause.{Cause}
 use Rattle.brace_pieces.specs.declared.piece.Piece.{Piece}
+use Rattle.brace_pieces.specs.declared.piece.Shown.{Shown}
 use Rattle.brace_pieces.specs.Settings.{parts}
 use Rattle.brace_pieces.specs.Steps.{meet, parts_meet, is_show}
 use Rattle.brace_pieces.specs.Right.{IsRight}
 use Rattle.brace_pieces.specs.Courses.{OnCourse, met_in, step_of, others_of, gone_on}
 use Rattle.brace_pieces.proofs.CourseLemmas.{goes_within, course_within}
+use Rattle.brace_part.specs.declared.counts.Counts.{Counts}
 use Rattle.brace_part.specs.declared.query.Queries.{Queries}
 use Rattle.brace_part.specs.declared.standing.Standing.{Standing}
 use Rattle.brace_part.specs.Parts.{IsCauseOfAll}
@@ -47,7 +49,11 @@ past_all (suc n) [] high = refl
 past_all zero (x ∷ xs) high = absurd (omega (arith, high))
 past_all (suc n) (x ∷ xs) high = past_all n xs (omega (arith, high))
 
-module _ (c : OnCourse) (old new : Standing) (h : GoesOn c old) (stance : new.stance ≡ old.stance) (shown : new.shown ≡ old.shown) where
+-- what no exchange changes
+abbrev pub kept_of : Standing → List Shown × Counts
+kept_of standing = (standing.shown, standing.counts)
+
+module _ (c : OnCourse) (old new : Standing) (h : GoesOn c old) (stance : new.stance ≡ old.stance) (kept : kept_of new ≡ kept_of old) where
   abbrev others : List ℕ
   others = others_of c
 
@@ -64,7 +70,8 @@ module _ (c : OnCourse) (old new : Standing) (h : GoesOn c old) (stance : new.st
           faultless = h.faultless;
           puts = left;
           took = subst (λ m. AreTaken c.setting c.number c.actor (take m others) new.taken.items) none (subst (AreTaken c.setting c.number c.actor (take (c.made - length others) others)) (sym taken) h.took);
-          keeps = shown ∙ h.keeps;
+          keeps = ap (λ x. x.0) kept ∙ h.keeps;
+          counted = ap (λ x. x.1) kept ∙ h.counted;
         },
       )
 
@@ -82,7 +89,8 @@ module _ (c : OnCourse) (old new : Standing) (h : GoesOn c old) (stance : new.st
         took = subst (λ m. AreTaken c.setting c.number c.actor (take m others) new.taken.items) more
             (subst (AreTaken c.setting c.number c.actor (take (i + 1) others)) (sym taken)
             (one_taken c.setting c.number c.actor others i (get_or others i 0) old.taken.items piece turn.low refl (subst (λ m. IsRight c.setting m piece) turn.same right) goes h.took));
-        keeps = shown ∙ h.keeps;
+        keeps = ap (λ x. x.0) kept ∙ h.keeps;
+        counted = ap (λ x. x.1) kept ∙ h.counted;
       }
 
 -- ---- there is room for all that it takes

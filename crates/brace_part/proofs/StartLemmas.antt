@@ -18,6 +18,7 @@ use Rattle.brace_part.specs.declared.standing.Stance.{Stance}
 use Rattle.brace_part.specs.declared.standing.Stance.TheVariants.{Owns, Hears, Leaves}
 use Rattle.brace_part.specs.declared.standing.Standing.{Standing}
 use Rattle.brace_part.specs.Parts.{own_under, kept_at}
+use Rattle.brace_part.specs.Given.{no_counts}
 use Rattle.brace_part.specs.inner.Ready.{IsReady, IsReadyFor, IsFaultlessAt, AreKept}
 use Rattle.brace_part.specs.inner.Sound.{ComesTo}
 use Rattle.brace_part.proofs.NextLemmas.{recut_behind, shown_first, reaches}
@@ -78,18 +79,20 @@ module _ (s : Setting) (p : ℕ) where
     -- a part that owns its agents of the first tick, and noted them where a step is there
     pub comes_first : (standing : Standing) → IsReadyFor s p stage.Border first standing.stance
         → (is_some (slice_get (steps s) 0) ≡ true → standing.shown ≡ (if is_noted s first then note_of s first standing.stance ∷ [] else []))
-        → (is_some (slice_get (steps s) 0) ≡ false → standing.shown ≡ []) → ComesTo s p 0 (slice_get (steps s) 0) standing
-    comes_first standing has noted none = elim (cases_lt s.job.last first) [
+        → (is_some (slice_get (steps s) 0) ≡ false → standing.shown ≡ []) → standing.counts ≡ no_counts → ComesTo s p 0 (slice_get (steps s) 0) standing
+    comes_first standing has noted none counts = elim (cases_lt s.job.last first) [
       | inl down ↦ subst (λ o. ComesTo s p 0 o standing) (no_step down) (record {
         ready = ready_last down standing.stance has;
         faultless = tt;
         brings = none (ap is_some (sym (no_step down)));
+        counted = counts;
       })
       | inr up ↦ record {
         ready = ready_first up standing.stance has;
         faultless = faultless_first up;
         brings = brings_first s childless p standing.shown
             (noted (some_step up) ∙ first_noted s childless p (note_of s first standing.stance) (note_first standing.stance has)) up;
+        counted = counts;
       }
     ]
 

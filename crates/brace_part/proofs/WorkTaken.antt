@@ -24,38 +24,18 @@ use Rattle.brace_pieces.specs.Heard.{own, near, sayings_of, told, IsShareOf}
 use Rattle.brace_pieces.proofs.Partings.{behind}
 use Rattle.brace_part.specs.inner.Pieces.{brought, GoesOn, AreTaken, none_taken, more_taken}
 use Rattle.brace_part.specs.inner.Tables.{TellsOf, TellsBy, no_entry, one_entry, TellBy, no_piece, one_piece}
+use Rattle.brace_part.proofs.KindLemmas.{border_alone, hand_alone, move_alone, effects_alone}
 
 -- ---- what a piece brings
 
 border_brings : (s : Setting) (k t q p : ℕ) (x : Piece) → IsRightAt s k stage.Border t q p x → GoesOn x → brought x ≡ border s t q p (on s t).agents
-border_brings s k t q p (piece.Border agents) right goes = right
-border_brings s k t q p (piece.Effects entries) right goes = absurd right
-border_brings s k t q p (piece.Census c) right goes = absurd right
-border_brings s k t q p (piece.Move agents) right goes = absurd right
-border_brings s k t q p (piece.Hand agents) right goes = absurd right
-border_brings s k t q p (piece.Show list) right goes = absurd right
-border_brings s k t q p piece.Ack right goes = absurd right
-border_brings s k t q p (piece.Halt c) right goes = absurd goes
+border_brings s k t q p = border_alone s k t q p (λ x. brought x ≡ border s t q p (on s t).agents) (λ agents right. right)
 
 hand_brings : (s : Setting) (k t q p : ℕ) (x : Piece) → IsRightAt s k stage.Hand t q p x → GoesOn x → brought x ≡ handed s t q p (on s t).agents
-hand_brings s k t q p (piece.Hand agents) right goes = right
-hand_brings s k t q p (piece.Border agents) right goes = absurd right
-hand_brings s k t q p (piece.Effects entries) right goes = absurd right
-hand_brings s k t q p (piece.Census c) right goes = absurd right
-hand_brings s k t q p (piece.Move agents) right goes = absurd right
-hand_brings s k t q p (piece.Show list) right goes = absurd right
-hand_brings s k t q p piece.Ack right goes = absurd right
-hand_brings s k t q p (piece.Halt c) right goes = absurd goes
+hand_brings s k t q p = hand_alone s k t q p (λ x. brought x ≡ handed s t q p (on s t).agents) (λ agents right. right)
 
 move_brings : (s : Setting) (k t q p : ℕ) (x : Piece) → IsRightAt s k stage.Move t q p x → GoesOn x → brought x ≡ moved s t q p (on s t)
-move_brings s k t q p (piece.Move agents) right goes = right
-move_brings s k t q p (piece.Border agents) right goes = absurd right
-move_brings s k t q p (piece.Effects entries) right goes = absurd right
-move_brings s k t q p (piece.Census c) right goes = absurd right
-move_brings s k t q p (piece.Hand agents) right goes = absurd right
-move_brings s k t q p (piece.Show list) right goes = absurd right
-move_brings s k t q p piece.Ack right goes = absurd right
-move_brings s k t q p (piece.Halt c) right goes = absurd goes
+move_brings s k t q p = move_alone s k t q p (λ x. brought x ≡ moved s t q p (on s t)) (λ agents right. right)
 
 -- ---- what an entry and a piece tell
 
@@ -104,21 +84,14 @@ effects_tell : (s : Setting) (k t q p : ℕ) (w : List Agent) → w ≡ (on s t)
     → ((a : Agent) → Contains (own s t p w) a → Contains (near s t p w) a)
     → ((g : Share) → Contains (shares s t q p w) g → IsShareOf s.job.program (own s t p w) (said_by s t q w) g)
     → (x : Piece) → IsRightAt s k stage.Effects t q p x → GoesOn x → Tells s.job.program (near s t p w) x (told s t q p w)
-effects_tell s k t q p w world within each (piece.Effects entries) right goes =
+effects_tell s k t q p w world within each = effects_alone s k t q p (λ x. Tells s.job.program (near s t p w) x (told s t q p w)) (λ entries right.
     let same : map share_of entries ≡ shares s t q p w = right ∙ ap (shares s t q p) (sym world) in
     record {
       entries = entries;
       is = refl;
       tells = subst (λ gs. TellsBy s.job.program (near s t p w) entries (flat_map (sayings_of (said_by s t q w)) gs)) same
           (tells_by s.job.program (near s t p w) (own s t p w) (said_by s t q w) within entries (λ g h. each g (subst (λ gs. Contains gs g) same h)));
-    }
-effects_tell s k t q p w world within each (piece.Border agents) right goes = absurd right
-effects_tell s k t q p w world within each (piece.Census c) right goes = absurd right
-effects_tell s k t q p w world within each (piece.Move agents) right goes = absurd right
-effects_tell s k t q p w world within each (piece.Hand agents) right goes = absurd right
-effects_tell s k t q p w world within each (piece.Show list) right goes = absurd right
-effects_tell s k t q p w world within each piece.Ack right goes = absurd right
-effects_tell s k t q p w world within each (piece.Halt c) right goes = absurd goes
+    })
 
 -- ---- pieces that were taken, one by one
 

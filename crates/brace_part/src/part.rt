@@ -15,6 +15,7 @@ ghost use Rattle.brace_pieces.specs.Steps.{schedule};
 ghost use Rattle.brace_pieces.specs.Right.{IsRight, IsRightCause};
 ghost use Rattle.brace_pieces.specs.Courses.{OnCourse, IsCourse, at_start, step_of, gone_on, past_of};
 ghost use Rattle.brace_part.specs.Parts.{own_under, own_at, IsSettled, keeps_at, found_in_work, IsCauseOf, IsCauseOfAll, cause_of, cause_behind};
+ghost use Rattle.brace_part.specs.Given.{counts_up_to};
 ghost use Rattle.brace_part.specs.inner.Ready.{AreKept};
 ghost use Rattle.brace_part.specs.inner.Sound.{IsPartOf, IsAtWork, ComesTo, GoesOn, owns_in};
 
@@ -259,9 +260,13 @@ impl<'a> Part<'a> {
         owned_in(&self.standing.stance)
     }
 
-    /// How much it gave to others so far, that of its step included.
+    /// How much it gave to others so far, that of its step included. Where it goes on, that is what
+    /// a part of its number gives in all steps up to its step. Counts that do not fit 128 bits are
+    /// no more counted: the part goes no further, as where it finds no memory.
     pub fn counts(&self) -> Counts
         ensures same { result ≡ self.now.counts }
+        ensures given { self.now.cause ≡ None → self.now.counts ≡ counts_up_to
+            self.now.course.setting self.now.course.actor self.now.course.number }
     {
         self.standing.counts
     }

@@ -2,7 +2,7 @@ ghost use Rattle.std.specs.Prelude.{◌≡◌, ◌⊎◌, [], ◌∷◌, map, fo
 ghost use Rattle.brace_core.specs.Schedule.{name};
 ghost use Rattle.brace_pieces.specs.declared.piece.Piece.TheVariants as piece;
 ghost use Rattle.brace_pieces.specs.Right.{IsRight};
-ghost use Rattle.brace_part.specs.inner.Pieces.{counted, AreOut};
+ghost use Rattle.brace_part.specs.inner.Pieces.{counted, AreOut, GoesOn};
 ghost use Rattle.brace_part.specs.inner.Ready.{IsReadyFor};
 ghost use Rattle.brace_part.specs.inner.Sound.{IsWorker, IsNext, AreMet};
 
@@ -22,6 +22,7 @@ fn piece_for(worker: &Worker, at: Step, stance: &Stance, to: u32) -> Result<Piec
     requires to { AreMet worker.now at (to ∷ []) }
     ensures right { IfOk result
         (IsRight worker.now.setting.now (name worker.now.number worker.now.part to)) }
+    ensures goes_on { IfOk result GoesOn }
 {
     let (alloc, setting, tick) = (worker.alloc, worker.setting, at.tick);
     match (at.stage, stance) {

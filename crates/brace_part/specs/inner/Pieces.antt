@@ -24,18 +24,18 @@ counted c (Move agents) = record c { moved = c.moved + length agents }
 counted c (Hand agents) = record c { handed = c.handed + length agents }
 counted c _ = c
 
+-- a piece is no Halt
+abbrev pub GoesOn : Piece → Type 0
+GoesOn (Halt c) = ⊥
+GoesOn _ = Unit {0}
+
 -- pieces that a part puts in a step of a number: for each of those it meets a right one, that of
 -- the first being the last
 pub data AreOut (s : Setting) (k p : ℕ) : List ℕ → List Piece → Type 0 where
   none_out : AreOut s k p [] []
   more_out : (q : ℕ) (others : List ℕ) (piece : Piece) (pieces : List Piece)
-      → IsRight s (name k p q) piece → AreOut s k p others pieces
+      → IsRight s (name k p q) piece → GoesOn piece → AreOut s k p others pieces
       → AreOut s k p (q ∷ others) (pieces ++ piece ∷ [])
-
--- a piece is no Halt
-abbrev pub GoesOn : Piece → Type 0
-GoesOn (Halt c) = ⊥
-GoesOn _ = Unit {0}
 
 -- pieces that a part took in a step of a number: of each of those it met a right one, in turn
 pub data AreTaken (s : Setting) (k p : ℕ) : List ℕ → List Piece → Type 0 where

@@ -21,6 +21,7 @@ use Rattle.brace_part.specs.declared.standing.Stance.TheVariants.{Owns, Hears, L
 use Rattle.brace_part.specs.declared.standing.Standing.{Standing}
 use Rattle.brace_part.specs.declared.work.Worker.{Worker}
 use Rattle.brace_part.specs.Parts.{keeps_at, IsCauseOfAll}
+use Rattle.brace_part.specs.Given.{counts_behind, counts_up_to}
 use Rattle.brace_part.specs.inner.Pieces.{AreOut, AreTaken}
 use Rattle.brace_part.specs.inner.Ready.{IsReady, IsReadyFor, IsFaultlessAt, IsFaultlessBefore, AreKept, brings_at}
 
@@ -58,15 +59,16 @@ pub record IsNext (w : Worker) (at : Step) : Type 0 where
 abbrev pub AreMet : Worker → Step → List ℕ → Type 0
 AreMet w at others = All (λ q. Contains (met w.setting.now at w.part) q) others
 
--- a part comes to a step, or to its end: what it has, and what it keeps
+-- a part comes to a step, or to its end: what it has, what it keeps, and what it gave before
 pub record ComesTo (s : Setting) (p number : ℕ) (at : Option Step) (standing : Standing)
     : Type 0 where
   pub ready : IsReady s p at standing.stance
   pub faultless : IsFaultlessAt s p at
   pub brings : standing.shown ≡ brings_at s p at
+  pub counted : standing.counts ≡ counts_behind s p number
 
 -- a part that goes on where its course stands: what it has, what it puts and what it took in its
--- step, and what it keeps
+-- step, what it keeps, and what it gave up to that step
 pub record GoesOn (c : OnCourse) (standing : Standing) : Type 0 where
   pub ready : IsReady c.setting c.actor (step_of c) standing.stance
   pub faultless : IsFaultlessAt c.setting c.actor (step_of c)
@@ -74,6 +76,7 @@ pub record GoesOn (c : OnCourse) (standing : Standing) : Type 0 where
   pub took : AreTaken c.setting c.number c.actor
       (take (c.made - length (others_of c)) (others_of c)) standing.taken.items
   pub keeps : standing.shown ≡ keeps_at c.setting c.actor (step_of c)
+  pub counted : standing.counts ≡ counts_up_to c.setting c.actor c.number
 
 -- a part is at its work in the step of a number
 pub record IsAtWork (s : Setting) (p number : ℕ) (at : Step) (standing : Standing) : Type 0 where
@@ -82,6 +85,7 @@ pub record IsAtWork (s : Setting) (p number : ℕ) (at : Step) (standing : Stand
   pub faultless : IsFaultlessBefore s p at.stage at.tick
   pub took : AreTaken s number p (met s at p) standing.taken.items
   pub keeps : standing.shown ≡ keeps_at s p (Some at)
+  pub counted : standing.counts ≡ counts_up_to s p number
 
 -- a cause that a part has is right in every step that is left
 abbrev pub IsHalted : Setting → ℕ → Option Cause → Type 0

@@ -1,4 +1,4 @@
-use Rattle.std.proofs.Common.{◌≡◌, ◌+◌, ◌++◌, sym, subst, [], ◌∷◌, None, arith, if◌then◌else◌}
+use Rattle.std.proofs.Common.{◌≡◌, ◌+◌, ◌++◌, refl, sym, subst, [], ◌∷◌, None, arith, if◌then◌else◌}
 use Rattle.std.specs.Prelude.{slice_get}
 use Rattle.brace_model.specs.FaultOrder.{least}
 use Rattle.brace_pieces.specs.declared.setting.Stage.TheVariants as stage
@@ -31,7 +31,7 @@ prepare-requires-clause-comes c =
     let moved = λ (m : at.stage ≡ stage.Move). subst (λ (r : Setting). c.note_next.new.shown ≡ old.shown ++ (if is_noted r (at.tick + 1) then note_of r (at.tick + 1) st ∷ [] else [])) c.setting-2.ensures.setting (c.in_ok-note_next.ensures.moved m) in
     let new : Standing = record { stance = st; out = old.out; taken = c.clear.new.self; shown = c.note_next.new.shown; counts = old.counts } in
     subst (λ n. ComesTo s p n (slice_get (steps s) n) new) (sym c.requires.behind)
-    (comes_next s p c.args.queries.now c.requires.part c.args.number at old c.requires.work new has none moved c.in_ok-note_next.ensures.stays)
+    (comes_next s p c.args.queries.now c.requires.part c.args.number at old c.requires.work new has none moved c.in_ok-note_next.ensures.stays refl)
 
 pub returns-in_err-prepare-clause-kept : goal.returns-in_err-prepare-clause-kept
 returns-in_err-prepare-clause-kept c =

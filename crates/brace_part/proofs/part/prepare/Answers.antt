@@ -11,7 +11,7 @@ returns-in_default-clause-goes_on c =
     let none : step_of c.args.course.now ≡ None = search rules in
     let empty : c.clear.new.self.items ≡ [] = search rules in
     let comes = c.requires.comes in
-    goes_nowhere c.args.course.now _ none c.requires.start comes.ready comes.faultless comes.brings empty c.requires.nothing_taken
+    goes_nowhere c.args.course.now _ none c.requires.start comes.ready comes.faultless comes.brings empty c.requires.nothing_taken comes.counted
 
 pub returns-in_err-standing-clause-kept : goal.returns-in_err-standing-clause-kept
 returns-in_err-standing-clause-kept c =
@@ -23,7 +23,7 @@ returns-then-eq-clause-goes_on c =
     let show : c.in-Some.at.stage ≡ stage.Show = search rules in
     let comes = c.requires.comes in
     goes_showing c.args.course.now _ c.in-Some.at c.args.standing.now.shown c.requires.part.lawful c.requires.part.is_part is show c.requires.start comes.ready comes.faultless comes.brings
-    c.in_ok-standing.ensures.out c.requires.nothing_taken c.in_ok-standing.ensures.shown
+    c.in_ok-standing.ensures.out c.requires.nothing_taken c.in_ok-standing.ensures.shown comes.counted
 
 pub prepared-requires-clause-others : goal.prepared-requires-clause-others
 prepared-requires-clause-others c =
@@ -43,3 +43,4 @@ returns-clause-goes_on c =
     goes_exchanging cs _ c.in-Some.at is other c.requires.start comes.ready comes.faultless comes.brings
     (out_same cs.setting c.setting.result.now cs.number c.number.result cs.actor c.actor.result (others_of cs) c.others.result.now c.in_ok-standing-2.field-0.items
     c.setting.ensures.setting c.number.ensures c.actor.ensures.actor c.others.ensures c.in_ok-standing-2.ensures.out) c.requires.nothing_taken
+    c.args.standing.now.counts comes.counted c.in_ok-standing-2.ensures.counts

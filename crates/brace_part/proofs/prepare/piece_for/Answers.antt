@@ -37,6 +37,7 @@ returns-in_ok-moves_of-in-Move-Leaves c =
       right = right_in s w.number w.part c.args.to c.args.at (piece.Move found) c.requires.next.stands
           (subst (λ a. IsRightAt s w.number a t w.part c.args.to (piece.Move found)) (sym c.in-Move-Leaves.is-0)
           (moved_right s c.requires.worker.lawful c.requires.worker.numbers t w.part c.requires.worker.childless c.args.to c.in-Move-Leaves.left.items found ready given));
+      goes_on = tt;
     }
 
 pub returns-in_ok-entries-in-Effects-Hears : goal.returns-in_ok-entries-in-Effects-Hears
@@ -56,4 +57,5 @@ returns-in_ok-entries-in-Effects-Hears c =
           (λ said faults h. c.in_ok-entries-in-Effects-Hears.ensures.told said faults (rw c.deref-in-Effects-Hears.ensures.value h)
           ∙ ap (λ cuts. shares_in s.job.program cuts c.args.to c.deref-in-Effects-Hears.result.now said) c.cuts_at-cuts.ensures
           ∙ ap (λ list. shares_in s.job.program (cuts_of s t) c.args.to list said) c.deref-in-Effects-Hears.ensures.value)));
+      goes_on = tt;
     }

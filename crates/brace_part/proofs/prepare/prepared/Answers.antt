@@ -32,7 +32,7 @@ loop-i-preserved c =
     let first = c.args.counts.now in
     record {
       out = subst (AreOut w.setting.now w.number w.part (drop (length others - (c.loop-i.i + 1)) others)) (sym c.in_ok-push.ensures.items)
-          (one_prepared w.setting.now w.number w.part others c.loop-i.i (get_or others (length others - 1 - c.loop-i.i) 0) items piece c.loop-i-test.true refl c.in_ok-piece.ensures.right c.loop-i.invariant.out);
+          (one_prepared w.setting.now w.number w.part others c.loop-i.i (get_or others (length others - 1 - c.loop-i.i) 0) items piece c.loop-i-test.true refl c.in_ok-piece.ensures.right c.in_ok-piece.ensures.goes_on c.loop-i.invariant.out);
       sums = c.in_ok-add.ensures ∙ ap (λ n. counted n piece) c.loop-i.invariant.sums ∙ sym (fold-append counted first items (piece ∷ [])) ∙ ap (fold counted first) (sym c.in_ok-push.ensures.items);
     }
 

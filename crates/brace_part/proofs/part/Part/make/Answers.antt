@@ -25,10 +25,10 @@ prepare-requires-clause-comes c =
     (elim c.if-is_some.branch [
       | then-is_some+in_ok-note w ↦ subst (ComesTo s c.args.p 0 (slice_get (steps s) 0)) (sym w.standing-is)
           (comes_first s c.args.p c.requires.childless _ c.requires.owns (λ some. from_none _ _ _ c.new-2.ensures w.in_ok-note.ensures.noted)
-          (λ none. absurd (true≢false (sym w.if-is_some.true ∙ some_is ∙ none))))
+          (λ none. absurd (true≢false (sym w.if-is_some.true ∙ some_is ∙ none))) c.none.ensures)
       | else-is_some w ↦ subst (ComesTo s c.args.p 0 (slice_get (steps s) 0)) (sym w.standing-is)
           (comes_first s c.args.p c.requires.childless _ c.requires.owns (λ some. absurd (true≢false (sym some ∙ sym some_is ∙ w.if-is_some.false)))
-          (λ none. c.new-2.ensures))
+          (λ none. c.new-2.ensures) c.none.ensures)
     ])
 
 pub invariant_of-result : goal.invariant_of-result
