@@ -22,4 +22,8 @@ pub mod ComesLemmas
 pub mod StartLemmas
 pub mod GoneLemmas
 pub mod OwnLemmas
+pub mod SumLemmas
+pub mod TempEither
+pub mod GaveLemmas
+pub mod AllGave
 pub mod WorkedLawful

@@ -19,7 +19,7 @@ use Rattle.brace_part.specs.inner.Pieces.AreOut.{none_out, more_out}
 use Rattle.brace_part.specs.inner.Pieces.AreTaken.{more_taken}
 
 -- in a step that shows nothing to the publisher a part meets parts alone
-met_passes : (s : Setting) (at : Step) (p q : ℕ) → Contains (met s at p) q → meet s at p q ≡ true
+pub met_passes : (s : Setting) (at : Step) (p q : ℕ) → Contains (met s at p) q → meet s at p q ≡ true
 met_passes s at p q has = All-contains (λ r. meet s at p r ≡ true) (met s at p) q (filter_passes (meet s at p) (range_with_len 0 (parts s + 1))) has
 
 pub met_is_part : (s : Setting) (at : Step) (p q : ℕ) → is_show at.stage ≡ false → Contains (met s at p) q → q < parts s

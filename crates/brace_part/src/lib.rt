@@ -4,6 +4,7 @@
 
 mod counts;
 mod gather;
+pub mod laws;
 mod part;
 mod prepare;
 mod query;
