@@ -355,6 +355,7 @@ impl<'a> Actor<Piece> for Part<'a> {
     {
         self.course.go_on();
         if self.cause.is_some() {
+            // Its own cause came first, and no piece is of use behind it.
             return;
         }
         match piece {
