@@ -18,7 +18,8 @@ use Rattle.brace_part.specs.Parts.{own_under, kept_at, found_in_work, keeps_befo
 use Rattle.brace_part.specs.inner.Ready.{IsReadyBehind, AreKept}
 use Rattle.brace_part.specs.inner.Sound.{IsPartOf, IsAtWork, ComesTo, owns_in}
 use Rattle.brace_part.proofs.StepLemmas.{of_run}
-use Rattle.brace_part.proofs.NextLemmas.{shown_behind, ready_next, faultless_next}
+use Rattle.brace_pieces.proofs.EpochLemmas.{shown_behind}
+use Rattle.brace_part.proofs.NextLemmas.{ready_next, faultless_next}
 use Rattle.brace_part.proofs.ShownLemmas.{is_noted, next_stays, one_noted, brings_next}
 
 -- what a part notes of a tick

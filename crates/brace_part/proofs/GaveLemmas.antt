@@ -26,7 +26,6 @@ use Rattle.brace_pieces.specs.Continued.{said, becomes, all_left, fitting, desce
 use Rattle.brace_pieces.specs.Right.{border, handed, moved, shares, shares_to, comes_from}
 use Rattle.brace_pieces.specs.Heard.{own, near, said_here}
 use Rattle.brace_pieces.specs.Counts.{changing}
-use Rattle.brace_part.proofs.TempEither.{parts_either_way}
 use Rattle.brace_pieces.proofs.Merges.{rises_by_pairs, filter_rises, filter_same}
 use Rattle.brace_pieces.proofs.HeldLemmas.{one_owns, held_together, handed_together}
 use Rattle.brace_pieces.proofs.Origins.{of_id}
@@ -34,6 +33,7 @@ use Rattle.brace_pieces.proofs.MoveLemmas.{left_each, owner_by_id, moved_togethe
 use Rattle.brace_pieces.proofs.GivenLemmas.{no_children_of}
 use Rattle.brace_pieces.proofs.OnLemmas.{on_rises, on_whole, on_next}
 use Rattle.brace_pieces.proofs.HeardHere.{StandInside, whole_inside, told_same}
+use Rattle.brace_pieces.proofs.ScheduleLemmas.{parts_either_way}
 use Rattle.brace_part.proofs.SumLemmas.{kept_in, either_first, common, nothing_left}
 use Rattle.brace_part.proofs.OutLemmas.{met_passes}
 

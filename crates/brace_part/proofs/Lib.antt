@@ -23,7 +23,6 @@ pub mod StartLemmas
 pub mod GoneLemmas
 pub mod OwnLemmas
 pub mod SumLemmas
-pub mod TempEither
 pub mod GaveLemmas
 pub mod AllGave
 pub mod WorkedLawful

@@ -1,11 +1,9 @@
 -- What a part has behind a step is what the next one needs.
-use Rattle.std.proofs.Common.{◌≡◌, ◌∙◌, refl, sym, ap, ap₂, subst, ℕ, ◌+◌, ◌-◌, ◌<◌, ◌≤◌, List, [], ◌∷◌, ◌++◌, filter, Bool, true, false, cond, Option, Some, None, ◌==◌, ◌&&◌, arith, inl, inr}
-use Rattle.std.specs.Prelude.{slice_get, nat_lt, nat_le, if◌then◌else◌, option_map, unwrap_or}
-use Rattle.std.specs.List.{last_or, list_any}
-use Rattle.std.proofs.lemmas.Bool.{cases_lt, or_parts, true≢false}
+use Rattle.std.proofs.Common.{◌≡◌, ◌∙◌, refl, sym, ap, subst, ℕ, ◌+◌, ◌-◌, ◌<◌, ◌≤◌, List, [], ◌∷◌, ◌++◌, Bool, true, false, Option, Some, None, ◌==◌, ◌&&◌, arith, inl, inr}
+use Rattle.std.specs.Prelude.{slice_get, nat_lt, if◌then◌else◌}
+use Rattle.std.specs.List.{list_any}
+use Rattle.std.proofs.lemmas.Bool.{cases_lt, true≢false}
 use Rattle.std.proofs.lemmas.Bool.Decides.{nat_tests}
-use Rattle.brace_cuts.specs.declared.plan.CutLine.{CutLine}
-use Rattle.brace_cuts.specs.Space.{no_cuts}
 use Rattle.brace_model.specs.declared.fault.Fault.{Fault}
 use Rattle.brace_model.specs.FaultOrder.{least}
 use Rattle.brace_model.specs.Next.{has_births}
@@ -20,6 +18,7 @@ use Rattle.brace_pieces.specs.Continued.{on, birth_faults}
 use Rattle.brace_pieces.specs.Finds.{queries_found, updates_found, finds}
 use Rattle.brace_pieces.specs.Right.{IsFaultless}
 use Rattle.brace_pieces.specs.inner.Walks.{steps_from, ticks_from, behind_effects, behind_move}
+use Rattle.brace_pieces.proofs.EpochLemmas.{same_cuts, shown_behind, shown_first, last_ends}
 use Rattle.brace_pieces.proofs.WalkLemmas.{next_in, next_is, is_low, no_tick, first_of_tick, first_behind_tick}
 use Rattle.brace_part.specs.declared.standing.Stance.{Stance}
 use Rattle.brace_part.specs.declared.standing.Stance.TheVariants.{Owns, Hears, Leaves}
@@ -29,18 +28,6 @@ use Rattle.brace_part.proofs.StepLemmas.{OfRun, of_run}
 use Rattle.brace_pieces.proofs.Childless.{no_birth_faults}
 
 -- ---- cuts of a tick at which no line begins
-
-none_here : (a t u : ℕ) → t ≡ u + 1 → (a == t) ≡ false → nat_le a t ≡ nat_le a u
-none_here a t u is other = grind (arith, nat_tests, is, other)
-
-as_before : (lines : List CutLine) (t u : ℕ) → t ≡ u + 1 → list_any (λ line. line.tick == t) lines ≡ false → filter (λ line. nat_le line.tick t) lines ≡ filter (λ line. nat_le line.tick u) lines
-as_before [] t u is none = refl
-as_before (line ∷ lines) t u is none =
-    let (here, rest) = or_parts (line.tick == t) (list_any (λ line. line.tick == t) lines) none in
-    ap₂ (λ c xs. cond c (line ∷ xs) xs) (none_here line.tick t u is here) (as_before lines t u is rest)
-
-pub same_cuts : (s : Setting) (t u : ℕ) → t ≡ u + 1 → list_any (λ line. line.tick == t) s.cuts.lines ≡ false → cuts_of s t ≡ cuts_of s u
-same_cuts s t u is none = ap (λ lines. unwrap_or (option_map (λ line. line.cuts) (last_or None lines)) no_cuts) (as_before s.cuts.lines t u is none)
 
 and_second : (a b : Bool) → a ≡ true → (a && b) ≡ false → b ≡ false
 and_second true b is none = none
@@ -62,17 +49,6 @@ pub not_recut : (s : Setting) (t u : ℕ) → t ≡ u + 1 → s.job.first ≤ u 
 not_recut s t u is low none =
     same_cuts s t u is (and_second (nat_lt s.job.first t) (list_any (λ line. line.tick == t) s.cuts.lines) (is_low s.job.first t (omega (arith, is, low))) none)
 
--- the cuts under which all is shown
-pub shown_behind : (s : Setting) (t u : ℕ) → t ≡ u + 1 → s.job.first ≤ u → cuts_shown s t ≡ cuts_of s u
-shown_behind s t u is low =
-    let back : t - 1 ≡ u = omega (arith, is) in
-    ap (λ c. cuts_of s (if c then t - 1 else s.job.first)) (is_low s.job.first t (omega (arith, is, low))) ∙ ap (cuts_of s) back
-
-pub shown_first : (s : Setting) (t : ℕ) → t ≡ s.job.first → cuts_shown s t ≡ cuts_of s t
-shown_first s t is =
-    let none : nat_lt s.job.first t ≡ false = grind (arith, nat_tests, is) in
-    ap (λ c. cuts_of s (if c then t - 1 else s.job.first)) none ∙ ap (cuts_of s) (sym is)
-
 -- ---- the step behind one
 
 -- what is so of each first step of a tick is so of the first step from that tick on
@@ -89,9 +65,6 @@ begins s t Q high hand border none = elim (cases_lt t s.job.last) [
     by_test low true is = hand low is
     by_test low false is = border low is
 
-not_last : (s : Setting) (t : ℕ) → t ≡ s.job.last → is_end s t ≡ true
-not_last s t is = grind (arith, nat_tests, is)
-
 pub reaches : (s : Setting) (t : ℕ) (Q : Option Step → Type 0) → t ≤ s.job.last
     → (is_end s t ≡ true → Q (Some (step stage.Show t)))
     → (is_end s t ≡ false → is_recut s t ≡ true → Q (Some (step stage.Hand t)))
@@ -101,7 +74,7 @@ reaches s t Q high show hand border = subst Q (first_behind_tick s t) (by_test (
   where
     by_test : (v : Bool) → is_end s t ≡ v → Q (if v then Some (step stage.Show t) else slice_get (ticks_from s t) 0)
     by_test true is = show is
-    by_test false is = begins s t Q high (λ low. hand is) (λ low. border is) (λ last. absurd (true≢false (sym (not_last s t last) ∙ is)))
+    by_test false is = begins s t Q high (λ low. hand is) (λ low. border is) (λ last. absurd (true≢false (sym (last_ends s t last) ∙ is)))
 
 pub behind_low : (s : Setting) (t : ℕ) → t < s.job.last → slice_get (steps_from s (t + 1)) 0 ≡ behind_move s t
 behind_low s t low = sym (ap (λ c. if c then slice_get (steps_from s (t + 1)) 0 else None) (is_low t s.job.last low))

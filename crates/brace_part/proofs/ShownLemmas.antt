@@ -1,13 +1,10 @@
 -- What a part keeps to be shown, from tick to tick.
-use Rattle.std.proofs.Common.{◌≡◌, ◌∙◌, refl, sym, ap, ap₂, subst, ℕ, zero, suc, ◌+◌, ◌-◌, ◌<◌, ◌≤◌, List, [], ◌∷◌, ◌++◌, map, filter, fold, Bool, true, false, cond, Some, ◌==◌, ◌||◌, ◌&&◌, arith, inl, inr}
-use Rattle.std.specs.Prelude.{slice_get, nat_lt, ◌%◌, if◌then◌else◌}
-use Rattle.std.specs.List.{range_with_len, list_any}
-use Rattle.std.proofs.lemmas.Bool.{cases_lt, cases_eq, eq-eqb, ne_eqb, or_parts, or_from, true≢false}
-use Rattle.std.proofs.lemmas.Bool.Decides.{nat_tests}
+use Rattle.std.proofs.Common.{◌≡◌, ◌∙◌, refl, sym, ap, ap₂, subst, ℕ, zero, suc, ◌+◌, ◌-◌, ◌<◌, ◌≤◌, List, [], ◌∷◌, ◌++◌, map, filter, Bool, true, false, cond, Some, ◌==◌, ◌||◌, arith, inl, inr}
+use Rattle.std.specs.Prelude.{slice_get, ◌%◌, if◌then◌else◌}
+use Rattle.std.specs.List.{range_with_len}
+use Rattle.std.proofs.lemmas.Bool.{cases_eq, eq-eqb, ne_eqb, true≢false}
 use Rattle.std.proofs.lemmas.List.{map-append}
 use Rattle.std.proofs.lemmas.List.Elements.{filter-append}
-use Rattle.std.proofs.lemmas.List.Sums.{fold-append}
-use Rattle.brace_cuts.specs.declared.plan.CutLine.{CutLine}
 use Rattle.brace_cuts.specs.CutPlans.{IsPlan}
 use Rattle.brace_model.specs.Next.{has_births}
 use Rattle.brace_pieces.specs.declared.setting.Setting.{Setting}
@@ -15,24 +12,19 @@ use Rattle.brace_pieces.specs.declared.setting.Stage.{Stage}
 use Rattle.brace_pieces.specs.declared.setting.Stage.TheVariants as stage
 use Rattle.brace_pieces.specs.declared.setting.Step.{Step}
 use Rattle.brace_pieces.specs.declared.piece.Shown.{Shown}
-use Rattle.brace_pieces.specs.Settings.{cuts_shown, is_end, shown_from, shown_ticks}
+use Rattle.brace_pieces.specs.Settings.{is_end, shown_from, shown_ticks}
 use Rattle.brace_pieces.specs.Steps.{steps}
 use Rattle.brace_pieces.specs.Continued.{on, continued_after}
 use Rattle.brace_pieces.specs.Right as right
 use Rattle.brace_pieces.specs.inner.Walks.{steps_from}
 use Rattle.brace_pieces.proofs.OnLemmas.{on_next}
+use Rattle.brace_pieces.proofs.EpochLemmas.{row_one, from_one, from_first, since, same_from}
 use Rattle.brace_pieces.proofs.WalkLemmas.{next_in, next_is}
 use Rattle.brace_part.specs.Parts.{own_under, noted, kept_at, keeps_before}
 use Rattle.brace_part.specs.inner.Ready.{brings_to, brings_at}
 use Rattle.brace_pieces.proofs.Childless.{same_next}
 use Rattle.brace_part.proofs.StepLemmas.{OfRun, of_run}
-use Rattle.brace_part.proofs.NextLemmas.{same_cuts, shown_behind, shown_first, begins, reaches, behind_low, said_then_moved}
-
-row_one : (n a : ℕ) → range_with_len a (suc n) ≡ range_with_len a n ++ (a + n) ∷ []
-row_one zero a = let here : a ≡ a + 0 = omega arith in ap (λ b. b ∷ []) here
-row_one (suc n) a =
-    let there : a + 1 + n ≡ a + suc n = omega arith in
-    ap (λ xs. a ∷ xs) (row_one n (a + 1) ∙ ap (λ b. range_with_len (a + 1) n ++ b ∷ []) there)
+use Rattle.brace_part.proofs.NextLemmas.{begins, reaches, behind_low, said_then_moved}
 
 -- tests that agree on numbers in a row keep the same ones
 kept_same : (f g : ℕ → Bool) (n a : ℕ) → ((v : ℕ) → a ≤ v → v < a + n → f v ≡ g v) → filter f (range_with_len a n) ≡ filter g (range_with_len a n)
@@ -53,64 +45,6 @@ mapped_same f g t (suc n) a same = by_test (t a) (mapped_same f g t n (a + 1) (�
     by_test false e = e
 
 module _ (s : Setting) where
-  abbrev behind : ℕ → ℕ → ℕ
-  behind from k = k + 1
-
-  from_one : (t u : ℕ) → u ≡ t + 1 → s.job.first ≤ t → shown_from s u ≡ cond (is_end s t) (t + 1) (shown_from s t)
-  from_one t u is low =
-      let first : ℕ = s.job.first in
-      let n : ℕ = t - first in
-      let row : List ℕ = range_with_len first n in
-      let more : u - first ≡ suc n = omega (arith, is, low) in
-      let there : first + n ≡ t = omega (arith, low) in
-      ap (λ m. fold behind first (filter (is_end s) (range_with_len first m))) more
-      ∙ ap (λ xs. fold behind first (filter (is_end s) xs)) (row_one n first ∙ ap (λ v. row ++ v ∷ []) there)
-      ∙ ap (fold behind first) (filter-append (is_end s) row (t ∷ []))
-      ∙ fold-append behind first (filter (is_end s) row) (cond (is_end s t) (t ∷ []) [])
-      ∙ by_test (is_end s t)
-    where
-      by_test : (c : Bool) → fold behind (shown_from s t) (cond c (t ∷ []) []) ≡ cond c (t + 1) (shown_from s t)
-      by_test true = refl
-      by_test false = refl
-
-  from_first : (t : ℕ) → t ≡ s.job.first → shown_from s t ≡ s.job.first
-  from_first t is =
-      let none : t - s.job.first ≡ 0 = omega (arith, is) in
-      ap (λ m. fold behind s.job.first (filter (is_end s) (range_with_len s.job.first m))) none
-
-  pub record Since (t : ℕ) : Type 0 where
-    pub low : s.job.first ≤ shown_from s t
-    pub high : shown_from s t ≤ t
-    pub no_end : (v : ℕ) → shown_from s t ≤ v → v < t → is_end s v ≡ false
-
-  one_since : (t u : ℕ) → u ≡ t + 1 → s.job.first ≤ t → (c : Bool) → is_end s t ≡ c → shown_from s u ≡ cond c (t + 1) (shown_from s t) → Since t → Since u
-  one_since t u is low true ends from h = record {
-    low = omega (arith, from, low);
-    high = omega (arith, from, is);
-    no_end = λ v up down. absurd (omega (arith, from, is, up, down));
-  }
-  one_since t u is low false ends from h = record {
-    low = omega (arith, from, h.low);
-    high = omega (arith, from, is, h.high);
-    no_end = λ v up down. elim (cases_lt v t) [
-      | inl less ↦ h.no_end v (omega (arith, from, up)) less
-      | inr same ↦ let at : t ≡ v = omega (arith, is, down, same) in subst (λ w. is_end s w ≡ false) at ends
-    ];
-  }
-
-  since_after : (n t : ℕ) → t ≡ s.job.first + n → Since t
-  since_after zero t is =
-      let first : t ≡ s.job.first = omega (arith, is) in
-      let from = from_first t first in
-      record { low = omega (arith, from); high = omega (arith, from, first); no_end = λ v up down. absurd (omega (arith, from, first, up, down)) }
-  since_after (suc n) t is =
-      let before : ℕ = s.job.first + n in
-      one_since before t (omega (arith, is)) (omega arith) (is_end s before) refl (from_one before t (omega (arith, is)) (omega arith)) (since_after n before refl)
-
-  -- the ticks since the end before one
-  pub since : (t : ℕ) → s.job.first ≤ t → Since t
-  since t low = since_after (t - s.job.first) t (omega (arith, low))
-
   -- ---- the ticks that are shown
 
   abbrev pub is_noted : ℕ → Bool
@@ -120,18 +54,18 @@ module _ (s : Setting) where
   noted_first t u is low ends =
       let one : u + 1 - u ≡ 1 = omega arith in
       let here : t + 1 ≡ u = sym is in
-      ap (λ from. filter is_noted (range_with_len from (u + 1 - from))) (from_one t u is low ∙ ap (λ c. cond c (t + 1) (shown_from s t)) ends ∙ here)
+      ap (λ from. filter is_noted (range_with_len from (u + 1 - from))) (from_one s t u is low ∙ ap (λ c. cond c (t + 1) (shown_from s t)) ends ∙ here)
       ∙ ap (λ n. filter is_noted (range_with_len u n)) one
 
   noted_more : (t u : ℕ) → u ≡ t + 1 → s.job.first ≤ t → is_end s t ≡ false → noted s u ≡ noted s t ++ cond (is_noted u) (u ∷ []) []
   noted_more t u is low other =
       let from : ℕ = shown_from s t in
-      let h = since t low in
+      let h = since s t low in
       let high = h.high in
       let n : ℕ = t + 1 - from in
       let more : u + 1 - from ≡ suc n = omega (arith, is, high) in
       let there : from + n ≡ u = omega (arith, is, high) in
-      ap (λ f. filter is_noted (range_with_len f (u + 1 - f))) (from_one t u is low ∙ ap (λ c. cond c (t + 1) from) other)
+      ap (λ f. filter is_noted (range_with_len f (u + 1 - f))) (from_one s t u is low ∙ ap (λ c. cond c (t + 1) from) other)
       ∙ ap (λ m. filter is_noted (range_with_len from m)) more
       ∙ ap (filter is_noted) (row_one n from ∙ ap (λ v. range_with_len from n ++ v ∷ []) there)
       ∙ filter-append is_noted (range_with_len from n) (u ∷ [])
@@ -140,12 +74,12 @@ module _ (s : Setting) where
   noted_at_first =
       let first : ℕ = s.job.first in
       let one : first + 1 - first ≡ 1 = omega arith in
-      ap (λ from. filter is_noted (range_with_len from (first + 1 - from))) (from_first first refl) ∙ ap (λ n. filter is_noted (range_with_len first n)) one
+      ap (λ from. filter is_noted (range_with_len from (first + 1 - from))) (from_first s first (omega arith)) ∙ ap (λ n. filter is_noted (range_with_len first n)) one
 
   -- where all is shown the ticks that are shown are those that were noted
   pub shown_as_noted : (t : ℕ) → s.job.first ≤ t → is_end s t ≡ true → noted s t ≡ shown_ticks s t
   shown_as_noted t low ends =
-      let h = since t low in
+      let h = since s t low in
       let from : ℕ = shown_from s t in
       let high = h.high in
       kept_same is_noted (λ v. (v == t) || (v % s.job.every == 0)) (t + 1 - from) from
@@ -154,57 +88,18 @@ module _ (s : Setting) where
         | inr other ↦ h.no_end v up (omega (arith, down, high, other)) ∙ sym (ne_eqb v t other)
       ]))
 
-  -- ---- no other cuts hold within an epoch
-
-  first_there : (lines : List CutLine) (n : ℕ) (line : CutLine) → slice_get lines n ≡ Some line → (f : CutLine) × (slice_get lines 0 ≡ Some f)
-  first_there [] n line e = absurd (cc)
-  first_there (f ∷ lines) n line e = (f, refl)
-
-  other_tick : (a t e : ℕ) → a % e ≡ 0 → (t % e == 0) ≡ false → (a == t) ≡ false
-  other_tick a t e whole part = elim (cases_eq a t) [
-    | inl same ↦ absurd (true≢false (sym (eq-eqb (t % e) 0 (ap (λ n. n % e) (sym same) ∙ whole)) ∙ part))
-    | inr other ↦ ne_eqb a t other
-  ]
-
-  no_line : (lines : List CutLine) (t : ℕ) → (t % s.epoch == 0) ≡ false → ((n : ℕ) (line : CutLine) → slice_get lines n ≡ Some line → line.tick % s.epoch ≡ 0) → list_any (λ line. line.tick == t) lines ≡ false
-  no_line [] t part each = refl
-  no_line (line ∷ lines) t part each =
-      or_from (line.tick == t) (list_any (λ line. line.tick == t) lines) (other_tick line.tick t s.epoch (each 0 line refl) part) (no_line lines t part (λ n d e. each (suc n) d e))
-
-  not_divided : (t : ℕ) → s.job.first < t → is_end s t ≡ false → (t % s.epoch == 0) ≡ false
-  not_divided t low other = by_low (nat_lt s.job.first t) (is_above low) (or_parts (t == s.job.last) (nat_lt s.job.first t && (t % s.epoch == 0)) other).1
-    where
-      is_above : s.job.first < t → nat_lt s.job.first t ≡ true
-      is_above low = grind (arith, nat_tests, low)
-
-      by_low : (c : Bool) → c ≡ true → (c && (t % s.epoch == 0)) ≡ false → (t % s.epoch == 0) ≡ false
-      by_low true is e = e
-      by_low false is e = absurd (true≢false (sym is))
+  -- ---- what is shown
 
   module _ (plan : IsPlan s.epoch s.cuts) where
-    same_behind : (t : ℕ) → s.job.first ≤ t → is_end s t ≡ false → cuts_shown s t ≡ cuts_shown s (t + 1)
-    same_behind t low other = elim (cases_lt s.job.first t) [
-      | inl first ↦ shown_behind s t (t - 1) (omega (arith, first)) (omega (arith, first))
-          ∙ sym (same_cuts s t (t - 1) (omega (arith, first)) (no_line s.cuts.lines t (not_divided t first other)
-          (λ n line e. let (f, is) = first_there s.cuts.lines n line e in (plan.lines_are_lawful n f line is e).tick_ends_an_epoch)))
-          ∙ sym (shown_behind s (t + 1) t refl low)
-      | inr at ↦ shown_first s t (omega (arith, at, low)) ∙ sym (shown_behind s (t + 1) t refl low)
-    ]
-
-    same_from : (n t end : ℕ) → t + n ≡ end → s.job.first ≤ t → shown_from s end ≤ t → Since end → cuts_shown s t ≡ cuts_shown s end
-    same_from zero t end is low from h = let same : t ≡ end = omega (arith, is) in ap (cuts_shown s) same
-    same_from (suc n) t end is low from h =
-        same_behind t low (h.no_end t from (omega (arith, is))) ∙ same_from n (t + 1) end (omega (arith, is)) (omega (arith, low)) (omega (arith, from)) h
-
     -- what a part keeps of the ticks that are shown at an end is what it shows there
     pub kept_is_shown : (p end : ℕ) → s.job.first ≤ end → map (kept_at s p) (shown_ticks s end) ≡ map (right.shown s end p) (shown_ticks s end)
     kept_is_shown p end low =
-        let h = since end low in
+        let h = since s end low in
         let from : ℕ = shown_from s end in
         let above = h.low in
         let below = h.high in
         mapped_same (kept_at s p) (right.shown s end p) (λ v. (v == end) || (v % s.job.every == 0)) (end + 1 - from) from
-        (λ v up down. ap (λ cuts. record { tick = v; agents = own_under s p cuts v; next = (on s v).next }) (same_from (end - v) v end (omega (arith, down, below)) (omega (arith, above, up)) up h))
+        (λ v up down. ap (λ cuts. record { tick = v; agents = own_under s p cuts v; next = (on s v).next }) (same_from s plan (end - v) v end (omega (arith, down, below)) (omega (arith, above, up)) up h))
 
   -- ---- the next free id
 

@@ -21,7 +21,8 @@ use Rattle.brace_part.specs.Parts.{own_under, kept_at}
 use Rattle.brace_part.specs.Given.{no_counts}
 use Rattle.brace_part.specs.inner.Ready.{IsReady, IsReadyFor, IsFaultlessAt, AreKept}
 use Rattle.brace_part.specs.inner.Sound.{ComesTo}
-use Rattle.brace_part.proofs.NextLemmas.{recut_behind, shown_first, reaches}
+use Rattle.brace_pieces.proofs.EpochLemmas.{shown_first}
+use Rattle.brace_part.proofs.NextLemmas.{recut_behind, reaches}
 use Rattle.brace_part.proofs.ShownLemmas.{is_noted, next_stays, first_noted, brings_first}
 use Rattle.brace_part.proofs.ComesLemmas.{note_of, kept_more}
 

@@ -15,6 +15,15 @@ use Rattle.brace_part.specs.declared.counts.Counts.{Counts}
 abbrev pub no_counts : Counts
 no_counts = record { border = 0; effects = 0; moved = 0; handed = 0 }
 
+-- two counts together
+abbrev pub together : Counts → Counts → Counts
+together a b = record {
+  border = a.border + b.border;
+  effects = a.effects + b.effects;
+  moved = a.moved + b.moved;
+  handed = a.handed + b.handed;
+}
+
 -- the counts of all items of a list, summed
 abbrev pub summed : {A : Type 0} → (A → Counts) → List A → Counts
 summed counts list = record {

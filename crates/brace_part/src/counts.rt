@@ -1,4 +1,5 @@
 ghost use Rattle.std.specs.Prelude.{◌≡◌, ◌+◌, IfOk};
+ghost use Rattle.brace_part.specs.Given.{together};
 ghost use Rattle.brace_part.specs.inner.Pieces.{counted};
 
 use brace_num::NoMemory;
@@ -18,10 +19,10 @@ pub struct Counts {
 }
 
 /// Raises a count; `NoMemory` where 128 bits do not hold it.
-fn raise(count: &mut u128, by: usize) -> Result<(), NoMemory>
+fn raise(count: &mut u128, by: u128) -> Result<(), NoMemory>
     ensures { IfOk result (λ _. count.new ≡ count.old + by) }
 {
-    match count.checked_add(by as u128) {
+    match count.checked_add(by) {
         Some(sum) => {
             *count = sum;
             Ok(())
@@ -48,11 +49,20 @@ impl Counts {
         ensures { IfOk result (λ _. self.new ≡ counted self.old piece.now) }
     {
         match piece {
-            Piece::Border(agents) => raise(&mut self.border, agents.as_slice().len()),
-            Piece::Effects(entries) => raise(&mut self.effects, entries.as_slice().len()),
-            Piece::Move(agents) => raise(&mut self.moved, agents.as_slice().len()),
-            Piece::Hand(agents) => raise(&mut self.handed, agents.as_slice().len()),
+            Piece::Border(agents) => raise(&mut self.border, agents.as_slice().len() as u128),
+            Piece::Effects(entries) => raise(&mut self.effects, entries.as_slice().len() as u128),
+            Piece::Move(agents) => raise(&mut self.moved, agents.as_slice().len() as u128),
+            Piece::Hand(agents) => raise(&mut self.handed, agents.as_slice().len() as u128),
             Piece::Census(_) | Piece::Show(_) | Piece::Ack | Piece::Halt(_) => Ok(()),
         }
+    }
+    /// Adds what another part gave; `NoMemory` where 128 bits do not hold a count.
+    pub fn join(&mut self, given: Counts) -> Result<(), NoMemory>
+        ensures { IfOk result (λ _. self.new ≡ together self.old given) }
+    {
+        raise(&mut self.border, given.border)?;
+        raise(&mut self.effects, given.effects)?;
+        raise(&mut self.moved, given.moved)?;
+        raise(&mut self.handed, given.handed)
     }
 }

@@ -49,7 +49,7 @@ recut_either_way s tick p q =
     let after : Cuts = cuts_of s tick in
     or_swap (share before p after q) (share before q after p)
 
-parts_either_way : (s : Setting) (stage : Stage) (tick p q : ℕ) → parts_meet s (record { stage = stage; tick = tick }) p q ≡ parts_meet s (record { stage = stage; tick = tick }) q p
+pub parts_either_way : (s : Setting) (stage : Stage) (tick p q : ℕ) → parts_meet s (record { stage = stage; tick = tick }) p q ≡ parts_meet s (record { stage = stage; tick = tick }) q p
 parts_either_way s Hand tick p q = recut_either_way s tick p q
 parts_either_way s Border tick p q = reach_either_way s tick p q
 parts_either_way s Effects tick p q = reach_either_way s tick p q
