@@ -36,7 +36,7 @@ pub fn print_rows(
     ensures kept { OnErr result (out.new.items ≡ out.old.items) }
 {
     let before = out.len();
-    let printed = append_rows(out, program, tick, agents);
+    let printed = append_rows(program, tick, agents, out);
     if printed.is_err() {
         out.truncate(before);
     }
@@ -46,10 +46,10 @@ pub fn print_rows(
 // A refused append may leave a part of the rows behind `out`.
 #[tactic(auto, using(brace_num::proofs::Printings::starts_more, crate::proofs::Texts::starts_here))]
 fn append_rows(
-    out: &mut Vec<u8>,
     program: &Program,
     tick: u64,
     agents: &[Agent],
+    out: &mut Vec<u8>,
 ) -> Result<(), NoMemory>
     ensures printed { OnOk result (out.new.items
         ≡ out.old.items ++ rows program.now tick agents.now) }

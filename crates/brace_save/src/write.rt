@@ -38,7 +38,7 @@ pub fn write_moment(
     ensures kept { OnErr result (out.new.items ≡ out.old.items) }
 {
     let before = out.len();
-    let written = append_checkpoint(out, program, tick, seed, agents, next);
+    let written = append_checkpoint(program, tick, seed, agents, next, out);
     if written.is_err() {
         out.truncate(before);
     }
@@ -48,12 +48,12 @@ pub fn write_moment(
 // A refused append may leave a part of the checkpoint behind `out`.
 #[tactic(auto, using(crate::proofs::Starts::text_starts))]
 fn append_checkpoint(
-    out: &mut Vec<u8>,
     program: &Program,
     tick: u64,
     seed: u64,
     agents: &[Agent],
     next: u64,
+    out: &mut Vec<u8>,
 ) -> Result<(), NoMemory>
     ensures printed { OnOk result (out.new.items ≡ out.old.items ++ checkpoint program.now
         (record { tick = tick; seed = seed; world = world_with agents.now next })) }
