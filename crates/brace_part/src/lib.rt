@@ -3,8 +3,12 @@
 #![tactic(auto)]
 
 mod counts;
+#[cfg(test)]
+mod desk;
 mod gather;
 pub mod laws;
+#[cfg(test)]
+mod member;
 mod part;
 mod prepare;
 mod query;

@@ -1,20 +1,25 @@
-// What no clause says: that a part is made where memory is ample, over a small script worked by
-// hand.
-ghost use Rattle.std.specs.Prelude.{◌≡◌, IfOk, false};
+// What no clause says: that parts are made where memory is ample, and that those which exchange
+// pieces through lanes come to the worlds of the plain step, over a small script worked by hand.
+ghost use Rattle.std.specs.Prelude.{◌≡◌, ◌+◌, ◌≤◌, ◌^◌, map, IfOk, false};
+ghost use Rattle.std.specs.List.{range_with_len};
 ghost use Rattle.brace_model.specs.World.{IsNumbered, world_of};
 ghost use Rattle.brace_model.specs.Next.{has_births};
-ghost use Rattle.brace_pieces.specs.Settings.{LawfulSetting, cuts_of};
+ghost use Rattle.brace_pieces.specs.Settings.{LawfulSetting, cuts_of, parts};
+ghost use Rattle.brace_pieces.specs.Courses.{at_start};
 ghost use Rattle.brace_part.specs.Parts.{own_under};
 ghost use Rattle.brace_part.specs.inner.Worked.{state, states, effects, query, walking, agent, agents};
 
 use crate::Part;
-use brace_core::{Actor, Turn};
+use crate::desk::Desk;
+use crate::member::{Kind, Member};
+use brace_core::{Actor, PlainLanes, Turn, run_in_order};
 use brace_cuts::read_plan;
+use brace_eval::plain_step;
 use brace_model::{
     Agent, BinOp, Class, Comb, Effect, Expr, Job, Program, State, Stmt, Ty, Value, Who, World,
 };
 use brace_num::{Boxed, List, NoMemory, Text};
-use brace_pieces::{Setting, moves_of};
+use brace_pieces::{Setting, Shown, moves_of};
 use std::alloc::Global;
 use std::test::Fail;
 
@@ -210,6 +215,116 @@ fn parts_own_their_agents_and_show_them_to_others(rt: HostRuntime) -> Result<(),
             assert_eq!(rt; told(alloc, &part)?.as_str(), want);
             assert_eq!(rt; part.shown().len(), 1);
             assert!(rt; part.cause().is_none());
+        }
+    }
+    Ok(())
+}
+
+/// The parts that own their agents of the start, and the publisher.
+fn members<'a>(alloc: Global, setting: &'a Setting) -> Result<Vec<Member<'a>>, NoMemory>
+    requires lawful { LawfulSetting setting.now }
+    requires childless { has_births setting.now.job.program ≡ false }
+    ensures start { IfOk result (λ all. all.items
+        ≡ map (at_start setting.now) (range_with_len 0 (parts setting.now + 1))) }
+{
+    let mut all = Vec::new(alloc);
+    for p in 0..setting.parts() {
+        let own = own(alloc, setting, p)?;
+        let kind = Kind::Part(Part::make(alloc, setting, p, own)?);
+        all.push(Member { kind })?;
+    }
+    let kind = Kind::Desk(Desk::make(alloc, setting)?);
+    all.push(Member { kind })?;
+    Ok(all)
+}
+
+/// The parts and the publisher behind all of their turns, made in an order drawn from a number.
+fn run<'a>(alloc: Global, setting: &'a Setting, order: u64) -> Result<Vec<Member<'a>>, NoMemory>
+    requires lawful { LawfulSetting setting.now }
+    requires childless { has_births setting.now.job.program ≡ false }
+{
+    let mut lanes = PlainLanes::make(alloc, setting, setting.parts() + 1)?;
+    let mut all = members(alloc, setting)?;
+    run_in_order(&mut all, &mut lanes, order);
+    Ok(all)
+}
+
+/// Whether what was shown of a tick are the agents of a world.
+fn shows(shown: &[Shown], tick: u64, world: &World) -> bool {
+    let mut count = 0usize;
+    for some in shown {
+        if some.tick == tick {
+            for a in some.agents.as_slice() {
+                count = count.saturating_add(1);
+                if !is_among(world.agents(), a) {
+                    return false;
+                }
+            }
+        }
+    }
+    count == world.agents().len()
+}
+
+/// Whether some agents are these, in any order.
+fn are_all(some: &[Agent], agents: &[Agent]) -> bool {
+    for a in some {
+        if !is_among(agents, a) {
+            return false;
+        }
+    }
+    some.len() == agents.len()
+}
+
+fn is_among(agents: &[Agent], a: &Agent) -> bool {
+    for b in agents {
+        if b.id == a.id && b.states.as_slice() == a.states.as_slice() {
+            return true;
+        }
+    }
+    false
+}
+
+/// The world of the next tick.
+fn next_world(alloc: Global, setting: &Setting, tick: u64, world: &World) -> Result<World, Fail>
+    requires lawful { LawfulSetting setting.now }
+    requires ticks { tick ≤ 2 ^ 32 }
+{
+    match plain_step(alloc, &setting.job, tick, world) {
+        Ok(next) => Ok(next),
+        Err(_) => Err("no step".into()),
+    }
+}
+
+/// Two parts and four, each cut anew at tick 2.
+const PLANS: [&str; 2] = [
+    "at 0 x 1 y\nat 2 x 2.5 y\n",
+    "at 0 x 1 y 0\nat 2 x 2.25 y -1\n",
+];
+
+#[test]
+fn parts_come_to_the_worlds_of_the_plain_step(rt: HostRuntime) -> Result<(), Fail> {
+    let alloc = rt.alloc();
+    for plan in PLANS {
+        for invert in [false, true] {
+            for order in [0, 1, 7] {
+                let setting = setting(alloc, plan, invert)?;
+                let all = run(alloc, &setting, order)?;
+                let Some(desk) = all.last() else {
+                    return Err("no publisher".into());
+                };
+                let mut now = world(alloc)?;
+                for tick in 0..5 {
+                    assert!(rt; shows(desk.shown(), tick, &now));
+                    now = next_world(alloc, &setting, tick, &now)?;
+                }
+                assert!(rt; shows(desk.shown(), 5, &now));
+                let mut p = 0;
+                for member in &all {
+                    let own = moves_of(alloc, &setting, 4, now.agents(), p)?;
+                    assert!(rt; are_all(member.owned(), own.as_slice()));
+                    p = p.saturating_add(1);
+                }
+            }
         }
     }
     Ok(())
