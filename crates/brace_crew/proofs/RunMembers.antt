@@ -1,0 +1,101 @@
+-- The members of a run behind it: its parts, and its desk behind them.
+use Rattle.std.proofs.Common.{◌≡◌, ◌∙◌, refl, sym, ap, subst, ℕ, suc, ◌+◌, List, [], ◌∷◌, ◌++◌, map, replicate, Some, None, All, arith}
+use Rattle.std.specs.List.{range_with_len}
+use Rattle.std.proofs.lemmas.List.{map-append}
+use Rattle.std.proofs.lemmas.List.Elements.{All-nil, All-cons, All-head, All-tail, All-replicate, All-map}
+use Rattle.brace_core.specs.declared.name.Turn.TheVariants.{Done}
+use Rattle.brace_core.specs.Exchanges.{due}
+use Rattle.brace_pieces.specs.declared.setting.Setting.{Setting}
+use Rattle.brace_pieces.specs.Settings.{parts}
+use Rattle.brace_pieces.specs.Steps.{schedule}
+use Rattle.brace_pieces.specs.Courses.{past_of}
+use Rattle.brace_pieces.proofs.EpochLemmas.{row_one}
+use Rattle.brace_crew.specs.declared.member.Member.{Member}
+use Rattle.brace_crew.specs.declared.member.Member.TheVariants as member
+use Rattle.brace_crew.specs.Desks.{OnDesk}
+use Rattle.brace_crew.specs.Members.{course_of, opening_of}
+use Rattle.brace_crew.specs.inner.Crews.{IsDone, AreParts, AreMembers, IsDeskOf}
+
+-- ---- lists
+
+all_front : {A : Type 0} (P : A → Type 0) (xs : List A) (x : A) → All P (xs ++ x ∷ []) → All P xs
+all_front P [] x all = All-nil P
+all_front P (y ∷ xs) x all = All-cons P y xs (All-head P y (xs ++ x ∷ []) all) (all_front P xs x (All-tail P y (xs ++ x ∷ []) all))
+
+all_last : {A : Type 0} (P : A → Type 0) (xs : List A) (x : A) → All P (xs ++ x ∷ []) → P x
+all_last P [] x all = All-head P x [] all
+all_last P (y ∷ xs) x all = all_last P xs x (All-tail P y (xs ++ x ∷ []) all)
+
+of_all_map : {A B : Type 0} (f : A → B) (P : B → Type 0) (xs : List A) → All P (map f xs) → All (λ x. P (f x)) xs
+of_all_map f P [] all = All-nil (λ x. P (f x))
+of_all_map f P (x ∷ xs) all = All-cons (λ x. P (f x)) x xs (All-head P (f x) (map f xs) all) (of_all_map f P xs (All-tail P (f x) (map f xs) all))
+
+-- two lists with one item behind them are the same only where both are
+both_same : {A : Type 0} (xs ys : List A) (x y : A) → xs ++ x ∷ [] ≡ ys ++ y ∷ [] → (xs ≡ ys) × (x ≡ y)
+both_same [] [] x y is = (refl, first is)
+  where
+    first : x ∷ [] ≡ y ∷ [] → x ≡ y
+    first is = cc
+both_same [] (b ∷ []) x y is = absurd (cc)
+both_same [] (b ∷ c ∷ ys) x y is = absurd (cc)
+both_same (a ∷ []) [] x y is = absurd (cc)
+both_same (a ∷ c ∷ xs) [] x y is = absurd (cc)
+both_same {A} (a ∷ xs) (b ∷ ys) x y is = let (rest, last) = both_same xs ys x y (behind is) in (cons (first is) rest, last)
+  where
+    first : a ∷ (xs ++ x ∷ []) ≡ b ∷ (ys ++ y ∷ []) → a ≡ b
+    first is = cc
+
+    behind : a ∷ (xs ++ x ∷ []) ≡ b ∷ (ys ++ y ∷ []) → xs ++ x ∷ [] ≡ ys ++ y ∷ []
+    behind is = cc
+
+    cons : a ≡ b → xs ≡ ys → a ∷ xs ≡ b ∷ ys
+    cons first rest = cc
+
+-- ---- the members behind a run
+
+module _ {P : Type 0} (s : Setting) (publisher : P) (before after : List (Member P)) (are : AreMembers s publisher before)
+    (settings : map (λ m. (course_of m).setting) after ≡ map (λ m. (course_of m).setting) before)
+    (numbers : map (λ m. (course_of m).actor) after ≡ map (λ m. (course_of m).actor) before)
+    (openings : map opening_of after ≡ map opening_of before) (done : All IsDone after)
+    (front : List (Member P)) (last : Member P) (is : after ≡ front ++ last ∷ []) where
+  abbrev setting_of : Member P → Setting
+  setting_of m = (course_of m).setting
+
+  of_setting : All (λ m. setting_of m ≡ s) (front ++ last ∷ [])
+  of_setting = subst (All (λ m. setting_of m ≡ s)) is (of_all_map setting_of (λ r. r ≡ s) after (subst (All (λ r. r ≡ s)) (sym settings) (All-map (λ r. r ≡ s) setting_of before are.settings)))
+
+  abbrev number_of : Member P → ℕ
+  number_of m = (course_of m).actor
+
+  in_order : (map number_of front ≡ range_with_len 0 (parts s)) × (number_of last ≡ 0 + parts s)
+  in_order =
+      let more : parts s + 1 ≡ suc (parts s) = omega arith in
+      both_same (map number_of front) (range_with_len 0 (parts s)) (number_of last) (0 + parts s)
+      (sym (map-append number_of front (last ∷ [])) ∙ ap (map number_of) (sym is) ∙ numbers ∙ are.numbers ∙ ap (range_with_len 0) more ∙ row_one (parts s) 0)
+
+  opened : (map opening_of front ≡ replicate (parts s) None) × (opening_of last ≡ Some publisher)
+  opened =
+      both_same (map opening_of front) (replicate (parts s) None) (opening_of last) (Some publisher)
+      (sym (map-append opening_of front (last ∷ [])) ∙ ap (map opening_of) (sym is) ∙ openings ∙ are.openings)
+
+  all_done : All IsDone (front ++ last ∷ [])
+  all_done = subst (All IsDone) is done
+
+  pub parts_behind : AreParts s front
+  parts_behind = record {
+    settings = all_front (λ m. setting_of m ≡ s) front last of_setting;
+    numbers = in_order.0;
+    are_parts = of_all_map opening_of (λ o. o ≡ None) front (subst (All (λ o. o ≡ None)) (sym opened.0) (All-replicate (λ o. o ≡ None) (parts s) None refl));
+    done = all_front IsDone front last all_done;
+  }
+
+  -- the last one is the desk
+  pub no_part : opening_of last ≡ None → ⊥
+  no_part none = let both : Some publisher ≡ None = sym opened.1 ∙ none in absurd (cc)
+
+  pub desk_behind : (d : OnDesk P) → last ≡ member.Desk d → IsDeskOf s d × (d.opening ≡ publisher)
+  desk_behind d desk =
+      let opens : Some d.opening ≡ Some publisher = ap opening_of (sym desk) ∙ opened.1 in
+      let of = ap setting_of (sym desk) ∙ all_last (λ m. setting_of m ≡ s) front last of_setting in
+      let turn = subst IsDone desk (all_last IsDone front last all_done) in
+      (record { setting_is = of; done = subst (λ r. due schedule r d.course.actor (past_of d.course) ≡ Done) of turn }, cc)

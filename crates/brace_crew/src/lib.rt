@@ -1,0 +1,23 @@
+//! The crew of a run: its parts and its publisher, who follow one schedule, and what the run comes
+//! to.
+#![tactic(auto)]
+
+mod crew;
+mod desk;
+mod file_publisher;
+mod files;
+mod join;
+pub mod laws;
+mod member;
+mod publisher;
+mod rows;
+mod sum_publisher;
+#[cfg(test)]
+mod tests;
+
+pub use crew::{CrewFault, crew_run_alone};
+pub use desk::{Desk, Lot, Stop};
+pub use file_publisher::FilePublisher;
+pub use member::Member;
+pub use publisher::{PubFault, Publisher};
+pub use sum_publisher::SumPublisher;

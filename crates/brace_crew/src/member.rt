@@ -1,0 +1,54 @@
+use crate::{Desk, Publisher};
+use brace_core::{Actor, Turn};
+use brace_part::Part;
+use brace_pieces::Piece;
+
+/// One of a crew: a part of the plane, or the desk.
+#[derive(Drop)]
+pub enum Member<'a, P: Publisher> {
+    Part(Part<'a>),
+    Desk(Desk<'a, P>),
+}
+
+impl<'a, P: Publisher> Actor<Piece> for Member<'a, P> {
+    ghost use Rattle.brace_pieces.specs.Courses.{past_of};
+    ghost use Rattle.brace_crew.specs.Members.{course_of, opening_of};
+
+    type Opening = Option<P>;
+
+    ghost setting = { λ m. (course_of m).setting };
+
+    ghost number = { λ m. (course_of m).actor };
+
+    ghost opening = { opening_of };
+
+    ghost past = { λ m. past_of (course_of m) };
+
+    fn next(&self) -> Turn {
+        match self {
+            Member::Part(part) => part.next(),
+            Member::Desk(desk) => desk.next(),
+        }
+    }
+
+    fn piece(&mut self) -> Piece {
+        match self {
+            Member::Part(part) => part.piece(),
+            Member::Desk(desk) => desk.piece(),
+        }
+    }
+
+    fn give(&mut self, piece: Piece) {
+        match self {
+            Member::Part(part) => part.give(piece),
+            Member::Desk(desk) => desk.give(piece),
+        }
+    }
+
+    fn work(&mut self) {
+        match self {
+            Member::Part(part) => part.work(),
+            Member::Desk(desk) => desk.work(),
+        }
+    }
+}

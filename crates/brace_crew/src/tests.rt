@@ -1,0 +1,277 @@
+// What no clause says: that calls answer where memory is ample, and texts worked by hand.
+ghost use Rattle.std.specs.Prelude.{◌≡◌, IfOk, false};
+ghost use Rattle.brace_model.specs.Next.{has_births};
+ghost use Rattle.brace_pieces.specs.Settings.{LawfulSetting};
+
+use crate::{CrewFault, FilePublisher, PubFault, Publisher, SumPublisher, crew_run_alone};
+use brace_core::PlainLanes;
+use brace_cuts::read_plan;
+use brace_io::{MemShelf, MemSink};
+use brace_model::{Agent, Class, Job, Program, State, Ty, Value, World};
+use brace_num::{List, NoMemory, Text};
+use brace_part::Counts;
+use brace_pieces::{Setting, Shown};
+use std::alloc::Global;
+use std::test::Fail;
+
+fn text(alloc: Global, name: &str) -> Result<Text, NoMemory> {
+    let mut letters = String::new(alloc);
+    letters.push_str(name)?;
+    Ok(Text::from_string(letters))
+}
+
+/// A coordinate that stays.
+fn state(alloc: Global, name: &str) -> Result<State, NoMemory> {
+    Ok(State {
+        ty: Ty::Fixed,
+        rule: None,
+        shared: true,
+        name: text(alloc, name)?,
+    })
+}
+
+/// One class A that rests.
+fn resting(alloc: Global) -> Result<Program, NoMemory> {
+    let mut states = List::new(alloc);
+    states.push(state(alloc, "x")?)?;
+    states.push(state(alloc, "y")?)?;
+    let mut classes = List::new(alloc);
+    classes.push(Class {
+        effects: List::new(alloc),
+        states,
+        name: text(alloc, "A")?,
+        x: 0,
+        y: 1,
+        spawn: None,
+        die: None,
+        reach: 0,
+        visible: 0,
+        query: List::new(alloc),
+    })?;
+    Ok(Program {
+        classes,
+        sites: List::new(alloc),
+    })
+}
+
+/// A run from tick 0 to tick 4 in epochs of three ticks, of which every second tick is published.
+fn setting(alloc: Global) -> Result<Setting, Fail> {
+    let Ok(cuts) = read_plan(alloc, b"at 0 x y\n", 3) else {
+        return Err("no plan".into());
+    };
+    let Some(start) = World::from_rising(Vec::new(alloc)) else {
+        return Err("no world".into());
+    };
+    let job = Job {
+        program: resting(alloc)?,
+        seed: 5,
+        first: 0,
+        last: 4,
+        every: 2,
+        start,
+    };
+    Ok(Setting {
+        job,
+        cuts,
+        epoch: 3,
+        invert: false,
+    })
+}
+
+/// The worlds of these ticks, each of one agent that stands half a unit for each tick along x.
+fn shown(alloc: Global, ticks: &[u32]) -> Result<Vec<Shown>, NoMemory> {
+    let mut worlds = Vec::new(alloc);
+    for tick in ticks {
+        let mut states = List::new(alloc);
+        states.push(Value::Fixed(i64::from(*tick) * 500_000))?;
+        states.push(Value::Fixed(-1))?;
+        let mut agents = List::new(alloc);
+        agents.push(Agent {
+            class: 0,
+            id: 7,
+            states,
+        })?;
+        worlds.push(Shown {
+            tick: u64::from(*tick),
+            agents,
+            next: 8,
+        })?;
+    }
+    Ok(worlds)
+}
+
+const AT_3: &[u8] = b"brace checkpoint 1\ntick 3\nseed 5\nclass A x:fixed y:fixed\n\
+A,7,1.500000,-0.000001\nend 1\n";
+
+const AT_4: &[u8] = b"brace checkpoint 1\ntick 4\nseed 5\nclass A x:fixed y:fixed\n\
+A,7,2.000000,-0.000001\nend 1\n";
+
+const ROWS_0_2: &[u8] = b"0,A,7,0.000000,-0.000001\n2,A,7,1.000000,-0.000001\n";
+
+const ROW_2: &[u8] = b"2,A,7,1.000000,-0.000001\n";
+
+const ROW_4: &[u8] = b"4,A,7,2.000000,-0.000001\n";
+
+/// What a publisher is asked: whether it saves and whether its run is fresh, the tick and those
+/// that it is shown, and the numbers of the calls of its sink and shelf that fail (0 for none).
+type Asked<'a> = (bool, bool, u64, &'a [u32], u64, u64);
+
+/// What comes of it: its answer, the rows, and the files of the ticks 3 and 4.
+type Came<'a> = (
+    Result<(), PubFault>,
+    &'a [u8],
+    Option<&'a [u8]>,
+    Option<&'a [u8]>,
+);
+
+const CASES: [(Asked, Came); 8] = [
+    // Tick 3 is an end and not published.
+    (
+        (true, true, 3, &[0, 2, 3], 0, 0),
+        (Ok(()), ROWS_0_2, Some(AT_3), None),
+    ),
+    // A run that goes on does not publish its first tick.
+    (
+        (false, false, 3, &[0, 2, 3], 0, 0),
+        (Ok(()), ROW_2, None, None),
+    ),
+    (
+        (true, true, 4, &[4], 0, 0),
+        (Ok(()), ROW_4, None, Some(AT_4)),
+    ),
+    // The tick of a fault is no end.
+    (
+        (true, true, 2, &[0, 2], 0, 0),
+        (Ok(()), ROWS_0_2, None, None),
+    ),
+    // The fault of a tick whose world was shown before.
+    ((true, true, 3, &[], 0, 0), (Ok(()), b"", None, None)),
+    (
+        (true, true, 3, &[2, 3], 0, 2),
+        (Err(PubFault::Save(3)), ROW_2, Some(b""), None),
+    ),
+    (
+        (true, true, 3, &[2, 3], 1, 0),
+        (Err(PubFault::Write), b"", None, None),
+    ),
+    // The flush fails.
+    (
+        (true, true, 3, &[2, 3], 2, 0),
+        (Err(PubFault::Write), ROW_2, None, None),
+    ),
+];
+
+#[test]
+fn publishes_rows_and_saves_ends(rt: HostRuntime) -> Result<(), Fail> {
+    let alloc = rt.alloc();
+    let setting = setting(alloc)?;
+    for (number, (asked, came)) in CASES.iter().enumerate() {
+        let (saves, fresh, tick, ticks, out_fails, shelf_fails) = *asked;
+        let (wanted, rows, at_3, at_4) = *came;
+        let mut out = MemSink::make(alloc, 999, vec![in alloc; out_fails]?)?;
+        let mut shelf = MemShelf::make(alloc, vec![in alloc; shelf_fails]?);
+        shelf.prepare("c.3", 999)?;
+        shelf.prepare("c.4", 999)?;
+        let worlds = shown(alloc, ticks)?;
+        let save = if saves { Some("c") } else { None };
+        let mut publisher = FilePublisher::make(&mut out, &mut shelf, save, fresh);
+        let answer = publisher.epoch(alloc, &setting, tick, worlds.as_slice());
+        assert!(rt; answer == wanted, "case {number}");
+        assert_eq!(rt; out.bytes(), rows, "case {number}");
+        assert!(rt; shelf.file("c.3") == at_3, "case {number}");
+        assert!(rt; shelf.file("c.4") == at_4, "case {number}");
+    }
+    Ok(())
+}
+
+/// The sum along x of the world that is shown last, once the worlds of these ticks are shown too.
+const SUMS: [(&[u32], i128); 4] = [
+    (&[], 0),
+    (&[1, 2], 1_000_000),
+    (&[], 1_000_000),
+    (&[3], 1_500_000),
+];
+
+#[test]
+fn sums_up_the_last_world(rt: HostRuntime) -> Result<(), Fail> {
+    let alloc = rt.alloc();
+    let setting = setting(alloc)?;
+    let mut publisher = SumPublisher::make();
+    assert!(rt; publisher.sums() == (0, 0));
+    for (ticks, wanted) in SUMS {
+        let worlds = shown(alloc, ticks)?;
+        let answer = publisher.epoch(alloc, &setting, 3, worlds.as_slice());
+        let (x, y) = publisher.sums();
+        assert!(rt; answer == Ok(()));
+        assert_eq!(rt; x, wanted);
+        assert_eq!(rt; y, if wanted == 0 { 0 } else { -1 });
+    }
+    Ok(())
+}
+
+/// A run of four ticks of a script without classes, over a plane in two parts.
+#[tactic(auto, using(crate::proofs::EmptyRun::run_lawful, crate::proofs::EmptyRun::run_childless))]
+fn empty_run(alloc: Global) -> Result<Setting, Fail>
+    ensures lawful { IfOk result LawfulSetting }
+    ensures childless { IfOk result (λ s. has_births s.job.program ≡ false) }
+{
+    let Ok(cuts) = read_plan(alloc, b"at 0 x 1 y\nat 3 x 2 y\n", 3) else {
+        return Err("no plan".into());
+    };
+    let Some(start) = World::from_rising(Vec::new(alloc)) else {
+        return Err("no world".into());
+    };
+    let program = Program {
+        sites: List::new(alloc),
+        classes: List::new(alloc),
+    };
+    let job = Job {
+        start,
+        every: 2,
+        program,
+        first: 0,
+        last: 4,
+        seed: 5,
+    };
+    Ok(Setting {
+        invert: false,
+        epoch: 3,
+        cuts,
+        job,
+    })
+}
+
+/// Runs a setting, and gives its publisher back with what it came to.
+fn run<P: Publisher>(
+    alloc: Global,
+    setting: &Setting,
+    order: u64,
+    publisher: P,
+) -> Result<(P, Result<Counts, CrewFault>), Fail>
+    requires lawful { LawfulSetting setting.now }
+    requires childless { has_births setting.now.job.program ≡ false }
+{
+    let mut lanes = PlainLanes::make(alloc, setting, setting.parts() + 1)?;
+    Ok(crew_run_alone(alloc, setting, order, &mut lanes, publisher))
+}
+
+#[test]
+fn runs_to_the_end_and_saves_each_end(rt: HostRuntime) -> Result<(), Fail> {
+    let alloc = rt.alloc();
+    for order in 0..4 {
+        let setting = empty_run(alloc)?;
+        let mut out = MemSink::make(alloc, 999, Vec::new(alloc))?;
+        let mut shelf = MemShelf::make(alloc, Vec::new(alloc));
+        shelf.prepare("c.3", 999)?;
+        shelf.prepare("c.4", 999)?;
+        let publisher = FilePublisher::make(&mut out, &mut shelf, Some("c"), true);
+        let came = run(alloc, &setting, order, publisher)?;
+        assert!(rt; came.1 == Ok(Counts::none()));
+        assert!(rt; out.bytes().is_empty());
+        let at_3: &[u8] = b"brace checkpoint 1\ntick 3\nseed 5\nend 0\n";
+        let at_4: &[u8] = b"brace checkpoint 1\ntick 4\nseed 5\nend 0\n";
+        assert!(rt; shelf.file("c.3") == Some(at_3));
+        assert!(rt; shelf.file("c.4") == Some(at_4));
+    }
+    Ok(())
+}
