@@ -5,6 +5,7 @@ ghost use Rattle.brace_io.specs.Shelves.{Idle, writes};
 ghost use Rattle.brace_crew.specs.Shows.{as_world, saved_world, file_name, saved_file};
 ghost use Rattle.brace_crew.specs.Filed.{held_after, stage_after, StopsAt, StopsAtAny};
 
+use crate::Keeper;
 use brace_io::{Failed, Shelf, save_whole};
 use brace_num::{List, NoMemory, Text};
 use brace_pieces::{Setting, Shown};
@@ -13,7 +14,7 @@ use itoa::Buffer;
 use std::alloc::Global;
 
 /// The name of a file, and its bytes.
-pub(crate) type File = (Text, List<u8>);
+pub type File = (Text, List<u8>);
 
 /// The world that is shown last, where it is that of a tick at which an epoch ends.
 fn saved_world<'a>(setting: &Setting, tick: u64, shown: &'a [Shown]) -> Option<&'a Shown>
@@ -71,10 +72,11 @@ pub(crate) fn saved_file(
 }
 
 /// Saves a file.
-fn save_file<S: Shelf>(shelf: &mut S, file: &File) -> Result<(), Failed>
+pub(crate) fn save_file<S: Shelf>(shelf: &mut S, file: &File) -> Result<(), Failed>
     requires { writes (S.stage shelf.old) ≡ false }
     ensures held { OnOk result (S.held shelf.new ≡ held_after (Some file.now) (S.held shelf.old)) }
     ensures idle { OnOk result (S.stage shelf.new ≡ Idle) }
+    ensures not_writing { writes (S.stage shelf.new) ≡ false }
     ensures stopped { OnErr result
         (StopsAt (S.held shelf.old) (S.held shelf.new) (S.stage shelf.new) file.now) }
     ensures never_falls { S.faults shelf.old ≤ S.faults shelf.new }
@@ -84,18 +86,17 @@ fn save_file<S: Shelf>(shelf: &mut S, file: &File) -> Result<(), Failed>
 }
 
 /// Saves a file, if there is one.
-pub(crate) fn save<S: Shelf>(shelf: &mut S, file: &Option<File>) -> Result<(), Failed>
-    requires { writes (S.stage shelf.old) ≡ false }
-    ensures held { OnOk result (S.held shelf.new ≡ held_after file.now (S.held shelf.old)) }
-    ensures stage { OnOk result (S.stage shelf.new ≡ stage_after file.now (S.stage shelf.old)) }
-    ensures not_writing { writes (S.stage shelf.new) ≡ false }
+pub(crate) fn save<K: Keeper>(keeper: &mut K, file: &Option<File>) -> Result<(), Failed>
+    ensures held { OnOk result (K.held keeper.new ≡ held_after file.now (K.held keeper.old)) }
+    ensures stage { OnOk result (K.stage keeper.new ≡ stage_after file.now (K.stage keeper.old)) }
     ensures stopped { OnErr result
-        (StopsAtAny (S.held shelf.old) (S.held shelf.new) (S.stage shelf.new) file.now) }
-    ensures never_falls { S.faults shelf.old ≤ S.faults shelf.new }
-    ensures rose { OnErr result (Rose (S.faults shelf.old) (S.faults shelf.new)) }
+        (StopsAtAny (K.held keeper.old) (K.held keeper.new) (K.stage keeper.new) file.now) }
+    ensures never_falls { K.faults keeper.old ≤ K.faults keeper.new }
+    ensures rose { OnErr result (Rose (K.faults keeper.old) (K.faults keeper.new)) }
+    ensures same_loans { K.loans keeper.new ≡ K.loans keeper.old }
 {
     match file {
-        Some(file) => save_file(shelf, file),
+        Some(file) => keeper.save(file),
         None => Ok(()),
     }
 }

@@ -3,10 +3,13 @@ ghost use Rattle.std.specs.Prelude.{◌≡◌, IfOk, false};
 ghost use Rattle.brace_model.specs.Next.{has_births};
 ghost use Rattle.brace_pieces.specs.Settings.{LawfulSetting};
 
-use crate::{CrewFault, FilePublisher, PubFault, Publisher, SumPublisher, crew_run_alone};
+use crate::{
+    CrewFault, FilePublisher, Keeper, PubFault, Publisher, ShelfKeeper, SumPublisher,
+    crew_run_alone,
+};
 use brace_core::PlainLanes;
 use brace_cuts::read_plan;
-use brace_io::{MemShelf, MemSink};
+use brace_io::{MemShelf, MemSink, Sink};
 use brace_model::{Agent, Class, Job, Program, State, Ty, Value, World};
 use brace_num::{List, NoMemory, Text};
 use brace_part::Counts;
@@ -161,6 +164,24 @@ const CASES: [(Asked, Came); 8] = [
     ),
 ];
 
+/// The answer of a new publisher to one call, in which it is shown worlds up to a tick.
+fn shown_to<'x, K: Keeper, O: Sink>(
+    alloc: Global,
+    setting: &Setting,
+    out: &'x mut O,
+    keeper: &'x mut K,
+    (save, fresh): (&'x Option<&'x str>, bool),
+    (tick, worlds): (u64, &[Shown]),
+) -> Result<(), PubFault> {
+    let mut publisher = FilePublisher {
+        out,
+        keeper,
+        save,
+        fresh,
+    };
+    publisher.epoch(alloc, setting, tick, worlds)
+}
+
 #[test]
 fn publishes_rows_and_saves_ends(rt: HostRuntime) -> Result<(), Fail> {
     let alloc = rt.alloc();
@@ -174,8 +195,16 @@ fn publishes_rows_and_saves_ends(rt: HostRuntime) -> Result<(), Fail> {
         shelf.prepare("c.4", 999)?;
         let worlds = shown(alloc, ticks)?;
         let save = if saves { Some("c") } else { None };
-        let mut publisher = FilePublisher::make(&mut out, &mut shelf, save, fresh);
-        let answer = publisher.epoch(alloc, &setting, tick, worlds.as_slice());
+        let mut keeper = ShelfKeeper { shelf: &mut shelf };
+        let asked = (tick, worlds.as_slice());
+        let answer = shown_to(
+            alloc,
+            &setting,
+            &mut out,
+            &mut keeper,
+            (&save, fresh),
+            asked,
+        );
         assert!(rt; answer == wanted, "case {number}");
         assert_eq!(rt; out.bytes(), rows, "case {number}");
         assert!(rt; shelf.file("c.3") == at_3, "case {number}");
@@ -264,7 +293,14 @@ fn runs_to_the_end_and_saves_each_end(rt: HostRuntime) -> Result<(), Fail> {
         let mut shelf = MemShelf::make(alloc, Vec::new(alloc));
         shelf.prepare("c.3", 999)?;
         shelf.prepare("c.4", 999)?;
-        let publisher = FilePublisher::make(&mut out, &mut shelf, Some("c"), true);
+        let save = Some("c");
+        let mut keeper = ShelfKeeper { shelf: &mut shelf };
+        let publisher = FilePublisher {
+            out: &mut out,
+            keeper: &mut keeper,
+            save: &save,
+            fresh: true,
+        };
         let came = run(alloc, &setting, order, publisher)?;
         assert!(rt; came.1 == Ok(Counts::none()));
         assert!(rt; out.bytes().is_empty());

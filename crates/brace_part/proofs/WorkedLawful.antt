@@ -1,12 +1,8 @@
--- The small script that parts are run on is lawful, and so are runs of it and their schedules.
+-- The small script that parts are run on is lawful, and so are runs of it.
 use Rattle.std.proofs.Common.{◌≡◌, ◌∙◌, refl, sym, ap, subst, ℕ, zero, suc, ◌+◌, ◌-◌, ◌≤◌, ◌^◌, List, [], ◌∷◌, length, Some, arith, false, filter}
 use Rattle.std.specs.Prelude.{slice_get}
 use Rattle.std.specs.List.{IsDistinct}
 use Rattle.std.specs.List.Sorted.{IsStrictlyIncreasing}
-use Rattle.std.proofs.lemmas.List.{length-map}
-use Rattle.brace_core.specs.Schedule.{Pair}
-use Rattle.brace_core.specs.Lanes.{AreBelow}
-use Rattle.brace_core.proofs.Lawful.{names_below}
 use Rattle.brace_cuts.specs.CutPlans.{IsPlan}
 use Rattle.brace_model.specs.declared.program.Class.{Class}
 use Rattle.brace_model.specs.World.{IsNumbered, world_of}
@@ -15,14 +11,9 @@ use Rattle.brace_model.specs.Lawful.{LawfulClass, LawfulProgram, LawfulAgents}
 use Rattle.brace_model.proofs.LawEquations.{type_of-Lit, type_of-Field, type_of-Total, type_of-Binary, sites_of-Lit, sites_of-Field, sites_of-Total, sites_of-Binary, scope_after-Foreach, scope_after-Assign, sites_in-Foreach, sites_in-Assign, constant_numbers-Foreach, constant_numbers-Assign, loop_offsets-Foreach, loop_offsets-Assign, assignments-Foreach, assignments-Assign}
 use Rattle.brace_model.specs.declared.world.Agent.{Agent}
 use Rattle.brace_pieces.specs.declared.setting.Setting.{Setting}
-use Rattle.brace_pieces.specs.declared.setting.Step.{Step}
-use Rattle.brace_pieces.specs.Settings.{LawfulSetting, parts, cuts_of}
-use Rattle.brace_pieces.specs.Steps.{steps, meet, pairs_below, schedule}
+use Rattle.brace_pieces.specs.Settings.{LawfulSetting, cuts_of}
 use Rattle.brace_pieces.specs.Owned.{owned}
 use Rattle.brace_pieces.specs.Continued.{continued_after}
-use Rattle.brace_pieces.proofs.CutLemmas.{cuts_lawful}
-use Rattle.brace_pieces.proofs.ScheduleLemmas.{schedule_lawful}
-use Rattle.brace_pieces.proofs.WalkLemmas.{steps_short}
 use Rattle.brace_part.specs.Parts.{own_under}
 use Rattle.brace_part.specs.inner.Worked.{class, walking, agents}
 
@@ -96,19 +87,7 @@ setting_lawful s same first_world numbered first last every ticks short plan = r
 pub walking_childless : (s : Setting) → s.job.program ≡ walking → has_births s.job.program ≡ false
 walking_childless s same = ap has_births same
 
--- ---- schedules of lawful runs
-
-pub few_actors : (s : Setting) → LawfulSetting s → parts s + 1 ≤ 65
-few_actors s lawful = omega (arith, (cuts_lawful s.epoch s.cuts s.job.first lawful.plan_is_lawful).parts_are_few)
-
-pub parts_below : (s : Setting) → AreBelow (schedule s) (parts s + 1)
-parts_below s = names_below (schedule s) (schedule_lawful s)
-
-abbrev pairs_at : Setting → Step → List Pair
-pairs_at s at = filter (λ m. meet s at m.from m.to) (pairs_below (parts s + 1))
-
-pub schedule_short : (s : Setting) → LawfulSetting s → length (schedule s).steps ≤ 2 ^ 40
-schedule_short s lawful = omega (arith, length-map (steps s) (pairs_at s), steps_short s, lawful.job_is_lawful.last_in_range)
+-- ---- what a part owns
 
 -- what a part owns of the first world
 pub own_first : (s : Setting) (p : ℕ) → owned s.job.program (cuts_of s s.job.first) p s.job.start.agents ≡ own_under s p (cuts_of s s.job.first) s.job.first
@@ -119,5 +98,3 @@ own_first s p =
 
 pub own_of : (s : Setting) (p : ℕ) (own : List Agent) → own ≡ owned s.job.program (cuts_of s s.job.first) p s.job.start.agents → own ≡ own_under s p (cuts_of s s.job.first) s.job.first
 own_of s p own is = is ∙ own_first s p
-
-pub ruleset run_rules = (few_actors, parts_below, schedule_short, schedule_lawful)

@@ -30,3 +30,4 @@ pub mod AllLemmas
 pub mod FoundLemmas
 pub mod EpochLemmas
 pub mod OrderLemmas
+pub mod LanesFor

@@ -1,14 +1,20 @@
 -- The answer of a command, from what its parts come to.
-use Rattle.std.proofs.Common.{◌≡◌, ◌∙◌, refl, sym, ap, subst, ℕ, List, [], true, false, Bool, Option, Some, None, Result, Ok, Err, IfOk, IfErr, codes, option_and_then, inl, inr, if◌then◌else◌, nat_lt, length, ◌≤◌, arith}
+use Rattle.std.proofs.Common.{◌≡◌, ◌∙◌, refl, sym, ap, subst, ℕ, List, [], true, false, Bool, Option, Some, None, option_map, unwrap_or, Result, Ok, Err, codes, option_and_then, inl, inr, if◌then◌else◌, nat_lt, length, ◌≤◌, arith}
+use Rattle.std.specs.Prelude.{◌⊎◌}
 use Rattle.std.proofs.lemmas.Bool.Decides.{nat_tests}
+use Rattle.std.proofs.lemmas.List.{take_all}
 use Rattle.brace_io.specs.declared.shelf.Shelf as shelf_trait
 use Rattle.brace_io.specs.declared.sink.Sink as sink_trait
 use Rattle.brace_io.specs.Counts.{Rose}
 use Rattle.brace_io.specs.Shelves.{Files, StoppedAt, Holds, Lacks, HoldsOver}
-use Rattle.brace_io.specs.Sinks.{Gains, GainsFront}
-use Rattle.brace_model.specs.declared.fault.Fault.{Fault as RunFault}
+use Rattle.brace_io.specs.Sinks.{with_piece, Gains, GainsFront}
+use Rattle.brace_cuts.specs.declared.plan.CutPlan.{CutPlan}
+use Rattle.brace_cuts.specs.CutPlans.{IsPlan}
 use Rattle.brace_model.specs.declared.program.Program.{Program}
-use Rattle.brace_model.specs.World.{World, world_of}
+use Rattle.brace_model.specs.Lawful.{LawfulProgram, LawfulAgents}
+use Rattle.brace_model.specs.Next.{has_births}
+use Rattle.brace_model.specs.World.{World, IsNumbered, world_of}
+use Rattle.brace_pieces.specs.Settings.{LawfulSetting}
 use Rattle.brace_rows.specs.declared.kinds.RowFault.{RowFault}
 use Rattle.brace_rows.specs.declared.kinds.RowFault.TheVariants as row_fault
 use Rattle.brace_rows.specs.declared.kinds.RowKind.{RowKind}
@@ -18,21 +24,21 @@ use Rattle.brace_words.specs.Lines.{line_of}
 use Rattle.brace_top.specs.declared.answer.Answer.{Answer}
 use Rattle.brace_top.specs.declared.answer.Stopped.{Stopped}
 use Rattle.brace_top.specs.declared.answer.Stopped.TheVariants as stopped_is
-use Rattle.brace_top.specs.declared.job.RunFault.{RunFault as GivenUp}
-use Rattle.brace_top.specs.declared.job.RunFault.TheVariants as run_fault
 use Rattle.brace_top.specs.declared.limits.TheConstants.{AGENTS_LIMIT}
 use Rattle.brace_top.specs.declared.script_fault.ScriptFault.{ScriptFault}
 use Rattle.brace_top.specs.declared.script_fault.ScriptFault.TheVariants as script_fault
 use Rattle.brace_top.specs.declared.status.Status.{Status}
-use Rattle.brace_top.specs.declared.status.Status.TheVariants.{Done, Usage, Script, Agents, Fault, ReadFault, WriteFault, NoMemory, Absent}
-use Rattle.brace_top.specs.Answer.{ShelfCall, SinkCall, shelf_call, sink_call, Among, LeavesFront, IsEnd, IsAnswer, CountsReads}
-use Rattle.brace_top.specs.Commands.{Command, RunCommand, TrialCommand, Trial, command_in, command_of}
+use Rattle.brace_top.specs.declared.status.Status.TheVariants.{Done, Usage, Script, Agents, Plan, Fault, ReadFault, WriteFault, SaveFault, NoMemory, Absent}
+use Rattle.brace_top.specs.declared.words.RunCommand.{RunCommand as CodeRun}
+use Rattle.brace_top.specs.Answer.{ShelfCall, SinkCall, shelf_call, sink_call, Among, HasSaved, LeavesAll, LeavesFront, IsEnd, IsAnswer, CountsShelf, CountsReads, CountsWrites}
+use Rattle.brace_top.specs.Commands.{Command, RunCommand, TrialCommand, Run, Trial, command_in, command_of, may_save}
 use Rattle.brace_top.specs.Messages.{named_message, usage_message, write_fault_message, no_memory_message}
-use Rattle.brace_model.specs.Next.{has_births}
-use Rattle.brace_top.specs.Outcome.{Outcome, Refusal, TrialProgram, refusal, refused, shown, ended, end_status, end_message, loaded, ComesTo, refused_at, stands_for, unless_faulty, world_from, agents_of, job_of, ran, followed_by, run_outcome, CommandOutcome, Reads}
+use Rattle.brace_top.specs.Outcome.{Outcome, Refusal, TrialProgram, ProgramOf, refusal, refused, loaded, ComesTo, refused_at, stands_for, unless_faulty, world_from, agents_of, plan_of, setting_of, ran, run_from, followed_by, run_outcome, CommandOutcome, Reads, reads_plan}
+use Rattle.brace_top.specs.Savings.{Saving, with_saved}
 use Rattle.brace_top.specs.Status.{has_run}
-use Rattle.brace_top.specs.inner.Settled.{stopped_by, is_work, stopped_status, stopped_message, status_in, message_in, IsRefusedAs, IsScriptRefused, IsRecordRefused, refuses_file, is_stop, GivesNothing, IsLoaded, IsUnloaded, IsStopped, IsCarriedOut, IsServed}
-use Rattle.brace_top.proofs.StatusLemmas.{stop_runs, stop_usage, stop_writes, work_refusal, work_usage, carried_reads, carried_writes}
+use Rattle.brace_top.specs.inner.Settled.{is_work, is_plain_work, stopped_status, stopped_message, status_in, message_in, IsOf, IsRefusedAs, IsScriptRefused, IsRecordRefused, refuses_file, is_stop, GivesNothing, IsLoaded, IsUnloaded, IsStopped, IsCarriedOut, IsWritten, IsServed}
+use Rattle.brace_top.specs.inner.Words.{said_run, IsRunInRange}
+use Rattle.brace_top.proofs.StatusLemmas.{stop_runs, stop_usage, stop_writes, work_refusal, work_saves, work_usage, plain_works, plain_counts, stop_reads, plain_reads}
 
 -- ---- what is not loaded
 
@@ -46,10 +52,13 @@ nothing_as of_ to_ name shelf message Done up is = absurd (let e = is.stops in c
 nothing_as of_ to_ name shelf message Usage up is = absurd (let e = is.stops in cc)
 nothing_as of_ to_ name shelf message Fault up is = absurd (let e = is.stops in cc)
 nothing_as of_ to_ name shelf message WriteFault up is = absurd (let e = is.stops in cc)
+nothing_as of_ to_ name shelf message SaveFault up is = absurd (let e = is.stops in cc)
 nothing_as of_ to_ name shelf message Script up is = record { stops = refl; found = λ files told. up files _ (is.found files told) }
 nothing_as of_ to_ name shelf message Agents up is = record { stops = refl; found = λ files told. up files _ (is.found files told) }
+nothing_as of_ to_ name shelf message Plan up is = record { stops = refl; found = λ files told. up files _ (is.found files told) }
 nothing_as of_ to_ name shelf message Absent up is = record { stops = refl; found = λ files told. up files _ (is.found files told) }
 
+-- what is not loaded does not give what may be made of it
 pub unloaded_as : {A B : Type 0} (of_ : Files → Result A Refusal → Type 0) (to_ : Files → Result B Refusal → Type 0) (name : List ℕ) (shelf : ShelfCall) (stopped : Stopped)
     → ((files : Files) (r : Refusal) → of_ files (Err r) → to_ files (Err r)) → IsUnloaded of_ name shelf stopped → IsUnloaded to_ name shelf stopped
 unloaded_as of_ to_ name shelf stopped up is = record {
@@ -63,10 +72,12 @@ pub unloaded_later : {S A : Type 0} (of_shelf : shelf_trait.Ghosts S) (comes_to 
     → IsUnloaded comes_to name (shelf_call of_shelf m t) stopped → IsUnloaded comes_to name (shelf_call of_shelf s t) stopped
 unloaded_later of_shelf comes_to name s m t stopped held faults is = rw (held, faults) at is
 
+-- a refusal of a file gives nothing
 refusing : (P : Files → Refusal → Type 0) (name : List ℕ) (shelf : ShelfCall) (message : List ℕ) (status : Status) → refuses_file status ≡ true
     → ((files : Files) → shelf.held ≡ Some files → P files (record { status = status; message = message })) → GivesNothing P name shelf message status
 refusing P name shelf message Script r found = record { stops = refl; found = found }
 refusing P name shelf message Agents r found = record { stops = refl; found = found }
+refusing P name shelf message Plan r found = record { stops = refl; found = found }
 refusing P name shelf message Absent r found = record { stops = refl; found = found }
 refusing P name shelf message ReadFault r found = absurd cc
 refusing P name shelf message NoMemory r found = absurd cc
@@ -74,10 +85,13 @@ refusing P name shelf message Done r found = absurd cc
 refusing P name shelf message Usage r found = absurd cc
 refusing P name shelf message Fault r found = absurd cc
 refusing P name shelf message WriteFault r found = absurd cc
+refusing P name shelf message SaveFault r found = absurd cc
 
-refusing_counts : (shelf : ShelfCall) (status : Status) → refuses_file status ≡ true → shelf.faults_after ≡ shelf.faults_before → CountsReads shelf status
+-- no read failed where a file is refused
+refusing_counts : (shelf : ShelfCall) (status : Status) → refuses_file status ≡ true → shelf.faults_after ≡ shelf.faults_before → CountsShelf shelf status
 refusing_counts shelf Script r same = same
 refusing_counts shelf Agents r same = same
+refusing_counts shelf Plan r same = same
 refusing_counts shelf Absent r same = same
 refusing_counts shelf ReadFault r same = absurd cc
 refusing_counts shelf NoMemory r same = absurd cc
@@ -85,6 +99,7 @@ refusing_counts shelf Done r same = absurd cc
 refusing_counts shelf Usage r same = absurd cc
 refusing_counts shelf Fault r same = absurd cc
 refusing_counts shelf WriteFault r same = absurd cc
+refusing_counts shelf SaveFault r same = absurd cc
 
 -- an answer that refuses a file as it is owed
 answer_unloads : {A : Type 0} (comes_to : Files → Result A Refusal → Type 0) (name : List ℕ) (shelf : ShelfCall) (status : Status) (message : List ℕ) (a : Answer)
@@ -95,14 +110,14 @@ answer_unloads comes_to name shelf status message a r same ends says found = rec
   nothing =
       subst (λ (s : Status). GivesNothing (λ files x. comes_to files (Err x)) name shelf a.message.items s) (sym ends)
       (subst (λ (m : List ℕ). GivesNothing (λ files x. comes_to files (Err x)) name shelf m status) (sym says) (refusing _ name shelf message status r found));
-  counts = subst (CountsReads shelf) (sym ends) (refusing_counts shelf status r same);
+  counts = subst (CountsShelf shelf) (sym ends) (refusing_counts shelf status r same);
 }
 
 -- no file is loaded where memory is refused
 pub memory_unloads : {A : Type 0} (comes_to : Files → Result A Refusal → Type 0) (name : List ℕ) (shelf : ShelfCall) → IsUnloaded comes_to name shelf stopped_is.NoMemory
 memory_unloads comes_to name shelf = record { nothing = refl; counts = tt }
 
--- a file that the shelf tells, within its limit, absent, or past the limit
+-- a file that the shelf tells, within its limit
 pub file_loaded : (held : Option Files) (files : Files) (status : Status) (limit : ℕ) (name bytes : List ℕ) → held ≡ Some files → Holds held name bytes → length bytes ≤ limit
     → loaded status limit name (files name) ≡ Ok bytes
 file_loaded held files status limit name bytes told holds le =
@@ -110,11 +125,13 @@ file_loaded held files status limit name bytes told holds le =
     let over : nat_lt limit (length bytes) ≡ false = grind (arith, nat_tests, le) in
     ap (loaded status limit name) at_ ∙ ap (λ (b : Bool). if b then Err (refusal status name (codes ": TooLong")) else Ok bytes) over
 
+-- a file that is not there
 pub file_absent : (held : Option Files) (files : Files) (status : Status) (limit : ℕ) (name : List ℕ) → held ≡ Some files → Lacks held name
     → loaded status limit name (files name) ≡ Err (refusal Absent name (codes ": absent"))
 file_absent held files status limit name told lacks =
     ap (loaded status limit name) (subst (λ (h : Option Files). Lacks h name) told lacks)
 
+-- a file past its limit
 pub file_long : (held : Option Files) (files : Files) (status : Status) (limit : ℕ) (name : List ℕ) → held ≡ Some files → HoldsOver held name limit
     → loaded status limit name (files name) ≡ Err (refusal status name (codes ": TooLong"))
 file_long held files status limit name told long =
@@ -132,16 +149,16 @@ refusal_unloads comes_to name shelf status message stopped_is.NoMemory r same is
 
 -- a read that failed
 pub fault_unloads : {A : Type 0} (comes_to : Files → Result A Refusal → Type 0) (name : List ℕ) (shelf : ShelfCall) (stopped : Stopped)
-    → IsRefusedAs ReadFault (named_message name (codes ": read fault")) stopped → Rose shelf.faults_before shelf.faults_after → StoppedAt shelf.held shelf.stage name
-    → IsUnloaded comes_to name shelf stopped
-fault_unloads comes_to name shelf (stopped_is.Refused a) is rose at_ = record {
+    → IsRefusedAs ReadFault (named_message name (codes ": read fault")) stopped → Rose shelf.faults_before shelf.faults_after → shelf.held_after ≡ shelf.held
+    → StoppedAt shelf.held shelf.stage name → IsUnloaded comes_to name shelf stopped
+fault_unloads comes_to name shelf (stopped_is.Refused a) is rose same at_ = record {
   nothing =
       subst (λ (s : Status). GivesNothing (λ files x. comes_to files (Err x)) name shelf a.message.items s) (sym is.ends)
-      (record { failed = rose; stopped = at_; says = is.says });
-  counts = subst (CountsReads shelf) (sym is.ends) rose;
+      (record { failed = rose; same = same; stopped = at_; says = is.says });
+  counts = subst (CountsShelf shelf) (sym is.ends) rose;
 }
-fault_unloads comes_to name shelf stopped_is.WriteFault is rose at_ = absurd is
-fault_unloads comes_to name shelf stopped_is.NoMemory is rose at_ = memory_unloads comes_to name shelf
+fault_unloads comes_to name shelf stopped_is.WriteFault is rose same at_ = absurd is
+fault_unloads comes_to name shelf stopped_is.NoMemory is rose same at_ = memory_unloads comes_to name shelf
 
 -- a script that means something
 pub script_loaded : {A : Type 0} (means : List ℕ → A → Type 0) (refuses : List ℕ → ScriptFault → Type 0) (source : Files → Result (List ℕ) Refusal) (name src : List ℕ) (shelf : ShelfCall) (a : A)
@@ -170,6 +187,7 @@ record_unloads program name bytes shelf row_fault.NoMemory stopped same source f
 
 -- ---- a command that goes no further than its files
 
+-- a file that gives nothing stops a command
 nothing_stops : (P : Files → Refusal → Type 0) (name : List ℕ) (shelf : ShelfCall) (message : List ℕ) (status : Status)
     → GivesNothing P name shelf message status → is_stop status ≡ true
 nothing_stops P name shelf message ReadFault is = refl
@@ -178,59 +196,68 @@ nothing_stops P name shelf message Done is = is.stops
 nothing_stops P name shelf message Usage is = is.stops
 nothing_stops P name shelf message Script is = is.stops
 nothing_stops P name shelf message Agents is = is.stops
+nothing_stops P name shelf message Plan is = is.stops
 nothing_stops P name shelf message Fault is = is.stops
 nothing_stops P name shelf message WriteFault is = is.stops
+nothing_stops P name shelf message SaveFault is = is.stops
 nothing_stops P name shelf message Absent is = is.stops
 
-refusal_answer : (files : Files) (command : Option Command) (out : SinkCall) (message : List ℕ) (status : Status)
-    → CommandOutcome files command (refused (record { status = status; message = message })) → out.after ≡ out.before
-    → IsEnd status out message (refused (record { status = status; message = message }))
-    → Among (CommandOutcome files command) (IsEnd status out message)
-refusal_answer files command out message status is same end = record { one = _; is = is; holds = end }
+-- a refusal that is an outcome of the command
+refusal_answer : (files : Files) (command : Option Command) (shelf : ShelfCall) (out : SinkCall) (message : List ℕ) (status : Status)
+    → CommandOutcome files command (refused (record { status = status; message = message }))
+    → IsEnd files status shelf out message (refused (record { status = status; message = message }))
+    → Among (CommandOutcome files command) (IsEnd files status shelf out message)
+refusal_answer files command shelf out message status is end = record { one = _; is = is; holds = end }
 
 -- a file that a command reads and that gives nothing stops it
 stops : (P : Files → Refusal → Type 0) (name : List ℕ) (command : Option Command) (shelf : ShelfCall) (message : List ℕ) (status : Status)
     → ((files : Files) → shelf.held ≡ Some files → status ≡ ReadFault → Reads files command name)
     → ((files : Files) (r : Refusal) → shelf.held ≡ Some files → P files r → CommandOutcome files command (refused r))
     → GivesNothing P name shelf message status → IsStopped command shelf message status
-stops P name command shelf message ReadFault reads up is files out told same = record { one = name; is = reads files told refl; holds = is }
-stops P name command shelf message NoMemory reads up is files out told same = record { front = inl same; says = is }
-stops P name command shelf message Script reads up is files out told same =
-    refusal_answer files command out message Script (up files _ told (is.found files told)) same (record { ends = refl; gained = same; says = refl })
-stops P name command shelf message Agents reads up is files out told same =
-    refusal_answer files command out message Agents (up files _ told (is.found files told)) same (record { ends = refl; gained = same; says = refl })
-stops P name command shelf message Absent reads up is files out told same =
-    refusal_answer files command out message Absent (up files _ told (is.found files told)) same (record { ends = refl; gained = same; says = refl })
-stops P name command shelf message Done reads up is files out told same = absurd (let e = is.stops in cc)
-stops P name command shelf message Usage reads up is files out told same = absurd (let e = is.stops in cc)
-stops P name command shelf message Fault reads up is files out told same = absurd (let e = is.stops in cc)
-stops P name command shelf message WriteFault reads up is files out told same = absurd (let e = is.stops in cc)
+stops P name command shelf message ReadFault reads up is files out told held same = record { one = name; is = reads files told refl; holds = is }
+stops P name command shelf message NoMemory reads up is files out told held same = record { leaves = inl (record { unwritten = same; unsaved = held }); says = is }
+stops P name command shelf message Script reads up is files out told held same =
+    refusal_answer files command shelf out message Script (up files _ told (is.found files told)) (record { ends = refl; gained = same; holds = held ∙ told; says = refl })
+stops P name command shelf message Agents reads up is files out told held same =
+    refusal_answer files command shelf out message Agents (up files _ told (is.found files told)) (record { ends = refl; gained = same; holds = held ∙ told; says = refl })
+stops P name command shelf message Plan reads up is files out told held same =
+    refusal_answer files command shelf out message Plan (up files _ told (is.found files told)) (record { ends = refl; gained = same; holds = held ∙ told; says = refl })
+stops P name command shelf message Absent reads up is files out told held same =
+    refusal_answer files command shelf out message Absent (up files _ told (is.found files told)) (record { ends = refl; gained = same; holds = held ∙ told; says = refl })
+stops P name command shelf message Done reads up is files out told held same = absurd (let e = is.stops in cc)
+stops P name command shelf message Usage reads up is files out told held same = absurd (let e = is.stops in cc)
+stops P name command shelf message Fault reads up is files out told held same = absurd (let e = is.stops in cc)
+stops P name command shelf message WriteFault reads up is files out told held same = absurd (let e = is.stops in cc)
+stops P name command shelf message SaveFault reads up is files out told held same = absurd (let e = is.stops in cc)
 
 -- a file that gives nothing stops a command, which reads it where its status says that a read failed
-stop_serves : {S O A : Type 0} (of_shelf : shelf_trait.Ghosts S) (of_sink : sink_trait.Ghosts O) (command : Command) (s t : S) (o : O)
+pub stop_serves : {S O A : Type 0} (of_shelf : shelf_trait.Ghosts S) (of_sink : sink_trait.Ghosts O) (command : Command) (s t : S) (o : O)
     (comes_to : Files → Result A Refusal → Type 0) (name : List ℕ) (e : Stopped)
     → ((files : Files) → of_shelf.held s ≡ Some files → stopped_status e ≡ ReadFault → Reads files (Some command) name)
     → ((files : Files) (r : Refusal) → of_shelf.held s ≡ Some files → comes_to files (Err r) → CommandOutcome files (Some command) (refused r))
-    → IsUnloaded comes_to name (shelf_call of_shelf s t) e → IsServed of_shelf of_sink command s t o o (Err e)
-stop_serves of_shelf of_sink command s t o comes_to name e reads up is =
+    → of_shelf.held t ≡ of_shelf.held s → IsUnloaded comes_to name (shelf_call of_shelf s t) e → IsServed of_shelf of_sink command s t o o (Err e)
+stop_serves of_shelf of_sink command s t o comes_to name e reads up held is =
     let P : Files → Refusal → Type 0 = λ files r. comes_to files (Err r) in
     let stop = nothing_stops P name (shelf_call of_shelf s t) _ _ is.nothing in
     record {
-      answered = λ files told. stops P name (Some command) (shelf_call of_shelf s t) _ _ reads up is.nothing files (sink_call of_sink o o) told refl;
-      reads = is.counts;
+      answered = λ files told. stops P name (Some command) (shelf_call of_shelf s t) _ _ reads up is.nothing files (sink_call of_sink o o) told held refl;
+      counts = is.counts;
+      reads = λ never. stop_reads (shelf_call of_shelf s t) _ stop is.counts;
       writes = stop_writes (sink_call of_sink o o) _ stop;
       untouched = λ r. refl;
+      unsaved = λ r. held;
       clean = stop_runs _ _ stop;
       known = stop_usage _ stop;
     }
 
+-- a file that a command reads and that gives nothing stops it
 pub stopped_serves : {S O A : Type 0} (of_shelf : shelf_trait.Ghosts S) (of_sink : sink_trait.Ghosts O) (command : Command) (s t : S) (o : O)
     (comes_to : Files → Result A Refusal → Type 0) (name : List ℕ) (e : Stopped)
     → ((files : Files) → of_shelf.held s ≡ Some files → Reads files (Some command) name)
     → ((files : Files) (r : Refusal) → of_shelf.held s ≡ Some files → comes_to files (Err r) → CommandOutcome files (Some command) (refused r))
-    → IsUnloaded comes_to name (shelf_call of_shelf s t) e → IsServed of_shelf of_sink command s t o o (Err e)
-stopped_serves of_shelf of_sink command s t o comes_to name e reads up is =
-    stop_serves of_shelf of_sink command s t o comes_to name e (λ files told failed. reads files told) up is
+    → of_shelf.held t ≡ of_shelf.held s → IsUnloaded comes_to name (shelf_call of_shelf s t) e → IsServed of_shelf of_sink command s t o o (Err e)
+stopped_serves of_shelf of_sink command s t o comes_to name e reads up held is =
+    stop_serves of_shelf of_sink command s t o comes_to name e (λ files told failed. reads files told) up held is
 
 -- the script of a trial stops it where no read failed
 pub trial_stopped_serves : {S O : Type 0} (of_shelf : shelf_trait.Ghosts S) (of_sink : sink_trait.Ghosts O) (trial : TrialCommand) (s : S) (o : O) (e : Stopped)
@@ -238,7 +265,7 @@ pub trial_stopped_serves : {S O : Type 0} (of_shelf : shelf_trait.Ghosts S) (of_
     → IsServed of_shelf of_sink (Trial trial) s s o o (Err e)
 trial_stopped_serves of_shelf of_sink trial s o e never is =
     stop_serves of_shelf of_sink (Trial trial) s s o (λ files. TrialProgram) (codes "trial") e (λ files told failed. absurd (never failed))
-    (λ files r told found. record { found = Err r; is = found; follows = refl }) is
+    (λ files r told found. record { found = Err r; is = found; follows = refl }) refl is
 
 -- no read fails where a script is refused
 pub script_unread : (name src : List ℕ) (fault : ScriptFault) (stopped : Stopped) → IsScriptRefused name src fault stopped → stopped_status stopped ≡ ReadFault → ⊥
@@ -249,116 +276,139 @@ script_unread name src script_fault.NoMemory stopped is e = let f : NoMemory ≡
 
 -- ---- a command that is carried out
 
+-- what holds of one among some holds of one among all
 among_as : {A : Type 0} (these all fact : A → Type 0) → ((x : A) → these x → all x) → Among these fact → Among all fact
 among_as these all fact up a = record { one = a.one; is = up a.one a.is; holds = a.holds }
 
-front_as : (these all : Outcome → Type 0) (out : SinkCall) → ((o : Outcome) → these o → all o) → LeavesFront these out → LeavesFront all out
-front_as these all out up (inl same) = inl same
-front_as these all out up (inr a) = inr (among_as these all _ up a)
-
 -- what was carried out for some outcomes was carried out for all among which they are
-pub carried_as : (these all : Outcome → Type 0) (out : SinkCall) (message : List ℕ) (status : Status) → ((o : Outcome) → these o → all o)
-    → IsCarriedOut these out message status → IsCarriedOut all out message status
-carried_as these all out message ReadFault up is = is
-carried_as these all out message WriteFault up is = among_as these all _ up is
-carried_as these all out message NoMemory up is = record { front = front_as these all out up is.front; says = is.says }
-carried_as these all out message Done up is = among_as these all _ up is
-carried_as these all out message Usage up is = among_as these all _ up is
-carried_as these all out message Script up is = among_as these all _ up is
-carried_as these all out message Agents up is = among_as these all _ up is
-carried_as these all out message Fault up is = among_as these all _ up is
-carried_as these all out message Absent up is = among_as these all _ up is
+carried_as : (files : Files) (these all : Outcome → Type 0) (shelf : ShelfCall) (out : SinkCall) (message : List ℕ) (status : Status) → ((o : Outcome) → these o → all o)
+    → IsCarriedOut files these shelf out message status → IsCarriedOut files all shelf out message status
+carried_as files these all shelf out message ReadFault up is = is
+carried_as files these all shelf out message WriteFault up is = among_as these all _ up is
+carried_as files these all shelf out message SaveFault up is = among_as these all _ up is
+carried_as files these all shelf out message NoMemory up is = record { leaves = leaves_as is.leaves; says = is.says }
+  where
+    leaves_as : LeavesAll shelf out ⊎ Among these (LeavesFront files shelf out) → LeavesAll shelf out ⊎ Among all (LeavesFront files shelf out)
+    leaves_as (inl none) = inl none
+    leaves_as (inr a) = inr (among_as these all (LeavesFront files shelf out) up a)
+carried_as files these all shelf out message Done up is = among_as these all _ up is
+carried_as files these all shelf out message Usage up is = among_as these all _ up is
+carried_as files these all shelf out message Script up is = among_as these all _ up is
+carried_as files these all shelf out message Agents up is = among_as these all _ up is
+carried_as files these all shelf out message Plan up is = among_as these all _ up is
+carried_as files these all shelf out message Fault up is = among_as these all _ up is
+carried_as files these all shelf out message Absent up is = among_as these all _ up is
 
+-- what was carried out for the outcomes of a command answers it
 carried_answer : (files : Files) (command : Option Command) (shelf : ShelfCall) (out : SinkCall) (message : List ℕ) (status : Status)
-    → IsCarriedOut (CommandOutcome files command) out message status → IsAnswer files command shelf out message status
+    → IsCarriedOut files (CommandOutcome files command) shelf out message status → IsAnswer files command shelf out message status
 carried_answer files command shelf out message ReadFault is = absurd is
 carried_answer files command shelf out message WriteFault is = is
+carried_answer files command shelf out message SaveFault is = is
 carried_answer files command shelf out message NoMemory is = is
 carried_answer files command shelf out message Done is = is
 carried_answer files command shelf out message Usage is = is
 carried_answer files command shelf out message Script is = is
 carried_answer files command shelf out message Agents is = is
+carried_answer files command shelf out message Plan is = is
 carried_answer files command shelf out message Fault is = is
 carried_answer files command shelf out message Absent is = is
 
 -- what was carried out for outcomes of a command answers it
-pub answers : (these : Outcome → Type 0) (files : Files) (command : Option Command) (shelf : ShelfCall) (out : SinkCall) (message : List ℕ) (status : Status)
-    → ((o : Outcome) → these o → CommandOutcome files command o) → IsCarriedOut these out message status → IsAnswer files command shelf out message status
+answers : (these : Outcome → Type 0) (files : Files) (command : Option Command) (shelf : ShelfCall) (out : SinkCall) (message : List ℕ) (status : Status)
+    → ((o : Outcome) → these o → CommandOutcome files command o) → IsCarriedOut files these shelf out message status → IsAnswer files command shelf out message status
 answers these files command shelf out message status up is =
-    carried_answer files command shelf out message status (carried_as these (CommandOutcome files command) out message status up is)
+    carried_answer files command shelf out message status (carried_as files these (CommandOutcome files command) shelf out message status up is)
 
 -- a command whose work was carried out is served
-pub work_serves : {S O : Type 0} (of_shelf : shelf_trait.Ghosts S) (of_sink : sink_trait.Ghosts O) (command : Command) (s t : S) (o p : O) (r : Result Answer Stopped)
-    (these : Outcome → Type 0) → of_shelf.faults t ≡ of_shelf.faults s
-    → ((files : Files) (x : Outcome) → of_shelf.held s ≡ Some files → these x → CommandOutcome files (Some command) x)
-    → IsCarriedOut these (sink_call of_sink o p) (message_in r) (status_in r) → is_work (status_in r) ≡ true
+work_serves : {S O : Type 0} (of_shelf : shelf_trait.Ghosts S) (of_sink : sink_trait.Ghosts O) (command : Command) (s t : S) (o p : O) (r : Result Answer Stopped)
+    (these : Outcome → Type 0) → ((files : Files) (x : Outcome) → of_shelf.held s ≡ Some files → these x → CommandOutcome files (Some command) x)
+    → ((files : Files) → of_shelf.held s ≡ Some files → IsCarriedOut files these (shelf_call of_shelf s t) (sink_call of_sink o p) (message_in r) (status_in r))
+    → is_work (status_in r) ≡ true → CountsShelf (shelf_call of_shelf s t) (status_in r) → CountsWrites (sink_call of_sink o p) (status_in r)
+    → (may_save (Some command) ≡ false → CountsReads (shelf_call of_shelf s t) (status_in r))
     → (has_run (status_in r) ≡ true → of_sink.clean p ≡ true) → IsServed of_shelf of_sink command s t o p r
-work_serves of_shelf of_sink command s t o p r these same up is work clean = record {
-  answered = λ files told. answers these files (Some command) (shelf_call of_shelf s t) (sink_call of_sink o p) _ _ (λ x of_these. up files x told of_these) is;
-  reads = carried_reads these (sink_call of_sink o p) (shelf_call of_shelf s t) _ _ is same;
-  writes = carried_writes these (sink_call of_sink o p) _ _ is;
+work_serves of_shelf of_sink command s t o p r these up is work counts writes reads clean = record {
+  answered = λ files told. answers these files (Some command) (shelf_call of_shelf s t) (sink_call of_sink o p) _ _ (λ x of_these. up files x told of_these) (is files told);
+  counts = counts;
+  reads = reads;
+  writes = writes;
   untouched = work_refusal _ _ work;
+  unsaved = work_saves _ _ work;
   clean = clean;
   known = work_usage _ work;
 }
 
--- ---- what the parts carry out
+-- a command whose work was carried out on the files of a shelf that was only read before is served
+pub later_work_serves : {S O : Type 0} (of_shelf : shelf_trait.Ghosts S) (of_sink : sink_trait.Ghosts O) (command : Command) (s m t : S) (o p : O) (r : Result Answer Stopped)
+    (these : Outcome → Type 0) → may_save (Some command) ≡ true → of_shelf.held m ≡ of_shelf.held s → of_shelf.faults m ≡ of_shelf.faults s
+    → ((files : Files) (x : Outcome) → of_shelf.held s ≡ Some files → these x → CommandOutcome files (Some command) x)
+    → ((files : Files) → of_shelf.held m ≡ Some files → IsCarriedOut files these (shelf_call of_shelf m t) (sink_call of_sink o p) (message_in r) (status_in r))
+    → is_work (status_in r) ≡ true → CountsShelf (shelf_call of_shelf m t) (status_in r) → CountsWrites (sink_call of_sink o p) (status_in r)
+    → (has_run (status_in r) ≡ true → of_sink.clean p ≡ true) → IsServed of_shelf of_sink command s t o p r
+later_work_serves of_shelf of_sink command s m t o p r these saves held faults up is work counts writes clean =
+    let same : shelf_call of_shelf m t ≡ shelf_call of_shelf s t = ap (λ (h : Option Files). begun_with h (of_shelf.faults m)) held ∙ ap (begun_with (of_shelf.held s)) faults in
+    work_serves of_shelf of_sink command s t o p r these up
+    (λ files told. subst (λ (c : ShelfCall). IsCarriedOut files these c (sink_call of_sink o p) (message_in r) (status_in r)) same (is files (held ∙ told)))
+    work (subst (λ (c : ShelfCall). CountsShelf c (status_in r)) same counts) writes (λ never. let e : true ≡ false = sym saves ∙ never in absurd cc) clean
+  where
+    begun_with : Option Files → ℕ → ShelfCall
+    begun_with held faults = record {
+      held = held;
+      held_after = of_shelf.held t;
+      stage = of_shelf.stage t;
+      faults_before = faults;
+      faults_after = of_shelf.faults t;
+    }
 
--- a whole text stands, and a run ended
-pub ended_carried : (text : List ℕ) (found : Option RunFault) (out : SinkCall) (r : Result Answer Stopped) → Gains out.before out.after text
-    → IfOk r (λ a. a.status ≡ end_status found) → IfOk r (λ a. a.message.items ≡ end_message found) → IfErr r (λ e. e ≡ stopped_is.NoMemory)
-    → GainsFront out.before out.after text → IsCarriedOut (λ o. o ≡ ended text found) out (message_in r) (status_in r)
-ended_carried text None out (Ok a) gains status message err front =
-    subst (λ (s : Status). IsCarriedOut (λ o. o ≡ ended text None) out a.message.items s) (sym status)
-    (record { one = _; is = refl; holds = record { ends = refl; gained = gains; says = message } })
-ended_carried text (Some f) out (Ok a) gains status message err front =
-    subst (λ (s : Status). IsCarriedOut (λ o. o ≡ ended text (Some f)) out a.message.items s) (sym status)
-    (record { one = _; is = refl; holds = record { ends = refl; gained = gains; says = message } })
-ended_carried text found out (Err e) gains status message err front =
-    subst (λ (s : Stopped). IsCarriedOut (λ o. o ≡ ended text found) out (stopped_message s) (stopped_status s)) (sym err)
-    (record { front = inr (record { one = _; is = refl; holds = front }); says = refl })
+-- a command that saves nothing, and whose work was carried out, is served
+pub plain_work_serves : {S O : Type 0} (of_shelf : shelf_trait.Ghosts S) (of_sink : sink_trait.Ghosts O) (command : Command) (s t : S) (o p : O) (r : Result Answer Stopped)
+    (these : Outcome → Type 0) → of_shelf.held t ≡ of_shelf.held s → of_shelf.faults t ≡ of_shelf.faults s
+    → ((files : Files) (x : Outcome) → of_shelf.held s ≡ Some files → these x → CommandOutcome files (Some command) x)
+    → IsWritten these (sink_call of_sink o p) (message_in r) (status_in r)
+    → is_plain_work (status_in r) ≡ true → CountsWrites (sink_call of_sink o p) (status_in r)
+    → (has_run (status_in r) ≡ true → of_sink.clean p ≡ true) → IsServed of_shelf of_sink command s t o p r
+plain_work_serves of_shelf of_sink command s t o p r these held faults up is work writes clean =
+    work_serves of_shelf of_sink command s t o p r these up (λ files told. is files (shelf_call of_shelf s t) told held)
+    (plain_works _ work) (plain_counts (shelf_call of_shelf s t) _ work faults) writes (λ never. plain_reads (shelf_call of_shelf s t) _ work faults) clean
 
-end_runs : (found : Option RunFault) → has_run (end_status found) ≡ true
-end_runs None = refl
-end_runs (Some f) = refl
+-- ---- what the parts carry out that save nothing
 
--- a run was given up
-pub gave_up : (fault : GivenUp) (text : List ℕ) (found : Option RunFault) (out : SinkCall) → (fault ≡ run_fault.Write → Rose out.faults_before out.faults_after)
-    → GainsFront out.before out.after text → IsCarriedOut (λ o. o ≡ ended text found) out (stopped_message (stopped_by fault)) (stopped_status (stopped_by fault))
-gave_up run_fault.Write text found out rose front =
-    record { one = _; is = refl; holds = record { runs = end_runs found; failed = rose refl; front = front; says = refl } }
-gave_up run_fault.NoMemory text found out rose front = record { front = inr (record { one = _; is = refl; holds = front }); says = refl }
+-- none of an outcome's files are saved
+has_saved_none : (files : Files) (shelf : ShelfCall) (out : SinkCall) (o : Outcome) → shelf.held ≡ Some files → shelf.held_after ≡ shelf.held → HasSaved files shelf out o
+has_saved_none files shelf out o told held = record { count = 0; holds = held ∙ told; behind = λ k d lt. absurd (omega (arith, lt)) }
 
-pub gave_up_works : (fault : GivenUp) → is_work (stopped_status (stopped_by fault)) ≡ true
-gave_up_works run_fault.Write = refl
-gave_up_works run_fault.NoMemory = refl
+-- an outcome that was written whole
+done_written : (o : Outcome) (out : SinkCall) (message : List ℕ) → o.status ≡ Done → o.saved ≡ [] → Gains out.before out.after o.out → message ≡ o.err
+    → IsWritten (λ x. x ≡ o) out message Done
+done_written o out message done none gains says files shelf told held = record {
+  one = o;
+  is = refl;
+  holds = record { ends = sym done; gained = gains; holds = held ∙ told ∙ ap (λ (s : List Saving). Some (with_saved files s)) (sym none); says = says };
+}
 
-pub gave_up_runs : (P : Type 0) (fault : GivenUp) → has_run (stopped_status (stopped_by fault)) ≡ true → P
-gave_up_runs P run_fault.Write e = absurd cc
-gave_up_runs P run_fault.NoMemory e = absurd cc
+-- the answer of an outcome that was written whole
+pub told_written : (o : Outcome) (out : SinkCall) (message : List ℕ) (answer : Answer) → IsOf Done message answer → o.status ≡ Done → o.saved ≡ []
+    → Gains out.before out.after o.out → message ≡ o.err → IsWritten (λ x. x ≡ o) out answer.message.items answer.status
+told_written o out message answer told done none gains says =
+    subst (λ (s : Status). IsWritten (λ x. x ≡ o) out answer.message.items s) (sym told.ends)
+    (done_written o out answer.message.items done none gains (told.says ∙ says))
 
--- the status of a run that ended
-pub ended_works : (found : Option RunFault) (r : Result Answer Stopped) → IfOk r (λ a. a.status ≡ end_status found) → IfErr r (λ e. e ≡ stopped_is.NoMemory) → is_work (status_in r) ≡ true
-ended_works None (Ok a) status err = ap is_work status
-ended_works (Some f) (Ok a) status err = ap is_work status
-ended_works found (Err e) status err = ap (λ (s : Stopped). is_work (stopped_status s)) err
+-- an outcome whose text was not written whole
+pub unwritten_written : (o : Outcome) (out : SinkCall) → has_run o.status ≡ true → Rose out.faults_before out.faults_after → GainsFront out.before out.after o.out
+    → IsWritten (λ x. x ≡ o) out write_fault_message WriteFault
+unwritten_written o out runs rose front files shelf told held = record {
+  one = o;
+  is = refl;
+  holds = record { runs = runs; failed = rose; front = front; saved = has_saved_none files shelf out o told held; says = refl };
+}
 
--- what is carried out for an outcome is carried out for one that is the same
-pub carried_for : (o p : Outcome) (out : SinkCall) (message : List ℕ) (status : Status) → o ≡ p
-    → IsCarriedOut (λ x. x ≡ o) out message status → IsCarriedOut (λ x. x ≡ p) out message status
-carried_for o p out message status e is = subst (λ (q : Outcome). IsCarriedOut (λ x. x ≡ q) out message status) e is
+-- a count that rose later rose
+pub rose_before : (a b c : ℕ) → a ≤ b → Rose b c → Rose a c
+rose_before a b c le rose = omega arith
 
--- memory was refused, and nothing was written
-pub memory_carried : (these : Outcome → Type 0) (out : SinkCall) → out.after ≡ out.before → IsCarriedOut these out no_memory_message NoMemory
-memory_carried these out same = record { front = inl same; says = refl }
-
--- a text that is all of a command, or a front of it
-pub shown_carried : (text : List ℕ) (out : SinkCall) → Gains out.before out.after text → IsCarriedOut (λ o. o ≡ shown text) out [] Done
-shown_carried text out gains = record { one = _; is = refl; holds = record { ends = refl; gained = gains; says = refl } }
-
-pub unshown_carried : (text : List ℕ) (out : SinkCall) → Rose out.faults_before out.faults_after → GainsFront out.before out.after text
-    → IsCarriedOut (λ o. o ≡ shown text) out write_fault_message WriteFault
-unshown_carried text out rose front = record { one = _; is = refl; holds = record { runs = refl; failed = rose; front = front; says = refl } }
+-- a whole text is a front of itself
+pub front_all : (a b : Option (List ℕ)) (p : List ℕ) → Gains a b p → GainsFront a b p
+front_all a b p h = (length p, (omega arith, h ∙ ap (with_piece a) (sym (take_all (length p) p (omega arith)))))
 
 -- ---- the outcomes of a run
 
@@ -367,24 +417,70 @@ pub births_refused : (files : Files) (run : RunCommand) (program : Program) → 
     → refused (refusal Script run.script (codes ": NotThin")) ≡ run_outcome files run program
 births_refused files run program e =
     sym (ap (λ (b : Bool). if b then refused (refusal Script run.script (codes ": NotThin"))
-    else followed_by (λ start. ran (job_of run program start)) (agents_of files program run.agents)) e)
+    else followed_by (run_from files run program) (agents_of files program run.agents)) e)
 
 -- a program without births
 goes_on : (files : Files) (run : RunCommand) (program : Program) → has_births program ≡ false
-    → run_outcome files run program ≡ followed_by (λ start. ran (job_of run program start)) (agents_of files program run.agents)
+    → run_outcome files run program ≡ followed_by (run_from files run program) (agents_of files program run.agents)
 goes_on files run program e =
     ap (λ (b : Bool). if b then refused (refusal Script run.script (codes ": NotThin"))
-    else followed_by (λ start. ran (job_of run program start)) (agents_of files program run.agents)) e
+    else followed_by (run_from files run program) (agents_of files program run.agents)) e
 
 -- a refused agent file
 pub agents_refused : (files : Files) (run : RunCommand) (program : Program) (r : Refusal) → has_births program ≡ false
     → agents_of files program run.agents ≡ Err r → refused r ≡ run_outcome files run program
-agents_refused files run program r e f = sym (goes_on files run program e ∙ ap (followed_by (λ start. ran (job_of run program start))) f)
+agents_refused files run program r e f = sym (goes_on files run program e ∙ ap (followed_by (run_from files run program)) f)
 
--- a run
-pub run_ended : (files : Files) (run : RunCommand) (program : Program) (start : World) → has_births program ≡ false
-    → agents_of files program run.agents ≡ Ok start → ran (job_of run program start) ≡ run_outcome files run program
-run_ended files run program start e f = sym (goes_on files run program e ∙ ap (followed_by (λ start. ran (job_of run program start))) f)
+-- a run from a world
+from_world : (files : Files) (run : RunCommand) (program : Program) (start : World) → has_births program ≡ false
+    → agents_of files program run.agents ≡ Ok start → run_outcome files run program ≡ run_from files run program start
+from_world files run program start e f = goes_on files run program e ∙ ap (followed_by (run_from files run program)) f
+
+-- a refused cut plan
+pub plan_refused : (files : Files) (run : RunCommand) (program : Program) (start : World) (r : Refusal) → has_births program ≡ false
+    → agents_of files program run.agents ≡ Ok start → plan_of files run.manner.epoch run.cuts ≡ Err r → refused r ≡ run_outcome files run program
+plan_refused files run program start r e f g =
+    sym (from_world files run program start e f
+    ∙ ap (followed_by (λ plan. ran run.manner.stats run.save true (setting_of run program start plan))) g)
+
+-- a run over a plan
+pub run_ended : (files : Files) (run : RunCommand) (program : Program) (start : World) (plan : CutPlan) → has_births program ≡ false
+    → agents_of files program run.agents ≡ Ok start → plan_of files run.manner.epoch run.cuts ≡ Ok plan
+    → ran run.manner.stats run.save true (setting_of run program start plan) ≡ run_outcome files run program
+run_ended files run program start plan e f g =
+    sym (from_world files run program start e f
+    ∙ ap (followed_by (λ plan. ran run.manner.stats run.save true (setting_of run program start plan))) g)
+
+-- a cut plan is read where one is named
+pub plan_read : (files : Files) (run : RunCommand) (program : Program) (start : World) → ProgramOf files run.script (Ok program) → has_births program ≡ false
+    → agents_of files program run.agents ≡ Ok start → (run.cuts ≡ None → ⊥) → Reads files (Some (Run run)) (unwrap_or run.cuts [])
+plan_read files run program start is e f named = reads_plan run program start (unwrap_or run.cuts []) is e f (is_named run.cuts named)
+  where
+    is_named : (name : Option (List ℕ)) → (name ≡ None → ⊥) → name ≡ Some (unwrap_or name [])
+    is_named None named = absurd (named refl)
+    is_named (Some name) named = refl
+
+-- what is none once it is told otherwise is none
+pub none_of : {A B : Type 0} (f : A → B) (found : Option A) → option_map f found ≡ None → found ≡ None
+none_of f None e = refl
+none_of f (Some a) e = absurd cc
+
+-- the setting of a run whose numbers are in range is lawful where its program, its world and its plan are
+pub run_is_lawful : (run : CodeRun) (program : Program) (start : World) (plan : CutPlan) → IsRunInRange run → LawfulProgram program
+    → LawfulAgents program start.agents → IsNumbered start → IsPlan run.manner.epoch plan → LawfulSetting (setting_of (said_run run) program start plan)
+run_is_lawful run program start plan range lawful agents numbered fits = record {
+  job_is_lawful = record {
+    program_is_lawful = lawful;
+    start_is_lawful = agents;
+    first_in_range = omega arith;
+    last_in_range = range.ticks;
+    publishes = range.every;
+  };
+  start_is_numbered = numbered;
+  epochs_have_ticks = range.manner.some_ticks;
+  epochs_are_short = range.manner.few_ticks;
+  plan_is_lawful = fits;
+}
 
 -- the world of an agent file
 pub world_read : (program : Program) (files : Files) (name bytes : List ℕ) (world : World) → loaded Agents AGENTS_LIMIT name (files name) ≡ Ok bytes
@@ -402,9 +498,9 @@ pub command_of_none : (words : List (List ℕ)) → line_of words ≡ None → c
 command_of_none words e = ap (option_and_then command_in) e
 
 -- memory was refused before anything was written
-pub memory_answer : (files : Files) (found : Option Command) (shelf : ShelfCall) (out : SinkCall) → out.after ≡ out.before
+pub memory_answer : (files : Files) (found : Option Command) (shelf : ShelfCall) (out : SinkCall) → shelf.held_after ≡ shelf.held → out.after ≡ out.before
     → IsAnswer files found shelf out no_memory_message NoMemory
-memory_answer files found shelf out same = record { front = inl same; says = refl }
+memory_answer files found shelf out held same = record { leaves = inl (record { unwritten = same; unsaved = held }); says = refl }
 
 -- what answers a command answers words that ask for it
 pub asked_answer : (files : Files) (found : Option Command) (command : Command) (shelf : ShelfCall) (out : SinkCall) (message : List ℕ) (status : Status)
@@ -412,8 +508,8 @@ pub asked_answer : (files : Files) (found : Option Command) (command : Command) 
 asked_answer files found command shelf out message status e is = subst (λ (c : Option Command). IsAnswer files c shelf out message status) (sym e) is
 
 -- words that are no command
-pub usage_answer : (found : Option Command) (files : Files) (shelf : ShelfCall) (out : SinkCall) → found ≡ None → out.after ≡ out.before
-    → IsAnswer files found shelf out usage_message Usage
-usage_answer found files shelf out e same =
-    subst (λ (c : Option Command). Among (CommandOutcome files c) (IsEnd Usage out usage_message)) (sym e)
-    (record { one = _; is = refl; holds = record { ends = refl; gained = same; says = refl } })
+pub usage_answer : (found : Option Command) (files : Files) (shelf : ShelfCall) (out : SinkCall) → found ≡ None → shelf.held ≡ Some files
+    → shelf.held_after ≡ shelf.held → out.after ≡ out.before → IsAnswer files found shelf out usage_message Usage
+usage_answer found files shelf out e told held same =
+    subst (λ (c : Option Command). Among (CommandOutcome files c) (IsEnd files Usage shelf out usage_message)) (sym e)
+    (record { one = _; is = refl; holds = record { ends = refl; gained = same; holds = held ∙ told; says = refl } })

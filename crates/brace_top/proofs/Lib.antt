@@ -1,7 +1,14 @@
-pub mod JobLemmas
+pub mod Examples
 pub mod AnswerLemmas
 pub mod OneOutcome
 pub mod FormatLemmas
 pub mod StatusLemmas
 pub mod PlaceLemmas
 pub mod ScriptLemmas
+pub mod RestartLemmas
+pub mod LoadLemmas
+pub mod TrialLemmas
+pub mod FourFixed
+pub mod ShownLemmas
+pub mod SavedLemmas
+pub mod CameLemmas

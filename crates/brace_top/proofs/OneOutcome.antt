@@ -1,4 +1,4 @@
--- A command over files has at most one status, one text, and one message apart from the place of NoReading.
+-- A command over files has at most one status, one text, one list of saved files, and one message apart from the place of NoReading.
 use Rattle.std.proofs.Common.{◌≡◌, ◌∙◌, refl, sym, ap, subst, ℕ, ◌+◌, ◌<◌, ◌⊎◌, List, [], Bool, true, false, codes, nat_lt, slice_get, Option, Some, None, Result, Ok, Err, inl, inr, arith}
 use Rattle.std.specs.Prelude.{⊤}
 use Rattle.std.proofs.lemmas.Bool.Decides.{nat_tests}
@@ -36,9 +36,10 @@ pub record Agree (o p : Outcome) : Type 0 where
   pub status : o.status ≡ p.status
   pub out : o.out ≡ p.out
   pub err : SameMessage o.err p.err
+  pub saved : o.saved ≡ p.saved
 
 same : (o p q : Outcome) → o ≡ q → p ≡ q → Agree o p
-same o p q e f = let g : o ≡ p = e ∙ sym f in record { status = ap (λ (x : Outcome). x.status) g; out = ap (λ (x : Outcome). x.out) g; err = inl (ap (λ (x : Outcome). x.err) g) }
+same o p q e f = let g : o ≡ p = e ∙ sym f in record { status = ap (λ (x : Outcome). x.status) g; out = ap (λ (x : Outcome). x.out) g; err = inl (ap (λ (x : Outcome). x.err) g); saved = ap (λ (x : Outcome). x.saved) g }
 
 -- tokens that are nowhere too deep have no first place at which they are
 not_deep : (toks : List Token) (at_ : ℕ) → NowhereDeep toks → FirstDeepAt toks at_ → ⊥
@@ -245,6 +246,7 @@ module _ {A : Type 0} (means : List ℕ → A → Type 0) (refuses : List ℕ �
         out = refl;
         err = subst (λ (m : List ℕ). SameMessage (script_message name src k at_) m) from_
             (same_message name src (Refused k at_) (Refused l at'_) (decides.alike src (Refused k at_) (Refused l at'_) tt tt n moved));
+        saved = refl;
       }
   found_agree _ _ (refused_at src k at_ e n) (stands_for to_ a f m) =
       absurd (decides.never src a (Refused k at_) tt (subst (λ (s : List ℕ). means s a) (one_source source src to_ e f) m) n)

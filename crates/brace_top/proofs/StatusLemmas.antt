@@ -1,27 +1,30 @@
 -- What the kinds of statuses leave out.
-use Rattle.std.proofs.Common.{◌≡◌, subst, ℕ, List, true}
+use Rattle.std.proofs.Common.{◌≡◌, subst, true, arith}
 use Rattle.brace_top.specs.declared.status.Status.{Status}
-use Rattle.brace_top.specs.declared.status.Status.TheVariants.{Done, Usage, Script, Agents, Fault, ReadFault, WriteFault, NoMemory, Absent}
-use Rattle.brace_top.specs.Answer.{ShelfCall, SinkCall, CountsReads, CountsWrites}
-use Rattle.brace_top.specs.Outcome.{Outcome}
-use Rattle.brace_top.specs.Status.{has_run, is_refusal}
-use Rattle.brace_top.specs.inner.Settled.{is_stop, is_work, IsCarriedOut}
+use Rattle.brace_top.specs.declared.status.Status.TheVariants.{Done, Usage, Script, Agents, Plan, Fault, ReadFault, WriteFault, SaveFault, NoMemory, Absent}
+use Rattle.brace_top.specs.Answer.{ShelfCall, SinkCall, CountsShelf, CountsReads, CountsWrites}
+use Rattle.brace_top.specs.Status.{has_run, is_refusal, saves_nothing}
+use Rattle.brace_top.specs.inner.Settled.{is_stop, is_work, is_plain_work}
 
 -- a command that was stopped did not run
 pub stop_runs : (P : Type 0) (status : Status) → is_stop status ≡ true → has_run status ≡ true → P
 stop_runs P Done s h = absurd cc
-stop_runs P Fault s h = absurd cc
 stop_runs P Usage s h = absurd cc
 stop_runs P Script s h = absurd cc
 stop_runs P Agents s h = absurd cc
+stop_runs P Plan s h = absurd cc
+stop_runs P Fault s h = absurd cc
 stop_runs P ReadFault s h = absurd cc
 stop_runs P WriteFault s h = absurd cc
+stop_runs P SaveFault s h = absurd cc
 stop_runs P NoMemory s h = absurd cc
 stop_runs P Absent s h = absurd cc
 
+-- a command that was stopped had words that are one
 pub stop_usage : (status : Status) → is_stop status ≡ true → status ≡ Usage → ⊥
 stop_usage status s e = let f : is_stop Usage ≡ true = subst (λ (x : Status). is_stop x ≡ true) e s in absurd cc
 
+-- no write of a command that was stopped failed
 pub stop_writes : (sink : SinkCall) (status : Status) → is_stop status ≡ true → CountsWrites sink status
 stop_writes sink status s e =
     let f : is_stop WriteFault ≡ true = subst (λ (x : Status). is_stop x ≡ true) e s in absurd cc
@@ -29,32 +32,87 @@ stop_writes sink status s e =
 -- a command whose work was begun is no refusal
 pub work_refusal : (P : Type 0) (status : Status) → is_work status ≡ true → is_refusal status ≡ true → P
 work_refusal P Done w r = absurd cc
-work_refusal P Fault w r = absurd cc
 work_refusal P Usage w r = absurd cc
 work_refusal P Script w r = absurd cc
 work_refusal P Agents w r = absurd cc
+work_refusal P Plan w r = absurd cc
+work_refusal P Fault w r = absurd cc
 work_refusal P ReadFault w r = absurd cc
 work_refusal P WriteFault w r = absurd cc
+work_refusal P SaveFault w r = absurd cc
 work_refusal P NoMemory w r = absurd cc
 work_refusal P Absent w r = absurd cc
 
+-- a command whose work was begun may save files
+pub work_saves : (P : Type 0) (status : Status) → is_work status ≡ true → saves_nothing status ≡ true → P
+work_saves P Done w r = absurd cc
+work_saves P Usage w r = absurd cc
+work_saves P Script w r = absurd cc
+work_saves P Agents w r = absurd cc
+work_saves P Plan w r = absurd cc
+work_saves P Fault w r = absurd cc
+work_saves P ReadFault w r = absurd cc
+work_saves P WriteFault w r = absurd cc
+work_saves P SaveFault w r = absurd cc
+work_saves P NoMemory w r = absurd cc
+work_saves P Absent w r = absurd cc
+
+-- a command whose work was begun had words that are one
 pub work_usage : (status : Status) → is_work status ≡ true → status ≡ Usage → ⊥
 work_usage status w e = let f : is_work Usage ≡ true = subst (λ (x : Status). is_work x ≡ true) e w in absurd cc
 
--- work that was carried out read nothing
-pub carried_reads : (o : Outcome → Type 0) (out : SinkCall) (shelf : ShelfCall) (message : List ℕ) (status : Status) → IsCarriedOut o out message status
-    → shelf.faults_after ≡ shelf.faults_before → CountsReads shelf status
-carried_reads o out shelf message ReadFault is same = absurd is
-carried_reads o out shelf message NoMemory is same = tt
-carried_reads o out shelf message Done is same = same
-carried_reads o out shelf message Usage is same = same
-carried_reads o out shelf message Script is same = same
-carried_reads o out shelf message Agents is same = same
-carried_reads o out shelf message Fault is same = same
-carried_reads o out shelf message WriteFault is same = same
-carried_reads o out shelf message Absent is same = same
+-- work that saves nothing is work
+pub plain_works : (status : Status) → is_plain_work status ≡ true → is_work status ≡ true
+plain_works Done w = w
+plain_works Usage w = w
+plain_works Script w = w
+plain_works Agents w = w
+plain_works Plan w = w
+plain_works Fault w = w
+plain_works ReadFault w = w
+plain_works WriteFault w = w
+plain_works SaveFault w = absurd cc
+plain_works NoMemory w = w
+plain_works Absent w = w
 
--- a write fault of work that was carried out was counted
-pub carried_writes : (o : Outcome → Type 0) (out : SinkCall) (message : List ℕ) (status : Status) → IsCarriedOut o out message status → CountsWrites out status
-carried_writes o out message status is e =
-    let f : IsCarriedOut o out message WriteFault = subst (λ (x : Status). IsCarriedOut o out message x) e is in f.holds.failed
+-- no call to the shelf failed in work that saves nothing
+pub plain_counts : (shelf : ShelfCall) (status : Status) → is_plain_work status ≡ true → shelf.faults_after ≡ shelf.faults_before → CountsShelf shelf status
+plain_counts shelf Done w same = omega (arith, same)
+plain_counts shelf Usage w same = same
+plain_counts shelf Script w same = same
+plain_counts shelf Agents w same = same
+plain_counts shelf Plan w same = same
+plain_counts shelf Fault w same = omega (arith, same)
+plain_counts shelf ReadFault w same = absurd cc
+plain_counts shelf WriteFault w same = omega (arith, same)
+plain_counts shelf SaveFault w same = absurd cc
+plain_counts shelf NoMemory w same = tt
+plain_counts shelf Absent w same = same
+
+-- a command that was stopped did nothing to its shelf but read
+pub stop_reads : (shelf : ShelfCall) (status : Status) → is_stop status ≡ true → CountsShelf shelf status → CountsReads shelf status
+stop_reads shelf Done s counts = absurd cc
+stop_reads shelf Usage s counts = absurd cc
+stop_reads shelf Script s counts = counts
+stop_reads shelf Agents s counts = counts
+stop_reads shelf Plan s counts = counts
+stop_reads shelf Fault s counts = absurd cc
+stop_reads shelf ReadFault s counts = counts
+stop_reads shelf WriteFault s counts = absurd cc
+stop_reads shelf SaveFault s counts = absurd cc
+stop_reads shelf NoMemory s counts = counts
+stop_reads shelf Absent s counts = counts
+
+-- work that saves nothing reads nothing
+pub plain_reads : (shelf : ShelfCall) (status : Status) → is_plain_work status ≡ true → shelf.faults_after ≡ shelf.faults_before → CountsReads shelf status
+plain_reads shelf Done w same = same
+plain_reads shelf Usage w same = same
+plain_reads shelf Script w same = same
+plain_reads shelf Agents w same = same
+plain_reads shelf Plan w same = same
+plain_reads shelf Fault w same = same
+plain_reads shelf ReadFault w same = absurd cc
+plain_reads shelf WriteFault w same = same
+plain_reads shelf SaveFault w same = absurd cc
+plain_reads shelf NoMemory w same = tt
+plain_reads shelf Absent w same = same

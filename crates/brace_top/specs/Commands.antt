@@ -1,18 +1,30 @@
 -- The command that the words of a command line ask for.
-use Rattle.std.specs.Prelude.{ℕ, List, Bool, true, false, not, ◌&&◌, ◌==◌, if◌then◌else◌, Option, Some, None, is_some, option_map, option_and_then, unwrap_or}
+use Rattle.std.specs.Prelude.{ℕ, List, Bool, true, false, ◌&&◌, ◌==◌, if◌then◌else◌, Option, Some, None, option_map, option_and_then, unwrap_or}
 use Rattle.brace_words.specs.declared.line.Line.{Line}
 use Rattle.brace_words.specs.declared.mode.Mode.{Mode}
 use Rattle.brace_words.specs.declared.mode.Mode.TheVariants as mode
 use Rattle.brace_words.specs.Lines.{line_of}
 
--- a run of a script from the agent file up to a last tick, with the seed of its draws; ticks that
--- `every` divides are published, and the last one
+-- how a run is worked: how many ticks an epoch has, the number that draws the order of the parts'
+-- work, whether effects are inverted, and whether counts are told at its end
+pub record Manner : Type 0 where
+  pub epoch : ℕ
+  pub order : ℕ
+  pub invert : Bool
+  pub stats : Bool
+
+-- a run of a script from the agent file up to a last tick, with the seed of its draws, over the
+-- plane as a cut plan cuts it, or in one part; ticks that `every` divides are published, and the
+-- last one; the world of each end of an epoch k is saved as `NAME.k`, where a name is given
 pub record RunCommand : Type 0 where
   pub script : List ℕ
   pub agents : List ℕ
+  pub cuts : Option (List ℕ)
+  pub save : Option (List ℕ)
   pub ticks : ℕ
   pub seed : ℕ
   pub every : ℕ
+  pub manner : Manner
 
 -- a run of the program's own script from so many made agents up to a last tick, with the seed of
 -- the agents and of the draws
@@ -20,6 +32,7 @@ pub record TrialCommand : Type 0 where
   pub count : ℕ
   pub ticks : ℕ
   pub seed : ℕ
+  pub manner : Manner
 
 -- what the words ask for: a run, the canonical text of a script, whether a script is accepted, or a
 -- trial
@@ -36,6 +49,11 @@ script_in (Format name) = Some name
 script_in (Check name) = Some name
 script_in (Trial trial) = None
 
+-- the command may save files
+abbrev pub may_save : Option Command → Bool
+may_save (Some (Run run)) = true
+may_save _ = false
+
 -- the mode is built
 abbrev pub is_built_mode : Mode → Bool
 is_built_mode mode.Resume = false
@@ -44,26 +62,39 @@ is_built_mode _ = true
 
 -- the line asks for nothing that is not built yet
 abbrev pub built : Line → Bool
-built line =
-    is_built_mode line.mode && (not (is_some line.cuts) && (not (is_some line.order)
-    && (not (is_some line.epoch) && (not (is_some line.save) && (not line.invert
-    && (not line.stats && unwrap_or line.workers 1 == 1))))))
+built line = is_built_mode line.mode && (unwrap_or line.workers 1 == 1)
+
+-- how a line's run is worked: in epochs of 16 ticks and by the order of 0, where it says nothing
+abbrev pub manner_of : Line → Manner
+manner_of line = record {
+  epoch = unwrap_or line.epoch 16;
+  order = unwrap_or line.order 0;
+  invert = line.invert;
+  stats = line.stats;
+}
 
 -- the run that a line asks for, where it names the script, the agent file and the last tick
 abbrev pub run_of : Line → Option (List ℕ) → Option (List ℕ) → Option ℕ → Option Command
 run_of line (Some script) (Some agents) (Some ticks) = Some (Run (record {
   script = script;
   agents = agents;
+  cuts = line.cuts;
+  save = line.save;
   ticks = ticks;
   seed = unwrap_or line.seed 0;
   every = unwrap_or line.every 1;
+  manner = manner_of line;
 }))
 run_of line _ _ _ = None
 
 -- the trial that a line asks for, where it says how many agents are made, and the last tick
 abbrev pub trial_of : Line → Option ℕ → Option ℕ → Option Command
-trial_of line (Some count) (Some ticks) =
-    Some (Trial (record { count = count; ticks = ticks; seed = unwrap_or line.seed 0 }))
+trial_of line (Some count) (Some ticks) = Some (Trial (record {
+  count = count;
+  ticks = ticks;
+  seed = unwrap_or line.seed 0;
+  manner = manner_of line;
+}))
 trial_of line _ _ = None
 
 -- what a line of a mode asks for

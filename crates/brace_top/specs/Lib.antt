@@ -3,6 +3,8 @@ pub mod Commands
 pub mod Messages
 pub mod Outcome
 pub mod Places
+pub mod Restarts
+pub mod Savings
 pub mod Scripts
 pub mod Status
 pub mod Trials

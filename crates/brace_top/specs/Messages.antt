@@ -6,6 +6,8 @@ use Rattle.brace_num.specs.Spelling.{canonical_count}
 use Rattle.brace_top.specs.declared.script_fault.ScriptKind.{ScriptKind}
 use Rattle.brace_top.specs.declared.script_fault.ScriptKind.TheVariants as kind
 use Rattle.brace_names.specs.declared.fault.Which.{Which}
+use Rattle.brace_cuts.specs.declared.kinds.PlanKind.{PlanKind}
+use Rattle.brace_cuts.specs.declared.kinds.PlanKind.TheVariants as plan
 use Rattle.brace_rows.specs.declared.kinds.RowKind.{RowKind}
 use Rattle.brace_rows.specs.declared.kinds.RowKind.TheVariants as row
 use Rattle.brace_names.specs.declared.fault.Which.TheVariants as which
@@ -70,6 +72,32 @@ abbrev pub record_message : List ℕ → ℕ → RowKind → List ℕ
 record_message name number kind =
     named_message name
     (codes ": record " ++ (canonical_count number ++ (codes ": " ++ row_word kind)))
+
+-- the word of a plan line's refusal
+abbrev pub plan_word : PlanKind → List ℕ
+plan_word plan.BadLine = codes "BadLine"
+plan_word plan.NotRising = codes "NotRising"
+plan_word plan.OffEpoch = codes "OffEpoch"
+plan_word plan.OtherCount = codes "OtherCount"
+plan_word plan.TooMany = codes "TooMany"
+
+-- the message that names a line of a cut plan, counted from 1: `brace: NAME: line N: KIND`
+abbrev pub line_message : List ℕ → ℕ → PlanKind → List ℕ
+line_message name number kind =
+    named_message name
+    (codes ": line " ++ (canonical_count number ++ (codes ": " ++ plan_word kind)))
+
+-- the message where a file was not saved
+abbrev pub save_fault_message : List ℕ → List ℕ
+save_fault_message name = named_message name (codes ": save fault")
+
+-- the counts of a run: `stats border B effects E moved M handed H`
+abbrev pub stats_message : ℕ → ℕ → ℕ → ℕ → List ℕ
+stats_message border effects moved handed =
+    codes "stats border " ++ (canonical_count border
+    ++ (codes " effects " ++ (canonical_count effects
+    ++ (codes " moved " ++ (canonical_count moved
+    ++ (codes " handed " ++ (canonical_count handed ++ 10 ∷ [])))))))
 
 -- the message where the words are no command
 abbrev pub usage_message : List ℕ

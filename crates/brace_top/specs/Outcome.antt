@@ -1,39 +1,47 @@
--- What a command comes to with no fault of the outside and with ample memory: its status and its
--- texts.
-use Rattle.std.specs.Prelude.{◌≡◌, ◌⊎◌, ℕ, List, [], length, nat_lt, codes, Bool, true, false, if◌then◌else◌, Option, Some, None, Result, Ok, Err}
+-- What a command comes to with no fault of the outside and with ample memory: its status, its texts
+-- and the files that it saves.
+use Rattle.std.specs.Prelude.{◌≡◌, ◌⊎◌, ℕ, ◌^◌, List, [], ◌∷◌, length, nat_lt, codes, Bool, true, false, if◌then◌else◌, Option, Some, None, Result, Ok, Err}
 use Rattle.brace_io.specs.Shelves.{Files}
 use Rattle.brace_model.specs.declared.program.Program.{Program}
 use Rattle.brace_model.specs.declared.fault.Fault.{Fault}
-use Rattle.brace_model.specs.declared.job.Job.{Job}
+use Rattle.brace_cuts.specs.declared.plan.CutPlan.{CutPlan}
+use Rattle.brace_cuts.specs.declared.kinds.PlanKind.{PlanKind}
+use Rattle.brace_cuts.specs.CutPlans as plan_file
 use Rattle.brace_model.specs.Next.{has_births}
 use Rattle.brace_model.specs.World.{World, world_of}
 use Rattle.brace_model.specs.Run.{end_of, first_fault}
 use Rattle.brace_model.specs.Published.{published}
+use Rattle.brace_pieces.specs.declared.setting.Setting.{Setting}
+use Rattle.brace_pieces.specs.Counts.{count_border, count_effects, count_moved, count_handed}
+use Rattle.brace_crew.specs.Sums.{sums_of}
 use Rattle.brace_show.specs.Canonical.{canonical}
 use Rattle.brace_syntax.specs.declared.tree.Tree.{Tree}
 use Rattle.brace_top.specs.declared.status.Status.{Status}
-use Rattle.brace_top.specs.declared.status.Status.TheVariants.{Done, Usage, Script, Agents, Absent}
+use Rattle.brace_top.specs.declared.status.Status.TheVariants.{Done, Usage, Script, Agents, Plan, Absent}
 use Rattle.brace_top.specs.declared.status.Status.TheVariants as ended_by
-use Rattle.brace_top.specs.declared.limits.TheConstants.{SCRIPT_LIMIT, AGENTS_LIMIT}
+use Rattle.brace_top.specs.declared.limits.TheConstants.{SCRIPT_LIMIT, AGENTS_LIMIT, PLAN_LIMIT}
 use Rattle.brace_top.specs.declared.trial.TheConstants.{TRIAL_SCRIPT}
 use Rattle.brace_top.specs.Commands.{Command, RunCommand, TrialCommand, Run, Format, Check, Trial, command_of, script_in}
 use Rattle.brace_top.specs.declared.script_fault.ScriptFault.{ScriptFault}
 use Rattle.brace_top.specs.declared.script_fault.ScriptFault.TheVariants as fault
 use Rattle.brace_top.specs.declared.script_fault.ScriptKind.{ScriptKind}
 use Rattle.brace_top.specs.declared.script_fault.ScriptKind.TheVariants.{NoReading}
-use Rattle.brace_top.specs.Messages.{named_message, placed_message, record_message, script_word, usage_message, fault_message}
+use Rattle.brace_top.specs.Messages.{named_message, placed_message, record_message, line_message, script_word, usage_message, fault_message, stats_message}
 use Rattle.brace_top.specs.Places.{line_number, column_number}
 use Rattle.brace_top.specs.Scripts.{IsTree, Means, NoTree, Refuses}
-use Rattle.brace_top.specs.Trials.{trial_line}
+use Rattle.brace_top.specs.Savings.{Saving, savings}
+use Rattle.brace_top.specs.Trials.{trial_plan, trial_line}
 use Rattle.brace_rows.specs.declared.kinds.RowKind.{RowKind}
 use Rattle.brace_rows.specs.AgentFile as file
 use Rattle.brace_rows.specs.MadeAgents.{made_agents}
 
--- the status, all of the text on standard output, and the message on standard error
+-- the status, all of the text on standard output, the message on standard error, and the files that
+-- are saved, in order
 pub record Outcome : Type 0 where
   pub status : Status
   pub out : List ℕ
   pub err : List ℕ
+  pub saved : List Saving
 
 -- why a named file is refused: the status and the message
 pub record Refusal : Type 0 where
@@ -106,29 +114,62 @@ abbrev pub agents_of : Files → Program → List ℕ → Result World Refusal
 agents_of files program name =
     world_from program name (loaded Agents AGENTS_LIMIT name (files name))
 
--- the job of a run from tick 0
-abbrev pub job_of : RunCommand → Program → World → Job
-job_of run program start = record {
-  program = program;
-  seed = run.seed;
-  first = 0;
-  last = run.ticks;
-  every = run.every;
-  start = start;
+-- a plan, unless a line of its file is faulty: the number of the first one, and its kind
+abbrev pub unless_bad : List ℕ → CutPlan → Option (ℕ × PlanKind) → Result CutPlan Refusal
+unless_bad name plan None = Ok plan
+unless_bad name plan (Some (number, kind)) =
+    Err (record { status = Plan; message = line_message name number kind })
+
+-- the plan of the bytes of a cut plan, or the refusal of its first faulty line
+abbrev pub plan_from : ℕ → List ℕ → Result (List ℕ) Refusal → Result CutPlan Refusal
+plan_from epoch name (Err r) = Err r
+plan_from epoch name (Ok bytes) =
+    let texts = plan_file.lines_of bytes in
+    unless_bad name (record { lines = plan_file.lines_in texts })
+    (plan_file.first_fault epoch texts)
+
+-- the plane in one part
+abbrev pub whole_plane : CutPlan
+whole_plane = record { lines = record { tick = 0; cuts = record { xs = []; ys = [] } } ∷ [] }
+
+-- the plan of a cut plan within its limit, or the whole plane where none is named
+abbrev pub plan_of : Files → ℕ → Option (List ℕ) → Result CutPlan Refusal
+plan_of files epoch None = Ok whole_plane
+plan_of files epoch (Some name) = plan_from epoch name (loaded Plan PLAN_LIMIT name (files name))
+
+-- the setting of a run from tick 0
+abbrev pub setting_of : RunCommand → Program → World → CutPlan → Setting
+setting_of run program start plan = record {
+  job = record {
+    program = program;
+    seed = run.seed;
+    first = 0;
+    last = run.ticks;
+    every = run.every;
+    start = start;
+  };
+  cuts = plan;
+  epoch = run.manner.epoch;
+  invert = run.manner.invert;
 }
 
 -- a command that is refused: nothing is written, and why
 abbrev pub refused : Refusal → Outcome
-refused r = record { status = r.status; out = []; err = r.message }
+refused r = record { status = r.status; out = []; err = r.message; saved = [] }
 
 -- a text that is written whole
 abbrev pub shown : List ℕ → Outcome
-shown text = record { status = Done; out = text; err = [] }
+shown text = record { status = Done; out = text; err = []; saved = [] }
 
 -- the outcome of what follows on a file that is accepted, or its refusal
 abbrev pub followed_by : {A : Type 0} → (A → Outcome) → Result A Refusal → Outcome
 followed_by next (Err r) = refused r
 followed_by next (Ok a) = next a
+
+-- the counts of a run, where they are to be told
+abbrev pub stats_of : Bool → Setting → List ℕ
+stats_of true s = stats_message (count_border s) (count_effects s) (count_moved s) (count_handed s)
+stats_of false s = []
 
 -- the status of a run that reaches its last tick, or ends in its first fault
 abbrev pub end_status : Option Fault → Status
@@ -136,44 +177,66 @@ end_status None = Done
 end_status (Some f) = ended_by.Fault
 
 -- the message of such a run
-abbrev pub end_message : Option Fault → List ℕ
-end_message None = []
-end_message (Some f) = fault_message f
+abbrev pub end_message : Bool → Setting → Option Fault → List ℕ
+end_message stats s None = stats_of stats s
+end_message stats s (Some f) = fault_message f
 
--- a run that ended, with the text that it published
-abbrev pub ended : List ℕ → Option Fault → Outcome
-ended text found = record { status = end_status found; out = text; err = end_message found }
+-- the outcome of a run: its published text, and the worlds of its ends
+abbrev pub ran : Bool → Option (List ℕ) → Bool → Setting → Outcome
+ran stats save fresh s =
+    let found = first_fault s.job in
+    record {
+      status = end_status found;
+      out = published s.job fresh;
+      err = end_message stats s found;
+      saved = savings save fresh s;
+    }
 
--- the outcome of a job
-abbrev pub ran : Job → Outcome
-ran job = ended (published job true) (first_fault job)
+-- the outcome of a run of a program from a world
+abbrev pub run_from : Files → RunCommand → Program → World → Outcome
+run_from files run program start =
+    followed_by (λ plan. ran run.manner.stats run.save true (setting_of run program start plan))
+    (plan_of files run.manner.epoch run.cuts)
 
 -- the outcome of a run of a program, of which one with births is refused, as none is run yet
 abbrev pub run_outcome : Files → RunCommand → Program → Outcome
 run_outcome files run program =
     if has_births program then refused (refusal Script run.script (codes ": NotThin"))
-    else followed_by (λ start. ran (job_of run program start)) (agents_of files program run.agents)
+    else followed_by (run_from files run program) (agents_of files program run.agents)
 
--- the job of a trial from tick 0, over made agents
-abbrev pub trial_job : TrialCommand → Program → Job
-trial_job trial program = record {
-  program = program;
-  seed = trial.seed;
-  first = 0;
-  last = trial.ticks;
-  every = 1;
-  start = world_of (made_agents trial.seed trial.count);
+-- the setting of a trial from tick 0, over made agents; of the ticks before its last one only those
+-- at which epochs end, and some that 2^32 divides, are shown
+abbrev pub trial_setting : TrialCommand → Program → Setting
+trial_setting trial program = record {
+  job = record {
+    program = program;
+    seed = trial.seed;
+    first = 0;
+    last = trial.ticks;
+    every = 2 ^ 32;
+    start = world_of (made_agents trial.seed trial.count);
+  };
+  cuts = trial_plan trial.manner.epoch;
+  epoch = trial.manner.epoch;
+  invert = trial.manner.invert;
 }
 
 -- the outcome of a trial: the line of its last world, or its first fault with no text
-abbrev pub trial_end : TrialCommand → Program → Result World Fault → Outcome
-trial_end trial program (Ok world) =
-    shown (trial_line trial.count trial.ticks program world.agents)
-trial_end trial program (Err f) = ended [] (Some f)
+abbrev pub trial_end : TrialCommand → Setting → Result World Fault → Outcome
+trial_end trial s (Ok world) = record {
+  status = Done;
+  out = trial_line trial.count trial.ticks (sums_of s.job.program world.agents);
+  err = stats_of trial.manner.stats s;
+  saved = [];
+}
+trial_end trial s (Err f) =
+    record { status = ended_by.Fault; out = []; err = fault_message f; saved = [] }
 
 -- the outcome of a trial of a program
 abbrev pub trial_outcome : TrialCommand → Program → Outcome
-trial_outcome trial program = trial_end trial program (end_of (trial_job trial program))
+trial_outcome trial program =
+    let s = trial_setting trial program in
+    trial_end trial s (end_of s.job)
 
 -- an outcome of what follows on one of the things that a script comes to
 pub record Follows {A : Type 0} (comes_to : Result A Refusal → Type 0) (next : A → Outcome)
@@ -184,7 +247,8 @@ pub record Follows {A : Type 0} (comes_to : Result A Refusal → Type 0) (next :
 
 -- an outcome of a command, or of words that are none
 abbrev pub CommandOutcome : Files → Option Command → Outcome → Type 0
-CommandOutcome files None o = o ≡ record { status = Usage; out = []; err = usage_message }
+CommandOutcome files None o =
+    o ≡ record { status = Usage; out = []; err = usage_message; saved = [] }
 CommandOutcome files (Some (Run run)) o =
     Follows (ProgramOf files run.script) (run_outcome files run) o
 CommandOutcome files (Some (Format name)) o =
@@ -211,9 +275,13 @@ abbrev pub SameMessage : List ℕ → List ℕ → Type 0
 SameMessage a b = (a ≡ b) ⊎ AreNoReadings a b
 
 -- a command reads the file of this name where every file before it is accepted: its script, then
--- the agents of a run
+-- the agents and the cut plan of a run
 pub data Reads (files : Files) : Option Command → List ℕ → Type 0 where
   reads_script : (command : Command) (name : List ℕ) → script_in command ≡ Some name
       → Reads files (Some command) name
   reads_agents : (run : RunCommand) (program : Program) → ProgramOf files run.script (Ok program)
       → has_births program ≡ false → Reads files (Some (Run run)) run.agents
+  reads_plan : (run : RunCommand) (program : Program) (start : World) (name : List ℕ)
+      → ProgramOf files run.script (Ok program) → has_births program ≡ false
+      → agents_of files program run.agents ≡ Ok start → run.cuts ≡ Some name
+      → Reads files (Some (Run run)) name

@@ -1,25 +1,36 @@
--- A trial: the program's own script, and the line that tells its last world.
-use Rattle.std.specs.Prelude.{ℕ, List, [], ◌∷◌, ◌++◌, fold, codes, unwrap_or, option_map, ℤ, pos, ◌+ℤ◌}
+-- A trial: the cut plan of the program's own script, and the line that tells its last world.
+use Rattle.std.specs.Prelude.{ℕ, ◌*◌, List, [], ◌∷◌, ◌++◌, codes, map, ℤ, pos, ◌+ℤ◌}
 use Rattle.brace_num.specs.Spelling.{canonical_count, canonical_int}
-use Rattle.brace_model.specs.declared.program.Class.{Class}
-use Rattle.brace_model.specs.declared.program.Program.{Program}
-use Rattle.brace_model.specs.declared.world.Agent.{Agent}
-use Rattle.brace_model.specs.World.{class_of, x_of, y_of}
+use Rattle.brace_cuts.specs.declared.plan.CutLine.{CutLine}
+use Rattle.brace_cuts.specs.declared.plan.CutPlan.{CutPlan}
 
--- the coordinate of an agent, along x or along y
-abbrev pub place_along : (Class → Agent → ℤ) → Program → Agent → ℤ
-place_along along program a = unwrap_or (option_map (λ c. along c a) (class_of program a)) (pos 0)
+-- eight strips of the same breadth: the cuts along x at 125, 250 up to 875 units, in millionths
+abbrev pub strips : List ℤ
+strips =
+    pos 125000000 ∷ pos 250000000 ∷ pos 375000000 ∷ pos 500000000 ∷ pos 625000000
+    ∷ pos 750000000 ∷ pos 875000000 ∷ []
 
--- the sum of a number over agents, which is exact
-abbrev pub sum_of : (Agent → ℤ) → List Agent → ℤ
-sum_of number agents = fold (λ total a. total +ℤ number a) (pos 0) agents
+-- a line of a plan that cuts the plane along x alone
+abbrev pub along_x : ℕ → List ℤ → CutLine
+along_x tick xs = record { tick = tick; cuts = record { xs = xs; ys = [] } }
+
+-- the plane in eight strips; from the end of the first epoch on, their cuts lie 5 units further,
+-- and from the end of the second on where they lay
+abbrev pub trial_plan : ℕ → CutPlan
+trial_plan epoch = record {
+  lines =
+      along_x 0 strips
+      ∷ along_x epoch (map (λ x. x +ℤ pos 5000000) strips)
+      ∷ along_x (2 * epoch) strips
+      ∷ [];
+}
 
 -- `trial agents N ticks T x SX y SY` and a line feed, with the sums of x and of y over the agents
 -- of a world, in millionths
-abbrev pub trial_line : ℕ → ℕ → Program → List Agent → List ℕ
-trial_line count ticks program agents =
+abbrev pub trial_line : ℕ → ℕ → ℤ × ℤ → List ℕ
+trial_line count ticks sums =
     codes "trial agents " ++ canonical_count count
     ++ codes " ticks " ++ canonical_count ticks
-    ++ codes " x " ++ canonical_int (sum_of (place_along x_of program) agents)
-    ++ codes " y " ++ canonical_int (sum_of (place_along y_of program) agents)
+    ++ codes " x " ++ canonical_int sums.0
+    ++ codes " y " ++ canonical_int sums.1
     ++ 10 ∷ []

@@ -19,7 +19,7 @@ pub struct Answer {
 /// Why a command goes no further.
 #[derive(Debug, Drop)]
 pub enum Stopped {
-    /// A file is refused.
+    /// A file is refused, or was not saved.
     Refused(Answer),
     /// A write to standard output failed.
     WriteFault,

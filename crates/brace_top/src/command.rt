@@ -1,9 +1,9 @@
 ghost use Rattle.std.specs.Prelude.{◌≡◌, ◌⊎◌, map, string_bytes, IfSome, IsSome, None, true, false};
 ghost use Rattle.brace_io.specs.Shelves.{Idle, writes};
-ghost use Rattle.brace_top.specs.Answer.{IsAnswered, IsSaid, call_of, CountsReads, CountsWrites, shelf_call, sink_call};
-ghost use Rattle.brace_top.specs.Commands.{command_of};
+ghost use Rattle.brace_top.specs.Answer.{IsAnswered, IsSaid, call_of, CountsShelf, CountsReads, CountsWrites, shelf_call, sink_call};
+ghost use Rattle.brace_top.specs.Commands.{command_of, may_save};
 ghost use Rattle.brace_top.specs.Messages.{usage_message};
-ghost use Rattle.brace_top.specs.Status.{has_run, is_refusal, status_of, code_of};
+ghost use Rattle.brace_top.specs.Status.{has_run, is_refusal, saves_nothing, status_of, code_of};
 
 use crate::answer::{Stopped, say, tell};
 use crate::flow::answer_command;
@@ -39,12 +39,14 @@ fn carry_out<S: Shelf, O: Sink, E: Sink>(
     ensures usage { result ≡ Status.Usage → command_of (map string_bytes words.now) ≡ None }
     ensures no_command { command_of (map string_bytes words.now) ≡ None
         → (result ≡ Status.Usage) ⊎ (result ≡ Status.NoMemory) }
-    ensures reads { CountsReads (shelf_call S.Shelf shelf.old shelf.new) result }
+    ensures counts { CountsShelf (shelf_call S.Shelf shelf.old shelf.new) result }
+    ensures reads { may_save (command_of (map string_bytes words.now)) ≡ false
+        → CountsReads (shelf_call S.Shelf shelf.old shelf.new) result }
     ensures writes { CountsWrites (sink_call O.Sink out.old out.new) result }
     ensures untouched { is_refusal result ≡ true → out.new ≡ out.old }
     ensures untouched_by_usage { result ≡ Status.Usage → out.new ≡ out.old }
     ensures clean { has_run result ≡ true → O.clean out.new ≡ true }
-    ensures held { S.held shelf.new ≡ S.held shelf.old }
+    ensures unsaved { saves_nothing result ≡ true → S.held shelf.new ≡ S.held shelf.old }
     ensures not_writing { writes (S.stage shelf.new) ≡ false }
 {
     let line = match read_line(alloc, words) {
@@ -65,16 +67,17 @@ fn carry_out<S: Shelf, O: Sink, E: Sink>(
 /// |---|---|
 /// | 0 | all was written |
 /// | 2 | the words are no line, or ask for what is not [`built`](crate::built) yet |
-/// | 3, 4 | the script, the agent file is refused |
+/// | 3, 4, 5 | the script, the agent file, the cut plan is refused |
 /// | 7 | the run ended in a fault before its last tick |
 /// | 8 | a read failed |
 /// | 9 | a write to `out` failed |
+/// | 10 | a file was not saved |
 /// | 11 | the allocator refused memory |
 /// | 12 | a named file is not held |
 ///
-/// `words` are those after the program's name. A file is read from `shelf`, rows or the canonical
-/// text go to `out`, and one line for each status other than 0 goes to `err`, whose faults change
-/// no status.
+/// `words` are those after the program's name. Files are read from `shelf` and saved there, rows or
+/// the canonical text go to `out`, and one line for each status other than 0 goes to `err`, whose
+/// faults change no status; with 0 it is the line of the counts, where they are asked for.
 pub fn run_alone<S: Shelf, O: Sink, E: Sink>(
     alloc: Global,
     words: &[String],
@@ -92,7 +95,10 @@ pub fn run_alone<S: Shelf, O: Sink, E: Sink>(
         (λ code. code ≡ 2 → command_of (map string_bytes words.now) ≡ None) }
     ensures no_command { command_of (map string_bytes words.now) ≡ None
         → IfSome result (λ code. (code ≡ 2) ⊎ (code ≡ 11)) }
-    ensures reads { IfSome result
+    ensures counts { IfSome result
+        (λ code. CountsShelf (shelf_call S.Shelf shelf.old shelf.new) (status_of code)) }
+    ensures reads { may_save (command_of (map string_bytes words.now)) ≡ false
+        → IfSome result
         (λ code. CountsReads (shelf_call S.Shelf shelf.old shelf.new) (status_of code)) }
     ensures writes { IfSome result
         (λ code. CountsWrites (sink_call O.Sink out.old out.new) (status_of code)) }
@@ -101,7 +107,8 @@ pub fn run_alone<S: Shelf, O: Sink, E: Sink>(
     ensures untouched_by_usage { IfSome result (λ code. code ≡ 2 → out.new ≡ out.old) }
     ensures clean { IfSome result
         (λ code. has_run (status_of code) ≡ true → O.clean out.new ≡ true) }
-    ensures held { S.held shelf.new ≡ S.held shelf.old }
+    ensures unsaved { IfSome result (λ code. saves_nothing (status_of code) ≡ true
+        → S.held shelf.new ≡ S.held shelf.old) }
     ensures not_writing { writes (S.stage shelf.new) ≡ false }
 {
     Some(carry_out(err, alloc, words, shelf, out).code())
@@ -126,12 +133,15 @@ pub fn run<R: Threads + Wait + Sync, S: Shelf + Send, O: Sink + Send, E: Sink, G
     ensures usage { result ≡ 2 → command_of (map string_bytes words.now) ≡ None }
     ensures no_command { command_of (map string_bytes words.now) ≡ None
         → (result ≡ 2) ⊎ (result ≡ 11) }
-    ensures reads { CountsReads (shelf_call S.Shelf shelf.old shelf.new) (status_of result) }
+    ensures counts { CountsShelf (shelf_call S.Shelf shelf.old shelf.new) (status_of result) }
+    ensures reads { may_save (command_of (map string_bytes words.now)) ≡ false
+        → CountsReads (shelf_call S.Shelf shelf.old shelf.new) (status_of result) }
     ensures writes { CountsWrites (sink_call O.Sink out.old out.new) (status_of result) }
     ensures untouched { is_refusal (status_of result) ≡ true → out.new ≡ out.old }
     ensures untouched_by_usage { result ≡ 2 → out.new ≡ out.old }
     ensures clean { has_run (status_of result) ≡ true → O.clean out.new ≡ true }
-    ensures held { S.held shelf.new ≡ S.held shelf.old }
+    ensures unsaved { saves_nothing (status_of result) ≡ true
+        → S.held shelf.new ≡ S.held shelf.old }
     ensures not_writing { writes (S.stage shelf.new) ≡ false }
 {
     match run_alone(alloc, words, shelf, out, err) {

@@ -1,66 +1,40 @@
 //! How each command is carried out.
-ghost use Rattle.std.specs.Prelude.{◌≡◌, ◌≤◌, ◌^◌, [], Some, IfOk, IfErr, true, false};
+ghost use Rattle.std.specs.Prelude.{◌≡◌, ◌≤◌, [], option_map, Err, true, false};
 ghost use Rattle.brace_io.specs.Shelves.{writes};
-ghost use Rattle.brace_model.specs.Lawful.{LawfulProgram};
-ghost use Rattle.brace_top.specs.Answer.{sink_call};
-ghost use Rattle.brace_top.specs.Commands as asked;
+ghost use Rattle.brace_model.specs.Next.{has_births};
 ghost use Rattle.brace_model.specs.Run.{end_of};
-ghost use Rattle.brace_top.specs.Outcome.{shown, ended, end_status, end_message, ran, job_of, trial_end};
+ghost use Rattle.brace_pieces.specs.declared.setting.Setting.{Setting};
+ghost use Rattle.brace_pieces.specs.Settings.{LawfulSetting};
+ghost use Rattle.brace_top.specs.Answer.{CountsWrites, sink_call};
+ghost use Rattle.brace_top.specs.Commands as asked;
+ghost use Rattle.brace_top.specs.Outcome.{shown, setting_of, ran, trial_end};
 ghost use Rattle.brace_top.specs.Status.{has_run};
-ghost use Rattle.brace_top.specs.inner.Settled.{IsCarriedOut, IsServed, is_work, status_in, message_in};
+ghost use Rattle.brace_top.specs.Trials.{trial_line};
+ghost use Rattle.brace_top.specs.inner.Settled.{IsServed, IsWritten, told_counts, is_plain_work, outcome_of, status_in, message_in};
 ghost use Rattle.brace_top.specs.inner.Words.{said, said_run, said_trial, IsInRange, IsRunInRange, IsTrialInRange};
 
 use crate::answer::{Answer, Stopped, refuse_file};
-use crate::job::run_ticks;
-use crate::load::{load_program, load_tree, load_trial, load_world};
-use crate::messages::fault_message;
+use crate::load::{load_cuts, load_program, load_tree, load_trial, load_world};
 use crate::status::Status;
-use crate::trial::{end_of, trial_job, trial_line};
+use crate::task::{Task, done, faulted, run_task};
+use crate::trial::{has_four_fixed, trial_line, trial_setting};
 use crate::words::{Command, RunCommand, TrialCommand};
+use brace_core::PlainLanes;
+use brace_crew::{CrewFault, SumPublisher, crew_run_alone};
+use brace_cuts::CutPlan;
 use brace_io::{Shelf, Sink, write_whole};
 use brace_model::{Fault, Job, Program, World, has_births};
+use brace_part::Counts;
+use brace_pieces::Setting;
 use brace_show::show;
 use std::alloc::Global;
 
-/// The answer of a run that ended, with the fault in which it ended, if any.
-fn ended(alloc: Global, found: Option<Fault>) -> Result<Answer, Stopped>
-    ensures status { IfOk result (λ answer. answer.status ≡ end_status found) }
-    ensures message { IfOk result (λ answer. answer.message.items ≡ end_message found) }
-    ensures refused { IfErr result (λ stopped. stopped ≡ Stopped.NoMemory) }
-{
-    match found {
-        None => Ok(Answer {
-            status: Status::Done,
-            message: Vec::new(alloc),
-        }),
-        Some(fault) => Ok(Answer {
-            status: Status::Fault,
-            message: fault_message(alloc, &fault)?,
-        }),
-    }
-}
-
-/// Runs a job from tick 0, and hands the sink on what was written.
-fn run_whole<O: Sink>(alloc: Global, job: &Job, out: &mut O) -> Result<Answer, Stopped>
-    requires lawful { LawfulProgram job.now.program }
-    requires fresh { job.now.first ≡ 0 }
-    requires ticks { job.now.last ≤ 2 ^ 32 }
-    requires every { 1 ≤ job.now.every }
-    ensures carried_out { IsCarriedOut (λ o. o ≡ ran job.now) (sink_call O.Sink out.old out.new)
-        (message_in result) (status_in result) }
-    ensures work { is_work (status_in result) ≡ true }
-    ensures clean { has_run (status_in result) ≡ true → O.clean out.new ≡ true }
-{
-    let found = run_ticks(alloc, job, out)?;
-    out.flush()?;
-    ended(alloc, found)
-}
-
 /// Writes a text that is all that a command writes.
 fn write_text<O: Sink>(alloc: Global, text: &[u8], out: &mut O) -> Result<Answer, Stopped>
-    ensures carried_out { IsCarriedOut (λ o. o ≡ shown text.now) (sink_call O.Sink out.old out.new)
+    ensures written { IsWritten (λ o. o ≡ shown text.now) (sink_call O.Sink out.old out.new)
         (message_in result) (status_in result) }
-    ensures work { is_work (status_in result) ≡ true }
+    ensures work { is_plain_work (status_in result) ≡ true }
+    ensures writes { CountsWrites (sink_call O.Sink out.old out.new) (status_in result) }
     ensures clean { has_run (status_in result) ≡ true → O.clean out.new ≡ true }
 {
     write_whole(out, text)?;
@@ -71,17 +45,31 @@ fn write_text<O: Sink>(alloc: Global, text: &[u8], out: &mut O) -> Result<Answer
     })
 }
 
-/// The job of a run.
-fn job_of(run: &RunCommand, program: Program, start: World) -> Job
-    ensures { result ≡ job_of (said_run run.now) program start }
+/// A run from tick 0 that can begin.
+fn task_of<'a>(run: &RunCommand<'a>, program: Program, start: World, cuts: CutPlan) -> Task<'a>
+    ensures setting { result.setting ≡ setting_of (said_run run.now) program start cuts }
+    ensures outcome { outcome_of result ≡ ran run.now.manner.stats
+        (option_map (λ name. name.now) run.now.save) true result.setting }
 {
-    Job {
+    let job = Job {
         program,
         seed: run.seed,
         first: 0,
         last: run.ticks,
         every: run.every,
         start,
+    };
+    Task {
+        setting: Setting {
+            job,
+            cuts,
+            epoch: run.manner.epoch,
+            invert: run.manner.invert,
+        },
+        order: run.manner.order,
+        fresh: true,
+        save: run.save,
+        stats: run.manner.stats,
     }
 }
 
@@ -96,7 +84,6 @@ fn run_script<S: Shelf, O: Sink>(
     requires range { IsRunInRange run.now }
     ensures served { IsServed S.Shelf O.Sink (asked.Run (said_run run.now))
         shelf.old shelf.new out.old out.new result }
-    ensures held { S.held shelf.new ≡ S.held shelf.old }
     ensures not_writing { writes (S.stage shelf.new) ≡ false }
 {
     let program = load_program(alloc, shelf, run.script)?;
@@ -104,7 +91,8 @@ fn run_script<S: Shelf, O: Sink>(
         return Err(refuse_file(alloc, run.script, Status::Script, b": NotThin"));
     }
     let start = load_world(alloc, shelf, &program, run.agents)?;
-    run_whole(alloc, &job_of(run, program, start), out)
+    let cuts = load_cuts(alloc, shelf, run.cuts, run.manner.epoch)?;
+    run_task(alloc, &task_of(run, program, start, cuts), shelf, out)
 }
 
 /// Writes the canonical text of a script.
@@ -142,44 +130,73 @@ fn check_script<S: Shelf, O: Sink>(
     write_text(alloc, b"", out)
 }
 
-/// Ends a run that published nothing in its fault.
-fn end_in_fault<O: Sink>(alloc: Global, fault: Fault, out: &mut O) -> Result<Answer, Stopped>
-    ensures carried_out { IsCarriedOut (λ o. o ≡ ended [] (Some fault))
+/// Writes the line of a trial that came to its last tick.
+fn tell_trial<O: Sink>(
+    alloc: Global,
+    trial: &TrialCommand,
+    sums: (i128, i128),
+    counts: &Counts,
+    out: &mut O,
+) -> Result<Answer, Stopped>
+    ensures written { IsWritten (λ o. o ≡ (record {
+      status = Status.Done;
+      out = trial_line trial.now.count trial.now.ticks sums;
+      err = told_counts trial.now.manner.stats counts.now;
+      saved = [];
+    })) (sink_call O.Sink out.old out.new) (message_in result) (status_in result) }
+    ensures work { is_plain_work (status_in result) ≡ true }
+    ensures writes { CountsWrites (sink_call O.Sink out.old out.new) (status_in result) }
+    ensures clean { has_run (status_in result) ≡ true → O.clean out.new ≡ true }
+{
+    let line = trial_line(alloc, trial, sums)?;
+    let answer = done(alloc, trial.manner.stats, counts)?;
+    write_whole(out, line.as_slice())?;
+    out.flush()?;
+    Ok(answer)
+}
+
+/// Ends a trial in its fault; nothing is written.
+fn end_in_fault<O: Sink>(alloc: Global, fault: &Fault, out: &mut O) -> Result<Answer, Stopped>
+    ensures written { (trial : asked.TrialCommand) (s : Setting) → IsWritten
+        (λ o. o ≡ trial_end trial s (Err fault.now))
         (sink_call O.Sink out.old out.new) (message_in result) (status_in result) }
-    ensures work { is_work (status_in result) ≡ true }
+    ensures work { is_plain_work (status_in result) ≡ true }
+    ensures writes { CountsWrites (sink_call O.Sink out.old out.new) (status_in result) }
     ensures clean { has_run (status_in result) ≡ true → O.clean out.new ≡ true }
 {
     out.flush()?;
-    ended(alloc, Some(fault))
+    faulted(alloc, fault)
 }
 
-/// Runs the job of a trial, and writes the line of its last world.
+/// Runs the setting of a trial by its parts, and writes the line of its last world.
 fn end_trial<O: Sink>(
     alloc: Global,
     trial: &TrialCommand,
-    job: &Job,
+    setting: &Setting,
     out: &mut O,
 ) -> Result<Answer, Stopped>
-    requires lawful { LawfulProgram job.now.program }
-    requires fresh { job.now.first ≡ 0 }
-    requires ticks { job.now.last ≤ 2 ^ 32 }
-    ensures carried_out { IsCarriedOut
-        (λ o. o ≡ trial_end (said_trial trial.now) job.now.program (end_of job.now))
+    requires lawful { LawfulSetting setting.now }
+    requires childless { has_births setting.now.job.program ≡ false }
+    requires begins { setting.now.job.first ≤ setting.now.job.last }
+    ensures written { IsWritten
+        (λ o. o ≡ trial_end (said_trial trial.now) setting.now (end_of setting.now.job))
         (sink_call O.Sink out.old out.new) (message_in result) (status_in result) }
-    ensures work { is_work (status_in result) ≡ true }
+    ensures work { is_plain_work (status_in result) ≡ true }
+    ensures writes { CountsWrites (sink_call O.Sink out.old out.new) (status_in result) }
     ensures clean { has_run (status_in result) ≡ true → O.clean out.new ≡ true }
 {
-    let end = end_of(alloc, job)?;
-    match end {
-        Ok(world) => {
-            let line = trial_line(alloc, trial, &job.program, world.agents())?;
-            write_text(alloc, line.as_slice(), out)
-        }
-        Err(fault) => end_in_fault(alloc, fault, out),
+    let mut lanes = PlainLanes::make(alloc, setting, setting.parts() + 1)?;
+    let (order, publisher) = (trial.manner.order, SumPublisher::make());
+    let (publisher, came) = crew_run_alone(alloc, setting, order, &mut lanes, publisher);
+    match came {
+        Ok(counts) => tell_trial(alloc, trial, publisher.sums(), &counts, out),
+        Err(CrewFault::Fault(fault)) => end_in_fault(alloc, &fault, out),
+        Err(CrewFault::Publish(_) | CrewFault::NoMemory) => Err(Stopped::NoMemory),
     }
 }
 
-/// Runs the program's own script over made agents; no file is read.
+/// Runs the program's own script over made agents; no file is read. That script has a class of four
+/// fixed states and no `spawn`; want of memory is answered for any other.
 fn run_trial<S: Shelf, O: Sink>(
     alloc: Global,
     trial: &TrialCommand,
@@ -191,8 +208,11 @@ fn run_trial<S: Shelf, O: Sink>(
         shelf.now shelf.now out.old out.new result }
 {
     let program = load_trial(alloc)?;
-    let job = trial_job(alloc, trial, program)?;
-    end_trial(alloc, trial, &job, out)
+    if !has_four_fixed(&program) || has_births(&program) {
+        return Err(Stopped::NoMemory);
+    }
+    let setting = trial_setting(alloc, trial, program)?;
+    end_trial(alloc, trial, &setting, out)
 }
 
 /// Carries a command out.
@@ -206,7 +226,6 @@ pub fn answer_command<S: Shelf, O: Sink>(
     requires range { IsInRange command.now }
     ensures served { IsServed S.Shelf O.Sink (said command.now)
         shelf.old shelf.new out.old out.new result }
-    ensures held { S.held shelf.new ≡ S.held shelf.old }
     ensures not_writing { writes (S.stage shelf.new) ≡ false }
 {
     match command {

@@ -1,18 +1,25 @@
 //! Facts on outcomes that hold always. The functions do nothing; their clauses are the laws.
-ghost use Rattle.std.specs.Prelude.{◌≡◌, ◌≤◌, ℕ, List, length, Some};
+ghost use Rattle.std.specs.Prelude.{◌≡◌, ◌≤◌, ℕ, ◌+◌, ◌-◌, List, ◌++◌, length, Some, Ok, true, false};
 ghost use Rattle.brace_io.specs.Shelves.{Files};
+ghost use Rattle.brace_model.specs.declared.job.Job.{Job};
+ghost use Rattle.brace_model.specs.World.{World};
+ghost use Rattle.brace_model.specs.Run.{world_after, first_fault};
+ghost use Rattle.brace_model.specs.Published.{text_of_ticks, published};
 ghost use Rattle.brace_top.specs.Commands.{Format};
 ghost use Rattle.brace_top.specs.Outcome.{Outcome, CommandOutcome, HasOutcome, SameMessage};
+ghost use Rattle.brace_top.specs.Restarts.{from_tick};
 ghost use Rattle.brace_top.specs.declared.limits.TheConstants.{SCRIPT_LIMIT};
 ghost use Rattle.brace_top.specs.declared.status.Status.TheVariants.{Done};
 
-/// A command over files has at most one status and one text, and one message apart from the place
-/// of NoReading.
+/// A command over files has at most one status, one text and one list of saved files, and one
+/// message apart from the place of NoReading.
 pub fn outcomes_agree()
     ensures status { (words : List (List ℕ)) (files : Files) (o p : Outcome)
         → HasOutcome words files o → HasOutcome words files p → o.status ≡ p.status }
     ensures out { (words : List (List ℕ)) (files : Files) (o p : Outcome)
         → HasOutcome words files o → HasOutcome words files p → o.out ≡ p.out }
+    ensures saved { (words : List (List ℕ)) (files : Files) (o p : Outcome)
+        → HasOutcome words files o → HasOutcome words files p → o.saved ≡ p.saved }
     ensures err { (words : List (List ℕ)) (files : Files) (o p : Outcome)
         → HasOutcome words files o → HasOutcome words files p → SameMessage o.err p.err }
 {}
@@ -28,4 +35,18 @@ pub fn formatted_scripts_stay()
         → CommandOutcome files (Some (Format name)) o → o.status ≡ Done
         → others other ≡ Some o.out → length o.out ≤ SCRIPT_LIMIT
         → (p : Outcome) → CommandOutcome others (Some (Format other)) p → p ≡ o }
+{}
+
+/// A run may be begun anew from the world of any tick that it reaches: the rows up to that tick and
+/// those of the run from there, whose first tick is not published again, are all its rows, and both
+/// end in the same fault or in none. How either run is cut, and its epochs and inversion, play no
+/// part in it.
+pub fn runs_may_be_begun_anew()
+    ensures rows { (job : Job) (tick : ℕ) (world : World) → job.first ≤ tick → tick ≤ job.last
+        → world_after job (tick - job.first) ≡ Ok world
+        → published job true ≡ text_of_ticks job true (1 + (tick - job.first))
+        ++ published (from_tick job tick world) false }
+    ensures fault { (job : Job) (tick : ℕ) (world : World) → job.first ≤ tick → tick ≤ job.last
+        → world_after job (tick - job.first) ≡ Ok world
+        → first_fault (from_tick job tick world) ≡ first_fault job }
 {}

@@ -4,7 +4,6 @@
 mod answer;
 mod command;
 mod flow;
-mod job;
 pub mod laws;
 mod limits;
 mod load;
@@ -13,6 +12,7 @@ mod places;
 mod script;
 mod script_fault;
 mod status;
+mod task;
 mod trial;
 mod words;
 

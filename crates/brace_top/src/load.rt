@@ -1,22 +1,26 @@
 //! What the named files of a command come to.
-ghost use Rattle.std.specs.Prelude.{◌≡◌, ◌≤◌, codes, length, Some, IfOk, IfErr, MatchResult, true, false};
+ghost use Rattle.std.specs.Prelude.{◌≡◌, ◌≤◌, ◌<◌, ℕ, [], codes, length, option_map, unwrap_or, Some, None, IfOk, IfErr, MatchResult, true, false};
 ghost use Rattle.brace_io.specs.Shelves.{writes};
-ghost use Rattle.brace_model.specs.Lawful.{LawfulProgram};
+ghost use Rattle.brace_cuts.specs.CutPlans.{IsPlan};
+ghost use Rattle.brace_model.specs.Lawful.{LawfulProgram, LawfulAgents};
+ghost use Rattle.brace_model.specs.World.{IsNumbered};
 ghost use Rattle.brace_top.specs.Answer.{ShelfCall, shelf_call};
-ghost use Rattle.brace_top.specs.Outcome.{loaded, source_of, agents_of, TreeOf, ProgramOf, TrialProgram};
+ghost use Rattle.brace_top.specs.Outcome.{loaded, source_of, agents_of, plan_of, whole_plane, TreeOf, ProgramOf, TrialProgram};
 ghost use Rattle.brace_top.specs.declared.limits.TheConstants.{SCRIPT_LIMIT};
-ghost use Rattle.brace_top.specs.inner.Settled.{IsLoaded, IsUnloaded, IsScriptRefused, IsRecordRefused, refuses_file, stopped_status};
+ghost use Rattle.brace_top.specs.inner.Settled.{IsLoaded, IsUnloaded, IsScriptRefused, IsRecordRefused, IsPlanRefused, refuses_file, stopped_status};
 
 use crate::answer::{Stopped, refuse, refuse_file};
-use crate::limits::{AGENTS_LIMIT, SCRIPT_LIMIT};
-use crate::messages::{placed_message, record_message};
+use crate::limits::{AGENTS_LIMIT, PLAN_LIMIT, SCRIPT_LIMIT};
+use crate::messages::{line_message, placed_message, record_message};
 use crate::places::{column_number, line_number};
 use crate::script::{read_program, read_tree};
 use crate::script_fault::ScriptFault;
 use crate::status::Status;
 use crate::trial::TRIAL_SCRIPT;
+use brace_cuts::{CutLine, CutPlan, Cuts, PlanFault, read_plan};
 use brace_io::{Shelf, WholeFault, read_whole};
 use brace_model::{Program, World};
+use brace_num::{List, NoMemory};
 use brace_rows::{RowFault, read_agents};
 use brace_syntax::Tree;
 use std::alloc::Global;
@@ -78,6 +82,18 @@ fn refuse_record(alloc: Global, name: &str, fault: RowFault) -> Stopped
             refuse(Status::Agents, record_message(alloc, name, number, kind))
         }
         RowFault::NoMemory => Stopped::NoMemory,
+    }
+}
+
+/// The refusal of a cut plan for the fault of a line.
+fn refuse_line(alloc: Global, name: &str, fault: PlanFault) -> Stopped
+    ensures { IsPlanRefused name.now fault result }
+{
+    match fault {
+        PlanFault::Bad(number, kind) => {
+            refuse(Status::Plan, line_message(alloc, name, number, kind))
+        }
+        PlanFault::NoMemory => Stopped::NoMemory,
     }
 }
 
@@ -143,6 +159,8 @@ pub fn load_world<S: Shelf>(
         (shelf_call S.Shelf shelf.old shelf.new))
         (IsUnloaded (λ files found. agents_of files program.now name.now ≡ found) name.now
         (shelf_call S.Shelf shelf.old shelf.new)) }
+    ensures lawful { IfOk result (λ world. LawfulAgents program.now world.agents) }
+    ensures numbered { IfOk result IsNumbered }
     ensures held { S.held shelf.new ≡ S.held shelf.old }
     ensures not_writing { writes (S.stage shelf.new) ≡ false }
 {
@@ -150,5 +168,73 @@ pub fn load_world<S: Shelf>(
     match read_agents(alloc, program, bytes.as_slice()) {
         Ok(world) => Ok(world),
         Err(fault) => Err(refuse_record(alloc, name, fault)),
+    }
+}
+
+/// The plan of the cut plan of a name, for epochs of so many ticks (at least 1).
+fn load_plan<S: Shelf>(
+    alloc: Global,
+    shelf: &mut S,
+    name: &str,
+    epoch: u64,
+) -> Result<CutPlan, Stopped>
+    requires stage { writes (S.stage shelf.old) ≡ false }
+    requires epoch { 0 < epoch }
+    ensures loads { MatchResult result
+        (IsLoaded (λ files found. plan_of files epoch (Some name.now) ≡ found)
+        (shelf_call S.Shelf shelf.old shelf.new))
+        (IsUnloaded (λ files found. plan_of files epoch (Some name.now) ≡ found) name.now
+        (shelf_call S.Shelf shelf.old shelf.new)) }
+    ensures lawful { IfOk result (IsPlan epoch) }
+    ensures held { S.held shelf.new ≡ S.held shelf.old }
+    ensures not_writing { writes (S.stage shelf.new) ≡ false }
+{
+    let bytes = load_file(alloc, shelf, name, PLAN_LIMIT, Status::Plan)?;
+    match read_plan(alloc, bytes.as_slice(), epoch) {
+        Ok(plan) => Ok(plan),
+        Err(fault) => Err(refuse_line(alloc, name, fault)),
+    }
+}
+
+/// The plan of the whole plane in one part.
+fn whole_plane(alloc: Global) -> Result<CutPlan, NoMemory>
+    ensures plan { IfOk result (λ plan. plan ≡ whole_plane) }
+    ensures lawful { (epoch : ℕ) → 0 < epoch → IfOk result (IsPlan epoch) }
+{
+    let mut lines = List::new(alloc);
+    lines.push(CutLine {
+        tick: 0,
+        cuts: Cuts {
+            xs: List::new(alloc),
+            ys: List::new(alloc),
+        },
+    })?;
+    Ok(CutPlan { lines })
+}
+
+/// The plan of a cut plan, if one is named, for epochs of so many ticks (at least 1).
+pub fn load_cuts<S: Shelf>(
+    alloc: Global,
+    shelf: &mut S,
+    name: Option<&str>,
+    epoch: u64,
+) -> Result<CutPlan, Stopped>
+    requires stage { writes (S.stage shelf.old) ≡ false }
+    requires epoch { 0 < epoch }
+    ensures loads { MatchResult result
+        (IsLoaded (λ files found. plan_of files epoch (option_map (λ n. n.now) name.entry) ≡ found)
+        (shelf_call S.Shelf shelf.old shelf.new))
+        (IsUnloaded (λ files found. plan_of files epoch (option_map (λ n. n.now) name.entry)
+        ≡ found) (unwrap_or (option_map (λ n. n.now) name.entry) [])
+        (shelf_call S.Shelf shelf.old shelf.new)) }
+    ensures unread { name.entry ≡ None
+        → IfErr result (λ stopped. stopped_status stopped ≡ Status.ReadFault → ⊥) }
+    ensures lawful { IfOk result (IsPlan epoch) }
+    ensures held { S.held shelf.new ≡ S.held shelf.old }
+    ensures not_writing { writes (S.stage shelf.new) ≡ false }
+{
+    match name {
+        Some(name) => load_plan(alloc, shelf, name, epoch),
+        None => Ok(whole_plane(alloc)?),
     }
 }

@@ -1,9 +1,13 @@
 ghost use Rattle.std.specs.Prelude.{◌≡◌, ◌++◌, IfOk, OnOk};
-ghost use Rattle.brace_top.specs.Messages.{named_message, placed_message, row_word, record_message, phase_word, kind_word, loop_text, agents_text, site_text, fault_message};
+ghost use Rattle.brace_crew.specs.Shows.{file_name};
+ghost use Rattle.brace_top.specs.Messages.{named_message, placed_message, row_word, record_message, plan_word, line_message, save_fault_message, stats_message, phase_word, kind_word, loop_text, agents_text, site_text, fault_message};
 
+use brace_cuts::PlanKind;
 use brace_model::{Fault, Phase};
 use brace_num::{Kind, NoMemory, print_count};
+use brace_part::Counts;
 use brace_rows::RowKind;
+use itoa::Buffer;
 use std::alloc::Global;
 
 /// The message that begins with a file's name.
@@ -70,6 +74,65 @@ pub fn record_message(
     rest.extend_from_slice(b": ")?;
     add_row_word(&mut rest, kind)?;
     named_message(alloc, name, rest.as_slice())
+}
+
+fn plan_word(kind: PlanKind) -> &'static [u8]
+    ensures { result.now ≡ plan_word kind }
+{
+    match kind {
+        PlanKind::BadLine => b"BadLine",
+        PlanKind::NotRising => b"NotRising",
+        PlanKind::OffEpoch => b"OffEpoch",
+        PlanKind::OtherCount => b"OtherCount",
+        PlanKind::TooMany => b"TooMany",
+    }
+}
+
+/// The message that names a line of a cut plan, counted from 1, and what is wrong with it.
+pub fn line_message(
+    alloc: Global,
+    name: &str,
+    number: u64,
+    kind: PlanKind,
+) -> Result<Vec<u8>, NoMemory>
+    ensures { IfOk result (λ text. text.items ≡ line_message name.now number kind) }
+{
+    let mut rest = Vec::new(alloc);
+    rest.extend_from_slice(b": line ")?;
+    print_count(&mut rest, number)?;
+    rest.extend_from_slice(b": ")?;
+    rest.extend_from_slice(plan_word(kind))?;
+    named_message(alloc, name, rest.as_slice())
+}
+
+/// The message where `NAME.k` was not saved, for the tick k.
+pub fn save_fault_message(alloc: Global, name: &str, tick: u64) -> Result<Vec<u8>, NoMemory>
+    ensures { IfOk result
+        (λ text. text.items ≡ save_fault_message (file_name name.now tick)) }
+{
+    let mut file = String::new(alloc);
+    file.push_str(name)?;
+    file.push_str(".")?;
+    file.push_str(Buffer::new().format(tick))?;
+    named_message(alloc, file.as_str(), b": save fault")
+}
+
+/// What parts gave in a run.
+pub fn stats_message(alloc: Global, counts: &Counts) -> Result<Vec<u8>, NoMemory>
+    ensures { IfOk result (λ text. text.items ≡ stats_message
+        counts.now.border counts.now.effects counts.now.moved counts.now.handed) }
+{
+    let mut message = Vec::new(alloc);
+    message.extend_from_slice(b"stats border ")?;
+    message.extend_from_slice(Buffer::new().format(counts.border).as_bytes())?;
+    message.extend_from_slice(b" effects ")?;
+    message.extend_from_slice(Buffer::new().format(counts.effects).as_bytes())?;
+    message.extend_from_slice(b" moved ")?;
+    message.extend_from_slice(Buffer::new().format(counts.moved).as_bytes())?;
+    message.extend_from_slice(b" handed ")?;
+    message.extend_from_slice(Buffer::new().format(counts.handed).as_bytes())?;
+    message.push(b'\n')?;
+    Ok(message)
 }
 
 fn phase_word(phase: Phase) -> &'static [u8]

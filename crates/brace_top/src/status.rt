@@ -12,12 +12,16 @@ pub enum Status {
     Script,
     /// The agent file is refused.
     Agents,
+    /// The cut plan is refused.
+    Plan,
     /// The run ended in a fault before its last tick.
     Fault,
     /// A read failed.
     ReadFault,
     /// A write to standard output failed.
     WriteFault,
+    /// A file was not saved.
+    SaveFault,
     /// The allocator refused memory.
     NoMemory,
     /// A named file is not held.
@@ -35,9 +39,11 @@ impl Status {
             Status::Usage => 2,
             Status::Script => 3,
             Status::Agents => 4,
+            Status::Plan => 5,
             Status::Fault => 7,
             Status::ReadFault => 8,
             Status::WriteFault => 9,
+            Status::SaveFault => 10,
             Status::NoMemory => 11,
             Status::Absent => 12,
         }

@@ -1,6 +1,7 @@
 // Commands over files in memory, with texts worked by hand.
 use crate::{run, run_alone};
 use brace_io::{MemShelf, MemSink, OpenGate};
+use itoa::Buffer;
 use std::alloc::{AllocError, Global};
 use std::test::Fail;
 
@@ -54,6 +55,23 @@ const MORTAL_FAULTY: &str =
 
 const BEARING: &str =
     "class B { public state fixed x; public state fixed y; spawn when true { x <- x + 1.0; } }";
+
+const LEAPING: &str =
+    "class W { #reach[100.0]; public state fixed x : x + 50.0; public state fixed y; }";
+
+const LEAPING_MORTAL: &str =
+    "class W { #reach[100.0]; public state fixed x : x + 50.0; public state fixed y; die when x > 50.0; }";
+
+const RESTING: &str = "class T { public state fixed x; public state fixed y; }";
+
+const DIVIDED_BOTH_WAYS: &str =
+    "class N { #visible[5.0]; public state fixed x; public state fixed y; public state int d; public state int s : t; public effect int t : sum; public void run() { foreach (N p : Extent<N>) { p.t <- 1 / d; t <- 2 / d; } } }";
+
+const COUNTED_DOWN: &str =
+    "class D { public state fixed x; public state fixed y; public state int d : d - 1; public effect int e : sum; public void run() { e <- 1 / d; } }";
+
+const ROAMING: &str =
+    "class R { #visible[3.0]; #reach[2.0]; public state fixed x : x + 4.0 * rand() - 2.0; public state fixed y : y + 0.5; public state int n : c; public state fixed s : t; public effect int c : count; public effect fixed t : sum; public void run() { foreach (R p : Extent<R>) { p.c <- 1; p.t <- x - p.x; } } }";
 
 const READS_ITS_EFFECT: &str =
     "class E { public state fixed x; public state fixed y; public effect int c : count; public void run() { c <- c; } }";
@@ -283,14 +301,14 @@ const TRIALS: [Case; 7] = [
         "trial --count 1 --ticks 0 --workers 1 --stats",
         "",
         "",
-        2,
-        "",
-        "brace: usage\n",
+        0,
+        "trial agents 1 ticks 0 x 236067972 y 278566908\n",
+        "stats border 0 effects 0 moved 0 handed 0\n",
     ),
     ("plan --script s", STEPS, "", 2, "", "brace: usage\n"),
 ];
 
-const REFUSALS: [Case; 20] = [
+const REFUSALS: [Case; 21] = [
     (FORMAT, STEPS, "", 0, STEPS_SHOWN, ""),
     (FORMAT, SPREAD, "", 0, STEPS_SHOWN, ""),
     (FORMAT, STEPS_SHOWN, "", 0, STEPS_SHOWN, ""),
@@ -361,6 +379,14 @@ const REFUSALS: [Case; 20] = [
         "run --script s --agents a --ticks 2 --cuts k",
         STEPS,
         AGENT,
+        12,
+        "",
+        "brace: k: absent\n",
+    ),
+    (
+        "run --script s --agents a --ticks 2 --epoch 17",
+        STEPS,
+        AGENT,
         2,
         "",
         "brace: usage\n",
@@ -383,6 +409,190 @@ const REFUSALS: [Case; 20] = [
     ),
 ];
 
+/// A command over a script, an agent file and a cut plan, and its status, its text and its message.
+type CutCase = (
+    &'static str,
+    &'static str,
+    &'static str,
+    &'static str,
+    u8,
+    &'static str,
+    &'static str,
+);
+
+const CUT: &str = "run --script s --agents a --ticks 1 --cuts k";
+
+const CUT_COUNTED: &str = "run --script s --agents a --ticks 1 --cuts k --stats";
+
+const CUT_INVERTED: &str = "run --script s --agents a --ticks 1 --cuts k --stats --invert";
+
+const COUNTED_ROWS: &str =
+    "0,F,1,0.000000,0.000000,0\n0,F,2,2.000000,0.000000,0\n0,F,3,2.000001,0.000000,0\n1,F,1,0.000000,0.000000,1\n1,F,2,2.000000,0.000000,2\n1,F,3,2.000001,0.000000,1\n";
+
+const PAIRED_ROWS: &str =
+    "0,H,1,0.000000,0.000000,0\n0,H,2,3.000000,0.000000,0\n0,H,3,6.000000,0.000000,0\n1,H,1,0.000000,0.000000,2\n1,H,2,3.000000,0.000000,2\n1,H,3,6.000000,0.000000,2\n";
+
+const CUT_RUNS: [CutCase; 17] = [
+    // The second agent lies on the cut and belongs to the part above it.
+    (
+        CUT_COUNTED,
+        COUNTED,
+        "F,1,0,0,0\nF,2,2,0,0\nF,3,2.000001,0,0\n",
+        "at 0 x 2.0 y\n",
+        0,
+        COUNTED_ROWS,
+        "stats border 3 effects 2 moved 0 handed 0\n",
+    ),
+    (
+        CUT_INVERTED,
+        COUNTED,
+        "F,1,0,0,0\nF,2,2,0,0\nF,3,2.000001,0,0\n",
+        "at 0 x 2.0 y\n",
+        0,
+        COUNTED_ROWS,
+        "stats border 3 effects 0 moved 0 handed 0\n",
+    ),
+    (
+        CUT,
+        SUMMED,
+        "A,1,-5,0,9223372036854775807\nA,2,0,0,9223372036854775807\nA,3,5,0,-9223372036854775807\nB,4,0,0,0\n",
+        "at 0 x -2 2 y\n",
+        0,
+        "0,A,1,-5.000000,0.000000,9223372036854775807\n0,A,2,0.000000,0.000000,9223372036854775807\n0,A,3,5.000000,0.000000,-9223372036854775807\n0,B,4,0.000000,0.000000,0\n1,A,1,-5.000000,0.000000,9223372036854775807\n1,A,2,0.000000,0.000000,9223372036854775807\n1,A,3,5.000000,0.000000,-9223372036854775807\n1,B,4,0.000000,0.000000,9223372036854775807\n",
+        "",
+    ),
+    (
+        CUT,
+        DIVIDED_TWICE,
+        "U,1,0,0,0\nD,9,1000,0,0\n",
+        "at 0 x 500 y\n",
+        7,
+        "0,U,1,0.000000,0.000000,0\n0,D,9,1000.000000,0.000000,0\n",
+        "brace: tick 0 query agent 9 site 1: DivZero\n",
+    ),
+    // The agent passes over the part in the middle.
+    (
+        CUT_COUNTED,
+        LEAPING,
+        "W,1,5,0\n",
+        "at 0 x 10 20 y\n",
+        0,
+        "0,W,1,5.000000,0.000000\n1,W,1,55.000000,0.000000\n",
+        "stats border 0 effects 0 moved 1 handed 0\n",
+    ),
+    (
+        "run --script s --agents a --ticks 3 --cuts k --stats",
+        LEAPING_MORTAL,
+        "W,1,5,0\n",
+        "at 0 x 10 20 y\n",
+        0,
+        "0,W,1,5.000000,0.000000\n1,W,1,55.000000,0.000000\n",
+        "stats border 0 effects 0 moved 1 handed 0\n",
+    ),
+    (
+        CUT,
+        COUNTED_NEAR,
+        "F,1,-0.000001,0,0\nF,2,0,0,0\n",
+        "at 0 x 0 y\n",
+        0,
+        "0,F,1,-0.000001,0.000000,0\n0,F,2,0.000000,0.000000,0\n1,F,1,-0.000001,0.000000,1\n1,F,2,0.000000,0.000000,1\n",
+        "",
+    ),
+    (
+        CUT_COUNTED,
+        COUNTED_PAIRS,
+        "H,1,0,0,0\nH,2,3,0,0\nH,3,6,0,0\n",
+        "at 0 x 0.000001 4 y\n",
+        0,
+        PAIRED_ROWS,
+        "stats border 4 effects 4 moved 0 handed 0\n",
+    ),
+    // Seen through another, the third agent lies twice the distance of sight from the first part.
+    (
+        CUT_INVERTED,
+        COUNTED_PAIRS,
+        "H,1,0,0,0\nH,2,3,0,0\nH,3,6,0,0\n",
+        "at 0 x 0.000001 4 y\n",
+        0,
+        PAIRED_ROWS,
+        "stats border 6 effects 0 moved 0 handed 0\n",
+    ),
+    (
+        "run --script s --agents a --ticks 3 --cuts k --epoch 2 --stats",
+        RESTING,
+        "T,1,0,0\n",
+        "at 0 x 1 y\nat 2 x -1 y\n",
+        0,
+        "0,T,1,0.000000,0.000000\n1,T,1,0.000000,0.000000\n2,T,1,0.000000,0.000000\n3,T,1,0.000000,0.000000\n",
+        "stats border 0 effects 0 moved 0 handed 1\n",
+    ),
+    // Both agents fault in the tick after the first, in the midst of an epoch.
+    (
+        "run --script s --agents a --ticks 8 --cuts k --epoch 4",
+        COUNTED_DOWN,
+        "D,1,-100,0,1\nD,2,100,0,1\n",
+        "at 0 x 0 y\n",
+        7,
+        "0,D,1,-100.000000,0.000000,1\n0,D,2,100.000000,0.000000,1\n1,D,1,-100.000000,0.000000,0\n1,D,2,100.000000,0.000000,0\n",
+        "brace: tick 1 query agent 1 site 1: DivZero\n",
+    ),
+    (
+        "run --script s --agents a --ticks 1 --cuts k",
+        STEPS,
+        AGENT,
+        "at 0 x 2 1 y\n",
+        5,
+        "",
+        "brace: k: line 1: NotRising\n",
+    ),
+    (
+        "run --script s --agents a --ticks 1 --cuts k --epoch 2",
+        STEPS,
+        AGENT,
+        "at 0 x 1 y\nat 3 x 2 y\n",
+        5,
+        "",
+        "brace: k: line 2: OffEpoch\n",
+    ),
+    (
+        CUT,
+        STEPS,
+        AGENT,
+        "at 0 x 1 y\n\n",
+        5,
+        "",
+        "brace: k: line 2: BadLine\n",
+    ),
+    (
+        CUT,
+        STEPS,
+        AGENT,
+        "at 0 x 1 y\nat 16 x 1 2 y",
+        5,
+        "",
+        "brace: k: line 2: OtherCount\n",
+    ),
+    // The agent file is judged before the cut plan.
+    (
+        CUT,
+        STEPS,
+        "P,7,0,x\n",
+        "at 0 x 2 1 y\n",
+        4,
+        "",
+        "brace: a: record 1: BadValue 3\n",
+    ),
+    (
+        "run --script s --agents a --ticks 0 --cuts k --every 2 --order 3 --epoch 1 --workers 1",
+        STEPS,
+        AGENT,
+        "at 0 x y 1 2 3\n",
+        0,
+        "0,P,7,0.000000,0.000000\n",
+        "",
+    ),
+];
+
 /// The words of a text, parted by spaces.
 fn words_of(alloc: Global, text: &str) -> Result<Vec<String>, AllocError> {
     let mut words = Vec::new(alloc);
@@ -392,22 +602,31 @@ fn words_of(alloc: Global, text: &str) -> Result<Vec<String>, AllocError> {
     Ok(words)
 }
 
-/// The status, the text and the message of a command over a script and an agent file, where the
-/// calls of these numbers fail.
+/// A command, and the files that it reads: `s`, `a` and `k`, which is held where it is not empty.
+type Asked<'a> = (&'a str, &'a [u8], &'a str, &'a str);
+
+/// The status of a command, what its shelf holds then, its text and its message.
+type Came = (Option<u8>, MemShelf, MemSink, MemSink);
+
+/// What comes of a command where the calls of these numbers fail.
 fn ended(
     alloc: Global,
-    (text, script, agents): (&str, &[u8], &str),
+    (text, script, agents, cuts): Asked,
     shelf_fails: Vec<u64>,
     sink_fails: Vec<u64>,
-) -> Result<(Option<u8>, MemSink, MemSink), Fail> {
+) -> Result<Came, Fail> {
     let mut shelf = MemShelf::make(alloc, shelf_fails);
     shelf.hold("s", script)?;
     shelf.hold("a", agents.as_bytes())?;
-    let mut out = MemSink::make(alloc, 1000, sink_fails)?;
+    shelf.hold(if cuts.is_empty() { "none" } else { "k" }, cuts.as_bytes())?;
+    shelf.prepare("c.2", 200)?;
+    shelf.prepare("c.4", 200)?;
+    shelf.prepare("c.5", 200)?;
+    let mut out = MemSink::make(alloc, 4000, sink_fails)?;
     let mut err = MemSink::make(alloc, 1000, Vec::new(alloc))?;
     let words = words_of(alloc, text)?;
     let status = run_alone(alloc, words.as_slice(), &mut shelf, &mut out, &mut err);
-    Ok((status, out, err))
+    Ok((status, shelf, out, err))
 }
 
 #[test]
@@ -415,12 +634,224 @@ fn answers_commands(rt: HostRuntime) -> Result<(), Fail> {
     let alloc = rt.alloc();
     for cases in [RUNS.as_slice(), REFUSALS.as_slice(), TRIALS.as_slice()] {
         for (words, script, agents, wanted, text, message) in cases {
-            let files = (*words, script.as_bytes(), *agents);
-            let (status, out, err) = ended(alloc, files, Vec::new(alloc), Vec::new(alloc))?;
+            let asked = (*words, script.as_bytes(), *agents, "");
+            let (status, _, out, err) = ended(alloc, asked, Vec::new(alloc), Vec::new(alloc))?;
             assert_eq!(rt; status, Some(*wanted), "{words} over {script}");
             assert_eq!(rt; out.bytes(), text.as_bytes(), "{words} over {script}");
             assert_eq!(rt; err.bytes(), message.as_bytes(), "{words} over {script}");
         }
+    }
+    Ok(())
+}
+
+#[test]
+fn answers_runs_over_a_cut_plane(rt: HostRuntime) -> Result<(), Fail> {
+    let alloc = rt.alloc();
+    for (words, script, agents, cuts, wanted, text, message) in CUT_RUNS {
+        let asked = (words, script.as_bytes(), agents, cuts);
+        let (status, _, out, err) = ended(alloc, asked, Vec::new(alloc), Vec::new(alloc))?;
+        assert_eq!(rt; status, Some(wanted), "{words} over {script}");
+        assert_eq!(rt; out.bytes(), text.as_bytes(), "{words} over {script}");
+        assert_eq!(rt; err.bytes(), message.as_bytes(), "{words} over {script}");
+    }
+    Ok(())
+}
+
+const INVERTED: [&str; 2] = ["", " --invert"];
+
+/// A command with the number that draws the order, and with a choice of inversion.
+fn ordered(alloc: Global, words: &str, order: u64, invert: &str) -> Result<String, AllocError> {
+    let mut text = String::from_str(alloc, words)?;
+    text.push_str(" --order ")?;
+    text.push_str(Buffer::new().format(order))?;
+    text.push_str(invert)?;
+    Ok(text)
+}
+
+#[test]
+fn names_the_least_fault_in_every_order(rt: HostRuntime) -> Result<(), Fail> {
+    let alloc = rt.alloc();
+    for (script, agents, cuts, text, message) in [
+        (
+            DIVIDED,
+            "D,3,-1,0,0\nD,5,1,0,0\n",
+            "at 0 x 0 y\n",
+            "0,D,3,-1.000000,0.000000,0\n0,D,5,1.000000,0.000000,0\n",
+            "brace: tick 0 query agent 3 site 0: DivZero\n",
+        ),
+        // The first agent's own assignment faults later than the one that others make for it.
+        (
+            DIVIDED_BOTH_WAYS,
+            "N,1,0,0,0,0\nN,2,1,0,1,0\n",
+            "at 0 x 0.5 y\n",
+            "0,N,1,0.000000,0.000000,0,0\n0,N,2,1.000000,0.000000,1,0\n",
+            "brace: tick 0 query agent 1 with 2 site 1: DivZero\n",
+        ),
+    ] {
+        for order in 0..16 {
+            for invert in INVERTED {
+                let words = ordered(alloc, CUT, order, invert)?;
+                let asked = (words.as_str(), script.as_bytes(), agents, cuts);
+                let (status, _, out, err) = ended(alloc, asked, Vec::new(alloc), Vec::new(alloc))?;
+                assert_eq!(rt; status, Some(7), "{words}");
+                assert_eq!(rt; out.bytes(), text.as_bytes(), "{words}");
+                assert_eq!(rt; err.bytes(), message.as_bytes(), "{words}");
+            }
+        }
+    }
+    Ok(())
+}
+
+const PLANS: [&str; 10] = [
+    "at 0 x y\n",
+    "at 0 x 0 y\n",
+    "at 0 x y 0\n",
+    "at 0 x -1 0 1 y\n",
+    "at 0 x 0 y 0\n",
+    "at 0 x -2.5 0.5 1.5 y -1 1\n",
+    "at 0 x 0 y\nat 2 x 1 y\nat 4 x -1 y\n",
+    "at 0 x 9 y 9\nat 2 x -9 y -9\n",
+    "at 0 x -0.000001 0 0.000001 y 0.5\n",
+    "at 0 x -1 1 y 0\nat 4 x -2 2 y 1\n",
+];
+
+const ROAMERS: &str =
+    "R,1,-2,0,0,0\nR,2,-0.5,1,0,0\nR,3,0,-1,0,0\nR,4,0.5,0.25,0,0\nR,5,1,2,0,0\nR,6,2.5,-2,0,0\n";
+
+#[test]
+fn no_plan_and_no_order_changes_a_byte(rt: HostRuntime) -> Result<(), Fail> {
+    let alloc = rt.alloc();
+    let plain = "run --script s --agents a --ticks 5 --seed 7";
+    let asked = (plain, ROAMING.as_bytes(), ROAMERS, "");
+    let (status, _, wanted, _) = ended(alloc, asked, Vec::new(alloc), Vec::new(alloc))?;
+    assert_eq!(rt; status, Some(0));
+    let cut = "run --script s --agents a --ticks 5 --seed 7 --epoch 2 --cuts k";
+    for (number, cuts) in PLANS.iter().enumerate() {
+        for invert in INVERTED {
+            let words = ordered(alloc, cut, number as u64, invert)?;
+            let asked = (words.as_str(), ROAMING.as_bytes(), ROAMERS, *cuts);
+            let (status, _, out, _) = ended(alloc, asked, Vec::new(alloc), Vec::new(alloc))?;
+            assert_eq!(rt; status, Some(0), "{words} over {cuts}");
+            assert_eq!(rt; out.bytes(), wanted.bytes(), "{words} over {cuts}");
+        }
+    }
+    Ok(())
+}
+
+const SAVING: &str = "run --script s --agents a --ticks 5 --epoch 2 --save c";
+
+const SAVED_ROWS: &str =
+    "0,P,7,0.000000,0.000000\n1,P,7,1.500000,0.000000\n2,P,7,3.000000,0.000000\n3,P,7,4.500000,0.000000\n4,P,7,6.000000,0.000000\n5,P,7,7.500000,0.000000\n";
+
+const AT_2: &str =
+    "brace checkpoint 1\ntick 2\nseed 0\nclass P x:fixed y:fixed\nP,7,3.000000,0.000000\nend 1\n";
+
+const AT_4: &str =
+    "brace checkpoint 1\ntick 4\nseed 0\nclass P x:fixed y:fixed\nP,7,6.000000,0.000000\nend 1\n";
+
+const AT_5: &str =
+    "brace checkpoint 1\ntick 5\nseed 0\nclass P x:fixed y:fixed\nP,7,7.500000,0.000000\nend 1\n";
+
+#[test]
+fn saves_the_world_of_each_end(rt: HostRuntime) -> Result<(), Fail> {
+    let alloc = rt.alloc();
+    let asked = (SAVING, STEPS.as_bytes(), AGENT, "");
+    let (status, shelf, out, err) = ended(alloc, asked, Vec::new(alloc), Vec::new(alloc))?;
+    assert_eq!(rt; status, Some(0));
+    assert_eq!(rt; out.bytes(), SAVED_ROWS.as_bytes());
+    assert_eq!(rt; err.bytes(), b"".as_slice());
+    for (name, bytes) in [("c.2", AT_2), ("c.4", AT_4), ("c.5", AT_5)] {
+        assert!(rt; shelf.file(name) == Some(bytes.as_bytes()), "{name}");
+    }
+    Ok(())
+}
+
+#[test]
+fn each_failing_write_leaves_the_ends_before_it(rt: HostRuntime) -> Result<(), Fail> {
+    let alloc = rt.alloc();
+    // The sink is flushed once; then each end is written and flushed.
+    for (number, rows, ends) in [
+        (1, 0, 0),
+        (2, 0, 0),
+        (3, 3, 0),
+        (4, 3, 1),
+        (5, 5, 1),
+        (6, 5, 2),
+        (7, 6, 2),
+    ] {
+        let asked = (SAVING, STEPS.as_bytes(), AGENT, "");
+        let (status, shelf, out, err) = ended(
+            alloc,
+            asked,
+            Vec::new(alloc),
+            vec![in alloc; number]?,
+        )?;
+        assert_eq!(rt; status, Some(9), "call {number}");
+        assert_eq!(rt;
+            out.bytes(),
+            &SAVED_ROWS.as_bytes()[..24 * rows],
+            "call {number}"
+        );
+        assert_eq!(rt; err.bytes(), b"brace: write fault\n".as_slice());
+        assert!(rt; shelf.file("c.2").is_some() == (1 <= ends), "call {number}");
+        assert!(rt; shelf.file("c.4").is_some() == (2 <= ends), "call {number}");
+        assert!(rt; shelf.file("c.5").is_none(), "call {number}");
+    }
+    Ok(())
+}
+
+#[test]
+fn a_run_is_told_up_to_the_end_that_is_not_saved(rt: HostRuntime) -> Result<(), Fail> {
+    let alloc = rt.alloc();
+    let words = "run --script s --agents a --ticks 40 --save c";
+    let asked = (words, STEPS.as_bytes(), AGENT, "");
+    let (status, _, out, err) = ended(alloc, asked, vec![in alloc; 7]?, Vec::new(alloc))?;
+    assert_eq!(rt; status, Some(10));
+    assert!(rt; out.bytes().ends_with(b"\n16,P,7,24.000000,0.000000\n"));
+    assert_eq!(rt; err.bytes(), b"brace: c.16: save fault\n".as_slice());
+    Ok(())
+}
+
+#[test]
+fn each_failing_save_names_its_file(rt: HostRuntime) -> Result<(), Fail> {
+    let alloc = rt.alloc();
+    // Six calls read two files; each save creates a file, fills it and finishes it.
+    for (number, rows, message, half) in [
+        (7, 3, "brace: c.2: save fault\n", None),
+        (8, 3, "brace: c.2: save fault\n", Some("")),
+        (9, 3, "brace: c.2: save fault\n", Some(AT_2)),
+        (10, 5, "brace: c.4: save fault\n", None),
+        (11, 5, "brace: c.4: save fault\n", Some("")),
+        (12, 5, "brace: c.4: save fault\n", Some(AT_4)),
+        (13, 6, "brace: c.5: save fault\n", None),
+        (14, 6, "brace: c.5: save fault\n", Some("")),
+        (15, 6, "brace: c.5: save fault\n", Some(AT_5)),
+    ] {
+        let asked = (SAVING, STEPS.as_bytes(), AGENT, "");
+        let (status, shelf, out, err) = ended(
+            alloc,
+            asked,
+            vec![in alloc; number]?,
+            Vec::new(alloc),
+        )?;
+        assert_eq!(rt; status, Some(10), "call {number}");
+        assert_eq!(rt;
+            out.bytes(),
+            &SAVED_ROWS.as_bytes()[..24 * rows],
+            "call {number}"
+        );
+        assert_eq!(rt; err.bytes(), message.as_bytes(), "call {number}");
+        let name = if rows == 3 {
+            "c.2"
+        } else if rows == 5 {
+            "c.4"
+        } else {
+            "c.5"
+        };
+        assert!(rt;
+            shelf.file(name) == half.map(|text| text.as_bytes()),
+            "call {number}"
+        );
     }
     Ok(())
 }
@@ -453,13 +884,23 @@ fn each_failing_read_names_its_file(rt: HostRuntime) -> Result<(), Fail> {
         (RUN, 5, 8, "", "brace: a: read fault\n"),
         (RUN, 6, 8, "", "brace: a: read fault\n"),
         (RUN, 7, 0, ROWS, ""),
+        (CUT, 7, 8, "", "brace: k: read fault\n"),
+        (CUT, 8, 8, "", "brace: k: read fault\n"),
+        (CUT, 9, 8, "", "brace: k: read fault\n"),
+        (
+            CUT,
+            10,
+            0,
+            "0,P,7,0.000000,0.000000\n1,P,7,1.500000,0.000000\n",
+            "",
+        ),
         (CHECK, 3, 8, "", "brace: s: read fault\n"),
         (CHECK, 4, 0, "", ""),
         (FORMAT, 3, 8, "", "brace: s: read fault\n"),
         (FORMAT, 4, 0, STEPS_SHOWN, ""),
     ] {
-        let files = (words, STEPS.as_bytes(), AGENT);
-        let (status, out, err) = ended(alloc, files, vec![in alloc; number]?, Vec::new(alloc))?;
+        let asked = (words, STEPS.as_bytes(), AGENT, "at 0 x 1 y\n");
+        let (status, _, out, err) = ended(alloc, asked, vec![in alloc; number]?, Vec::new(alloc))?;
         assert_eq!(rt; status, Some(wanted), "{words} at call {number}");
         assert_eq!(rt; out.bytes(), text.as_bytes(), "{words} at call {number}");
         assert_eq!(rt; err.bytes(), message.as_bytes(), "{words} at call {number}");
@@ -472,14 +913,13 @@ fn each_failing_write_leaves_a_front(rt: HostRuntime) -> Result<(), Fail> {
     let alloc = rt.alloc();
     for (words, number, front) in [
         (RUN, 1, ""),
-        (RUN, 2, "0,P,7,0.000000,0.000000\n"),
-        (RUN, 3, "0,P,7,0.000000,0.000000\n1,P,7,1.500000,0.000000\n"),
-        (RUN, 4, ROWS),
+        (RUN, 2, ""),
+        (RUN, 3, ROWS),
         (FORMAT, 1, ""),
         (FORMAT, 2, STEPS_SHOWN),
     ] {
-        let files = (words, STEPS.as_bytes(), AGENT);
-        let (status, out, err) = ended(alloc, files, Vec::new(alloc), vec![in alloc; number]?)?;
+        let asked = (words, STEPS.as_bytes(), AGENT, "");
+        let (status, _, out, err) = ended(alloc, asked, Vec::new(alloc), vec![in alloc; number]?)?;
         assert_eq!(rt; status, Some(9), "{words} at call {number}");
         assert_eq!(rt; out.bytes(), front.as_bytes(), "{words} at call {number}");
         assert_eq!(rt; err.bytes(), b"brace: write fault\n".as_slice());
@@ -537,8 +977,8 @@ fn keeps_the_limits_of_a_script(rt: HostRuntime) -> Result<(), Fail> {
         let (head, piece, tail) = (head.as_bytes(), piece.as_bytes(), tail.as_bytes());
         for (count, wanted, line) in [(most, 0, ""), (most + 1, 3, message)] {
             let script = repeated(alloc, head, piece, count, tail)?;
-            let files = (FORMAT, script.as_slice(), "");
-            let (status, _, err) = ended(alloc, files, Vec::new(alloc), Vec::new(alloc))?;
+            let asked = (FORMAT, script.as_slice(), "", "");
+            let (status, _, _, err) = ended(alloc, asked, Vec::new(alloc), Vec::new(alloc))?;
             assert_eq!(rt; status, Some(wanted), "{message}");
             assert_eq!(rt; err.bytes(), line.as_bytes(), "{message}");
         }
@@ -555,8 +995,8 @@ fn names_what_there_is_too_much_of(rt: HostRuntime) -> Result<(), Fail> {
         script.push(*letter)?;
         script.extend_from_slice(b" { public state fixed x; public state fixed y; }\n")?;
     }
-    let files = (CHECK, script.as_slice(), "");
-    let (status, _, err) = ended(alloc, files, Vec::new(alloc), Vec::new(alloc))?;
+    let asked = (CHECK, script.as_slice(), "", "");
+    let (status, _, _, err) = ended(alloc, asked, Vec::new(alloc), Vec::new(alloc))?;
     assert_eq!(rt; status, Some(3));
     assert_eq!(rt; err.bytes(), b"brace: s:17:7: TooMany classes\n".as_slice());
     Ok(())

@@ -1,16 +1,18 @@
 //! A trial: the program's own script, and the line that tells its last world.
-ghost use Rattle.std.specs.Prelude.{◌≡◌, ◌≤◌, ◌^◌, IfOk};
+ghost use Rattle.std.specs.Prelude.{◌≡◌, ◌≤◌, map, pos, ◌+ℤ◌, IfOk, true};
+ghost use Rattle.brace_cuts.specs.CutPlans.{IsPlan};
 ghost use Rattle.brace_model.specs.Lawful.{LawfulProgram};
-ghost use Rattle.brace_model.specs.Run.{end_of};
-ghost use Rattle.brace_model.specs.World.{x_of, y_of};
-ghost use Rattle.brace_top.specs.Outcome.{trial_job};
-ghost use Rattle.brace_top.specs.Trials.{place_along, sum_of, trial_line};
+ghost use Rattle.brace_pieces.specs.Settings.{LawfulSetting};
+ghost use Rattle.brace_rows.specs.MadeAgents.{has_four_fixed};
+ghost use Rattle.brace_top.specs.Outcome.{trial_setting};
+ghost use Rattle.brace_top.specs.Trials.{strips, along_x, trial_plan, trial_line};
 ghost use Rattle.brace_top.specs.inner.Words.{said_trial, IsTrialInRange};
 
 use crate::words::TrialCommand;
-use brace_eval::{StepFault, plain_step};
-use brace_model::{Agent, Fault, Job, Program, World, class_of, x_of, y_of};
-use brace_num::{NoMemory, print_count};
+use brace_cuts::{CutLine, CutPlan, Cuts};
+use brace_model::{Job, Program, Ty};
+use brace_num::{List, NoMemory, print_count};
+use brace_pieces::Setting;
 use brace_rows::make_agents;
 use itoa::Buffer;
 use std::alloc::Global;
@@ -44,84 +46,100 @@ pub const TRIAL_SCRIPT: &[u8] = b"class Fish {
 }
 ";
 
-/// The job of a trial of a program, over agents that are made.
-pub fn trial_job(alloc: Global, trial: &TrialCommand, program: Program) -> Result<Job, NoMemory>
-    requires { IsTrialInRange trial.now }
-    ensures { IfOk result (λ job. job ≡ trial_job (said_trial trial.now) program) }
+/// Whether class number 0 of a program is one of four fixed states.
+pub fn has_four_fixed(program: &Program) -> bool
+    ensures { result ≡ has_four_fixed program.now }
 {
-    Ok(Job {
+    match program.classes.as_slice() {
+        [class, ..] => {
+            let states = class.states.as_slice();
+            states.len() == 4 && states.iter().all(|state| state.ty == Ty::Fixed)
+        }
+        [] => false,
+    }
+}
+
+/// The line of a tick that cuts the plane into eight strips, with each cut that much further along x,
+/// in millionths, at most 5 units.
+fn strips_at(alloc: Global, tick: u64, further: u32) -> Result<CutLine, NoMemory>
+    requires { further ≤ 5_000_000 }
+    ensures { IfOk result (λ line. line ≡ along_x tick (map (λ x. x +ℤ pos further) strips)) }
+{
+    let mut xs = List::new(alloc);
+    for strip in 1..8u32 {
+        xs.push(i64::from(strip * 125_000_000 + further))?;
+    }
+    Ok(CutLine {
+        tick,
+        cuts: Cuts {
+            xs,
+            ys: List::new(alloc),
+        },
+    })
+}
+
+/// The cut plan of a trial with epochs of so many ticks, 1 to 16: eight strips, whose cuts lie 5
+/// units further in the second epoch.
+fn trial_plan(alloc: Global, epoch: u64) -> Result<CutPlan, NoMemory>
+    requires some { 1 ≤ epoch }
+    requires few { epoch ≤ 16 }
+    ensures plan { IfOk result (λ plan. plan ≡ trial_plan epoch) }
+    ensures lawful { IfOk result (IsPlan epoch) }
+{
+    let mut lines = List::new(alloc);
+    lines.push(strips_at(alloc, 0, 0)?)?;
+    lines.push(strips_at(alloc, epoch, 5_000_000)?)?;
+    lines.push(strips_at(alloc, 2 * epoch, 0)?)?;
+    Ok(CutPlan { lines })
+}
+
+/// The setting of a trial of a program, over agents that are made.
+pub fn trial_setting(
+    alloc: Global,
+    trial: &TrialCommand,
+    program: Program,
+) -> Result<Setting, NoMemory>
+    requires range { IsTrialInRange trial.now }
+    requires lawful { LawfulProgram program }
+    requires four_fixed { has_four_fixed program ≡ true }
+    ensures setting { IfOk result (λ s. s ≡ trial_setting (said_trial trial.now) program) }
+    ensures lawful { IfOk result LawfulSetting }
+{
+    let epoch = trial.manner.epoch;
+    let job = Job {
         program,
         seed: trial.seed,
         first: 0,
         last: trial.ticks,
-        every: 1,
+        every: 4_294_967_296,
         start: make_agents(alloc, trial.seed, trial.count)?,
+    };
+    Ok(Setting {
+        job,
+        cuts: trial_plan(alloc, epoch)?,
+        epoch,
+        invert: trial.manner.invert,
     })
 }
 
-/// The world of a job's last tick, at most 2^32, or the fault in which its run from tick 0 ends.
-pub fn end_of(alloc: Global, job: &Job) -> Result<Result<World, Fault>, NoMemory>
-    requires lawful { LawfulProgram job.now.program }
-    requires fresh { job.now.first ≡ 0 }
-    requires ticks { job.now.last ≤ 2 ^ 32 }
-    ensures { IfOk result (λ end. end_of job.now ≡ end) }
-{
-    let mut world = job.start.copy(alloc)?;
-    for tick in 0..job.last {
-        match plain_step(alloc, job, tick, &world) {
-            Ok(next) => world = next,
-            Err(StepFault::Fault(fault)) => return Ok(Err(fault)),
-            Err(StepFault::NoMemory) => return Err(NoMemory),
-        }
-    }
-    Ok(Ok(world))
-}
-
-/// Where an agent of a program stands, in millionths, along x and along y.
-fn place(program: &Program, agent: &Agent) -> (i64, i64)
-    ensures x { result.0 ≡ place_along x_of program.now agent.now }
-    ensures y { result.1 ≡ place_along y_of program.now agent.now }
-{
-    match class_of(program, agent) {
-        Some(class) => (x_of(class, agent), y_of(class, agent)),
-        None => (0, 0),
-    }
-}
-
-/// The sums of where agents stand, in millionths, along x and along y.
-fn sums(program: &Program, agents: &[Agent]) -> (i128, i128)
-    ensures x { result.0 ≡ sum_of (place_along x_of program.now) agents.now }
-    ensures y { result.1 ≡ sum_of (place_along y_of program.now) agents.now }
-{
-    let (mut sum_x, mut sum_y) = (0, 0);
-    for agent in agents {
-        let (x, y) = place(program, agent);
-        sum_x += i128::from(x);
-        sum_y += i128::from(y);
-    }
-    (sum_x, sum_y)
-}
-
-/// The line of a trial, over the agents of its last world.
+/// The line of a trial, with the sums of x and of y over the agents of its last world.
 pub fn trial_line(
     alloc: Global,
     trial: &TrialCommand,
-    program: &Program,
-    agents: &[Agent],
+    sums: (i128, i128),
 ) -> Result<Vec<u8>, NoMemory>
     ensures { IfOk result (λ line. line.items
-        ≡ trial_line trial.now.count trial.now.ticks program.now agents.now) }
+        ≡ trial_line trial.now.count trial.now.ticks sums) }
 {
-    let (x, y) = sums(program, agents);
     let mut line = Vec::new(alloc);
     line.extend_from_slice(b"trial agents ")?;
     print_count(&mut line, u64::from(trial.count))?;
     line.extend_from_slice(b" ticks ")?;
     print_count(&mut line, trial.ticks)?;
     line.extend_from_slice(b" x ")?;
-    line.extend_from_slice(Buffer::new().format(x).as_bytes())?;
+    line.extend_from_slice(Buffer::new().format(sums.0).as_bytes())?;
     line.extend_from_slice(b" y ")?;
-    line.extend_from_slice(Buffer::new().format(y).as_bytes())?;
+    line.extend_from_slice(Buffer::new().format(sums.1).as_bytes())?;
     line.push(b'\n')?;
     Ok(line)
 }

@@ -1,20 +1,39 @@
-ghost use Rattle.std.specs.Prelude.{◌≡◌, MatchOption, IfSome, None, Some};
+ghost use Rattle.std.specs.Prelude.{◌≡◌, option_map, MatchOption, IfSome, None, Some};
 ghost use Rattle.brace_words.specs.Lines as lines;
-ghost use Rattle.brace_top.specs.Commands.{built, command_in, run_of, trial_of};
-ghost use Rattle.brace_top.specs.inner.Words.{said, IsInRange};
+ghost use Rattle.brace_top.specs.Commands.{built, command_in, manner_of, run_of, trial_of};
+ghost use Rattle.brace_top.specs.inner.Words.{said, said_manner, IsInRange, IsMannerInRange};
 
+use brace_num::Text;
 use brace_words::{Line, Mode};
+
+/// How a run is worked. Only the counts depend on it: no row and no checkpoint does.
+#[derive(Debug, Clone, Copy)]
+pub struct Manner {
+    /// How many ticks an epoch has, 1 to 16.
+    pub epoch: u64,
+    /// The number that draws the order of the parts' work.
+    pub order: u64,
+    /// Whether values are said by the owners of those to whom they are said.
+    pub invert: bool,
+    /// Whether counts are told at the end.
+    pub stats: bool,
+}
 
 /// A run from an agent file up to a last tick, at most 2^32.
 #[derive(Debug, Clone, Copy)]
 pub struct RunCommand<'a> {
     pub script: &'a str,
     pub agents: &'a str,
+    /// The cut plan; without one the plane is one part.
+    pub cuts: Option<&'a str>,
+    /// The world of the end k of an epoch is saved as `NAME.k`, where this is NAME.
+    pub save: Option<&'a str>,
     pub ticks: u64,
     /// The seed of all draws.
     pub seed: u64,
     /// Ticks that this number divides are published, and the last one. At least 1.
     pub every: u64,
+    pub manner: Manner,
 }
 
 /// A run of the program's own script up to a last tick, at most 2^32.
@@ -25,6 +44,7 @@ pub struct TrialCommand {
     pub ticks: u64,
     /// The seed of the agents and of all draws.
     pub seed: u64,
+    pub manner: Manner,
 }
 
 /// What the words of a command ask for.
@@ -42,19 +62,32 @@ pub enum Command<'a> {
 
 /// Whether a line asks for nothing that is not built yet.
 ///
-/// Not built are the modes `resume` and `plan`, more workers than one, and the options `--cuts`,
-/// `--order`, `--epoch`, `--save`, `--invert` and `--stats`.
+/// Not built are the modes `resume` and `plan`, and more workers than one.
 pub fn built(line: &Line) -> bool
     ensures { result ≡ built line.now }
 {
-    !matches!(line.mode, Mode::Resume | Mode::Plan)
-        && line.cuts.is_none()
-        && line.order.is_none()
-        && line.epoch.is_none()
-        && line.save.is_none()
-        && !line.invert
-        && !line.stats
-        && line.workers.unwrap_or(1) == 1
+    !matches!(line.mode, Mode::Resume | Mode::Plan) && line.workers.unwrap_or(1) == 1
+}
+
+/// How a line's run is worked.
+fn manner_of(line: &Line) -> Manner
+    requires { lines.IsInRange line.now }
+    ensures manner { said_manner result ≡ manner_of line.now }
+    ensures range { IsMannerInRange result }
+{
+    Manner {
+        epoch: line.epoch.unwrap_or(16),
+        order: line.order.unwrap_or(0),
+        invert: line.invert,
+        stats: line.stats,
+    }
+}
+
+/// A name that may be given.
+fn name_of(name: &Option<Text>) -> Option<&str>
+    ensures { option_map (λ n. n.now) result ≡ name.now }
+{
+    name.as_ref().map(|name| name.as_str())
 }
 
 /// The run that a line asks for, where it names the script, the agent file and the last tick.
@@ -69,9 +102,12 @@ fn run_of(line: &Line) -> Option<Command<'_>>
     Some(Command::Run(RunCommand {
         script: line.script.as_ref()?.as_str(),
         agents: line.agents.as_ref()?.as_str(),
+        cuts: name_of(&line.cuts),
+        save: name_of(&line.save),
         ticks: line.ticks?,
         seed: line.seed.unwrap_or(0),
         every: line.every.unwrap_or(1),
+        manner: manner_of(line),
     }))
 }
 
@@ -86,6 +122,7 @@ fn trial_of(line: &Line) -> Option<Command<'_>>
         count: line.count?,
         ticks: line.ticks?,
         seed: line.seed.unwrap_or(0),
+        manner: manner_of(line),
     }))
 }
 

@@ -1,21 +1,28 @@
 -- What the parts of a command come to, before it is answered. Only the crate's own functions cite
 -- this.
-use Rattle.std.specs.Prelude.{◌≡◌, ℕ, List, Bool, true, false, Option, Some, Result, Ok, Err, ⊤}
+use Rattle.std.specs.Prelude.{◌≡◌, ℕ, List, [], Bool, true, false, Option, Some, None, option_map, Result, Ok, Err, ⊤}
 use Rattle.brace_io.specs.Shelves.{Files}
 use Rattle.brace_top.specs.declared.answer.Answer.{Answer}
 use Rattle.brace_top.specs.declared.answer.Stopped.{Stopped}
 use Rattle.brace_top.specs.declared.answer.Stopped.TheVariants as stopped
 use Rattle.brace_io.specs.declared.shelf.Shelf as shelf_trait
 use Rattle.brace_io.specs.declared.sink.Sink as sink_trait
-use Rattle.brace_top.specs.declared.job.RunFault.{RunFault}
-use Rattle.brace_top.specs.declared.job.RunFault.TheVariants as run_fault
+use Rattle.brace_top.specs.declared.task.Task.{Task}
 use Rattle.brace_top.specs.declared.status.Status.{Status}
-use Rattle.brace_top.specs.declared.status.Status.TheVariants.{Done, Usage, Script, Agents, Fault, ReadFault, WriteFault, NoMemory, Absent}
-use Rattle.brace_top.specs.Answer.{ShelfCall, SinkCall, shelf_call, sink_call, Among, IsUnread, IsUnwritten, IsGivenUp, IsEnd, IsAnswer, CountsReads, CountsWrites}
-use Rattle.brace_top.specs.Status.{has_run, is_refusal}
-use Rattle.brace_top.specs.Commands.{Command}
-use Rattle.brace_top.specs.Messages.{record_message, write_fault_message, no_memory_message}
-use Rattle.brace_top.specs.Outcome.{Outcome, Refusal, script_message}
+use Rattle.brace_top.specs.declared.status.Status.TheVariants.{Done, Usage, Script, Agents, Plan, Fault, ReadFault, WriteFault, SaveFault, NoMemory, Absent}
+use Rattle.brace_top.specs.Answer.{ShelfCall, SinkCall, shelf_call, sink_call, Among, IsUnread, IsUnwritten, IsGivenUp, IsEnd, IsUnsaved, IsAnswer, CountsShelf, CountsReads, CountsWrites}
+use Rattle.brace_top.specs.Status.{has_run, is_refusal, saves_nothing}
+use Rattle.brace_top.specs.Commands.{Command, may_save}
+use Rattle.brace_top.specs.Messages.{record_message, line_message, stats_message, fault_message, write_fault_message, save_fault_message, no_memory_message}
+use Rattle.brace_top.specs.Outcome.{Outcome, Refusal, script_message, ran}
+use Rattle.brace_cuts.specs.declared.kinds.PlanFault.{PlanFault}
+use Rattle.brace_cuts.specs.declared.kinds.PlanFault.TheVariants as plan_fault
+use Rattle.brace_part.specs.declared.counts.Counts.{Counts}
+use Rattle.brace_crew.specs.declared.keeper.Keeper as keeper_trait
+use Rattle.brace_crew.specs.Shows.{file_name}
+use Rattle.brace_crew.specs.declared.crew.CrewFault.{CrewFault}
+use Rattle.brace_crew.specs.declared.crew.CrewFault.TheVariants as crew
+use Rattle.brace_crew.specs.declared.publisher.PubFault.TheVariants as refusal
 use Rattle.brace_rows.specs.declared.kinds.RowFault.{RowFault}
 use Rattle.brace_rows.specs.declared.kinds.RowFault.TheVariants as row_fault
 use Rattle.brace_top.specs.declared.script_fault.ScriptFault.{ScriptFault}
@@ -43,11 +50,6 @@ abbrev pub message_in : Result Answer Stopped → List ℕ
 message_in (Ok answer) = answer.message.items
 message_in (Err e) = stopped_message e
 
--- how a run that was given up stops its command
-abbrev pub stopped_by : RunFault → Stopped
-stopped_by run_fault.Write = stopped.WriteFault
-stopped_by run_fault.NoMemory = stopped.NoMemory
-
 -- the answer has this status and this message
 pub record IsOf (status : Status) (message : List ℕ) (answer : Answer) : Type 0 where
   pub ends : answer.status ≡ status
@@ -71,10 +73,59 @@ IsRecordRefused name (row_fault.Bad number kind) stop =
     IsRefusedAs Agents (record_message name number kind) stop
 IsRecordRefused name row_fault.NoMemory stop = stop ≡ stopped.NoMemory
 
+-- a cut plan is refused for the fault of a line
+abbrev pub IsPlanRefused : List ℕ → PlanFault → Stopped → Type 0
+IsPlanRefused name (plan_fault.Bad number kind) stop =
+    IsRefusedAs Plan (line_message name number kind) stop
+IsPlanRefused name plan_fault.NoMemory stop = stop ≡ stopped.NoMemory
+
+-- a command ended with this status and this message, or memory was refused for it
+abbrev pub IsToldAs : Status → List ℕ → Result Answer Stopped → Type 0
+IsToldAs status message (Ok answer) = IsOf status message answer
+IsToldAs status message (Err stop) = stop ≡ stopped.NoMemory
+
+-- the counts that parts gave, where they are to be told
+abbrev pub told_counts : Bool → Counts → List ℕ
+told_counts true c = stats_message c.border c.effects c.moved c.handed
+told_counts false c = []
+
+-- what is kept on a shelf over a call
+abbrev pub keeper_call : {K : Type 0} → keeper_trait.Ghosts K → K → K → ShelfCall
+keeper_call of before after = record {
+  held = of.held before;
+  held_after = of.held after;
+  stage = of.stage after;
+  faults_before = of.faults before;
+  faults_after = of.faults after;
+}
+
+-- the outcome of a run that can begin
+abbrev pub outcome_of : Task → Outcome
+outcome_of task =
+    ran task.stats (option_map (λ name. name.now) task.save) task.fresh task.setting
+
+-- the command goes no further, and so
+abbrev pub IsErrOf : (Stopped → Type 0) → Result Answer Stopped → Type 0
+IsErrOf so (Ok answer) = ⊥
+IsErrOf so (Err stop) = so stop
+
+-- a run is answered by what its crew came to
+abbrev pub IsSettled : Bool → Option (List ℕ) → Result Counts CrewFault → Result Answer Stopped
+    → Type 0
+IsSettled stats save (Ok counts) r = IsToldAs Done (told_counts stats counts) r
+IsSettled stats save (Err (crew.Fault f)) r = IsToldAs Fault (fault_message f) r
+IsSettled stats save (Err (crew.Publish refusal.Write)) r = r ≡ Err stopped.WriteFault
+IsSettled stats (Some name) (Err (crew.Publish (refusal.Save k))) r =
+    IsErrOf (IsRefusedAs SaveFault (save_fault_message (file_name name k))) r
+IsSettled stats None (Err (crew.Publish (refusal.Save k))) r = r ≡ Err stopped.NoMemory
+IsSettled stats save (Err (crew.Publish refusal.NoMemory)) r = r ≡ Err stopped.NoMemory
+IsSettled stats save (Err crew.NoMemory) r = r ≡ Err stopped.NoMemory
+
 -- the status refuses a file, with no fault of the outside
 abbrev pub refuses_file : Status → Bool
 refuses_file Script = true
 refuses_file Agents = true
+refuses_file Plan = true
 refuses_file Absent = true
 refuses_file status = false
 
@@ -82,6 +133,7 @@ refuses_file status = false
 abbrev pub is_stop : Status → Bool
 is_stop Script = true
 is_stop Agents = true
+is_stop Plan = true
 is_stop ReadFault = true
 is_stop NoMemory = true
 is_stop Absent = true
@@ -111,39 +163,61 @@ pub record IsUnloaded {A : Type 0} (comes_to : Files → Result A Refusal → Ty
     (shelf : ShelfCall) (stopped : Stopped) : Type 0 where
   pub nothing : GivesNothing (λ files r. comes_to files (Err r)) name shelf
       (stopped_message stopped) (stopped_status stopped)
-  pub counts : CountsReads shelf (stopped_status stopped)
+  pub counts : CountsShelf shelf (stopped_status stopped)
 
 -- a command is answered so, whatever its sink is that gained nothing
 abbrev pub IsStopped : Option Command → ShelfCall → List ℕ → Status → Type 0
 IsStopped command shelf message status =
-    (files : Files) (out : SinkCall) → shelf.held ≡ Some files → out.after ≡ out.before
-    → IsAnswer files command shelf out message status
+    (files : Files) (out : SinkCall) → shelf.held ≡ Some files → shelf.held_after ≡ shelf.held
+    → out.after ≡ out.before → IsAnswer files command shelf out message status
 
--- one of the outcomes was carried out, or a write of its text failed, or memory was refused
-abbrev pub IsCarriedOut : (Outcome → Type 0) → SinkCall → List ℕ → Status → Type 0
-IsCarriedOut outcomes out message ReadFault = ⊥
-IsCarriedOut outcomes out message WriteFault = Among outcomes (IsUnwritten out message)
-IsCarriedOut outcomes out message NoMemory = IsGivenUp outcomes out message
-IsCarriedOut outcomes out message status = Among outcomes (IsEnd status out message)
+-- one of the outcomes was carried out over these files, or a write of its text failed, or a file of
+-- it was not saved, or memory was refused
+abbrev pub IsCarriedOut : Files → (Outcome → Type 0) → ShelfCall → SinkCall → List ℕ → Status
+    → Type 0
+IsCarriedOut files outcomes shelf out message ReadFault = ⊥
+IsCarriedOut files outcomes shelf out message WriteFault =
+    Among outcomes (IsUnwritten files shelf out message)
+IsCarriedOut files outcomes shelf out message SaveFault =
+    Among outcomes (IsUnsaved files shelf out message)
+IsCarriedOut files outcomes shelf out message NoMemory =
+    IsGivenUp files outcomes shelf out message
+IsCarriedOut files outcomes shelf out message status =
+    Among outcomes (IsEnd files status shelf out message)
+
+-- one of the outcomes was carried out by a command that saves nothing, whatever files are held
+abbrev pub IsWritten : (Outcome → Type 0) → SinkCall → List ℕ → Status → Type 0
+IsWritten outcomes out message status =
+    (files : Files) (shelf : ShelfCall) → shelf.held ≡ Some files → shelf.held_after ≡ shelf.held
+    → IsCarriedOut files outcomes shelf out message status
 
 -- the status of a command whose work was begun
 abbrev pub is_work : Status → Bool
 is_work Done = true
 is_work Fault = true
 is_work WriteFault = true
+is_work SaveFault = true
 is_work NoMemory = true
 is_work status = false
 
--- a command was served: it is answered, failures of the shelf and the sink are counted, and the
--- sink stands as the status says
+-- the status of a command whose work was begun and which saves nothing
+abbrev pub is_plain_work : Status → Bool
+is_plain_work SaveFault = false
+is_plain_work status = is_work status
+
+-- a command was served: it is answered, failures of the shelf and the sink are counted, and both
+-- stand as the status says
 pub record IsServed {S O : Type 0} (of_shelf : shelf_trait.Ghosts S) (of_sink : sink_trait.Ghosts O)
     (command : Command) (shelf shelf_after : S) (out out_after : O) (r : Result Answer Stopped)
     : Type 0 where
   pub answered : (files : Files) → of_shelf.held shelf ≡ Some files
       → IsAnswer files (Some command) (shelf_call of_shelf shelf shelf_after)
       (sink_call of_sink out out_after) (message_in r) (status_in r)
-  pub reads : CountsReads (shelf_call of_shelf shelf shelf_after) (status_in r)
+  pub counts : CountsShelf (shelf_call of_shelf shelf shelf_after) (status_in r)
+  pub reads : may_save (Some command) ≡ false
+      → CountsReads (shelf_call of_shelf shelf shelf_after) (status_in r)
   pub writes : CountsWrites (sink_call of_sink out out_after) (status_in r)
   pub untouched : is_refusal (status_in r) ≡ true → out_after ≡ out
+  pub unsaved : saves_nothing (status_in r) ≡ true → of_shelf.held shelf_after ≡ of_shelf.held shelf
   pub clean : has_run (status_in r) ≡ true → of_sink.clean out_after ≡ true
   pub known : status_in r ≡ Usage → ⊥

@@ -1,24 +1,42 @@
 -- The command that the code read, as the definitions see it.
-use Rattle.std.specs.Prelude.{◌≤◌, ◌^◌, ⊤}
+use Rattle.std.specs.Prelude.{◌≤◌, ◌^◌, option_map, ⊤}
 use Rattle.brace_top.specs.declared.words.Command.{Command as CodeCommand}
 use Rattle.brace_top.specs.declared.words.Command.TheVariants as code
+use Rattle.brace_top.specs.declared.words.Manner.{Manner as CodeManner}
 use Rattle.brace_top.specs.declared.words.RunCommand.{RunCommand as CodeRun}
 use Rattle.brace_top.specs.declared.words.TrialCommand.{TrialCommand as CodeTrial}
-use Rattle.brace_top.specs.Commands.{Command, RunCommand, TrialCommand, Run, Format, Check, Trial}
+use Rattle.brace_top.specs.Commands.{Command, Manner, RunCommand, TrialCommand, Run, Format, Check, Trial}
+
+-- how a run is worked
+abbrev pub said_manner : CodeManner → Manner
+said_manner manner = record {
+  epoch = manner.epoch;
+  order = manner.order;
+  invert = manner.invert;
+  stats = manner.stats;
+}
 
 -- what a run asks for
 abbrev pub said_run : CodeRun → RunCommand
 said_run run = record {
   script = run.script.now;
   agents = run.agents.now;
+  cuts = option_map (λ name. name.now) run.cuts;
+  save = option_map (λ name. name.now) run.save;
   ticks = run.ticks;
   seed = run.seed;
   every = run.every;
+  manner = said_manner run.manner;
 }
 
 -- what a trial asks for
 abbrev pub said_trial : CodeTrial → TrialCommand
-said_trial trial = record { count = trial.count; ticks = trial.ticks; seed = trial.seed }
+said_trial trial = record {
+  count = trial.count;
+  ticks = trial.ticks;
+  seed = trial.seed;
+  manner = said_manner trial.manner;
+}
 
 -- what a command asks for
 abbrev pub said : CodeCommand → Command
@@ -27,15 +45,22 @@ said (code.Format script) = Format script.now
 said (code.Check script) = Check script.now
 said (code.Trial trial) = Trial (said_trial trial)
 
+-- epochs have 1 to 16 ticks
+pub record IsMannerInRange (manner : CodeManner) : Type 0 where
+  pub some_ticks : 1 ≤ manner.epoch
+  pub few_ticks : manner.epoch ≤ 16
+
 -- the last tick of a run is within the limit, and some tick is published
 pub record IsRunInRange (run : CodeRun) : Type 0 where
   pub ticks : run.ticks ≤ 2 ^ 32
   pub every : 1 ≤ run.every
+  pub manner : IsMannerInRange run.manner
 
 -- the agents and the last tick of a trial are within their limits
 pub record IsTrialInRange (trial : CodeTrial) : Type 0 where
   pub count : trial.count ≤ 2 ^ 20
   pub ticks : trial.ticks ≤ 2 ^ 32
+  pub manner : IsMannerInRange trial.manner
 
 -- the numbers of a command are in range
 abbrev pub IsInRange : CodeCommand → Type 0

@@ -1,7 +1,7 @@
 use Rattle.std.proofs.Common.{sym, subst, ◌+◌, arith}
 use Rattle.brace_core.specs.Lanes.{AreBelow}
 use Rattle.brace_pieces.specs.Steps.{schedule}
-use Rattle.brace_part.proofs.WorkedLawful.{few_actors, parts_below, schedule_short}
+use Rattle.brace_pieces.proofs.LanesFor.{few_actors, parts_below, schedule_short}
 use Rattle.brace_crew.proofs.tests.run.Goals as goal
 
 pub overflow_add-parts : goal.overflow_add-parts

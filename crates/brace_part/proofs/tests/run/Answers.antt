@@ -2,7 +2,7 @@ use Rattle.std.proofs.Common.{◌∙◌, sym, subst, ◌+◌, arith}
 use Rattle.brace_core.specs.Lanes.{AreBelow}
 use Rattle.brace_pieces.specs.Steps.{schedule}
 use Rattle.brace_pieces.proofs.ScheduleLemmas.{schedule_lawful}
-use Rattle.brace_part.proofs.WorkedLawful.{few_actors, parts_below, schedule_short}
+use Rattle.brace_pieces.proofs.LanesFor.{few_actors, parts_below, schedule_short}
 use Rattle.brace_part.proofs.MemberLemmas.{of_one_setting, all_numbered, at_first_turns}
 use Rattle.brace_part.proofs.tests.run.Goals as goal
 

@@ -8,7 +8,7 @@ use Rattle.brace_top.proofs.command.carry_out.Goals as goal
 pub returns-in-Err-Usage-clause-answered : goal.returns-in-Err-Usage-clause-answered
 returns-in-Err-Usage-clause-answered g c files told = rw c.say_usage.ensures.status (record {
   message = usage_message;
-  answer = usage_answer _ files (shelf_call g.S.Shelf c.args.shelf.now c.args.shelf.now) _ (command_of_none _ (c.in-Err-Usage.ensures.usage c.in-Err-Usage.field-0-is)) refl;
+  answer = usage_answer _ files (shelf_call g.S.Shelf c.args.shelf.now c.args.shelf.now) _ (command_of_none _ (c.in-Err-Usage.ensures.usage c.in-Err-Usage.field-0-is)) told refl refl;
   said = c.say_usage.ensures.said;
 })
 
@@ -18,14 +18,14 @@ returns-in-Err-Usage-clause-usage g c e = command_of_none _ (c.in-Err-Usage.ensu
 pub returns-in-Err-NoMemory-clause-answered : goal.returns-in-Err-NoMemory-clause-answered
 returns-in-Err-NoMemory-clause-answered g c files told = rw c.say.ensures.status (record {
   message = no_memory_message;
-  answer = memory_answer files _ (shelf_call g.S.Shelf c.args.shelf.now c.args.shelf.now) _ refl;
+  answer = memory_answer files _ (shelf_call g.S.Shelf c.args.shelf.now c.args.shelf.now) _ refl refl;
   said = c.say.ensures.said;
 })
 
 pub returns-in-None-clause-answered : goal.returns-in-None-clause-answered
 returns-in-None-clause-answered g c files told = rw c.say_usage-in-None.ensures.status (record {
   message = usage_message;
-  answer = usage_answer _ files (shelf_call g.S.Shelf c.args.shelf.now c.args.shelf.now) _ (command_of_line _ _ _ c.in-Ok.ensures.line c.in-None.ensures.command) refl;
+  answer = usage_answer _ files (shelf_call g.S.Shelf c.args.shelf.now c.args.shelf.now) _ (command_of_line _ _ _ c.in-Ok.ensures.line c.in-None.ensures.command) told refl refl;
   said = c.say_usage-in-None.ensures.said;
 })
 

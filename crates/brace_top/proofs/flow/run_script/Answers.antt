@@ -1,13 +1,16 @@
-use Rattle.std.proofs.Common.{◌∙◌, ◌≡◌, refl, sym}
-use Rattle.std.specs.Prelude.{[], Ok, Err, Result, Some}
+use Rattle.std.proofs.Common.{◌∙◌, ◌≡◌, ◌≤◌, refl, sym, ap, subst, arith}
+use Rattle.std.specs.Prelude.{[], true, unwrap_or, Ok, Err, Result, Some}
 use Rattle.std.proofs.lemmas.Result.{err_from_is_err_and}
 use Rattle.brace_io.specs.Shelves.{Files}
 use Rattle.brace_model.specs.declared.program.Program.{Program}
+use Rattle.brace_model.specs.Next.{has_births}
+use Rattle.brace_pieces.specs.declared.setting.Setting.{Setting}
+use Rattle.brace_pieces.specs.Settings.{LawfulSetting}
 use Rattle.brace_top.specs.declared.status.Status.TheVariants.{Script}
 use Rattle.brace_top.specs.Commands.{Run}
-use Rattle.brace_top.specs.Outcome.{Refusal, ProgramOf, CommandOutcome, followed_by, shown, agents_of, reads_script, reads_agents}
+use Rattle.brace_top.specs.Outcome.{Refusal, ProgramOf, CommandOutcome, followed_by, shown, agents_of, plan_of, ran, reads_script, reads_agents}
 use Rattle.brace_top.specs.inner.Words.{said_run}
-use Rattle.brace_top.proofs.AnswerLemmas.{stopped_serves, refusal_unloads, unloaded_later, work_serves, births_refused, agents_refused, run_ended}
+use Rattle.brace_top.proofs.AnswerLemmas.{stop_serves, stopped_serves, refusal_unloads, unloaded_later, later_work_serves, births_refused, agents_refused, plan_refused, plan_read, none_of, run_ended, run_is_lawful}
 use Rattle.brace_top.proofs.flow.run_script.Goals as goal
 
 pub returns-in_err-program-clause-served : goal.returns-in_err-program-clause-served
@@ -15,7 +18,8 @@ returns-in_err-program-clause-served g c =
     let run = said_run c.args.run.now in
     let p = err_from_is_err_and c.from_residual.result c.from_residual.ensures.1 in
     rw (p.1, p.2) (stopped_serves g.S.Shelf g.O.Sink (Run run) _ _ _ (λ files. ProgramOf files run.script) run.script _
-    (λ files told. reads_script _ _ refl) (λ files r told is. record { found = Err r; is = is; follows = refl }) c.in_err-program.ensures.loads)
+    (λ files told. reads_script _ _ refl) (λ files r told is. record { found = Err r; is = is; follows = refl })
+    c.in_err-program.ensures.held c.in_err-program.ensures.loads)
 
 pub returns-then-has_births-clause-served : goal.returns-then-has_births-clause-served
 returns-then-has_births-clause-served g c =
@@ -23,7 +27,7 @@ returns-then-has_births-clause-served g c =
     let program = c.in_ok-program.program in
     let turned_down : Files → Result Program Refusal → Type 0 = λ files found. CommandOutcome files (Some (Run run)) (followed_by (λ p. shown []) found) in
     stopped_serves g.S.Shelf g.O.Sink (Run run) _ _ _ turned_down run.script _
-    (λ files told. reads_script _ _ refl) (λ files r told is. is)
+    (λ files told. reads_script _ _ refl) (λ files r told is. is) c.in_ok-program.ensures.held
     (refusal_unloads turned_down run.script _ Script _ _ refl c.in_ok-program.ensures.loads.counts c.refuse_file.ensures
     (λ files told. record { found = Ok program; is = c.in_ok-program.ensures.loads.found files told; follows = births_refused files run program (sym c.has_births.ensures ∙ c.if-has_births.true) }))
 
@@ -36,16 +40,55 @@ returns-in_err-start-clause-served g c =
     rw (p.1, p.2) (stopped_serves g.S.Shelf g.O.Sink (Run run) _ _ _ (λ files found. agents_of files program run.agents ≡ found) run.agents _
     (λ files told. reads_agents run program (c.in_ok-program.ensures.loads.found files told) without)
     (λ files r told is. record { found = Ok program; is = c.in_ok-program.ensures.loads.found files told; follows = agents_refused files run program r without is })
+    (c.in_err-start.ensures.held ∙ c.in_ok-program.ensures.held)
     (unloaded_later g.S.Shelf _ run.agents _ _ _ _ c.in_ok-program.ensures.held c.in_ok-program.ensures.loads.counts c.in_err-start.ensures.loads))
+
+pub returns-in_err-cuts-clause-served : goal.returns-in_err-cuts-clause-served
+returns-in_err-cuts-clause-served g c =
+    let run = said_run c.args.run.now in
+    let program = c.in_ok-program.program in
+    let start = c.in_ok-start.start in
+    let without = sym c.has_births.ensures ∙ c.if-has_births.false in
+    let held = c.in_ok-start.ensures.held ∙ c.in_ok-program.ensures.held in
+    let faults = c.in_ok-start.ensures.loads.counts ∙ c.in_ok-program.ensures.loads.counts in
+    let p = err_from_is_err_and c.from_residual-in_err-cuts.result c.from_residual-in_err-cuts.ensures.1 in
+    rw (p.1, p.2) (stop_serves g.S.Shelf g.O.Sink (Run run) _ _ _ (λ files found. plan_of files run.manner.epoch run.cuts ≡ found) (unwrap_or run.cuts []) _
+    (λ files told failed. plan_read files run program start (c.in_ok-program.ensures.loads.found files told) without
+    (c.in_ok-start.ensures.loads.found files (c.in_ok-program.ensures.held ∙ told)) (λ none. c.in_err-cuts.ensures.unread (none_of _ _ none) failed))
+    (λ files r told is. record {
+      found = Ok program;
+      is = c.in_ok-program.ensures.loads.found files told;
+      follows = plan_refused files run program start r without (c.in_ok-start.ensures.loads.found files (c.in_ok-program.ensures.held ∙ told)) is;
+    })
+    (c.in_err-cuts.ensures.held ∙ held)
+    (unloaded_later g.S.Shelf _ (unwrap_or run.cuts []) _ _ _ _ held faults c.in_err-cuts.ensures.loads))
+
+pub run_task-requires-clause-lawful : goal.run_task-requires-clause-lawful
+run_task-requires-clause-lawful g c =
+    subst LawfulSetting (sym c.task_of.ensures.setting)
+    (run_is_lawful c.args.run.now c.in_ok-program.program c.in_ok-start.start c.in_ok-cuts.cuts c.requires.range c.in_ok-program.ensures.lawful
+    c.in_ok-start.ensures.lawful c.in_ok-start.ensures.numbered c.in_ok-cuts.ensures.lawful)
+
+pub run_task-requires-clause-childless : goal.run_task-requires-clause-childless
+run_task-requires-clause-childless g c =
+    ap (λ (s : Setting). has_births s.job.program) c.task_of.ensures.setting ∙ sym c.has_births.ensures ∙ c.if-has_births.false
+
+pub run_task-requires-clause-begins : goal.run_task-requires-clause-begins
+run_task-requires-clause-begins g c = subst (λ (s : Setting). s.job.first ≤ s.job.last) (sym c.task_of.ensures.setting) (omega arith)
 
 pub returns-clause-served : goal.returns-clause-served
 returns-clause-served g c =
     let run = said_run c.args.run.now in
     let program = c.in_ok-program.program in
-    work_serves g.S.Shelf g.O.Sink (Run run) _ _ _ _ _ _ (c.in_ok-start.ensures.loads.counts ∙ c.in_ok-program.ensures.loads.counts)
+    let without = sym c.has_births.ensures ∙ c.if-has_births.false in
+    let held = c.in_ok-cuts.ensures.held ∙ c.in_ok-start.ensures.held ∙ c.in_ok-program.ensures.held in
+    let faults = c.in_ok-cuts.ensures.loads.counts ∙ c.in_ok-start.ensures.loads.counts ∙ c.in_ok-program.ensures.loads.counts in
+    later_work_serves g.S.Shelf g.O.Sink (Run run) _ _ _ _ _ _ _ refl held faults
     (λ files x told e. record {
       found = Ok program;
       is = c.in_ok-program.ensures.loads.found files told;
-      follows = e ∙ run_ended files run program c.in_ok-start.start (sym c.has_births.ensures ∙ c.if-has_births.false) (c.in_ok-start.ensures.loads.found files (c.in_ok-program.ensures.held ∙ told));
+      follows = e ∙ c.task_of.ensures.outcome ∙ ap (ran run.manner.stats run.save true) c.task_of.ensures.setting
+          ∙ run_ended files run program c.in_ok-start.start c.in_ok-cuts.cuts without (c.in_ok-start.ensures.loads.found files (c.in_ok-program.ensures.held ∙ told))
+          (c.in_ok-cuts.ensures.loads.found files (c.in_ok-start.ensures.held ∙ c.in_ok-program.ensures.held ∙ told));
     })
-    (rw c.job_of.ensures at c.run_whole.ensures.carried_out) c.run_whole.ensures.work c.run_whole.ensures.clean
+    c.run_task.ensures.carried_out c.run_task.ensures.work c.run_task.ensures.counts c.run_task.ensures.writes c.run_task.ensures.clean

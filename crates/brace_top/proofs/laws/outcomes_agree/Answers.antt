@@ -10,3 +10,6 @@ returns-clause-out c words files o p e f = (commands_agree files (command_of wor
 
 pub returns-clause-err : goal.returns-clause-err
 returns-clause-err c words files o p e f = (commands_agree files (command_of words) o p e f).err
+
+pub returns-clause-saved : goal.returns-clause-saved
+returns-clause-saved c words files o p e f = (commands_agree files (command_of words) o p e f).saved
