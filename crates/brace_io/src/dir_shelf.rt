@@ -3,9 +3,11 @@ ghost use Rattle.brace_io.specs.Counts.{next_count};
 ghost use Rattle.brace_io.specs.Shelves.{Idle, Stopped};
 
 use crate::count::Count;
+use crate::draft::Draft;
 use crate::{Failed, ReadFault, Shelf};
-use std::fs::{File, OpenFile};
-use std::io::{ErrorKind, Read, Write};
+use std::alloc::Global;
+use std::fs::File;
+use std::io::{ErrorKind, Read};
 use std::rt::Files;
 
 /// Where a shelf of host files stands, with the open file.
@@ -13,14 +15,19 @@ use std::rt::Files;
 pub(crate) enum DirStage<F> {
     Idle,
     Reading(F),
-    Writing(F),
+    Writing(Draft<F>),
     Stopped,
 }
 
 /// A shelf of host files; a name is a path from the current folder. It counts the host's failures
 /// and does not tell what files hold.
+///
+/// A file that is written stands beside its name, as `NAME.part`, and takes the name when it is
+/// whole and on the disk: until then the name keeps what it had, and so it does where the program
+/// ends in between. A file whose writing fails is removed.
 #[derive(Drop)]
 pub struct DirShelf<'a, R: Files> {
+    alloc: Global,
     rt: &'a R,
     stage: DirStage<R::File>,
     faults: Count,
@@ -31,11 +38,12 @@ impl<'a, R: Files> DirShelf<'a, R> {
     ghost use Rattle.brace_io.specs.inner.HostStages.{host_stage};
 
     /// An idle shelf without failures.
-    pub fn make(rt: &'a R) -> DirShelf<'a, R>
+    pub fn make(alloc: Global, rt: &'a R) -> DirShelf<'a, R>
         ensures idle { ⟦<DirShelf<'a, R> as Shelf>⟧.stage result ≡ Idle }
         ensures faultless { ⟦<DirShelf<'a, R> as Shelf>⟧.faults result ≡ 0 }
     {
         DirShelf {
+            alloc,
             rt,
             stage: DirStage::Idle,
             faults: Count::zero(),
@@ -47,6 +55,9 @@ impl<'a, R: Files> DirShelf<'a, R> {
         ensures next { self.new.faults ≡ next_count self.old.faults }
         ensures never_falls { self.old.faults ≤ self.new.faults }
     {
+        if let DirStage::Writing(draft) = &self.stage {
+            draft.remove(self.rt);
+        }
         self.stage = DirStage::Stopped;
         self.faults.raise();
         Failed
@@ -91,20 +102,20 @@ impl<'a, R: Files> Shelf for DirShelf<'a, R> {
     }
 
     fn create(&mut self, name: &str) -> Result<(), Failed> {
-        match File::create(self.rt, name) {
-            Ok(file) => {
-                self.stage = DirStage::Writing(file);
+        match Draft::create(self.alloc, self.rt, name) {
+            Some(draft) => {
+                self.stage = DirStage::Writing(draft);
                 Ok(())
             }
-            Err(_) => Err(self.fail()),
+            None => Err(self.fail()),
         }
     }
 
     fn append(&mut self, piece: &[u8]) -> Result<usize, Failed> {
-        let DirStage::Writing(file) = &mut self.stage else {
+        let DirStage::Writing(draft) = &mut self.stage else {
             return Err(self.fail());
         };
-        match file.write(piece) {
+        match draft.write(piece) {
             Ok(0) if !piece.is_empty() => Err(self.fail()),
             Ok(n) => Ok(n),
             Err(_) => Err(self.fail()),
@@ -112,10 +123,10 @@ impl<'a, R: Files> Shelf for DirShelf<'a, R> {
     }
 
     fn finish(&mut self) -> Result<(), Failed> {
-        let DirStage::Writing(file) = &self.stage else {
+        let DirStage::Writing(draft) = &self.stage else {
             return Err(self.fail());
         };
-        match file.sync_all() {
+        match draft.keep(self.rt) {
             Ok(()) => {
                 self.stage = DirStage::Idle;
                 Ok(())

@@ -4,6 +4,7 @@
 
 mod count;
 mod dir_shelf;
+mod draft;
 mod fault;
 mod gate;
 mod host_sink;

@@ -70,7 +70,7 @@ fn writes_nothing_at_a_call_that_fails(rt: HostRuntime) -> Result<(), Fail> {
 
 #[test]
 fn saves_and_reads_a_host_file(rt: HostRuntime) -> Result<(), Fail> {
-    let mut shelf = DirShelf::make(&rt);
+    let mut shelf = DirShelf::make(rt.alloc(), &rt);
     save_whole(&mut shelf, "brace_io_saved", b"abc")?;
     let bytes = read_whole(rt.alloc(), &mut shelf, "brace_io_saved", 3)?;
     assert_eq!(rt; bytes.as_slice(), b"abc".as_slice());
@@ -78,8 +78,25 @@ fn saves_and_reads_a_host_file(rt: HostRuntime) -> Result<(), Fail> {
 }
 
 #[test]
+fn keeps_a_host_file_until_the_new_one_is_whole(rt: HostRuntime) -> Result<(), Fail> {
+    let mut shelf = DirShelf::make(rt.alloc(), &rt);
+    save_whole(&mut shelf, "brace_io_kept", b"old")?;
+    shelf.create("brace_io_kept")?;
+    assert_eq!(rt; shelf.append(b"new")?, 3);
+    let mut other = DirShelf::make(rt.alloc(), &rt);
+    let old = read_whole(rt.alloc(), &mut other, "brace_io_kept", 3)?;
+    assert_eq!(rt; old.as_slice(), b"old".as_slice());
+    shelf.finish()?;
+    let new = read_whole(rt.alloc(), &mut other, "brace_io_kept", 3)?;
+    assert_eq!(rt; new.as_slice(), b"new".as_slice());
+    let beside = read_whole(rt.alloc(), &mut other, "brace_io_kept.part", 3);
+    assert!(rt; beside == Err(WholeFault::Absent));
+    Ok(())
+}
+
+#[test]
 fn finds_no_host_file_that_is_absent(rt: HostRuntime) -> Result<(), Fail> {
-    let mut shelf = DirShelf::make(&rt);
+    let mut shelf = DirShelf::make(rt.alloc(), &rt);
     let absent = read_whole(rt.alloc(), &mut shelf, "brace_io_absent", 9);
     assert!(rt; absent == Err(WholeFault::Absent));
     Ok(())

@@ -36,7 +36,7 @@ fn main(rt: HostRuntime) -> ExitCode {
         Ok(words) => words,
         Err(error) => return ExitCode::from(unread(&mut err, &error)),
     };
-    let mut shelf = DirShelf::make(&rt);
+    let mut shelf = DirShelf::make(rt.alloc(), &rt);
     let mut out = OutSink::make(rt.stdout());
     ExitCode::from(run(
         &rt,
