@@ -1,5 +1,5 @@
 -- The answer of a command, from what its parts come to.
-use Rattle.std.proofs.Common.{◌≡◌, ◌∙◌, refl, sym, ap, subst, ℕ, List, [], true, false, Bool, Option, Some, None, option_map, unwrap_or, Result, Ok, Err, codes, option_and_then, inl, inr, if◌then◌else◌, nat_lt, length, ◌≤◌, arith}
+use Rattle.std.proofs.Common.{◌≡◌, ◌∙◌, refl, sym, ap, subst, ℕ, List, [], true, false, Bool, Option, Some, None, option_map, unwrap_or, Result, Ok, Err, codes, option_and_then, inl, inr, if◌then◌else◌, nat_lt, length, ◌≤◌, ◌^◌, arith}
 use Rattle.std.specs.Prelude.{◌⊎◌}
 use Rattle.std.proofs.lemmas.Bool.Decides.{nat_tests}
 use Rattle.std.proofs.lemmas.List.{take_all}
@@ -19,6 +19,7 @@ use Rattle.brace_rows.specs.declared.kinds.RowFault.{RowFault}
 use Rattle.brace_rows.specs.declared.kinds.RowFault.TheVariants as row_fault
 use Rattle.brace_rows.specs.declared.kinds.RowKind.{RowKind}
 use Rattle.brace_rows.specs.AgentFile as file
+use Rattle.brace_save.specs.Texts.{Moment}
 use Rattle.brace_words.specs.declared.line.Line.{Line}
 use Rattle.brace_words.specs.Lines.{line_of}
 use Rattle.brace_top.specs.declared.answer.Answer.{Answer}
@@ -28,12 +29,12 @@ use Rattle.brace_top.specs.declared.limits.TheConstants.{AGENTS_LIMIT}
 use Rattle.brace_top.specs.declared.script_fault.ScriptFault.{ScriptFault}
 use Rattle.brace_top.specs.declared.script_fault.ScriptFault.TheVariants as script_fault
 use Rattle.brace_top.specs.declared.status.Status.{Status}
-use Rattle.brace_top.specs.declared.status.Status.TheVariants.{Done, Usage, Script, Agents, Plan, Fault, ReadFault, WriteFault, SaveFault, NoMemory, Absent}
+use Rattle.brace_top.specs.declared.status.Status.TheVariants.{Done, Usage, Script, Agents, Plan, Checkpoint, Fault, ReadFault, WriteFault, SaveFault, NoMemory, Absent}
 use Rattle.brace_top.specs.declared.words.RunCommand.{RunCommand as CodeRun}
 use Rattle.brace_top.specs.Answer.{ShelfCall, SinkCall, shelf_call, sink_call, Among, HasSaved, LeavesAll, LeavesFront, IsEnd, IsAnswer, CountsShelf, CountsReads, CountsWrites}
-use Rattle.brace_top.specs.Commands.{Command, RunCommand, TrialCommand, Run, Trial, command_in, command_of, may_save}
+use Rattle.brace_top.specs.Commands.{Command, RunCommand, TrialCommand, Run, Trial, is_anew, command_in, command_of, may_save}
 use Rattle.brace_top.specs.Messages.{named_message, usage_message, write_fault_message, no_memory_message}
-use Rattle.brace_top.specs.Outcome.{Outcome, Refusal, TrialProgram, ProgramOf, refusal, refused, loaded, ComesTo, refused_at, stands_for, unless_faulty, world_from, agents_of, plan_of, setting_of, ran, run_from, followed_by, run_outcome, CommandOutcome, Reads, reads_plan}
+use Rattle.brace_top.specs.Outcome.{Outcome, Refusal, TrialProgram, ProgramOf, refusal, refused, loaded, ComesTo, refused_at, stands_for, unless_faulty, world_from, agents_of, BeginsAt, plan_of, setting_of, ran, RunFrom, FollowedBy, RunOutcome, CommandOutcome, Reads, reads_plan}
 use Rattle.brace_top.specs.Savings.{Saving, with_saved}
 use Rattle.brace_top.specs.Status.{has_run}
 use Rattle.brace_top.specs.inner.Settled.{is_work, is_plain_work, stopped_status, stopped_message, status_in, message_in, IsOf, IsRefusedAs, IsScriptRefused, IsRecordRefused, refuses_file, is_stop, GivesNothing, IsLoaded, IsUnloaded, IsStopped, IsCarriedOut, IsWritten, IsServed}
@@ -56,6 +57,7 @@ nothing_as of_ to_ name shelf message SaveFault up is = absurd (let e = is.stops
 nothing_as of_ to_ name shelf message Script up is = record { stops = refl; found = λ files told. up files _ (is.found files told) }
 nothing_as of_ to_ name shelf message Agents up is = record { stops = refl; found = λ files told. up files _ (is.found files told) }
 nothing_as of_ to_ name shelf message Plan up is = record { stops = refl; found = λ files told. up files _ (is.found files told) }
+nothing_as of_ to_ name shelf message Checkpoint up is = record { stops = refl; found = λ files told. up files _ (is.found files told) }
 nothing_as of_ to_ name shelf message Absent up is = record { stops = refl; found = λ files told. up files _ (is.found files told) }
 
 -- what is not loaded does not give what may be made of it
@@ -78,6 +80,7 @@ refusing : (P : Files → Refusal → Type 0) (name : List ℕ) (shelf : ShelfCa
 refusing P name shelf message Script r found = record { stops = refl; found = found }
 refusing P name shelf message Agents r found = record { stops = refl; found = found }
 refusing P name shelf message Plan r found = record { stops = refl; found = found }
+refusing P name shelf message Checkpoint r found = record { stops = refl; found = found }
 refusing P name shelf message Absent r found = record { stops = refl; found = found }
 refusing P name shelf message ReadFault r found = absurd cc
 refusing P name shelf message NoMemory r found = absurd cc
@@ -92,6 +95,7 @@ refusing_counts : (shelf : ShelfCall) (status : Status) → refuses_file status 
 refusing_counts shelf Script r same = same
 refusing_counts shelf Agents r same = same
 refusing_counts shelf Plan r same = same
+refusing_counts shelf Checkpoint r same = same
 refusing_counts shelf Absent r same = same
 refusing_counts shelf ReadFault r same = absurd cc
 refusing_counts shelf NoMemory r same = absurd cc
@@ -197,6 +201,7 @@ nothing_stops P name shelf message Usage is = is.stops
 nothing_stops P name shelf message Script is = is.stops
 nothing_stops P name shelf message Agents is = is.stops
 nothing_stops P name shelf message Plan is = is.stops
+nothing_stops P name shelf message Checkpoint is = is.stops
 nothing_stops P name shelf message Fault is = is.stops
 nothing_stops P name shelf message WriteFault is = is.stops
 nothing_stops P name shelf message SaveFault is = is.stops
@@ -222,6 +227,8 @@ stops P name command shelf message Agents reads up is files out told held same =
     refusal_answer files command shelf out message Agents (up files _ told (is.found files told)) (record { ends = refl; gained = same; holds = held ∙ told; says = refl })
 stops P name command shelf message Plan reads up is files out told held same =
     refusal_answer files command shelf out message Plan (up files _ told (is.found files told)) (record { ends = refl; gained = same; holds = held ∙ told; says = refl })
+stops P name command shelf message Checkpoint reads up is files out told held same =
+    refusal_answer files command shelf out message Checkpoint (up files _ told (is.found files told)) (record { ends = refl; gained = same; holds = held ∙ told; says = refl })
 stops P name command shelf message Absent reads up is files out told held same =
     refusal_answer files command shelf out message Absent (up files _ told (is.found files told)) (record { ends = refl; gained = same; holds = held ∙ told; says = refl })
 stops P name command shelf message Done reads up is files out told held same = absurd (let e = is.stops in cc)
@@ -296,6 +303,7 @@ carried_as files these all shelf out message Usage up is = among_as these all _ 
 carried_as files these all shelf out message Script up is = among_as these all _ up is
 carried_as files these all shelf out message Agents up is = among_as these all _ up is
 carried_as files these all shelf out message Plan up is = among_as these all _ up is
+carried_as files these all shelf out message Checkpoint up is = among_as these all _ up is
 carried_as files these all shelf out message Fault up is = among_as these all _ up is
 carried_as files these all shelf out message Absent up is = among_as these all _ up is
 
@@ -311,6 +319,7 @@ carried_answer files command shelf out message Usage is = is
 carried_answer files command shelf out message Script is = is
 carried_answer files command shelf out message Agents is = is
 carried_answer files command shelf out message Plan is = is
+carried_answer files command shelf out message Checkpoint is = is
 carried_answer files command shelf out message Fault is = is
 carried_answer files command shelf out message Absent is = is
 
@@ -378,7 +387,7 @@ has_saved_none : (files : Files) (shelf : ShelfCall) (out : SinkCall) (o : Outco
 has_saved_none files shelf out o told held = record { count = 0; holds = held ∙ told; behind = λ k d lt. absurd (omega (arith, lt)) }
 
 -- an outcome that was written whole
-done_written : (o : Outcome) (out : SinkCall) (message : List ℕ) → o.status ≡ Done → o.saved ≡ [] → Gains out.before out.after o.out → message ≡ o.err
+pub done_written : (o : Outcome) (out : SinkCall) (message : List ℕ) → o.status ≡ Done → o.saved ≡ [] → Gains out.before out.after o.out → message ≡ o.err
     → IsWritten (λ x. x ≡ o) out message Done
 done_written o out message done none gains says files shelf told held = record {
   one = o;
@@ -414,47 +423,39 @@ front_all a b p h = (length p, (omega arith, h ∙ ap (with_piece a) (sym (take_
 
 -- a program with births
 pub births_refused : (files : Files) (run : RunCommand) (program : Program) → has_births program ≡ true
-    → refused (refusal Script run.script (codes ": NotThin")) ≡ run_outcome files run program
-births_refused files run program e =
-    sym (ap (λ (b : Bool). if b then refused (refusal Script run.script (codes ": NotThin"))
-    else followed_by (run_from files run program) (agents_of files program run.agents)) e)
+    → RunOutcome (has_births program) files run program (refused (refusal Script run.script (codes ": NotThin")))
+births_refused files run program e = subst (λ (b : Bool). RunOutcome b files run program (refused (refusal Script run.script (codes ": NotThin")))) (sym e) refl
 
--- a program without births
-goes_on : (files : Files) (run : RunCommand) (program : Program) → has_births program ≡ false
-    → run_outcome files run program ≡ followed_by (run_from files run program) (agents_of files program run.agents)
-goes_on files run program e =
-    ap (λ (b : Bool). if b then refused (refusal Script run.script (codes ": NotThin"))
-    else followed_by (run_from files run program) (agents_of files program run.agents)) e
+-- a program without births is run from what the file comes to with which the run begins
+run_begun : (files : Files) (run : RunCommand) (program : Program) (found : Result Moment Refusal) (o : Outcome) → has_births program ≡ false
+    → BeginsAt files program run.start found → FollowedBy (RunFrom files run program) found o → RunOutcome (has_births program) files run program o
+run_begun files run program found o e is follows =
+    subst (λ (b : Bool). RunOutcome b files run program o) (sym e) (record { found = found; is = is; follows = follows })
 
--- a refused agent file
-pub agents_refused : (files : Files) (run : RunCommand) (program : Program) (r : Refusal) → has_births program ≡ false
-    → agents_of files program run.agents ≡ Err r → refused r ≡ run_outcome files run program
-agents_refused files run program r e f = sym (goes_on files run program e ∙ ap (followed_by (run_from files run program)) f)
-
--- a run from a world
-from_world : (files : Files) (run : RunCommand) (program : Program) (start : World) → has_births program ≡ false
-    → agents_of files program run.agents ≡ Ok start → run_outcome files run program ≡ run_from files run program start
-from_world files run program start e f = goes_on files run program e ∙ ap (followed_by (run_from files run program)) f
+-- a file that is refused with which a run begins
+pub start_refused : (files : Files) (run : RunCommand) (program : Program) (r : Refusal) → has_births program ≡ false
+    → BeginsAt files program run.start (Err r) → RunOutcome (has_births program) files run program (refused r)
+start_refused files run program r e is = run_begun files run program (Err r) (refused r) e is refl
 
 -- a refused cut plan
-pub plan_refused : (files : Files) (run : RunCommand) (program : Program) (start : World) (r : Refusal) → has_births program ≡ false
-    → agents_of files program run.agents ≡ Ok start → plan_of files run.manner.epoch run.cuts ≡ Err r → refused r ≡ run_outcome files run program
-plan_refused files run program start r e f g =
-    sym (from_world files run program start e f
-    ∙ ap (followed_by (λ plan. ran run.manner.stats run.save true (setting_of run program start plan))) g)
+pub plan_refused : (files : Files) (run : RunCommand) (program : Program) (moment : Moment) (r : Refusal) → has_births program ≡ false
+    → BeginsAt files program run.start (Ok moment) → plan_of files run.manner.epoch run.cuts ≡ Err r → RunOutcome (has_births program) files run program (refused r)
+plan_refused files run program moment r e is f =
+    run_begun files run program (Ok moment) (refused r) e is
+    (subst (λ (found : Result CutPlan Refusal). FollowedBy (λ plan o. o ≡ ran run.manner.stats run.save (is_anew run.start) (setting_of run program moment plan)) found (refused r)) (sym f) refl)
 
 -- a run over a plan
-pub run_ended : (files : Files) (run : RunCommand) (program : Program) (start : World) (plan : CutPlan) → has_births program ≡ false
-    → agents_of files program run.agents ≡ Ok start → plan_of files run.manner.epoch run.cuts ≡ Ok plan
-    → ran run.manner.stats run.save true (setting_of run program start plan) ≡ run_outcome files run program
-run_ended files run program start plan e f g =
-    sym (from_world files run program start e f
-    ∙ ap (followed_by (λ plan. ran run.manner.stats run.save true (setting_of run program start plan))) g)
+pub run_ended : (files : Files) (run : RunCommand) (program : Program) (moment : Moment) (plan : CutPlan) (o : Outcome) → has_births program ≡ false
+    → BeginsAt files program run.start (Ok moment) → plan_of files run.manner.epoch run.cuts ≡ Ok plan
+    → o ≡ ran run.manner.stats run.save (is_anew run.start) (setting_of run program moment plan) → RunOutcome (has_births program) files run program o
+run_ended files run program moment plan o e is f ends =
+    run_begun files run program (Ok moment) o e is
+    (subst (λ (found : Result CutPlan Refusal). FollowedBy (λ plan o. o ≡ ran run.manner.stats run.save (is_anew run.start) (setting_of run program moment plan)) found o) (sym f) ends)
 
 -- a cut plan is read where one is named
-pub plan_read : (files : Files) (run : RunCommand) (program : Program) (start : World) → ProgramOf files run.script (Ok program) → has_births program ≡ false
-    → agents_of files program run.agents ≡ Ok start → (run.cuts ≡ None → ⊥) → Reads files (Some (Run run)) (unwrap_or run.cuts [])
-plan_read files run program start is e f named = reads_plan run program start (unwrap_or run.cuts []) is e f (is_named run.cuts named)
+pub plan_read : (files : Files) (run : RunCommand) (program : Program) (moment : Moment) → ProgramOf files run.script (Ok program) → has_births program ≡ false
+    → BeginsAt files program run.start (Ok moment) → (run.cuts ≡ None → ⊥) → Reads files (Some (Run run)) (unwrap_or run.cuts [])
+plan_read files run program moment is e f named = reads_plan run program moment (unwrap_or run.cuts []) is e f (is_named run.cuts named)
   where
     is_named : (name : Option (List ℕ)) → (name ≡ None → ⊥) → name ≡ Some (unwrap_or name [])
     is_named None named = absurd (named refl)
@@ -465,14 +466,15 @@ pub none_of : {A B : Type 0} (f : A → B) (found : Option A) → option_map f f
 none_of f None e = refl
 none_of f (Some a) e = absurd cc
 
--- the setting of a run whose numbers are in range is lawful where its program, its world and its plan are
-pub run_is_lawful : (run : CodeRun) (program : Program) (start : World) (plan : CutPlan) → IsRunInRange run → LawfulProgram program
-    → LawfulAgents program start.agents → IsNumbered start → IsPlan run.manner.epoch plan → LawfulSetting (setting_of (said_run run) program start plan)
-run_is_lawful run program start plan range lawful agents numbered fits = record {
+-- the setting of a run whose numbers are in range is lawful where its program, its moment and its plan are
+pub run_is_lawful : (run : CodeRun) (program : Program) (moment : Moment) (plan : CutPlan) → IsRunInRange run → LawfulProgram program
+    → LawfulAgents program moment.world.agents → IsNumbered moment.world → moment.tick ≤ 2 ^ 32 → IsPlan run.manner.epoch plan
+    → LawfulSetting (setting_of (said_run run) program moment plan)
+run_is_lawful run program moment plan range lawful agents numbered first fits = record {
   job_is_lawful = record {
     program_is_lawful = lawful;
     start_is_lawful = agents;
-    first_in_range = omega arith;
+    first_in_range = first;
     last_in_range = range.ticks;
     publishes = range.every;
   };

@@ -44,7 +44,7 @@ use Rattle.brace_top.proofs.SavedLemmas.{text_of, file_of, saving_in, saved_by, 
 
 -- ---- what a publisher is behind some calls
 
-piece_none : (written : Option (List ℕ)) → written ≡ with_piece written []
+pub piece_none : (written : Option (List ℕ)) → written ≡ with_piece written []
 piece_none None = refl
 piece_none (Some bytes) = ap Some (sym (append-nil bytes))
 
@@ -140,14 +140,14 @@ file_named : (s : Setting) (save : Option (List ℕ)) (name : List ℕ) (c : Cal
 file_named s save name c file named is =
     has_name s name c.tick file (saved_world s c.tick c.worlds) (sym (ap (λ v. file_of s v c) named) ∙ is)
 
-counts_told : (stats : Bool) (s : Setting) (c : Counts) → c.border ≡ count_border s → c.effects ≡ count_effects s → c.moved ≡ count_moved s → c.handed ≡ count_handed s → told_counts stats c ≡ stats_of stats s
+pub counts_told : (stats : Bool) (s : Setting) (c : Counts) → c.border ≡ count_border s → c.effects ≡ count_effects s → c.moved ≡ count_moved s → c.handed ≡ count_handed s → told_counts stats c ≡ stats_of stats s
 counts_told false s c border effects moved handed = refl
 counts_told true s c border effects moved handed =
     ap₂ (λ (a b : ℕ). stats_message a b c.moved c.handed) border effects ∙ ap₂ (λ (a b : ℕ). stats_message (count_border s) (count_effects s) a b) moved handed
 
 -- ---- what an answer says
 
-told_gives : (P : List ℕ → Status → Type 0) (status : Status) (message : List ℕ) (r : Result Answer Stopped) → IsToldAs status message r → P message status → P no_memory_message NoMemory → P (message_in r) (status_in r)
+pub told_gives : (P : List ℕ → Status → Type 0) (status : Status) (message : List ℕ) (r : Result Answer Stopped) → IsToldAs status message r → P message status → P no_memory_message NoMemory → P (message_in r) (status_in r)
 told_gives P status message (Ok a) h told none = subst (λ (m : List ℕ). P m a.status) (sym h.says) (subst (P message) (sym h.ends) told)
 told_gives P status message (Err stop) h told none = subst (λ (x : Stopped). P (stopped_message x) (stopped_status x)) (sym h) none
 

@@ -11,7 +11,7 @@ use Rattle.brace_show.proofs.Unplaced.{one_text}
 use Rattle.brace_top.specs.declared.limits.TheConstants.{SCRIPT_LIMIT}
 use Rattle.brace_top.specs.declared.status.Status.TheVariants.{Done, Script}
 use Rattle.brace_top.specs.Commands.{Format}
-use Rattle.brace_top.specs.Outcome.{Outcome, Refusal, refusal, refused, shown, loaded, script_refusal, unloaded, refused_at, stands_for, TreeOf, followed_by, CommandOutcome}
+use Rattle.brace_top.specs.Outcome.{Outcome, Refusal, refusal, refused, shown, loaded, script_refusal, unloaded, refused_at, stands_for, TreeOf, FollowedBy, CommandOutcome}
 use Rattle.brace_top.specs.Scripts.{IsTree}
 use Rattle.brace_top.proofs.AnswerLemmas.{file_loaded}
 use Rattle.brace_top.proofs.OneOutcome.{Agree, commands_agree}
@@ -45,7 +45,7 @@ no_text : (r : Refusal) (o : Outcome) → (r.status ≡ Done → ⊥) → o ≡ 
 no_text r o other follows done = absurd (other (sym (ap (λ (x : Outcome). x.status) follows) ∙ done))
 
 written_by : (files : Files) (name : List ℕ) (o : Outcome) (found : Result Tree Refusal) → TreeOf files name found
-    → o ≡ followed_by (λ tree. shown (canonical tree)) found → o.status ≡ Done → Writes o
+    → FollowedBy (λ tree o. o ≡ shown (canonical tree)) found o → o.status ≡ Done → Writes o
 written_by files name o _ (unloaded r e) follows done =
     no_text r o (subst NotDone e (not_done SCRIPT_LIMIT name (files name))) follows done
 written_by files name o _ (refused_at src kind at_ e why) follows done =

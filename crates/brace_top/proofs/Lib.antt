@@ -7,8 +7,10 @@ pub mod PlaceLemmas
 pub mod ScriptLemmas
 pub mod RestartLemmas
 pub mod LoadLemmas
+pub mod PointLemmas
 pub mod TrialLemmas
 pub mod FourFixed
 pub mod ShownLemmas
 pub mod SavedLemmas
 pub mod CameLemmas
+pub mod NoneLemmas

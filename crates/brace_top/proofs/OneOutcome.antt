@@ -24,13 +24,20 @@ use Rattle.brace_check.specs.declared.fault.CheckFault.TheVariants as check
 use Rattle.brace_check.specs.Faults as checks
 use Rattle.brace_check.specs.Programs.{program_of}
 use Rattle.brace_model.specs.declared.program.Program.{Program}
+use Rattle.brace_cuts.specs.declared.plan.CutPlan.{CutPlan}
+use Rattle.brace_model.specs.Lawful.{LawfulProgram}
+use Rattle.brace_model.specs.Next.{has_births}
+use Rattle.brace_save.specs.Texts.{Moment}
+use Rattle.brace_show.specs.Canonical.{canonical}
 use Rattle.brace_top.specs.declared.script_fault.ScriptKind.TheVariants as kind
 use Rattle.brace_top.specs.declared.script_fault.ScriptFault.{ScriptFault}
 use Rattle.brace_top.specs.declared.trial.TheConstants.{TRIAL_SCRIPT}
 use Rattle.brace_top.specs.declared.script_fault.ScriptFault.TheVariants.{Refused, NoMemory}
-use Rattle.brace_top.specs.Commands.{Command, Run, Format, Check, Trial}
+use Rattle.brace_top.specs.Commands.{Command, RunCommand, Run, Format, Check, Trial}
+use Rattle.brace_top.proofs.PointLemmas.{equal_by, one_beginning}
+use Rattle.brace_top.proofs.ScriptLemmas.{meant_lawful}
 use Rattle.brace_top.specs.Scripts.{IsTree, Means, resolved, NoTree, in_tokens, in_grammar, Refuses, without_tree, in_names, in_checks, token_fault, grammar_fault, name_fault, check_fault}
-use Rattle.brace_top.specs.Outcome.{Outcome, Refusal, ComesTo, unloaded, refused_at, stands_for, Follows, followed_by, CommandOutcome, SameMessage, source_of, script_message}
+use Rattle.brace_top.specs.Outcome.{Outcome, Refusal, ComesTo, unloaded, refused_at, stands_for, Follows, FollowedBy, RunFrom, RunOutcome, CommandOutcome, SameMessage, source_of, script_message, refused, shown, plan_of, trial_outcome}
 
 pub record Agree (o p : Outcome) : Type 0 where
   pub status : o.status ≡ p.status
@@ -44,11 +51,6 @@ same o p q e f = let g : o ≡ p = e ∙ sym f in record { status = ap (λ (x : 
 -- tokens that are nowhere too deep have no first place at which they are
 not_deep : (toks : List Token) (at_ : ℕ) → NowhereDeep toks → FirstDeepAt toks at_ → ⊥
 not_deep toks at_ shallow first = let e : true ≡ false = sym first.deep ∙ shallow (first.number + 1) in absurd cc
-
-equal_by : (a b : Bool) (m n : ℕ) → nat_lt m n ≡ a → nat_lt n m ≡ b → (m < n → ⊥) → (n < m → ⊥) → m ≡ n
-equal_by true b m n e f below above = let l : m < n = grind (arith, nat_tests) in absurd (below l)
-equal_by false true m n e f below above = let l : n < m = grind (arith, nat_tests) in absurd (above l)
-equal_by false false m n e f below above = grind (arith, nat_tests)
 
 -- no token before the first one that is too deep is too deep
 later : (toks : List Token) (a b : ℕ) → (d : FirstDeepAt toks a) → (e : FirstDeepAt toks b) → d.number < e.number → ⊥
@@ -231,32 +233,34 @@ one_why source r s e f = ap (why r) (sym e ∙ f)
 not_both : (source : Result (List ℕ) Refusal) (src : List ℕ) (r : Refusal) → source ≡ Ok src → source ≡ Err r → ⊥
 not_both source src r e f = let g : Ok src ≡ Err r = sym e ∙ f in absurd cc
 
-module _ {A : Type 0} (means : List ℕ → A → Type 0) (refuses : List ℕ → ScriptFault → Type 0) (decides : Decides means refuses) (name : List ℕ) (source : Result (List ℕ) Refusal) (next : A → Outcome) where
-  found_agree : (a b : Result A Refusal) → ComesTo means refuses name source a → ComesTo means refuses name source b → Agree (followed_by next a) (followed_by next b)
-  found_agree _ _ (unloaded r e) (unloaded s f) = same _ _ (followed_by next (Err s)) (ap (λ (x : Refusal). followed_by next (Err x)) (one_why source r s e f)) refl
-  found_agree _ _ (unloaded r e) (refused_at src k at_ f n) = absurd (not_both source src r f e)
-  found_agree _ _ (unloaded r e) (stands_for src a f m) = absurd (not_both source src r f e)
-  found_agree _ _ (refused_at src k at_ f n) (unloaded r e) = absurd (not_both source src r f e)
-  found_agree _ _ (stands_for src a f m) (unloaded r e) = absurd (not_both source src r f e)
-  found_agree _ _ (refused_at src k at_ e n) (refused_at to_ l at'_ f m) =
+module _ {A : Type 0} (means : List ℕ → A → Type 0) (refuses : List ℕ → ScriptFault → Type 0) (decides : Decides means refuses) (name : List ℕ) (source : Result (List ℕ) Refusal)
+    (next : A → Outcome → Type 0) (alike : (src : List ℕ) (a : A) (o p : Outcome) → means src a → next a o → next a p → Agree o p) where
+  found_agree : (a b : Result A Refusal) (o p : Outcome) → ComesTo means refuses name source a → ComesTo means refuses name source b → FollowedBy next a o → FollowedBy next b p → Agree o p
+  found_agree _ _ o p (unloaded r e) (unloaded s f) x y = same o p (refused r) x (y ∙ sym (ap refused (one_why source r s e f)))
+  found_agree _ _ o p (unloaded r e) (refused_at src k at_ f n) x y = absurd (not_both source src r f e)
+  found_agree _ _ o p (unloaded r e) (stands_for src a f m) x y = absurd (not_both source src r f e)
+  found_agree _ _ o p (refused_at src k at_ f n) (unloaded r e) x y = absurd (not_both source src r f e)
+  found_agree _ _ o p (stands_for src a f m) (unloaded r e) x y = absurd (not_both source src r f e)
+  found_agree _ _ o p (refused_at src k at_ e n) (refused_at to_ l at'_ f m) x y =
       let moved = subst (λ (s : List ℕ). refuses s (Refused l at'_)) (one_source source src to_ e f) m in
       let from_ : script_message name src l at'_ ≡ script_message name to_ l at'_ = ap (λ (s : List ℕ). script_message name s l at'_) (sym (one_source source src to_ e f)) in
-      record {
+      rw (x, y) (record {
         status = refl;
         out = refl;
         err = subst (λ (m : List ℕ). SameMessage (script_message name src k at_) m) from_
             (same_message name src (Refused k at_) (Refused l at'_) (decides.alike src (Refused k at_) (Refused l at'_) tt tt n moved));
         saved = refl;
-      }
-  found_agree _ _ (refused_at src k at_ e n) (stands_for to_ a f m) =
+      })
+  found_agree _ _ o p (refused_at src k at_ e n) (stands_for to_ a f m) x y =
       absurd (decides.never src a (Refused k at_) tt (subst (λ (s : List ℕ). means s a) (one_source source src to_ e f) m) n)
-  found_agree _ _ (stands_for to_ a f m) (refused_at src k at_ e n) =
+  found_agree _ _ o p (stands_for to_ a f m) (refused_at src k at_ e n) x y =
       absurd (decides.never src a (Refused k at_) tt (subst (λ (s : List ℕ). means s a) (one_source source src to_ e f) m) n)
-  found_agree _ _ (stands_for src a e m) (stands_for to_ b f n) =
-      same _ _ (followed_by next (Ok b)) (ap (λ (x : A). followed_by next (Ok x)) (decides.one src a b m (subst (λ (s : List ℕ). means s b) (one_source source src to_ e f) n))) refl
+  found_agree _ _ o p (stands_for src a e m) (stands_for to_ b f n) x y =
+      let one : a ≡ b = decides.one src a b m (subst (λ (s : List ℕ). means s b) (one_source source src to_ e f) n) in
+      alike src a o p m x (subst (λ (c : A). next c p) (sym one) y)
 
   follows_agree : (o p : Outcome) → Follows (ComesTo means refuses name source) next o → Follows (ComesTo means refuses name source) next p → Agree o p
-  follows_agree o p f g = rw (f.follows, g.follows) (found_agree f.found g.found f.is g.is)
+  follows_agree o p f g = found_agree f.found g.found o p f.is g.is f.follows g.follows
 
 trees : Decides IsTree NoTree
 trees = record { one = one_tree_of; never = λ src a x t m r. has_tree src a x t m r; alike = one_without_tree }
@@ -264,9 +268,34 @@ trees = record { one = one_tree_of; never = λ src a x t m r. has_tree src a x t
 programs : Decides Means Refuses
 programs = record { one = one_program; never = λ src a x t m r. not_refused src a x t m r; alike = one_refusal }
 
+-- one thing follows
+one_follows : {A : Type 0} (of_ : A → Outcome) (a : A) (o p : Outcome) → o ≡ of_ a → p ≡ of_ a → Agree o p
+one_follows of_ a o p x y = same o p (of_ a) x y
+
+-- what a plan comes to is one, and so is what follows on it
+plans_agree : (found : Result CutPlan Refusal) (of_ : CutPlan → Outcome) (o p : Outcome) → FollowedBy (λ plan o. o ≡ of_ plan) found o → FollowedBy (λ plan o. o ≡ of_ plan) found p → Agree o p
+plans_agree (Ok plan) of_ o p x y = same o p (of_ plan) x y
+plans_agree (Err r) of_ o p x y = same o p (refused r) x y
+
+-- what follows on the moment at which a run begins
+moments_agree : (files : Files) (run : RunCommand) (program : Program) (found : Result Moment Refusal) (o p : Outcome)
+    → FollowedBy (RunFrom files run program) found o → FollowedBy (RunFrom files run program) found p → Agree o p
+moments_agree files run program (Ok moment) o p x y = plans_agree (plan_of files run.manner.epoch run.cuts) _ o p x y
+moments_agree files run program (Err r) o p x y = same o p (refused r) x y
+
+runs_agree : (b : Bool) (files : Files) (run : RunCommand) (program : Program) (o p : Outcome) → LawfulProgram program
+    → RunOutcome b files run program o → RunOutcome b files run program p → Agree o p
+runs_agree true files run program o p lawful x y = same o p _ x y
+runs_agree false files run program o p lawful x y =
+    moments_agree files run program x.found o p x.follows
+    (subst (λ (found : Result Moment Refusal). FollowedBy (RunFrom files run program) found p) (sym (one_beginning files program run.start x.found y.found lawful x.is y.is)) y.follows)
+
 pub commands_agree : (files : Files) (command : Option Command) (o p : Outcome) → CommandOutcome files command o → CommandOutcome files command p → Agree o p
 commands_agree files None o p e f = same o p _ e f
-commands_agree files (Some (Run run)) o p e f = follows_agree Means Refuses programs run.script (source_of files run.script) _ o p e f
-commands_agree files (Some (Format name)) o p e f = follows_agree IsTree NoTree trees name (source_of files name) _ o p e f
-commands_agree files (Some (Check name)) o p e f = follows_agree Means Refuses programs name (source_of files name) _ o p e f
-commands_agree files (Some (Trial trial)) o p e f = follows_agree Means Refuses programs (codes "trial") (Ok TRIAL_SCRIPT.now) _ o p e f
+commands_agree files (Some (Run run)) o p e f =
+    follows_agree Means Refuses programs run.script (source_of files run.script) _
+    (λ src program o p means x y. runs_agree (has_births program) files run program o p (meant_lawful src program means) x y) o p e f
+commands_agree files (Some (Format name)) o p e f = follows_agree IsTree NoTree trees name (source_of files name) _ (λ src tree o p means. one_follows (λ tree. shown (canonical tree)) tree o p) o p e f
+commands_agree files (Some (Check name)) o p e f = follows_agree Means Refuses programs name (source_of files name) _ (λ src program o p means. one_follows (λ program. shown []) program o p) o p e f
+commands_agree files (Some (Trial trial)) o p e f =
+    follows_agree Means Refuses programs (codes "trial") (Ok TRIAL_SCRIPT.now) _ (λ src program o p means. one_follows (trial_outcome trial) program o p) o p e f

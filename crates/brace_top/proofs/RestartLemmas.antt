@@ -29,6 +29,13 @@ first-silent job tick world (Ok w) =
     let divides = (tick % job.every == 0) || (tick == job.last) in
     ap (λ (b : Bool). if divides && b then rows job.program tick w.agents else []) early ∙ not_published divides (rows job.program tick w.agents)
 
+-- a run that is not fresh has no text of its first tick
+pub silent : (job : Job) → text_of_ticks job false (0 + 1) ≡ []
+silent job =
+    text-next job false 0
+    ∙ ap (λ (m : ℕ). tick_text job false m (world_after job 0)) (add-zero job.first)
+    ∙ first-silent job job.first job.start (world_after job 0)
+
 -- a later tick is published by both runs or by none
 text-alike : (job : Job) (tick : ℕ) (world : World) (at : ℕ) (r : Result World Fault) → tick < at → tick_text job true at r ≡ tick_text (from_tick job tick world) false at r
 text-alike job tick world at (Err fault) lt = refl
@@ -49,13 +56,6 @@ module _ (job : Job) (tick : ℕ) (world : World) (d : ℕ) (here : job.first + 
       ∙ ap (λ (m : ℕ). stepped job m (world_after (from_tick job tick world) n)) at
       ∙ stepped-alike job tick world (tick + n) (world_after (from_tick job tick world) n)
 
-  -- the later run has no text of its first tick
-  none-again : text_of_ticks (from_tick job tick world) false (0 + 1) ≡ []
-  none-again =
-      text-next (from_tick job tick world) false 0
-      ∙ ap (λ (m : ℕ). tick_text (from_tick job tick world) false m (world_after (from_tick job tick world) 0)) (add-zero tick)
-      ∙ first-silent job tick world (world_after (from_tick job tick world) 0)
-
   -- a later tick has the same text in both runs
   tick-anew : (n : ℕ) → tick_text job true (job.first + (d + 1 + n)) (world_after job (d + 1 + n)) ≡ tick_text (from_tick job tick world) false (tick + (n + 1)) (world_after (from_tick job tick world) (n + 1))
   tick-anew n =
@@ -70,7 +70,7 @@ module _ (job : Job) (tick : ℕ) (world : World) (d : ℕ) (here : job.first + 
   text-anew zero =
       ap (λ (m : ℕ). text_of_ticks job true m) (add-zero (d + 1))
       ∙ sym (append-nil (text_of_ticks job true (d + 1)))
-      ∙ ap (λ (l : List ℕ). text_of_ticks job true (d + 1) ++ l) (sym none-again)
+      ∙ ap (λ (l : List ℕ). text_of_ticks job true (d + 1) ++ l) (sym (silent (from_tick job tick world)))
   text-anew (suc n) =
       let count : d + 1 + suc n ≡ d + 1 + n + 1 = omega arith in
       let back : n + 1 + 1 ≡ suc n + 1 = omega arith in

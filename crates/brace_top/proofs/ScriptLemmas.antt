@@ -8,7 +8,9 @@ use Rattle.brace_check.specs.declared.fault.CheckFault.{CheckFault}
 use Rattle.brace_check.specs.Faults as checks
 use Rattle.brace_check.specs.Programs.{program_of}
 use Rattle.brace_check.specs.Resolved.{IsResolved}
+use Rattle.brace_check.proofs.LawfulProof.{accepted_lawful}
 use Rattle.brace_model.specs.declared.program.Program.{Program}
+use Rattle.brace_model.specs.Lawful.{LawfulProgram}
 use Rattle.brace_top.specs.Scripts.{IsTree, Means, resolved, Refuses, in_checks, check_fault}
 
 same_resolved : (tree : Tree) (r : Resolved) → r.tree ≡ tree → r.bindings ≡ names.bindings tree → r ≡ resolved tree
@@ -39,3 +41,9 @@ is_resolved src tree r is named e f = subst (λ (x : Resolved). IsResolved src x
   bound = refl;
   faultless = named;
 })
+
+-- what a script stands for is lawful
+pub meant_lawful : (src : List ℕ) (program : Program) → Means src program → LawfulProgram program
+meant_lawful src program m =
+    subst LawfulProgram (sym m.stands_for)
+    (accepted_lawful src (resolved m.tree) (is_resolved src m.tree (resolved m.tree) m.is m.named refl refl) m.checked)

@@ -1,7 +1,7 @@
 -- What the kinds of statuses leave out.
 use Rattle.std.proofs.Common.{◌≡◌, subst, true, arith}
 use Rattle.brace_top.specs.declared.status.Status.{Status}
-use Rattle.brace_top.specs.declared.status.Status.TheVariants.{Done, Usage, Script, Agents, Plan, Fault, ReadFault, WriteFault, SaveFault, NoMemory, Absent}
+use Rattle.brace_top.specs.declared.status.Status.TheVariants.{Done, Usage, Script, Agents, Plan, Checkpoint, Fault, ReadFault, WriteFault, SaveFault, NoMemory, Absent}
 use Rattle.brace_top.specs.Answer.{ShelfCall, SinkCall, CountsShelf, CountsReads, CountsWrites}
 use Rattle.brace_top.specs.Status.{has_run, is_refusal, saves_nothing}
 use Rattle.brace_top.specs.inner.Settled.{is_stop, is_work, is_plain_work}
@@ -13,6 +13,7 @@ stop_runs P Usage s h = absurd cc
 stop_runs P Script s h = absurd cc
 stop_runs P Agents s h = absurd cc
 stop_runs P Plan s h = absurd cc
+stop_runs P Checkpoint s h = absurd cc
 stop_runs P Fault s h = absurd cc
 stop_runs P ReadFault s h = absurd cc
 stop_runs P WriteFault s h = absurd cc
@@ -36,6 +37,7 @@ work_refusal P Usage w r = absurd cc
 work_refusal P Script w r = absurd cc
 work_refusal P Agents w r = absurd cc
 work_refusal P Plan w r = absurd cc
+work_refusal P Checkpoint w r = absurd cc
 work_refusal P Fault w r = absurd cc
 work_refusal P ReadFault w r = absurd cc
 work_refusal P WriteFault w r = absurd cc
@@ -50,6 +52,7 @@ work_saves P Usage w r = absurd cc
 work_saves P Script w r = absurd cc
 work_saves P Agents w r = absurd cc
 work_saves P Plan w r = absurd cc
+work_saves P Checkpoint w r = absurd cc
 work_saves P Fault w r = absurd cc
 work_saves P ReadFault w r = absurd cc
 work_saves P WriteFault w r = absurd cc
@@ -68,6 +71,7 @@ plain_works Usage w = w
 plain_works Script w = w
 plain_works Agents w = w
 plain_works Plan w = w
+plain_works Checkpoint w = w
 plain_works Fault w = w
 plain_works ReadFault w = w
 plain_works WriteFault w = w
@@ -82,6 +86,7 @@ plain_counts shelf Usage w same = same
 plain_counts shelf Script w same = same
 plain_counts shelf Agents w same = same
 plain_counts shelf Plan w same = same
+plain_counts shelf Checkpoint w same = same
 plain_counts shelf Fault w same = omega (arith, same)
 plain_counts shelf ReadFault w same = absurd cc
 plain_counts shelf WriteFault w same = omega (arith, same)
@@ -96,6 +101,7 @@ stop_reads shelf Usage s counts = absurd cc
 stop_reads shelf Script s counts = counts
 stop_reads shelf Agents s counts = counts
 stop_reads shelf Plan s counts = counts
+stop_reads shelf Checkpoint s counts = counts
 stop_reads shelf Fault s counts = absurd cc
 stop_reads shelf ReadFault s counts = counts
 stop_reads shelf WriteFault s counts = absurd cc
@@ -110,6 +116,7 @@ plain_reads shelf Usage w same = same
 plain_reads shelf Script w same = same
 plain_reads shelf Agents w same = same
 plain_reads shelf Plan w same = same
+plain_reads shelf Checkpoint w same = same
 plain_reads shelf Fault w same = same
 plain_reads shelf ReadFault w same = absurd cc
 plain_reads shelf WriteFault w same = same

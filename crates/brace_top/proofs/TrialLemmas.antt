@@ -1,5 +1,5 @@
 -- A trial: its cut plan is lawful, and what its publisher sums up last is the world of its end.
-use Rattle.std.proofs.Common.{◌≡◌, ◌∙◌, refl, sym, ap, ap₂, subst, ℕ, zero, suc, ◌+◌, ◌*◌, ◌-◌, ◌<◌, ◌≤◌, ◌^◌, List, [], ◌∷◌, ◌++◌, map, filter, fold, Bool, true, false, cond, ◌==◌, Option, Some, None, Result, Ok, Err, ℤ, pos, ◌+ℤ◌, arith}
+use Rattle.std.proofs.Common.{ap₂, ◌≡◌, ◌∙◌, refl, sym, ap, subst, ℕ, zero, suc, ◌+◌, ◌*◌, ◌-◌, ◌<◌, ◌≤◌, ◌^◌, List, [], ◌∷◌, ◌++◌, map, filter, fold, Bool, true, false, cond, ◌==◌, Option, Some, None, Result, Ok, Err, ℤ, pos, ◌+ℤ◌, arith}
 use Rattle.std.specs.Prelude.{◌%◌, IfSome, IsTrue, slice_get}
 use Rattle.std.specs.List.{range_with_len}
 use Rattle.std.specs.Result.{result_err}
@@ -32,10 +32,10 @@ use Rattle.brace_top.specs.declared.status.Status.{Status}
 use Rattle.brace_top.specs.declared.status.Status.TheVariants.{Done}
 use Rattle.brace_top.specs.Answer.{SinkCall}
 use Rattle.brace_top.specs.Commands.{TrialCommand}
-use Rattle.brace_top.specs.Messages.{stats_message}
 use Rattle.brace_top.specs.Outcome.{Outcome, stats_of, trial_end}
 use Rattle.brace_top.specs.Trials.{strips, along_x, trial_plan, trial_line}
 use Rattle.brace_top.specs.inner.Settled.{told_counts, IsWritten}
+use Rattle.brace_top.proofs.CameLemmas.{counts_told}
 
 -- ---- the cut plan
 
@@ -175,14 +175,6 @@ module _ (s : Setting) (up : s.job.first ≤ s.job.last) where
       ∙ sums_saved s last (call_at s last).worlds w (fold summed sums (map (call_at s) front)) (all_saved s last w (last_is_end s up) is)
 
 -- ---- how a trial ends
-
--- the counts that the parts gave are those of the run
-counts_told : (stats : Bool) (s : Setting) (counts : Counts) → counts.border ≡ count_border s → counts.effects ≡ count_effects s
-    → counts.moved ≡ count_moved s → counts.handed ≡ count_handed s → told_counts stats counts ≡ stats_of stats s
-counts_told false s counts border effects moved handed = refl
-counts_told true s counts border effects moved handed =
-    ap₂ (λ a b. stats_message a b counts.moved counts.handed) border effects
-    ∙ ap₂ (λ a b. stats_message (count_border s) (count_effects s) a b) moved handed
 
 -- the outcome of a trial that comes to its last tick, from the sums and the counts that it tells
 abbrev pub told : TrialCommand → ℤ × ℤ → Counts → Outcome

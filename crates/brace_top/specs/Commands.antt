@@ -13,16 +13,31 @@ pub record Manner : Type 0 where
   pub invert : Bool
   pub stats : Bool
 
--- a run of a script from the agent file up to a last tick, with the seed of its draws, over the
--- plane as a cut plan cuts it, or in one part; ticks that `every` divides are published, and the
--- last one; the world of each end of an epoch k is saved as `NAME.k`, where a name is given
+-- where a run begins: anew at tick 0, with the agents of a file and the seed of its draws, or at the
+-- tick, with the world and with the seed that the checkpoint of a name tells
+pub data Start : Type 0 where
+  Anew : List ℕ → ℕ → Start
+  Resumed : List ℕ → Start
+
+-- the file with which a run begins
+abbrev pub start_file : Start → List ℕ
+start_file (Anew agents seed) = agents
+start_file (Resumed from) = from
+
+-- a run begins anew; only then its first tick is published as any other
+abbrev pub is_anew : Start → Bool
+is_anew (Anew agents seed) = true
+is_anew (Resumed from) = false
+
+-- a run of a script up to a last tick, over the plane as a cut plan cuts it, or in one part; ticks
+-- that `every` divides are published, and the last one; the world of each end of an epoch k is saved
+-- as `NAME.k`, where a name is given
 pub record RunCommand : Type 0 where
   pub script : List ℕ
-  pub agents : List ℕ
+  pub start : Start
   pub cuts : Option (List ℕ)
   pub save : Option (List ℕ)
   pub ticks : ℕ
-  pub seed : ℕ
   pub every : ℕ
   pub manner : Manner
 
@@ -56,7 +71,6 @@ may_save _ = false
 
 -- the mode is built
 abbrev pub is_built_mode : Mode → Bool
-is_built_mode mode.Resume = false
 is_built_mode mode.Plan = false
 is_built_mode _ = true
 
@@ -73,15 +87,23 @@ manner_of line = record {
   stats = line.stats;
 }
 
--- the run that a line asks for, where it names the script, the agent file and the last tick
-abbrev pub run_of : Line → Option (List ℕ) → Option (List ℕ) → Option ℕ → Option Command
-run_of line (Some script) (Some agents) (Some ticks) = Some (Run (record {
+-- a run that begins anew, where the line names the agent file
+abbrev pub anew_of : Line → Option Start
+anew_of line = option_map (λ agents. Anew agents (unwrap_or line.seed 0)) line.agents
+
+-- a run that is resumed, where the line names the checkpoint
+abbrev pub resumed_of : Line → Option Start
+resumed_of line = option_map Resumed line.from
+
+-- the run that a line asks for, where it names the script, the file with which it begins and the
+-- last tick
+abbrev pub run_of : Line → Option (List ℕ) → Option Start → Option ℕ → Option Command
+run_of line (Some script) (Some start) (Some ticks) = Some (Run (record {
   script = script;
-  agents = agents;
+  start = start;
   cuts = line.cuts;
   save = line.save;
   ticks = ticks;
-  seed = unwrap_or line.seed 0;
   every = unwrap_or line.every 1;
   manner = manner_of line;
 }))
@@ -99,7 +121,8 @@ trial_of line _ _ = None
 
 -- what a line of a mode asks for
 abbrev pub asked : Line → Mode → Option Command
-asked line mode.Run = run_of line line.script line.agents line.ticks
+asked line mode.Run = run_of line line.script (anew_of line) line.ticks
+asked line mode.Resume = run_of line line.script (resumed_of line) line.ticks
 asked line mode.Fmt = option_map Format line.script
 asked line mode.Check = option_map Check line.script
 asked line mode.Trial = trial_of line line.count line.ticks

@@ -11,6 +11,8 @@ use Rattle.brace_cuts.specs.declared.kinds.PlanKind.TheVariants as plan
 use Rattle.brace_rows.specs.declared.kinds.RowKind.{RowKind}
 use Rattle.brace_rows.specs.declared.kinds.RowKind.TheVariants as row
 use Rattle.brace_names.specs.declared.fault.Which.TheVariants as which
+use Rattle.brace_save.specs.declared.kinds.PointFault.{PointFault}
+use Rattle.brace_save.specs.declared.kinds.PointFault.TheVariants as point
 use Rattle.brace_model.specs.declared.fault.Fault.{Fault}
 use Rattle.brace_model.specs.declared.fault.Phase.{Phase}
 use Rattle.brace_model.specs.declared.fault.Phase.TheVariants.{Query, Update, Birth}
@@ -86,6 +88,19 @@ abbrev pub line_message : List ℕ → ℕ → PlanKind → List ℕ
 line_message name number kind =
     named_message name
     (codes ": line " ++ (canonical_count number ++ (codes ": " ++ plan_word kind)))
+
+-- the word of a checkpoint's refusal; `BadLine` says which line, counted from 1; want of memory
+-- refuses none
+abbrev pub point_word : PointFault → List ℕ
+point_word point.Incomplete = codes "Incomplete"
+point_word (point.BadLine number) = codes "BadLine " ++ canonical_count number
+point_word point.OtherClasses = codes "OtherClasses"
+point_word point.BadVersion = codes "BadVersion"
+point_word point.NoMemory = []
+
+-- the message that says why a file is no checkpoint: `brace: NAME: KIND`
+abbrev pub point_message : List ℕ → PointFault → List ℕ
+point_message name fault = named_message name (codes ": " ++ point_word fault)
 
 -- the message where a file was not saved
 abbrev pub save_fault_message : List ℕ → List ℕ

@@ -17,20 +17,23 @@ use Rattle.brace_crew.specs.Sums.{sums_of}
 use Rattle.brace_show.specs.Canonical.{canonical}
 use Rattle.brace_syntax.specs.declared.tree.Tree.{Tree}
 use Rattle.brace_top.specs.declared.status.Status.{Status}
-use Rattle.brace_top.specs.declared.status.Status.TheVariants.{Done, Usage, Script, Agents, Plan, Absent}
+use Rattle.brace_top.specs.declared.status.Status.TheVariants.{Done, Usage, Script, Agents, Plan, Checkpoint, Absent}
 use Rattle.brace_top.specs.declared.status.Status.TheVariants as ended_by
-use Rattle.brace_top.specs.declared.limits.TheConstants.{SCRIPT_LIMIT, AGENTS_LIMIT, PLAN_LIMIT}
+use Rattle.brace_top.specs.declared.limits.TheConstants.{SCRIPT_LIMIT, AGENTS_LIMIT, PLAN_LIMIT, CHECKPOINT_LIMIT}
 use Rattle.brace_top.specs.declared.trial.TheConstants.{TRIAL_SCRIPT}
-use Rattle.brace_top.specs.Commands.{Command, RunCommand, TrialCommand, Run, Format, Check, Trial, command_of, script_in}
+use Rattle.brace_top.specs.Commands.{Command, RunCommand, TrialCommand, Start, Anew, Resumed, Run, Format, Check, Trial, command_of, script_in, start_file, is_anew}
 use Rattle.brace_top.specs.declared.script_fault.ScriptFault.{ScriptFault}
 use Rattle.brace_top.specs.declared.script_fault.ScriptFault.TheVariants as fault
 use Rattle.brace_top.specs.declared.script_fault.ScriptKind.{ScriptKind}
 use Rattle.brace_top.specs.declared.script_fault.ScriptKind.TheVariants.{NoReading}
-use Rattle.brace_top.specs.Messages.{named_message, placed_message, record_message, line_message, script_word, usage_message, fault_message, stats_message}
+use Rattle.brace_top.specs.Messages.{named_message, placed_message, record_message, line_message, point_message, script_word, usage_message, fault_message, stats_message}
 use Rattle.brace_top.specs.Places.{line_number, column_number}
 use Rattle.brace_top.specs.Scripts.{IsTree, Means, NoTree, Refuses}
 use Rattle.brace_top.specs.Savings.{Saving, savings}
 use Rattle.brace_top.specs.Trials.{trial_plan, trial_line}
+use Rattle.brace_save.specs.declared.kinds.PointFault.{PointFault}
+use Rattle.brace_save.specs.Lines.{IsRead, whole_lines, unfinished}
+use Rattle.brace_save.specs.Texts.{Moment}
 use Rattle.brace_rows.specs.declared.kinds.RowKind.{RowKind}
 use Rattle.brace_rows.specs.AgentFile as file
 use Rattle.brace_rows.specs.MadeAgents.{made_agents}
@@ -114,6 +117,41 @@ abbrev pub agents_of : Files → Program → List ℕ → Result World Refusal
 agents_of files program name =
     world_from program name (loaded Agents AGENTS_LIMIT name (files name))
 
+-- the moment at which a run of a seed begins anew
+abbrev pub begun_anew : ℕ → Result World Refusal → Result Moment Refusal
+begun_anew seed (Err r) = Err r
+begun_anew seed (Ok world) = Ok (record { tick = 0; seed = seed; world = world })
+
+-- a moment, unless the file of a name is no checkpoint
+abbrev pub unless_other : List ℕ → Result Moment PointFault → Result Moment Refusal
+unless_other name (Ok moment) = Ok moment
+unless_other name (Err fault) =
+    Err (record { status = Checkpoint; message = point_message name fault })
+
+-- what the bytes of the checkpoint of a name come to
+pub record IsPoint (program : Program) (name bytes : List ℕ) (found : Result Moment Refusal) : Type 0
+  where
+    pub judged : Result Moment PointFault
+    pub reads : IsRead program (whole_lines bytes) (unfinished bytes) judged
+    pub is : found ≡ unless_other name judged
+
+-- what the bytes of a checkpoint come to, where they were loaded
+abbrev pub PointFrom : Program → List ℕ → Result (List ℕ) Refusal → Result Moment Refusal → Type 0
+PointFrom program name (Err r) found = found ≡ Err r
+PointFrom program name (Ok bytes) found = IsPoint program name bytes found
+
+-- what the checkpoint of a name comes to
+abbrev pub PointOf : Files → Program → List ℕ → Result Moment Refusal → Type 0
+PointOf files program name =
+    PointFrom program name (loaded Checkpoint CHECKPOINT_LIMIT name (files name))
+
+-- what the file with which a run begins comes to: the moment at which it begins, or why it is
+-- refused
+abbrev pub BeginsAt : Files → Program → Start → Result Moment Refusal → Type 0
+BeginsAt files program (Anew name seed) found =
+    begun_anew seed (agents_of files program name) ≡ found
+BeginsAt files program (Resumed name) found = PointOf files program name found
+
 -- a plan, unless a line of its file is faulty: the number of the first one, and its kind
 abbrev pub unless_bad : List ℕ → CutPlan → Option (ℕ × PlanKind) → Result CutPlan Refusal
 unless_bad name plan None = Ok plan
@@ -137,16 +175,16 @@ abbrev pub plan_of : Files → ℕ → Option (List ℕ) → Result CutPlan Refu
 plan_of files epoch None = Ok whole_plane
 plan_of files epoch (Some name) = plan_from epoch name (loaded Plan PLAN_LIMIT name (files name))
 
--- the setting of a run from tick 0
-abbrev pub setting_of : RunCommand → Program → World → CutPlan → Setting
-setting_of run program start plan = record {
+-- the setting of a run from a moment on
+abbrev pub setting_of : RunCommand → Program → Moment → CutPlan → Setting
+setting_of run program moment plan = record {
   job = record {
     program = program;
-    seed = run.seed;
-    first = 0;
+    seed = moment.seed;
+    first = moment.tick;
     last = run.ticks;
     every = run.every;
-    start = start;
+    start = moment.world;
   };
   cuts = plan;
   epoch = run.manner.epoch;
@@ -161,10 +199,17 @@ refused r = record { status = r.status; out = []; err = r.message; saved = [] }
 abbrev pub shown : List ℕ → Outcome
 shown text = record { status = Done; out = text; err = []; saved = [] }
 
--- the outcome of what follows on a file that is accepted, or its refusal
-abbrev pub followed_by : {A : Type 0} → (A → Outcome) → Result A Refusal → Outcome
-followed_by next (Err r) = refused r
-followed_by next (Ok a) = next a
+-- an outcome of what follows on a file that is accepted, or its refusal
+abbrev pub FollowedBy : {A : Type 0} → (A → Outcome → Type 0) → Result A Refusal → Outcome → Type 0
+FollowedBy next (Err r) o = o ≡ refused r
+FollowedBy next (Ok a) o = next a o
+
+-- an outcome of what follows on one of the things that a file comes to
+pub record Follows {A : Type 0} (comes_to : Result A Refusal → Type 0)
+    (next : A → Outcome → Type 0) (o : Outcome) : Type 0 where
+  pub found : Result A Refusal
+  pub is : comes_to found
+  pub follows : FollowedBy next found o
 
 -- the counts of a run, where they are to be told
 abbrev pub stats_of : Bool → Setting → List ℕ
@@ -181,7 +226,8 @@ abbrev pub end_message : Bool → Setting → Option Fault → List ℕ
 end_message stats s None = stats_of stats s
 end_message stats s (Some f) = fault_message f
 
--- the outcome of a run: its published text, and the worlds of its ends
+-- the outcome of a run: its published text, and the worlds of its ends; none of either where it
+-- begins behind its last tick
 abbrev pub ran : Bool → Option (List ℕ) → Bool → Setting → Outcome
 ran stats save fresh s =
     let found = first_fault s.job in
@@ -192,17 +238,18 @@ ran stats save fresh s =
       saved = savings save fresh s;
     }
 
--- the outcome of a run of a program from a world
-abbrev pub run_from : Files → RunCommand → Program → World → Outcome
-run_from files run program start =
-    followed_by (λ plan. ran run.manner.stats run.save true (setting_of run program start plan))
+-- an outcome of a run of a program from a moment
+abbrev pub RunFrom : Files → RunCommand → Program → Moment → Outcome → Type 0
+RunFrom files run program moment = FollowedBy (λ plan o. o ≡ ran run.manner.stats run.save
+    (is_anew run.start) (setting_of run program moment plan))
     (plan_of files run.manner.epoch run.cuts)
 
--- the outcome of a run of a program, of which one with births is refused, as none is run yet
-abbrev pub run_outcome : Files → RunCommand → Program → Outcome
-run_outcome files run program =
-    if has_births program then refused (refusal Script run.script (codes ": NotThin"))
-    else followed_by (run_from files run program) (agents_of files program run.agents)
+-- an outcome of a run of a program, by whether it bears children: one that does is refused, as none
+-- is run yet
+abbrev pub RunOutcome : Bool → Files → RunCommand → Program → Outcome → Type 0
+RunOutcome true files run program o = o ≡ refused (refusal Script run.script (codes ": NotThin"))
+RunOutcome false files run program o =
+    Follows (BeginsAt files program run.start) (RunFrom files run program) o
 
 -- the setting of a trial from tick 0, over made agents; of the ticks before its last one only those
 -- at which epochs end, and some that 2^32 divides, are shown
@@ -238,24 +285,19 @@ trial_outcome trial program =
     let s = trial_setting trial program in
     trial_end trial s (end_of s.job)
 
--- an outcome of what follows on one of the things that a script comes to
-pub record Follows {A : Type 0} (comes_to : Result A Refusal → Type 0) (next : A → Outcome)
-    (o : Outcome) : Type 0 where
-  pub found : Result A Refusal
-  pub is : comes_to found
-  pub follows : o ≡ followed_by next found
-
 -- an outcome of a command, or of words that are none
 abbrev pub CommandOutcome : Files → Option Command → Outcome → Type 0
 CommandOutcome files None o =
     o ≡ record { status = Usage; out = []; err = usage_message; saved = [] }
 CommandOutcome files (Some (Run run)) o =
-    Follows (ProgramOf files run.script) (run_outcome files run) o
+    Follows (ProgramOf files run.script)
+    (λ program. RunOutcome (has_births program) files run program) o
 CommandOutcome files (Some (Format name)) o =
-    Follows (TreeOf files name) (λ tree. shown (canonical tree)) o
+    Follows (TreeOf files name) (λ tree o. o ≡ shown (canonical tree)) o
 CommandOutcome files (Some (Check name)) o =
-    Follows (ProgramOf files name) (λ program. shown []) o
-CommandOutcome files (Some (Trial trial)) o = Follows TrialProgram (trial_outcome trial) o
+    Follows (ProgramOf files name) (λ program o. o ≡ shown []) o
+CommandOutcome files (Some (Trial trial)) o =
+    Follows TrialProgram (λ program o. o ≡ trial_outcome trial program) o
 
 -- an outcome of words over the files that a shelf holds
 abbrev pub HasOutcome : List (List ℕ) → Files → Outcome → Type 0
@@ -275,13 +317,13 @@ abbrev pub SameMessage : List ℕ → List ℕ → Type 0
 SameMessage a b = (a ≡ b) ⊎ AreNoReadings a b
 
 -- a command reads the file of this name where every file before it is accepted: its script, then
--- the agents and the cut plan of a run
+-- the file with which a run begins, and its cut plan
 pub data Reads (files : Files) : Option Command → List ℕ → Type 0 where
   reads_script : (command : Command) (name : List ℕ) → script_in command ≡ Some name
       → Reads files (Some command) name
-  reads_agents : (run : RunCommand) (program : Program) → ProgramOf files run.script (Ok program)
-      → has_births program ≡ false → Reads files (Some (Run run)) run.agents
-  reads_plan : (run : RunCommand) (program : Program) (start : World) (name : List ℕ)
+  reads_start : (run : RunCommand) (program : Program) → ProgramOf files run.script (Ok program)
+      → has_births program ≡ false → Reads files (Some (Run run)) (start_file run.start)
+  reads_plan : (run : RunCommand) (program : Program) (moment : Moment) (name : List ℕ)
       → ProgramOf files run.script (Ok program) → has_births program ≡ false
-      → agents_of files program run.agents ≡ Ok start → run.cuts ≡ Some name
+      → BeginsAt files program run.start (Ok moment) → run.cuts ≡ Some name
       → Reads files (Some (Run run)) name

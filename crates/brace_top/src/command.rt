@@ -67,7 +67,7 @@ fn carry_out<S: Shelf, O: Sink, E: Sink>(
 /// |---|---|
 /// | 0 | all was written |
 /// | 2 | the words are no line, or ask for what is not [`built`](crate::built) yet |
-/// | 3, 4, 5 | the script, the agent file, the cut plan is refused |
+/// | 3, 4, 5, 6 | the script, the agent file, the cut plan, the checkpoint is refused |
 /// | 7 | the run ended in a fault before its last tick |
 /// | 8 | a read failed |
 /// | 9 | a write to `out` failed |

@@ -5,27 +5,30 @@ ghost use Rattle.brace_model.specs.Next.{has_births};
 ghost use Rattle.brace_model.specs.Run.{end_of};
 ghost use Rattle.brace_pieces.specs.declared.setting.Setting.{Setting};
 ghost use Rattle.brace_pieces.specs.Settings.{LawfulSetting};
+ghost use Rattle.brace_save.specs.Lines.{moment_of};
 ghost use Rattle.brace_top.specs.Answer.{CountsWrites, sink_call};
 ghost use Rattle.brace_top.specs.Commands as asked;
+ghost use Rattle.brace_top.specs.Commands.{is_anew};
 ghost use Rattle.brace_top.specs.Outcome.{shown, setting_of, ran, trial_end};
 ghost use Rattle.brace_top.specs.Status.{has_run};
 ghost use Rattle.brace_top.specs.Trials.{trial_line};
 ghost use Rattle.brace_top.specs.inner.Settled.{IsServed, IsWritten, told_counts, is_plain_work, outcome_of, status_in, message_in};
-ghost use Rattle.brace_top.specs.inner.Words.{said, said_run, said_trial, IsInRange, IsRunInRange, IsTrialInRange};
+ghost use Rattle.brace_top.specs.inner.Words.{said, said_run, said_start, said_trial, IsInRange, IsRunInRange, IsTrialInRange};
 
 use crate::answer::{Answer, Stopped, refuse_file};
-use crate::load::{load_cuts, load_program, load_tree, load_trial, load_world};
+use crate::load::{load_cuts, load_program, load_start, load_tree, load_trial};
 use crate::status::Status;
 use crate::task::{Task, done, faulted, run_task};
 use crate::trial::{has_four_fixed, trial_line, trial_setting};
-use crate::words::{Command, RunCommand, TrialCommand};
+use crate::words::{Command, RunCommand, Start, TrialCommand};
 use brace_core::PlainLanes;
 use brace_crew::{CrewFault, SumPublisher, crew_run_alone};
 use brace_cuts::CutPlan;
 use brace_io::{Shelf, Sink, write_whole};
-use brace_model::{Fault, Job, Program, World, has_births};
+use brace_model::{Fault, Job, Program, has_births};
 use brace_part::Counts;
 use brace_pieces::Setting;
+use brace_save::Point;
 use brace_show::show;
 use std::alloc::Global;
 
@@ -45,19 +48,22 @@ fn write_text<O: Sink>(alloc: Global, text: &[u8], out: &mut O) -> Result<Answer
     })
 }
 
-/// A run from tick 0 that can begin.
-fn task_of<'a>(run: &RunCommand<'a>, program: Program, start: World, cuts: CutPlan) -> Task<'a>
-    ensures setting { result.setting ≡ setting_of (said_run run.now) program start cuts }
+/// A run that can begin at a moment.
+fn task_of<'a>(run: &RunCommand<'a>, program: Program, point: Point, cuts: CutPlan) -> Task<'a>
+    ensures setting { result.setting
+        ≡ setting_of (said_run run.now) program (moment_of point) cuts }
     ensures outcome { outcome_of result ≡ ran run.now.manner.stats
-        (option_map (λ name. name.now) run.now.save) true result.setting }
+        (option_map (λ name. name.now) run.now.save) (is_anew (said_start run.now.start))
+        result.setting }
+    ensures fresh { result.fresh ≡ is_anew (said_start run.now.start) }
 {
     let job = Job {
         program,
-        seed: run.seed,
-        first: 0,
+        seed: point.seed,
+        first: point.tick,
         last: run.ticks,
         every: run.every,
-        start,
+        start: point.world,
     };
     Task {
         setting: Setting {
@@ -67,13 +73,13 @@ fn task_of<'a>(run: &RunCommand<'a>, program: Program, start: World, cuts: CutPl
             invert: run.manner.invert,
         },
         order: run.manner.order,
-        fresh: true,
+        fresh: matches!(run.start, Start::Anew(..)),
         save: run.save,
         stats: run.manner.stats,
     }
 }
 
-/// Runs a script from an agent file.
+/// Runs a script.
 fn run_script<S: Shelf, O: Sink>(
     alloc: Global,
     run: &RunCommand,
@@ -90,9 +96,9 @@ fn run_script<S: Shelf, O: Sink>(
     if has_births(&program) {
         return Err(refuse_file(alloc, run.script, Status::Script, b": NotThin"));
     }
-    let start = load_world(alloc, shelf, &program, run.agents)?;
+    let point = load_start(alloc, shelf, &program, &run.start)?;
     let cuts = load_cuts(alloc, shelf, run.cuts, run.manner.epoch)?;
-    run_task(alloc, &task_of(run, program, start, cuts), shelf, out)
+    run_task(alloc, &task_of(run, program, point, cuts), shelf, out)
 }
 
 /// Writes the canonical text of a script.

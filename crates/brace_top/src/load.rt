@@ -1,27 +1,32 @@
 //! What the named files of a command come to.
-ghost use Rattle.std.specs.Prelude.{◌≡◌, ◌≤◌, ◌<◌, ℕ, [], codes, length, option_map, unwrap_or, Some, None, IfOk, IfErr, MatchResult, true, false};
+ghost use Rattle.std.specs.Prelude.{◌≡◌, ◌≤◌, ◌<◌, ◌^◌, ℕ, [], codes, length, option_map, unwrap_or, Some, None, IfOk, IfErr, MatchResult, true, false};
 ghost use Rattle.brace_io.specs.Shelves.{writes};
 ghost use Rattle.brace_cuts.specs.CutPlans.{IsPlan};
 ghost use Rattle.brace_model.specs.Lawful.{LawfulProgram, LawfulAgents};
 ghost use Rattle.brace_model.specs.World.{IsNumbered};
+ghost use Rattle.brace_save.specs.Lines.{moment_of};
 ghost use Rattle.brace_top.specs.Answer.{ShelfCall, shelf_call};
-ghost use Rattle.brace_top.specs.Outcome.{loaded, source_of, agents_of, plan_of, whole_plane, TreeOf, ProgramOf, TrialProgram};
+ghost use Rattle.brace_top.specs.Commands.{is_anew, start_file};
+ghost use Rattle.brace_top.specs.Outcome.{loaded, source_of, agents_of, plan_of, whole_plane, TreeOf, ProgramOf, TrialProgram, PointOf, BeginsAt, begun_anew};
 ghost use Rattle.brace_top.specs.declared.limits.TheConstants.{SCRIPT_LIMIT};
-ghost use Rattle.brace_top.specs.inner.Settled.{IsLoaded, IsUnloaded, IsScriptRefused, IsRecordRefused, IsPlanRefused, refuses_file, stopped_status};
+ghost use Rattle.brace_top.specs.inner.Settled.{IsLoaded, IsUnloaded, IsScriptRefused, IsRecordRefused, IsPlanRefused, IsPointRefused, refuses_file, stopped_status};
+ghost use Rattle.brace_top.specs.inner.Words.{said_start};
 
 use crate::answer::{Stopped, refuse, refuse_file};
-use crate::limits::{AGENTS_LIMIT, PLAN_LIMIT, SCRIPT_LIMIT};
-use crate::messages::{line_message, placed_message, record_message};
+use crate::limits::{AGENTS_LIMIT, CHECKPOINT_LIMIT, PLAN_LIMIT, SCRIPT_LIMIT};
+use crate::messages::{line_message, placed_message, point_message, record_message};
 use crate::places::{column_number, line_number};
 use crate::script::{read_program, read_tree};
 use crate::script_fault::ScriptFault;
 use crate::status::Status;
 use crate::trial::TRIAL_SCRIPT;
+use crate::words::Start;
 use brace_cuts::{CutLine, CutPlan, Cuts, PlanFault, read_plan};
 use brace_io::{Shelf, WholeFault, read_whole};
 use brace_model::{Program, World};
 use brace_num::{List, NoMemory};
 use brace_rows::{RowFault, read_agents};
+use brace_save::{Point, PointFault, read_checkpoint};
 use brace_syntax::Tree;
 use std::alloc::Global;
 
@@ -97,6 +102,16 @@ fn refuse_line(alloc: Global, name: &str, fault: PlanFault) -> Stopped
     }
 }
 
+/// The refusal of a file that is no checkpoint.
+fn refuse_point(alloc: Global, name: &str, fault: PointFault) -> Stopped
+    ensures { IsPointRefused name.now fault result }
+{
+    match fault {
+        PointFault::NoMemory => Stopped::NoMemory,
+        fault => refuse(Status::Checkpoint, point_message(alloc, name, fault)),
+    }
+}
+
 /// The tree of the script of a name.
 pub fn load_tree<S: Shelf>(alloc: Global, shelf: &mut S, name: &str) -> Result<Tree, Stopped>
     requires { writes (S.stage shelf.old) ≡ false }
@@ -168,6 +183,89 @@ pub fn load_world<S: Shelf>(
     match read_agents(alloc, program, bytes.as_slice()) {
         Ok(world) => Ok(world),
         Err(fault) => Err(refuse_record(alloc, name, fault)),
+    }
+}
+
+/// What the checkpoint of a name tells.
+fn load_point<S: Shelf>(
+    alloc: Global,
+    shelf: &mut S,
+    program: &Program,
+    name: &str,
+) -> Result<Point, Stopped>
+    requires stage { writes (S.stage shelf.old) ≡ false }
+    requires lawful { LawfulProgram program.now }
+    ensures loads { MatchResult result
+        (λ point. IsLoaded (λ files. PointOf files program.now name.now)
+        (shelf_call S.Shelf shelf.old shelf.new) (moment_of point))
+        (IsUnloaded (λ files. PointOf files program.now name.now) name.now
+        (shelf_call S.Shelf shelf.old shelf.new)) }
+    ensures lawful { IfOk result (λ point. LawfulAgents program.now point.world.agents) }
+    ensures numbered { IfOk result (λ point. IsNumbered point.world) }
+    ensures range { IfOk result (λ point. point.tick ≤ 2 ^ 32) }
+    ensures held { S.held shelf.new ≡ S.held shelf.old }
+    ensures not_writing { writes (S.stage shelf.new) ≡ false }
+{
+    let bytes = load_file(alloc, shelf, name, CHECKPOINT_LIMIT, Status::Checkpoint)?;
+    match read_checkpoint(alloc, program, bytes.as_slice()) {
+        Ok(point) => Ok(point),
+        Err(fault) => Err(refuse_point(alloc, name, fault)),
+    }
+}
+
+/// The moment at which a run begins anew.
+fn load_anew<S: Shelf>(
+    alloc: Global,
+    shelf: &mut S,
+    program: &Program,
+    name: &str,
+    seed: u64,
+) -> Result<Point, Stopped>
+    requires { writes (S.stage shelf.old) ≡ false }
+    ensures loads { MatchResult result
+        (λ point. IsLoaded (λ files found. begun_anew seed (agents_of files program.now name.now)
+        ≡ found) (shelf_call S.Shelf shelf.old shelf.new) (moment_of point))
+        (IsUnloaded (λ files found. begun_anew seed (agents_of files program.now name.now) ≡ found)
+        name.now (shelf_call S.Shelf shelf.old shelf.new)) }
+    ensures lawful { IfOk result (λ point. LawfulAgents program.now point.world.agents) }
+    ensures numbered { IfOk result (λ point. IsNumbered point.world) }
+    ensures first { IfOk result (λ point. point.tick ≡ 0) }
+    ensures held { S.held shelf.new ≡ S.held shelf.old }
+    ensures not_writing { writes (S.stage shelf.new) ≡ false }
+{
+    let world = load_world(alloc, shelf, program, name)?;
+    Ok(Point {
+        tick: 0,
+        seed,
+        world,
+    })
+}
+
+/// The moment at which a run begins.
+pub fn load_start<S: Shelf>(
+    alloc: Global,
+    shelf: &mut S,
+    program: &Program,
+    start: &Start,
+) -> Result<Point, Stopped>
+    requires stage { writes (S.stage shelf.old) ≡ false }
+    requires lawful { LawfulProgram program.now }
+    ensures loads { MatchResult result
+        (λ point. IsLoaded (λ files. BeginsAt files program.now (said_start start.now))
+        (shelf_call S.Shelf shelf.old shelf.new) (moment_of point))
+        (IsUnloaded (λ files. BeginsAt files program.now (said_start start.now))
+        (start_file (said_start start.now)) (shelf_call S.Shelf shelf.old shelf.new)) }
+    ensures lawful { IfOk result (λ point. LawfulAgents program.now point.world.agents) }
+    ensures numbered { IfOk result (λ point. IsNumbered point.world) }
+    ensures range { IfOk result (λ point. point.tick ≤ 2 ^ 32) }
+    ensures first { is_anew (said_start start.now) ≡ true
+        → IfOk result (λ point. point.tick ≡ 0) }
+    ensures held { S.held shelf.new ≡ S.held shelf.old }
+    ensures not_writing { writes (S.stage shelf.new) ≡ false }
+{
+    match start {
+        Start::Anew(name, seed) => load_anew(alloc, shelf, program, name, *seed),
+        Start::Resumed(name) => load_point(alloc, shelf, program, name),
     }
 }
 

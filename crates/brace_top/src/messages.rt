@@ -1,12 +1,13 @@
 ghost use Rattle.std.specs.Prelude.{◌≡◌, ◌++◌, IfOk, OnOk};
 ghost use Rattle.brace_crew.specs.Shows.{file_name};
-ghost use Rattle.brace_top.specs.Messages.{named_message, placed_message, row_word, record_message, plan_word, line_message, save_fault_message, stats_message, phase_word, kind_word, loop_text, agents_text, site_text, fault_message};
+ghost use Rattle.brace_top.specs.Messages.{named_message, placed_message, row_word, record_message, plan_word, line_message, point_word, point_message, save_fault_message, stats_message, phase_word, kind_word, loop_text, agents_text, site_text, fault_message};
 
 use brace_cuts::PlanKind;
 use brace_model::{Fault, Phase};
 use brace_num::{Kind, NoMemory, print_count};
 use brace_part::Counts;
 use brace_rows::RowKind;
+use brace_save::PointFault;
 use itoa::Buffer;
 use std::alloc::Global;
 
@@ -102,6 +103,33 @@ pub fn line_message(
     print_count(&mut rest, number)?;
     rest.extend_from_slice(b": ")?;
     rest.extend_from_slice(plan_word(kind))?;
+    named_message(alloc, name, rest.as_slice())
+}
+
+/// The word of a checkpoint's refusal, and the number of a bad line, behind a message.
+fn add_point_word(message: &mut Vec<u8>, fault: PointFault) -> Result<(), NoMemory>
+    ensures { OnOk result (message.new.items ≡ message.old.items ++ point_word fault) }
+{
+    match fault {
+        PointFault::Incomplete => message.extend_from_slice(b"Incomplete")?,
+        PointFault::BadLine(number) => {
+            message.extend_from_slice(b"BadLine ")?;
+            print_count(message, number)?;
+        }
+        PointFault::OtherClasses => message.extend_from_slice(b"OtherClasses")?,
+        PointFault::BadVersion => message.extend_from_slice(b"BadVersion")?,
+        PointFault::NoMemory => {}
+    }
+    Ok(())
+}
+
+/// The message that says why a file is no checkpoint.
+pub fn point_message(alloc: Global, name: &str, fault: PointFault) -> Result<Vec<u8>, NoMemory>
+    ensures { IfOk result (λ text. text.items ≡ point_message name.now fault) }
+{
+    let mut rest = Vec::new(alloc);
+    rest.extend_from_slice(b": ")?;
+    add_point_word(&mut rest, fault)?;
     named_message(alloc, name, rest.as_slice())
 }
 

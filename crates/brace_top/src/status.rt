@@ -14,6 +14,8 @@ pub enum Status {
     Agents,
     /// The cut plan is refused.
     Plan,
+    /// A file is no checkpoint of the script's classes.
+    Checkpoint,
     /// The run ended in a fault before its last tick.
     Fault,
     /// A read failed.
@@ -40,6 +42,7 @@ impl Status {
             Status::Script => 3,
             Status::Agents => 4,
             Status::Plan => 5,
+            Status::Checkpoint => 6,
             Status::Fault => 7,
             Status::ReadFault => 8,
             Status::WriteFault => 9,

@@ -619,7 +619,7 @@ fn ended(
     shelf.hold("s", script)?;
     shelf.hold("a", agents.as_bytes())?;
     shelf.hold(if cuts.is_empty() { "none" } else { "k" }, cuts.as_bytes())?;
-    shelf.prepare("c.2", 200)?;
+    shelf.prepare("c.2", 1000)?;
     shelf.prepare("c.4", 200)?;
     shelf.prepare("c.5", 200)?;
     let mut out = MemSink::make(alloc, 4000, sink_fails)?;
@@ -852,6 +852,245 @@ fn each_failing_save_names_its_file(rt: HostRuntime) -> Result<(), Fail> {
             shelf.file(name) == half.map(|text| text.as_bytes()),
             "call {number}"
         );
+    }
+    Ok(())
+}
+
+const RESUMED: &str = "resume --script s --from a --ticks 3";
+
+const AT_2_OF_9: &str =
+    "brace checkpoint 9\ntick 2\nseed 0\nclass P x:fixed y:fixed\nP,7,3.000000,0.000000\nend 1\n";
+
+const AT_2_CUT: &str =
+    "brace checkpoint 1\ntick 2\nseed 0\nclass P x:fixed y:fixed\nP,7,3.000000,0.000000\nend 1";
+
+const AT_2_OF_TWO: &str =
+    "brace checkpoint 1\ntick 2\nseed 0\nclass P x:fixed y:fixed\nP,7,3.000000,0.000000\nend 2\n";
+
+const RESUMED_LATER: &str =
+    "3,P,7,4.500000,0.000000\n4,P,7,6.000000,0.000000\n5,P,7,7.500000,0.000000\n";
+
+const RESUMES: [CutCase; 16] = [
+    (RESUMED, STEPS, AT_2, "", 0, "3,P,7,4.500000,0.000000\n", ""),
+    (
+        "resume --script s --from a --ticks 5 --every 2 --stats",
+        STEPS,
+        AT_2,
+        "",
+        0,
+        "4,P,7,6.000000,0.000000\n5,P,7,7.500000,0.000000\n",
+        "stats border 0 effects 0 moved 0 handed 0\n",
+    ),
+    // At its last tick and behind it there is nothing to run.
+    (
+        "resume --script s --from a --ticks 2 --stats",
+        STEPS,
+        AT_2,
+        "",
+        0,
+        "",
+        "stats border 0 effects 0 moved 0 handed 0\n",
+    ),
+    (
+        "resume --script s --from a --ticks 1 --stats",
+        STEPS,
+        AT_2,
+        "",
+        0,
+        "",
+        "stats border 0 effects 0 moved 0 handed 0\n",
+    ),
+    // The second line of the plan holds at tick 2, the third from tick 4 on.
+    (
+        "resume --script s --from a --ticks 5 --cuts k --epoch 2 --stats",
+        STEPS,
+        AT_2,
+        "at 0 x 4 y\nat 2 x 9 y\nat 4 x 5 y\n",
+        0,
+        RESUMED_LATER,
+        "stats border 0 effects 0 moved 0 handed 1\n",
+    ),
+    (
+        "resume --script s --from a --ticks 5 --cuts k --epoch 1",
+        STEPS,
+        AT_2,
+        "at 0 x 4 y\nat 2 x 5 y\nat 3 x 3 y\n",
+        0,
+        RESUMED_LATER,
+        "",
+    ),
+    (
+        RESUMED,
+        RESTING,
+        AT_2,
+        "",
+        6,
+        "",
+        "brace: a: OtherClasses\n",
+    ),
+    (
+        RESUMED,
+        STEPS,
+        AT_2_CUT,
+        "",
+        6,
+        "",
+        "brace: a: Incomplete\n",
+    ),
+    (RESUMED, STEPS, "", "", 6, "", "brace: a: Incomplete\n"),
+    (
+        RESUMED,
+        STEPS,
+        AT_2_OF_9,
+        "",
+        6,
+        "",
+        "brace: a: BadVersion\n",
+    ),
+    (
+        RESUMED,
+        STEPS,
+        AT_2_OF_TWO,
+        "",
+        6,
+        "",
+        "brace: a: BadLine 6\n",
+    ),
+    // The script is judged before the checkpoint, and that before the cut plan.
+    (
+        RESUMED,
+        UNTYPED,
+        "",
+        "",
+        3,
+        "",
+        "brace: s:1:24: UnknownType\n",
+    ),
+    (RESUMED, BEARING, "", "", 3, "", "brace: s: NotThin\n"),
+    (
+        "resume --script s --from a --ticks 3 --cuts k",
+        STEPS,
+        AT_2_CUT,
+        "at 0 x 2 1 y\n",
+        6,
+        "",
+        "brace: a: Incomplete\n",
+    ),
+    (
+        "resume --script s --from a --ticks 3 --cuts k",
+        STEPS,
+        AT_2,
+        "at 0 x 2 1 y\n",
+        5,
+        "",
+        "brace: k: line 1: NotRising\n",
+    ),
+    (
+        "resume --script s --from a --ticks 3 --seed 1",
+        STEPS,
+        AT_2,
+        "",
+        2,
+        "",
+        "brace: usage\n",
+    ),
+];
+
+#[test]
+fn resumes_runs(rt: HostRuntime) -> Result<(), Fail> {
+    let alloc = rt.alloc();
+    for (words, script, saved, cuts, wanted, text, message) in RESUMES {
+        let asked = (words, script.as_bytes(), saved, cuts);
+        let (status, _, out, err) = ended(alloc, asked, Vec::new(alloc), Vec::new(alloc))?;
+        assert_eq!(rt; status, Some(wanted), "{words} over {saved}");
+        assert_eq!(rt; out.bytes(), text.as_bytes(), "{words} over {saved}");
+        assert_eq!(rt; err.bytes(), message.as_bytes(), "{words} over {saved}");
+    }
+    Ok(())
+}
+
+#[test]
+fn saves_ends_of_a_resumed_run(rt: HostRuntime) -> Result<(), Fail> {
+    let alloc = rt.alloc();
+    for (words, at_2, at_4, at_5) in [
+        (
+            "resume --script s --from a --ticks 5 --epoch 2 --save c",
+            None,
+            Some(AT_4),
+            Some(AT_5),
+        ),
+        (
+            "resume --script s --from a --ticks 2 --save c",
+            Some(AT_2),
+            None,
+            None,
+        ),
+        (
+            "resume --script s --from a --ticks 1 --save c",
+            None,
+            None,
+            None,
+        ),
+    ] {
+        let asked = (words, STEPS.as_bytes(), AT_2, "");
+        let (status, shelf, _, _) = ended(alloc, asked, Vec::new(alloc), Vec::new(alloc))?;
+        assert_eq!(rt; status, Some(0), "{words}");
+        for (name, bytes) in [("c.2", at_2), ("c.4", at_4), ("c.5", at_5)] {
+            assert!(rt;
+                shelf.file(name) == bytes.map(|text| text.as_bytes()),
+                "{words}: {name}"
+            );
+        }
+    }
+    Ok(())
+}
+
+#[test]
+fn a_resumed_run_goes_on_as_the_first_one_would(rt: HostRuntime) -> Result<(), Fail> {
+    let alloc = rt.alloc();
+    let whole = "run --script s --agents a --ticks 5 --seed 7";
+    let asked = (whole, ROAMING.as_bytes(), ROAMERS, "");
+    let (_, _, wanted, _) = ended(alloc, asked, Vec::new(alloc), Vec::new(alloc))?;
+    let first = "run --script s --agents a --ticks 2 --seed 7 --save c";
+    let asked = (first, ROAMING.as_bytes(), ROAMERS, "");
+    let (_, shelf, front, _) = ended(alloc, asked, Vec::new(alloc), Vec::new(alloc))?;
+    let saved = str::from_utf8(shelf.file("c.2").unwrap_or(b""))?;
+    for (number, cuts) in PLANS.iter().enumerate() {
+        for invert in INVERTED {
+            let again = "resume --script s --from a --ticks 5 --epoch 2 --cuts k";
+            let words = ordered(alloc, again, number as u64, invert)?;
+            let asked = (words.as_str(), ROAMING.as_bytes(), saved, *cuts);
+            let (status, _, out, _) = ended(alloc, asked, Vec::new(alloc), Vec::new(alloc))?;
+            assert_eq!(rt; status, Some(0), "{words} over {cuts}");
+            let rest = &wanted.bytes()[front.bytes().len()..];
+            assert_eq!(rt; out.bytes(), rest, "{words} over {cuts}");
+        }
+    }
+    Ok(())
+}
+
+#[test]
+fn each_failing_call_of_a_resumed_run_is_told(rt: HostRuntime) -> Result<(), Fail> {
+    let alloc = rt.alloc();
+    let words = "resume --script s --from a --ticks 5 --epoch 2 --save c";
+    for (number, wanted, text, message) in [
+        (3, 8, "", "brace: s: read fault\n"),
+        (4, 8, "", "brace: a: read fault\n"),
+        (5, 8, "", "brace: a: read fault\n"),
+        (6, 8, "", "brace: a: read fault\n"),
+        (7, 10, &RESUMED_LATER[..48], "brace: c.4: save fault\n"),
+        (8, 10, &RESUMED_LATER[..48], "brace: c.4: save fault\n"),
+        (9, 10, &RESUMED_LATER[..48], "brace: c.4: save fault\n"),
+        (10, 10, RESUMED_LATER, "brace: c.5: save fault\n"),
+        (11, 10, RESUMED_LATER, "brace: c.5: save fault\n"),
+        (12, 10, RESUMED_LATER, "brace: c.5: save fault\n"),
+        (13, 0, RESUMED_LATER, ""),
+    ] {
+        let asked = (words, STEPS.as_bytes(), AT_2, "");
+        let (status, _, out, err) = ended(alloc, asked, vec![in alloc; number]?, Vec::new(alloc))?;
+        assert_eq!(rt; status, Some(wanted), "call {number}");
+        assert_eq!(rt; out.bytes(), text.as_bytes(), "call {number}");
+        assert_eq!(rt; err.bytes(), message.as_bytes(), "call {number}");
     }
     Ok(())
 }

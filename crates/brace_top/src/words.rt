@@ -1,7 +1,7 @@
 ghost use Rattle.std.specs.Prelude.{◌≡◌, option_map, MatchOption, IfSome, None, Some};
 ghost use Rattle.brace_words.specs.Lines as lines;
-ghost use Rattle.brace_top.specs.Commands.{built, command_in, manner_of, run_of, trial_of};
-ghost use Rattle.brace_top.specs.inner.Words.{said, said_manner, IsInRange, IsMannerInRange};
+ghost use Rattle.brace_top.specs.Commands.{anew_of, built, command_in, manner_of, resumed_of, run_of, trial_of};
+ghost use Rattle.brace_top.specs.inner.Words.{said, said_manner, said_start, IsInRange, IsMannerInRange};
 
 use brace_num::Text;
 use brace_words::{Line, Mode};
@@ -19,18 +19,25 @@ pub struct Manner {
     pub stats: bool,
 }
 
-/// A run from an agent file up to a last tick, at most 2^32.
+/// Where a run begins.
+#[derive(Debug, Clone, Copy)]
+pub enum Start<'a> {
+    /// At tick 0, with the agents of the file of this name and this seed of all draws.
+    Anew(&'a str, u64),
+    /// At the tick, with the world and with the seed that the checkpoint of this name tells.
+    Resumed(&'a str),
+}
+
+/// A run up to a last tick, at most 2^32.
 #[derive(Debug, Clone, Copy)]
 pub struct RunCommand<'a> {
     pub script: &'a str,
-    pub agents: &'a str,
+    pub start: Start<'a>,
     /// The cut plan; without one the plane is one part.
     pub cuts: Option<&'a str>,
     /// The world of the end k of an epoch is saved as `NAME.k`, where this is NAME.
     pub save: Option<&'a str>,
     pub ticks: u64,
-    /// The seed of all draws.
-    pub seed: u64,
     /// Ticks that this number divides are published, and the last one. At least 1.
     pub every: u64,
     pub manner: Manner,
@@ -62,11 +69,11 @@ pub enum Command<'a> {
 
 /// Whether a line asks for nothing that is not built yet.
 ///
-/// Not built are the modes `resume` and `plan`, and more workers than one.
+/// Not built are the mode `plan`, and more workers than one.
 pub fn built(line: &Line) -> bool
     ensures { result ≡ built line.now }
 {
-    !matches!(line.mode, Mode::Resume | Mode::Plan) && line.workers.unwrap_or(1) == 1
+    line.mode != Mode::Plan && line.workers.unwrap_or(1) == 1
 }
 
 /// How a line's run is worked.
@@ -90,22 +97,36 @@ fn name_of(name: &Option<Text>) -> Option<&str>
     name.as_ref().map(|name| name.as_str())
 }
 
-/// The run that a line asks for, where it names the script, the agent file and the last tick.
-fn run_of(line: &Line) -> Option<Command<'_>>
+/// A run that begins anew, where the line names the agent file.
+fn anew_of(line: &Line) -> Option<Start<'_>>
+    ensures { option_map said_start result ≡ anew_of line.now }
+{
+    Some(Start::Anew(line.agents.as_ref()?.as_str(), line.seed.unwrap_or(0)))
+}
+
+/// A run that is resumed, where the line names the checkpoint.
+fn resumed_of(line: &Line) -> Option<Start<'_>>
+    ensures { option_map said_start result ≡ resumed_of line.now }
+{
+    Some(Start::Resumed(line.from.as_ref()?.as_str()))
+}
+
+/// The run that a line asks for, where it names the script and the last tick and says where the run
+/// begins.
+fn run_of<'a>(line: &'a Line, start: Option<Start<'a>>) -> Option<Command<'a>>
     requires { lines.IsInRange line.now }
     ensures command { MatchOption result
-        (run_of line.now line.now.script line.now.agents line.now.ticks ≡ None)
-        (λ command. run_of line.now line.now.script line.now.agents line.now.ticks
+        (run_of line.now line.now.script (option_map said_start start.entry) line.now.ticks ≡ None)
+        (λ command. run_of line.now line.now.script (option_map said_start start.entry) line.now.ticks
         ≡ Some (said command)) }
     ensures range { IfSome result IsInRange }
 {
     Some(Command::Run(RunCommand {
         script: line.script.as_ref()?.as_str(),
-        agents: line.agents.as_ref()?.as_str(),
+        start: start?,
         cuts: name_of(&line.cuts),
         save: name_of(&line.save),
         ticks: line.ticks?,
-        seed: line.seed.unwrap_or(0),
         every: line.every.unwrap_or(1),
         manner: manner_of(line),
     }))
@@ -137,10 +158,11 @@ pub fn command_in(line: &Line) -> Option<Command<'_>>
         return None;
     }
     match line.mode {
-        Mode::Run => run_of(line),
+        Mode::Run => run_of(line, anew_of(line)),
+        Mode::Resume => run_of(line, resumed_of(line)),
         Mode::Fmt => Some(Command::Format(line.script.as_ref()?.as_str())),
         Mode::Check => Some(Command::Check(line.script.as_ref()?.as_str())),
         Mode::Trial => trial_of(line),
-        Mode::Resume | Mode::Plan => None,
+        Mode::Plan => None,
     }
 }

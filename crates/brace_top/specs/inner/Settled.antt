@@ -9,11 +9,11 @@ use Rattle.brace_io.specs.declared.shelf.Shelf as shelf_trait
 use Rattle.brace_io.specs.declared.sink.Sink as sink_trait
 use Rattle.brace_top.specs.declared.task.Task.{Task}
 use Rattle.brace_top.specs.declared.status.Status.{Status}
-use Rattle.brace_top.specs.declared.status.Status.TheVariants.{Done, Usage, Script, Agents, Plan, Fault, ReadFault, WriteFault, SaveFault, NoMemory, Absent}
+use Rattle.brace_top.specs.declared.status.Status.TheVariants.{Done, Usage, Script, Agents, Plan, Checkpoint, Fault, ReadFault, WriteFault, SaveFault, NoMemory, Absent}
 use Rattle.brace_top.specs.Answer.{ShelfCall, SinkCall, shelf_call, sink_call, Among, IsUnread, IsUnwritten, IsGivenUp, IsEnd, IsUnsaved, IsAnswer, CountsShelf, CountsReads, CountsWrites}
 use Rattle.brace_top.specs.Status.{has_run, is_refusal, saves_nothing}
 use Rattle.brace_top.specs.Commands.{Command, may_save}
-use Rattle.brace_top.specs.Messages.{record_message, line_message, stats_message, fault_message, write_fault_message, save_fault_message, no_memory_message}
+use Rattle.brace_top.specs.Messages.{record_message, line_message, point_message, stats_message, fault_message, write_fault_message, save_fault_message, no_memory_message}
 use Rattle.brace_top.specs.Outcome.{Outcome, Refusal, script_message, ran}
 use Rattle.brace_cuts.specs.declared.kinds.PlanFault.{PlanFault}
 use Rattle.brace_cuts.specs.declared.kinds.PlanFault.TheVariants as plan_fault
@@ -23,6 +23,8 @@ use Rattle.brace_crew.specs.Shows.{file_name}
 use Rattle.brace_crew.specs.declared.crew.CrewFault.{CrewFault}
 use Rattle.brace_crew.specs.declared.crew.CrewFault.TheVariants as crew
 use Rattle.brace_crew.specs.declared.publisher.PubFault.TheVariants as refusal
+use Rattle.brace_save.specs.declared.kinds.PointFault.{PointFault}
+use Rattle.brace_save.specs.declared.kinds.PointFault.TheVariants as point_fault
 use Rattle.brace_rows.specs.declared.kinds.RowFault.{RowFault}
 use Rattle.brace_rows.specs.declared.kinds.RowFault.TheVariants as row_fault
 use Rattle.brace_top.specs.declared.script_fault.ScriptFault.{ScriptFault}
@@ -79,6 +81,11 @@ IsPlanRefused name (plan_fault.Bad number kind) stop =
     IsRefusedAs Plan (line_message name number kind) stop
 IsPlanRefused name plan_fault.NoMemory stop = stop ≡ stopped.NoMemory
 
+-- a checkpoint is refused for its fault
+abbrev pub IsPointRefused : List ℕ → PointFault → Stopped → Type 0
+IsPointRefused name point_fault.NoMemory stop = stop ≡ stopped.NoMemory
+IsPointRefused name fault stop = IsRefusedAs Checkpoint (point_message name fault) stop
+
 -- a command ended with this status and this message, or memory was refused for it
 abbrev pub IsToldAs : Status → List ℕ → Result Answer Stopped → Type 0
 IsToldAs status message (Ok answer) = IsOf status message answer
@@ -126,6 +133,7 @@ abbrev pub refuses_file : Status → Bool
 refuses_file Script = true
 refuses_file Agents = true
 refuses_file Plan = true
+refuses_file Checkpoint = true
 refuses_file Absent = true
 refuses_file status = false
 
@@ -134,6 +142,7 @@ abbrev pub is_stop : Status → Bool
 is_stop Script = true
 is_stop Agents = true
 is_stop Plan = true
+is_stop Checkpoint = true
 is_stop ReadFault = true
 is_stop NoMemory = true
 is_stop Absent = true

@@ -4,8 +4,10 @@ use Rattle.brace_top.specs.declared.words.Command.{Command as CodeCommand}
 use Rattle.brace_top.specs.declared.words.Command.TheVariants as code
 use Rattle.brace_top.specs.declared.words.Manner.{Manner as CodeManner}
 use Rattle.brace_top.specs.declared.words.RunCommand.{RunCommand as CodeRun}
+use Rattle.brace_top.specs.declared.words.Start.{Start as CodeStart}
+use Rattle.brace_top.specs.declared.words.Start.TheVariants as begun
 use Rattle.brace_top.specs.declared.words.TrialCommand.{TrialCommand as CodeTrial}
-use Rattle.brace_top.specs.Commands.{Command, Manner, RunCommand, TrialCommand, Run, Format, Check, Trial}
+use Rattle.brace_top.specs.Commands.{Command, Manner, RunCommand, TrialCommand, Start, Anew, Resumed, Run, Format, Check, Trial}
 
 -- how a run is worked
 abbrev pub said_manner : CodeManner → Manner
@@ -16,15 +18,19 @@ said_manner manner = record {
   stats = manner.stats;
 }
 
+-- where a run begins
+abbrev pub said_start : CodeStart → Start
+said_start (begun.Anew agents seed) = Anew agents.now seed
+said_start (begun.Resumed from) = Resumed from.now
+
 -- what a run asks for
 abbrev pub said_run : CodeRun → RunCommand
 said_run run = record {
   script = run.script.now;
-  agents = run.agents.now;
+  start = said_start run.start;
   cuts = option_map (λ name. name.now) run.cuts;
   save = option_map (λ name. name.now) run.save;
   ticks = run.ticks;
-  seed = run.seed;
   every = run.every;
   manner = said_manner run.manner;
 }

@@ -1,17 +1,23 @@
 use Rattle.std.proofs.Common.{◌∙◌, ◌≡◌, ◌≤◌, refl, sym, ap, subst, arith}
-use Rattle.std.specs.Prelude.{[], true, unwrap_or, Ok, Err, Result, Some}
+use Rattle.std.specs.Prelude.{[], true, unwrap_or, codes, Ok, Err, Result, Some}
 use Rattle.std.proofs.lemmas.Result.{err_from_is_err_and}
 use Rattle.brace_io.specs.Shelves.{Files}
 use Rattle.brace_model.specs.declared.program.Program.{Program}
 use Rattle.brace_model.specs.Next.{has_births}
 use Rattle.brace_pieces.specs.declared.setting.Setting.{Setting}
 use Rattle.brace_pieces.specs.Settings.{LawfulSetting}
+use Rattle.brace_save.specs.Lines.{moment_of}
 use Rattle.brace_top.specs.declared.status.Status.TheVariants.{Script}
-use Rattle.brace_top.specs.Commands.{Run}
-use Rattle.brace_top.specs.Outcome.{Refusal, ProgramOf, CommandOutcome, followed_by, shown, agents_of, plan_of, ran, reads_script, reads_agents}
+use Rattle.brace_top.specs.Commands.{Run, is_anew, start_file}
+use Rattle.brace_top.specs.Outcome.{Outcome, Refusal, ProgramOf, BeginsAt, CommandOutcome, refusal, refused, plan_of, ran, reads_script, reads_start}
 use Rattle.brace_top.specs.inner.Words.{said_run}
-use Rattle.brace_top.proofs.AnswerLemmas.{stop_serves, stopped_serves, refusal_unloads, unloaded_later, later_work_serves, births_refused, agents_refused, plan_refused, plan_read, none_of, run_ended, run_is_lawful}
+use Rattle.brace_top.proofs.AnswerLemmas.{stop_serves, stopped_serves, refusal_unloads, unloaded_later, later_work_serves, births_refused, start_refused, plan_refused, plan_read, none_of, run_ended, run_is_lawful}
 use Rattle.brace_top.proofs.flow.run_script.Goals as goal
+
+-- the outcome of a refusal, whatever else was found
+abbrev refused_as : {A : Type 0} → Outcome → Result A Refusal → Outcome
+refused_as other (Ok a) = other
+refused_as other (Err r) = refused r
 
 pub returns-in_err-program-clause-served : goal.returns-in_err-program-clause-served
 returns-in_err-program-clause-served g c =
@@ -25,40 +31,41 @@ pub returns-then-has_births-clause-served : goal.returns-then-has_births-clause-
 returns-then-has_births-clause-served g c =
     let run = said_run c.args.run.now in
     let program = c.in_ok-program.program in
-    let turned_down : Files → Result Program Refusal → Type 0 = λ files found. CommandOutcome files (Some (Run run)) (followed_by (λ p. shown []) found) in
+    let o = refused (refusal Script run.script (codes ": NotThin")) in
+    let turned_down : Files → Result Program Refusal → Type 0 = λ files found. CommandOutcome files (Some (Run run)) (refused_as o found) in
     stopped_serves g.S.Shelf g.O.Sink (Run run) _ _ _ turned_down run.script _
     (λ files told. reads_script _ _ refl) (λ files r told is. is) c.in_ok-program.ensures.held
     (refusal_unloads turned_down run.script _ Script _ _ refl c.in_ok-program.ensures.loads.counts c.refuse_file.ensures
     (λ files told. record { found = Ok program; is = c.in_ok-program.ensures.loads.found files told; follows = births_refused files run program (sym c.has_births.ensures ∙ c.if-has_births.true) }))
 
-pub returns-in_err-start-clause-served : goal.returns-in_err-start-clause-served
-returns-in_err-start-clause-served g c =
+pub returns-in_err-point-clause-served : goal.returns-in_err-point-clause-served
+returns-in_err-point-clause-served g c =
     let run = said_run c.args.run.now in
     let program = c.in_ok-program.program in
     let without = sym c.has_births.ensures ∙ c.if-has_births.false in
-    let p = err_from_is_err_and c.from_residual-in_err-start.result c.from_residual-in_err-start.ensures.1 in
-    rw (p.1, p.2) (stopped_serves g.S.Shelf g.O.Sink (Run run) _ _ _ (λ files found. agents_of files program run.agents ≡ found) run.agents _
-    (λ files told. reads_agents run program (c.in_ok-program.ensures.loads.found files told) without)
-    (λ files r told is. record { found = Ok program; is = c.in_ok-program.ensures.loads.found files told; follows = agents_refused files run program r without is })
-    (c.in_err-start.ensures.held ∙ c.in_ok-program.ensures.held)
-    (unloaded_later g.S.Shelf _ run.agents _ _ _ _ c.in_ok-program.ensures.held c.in_ok-program.ensures.loads.counts c.in_err-start.ensures.loads))
+    let p = err_from_is_err_and c.from_residual-in_err-point.result c.from_residual-in_err-point.ensures.1 in
+    rw (p.1, p.2) (stopped_serves g.S.Shelf g.O.Sink (Run run) _ _ _ (λ files. BeginsAt files program run.start) (start_file run.start) _
+    (λ files told. reads_start run program (c.in_ok-program.ensures.loads.found files told) without)
+    (λ files r told is. record { found = Ok program; is = c.in_ok-program.ensures.loads.found files told; follows = start_refused files run program r without is })
+    (c.in_err-point.ensures.held ∙ c.in_ok-program.ensures.held)
+    (unloaded_later g.S.Shelf _ (start_file run.start) _ _ _ _ c.in_ok-program.ensures.held c.in_ok-program.ensures.loads.counts c.in_err-point.ensures.loads))
 
 pub returns-in_err-cuts-clause-served : goal.returns-in_err-cuts-clause-served
 returns-in_err-cuts-clause-served g c =
     let run = said_run c.args.run.now in
     let program = c.in_ok-program.program in
-    let start = c.in_ok-start.start in
+    let moment = moment_of c.in_ok-point.point in
     let without = sym c.has_births.ensures ∙ c.if-has_births.false in
-    let held = c.in_ok-start.ensures.held ∙ c.in_ok-program.ensures.held in
-    let faults = c.in_ok-start.ensures.loads.counts ∙ c.in_ok-program.ensures.loads.counts in
+    let held = c.in_ok-point.ensures.held ∙ c.in_ok-program.ensures.held in
+    let faults = c.in_ok-point.ensures.loads.counts ∙ c.in_ok-program.ensures.loads.counts in
     let p = err_from_is_err_and c.from_residual-in_err-cuts.result c.from_residual-in_err-cuts.ensures.1 in
     rw (p.1, p.2) (stop_serves g.S.Shelf g.O.Sink (Run run) _ _ _ (λ files found. plan_of files run.manner.epoch run.cuts ≡ found) (unwrap_or run.cuts []) _
-    (λ files told failed. plan_read files run program start (c.in_ok-program.ensures.loads.found files told) without
-    (c.in_ok-start.ensures.loads.found files (c.in_ok-program.ensures.held ∙ told)) (λ none. c.in_err-cuts.ensures.unread (none_of _ _ none) failed))
+    (λ files told failed. plan_read files run program moment (c.in_ok-program.ensures.loads.found files told) without
+    (c.in_ok-point.ensures.loads.found files (c.in_ok-program.ensures.held ∙ told)) (λ none. c.in_err-cuts.ensures.unread (none_of _ _ none) failed))
     (λ files r told is. record {
       found = Ok program;
       is = c.in_ok-program.ensures.loads.found files told;
-      follows = plan_refused files run program start r without (c.in_ok-start.ensures.loads.found files (c.in_ok-program.ensures.held ∙ told)) is;
+      follows = plan_refused files run program moment r without (c.in_ok-point.ensures.loads.found files (c.in_ok-program.ensures.held ∙ told)) is;
     })
     (c.in_err-cuts.ensures.held ∙ held)
     (unloaded_later g.S.Shelf _ (unwrap_or run.cuts []) _ _ _ _ held faults c.in_err-cuts.ensures.loads))
@@ -66,29 +73,32 @@ returns-in_err-cuts-clause-served g c =
 pub run_task-requires-clause-lawful : goal.run_task-requires-clause-lawful
 run_task-requires-clause-lawful g c =
     subst LawfulSetting (sym c.task_of.ensures.setting)
-    (run_is_lawful c.args.run.now c.in_ok-program.program c.in_ok-start.start c.in_ok-cuts.cuts c.requires.range c.in_ok-program.ensures.lawful
-    c.in_ok-start.ensures.lawful c.in_ok-start.ensures.numbered c.in_ok-cuts.ensures.lawful)
+    (run_is_lawful c.args.run.now c.in_ok-program.program (moment_of c.in_ok-point.point) c.in_ok-cuts.cuts c.requires.range c.in_ok-program.ensures.lawful
+    c.in_ok-point.ensures.lawful c.in_ok-point.ensures.numbered c.in_ok-point.ensures.range c.in_ok-cuts.ensures.lawful)
 
 pub run_task-requires-clause-childless : goal.run_task-requires-clause-childless
 run_task-requires-clause-childless g c =
     ap (λ (s : Setting). has_births s.job.program) c.task_of.ensures.setting ∙ sym c.has_births.ensures ∙ c.if-has_births.false
 
 pub run_task-requires-clause-begins : goal.run_task-requires-clause-begins
-run_task-requires-clause-begins g c = subst (λ (s : Setting). s.job.first ≤ s.job.last) (sym c.task_of.ensures.setting) (omega arith)
+run_task-requires-clause-begins g c fresh =
+    let first = c.in_ok-point.ensures.first (sym c.task_of.ensures.fresh ∙ fresh) in
+    subst (λ (s : Setting). s.job.first ≤ s.job.last) (sym c.task_of.ensures.setting) (omega (arith, first))
 
 pub returns-clause-served : goal.returns-clause-served
 returns-clause-served g c =
     let run = said_run c.args.run.now in
     let program = c.in_ok-program.program in
+    let moment = moment_of c.in_ok-point.point in
     let without = sym c.has_births.ensures ∙ c.if-has_births.false in
-    let held = c.in_ok-cuts.ensures.held ∙ c.in_ok-start.ensures.held ∙ c.in_ok-program.ensures.held in
-    let faults = c.in_ok-cuts.ensures.loads.counts ∙ c.in_ok-start.ensures.loads.counts ∙ c.in_ok-program.ensures.loads.counts in
+    let held = c.in_ok-cuts.ensures.held ∙ c.in_ok-point.ensures.held ∙ c.in_ok-program.ensures.held in
+    let faults = c.in_ok-cuts.ensures.loads.counts ∙ c.in_ok-point.ensures.loads.counts ∙ c.in_ok-program.ensures.loads.counts in
     later_work_serves g.S.Shelf g.O.Sink (Run run) _ _ _ _ _ _ _ refl held faults
     (λ files x told e. record {
       found = Ok program;
       is = c.in_ok-program.ensures.loads.found files told;
-      follows = e ∙ c.task_of.ensures.outcome ∙ ap (ran run.manner.stats run.save true) c.task_of.ensures.setting
-          ∙ run_ended files run program c.in_ok-start.start c.in_ok-cuts.cuts without (c.in_ok-start.ensures.loads.found files (c.in_ok-program.ensures.held ∙ told))
-          (c.in_ok-cuts.ensures.loads.found files (c.in_ok-start.ensures.held ∙ c.in_ok-program.ensures.held ∙ told));
+      follows = run_ended files run program moment c.in_ok-cuts.cuts x without (c.in_ok-point.ensures.loads.found files (c.in_ok-program.ensures.held ∙ told))
+          (c.in_ok-cuts.ensures.loads.found files (c.in_ok-point.ensures.held ∙ c.in_ok-program.ensures.held ∙ told))
+          (e ∙ c.task_of.ensures.outcome ∙ ap (ran run.manner.stats run.save (is_anew run.start)) c.task_of.ensures.setting);
     })
     c.run_task.ensures.carried_out c.run_task.ensures.work c.run_task.ensures.counts c.run_task.ensures.writes c.run_task.ensures.clean
