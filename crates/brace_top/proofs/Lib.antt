@@ -14,3 +14,5 @@ pub mod ShownLemmas
 pub mod SavedLemmas
 pub mod CameLemmas
 pub mod NoneLemmas
+pub mod NextLemmas
+pub mod ResumeLemmas

@@ -233,6 +233,13 @@ one_why source r s e f = ap (why r) (sym e ∙ f)
 not_both : (source : Result (List ℕ) Refusal) (src : List ℕ) (r : Refusal) → source ≡ Ok src → source ≡ Err r → ⊥
 not_both source src r e f = let g : Ok src ≡ Err r = sym e ∙ f in absurd cc
 
+module _ {A : Type 0} (means : List ℕ → A → Type 0) (refuses : List ℕ → ScriptFault → Type 0) (decides : Decides means refuses) (name : List ℕ) (source : Result (List ℕ) Refusal) where
+  -- a script that means one thing comes to nothing else
+  one_found : (a : A) (found : Result A Refusal) → ComesTo means refuses name source (Ok a) → ComesTo means refuses name source found → Ok a ≡ found
+  one_found _ _ (stands_for src a e m) (unloaded r f) = absurd (not_both source src r e f)
+  one_found _ _ (stands_for src a e m) (refused_at to_ k at_ f n) = absurd (decides.never to_ a (Refused k at_) tt (subst (λ (s : List ℕ). means s a) (one_source source to_ src f e) m) n)
+  one_found _ _ (stands_for src a e m) (stands_for to_ b f n) = ap (λ (x : A). Ok x) (decides.one src a b m (subst (λ (s : List ℕ). means s b) (one_source source src to_ e f) n))
+
 module _ {A : Type 0} (means : List ℕ → A → Type 0) (refuses : List ℕ → ScriptFault → Type 0) (decides : Decides means refuses) (name : List ℕ) (source : Result (List ℕ) Refusal)
     (next : A → Outcome → Type 0) (alike : (src : List ℕ) (a : A) (o p : Outcome) → means src a → next a o → next a p → Agree o p) where
   found_agree : (a b : Result A Refusal) (o p : Outcome) → ComesTo means refuses name source a → ComesTo means refuses name source b → FollowedBy next a o → FollowedBy next b p → Agree o p
@@ -267,6 +274,11 @@ trees = record { one = one_tree_of; never = λ src a x t m r. has_tree src a x t
 
 programs : Decides Means Refuses
 programs = record { one = one_program; never = λ src a x t m r. not_refused src a x t m r; alike = one_refusal }
+
+-- a script that means one program comes to nothing else
+pub one_program_found : (name : List ℕ) (source : Result (List ℕ) Refusal) (program : Program) (found : Result Program Refusal)
+    → ComesTo Means Refuses name source (Ok program) → ComesTo Means Refuses name source found → Ok program ≡ found
+one_program_found name source program found means is = one_found Means Refuses programs name source program found means is
 
 -- one thing follows
 one_follows : {A : Type 0} (of_ : A → Outcome) (a : A) (o p : Outcome) → o ≡ of_ a → p ≡ of_ a → Agree o p

@@ -1,8 +1,33 @@
 -- A run that is begun anew from one of its own worlds.
-use Rattle.std.specs.Prelude.{ℕ}
+use Rattle.std.specs.Prelude.{◌≡◌, ℕ, List, false, Ok}
+use Rattle.brace_io.specs.Shelves.{Files}
+use Rattle.brace_cuts.specs.declared.plan.CutPlan.{CutPlan}
 use Rattle.brace_model.specs.declared.job.Job.{Job}
+use Rattle.brace_model.specs.Next.{has_births}
 use Rattle.brace_model.specs.World.{World}
+use Rattle.brace_save.specs.Lines.{IsText}
+use Rattle.brace_top.specs.declared.limits.TheConstants.{CHECKPOINT_LIMIT}
+use Rattle.brace_top.specs.declared.status.Status.TheVariants.{Checkpoint}
+use Rattle.brace_top.specs.Commands.{RunCommand, Resumed}
+use Rattle.brace_top.specs.Outcome.{ProgramOf, loaded, plan_of}
 
 -- the same run from the world of a tick on
 abbrev pub from_tick : Job → ℕ → World → Job
 from_tick job tick world = record job { first = tick; start = world }
+
+-- over these files a run is resumed from the world that the run of a job has at a tick: a checkpoint
+-- of it is held, the script means the job's program, and the last tick and the published ticks are
+-- the job's; how the plane is cut, and how the run is worked, is its own
+pub record GoesOn (files : Files) (job : Job) (tick : ℕ) (world : World) (run : RunCommand) : Type 0
+  where
+    pub name : List ℕ
+    pub begins : run.start ≡ Resumed name
+    pub bytes : List ℕ
+    pub held : loaded Checkpoint CHECKPOINT_LIMIT name (files name) ≡ Ok bytes
+    pub tells : IsText job.program (record { tick = tick; seed = job.seed; world = world }) bytes
+    pub means : ProgramOf files run.script (Ok job.program)
+    pub childless : has_births job.program ≡ false
+    pub plan : CutPlan
+    pub cut : plan_of files run.manner.epoch run.cuts ≡ Ok plan
+    pub last : run.ticks ≡ job.last
+    pub every : run.every ≡ job.every

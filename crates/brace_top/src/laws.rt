@@ -2,12 +2,14 @@
 ghost use Rattle.std.specs.Prelude.{◌≡◌, ◌≤◌, ℕ, ◌+◌, ◌-◌, List, ◌++◌, length, Some, Ok, true, false};
 ghost use Rattle.brace_io.specs.Shelves.{Files};
 ghost use Rattle.brace_model.specs.declared.job.Job.{Job};
-ghost use Rattle.brace_model.specs.World.{World};
+ghost use Rattle.brace_model.specs.World.{World, world_of};
 ghost use Rattle.brace_model.specs.Run.{world_after, first_fault};
 ghost use Rattle.brace_model.specs.Published.{text_of_ticks, published};
-ghost use Rattle.brace_top.specs.Commands.{Format};
-ghost use Rattle.brace_top.specs.Outcome.{Outcome, CommandOutcome, HasOutcome, SameMessage};
-ghost use Rattle.brace_top.specs.Restarts.{from_tick};
+ghost use Rattle.brace_model.specs.declared.fault.Fault.{Fault};
+ghost use Rattle.brace_top.specs.Commands.{Format, Run, RunCommand};
+ghost use Rattle.brace_top.specs.Messages.{fault_message};
+ghost use Rattle.brace_top.specs.Outcome.{Outcome, CommandOutcome, HasOutcome, SameMessage, end_status};
+ghost use Rattle.brace_top.specs.Restarts.{from_tick, GoesOn};
 ghost use Rattle.brace_top.specs.declared.limits.TheConstants.{SCRIPT_LIMIT};
 ghost use Rattle.brace_top.specs.declared.status.Status.TheVariants.{Done};
 
@@ -49,4 +51,28 @@ pub fn runs_may_be_begun_anew()
     ensures fault { (job : Job) (tick : ℕ) (world : World) → job.first ≤ tick → tick ≤ job.last
         → world_after job (tick - job.first) ≡ Ok world
         → first_fault (from_tick job tick world) ≡ first_fault job }
+{}
+
+/// A run that is resumed from a checkpoint goes on as the first one does, from the tick that the
+/// checkpoint tells: the rows up to that tick and its own are all rows of the first run, it ends in
+/// the same status, and it names the same fault. The two may be cut, and worked, each in its way. A
+/// checkpoint tells the agents of a world; without children the next free id plays no part.
+pub fn resumed_runs_go_on()
+    ensures rows { (files : Files) (job : Job) (tick : ℕ) (world : World) (run : RunCommand)
+        (o : Outcome) → job.first ≤ tick → tick ≤ job.last
+        → world_after job (tick - job.first) ≡ Ok world
+        → GoesOn files job tick (world_of world.agents) run
+        → CommandOutcome files (Some (Run run)) o
+        → published job true ≡ text_of_ticks job true (1 + (tick - job.first)) ++ o.out }
+    ensures status { (files : Files) (job : Job) (tick : ℕ) (world : World) (run : RunCommand)
+        (o : Outcome) → job.first ≤ tick → tick ≤ job.last
+        → world_after job (tick - job.first) ≡ Ok world
+        → GoesOn files job tick (world_of world.agents) run
+        → CommandOutcome files (Some (Run run)) o → o.status ≡ end_status (first_fault job) }
+    ensures fault { (files : Files) (job : Job) (tick : ℕ) (world : World) (run : RunCommand)
+        (o : Outcome) → job.first ≤ tick → tick ≤ job.last
+        → world_after job (tick - job.first) ≡ Ok world
+        → GoesOn files job tick (world_of world.agents) run
+        → CommandOutcome files (Some (Run run)) o → (f : Fault) → first_fault job ≡ Some f
+        → o.err ≡ fault_message f }
 {}
