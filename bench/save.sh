@@ -1,7 +1,7 @@
 #!/usr/bin/env bash
 # Reads agent files of 10,000, 100,000 and 1,000,000 agents of four states, writes their first tick and
-# saves it; writes by how many seconds saving makes this longer, the peak memory and the ratios into
-# docs/PERFORMANCE.md.
+# saves it; then resumes at that tick, with nothing to run. Writes by how many seconds saving makes the
+# first longer, how long the second takes, the peak memory and the ratios into docs/PERFORMANCE.md.
 set -eu
 top=$(cd "$(dirname "$0")/.." && pwd)
 work=$(mktemp -d)
@@ -15,7 +15,7 @@ PYTHONPATH=$top/bench python3 - "$program" "$work" <<'P'
 import random, sys
 from measure import measured, table
 program, work = sys.argv[1:]
-rows = []
+saved, read = [], []
 for count in (10_000, 100_000, 1_000_000):
     r = random.Random(1)
     with open(f"{work}/a", "w") as f:
@@ -25,6 +25,9 @@ for count in (10_000, 100_000, 1_000_000):
     words = [program, "run", "--script", f"{work}/s", "--agents", f"{work}/a", "--ticks", "0"]
     plain, _ = measured(words)
     saving, memory = measured([*words, "--save", f"{work}/c"])
-    rows.append((count, saving - plain, memory))
-table("Saving a world", "agents", rows)
+    saved.append((count, saving - plain, memory))
+    words = [program, "resume", "--script", f"{work}/s", "--from", f"{work}/c.0", "--ticks", "0"]
+    read.append((count, *measured(words)))
+table("Saving a world", "agents", saved)
+table("Reading a saved world", "agents", read)
 P

@@ -16,3 +16,4 @@ pub mod CameLemmas
 pub mod NoneLemmas
 pub mod NextLemmas
 pub mod ResumeLemmas
+pub mod ToldLemmas

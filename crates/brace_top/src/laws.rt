@@ -1,11 +1,17 @@
 //! Facts on outcomes that hold always. The functions do nothing; their clauses are the laws.
-ghost use Rattle.std.specs.Prelude.{◌≡◌, ◌≤◌, ℕ, ◌+◌, ◌-◌, List, ◌++◌, length, Some, Ok, true, false};
+ghost use Rattle.std.specs.Prelude.{◌≡◌, ◌≤◌, ◌<◌, ℕ, ◌+◌, ◌-◌, ◌^◌, List, ◌++◌, length, Some, Ok, true, false};
 ghost use Rattle.brace_io.specs.Shelves.{Files};
 ghost use Rattle.brace_model.specs.declared.job.Job.{Job};
 ghost use Rattle.brace_model.specs.World.{World, world_of};
+ghost use Rattle.brace_model.specs.Next.{has_births};
 ghost use Rattle.brace_model.specs.Run.{world_after, first_fault};
 ghost use Rattle.brace_model.specs.Published.{text_of_ticks, published};
 ghost use Rattle.brace_model.specs.declared.fault.Fault.{Fault};
+ghost use Rattle.brace_pieces.specs.declared.setting.Setting.{Setting};
+ghost use Rattle.brace_pieces.specs.Numbers.{NumbersFit};
+ghost use Rattle.brace_pieces.specs.Settings.{LawfulSetting};
+ghost use Rattle.brace_save.specs.Lines.{IsText};
+ghost use Rattle.brace_crew.specs.Shows.{checkpoint_file};
 ghost use Rattle.brace_top.specs.Commands.{Format, Run, RunCommand};
 ghost use Rattle.brace_top.specs.Messages.{fault_message};
 ghost use Rattle.brace_top.specs.Outcome.{Outcome, CommandOutcome, HasOutcome, SameMessage, end_status};
@@ -51,6 +57,20 @@ pub fn runs_may_be_begun_anew()
     ensures fault { (job : Job) (tick : ℕ) (world : World) → job.first ≤ tick → tick ≤ job.last
         → world_after job (tick - job.first) ≡ Ok world
         → first_fault (from_tick job tick world) ≡ first_fault job }
+{}
+
+/// The file that a run without children saves at a tick is a checkpoint: it tells the tick, the seed
+/// and the agents of the tick's world.
+pub fn saved_files_tell_their_worlds()
+    ensures { (s : Setting) (name : List ℕ) (tick : ℕ) (world : World) → LawfulSetting s
+        → NumbersFit s → has_births s.job.program ≡ false → s.job.seed < 2 ^ 64
+        → s.job.first ≤ tick → tick ≤ s.job.last
+        → world_after s.job (tick - s.job.first) ≡ Ok world
+        → IsText s.job.program (record {
+          tick = tick;
+          seed = s.job.seed;
+          world = world_of world.agents;
+        }) (checkpoint_file name s tick world).1 }
 {}
 
 /// A run that is resumed from a checkpoint goes on as the first one does, from the tick that the
