@@ -14,7 +14,7 @@ program=$top/out/brace-$("$top/tools/sum.sh")
 python3 - "$program" "$work" "$top" "${1:-50}" <<'P'
 import os, random, subprocess, sys, time
 program, work, top, times = sys.argv[1:]
-PLANS = ["at 0 x y\n", "at 0 x 300 700 y 500\n", "at 0 x 250 500 750 y\n"]
+EIGHTHS = "125 250 375 500 625 750 875"
 r = random.Random()
 
 
@@ -43,14 +43,14 @@ whole, seconds = {}, {}
 for name, (count, ticks) in worlds.items():
     agents(name, count)
     with open(f"{work}/{name}.k", "w") as f:
-        f.write(PLANS[1])
+        f.write(f"at 0 x {EIGHTHS} y {EIGHTHS}\n")
     start = time.monotonic()
     words = run(["run", "--agents", f"{work}/{name}", "--seed", "7"], ticks, "--cuts", f"{work}/{name}.k")
     whole[name] = subprocess.run(words, capture_output=True, check=True).stdout
     seconds[name] = time.monotonic() - start
     print(f"{name}: {count} agents, {ticks} ticks, {seconds[name]:.1f} s", flush=True)
 with open(f"{work}/k", "w") as f:
-    f.write(PLANS[2])
+    f.write("at 0 x 95.5 190.5 310 420 570 690 800 y 5 110 205 330 490 610 820\n")
 outcomes = {"resumed": 0, "before the first checkpoint": 0, "within a save": 0, "ended before it was killed": 0}
 for number in range(int(times)):
     name = r.choice(list(worlds))

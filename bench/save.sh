@@ -1,7 +1,7 @@
 #!/usr/bin/env bash
 # Reads agent files of 10,000, 100,000 and 1,000,000 agents of four states, writes their first tick and
-# saves it; then resumes at that tick, with nothing to run. Writes by how many seconds saving makes the
-# first longer, how long the second takes, the peak memory and the ratios into docs/PERFORMANCE.md.
+# saves it; then resumes at that tick, with nothing to run. Writes the seconds of both, peak memory and
+# the ratios between them into docs/PERFORMANCE.md.
 set -eu
 top=$(cd "$(dirname "$0")/.." && pwd)
 work=$(mktemp -d)
@@ -23,11 +23,9 @@ for count in (10_000, 100_000, 1_000_000):
             x = f"{r.randrange(1000)}.{r.randrange(10**6):06}"
             f.write(f"Fish,{i},{x},{r.randrange(1000)},{r.randrange(-2, 3)},-0.5\n")
     words = [program, "run", "--script", f"{work}/s", "--agents", f"{work}/a", "--ticks", "0"]
-    plain, _ = measured(words)
-    saving, memory = measured([*words, "--save", f"{work}/c"])
-    saved.append((count, saving - plain, memory))
+    saved.append((count, *measured([*words, "--save", f"{work}/c"])))
     words = [program, "resume", "--script", f"{work}/s", "--from", f"{work}/c.0", "--ticks", "0"]
     read.append((count, *measured(words)))
-table("Saving a world", "agents", saved)
+table("Reading agents, writing their first tick and saving it", "agents", saved)
 table("Reading a saved world", "agents", read)
 P
