@@ -13,8 +13,8 @@ use Rattle.brace_part.specs.Parts.{OnPart}
 use Rattle.brace_crew.specs.declared.member.Member.{Member}
 use Rattle.brace_crew.specs.declared.member.Member.TheVariants as member
 use Rattle.brace_part.specs.Given.{summed, together, given_in, counts_up_to, all_given}
-use Rattle.brace_crew.specs.Members.{course_of}
-use Rattle.brace_crew.specs.inner.Crews.{IsDone, AreParts}
+use Rattle.brace_crew.specs.Members.{course_of, IsDone}
+use Rattle.brace_crew.specs.inner.Crews.{AreParts}
 use Rattle.brace_crew.proofs.DeskCourses.{last_behind}
 
 -- what a member gives in all steps of a run

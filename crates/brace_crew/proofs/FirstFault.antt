@@ -33,8 +33,8 @@ use Rattle.brace_part.specs.Parts.{found_in_work}
 use Rattle.brace_crew.specs.declared.member.Member.{Member}
 use Rattle.brace_crew.specs.declared.member.Member.TheVariants as member
 use Rattle.brace_pieces.specs.Finds.{found_by}
-use Rattle.brace_crew.specs.Members.{course_of}
-use Rattle.brace_crew.specs.inner.Crews.{IsDone, AreParts, fault_in, told_by, TellsAll, IsTelling}
+use Rattle.brace_crew.specs.Members.{course_of, IsDone}
+use Rattle.brace_crew.specs.inner.Crews.{AreParts, fault_in, told_by, TellsAll, IsTelling}
 use Rattle.brace_crew.proofs.DeskCourses.{last_behind}
 
 -- a lawful run without births

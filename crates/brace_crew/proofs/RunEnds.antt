@@ -6,15 +6,15 @@ use Rattle.brace_pieces.specs.declared.setting.Setting.{Setting}
 use Rattle.brace_crew.specs.declared.member.Member.{Member}
 use Rattle.brace_crew.specs.declared.member.Member.TheVariants as member
 use Rattle.brace_crew.specs.Desks.{OnDesk}
-use Rattle.brace_crew.specs.Members.{course_of, opening_of}
-use Rattle.brace_crew.specs.inner.Crews.{IsDone, AreParts, AreMembers, IsDeskOf}
+use Rattle.brace_crew.specs.Members.{course_of, opening_of, IsDone}
+use Rattle.brace_crew.specs.inner.Crews.{AreParts, AreMembers, IsDeskOf}
 use Rattle.brace_crew.proofs.RunMembers.{parts_behind, desk_behind, no_part}
 
 as_many : {A B : Type 0} (f : A → B) (after before : List A) → map f after ≡ map f before → length after ≡ length before
 as_many f after before same = sym (length-map after f) ∙ ap length same ∙ length-map before f
 
 -- of a vector that was written back whole all is kept
-all_back : {A B : Type 0} (f : A → B) (after before rest : List A) (n : ℕ) → map f after ≡ map f before → n ≡ length before → take n (after ++ rest) ≡ after
+pub all_back : {A B : Type 0} (f : A → B) (after before rest : List A) (n : ℕ) → map f after ≡ map f before → n ≡ length before → take n (after ++ rest) ≡ after
 all_back f after before rest n same is =
     ap (λ k. take k (after ++ rest)) (is ∙ sym (as_many f after before same)) ∙ take-append_seam after rest
 

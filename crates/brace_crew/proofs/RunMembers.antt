@@ -13,8 +13,8 @@ use Rattle.brace_pieces.proofs.EpochLemmas.{row_one}
 use Rattle.brace_crew.specs.declared.member.Member.{Member}
 use Rattle.brace_crew.specs.declared.member.Member.TheVariants as member
 use Rattle.brace_crew.specs.Desks.{OnDesk}
-use Rattle.brace_crew.specs.Members.{course_of, opening_of}
-use Rattle.brace_crew.specs.inner.Crews.{IsDone, AreParts, AreMembers, IsDeskOf}
+use Rattle.brace_crew.specs.Members.{course_of, opening_of, IsDone}
+use Rattle.brace_crew.specs.inner.Crews.{AreParts, AreMembers, IsDeskOf}
 
 -- ---- lists
 
@@ -26,7 +26,7 @@ all_last : {A : Type 0} (P : A → Type 0) (xs : List A) (x : A) → All P (xs +
 all_last P [] x all = All-head P x [] all
 all_last P (y ∷ xs) x all = all_last P xs x (All-tail P y (xs ++ x ∷ []) all)
 
-of_all_map : {A B : Type 0} (f : A → B) (P : B → Type 0) (xs : List A) → All P (map f xs) → All (λ x. P (f x)) xs
+pub of_all_map : {A B : Type 0} (f : A → B) (P : B → Type 0) (xs : List A) → All P (map f xs) → All (λ x. P (f x)) xs
 of_all_map f P [] all = All-nil (λ x. P (f x))
 of_all_map f P (x ∷ xs) all = All-cons (λ x. P (f x)) x xs (All-head P (f x) (map f xs) all) (of_all_map f P xs (All-tail P (f x) (map f xs) all))
 

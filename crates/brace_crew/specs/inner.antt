@@ -1,3 +1,4 @@
 pub mod Crews
+pub mod Driven
 pub mod Lots
 pub mod Sound

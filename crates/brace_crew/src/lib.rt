@@ -2,6 +2,7 @@
 //! to.
 #![tactic(auto)]
 
+mod bench;
 mod crew;
 mod desk;
 mod file_publisher;
@@ -16,6 +17,7 @@ mod sum_publisher;
 #[cfg(test)]
 mod tests;
 
+pub use bench::{Bench, Drive};
 pub use crew::{CrewFault, crew_run_alone};
 pub use desk::{Desk, Lot, Stop};
 pub use file_publisher::FilePublisher;

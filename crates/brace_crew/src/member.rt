@@ -1,3 +1,6 @@
+ghost use Rattle.std.specs.Prelude.{◌≡◌};
+ghost use Rattle.brace_crew.specs.Members.{asked_of};
+
 use crate::{Desk, Publisher};
 use brace_core::{Actor, Turn};
 use brace_part::Part;
@@ -8,6 +11,18 @@ use brace_pieces::Piece;
 pub enum Member<'a, P: Publisher> {
     Part(Part<'a>),
     Desk(Desk<'a, P>),
+}
+
+impl<'a, P: Publisher> Member<'a, P> {
+    /// The tick whose query it evaluates in its next turn, if it does. No memory is taken.
+    pub fn query_tick(&self) -> Option<u64>
+        ensures { result ≡ asked_of self.now }
+    {
+        match self {
+            Member::Part(part) => part.query_tick(),
+            Member::Desk(_) => None,
+        }
+    }
 }
 
 impl<'a, P: Publisher> Actor<Piece> for Member<'a, P> {

@@ -5,6 +5,8 @@ use Rattle.std.specs.List.{range_with_len}
 use Rattle.brace_model.specs.declared.fault.Fault.{Fault}
 use Rattle.brace_model.specs.FaultOrder.{least}
 use Rattle.brace_model.specs.declared.world.Agent.{Agent}
+use Rattle.brace_core.specs.declared.name.Turn.{Turn}
+use Rattle.brace_core.specs.declared.name.Turn.TheVariants.{Work}
 use Rattle.brace_cuts.specs.declared.space.Cuts.{Cuts}
 use Rattle.brace_pieces.specs.declared.setting.Setting.{Setting}
 use Rattle.brace_pieces.specs.declared.setting.Stage.{Stage}
@@ -21,7 +23,7 @@ use Rattle.brace_pieces.specs.Continued.{on}
 use Rattle.brace_pieces.specs.Owned.{owned}
 use Rattle.brace_pieces.specs.Finds.{queries_found, updates_found}
 use Rattle.brace_pieces.specs.Right.{IsRightCause}
-use Rattle.brace_pieces.specs.Courses.{OnCourse}
+use Rattle.brace_pieces.specs.Courses.{OnCourse, step_of, turn_of}
 use Rattle.brace_part.specs.declared.counts.Counts.{Counts}
 
 -- a part: where it stands in the schedule of its setting, the agents that it owns there, what it
@@ -32,6 +34,20 @@ pub record OnPart : Type 0 where
   pub shown : List Shown
   pub cause : Option Cause
   pub counts : Counts
+
+-- the tick whose query is evaluated in the work of a step, if one is
+abbrev pub tick_asked : Stage → ℕ → Option ℕ
+tick_asked Border tick = Some tick
+tick_asked _ tick = None
+
+-- the same for a turn in a step that may be there, of one who may have a cause to go no further
+abbrev pub asked_in : Option Cause → Turn → Option Step → Option ℕ
+asked_in None Work (Some at) = tick_asked at.stage at.tick
+asked_in _ _ _ = None
+
+-- the tick whose query a part evaluates in its next turn, if it evaluates one there
+abbrev pub asks_next : OnPart → Option ℕ
+asks_next p = asked_in p.cause (turn_of p.course) (step_of p.course)
 
 -- the agents of a part in the world of a tick, under some cuts
 abbrev pub own_under : Setting → ℕ → Cuts → ℕ → List Agent

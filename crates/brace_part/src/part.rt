@@ -14,7 +14,7 @@ ghost use Rattle.brace_pieces.specs.Settings.{LawfulSetting, parts, is_end, cuts
 ghost use Rattle.brace_pieces.specs.Steps.{schedule};
 ghost use Rattle.brace_pieces.specs.Right.{IsRight, IsRightCause};
 ghost use Rattle.brace_pieces.specs.Courses.{OnCourse, IsCourse, at_start, step_of, gone_on, past_of};
-ghost use Rattle.brace_part.specs.Parts.{own_under, own_at, IsSettled, keeps_at, found_in_work, IsCauseOf, IsCauseOfAll, cause_of, cause_behind};
+ghost use Rattle.brace_part.specs.Parts.{own_under, own_at, IsSettled, keeps_at, found_in_work, IsCauseOf, IsCauseOfAll, cause_of, cause_behind, asks_next};
 ghost use Rattle.brace_part.specs.Given.{counts_up_to};
 ghost use Rattle.brace_part.specs.inner.Ready.{AreKept};
 ghost use Rattle.brace_part.specs.inner.Sound.{IsPartOf, IsAtWork, ComesTo, GoesOn, owns_in};
@@ -279,6 +279,20 @@ impl<'a> Part<'a> {
             self.now.course.setting self.now.course.actor (step_of self.now.course) }
     {
         self.standing.shown.as_slice()
+    }
+
+    /// The tick whose query it evaluates in its next turn: where it goes on, that turn is its work,
+    /// and agents were shown to it in that step. No memory is taken.
+    pub fn query_tick(&self) -> Option<u64>
+        ensures { result ≡ asks_next self.now }
+    {
+        if self.cause.is_some() {
+            return None;
+        }
+        match (self.course.turn(), self.course.step()) {
+            (Turn::Work, Some(at)) if at.stage == Stage::Border => Some(at.tick),
+            _ => None,
+        }
     }
 
     /// Why it goes no further. Where it found faults in a work that it made, it has a cause: the

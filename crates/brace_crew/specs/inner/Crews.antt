@@ -16,14 +16,8 @@ use Rattle.brace_part.specs.Parts.{IsCauseOfAll}
 use Rattle.brace_crew.specs.Desks.{OnDesk}
 use Rattle.brace_crew.specs.declared.member.Member.{Member}
 use Rattle.brace_crew.specs.declared.member.Member.TheVariants as member
-use Rattle.brace_crew.specs.Members.{course_of, opening_of}
+use Rattle.brace_crew.specs.Members.{course_of, opening_of, IsDone}
 use Rattle.brace_crew.specs.inner.Lots.{world_of}
-
--- a member of a run has no turn left
-abbrev pub IsDone : {P : Type 0} → Member P → Type 0
-IsDone m =
-    let c = course_of m in
-    due schedule c.setting c.actor (past_of c) ≡ Done
 
 -- all parts of a run, by rising number, and of none is a turn left
 pub record AreParts {P : Type 0} (s : Setting) (members : List (Member P)) : Type 0 where
