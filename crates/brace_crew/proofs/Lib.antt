@@ -20,3 +20,7 @@ pub mod EmptyRun
 pub mod ActorTurns
 pub mod CountedMembers
 pub mod BenchRounds
+pub mod RosterLemmas
+pub mod GatherLemmas
+pub mod BenchSends
+pub mod TeamLemmas

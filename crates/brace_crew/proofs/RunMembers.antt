@@ -1,20 +1,21 @@
 -- The members of a run behind it: its parts, and its desk behind them.
-use Rattle.std.proofs.Common.{◌≡◌, ◌∙◌, refl, sym, ap, subst, ℕ, suc, ◌+◌, List, [], ◌∷◌, ◌++◌, map, replicate, Some, None, All, arith}
+use Rattle.std.proofs.Common.{◌≡◌, ◌∙◌, refl, sym, ap, subst, ℕ, ◌+◌, ◌<◌, List, [], ◌∷◌, ◌++◌, length, map, Some, None, All, arith}
 use Rattle.std.specs.List.{range_with_len}
-use Rattle.std.proofs.lemmas.List.{map-append}
-use Rattle.std.proofs.lemmas.List.Elements.{All-nil, All-cons, All-head, All-tail, All-replicate, All-map}
+use Rattle.std.proofs.lemmas.List.{map-append, length-map}
+use Rattle.std.proofs.lemmas.List.Elements.{All-nil, All-cons, All-head, All-tail, All-map}
+use Rattle.std.proofs.lemmas.List.FromFn.{length-range_with_len, length-map-range_with_len, get_or-map-range_with_len}
 use Rattle.brace_core.specs.declared.name.Turn.TheVariants.{Done}
 use Rattle.brace_core.specs.Exchanges.{due}
 use Rattle.brace_pieces.specs.declared.setting.Setting.{Setting}
 use Rattle.brace_pieces.specs.Settings.{parts}
 use Rattle.brace_pieces.specs.Steps.{schedule}
 use Rattle.brace_pieces.specs.Courses.{past_of}
-use Rattle.brace_pieces.proofs.EpochLemmas.{row_one}
 use Rattle.brace_crew.specs.declared.member.Member.{Member}
 use Rattle.brace_crew.specs.declared.member.Member.TheVariants as member
 use Rattle.brace_crew.specs.Desks.{OnDesk}
 use Rattle.brace_crew.specs.Members.{course_of, opening_of, IsDone}
-use Rattle.brace_crew.specs.inner.Crews.{AreParts, AreMembers, IsDeskOf}
+use Rattle.brace_crew.specs.inner.Crews.{AreParts, AreMembers, IsDeskOf, opening_in, all_numbers}
+use Rattle.brace_crew.proofs.MemberLemmas.{row_more, part_opens, desk_opens}
 
 -- ---- lists
 
@@ -53,49 +54,77 @@ both_same {A} (a ∷ xs) (b ∷ ys) x y is = let (rest, last) = both_same xs ys 
 
 -- ---- the members behind a run
 
-module _ {P : Type 0} (s : Setting) (publisher : P) (before after : List (Member P)) (are : AreMembers s publisher before)
-    (settings : map (λ m. (course_of m).setting) after ≡ map (λ m. (course_of m).setting) before)
-    (numbers : map (λ m. (course_of m).actor) after ≡ map (λ m. (course_of m).actor) before)
-    (openings : map opening_of after ≡ map opening_of before) (done : All IsDone after)
-    (front : List (Member P)) (last : Member P) (is : after ≡ front ++ last ∷ []) where
+module _ {P : Type 0} (s : Setting) (publisher : P) where
+  -- members at a later time
+  pub are_later : (numbers : List ℕ) (before after : List (Member P)) → AreMembers s publisher numbers before
+      → map (λ m. (course_of m).setting) after ≡ map (λ m. (course_of m).setting) before
+      → map (λ m. (course_of m).actor) after ≡ map (λ m. (course_of m).actor) before
+      → map opening_of after ≡ map opening_of before → AreMembers s publisher numbers after
+  are_later numbers before after are settings actors opened = record {
+    settings = of_all_map (λ m. (course_of m).setting) (λ r. r ≡ s) after
+        (subst (All (λ r. r ≡ s)) (sym settings) (All-map (λ r. r ≡ s) (λ m. (course_of m).setting) before are.settings));
+    numbered = actors ∙ are.numbered;
+    openings = opened ∙ are.openings;
+  }
+
+  -- a run has a member
+  pub some_member : (members : List (Member P)) → AreMembers s publisher (all_numbers s) members → members ≡ [] → ⊥
+  some_member members are none =
+      let long : parts s + 1 ≡ 0 =
+      sym (length-range_with_len 0 (parts s + 1)) ∙ ap length (sym are.numbered) ∙ length-map members (λ m. (course_of m).actor) ∙ ap length none in
+      omega (arith, long)
+
+module _ {P : Type 0} (s : Setting) (publisher : P) (members : List (Member P)) (are : AreMembers s publisher (all_numbers s) members)
+    (front : List (Member P)) (last : Member P) (is : members ≡ front ++ last ∷ []) where
   abbrev setting_of : Member P → Setting
   setting_of m = (course_of m).setting
 
   of_setting : All (λ m. setting_of m ≡ s) (front ++ last ∷ [])
-  of_setting = subst (All (λ m. setting_of m ≡ s)) is (of_all_map setting_of (λ r. r ≡ s) after (subst (All (λ r. r ≡ s)) (sym settings) (All-map (λ r. r ≡ s) setting_of before are.settings)))
+  of_setting = subst (All (λ m. setting_of m ≡ s)) is are.settings
 
   abbrev number_of : Member P → ℕ
   number_of m = (course_of m).actor
 
-  in_order : (map number_of front ≡ range_with_len 0 (parts s)) × (number_of last ≡ 0 + parts s)
+  in_order : (map number_of front ≡ range_with_len 0 (parts s)) × (number_of last ≡ parts s)
   in_order =
-      let more : parts s + 1 ≡ suc (parts s) = omega arith in
-      both_same (map number_of front) (range_with_len 0 (parts s)) (number_of last) (0 + parts s)
-      (sym (map-append number_of front (last ∷ [])) ∙ ap (map number_of) (sym is) ∙ numbers ∙ are.numbers ∙ ap (range_with_len 0) more ∙ row_one (parts s) 0)
+      both_same (map number_of front) (range_with_len 0 (parts s)) (number_of last) (parts s)
+      (sym (map-append number_of front (last ∷ [])) ∙ ap (map number_of) (sym is) ∙ are.numbered ∙ sym (row_more (parts s)))
 
-  opened : (map opening_of front ≡ replicate (parts s) None) × (opening_of last ≡ Some publisher)
+  opened : (map opening_of front ≡ map (opening_in s publisher) (range_with_len 0 (parts s))) × (opening_of last ≡ opening_in s publisher (parts s))
   opened =
-      both_same (map opening_of front) (replicate (parts s) None) (opening_of last) (Some publisher)
-      (sym (map-append opening_of front (last ∷ [])) ∙ ap (map opening_of) (sym is) ∙ openings ∙ are.openings)
+      both_same (map opening_of front) (map (opening_in s publisher) (range_with_len 0 (parts s))) (opening_of last) (opening_in s publisher (parts s))
+      (sym (map-append opening_of front (last ∷ [])) ∙ ap (map opening_of) (sym is) ∙ are.openings
+      ∙ ap (map (opening_in s publisher)) (sym (row_more (parts s))) ∙ map-append (opening_in s publisher) (range_with_len 0 (parts s)) (parts s ∷ []))
 
-  all_done : All IsDone (front ++ last ∷ [])
-  all_done = subst (All IsDone) is done
+  opens_none : All (λ o. o ≡ None) (map (opening_in s publisher) (range_with_len 0 (parts s)))
+  opens_none k d low =
+      let within : k < parts s = subst (λ n. k < n) (length-map-range_with_len (opening_in s publisher) 0 (parts s)) low in
+      get_or-map-range_with_len (opening_in s publisher) 0 (parts s) k k d within (omega arith) ∙ part_opens s publisher k within
 
-  pub parts_behind : AreParts s front
-  parts_behind = record {
-    settings = all_front (λ m. setting_of m ≡ s) front last of_setting;
-    numbers = in_order.0;
-    are_parts = of_all_map opening_of (λ o. o ≡ None) front (subst (All (λ o. o ≡ None)) (sym opened.0) (All-replicate (λ o. o ≡ None) (parts s) None refl));
-    done = all_front IsDone front last all_done;
-  }
+  opens_desk : opening_of last ≡ Some publisher
+  opens_desk = opened.1 ∙ desk_opens s publisher
 
   -- the last one is the desk
   pub no_part : opening_of last ≡ None → ⊥
-  no_part none = let both : Some publisher ≡ None = sym opened.1 ∙ none in absurd (cc)
+  no_part none = let both : Some publisher ≡ None = sym opens_desk ∙ none in absurd (cc)
 
-  pub desk_behind : (d : OnDesk P) → last ≡ member.Desk d → IsDeskOf s d × (d.opening ≡ publisher)
-  desk_behind d desk =
-      let opens : Some d.opening ≡ Some publisher = ap opening_of (sym desk) ∙ opened.1 in
-      let of = ap setting_of (sym desk) ∙ all_last (λ m. setting_of m ≡ s) front last of_setting in
-      let turn = subst IsDone desk (all_last IsDone front last all_done) in
-      (record { setting_is = of; done = subst (λ r. due schedule r d.course.actor (past_of d.course) ≡ Done) of turn }, cc)
+  pub desk_opening : (d : OnDesk P) → last ≡ member.Desk d → d.opening ≡ publisher
+  desk_opening d desk = let opens : Some d.opening ≡ Some publisher = ap opening_of (sym desk) ∙ opens_desk in cc
+
+  module _ (done : All IsDone members) where
+    all_done : All IsDone (front ++ last ∷ [])
+    all_done = subst (All IsDone) is done
+
+    pub parts_behind : AreParts s front
+    parts_behind = record {
+      settings = all_front (λ m. setting_of m ≡ s) front last of_setting;
+      numbers = in_order.0;
+      are_parts = of_all_map opening_of (λ o. o ≡ None) front (subst (All (λ o. o ≡ None)) (sym opened.0) opens_none);
+      done = all_front IsDone front last all_done;
+    }
+
+    pub desk_behind : (d : OnDesk P) → last ≡ member.Desk d → IsDeskOf s d
+    desk_behind d desk =
+        let of = ap setting_of (sym desk) ∙ all_last (λ m. setting_of m ≡ s) front last of_setting in
+        let turn = subst IsDone desk (all_last IsDone front last all_done) in
+        record { setting_is = of; done = subst (λ r. due schedule r d.course.actor (past_of d.course) ≡ Done) of turn }

@@ -5,4 +5,5 @@ pub mod Filed
 pub mod Members
 pub mod Shows
 pub mod Sums
+pub mod Workers
 pub mod inner

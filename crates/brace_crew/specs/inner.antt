@@ -2,3 +2,4 @@ pub mod Crews
 pub mod Driven
 pub mod Lots
 pub mod Sound
+pub mod Teams

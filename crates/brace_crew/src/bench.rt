@@ -1,8 +1,9 @@
-ghost use Rattle.std.specs.Prelude.{◌≡◌, ◌≤◌, ℕ, length};
+ghost use Rattle.std.specs.Prelude.{◌≡◌, ◌≤◌, ℕ, length, true};
 ghost use Rattle.std.specs.List.{All};
 ghost use Rattle.brace_crew.specs.declared.bench.Drive.TheVariants as drive;
 ghost use Rattle.brace_crew.specs.Members.{course_of, IsDone};
 ghost use Rattle.brace_crew.specs.Benches.{AreServed, IsUnused, IsUsedUp, IsSameBench, AreWaiting};
+ghost use Rattle.brace_crew.specs.inner.Teams.{HasEnded};
 ghost use Rattle.brace_crew.specs.inner.Driven.{IsCounted, AreCounted, IsLater, IsSameMember, AreSame, LeavesOthers, WentBy, WentAll, both};
 
 use crate::{Member, Publisher};
@@ -103,6 +104,18 @@ impl<'a, P: Publisher> Bench<'a, P> {
     {
         let (members, end) = (&mut self.members, &mut self.end);
         drive_members(members, end, gate, self.number, patience)
+    }
+
+    /// Whether all members are Done.
+    pub(crate) fn is_complete(&self) -> bool
+        ensures { result ≡ true → HasEnded self.now }
+    {
+        for member in self.members.as_slice() {
+            if member.next() != Turn::Done {
+                return false;
+            }
+        }
+        true
     }
 
     /// The members, by rising number, and their seat.

@@ -16,7 +16,7 @@ ghost use Rattle.brace_pieces.specs.Settings.{LawfulSetting, parts, is_end, show
 ghost use Rattle.brace_pieces.specs.Steps.{schedule};
 ghost use Rattle.brace_pieces.specs.Counts.{count_border, count_effects, count_moved, count_handed};
 ghost use Rattle.brace_pieces.specs.Right.{IsShown};
-ghost use Rattle.brace_pieces.specs.Courses.{past_of};
+ghost use Rattle.brace_pieces.specs.Courses.{at_start};
 ghost use Rattle.brace_part.specs.declared.counts.Counts.{Counts};
 ghost use Rattle.brace_part.specs.Given.{all_given};
 ghost use Rattle.brace_crew.specs.declared.publisher.PubFault.{PubFault};
@@ -24,9 +24,9 @@ ghost use Rattle.brace_crew.specs.declared.publisher.PubFault.TheVariants as ref
 ghost use Rattle.brace_crew.specs.declared.crew.CrewFault.TheVariants as fault;
 ghost use Rattle.brace_crew.specs.Calls.{ticks_left, Rises, CameTo};
 ghost use Rattle.brace_crew.specs.Desks.{whole_at, HasHalted};
-ghost use Rattle.brace_crew.specs.Members.{course_of, opening_of};
+ghost use Rattle.brace_crew.specs.Members.{IsDone};
 ghost use Rattle.brace_crew.specs.inner.Lots.{world_of, brought, tick_shown};
-ghost use Rattle.brace_crew.specs.inner.Crews.{AreParts, AreMembers, IsDeskOf, told_by, IsTelling, AreOf};
+ghost use Rattle.brace_crew.specs.inner.Crews.{AreParts, AreMembers, AreNew, IsDeskOf, told_by, IsTelling, AreOf, all_numbers, part_numbers, served};
 
 use crate::desk::{Lot, Stop};
 use crate::join::joined;
@@ -56,8 +56,46 @@ impl From<NoMemory> for CrewFault {
     }
 }
 
-/// The parts of a run before their first turns, and the desk behind them; `Err` gives the publisher
-/// back where memory is refused.
+/// A part of a run before its first turn.
+fn part_of<'a>(alloc: Global, setting: &'a Setting, number: u32) -> Result<Part<'a>, NoMemory>
+    requires lawful { LawfulSetting setting.now }
+    requires childless { has_births setting.now.job.program ≡ false }
+    requires below { number < parts setting.now }
+    ensures { IfOk result (λ part. part.course ≡ at_start setting.now number) }
+{
+    let job = &setting.job;
+    let own = moves_of(alloc, setting, job.first, job.start.agents(), number)?;
+    Part::make(alloc, setting, number, own.into_vec())
+}
+
+/// The parts of a run that a worker serves, of so many workers, before their first turns, with a
+/// place for one more member.
+pub(crate) fn parts<'a, P: Publisher>(
+    alloc: Global,
+    setting: &'a Setting,
+    worker: u32,
+    workers: u32,
+) -> Result<Vec<Member<'a, P>>, NoMemory>
+    requires lawful { LawfulSetting setting.now }
+    requires childless { has_births setting.now.job.program ≡ false }
+    requires some_worker { 0 < workers }
+    ensures parts { (publisher : P) → IfOk result (λ all. AreMembers setting.now publisher
+        (served workers worker (part_numbers setting.now)) all.items) }
+    ensures first_turns { IfOk result (λ all. AreNew all.items) }
+    ensures room { IfOk result (λ all. vec_len all < vec_capacity all) }
+{
+    let count = setting.parts();
+    let mut all = Vec::with_capacity(alloc, count as usize + 1)?;
+    for p in 0..count {
+        if p % workers == worker {
+            all.push_reserved(Member::Part(part_of(alloc, setting, p)?));
+        }
+    }
+    Ok(all)
+}
+
+/// All members of a run before their first turns: its parts, and the desk behind them; `Err` gives
+/// the publisher back where memory is refused.
 fn members<'a, P: Publisher>(
     alloc: Global,
     setting: &'a Setting,
@@ -65,43 +103,17 @@ fn members<'a, P: Publisher>(
 ) -> Result<Vec<Member<'a, P>>, P>
     requires lawful { LawfulSetting setting.now }
     requires childless { has_births setting.now.job.program ≡ false }
-    ensures members { IfOk result (λ all. AreMembers setting.now publisher all.items) }
+    ensures members { IfOk result (λ all.
+        AreMembers setting.now publisher (all_numbers setting.now) all.items) }
+    ensures first_turns { IfOk result (λ all. AreNew all.items) }
     ensures back { IfErr result (λ p. p ≡ publisher) }
 {
-    let mut all = match parts(alloc, setting) {
+    let mut all = match parts(alloc, setting, 0, 1) {
         Ok(all) => all,
         Err(NoMemory) => return Err(publisher),
     };
     let desk = Desk::make(alloc, setting, publisher)?;
     all.push_reserved(Member::Desk(desk));
-    Ok(all)
-}
-
-/// The parts of a run before their first turns, with a place for one more member.
-fn parts<'a, P: Publisher>(
-    alloc: Global,
-    setting: &'a Setting,
-) -> Result<Vec<Member<'a, P>>, NoMemory>
-    requires lawful { LawfulSetting setting.now }
-    requires childless { has_births setting.now.job.program ≡ false }
-    ensures settings { IfOk result (λ all.
-        All (λ m. (course_of m).setting ≡ setting.now) all.items) }
-    ensures numbers { IfOk result (λ all.
-        map (λ m. (course_of m).actor) all.items ≡ range_with_len 0 (parts setting.now)) }
-    ensures openings { IfOk result (λ all.
-        map opening_of all.items ≡ replicate (parts setting.now) None) }
-    ensures first_turns { IfOk result (λ all.
-        All (λ m. past_of (course_of m) ≡ 0) all.items) }
-    ensures room { IfOk result (λ all. vec_len all < vec_capacity all) }
-{
-    let count = setting.parts();
-    let mut all = Vec::with_capacity(alloc, count as usize + 1)?;
-    for p in 0..count {
-        let agents = setting.job.start.agents();
-        let own = moves_of(alloc, setting, setting.job.first, agents, p)?;
-        let part = Part::make(alloc, setting, p, own.into_vec())?;
-        all.push_reserved(Member::Part(part));
-    }
     Ok(all)
 }
 
@@ -347,6 +359,28 @@ fn settled<P: Publisher>(
     }
 }
 
+/// What a run came to, by all its members, of which no turn is left.
+pub(crate) fn concluded<P: Publisher>(
+    alloc: Global,
+    setting: &Setting,
+    mut members: Vec<Member<P>>,
+) -> (P, Result<Counts, CrewFault>)
+    requires lawful { LawfulSetting setting.now }
+    requires childless { has_births setting.now.job.program ≡ false }
+    requires members { (publisher : P)
+        × AreMembers setting.now publisher (all_numbers setting.now) members.items }
+    requires done { All IsDone members.items }
+    ensures came { (publisher : P)
+        → AreMembers setting.now publisher (all_numbers setting.now) members.entry.items
+        → CameTo P.Publisher setting.now publisher result.0 result.1 }
+{
+    match members.pop() {
+        Some(Member::Desk(desk)) => settled(alloc, setting, &members, desk),
+        Some(Member::Part(_part)) => unreachable!(),
+        None => unreachable!(),
+    }
+}
+
 /// Runs the parts of a setting and its publisher over plain lanes, in the order that a number
 /// draws, and gives the publisher back with what all parts gave, or why not all was published.
 ///
@@ -377,9 +411,5 @@ pub fn crew_run_alone<P: Publisher>(
         Err(publisher) => return (publisher, Err(CrewFault::NoMemory)),
     };
     run_in_order(&mut members, lanes, order);
-    match members.pop() {
-        Some(Member::Desk(desk)) => settled(alloc, setting, &members, desk),
-        Some(Member::Part(_part)) => unreachable!(),
-        None => unreachable!(),
-    }
+    concluded(alloc, setting, members)
 }

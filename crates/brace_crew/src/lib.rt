@@ -12,8 +12,10 @@ mod keeper;
 pub mod laws;
 mod member;
 mod publisher;
+mod roster;
 mod rows;
 mod sum_publisher;
+mod team;
 #[cfg(test)]
 mod tests;
 
@@ -26,3 +28,4 @@ pub use keeper::{Keeper, ShelfKeeper};
 pub use member::Member;
 pub use publisher::{PubFault, Publisher};
 pub use sum_publisher::SumPublisher;
+pub use team::{crew_run, crew_run_on_one};

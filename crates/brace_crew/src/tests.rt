@@ -1,21 +1,25 @@
 // What no clause says: that calls answer where memory is ample, and texts worked by hand.
-ghost use Rattle.std.specs.Prelude.{◌≡◌, IfOk, false};
+ghost use Rattle.std.specs.Prelude.{◌≡◌, ◌≤◌, ◌+◌, IfOk, false};
+ghost use Rattle.brace_lanes.specs.Seats.{new_seats};
 ghost use Rattle.brace_model.specs.Next.{has_births};
-ghost use Rattle.brace_pieces.specs.Settings.{LawfulSetting};
+ghost use Rattle.brace_pieces.specs.Settings.{LawfulSetting, parts};
 
+use crate::roster::benches;
 use crate::{
-    CrewFault, FilePublisher, Keeper, PubFault, Publisher, ShelfKeeper, SumPublisher,
-    crew_run_alone,
+    Bench, CrewFault, Drive, FilePublisher, Keeper, PubFault, Publisher, ShelfKeeper, SumPublisher,
+    crew_run,
 };
-use brace_core::PlainLanes;
 use brace_cuts::read_plan;
-use brace_io::{MemShelf, MemSink, Sink};
+use brace_io::{MemShelf, MemSink, OpenGate, Sink};
+use brace_lanes::{LaneSeat, Lanes};
 use brace_model::{Agent, Class, Job, Program, State, Ty, Value, World};
 use brace_num::{List, NoMemory, Text};
 use brace_part::Counts;
-use brace_pieces::{Setting, Shown};
+use brace_pieces::{Piece, Setting, Shown};
 use std::alloc::Global;
+use std::sync::Wait;
 use std::test::Fail;
+use std::thread::Threads;
 
 fn text(alloc: Global, name: &str) -> Result<Text, NoMemory> {
     let mut letters = String::new(alloc);
@@ -270,24 +274,31 @@ fn empty_run(alloc: Global) -> Result<Setting, Fail>
     })
 }
 
-/// Runs a setting, and gives its publisher back with what it came to.
-fn run<P: Publisher>(
+/// Runs a setting on 1 to 4 workers, and gives its publisher back with how many seats there were and
+/// what it came to.
+fn run<R: Threads + Wait + Sync, P: Publisher + Send>(
+    rt: &R,
     alloc: Global,
     setting: &Setting,
-    order: u64,
+    workers: u32,
     publisher: P,
-) -> Result<(P, Result<Counts, CrewFault>), Fail>
+) -> (P, usize, Result<Counts, CrewFault>)
     requires lawful { LawfulSetting setting.now }
     requires childless { has_births setting.now.job.program ≡ false }
+    requires some { 1 ≤ workers }
+    requires few { workers ≤ 4 }
 {
-    let mut lanes = PlainLanes::make(alloc, setting, setting.parts() + 1)?;
-    Ok(crew_run_alone(alloc, setting, order, &mut lanes, publisher))
+    let order = u64::from(workers);
+    let (publisher, seats, came) = crew_run(
+        rt, alloc, setting, workers, order, publisher, &OpenGate,
+    );
+    (publisher, seats.len(), came)
 }
 
 #[test]
 fn runs_to_the_end_and_saves_each_end(rt: HostRuntime) -> Result<(), Fail> {
     let alloc = rt.alloc();
-    for order in 0..4 {
+    for workers in 1..5 {
         let setting = empty_run(alloc)?;
         let mut out = MemSink::make(alloc, 999, Vec::new(alloc))?;
         let mut shelf = MemShelf::make(alloc, Vec::new(alloc));
@@ -301,13 +312,62 @@ fn runs_to_the_end_and_saves_each_end(rt: HostRuntime) -> Result<(), Fail> {
             save: &save,
             fresh: true,
         };
-        let came = run(alloc, &setting, order, publisher)?;
-        assert!(rt; came.1 == Ok(Counts::none()));
+        let came = run(&rt, alloc, &setting, workers, publisher);
+        assert_eq!(rt; came.1, if workers == 1 { 0 } else { workers as usize });
+        assert!(rt; came.2 == Ok(Counts::none()));
         assert!(rt; out.bytes().is_empty());
         let at_3: &[u8] = b"brace checkpoint 1\ntick 3\nseed 5\nend 0\n";
         let at_4: &[u8] = b"brace checkpoint 1\ntick 4\nseed 5\nend 0\n";
         assert!(rt; shelf.file("c.3") == Some(at_3));
         assert!(rt; shelf.file("c.4") == Some(at_4));
     }
+    Ok(())
+}
+
+/// The benches of a run on two workers.
+fn two_benches<'a>(
+    alloc: Global,
+    setting: &'a Setting,
+    lanes: &'a Lanes<Piece>,
+    seats: Vec<LaneSeat<Piece>>,
+) -> Result<(Bench<'a, SumPublisher>, Bench<'a, SumPublisher>), Fail>
+    requires lawful { LawfulSetting setting.now }
+    requires childless { has_births setting.now.job.program ≡ false }
+    requires seats { seats.items ≡ new_seats lanes.now setting.now (parts setting.now + 1) 2 2 }
+{
+    let Ok(mut both) = benches(alloc, setting, lanes, seats, 2, SumPublisher::make()) else {
+        return Err("no benches".into());
+    };
+    match (both.pop(), both.pop()) {
+        (Some(second), Some(first)) => Ok((first, second)),
+        _ => Err("no two benches".into()),
+    }
+}
+
+/// What driving the first of two benches comes to, and whether both end that are driven by turns.
+fn driven(alloc: Global, setting: &Setting) -> Result<(Drive, bool), Fail>
+    requires lawful { LawfulSetting setting.now }
+    requires childless { has_births setting.now.job.program ≡ false }
+{
+    let (lanes, seats) = Lanes::make(alloc, setting, setting.parts() + 1, 2)?;
+    let (mut first, mut second) = two_benches(alloc, setting, &lanes, seats)?;
+    let alone = first.drive(&OpenGate, 3);
+    for _ in 0..1000 {
+        let one = first.drive(&OpenGate, 3);
+        let two = second.drive(&OpenGate, 3);
+        if one == Drive::Complete && two == Drive::Complete {
+            let (members, _) = first.into_members();
+            return Ok((alone, members.len() == 2));
+        }
+    }
+    Ok((alone, false))
+}
+
+#[test]
+fn a_bench_alone_runs_dry_and_two_by_turns_end(rt: HostRuntime) -> Result<(), Fail> {
+    let setting = empty_run(rt.alloc())?;
+    let (alone, ended) = driven(rt.alloc(), &setting)?;
+    assert!(rt; alone == Drive::Dry);
+    assert!(rt; ended);
     Ok(())
 }

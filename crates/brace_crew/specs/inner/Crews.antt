@@ -1,5 +1,5 @@
 -- The members of a crew before a run and behind it. Only the crate's own functions cite this.
-use Rattle.std.specs.Prelude.{◌≡◌, ℕ, ◌+◌, List, [], ◌∷◌, ◌++◌, map, replicate, Option, Some, None, IfSome}
+use Rattle.std.specs.Prelude.{◌≡◌, ℕ, ◌+◌, ◌%◌, ◌==◌, List, [], ◌∷◌, map, filter, if◌then◌else◌, Option, Some, None, IfSome}
 use Rattle.std.specs.List.{All, Contains, range_with_len}
 use Rattle.brace_core.specs.declared.name.Turn.TheVariants.{Done}
 use Rattle.brace_core.specs.Exchanges.{due}
@@ -26,13 +26,31 @@ pub record AreParts {P : Type 0} (s : Setting) (members : List (Member P)) : Typ
   pub are_parts : All (λ m. opening_of m ≡ None) members
   pub done : All IsDone members
 
--- all members of a run before their first turns: its parts, and the desk of a publisher
-pub record AreMembers {P : Type 0} (s : Setting) (publisher : P)
+-- what a member of a number is made for: the desk, which stands behind all parts, for the publisher
+abbrev pub opening_in : {P : Type 0} → Setting → P → ℕ → Option P
+opening_in s publisher number = if number == parts s then Some publisher else None
+
+-- members of a run, of these numbers: its parts, and the desk of a publisher
+pub record AreMembers {P : Type 0} (s : Setting) (publisher : P) (numbers : List ℕ)
     (members : List (Member P)) : Type 0 where
   pub settings : All (λ m. (course_of m).setting ≡ s) members
-  pub numbers : map (λ m. (course_of m).actor) members ≡ range_with_len 0 (parts s + 1)
-  pub openings : map opening_of members ≡ replicate (parts s) None ++ Some publisher ∷ []
-  pub first_turns : All (λ m. past_of (course_of m) ≡ 0) members
+  pub numbered : map (λ m. (course_of m).actor) members ≡ numbers
+  pub openings : map opening_of members ≡ map (opening_in s publisher) numbers
+
+-- members before their first turns
+abbrev pub AreNew : {P : Type 0} → List (Member P) → Type 0
+AreNew members = All (λ m. past_of (course_of m) ≡ 0) members
+
+-- the numbers of all members of a run, of its parts, and of those of either that a worker serves
+-- among so many
+abbrev pub all_numbers : Setting → List ℕ
+all_numbers s = range_with_len 0 (parts s + 1)
+
+abbrev pub part_numbers : Setting → List ℕ
+part_numbers s = range_with_len 0 (parts s)
+
+abbrev pub served : ℕ → ℕ → List ℕ → List ℕ
+served workers worker numbers = filter (λ a. a % workers == worker) numbers
 
 -- the desk of a run, of which no turn is left
 pub record IsDeskOf {P : Type 0} (s : Setting) (d : OnDesk P) : Type 0 where
