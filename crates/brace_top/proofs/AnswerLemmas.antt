@@ -1,6 +1,6 @@
 -- The answer of a command, from what its parts come to.
-use Rattle.std.proofs.Common.{◌≡◌, ◌∙◌, refl, sym, ap, subst, ℕ, List, [], true, false, Bool, Option, Some, None, option_map, unwrap_or, Result, Ok, Err, codes, option_and_then, inl, inr, if◌then◌else◌, nat_lt, length, ◌≤◌, ◌^◌, arith}
-use Rattle.std.specs.Prelude.{◌⊎◌}
+use Rattle.std.proofs.Common.{◌≡◌, ◌∙◌, refl, sym, ap, subst, ℕ, List, [], true, false, Bool, Option, Some, None, option_map, unwrap_or, Result, Ok, Err, codes, option_and_then, inl, inr, if◌then◌else◌, nat_lt, length, ◌<◌, ◌≤◌, ◌^◌, arith}
+use Rattle.std.specs.Prelude.{◌⊎◌, IfOk}
 use Rattle.std.proofs.lemmas.Bool.Decides.{nat_tests}
 use Rattle.std.proofs.lemmas.List.{take_all}
 use Rattle.brace_io.specs.declared.shelf.Shelf as shelf_trait
@@ -14,6 +14,8 @@ use Rattle.brace_model.specs.declared.program.Program.{Program}
 use Rattle.brace_model.specs.Lawful.{LawfulProgram, LawfulAgents}
 use Rattle.brace_model.specs.Next.{has_births}
 use Rattle.brace_model.specs.World.{World, IsNumbered, world_of}
+use Rattle.brace_model.specs.Run.{end_of}
+use Rattle.brace_pieces.specs.declared.setting.Setting.{Setting}
 use Rattle.brace_pieces.specs.Settings.{LawfulSetting}
 use Rattle.brace_rows.specs.declared.kinds.RowFault.{RowFault}
 use Rattle.brace_rows.specs.declared.kinds.RowFault.TheVariants as row_fault
@@ -21,6 +23,8 @@ use Rattle.brace_rows.specs.declared.kinds.RowKind.{RowKind}
 use Rattle.brace_rows.specs.AgentFile as file
 use Rattle.brace_save.specs.Texts.{Moment}
 use Rattle.brace_words.specs.declared.line.Line.{Line}
+use Rattle.brace_words.specs.declared.fault.LineFault.{LineFault}
+use Rattle.brace_words.specs.declared.fault.LineFault.TheVariants as line_fault
 use Rattle.brace_words.specs.Lines.{line_of}
 use Rattle.brace_top.specs.declared.answer.Answer.{Answer}
 use Rattle.brace_top.specs.declared.answer.Stopped.{Stopped}
@@ -30,15 +34,20 @@ use Rattle.brace_top.specs.declared.script_fault.ScriptFault.{ScriptFault}
 use Rattle.brace_top.specs.declared.script_fault.ScriptFault.TheVariants as script_fault
 use Rattle.brace_top.specs.declared.status.Status.{Status}
 use Rattle.brace_top.specs.declared.status.Status.TheVariants.{Done, Usage, Script, Agents, Plan, Checkpoint, Fault, ReadFault, WriteFault, SaveFault, NoMemory, Absent}
+use Rattle.brace_top.specs.declared.prepare.Work.{Work}
+use Rattle.brace_top.specs.declared.prepare.Work.TheVariants as work
+use Rattle.brace_top.specs.declared.task.Task.{Task}
 use Rattle.brace_top.specs.declared.words.RunCommand.{RunCommand as CodeRun}
+use Rattle.brace_top.specs.declared.words.TrialCommand.{TrialCommand as CodeTrial}
 use Rattle.brace_top.specs.Answer.{ShelfCall, SinkCall, shelf_call, sink_call, Among, HasSaved, LeavesAll, LeavesFront, IsEnd, IsAnswer, CountsShelf, CountsReads, CountsWrites}
-use Rattle.brace_top.specs.Commands.{Command, RunCommand, TrialCommand, Run, Trial, is_anew, command_in, command_of, may_save}
+use Rattle.brace_top.specs.Commands.{Command, RunCommand, TrialCommand, Run, Trial, is_anew, command_in, command_of, may_save, workers_of, workers_asked}
 use Rattle.brace_top.specs.Messages.{named_message, usage_message, write_fault_message, no_memory_message}
-use Rattle.brace_top.specs.Outcome.{Outcome, Refusal, TrialProgram, ProgramOf, refusal, refused, loaded, ComesTo, refused_at, stands_for, unless_faulty, world_from, agents_of, BeginsAt, plan_of, setting_of, ran, RunFrom, FollowedBy, RunOutcome, CommandOutcome, Reads, reads_plan}
+use Rattle.brace_top.specs.Outcome.{Outcome, Refusal, TrialProgram, ProgramOf, refusal, refused, loaded, ComesTo, refused_at, stands_for, unless_faulty, world_from, agents_of, BeginsAt, plan_of, setting_of, ran, RunFrom, FollowedBy, RunOutcome, CommandOutcome, Reads, reads_plan, trial_end}
 use Rattle.brace_top.specs.Savings.{Saving, with_saved}
 use Rattle.brace_top.specs.Status.{has_run}
-use Rattle.brace_top.specs.inner.Settled.{is_work, is_plain_work, stopped_status, stopped_message, status_in, message_in, IsOf, IsRefusedAs, IsScriptRefused, IsRecordRefused, refuses_file, is_stop, GivesNothing, IsLoaded, IsUnloaded, IsStopped, IsCarriedOut, IsWritten, IsServed}
-use Rattle.brace_top.specs.inner.Words.{said_run, IsRunInRange}
+use Rattle.brace_top.specs.inner.Settled.{is_work, is_plain_work, stopped_status, status_in, message_in, IsOf, IsRefusedAs, IsScriptRefused, IsRecordRefused, refuses_file, is_stop, GivesNothing, IsLoaded, IsUnloaded, IsStopped, IsCarriedOut, IsWritten, IsServed, outcome_of}
+use Rattle.brace_top.specs.inner.Prepared.{IsStoppedBefore, IsReadyRun, IsReadyTrial, IsPrepared}
+use Rattle.brace_top.specs.inner.Words.{said_run, said_trial, IsReadAs, IsRunInRange}
 use Rattle.brace_top.proofs.StatusLemmas.{stop_runs, stop_usage, stop_writes, work_refusal, work_saves, work_usage, plain_works, plain_counts, stop_reads, plain_reads}
 
 -- ---- what is not loaded
@@ -238,41 +247,50 @@ stops P name command shelf message WriteFault reads up is files out told held sa
 stops P name command shelf message SaveFault reads up is files out told held same = absurd (let e = is.stops in cc)
 
 -- a file that gives nothing stops a command, which reads it where its status says that a read failed
-pub stop_serves : {S O A : Type 0} (of_shelf : shelf_trait.Ghosts S) (of_sink : sink_trait.Ghosts O) (command : Command) (s t : S) (o : O)
+pub stop_before : {S A : Type 0} (of_shelf : shelf_trait.Ghosts S) (command : Command) (s t : S)
     (comes_to : Files → Result A Refusal → Type 0) (name : List ℕ) (e : Stopped)
     → ((files : Files) → of_shelf.held s ≡ Some files → stopped_status e ≡ ReadFault → Reads files (Some command) name)
     → ((files : Files) (r : Refusal) → of_shelf.held s ≡ Some files → comes_to files (Err r) → CommandOutcome files (Some command) (refused r))
-    → of_shelf.held t ≡ of_shelf.held s → IsUnloaded comes_to name (shelf_call of_shelf s t) e → IsServed of_shelf of_sink command s t o o (Err e)
-stop_serves of_shelf of_sink command s t o comes_to name e reads up held is =
+    → of_shelf.held t ≡ of_shelf.held s → IsUnloaded comes_to name (shelf_call of_shelf s t) e → IsStoppedBefore of_shelf command s t e
+stop_before of_shelf command s t comes_to name e reads up held is =
     let P : Files → Refusal → Type 0 = λ files r. comes_to files (Err r) in
-    let stop = nothing_stops P name (shelf_call of_shelf s t) _ _ is.nothing in
     record {
-      answered = λ files told. stops P name (Some command) (shelf_call of_shelf s t) _ _ reads up is.nothing files (sink_call of_sink o o) told held refl;
+      stopped = stops P name (Some command) (shelf_call of_shelf s t) _ _ reads up is.nothing;
+      stops = nothing_stops P name (shelf_call of_shelf s t) _ _ is.nothing;
       counts = is.counts;
-      reads = λ never. stop_reads (shelf_call of_shelf s t) _ stop is.counts;
-      writes = stop_writes (sink_call of_sink o o) _ stop;
-      untouched = λ r. refl;
-      unsaved = λ r. held;
-      clean = stop_runs _ _ stop;
-      known = stop_usage _ stop;
+      unsaved = held;
     }
 
 -- a file that a command reads and that gives nothing stops it
-pub stopped_serves : {S O A : Type 0} (of_shelf : shelf_trait.Ghosts S) (of_sink : sink_trait.Ghosts O) (command : Command) (s t : S) (o : O)
+pub stopped_before : {S A : Type 0} (of_shelf : shelf_trait.Ghosts S) (command : Command) (s t : S)
     (comes_to : Files → Result A Refusal → Type 0) (name : List ℕ) (e : Stopped)
     → ((files : Files) → of_shelf.held s ≡ Some files → Reads files (Some command) name)
     → ((files : Files) (r : Refusal) → of_shelf.held s ≡ Some files → comes_to files (Err r) → CommandOutcome files (Some command) (refused r))
-    → of_shelf.held t ≡ of_shelf.held s → IsUnloaded comes_to name (shelf_call of_shelf s t) e → IsServed of_shelf of_sink command s t o o (Err e)
-stopped_serves of_shelf of_sink command s t o comes_to name e reads up held is =
-    stop_serves of_shelf of_sink command s t o comes_to name e (λ files told failed. reads files told) up held is
+    → of_shelf.held t ≡ of_shelf.held s → IsUnloaded comes_to name (shelf_call of_shelf s t) e → IsStoppedBefore of_shelf command s t e
+stopped_before of_shelf command s t comes_to name e reads up held is =
+    stop_before of_shelf command s t comes_to name e (λ files told failed. reads files told) up held is
 
 -- the script of a trial stops it where no read failed
-pub trial_stopped_serves : {S O : Type 0} (of_shelf : shelf_trait.Ghosts S) (of_sink : sink_trait.Ghosts O) (trial : TrialCommand) (s : S) (o : O) (e : Stopped)
+pub trial_stopped_before : {S : Type 0} (of_shelf : shelf_trait.Ghosts S) (trial : TrialCommand) (s : S) (e : Stopped)
     → (stopped_status e ≡ ReadFault → ⊥) → IsUnloaded (λ files. TrialProgram) (codes "trial") (shelf_call of_shelf s s) e
-    → IsServed of_shelf of_sink (Trial trial) s s o o (Err e)
-trial_stopped_serves of_shelf of_sink trial s o e never is =
-    stop_serves of_shelf of_sink (Trial trial) s s o (λ files. TrialProgram) (codes "trial") e (λ files told failed. absurd (never failed))
+    → IsStoppedBefore of_shelf (Trial trial) s s e
+trial_stopped_before of_shelf trial s e never is =
+    stop_before of_shelf (Trial trial) s s (λ files. TrialProgram) (codes "trial") e (λ files told failed. absurd (never failed))
     (λ files r told found. record { found = Err r; is = found; follows = refl }) refl is
+
+-- a command that is stopped before its work is served
+pub stopped_serves : {S O : Type 0} (of_shelf : shelf_trait.Ghosts S) (of_sink : sink_trait.Ghosts O) (command : Command) (s t : S) (o : O) (e : Stopped)
+    → IsStoppedBefore of_shelf command s t e → IsServed of_shelf of_sink command s t o o (Err e)
+stopped_serves of_shelf of_sink command s t o e is = record {
+  answered = λ files told. is.stopped files (sink_call of_sink o o) told is.unsaved refl;
+  counts = is.counts;
+  reads = λ never. stop_reads (shelf_call of_shelf s t) _ is.stops is.counts;
+  writes = stop_writes (sink_call of_sink o o) _ is.stops;
+  untouched = λ r. refl;
+  unsaved = λ r. is.unsaved;
+  clean = stop_runs _ _ is.stops;
+  known = stop_usage _ is.stops;
+}
 
 -- no read fails where a script is refused
 pub script_unread : (name src : List ℕ) (fault : ScriptFault) (stopped : Stopped) → IsScriptRefused name src fault stopped → stopped_status stopped ≡ ReadFault → ⊥
@@ -379,6 +397,37 @@ pub plain_work_serves : {S O : Type 0} (of_shelf : shelf_trait.Ghosts S) (of_sin
 plain_work_serves of_shelf of_sink command s t o p r these held faults up is work writes clean =
     work_serves of_shelf of_sink command s t o p r these up (λ files told. is files (shelf_call of_shelf s t) told held)
     (plain_works _ work) (plain_counts (shelf_call of_shelf s t) _ work faults) writes (λ never. plain_reads (shelf_call of_shelf s t) _ work faults) clean
+
+-- what was prepared is a run that can begin, or a trial
+pub prepared_run : {S O : Type 0} (of_shelf : shelf_trait.Ghosts S) (of_sink : sink_trait.Ghosts O) (command : Command) (s m : S) (o n : O) (w : Result Work Stopped) (task : Task)
+    → w ≡ Ok (work.Run task) → IsPrepared of_shelf of_sink command s m o n w → IsReadyRun of_shelf command s m task × (n ≡ o)
+prepared_run of_shelf of_sink command s m o n w task is prepared = subst (IsPrepared of_shelf of_sink command s m o n) is prepared
+
+pub prepared_trial : {S O : Type 0} (of_shelf : shelf_trait.Ghosts S) (of_sink : sink_trait.Ghosts O) (command : Command) (s m : S) (o n : O) (w : Result Work Stopped) (trial : CodeTrial) (setting : Setting)
+    → w ≡ Ok (work.Trial trial setting) → IsPrepared of_shelf of_sink command s m o n w → IsReadyTrial command (said_trial trial) setting × (m ≡ s) × (n ≡ o)
+prepared_trial of_shelf of_sink command s m o n w trial setting is prepared = subst (IsPrepared of_shelf of_sink command s m o n) is prepared
+
+-- a run that can begin, and whose work is carried out, serves its command
+pub run_serves : {S O : Type 0} (of_shelf : shelf_trait.Ghosts S) (of_sink : sink_trait.Ghosts O) (command : Command) (s m t : S) (o n p : O) (r : Result Answer Stopped) (task : Task)
+    → IsReadyRun of_shelf command s m task × (n ≡ o)
+    → ((files : Files) → of_shelf.held m ≡ Some files → IsCarriedOut files (λ x. x ≡ outcome_of task) (shelf_call of_shelf m t) (sink_call of_sink n p) (message_in r) (status_in r))
+    → is_work (status_in r) ≡ true → CountsShelf (shelf_call of_shelf m t) (status_in r) → CountsWrites (sink_call of_sink n p) (status_in r)
+    → (has_run (status_in r) ≡ true → of_sink.clean p ≡ true) → IsServed of_shelf of_sink command s t o p r
+run_serves {O = O} of_shelf of_sink command s m t o n p r task (ready, same) is work counts writes clean =
+    subst (λ (x : O). IsServed of_shelf of_sink command s t x p r) same
+    (later_work_serves of_shelf of_sink command s m t n p r (λ x. x ≡ outcome_of task) ready.saves ready.unsaved ready.counts
+    (λ files x told e. subst (CommandOutcome files (Some command)) (sym e) (ready.outcome files told)) is work counts writes clean)
+
+-- a trial that can begin, and whose work is carried out, serves its command
+pub trial_serves : {S O : Type 0} (of_shelf : shelf_trait.Ghosts S) (of_sink : sink_trait.Ghosts O) (command : Command) (s m : S) (o n p : O) (r : Result Answer Stopped) (trial : TrialCommand) (setting : Setting)
+    → IsReadyTrial command trial setting × (m ≡ s) × (n ≡ o)
+    → IsWritten (λ x. x ≡ trial_end trial setting (end_of setting.job)) (sink_call of_sink n p) (message_in r) (status_in r)
+    → is_plain_work (status_in r) ≡ true → CountsWrites (sink_call of_sink n p) (status_in r)
+    → (has_run (status_in r) ≡ true → of_sink.clean p ≡ true) → IsServed of_shelf of_sink command s m o p r
+trial_serves {O = O} of_shelf of_sink command s m o n p r trial setting (ready, same_shelf, same) is work writes clean =
+    subst (λ (x : O). IsServed of_shelf of_sink command s m x p r) same
+    (plain_work_serves of_shelf of_sink command s m n p r (λ x. x ≡ trial_end trial setting (end_of setting.job)) (ap of_shelf.held same_shelf) (ap of_shelf.faults same_shelf)
+    (λ files x told e. subst (CommandOutcome files (Some command)) (sym e) (ready.outcome files)) is work writes clean)
 
 -- ---- what the parts carry out that save nothing
 
@@ -494,6 +543,26 @@ world_read program files name bytes world e none is = ap (world_from program nam
 -- the command of words that are a line
 pub command_of_line : (words : List (List ℕ)) (line : Line) (found : Option Command) → line_of words ≡ Some line → command_in line ≡ found → command_of words ≡ found
 command_of_line words line found e f = ap (option_and_then command_in) e ∙ f
+
+-- words that were read as a line, and as none
+pub line_read : (words : List (List ℕ)) (line : Result Line LineFault) (l : Line) → IsReadAs words line → line ≡ Ok l → line_of words ≡ Some l
+line_read words (Ok m) l is e = let same : m ≡ l = cc in is.line_is ∙ ap Some same
+line_read words (Err fault) l is e = absurd cc
+
+pub none_read : (words : List (List ℕ)) (line : Result Line LineFault) → IsReadAs words line → line ≡ Err line_fault.Usage → line_of words ≡ None
+none_read words (Ok m) is e = absurd cc
+none_read words (Err f) is e = let same : f ≡ line_fault.Usage = cc in is.none_is same
+
+-- words that ask for more workers than a line was found to ask for were not read for want of memory
+pub several_unread : (words : List (List ℕ)) (line : Result Line LineFault) (n : ℕ) → IsReadAs words line → IfOk line (λ l. n ≡ workers_of (Some l)) → n ≤ 1
+    → 1 < workers_asked words → line ≡ Err line_fault.NoMemory
+several_unread words (Ok l) n is asks one more =
+    let same : workers_asked words ≡ n = ap workers_of is.line_is ∙ sym asks in
+    absurd (omega (arith, same, one, more))
+several_unread words (Err line_fault.NoMemory) n is asks one more = refl
+several_unread words (Err line_fault.Usage) n is asks one more =
+    let alone : workers_asked words ≡ 1 = ap workers_of (is.none_is refl) in
+    absurd (omega (arith, alone, more))
 
 -- words that are no line
 pub command_of_none : (words : List (List ℕ)) → line_of words ≡ None → command_of words ≡ None

@@ -32,14 +32,14 @@ use Rattle.brace_top.specs.declared.answer.Answer.{Answer}
 use Rattle.brace_top.specs.declared.answer.Stopped.{Stopped}
 use Rattle.brace_top.specs.declared.answer.Stopped.TheVariants as stopped
 use Rattle.brace_top.specs.declared.status.Status.{Status}
-use Rattle.brace_top.specs.declared.status.Status.TheVariants.{Done, Fault, WriteFault, SaveFault, NoMemory}
+use Rattle.brace_top.specs.declared.status.Status.TheVariants.{Done, Fault, SaveFault, NoMemory}
 use Rattle.brace_top.specs.declared.task.Task.{Task}
-use Rattle.brace_top.specs.Answer.{ShelfCall, SinkCall, sink_call, Among, IsEnd, IsUnwritten, IsBehind, HasSaved, IsHalfSaved, LeavesFront, CountsShelf, CountsWrites}
+use Rattle.brace_top.specs.Answer.{ShelfCall, SinkCall, sink_call, IsUnwritten, IsBehind, HasSaved, IsHalfSaved, LeavesFront, CountsShelf, CountsWrites}
 use Rattle.brace_top.specs.Messages.{stats_message, fault_message, write_fault_message, save_fault_message, no_memory_message}
 use Rattle.brace_top.specs.Outcome.{Outcome, stats_of, end_status, end_message, ran}
 use Rattle.brace_top.specs.Savings.{Saving, with_saved}
 use Rattle.brace_top.specs.Status.{has_run}
-use Rattle.brace_top.specs.inner.Settled.{stopped_status, stopped_message, status_in, message_in, IsOf, IsRefusedAs, IsToldAs, told_counts, keeper_call, outcome_of, IsErrOf, IsSettled, IsCarriedOut}
+use Rattle.brace_top.specs.inner.Settled.{stopped_status, stopped_message, status_in, message_in, IsRefusedAs, IsToldAs, told_counts, keeper_call, outcome_of, IsErrOf, IsSettled, IsCarriedOut}
 use Rattle.brace_top.proofs.SavedLemmas.{text_of, file_of, saving_in, saved_by, saved_by-append, StandsIn, stand_in, calls_save}
 
 -- ---- what a publisher is behind some calls

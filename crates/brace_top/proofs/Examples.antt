@@ -1,5 +1,5 @@
 -- A small run over two parts, whose events are counted by the definitions alone.
-use Rattle.std.proofs.Common.{◌≡◌, refl, pos, List, [], ◌∷◌, false, None, codes}
+use Rattle.std.proofs.Common.{◌≡◌, refl, pos, [], ◌∷◌, false, None, codes}
 use Rattle.brace_core.specs.Events.{events_of}
 use Rattle.brace_model.specs.declared.program.Class.{Class}
 use Rattle.brace_model.specs.World.{world_of}

@@ -1,5 +1,5 @@
 -- Where no class bears children, what a run comes to depends on the agents of its first world alone.
-use Rattle.std.proofs.Common.{◌≡◌, ◌∙◌, refl, sym, ap, true≢false, ℕ, ℤ, zero, suc, ◌+◌, ◌-◌, List, [], ◌∷◌, ◌++◌, map, filter_map, is_some, Bool, true, false, if◌then◌else◌, Option, Some, None, option_map, slice_get, Result, Ok, Err, add-one}
+use Rattle.std.proofs.Common.{◌≡◌, ◌∙◌, refl, sym, ap, true≢false, ℕ, ℤ, zero, suc, ◌+◌, ◌-◌, List, [], ◌∷◌, ◌++◌, map, filter_map, is_some, Bool, false, if◌then◌else◌, Option, Some, None, option_map, slice_get, Result, Ok, Err, add-one}
 use Rattle.std.specs.List.{cons_option, list_any}
 use Rattle.std.specs.Result.{result_ok, result_err}
 use Rattle.std.proofs.lemmas.Map.Keys.{any_passes_from_place}

@@ -1,5 +1,5 @@
 -- A run that begins behind its last tick comes to nothing.
-use Rattle.std.proofs.Common.{◌≡◌, ◌∙◌, refl, sym, ap, subst, ℕ, ◌+◌, ◌-◌, ◌<◌, List, [], Bool, true, false, Option, Some, None, map, filter, flat_map, arith}
+use Rattle.std.proofs.Common.{◌≡◌, ◌∙◌, refl, sym, ap, ℕ, ◌+◌, ◌-◌, ◌<◌, List, [], Bool, true, false, Option, Some, None, map, filter, flat_map, arith}
 use Rattle.std.specs.Prelude.{sum, if◌then◌else◌}
 use Rattle.std.specs.List.{range_with_len}
 use Rattle.std.specs.Result.{result_err}
@@ -7,7 +7,7 @@ use Rattle.brace_model.specs.Run.{world_after, first_fault}
 use Rattle.brace_model.specs.Published.{text_of_ticks, published}
 use Rattle.brace_part.specs.declared.counts.Counts.{Counts}
 use Rattle.brace_pieces.specs.declared.setting.Setting.{Setting}
-use Rattle.brace_pieces.specs.Counts.{over_ticks, count_effects}
+use Rattle.brace_pieces.specs.Counts.{over_ticks}
 use Rattle.brace_pieces.specs.Settings.{is_end}
 use Rattle.brace_top.specs.declared.status.Status.TheVariants.{Done}
 use Rattle.brace_top.specs.Outcome.{Outcome, end_status, end_message, ran}

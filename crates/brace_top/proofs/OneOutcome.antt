@@ -1,7 +1,6 @@
 -- A command over files has at most one status, one text, one list of saved files, and one message apart from the place of NoReading.
-use Rattle.std.proofs.Common.{◌≡◌, ◌∙◌, refl, sym, ap, subst, ℕ, ◌+◌, ◌<◌, ◌⊎◌, List, [], Bool, true, false, codes, nat_lt, slice_get, Option, Some, None, Result, Ok, Err, inl, inr, arith}
+use Rattle.std.proofs.Common.{◌≡◌, ◌∙◌, refl, sym, ap, subst, ℕ, ◌+◌, ◌<◌, ◌⊎◌, List, [], Bool, true, false, codes, slice_get, Option, Some, None, Result, Ok, Err, inl, inr, arith}
 use Rattle.std.specs.Prelude.{⊤}
-use Rattle.std.proofs.lemmas.Bool.Decides.{nat_tests}
 use Rattle.brace_io.specs.Shelves.{Files}
 use Rattle.brace_tok.specs.declared.kinds.Token.{Token}
 use Rattle.brace_tok.specs.declared.fault.TokFault.{TokFault}

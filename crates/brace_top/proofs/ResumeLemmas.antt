@@ -1,5 +1,5 @@
 -- A run that is resumed from a checkpoint goes on as the first one does.
-use Rattle.std.proofs.Common.{◌≡◌, ◌∙◌, refl, sym, ap, subst, ℕ, ◌+◌, ◌-◌, ◌≤◌, List, ◌++◌, Bool, true, false, Option, Some, Result, Ok, Err}
+use Rattle.std.proofs.Common.{◌≡◌, ◌∙◌, refl, sym, ap, subst, ℕ, ◌+◌, ◌-◌, ◌≤◌, List, ◌++◌, Bool, true, false, Some, Result, Ok}
 use Rattle.brace_io.specs.Shelves.{Files}
 use Rattle.brace_cuts.specs.declared.plan.CutPlan.{CutPlan}
 use Rattle.brace_model.specs.declared.fault.Fault.{Fault}
@@ -13,7 +13,7 @@ use Rattle.brace_model.specs.World.{World, world_of}
 use Rattle.brace_save.specs.Lines.{IsRead, IsText, read, unfinished, whole_lines}
 use Rattle.brace_save.specs.Texts.{Moment, lines}
 use Rattle.brace_save.proofs.Feeds.{lines_one, none_unfinished, whole_text}
-use Rattle.brace_top.specs.Commands.{Run, RunCommand, Start, Resumed, is_anew}
+use Rattle.brace_top.specs.Commands.{Run, RunCommand, Start, is_anew}
 use Rattle.brace_top.specs.Messages.{fault_message}
 use Rattle.brace_top.specs.Outcome.{BeginsAt, CommandOutcome, ComesTo, FollowedBy, Follows, Outcome, ProgramOf, Refusal, RunFrom, RunOutcome, end_message, end_status, plan_of, ran, setting_of, source_of, stands_for}
 use Rattle.brace_top.specs.Restarts.{GoesOn, from_tick}

@@ -1,6 +1,6 @@
 -- The files that a publisher of rows and checkpoints saves, call by call, are the savings of its run.
-use Rattle.std.proofs.Common.{◌≡◌, ◌∙◌, refl, sym, ap, ap₂, subst, ℕ, zero, suc, ◌+◌, ◌-◌, ◌<◌, ◌≤◌, List, [], ◌∷◌, ◌++◌, map, filter, flat_map, fold, append_assoc, Bool, true, false, cond, Option, Some, None, Result, Ok, Err, All, arith}
-use Rattle.std.specs.Prelude.{option_map, ◌%◌, ◌==◌, if◌then◌else◌}
+use Rattle.std.proofs.Common.{◌≡◌, ◌∙◌, refl, sym, ap, ap₂, subst, ℕ, zero, suc, ◌+◌, ◌-◌, ◌<◌, ◌≤◌, List, [], ◌∷◌, ◌++◌, map, filter, flat_map, append_assoc, Bool, true, false, cond, Option, Some, None, Ok, Err, All, arith}
+use Rattle.std.specs.Prelude.{option_map, ◌%◌, ◌==◌}
 use Rattle.std.specs.List.{Contains, range_with_len}
 use Rattle.std.specs.Result.{result_err}
 use Rattle.std.proofs.lemmas.Grind.{flat_map-append}
@@ -10,7 +10,6 @@ use Rattle.std.proofs.lemmas.List.Folds.{flat_map-map}
 use Rattle.brace_model.specs.declared.fault.Fault.{Fault}
 use Rattle.brace_model.specs.World.{World}
 use Rattle.brace_model.specs.Run.{world_after, end_of}
-use Rattle.brace_model.specs.Published.{text_of_ticks}
 use Rattle.brace_model.proofs.RunLemmas.{world_after-next, world_after-ended}
 use Rattle.brace_pieces.specs.declared.setting.Setting.{Setting}
 use Rattle.brace_pieces.specs.declared.piece.Shown.{Shown}

@@ -225,3 +225,7 @@ stopped_by of s opening now came f is run = subst (λ (r : Result Counts CrewFau
 pub written_for : (o p : Outcome) (out : SinkCall) (message : List ℕ) (status : Status) → o ≡ p
     → IsWritten (λ x. x ≡ o) out message status → IsWritten (λ x. x ≡ p) out message status
 written_for o p out message status e is = subst (λ (q : Outcome). IsWritten (λ x. x ≡ q) out message status) e is
+
+-- what a run came to, by another name of its publisher
+pub came_as : {P : Type 0} (of : publisher.Ghosts P) (s : Setting) (opening now then : P) (came : Result Counts CrewFault) → then ≡ now → CameTo of s opening now came → CameTo of s opening then came
+came_as of s opening now then came is run = subst (λ p. CameTo of s opening p came) (sym is) run

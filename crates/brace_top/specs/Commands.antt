@@ -1,5 +1,5 @@
 -- The command that the words of a command line ask for.
-use Rattle.std.specs.Prelude.{ℕ, List, Bool, true, false, ◌&&◌, ◌==◌, if◌then◌else◌, Option, Some, None, option_map, option_and_then, unwrap_or}
+use Rattle.std.specs.Prelude.{ℕ, List, Bool, true, false, if◌then◌else◌, Option, Some, None, option_map, option_and_then, unwrap_or}
 use Rattle.brace_words.specs.declared.line.Line.{Line}
 use Rattle.brace_words.specs.declared.mode.Mode.{Mode}
 use Rattle.brace_words.specs.declared.mode.Mode.TheVariants as mode
@@ -76,7 +76,15 @@ is_built_mode _ = true
 
 -- the line asks for nothing that is not built yet
 abbrev pub built : Line → Bool
-built line = is_built_mode line.mode && (unwrap_or line.workers 1 == 1)
+built line = is_built_mode line.mode
+
+-- how many workers words ask for: one where they are no line, and where it says nothing
+abbrev pub workers_of : Option Line → ℕ
+workers_of None = 1
+workers_of (Some line) = unwrap_or line.workers 1
+
+abbrev pub workers_asked : List (List ℕ) → ℕ
+workers_asked words = workers_of (line_of words)
 
 -- how a line's run is worked: in epochs of 16 ticks and by the order of 0, where it says nothing
 abbrev pub manner_of : Line → Manner

@@ -1,16 +1,19 @@
-ghost use Rattle.std.specs.Prelude.{◌≡◌, ◌⊎◌, map, string_bytes, IfSome, IsSome, None, true, false};
+ghost use Rattle.std.specs.Prelude.{◌≡◌, ◌⊎◌, ◌<◌, ◌≤◌, map, string_bytes, IfSome, None, Err, true, false};
+ghost use Rattle.brace_words.specs.declared.fault.LineFault.TheVariants as fault;
 ghost use Rattle.brace_io.specs.Shelves.{Idle, writes};
 ghost use Rattle.brace_top.specs.Answer.{IsAnswered, IsSaid, call_of, CountsShelf, CountsReads, CountsWrites, shelf_call, sink_call};
-ghost use Rattle.brace_top.specs.Commands.{command_of, may_save};
+ghost use Rattle.brace_top.specs.Commands.{command_of, may_save, workers_asked};
 ghost use Rattle.brace_top.specs.Messages.{usage_message};
 ghost use Rattle.brace_top.specs.Status.{has_run, is_refusal, saves_nothing, status_of, code_of};
+ghost use Rattle.brace_top.specs.inner.Words.{IsReadAs};
 
 use crate::answer::{Stopped, say, tell};
-use crate::flow::answer_command;
+use crate::flow::{answer_command, answer_on};
 use crate::status::Status;
-use crate::words::command_in;
+use crate::team::Team;
+use crate::words::{command_in, workers_of};
 use brace_io::{Gate, Shelf, Sink};
-use brace_words::{LineFault, read_line};
+use brace_words::{Line, LineFault, read_line};
 use std::alloc::Global;
 use std::sync::Wait;
 use std::thread::Threads;
@@ -24,21 +27,24 @@ fn say_usage<E: Sink>(err: &mut E) -> Status
     Status::Usage
 }
 
-/// Carries a command out, and says its message.
+/// Carries words out on one worker, as they were read, and says the message.
 fn carry_out<S: Shelf, O: Sink, E: Sink>(
     err: &mut E,
     alloc: Global,
     words: &[String],
+    line: Result<Line, LineFault>,
     shelf: &mut S,
     out: &mut O,
 ) -> Status
-    requires { S.stage shelf.old ≡ Idle }
+    requires stage { S.stage shelf.old ≡ Idle }
+    requires line { IsReadAs (map string_bytes words.now) line }
     ensures answered { IsAnswered (call_of (map string_bytes words.now) result
         (shelf_call S.Shelf shelf.old shelf.new) (sink_call O.Sink out.old out.new)
         (sink_call E.Sink err.old err.new)) }
     ensures usage { result ≡ Status.Usage → command_of (map string_bytes words.now) ≡ None }
     ensures no_command { command_of (map string_bytes words.now) ≡ None
         → (result ≡ Status.Usage) ⊎ (result ≡ Status.NoMemory) }
+    ensures no_memory { line ≡ Err fault.NoMemory → result ≡ Status.NoMemory }
     ensures counts { CountsShelf (shelf_call S.Shelf shelf.old shelf.new) result }
     ensures reads { may_save (command_of (map string_bytes words.now)) ≡ false
         → CountsReads (shelf_call S.Shelf shelf.old shelf.new) result }
@@ -49,7 +55,7 @@ fn carry_out<S: Shelf, O: Sink, E: Sink>(
     ensures unsaved { saves_nothing result ≡ true → S.held shelf.new ≡ S.held shelf.old }
     ensures not_writing { writes (S.stage shelf.new) ≡ false }
 {
-    let line = match read_line(alloc, words) {
+    let line = match line {
         Ok(line) => line,
         Err(LineFault::Usage) => return say_usage(err),
         Err(LineFault::NoMemory) => return say(err, Err(Stopped::NoMemory)),
@@ -60,8 +66,50 @@ fn carry_out<S: Shelf, O: Sink, E: Sink>(
     }
 }
 
+/// Carries words out on a team, as [`carry_out`] does on one worker.
+fn carry_out_on<R: Threads + Wait + Sync, G: Gate + Sync, S: Shelf + Send, O: Sink + Send, E: Sink>(
+    team: &Team<R, G>,
+    err: &mut E,
+    alloc: Global,
+    words: &[String],
+    line: Result<Line, LineFault>,
+    shelf: &mut S,
+    out: &mut O,
+) -> Status
+    requires some { 1 ≤ team.now.workers }
+    requires few { team.now.workers ≤ 16 }
+    requires stage { S.stage shelf.old ≡ Idle }
+    requires line { IsReadAs (map string_bytes words.now) line }
+    ensures answered { IsAnswered (call_of (map string_bytes words.now) result
+        (shelf_call S.Shelf shelf.old shelf.new) (sink_call O.Sink out.old out.new)
+        (sink_call E.Sink err.old err.new)) }
+    ensures usage { result ≡ Status.Usage → command_of (map string_bytes words.now) ≡ None }
+    ensures no_command { command_of (map string_bytes words.now) ≡ None
+        → (result ≡ Status.Usage) ⊎ (result ≡ Status.NoMemory) }
+    ensures no_memory { line ≡ Err fault.NoMemory → result ≡ Status.NoMemory }
+    ensures counts { CountsShelf (shelf_call S.Shelf shelf.old shelf.new) result }
+    ensures reads { may_save (command_of (map string_bytes words.now)) ≡ false
+        → CountsReads (shelf_call S.Shelf shelf.old shelf.new) result }
+    ensures writes { CountsWrites (sink_call O.Sink out.old out.new) result }
+    ensures untouched { is_refusal result ≡ true → out.new ≡ out.old }
+    ensures untouched_by_usage { result ≡ Status.Usage → out.new ≡ out.old }
+    ensures clean { has_run result ≡ true → O.clean out.new ≡ true }
+    ensures unsaved { saves_nothing result ≡ true → S.held shelf.new ≡ S.held shelf.old }
+    ensures not_writing { writes (S.stage shelf.new) ≡ false }
+{
+    let line = match line {
+        Ok(line) => line,
+        Err(LineFault::Usage) => return say_usage(err),
+        Err(LineFault::NoMemory) => return say(err, Err(Stopped::NoMemory)),
+    };
+    match command_in(&line) {
+        None => say_usage(err),
+        Some(command) => say(err, answer_on(team, alloc, &command, shelf, out)),
+    }
+}
+
 /// Carries a command out without a thread, and answers its status: a number of the table below. It
-/// never answers None.
+/// answers None, and nothing is touched, where the words ask for more workers than one.
 ///
 /// | Status | When it comes |
 /// |---|---|
@@ -86,7 +134,12 @@ pub fn run_alone<S: Shelf, O: Sink, E: Sink>(
     err: &mut E,
 ) -> Option<u8>
     requires { S.stage shelf.old ≡ Idle }
-    ensures always { IsSome result }
+    ensures several { result ≡ None → 1 < workers_asked (map string_bytes words.now) }
+    ensures not_several { 1 < workers_asked (map string_bytes words.now)
+        → IfSome result (λ code. code ≡ 11) }
+    ensures same_shelf { result ≡ None → shelf.new ≡ shelf.old }
+    ensures same_out { result ≡ None → out.new ≡ out.old }
+    ensures same_err { result ≡ None → err.new ≡ err.old }
     ensures known { IfSome result (λ code. code_of (status_of code) ≡ code) }
     ensures answered { IfSome result (λ code. IsAnswered (call_of (map string_bytes words.now)
         (status_of code) (shelf_call S.Shelf shelf.old shelf.new)
@@ -111,19 +164,25 @@ pub fn run_alone<S: Shelf, O: Sink, E: Sink>(
         → S.held shelf.new ≡ S.held shelf.old) }
     ensures not_writing { writes (S.stage shelf.new) ≡ false }
 {
-    Some(carry_out(err, alloc, words, shelf, out).code())
+    let line = read_line(alloc, words);
+    if workers_of(&line) > 1 {
+        return None;
+    }
+    Some(carry_out(err, alloc, words, line, shelf, out).code())
 }
 
-/// Carries a command out, and answers its status, as [`run_alone`] does; commands with several
-/// workers will use `rt` and `gate`.
+/// Carries a command out, and answers its status, as [`run_alone`] does. Where the words ask for
+/// more workers than one, `rt` starts and joins their threads, and the call may wait; what is said
+/// here holds where it returns. A worker passes `gate`, with its number from 0, before a part of the
+/// plane evaluates its query of a tick.
 pub fn run<R: Threads + Wait + Sync, S: Shelf + Send, O: Sink + Send, E: Sink, G: Gate + Sync>(
-    _rt: &R,
+    rt: &R,
     alloc: Global,
     words: &[String],
     shelf: &mut S,
     out: &mut O,
     err: &mut E,
-    _gate: &G,
+    gate: &G,
 ) -> u8
     requires { S.stage shelf.old ≡ Idle }
     ensures known { code_of (status_of result) ≡ result }
@@ -146,6 +205,19 @@ pub fn run<R: Threads + Wait + Sync, S: Shelf + Send, O: Sink + Send, E: Sink, G
 {
     match run_alone(alloc, words, shelf, out, err) {
         Some(code) => code,
-        None => unreachable!(),
+        None => {
+            let line = read_line(alloc, words);
+            let workers = workers_of(&line);
+            carry_out_on(
+                &Team { rt, gate, workers },
+                err,
+                alloc,
+                words,
+                line,
+                shelf,
+                out,
+            )
+            .code()
+        }
     }
 }

@@ -9,10 +9,12 @@ mod limits;
 mod load;
 mod messages;
 mod places;
+mod prepare;
 mod script;
 mod script_fault;
 mod status;
 mod task;
+mod team;
 mod trial;
 mod words;
 

@@ -12,13 +12,15 @@ ghost use Rattle.brace_top.specs.inner.Settled.{IsCarriedOut, IsWritten, IsSettl
 use crate::answer::{Answer, Stopped, refuse};
 use crate::messages::{fault_message, save_fault_message, stats_message};
 use crate::status::Status;
-use brace_core::PlainLanes;
-use brace_crew::{CrewFault, FilePublisher, Keeper, PubFault, ShelfKeeper, crew_run_alone};
-use brace_io::{Shelf, Sink};
+use crate::team::{Team, crew_run_on};
+use brace_crew::{CrewFault, FilePublisher, Keeper, PubFault, ShelfKeeper, crew_run_on_one};
+use brace_io::{Gate, Shelf, Sink};
 use brace_model::Fault;
 use brace_part::Counts;
 use brace_pieces::Setting;
 use std::alloc::Global;
+use std::sync::Wait;
+use std::thread::Threads;
 
 /// A run that can begin.
 #[derive(Debug, Drop)]
@@ -85,7 +87,7 @@ fn settle(alloc: Global, task: &Task, came: Result<Counts, CrewFault>) -> Result
     }
 }
 
-/// Carries a run out by its parts: writes the rows of published ticks, and has the worlds of its
+/// Carries a run out by its parts on one worker: writes the rows of published ticks, and has the worlds of its
 /// ends saved where a name is given. What stood on the sink before is flushed first.
 fn run_kept<K: Keeper, O: Sink>(
     alloc: Global,
@@ -106,8 +108,6 @@ fn run_kept<K: Keeper, O: Sink>(
     ensures clean { has_run (status_in result) ≡ true → O.clean out.new ≡ true }
     ensures same_loans { K.loans keeper.new ≡ K.loans keeper.old }
 {
-    let setting = &task.setting;
-    let mut lanes = PlainLanes::make(alloc, setting, setting.parts() + 1)?;
     out.flush()?;
     let publisher = FilePublisher {
         out,
@@ -115,7 +115,41 @@ fn run_kept<K: Keeper, O: Sink>(
         save: &task.save,
         fresh: task.fresh,
     };
-    let both = crew_run_alone(alloc, setting, task.order, &mut lanes, publisher);
+    let both = crew_run_on_one(alloc, &task.setting, task.order, publisher);
+    settle(alloc, task, both.1)
+}
+
+/// Carries a run out on a team, as [`run_kept`] does on one worker.
+fn run_kept_on<R: Threads + Wait + Sync, G: Gate + Sync, K: Keeper + Send, O: Sink + Send>(
+    team: &Team<R, G>,
+    alloc: Global,
+    task: &Task,
+    keeper: &mut K,
+    out: &mut O,
+) -> Result<Answer, Stopped>
+    requires some { 1 ≤ team.now.workers }
+    requires few { team.now.workers ≤ 16 }
+    requires lawful { LawfulSetting task.now.setting }
+    requires childless { has_births task.now.setting.job.program ≡ false }
+    requires begins { task.now.setting.job.first ≤ task.now.setting.job.last }
+    ensures carried_out { (files : Files) → K.held keeper.old ≡ Some files
+        → IsCarriedOut files (λ o. o ≡ outcome_of task.now)
+        (keeper_call K.Keeper keeper.old keeper.new) (sink_call O.Sink out.old out.new)
+        (message_in result) (status_in result) }
+    ensures work { is_work (status_in result) ≡ true }
+    ensures counts { CountsShelf (keeper_call K.Keeper keeper.old keeper.new) (status_in result) }
+    ensures writes { CountsWrites (sink_call O.Sink out.old out.new) (status_in result) }
+    ensures clean { has_run (status_in result) ≡ true → O.clean out.new ≡ true }
+    ensures same_loans { K.loans keeper.new ≡ K.loans keeper.old }
+{
+    out.flush()?;
+    let publisher = FilePublisher {
+        out,
+        keeper,
+        save: &task.save,
+        fresh: task.fresh,
+    };
+    let both = crew_run_on(team, alloc, &task.setting, task.order, publisher);
     settle(alloc, task, both.1)
 }
 
@@ -162,4 +196,37 @@ pub fn run_task<S: Shelf, O: Sink>(
     }
     let mut keeper = ShelfKeeper { shelf };
     run_kept(alloc, task, &mut keeper, out)
+}
+
+/// Carries a run out on a team, as [`run_task`] does on one worker.
+pub fn run_task_on<R: Threads + Wait + Sync, G: Gate + Sync, S: Shelf + Send, O: Sink + Send>(
+    team: &Team<R, G>,
+    alloc: Global,
+    task: &Task,
+    shelf: &mut S,
+    out: &mut O,
+) -> Result<Answer, Stopped>
+    requires some { 1 ≤ team.now.workers }
+    requires few { team.now.workers ≤ 16 }
+    requires stage { writes (S.stage shelf.old) ≡ false }
+    requires lawful { LawfulSetting task.now.setting }
+    requires childless { has_births task.now.setting.job.program ≡ false }
+    requires begins { task.now.fresh ≡ true
+        → task.now.setting.job.first ≤ task.now.setting.job.last }
+    ensures carried_out { (files : Files) → S.held shelf.old ≡ Some files
+        → IsCarriedOut files (λ o. o ≡ outcome_of task.now)
+        (shelf_call S.Shelf shelf.old shelf.new) (sink_call O.Sink out.old out.new)
+        (message_in result) (status_in result) }
+    ensures work { is_work (status_in result) ≡ true }
+    ensures counts { CountsShelf (shelf_call S.Shelf shelf.old shelf.new) (status_in result) }
+    ensures writes { CountsWrites (sink_call O.Sink out.old out.new) (status_in result) }
+    ensures clean { has_run (status_in result) ≡ true → O.clean out.new ≡ true }
+    ensures not_writing { writes (S.stage shelf.new) ≡ false }
+{
+    let job = &task.setting.job;
+    if job.last < job.first {
+        return run_none(alloc, task, out);
+    }
+    let mut keeper = ShelfKeeper { shelf };
+    run_kept_on(team, alloc, task, &mut keeper, out)
 }

@@ -1,10 +1,10 @@
-ghost use Rattle.std.specs.Prelude.{◌≡◌, option_map, MatchOption, IfSome, None, Some};
+ghost use Rattle.std.specs.Prelude.{◌≡◌, ◌≤◌, option_map, MatchOption, IfErr, IfOk, IfSome, None, Some};
 ghost use Rattle.brace_words.specs.Lines as lines;
-ghost use Rattle.brace_top.specs.Commands.{anew_of, built, command_in, manner_of, resumed_of, run_of, trial_of};
+ghost use Rattle.brace_top.specs.Commands.{anew_of, built, command_in, manner_of, resumed_of, run_of, trial_of, workers_of};
 ghost use Rattle.brace_top.specs.inner.Words.{said, said_manner, said_start, IsInRange, IsMannerInRange};
 
 use brace_num::Text;
-use brace_words::{Line, Mode};
+use brace_words::{Line, LineFault, Mode};
 
 /// How a run is worked. Only the counts depend on it: no row and no checkpoint does.
 #[derive(Debug, Clone, Copy)]
@@ -69,11 +69,25 @@ pub enum Command<'a> {
 
 /// Whether a line asks for nothing that is not built yet.
 ///
-/// Not built are the mode `plan`, and more workers than one.
+/// Not built is the mode `plan`.
 pub fn built(line: &Line) -> bool
     ensures { result ≡ built line.now }
 {
-    line.mode != Mode::Plan && line.workers.unwrap_or(1) == 1
+    line.mode != Mode::Plan
+}
+
+/// How many workers words ask for, as they were read: 1 to 16, and 1 where they are no line.
+pub fn workers_of(line: &Result<Line, LineFault>) -> u32
+    requires range { IfOk line.now lines.IsInRange }
+    ensures some { 1 ≤ result }
+    ensures few { result ≤ 16 }
+    ensures asked { IfOk line.now (λ l. result ≡ workers_of (Some l)) }
+    ensures none { IfErr line.now (λ fault. result ≡ 1) }
+{
+    match line {
+        Ok(line) => line.workers.unwrap_or(1),
+        Err(_) => 1,
+    }
 }
 
 /// How a line's run is worked.

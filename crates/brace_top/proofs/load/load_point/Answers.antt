@@ -1,7 +1,7 @@
-use Rattle.std.proofs.Common.{◌≡◌, refl, Err}
+use Rattle.std.proofs.Common.{refl}
 use Rattle.std.proofs.lemmas.Result.{err_from_is_err_and}
 use Rattle.brace_save.specs.Lines.{moment_of}
-use Rattle.brace_top.specs.Outcome.{PointFrom, PointOf}
+use Rattle.brace_top.specs.Outcome.{PointOf}
 use Rattle.brace_top.proofs.AnswerLemmas.{unloaded_as}
 use Rattle.brace_top.proofs.PointLemmas.{point_read, point_unloads, unloaded_point}
 use Rattle.brace_top.proofs.load.load_point.Goals as goal

@@ -1,4 +1,4 @@
-use Rattle.std.proofs.Common.{◌≡◌, sym, subst, option_map, Option, Some, Err, false, List, ℕ, Bor}
+use Rattle.std.proofs.Common.{sym, subst, option_map, Option, Some, Err, false, List, ℕ, Bor}
 use Rattle.brace_crew.specs.Shows.{file_name}
 use Rattle.brace_crew.specs.declared.crew.CrewFault.TheVariants as crew
 use Rattle.brace_crew.specs.declared.publisher.PubFault.{PubFault}

@@ -1,28 +1,13 @@
-use Rattle.std.proofs.Common.{refl, sym, subst, ◌+◌, arith, rules}
-use Rattle.brace_core.specs.Lanes.{AreBelow}
-use Rattle.brace_pieces.specs.Steps.{schedule}
-use Rattle.brace_pieces.proofs.LanesFor.{few_actors, parts_below, schedule_short}
+use Rattle.std.proofs.Common.{refl, rules}
 use Rattle.brace_top.proofs.CameLemmas.{task_carried, task_counted, task_writes, task_clean}
 use Rattle.brace_top.proofs.task.run_kept.Goals as goal
 
-pub overflow_add-parts : goal.overflow_add-parts
-overflow_add-parts g c = omega (arith, few_actors c.args.task.now.setting c.requires.lawful, c.parts.ensures)
-
-pub make-requires-clause-few : goal.make-requires-clause-few
-make-requires-clause-few g c κs = omega (arith, few_actors c.args.task.now.setting c.requires.lawful, c.parts.ensures)
-
-pub make-requires-clause-below : goal.make-requires-clause-below
-make-requires-clause-below g c κs = subst (λ n. AreBelow (schedule c.args.task.now.setting) (n + 1)) (sym c.parts.ensures) (parts_below c.args.task.now.setting)
-
-pub make-requires-clause-short : goal.make-requires-clause-short
-make-requires-clause-short g c κs = schedule_short c.args.task.now.setting c.requires.lawful
-
 pub returns-clause-carried_out : goal.returns-clause-carried_out
 returns-clause-carried_out g c =
-    task_carried g.K.Keeper g.O.Sink c.args.task.now c.args.keeper.now _ c.args.out.now _ _ c.crew_run_alone-both.result.0 c.crew_run_alone-both.result.1 c.settle.result
+    task_carried g.K.Keeper g.O.Sink c.args.task.now c.args.keeper.now _ c.args.out.now _ _ c.crew_run_on_one-both.result.0 c.crew_run_on_one-both.result.1 c.settle.result
     (record {
       settled = c.settle.ensures;
-      run = c.crew_run_alone-both.ensures.came;
+      run = c.crew_run_on_one-both.ensures.came;
       save = refl;
       fresh = refl;
       shelf_before = refl;
@@ -35,10 +20,10 @@ returns-clause-carried_out g c =
 
 pub returns-clause-counts : goal.returns-clause-counts
 returns-clause-counts g c =
-    task_counted g.K.Keeper g.O.Sink c.args.task.now c.args.keeper.now c.keeper-1.given.0 c.args.out.now c.out-1.given.0 _ c.crew_run_alone-both.result.0 c.crew_run_alone-both.result.1 c.settle.result
+    task_counted g.K.Keeper g.O.Sink c.args.task.now c.args.keeper.now c.keeper-1.given.0 c.args.out.now c.out-1.given.0 _ c.crew_run_on_one-both.result.0 c.crew_run_on_one-both.result.1 c.settle.result
     (record {
       settled = c.settle.ensures;
-      run = c.crew_run_alone-both.ensures.came;
+      run = c.crew_run_on_one-both.ensures.came;
       save = refl;
       fresh = refl;
       shelf_before = refl;
@@ -50,10 +35,10 @@ returns-clause-counts g c =
 
 pub returns-clause-writes : goal.returns-clause-writes
 returns-clause-writes g c =
-    task_writes g.K.Keeper g.O.Sink c.args.task.now c.args.keeper.now c.keeper-1.given.0 c.args.out.now c.out-1.given.0 _ c.crew_run_alone-both.result.0 c.crew_run_alone-both.result.1 c.settle.result
+    task_writes g.K.Keeper g.O.Sink c.args.task.now c.args.keeper.now c.keeper-1.given.0 c.args.out.now c.out-1.given.0 _ c.crew_run_on_one-both.result.0 c.crew_run_on_one-both.result.1 c.settle.result
     (record {
       settled = c.settle.ensures;
-      run = c.crew_run_alone-both.ensures.came;
+      run = c.crew_run_on_one-both.ensures.came;
       save = refl;
       fresh = refl;
       shelf_before = refl;
@@ -65,10 +50,10 @@ returns-clause-writes g c =
 
 pub returns-clause-clean : goal.returns-clause-clean
 returns-clause-clean g c =
-    task_clean g.K.Keeper g.O.Sink c.args.task.now c.args.keeper.now c.keeper-1.given.0 c.args.out.now c.out-1.given.0 _ c.crew_run_alone-both.result.0 c.crew_run_alone-both.result.1 c.settle.result
+    task_clean g.K.Keeper g.O.Sink c.args.task.now c.args.keeper.now c.keeper-1.given.0 c.args.out.now c.out-1.given.0 _ c.crew_run_on_one-both.result.0 c.crew_run_on_one-both.result.1 c.settle.result
     (record {
       settled = c.settle.ensures;
-      run = c.crew_run_alone-both.ensures.came;
+      run = c.crew_run_on_one-both.ensures.came;
       save = refl;
       fresh = refl;
       shelf_before = refl;

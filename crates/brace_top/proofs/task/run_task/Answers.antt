@@ -1,4 +1,4 @@
-use Rattle.std.proofs.Common.{◌≡◌, refl}
+use Rattle.std.proofs.Common.{refl}
 use Rattle.brace_top.specs.Answer.{shelf_call}
 use Rattle.brace_top.proofs.task.run_task.Goals as goal
 

@@ -1,5 +1,5 @@
 use Rattle.std.proofs.Common.{◌∙◌, ◌≡◌, ◌≤◌, refl, sym, ap, subst, arith}
-use Rattle.std.specs.Prelude.{[], true, unwrap_or, codes, Ok, Err, Result, Some}
+use Rattle.std.specs.Prelude.{[], unwrap_or, codes, Ok, Err, Result, Some}
 use Rattle.std.proofs.lemmas.Result.{err_from_is_err_and}
 use Rattle.brace_io.specs.Shelves.{Files}
 use Rattle.brace_model.specs.declared.program.Program.{Program}
@@ -11,47 +11,47 @@ use Rattle.brace_top.specs.declared.status.Status.TheVariants.{Script}
 use Rattle.brace_top.specs.Commands.{Run, is_anew, start_file}
 use Rattle.brace_top.specs.Outcome.{Outcome, Refusal, ProgramOf, BeginsAt, CommandOutcome, refusal, refused, plan_of, ran, reads_script, reads_start}
 use Rattle.brace_top.specs.inner.Words.{said_run}
-use Rattle.brace_top.proofs.AnswerLemmas.{stop_serves, stopped_serves, refusal_unloads, unloaded_later, later_work_serves, births_refused, start_refused, plan_refused, plan_read, none_of, run_ended, run_is_lawful}
-use Rattle.brace_top.proofs.flow.run_script.Goals as goal
+use Rattle.brace_top.proofs.AnswerLemmas.{stop_before, stopped_before, refusal_unloads, unloaded_later, births_refused, start_refused, plan_refused, plan_read, none_of, run_ended, run_is_lawful}
+use Rattle.brace_top.proofs.prepare.load_task.Goals as goal
 
 -- the outcome of a refusal, whatever else was found
 abbrev refused_as : {A : Type 0} → Outcome → Result A Refusal → Outcome
 refused_as other (Ok a) = other
 refused_as other (Err r) = refused r
 
-pub returns-in_err-program-clause-served : goal.returns-in_err-program-clause-served
-returns-in_err-program-clause-served g c =
+pub returns-in_err-program-clause-ready : goal.returns-in_err-program-clause-ready
+returns-in_err-program-clause-ready g c =
     let run = said_run c.args.run.now in
     let p = err_from_is_err_and c.from_residual.result c.from_residual.ensures.1 in
-    rw (p.1, p.2) (stopped_serves g.S.Shelf g.O.Sink (Run run) _ _ _ (λ files. ProgramOf files run.script) run.script _
+    rw (p.1, p.2) (stopped_before g.S.Shelf (Run run) _ _ (λ files. ProgramOf files run.script) run.script _
     (λ files told. reads_script _ _ refl) (λ files r told is. record { found = Err r; is = is; follows = refl })
     c.in_err-program.ensures.held c.in_err-program.ensures.loads)
 
-pub returns-then-has_births-clause-served : goal.returns-then-has_births-clause-served
-returns-then-has_births-clause-served g c =
+pub returns-then-has_births-clause-ready : goal.returns-then-has_births-clause-ready
+returns-then-has_births-clause-ready g c =
     let run = said_run c.args.run.now in
     let program = c.in_ok-program.program in
     let o = refused (refusal Script run.script (codes ": NotThin")) in
     let turned_down : Files → Result Program Refusal → Type 0 = λ files found. CommandOutcome files (Some (Run run)) (refused_as o found) in
-    stopped_serves g.S.Shelf g.O.Sink (Run run) _ _ _ turned_down run.script _
+    stopped_before g.S.Shelf (Run run) _ _ turned_down run.script _
     (λ files told. reads_script _ _ refl) (λ files r told is. is) c.in_ok-program.ensures.held
     (refusal_unloads turned_down run.script _ Script _ _ refl c.in_ok-program.ensures.loads.counts c.refuse_file.ensures
     (λ files told. record { found = Ok program; is = c.in_ok-program.ensures.loads.found files told; follows = births_refused files run program (sym c.has_births.ensures ∙ c.if-has_births.true) }))
 
-pub returns-in_err-point-clause-served : goal.returns-in_err-point-clause-served
-returns-in_err-point-clause-served g c =
+pub returns-in_err-point-clause-ready : goal.returns-in_err-point-clause-ready
+returns-in_err-point-clause-ready g c =
     let run = said_run c.args.run.now in
     let program = c.in_ok-program.program in
     let without = sym c.has_births.ensures ∙ c.if-has_births.false in
     let p = err_from_is_err_and c.from_residual-in_err-point.result c.from_residual-in_err-point.ensures.1 in
-    rw (p.1, p.2) (stopped_serves g.S.Shelf g.O.Sink (Run run) _ _ _ (λ files. BeginsAt files program run.start) (start_file run.start) _
+    rw (p.1, p.2) (stopped_before g.S.Shelf (Run run) _ _ (λ files. BeginsAt files program run.start) (start_file run.start) _
     (λ files told. reads_start run program (c.in_ok-program.ensures.loads.found files told) without)
     (λ files r told is. record { found = Ok program; is = c.in_ok-program.ensures.loads.found files told; follows = start_refused files run program r without is })
     (c.in_err-point.ensures.held ∙ c.in_ok-program.ensures.held)
     (unloaded_later g.S.Shelf _ (start_file run.start) _ _ _ _ c.in_ok-program.ensures.held c.in_ok-program.ensures.loads.counts c.in_err-point.ensures.loads))
 
-pub returns-in_err-cuts-clause-served : goal.returns-in_err-cuts-clause-served
-returns-in_err-cuts-clause-served g c =
+pub returns-in_err-cuts-clause-ready : goal.returns-in_err-cuts-clause-ready
+returns-in_err-cuts-clause-ready g c =
     let run = said_run c.args.run.now in
     let program = c.in_ok-program.program in
     let moment = moment_of c.in_ok-point.point in
@@ -59,7 +59,7 @@ returns-in_err-cuts-clause-served g c =
     let held = c.in_ok-point.ensures.held ∙ c.in_ok-program.ensures.held in
     let faults = c.in_ok-point.ensures.loads.counts ∙ c.in_ok-program.ensures.loads.counts in
     let p = err_from_is_err_and c.from_residual-in_err-cuts.result c.from_residual-in_err-cuts.ensures.1 in
-    rw (p.1, p.2) (stop_serves g.S.Shelf g.O.Sink (Run run) _ _ _ (λ files found. plan_of files run.manner.epoch run.cuts ≡ found) (unwrap_or run.cuts []) _
+    rw (p.1, p.2) (stop_before g.S.Shelf (Run run) _ _ (λ files found. plan_of files run.manner.epoch run.cuts ≡ found) (unwrap_or run.cuts []) _
     (λ files told failed. plan_read files run program moment (c.in_ok-program.ensures.loads.found files told) without
     (c.in_ok-point.ensures.loads.found files (c.in_ok-program.ensures.held ∙ told)) (λ none. c.in_err-cuts.ensures.unread (none_of _ _ none) failed))
     (λ files r told is. record {
@@ -70,35 +70,30 @@ returns-in_err-cuts-clause-served g c =
     (c.in_err-cuts.ensures.held ∙ held)
     (unloaded_later g.S.Shelf _ (unwrap_or run.cuts []) _ _ _ _ held faults c.in_err-cuts.ensures.loads))
 
-pub run_task-requires-clause-lawful : goal.run_task-requires-clause-lawful
-run_task-requires-clause-lawful g c =
-    subst LawfulSetting (sym c.task_of.ensures.setting)
-    (run_is_lawful c.args.run.now c.in_ok-program.program (moment_of c.in_ok-point.point) c.in_ok-cuts.cuts c.requires.range c.in_ok-program.ensures.lawful
-    c.in_ok-point.ensures.lawful c.in_ok-point.ensures.numbered c.in_ok-point.ensures.range c.in_ok-cuts.ensures.lawful)
-
-pub run_task-requires-clause-childless : goal.run_task-requires-clause-childless
-run_task-requires-clause-childless g c =
-    ap (λ (s : Setting). has_births s.job.program) c.task_of.ensures.setting ∙ sym c.has_births.ensures ∙ c.if-has_births.false
-
-pub run_task-requires-clause-begins : goal.run_task-requires-clause-begins
-run_task-requires-clause-begins g c fresh =
-    let first = c.in_ok-point.ensures.first (sym c.task_of.ensures.fresh ∙ fresh) in
-    subst (λ (s : Setting). s.job.first ≤ s.job.last) (sym c.task_of.ensures.setting) (omega (arith, first))
-
-pub returns-clause-served : goal.returns-clause-served
-returns-clause-served g c =
+pub returns-clause-ready : goal.returns-clause-ready
+returns-clause-ready g c =
     let run = said_run c.args.run.now in
     let program = c.in_ok-program.program in
     let moment = moment_of c.in_ok-point.point in
     let without = sym c.has_births.ensures ∙ c.if-has_births.false in
-    let held = c.in_ok-cuts.ensures.held ∙ c.in_ok-point.ensures.held ∙ c.in_ok-program.ensures.held in
-    let faults = c.in_ok-cuts.ensures.loads.counts ∙ c.in_ok-point.ensures.loads.counts ∙ c.in_ok-program.ensures.loads.counts in
-    later_work_serves g.S.Shelf g.O.Sink (Run run) _ _ _ _ _ _ _ refl held faults
-    (λ files x told e. record {
-      found = Ok program;
-      is = c.in_ok-program.ensures.loads.found files told;
-      follows = run_ended files run program moment c.in_ok-cuts.cuts x without (c.in_ok-point.ensures.loads.found files (c.in_ok-program.ensures.held ∙ told))
-          (c.in_ok-cuts.ensures.loads.found files (c.in_ok-point.ensures.held ∙ c.in_ok-program.ensures.held ∙ told))
-          (e ∙ c.task_of.ensures.outcome ∙ ap (ran run.manner.stats run.save (is_anew run.start)) c.task_of.ensures.setting);
-    })
-    c.run_task.ensures.carried_out c.run_task.ensures.work c.run_task.ensures.counts c.run_task.ensures.writes c.run_task.ensures.clean
+    let first = c.in_ok-point.ensures.first in
+    record {
+      lawful =
+          subst LawfulSetting (sym c.task_of.ensures.setting)
+          (run_is_lawful c.args.run.now program moment c.in_ok-cuts.cuts c.requires.range c.in_ok-program.ensures.lawful
+          c.in_ok-point.ensures.lawful c.in_ok-point.ensures.numbered c.in_ok-point.ensures.range c.in_ok-cuts.ensures.lawful);
+      childless = ap (λ (s : Setting). has_births s.job.program) c.task_of.ensures.setting ∙ without;
+      begins = λ fresh.
+          let zero = first (sym c.task_of.ensures.fresh ∙ fresh) in
+          subst (λ (s : Setting). s.job.first ≤ s.job.last) (sym c.task_of.ensures.setting) (omega (arith, zero));
+      outcome = λ files told. record {
+        found = Ok program;
+        is = c.in_ok-program.ensures.loads.found files told;
+        follows = run_ended files run program moment c.in_ok-cuts.cuts _ without (c.in_ok-point.ensures.loads.found files (c.in_ok-program.ensures.held ∙ told))
+            (c.in_ok-cuts.ensures.loads.found files (c.in_ok-point.ensures.held ∙ c.in_ok-program.ensures.held ∙ told))
+            (c.task_of.ensures.outcome ∙ ap (ran run.manner.stats run.save (is_anew run.start)) c.task_of.ensures.setting);
+      };
+      saves = refl;
+      unsaved = c.in_ok-cuts.ensures.held ∙ c.in_ok-point.ensures.held ∙ c.in_ok-program.ensures.held;
+      counts = c.in_ok-cuts.ensures.loads.counts ∙ c.in_ok-point.ensures.loads.counts ∙ c.in_ok-program.ensures.loads.counts;
+    }

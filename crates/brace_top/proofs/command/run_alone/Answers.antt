@@ -1,0 +1,15 @@
+use Rattle.std.proofs.Common.{◌∙◌, ap, ◌≤◌, map, string_bytes, arith}
+use Rattle.brace_top.specs.Status.{code_of}
+use Rattle.brace_top.specs.inner.Words.{IsReadAs}
+use Rattle.brace_top.proofs.AnswerLemmas.{several_unread}
+use Rattle.brace_top.proofs.command.run_alone.Goals as goal
+
+pub returns-clause-not_several : goal.returns-clause-not_several
+returns-clause-not_several g c more =
+    let read : IsReadAs (map string_bytes c.args.words.now) c.read_line-line.result = record {
+      line_is = c.read_line-line.ensures.line;
+      none_is = c.read_line-line.ensures.usage;
+      bounds = c.read_line-line.ensures.bounds;
+    } in
+    let one : c.workers_of.result ≤ 1 = omega (arith, c.if-workers_of-gt1.false) in
+    c.code.ensures.code ∙ ap code_of (c.carry_out.ensures.no_memory (several_unread _ _ _ read c.workers_of.ensures.asked one more))

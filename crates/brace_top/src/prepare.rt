@@ -1,0 +1,178 @@
+//! What is done for a command before its parts are run.
+ghost use Rattle.std.specs.Prelude.{◌≡◌, [], option_map, MatchResult, true, false};
+ghost use Rattle.brace_io.specs.Shelves.{writes};
+ghost use Rattle.brace_save.specs.Lines.{moment_of};
+ghost use Rattle.brace_top.specs.Answer.{CountsWrites, sink_call};
+ghost use Rattle.brace_top.specs.Commands as asked;
+ghost use Rattle.brace_top.specs.Commands.{is_anew};
+ghost use Rattle.brace_top.specs.Outcome.{shown, setting_of, ran};
+ghost use Rattle.brace_top.specs.Status.{has_run};
+ghost use Rattle.brace_top.specs.inner.Prepared.{IsPrepared, IsReadyRun, IsReadyTrial, IsStoppedBefore};
+ghost use Rattle.brace_top.specs.inner.Settled.{IsServed, IsWritten, is_plain_work, outcome_of, status_in, message_in};
+ghost use Rattle.brace_top.specs.inner.Words.{said, said_run, said_start, said_trial, IsInRange, IsRunInRange, IsTrialInRange};
+
+use crate::answer::{Answer, Stopped, refuse_file};
+use crate::load::{load_cuts, load_program, load_start, load_tree, load_trial};
+use crate::status::Status;
+use crate::task::Task;
+use crate::trial::{has_four_fixed, trial_setting};
+use crate::words::{Command, RunCommand, Start, TrialCommand};
+use brace_cuts::CutPlan;
+use brace_io::{Shelf, Sink, write_whole};
+use brace_model::{Job, Program, has_births};
+use brace_pieces::Setting;
+use brace_save::Point;
+use brace_show::show;
+use std::alloc::Global;
+
+/// What is left of a command whose files are read.
+#[derive(Debug, Drop)]
+pub enum Work<'a> {
+    /// Nothing: its text is written.
+    Told(Answer),
+    /// A run.
+    Run(Task<'a>),
+    /// A trial, in its setting.
+    Trial(TrialCommand, Setting),
+}
+
+/// Writes a text that is all that a command writes.
+fn write_text<O: Sink>(alloc: Global, text: &[u8], out: &mut O) -> Result<Answer, Stopped>
+    ensures written { IsWritten (λ o. o ≡ shown text.now) (sink_call O.Sink out.old out.new)
+        (message_in result) (status_in result) }
+    ensures work { is_plain_work (status_in result) ≡ true }
+    ensures writes { CountsWrites (sink_call O.Sink out.old out.new) (status_in result) }
+    ensures clean { has_run (status_in result) ≡ true → O.clean out.new ≡ true }
+{
+    write_whole(out, text)?;
+    out.flush()?;
+    Ok(Answer {
+        status: Status::Done,
+        message: Vec::new(alloc),
+    })
+}
+
+/// Writes the canonical text of a script.
+fn format_script<S: Shelf, O: Sink>(
+    alloc: Global,
+    name: &str,
+    shelf: &mut S,
+    out: &mut O,
+) -> Result<Answer, Stopped>
+    requires stage { writes (S.stage shelf.old) ≡ false }
+    ensures served { IsServed S.Shelf O.Sink (asked.Format name.now)
+        shelf.old shelf.new out.old out.new result }
+    ensures held { S.held shelf.new ≡ S.held shelf.old }
+    ensures not_writing { writes (S.stage shelf.new) ≡ false }
+{
+    let tree = load_tree(alloc, shelf, name)?;
+    let text = show(alloc, &tree)?;
+    write_text(alloc, text.as_slice(), out)
+}
+
+/// Checks a script, and writes nothing.
+fn check_script<S: Shelf, O: Sink>(
+    alloc: Global,
+    name: &str,
+    shelf: &mut S,
+    out: &mut O,
+) -> Result<Answer, Stopped>
+    requires stage { writes (S.stage shelf.old) ≡ false }
+    ensures served { IsServed S.Shelf O.Sink (asked.Check name.now)
+        shelf.old shelf.new out.old out.new result }
+    ensures held { S.held shelf.new ≡ S.held shelf.old }
+    ensures not_writing { writes (S.stage shelf.new) ≡ false }
+{
+    let _program = load_program(alloc, shelf, name)?;
+    write_text(alloc, b"", out)
+}
+
+/// A run that can begin at a moment.
+fn task_of<'a>(run: &RunCommand<'a>, program: Program, point: Point, cuts: CutPlan) -> Task<'a>
+    ensures setting { result.setting
+        ≡ setting_of (said_run run.now) program (moment_of point) cuts }
+    ensures outcome { outcome_of result ≡ ran run.now.manner.stats
+        (option_map (λ name. name.now) run.now.save) (is_anew (said_start run.now.start))
+        result.setting }
+    ensures fresh { result.fresh ≡ is_anew (said_start run.now.start) }
+{
+    let job = Job {
+        program,
+        seed: point.seed,
+        first: point.tick,
+        last: run.ticks,
+        every: run.every,
+        start: point.world,
+    };
+    Task {
+        setting: Setting {
+            job,
+            cuts,
+            epoch: run.manner.epoch,
+            invert: run.manner.invert,
+        },
+        order: run.manner.order,
+        fresh: matches!(run.start, Start::Anew(..)),
+        save: run.save,
+        stats: run.manner.stats,
+    }
+}
+
+/// The run of a script.
+fn load_task<'a, S: Shelf>(
+    alloc: Global,
+    run: &RunCommand<'a>,
+    shelf: &mut S,
+) -> Result<Task<'a>, Stopped>
+    requires stage { writes (S.stage shelf.old) ≡ false }
+    requires range { IsRunInRange run.now }
+    ensures ready { MatchResult result
+        (IsReadyRun S.Shelf (asked.Run (said_run run.now)) shelf.old shelf.new)
+        (IsStoppedBefore S.Shelf (asked.Run (said_run run.now)) shelf.old shelf.new) }
+    ensures not_writing { writes (S.stage shelf.new) ≡ false }
+{
+    let program = load_program(alloc, shelf, run.script)?;
+    if has_births(&program) {
+        return Err(refuse_file(alloc, run.script, Status::Script, b": NotThin"));
+    }
+    let point = load_start(alloc, shelf, &program, &run.start)?;
+    let cuts = load_cuts(alloc, shelf, run.cuts, run.manner.epoch)?;
+    Ok(task_of(run, program, point, cuts))
+}
+
+/// The setting of a trial of the program's own script over made agents; no file is read. That script
+/// has a class of four fixed states and no `spawn`; want of memory is answered for any other.
+fn ready_trial<S: Shelf>(alloc: Global, trial: &TrialCommand, shelf: &S) -> Result<Setting, Stopped>
+    requires { IsTrialInRange trial.now }
+    ensures { MatchResult result
+        (IsReadyTrial (asked.Trial (said_trial trial.now)) (said_trial trial.now))
+        (IsStoppedBefore S.Shelf (asked.Trial (said_trial trial.now)) shelf.now shelf.now) }
+{
+    let program = load_trial(alloc)?;
+    if !has_four_fixed(&program) || has_births(&program) {
+        return Err(Stopped::NoMemory);
+    }
+    let setting = trial_setting(alloc, trial, program)?;
+    Ok(setting)
+}
+
+/// Reads the files of a command, and carries it out where it runs no part.
+pub fn prepare<'a, S: Shelf, O: Sink>(
+    alloc: Global,
+    command: &Command<'a>,
+    shelf: &mut S,
+    out: &mut O,
+) -> Result<Work<'a>, Stopped>
+    requires stage { writes (S.stage shelf.old) ≡ false }
+    requires range { IsInRange command.now }
+    ensures prepared { IsPrepared S.Shelf O.Sink (said command.now)
+        shelf.old shelf.new out.old out.new result }
+    ensures not_writing { writes (S.stage shelf.new) ≡ false }
+{
+    match command {
+        Command::Run(run) => Ok(Work::Run(load_task(alloc, run, shelf)?)),
+        Command::Format(name) => Ok(Work::Told(format_script(alloc, name, shelf, out)?)),
+        Command::Check(name) => Ok(Work::Told(check_script(alloc, name, shelf, out)?)),
+        Command::Trial(trial) => Ok(Work::Trial(*trial, ready_trial(alloc, trial, shelf)?)),
+    }
+}
