@@ -30,8 +30,9 @@ use std::thread::Threads;
 use std::vec::IntoIter;
 
 /// In how many rounds, one behind the other, no member of a bench may make a turn before the bench
-/// waits.
-const PATIENCE: u64 = 1024;
+/// waits. They last longer than a work of a large part does, so that a bench that waits for one is
+/// still there when its pieces come.
+const PATIENCE: u64 = 1_048_576;
 
 /// Whether no turn is left of any member of benches.
 fn are_complete<P: Publisher>(benches: &[Bench<P>]) -> bool
