@@ -1,5 +1,5 @@
 -- The members of a bench in a round: what their seat counts of all, how they went on, and the end.
-use Rattle.std.proofs.Common.{◌≡◌, ◌∙◌, refl, sym, ap, subst, ℕ, zero, suc, ◌+◌, ◌-◌, ◌%◌, ◌<◌, ◌≤◌, ◌==◌, Bool, true, false, cond, List, [], ◌∷◌, map, length, take, get_or, set, arith, inl, inr}
+use Rattle.std.proofs.Common.{◌≡◌, ◌∙◌, refl, sym, ap, subst, ℕ, zero, suc, ◌+◌, ◌%◌, ◌<◌, ◌≤◌, ◌==◌, Bool, true, false, cond, List, [], ◌∷◌, map, length, take, get_or, set, arith, inl, inr}
 use Rattle.std.specs.List.{All, Contains, filter, range_with_len, sum_by}
 use Rattle.std.proofs.lemmas.Bool.{cases_eq, cases_lt, eq-eqb, eqb-true}
 use Rattle.std.proofs.lemmas.List.{length-map, length-set, get_or-set_same, get_or-set_other, get_or_default, take_all}
@@ -155,17 +155,11 @@ module _ {P : Type 0} where
     openings = map_kept opening_of ms i m n at same.opening;
   }
 
-  pub same_all : (ms : List (Member P)) → AreSame ms ms
-  same_all ms = record { settings = refl; numbers = refl; openings = refl }
-
   pub same_count : (ms ns : List (Member P)) → AreSame ms ns → length ns ≡ length ms
   same_count ms ns same = sym (length-map ns number_of) ∙ ap length same.numbers ∙ length-map ms number_of
 
   pub same_on : (ms ns os : List (Member P)) → AreSame ms ns → AreSame ns os → AreSame ms os
   same_on ms ns os one two = record { settings = two.settings ∙ one.settings; numbers = two.numbers ∙ one.numbers; openings = two.openings ∙ one.openings }
-
-pub later_now : {S : Type 0} (v : OnSeat S) → IsLater v v
-later_now v = record { lanes = refl; same = record { setting = refl; actors = refl; seats = refl; number = refl }; misses = λ p q. omega arith }
 
 pub later_on : {S : Type 0} (u v w : OnSeat S) → IsLater u v → IsLater v w → IsLater u w
 later_on u v w one two = record {
@@ -255,9 +249,6 @@ module _ {P : Type 0} where
       one_more (WaitsOne u w) is (all_weaker IsDone (WaitsOne u w) (λ x over going. absurd (going over)) (take i ms) done) (λ going. waits_before u v w 1 m before waits_here),
     )
     went_more went.Over went.Over (is, done) (same_one, over) = (still ns i m n low at same_one ∙ is, one_more IsDone is done over)
-
-  pub went_none : (u : View Setting) (ms : List (Member P)) → WentAll u ms u ms 0 went.Over
-  went_none u ms = (refl, All-nil IsDone)
 
   -- all went on
   pub went_through : (u w : View Setting) (ms ns : List (Member P)) (i : ℕ) (all : Went) → length ms ≤ i → i ≤ length ms → WentAll u ms w ns i all → WentAll u ms w ns (length ms) all

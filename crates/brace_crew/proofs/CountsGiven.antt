@@ -1,18 +1,16 @@
 -- What all parts of a run gave, where all went to its end.
 use Rattle.std.proofs.Common.{◌≡◌, ◌∙◌, refl, sym, ap, ap₂, subst, ℕ, ◌+◌, ◌<◌, ◌≤◌, List, [], ◌∷◌, map, take, take_all, length, get_or, sum_by, Contains, arith}
 use Rattle.std.specs.Prelude.{Option, Some, None, is_none, true}
-use Rattle.std.specs.List.{range_with_len}
 use Rattle.std.proofs.lemmas.List.Sums.{sum_by-cons, sum_by_more}
 use Rattle.std.proofs.lemmas.List.Elements.{All-contains, Contains-get_or}
 use Rattle.brace_pieces.specs.declared.setting.Setting.{Setting}
-use Rattle.brace_pieces.specs.Settings.{parts}
 use Rattle.brace_pieces.specs.Steps.{steps}
 use Rattle.brace_pieces.specs.Courses.{IsCourse}
 use Rattle.brace_part.specs.declared.counts.Counts.{Counts}
 use Rattle.brace_part.specs.Parts.{OnPart}
 use Rattle.brace_crew.specs.declared.member.Member.{Member}
 use Rattle.brace_crew.specs.declared.member.Member.TheVariants as member
-use Rattle.brace_part.specs.Given.{summed, together, given_in, counts_up_to, all_given}
+use Rattle.brace_part.specs.Given.{summed, together, given_in, counts_up_to}
 use Rattle.brace_crew.specs.Members.{course_of, IsDone}
 use Rattle.brace_crew.specs.inner.Crews.{AreParts}
 use Rattle.brace_crew.proofs.DeskCourses.{last_behind}
@@ -45,20 +43,6 @@ ends_given : (s : Setting) (p number : ℕ) → length (steps s) ≤ number → 
 ends_given s p number high = ap (summed (given_in s p)) (take_all (number + 1) (steps s) (omega (arith, high)) ∙ sym (take_all (length (steps s) + 1) (steps s) (omega arith)))
 
 module _ {P : Type 0} (s : Setting) (members : List (Member P)) (are : AreParts s members) where
-  all_members : (f : ℕ → ℕ) → sum_by (λ m. f (course_of m).actor) members ≡ sum_by f (range_with_len 0 (parts s))
-  all_members f = sum_of_map f (λ m. (course_of m).actor) members ∙ ap (sum_by f) are.numbers
-
-  -- what all members give is what the parts of the run give
-  pub all_summed : summed (gives s) members ≡ all_given s
-  all_summed =
-      let last : ℕ = length (steps s) in
-      λ j. record {
-        border = all_members (λ p. (counts_up_to s p last).border) j;
-        effects = all_members (λ p. (counts_up_to s p last).effects) j;
-        moved = all_members (λ p. (counts_up_to s p last).moved) j;
-        handed = all_members (λ p. (counts_up_to s p last).handed) j;
-      }
-
   pub part_gave : (m : Member P) → IsDone m → (course_of m).setting ≡ s → (p : OnPart) → m ≡ member.Part p → IsCourse p.course → p.counts ≡ counts_up_to p.course.setting p.course.actor p.course.number → p.counts ≡ gives s m
   part_gave m done of p is on_course counted =
       let done_there = subst IsDone is done in

@@ -246,9 +246,6 @@ module _ {P : Type 0} (of : publisher.Ghosts P) (d : OnDesk P) where
         are_shown : All (λ lot. IsShown s t lot.part lot.worlds) d.lots
         are_shown = subst (λ o. All (IsLot s o) d.lots) is h.brought
 
-        all_met : count ≡ parts s
-        all_met = ap length next.others ∙ length-range_with_len 0 (parts s)
-
         module _ (went : d.stop ≡ None) where
           all_brought : map (λ lot. lot.part) d.lots ≡ range_with_len 0 (parts s)
           all_brought = h.took went ∙ take_all (d.course.made - count) others (omega (arith, turn.high)) ∙ next.others

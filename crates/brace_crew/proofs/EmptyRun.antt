@@ -1,10 +1,10 @@
 -- A run of a script without classes is lawful.
-use Rattle.std.proofs.Common.{◌≡◌, refl, ap, sym, subst, ℕ, zero, suc, ◌≤◌, ◌^◌, List, [], Option, Some, None, true, false, arith}
+use Rattle.std.proofs.Common.{◌≡◌, refl, ap, sym, subst, ℕ, zero, suc, ◌≤◌, ◌^◌, List, [], Some, false, arith}
 use Rattle.std.specs.Prelude.{slice_get}
 use Rattle.std.specs.List.{IsDistinct}
 use Rattle.brace_model.specs.declared.program.Class.{Class}
 use Rattle.brace_model.specs.declared.program.Program.{Program}
-use Rattle.brace_model.specs.World.{IsNumbered, world_of}
+use Rattle.brace_model.specs.World.{IsNumbered}
 use Rattle.brace_model.specs.Next.{has_births}
 use Rattle.brace_model.specs.Lawful.{LawfulProgram, LawfulClass, LawfulAgents}
 use Rattle.brace_cuts.specs.CutPlans.{IsPlan}

@@ -1,5 +1,5 @@
 -- The members of a run taken back from the lists of its workers, one from each in turn.
-use Rattle.std.proofs.Common.{◌≡◌, ◌∙◌, refl, sym, ap, ap₂, subst, ℕ, suc, ◌+◌, ◌-◌, ◌%◌, ◌<◌, ◌≤◌, ◌==◌, Bool, true, false, cond, List, [], ◌∷◌, ◌++◌, map, length, get_or, set, take, Option, Some, None, Err, arith, inl, inr}
+use Rattle.std.proofs.Common.{◌≡◌, ◌∙◌, refl, sym, ap, ap₂, subst, ℕ, suc, ◌+◌, ◌-◌, ◌%◌, ◌<◌, ◌≤◌, ◌==◌, Bool, true, false, cond, List, [], ◌∷◌, ◌++◌, map, length, get_or, set, take, Option, Some, None, arith, inl, inr}
 use Rattle.std.specs.List.{All, range_with_len}
 use Rattle.std.specs.Option.{option_to_list}
 use Rattle.std.proofs.Math.Seq.{take-append_seam}
@@ -9,11 +9,8 @@ use Rattle.std.proofs.lemmas.List.Elements.{All-nil, All-cons, All-head, All-tai
 use Rattle.brace_lanes.specs.Seats.{OnSeat}
 use Rattle.brace_pieces.specs.declared.setting.Setting.{Setting}
 use Rattle.brace_pieces.specs.Settings.{parts}
-use Rattle.brace_crew.specs.declared.crew.CrewFault.TheVariants as crew
 use Rattle.brace_crew.specs.declared.member.Member.{Member}
-use Rattle.brace_crew.specs.declared.publisher.Publisher as publisher
 use Rattle.brace_crew.specs.Benches.{OnBench, IsUsedUp}
-use Rattle.brace_crew.specs.Calls.{CameTo}
 use Rattle.brace_crew.specs.Members.{course_of, opening_of, IsDone}
 use Rattle.brace_crew.specs.Workers.{IsSeatOf, AreUsedUp}
 use Rattle.brace_crew.specs.inner.Crews.{AreMembers, opening_in, all_numbers, served}
@@ -152,14 +149,6 @@ as_long f g xs ys same = sym (length-map xs f) ∙ ap length same ∙ length-map
 pub place_left : {A : Type 0} (gone left all : List A) (x : A) (rest : List A) (n capacity : ℕ) → gone ++ left ≡ all → left ≡ x ∷ rest → n ≡ length gone → length all ≤ capacity → n < capacity
 place_left gone left all x rest n capacity whole opens so_many fits =
     omega (arith, so_many, fits, ap length whole, length-append gone left, ap length opens)
-
--- ---- a publisher that was called not once
-
-pub not_called : {P : Type 0} (of : publisher.Ghosts P) (s : Setting) (opening : P) → CameTo of s opening opening (Err crew.NoMemory)
-not_called of s opening = record {
-  came = record { made = 0; is_behind = refl };
-  rises = record { writes_rise = omega arith; saves_rise = omega arith; same_loans = refl };
-}
 
 -- ---- the benches that were lent to a run, and that came back, with all taken off them
 

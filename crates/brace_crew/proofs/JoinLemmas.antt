@@ -1,5 +1,5 @@
 -- What parts bring, joined in any order, is the whole worlds.
-use Rattle.std.proofs.Common.{◌≡◌, ◌⊎◌, inl, inr, ◌∙◌, refl, sym, ap, ap₂, subst, ℕ, zero, suc, ◌<◌, List, [], ◌∷◌, ◌++◌, map, flat_map, length, pos, arith, append_assoc, append-nil}
+use Rattle.std.proofs.Common.{◌≡◌, ◌⊎◌, inl, inr, ◌∙◌, refl, sym, ap, ap₂, subst, ℕ, List, [], ◌∷◌, ◌++◌, map, flat_map, length, arith, append_assoc, append-nil}
 use Rattle.std.specs.List.{AllZip, range_with_len}
 use Rattle.std.specs.List.Sorted.{IsPermutation}
 use Rattle.std.proofs.lemmas.List.Concat.{flat_map-append}
@@ -12,7 +12,6 @@ use Rattle.brace_pieces.specs.Numbers.{NumbersFit}
 use Rattle.brace_pieces.specs.Continued.{on}
 use Rattle.brace_pieces.specs.Owned.{owned}
 use Rattle.brace_pieces.proofs.AllLemmas.{all_is}
-use Rattle.brace_pieces.proofs.Meetings.{owner_is_part}
 use Rattle.brace_pieces.proofs.OnLemmas.{on_rises, on_classed}
 use Rattle.brace_crew.specs.declared.desk.Lot.{Lot}
 use Rattle.brace_crew.specs.Desks.{whole_at}
@@ -159,11 +158,3 @@ module _ (s : Setting) (held : ℕ) where
         let same : (f : ℕ → List Agent) → IsPermutation (flat_map f so.joined) (flat_map f (range_with_len 0 (parts s))) =
         λ f. subst (λ l. IsPermutation l (flat_map f (range_with_len 0 (parts s)))) (ap (λ l. flat_map f so.joined ++ flat_map f l) gone ∙ append-nil (flat_map f so.joined)) (so.same f) in
         all_whole so.joined same ticks all (subst (λ l. AllZip IsSortedWorld l all) so.worlds_are sorted)
-
-  -- a run has a part
-  pub some_lot : LawfulSetting s → (ticks : List ℕ) → map (brought s held ticks) (range_with_len 0 (parts s)) ≡ [] → ⊥
-  some_lot lawful ticks e = by_parts (parts s) (omega (arith, owner_is_part s lawful s.job.first (pos 0) (pos 0))) e
-    where
-      by_parts : (n : ℕ) → 0 < n → map (brought s held ticks) (range_with_len 0 n) ≡ [] → ⊥
-      by_parts zero up e = omega (arith, up)
-      by_parts (suc n) up e = cc

@@ -1,9 +1,9 @@
 -- The members of a run behind it: its parts, and its desk behind them.
-use Rattle.std.proofs.Common.{◌≡◌, ◌∙◌, refl, sym, ap, subst, ℕ, ◌+◌, ◌<◌, List, [], ◌∷◌, ◌++◌, length, map, Some, None, All, arith}
+use Rattle.std.proofs.Common.{◌≡◌, ◌∙◌, refl, sym, ap, subst, ℕ, ◌<◌, List, [], ◌∷◌, ◌++◌, map, Some, None, All, arith}
 use Rattle.std.specs.List.{range_with_len}
-use Rattle.std.proofs.lemmas.List.{map-append, length-map}
+use Rattle.std.proofs.lemmas.List.{map-append}
 use Rattle.std.proofs.lemmas.List.Elements.{All-nil, All-cons, All-head, All-tail, All-map}
-use Rattle.std.proofs.lemmas.List.FromFn.{length-range_with_len, length-map-range_with_len, get_or-map-range_with_len}
+use Rattle.std.proofs.lemmas.List.FromFn.{length-map-range_with_len, get_or-map-range_with_len}
 use Rattle.brace_core.specs.declared.name.Turn.TheVariants.{Done}
 use Rattle.brace_core.specs.Exchanges.{due}
 use Rattle.brace_pieces.specs.declared.setting.Setting.{Setting}
@@ -66,13 +66,6 @@ module _ {P : Type 0} (s : Setting) (publisher : P) where
     numbered = actors ∙ are.numbered;
     openings = opened ∙ are.openings;
   }
-
-  -- a run has a member
-  pub some_member : (members : List (Member P)) → AreMembers s publisher (all_numbers s) members → members ≡ [] → ⊥
-  some_member members are none =
-      let long : parts s + 1 ≡ 0 =
-      sym (length-range_with_len 0 (parts s + 1)) ∙ ap length (sym are.numbered) ∙ length-map members (λ m. (course_of m).actor) ∙ ap length none in
-      omega (arith, long)
 
 module _ {P : Type 0} (s : Setting) (publisher : P) (members : List (Member P)) (are : AreMembers s publisher (all_numbers s) members)
     (front : List (Member P)) (last : Member P) (is : members ≡ front ++ last ∷ []) where

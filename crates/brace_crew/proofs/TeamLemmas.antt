@@ -1,52 +1,16 @@
 -- The benches of a run at a later time.
-use Rattle.std.proofs.Common.{◌≡◌, ◌∙◌, refl, sym, ap, subst, ℕ, ◌<◌, List, [], ◌∷◌, map, length, get_or, arith}
+use Rattle.std.proofs.Common.{◌≡◌, ◌∙◌, sym, ap, subst, ℕ, ◌<◌, List, [], ◌∷◌, map, length, get_or, arith}
 use Rattle.std.specs.List.{All}
 use Rattle.std.proofs.lemmas.List.{length-map, get_or-map}
 use Rattle.brace_pieces.specs.declared.setting.Setting.{Setting}
 use Rattle.brace_crew.specs.declared.member.Member.{Member}
-use Rattle.brace_crew.specs.Members.{course_of, opening_of}
+use Rattle.brace_crew.specs.Members.{course_of}
 use Rattle.brace_crew.specs.Benches.{OnBench, IsSameBench}
 use Rattle.brace_crew.specs.Workers.{IsSeatOf}
 use Rattle.brace_crew.specs.inner.Crews.{AreMembers, served}
-use Rattle.brace_crew.specs.inner.Teams.{AreRosters, IsTeam, AreLater}
+use Rattle.brace_crew.specs.inner.Teams.{IsTeam, AreLater}
 
 module _ {P : Type 0} where
-  bench_now : (b : OnBench P) → IsSameBench b b
-  bench_now b = record {
-    number = refl;
-    settings = refl;
-    numbers = refl;
-    openings = refl;
-    lanes = refl;
-    seat = record { setting = refl; actors = refl; seats = refl; number = refl };
-  }
-
-  bench_on : (a b c : OnBench P) → IsSameBench a b → IsSameBench b c → IsSameBench a c
-  bench_on a b c one two = record {
-    number = two.number ∙ one.number;
-    settings = two.settings ∙ one.settings;
-    numbers = two.numbers ∙ one.numbers;
-    openings = two.openings ∙ one.openings;
-    lanes = two.lanes ∙ one.lanes;
-    seat = record {
-      setting = two.seat.setting ∙ one.seat.setting;
-      actors = two.seat.actors ∙ one.seat.actors;
-      seats = two.seat.seats ∙ one.seat.seats;
-      number = two.seat.number ∙ one.seat.number;
-    };
-  }
-
-  -- no time went by
-  pub benches_now : (xs : List (OnBench P)) → AreLater xs xs
-  benches_now xs = record { one_each = refl; each = λ k d low. bench_now (get_or xs k d) }
-
-  -- more time went by
-  pub benches_on : (xs ys zs : List (OnBench P)) → AreLater xs ys → AreLater ys zs → AreLater xs zs
-  benches_on xs ys zs one two = record {
-    one_each = two.one_each ∙ one.one_each;
-    each = λ k d low. bench_on (get_or xs k d) (get_or ys k d) (get_or zs k d) (one.each k d low) (two.each k d (omega (arith, one.one_each, low)));
-  }
-
   -- members of one setting stay members of it
   settings_kept : (s : Setting) (ms ns : List (Member P)) → map (λ m. (course_of m).setting) ns ≡ map (λ m. (course_of m).setting) ms
       → All (λ m. (course_of m).setting ≡ s) ms → All (λ m. (course_of m).setting ≡ s) ns

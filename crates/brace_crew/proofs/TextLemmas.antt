@@ -1,5 +1,5 @@
--- The rows of what is shown at the ends of a run are its published text, and the world of an end is
--- shown last.
+-- The rows of what is shown at the ends of a run are its published text, up to a tick and whole, and
+-- the world of an end is shown last.
 use Rattle.std.proofs.Common.{◌≡◌, ◌∙◌, refl, sym, ap, ap₂, ℕ, zero, suc, ◌+◌, ◌-◌, ◌<◌, ◌≤◌, List, [], ◌∷◌, ◌++◌, length, map, filter, flat_map, append_assoc, Bool, true, false, cond, Some, None, Result, Ok, Err, ◌==◌, ◌||◌, ◌&&◌, add-one, arith}
 use Rattle.std.specs.Prelude.{slice_get, nat_lt, nat_le, ◌%◌, if◌then◌else◌}
 use Rattle.std.specs.List.{Contains, range_with_len}
@@ -46,7 +46,7 @@ one_cut : (test : ℕ → Bool) (a : ℕ) (xs ys : List ℕ) (c : Bool) → test
 one_cut test a xs ys true has rest = ap₂ (λ b l. cond b (a ∷ l) l) has rest
 one_cut test a xs ys false has rest = rest
 
-abbrev up_to : ℕ → ℕ → Bool
+abbrev pub up_to : ℕ → ℕ → Bool
 up_to t v = nat_le v t
 
 is_up_to : (t v : ℕ) → v ≤ t → up_to t v ≡ true
@@ -60,7 +60,7 @@ none_behind p t zero a high = refl
 none_behind p t (suc n) a high = one_gone (up_to t) a (filter p (range_with_len (a + 1) n)) (p a) (is_behind t a high) (none_behind p t n (a + 1) (omega (arith, high)))
 
 -- those of a row up to one
-cut_row : (p : ℕ → Bool) (t k n a : ℕ) → k ≤ n → a + k ≡ t + 1 → filter (up_to t) (filter p (range_with_len a n)) ≡ filter p (range_with_len a k)
+pub cut_row : (p : ℕ → Bool) (t k n a : ℕ) → k ≤ n → a + k ≡ t + 1 → filter (up_to t) (filter p (range_with_len a n)) ≡ filter p (range_with_len a k)
 cut_row p t zero n a short is = none_behind p t n a (omega (arith, is))
 cut_row p t (suc k) zero a short is = absurd (omega (arith, short))
 cut_row p t (suc k) (suc n) a short is =
@@ -85,7 +85,7 @@ module _ (s : Setting) (fresh : Bool) where
   over from n = flat_map text (range_with_len from n)
 
   -- those of what is shown at an end
-  abbrev shown_at : ℕ → List ℕ
+  abbrev pub shown_at : ℕ → List ℕ
   shown_at end = shown_text s.job fresh (call_at s end).worlds
 
   -- a tick that is not published has no rows
@@ -136,7 +136,7 @@ module _ (s : Setting) (fresh : Bool) where
 
   -- ---- the text of all ends up to a tick
 
-  abbrev told : ℕ → List ℕ
+  abbrev pub told : ℕ → List ℕ
   told n = flat_map shown_at (filter (is_end s) (range_with_len s.job.first n))
 
   one_end : (t : ℕ) (c : Bool) → flat_map shown_at (cond c (t ∷ []) []) ≡ cond c (shown_at t) []
@@ -185,6 +185,19 @@ module _ (s : Setting) (fresh : Bool) where
       ∙ ap (λ l. l ++ here) (covers n t refl (omega (arith, on, within)))
       ∙ sym (text-next s.job fresh n)
       ∙ ap (text_of_ticks s.job fresh) (add-one n)
+
+  -- the rows of what is shown up to an end, and at it, are the text of all ticks up to it
+  pub text_at_end : (n t : ℕ) → s.job.first + n ≡ t → t ≤ s.job.last → is_end s t ≡ true → told n ++ shown_at t ≡ text_of_ticks s.job fresh (1 + (t - s.job.first))
+  text_at_end n t is within ends =
+      let from : shown_from s (t + 1) ≡ t + 1 = from_one s t (t + 1) refl (omega (arith, is)) ∙ ap (λ c. cond c (t + 1) (shown_from s t)) ends in
+      let none : t + 1 - shown_from s (t + 1) ≡ 0 = omega (arith, from) in
+      let whole : suc n ≡ 1 + (t - s.job.first) = omega (arith, is) in
+      ap (λ c. told n ++ cond c (shown_at t) []) (sym ends)
+      ∙ sym (told_one n t is)
+      ∙ sym (append-nil (told (suc n)))
+      ∙ ap (λ m. told (suc n) ++ over (shown_from s (t + 1)) m) (sym none)
+      ∙ covers (suc n) (t + 1) (omega (arith, is)) (omega (arith, within))
+      ∙ ap (text_of_ticks s.job fresh) whole
 
   -- ---- all calls
 

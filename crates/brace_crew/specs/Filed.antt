@@ -1,5 +1,5 @@
--- A publisher of rows and checkpoints: what it has written and saved, what one more call leaves, and
--- what a call leaves that fails.
+-- A publisher of rows and checkpoints: what it has written and saved, what one more call leaves,
+-- and what a call leaves that fails.
 use Rattle.std.specs.Prelude.{◌≡◌, ℕ, List, Option, Some, None, option_map, Bool, true, if◌then◌else◌}
 use Rattle.std.specs.Str.{bytes_eq}
 use Rattle.brace_io.specs.Shelves.{Files, Stage, Idle, OnlyAt, SavedFront, StoppedAt}

@@ -7,8 +7,8 @@ use std::alloc::Global;
 
 /// Writes the rows of published ticks to a sink, and has a keeper save checkpoints of the ends.
 ///
-/// It is made by its fields, as a caller learns what becomes of `out` and `keeper` behind a run only
-/// so, and where no enum in it holds a reference.
+/// It is made by its fields, as a caller learns what becomes of `out` and `keeper` behind a run
+/// only so, and where no enum in it holds a reference.
 #[derive(Drop)]
 pub struct FilePublisher<'a, K: Keeper, O: Sink> {
     /// Where rows go.

@@ -274,8 +274,8 @@ fn empty_run(alloc: Global) -> Result<Setting, Fail>
     })
 }
 
-/// Runs a setting on 1 to 4 workers, and gives its publisher back with how many seats there were and
-/// what it came to.
+/// Runs a setting on 1 to 4 workers, and gives its publisher back with how many seats there were
+/// and what it came to.
 fn run<R: Threads + Wait + Sync, P: Publisher + Send>(
     rt: &R,
     alloc: Global,

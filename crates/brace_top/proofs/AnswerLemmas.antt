@@ -1,12 +1,12 @@
 -- The answer of a command, from what its parts come to.
-use Rattle.std.proofs.Common.{◌≡◌, ◌∙◌, refl, sym, ap, subst, ℕ, List, [], true, false, Bool, Option, Some, None, option_map, unwrap_or, Result, Ok, Err, codes, option_and_then, inl, inr, if◌then◌else◌, nat_lt, length, ◌<◌, ◌≤◌, ◌^◌, arith}
+use Rattle.std.proofs.Common.{◌≡◌, ◌∙◌, refl, sym, ap, subst, ℕ, List, [], true, false, Bool, Option, Some, None, option_map, unwrap_or, Result, Ok, Err, codes, inl, inr, if◌then◌else◌, nat_lt, length, ◌<◌, ◌≤◌, ◌^◌, arith}
 use Rattle.std.specs.Prelude.{◌⊎◌, IfOk}
 use Rattle.std.proofs.lemmas.Bool.Decides.{nat_tests}
 use Rattle.std.proofs.lemmas.List.{take_all}
 use Rattle.brace_io.specs.declared.shelf.Shelf as shelf_trait
 use Rattle.brace_io.specs.declared.sink.Sink as sink_trait
 use Rattle.brace_io.specs.Counts.{Rose}
-use Rattle.brace_io.specs.Shelves.{Files, StoppedAt, Holds, Lacks, HoldsOver}
+use Rattle.brace_io.specs.Shelves.{Files, Holds}
 use Rattle.brace_io.specs.Sinks.{with_piece, Gains, GainsFront}
 use Rattle.brace_cuts.specs.declared.plan.CutPlan.{CutPlan}
 use Rattle.brace_cuts.specs.CutPlans.{IsPlan}
@@ -25,7 +25,6 @@ use Rattle.brace_save.specs.Texts.{Moment}
 use Rattle.brace_words.specs.declared.line.Line.{Line}
 use Rattle.brace_words.specs.declared.fault.LineFault.{LineFault}
 use Rattle.brace_words.specs.declared.fault.LineFault.TheVariants as line_fault
-use Rattle.brace_words.specs.Lines.{line_of}
 use Rattle.brace_top.specs.declared.answer.Answer.{Answer}
 use Rattle.brace_top.specs.declared.answer.Stopped.{Stopped}
 use Rattle.brace_top.specs.declared.answer.Stopped.TheVariants as stopped_is
@@ -40,14 +39,14 @@ use Rattle.brace_top.specs.declared.task.Task.{Task}
 use Rattle.brace_top.specs.declared.words.RunCommand.{RunCommand as CodeRun}
 use Rattle.brace_top.specs.declared.words.TrialCommand.{TrialCommand as CodeTrial}
 use Rattle.brace_top.specs.Answer.{ShelfCall, SinkCall, shelf_call, sink_call, Among, HasSaved, LeavesAll, LeavesFront, IsEnd, IsAnswer, CountsShelf, CountsReads, CountsWrites}
-use Rattle.brace_top.specs.Commands.{Command, RunCommand, TrialCommand, Run, Trial, is_anew, command_in, command_of, may_save, workers_of, workers_asked}
-use Rattle.brace_top.specs.Messages.{named_message, usage_message, write_fault_message, no_memory_message}
+use Rattle.brace_top.specs.Commands.{Command, RunCommand, TrialCommand, Run, Trial, is_anew, command_of, may_save, workers_of, workers_asked}
+use Rattle.brace_top.specs.Messages.{usage_message, write_fault_message, no_memory_message}
 use Rattle.brace_top.specs.Outcome.{Outcome, Refusal, TrialProgram, ProgramOf, refusal, refused, loaded, ComesTo, refused_at, stands_for, unless_faulty, world_from, agents_of, BeginsAt, plan_of, setting_of, ran, RunFrom, FollowedBy, RunOutcome, CommandOutcome, Reads, reads_plan, trial_end}
 use Rattle.brace_top.specs.Savings.{Saving, with_saved}
 use Rattle.brace_top.specs.Status.{has_run}
-use Rattle.brace_top.specs.inner.Settled.{is_work, is_plain_work, stopped_status, status_in, message_in, IsOf, IsRefusedAs, IsScriptRefused, IsRecordRefused, refuses_file, is_stop, GivesNothing, IsLoaded, IsUnloaded, IsStopped, IsCarriedOut, IsWritten, IsServed, outcome_of}
+use Rattle.brace_top.specs.inner.Settled.{is_work, is_plain_work, stopped_status, status_in, message_in, IsOf, IsRefusedAs, IsScriptRefused, IsRecordRefused, refuses_file, is_stop, GivesNothing, IsLoaded, IsUnloaded, IsStopped, IsCarriedOut, IsWritten, IsRunOf, IsServed, outcome_of}
 use Rattle.brace_top.specs.inner.Prepared.{IsStoppedBefore, IsReadyRun, IsReadyTrial, IsPrepared}
-use Rattle.brace_top.specs.inner.Words.{said_run, said_trial, IsReadAs, IsRunInRange}
+use Rattle.brace_top.specs.inner.Words.{said_run, said_trial, IsReadAs, IsUnasked, IsRunInRange}
 use Rattle.brace_top.proofs.StatusLemmas.{stop_runs, stop_usage, stop_writes, work_refusal, work_saves, work_usage, plain_works, plain_counts, stop_reads, plain_reads}
 
 -- ---- what is not loaded
@@ -138,40 +137,14 @@ file_loaded held files status limit name bytes told holds le =
     let over : nat_lt limit (length bytes) ≡ false = grind (arith, nat_tests, le) in
     ap (loaded status limit name) at_ ∙ ap (λ (b : Bool). if b then Err (refusal status name (codes ": TooLong")) else Ok bytes) over
 
--- a file that is not there
-pub file_absent : (held : Option Files) (files : Files) (status : Status) (limit : ℕ) (name : List ℕ) → held ≡ Some files → Lacks held name
-    → loaded status limit name (files name) ≡ Err (refusal Absent name (codes ": absent"))
-file_absent held files status limit name told lacks =
-    ap (loaded status limit name) (subst (λ (h : Option Files). Lacks h name) told lacks)
-
--- a file past its limit
-pub file_long : (held : Option Files) (files : Files) (status : Status) (limit : ℕ) (name : List ℕ) → held ≡ Some files → HoldsOver held name limit
-    → loaded status limit name (files name) ≡ Err (refusal status name (codes ": TooLong"))
-file_long held files status limit name told long =
-    let (file, (at_, lt)) = subst (λ (h : Option Files). HoldsOver h name limit) told long refl in
-    let over : nat_lt limit (length file) ≡ true = grind (arith, nat_tests, lt) in
-    ap (loaded status limit name) at_ ∙ ap (λ (b : Bool). if b then Err (refusal status name (codes ": TooLong")) else Ok file) over
-
 -- a refusal that is owed
 pub refusal_unloads : {A : Type 0} (comes_to : Files → Result A Refusal → Type 0) (name : List ℕ) (shelf : ShelfCall) (status : Status) (message : List ℕ) (stopped : Stopped)
     → refuses_file status ≡ true → shelf.faults_after ≡ shelf.faults_before → IsRefusedAs status message stopped
     → ((files : Files) → shelf.held ≡ Some files → comes_to files (Err (record { status = status; message = message }))) → IsUnloaded comes_to name shelf stopped
 refusal_unloads comes_to name shelf status message (stopped_is.Refused a) r same is found = answer_unloads comes_to name shelf status message a r same is.ends is.says found
+refusal_unloads comes_to name shelf status message stopped_is.Usage r same is found = absurd is
 refusal_unloads comes_to name shelf status message stopped_is.WriteFault r same is found = absurd is
 refusal_unloads comes_to name shelf status message stopped_is.NoMemory r same is found = memory_unloads comes_to name shelf
-
--- a read that failed
-pub fault_unloads : {A : Type 0} (comes_to : Files → Result A Refusal → Type 0) (name : List ℕ) (shelf : ShelfCall) (stopped : Stopped)
-    → IsRefusedAs ReadFault (named_message name (codes ": read fault")) stopped → Rose shelf.faults_before shelf.faults_after → shelf.held_after ≡ shelf.held
-    → StoppedAt shelf.held shelf.stage name → IsUnloaded comes_to name shelf stopped
-fault_unloads comes_to name shelf (stopped_is.Refused a) is rose same at_ = record {
-  nothing =
-      subst (λ (s : Status). GivesNothing (λ files x. comes_to files (Err x)) name shelf a.message.items s) (sym is.ends)
-      (record { failed = rose; same = same; stopped = at_; says = is.says });
-  counts = subst (CountsShelf shelf) (sym is.ends) rose;
-}
-fault_unloads comes_to name shelf stopped_is.WriteFault is rose same at_ = absurd is
-fault_unloads comes_to name shelf stopped_is.NoMemory is rose same at_ = memory_unloads comes_to name shelf
 
 -- a script that means something
 pub script_loaded : {A : Type 0} (means : List ℕ → A → Type 0) (refuses : List ℕ → ScriptFault → Type 0) (source : Files → Result (List ℕ) Refusal) (name src : List ℕ) (shelf : ShelfCall) (a : A)
@@ -280,21 +253,24 @@ trial_stopped_before of_shelf trial s e never is =
 
 -- a command that is stopped before its work is served
 pub stopped_serves : {S O : Type 0} (of_shelf : shelf_trait.Ghosts S) (of_sink : sink_trait.Ghosts O) (command : Command) (s t : S) (o : O) (e : Stopped)
-    → IsStoppedBefore of_shelf command s t e → IsServed of_shelf of_sink command s t o o (Err e)
+    → IsStoppedBefore of_shelf command s t e → IsServed of_shelf of_sink (Some command) s t o o (Err e)
 stopped_serves of_shelf of_sink command s t o e is = record {
   answered = λ files told. is.stopped files (sink_call of_sink o o) told is.unsaved refl;
+  usage = λ e. absurd (stop_usage _ is.stops e);
+  no_command = λ none. absurd cc;
   counts = is.counts;
   reads = λ never. stop_reads (shelf_call of_shelf s t) _ is.stops is.counts;
   writes = stop_writes (sink_call of_sink o o) _ is.stops;
   untouched = λ r. refl;
+  untouched_by_usage = λ e. refl;
   unsaved = λ r. is.unsaved;
   clean = stop_runs _ _ is.stops;
-  known = stop_usage _ is.stops;
 }
 
 -- no read fails where a script is refused
 pub script_unread : (name src : List ℕ) (fault : ScriptFault) (stopped : Stopped) → IsScriptRefused name src fault stopped → stopped_status stopped ≡ ReadFault → ⊥
 script_unread name src (script_fault.Refused kind at) (stopped_is.Refused a) is e = let f : Script ≡ ReadFault = sym is.ends ∙ e in absurd cc
+script_unread name src (script_fault.Refused kind at) stopped_is.Usage is e = absurd is
 script_unread name src (script_fault.Refused kind at) stopped_is.WriteFault is e = absurd is
 script_unread name src (script_fault.Refused kind at) stopped_is.NoMemory is e = absurd cc
 script_unread name src script_fault.NoMemory stopped is e = let f : NoMemory ≡ ReadFault = sym (ap stopped_status is) ∙ e in absurd cc
@@ -353,16 +329,18 @@ work_serves : {S O : Type 0} (of_shelf : shelf_trait.Ghosts S) (of_sink : sink_t
     → ((files : Files) → of_shelf.held s ≡ Some files → IsCarriedOut files these (shelf_call of_shelf s t) (sink_call of_sink o p) (message_in r) (status_in r))
     → is_work (status_in r) ≡ true → CountsShelf (shelf_call of_shelf s t) (status_in r) → CountsWrites (sink_call of_sink o p) (status_in r)
     → (may_save (Some command) ≡ false → CountsReads (shelf_call of_shelf s t) (status_in r))
-    → (has_run (status_in r) ≡ true → of_sink.clean p ≡ true) → IsServed of_shelf of_sink command s t o p r
+    → (has_run (status_in r) ≡ true → of_sink.clean p ≡ true) → IsServed of_shelf of_sink (Some command) s t o p r
 work_serves of_shelf of_sink command s t o p r these up is work counts writes reads clean = record {
   answered = λ files told. answers these files (Some command) (shelf_call of_shelf s t) (sink_call of_sink o p) _ _ (λ x of_these. up files x told of_these) (is files told);
+  usage = λ e. absurd (work_usage _ work e);
+  no_command = λ none. absurd cc;
   counts = counts;
   reads = reads;
   writes = writes;
   untouched = work_refusal _ _ work;
+  untouched_by_usage = λ e. absurd (work_usage _ work e);
   unsaved = work_saves _ _ work;
   clean = clean;
-  known = work_usage _ work;
 }
 
 -- a command whose work was carried out on the files of a shelf that was only read before is served
@@ -371,7 +349,7 @@ pub later_work_serves : {S O : Type 0} (of_shelf : shelf_trait.Ghosts S) (of_sin
     → ((files : Files) (x : Outcome) → of_shelf.held s ≡ Some files → these x → CommandOutcome files (Some command) x)
     → ((files : Files) → of_shelf.held m ≡ Some files → IsCarriedOut files these (shelf_call of_shelf m t) (sink_call of_sink o p) (message_in r) (status_in r))
     → is_work (status_in r) ≡ true → CountsShelf (shelf_call of_shelf m t) (status_in r) → CountsWrites (sink_call of_sink o p) (status_in r)
-    → (has_run (status_in r) ≡ true → of_sink.clean p ≡ true) → IsServed of_shelf of_sink command s t o p r
+    → (has_run (status_in r) ≡ true → of_sink.clean p ≡ true) → IsServed of_shelf of_sink (Some command) s t o p r
 later_work_serves of_shelf of_sink command s m t o p r these saves held faults up is work counts writes clean =
     let same : shelf_call of_shelf m t ≡ shelf_call of_shelf s t = ap (λ (h : Option Files). begun_with h (of_shelf.faults m)) held ∙ ap (begun_with (of_shelf.held s)) faults in
     work_serves of_shelf of_sink command s t o p r these up
@@ -393,14 +371,15 @@ pub plain_work_serves : {S O : Type 0} (of_shelf : shelf_trait.Ghosts S) (of_sin
     → ((files : Files) (x : Outcome) → of_shelf.held s ≡ Some files → these x → CommandOutcome files (Some command) x)
     → IsWritten these (sink_call of_sink o p) (message_in r) (status_in r)
     → is_plain_work (status_in r) ≡ true → CountsWrites (sink_call of_sink o p) (status_in r)
-    → (has_run (status_in r) ≡ true → of_sink.clean p ≡ true) → IsServed of_shelf of_sink command s t o p r
+    → (has_run (status_in r) ≡ true → of_sink.clean p ≡ true) → IsServed of_shelf of_sink (Some command) s t o p r
 plain_work_serves of_shelf of_sink command s t o p r these held faults up is work writes clean =
     work_serves of_shelf of_sink command s t o p r these up (λ files told. is files (shelf_call of_shelf s t) told held)
     (plain_works _ work) (plain_counts (shelf_call of_shelf s t) _ work faults) writes (λ never. plain_reads (shelf_call of_shelf s t) _ work faults) clean
 
 -- what was prepared is a run that can begin, or a trial
 pub prepared_run : {S O : Type 0} (of_shelf : shelf_trait.Ghosts S) (of_sink : sink_trait.Ghosts O) (command : Command) (s m : S) (o n : O) (w : Result Work Stopped) (task : Task)
-    → w ≡ Ok (work.Run task) → IsPrepared of_shelf of_sink command s m o n w → IsReadyRun of_shelf command s m task × (n ≡ o)
+    → w ≡ Ok (work.Run task) → IsPrepared of_shelf of_sink command s m o n w
+    → IsReadyRun of_shelf command s m task × (task.setting.job.first ≤ task.setting.job.last) × (n ≡ o)
 prepared_run of_shelf of_sink command s m o n w task is prepared = subst (IsPrepared of_shelf of_sink command s m o n) is prepared
 
 pub prepared_trial : {S O : Type 0} (of_shelf : shelf_trait.Ghosts S) (of_sink : sink_trait.Ghosts O) (command : Command) (s m : S) (o n : O) (w : Result Work Stopped) (trial : CodeTrial) (setting : Setting)
@@ -409,23 +388,30 @@ prepared_trial of_shelf of_sink command s m o n w trial setting is prepared = su
 
 -- a run that can begin, and whose work is carried out, serves its command
 pub run_serves : {S O : Type 0} (of_shelf : shelf_trait.Ghosts S) (of_sink : sink_trait.Ghosts O) (command : Command) (s m t : S) (o n p : O) (r : Result Answer Stopped) (task : Task)
-    → IsReadyRun of_shelf command s m task × (n ≡ o)
-    → ((files : Files) → of_shelf.held m ≡ Some files → IsCarriedOut files (λ x. x ≡ outcome_of task) (shelf_call of_shelf m t) (sink_call of_sink n p) (message_in r) (status_in r))
-    → is_work (status_in r) ≡ true → CountsShelf (shelf_call of_shelf m t) (status_in r) → CountsWrites (sink_call of_sink n p) (status_in r)
-    → (has_run (status_in r) ≡ true → of_sink.clean p ≡ true) → IsServed of_shelf of_sink command s t o p r
-run_serves {O = O} of_shelf of_sink command s m t o n p r task (ready, same) is work counts writes clean =
-    subst (λ (x : O). IsServed of_shelf of_sink command s t x p r) same
+    → IsReadyRun of_shelf command s m task × (task.setting.job.first ≤ task.setting.job.last) × (n ≡ o)
+    → IsRunOf of_sink task (shelf_call of_shelf m t) n p r → IsServed of_shelf of_sink (Some command) s t o p r
+run_serves {O = O} of_shelf of_sink command s m t o n p r task (ready, begins, same) run =
+    subst (λ (x : O). IsServed of_shelf of_sink (Some command) s t x p r) same
     (later_work_serves of_shelf of_sink command s m t n p r (λ x. x ≡ outcome_of task) ready.saves ready.unsaved ready.counts
-    (λ files x told e. subst (CommandOutcome files (Some command)) (sym e) (ready.outcome files told)) is work counts writes clean)
+    (λ files x told e. subst (CommandOutcome files (Some command)) (sym e) (ready.outcome files told)) run.carried_out run.work run.counts run.writes run.clean)
+
+-- a run that begins behind its last tick, and that was answered, serves its command
+pub none_serves : {S O : Type 0} (of_shelf : shelf_trait.Ghosts S) (of_sink : sink_trait.Ghosts O) (command : Command) (s m : S) (o p : O) (r : Result Answer Stopped) (task : Task)
+    → IsReadyRun of_shelf command s m task → IsWritten (λ x. x ≡ outcome_of task) (sink_call of_sink o p) (message_in r) (status_in r)
+    → is_plain_work (status_in r) ≡ true → CountsWrites (sink_call of_sink o p) (status_in r)
+    → (has_run (status_in r) ≡ true → of_sink.clean p ≡ true) → IsServed of_shelf of_sink (Some command) s m o p r
+none_serves of_shelf of_sink command s m o p r task ready is work writes clean =
+    plain_work_serves of_shelf of_sink command s m o p r (λ x. x ≡ outcome_of task) ready.unsaved ready.counts
+    (λ files x told e. subst (CommandOutcome files (Some command)) (sym e) (ready.outcome files told)) is work writes clean
 
 -- a trial that can begin, and whose work is carried out, serves its command
 pub trial_serves : {S O : Type 0} (of_shelf : shelf_trait.Ghosts S) (of_sink : sink_trait.Ghosts O) (command : Command) (s m : S) (o n p : O) (r : Result Answer Stopped) (trial : TrialCommand) (setting : Setting)
     → IsReadyTrial command trial setting × (m ≡ s) × (n ≡ o)
     → IsWritten (λ x. x ≡ trial_end trial setting (end_of setting.job)) (sink_call of_sink n p) (message_in r) (status_in r)
     → is_plain_work (status_in r) ≡ true → CountsWrites (sink_call of_sink n p) (status_in r)
-    → (has_run (status_in r) ≡ true → of_sink.clean p ≡ true) → IsServed of_shelf of_sink command s m o p r
+    → (has_run (status_in r) ≡ true → of_sink.clean p ≡ true) → IsServed of_shelf of_sink (Some command) s m o p r
 trial_serves {O = O} of_shelf of_sink command s m o n p r trial setting (ready, same_shelf, same) is work writes clean =
-    subst (λ (x : O). IsServed of_shelf of_sink command s m x p r) same
+    subst (λ (x : O). IsServed of_shelf of_sink (Some command) s m x p r) same
     (plain_work_serves of_shelf of_sink command s m n p r (λ x. x ≡ trial_end trial setting (end_of setting.job)) (ap of_shelf.held same_shelf) (ap of_shelf.faults same_shelf)
     (λ files x told e. subst (CommandOutcome files (Some command)) (sym e) (ready.outcome files)) is work writes clean)
 
@@ -540,19 +526,6 @@ world_read program files name bytes world e none is = ap (world_from program nam
 
 -- ---- the words
 
--- the command of words that are a line
-pub command_of_line : (words : List (List ℕ)) (line : Line) (found : Option Command) → line_of words ≡ Some line → command_in line ≡ found → command_of words ≡ found
-command_of_line words line found e f = ap (option_and_then command_in) e ∙ f
-
--- words that were read as a line, and as none
-pub line_read : (words : List (List ℕ)) (line : Result Line LineFault) (l : Line) → IsReadAs words line → line ≡ Ok l → line_of words ≡ Some l
-line_read words (Ok m) l is e = let same : m ≡ l = cc in is.line_is ∙ ap Some same
-line_read words (Err fault) l is e = absurd cc
-
-pub none_read : (words : List (List ℕ)) (line : Result Line LineFault) → IsReadAs words line → line ≡ Err line_fault.Usage → line_of words ≡ None
-none_read words (Ok m) is e = absurd cc
-none_read words (Err f) is e = let same : f ≡ line_fault.Usage = cc in is.none_is same
-
 -- words that ask for more workers than a line was found to ask for were not read for want of memory
 pub several_unread : (words : List (List ℕ)) (line : Result Line LineFault) (n : ℕ) → IsReadAs words line → IfOk line (λ l. n ≡ workers_of (Some l)) → n ≤ 1
     → 1 < workers_asked words → line ≡ Err line_fault.NoMemory
@@ -564,23 +537,49 @@ several_unread words (Err line_fault.Usage) n is asks one more =
     let alone : workers_asked words ≡ 1 = ap workers_of (is.none_is refl) in
     absurd (omega (arith, alone, more))
 
--- words that are no line
-pub command_of_none : (words : List (List ℕ)) → line_of words ≡ None → command_of words ≡ None
-command_of_none words e = ap (option_and_then command_in) e
-
 -- memory was refused before anything was written
-pub memory_answer : (files : Files) (found : Option Command) (shelf : ShelfCall) (out : SinkCall) → shelf.held_after ≡ shelf.held → out.after ≡ out.before
+memory_answer : (files : Files) (found : Option Command) (shelf : ShelfCall) (out : SinkCall) → shelf.held_after ≡ shelf.held → out.after ≡ out.before
     → IsAnswer files found shelf out no_memory_message NoMemory
 memory_answer files found shelf out held same = record { leaves = inl (record { unwritten = same; unsaved = held }); says = refl }
 
--- what answers a command answers words that ask for it
-pub asked_answer : (files : Files) (found : Option Command) (command : Command) (shelf : ShelfCall) (out : SinkCall) (message : List ℕ) (status : Status)
-    → found ≡ Some command → IsAnswer files (Some command) shelf out message status → IsAnswer files found shelf out message status
-asked_answer files found command shelf out message status e is = subst (λ (c : Option Command). IsAnswer files c shelf out message status) (sym e) is
-
 -- words that are no command
-pub usage_answer : (found : Option Command) (files : Files) (shelf : ShelfCall) (out : SinkCall) → found ≡ None → shelf.held ≡ Some files
+usage_answer : (found : Option Command) (files : Files) (shelf : ShelfCall) (out : SinkCall) → found ≡ None → shelf.held ≡ Some files
     → shelf.held_after ≡ shelf.held → out.after ≡ out.before → IsAnswer files found shelf out usage_message Usage
 usage_answer found files shelf out e told held same =
     subst (λ (c : Option Command). Among (CommandOutcome files c) (IsEnd files Usage shelf out usage_message)) (sym e)
     (record { one = _; is = refl; holds = record { ends = refl; gained = same; holds = held ∙ told; says = refl } })
+
+-- what serves a command serves words that ask for it
+pub asked_serves : {S O : Type 0} (of_shelf : shelf_trait.Ghosts S) (of_sink : sink_trait.Ghosts O) (found : Option Command) (command : Command) (s t : S) (o p : O) (r : Result Answer Stopped)
+    → found ≡ Some command → IsServed of_shelf of_sink (Some command) s t o p r → IsServed of_shelf of_sink found s t o p r
+asked_serves of_shelf of_sink found command s t o p r e is = subst (λ (c : Option Command). IsServed of_shelf of_sink c s t o p r) (sym e) is
+
+-- words of which no command was read are served where nothing was touched
+pub unasked_serves : {S O : Type 0} (of_shelf : shelf_trait.Ghosts S) (of_sink : sink_trait.Ghosts O) (words : List (List ℕ)) (s : S) (o : O) (e : Stopped)
+    → IsUnasked words e → IsServed of_shelf of_sink (command_of words) s s o o (Err e)
+unasked_serves of_shelf of_sink words s o stopped_is.Usage none = record {
+  answered = λ files told. usage_answer (command_of words) files (shelf_call of_shelf s s) (sink_call of_sink o o) none told refl refl;
+  usage = λ e. none;
+  no_command = λ e. inl refl;
+  counts = refl;
+  reads = λ never. refl;
+  writes = λ e. absurd cc;
+  untouched = λ r. refl;
+  untouched_by_usage = λ e. refl;
+  unsaved = λ r. refl;
+  clean = λ ran. absurd cc;
+}
+unasked_serves of_shelf of_sink words s o stopped_is.NoMemory none = record {
+  answered = λ files told. memory_answer files (command_of words) (shelf_call of_shelf s s) (sink_call of_sink o o) refl refl;
+  usage = λ e. absurd cc;
+  no_command = λ e. inr refl;
+  counts = tt;
+  reads = λ never. tt;
+  writes = λ e. absurd cc;
+  untouched = λ r. refl;
+  untouched_by_usage = λ e. refl;
+  unsaved = λ r. refl;
+  clean = λ ran. absurd cc;
+}
+unasked_serves of_shelf of_sink words s o (stopped_is.Refused a) none = absurd none
+unasked_serves of_shelf of_sink words s o stopped_is.WriteFault none = absurd none

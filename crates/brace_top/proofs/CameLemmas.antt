@@ -4,7 +4,7 @@ use Rattle.std.specs.Prelude.{option_map}
 use Rattle.std.proofs.Math.Seq.{take-append_seam}
 use Rattle.std.proofs.lemmas.Grind.{flat_map-append}
 use Rattle.std.proofs.lemmas.List.{append-nil, length-append}
-use Rattle.std.proofs.lemmas.List.Elements.{All-nil, All-weaker}
+use Rattle.std.proofs.lemmas.List.Elements.{All-weaker}
 use Rattle.std.proofs.lemmas.List.Sums.{fold-append}
 use Rattle.brace_io.specs.declared.sink.Sink as sink_trait
 use Rattle.brace_io.specs.Counts.{Rose}
@@ -34,12 +34,12 @@ use Rattle.brace_top.specs.declared.answer.Stopped.TheVariants as stopped
 use Rattle.brace_top.specs.declared.status.Status.{Status}
 use Rattle.brace_top.specs.declared.status.Status.TheVariants.{Done, Fault, SaveFault, NoMemory}
 use Rattle.brace_top.specs.declared.task.Task.{Task}
-use Rattle.brace_top.specs.Answer.{ShelfCall, SinkCall, sink_call, IsUnwritten, IsBehind, HasSaved, IsHalfSaved, LeavesFront, CountsShelf, CountsWrites}
-use Rattle.brace_top.specs.Messages.{stats_message, fault_message, write_fault_message, save_fault_message, no_memory_message}
+use Rattle.brace_top.specs.Answer.{ShelfCall, SinkCall, sink_call, IsBehind, HasSaved, IsHalfSaved, LeavesFront, CountsShelf, CountsWrites}
+use Rattle.brace_top.specs.Messages.{stats_message, fault_message, save_fault_message, no_memory_message}
 use Rattle.brace_top.specs.Outcome.{Outcome, stats_of, end_status, end_message, ran}
 use Rattle.brace_top.specs.Savings.{Saving, with_saved}
 use Rattle.brace_top.specs.Status.{has_run}
-use Rattle.brace_top.specs.inner.Settled.{stopped_status, stopped_message, status_in, message_in, IsRefusedAs, IsToldAs, told_counts, keeper_call, outcome_of, IsErrOf, IsSettled, IsCarriedOut}
+use Rattle.brace_top.specs.inner.Settled.{stopped_status, stopped_message, status_in, message_in, IsRefusedAs, IsToldAs, told_counts, keeper_call, outcome_of, IsErrOf, IsSettled, IsCarriedOut, IsRunOf, is_work}
 use Rattle.brace_top.proofs.SavedLemmas.{text_of, file_of, saving_in, saved_by, saved_by-append, StandsIn, stand_in, calls_save}
 
 -- ---- what a publisher is behind some calls
@@ -112,25 +112,6 @@ pub runs : (o : Option RunFault) → has_run (end_status o) ≡ true
 runs None = refl
 runs (Some f) = refl
 
-take_none : {A : Type 0} (xs : List A) → take 0 xs ≡ []
-take_none [] = refl
-take_none (x ∷ xs) = refl
-
--- a run that could not begin, as its sink failed, wrote nothing and saved nothing
-pub unflushed : (files : Files) (shelf : ShelfCall) (out : SinkCall) (o : Outcome) → has_run o.status ≡ true → Rose out.faults_before out.faults_after → out.after ≡ out.before
-    → shelf.held_after ≡ Some files → IsUnwritten files shelf out write_fault_message o
-unflushed files shelf out o began rose same held = record {
-  runs = began;
-  failed = rose;
-  front = front_of out.before out.after [] o.out o.out refl (same ∙ piece_none out.before);
-  saved = record {
-    count = 0;
-    holds = held ∙ ap (λ (l : List Saving). Some (with_saved files l)) (sym (take_none o.saved));
-    behind = subst (All (IsBehind out)) (sym (take_none o.saved)) (All-nil (IsBehind out));
-  };
-  says = refl;
-}
-
 -- a file that is saved has its name
 has_name : (s : Setting) (name : List ℕ) (tick : ℕ) (file : Named) (world : Option World) → option_map (checkpoint_file name s tick) world ≡ Some file → file.0 ≡ file_name name tick
 has_name s name tick file None is = absurd (cc)
@@ -154,11 +135,25 @@ told_gives P status message (Err stop) h told none = subst (λ (x : Stopped). P 
 refused_gives : (P : List ℕ → Status → Type 0) (status : Status) (message : List ℕ) (r : Result Answer Stopped) → IsErrOf (IsRefusedAs status message) r → P message status → P no_memory_message NoMemory → P (message_in r) (status_in r)
 refused_gives P status message (Ok a) h told none = absurd h
 refused_gives P status message (Err (stopped.Refused a)) h told none = subst (λ (m : List ℕ). P m a.status) (sym h.says) (subst (P message) (sym h.ends) told)
+refused_gives P status message (Err stopped.Usage) h told none = absurd h
 refused_gives P status message (Err stopped.WriteFault) h told none = absurd h
 refused_gives P status message (Err stopped.NoMemory) h told none = none
 
 stopped_gives : (P : List ℕ → Status → Type 0) (stop : Stopped) (r : Result Answer Stopped) → r ≡ Err stop → P (stopped_message stop) (stopped_status stop) → P (message_in r) (status_in r)
 stopped_gives P stop r is given = subst (λ (x : Result Answer Stopped). P (message_in x) (status_in x)) (sym is) given
+
+abbrev Works : List ℕ → Status → Type 0
+Works message status = is_work status ≡ true
+
+-- a run that is answered by what its crew came to did its work
+settled_work : (stats : Bool) (save : Option (List ℕ)) (came : Result Counts CrewFault) (r : Result Answer Stopped) → IsSettled stats save came r → is_work (status_in r) ≡ true
+settled_work stats save (Ok c) r settled = told_gives Works Done (told_counts stats c) r settled refl refl
+settled_work stats save (Err (crew.Fault f)) r settled = told_gives Works Fault (fault_message f) r settled refl refl
+settled_work stats save (Err (crew.Publish refusal.Write)) r settled = stopped_gives Works stopped.WriteFault r settled refl
+settled_work stats (Some name) (Err (crew.Publish (refusal.Save k))) r settled = refused_gives Works SaveFault (save_fault_message (file_name name k)) r settled refl refl
+settled_work stats None (Err (crew.Publish (refusal.Save k))) r settled = stopped_gives Works stopped.NoMemory r settled refl
+settled_work stats save (Err (crew.Publish refusal.NoMemory)) r settled = stopped_gives Works stopped.NoMemory r settled refl
+settled_work stats save (Err crew.NoMemory) r settled = stopped_gives Works stopped.NoMemory r settled refl
 
 -- ---- what stands on the sink and on the shelf
 
@@ -514,23 +509,23 @@ module _ {K O : Type 0} (of_keeper : keeper_trait.Ghosts K) (of_sink : sink_trai
     its_name : (file_state p).save ≡ option_map (λ name. name.now) task.save
     its_name = ap (option_map (λ name. name.now)) h.save
 
-    pub task_counted : CountsShelf (keeper_call of_keeper shelf shelf_after) (status_in r)
+    task_counted : CountsShelf (keeper_call of_keeper shelf shelf_after) (status_in r)
     task_counted =
         counted file_state (λ p. of_sink.faults p.out.now) (λ p. of_keeper.faults p.keeper.now) (λ p. p.out.ghost_name ∷ p.keeper.ghost_name ∷ of_keeper.loans p.keeper.now) task.setting task.stats
         (keeper_call of_keeper shelf shelf_after) (sink_call of_sink out out_after) p q its_counts (option_map (λ name. name.now) task.save) came r h.run.came h.run.rises h.settled
 
-    pub task_writes : CountsWrites (sink_call of_sink out out_after) (status_in r)
+    task_writes : CountsWrites (sink_call of_sink out out_after) (status_in r)
     task_writes =
         write_counted file_state (λ p. of_sink.faults p.out.now) (λ p. of_keeper.faults p.keeper.now) (λ p. p.out.ghost_name ∷ p.keeper.ghost_name ∷ of_keeper.loans p.keeper.now) task.setting task.stats
         (keeper_call of_keeper shelf shelf_after) (sink_call of_sink out out_after) p q its_counts (option_map (λ name. name.now) task.save) came r h.run.came h.settled
 
-    pub task_clean : of_sink.clean p.out.now ≡ true → has_run (status_in r) ≡ true → of_sink.clean out_after ≡ true
+    task_clean : of_sink.clean p.out.now ≡ true → has_run (status_in r) ≡ true → of_sink.clean out_after ≡ true
     task_clean clean ran =
         sym (ap of_sink.clean h.out_left)
         ∙ cleaned file_state (λ p. of_sink.faults p.out.now) (λ p. of_keeper.faults p.keeper.now) (λ p. p.out.ghost_name ∷ p.keeper.ghost_name ∷ of_keeper.loans p.keeper.now) task.setting task.stats
         (keeper_call of_keeper shelf shelf_after) (sink_call of_sink out out_after) p q its_counts (option_map (λ name. name.now) task.save) came r clean h.run.came h.settled ran
 
-    pub task_carried : LawfulSetting task.setting → task.setting.job.first ≤ task.setting.job.last → (files : Files) → of_keeper.held shelf ≡ Some files
+    task_carried : LawfulSetting task.setting → task.setting.job.first ≤ task.setting.job.last → (files : Files) → of_keeper.held shelf ≡ Some files
         → IsCarriedOut files (λ o. o ≡ outcome_of task) (keeper_call of_keeper shelf shelf_after) (sink_call of_sink out out_after) (message_in r) (status_in r)
     task_carried lawful up files told =
         let sc : ShelfCall = keeper_call of_keeper shelf shelf_after in
@@ -547,3 +542,14 @@ module _ {K O : Type 0} (of_keeper : keeper_trait.Ghosts K) (of_sink : sink_trai
         (carried file_state (λ p. of_sink.faults p.out.now) (λ p. of_keeper.faults p.keeper.now) (λ p. p.out.ghost_name ∷ p.keeper.ghost_name ∷ of_keeper.loans p.keeper.now) task.setting task.stats
         sc oc p q its_counts lawful up files held stands came r h.run.came
         (subst (λ (v : Option (List ℕ)). IsSettled task.stats v came r) (sym its_name) h.settled)))
+
+    -- so it was carried out for its outcome
+    pub task_run : LawfulSetting task.setting → task.setting.job.first ≤ task.setting.job.last → of_sink.clean p.out.now ≡ true
+        → IsRunOf of_sink task (keeper_call of_keeper shelf shelf_after) out out_after r
+    task_run lawful up clean = record {
+      carried_out = task_carried lawful up;
+      work = settled_work task.stats (option_map (λ name. name.now) task.save) came r h.settled;
+      counts = task_counted;
+      writes = task_writes;
+      clean = task_clean clean;
+    }

@@ -10,7 +10,6 @@ pub mod LoadLemmas
 pub mod PointLemmas
 pub mod TrialLemmas
 pub mod FourFixed
-pub mod ShownLemmas
 pub mod SavedLemmas
 pub mod CameLemmas
 pub mod NoneLemmas

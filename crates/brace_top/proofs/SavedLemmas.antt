@@ -21,9 +21,8 @@ use Rattle.brace_pieces.proofs.Origins.{kept_of}
 use Rattle.brace_crew.specs.Calls.{Call, worlds_at, call_at, ticks_left, call_of, calls_to, calls}
 use Rattle.brace_crew.specs.Shows.{Named, shown_text, saved_world, saved_file, checkpoint_file}
 use Rattle.brace_crew.proofs.FirstFault.{row_place}
-use Rattle.brace_crew.proofs.TextLemmas.{all_saved}
+use Rattle.brace_crew.proofs.TextLemmas.{up_to, cut_row, shown_at, told, text_at_end, all_saved}
 use Rattle.brace_top.specs.Savings.{Saving, saving_of, savings}
-use Rattle.brace_top.proofs.ShownLemmas.{up_to, cut_row, shown_at, told, text_at_end}
 
 -- ---- what calls save
 

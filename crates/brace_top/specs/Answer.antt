@@ -61,8 +61,8 @@ CountsShelf shelf WriteFault = shelf.faults_before ≤ shelf.faults_after
 CountsShelf shelf NoMemory = ⊤
 CountsShelf shelf status = shelf.faults_after ≡ shelf.faults_before
 
--- of a command that saves nothing, the count rose where a read fault is answered, and is the same at
--- every other status, but for want of memory
+-- of a command that saves nothing, the count rose where a read fault is answered, and is the same
+-- at every other status, but for want of memory
 abbrev pub CountsReads : ShelfCall → Status → Type 0
 CountsReads shelf ReadFault = Rose shelf.faults_before shelf.faults_after
 CountsReads shelf NoMemory = ⊤

@@ -13,8 +13,8 @@ pub record Manner : Type 0 where
   pub invert : Bool
   pub stats : Bool
 
--- where a run begins: anew at tick 0, with the agents of a file and the seed of its draws, or at the
--- tick, with the world and with the seed that the checkpoint of a name tells
+-- where a run begins: anew at tick 0, with the agents of a file and the seed of its draws, or at
+-- the tick, with the world and with the seed that the checkpoint of a name tells
 pub data Start : Type 0 where
   Anew : List ℕ → ℕ → Start
   Resumed : List ℕ → Start
@@ -30,8 +30,8 @@ is_anew (Anew agents seed) = true
 is_anew (Resumed from) = false
 
 -- a run of a script up to a last tick, over the plane as a cut plan cuts it, or in one part; ticks
--- that `every` divides are published, and the last one; the world of each end of an epoch k is saved
--- as `NAME.k`, where a name is given
+-- that `every` divides are published, and the last one; the world of each end of an epoch k is
+-- saved as `NAME.k`, where a name is given
 pub record RunCommand : Type 0 where
   pub script : List ℕ
   pub start : Start

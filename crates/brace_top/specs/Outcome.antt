@@ -129,11 +129,11 @@ unless_other name (Err fault) =
     Err (record { status = Checkpoint; message = point_message name fault })
 
 -- what the bytes of the checkpoint of a name come to
-pub record IsPoint (program : Program) (name bytes : List ℕ) (found : Result Moment Refusal) : Type 0
-  where
-    pub judged : Result Moment PointFault
-    pub reads : IsRead program (whole_lines bytes) (unfinished bytes) judged
-    pub is : found ≡ unless_other name judged
+pub record IsPoint (program : Program) (name bytes : List ℕ) (found : Result Moment Refusal)
+    : Type 0 where
+  pub judged : Result Moment PointFault
+  pub reads : IsRead program (whole_lines bytes) (unfinished bytes) judged
+  pub is : found ≡ unless_other name judged
 
 -- what the bytes of a checkpoint come to, where they were loaded
 abbrev pub PointFrom : Program → List ℕ → Result (List ℕ) Refusal → Result Moment Refusal → Type 0

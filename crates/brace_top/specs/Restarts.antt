@@ -15,9 +15,9 @@ use Rattle.brace_top.specs.Outcome.{ProgramOf, loaded, plan_of}
 abbrev pub from_tick : Job → ℕ → World → Job
 from_tick job tick world = record job { first = tick; start = world }
 
--- over these files a run is resumed from the world that the run of a job has at a tick: a checkpoint
--- of it is held, the script means the job's program, and the last tick and the published ticks are
--- the job's; how the plane is cut, and how the run is worked, is its own
+-- over these files a run is resumed from the world that the run of a job has at a tick: a
+-- checkpoint of it is held, the script means the job's program, and the last tick and the published
+-- ticks are the job's; how the plane is cut, and how the run is worked, is its own
 pub record GoesOn (files : Files) (job : Job) (tick : ℕ) (world : World) (run : RunCommand) : Type 0
   where
     pub name : List ℕ

@@ -19,6 +19,8 @@ pub struct Answer {
 /// Why a command goes no further.
 #[derive(Debug, Drop)]
 pub enum Stopped {
+    /// The words ask for no command.
+    Usage,
     /// A file is refused, or was not saved.
     Refused(Answer),
     /// A write to standard output failed.
@@ -75,6 +77,10 @@ pub fn say<E: Sink>(err: &mut E, answer: Result<Answer, Stopped>) -> Status
             tell(err, answer.message.as_slice());
             answer.status
         }
+        Err(Stopped::Usage) => {
+            tell(err, b"brace: usage\n");
+            Status::Usage
+        }
         Err(Stopped::Refused(answer)) => {
             tell(err, answer.message.as_slice());
             answer.status
@@ -91,7 +97,7 @@ pub fn say<E: Sink>(err: &mut E, answer: Result<Answer, Stopped>) -> Status
 }
 
 /// Writes a message; where the sink fails a front of it stands there.
-pub fn tell<E: Sink>(err: &mut E, message: &[u8])
+fn tell<E: Sink>(err: &mut E, message: &[u8])
     ensures { IsSaid (sink_call E.Sink err.old err.new) message.now }
 {
     match write_whole(err, message) {

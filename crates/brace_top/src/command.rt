@@ -1,111 +1,80 @@
-ghost use Rattle.std.specs.Prelude.{◌≡◌, ◌⊎◌, ◌<◌, ◌≤◌, map, string_bytes, IfSome, None, Err, true, false};
+ghost use Rattle.std.specs.Prelude.{◌≡◌, ◌⊎◌, ◌<◌, ◌≤◌, map, string_bytes, IfSome, IfOk, IfErr, Some, None, Err, true, false};
 ghost use Rattle.brace_words.specs.declared.fault.LineFault.TheVariants as fault;
 ghost use Rattle.brace_io.specs.Shelves.{Idle, writes};
-ghost use Rattle.brace_top.specs.Answer.{IsAnswered, IsSaid, call_of, CountsShelf, CountsReads, CountsWrites, shelf_call, sink_call};
+ghost use Rattle.brace_top.specs.declared.answer.Stopped.TheVariants as stopped;
+ghost use Rattle.brace_top.specs.Answer.{IsAnswered, call_of, CountsShelf, CountsReads, CountsWrites, shelf_call, sink_call};
 ghost use Rattle.brace_top.specs.Commands.{command_of, may_save, workers_asked};
-ghost use Rattle.brace_top.specs.Messages.{usage_message};
 ghost use Rattle.brace_top.specs.Status.{has_run, is_refusal, saves_nothing, status_of, code_of};
-ghost use Rattle.brace_top.specs.inner.Words.{IsReadAs};
+ghost use Rattle.brace_top.specs.inner.Settled.{IsServed};
+ghost use Rattle.brace_top.specs.inner.Words.{said, IsInRange, IsReadAs, IsUnasked};
 
-use crate::answer::{Stopped, say, tell};
-use crate::flow::{answer_command, answer_on};
-use crate::status::Status;
+use crate::answer::{Answer, Stopped, say};
+use crate::flow::{answer_command, answer_command_on};
 use crate::team::Team;
-use crate::words::{command_in, workers_of};
+use crate::words::{Command, command_in, workers_of};
 use brace_io::{Gate, Shelf, Sink};
 use brace_words::{Line, LineFault, read_line};
 use std::alloc::Global;
 use std::sync::Wait;
 use std::thread::Threads;
 
-/// Says that the words are no command.
-fn say_usage<E: Sink>(err: &mut E) -> Status
-    ensures status { result ≡ Status.Usage }
-    ensures said { IsSaid (sink_call E.Sink err.old err.new) usage_message }
-{
-    tell(err, b"brace: usage\n");
-    Status::Usage
-}
-
-/// Carries words out on one worker, as they were read, and says the message.
-fn carry_out<S: Shelf, O: Sink, E: Sink>(
-    err: &mut E,
-    alloc: Global,
+/// The command that words ask for, as they were read.
+fn asked_command<'a>(
     words: &[String],
-    line: Result<Line, LineFault>,
-    shelf: &mut S,
-    out: &mut O,
-) -> Status
-    requires stage { S.stage shelf.old ≡ Idle }
-    requires line { IsReadAs (map string_bytes words.now) line }
-    ensures answered { IsAnswered (call_of (map string_bytes words.now) result
-        (shelf_call S.Shelf shelf.old shelf.new) (sink_call O.Sink out.old out.new)
-        (sink_call E.Sink err.old err.new)) }
-    ensures usage { result ≡ Status.Usage → command_of (map string_bytes words.now) ≡ None }
-    ensures no_command { command_of (map string_bytes words.now) ≡ None
-        → (result ≡ Status.Usage) ⊎ (result ≡ Status.NoMemory) }
-    ensures no_memory { line ≡ Err fault.NoMemory → result ≡ Status.NoMemory }
-    ensures counts { CountsShelf (shelf_call S.Shelf shelf.old shelf.new) result }
-    ensures reads { may_save (command_of (map string_bytes words.now)) ≡ false
-        → CountsReads (shelf_call S.Shelf shelf.old shelf.new) result }
-    ensures writes { CountsWrites (sink_call O.Sink out.old out.new) result }
-    ensures untouched { is_refusal result ≡ true → out.new ≡ out.old }
-    ensures untouched_by_usage { result ≡ Status.Usage → out.new ≡ out.old }
-    ensures clean { has_run result ≡ true → O.clean out.new ≡ true }
-    ensures unsaved { saves_nothing result ≡ true → S.held shelf.new ≡ S.held shelf.old }
-    ensures not_writing { writes (S.stage shelf.new) ≡ false }
+    line: &'a Result<Line, LineFault>,
+) -> Result<Command<'a>, Stopped>
+    requires { IsReadAs (map string_bytes words.now) line.now }
+    ensures command { IfOk result
+        (λ command. command_of (map string_bytes words.now) ≡ Some (said command)) }
+    ensures range { IfOk result IsInRange }
+    ensures none { IfErr result (IsUnasked (map string_bytes words.now)) }
+    ensures no_memory { line.now ≡ Err fault.NoMemory → result ≡ Err stopped.NoMemory }
 {
-    let line = match line {
-        Ok(line) => line,
-        Err(LineFault::Usage) => return say_usage(err),
-        Err(LineFault::NoMemory) => return say(err, Err(Stopped::NoMemory)),
-    };
-    match command_in(&line) {
-        None => say_usage(err),
-        Some(command) => say(err, answer_command(alloc, &command, shelf, out)),
+    match line {
+        Ok(line) => command_in(line).ok_or(Stopped::Usage),
+        Err(LineFault::Usage) => Err(Stopped::Usage),
+        Err(LineFault::NoMemory) => Err(Stopped::NoMemory),
     }
 }
 
-/// Carries words out on a team, as [`carry_out`] does on one worker.
-fn carry_out_on<R: Threads + Wait + Sync, G: Gate + Sync, S: Shelf + Send, O: Sink + Send, E: Sink>(
-    team: &Team<R, G>,
-    err: &mut E,
+/// Answers words on one worker, as they were read.
+fn answer_words<S: Shelf, O: Sink>(
     alloc: Global,
     words: &[String],
-    line: Result<Line, LineFault>,
+    line: &Result<Line, LineFault>,
     shelf: &mut S,
     out: &mut O,
-) -> Status
+) -> Result<Answer, Stopped>
+    requires stage { S.stage shelf.old ≡ Idle }
+    requires line { IsReadAs (map string_bytes words.now) line.now }
+    ensures served { IsServed S.Shelf O.Sink (command_of (map string_bytes words.now))
+        shelf.old shelf.new out.old out.new result }
+    ensures no_memory { line.now ≡ Err fault.NoMemory → result ≡ Err stopped.NoMemory }
+    ensures not_writing { writes (S.stage shelf.new) ≡ false }
+{
+    let command = asked_command(words, line)?;
+    answer_command(alloc, &command, shelf, out)
+}
+
+/// Answers words on a team, as [`answer_words`] does on one worker.
+fn answer_words_on<R: Threads + Wait + Sync, G: Gate + Sync, S: Shelf + Send, O: Sink + Send>(
+    team: &Team<R, G>,
+    alloc: Global,
+    words: &[String],
+    line: &Result<Line, LineFault>,
+    shelf: &mut S,
+    out: &mut O,
+) -> Result<Answer, Stopped>
     requires some { 1 ≤ team.now.workers }
     requires few { team.now.workers ≤ 16 }
     requires stage { S.stage shelf.old ≡ Idle }
-    requires line { IsReadAs (map string_bytes words.now) line }
-    ensures answered { IsAnswered (call_of (map string_bytes words.now) result
-        (shelf_call S.Shelf shelf.old shelf.new) (sink_call O.Sink out.old out.new)
-        (sink_call E.Sink err.old err.new)) }
-    ensures usage { result ≡ Status.Usage → command_of (map string_bytes words.now) ≡ None }
-    ensures no_command { command_of (map string_bytes words.now) ≡ None
-        → (result ≡ Status.Usage) ⊎ (result ≡ Status.NoMemory) }
-    ensures no_memory { line ≡ Err fault.NoMemory → result ≡ Status.NoMemory }
-    ensures counts { CountsShelf (shelf_call S.Shelf shelf.old shelf.new) result }
-    ensures reads { may_save (command_of (map string_bytes words.now)) ≡ false
-        → CountsReads (shelf_call S.Shelf shelf.old shelf.new) result }
-    ensures writes { CountsWrites (sink_call O.Sink out.old out.new) result }
-    ensures untouched { is_refusal result ≡ true → out.new ≡ out.old }
-    ensures untouched_by_usage { result ≡ Status.Usage → out.new ≡ out.old }
-    ensures clean { has_run result ≡ true → O.clean out.new ≡ true }
-    ensures unsaved { saves_nothing result ≡ true → S.held shelf.new ≡ S.held shelf.old }
+    requires line { IsReadAs (map string_bytes words.now) line.now }
+    ensures served { IsServed S.Shelf O.Sink (command_of (map string_bytes words.now))
+        shelf.old shelf.new out.old out.new result }
     ensures not_writing { writes (S.stage shelf.new) ≡ false }
 {
-    let line = match line {
-        Ok(line) => line,
-        Err(LineFault::Usage) => return say_usage(err),
-        Err(LineFault::NoMemory) => return say(err, Err(Stopped::NoMemory)),
-    };
-    match command_in(&line) {
-        None => say_usage(err),
-        Some(command) => say(err, answer_on(team, alloc, &command, shelf, out)),
-    }
+    let command = asked_command(words, line)?;
+    answer_command_on(team, alloc, &command, shelf, out)
 }
 
 /// Carries a command out without a thread, and answers its status: a number of the table below. It
@@ -168,13 +137,14 @@ pub fn run_alone<S: Shelf, O: Sink, E: Sink>(
     if workers_of(&line) > 1 {
         return None;
     }
-    Some(carry_out(err, alloc, words, line, shelf, out).code())
+    let answer = answer_words(alloc, words, &line, shelf, out);
+    Some(say(err, answer).code())
 }
 
 /// Carries a command out, and answers its status, as [`run_alone`] does. Where the words ask for
 /// more workers than one, `rt` starts and joins their threads, and the call may wait; what is said
-/// here holds where it returns. A worker passes `gate`, with its number from 0, before a part of the
-/// plane evaluates its query of a tick.
+/// here holds where it returns. A worker passes `gate`, with its number from 0, before a part of
+/// the plane evaluates its query of a tick.
 pub fn run<R: Threads + Wait + Sync, S: Shelf + Send, O: Sink + Send, E: Sink, G: Gate + Sync>(
     rt: &R,
     alloc: Global,
@@ -208,16 +178,9 @@ pub fn run<R: Threads + Wait + Sync, S: Shelf + Send, O: Sink + Send, E: Sink, G
         None => {
             let line = read_line(alloc, words);
             let workers = workers_of(&line);
-            carry_out_on(
-                &Team { rt, gate, workers },
-                err,
-                alloc,
-                words,
-                line,
-                shelf,
-                out,
-            )
-            .code()
+            let team = Team { rt, gate, workers };
+            let answer = answer_words_on(&team, alloc, words, &line, shelf, out);
+            say(err, answer).code()
         }
     }
 }

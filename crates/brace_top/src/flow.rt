@@ -1,10 +1,8 @@
 //! How each command is carried out.
-ghost use Rattle.std.specs.Prelude.{◌≡◌, ◌≤◌, ℤ, [], Err, true, false};
+ghost use Rattle.std.specs.Prelude.{◌≡◌, ◌≤◌, ℤ, [], Some, Err, true, false};
 ghost use Rattle.brace_io.specs.Shelves.{writes};
-ghost use Rattle.brace_model.specs.Next.{has_births};
 ghost use Rattle.brace_model.specs.Run.{end_of};
 ghost use Rattle.brace_pieces.specs.declared.setting.Setting.{Setting};
-ghost use Rattle.brace_pieces.specs.Settings.{LawfulSetting};
 ghost use Rattle.brace_crew.specs.Calls.{CameTo};
 ghost use Rattle.brace_top.specs.Answer.{CountsWrites, sink_call};
 ghost use Rattle.brace_top.specs.Commands as asked;
@@ -25,7 +23,6 @@ use brace_crew::{CrewFault, Publisher, SumPublisher, crew_run_on_one};
 use brace_io::{Gate, Shelf, Sink, write_whole};
 use brace_model::Fault;
 use brace_part::Counts;
-use brace_pieces::Setting;
 use std::alloc::Global;
 use std::sync::Wait;
 use std::thread::Threads;
@@ -92,53 +89,6 @@ fn settle_trial<O: Sink>(
     }
 }
 
-/// Runs the setting of a trial by its parts on one worker, and writes the line of its last world.
-fn end_trial<O: Sink>(
-    alloc: Global,
-    trial: &TrialCommand,
-    setting: &Setting,
-    out: &mut O,
-) -> Result<Answer, Stopped>
-    requires lawful { LawfulSetting setting.now }
-    requires childless { has_births setting.now.job.program ≡ false }
-    requires begins { setting.now.job.first ≤ setting.now.job.last }
-    ensures written { IsWritten
-        (λ o. o ≡ trial_end (said_trial trial.now) setting.now (end_of setting.now.job))
-        (sink_call O.Sink out.old out.new) (message_in result) (status_in result) }
-    ensures work { is_plain_work (status_in result) ≡ true }
-    ensures writes { CountsWrites (sink_call O.Sink out.old out.new) (status_in result) }
-    ensures clean { has_run (status_in result) ≡ true → O.clean out.new ≡ true }
-{
-    let order = trial.manner.order;
-    let (publisher, came) = crew_run_on_one(alloc, setting, order, SumPublisher::make());
-    settle_trial(alloc, trial, publisher.sums(), came, out)
-}
-
-/// Runs the setting of a trial by its parts on a team, as [`end_trial`] does on one worker.
-fn end_trial_on<R: Threads + Wait + Sync, G: Gate + Sync, O: Sink>(
-    team: &Team<R, G>,
-    alloc: Global,
-    trial: &TrialCommand,
-    setting: &Setting,
-    out: &mut O,
-) -> Result<Answer, Stopped>
-    requires some { 1 ≤ team.now.workers }
-    requires few { team.now.workers ≤ 16 }
-    requires lawful { LawfulSetting setting.now }
-    requires childless { has_births setting.now.job.program ≡ false }
-    requires begins { setting.now.job.first ≤ setting.now.job.last }
-    ensures written { IsWritten
-        (λ o. o ≡ trial_end (said_trial trial.now) setting.now (end_of setting.now.job))
-        (sink_call O.Sink out.old out.new) (message_in result) (status_in result) }
-    ensures work { is_plain_work (status_in result) ≡ true }
-    ensures writes { CountsWrites (sink_call O.Sink out.old out.new) (status_in result) }
-    ensures clean { has_run (status_in result) ≡ true → O.clean out.new ≡ true }
-{
-    let order = trial.manner.order;
-    let (publisher, came) = crew_run_on(team, alloc, setting, order, SumPublisher::make());
-    settle_trial(alloc, trial, publisher.sums(), came, out)
-}
-
 /// Carries a command out on one worker.
 pub fn answer_command<S: Shelf, O: Sink>(
     alloc: Global,
@@ -148,19 +98,23 @@ pub fn answer_command<S: Shelf, O: Sink>(
 ) -> Result<Answer, Stopped>
     requires stage { writes (S.stage shelf.old) ≡ false }
     requires range { IsInRange command.now }
-    ensures served { IsServed S.Shelf O.Sink (said command.now)
+    ensures served { IsServed S.Shelf O.Sink (Some (said command.now))
         shelf.old shelf.new out.old out.new result }
     ensures not_writing { writes (S.stage shelf.new) ≡ false }
 {
     match prepare(alloc, command, shelf, out)? {
         Work::Told(answer) => Ok(answer),
         Work::Run(task) => run_task(alloc, &task, shelf, out),
-        Work::Trial(trial, setting) => end_trial(alloc, &trial, &setting, out),
+        Work::Trial(trial, setting) => {
+            let order = trial.manner.order;
+            let (publisher, came) = crew_run_on_one(alloc, &setting, order, SumPublisher::make());
+            settle_trial(alloc, &trial, publisher.sums(), came, out)
+        }
     }
 }
 
-/// Carries a command out on a team.
-pub fn answer_on<R: Threads + Wait + Sync, G: Gate + Sync, S: Shelf + Send, O: Sink + Send>(
+/// Carries a command out on a team, as [`answer_command`] does on one worker.
+pub fn answer_command_on<R: Threads + Wait + Sync, G: Gate + Sync, S: Shelf + Send, O: Sink + Send>(
     team: &Team<R, G>,
     alloc: Global,
     command: &Command,
@@ -171,13 +125,17 @@ pub fn answer_on<R: Threads + Wait + Sync, G: Gate + Sync, S: Shelf + Send, O: S
     requires few { team.now.workers ≤ 16 }
     requires stage { writes (S.stage shelf.old) ≡ false }
     requires range { IsInRange command.now }
-    ensures served { IsServed S.Shelf O.Sink (said command.now)
+    ensures served { IsServed S.Shelf O.Sink (Some (said command.now))
         shelf.old shelf.new out.old out.new result }
     ensures not_writing { writes (S.stage shelf.new) ≡ false }
 {
     match prepare(alloc, command, shelf, out)? {
         Work::Told(answer) => Ok(answer),
         Work::Run(task) => run_task_on(team, alloc, &task, shelf, out),
-        Work::Trial(trial, setting) => end_trial_on(team, alloc, &trial, &setting, out),
+        Work::Trial(trial, setting) => {
+            let order = trial.manner.order;
+            let (publisher, came) = crew_run_on(team, alloc, &setting, order, SumPublisher::make());
+            settle_trial(alloc, &trial, publisher.sums(), came, out)
+        }
     }
 }

@@ -59,8 +59,8 @@ pub fn runs_may_be_begun_anew()
         → first_fault (from_tick job tick world) ≡ first_fault job }
 {}
 
-/// The file that a run without children saves at a tick is a checkpoint: it tells the tick, the seed
-/// and the agents of the tick's world.
+/// The file that a run without children saves at a tick is a checkpoint: it tells the tick, the
+/// seed and the agents of the tick's world.
 pub fn saved_files_tell_their_worlds()
     ensures { (s : Setting) (name : List ℕ) (tick : ℕ) (world : World) → LawfulSetting s
         → NumbersFit s → has_births s.job.program ≡ false → s.job.seed < 2 ^ 64

@@ -1,5 +1,5 @@
 //! What is done for a command before its parts are run.
-ghost use Rattle.std.specs.Prelude.{◌≡◌, [], option_map, MatchResult, true, false};
+ghost use Rattle.std.specs.Prelude.{◌≡◌, [], option_map, Some, MatchResult, true, false};
 ghost use Rattle.brace_io.specs.Shelves.{writes};
 ghost use Rattle.brace_save.specs.Lines.{moment_of};
 ghost use Rattle.brace_top.specs.Answer.{CountsWrites, sink_call};
@@ -14,7 +14,7 @@ ghost use Rattle.brace_top.specs.inner.Words.{said, said_run, said_start, said_t
 use crate::answer::{Answer, Stopped, refuse_file};
 use crate::load::{load_cuts, load_program, load_start, load_tree, load_trial};
 use crate::status::Status;
-use crate::task::Task;
+use crate::task::{Task, run_none};
 use crate::trial::{has_four_fixed, trial_setting};
 use crate::words::{Command, RunCommand, Start, TrialCommand};
 use brace_cuts::CutPlan;
@@ -30,7 +30,7 @@ use std::alloc::Global;
 pub enum Work<'a> {
     /// Nothing: its text is written.
     Told(Answer),
-    /// A run.
+    /// A run of at least its first tick.
     Run(Task<'a>),
     /// A trial, in its setting.
     Trial(TrialCommand, Setting),
@@ -60,7 +60,7 @@ fn format_script<S: Shelf, O: Sink>(
     out: &mut O,
 ) -> Result<Answer, Stopped>
     requires stage { writes (S.stage shelf.old) ≡ false }
-    ensures served { IsServed S.Shelf O.Sink (asked.Format name.now)
+    ensures served { IsServed S.Shelf O.Sink (Some (asked.Format name.now))
         shelf.old shelf.new out.old out.new result }
     ensures held { S.held shelf.new ≡ S.held shelf.old }
     ensures not_writing { writes (S.stage shelf.new) ≡ false }
@@ -78,7 +78,7 @@ fn check_script<S: Shelf, O: Sink>(
     out: &mut O,
 ) -> Result<Answer, Stopped>
     requires stage { writes (S.stage shelf.old) ≡ false }
-    ensures served { IsServed S.Shelf O.Sink (asked.Check name.now)
+    ensures served { IsServed S.Shelf O.Sink (Some (asked.Check name.now))
         shelf.old shelf.new out.old out.new result }
     ensures held { S.held shelf.new ≡ S.held shelf.old }
     ensures not_writing { writes (S.stage shelf.new) ≡ false }
@@ -140,8 +140,31 @@ fn load_task<'a, S: Shelf>(
     Ok(task_of(run, program, point, cuts))
 }
 
-/// The setting of a trial of the program's own script over made agents; no file is read. That script
-/// has a class of four fixed states and no `spawn`; want of memory is answered for any other.
+/// Reads the files of a run, and answers one that would begin behind its last tick.
+fn ready_run<'a, S: Shelf, O: Sink>(
+    alloc: Global,
+    run: &RunCommand<'a>,
+    shelf: &mut S,
+    out: &mut O,
+) -> Result<Work<'a>, Stopped>
+    requires stage { writes (S.stage shelf.old) ≡ false }
+    requires range { IsRunInRange run.now }
+    ensures prepared { IsPrepared S.Shelf O.Sink (asked.Run (said_run run.now))
+        shelf.old shelf.new out.old out.new result }
+    ensures not_writing { writes (S.stage shelf.new) ≡ false }
+{
+    let task = load_task(alloc, run, shelf)?;
+    let job = &task.setting.job;
+    if job.last < job.first {
+        let answer = run_none(alloc, &task, out)?;
+        return Ok(Work::Told(answer));
+    }
+    Ok(Work::Run(task))
+}
+
+/// The setting of a trial of the program's own script over made agents; no file is read. That
+/// script has a class of four fixed states and no `spawn`; want of memory is answered for any
+/// other.
 fn ready_trial<S: Shelf>(alloc: Global, trial: &TrialCommand, shelf: &S) -> Result<Setting, Stopped>
     requires { IsTrialInRange trial.now }
     ensures { MatchResult result
@@ -170,7 +193,7 @@ pub fn prepare<'a, S: Shelf, O: Sink>(
     ensures not_writing { writes (S.stage shelf.new) ≡ false }
 {
     match command {
-        Command::Run(run) => Ok(Work::Run(load_task(alloc, run, shelf)?)),
+        Command::Run(run) => ready_run(alloc, run, shelf, out),
         Command::Format(name) => Ok(Work::Told(format_script(alloc, name, shelf, out)?)),
         Command::Check(name) => Ok(Work::Told(check_script(alloc, name, shelf, out)?)),
         Command::Trial(trial) => Ok(Work::Trial(*trial, ready_trial(alloc, trial, shelf)?)),

@@ -1,13 +1,13 @@
 //! A run by parts, and how it is answered.
 ghost use Rattle.std.specs.Prelude.{◌≡◌, ◌≤◌, ◌<◌, option_map, Some, Err, true, false};
-ghost use Rattle.brace_io.specs.Shelves.{Files, writes};
+ghost use Rattle.brace_io.specs.Shelves.{writes};
 ghost use Rattle.brace_model.specs.Next.{has_births};
 ghost use Rattle.brace_pieces.specs.Settings.{LawfulSetting};
 ghost use Rattle.brace_crew.specs.declared.crew.CrewFault.TheVariants as crew;
-ghost use Rattle.brace_top.specs.Answer.{CountsShelf, CountsWrites, shelf_call, sink_call};
+ghost use Rattle.brace_top.specs.Answer.{CountsWrites, shelf_call, sink_call};
 ghost use Rattle.brace_top.specs.Messages.{fault_message};
 ghost use Rattle.brace_top.specs.Status.{has_run};
-ghost use Rattle.brace_top.specs.inner.Settled.{IsCarriedOut, IsWritten, IsSettled, IsToldAs, told_counts, is_work, is_plain_work, keeper_call, outcome_of, status_in, message_in};
+ghost use Rattle.brace_top.specs.inner.Settled.{IsRunOf, IsWritten, IsSettled, IsToldAs, told_counts, is_plain_work, keeper_call, outcome_of, status_in, message_in};
 
 use crate::answer::{Answer, Stopped, refuse};
 use crate::messages::{fault_message, save_fault_message, stats_message};
@@ -87,8 +87,22 @@ fn settle(alloc: Global, task: &Task, came: Result<Counts, CrewFault>) -> Result
     }
 }
 
-/// Carries a run out by its parts on one worker: writes the rows of published ticks, and has the worlds of its
-/// ends saved where a name is given. What stood on the sink before is flushed first.
+/// Answers a run that would begin behind its last tick: nothing is published and nothing saved.
+pub fn run_none<O: Sink>(alloc: Global, task: &Task, out: &mut O) -> Result<Answer, Stopped>
+    requires behind { task.now.setting.job.last < task.now.setting.job.first }
+    requires resumed { task.now.fresh ≡ false }
+    ensures written { IsWritten (λ o. o ≡ outcome_of task.now) (sink_call O.Sink out.old out.new)
+        (message_in result) (status_in result) }
+    ensures work { is_plain_work (status_in result) ≡ true }
+    ensures writes { CountsWrites (sink_call O.Sink out.old out.new) (status_in result) }
+    ensures clean { has_run (status_in result) ≡ true → O.clean out.new ≡ true }
+{
+    out.flush()?;
+    done(alloc, task.stats, &Counts::none())
+}
+
+/// Carries a run out by its parts on one worker: writes the rows of published ticks, and has the
+/// worlds of its ends saved where a name is given. What stood on the sink before is flushed first.
 fn run_kept<K: Keeper, O: Sink>(
     alloc: Global,
     task: &Task,
@@ -98,14 +112,8 @@ fn run_kept<K: Keeper, O: Sink>(
     requires lawful { LawfulSetting task.now.setting }
     requires childless { has_births task.now.setting.job.program ≡ false }
     requires begins { task.now.setting.job.first ≤ task.now.setting.job.last }
-    ensures carried_out { (files : Files) → K.held keeper.old ≡ Some files
-        → IsCarriedOut files (λ o. o ≡ outcome_of task.now)
-        (keeper_call K.Keeper keeper.old keeper.new) (sink_call O.Sink out.old out.new)
-        (message_in result) (status_in result) }
-    ensures work { is_work (status_in result) ≡ true }
-    ensures counts { CountsShelf (keeper_call K.Keeper keeper.old keeper.new) (status_in result) }
-    ensures writes { CountsWrites (sink_call O.Sink out.old out.new) (status_in result) }
-    ensures clean { has_run (status_in result) ≡ true → O.clean out.new ≡ true }
+    ensures run { IsRunOf O.Sink task.now (keeper_call K.Keeper keeper.old keeper.new)
+        out.old out.new result }
     ensures same_loans { K.loans keeper.new ≡ K.loans keeper.old }
 {
     out.flush()?;
@@ -132,14 +140,8 @@ fn run_kept_on<R: Threads + Wait + Sync, G: Gate + Sync, K: Keeper + Send, O: Si
     requires lawful { LawfulSetting task.now.setting }
     requires childless { has_births task.now.setting.job.program ≡ false }
     requires begins { task.now.setting.job.first ≤ task.now.setting.job.last }
-    ensures carried_out { (files : Files) → K.held keeper.old ≡ Some files
-        → IsCarriedOut files (λ o. o ≡ outcome_of task.now)
-        (keeper_call K.Keeper keeper.old keeper.new) (sink_call O.Sink out.old out.new)
-        (message_in result) (status_in result) }
-    ensures work { is_work (status_in result) ≡ true }
-    ensures counts { CountsShelf (keeper_call K.Keeper keeper.old keeper.new) (status_in result) }
-    ensures writes { CountsWrites (sink_call O.Sink out.old out.new) (status_in result) }
-    ensures clean { has_run (status_in result) ≡ true → O.clean out.new ≡ true }
+    ensures run { IsRunOf O.Sink task.now (keeper_call K.Keeper keeper.old keeper.new)
+        out.old out.new result }
     ensures same_loans { K.loans keeper.new ≡ K.loans keeper.old }
 {
     out.flush()?;
@@ -153,22 +155,7 @@ fn run_kept_on<R: Threads + Wait + Sync, G: Gate + Sync, K: Keeper + Send, O: Si
     settle(alloc, task, both.1)
 }
 
-/// Answers a run that would begin behind its last tick: nothing is published and nothing saved.
-fn run_none<O: Sink>(alloc: Global, task: &Task, out: &mut O) -> Result<Answer, Stopped>
-    requires behind { task.now.setting.job.last < task.now.setting.job.first }
-    requires resumed { task.now.fresh ≡ false }
-    ensures written { IsWritten (λ o. o ≡ outcome_of task.now) (sink_call O.Sink out.old out.new)
-        (message_in result) (status_in result) }
-    ensures work { is_plain_work (status_in result) ≡ true }
-    ensures writes { CountsWrites (sink_call O.Sink out.old out.new) (status_in result) }
-    ensures clean { has_run (status_in result) ≡ true → O.clean out.new ≡ true }
-{
-    out.flush()?;
-    done(alloc, task.stats, &Counts::none())
-}
-
-/// Carries a run out, as [`run_kept`] does, and saves on a shelf. A run may begin behind its last
-/// tick where its first tick is not published; it does nothing then.
+/// Carries a run out, as [`run_kept`] does, and saves on a shelf.
 pub fn run_task<S: Shelf, O: Sink>(
     alloc: Global,
     task: &Task,
@@ -178,22 +165,11 @@ pub fn run_task<S: Shelf, O: Sink>(
     requires stage { writes (S.stage shelf.old) ≡ false }
     requires lawful { LawfulSetting task.now.setting }
     requires childless { has_births task.now.setting.job.program ≡ false }
-    requires begins { task.now.fresh ≡ true
-        → task.now.setting.job.first ≤ task.now.setting.job.last }
-    ensures carried_out { (files : Files) → S.held shelf.old ≡ Some files
-        → IsCarriedOut files (λ o. o ≡ outcome_of task.now)
-        (shelf_call S.Shelf shelf.old shelf.new) (sink_call O.Sink out.old out.new)
-        (message_in result) (status_in result) }
-    ensures work { is_work (status_in result) ≡ true }
-    ensures counts { CountsShelf (shelf_call S.Shelf shelf.old shelf.new) (status_in result) }
-    ensures writes { CountsWrites (sink_call O.Sink out.old out.new) (status_in result) }
-    ensures clean { has_run (status_in result) ≡ true → O.clean out.new ≡ true }
+    requires begins { task.now.setting.job.first ≤ task.now.setting.job.last }
+    ensures run { IsRunOf O.Sink task.now (shelf_call S.Shelf shelf.old shelf.new)
+        out.old out.new result }
     ensures not_writing { writes (S.stage shelf.new) ≡ false }
 {
-    let job = &task.setting.job;
-    if job.last < job.first {
-        return run_none(alloc, task, out);
-    }
     let mut keeper = ShelfKeeper { shelf };
     run_kept(alloc, task, &mut keeper, out)
 }
@@ -211,22 +187,11 @@ pub fn run_task_on<R: Threads + Wait + Sync, G: Gate + Sync, S: Shelf + Send, O:
     requires stage { writes (S.stage shelf.old) ≡ false }
     requires lawful { LawfulSetting task.now.setting }
     requires childless { has_births task.now.setting.job.program ≡ false }
-    requires begins { task.now.fresh ≡ true
-        → task.now.setting.job.first ≤ task.now.setting.job.last }
-    ensures carried_out { (files : Files) → S.held shelf.old ≡ Some files
-        → IsCarriedOut files (λ o. o ≡ outcome_of task.now)
-        (shelf_call S.Shelf shelf.old shelf.new) (sink_call O.Sink out.old out.new)
-        (message_in result) (status_in result) }
-    ensures work { is_work (status_in result) ≡ true }
-    ensures counts { CountsShelf (shelf_call S.Shelf shelf.old shelf.new) (status_in result) }
-    ensures writes { CountsWrites (sink_call O.Sink out.old out.new) (status_in result) }
-    ensures clean { has_run (status_in result) ≡ true → O.clean out.new ≡ true }
+    requires begins { task.now.setting.job.first ≤ task.now.setting.job.last }
+    ensures run { IsRunOf O.Sink task.now (shelf_call S.Shelf shelf.old shelf.new)
+        out.old out.new result }
     ensures not_writing { writes (S.stage shelf.new) ≡ false }
 {
-    let job = &task.setting.job;
-    if job.last < job.first {
-        return run_none(alloc, task, out);
-    }
     let mut keeper = ShelfKeeper { shelf };
     run_kept_on(team, alloc, task, &mut keeper, out)
 }

@@ -20,8 +20,8 @@ pub struct Team<'a, R: Threads + Wait + Sync, G: Gate + Sync> {
     pub workers: u32,
 }
 
-/// Runs the parts of a setting and its publisher on a team, in whatever order its threads take. What
-/// the lanes between them have counted is dropped.
+/// Runs the parts of a setting and its publisher on a team, in whatever order its threads take.
+/// What the lanes between them have counted is dropped.
 pub fn crew_run_on<R: Threads + Wait + Sync, G: Gate + Sync, P: Publisher + Send>(
     team: &Team<R, G>,
     alloc: Global,

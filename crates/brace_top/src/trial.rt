@@ -59,8 +59,8 @@ pub fn has_four_fixed(program: &Program) -> bool
     }
 }
 
-/// The line of a tick that cuts the plane into eight strips, with each cut that much further along x,
-/// in millionths, at most 5 units.
+/// The line of a tick that cuts the plane into eight strips, with each cut that much further along
+/// x, in millionths, at most 5 units.
 fn strips_at(alloc: Global, tick: u64, further: u32) -> Result<CutLine, NoMemory>
     requires { further ≤ 5_000_000 }
     ensures { IfOk result (λ line. line ≡ along_x tick (map (λ x. x +ℤ pos further) strips)) }

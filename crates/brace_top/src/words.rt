@@ -131,8 +131,8 @@ fn run_of<'a>(line: &'a Line, start: Option<Start<'a>>) -> Option<Command<'a>>
     requires { lines.IsInRange line.now }
     ensures command { MatchOption result
         (run_of line.now line.now.script (option_map said_start start.entry) line.now.ticks ≡ None)
-        (λ command. run_of line.now line.now.script (option_map said_start start.entry) line.now.ticks
-        ≡ Some (said command)) }
+        (λ command. run_of line.now line.now.script (option_map said_start start.entry)
+        line.now.ticks ≡ Some (said command)) }
     ensures range { IfSome result IsInRange }
 {
     Some(Command::Run(RunCommand {

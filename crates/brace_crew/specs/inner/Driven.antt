@@ -56,8 +56,8 @@ pub record LeavesOthers (a : ℕ) (v w : View Setting) : Type 0 where
   pub put : (p q : ℕ) → (p ≡ a → ⊥) → puts_of w p q ≡ puts_of v p q
   pub taken : (p q : ℕ) → (q ≡ a → ⊥) → takes_of w p q ≡ takes_of v p q
 
--- how a member went on: by one turn; not at all, as the name is not there that it takes next; or not
--- at all, as it is Done
+-- how a member went on: by one turn; not at all, as the name is not there that it takes next; or
+-- not at all, as it is Done
 abbrev pub WentBy : {P : Type 0} → View Setting → Member P → View Setting → Member P → Went → Type 0
 WentBy v m w n went.On = (past_of (course_of n) ≡ past_of (course_of m) + 1) × (IsDone m → ⊥)
 WentBy v m w n went.Nowhere = (n ≡ m) × (IsDone m → ⊥) × Waits v w 1 m
@@ -75,8 +75,8 @@ pub record AreSame {P : Type 0} (ms ns : List (Member P)) : Type 0 where
   pub numbers : map (λ m. (course_of m).actor) ns ≡ map (λ m. (course_of m).actor) ms
   pub openings : map opening_of ns ≡ map opening_of ms
 
--- how the first members of a bench went on: one at least by a turn; none, and one at least waits; or
--- none, and all are Done
+-- how the first members of a bench went on: one at least by a turn; none, and one at least waits;
+-- or none, and all are Done
 abbrev pub WentAll : {P : Type 0} → View Setting → List (Member P) → View Setting
     → List (Member P) → ℕ → Went → Type 0
 WentAll v ms w ns count went.On = sum_by turns_left ns < sum_by turns_left ms

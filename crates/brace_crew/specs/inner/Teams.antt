@@ -1,6 +1,6 @@
 -- The members of a run on several workers, before it and behind it. Only the crate's own functions
 -- cite this.
-use Rattle.std.specs.Prelude.{◌≡◌, ℕ, ◌+◌, ◌<◌, List, map, length, slice_index_or}
+use Rattle.std.specs.Prelude.{◌≡◌, ℕ, ◌<◌, List, map, length, slice_index_or}
 use Rattle.std.specs.List.{All}
 use Rattle.brace_lanes.specs.Seats.{OnSeat}
 use Rattle.brace_pieces.specs.declared.setting.Setting.{Setting}

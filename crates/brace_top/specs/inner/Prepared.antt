@@ -43,16 +43,18 @@ pub record IsReadyTrial (command : Command) (trial : TrialCommand) (s : Setting)
   pub lawful : LawfulSetting s
   pub childless : has_births s.job.program ≡ false
   pub begins : s.job.first ≤ s.job.last
-  pub outcome : (files : Files) → CommandOutcome files (Some command) (trial_end trial s (end_of s.job))
+  pub outcome : (files : Files)
+      → CommandOutcome files (Some command) (trial_end trial s (end_of s.job))
 
 -- what a command came to before its parts are run
 abbrev pub IsPrepared : {S O : Type 0} → shelf_trait.Ghosts S → sink_trait.Ghosts O → Command
     → S → S → O → O → Result Work Stopped → Type 0
 IsPrepared of_shelf of_sink command shelf shelf_after out out_after (Err stop) =
-    IsServed of_shelf of_sink command shelf shelf_after out out_after (Err stop)
+    IsServed of_shelf of_sink (Some command) shelf shelf_after out out_after (Err stop)
 IsPrepared of_shelf of_sink command shelf shelf_after out out_after (Ok (work.Told answer)) =
-    IsServed of_shelf of_sink command shelf shelf_after out out_after (Ok answer)
+    IsServed of_shelf of_sink (Some command) shelf shelf_after out out_after (Ok answer)
 IsPrepared of_shelf of_sink command shelf shelf_after out out_after (Ok (work.Run task)) =
-    IsReadyRun of_shelf command shelf shelf_after task × (out_after ≡ out)
+    IsReadyRun of_shelf command shelf shelf_after task
+    × (task.setting.job.first ≤ task.setting.job.last) × (out_after ≡ out)
 IsPrepared of_shelf of_sink command shelf shelf_after out out_after (Ok (work.Trial trial s)) =
     IsReadyTrial command (said_trial trial) s × (shelf_after ≡ shelf) × (out_after ≡ out)

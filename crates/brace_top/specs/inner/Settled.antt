@@ -1,6 +1,6 @@
 -- What the parts of a command come to, before it is answered. Only the crate's own functions cite
 -- this.
-use Rattle.std.specs.Prelude.{◌≡◌, ℕ, List, [], Bool, true, false, Option, Some, None, option_map, Result, Ok, Err, ⊤}
+use Rattle.std.specs.Prelude.{◌≡◌, ℕ, List, [], Bool, true, false, ◌⊎◌, Option, Some, None, option_map, Result, Ok, Err, ⊤}
 use Rattle.brace_io.specs.Shelves.{Files}
 use Rattle.brace_top.specs.declared.answer.Answer.{Answer}
 use Rattle.brace_top.specs.declared.answer.Stopped.{Stopped}
@@ -13,7 +13,7 @@ use Rattle.brace_top.specs.declared.status.Status.TheVariants.{Done, Usage, Scri
 use Rattle.brace_top.specs.Answer.{ShelfCall, SinkCall, shelf_call, sink_call, Among, IsUnread, IsUnwritten, IsGivenUp, IsEnd, IsUnsaved, IsAnswer, CountsShelf, CountsReads, CountsWrites}
 use Rattle.brace_top.specs.Status.{has_run, is_refusal, saves_nothing}
 use Rattle.brace_top.specs.Commands.{Command, may_save}
-use Rattle.brace_top.specs.Messages.{record_message, line_message, point_message, stats_message, fault_message, write_fault_message, save_fault_message, no_memory_message}
+use Rattle.brace_top.specs.Messages.{usage_message, record_message, line_message, point_message, stats_message, fault_message, write_fault_message, save_fault_message, no_memory_message}
 use Rattle.brace_top.specs.Outcome.{Outcome, Refusal, script_message, ran}
 use Rattle.brace_cuts.specs.declared.kinds.PlanFault.{PlanFault}
 use Rattle.brace_cuts.specs.declared.kinds.PlanFault.TheVariants as plan_fault
@@ -32,12 +32,14 @@ use Rattle.brace_top.specs.declared.script_fault.ScriptFault.TheVariants as scri
 
 -- the status of a command that goes no further
 abbrev pub stopped_status : Stopped → Status
+stopped_status stopped.Usage = Usage
 stopped_status (stopped.Refused answer) = answer.status
 stopped_status stopped.WriteFault = WriteFault
 stopped_status stopped.NoMemory = NoMemory
 
 -- the message of a command that goes no further
 abbrev pub stopped_message : Stopped → List ℕ
+stopped_message stopped.Usage = usage_message
 stopped_message (stopped.Refused answer) = answer.message.items
 stopped_message stopped.WriteFault = write_fault_message
 stopped_message stopped.NoMemory = no_memory_message
@@ -59,6 +61,7 @@ pub record IsOf (status : Status) (message : List ℕ) (answer : Answer) : Type 
 
 -- a file is refused so, or memory was refused
 abbrev pub IsRefusedAs : Status → List ℕ → Stopped → Type 0
+IsRefusedAs status message stopped.Usage = ⊥
 IsRefusedAs status message (stopped.Refused answer) = IsOf status message answer
 IsRefusedAs status message stopped.WriteFault = ⊥
 IsRefusedAs status message stopped.NoMemory = ⊤
@@ -214,19 +217,32 @@ abbrev pub is_plain_work : Status → Bool
 is_plain_work SaveFault = false
 is_plain_work status = is_work status
 
--- a command was served: it is answered, failures of the shelf and the sink are counted, and both
--- stand as the status says
+-- a run was carried out for its outcome, on what is kept and on the sink of its rows
+pub record IsRunOf {O : Type 0} (of_sink : sink_trait.Ghosts O) (task : Task) (shelf : ShelfCall)
+    (out out_after : O) (r : Result Answer Stopped) : Type 0 where
+  pub carried_out : (files : Files) → shelf.held ≡ Some files
+      → IsCarriedOut files (λ o. o ≡ outcome_of task) shelf (sink_call of_sink out out_after)
+      (message_in r) (status_in r)
+  pub work : is_work (status_in r) ≡ true
+  pub counts : CountsShelf shelf (status_in r)
+  pub writes : CountsWrites (sink_call of_sink out out_after) (status_in r)
+  pub clean : has_run (status_in r) ≡ true → of_sink.clean out_after ≡ true
+
+-- a command was served, or words that ask for none: they are answered, failures of the shelf and
+-- the sink are counted, and both stand as the status says
 pub record IsServed {S O : Type 0} (of_shelf : shelf_trait.Ghosts S) (of_sink : sink_trait.Ghosts O)
-    (command : Command) (shelf shelf_after : S) (out out_after : O) (r : Result Answer Stopped)
-    : Type 0 where
+    (command : Option Command) (shelf shelf_after : S) (out out_after : O)
+    (r : Result Answer Stopped) : Type 0 where
   pub answered : (files : Files) → of_shelf.held shelf ≡ Some files
-      → IsAnswer files (Some command) (shelf_call of_shelf shelf shelf_after)
+      → IsAnswer files command (shelf_call of_shelf shelf shelf_after)
       (sink_call of_sink out out_after) (message_in r) (status_in r)
+  pub usage : status_in r ≡ Usage → command ≡ None
+  pub no_command : command ≡ None → (status_in r ≡ Usage) ⊎ (status_in r ≡ NoMemory)
   pub counts : CountsShelf (shelf_call of_shelf shelf shelf_after) (status_in r)
-  pub reads : may_save (Some command) ≡ false
+  pub reads : may_save command ≡ false
       → CountsReads (shelf_call of_shelf shelf shelf_after) (status_in r)
   pub writes : CountsWrites (sink_call of_sink out out_after) (status_in r)
   pub untouched : is_refusal (status_in r) ≡ true → out_after ≡ out
+  pub untouched_by_usage : status_in r ≡ Usage → out_after ≡ out
   pub unsaved : saves_nothing (status_in r) ≡ true → of_shelf.held shelf_after ≡ of_shelf.held shelf
   pub clean : has_run (status_in r) ≡ true → of_sink.clean out_after ≡ true
-  pub known : status_in r ≡ Usage → ⊥

@@ -5,6 +5,8 @@ use Rattle.brace_words.specs.declared.fault.LineFault.{LineFault}
 use Rattle.brace_words.specs.declared.fault.LineFault.TheVariants as line_fault
 use Rattle.brace_words.specs.Lines as lines
 use Rattle.brace_words.specs.Lines.{line_of}
+use Rattle.brace_top.specs.declared.answer.Stopped.{Stopped}
+use Rattle.brace_top.specs.declared.answer.Stopped.TheVariants as stopped
 use Rattle.brace_top.specs.declared.words.Command.{Command as CodeCommand}
 use Rattle.brace_top.specs.declared.words.Command.TheVariants as code
 use Rattle.brace_top.specs.declared.words.Manner.{Manner as CodeManner}
@@ -12,13 +14,19 @@ use Rattle.brace_top.specs.declared.words.RunCommand.{RunCommand as CodeRun}
 use Rattle.brace_top.specs.declared.words.Start.{Start as CodeStart}
 use Rattle.brace_top.specs.declared.words.Start.TheVariants as begun
 use Rattle.brace_top.specs.declared.words.TrialCommand.{TrialCommand as CodeTrial}
-use Rattle.brace_top.specs.Commands.{Command, Manner, RunCommand, TrialCommand, Start, Anew, Resumed, Run, Format, Check, Trial}
+use Rattle.brace_top.specs.Commands.{Command, Manner, RunCommand, TrialCommand, Start, Anew, Resumed, Run, Format, Check, Trial, command_of}
 
 -- a line, or why there is none, is what words were read as
 pub record IsReadAs (words : List (List ℕ)) (line : Result Line LineFault) : Type 0 where
   pub line_is : IfOk line (λ l. line_of words ≡ Some l)
   pub none_is : IfErr line (λ fault. fault ≡ line_fault.Usage → line_of words ≡ None)
   pub bounds : IfOk line lines.IsInRange
+
+-- why no command was read of words: they ask for none, or memory was refused
+abbrev pub IsUnasked : List (List ℕ) → Stopped → Type 0
+IsUnasked words stopped.Usage = command_of words ≡ None
+IsUnasked words stopped.NoMemory = ⊤
+IsUnasked words stop = ⊥
 
 -- how a run is worked
 abbrev pub said_manner : CodeManner → Manner

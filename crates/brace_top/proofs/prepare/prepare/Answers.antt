@@ -1,13 +1,8 @@
 use Rattle.std.proofs.lemmas.Result.{err_from_is_err_and}
-use Rattle.brace_top.specs.Commands.{Run, Trial}
-use Rattle.brace_top.specs.inner.Words.{said_run, said_trial}
+use Rattle.brace_top.specs.Commands.{Trial}
+use Rattle.brace_top.specs.inner.Words.{said_trial}
 use Rattle.brace_top.proofs.AnswerLemmas.{stopped_serves}
 use Rattle.brace_top.proofs.prepare.prepare.Goals as goal
-
-pub returns-in_err-load_task-in-Run-clause-prepared : goal.returns-in_err-load_task-in-Run-clause-prepared
-returns-in_err-load_task-in-Run-clause-prepared g c =
-    let p = err_from_is_err_and c.from_residual.result c.from_residual.ensures.1 in
-    rw (p.1, p.2, c.in-Run.is) (stopped_serves g.S.Shelf g.O.Sink (Run (said_run c.in-Run.run')) _ _ _ _ c.in_err-load_task-in-Run.ensures.ready)
 
 pub returns-in_err-ready_trial-in-Trial-clause-prepared : goal.returns-in_err-ready_trial-in-Trial-clause-prepared
 returns-in_err-ready_trial-in-Trial-clause-prepared g c =
