@@ -1,0 +1,13 @@
+pub mod Orders
+pub mod Halving
+pub mod Places
+pub mod Walk
+pub mod Strips
+pub mod Counts
+pub mod Columns
+pub mod Blocks
+pub mod OneMore
+pub mod Found
+pub mod Sorts
+pub mod Probes
+pub mod Laid

@@ -1,0 +1,12 @@
+//! Agents on a grid of square cells: which of them stand in a small area, found with few looks.
+#![tactic(auto)]
+
+mod cells;
+mod grid;
+mod looks;
+mod search;
+mod spots;
+#[cfg(test)]
+mod tests;
+
+pub use grid::Grid;
