@@ -42,7 +42,7 @@ pub fn cells_of(alloc: Global, spots: &[Spot]) -> Result<Vec<Cell>, NoMemory>
     Ok(cells)
 }
 
-// The cells with that of one more spot, which is at a place behind all others.
+/// The cells with that of one more spot, which is at a place behind all others.
 fn include(cells: &mut Vec<Cell>, spot: &Spot, place: usize) -> Result<(), NoMemory>
     ensures { OnOk result (cells.new.items ≡ with_spot cells.old.items spot.now place) }
 {
@@ -56,7 +56,7 @@ fn include(cells: &mut Vec<Cell>, spot: &Spot, place: usize) -> Result<(), NoMem
     Ok(())
 }
 
-// Whether a spot is in the last of the cells.
+/// Whether a spot is in the last of the cells.
 fn is_in_last(cells: &[Cell], spot: &Spot) -> bool
     ensures { result ≡ is_in_last cells.now spot.now }
 {

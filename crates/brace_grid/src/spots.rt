@@ -27,7 +27,7 @@ pub fn spots_of(
     Ok(spots)
 }
 
-// The spot of an agent of that index.
+/// The spot of an agent of that index.
 fn spot_of(program: &Program, a: &Agent, index: u32, side: i64) -> Spot
     requires { pos 1000000 ≤ℤ side }
     ensures { result ≡ spot (place_of program.now a.now) side index }
