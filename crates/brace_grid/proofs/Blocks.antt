@@ -9,8 +9,12 @@ use Rattle.brace_num.specs.declared.kinds.Area.{Area}
 use Rattle.brace_grid.specs.declared.cells.Spot.{Spot}
 use Rattle.brace_grid.specs.declared.search.Block.{Block}
 use Rattle.brace_grid.specs.Grids.{is_between}
-use Rattle.brace_grid.specs.inner.Search.{is_spot_inside, is_in_rows, is_in_block, is_chosen, until}
+use Rattle.brace_grid.specs.inner.Search.{is_spot_inside, is_in_rows, is_in_block, is_chosen}
 use Rattle.brace_grid.proofs.Counts.{count_two, count_same, count_none, both_false}
+
+-- the columns of a block before a column
+abbrev pub until : Block → ℤ → Block
+until block column = record block { east = column -ℤ pos 1 }
 
 one_more : (west column c : ℤ) (rows : Bool) → west ≤ℤ column
     → cond (is_between west ((column +ℤ pos 1) -ℤ pos 1) c && rows) 1 0 ≡ cond (is_between west (column -ℤ pos 1) c && rows) 1 0 + cond (int_eq c column && rows) 1 0

@@ -1,13 +1,23 @@
 -- A search by halving: what is left of the list, and of the digits of its length.
-use Rattle.std.proofs.Common.{◌≡◌, ℕ, ◌+◌, ◌/◌, ◌^◌, ◌<◌, ◌≤◌, ℤ, List, get_or, true, false, sym, subst, ⊎_elim, arith}
+use Rattle.std.proofs.Common.{◌≡◌, ℕ, ◌+◌, ◌/◌, ◌^◌, ◌<◌, ◌≤◌, ℤ, List, length, get_or, true, false, sym, subst, ⊎_elim, arith}
 use Rattle.std.proofs.lemmas.Bool.{cases_lt}
 use Rattle.std.specs.Int.Digits.{digits_of}
 use Rattle.std.proofs.lemmas.Int.Digits.{number_lt, all_below_base_digits_of, number_digits_of, length-digits_of-le, length-digits_of_step}
 use Rattle.brace_grid.specs.declared.cells.Cell.{Cell}
 use Rattle.brace_grid.specs.Grids.{digits}
 use Rattle.brace_grid.specs.inner.Layout.{before, CellsRise}
-use Rattle.brace_grid.specs.inner.Search.{IsHalved, IsRank}
+use Rattle.brace_grid.specs.inner.Search.{IsRank}
 use Rattle.brace_grid.proofs.Orders.{before_trans, behind_trans}
+
+-- what a halving search knows: cells below `low` come before cell (column, row), those from `high`
+-- on do not
+pub record IsHalved (cells : List Cell) (column row : ℤ) (low high : ℕ) : Type 0 where
+  pub ordered : low ≤ high
+  pub within : high ≤ length cells
+  pub below : (k : ℕ) (d : Cell) → k < low
+      → before (get_or cells k d).column (get_or cells k d).row column row ≡ true
+  pub behind : (k : ℕ) (d : Cell) → high ≤ k → k < length cells
+      → before (get_or cells k d).column (get_or cells k d).row column row ≡ false
 
 -- a number is below 2 to the number of its digits
 below_power : (n : ℕ) → n < 2 ^ digits n

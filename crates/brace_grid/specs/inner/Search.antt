@@ -1,5 +1,5 @@
 -- What a halving search finds, and what a walk over spots adds.
-use Rattle.std.specs.Prelude.{◌≡◌, ℕ, ◌<◌, ◌≤◌, ℤ, pos, ◌-ℤ◌, Bool, true, false, ◌&&◌, List, length, slice_index_or}
+use Rattle.std.specs.Prelude.{◌≡◌, ℕ, ◌<◌, ◌≤◌, ℤ, Bool, true, false, ◌&&◌, List, length, slice_index_or}
 use Rattle.std.specs.Ordering.{int_eq}
 use Rattle.brace_num.specs.declared.kinds.Area.{Area}
 use Rattle.brace_grid.specs.declared.cells.Spot.{Spot}
@@ -45,20 +45,6 @@ abbrev pub is_in_block : Block → Spot → Bool
 is_in_block block s =
     is_between block.west block.east s.column && is_between block.south block.north s.row
 
--- the columns of a block before a column
-abbrev pub until : Block → ℤ → Block
-until block column = record block { east = column -ℤ pos 1 }
-
 -- of the spots that a test takes, those in an area whose index another test takes
 abbrev pub is_chosen : (Spot → Bool) → Area → (ℕ → Bool) → Spot → Bool
 is_chosen t area q s = (is_spot_inside area s && q s.index) && t s
-
--- what a halving search knows: cells below `low` come before cell (column, row), those from `high`
--- on do not
-pub record IsHalved (cells : List Cell) (column row : ℤ) (low high : ℕ) : Type 0 where
-  pub ordered : low ≤ high
-  pub within : high ≤ length cells
-  pub below : (k : ℕ) (d : Cell) → k < low
-      → before (slice_index_or cells k d).column (slice_index_or cells k d).row column row ≡ true
-  pub behind : (k : ℕ) (d : Cell) → high ≤ k → k < length cells
-      → before (slice_index_or cells k d).column (slice_index_or cells k d).row column row ≡ false

@@ -1,4 +1,4 @@
-use Rattle.std.proofs.Common.{◌≡◌, ◌∙◌, ◌-◌, ◌++◌, map, take, drop, arith, ap}
+use Rattle.std.proofs.Common.{◌≡◌, ◌-◌, ◌++◌, map, take, drop, arith, subst}
 use Rattle.std.specs.List.{filter}
 use Rattle.brace_grid.specs.inner.Search.{is_spot_inside}
 use Rattle.brace_grid.proofs.Walk.{walk_more}
@@ -15,4 +15,4 @@ loop-i-preserved g c = (
 pub returns-clause-found : goal.returns-clause-found
 returns-clause-found g c =
     let i : c.loop-i.i - c.args.start ≡ c.args.end - c.args.start = omega arith in
-    c.loop-i.invariant.0 ∙ ap (λ n. c.args.out.now.items ++ map (λ s. s.index) (filter (is_spot_inside c.args.area.now) (take n (drop c.args.start c.args.spots.now)))) i
+    subst (λ n. c.loop-i.out.items ≡ c.args.out.now.items ++ map (λ s. s.index) (filter (is_spot_inside c.args.area.now) (take n (drop c.args.start c.args.spots.now)))) i c.loop-i.invariant.0

@@ -1,6 +1,6 @@
 use Rattle.std.proofs.Common.{◌+◌, ◌-◌, ◌≤◌, length}
 use Rattle.brace_grid.specs.Grids.{digits}
-use Rattle.brace_grid.specs.inner.Search.{IsHalved}
+use Rattle.brace_grid.proofs.Halving.{IsHalved}
 use Rattle.brace_grid.proofs.search.rank.Given as goal
 
 abbrev pub invariant-loop-low : goal.invariant-loop-low
