@@ -21,6 +21,7 @@ pub record OnGrid : Type 0 where
   pub places : List Point
   pub side : ℤ
 
+-- where both coordinates are 0
 abbrev pub origin : Point
 origin = record { x = pos 0; y = pos 0 }
 
@@ -33,6 +34,7 @@ place_of program a =
 abbrev pub grid_of : Program → List Agent → ℤ → OnGrid
 grid_of program agents side = record { places = map (place_of program) agents; side = side }
 
+-- a number is from one number to another, both included
 abbrev pub is_between : ℤ → ℤ → ℤ → Bool
 is_between low high v = int_le low v && int_le v high
 
@@ -40,6 +42,7 @@ is_between low high v = int_le low v && int_le v high
 abbrev pub is_inside : Area → Point → Bool
 is_inside area p = is_between area.x0 area.x1 p.x && is_between area.y0 area.y1 p.y
 
+-- the place of an index
 abbrev pub place_at : List Point → ℕ → Point
 place_at places i = slice_index_or places i origin
 
@@ -62,6 +65,7 @@ abbrev pub is_touched : ℤ → Area → Point → Bool
 is_touched side area p = is_between (strip side area.x0) (strip side area.x1) (strip side p.x)
     && is_between (strip side area.y0) (strip side area.y1) (strip side p.y)
 
+-- two cells have the same numbers
 abbrev pub same_cell : Point → Point → Bool
 same_cell a b = int_eq a.x b.x && int_eq a.y b.y
 
@@ -73,7 +77,8 @@ kept_cells grid = distinct_count same_cell (map (cell_of grid.side) grid.places)
 abbrev pub digits : ℕ → ℕ
 digits n = length (digits_of 2 n)
 
--- how many looks at agents and cells a probe takes at most
+-- how many looks at agents and cells a probe takes at most: one at each agent in a touched cell,
+-- and for each of 3 by 3 cells a halving search and two more
 abbrev pub most_looks : OnGrid → Area → ℕ
 most_looks grid area =
     count_by (is_touched grid.side area) grid.places + 9 * (2 + digits (kept_cells grid))

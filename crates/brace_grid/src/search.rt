@@ -18,7 +18,7 @@ pub struct Block {
     north: i64,
 }
 
-/// The cells of a side that an area touches.
+/// The cells that an area touches, where each has sides of a length of at least one unit.
 pub fn block_of(area: &Area, side: i64) -> Block
     requires { pos 1000000 ≤ℤ side }
     ensures block { result ≡ block_of side area.now }
@@ -81,6 +81,7 @@ fn is_inside(area: &Area, spot: Spot) -> bool
     is_between(area.x0, area.x1, spot.x) && is_between(area.y0, area.y1, spot.y)
 }
 
+/// Whether a number is from `low` to `high`.
 fn is_between(low: i64, high: i64, v: i64) -> bool
     ensures { result ≡ is_between low high v }
 {

@@ -17,10 +17,11 @@ spot p side i = record {
   index = i;
 }
 
+-- the spot of the agent of an index
 abbrev pub spot_at : ℤ → List Point → ℕ → Spot
 spot_at side places i = spot (place_at places i) side i
 
--- the spots of agents, by index
+-- the spots of all agents, by index
 abbrev pub spots_of : ℤ → List Point → List Spot
 spots_of side places = map (spot_at side places) (range_with_len 0 (length places))
 
@@ -53,6 +54,7 @@ CellsRise cells = (i j : ℕ) (d : Cell) → i < j → j < length cells
 abbrev pub IsIn : Spot → Cell → Type 0
 IsIn s c = (s.column ≡ c.column) × (s.row ≡ c.row)
 
+-- a spot is in a cell, if there is one
 abbrev pub is_in : Spot → Option Cell → Bool
 is_in s None = false
 is_in s (Some c) = int_eq c.column s.column && int_eq c.row s.row

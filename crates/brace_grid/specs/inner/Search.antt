@@ -41,6 +41,7 @@ block_of side area = record {
   north = strip side area.y1;
 }
 
+-- a spot is in a cell of a block
 abbrev pub is_in_block : Block → Spot → Bool
 is_in_block block s =
     is_between block.west block.east s.column && is_between block.south block.north s.row
