@@ -18,7 +18,7 @@ pub struct Block {
     north: i64,
 }
 
-/// The cells that an area touches, where each has sides of a length of at least one unit.
+/// The cells that an area touches, of a side of at least one unit.
 pub fn block_of(area: &Area, side: i64) -> Block
     requires { pos 1000000 ≤ℤ side }
     ensures block { result ≡ block_of side area.now }
