@@ -13,11 +13,11 @@ use Rattle.std.proofs.lemmas.Map.Made.{length-from_keys}
 use Rattle.brace_num.specs.declared.kinds.Area.{Area}
 use Rattle.brace_grid.specs.declared.cells.Spot.{Spot}
 use Rattle.brace_grid.specs.declared.cells.Cell.{Cell}
-use Rattle.brace_grid.specs.Grids.{Point, origin, place_at, strip, cell_of, same_cell, is_between, is_inside, is_touched, inside}
+use Rattle.brace_grid.specs.Grids.{Point, origin, place_at, cell_number, cell_of, same_cell, is_between, is_inside, is_touched, inside}
 use Rattle.brace_grid.specs.inner.Layout.{spot_at, spots_of, before, IsLayoutOf}
 use Rattle.brace_grid.specs.inner.Search.{block_of, is_in_block, is_chosen}
 use Rattle.brace_grid.proofs.Counts.{count_same, count_map, count_filter}
-use Rattle.brace_grid.proofs.Strips.{strip_rises}
+use Rattle.brace_grid.proofs.Numbers.{number_rises}
 
 -- places are those at their indices
 pub by_index : (places : List Point) → places ≡ map (place_at places) (range_with_len 0 (length places))
@@ -27,10 +27,10 @@ pub any_map : {X Y : Type 0} (p : Y → Bool) (f : X → Y) (xs : List X) → li
 any_map p f [] = refl
 any_map p f (x ∷ xs) = ap (λ b. p (f x) || b) (any_map p f xs)
 
--- what is between two coordinates is in a strip between theirs
-strip_between : (side : ℤ) → pos 1 ≤ℤ side → (low high v : ℤ) → is_between low high v ≡ true → is_between (strip side low) (strip side high) (strip side v) ≡ true
-strip_between side some low high v h =
-    of_ends (strip side low) (strip side high) (strip side v) (strip_rises side some low v (low_end low high v h)) (strip_rises side some v high (high_end low high v h))
+-- what is between two coordinates is in a cell whose number is between theirs
+number_between : (side : ℤ) → pos 1 ≤ℤ side → (low high v : ℤ) → is_between low high v ≡ true → is_between (cell_number side low) (cell_number side high) (cell_number side v) ≡ true
+number_between side some low high v h =
+    of_ends (cell_number side low) (cell_number side high) (cell_number side v) (number_rises side some low v (low_end low high v h)) (number_rises side some v high (high_end low high v h))
   where
     low_end : (low high v : ℤ) → is_between low high v ≡ true → low ≤ℤ v
     low_end low high v h = grind (arith, ints, h)
@@ -52,7 +52,7 @@ both_true a b h g = ap₂ (λ x y. x && y) h g
 touched_inside : (side : ℤ) → pos 1 ≤ℤ side → (area : Area) (p : Point) → is_inside area p ≡ true → is_touched side area p ≡ true
 touched_inside side some area p h =
     let (x, y) = first_both (is_between area.x0 area.x1 p.x) (is_between area.y0 area.y1 p.y) h in
-    both_true _ _ (strip_between side some area.x0 area.x1 p.x x) (strip_between side some area.y0 area.y1 p.y y)
+    both_true _ _ (number_between side some area.x0 area.x1 p.x x) (number_between side some area.y0 area.y1 p.y y)
 
 absorbs : (a q t : Bool) → (a ≡ true → t ≡ true) → ((a && q) && t) ≡ (a && q)
 absorbs true true t h = h refl

@@ -2,7 +2,7 @@ pub mod Orders
 pub mod Halving
 pub mod Places
 pub mod Walk
-pub mod Strips
+pub mod Numbers
 pub mod Counts
 pub mod Columns
 pub mod Blocks

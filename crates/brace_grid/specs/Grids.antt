@@ -51,19 +51,21 @@ abbrev pub inside : Area → List Point → List ℕ
 inside area places =
     filter (λ i. is_inside area (place_at places i)) (range_with_len 0 (length places))
 
--- the number along an axis of the cells that a coordinate is in
-abbrev pub strip : ℤ → ℤ → ℤ
-strip side v = int_div_euclid v side
+-- the number along an axis of the cells that a coordinate is in: how often their side goes into it,
+-- rounded down
+abbrev pub cell_number : ℤ → ℤ → ℤ
+cell_number side v = int_div_euclid v side
 
 -- the cell that a point is in
 abbrev pub cell_of : ℤ → Point → Point
-cell_of side p = record { x = strip side p.x; y = strip side p.y }
+cell_of side p = record { x = cell_number side p.x; y = cell_number side p.y }
 
 -- an area touches the cell that a point is in: its number lies between those of the area's ends,
 -- along both axes
 abbrev pub is_touched : ℤ → Area → Point → Bool
-is_touched side area p = is_between (strip side area.x0) (strip side area.x1) (strip side p.x)
-    && is_between (strip side area.y0) (strip side area.y1) (strip side p.y)
+is_touched side area p =
+    is_between (cell_number side area.x0) (cell_number side area.x1) (cell_number side p.x)
+    && is_between (cell_number side area.y0) (cell_number side area.y1) (cell_number side p.y)
 
 -- two cells have the same numbers
 abbrev pub same_cell : Point → Point → Bool

@@ -82,7 +82,7 @@ fn probed(alloc: Global, grid: &Grid, area: &Area) -> Result<Vec<u32>, Fail>
     found::<Brand>(alloc, grid, area, Blank::new(1))
 }
 
-// The bounds of areas along x and y, and the indices of the agents in them.
+/// The bounds of areas along x and y, and the indices of the agents in them.
 type Probes<'a> = &'a [(i64, i64, i64, i64, &'a [u32])];
 
 const PLACES: [(i64, i64); 9] = [

@@ -5,13 +5,13 @@ use Rattle.std.specs.List.{list_any, range_with_len}
 use Rattle.std.specs.List.Sorted.{IsPermutation}
 use Rattle.brace_grid.specs.declared.cells.Spot.{Spot}
 use Rattle.brace_grid.specs.declared.cells.Cell.{Cell}
-use Rattle.brace_grid.specs.Grids.{Point, origin, place_at, strip}
+use Rattle.brace_grid.specs.Grids.{Point, origin, place_at, cell_number}
 
 -- the spot of an agent at a place, of an index
 abbrev pub spot : Point → ℤ → ℕ → Spot
 spot p side i = record {
-  column = strip side p.x;
-  row = strip side p.y;
+  column = cell_number side p.x;
+  row = cell_number side p.y;
   x = p.x;
   y = p.y;
   index = i;

@@ -5,7 +5,7 @@ use Rattle.brace_num.specs.declared.kinds.Area.{Area}
 use Rattle.brace_grid.specs.declared.cells.Spot.{Spot}
 use Rattle.brace_grid.specs.declared.cells.Cell.{Cell}
 use Rattle.brace_grid.specs.declared.search.Block.{Block}
-use Rattle.brace_grid.specs.Grids.{is_between, is_inside, strip}
+use Rattle.brace_grid.specs.Grids.{is_between, is_inside, cell_number}
 use Rattle.brace_grid.specs.inner.Layout.{before}
 
 -- so many cells come before cell (column, row)
@@ -35,10 +35,10 @@ is_in_rows column south north s = int_eq s.column column && is_between south nor
 -- the cells that an area touches
 abbrev pub block_of : ℤ → Area → Block
 block_of side area = record {
-  west = strip side area.x0;
-  east = strip side area.x1;
-  south = strip side area.y0;
-  north = strip side area.y1;
+  west = cell_number side area.x0;
+  east = cell_number side area.x1;
+  south = cell_number side area.y0;
+  north = cell_number side area.y1;
 }
 
 -- a spot is in a cell of a block

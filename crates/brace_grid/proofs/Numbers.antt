@@ -1,10 +1,10 @@
--- Coordinates and the numbers of their strips.
+-- Coordinates and the numbers of their cells.
 use Rattle.std.proofs.Common.{ℕ, ◌+◌, ◌*◌, ◌/◌, ◌<◌, ◌≤◌, ℤ, pos, negsuc, ◌+ℤ◌, ◌-ℤ◌, ◌*ℤ◌, ◌≤ℤ◌, ◌<ℤ◌, FitsSigned, w64, arith, ⊎_elim}
 use Rattle.std.proofs.lemmas.Int.{ints}
 use Rattle.std.proofs.lemmas.Bool.{cases_lt}
 use Rattle.std.proofs.lemmas.Nat.{div_below, le-div}
 use Rattle.std.proofs.Math.Nat.{div-mul-le_self, mul-le-mul_right, add-mul}
-use Rattle.brace_grid.specs.Grids.{strip}
+use Rattle.brace_grid.specs.Grids.{cell_number}
 
 div_mono : (a b n : ℕ) → 0 < n → a ≤ b → a / n ≤ b / n
 div_mono a b n some h = le-div (a / n) b n some (omega (arith, div-mul-le_self a n, h))
@@ -31,35 +31,35 @@ pos_side : (P : ℤ → Type 0) → ((n : ℕ) → 0 < n → P (pos n)) → (sid
 pos_side P f (pos n) h = f n (omega (arith, ints, h))
 pos_side P f (negsuc n) h = absurd (omega (arith, ints, h))
 
--- strips rise with coordinates
-pub strip_rises : (side : ℤ) → pos 1 ≤ℤ side → (v w : ℤ) → v ≤ℤ w → strip side v ≤ℤ strip side w
-strip_rises = pos_side (λ side. (v w : ℤ) → v ≤ℤ w → strip side v ≤ℤ strip side w) rises
+-- numbers of cells rise with coordinates
+pub number_rises : (side : ℤ) → pos 1 ≤ℤ side → (v w : ℤ) → v ≤ℤ w → cell_number side v ≤ℤ cell_number side w
+number_rises = pos_side (λ side. (v w : ℤ) → v ≤ℤ w → cell_number side v ≤ℤ cell_number side w) rises
   where
-    rises : (n : ℕ) → 0 < n → (v w : ℤ) → v ≤ℤ w → strip (pos n) v ≤ℤ strip (pos n) w
+    rises : (n : ℕ) → 0 < n → (v w : ℤ) → v ≤ℤ w → cell_number (pos n) v ≤ℤ cell_number (pos n) w
     rises n some (pos a) (pos b) h = omega (arith, ints, div_mono a b n some (omega (arith, ints, h)))
     rises n some (negsuc a) (pos b) h = omega (arith, ints)
     rises n some (negsuc a) (negsuc b) h = omega (arith, ints, div_mono b a n some (omega (arith, ints, h)))
     rises n some (pos a) (negsuc b) h = absurd (omega (arith, ints, h))
 
--- coordinates at most two sides apart are at most two strips apart
-pub strip_near : (side : ℤ) → pos 1 ≤ℤ side → (v w : ℤ) → (w -ℤ v) ≤ℤ (pos 2 *ℤ side) → strip side w ≤ℤ (strip side v +ℤ pos 2)
-strip_near = pos_side (λ side. (v w : ℤ) → (w -ℤ v) ≤ℤ (pos 2 *ℤ side) → strip side w ≤ℤ (strip side v +ℤ pos 2)) near
+-- coordinates at most two sides apart are at most two cells apart
+pub number_near : (side : ℤ) → pos 1 ≤ℤ side → (v w : ℤ) → (w -ℤ v) ≤ℤ (pos 2 *ℤ side) → cell_number side w ≤ℤ (cell_number side v +ℤ pos 2)
+number_near = pos_side (λ side. (v w : ℤ) → (w -ℤ v) ≤ℤ (pos 2 *ℤ side) → cell_number side w ≤ℤ (cell_number side v +ℤ pos 2)) near
   where
-    near : (n : ℕ) → 0 < n → (v w : ℤ) → (w -ℤ v) ≤ℤ (pos 2 *ℤ pos n) → strip (pos n) w ≤ℤ (strip (pos n) v +ℤ pos 2)
+    near : (n : ℕ) → 0 < n → (v w : ℤ) → (w -ℤ v) ≤ℤ (pos 2 *ℤ pos n) → cell_number (pos n) w ≤ℤ (cell_number (pos n) v +ℤ pos 2)
     near n some (pos a) (pos b) h = omega (arith, ints, div_far a b n some (omega (arith, ints, h)))
     near n some (negsuc a) (pos b) h = omega (arith, ints, div_meet a b n some (omega (arith, ints, h)))
     near n some (negsuc a) (negsuc b) h = omega (arith, ints, div_far b a n some (omega (arith, ints, h)))
     near n some (pos a) (negsuc b) h = omega (arith, ints)
 
 -- cells of a unit or more have small numbers
-pub strip_small : (side : ℤ) → pos 1000000 ≤ℤ side → (v : ℤ) → v ≤ℤ pos 9223372036854775807 → strip side v ≤ℤ pos 9223372036854
-strip_small (pos n) big (pos a) h = omega (arith, ints, div_below a n 9223372036855 (omega (arith, ints, big)) (omega (arith, ints, big, h)))
-strip_small (pos n) big (negsuc a) h = omega (arith, ints)
-strip_small (negsuc n) big v h = absurd (omega (arith, ints, big))
+pub number_small : (side : ℤ) → pos 1000000 ≤ℤ side → (v : ℤ) → v ≤ℤ pos 9223372036854775807 → cell_number side v ≤ℤ pos 9223372036854
+number_small (pos n) big (pos a) h = omega (arith, ints, div_below a n 9223372036855 (omega (arith, ints, big)) (omega (arith, ints, big, h)))
+number_small (pos n) big (negsuc a) h = omega (arith, ints)
+number_small (negsuc n) big v h = absurd (omega (arith, ints, big))
 
--- a strip of cells of a unit or more is not the last that 64 bits can number
-pub strip_low : (side v : ℤ) → pos 1000000 ≤ℤ side → FitsSigned w64 v → strip side v <ℤ pos 9223372036854775807
-strip_low side v big fits = omega (arith, ints, strip_small side big v (top v fits))
+-- the number of a cell of a unit or more is not the last that 64 bits can hold
+pub number_low : (side v : ℤ) → pos 1000000 ≤ℤ side → FitsSigned w64 v → cell_number side v <ℤ pos 9223372036854775807
+number_low side v big fits = omega (arith, ints, number_small side big v (top v fits))
   where
     top : (v : ℤ) → FitsSigned w64 v → v ≤ℤ pos 9223372036854775807
     top v fits = omega (arith, ints, fits)
