@@ -1,17 +1,20 @@
 // What publishers make of what they are shown, and runs of small crews to their end.
-ghost use Rattle.std.specs.Prelude.{◌≡◌, ◌≤◌, IfOk, false};
+ghost use Rattle.std.specs.Prelude.{◌≡◌, ◌≤◌, ◌+◌, IfOk, false};
+ghost use Rattle.brace_lanes.specs.Seats.{new_seats};
 ghost use Rattle.brace_model.specs.Next.{has_births};
-ghost use Rattle.brace_pieces.specs.Settings.{LawfulSetting};
+ghost use Rattle.brace_pieces.specs.Settings.{LawfulSetting, parts};
 
 use super::scripts::{Run, agent, setting};
 use brace_crew::{
-    CrewFault, FilePublisher, Keeper, PubFault, Publisher, ShelfKeeper, SumPublisher, crew_run,
+    Bench, CrewFault, Drive, FilePublisher, Keeper, PubFault, Publisher, ShelfKeeper, SumPublisher,
+    benches, crew_run,
 };
 use brace_io::{MemShelf, MemSink, OpenGate, Sink};
+use brace_lanes::{LaneSeat, Lanes};
 use brace_model::Value;
 use brace_num::{List, NoMemory};
 use brace_part::Counts;
-use brace_pieces::{Setting, Shown};
+use brace_pieces::{Piece, Setting, Shown};
 use std::alloc::Global;
 use std::sync::Wait;
 use std::test::Fail;
@@ -250,5 +253,52 @@ fn runs_to_the_end_and_saves_each_end(rt: HostRuntime) -> Result<(), Fail> {
         assert!(rt; shelf.file("c.3") == Some(at_3));
         assert!(rt; shelf.file("c.4") == Some(at_4));
     }
+    Ok(())
+}
+/// The benches of a run on two workers.
+fn two_benches<'a>(
+    alloc: Global,
+    setting: &'a Setting,
+    lanes: &'a Lanes<Piece>,
+    seats: Vec<LaneSeat<Piece>>,
+) -> Result<(Bench<'a, SumPublisher>, Bench<'a, SumPublisher>), Fail>
+    requires lawful { LawfulSetting setting.now }
+    requires childless { has_births setting.now.job.program ≡ false }
+    requires seats { seats.items ≡ new_seats lanes.now setting.now (parts setting.now + 1) 2 2 }
+{
+    let Ok(mut both) = benches(alloc, setting, lanes, seats, 2, SumPublisher::make()) else {
+        return Err("no benches".into());
+    };
+    match (both.pop(), both.pop()) {
+        (Some(second), Some(first)) => Ok((first, second)),
+        _ => Err("no two benches".into()),
+    }
+}
+
+/// What driving the first of two benches comes to, and whether both end that are driven by turns.
+fn driven(alloc: Global, setting: &Setting) -> Result<(Drive, bool), Fail>
+    requires lawful { LawfulSetting setting.now }
+    requires childless { has_births setting.now.job.program ≡ false }
+{
+    let (lanes, seats) = Lanes::make(alloc, setting, setting.parts() + 1, 2)?;
+    let (mut first, mut second) = two_benches(alloc, setting, &lanes, seats)?;
+    let alone = first.drive(&OpenGate, 3);
+    for _ in 0..1000 {
+        let one = first.drive(&OpenGate, 3);
+        let two = second.drive(&OpenGate, 3);
+        if one == Drive::Complete && two == Drive::Complete {
+            let (members, _) = first.into_members();
+            return Ok((alone, members.len() == 2));
+        }
+    }
+    Ok((alone, false))
+}
+
+#[test]
+fn a_bench_alone_runs_dry_and_two_by_turns_end(rt: HostRuntime) -> Result<(), Fail> {
+    let setting = empty_run(rt.alloc())?;
+    let (alone, ended) = driven(rt.alloc(), &setting)?;
+    assert!(rt; alone == Drive::Dry);
+    assert!(rt; ended);
     Ok(())
 }
