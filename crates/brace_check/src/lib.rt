@@ -13,8 +13,6 @@ mod scope;
 mod share;
 mod statement;
 mod targets;
-#[cfg(test)]
-mod tests;
 mod types;
 
 pub use entry::check;

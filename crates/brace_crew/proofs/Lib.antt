@@ -16,7 +16,6 @@ pub mod CountsGiven
 pub mod RunMembers
 pub mod ToldLemmas
 pub mod RunEnds
-pub mod EmptyRun
 pub mod ActorTurns
 pub mod CountedMembers
 pub mod BenchRounds

@@ -16,8 +16,6 @@ mod roster;
 mod rows;
 mod sum_publisher;
 mod team;
-#[cfg(test)]
-mod tests;
 
 pub use bench::{Bench, Drive};
 pub use crew::{CrewFault, crew_run_alone};
@@ -27,5 +25,6 @@ pub use files::File;
 pub use keeper::{Keeper, ShelfKeeper};
 pub use member::Member;
 pub use publisher::{PubFault, Publisher};
+pub use roster::benches;
 pub use sum_publisher::SumPublisher;
 pub use team::{crew_run, crew_run_on_one};

@@ -64,7 +64,7 @@ fn rosters<'a, P: Publisher>(
 
 /// The benches of a run before their first turns, one for each seat of its lanes, by rising number;
 /// `Err` gives the publisher back where memory is refused.
-pub(crate) fn benches<'a, P: Publisher>(
+pub fn benches<'a, P: Publisher>(
     alloc: Global,
     setting: &'a Setting,
     lanes: &'a Lanes<Piece>,

@@ -7,8 +7,6 @@ mod kinds;
 mod line;
 mod plan;
 mod space;
-#[cfg(test)]
-mod tests;
 
 pub use file::read_plan;
 pub use kinds::{PlanFault, PlanKind};

@@ -14,4 +14,3 @@ pub mod NumberLemmas
 pub mod LawLemmas
 pub mod TypeLemmas
 pub mod LawfulLemmas
-pub mod WorkedLawful

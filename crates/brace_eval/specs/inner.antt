@@ -1,4 +1,3 @@
 pub mod Tables
 pub mod Walks
 pub mod Updates
-pub mod Worked

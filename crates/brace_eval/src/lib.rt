@@ -22,5 +22,3 @@ pub use ledger::with_earlier;
 pub use step::plain_step;
 pub use update::{Left, left_by};
 
-#[cfg(test)]
-mod tests;

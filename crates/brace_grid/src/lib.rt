@@ -6,7 +6,5 @@ mod grid;
 mod looks;
 mod search;
 mod spots;
-#[cfg(test)]
-mod tests;
 
 pub use grid::Grid;

@@ -18,5 +18,4 @@ pub mod Heard
 pub mod HeardSame
 pub mod Kept
 pub mod KeptHeld
-pub mod WorkedLawful
 mod Examples

@@ -6,8 +6,6 @@
 mod distance;
 pub mod laws;
 mod parts;
-#[cfg(test)]
-mod tests;
 
 pub use distance::range;
 pub use parts::{Forward, Inverse, split};

@@ -15,8 +15,6 @@ mod read;
 mod shelf;
 mod sink;
 mod spoken;
-#[cfg(test)]
-mod tests;
 mod write;
 
 pub use dir_shelf::DirShelf;

@@ -7,8 +7,6 @@ mod job;
 pub mod laws;
 mod program;
 mod sight;
-#[cfg(test)]
-mod tests;
 mod world;
 
 pub use brace_num::Area;

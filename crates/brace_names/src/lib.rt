@@ -19,5 +19,3 @@ pub use entry::resolve;
 pub use fault::{NameFault, Which};
 pub use resolved::{Binding, Resolved, Target};
 
-#[cfg(test)]
-mod tests;

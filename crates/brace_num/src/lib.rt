@@ -12,8 +12,6 @@ mod memory;
 mod print;
 mod read;
 mod steps;
-#[cfg(test)]
-mod tests;
 mod text;
 
 pub use boxed::Boxed;

@@ -25,6 +25,3 @@ pub mod OwnLemmas
 pub mod SumLemmas
 pub mod GaveLemmas
 pub mod AllGave
-pub mod DeskLemmas
-pub mod WorkedLawful
-pub mod MemberLemmas

@@ -4,6 +4,7 @@ use Rattle.std.specs.Prelude.{slice_get, nat_lt, if◌then◌else◌, is_some}
 use Rattle.std.proofs.lemmas.Bool.{cases_lt}
 use Rattle.std.proofs.lemmas.Bool.Decides.{nat_tests}
 use Rattle.std.proofs.lemmas.List.Elements.{All-nil}
+use Rattle.brace_model.specs.declared.world.Agent.{Agent}
 use Rattle.brace_model.specs.Next.{has_births}
 use Rattle.brace_pieces.specs.declared.setting.Setting.{Setting}
 use Rattle.brace_pieces.specs.declared.setting.Stage.TheVariants as stage
@@ -25,6 +26,16 @@ use Rattle.brace_pieces.proofs.EpochLemmas.{shown_first}
 use Rattle.brace_part.proofs.NextLemmas.{recut_behind, reaches}
 use Rattle.brace_part.proofs.ShownLemmas.{is_noted, next_stays, first_noted, brings_first}
 use Rattle.brace_part.proofs.ComesLemmas.{note_of, kept_more}
+
+-- what a part owns of the first world
+pub own_first : (s : Setting) (p : ℕ) → owned s.job.program (cuts_of s s.job.first) p s.job.start.agents ≡ own_under s p (cuts_of s s.job.first) s.job.first
+unfolding continued_after
+own_first s p =
+    let none : 0 ≡ s.job.first - s.job.first = omega arith in
+    ap (λ n. owned s.job.program (cuts_of s s.job.first) p (continued_after s n).agents) none
+
+pub own_of : (s : Setting) (p : ℕ) (own : List Agent) → own ≡ owned s.job.program (cuts_of s s.job.first) p s.job.start.agents → own ≡ own_under s p (cuts_of s s.job.first) s.job.first
+own_of s p own is = is ∙ own_first s p
 
 module _ (s : Setting) (p : ℕ) where
   abbrev first : ℕ

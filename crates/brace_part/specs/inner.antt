@@ -2,4 +2,3 @@ pub mod Pieces
 pub mod Tables
 pub mod Ready
 pub mod Sound
-pub mod Worked

@@ -3,19 +3,13 @@
 #![tactic(auto)]
 
 mod counts;
-#[cfg(test)]
-mod desk;
 mod gather;
 pub mod laws;
-#[cfg(test)]
-mod member;
 mod part;
 mod prepare;
 mod query;
 mod standing;
 mod tell;
-#[cfg(test)]
-mod tests;
 mod update;
 mod work;
 

@@ -2,7 +2,6 @@ pub mod Examples
 pub mod Pairs
 pub mod ScheduleLemmas
 pub mod CutLemmas
-pub mod WorkedLawful
 pub mod WorldLemmas
 pub mod FaultLemmas
 pub mod PlaceLemmas

@@ -10,8 +10,6 @@ mod numbers;
 mod piece;
 mod setting;
 mod steps;
-#[cfg(test)]
-mod tests;
 
 pub use course::Course;
 pub use lists::{border_of, hand_of, moves_of, owns};

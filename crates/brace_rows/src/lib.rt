@@ -8,8 +8,6 @@ mod made;
 mod record;
 mod register;
 mod spell;
-#[cfg(test)]
-mod tests;
 mod tick;
 
 pub use agent::print_agent;

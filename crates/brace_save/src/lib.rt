@@ -4,8 +4,6 @@
 mod kinds;
 mod line;
 mod read;
-#[cfg(test)]
-mod tests;
 mod write;
 
 pub use kinds::{Point, PointFault};

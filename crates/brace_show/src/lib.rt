@@ -11,5 +11,3 @@ mod stmt;
 
 pub use entry::show;
 
-#[cfg(test)]
-mod tests;

@@ -10,8 +10,6 @@ mod mark;
 mod operators;
 mod scan;
 mod stmt;
-#[cfg(test)]
-mod tests;
 mod tokens;
 mod tree;
 

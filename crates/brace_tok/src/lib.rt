@@ -8,8 +8,6 @@ mod runs;
 mod scan;
 mod step;
 mod symbols;
-#[cfg(test)]
-mod tests;
 mod words;
 
 pub use fault::TokFault;

@@ -21,5 +21,3 @@ mod words;
 pub use command::{run, run_alone};
 pub use words::built;
 
-#[cfg(test)]
-mod tests;

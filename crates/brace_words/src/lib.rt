@@ -7,8 +7,6 @@ mod line;
 mod mode;
 mod options;
 mod read;
-#[cfg(test)]
-mod tests;
 mod values;
 
 pub use fault::LineFault;

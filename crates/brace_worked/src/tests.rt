@@ -1,5 +1,6 @@
 //! Commands over files in memory, with texts worked by hand: the same with any number of workers.
 mod cut_planes;
+mod failures;
 mod faults;
 mod gates;
 mod refusals;

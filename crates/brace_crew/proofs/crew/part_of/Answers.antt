@@ -1,7 +1,7 @@
 use Rattle.std.proofs.Common.{◌∙◌, ap}
 use Rattle.brace_pieces.specs.Settings.{cuts_of}
 use Rattle.brace_pieces.specs.Owned.{owned}
-use Rattle.brace_part.proofs.WorkedLawful.{own_of}
+use Rattle.brace_part.proofs.StartLemmas.{own_of}
 use Rattle.brace_crew.proofs.crew.part_of.Goals as goal
 
 pub make-requires-clause-owns : goal.make-requires-clause-owns

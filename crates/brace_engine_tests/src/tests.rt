@@ -1,0 +1,9 @@
+//! What no clause says: answers worked by hand, and that calls answer where memory is ample.
+mod crews;
+mod grids;
+mod inversion;
+mod models;
+mod parts;
+mod pieces;
+mod scripts;
+mod steps;

@@ -1,0 +1,304 @@
+// What publishers make of what they are shown, and runs of small crews to their end.
+ghost use Rattle.std.specs.Prelude.{◌≡◌, ◌≤◌, ◌+◌, IfOk, false};
+ghost use Rattle.brace_lanes.specs.Seats.{new_seats};
+ghost use Rattle.brace_model.specs.Next.{has_births};
+ghost use Rattle.brace_pieces.specs.Settings.{LawfulSetting, parts};
+
+use super::scripts::{Run, agent, setting};
+use brace_crew::{
+    Bench, CrewFault, Drive, FilePublisher, Keeper, PubFault, Publisher, ShelfKeeper, SumPublisher,
+    benches, crew_run,
+};
+use brace_io::{MemShelf, MemSink, OpenGate, Sink};
+use brace_lanes::{LaneSeat, Lanes};
+use brace_model::Value;
+use brace_num::{List, NoMemory};
+use brace_part::Counts;
+use brace_pieces::{Piece, Setting, Shown};
+use std::alloc::Global;
+use std::sync::Wait;
+use std::test::Fail;
+use std::thread::Threads;
+
+/// Agents rest.
+const RESTING: &str = "class A{public state fixed x;public state fixed y;}";
+
+/// A run of agents that rest, from tick 0 to tick 4 in epochs of three ticks, of which every
+/// second tick is published.
+fn resting_run(alloc: Global) -> Result<Setting, Fail> {
+    let run = Run {
+        script: RESTING,
+        agents: "",
+        plan: "at 0 x y\n",
+        ticks: (0, 4),
+        epoch: 3,
+        every: 2,
+        invert: false,
+    };
+    setting(alloc, &run)
+}
+
+/// The worlds of these ticks, each of one agent that stands half a unit for each tick along x.
+fn shown(alloc: Global, ticks: &[u32]) -> Result<Vec<Shown>, NoMemory> {
+    let mut worlds = Vec::new(alloc);
+    for tick in ticks {
+        let place = [Value::Fixed(i64::from(*tick) * 500_000), Value::Fixed(-1)];
+        let mut agents = List::new(alloc);
+        agents.push(agent(alloc, 7, &place)?)?;
+        worlds.push(Shown {
+            tick: u64::from(*tick),
+            agents,
+            next: 8,
+        })?;
+    }
+    Ok(worlds)
+}
+
+const AT_3: &[u8] = b"brace checkpoint 1\ntick 3\nseed 5\nclass A x:fixed y:fixed\nA,7,1.500000,\
+ -0.000001\nend 1\n";
+
+const AT_4: &[u8] = b"brace checkpoint 1\ntick 4\nseed 5\nclass A x:fixed y:fixed\nA,7,2.000000,\
+ -0.000001\nend 1\n";
+
+const ROWS_0_2: &[u8] = b"0,A,7,0.000000,-0.000001\n2,A,7,1.000000,-0.000001\n";
+
+const ROW_2: &[u8] = b"2,A,7,1.000000,-0.000001\n";
+
+const ROW_4: &[u8] = b"4,A,7,2.000000,-0.000001\n";
+
+/// What a publisher is asked: whether it saves and whether its run is fresh, the tick and those
+/// that it is shown, and the numbers of the calls of its sink and shelf that fail (0 for none).
+type Asked<'a> = (bool, bool, u64, &'a [u32], u64, u64);
+
+/// What comes of it: its answer, the rows, and the files of the ticks 3 and 4.
+type Came<'a> = (
+    Result<(), PubFault>,
+    &'a [u8],
+    Option<&'a [u8]>,
+    Option<&'a [u8]>,
+);
+
+const CASES: [(Asked, Came); 8] = [
+    // Tick 3 is an end and not published.
+    (
+        (true, true, 3, &[0, 2, 3], 0, 0),
+        (Ok(()), ROWS_0_2, Some(AT_3), None),
+    ),
+    // A run that goes on does not publish its first tick.
+    (
+        (false, false, 3, &[0, 2, 3], 0, 0),
+        (Ok(()), ROW_2, None, None),
+    ),
+    (
+        (true, true, 4, &[4], 0, 0),
+        (Ok(()), ROW_4, None, Some(AT_4)),
+    ),
+    // The tick of a fault is no end.
+    (
+        (true, true, 2, &[0, 2], 0, 0),
+        (Ok(()), ROWS_0_2, None, None),
+    ),
+    // The fault of a tick whose world was shown before.
+    ((true, true, 3, &[], 0, 0), (Ok(()), b"", None, None)),
+    (
+        (true, true, 3, &[2, 3], 0, 2),
+        (Err(PubFault::Save(3)), ROW_2, Some(b""), None),
+    ),
+    (
+        (true, true, 3, &[2, 3], 1, 0),
+        (Err(PubFault::Write), b"", None, None),
+    ),
+    // The flush fails.
+    (
+        (true, true, 3, &[2, 3], 2, 0),
+        (Err(PubFault::Write), ROW_2, None, None),
+    ),
+];
+
+/// The answer of a new publisher to one call, in which it is shown worlds up to a tick.
+fn shown_to<'x, K: Keeper, O: Sink>(
+    alloc: Global,
+    setting: &Setting,
+    out: &'x mut O,
+    keeper: &'x mut K,
+    (save, fresh): (&'x Option<&'x str>, bool),
+    (tick, worlds): (u64, &[Shown]),
+) -> Result<(), PubFault> {
+    let mut publisher = FilePublisher {
+        out,
+        keeper,
+        save,
+        fresh,
+    };
+    publisher.epoch(alloc, setting, tick, worlds)
+}
+
+#[test]
+fn publishes_rows_and_saves_ends(rt: HostRuntime) -> Result<(), Fail> {
+    let alloc = rt.alloc();
+    let setting = resting_run(alloc)?;
+    for (number, (asked, came)) in CASES.iter().enumerate() {
+        let (saves, fresh, tick, ticks, out_fails, shelf_fails) = *asked;
+        let (wanted, rows, at_3, at_4) = *came;
+        let mut out = MemSink::make(alloc, 999, vec![in alloc; out_fails]?)?;
+        let mut shelf = MemShelf::make(alloc, vec![in alloc; shelf_fails]?);
+        shelf.prepare("c.3", 999)?;
+        shelf.prepare("c.4", 999)?;
+        let worlds = shown(alloc, ticks)?;
+        let save = if saves { Some("c") } else { None };
+        let mut keeper = ShelfKeeper { shelf: &mut shelf };
+        let asked = (tick, worlds.as_slice());
+        let answer = shown_to(
+            alloc,
+            &setting,
+            &mut out,
+            &mut keeper,
+            (&save, fresh),
+            asked,
+        );
+        assert!(rt; answer == wanted, "case {number}");
+        assert_eq!(rt; out.bytes(), rows, "case {number}");
+        assert!(rt; shelf.file("c.3") == at_3, "case {number}");
+        assert!(rt; shelf.file("c.4") == at_4, "case {number}");
+    }
+    Ok(())
+}
+
+/// The sum along x of the world that is shown last, once the worlds of these ticks are shown too.
+const SUMS: [(&[u32], i128); 4] = [
+    (&[], 0),
+    (&[1, 2], 1_000_000),
+    (&[], 1_000_000),
+    (&[3], 1_500_000),
+];
+
+#[test]
+fn sums_up_the_last_world(rt: HostRuntime) -> Result<(), Fail> {
+    let alloc = rt.alloc();
+    let setting = resting_run(alloc)?;
+    let mut publisher = SumPublisher::make();
+    assert!(rt; publisher.sums() == (0, 0));
+    for (ticks, wanted) in SUMS {
+        let worlds = shown(alloc, ticks)?;
+        let answer = publisher.epoch(alloc, &setting, 3, worlds.as_slice());
+        let (x, y) = publisher.sums();
+        assert!(rt; answer == Ok(()));
+        assert_eq!(rt; x, wanted);
+        assert_eq!(rt; y, if wanted == 0 { 0 } else { -1 });
+    }
+    Ok(())
+}
+
+/// A run of four ticks without agents, over a plane in two parts.
+fn empty_run(alloc: Global) -> Result<Setting, Fail>
+    ensures lawful { IfOk result LawfulSetting }
+    ensures childless { IfOk result (λ s. has_births s.job.program ≡ false) }
+{
+    let run = Run {
+        script: RESTING,
+        agents: "",
+        plan: "at 0 x 1 y\nat 3 x 2 y\n",
+        ticks: (0, 4),
+        epoch: 3,
+        every: 2,
+        invert: false,
+    };
+    setting(alloc, &run)
+}
+
+/// Runs a setting on 1 to 4 workers, and gives its publisher back with how many seats there were
+/// and what it came to.
+fn run<R: Threads + Wait + Sync, P: Publisher + Send>(
+    rt: &R,
+    alloc: Global,
+    setting: &Setting,
+    workers: u32,
+    publisher: P,
+) -> (P, usize, Result<Counts, CrewFault>)
+    requires lawful { LawfulSetting setting.now }
+    requires childless { has_births setting.now.job.program ≡ false }
+    requires some { 1 ≤ workers }
+    requires few { workers ≤ 4 }
+{
+    let order = u64::from(workers);
+    let (publisher, seats, came) = crew_run(
+        rt, alloc, setting, workers, order, publisher, &OpenGate,
+    );
+    (publisher, seats.len(), came)
+}
+
+#[test]
+fn runs_to_the_end_and_saves_each_end(rt: HostRuntime) -> Result<(), Fail> {
+    let alloc = rt.alloc();
+    for workers in 1..5 {
+        let setting = empty_run(alloc)?;
+        let mut out = MemSink::make(alloc, 999, Vec::new(alloc))?;
+        let mut shelf = MemShelf::make(alloc, Vec::new(alloc));
+        shelf.prepare("c.3", 999)?;
+        shelf.prepare("c.4", 999)?;
+        let save = Some("c");
+        let mut keeper = ShelfKeeper { shelf: &mut shelf };
+        let publisher = FilePublisher {
+            out: &mut out,
+            keeper: &mut keeper,
+            save: &save,
+            fresh: true,
+        };
+        let came = run(&rt, alloc, &setting, workers, publisher);
+        assert_eq!(rt; came.1, if workers == 1 { 0 } else { workers as usize });
+        assert!(rt; came.2 == Ok(Counts::none()));
+        assert!(rt; out.bytes().is_empty());
+        let at_3: &[u8] = b"brace checkpoint 1\ntick 3\nseed 5\nclass A x:fixed y:fixed\nend 0\n";
+        let at_4: &[u8] = b"brace checkpoint 1\ntick 4\nseed 5\nclass A x:fixed y:fixed\nend 0\n";
+        assert!(rt; shelf.file("c.3") == Some(at_3));
+        assert!(rt; shelf.file("c.4") == Some(at_4));
+    }
+    Ok(())
+}
+/// The benches of a run on two workers.
+fn two_benches<'a>(
+    alloc: Global,
+    setting: &'a Setting,
+    lanes: &'a Lanes<Piece>,
+    seats: Vec<LaneSeat<Piece>>,
+) -> Result<(Bench<'a, SumPublisher>, Bench<'a, SumPublisher>), Fail>
+    requires lawful { LawfulSetting setting.now }
+    requires childless { has_births setting.now.job.program ≡ false }
+    requires seats { seats.items ≡ new_seats lanes.now setting.now (parts setting.now + 1) 2 2 }
+{
+    let Ok(mut both) = benches(alloc, setting, lanes, seats, 2, SumPublisher::make()) else {
+        return Err("no benches".into());
+    };
+    match (both.pop(), both.pop()) {
+        (Some(second), Some(first)) => Ok((first, second)),
+        _ => Err("no two benches".into()),
+    }
+}
+
+/// What driving the first of two benches comes to, and whether both end that are driven by turns.
+fn driven(alloc: Global, setting: &Setting) -> Result<(Drive, bool), Fail>
+    requires lawful { LawfulSetting setting.now }
+    requires childless { has_births setting.now.job.program ≡ false }
+{
+    let (lanes, seats) = Lanes::make(alloc, setting, setting.parts() + 1, 2)?;
+    let (mut first, mut second) = two_benches(alloc, setting, &lanes, seats)?;
+    let alone = first.drive(&OpenGate, 3);
+    for _ in 0..1000 {
+        let one = first.drive(&OpenGate, 3);
+        let two = second.drive(&OpenGate, 3);
+        if one == Drive::Complete && two == Drive::Complete {
+            let (members, _) = first.into_members();
+            return Ok((alone, members.len() == 2));
+        }
+    }
+    Ok((alone, false))
+}
+
+#[test]
+fn a_bench_alone_runs_dry_and_two_by_turns_end(rt: HostRuntime) -> Result<(), Fail> {
+    let setting = empty_run(rt.alloc())?;
+    let (alone, ended) = driven(rt.alloc(), &setting)?;
+    assert!(rt; alone == Drive::Dry);
+    assert!(rt; ended);
+    Ok(())
+}

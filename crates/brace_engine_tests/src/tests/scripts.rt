@@ -1,0 +1,101 @@
+// What the tests work on: programs, agents, worlds and runs, of texts.
+ghost use Rattle.std.specs.Prelude.{◌≡◌, IfOk, false};
+ghost use Rattle.brace_model.specs.Lawful.{LawfulProgram};
+ghost use Rattle.brace_model.specs.Next.{has_births};
+ghost use Rattle.brace_pieces.specs.Settings.{LawfulSetting};
+
+use brace_check::check;
+use brace_cuts::read_plan;
+use brace_model::{Agent, Job, Program, Value, has_births};
+use brace_names::resolve;
+use brace_num::{List, NoMemory};
+use brace_pieces::Setting;
+use brace_rows::read_agents;
+use brace_syntax::parse;
+use brace_tok::tokens;
+use std::alloc::Global;
+use std::test::Fail;
+
+/// The program of a script.
+pub fn program(alloc: Global, script: &str) -> Result<Program, Fail>
+    ensures { IfOk result LawfulProgram }
+{
+    let src = script.as_bytes();
+    if src.len() > 1_048_576 {
+        return Err("a long script".into());
+    }
+    let Ok(toks) = tokens(alloc, src) else {
+        return Err("no tokens".into());
+    };
+    let Ok(tree) = parse(alloc, src, toks.as_slice()) else {
+        return Err("no tree".into());
+    };
+    let Ok(resolved) = resolve(alloc, tree) else {
+        return Err("no names".into());
+    };
+    let Ok(program) = check(alloc, resolved) else {
+        return Err("no program".into());
+    };
+    Ok(program)
+}
+
+/// An agent of the first class with these states.
+pub fn agent(alloc: Global, id: u64, values: &[Value]) -> Result<Agent, NoMemory> {
+    let mut states = List::new(alloc);
+    for value in values {
+        states.push(*value)?;
+    }
+    Ok(Agent {
+        class: 0,
+        id,
+        states,
+    })
+}
+
+/// A run: its script, agents and cut plan, its first and last tick, the length of its epochs, every
+/// how many ticks it is published, and whether effects are inverted.
+#[derive(Clone, Copy, Drop)]
+pub struct Run<'a> {
+    pub script: &'a str,
+    pub agents: &'a str,
+    pub plan: &'a str,
+    pub ticks: (u32, u32),
+    pub epoch: u64,
+    pub every: u64,
+    pub invert: bool,
+}
+
+/// The setting of a run of seed 5.
+pub fn setting(alloc: Global, run: &Run) -> Result<Setting, Fail>
+    ensures lawful { IfOk result LawfulSetting }
+    ensures childless { IfOk result (λ s. has_births s.job.program ≡ false) }
+{
+    let (first, last) = run.ticks;
+    if run.epoch < 1 || run.epoch > 16 || run.every < 1 {
+        return Err("no epochs".into());
+    }
+    let program = program(alloc, run.script)?;
+    if has_births(&program) {
+        return Err("births".into());
+    }
+    let Ok(start) = read_agents(alloc, &program, run.agents.as_bytes()) else {
+        return Err("no agents".into());
+    };
+    let Ok(cuts) = read_plan(alloc, run.plan.as_bytes(), run.epoch) else {
+        return Err("no plan".into());
+    };
+    let job = Job {
+        program,
+        seed: 5,
+        first: u64::from(first),
+        last: u64::from(last),
+        every: run.every,
+        start,
+    };
+    Ok(Setting {
+        job,
+        cuts,
+        epoch: run.epoch,
+        invert: run.invert,
+    })
+}

@@ -1,0 +1,161 @@
+// Command lines worked by hand: what they say, and which are none.
+use brace_num::Text;
+use brace_words::{Line, LineFault, read_line};
+use std::alloc::{AllocError, Global};
+
+// A line, and what it says: its mode, its names, its numbers and its flags.
+const LINES: [(&str, &str); 14] = [
+    (
+        "run --script s --agents a --ticks 2",
+        "Run script s agents a ticks 2",
+    ),
+    (
+        "--save=c --stats --order 7 --workers 16 --cuts k --epoch=1 --every 4294967296 \
+         --seed=18446744073709551615 --invert --ticks=4294967296 --agents=a --script=s run",
+        "Run script s agents a cuts k save c ticks 4294967296 seed 18446744073709551615 every \
+         4294967296 epoch 1 workers 16 order 7 invert stats",
+    ),
+    (
+        "resume --script s --from c.2 --ticks 0003",
+        "Resume script s from c.2 ticks 3",
+    ),
+    (
+        "--from - resume --stats --invert --save - --script - --ticks 0 --order \
+         18446744073709551615 --workers 1 --epoch 16 --every 1 --cuts -",
+        "Resume script - from - cuts - save - ticks 0 every 1 epoch 16 workers 1 order \
+         18446744073709551615 invert stats",
+    ),
+    ("check --script s", "Check script s"),
+    ("--script=s.brasil fmt", "Fmt script s.brasil"),
+    ("plan --script s", "Plan script s"),
+    ("--invert plan --script s", "Plan script s invert"),
+    ("trial --count 0 --ticks 0", "Trial ticks 0 count 0"),
+    (
+        "trial --stats --invert --order 1 --workers 2 --epoch 5 --seed 0 --count 1048576 --ticks \
+         20",
+        "Trial ticks 20 count 1048576 seed 0 epoch 5 workers 2 order 1 invert stats",
+    ),
+    ("check --script=-x", "Check script -x"),
+    ("check --script=a=b", "Check script a=b"),
+    ("check --script check", "Check script check"),
+    ("--script s -- check", "Check script s"),
+];
+
+// Words that are no line, each for one reason.
+const REFUSED: [&str; 52] = [
+    "",
+    "run",
+    "walk --script s",
+    "Run --script s --agents a --ticks 2",
+    "--script s --agents a --ticks 2",
+    "check fmt --script s",
+    "check --script s --help",
+    "--version",
+    "check -s s",
+    "check --scrip s",
+    "check --script",
+    "check --script=",
+    "check --script ",
+    "check --script -x",
+    "check --script s --script s",
+    "check --script s extra",
+    "check --script s -- --invert",
+    "run --agents a --ticks 2",
+    "run --script s --ticks 2",
+    "run --script s --agents a",
+    "run --script s --agents a --ticks 2 --ticks=2",
+    "run --script s --agents a --ticks 2 --invert --invert",
+    "run --script s --agents a --ticks 2 --invert=true",
+    "run --script s --agents a --ticks 4294967297",
+    "run --script s --agents a --ticks 18446744073709551616",
+    "run --script s --agents a --ticks +2",
+    "run --script s --agents a --ticks=-2",
+    "run --script s --agents a --ticks=",
+    "run --script s --agents a --ticks 0x2",
+    "run --script s --agents a --ticks 2 --from c",
+    "run --script s --agents a --ticks 2 --count 1",
+    "run --script s --agents a --ticks 2 --every 0",
+    "run --script s --agents a --ticks 2 --every 4294967297",
+    "run --script s --agents a --ticks 2 --epoch 0",
+    "run --script s --agents a --ticks 2 --epoch 17",
+    "run --script s --agents a --ticks 2 --workers 0",
+    "run --script s --agents a --ticks 2 --workers 17",
+    "run --script s --agents a --ticks 2 --workers 4294967297",
+    "run --script s --agents a --ticks 2 --seed 18446744073709551616",
+    "run --script s --agents a --ticks 2 --cuts=",
+    "run --script s --agents a --ticks 2 --watch w",
+    "resume --script s --from c --ticks 2 --agents a",
+    "resume --script s --from c --ticks 2 --seed 0",
+    "resume --script s --ticks 2",
+    "check --script s --invert",
+    "fmt --script s --ticks 2",
+    "plan --script s --stats",
+    "plan",
+    "trial --ticks 2",
+    "trial --count 1048577 --ticks 2",
+    "trial --count 1 --ticks 2 --script s",
+    "trial --count 1 --ticks 2 --every 1",
+];
+
+/// The words of a text, parted by single spaces.
+fn words_of(alloc: Global, text: &str) -> Result<Vec<String>, AllocError> {
+    let mut words = Vec::new(alloc);
+    for word in text.split(' ') {
+        words.push(String::from_str(alloc, word)?)?;
+    }
+    Ok(words)
+}
+
+/// What a line says: its mode, its names, its numbers and its flags.
+fn said(alloc: Global, line: &Line) -> Result<String, AllocError> {
+    let mut text = format!(in alloc; "{:?}", line.mode)?;
+    push_name(&mut text, " script ", &line.script)?;
+    push_name(&mut text, " agents ", &line.agents)?;
+    push_name(&mut text, " from ", &line.from)?;
+    push_name(&mut text, " cuts ", &line.cuts)?;
+    push_name(&mut text, " save ", &line.save)?;
+    for (name, number) in [
+        ("ticks", line.ticks),
+        ("count", line.count.map(u64::from)),
+        ("seed", line.seed),
+        ("every", line.every),
+        ("epoch", line.epoch),
+        ("workers", line.workers.map(u64::from)),
+        ("order", line.order),
+    ] {
+        if let Some(number) = number {
+            text.push_str(format!(in alloc; " {name} {number}")?.as_str())?;
+        }
+    }
+    for (name, is_set) in [(" invert", line.invert), (" stats", line.stats)] {
+        if is_set {
+            text.push_str(name)?;
+        }
+    }
+    Ok(text)
+}
+
+fn push_name(text: &mut String, label: &str, name: &Option<Text>) -> Result<(), AllocError> {
+    if let Some(name) = name {
+        text.push_str(label)?;
+        text.push_str(name.as_str())?;
+    }
+    Ok(())
+}
+
+#[test]
+fn reads_lines_and_refuses_all_else(rt: HostRuntime) -> Result<(), AllocError> {
+    for (text, want) in LINES {
+        let words = words_of(rt.alloc(), text)?;
+        let line = read_line(rt.alloc(), words.as_slice()).expect(&rt, text);
+        assert_eq!(rt; said(rt.alloc(), &line)?.as_str(), want);
+    }
+    for text in REFUSED {
+        let words = words_of(rt.alloc(), text)?;
+        let fault = read_line(rt.alloc(), words.as_slice()).expect_err(&rt, text);
+        assert_eq!(rt; fault, LineFault::Usage, "{text}");
+    }
+    let fault = read_line(rt.alloc(), &[]).expect_err(&rt, "no words");
+    assert_eq!(rt; fault, LineFault::Usage);
+    Ok(())
+}
