@@ -4,6 +4,7 @@ ghost use Rattle.brace_io.specs.Shelves.{Idle, Stopped};
 
 use crate::count::Count;
 use crate::draft::Draft;
+use crate::host_files::HostFiles;
 use crate::{Failed, ReadFault, Shelf};
 use std::alloc::Global;
 use std::fs::File;
@@ -28,7 +29,7 @@ pub(crate) enum DirStage<F> {
 #[derive(Drop)]
 pub struct DirShelf<'a, R: Files> {
     alloc: Global,
-    rt: &'a R,
+    host: HostFiles<'a, R>,
     stage: DirStage<R::File>,
     faults: Count,
 }
@@ -44,7 +45,7 @@ impl<'a, R: Files> DirShelf<'a, R> {
     {
         DirShelf {
             alloc,
-            rt,
+            host: HostFiles { rt },
             stage: DirStage::Idle,
             faults: Count::zero(),
         }
@@ -56,7 +57,7 @@ impl<'a, R: Files> DirShelf<'a, R> {
         ensures never_falls { self.old.faults ≤ self.new.faults }
     {
         if let DirStage::Writing(draft) = &self.stage {
-            draft.remove(self.rt);
+            draft.remove(&mut self.host);
         }
         self.stage = DirStage::Stopped;
         self.faults.raise();
@@ -75,7 +76,7 @@ impl<'a, R: Files> Shelf for DirShelf<'a, R> {
     ghost stage = { λ shelf. host_stage shelf.stage };
 
     fn begin_read(&mut self, name: &str) -> Result<(), ReadFault> {
-        match File::open(self.rt, name) {
+        match File::open(self.host.rt, name) {
             Ok(file) => {
                 self.stage = DirStage::Reading(file);
                 Ok(())
@@ -102,7 +103,7 @@ impl<'a, R: Files> Shelf for DirShelf<'a, R> {
     }
 
     fn create(&mut self, name: &str) -> Result<(), Failed> {
-        match Draft::create(self.alloc, self.rt, name) {
+        match Draft::create(self.alloc, &mut self.host, name) {
             Some(draft) => {
                 self.stage = DirStage::Writing(draft);
                 Ok(())
@@ -126,7 +127,7 @@ impl<'a, R: Files> Shelf for DirShelf<'a, R> {
         let DirStage::Writing(draft) = &self.stage else {
             return Err(self.fail());
         };
-        match draft.keep(self.rt) {
+        match draft.keep(&mut self.host) {
             Ok(()) => {
                 self.stage = DirStage::Idle;
                 Ok(())
