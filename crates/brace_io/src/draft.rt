@@ -34,13 +34,14 @@ impl<F: Write + OpenFile + Drop> Draft<F> {
         ensures named { IfSome result (λ draft. string_bytes draft.name ≡ name.now) }
         ensures beside { IfSome result
             (λ draft. StandsBeside name.now (path_buf_bytes draft.beside)) }
-        ensures free { IfSome result (λ draft. Lacks (H.files host.old) (path_buf_bytes draft.beside)) }
+        ensures free { IfSome result
+            (λ draft. Lacks (H.files host.old) (path_buf_bytes draft.beside)) }
     {
         let kept = host.permissions(name).ok()?;
         let name = String::from_str(alloc, name).ok()?;
         let (file, beside) = make_beside(alloc, host, name.as_str(), kept.is_some())?;
         let draft = Draft { file, beside, name };
-        if draft.takes(kept).is_err() {
+        if draft.give(kept).is_err() {
             draft.remove(host);
             return None;
         }
@@ -48,7 +49,7 @@ impl<F: Write + OpenFile + Drop> Draft<F> {
     }
 
     /// Gives the file the permissions, where there are some.
-    fn takes(&self, kept: Option<Permissions>) -> io::Result<()> {
+    fn give(&self, kept: Option<Permissions>) -> io::Result<()> {
         match kept {
             Some(kept) if self.file.metadata()?.permissions() != kept => {
                 self.file.set_permissions(kept)
@@ -64,7 +65,8 @@ impl<F: Write + OpenFile + Drop> Draft<F> {
         self.file.write(piece)
     }
 
-    /// Brings the file to the disk, and then to its name, whatever had the name before.
+    /// Brings the file to the disk, and then to its name, in place of what had the name. After a
+    /// failure it is where it was.
     pub(crate) fn keep<H: Host<File = F>>(&self, host: &mut H) -> io::Result<()>
         ensures only { OnlyAtBoth (H.files host.old) (H.files host.new)
             (path_buf_bytes self.now.beside) (string_bytes self.now.name) }
@@ -78,7 +80,8 @@ impl<F: Write + OpenFile + Drop> Draft<F> {
 
     /// Removes the file, where the host can.
     pub(crate) fn remove<H: Host<File = F>>(&self, host: &mut H)
-        ensures only { OnlyAt (H.files host.old) (H.files host.new) (path_buf_bytes self.now.beside) }
+        ensures only { OnlyAt (H.files host.old) (H.files host.new)
+            (path_buf_bytes self.now.beside) }
     {
         host.remove(self.beside.as_str());
     }
