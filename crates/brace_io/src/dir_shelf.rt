@@ -23,11 +23,11 @@ pub(crate) enum DirStage<F> {
 /// A shelf of host files; a name is a path from the current folder. It counts the host's failures
 /// and does not tell what files hold.
 ///
-/// A file is written as a draft, `.brace-part-K` in the folder of its name with the first K from 0 to
-/// 99 under which nothing stands, and takes the name when it is whole and on the disk: until then the
-/// name keeps what it had, and so it does where the program ends in between. The draft is removed
-/// where the writing fails. A file that had the name leaves its permissions; a symbolic link is
-/// replaced; a folder, a pipe, a device and a file that may not be written are a failure.
+/// A file is written as a draft, `.brace-part-K` in the folder of its name with the first K from 0
+/// to 99 under which nothing stands, and takes the name when it is whole and on the disk: until
+/// then the name keeps what it had, and so it does where the program ends in between. The draft is
+/// removed where the writing fails. A file that had the name leaves its permissions; a symbolic
+/// link is replaced; a folder, a pipe, a device and a file that may not be written are a failure.
 #[derive(Drop)]
 pub struct DirShelf<'a, R: Files> {
     alloc: Global,
