@@ -56,7 +56,7 @@ for number in range(int(times)):
     name = r.choice(list(worlds))
     ticks = worlds[name][1]
     for old in os.listdir(work):
-        if old.startswith("c."):
+        if old.startswith(("c.", ".brace-part-")):
             os.remove(f"{work}/{old}")
     epoch = str(r.choice([1, 2, 3, 5, 16]))
     words = run(["run", "--agents", f"{work}/{name}", "--seed", "7"], ticks,
@@ -70,10 +70,10 @@ for number in range(int(times)):
         rows = f.read()
     if not whole[name].startswith(rows):
         sys.exit(f"{words}: not a front of the rows")
-    saved = [old for old in os.listdir(work) if old.startswith("c.")]
-    if any(old.endswith(".part") for old in saved):
+    left = os.listdir(work)
+    if any(old.startswith(".brace-part-") for old in left):
         outcomes["within a save"] += 1
-    ends = [int(old[2:]) for old in saved if not old.endswith(".part")]
+    ends = [int(old[2:]) for old in left if old.startswith("c.")]
     if status == 0:
         outcomes["ended before it was killed"] += 1
     if not ends:

@@ -4,3 +4,4 @@ mod numbers;
 mod plans;
 mod rows;
 mod shelves;
+mod sinks;

@@ -4,6 +4,7 @@ ghost use Rattle.brace_io.specs.Shelves.{Idle, Stopped};
 
 use crate::count::Count;
 use crate::draft::Draft;
+use crate::host_files::HostFiles;
 use crate::{Failed, ReadFault, Shelf};
 use std::alloc::Global;
 use std::fs::File;
@@ -22,13 +23,15 @@ pub(crate) enum DirStage<F> {
 /// A shelf of host files; a name is a path from the current folder. It counts the host's failures
 /// and does not tell what files hold.
 ///
-/// A file that is written stands beside its name, as `NAME.part`, and takes the name when it is
-/// whole and on the disk: until then the name keeps what it had, and so it does where the program
-/// ends in between. A file whose writing fails is removed.
+/// A file is written as a draft, `.brace-part-K` in the folder of its name with the first K from 0
+/// to 99 under which nothing stands, and takes the name when it is whole and on the disk: until
+/// then the name keeps what it had, and so it does where the program ends in between. The draft is
+/// removed where the writing fails. A file that had the name leaves its permissions; a symbolic
+/// link is replaced; a folder, a pipe, a device and a file that may not be written are a failure.
 #[derive(Drop)]
 pub struct DirShelf<'a, R: Files> {
     alloc: Global,
-    rt: &'a R,
+    host: HostFiles<'a, R>,
     stage: DirStage<R::File>,
     faults: Count,
 }
@@ -44,7 +47,7 @@ impl<'a, R: Files> DirShelf<'a, R> {
     {
         DirShelf {
             alloc,
-            rt,
+            host: HostFiles { rt },
             stage: DirStage::Idle,
             faults: Count::zero(),
         }
@@ -56,7 +59,7 @@ impl<'a, R: Files> DirShelf<'a, R> {
         ensures never_falls { self.old.faults ≤ self.new.faults }
     {
         if let DirStage::Writing(draft) = &self.stage {
-            draft.remove(self.rt);
+            draft.remove(&mut self.host);
         }
         self.stage = DirStage::Stopped;
         self.faults.raise();
@@ -75,7 +78,7 @@ impl<'a, R: Files> Shelf for DirShelf<'a, R> {
     ghost stage = { λ shelf. host_stage shelf.stage };
 
     fn begin_read(&mut self, name: &str) -> Result<(), ReadFault> {
-        match File::open(self.rt, name) {
+        match File::open(self.host.rt, name) {
             Ok(file) => {
                 self.stage = DirStage::Reading(file);
                 Ok(())
@@ -102,7 +105,7 @@ impl<'a, R: Files> Shelf for DirShelf<'a, R> {
     }
 
     fn create(&mut self, name: &str) -> Result<(), Failed> {
-        match Draft::create(self.alloc, self.rt, name) {
+        match Draft::create(self.alloc, &mut self.host, name) {
             Some(draft) => {
                 self.stage = DirStage::Writing(draft);
                 Ok(())
@@ -126,7 +129,7 @@ impl<'a, R: Files> Shelf for DirShelf<'a, R> {
         let DirStage::Writing(draft) = &self.stage else {
             return Err(self.fail());
         };
-        match draft.keep(self.rt) {
+        match draft.keep(&mut self.host) {
             Ok(()) => {
                 self.stage = DirStage::Idle;
                 Ok(())

@@ -7,6 +7,8 @@ mod dir_shelf;
 mod draft;
 mod fault;
 mod gate;
+mod host;
+mod host_files;
 mod host_sink;
 mod mem_file;
 mod mem_shelf;
