@@ -17,8 +17,6 @@ pub mod RunMembers
 pub mod ToldLemmas
 pub mod RunEnds
 pub mod EmptyRun
-pub mod ActorTurns
-pub mod CountedMembers
 pub mod BenchRounds
 pub mod RosterLemmas
 pub mod GatherLemmas
