@@ -1,13 +1,17 @@
 -- Actors that stand by rising number: the one at a place, and what is left when it has made a turn.
 use Rattle.std.proofs.Common.{◌≡◌, ℕ, zero, suc, ◌+◌, ◌%◌, ◌<◌, Bool, true, false, List, [], ◌∷◌, map, length, get_or, set, slice_index, refl, sym, ap, ◌∙◌, subst, arith}
-use Rattle.std.specs.List.{All, range_with_len}
+use Rattle.std.specs.List.{All, range_with_len, sum_by}
 use Rattle.std.proofs.lemmas.List.{length-map}
+use Rattle.std.proofs.lemmas.List.Sums.{sum_by-set}
 use Rattle.std.proofs.lemmas.List.FromFn.{length-range_with_len, get_or-range_with_len}
 use Rattle.brace_core.specs.declared.name.Turn.{Turn}
 use borrow.Author.Count.{below_more}
-use Rattle.brace_core.specs.Schedule.{Schedule, turn_at}
+use Rattle.brace_core.specs.declared.name.Turn.TheVariants.{Done}
+use Rattle.brace_core.specs.Schedule.{Schedule, turns, turn_at}
+use Rattle.brace_core.specs.Exchanges.{turns_left}
 use Rattle.brace_core.specs.Lanes.{OnLanes}
 use Rattle.brace_core.specs.inner.Turns.{IsFirst, can_make}
+use Rattle.brace_core.proofs.Owners.{left_before}
 
 at_map_of : {A : Type 0} (f : A → ℕ) (xs : List A) (i : ℕ) (d : A) → i < length xs → get_or (map f xs) i 0 ≡ f (get_or xs i d)
 at_map_of f [] i d l = absurd (omega arith)
@@ -39,6 +43,18 @@ module _ {A S : Type 0} (setting : A → S) (number past : A → ℕ) (schedule 
         ap (λ s. turn_at (schedule s) (number a) (past a)) setting_at
         ∙ ap (λ k. turn_at (schedule common) k (past a)) number_at
         ∙ ap (turn_at (schedule common) p) past_at
+
+-- where one of actors has made one turn more, fewer are left in all
+pub left_smaller : {A S : Type 0} (setting : A → S) (number past : A → ℕ) (schedule : S → Schedule) (actors : List A) (p : ℕ) (a b : A) → p < length actors → a ≡ get_or actors p a
+    → setting b ≡ setting a → number b ≡ number a → past b ≡ past a + 1 → (turn_at (schedule (setting a)) (number a) (past a) ≡ Done → ⊥)
+    → sum_by (turns_left setting number past schedule) (set actors p b) < sum_by (turns_left setting number past schedule) actors
+left_smaller {A} {S} setting number past schedule actors p a b low here same own on some =
+    let left : A → ℕ = turns_left setting number past schedule in
+    let sums : sum_by left (set actors p b) + left (get_or actors p a) ≡ sum_by left actors + left b = sum_by-set left actors p b a low in
+    let all : length (turns (schedule (setting b)) (number b)) ≡ length (turns (schedule (setting a)) (number a)) =
+    ap (λ (s : S). length (turns (schedule s) (number b))) same ∙ ap (λ n. length (turns (schedule (setting a)) n)) own in
+    let more : past a < length (turns (schedule (setting a)) (number a)) = left_before (turns (schedule (setting a)) (number a)) (past a) some in
+    omega (arith, ap left here)
 
 -- a search from a drawn number onward, cyclically
 module _ (test : ℕ → Bool) (n count drawn i : ℕ) (is : count ≡ n) (low : i < count) (before : (k : ℕ) → k < i → test ((drawn + k) % n) ≡ false) where

@@ -10,8 +10,9 @@ use Rattle.brace_core.specs.Schedule.{Pair, Schedule, IsLawful, meets, name, nam
 use Rattle.brace_core.specs.Events.{State, opening, is_name, next, is_ready, is_enabled, after, are_enabled, after_all, OnRuns, IsRun, AllDone, end_of, put_on, taken_from, in_flight, is_on, names_put, names_taken}
 use Rattle.brace_core.proofs.Lists.{IsFront, front_takes, same_next, pick_true, pick_false, search_below}
 use Rattle.brace_core.proofs.Turns.{AreLawful, are_lawful, meets_below, all_put as turns_put, all_taken as turns_take, put_front, taken_front, in_step}
-use Rattle.brace_core.proofs.Owners.{IsOwn, own_turns, done_past, left_before}
-use Rattle.brace_core.proofs.Runs.{IsKept, kept_opening, kept_all, put_made, taken_made, put_by_now, taken_by_now, first_in_flight, next_own, taken_more}
+use Rattle.brace_core.proofs.Owners.{own_turns, done_past}
+use Rattle.brace_core.proofs.ActorTurns.{take_front}
+use Rattle.brace_core.proofs.Runs.{IsKept, kept_opening, kept_all, put_made, taken_made, put_by_now, taken_by_now, first_in_flight}
 use Rattle.brace_core.proofs.Progress.{progress_from}
 
 pub lawful_steps : (s : Schedule) → IsLawful s → AreLawful s.actors s.steps
@@ -156,18 +157,6 @@ pub take_ready : (s : Schedule) → AreLawful s.actors s.steps → (x : State) �
     length (taken_by_now s x n.from p) < length (put_by_now s x n.from p) → list_any (is_name n) x.flight ≡ true
 take_ready s lawful x kept p n at more = ready (filter (is_on n.from p) x.flight) refl
   where
-    left : x.place p < length (turns s p)
-    left = left_before (turns s p) (x.place p) (λ done. let no : Take n ≡ Done = sym at ∙ done in absurd cc)
-
-    on : is_on n.from p n ≡ true
-    on = and_from (n.from == n.from) (n.to == p) (eq-eqb n.from n.from refl) (eq-eqb n.to p (subst (IsOwn p) at (next_own s lawful x p left)))
-
-    longer : taken_by_now s (after s x p) n.from p ≡ taken_by_now s x n.from p ++ n ∷ []
-    longer =
-        taken_more s lawful x p left n.from p
-        ∙ ap (λ t. taken_by_now s x n.from p ++ filter (is_on n.from p) (names_taken (t ∷ []))) at
-        ∙ ap (λ names. taken_by_now s x n.from p ++ names) (pick_true (is_on n.from p n) (n ∷ []) [] on)
-
     ready : (flight : List Name) → filter (is_on n.from p) x.flight ≡ flight → list_any (is_name n) x.flight ≡ true
     ready [] e =
         let all : put_by_now s x n.from p ≡ taken_by_now s x n.from p ++ [] = kept.flown n.from p ∙ ap (λ names. taken_by_now s x n.from p ++ names) e in
@@ -176,7 +165,7 @@ take_ready s lawful x kept p n at more = ready (filter (is_on n.from p) x.flight
         let all : put_by_now s x n.from p ≡ taken_by_now s x n.from p ++ m ∷ rest = kept.flown n.from p ∙ ap (λ names. taken_by_now s x n.from p ++ names) e in
         let same : m ≡ n = same_next (taken_by_now s x n.from p) rest [] (lane s n.from p) m n
         (subst (λ names. IsFront names (lane s n.from p)) all (put_front 0 s.actors s.steps lawful n.from p (x.place n.from)))
-        (subst (λ names. IsFront names (lane s n.from p)) longer (taken_front 0 s.actors s.steps lawful p n.from ((after s x p).place p))) in
+        (take_front s p (x.place p) lawful n at) in
         first_in_flight n.from p n x.flight rest (e ∙ ap (λ a. a ∷ rest) same)
 
 -- in such a state all actors are Done, or an event is enabled

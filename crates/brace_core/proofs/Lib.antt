@@ -2,6 +2,8 @@ mod Cases
 pub mod Lists
 pub mod Turns
 pub mod Owners
+pub mod ActorTurns
+pub mod Counted
 pub mod Runs
 pub mod Progress
 pub mod CoreLaw

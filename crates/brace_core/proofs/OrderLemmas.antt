@@ -3,22 +3,24 @@ use Rattle.std.proofs.Common.{◌≡◌, ℕ, zero, suc, ◌+◌, ◌-◌, ◌*�
 use Rattle.std.specs.List.{All, range_with_len, sum_by}
 use Rattle.std.proofs.lemmas.Bool.{eq-eqb, ne_eqb, and_parts, lt-ltb, ltb-true, cases_lt, cases_eq}
 use Rattle.std.proofs.lemmas.List.{get_or-set_same, get_or-set_other, length-map, map-set, get_or_default}
-use Rattle.std.proofs.lemmas.List.Sums.{sum_by-set}
 use Rattle.std.proofs.lemmas.Nat.{mod-mul-add}
 use Rattle.brace_num.specs.Generator.{following}
 use Rattle.brace_core.specs.declared.name.Turn.{Turn}
 use Rattle.brace_core.specs.declared.name.Turn.TheVariants.{Put, Take, Work, Done}
+use Rattle.brace_core.specs.declared.turn.Went.{Went}
+use Rattle.brace_core.specs.declared.turn.Went.TheVariants.{On, Nowhere, Over}
 use Rattle.brace_core.specs.Schedule.{Schedule, IsLawful, lane, turns, turn_at}
 use Rattle.brace_core.specs.Events.{State, opening, next, is_ready, is_enabled, AllDone, IsRun, end_of, put_on, taken_from}
-use Rattle.brace_core.specs.Exchanges.{IsNext}
+use Rattle.brace_core.specs.Exchanges.{IsCounted, WentBy, made_by, put_by, taken_by, turns_left}
 use Rattle.brace_core.specs.Lanes.{OnLanes, puts_of, takes_of}
 use Rattle.brace_core.specs.Order.{IsChosen, IsDrawn, none, one_more, StandsAfter, HasRun}
-use Rattle.brace_core.specs.inner.Turns.{can_make, IsAllowed, IsFirst, put_by, taken_by}
-use Rattle.brace_core.proofs.ActorLemmas.{count, setting_at, past_at, turn_is, all_set, map_kept}
+use Rattle.brace_core.specs.inner.Turns.{can_make, IsFirst}
+use Rattle.brace_core.proofs.ActorLemmas.{count, setting_at, number_at, past_at, turn_is, all_set, map_kept, left_smaller}
 use Rattle.brace_core.proofs.Lists.{pick_true, pick_false}
-use Rattle.brace_core.proofs.Owners.{left_before}
-use Rattle.brace_core.proofs.CoreLaw.{progress, all_put, all_taken}
-use Rattle.brace_core.proofs.Calls.{put_is_next, put_is_answered, take_is_next, take_is_found, end_more, run_more, put_on_more, taken_from_more}
+use Rattle.brace_core.proofs.Turns.{put_first, taken_first}
+use Rattle.brace_core.proofs.Counted.{moved}
+use Rattle.brace_core.proofs.CoreLaw.{put_is, taken_is, progress, all_put, all_taken}
+use Rattle.brace_core.proofs.Calls.{take_is_found, end_more, run_more, put_on_more, taken_from_more}
 
 pub drawn_run : (s : Schedule) (order : ℕ) (events : List ℕ) (g : ℕ) → IsDrawn s order events g → IsRun s events
 drawn_run s order [] g none = refl
@@ -43,6 +45,13 @@ met_from drawn n p low =
 
 not_done : {F S : Type 0} (v : OnLanes F S) (t : Turn) → can_make v t ≡ true → t ≡ Done → ⊥
 not_done v t can done = let no : false ≡ true = ap (can_make v) (sym done) ∙ can in absurd cc
+
+-- an actor whose turn can be made goes on by it
+went_on : {F S A : Type 0} (past : A → ℕ) (v : OnLanes F S) (t : Turn) (a b : A) (went : Went) → can_make v t ≡ true →
+    WentBy past (λ n. nat_lt (takes_of v n.from n.to) (puts_of v n.from n.to) ≡ false) t a b went → (past b ≡ past a + 1) × (went ≡ On)
+went_on past v t a b On can (on, some) = (on, refl)
+went_on past v t a b Nowhere can (same, (n, is, missed)) = absurd (let no : true ≡ false = sym can ∙ ap (can_make v) is ∙ missed in cc)
+went_on past v t a b Over can (same, done) = absurd (not_done v t can done)
 
 module _ {F S : Type 0} (s : Schedule) (lawful : IsLawful s) (order : ℕ) (pasts : List ℕ) (v : OnLanes F S) (has : HasRun s order pasts (puts_of v) (takes_of v)) where
   run : IsRun s has.events
@@ -71,20 +80,12 @@ module _ {F S : Type 0} (s : Schedule) (lawful : IsLawful s) (order : ℕ) (past
       ap (λ b. b && is_ready x.flight (next s x p)) (lt-ltb _ _ low)
       ∙ ap (is_ready x.flight) (turn_now p low) ∙ ready_is p (turn p) (turn_now p low)
 
-  pub allowed : (p : ℕ) → p < s.actors → can_make v (turn p) ≡ true → IsAllowed s v (turn p)
-  allowed p low can = go (turn p) (turn_now p low) can
-    where
-      go : (t : Turn) → next s x p ≡ t → can_make v t ≡ true → IsAllowed s v t
-      go (Put n) is can = record {
-        next = subst (IsNext s n) (sym (has.stands.put n.from n.to)) (put_is_next s has.events lawful run p n is);
-        answered = has.stands.put n.from n.to ∙ put_is_answered s has.events lawful run p n is ∙ sym (has.stands.taken n.to n.from);
-      }
-      go (Take n) is can = record { next = subst (IsNext s n) (sym (has.stands.taken n.from n.to)) (take_is_next s has.events lawful run p n is); found = can }
-      go Work is can = tt
-      go Done is can = absurd cc
-
-  pub is_left : (p : ℕ) → can_make v (turn p) ≡ true → slice_index pasts p < length (turns s p)
-  is_left p can = left_before (turns s p) (slice_index pasts p) (not_done v (turn p) can)
+  pub counted : (p : ℕ) → p < s.actors → IsCounted s p (slice_index pasts p) (λ a. Unit {0}) (puts_of v) (takes_of v)
+  counted p low = record {
+    served = tt;
+    put = λ q. has.stands.put p q ∙ ap length (put_is s has.events lawful run p q) ∙ ap (λ n. length (put_first p q (turns s p) n)) (sym (has.stands.places p low));
+    taken = λ q. has.stands.taken q p ∙ ap length (taken_is s has.events lawful run q p) ∙ ap (λ n. length (taken_first q p (turns s p) n)) (sym (has.stands.places p low));
+  }
 
   chosen : (drawn p : ℕ) → IsFirst (λ a. can_make v (turn a)) s.actors drawn p → IsChosen s x drawn p
   chosen drawn p first =
@@ -164,10 +165,6 @@ pub has_none : {F S : Type 0} (s : Schedule) (order : ℕ) (pasts : List ℕ) (v
     (h : HasRun s order pasts (puts_of v) (takes_of v)) × (h.last ≡ order % 2 ^ 32)
 has_none s order pasts v first nothing = (record { events = []; last = order % 2 ^ 32; drawn = none; stands = record { places = first; put = nothing; taken = λ p q. omega (arith, nothing p q) } }, refl)
 
--- how many turns an actor has left
-abbrev pub turns_left : {A S : Type 0} → (A → S) → (A → ℕ) → (A → ℕ) → (S → Schedule) → A → ℕ
-turns_left setting number past schedule a = length (turns (schedule (setting a)) (number a)) - past a
-
 -- What the loop keeps.
 module _ {F S A O : Type 0} (setting : A → S) (number past : A → ℕ) (opening : A → O) (schedule : S → Schedule) (given : S) (order : ℕ) (first : List A) where
   pub record IsRunning (actors : List A) (v : OnLanes F S) (g : ℕ) : Type 0 where
@@ -216,33 +213,39 @@ module _ {F S A O : Type 0} (setting : A → S) (number past : A → ℕ) (openi
       pub setting_here : setting a ≡ v.setting
       setting_here = setting_at setting number past schedule actors given (schedule given).actors running.settings running.numbers p low a here ∙ sym running.lanes_setting
 
-      pub allowed_here : IsAllowed (schedule v.setting) v (turn_at (schedule (setting a)) (number a) (past a))
-      allowed_here = subst (IsAllowed (schedule v.setting) v) (sym turn_here)
-          (subst (λ (s : S). IsAllowed (schedule s) v (turn_at (schedule given) p (slice_index (map past actors) p))) (sym running.lanes_setting)
-          (allowed (schedule given) lawful order (map past actors) v running.run p low chosen_first.passes))
+      pub counted_here : IsCounted (schedule v.setting) (number a) (past a) (λ a. Unit {0}) (puts_of v) (takes_of v)
+      counted_here = moved (schedule given) (schedule v.setting) p (number a) (slice_index (map past actors) p) (past a) (λ a. Unit {0}) (puts_of v) (takes_of v)
+          (ap schedule running.lanes_setting)
+          (number_at setting number past schedule actors given (schedule given).actors running.settings running.numbers p low a here)
+          (past_at setting number past schedule actors given (schedule given).actors running.settings running.numbers p low a here)
+          (counted (schedule given) lawful order (map past actors) v running.run p low)
 
-      module _ (b : A) (w : OnLanes F S) (goes_on : past b ≡ past a + 1) (same_setting : setting b ≡ setting a) (same_number : number b ≡ number a) where
+      module _ (b : A) (w : OnLanes F S) (went : Went)
+          (by : WentBy past (λ n. nat_lt (takes_of v n.from n.to) (puts_of v n.from n.to) ≡ false) (turn_at (schedule (setting a)) (number a) (past a)) a b went)
+          (same_setting : setting b ≡ setting a) (same_number : number b ≡ number a) where
+        can : can_make v (turn_at (schedule (setting a)) (number a) (past a)) ≡ true
+        can = ap (can_make v) turn_here ∙ chosen_first.passes
+
+        gone : (past b ≡ past a + 1) × (went ≡ On)
+        gone = went_on past v (turn_at (schedule (setting a)) (number a) (past a)) a b went can by
+
         -- one turn less is left
         pub running_smaller : sum_by (turns_left setting number past schedule) (set actors p b) < sum_by (turns_left setting number past schedule) actors
-        running_smaller =
-            let left : A → ℕ = turns_left setting number past schedule in
-            let within : p < length actors = omega (arith, count setting number past schedule actors given (schedule given).actors running.settings running.numbers) in
-            let sums : sum_by left (set actors p b) + left (get_or actors p a) ≡ sum_by left actors + left b = sum_by-set left actors p b a within in
-            let turns_same : length (turns (schedule (setting b)) (number b)) ≡ length (turns (schedule (setting a)) (number a)) =
-            ap (λ (s : S). length (turns (schedule s) (number b))) same_setting ∙ ap (λ n. length (turns (schedule (setting a)) n)) same_number in
-            let more : past a < length (turns (schedule (setting a)) (number a)) =
-            left_before (turns (schedule (setting a)) (number a)) (past a) (λ done. not_done v (turn_at (schedule given) p (slice_index (map past actors) p)) chosen_first.passes (sym turn_here ∙ done)) in
-            omega (arith, ap left here)
+        running_smaller = left_smaller setting number past schedule actors p a b
+            (omega (arith, low, count setting number past schedule actors given (schedule given).actors running.settings running.numbers))
+            here same_setting same_number gone.0 (not_done v (turn_at (schedule (setting a)) (number a) (past a)) can)
 
         pub running_more : opening b ≡ opening a → w.setting ≡ v.setting → w.actors ≡ v.actors →
-            ((c d : ℕ) → puts_of w c d ≡ puts_of v c d + put_by (turn_at (schedule (setting a)) (number a) (past a)) c d) →
-            ((c d : ℕ) → takes_of w c d ≡ takes_of v c d + taken_by (turn_at (schedule (setting a)) (number a) (past a)) c d) → IsRunning (set actors p b) w g'
+            ((c d : ℕ) → puts_of w c d ≡ puts_of v c d + put_by (made_by (turn_at (schedule (setting a)) (number a) (past a)) went) c d) →
+            ((c d : ℕ) → takes_of w c d ≡ takes_of v c d + taken_by (made_by (turn_at (schedule (setting a)) (number a) (past a)) went) c d) → IsRunning (set actors p b) w g'
         running_more same_opening lanes_setting lanes_actors put taken =
             let all : length actors ≡ (schedule given).actors = count setting number past schedule actors given (schedule given).actors running.settings running.numbers in
+            let made : made_by (turn_at (schedule (setting a)) (number a) (past a)) went ≡ turn_at (schedule given) p (slice_index (map past actors) p) =
+            ap (made_by (turn_at (schedule (setting a)) (number a) (past a))) gone.1 ∙ turn_here in
             let now : map past (set actors p b) ≡ set (map past actors) p (slice_index (map past actors) p + 1) =
-            map-set past actors p b ∙ ap (set (map past actors) p) (goes_on ∙ ap (λ n. n + 1) (past_at setting number past schedule actors given (schedule given).actors running.settings running.numbers p low a here)) in
+            map-set past actors p b ∙ ap (set (map past actors) p) (gone.0 ∙ ap (λ n. n + 1) (past_at setting number past schedule actors given (schedule given).actors running.settings running.numbers p low a here)) in
             let (run, last) = has_more (schedule given) lawful order (map past actors) v running.run p chosen_first (map past (set actors p b)) w (length-map actors past ∙ all) now
-            (λ c d. put c d ∙ ap (λ t. puts_of v c d + put_by t c d) turn_here) (λ c d. taken c d ∙ ap (λ t. takes_of v c d + taken_by t c d) turn_here) in
+            (λ c d. put c d ∙ ap (λ t. puts_of v c d + put_by t c d) made) (λ c d. taken c d ∙ ap (λ t. takes_of v c d + taken_by t c d) made) in
             record {
               lanes_setting = lanes_setting ∙ running.lanes_setting;
               lanes_actors = lanes_actors ∙ running.lanes_actors;

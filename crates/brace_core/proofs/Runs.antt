@@ -1,9 +1,9 @@
 -- What holds along every run: on each lane what was put is what was taken and what is in flight.
-use Rattle.std.proofs.Common.{◌≡◌, ℕ, ◌+◌, ◌<◌, ◌≤◌, true, false, cond, ◌==◌, ◌&&◌, ◌||◌, nat_lt, List, [], ◌∷◌, ◌++◌, length, take, refl, sym, ap, ◌∙◌, subst, arith, inl, inr}
+use Rattle.std.proofs.Common.{◌≡◌, ℕ, ◌+◌, ◌<◌, ◌≤◌, true, false, cond, ◌==◌, ◌&&◌, ◌||◌, nat_lt, List, [], ◌∷◌, ◌++◌, length, refl, sym, ap, ◌∙◌, subst, arith, inl, inr}
 use Rattle.std.specs.List.{filter, list_any}
 use Rattle.std.proofs.lemmas.Bool.{eqb-true, eq-eqb, ne_eqb, and_parts, cases_Bool, cases_eq}
 use Rattle.std.proofs.Math.Bool.{or-true}
-use Rattle.std.proofs.lemmas.List.{append-nil, append_assoc, take_more}
+use Rattle.std.proofs.lemmas.List.{append-nil, append_assoc}
 use Rattle.std.proofs.lemmas.List.Elements.{filter-append}
 use Rattle.brace_core.specs.declared.name.Name.{Name}
 use Rattle.brace_core.specs.declared.name.Turn.{Turn}
@@ -12,7 +12,8 @@ use Rattle.brace_core.specs.Schedule.{Schedule, lane, turns}
 use Rattle.brace_core.specs.Events.{State, opening, is_name, next, is_ready, is_enabled, without, flight_after, after, are_enabled, after_all, turns_made, is_on, names_put, names_taken}
 use Rattle.brace_core.proofs.Lists.{IsFront, pick_true, pick_false, same_next}
 use Rattle.brace_core.proofs.Turns.{AreLawful, names_put-append, names_taken-append, put_first, taken_first, put_front, taken_front}
-use Rattle.brace_core.proofs.Owners.{IsOwn, own_turns, own_at, left_before, puts_no_other, takes_no_other}
+use Rattle.brace_core.proofs.Owners.{left_before, puts_no_other, takes_no_other}
+use Rattle.brace_core.proofs.ActorTurns.{turn_own, puts_more, takes_more}
 
 -- names that the test finds equal are equal
 pub same_name : (a b : Name) → is_name a b ≡ true → a ≡ b
@@ -105,44 +106,26 @@ module _ (s : Schedule) (lawful : AreLawful s.actors s.steps) (x : State) (e : �
   pub is_left : is_ready x.flight (next s x e) ≡ true → x.place e < length (turns s e)
   is_left ready = left_before (turns s e) (x.place e) (λ done. let no : false ≡ true = ap (is_ready x.flight) (sym done) ∙ ready in absurd cc)
 
-  pub next_own : x.place e < length (turns s e) → IsOwn e (next s x e)
-  next_own l = own_at e (turns s e) (x.place e) (own_turns 0 s.actors s.steps e) l
-
-  one_more : x.place e < length (turns s e) → take (x.place e + 1) (turns s e) ≡ take (x.place e) (turns s e) ++ next s x e ∷ []
-  one_more l = take_more (turns s e) (x.place e) Done l
-
   -- an event adds the name that its turn puts to what was put
   pub put_more : x.place e < length (turns s e) → (p q : ℕ) →
       put_by_now s (after s x e) p q ≡ put_by_now s x p q ++ filter (is_on p q) (names_put (next s x e ∷ []))
   put_more l p q = elim (cases_eq p e) [
-    | inl same ↦ subst (λ a. put_by_now s (after s x e) a q ≡ put_by_now s x a q ++ filter (is_on a q) (names_put (next s x e ∷ []))) (sym same) here
+    | inl same ↦ subst (λ a. put_by_now s (after s x e) a q ≡ put_by_now s x a q ++ filter (is_on a q) (names_put (next s x e ∷ []))) (sym same)
+        (ap (put_first e q (turns s e)) (pick_true (e == e) _ _ (eq-eqb e e refl)) ∙ puts_more s e (x.place e) l q)
     | inr other ↦
         ap (put_first p q (turns s p)) (pick_false (p == e) _ _ (ne_eqb p e other))
-        ∙ sym (ap (λ names. put_by_now s x p q ++ names) (puts_no_other e p q (next s x e) (next_own l) other) ∙ append-nil (put_by_now s x p q))
+        ∙ sym (ap (λ names. put_by_now s x p q ++ names) (puts_no_other e p q (next s x e) (turn_own s e (x.place e) l) other) ∙ append-nil (put_by_now s x p q))
   ]
-    where
-      here : put_by_now s (after s x e) e q ≡ put_by_now s x e q ++ filter (is_on e q) (names_put (next s x e ∷ []))
-      here =
-          ap (put_first e q (turns s e)) (pick_true (e == e) _ _ (eq-eqb e e refl))
-          ∙ ap (λ ts. filter (is_on e q) (names_put ts)) (one_more l)
-          ∙ ap (filter (is_on e q)) (names_put-append (take (x.place e) (turns s e)) (next s x e ∷ []))
-          ∙ filter-append (is_on e q) (names_put (take (x.place e) (turns s e))) (names_put (next s x e ∷ []))
 
   pub taken_more : x.place e < length (turns s e) → (p q : ℕ) →
       taken_by_now s (after s x e) p q ≡ taken_by_now s x p q ++ filter (is_on p q) (names_taken (next s x e ∷ []))
   taken_more l p q = elim (cases_eq q e) [
-    | inl same ↦ subst (λ a. taken_by_now s (after s x e) p a ≡ taken_by_now s x p a ++ filter (is_on p a) (names_taken (next s x e ∷ []))) (sym same) here
+    | inl same ↦ subst (λ a. taken_by_now s (after s x e) p a ≡ taken_by_now s x p a ++ filter (is_on p a) (names_taken (next s x e ∷ []))) (sym same)
+        (ap (taken_first p e (turns s e)) (pick_true (e == e) _ _ (eq-eqb e e refl)) ∙ takes_more s e (x.place e) l p)
     | inr other ↦
         ap (taken_first p q (turns s q)) (pick_false (q == e) _ _ (ne_eqb q e other))
-        ∙ sym (ap (λ names. taken_by_now s x p q ++ names) (takes_no_other e p q (next s x e) (next_own l) other) ∙ append-nil (taken_by_now s x p q))
+        ∙ sym (ap (λ names. taken_by_now s x p q ++ names) (takes_no_other e p q (next s x e) (turn_own s e (x.place e) l) other) ∙ append-nil (taken_by_now s x p q))
   ]
-    where
-      here : taken_by_now s (after s x e) p e ≡ taken_by_now s x p e ++ filter (is_on p e) (names_taken (next s x e ∷ []))
-      here =
-          ap (taken_first p e (turns s e)) (pick_true (e == e) _ _ (eq-eqb e e refl))
-          ∙ ap (λ ts. filter (is_on p e) (names_taken ts)) (one_more l)
-          ∙ ap (filter (is_on p e)) (names_taken-append (take (x.place e) (turns s e)) (next s x e ∷ []))
-          ∙ filter-append (is_on p e) (names_taken (take (x.place e) (turns s e))) (names_taken (next s x e ∷ []))
 
   -- what an event puts goes behind what is in flight, and what it takes was in front
   flight_more : IsKept s x → is_ready x.flight (next s x e) ≡ true → (p q : ℕ) →

@@ -1,4 +1,4 @@
-ghost use Rattle.std.specs.Prelude.{◌≡◌, ◌+◌, ◌^◌, ◌≤◌, ℕ, List, cond, is_some, nat_lt, length, IfOk, IfSome, OnSome};
+ghost use Rattle.std.specs.Prelude.{◌≡◌, ◌+◌, ◌^◌, ◌≤◌, ℕ, List, cond, is_some, nat_lt, false, length, IfOk, IfNone, IfSome, OnSome};
 ghost use Rattle.brace_core.specs.declared.name.Name.{Name};
 ghost use Rattle.brace_core.specs.declared.name.Turn.TheVariants.{Put, Take};
 ghost use Rattle.brace_core.specs.Events.{is_ready};
@@ -81,6 +81,7 @@ impl<F: Freight> PlainLanes<F> {
 }
 
 impl<F: Freight> Exchange<F> for PlainLanes<F> {
+    ghost use Rattle.std.specs.Prelude.{◌≡◌, nat_lt, false, refl};
     ghost use Rattle.brace_core.specs.Lanes.{puts_of, takes_of};
 
     ghost setting = { λ lanes. lanes.setting };
@@ -90,6 +91,11 @@ impl<F: Freight> Exchange<F> for PlainLanes<F> {
     ghost puts = { puts_of };
 
     ghost takes = { takes_of };
+
+    ghost keeps = { λ v w. w.actors ≡ v.actors };
+
+    ghost misses = { λ v w name. nat_lt
+        (takes_of v name.from name.to) (puts_of v name.from name.to) ≡ false };
 
     fn put(&mut self, name: Name, piece: F)
         requires next { Follows (F.schedule self.old.setting) (puts_of self.old) name }
@@ -120,8 +126,12 @@ impl<F: Freight> Exchange<F> for PlainLanes<F> {
             (MakesTurn (F.schedule self.old.setting) self.old self.new (Take name)) }
         ensures counted { is_some result ≡ nat_lt
             (takes_of self.old name.from name.to) (puts_of self.old name.from name.to) }
+        ensures found_none { IfNone result (nat_lt
+            (takes_of self.old name.from name.to) (puts_of self.old name.from name.to) ≡ false) }
     {
         let at = name.from as usize * self.actors + name.to as usize;
         self.lanes[at].take()
     }
+
+    ghost keeps_itself = { λ v. refl };
 }

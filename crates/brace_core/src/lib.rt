@@ -11,6 +11,7 @@ mod name;
 mod order;
 #[cfg(test)]
 mod tests;
+mod turn;
 
 pub use actor::Actor;
 pub use exchange::Exchange;
@@ -18,3 +19,4 @@ pub use freight::Freight;
 pub use lanes::PlainLanes;
 pub use name::{Name, Turn};
 pub use order::run_in_order;
+pub use turn::{Went, make_turn};

@@ -5,9 +5,9 @@ ghost use Rattle.brace_core.specs.Schedule.{IsLawful, lane};
 ghost use Rattle.brace_core.specs.Exchanges.{AreAllOf, due};
 ghost use Rattle.brace_core.specs.Lanes.{puts_of, takes_of};
 ghost use Rattle.brace_core.specs.Order.{HasRun};
-ghost use Rattle.brace_core.specs.inner.Turns.{can_make, can_go_on, IsAllowed, IsFirst, NoneFrom, put_by, taken_by};
+ghost use Rattle.brace_core.specs.inner.Turns.{can_make, can_go_on, IsFirst, NoneFrom};
 
-use crate::{Actor, Exchange, Freight, PlainLanes, Turn};
+use crate::{Actor, Freight, PlainLanes, Turn, make_turn};
 use brace_num::Generator;
 
 /// Whether an actor's next turn can be made.
@@ -48,38 +48,6 @@ fn first_that_can<F: Freight, A: Actor<F>>(
     None
 }
 
-/// Makes an actor's next turn, which can be made.
-fn make_event<F: Freight, A: Actor<F>>(actor: &mut A, lanes: &mut PlainLanes<F>)
-    requires setting { A.setting actor.old ≡ lanes.old.setting }
-    requires allowed { IsAllowed (F.schedule lanes.old.setting) lanes.old
-        (due F.schedule (A.setting actor.old) (A.number actor.old) (A.past actor.old)) }
-    ensures goes_on { A.past actor.new ≡ A.past actor.old + 1 }
-    ensures same_setting { A.setting actor.new ≡ A.setting actor.old }
-    ensures same_number { A.number actor.new ≡ A.number actor.old }
-    ensures same_opening { A.opening actor.new ≡ A.opening actor.old }
-    ensures lanes_setting { lanes.new.setting ≡ lanes.old.setting }
-    ensures lanes_actors { lanes.new.actors ≡ lanes.old.actors }
-    ensures put { (p q : ℕ) → puts_of lanes.new p q ≡ puts_of lanes.old p q
-        + put_by (due F.schedule (A.setting actor.old) (A.number actor.old) (A.past actor.old))
-        p q }
-    ensures taken { (p q : ℕ) → takes_of lanes.new p q ≡ takes_of lanes.old p q
-        + taken_by (due F.schedule (A.setting actor.old) (A.number actor.old) (A.past actor.old))
-        p q }
-{
-    match actor.next() {
-        Turn::Put(name) => {
-            let piece = actor.piece();
-            lanes.put(name, piece);
-        }
-        Turn::Take(name) => match lanes.take(name) {
-            Some(piece) => actor.give(piece),
-            None => unreachable!(),
-        },
-        Turn::Work => actor.work(),
-        Turn::Done => unreachable!(),
-    }
-}
-
 /// Runs actors over plain lanes until all are Done. For each event a number is drawn from `order`,
 /// and the first actor from there onward, cyclically, whose next turn can be made makes it.
 ///
@@ -112,6 +80,6 @@ pub fn run_in_order<F: Freight, A: Actor<F>>(
 {
     let mut generator = Generator::new(order);
     while let Some(number) = first_that_can(actors, lanes, generator.draw()) {
-        make_event(&mut actors[number], lanes);
+        make_turn(&mut actors[number], lanes);
     }
 }

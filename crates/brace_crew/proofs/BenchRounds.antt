@@ -2,31 +2,31 @@
 use Rattle.std.proofs.Common.{◌≡◌, ◌∙◌, refl, sym, ap, subst, ℕ, zero, suc, ◌+◌, ◌%◌, ◌<◌, ◌≤◌, ◌==◌, Bool, true, false, cond, List, [], ◌∷◌, map, length, take, get_or, set, arith, inl, inr}
 use Rattle.std.specs.List.{All, Contains, filter, range_with_len, sum_by}
 use Rattle.std.proofs.lemmas.Bool.{cases_eq, cases_lt, eq-eqb, eqb-true}
-use Rattle.std.proofs.lemmas.List.{length-map, length-set, get_or-set_same, get_or-set_other, get_or_default, take_all}
+use Rattle.std.proofs.lemmas.List.{length-map, length-set, get_or-set_same, get_or-set_other, get_or_default, set-get_or, take_all}
 use Rattle.std.proofs.lemmas.List.Elements.{All-nil, All-cons, All-map, All-more, All-contains, All-filter, filter_passes}
 use Rattle.std.proofs.lemmas.List.Sums.{sum_by-set}
 use Rattle.brace_core.specs.declared.name.Name.{Name}
-use Rattle.brace_core.specs.declared.name.Turn.TheVariants.{Take}
-use Rattle.brace_core.specs.Schedule.{lane, turns}
-use Rattle.brace_core.specs.Events.{is_on, names_put, names_taken}
-use Rattle.brace_core.proofs.ActorLemmas.{map_kept}
-use Rattle.brace_core.proofs.Owners.{left_before}
+use Rattle.brace_core.specs.declared.name.Turn.TheVariants.{Take, Done}
+use Rattle.brace_core.specs.declared.turn.Went.{Went}
+use Rattle.brace_core.specs.declared.turn.Went.TheVariants as went
+use Rattle.brace_core.specs.Schedule.{Schedule, lane, turn_at}
+use Rattle.brace_core.specs.Exchanges.{IsCounted, WentBy, made_by, put_by, taken_by}
+use Rattle.brace_core.proofs.ActorLemmas.{map_kept, left_smaller}
+use Rattle.brace_core.proofs.Counted.{counted_still, puts_none, takes_none, all_put, all_taken}
 use Rattle.brace_lanes.specs.declared.table.View.{View}
-use Rattle.brace_lanes.specs.Seats.{OnSeat, IsSameSeat, puts_of, takes_of, misses_of}
+use Rattle.brace_lanes.specs.Seats.{OnSeat, IsSameSeat, IsLater, puts_of, takes_of, misses_of}
 use Rattle.brace_lanes.specs.Views.{Serves}
 use Rattle.brace_pieces.specs.declared.setting.Setting.{Setting}
 use Rattle.brace_pieces.specs.Steps.{schedule}
 use Rattle.brace_pieces.specs.Courses.{past_of}
 use Rattle.brace_pieces.proofs.Origins.{kept_of}
-use Rattle.brace_crew.specs.declared.bench.Went.{Went}
-use Rattle.brace_crew.specs.declared.bench.Went.TheVariants as went
+use Rattle.brace_pieces.proofs.ScheduleLemmas.{schedule_lawful}
 use Rattle.brace_crew.specs.declared.member.Member.{Member}
-use Rattle.brace_crew.specs.Members.{course_of, opening_of, IsDone}
+use Rattle.brace_crew.specs.Members.{course_of, opening_of, next_of, IsDone}
 use Rattle.brace_crew.specs.Benches.{served_by, IsUnused, IsUsedUp, AreServed, Waits, AreWaiting}
-use Rattle.brace_crew.specs.inner.Driven.{IsCounted, AreCounted, IsLater, IsSameMember, AreSame, LeavesOthers, WentBy, WentAll, turns_left, both}
+use Rattle.brace_crew.specs.inner.Driven.{Counts, AreCounted, AreSame, WentAll, turns_left, both}
 use Rattle.brace_crew.proofs.FirstFault.{row_place}
 use Rattle.brace_crew.proofs.RunMembers.{of_all_map}
-use Rattle.brace_crew.proofs.CountedMembers.{all_put, all_taken, counted_still}
 
 -- ---- numbers that a test keeps of a row rise
 
@@ -60,6 +60,9 @@ same_served v w same =
     ∙ ap (λ k. filter (λ a. a % k == w.number) (range_with_len 0 v.actors)) same.seats
     ∙ ap (λ k. filter (λ a. a % v.seats == k) (range_with_len 0 v.actors)) same.number
 
+serves_still : (v w : View Setting) → IsSameSeat v w → (a : ℕ) → Serves v a → Serves w a
+serves_still v w same a serves = ap (λ k. a % k) same.seats ∙ serves ∙ sym same.number
+
 -- a seat put all names of an actor, and took all
 abbrev AllUsed : View Setting → ℕ → Type 0
 AllUsed v a = ((q : ℕ) → puts_of v a q ≡ length (lane (schedule v.setting) a q)) × ((q : ℕ) → takes_of v q a ≡ length (lane (schedule v.setting) q a))
@@ -88,25 +91,38 @@ module _ {P : Type 0} where
       at_number (m ∷ ms) (suc i) d low = at_number ms i d (omega (arith, low))
 
   -- one member went on, and the counts of all others are left
-  pub all_counted : (v w : View Setting) (ms : List (Member P)) (i : ℕ) (m n : Member P) → AreCounted v ms → IsSameSeat v w → i < length ms → m ≡ get_or ms i m
-      → IsSameMember m n → IsCounted w n → LeavesOthers (number_of m) v w → AreCounted w (set ms i n)
-  all_counted v w ms i m n counted seat low at same here others = record {
-    numbers = map_kept number_of ms i m n at same.number ∙ counted.numbers ∙ sym (same_served v w seat);
+  pub all_counted : (v w : View Setting) (ms : List (Member P)) (i : ℕ) (m n : Member P) (by : Went) → AreCounted v ms → IsSameSeat v w → i < length ms → m ≡ get_or ms i m
+      → number_of n ≡ number_of m → Counts w n → ((p q : ℕ) → puts_of w p q ≡ puts_of v p q + put_by (made_by (next_of m) by) p q)
+      → ((p q : ℕ) → takes_of w p q ≡ takes_of v p q + taken_by (made_by (next_of m) by) p q) → AreCounted w (set ms i n)
+  all_counted v w ms i m n by counted seat low at same here put taken = record {
+    numbers = map_kept number_of ms i m n at same ∙ counted.numbers ∙ sym (same_served v w seat);
     counted = each;
   }
     where
-      each : All (IsCounted w) (set ms i n)
+      still : (x : Member P) → (number_of x ≡ number_of m → ⊥) → Counts v x → Counts w x
+      still x two (setting, is) =
+          let a : ℕ = number_of x in
+          let past : ℕ = past_of (course_of x) in
+          let plan : Schedule = schedule (course_of m).setting in
+          (
+            setting ∙ sym seat.setting,
+            counted_still (schedule v.setting) a past (Serves v) (puts_of v) (takes_of v) is (schedule w.setting) a past (Serves w) (puts_of w) (takes_of w) (ap schedule seat.setting) refl
+            (serves_still v w seat a is.served) refl
+            (λ q. let none = puts_none plan (number_of m) (past_of (course_of m)) a q two by in omega (arith, put a q, none))
+            (λ q. let none = takes_none plan (number_of m) (past_of (course_of m)) q a two by in omega (arith, taken q a, none)),
+          )
+
+      each : All (Counts w) (set ms i n)
       each k d k_low =
           let long : length (set ms i n) ≡ length ms = length-set ms i n in
           elim (cases_eq k i) [
-            | inl is ↦ subst (λ j. IsCounted w (get_or (set ms i n) j d)) (sym is) (subst (IsCounted w) (sym (get_or-set_same ms i n d low)) here)
+            | inl is ↦ subst (λ j. Counts w (get_or (set ms i n) j d)) (sym is) (subst (Counts w) (sym (get_or-set_same ms i n d low)) here)
             | inr other ↦
                 let x : Member P = get_or ms k d in
                 let k_in : k < length ms = omega (arith, long, k_low) in
                 let m_at : get_or ms i d ≡ m = sym (get_or_default ms i m d low) ∙ sym at in
                 let two : number_of x ≡ number_of m → ⊥ = λ e. apart v ms counted.numbers k i d k_in low other (e ∙ ap number_of (sym m_at)) in
-                subst (IsCounted w) (sym (get_or-set_other ms i k n d other))
-                (counted_still v x (counted.counted k d k_in) w seat (λ q. others.put (number_of x) q two) (λ q. others.taken q (number_of x) two))
+                subst (Counts w) (sym (get_or-set_other ms i k n d other)) (still x two (counted.counted k d k_in))
           ]
 
   -- ---- before the first turn, and behind the last
@@ -118,17 +134,15 @@ module _ {P : Type 0} where
       served = of_all_map number_of (λ a. (a % v.seats == v.number) ≡ true) ms
           (subst (All (λ a. (a % v.seats == v.number) ≡ true)) (sym are.numbers) (filter_passes (λ a. a % v.seats == v.number) (range_with_len 0 v.actors)))
 
-      each : All (IsCounted v) ms
+      each : All (Counts v) ms
       each k d low =
           let m : Member P = get_or ms k d in
           let a : ℕ = number_of m in
-          let none : 0 ≡ past_of (course_of m) = sym (are.first_turns k d low) in
-          record {
-            setting_is = are.settings k d low;
-            served = eqb-true (a % v.seats) v.number (served k d low);
-            put = λ q. subst (λ n. puts_of v a q ≡ length (filter (is_on a q) (names_put (take n (turns (schedule v.setting) a))))) none (unused.nothing_put a q);
-            taken = λ q. subst (λ n. takes_of v q a ≡ length (filter (is_on q a) (names_taken (take n (turns (schedule v.setting) a))))) none (unused.nothing_taken q a);
-          }
+          (
+            are.settings k d low,
+            subst (λ n. IsCounted (schedule v.setting) a n (Serves v) (puts_of v) (takes_of v)) (sym (are.first_turns k d low))
+            (record { served = eqb-true (a % v.seats) v.number (served k d low); put = λ q. unused.nothing_put a q; taken = λ q. unused.nothing_taken q a }),
+          )
 
   pub used_up : (v : View Setting) (ms : List (Member P)) → AreCounted v ms → All IsDone ms → IsUsedUp v
   used_up v ms are done = record {
@@ -139,7 +153,14 @@ module _ {P : Type 0} where
       each : All (λ m. AllUsed v (number_of m)) ms
       each k d low =
           let m : Member P = get_or ms k d in
-          (all_put v m (are.counted k d low) (done k d low), all_taken v m (are.counted k d low) (done k d low))
+          let a : ℕ = number_of m in
+          let past : ℕ = past_of (course_of m) in
+          let (setting, is) = are.counted k d low in
+          let over : turn_at (schedule v.setting) a past ≡ Done = ap (λ (s : Setting). turn_at (schedule s) a past) (sym setting) ∙ done k d low in
+          (
+            all_put (schedule v.setting) a past (Serves v) (puts_of v) (takes_of v) is (schedule_lawful v.setting) over,
+            all_taken (schedule v.setting) a past (Serves v) (puts_of v) (takes_of v) is (schedule_lawful v.setting) over,
+          )
 
       at : (a : ℕ) → a < v.actors → Serves v a → AllUsed v a
       at a low serves =
@@ -148,11 +169,12 @@ module _ {P : Type 0} where
 
   -- ---- a later time
 
-  pub same_members : (ms : List (Member P)) (i : ℕ) (m n : Member P) → m ≡ get_or ms i m → IsSameMember m n → AreSame ms (set ms i n)
-  same_members ms i m n at same = record {
-    settings = map_kept (λ m. (course_of m).setting) ms i m n at same.setting;
-    numbers = map_kept number_of ms i m n at same.number;
-    openings = map_kept opening_of ms i m n at same.opening;
+  pub same_members : (ms : List (Member P)) (i : ℕ) (m n : Member P) → m ≡ get_or ms i m → (course_of n).setting ≡ (course_of m).setting → number_of n ≡ number_of m
+      → opening_of n ≡ opening_of m → AreSame ms (set ms i n)
+  same_members ms i m n at setting number opening = record {
+    settings = map_kept (λ m. (course_of m).setting) ms i m n at setting;
+    numbers = map_kept number_of ms i m n at number;
+    openings = map_kept opening_of ms i m n at opening;
   }
 
   pub same_count : (ms ns : List (Member P)) → AreSame ms ns → length ns ≡ length ms
@@ -175,32 +197,16 @@ later_on u v w one two = record {
 
 -- ---- how members went on
 
-set_same : {A : Type 0} (xs : List A) (i : ℕ) (x : A) → x ≡ get_or xs i x → set xs i x ≡ xs
-set_same [] i x at = refl
-set_same (y ∷ xs) zero x at = ap (λ z. z ∷ xs) at
-set_same (y ∷ xs) (suc i) x at = ap (λ zs. y ∷ zs) (set_same xs i x at)
-
 module _ {P : Type 0} where
   abbrev WaitsOne : View Setting → View Setting → Member P → Type 0
   WaitsOne v w m = (IsDone m → ⊥) → Waits v w 1 m
 
-  left_on : (m n : Member P) → IsSameMember m n → past_of (course_of n) ≡ past_of (course_of m) + 1 → (IsDone m → ⊥) → turns_left n < turns_left m
-  left_on m n same on some =
-      let c = course_of m in
-      let d = course_of n in
-      let all : length (turns (schedule d.setting) d.actor) ≡ length (turns (schedule c.setting) c.actor) =
-      ap (λ (s : Setting). length (turns (schedule s) d.actor)) same.setting ∙ ap (λ a. length (turns (schedule c.setting) a)) same.number in
-      let low : past_of c < length (turns (schedule c.setting) c.actor) = left_before (turns (schedule c.setting) c.actor) (past_of c) some in
-      omega (arith, all, low, on)
+  -- how one member went on
+  abbrev WentOne : View Setting → View Setting → Member P → Member P → Went → Type 0
+  WentOne v w m n by = WentBy (λ x. past_of (course_of x)) (λ (name : Name). misses_of v name.from name.to + 1 ≤ misses_of w name.from name.to) (next_of m) m n by
 
-  module _ (ns : List (Member P)) (i : ℕ) (m n : Member P) (low : i < length ns) (at : m ≡ get_or ns i m) where
-    sum_on : turns_left n < turns_left m → sum_by turns_left (set ns i n) < sum_by turns_left ns
-    sum_on less =
-        let sums : sum_by turns_left (set ns i n) + turns_left (get_or ns i m) ≡ sum_by turns_left ns + turns_left n = sum_by-set turns_left ns i n m low in
-        omega (arith, sums, ap turns_left at, less)
-
-    still : n ≡ m → set ns i n ≡ ns
-    still is = ap (set ns i) is ∙ set_same ns i m at
+  waits_open : (v w : View Setting) (k : ℕ) (m : Member P) → Waits v w k m → IsDone m → ⊥
+  waits_open v w k m (name, is, few) done = let no : Take name ≡ Done = sym is ∙ done in absurd cc
 
   waits_longer : (u v w : View Setting) (k : ℕ) (m : Member P) → ((p q : ℕ) → misses_of v p q ≤ misses_of w p q) → Waits u v k m → Waits u w k m
   waits_longer u v w k m more (name, is, few) = (name, is, (let up = more name.from name.to in omega (arith, up, few)))
@@ -212,43 +218,48 @@ module _ {P : Type 0} where
   all_weaker Q R weaker ms all k d low = weaker (get_or ms k d) (all k d low)
 
   module _ (u v w : View Setting) (before : (p q : ℕ) → misses_of u p q ≤ misses_of v p q) (more : (p q : ℕ) → misses_of v p q ≤ misses_of w p q)
-      (ms ns : List (Member P)) (i : ℕ) (m n : Member P) (low : i < length ns) (at : m ≡ get_or ns i m) (same : IsSameMember m n) where
+      (ms ns : List (Member P)) (i : ℕ) (m n : Member P) (low : i < length ns) (at : m ≡ get_or ns i m)
+      (setting : (course_of n).setting ≡ (course_of m).setting) (number : (course_of n).actor ≡ (course_of m).actor) where
+    still : n ≡ m → set ns i n ≡ ns
+    still is = ap (set ns i) (is ∙ at) ∙ set-get_or ns i m
+
+    sum_on : WentOne v w m n went.On → sum_by turns_left (set ns i n) < sum_by turns_left ns
+    sum_on (on, some) = left_smaller (λ x. (course_of x).setting) (λ x. (course_of x).actor) (λ x. past_of (course_of x)) schedule ns i m n low at setting number on some
+
     long_as : ns ≡ ms → i < length ms
     long_as is = subst (λ xs. i < length xs) is low
 
     at_of : ns ≡ ms → m ≡ get_or ms i m
     at_of is = at ∙ ap (λ xs. get_or xs i m) is
 
-    on_where_still : ns ≡ ms → WentBy v m w n went.On → WentAll u ms w (set ns i n) (i + 1) went.On
-    on_where_still is (on, some) =
-        let less = sum_on ns i m n low at (left_on m n same on some) in
-        subst (λ xs. sum_by turns_left (set ns i n) < sum_by turns_left xs) is less
+    on_where_still : ns ≡ ms → WentOne v w m n went.On → WentAll u ms w (set ns i n) (i + 1) went.On
+    on_where_still is by = subst (λ xs. sum_by turns_left (set ns i n) < sum_by turns_left xs) is (sum_on by)
 
     one_more : (Q : Member P → Type 0) → ns ≡ ms → All Q (take i ms) → Q m → All Q (take (i + 1) ms)
     one_more Q is all here = All-more Q ms i m (long_as is) all (subst Q (at_of is) here)
 
-    pub went_more : (all one : Went) → WentAll u ms v ns i all → WentBy v m w n one → WentAll u ms w (set ns i n) (i + 1) (both all one)
-    went_more went.On went.On less (on, some) = let less' = sum_on ns i m n low at (left_on m n same on some) in omega (arith, less, less')
-    went_more went.On went.Nowhere less (is, some, waits) = subst (λ xs. sum_by turns_left xs < sum_by turns_left ms) (sym (still ns i m n low at is)) less
-    went_more went.On went.Over less (is, rest) = subst (λ xs. sum_by turns_left xs < sum_by turns_left ms) (sym (still ns i m n low at is)) less
+    pub went_more : (all one : Went) → WentAll u ms v ns i all → WentOne v w m n one → WentAll u ms w (set ns i n) (i + 1) (both all one)
+    went_more went.On went.On less by = let less' = sum_on by in omega (arith, less, less')
+    went_more went.On went.Nowhere less (is, waits) = subst (λ xs. sum_by turns_left xs < sum_by turns_left ms) (sym (still is)) less
+    went_more went.On went.Over less (is, rest) = subst (λ xs. sum_by turns_left xs < sum_by turns_left ms) (sym (still is)) less
     went_more went.Nowhere went.On (is, some, waits) by = on_where_still is by
-    went_more went.Nowhere went.Nowhere (is, some, waits) (same_one, going, waits_here) = (
-      still ns i m n low at same_one ∙ is,
+    went_more went.Nowhere went.Nowhere (is, some, waits) (same_one, waits_here) = (
+      still same_one ∙ is,
       some,
       one_more (WaitsOne u w) is (all_weaker (WaitsOne u v) (WaitsOne u w) (λ x longer going. waits_longer u v w 1 x more (longer going)) (take i ms) waits) (λ going. waits_before u v w 1 m before waits_here),
     )
     went_more went.Nowhere went.Over (is, some, waits) (same_one, done) = (
-      still ns i m n low at same_one ∙ is,
+      still same_one ∙ is,
       some,
       one_more (WaitsOne u w) is (all_weaker (WaitsOne u v) (WaitsOne u w) (λ x longer going. waits_longer u v w 1 x more (longer going)) (take i ms) waits) (λ going. absurd (going done)),
     )
     went_more went.Over went.On (is, done) by = on_where_still is by
-    went_more went.Over went.Nowhere (is, done) (same_one, going, waits_here) = (
-      still ns i m n low at same_one ∙ is,
-      (λ all. going (subst IsDone (sym (at_of is)) (all i m (long_as is)))),
+    went_more went.Over went.Nowhere (is, done) (same_one, waits_here) = (
+      still same_one ∙ is,
+      (λ all. waits_open v w 1 m waits_here (subst IsDone (sym (at_of is)) (all i m (long_as is)))),
       one_more (WaitsOne u w) is (all_weaker IsDone (WaitsOne u w) (λ x over going. absurd (going over)) (take i ms) done) (λ going. waits_before u v w 1 m before waits_here),
     )
-    went_more went.Over went.Over (is, done) (same_one, over) = (still ns i m n low at same_one ∙ is, one_more IsDone is done over)
+    went_more went.Over went.Over (is, done) (same_one, over) = (still same_one ∙ is, one_more IsDone is done over)
 
   -- all went on
   pub went_through : (u w : View Setting) (ms ns : List (Member P)) (i : ℕ) (all : Went) → length ms ≤ i → i ≤ length ms → WentAll u ms w ns i all → WentAll u ms w ns (length ms) all

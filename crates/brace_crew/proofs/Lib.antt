@@ -16,8 +16,6 @@ pub mod CountsGiven
 pub mod RunMembers
 pub mod ToldLemmas
 pub mod RunEnds
-pub mod ActorTurns
-pub mod CountedMembers
 pub mod BenchRounds
 pub mod RosterLemmas
 pub mod GatherLemmas

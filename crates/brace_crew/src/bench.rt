@@ -1,13 +1,14 @@
 ghost use Rattle.std.specs.Prelude.{◌≡◌, ◌≤◌, ℕ, length, true};
 ghost use Rattle.std.specs.List.{All};
+ghost use Rattle.brace_lanes.specs.Seats.{IsLater};
 ghost use Rattle.brace_crew.specs.declared.bench.Drive.TheVariants as drive;
-ghost use Rattle.brace_crew.specs.Members.{course_of, IsDone};
+ghost use Rattle.brace_crew.specs.Members.{IsDone};
 ghost use Rattle.brace_crew.specs.Benches.{AreServed, IsUnused, IsUsedUp, IsSameBench, AreWaiting};
 ghost use Rattle.brace_crew.specs.inner.Teams.{HasEnded};
-ghost use Rattle.brace_crew.specs.inner.Driven.{IsCounted, AreCounted, IsLater, IsSameMember, AreSame, LeavesOthers, WentBy, WentAll, both};
+ghost use Rattle.brace_crew.specs.inner.Driven.{AreCounted, AreSame, WentAll, both};
 
 use crate::{Member, Publisher};
-use brace_core::{Actor, Turn};
+use brace_core::{Actor, Turn, Went, make_turn};
 use brace_io::Gate;
 use brace_lanes::{LaneEnd, LaneSeat};
 use brace_pieces::Piece;
@@ -21,17 +22,6 @@ pub enum Drive {
     Complete,
     /// Each member that is not Done waits for a name that was not put for so long.
     Dry,
-}
-
-/// How members went on.
-#[derive(Debug, Clone, Copy, PartialEq, Eq, Drop)]
-pub enum Went {
-    /// By a turn.
-    On,
-    /// Not at all, since what is taken next is not there.
-    Nowhere,
-    /// Not at all, since no turn is left.
-    Over,
 }
 
 /// The members of a crew that one worker serves, with their seat at the lanes.
@@ -130,45 +120,8 @@ impl<'a, P: Publisher> Bench<'a, P> {
     }
 }
 
-/// Lets a member make its next turn, if it can.
-fn make_turn<P: Publisher, G: Gate>(
-    member: &mut Member<P>,
-    end: &mut LaneEnd<Piece>,
-    gate: &G,
-    bench: usize,
-) -> Went
-    requires at_lanes { end.old.seat.lanes ≡ end.old.lanes.now }
-    requires counted { IsCounted end.old.seat.view member.old }
-    ensures went { WentBy end.old.seat.view member.old end.new.seat.view member.new result }
-    ensures counted { IsCounted end.new.seat.view member.new }
-    ensures others { LeavesOthers (course_of member.old).actor end.old.seat.view
-        end.new.seat.view }
-    ensures same { IsSameMember member.old member.new }
-    ensures later { IsLater end.old.seat end.new.seat }
-    ensures lanes { end.new.lanes.now ≡ end.old.lanes.now }
-{
-    match member.next() {
-        Turn::Put(name) => {
-            let piece = member.piece();
-            end.seat.put(end.lanes, name, piece);
-        }
-        Turn::Take(name) => match end.seat.take(end.lanes, name) {
-            Some(piece) => member.give(piece),
-            None => return Went::Nowhere,
-        },
-        Turn::Work => {
-            if let Some(tick) = member.query_tick() {
-                gate.pass(bench, tick);
-            }
-            member.work();
-        }
-        Turn::Done => return Went::Over,
-    }
-    Went::On
-}
-
-/// Lets each member make its next turn, if it can. They went on where one of them did; they are
-/// over where all are.
+/// Lets each member make its next turn, if it can, and before the query of a tick passes the gate.
+/// They went on where one of them did; they are over where all are.
 fn make_turns<P: Publisher, G: Gate>(
     members: &mut [Member<P>],
     end: &mut LaneEnd<Piece>,
@@ -186,7 +139,10 @@ fn make_turns<P: Publisher, G: Gate>(
 {
     let mut all = Went::Over;
     for i in 0..members.len() {
-        let one = make_turn(&mut members[i], end, gate, bench);
+        if let Some(tick) = members[i].query_tick() {
+            gate.pass(bench, tick);
+        }
+        let one = make_turn(&mut members[i], end);
         all = behind(all, one);
     }
     all

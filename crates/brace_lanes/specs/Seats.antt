@@ -1,5 +1,5 @@
 -- A seat as contracts see it, and what it counts of each lane.
-use Rattle.std.specs.Prelude.{◌≡◌, ℕ, ◌-◌, ◌&&◌, List, ◌∷◌, cond, map, nat_lt, slice_index}
+use Rattle.std.specs.Prelude.{◌≡◌, ℕ, ◌-◌, ◌≤◌, ◌&&◌, List, ◌∷◌, cond, map, nat_lt, slice_index}
 use Rattle.std.specs.List.{range_with_len}
 use Rattle.atomic_table.specs.Seated.{TableId}
 use Rattle.brace_lanes.specs.declared.table.View.{View}
@@ -35,6 +35,12 @@ pub record IsSameSeat {S : Type 0} (v w : View S) : Type 0 where
   pub actors : w.actors ≡ v.actors
   pub seats : w.seats ≡ v.seats
   pub number : w.number ≡ v.number
+
+-- a seat at a later time: no look that found nothing is forgotten
+pub record IsLater {S : Type 0} (v w : OnSeat S) : Type 0 where
+  pub lanes : w.lanes ≡ v.lanes
+  pub same : IsSameSeat v.view w.view
+  pub misses : (p q : ℕ) → misses_of v.view p q ≤ misses_of w.view p q
 
 -- all seats of new lanes of which so many are made, by rising number
 abbrev pub new_seats : {S : Type 0} → TableId → S → ℕ → ℕ → ℕ → List (OnSeat S)

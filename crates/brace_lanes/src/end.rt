@@ -1,6 +1,6 @@
-ghost use Rattle.std.specs.Prelude.{◌≡◌, ◌+◌, ◌<◌, ℕ, cond, is_some, IfNone, IfSome, OnSome};
+ghost use Rattle.std.specs.Prelude.{◌≡◌, ◌+◌, ◌<◌, ◌≤◌, ℕ, cond, is_some, IfNone, IfSome, OnSome};
 ghost use Rattle.brace_core.specs.Exchanges.{Follows, IsAnswered, one_on};
-ghost use Rattle.brace_lanes.specs.Seats.{puts_of, takes_of, seen_of, misses_of};
+ghost use Rattle.brace_lanes.specs.Seats.{IsLater, puts_of, takes_of, seen_of, misses_of};
 ghost use Rattle.brace_lanes.specs.Views.{Serves};
 
 use crate::lanes::Lanes;
@@ -15,8 +15,9 @@ pub struct LaneEnd<'a, F: Freight> {
 }
 
 impl<'a, F: Freight> Exchange<F> for LaneEnd<'a, F> {
-    ghost use Rattle.std.specs.Prelude.{◌≡◌};
-    ghost use Rattle.brace_lanes.specs.Seats.{puts_of, takes_of};
+    ghost use Rattle.std.specs.Prelude.{◌≡◌, ◌+◌, ◌≤◌};
+    ghost use Rattle.std.proofs.Common.{rules};
+    ghost use Rattle.brace_lanes.specs.Seats.{IsLater, puts_of, takes_of, misses_of};
     ghost use Rattle.brace_lanes.specs.Views.{Serves};
 
     ghost setting = { λ end. end.seat.view.setting };
@@ -26,6 +27,11 @@ impl<'a, F: Freight> Exchange<F> for LaneEnd<'a, F> {
     ghost puts = { λ end. puts_of end.seat.view };
 
     ghost takes = { λ end. takes_of end.seat.view };
+
+    ghost keeps = { λ x y. (y.lanes.now ≡ x.lanes.now) × IsLater x.seat y.seat };
+
+    ghost misses = { λ x y name. misses_of x.seat.view name.from name.to + 1
+        ≤ misses_of y.seat.view name.from name.to };
 
     fn put(&mut self, name: Name, piece: F)
         requires served { (self.old.seat.lanes ≡ self.old.lanes.now)
@@ -45,6 +51,8 @@ impl<'a, F: Freight> Exchange<F> for LaneEnd<'a, F> {
             takes_of self.new.seat.view p q ≡ takes_of self.old.seat.view p q }
         ensures misses { (p q : ℕ) →
             misses_of self.new.seat.view p q ≡ misses_of self.old.seat.view p q }
+        ensures kept { (self.new.lanes.now ≡ self.old.lanes.now)
+            × IsLater self.old.seat self.new.seat }
     {
         self.seat.put(self.lanes, name, piece);
     }
@@ -68,7 +76,13 @@ impl<'a, F: Freight> Exchange<F> for LaneEnd<'a, F> {
             < seen_of self.new.seat.view name.from name.to) }
         ensures missed { IfNone result (seen_of self.new.seat.view name.from name.to
             ≡ takes_of self.old.seat.view name.from name.to) }
+        ensures kept { (self.new.lanes.now ≡ self.old.lanes.now)
+            × IsLater self.old.seat self.new.seat }
+        ensures found_none { IfNone result (misses_of self.old.seat.view name.from name.to + 1
+            ≤ misses_of self.new.seat.view name.from name.to) }
     {
         self.seat.take(self.lanes, name)
     }
+
+    ghost keeps_itself = { Prim.search rules };
 }

@@ -26,6 +26,8 @@ use Rattle.brace_model.specs.Run.{world_after, stepped}
 use Rattle.brace_model.proofs.ValueEquations.{value-Lit, value-Field, value-Total, value-Binary, statement-If, statement-Foreach, statement-Assign, constants-If, constants-Foreach, constants-Assign}
 use Rattle.brace_invert.proofs.RangeLemmas.{says_within-Foreach, says_within-Assign}
 use Rattle.brace_pieces.specs.declared.setting.Setting.{Setting}
+use Rattle.brace_core.specs.Events.{events_of}
+use Rattle.brace_pieces.specs.Steps.{schedule}
 use Rattle.brace_pieces.specs.Counts.{count_border, count_effects, count_moved, count_handed}
 
 abbrev state : List ℕ → Ty → Option Expr → State
@@ -73,6 +75,10 @@ neighbours invert = setting (seeing (pos 2000000)) (agent 0 1 (pos 0) (Int (pos 
 neighbours_exchange : counts (neighbours false) ≡ 3 ∷ 2 ∷ 0 ∷ 0 ∷ []
 unfolding world_after
 neighbours_exchange = simp (value-Lit, value-Field, value-Total, value-Binary, statement-If, statement-Foreach, statement-Assign, constants-If, constants-Foreach, constants-Assign)
+
+-- with epochs of 16 ticks their run makes 32 events: two for each two that meet in a step, one for each actor there
+neighbours_events : events_of (schedule (record (neighbours false) { epoch = 16 })) ≡ 32
+neighbours_events = refl
 
 -- an agent that goes from the first strip to the third in one tick
 abbrev leaping : Program

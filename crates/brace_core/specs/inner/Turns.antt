@@ -1,10 +1,8 @@
--- When an actor can make a turn at plain lanes, and what that changes there.
-use Rattle.std.specs.Prelude.{◌≡◌, ℕ, ◌+◌, ◌%◌, ◌<◌, Bool, true, false, nat_lt, IsTrue, List, [], ◌∷◌, filter, length, slice_index}
+-- When an actor can make a turn at plain lanes, and which of them is the first that can.
+use Rattle.std.specs.Prelude.{◌≡◌, ℕ, ◌+◌, ◌%◌, ◌<◌, Bool, true, false, nat_lt, IsTrue, List, slice_index}
 use Rattle.brace_core.specs.declared.name.Turn.{Turn}
 use Rattle.brace_core.specs.declared.name.Turn.TheVariants.{Put, Take, Work, Done}
 use Rattle.brace_core.specs.Schedule.{Schedule, turn_at}
-use Rattle.brace_core.specs.Events.{is_on, names_put, names_taken}
-use Rattle.brace_core.specs.Exchanges.{IsNext}
 use Rattle.brace_core.specs.Lanes.{OnLanes, puts_of, takes_of}
 
 -- whether a turn can be made: a take where more names were put on its lane than taken from it
@@ -13,26 +11,6 @@ can_make v (Put n) = true
 can_make v (Take n) = nat_lt (takes_of v n.from n.to) (puts_of v n.from n.to)
 can_make v Work = true
 can_make v Done = false
-
--- a turn that can be made, as the lanes ask it
-abbrev pub IsAllowed : {F S : Type 0} → Schedule → OnLanes F S → Turn → Type 0
-IsAllowed s v (Put n) = record {
-  next : IsNext s n (puts_of v n.from n.to);
-  answered : puts_of v n.from n.to ≡ takes_of v n.to n.from;
-}
-IsAllowed s v (Take n) = record {
-  next : IsNext s n (takes_of v n.from n.to);
-  found : IsTrue (nat_lt (takes_of v n.from n.to) (puts_of v n.from n.to));
-}
-IsAllowed s v Work = Unit {0}
-IsAllowed s v Done = ⊥
-
--- how many names of a lane a turn puts, and takes
-abbrev pub put_by : Turn → ℕ → ℕ → ℕ
-put_by turn p q = length (filter (is_on p q) (names_put (turn ∷ [])))
-
-abbrev pub taken_by : Turn → ℕ → ℕ → ℕ
-taken_by turn p q = length (filter (is_on p q) (names_taken (turn ∷ [])))
 
 -- whether actor a, of actors that have made so many turns each, can make its next turn
 abbrev pub can_go_on : {F S : Type 0} → Schedule → OnLanes F S → List ℕ → ℕ → Bool

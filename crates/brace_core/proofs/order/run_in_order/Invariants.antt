@@ -1,5 +1,6 @@
 use Rattle.std.specs.List.{sum_by}
-use Rattle.brace_core.proofs.OrderLemmas.{IsRunning, turns_left}
+use Rattle.brace_core.specs.Exchanges.{turns_left}
+use Rattle.brace_core.proofs.OrderLemmas.{IsRunning}
 use Rattle.brace_core.proofs.order.run_in_order.Given as goal
 
 abbrev pub invariant-loop-number : goal.invariant-loop-number

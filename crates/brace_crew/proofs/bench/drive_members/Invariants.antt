@@ -1,7 +1,8 @@
 use Rattle.std.proofs.Common.{◌≡◌, ◌+◌, ◌-◌, ◌*◌, ◌<◌, ◌≤◌}
 use Rattle.std.specs.List.{sum_by}
 use Rattle.brace_crew.specs.Benches.{AreWaiting}
-use Rattle.brace_crew.specs.inner.Driven.{AreCounted, IsLater, AreSame, turns_left}
+use Rattle.brace_lanes.specs.Seats.{IsLater}
+use Rattle.brace_crew.specs.inner.Driven.{AreCounted, AreSame, turns_left}
 use Rattle.brace_crew.proofs.bench.drive_members.Given as goal
 
 abbrev pub invariant-loop-idle : goal.invariant-loop-idle

@@ -1,5 +1,6 @@
 use Rattle.std.proofs.Common.{◌≡◌, ◌≤◌, length}
-use Rattle.brace_crew.specs.inner.Driven.{AreCounted, IsLater, AreSame, WentAll}
+use Rattle.brace_lanes.specs.Seats.{IsLater}
+use Rattle.brace_crew.specs.inner.Driven.{AreCounted, AreSame, WentAll}
 use Rattle.brace_crew.proofs.bench.make_turns.Given as goal
 
 abbrev pub invariant-loop-i : goal.invariant-loop-i
