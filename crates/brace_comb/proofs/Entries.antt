@@ -87,6 +87,14 @@ given-none t f e miss = rw miss refl
 pub gives_or_none : (t f : ℕ) (e : Entry) → Gives t f e ⊎ (given_by t f e ≡ None)
 gives_or_none t f e = ⊎_elim inl (λ miss. inr (given-none t f e miss)) (gives_or_misses e.target e.field t f)
 
+-- what an entry gives nothing to, one of its place gives nothing to
+pub alike-none : (t f : ℕ) (x y : Entry) → IsAlike x y → given_by t f x ≡ None → given_by t f y ≡ None
+alike-none t f x y same none =
+    ⊎_elim
+    (λ gives. let some = given-some t f x (same.0 ∙ gives.0, same.1 ∙ gives.1) in absurd (cc))
+    (λ e. e)
+    (gives_or_none t f y)
+
 -- one of two entries in order gives nothing to an effect
 pub apart : (t f : ℕ) (x y : Entry) → by_place x y ≡ Less
     → (given_by t f x ≡ None) ⊎ (given_by t f y ≡ None)

@@ -1,18 +1,18 @@
 -- The order and the grouping in which entries are given: they come to one list.
-use Rattle.std.proofs.Common.{◌≡◌, ◌∙◌, refl, sym, ap, ap₂, subst, ℕ, List, [], ◌∷◌, ◌++◌, ⊎_elim, Option, Some, None, Ordering, Less, Equal, Greater, fold}
-use Rattle.std.specs.List.{AllByRecursion}
+use Rattle.std.proofs.Common.{◌≡◌, ◌∙◌, refl, sym, ap, ap₂, subst, ℕ, List, [], ◌∷◌, ◌++◌, ⊎_elim, Option, Some, None, Ordering, Less, Equal, Greater, fold, get_or}
+use Rattle.std.specs.List.{All, AllByRecursion}
 use Rattle.std.specs.List.Sorted.{IsPermutation, IsStrictlySortedBy}
-use Rattle.std.proofs.lemmas.List.Elements.{recursion_from_All}
-use Rattle.std.proofs.lemmas.List.Sorted.{All-permutation}
+use Rattle.std.proofs.lemmas.List.Elements.{recursion_from_All, All-append}
+use Rattle.std.proofs.lemmas.List.Sorted.{IsPermutation-append_comm}
 use Rattle.brace_model.specs.declared.program.Comb.{Comb}
 use Rattle.brace_comb.specs.declared.entry.Entry.{Entry}
 use Rattle.brace_comb.specs.declared.total.Total.{Total}
 use Rattle.brace_comb.specs.Totals.{Tally, tally, join}
-use Rattle.brace_comb.proofs.Joins.{join-assoc, join-comm, as_seen}
+use Rattle.brace_comb.proofs.Joins.{join-assoc, join-comm, join-turn, as_seen}
 use Rattle.brace_comb.proofs.Permutations.{fold-IsPermutation}
 use Rattle.brace_comb.specs.Entries.{by_place, IsRising, given_by, both, total_at, AreOf}
 use Rattle.brace_comb.specs.Partials.{IsPartialOf}
-use Rattle.brace_comb.proofs.Entries.{IsAlike, total_from, total-append, equal-alike, greater-less, below-trans, given-some, gives_or_none, both-none, rest-none, head-total, total-behind}
+use Rattle.brace_comb.proofs.Entries.{IsAlike, alike-none, total_from, total-append, equal-alike, greater-less, below-trans, given-some, gives_or_none, both-none, rest-none, head-total, total-behind}
 
 -- rising lists of the same totals are the same
 
@@ -62,13 +62,6 @@ rising_same (x ∷ xs) (y ∷ ys) p q same = split (by_place x y) refl (rising_s
         some_same : {A : Type 0} {a b : A} → Some a ≡ Some b → a ≡ b
         some_same e = cc
 
-        gone : (t f : ℕ) → given_by t f x ≡ None → given_by t f (record y { target = x.target; field = x.field }) ≡ None
-        gone t f none =
-            ⊎_elim
-            (λ gives. let some = given-some t f x gives in absurd (cc))
-            (λ e. e)
-            (gives_or_none t f (record y { target = x.target; field = x.field }))
-
         rest : IsAlike x y → (t f : ℕ) → total_at t f xs ≡ total_at t f ys
         rest alike t f =
             ⊎_elim
@@ -76,8 +69,7 @@ rising_same (x ∷ xs) (y ∷ ys) p q same = split (by_place x y) refl (rising_s
             rest-none t f None x xs p.0 gives
             ∙ sym (rest-none t f None y ys q.0 (sym alike.0 ∙ gives.0, sym alike.1 ∙ gives.1)))
             (λ none.
-            let none' : given_by t f y ≡ None = ap₂ (λ t' f'. given_by t f (record y { target = t'; field = f' })) (sym alike.0) (sym alike.1) ∙ gone t f none in
-            sym (ap (λ g. total_from t f g xs) none) ∙ same t f ∙ ap (λ g. total_from t f g ys) none')
+            sym (ap (λ g. total_from t f g xs) none) ∙ same t f ∙ ap (λ g. total_from t f g ys) (alike-none t f x y alike none))
             (gives_or_none t f x)
 
 pub one_partial : (given a b : List Entry) → IsPartialOf given a → IsPartialOf given b → a ≡ b
@@ -101,35 +93,22 @@ both-assoc c (Some a) None d p q r = refl
 both-assoc c (Some a) (Some b) None p q r = refl
 both-assoc c (Some a) (Some b) (Some d) p q r = ap Some (join-assoc a b d (p ∙ sym q) (q ∙ sym r))
 
-both-comm : (c : Comb) (a b : Option Tally) → Has c a → Has c b → both a b ≡ both b a
-both-comm c None None p q = refl
-both-comm c None (Some b) p q = refl
-both-comm c (Some a) None p q = refl
-both-comm c (Some a) (Some b) p q = ap Some (join-comm a b (p ∙ sym q))
+-- two of them may change places behind any other
+both-turn : (c : Comb) (s g h : Option Tally) → Has c g → Has c h → both (both s g) h ≡ both (both s h) g
+both-turn c None None None p q = refl
+both-turn c None None (Some h) p q = refl
+both-turn c None (Some g) None p q = refl
+both-turn c (Some s) None None p q = refl
+both-turn c (Some s) None (Some h) p q = refl
+both-turn c (Some s) (Some g) None p q = refl
+both-turn c None (Some g) (Some h) p q = ap Some (join-comm g h (p ∙ sym q))
+both-turn c (Some s) (Some g) (Some h) p q = ap Some (join-turn s g h)
 
--- the same totals, each taken as one of its effect's combinator, so that any two may change places
-abbrev pub as_of : Comb → Option Tally → Option Tally
-as_of c None = None
-as_of c (Some t) = Some (record t { comb = c })
-
-pub as_of-has : (c : Comb) (s : Option Tally) → Has c s → as_of c s ≡ s
-as_of-has c None has = refl
-as_of-has c (Some t) has = ap (λ k. Some (record t { comb = k })) (sym has)
-
-pub as_of-turn : (c : Comb) (s g h : Option Tally)
-    → both (as_of c (both (as_of c s) (as_of c g))) (as_of c h) ≡ both (as_of c (both (as_of c s) (as_of c h))) (as_of c g)
-as_of-turn c None None None = refl
-as_of-turn c None None (Some h) = refl
-as_of-turn c None (Some g) None = refl
-as_of-turn c (Some s) None None = refl
-as_of-turn c (Some s) None (Some h) = refl
-as_of-turn c (Some s) (Some g) None = refl
-as_of-turn c None (Some g) (Some h) = ap Some (join-comm (record g { comb = c }) (record h { comb = c }) refl)
-as_of-turn c (Some s) (Some g) (Some h) =
-    let s' : Tally = record s { comb = c } in
-    let g' : Tally = record g { comb = c } in
-    let h' : Tally = record h { comb = c } in
-    ap Some (join-assoc s' g' h' refl refl ∙ ap (join s') (join-comm g' h' refl) ∙ sym (join-assoc s' h' g' refl refl))
+-- what elements give may be joined in any order
+pub both-order : {X : Type 0} (c : Comb) (g : X → Option Tally) (xs ys : List X) → All (λ x. Has c (g x)) xs
+    → IsPermutation xs ys → fold (λ s x. both s (g x)) None xs ≡ fold (λ s x. both s (g x)) None ys
+both-order c g xs ys all perm =
+    fold-IsPermutation (λ s x. both s (g x)) (λ x. Has c (g x)) (λ s x y p q. both-turn c s (g x) (g y) p q) None xs ys all perm
 
 module _ (combs : ℕ → ℕ → Comb) where
   abbrev IsOf : Entry → Type 0
@@ -165,17 +144,18 @@ module _ (combs : ℕ → ℕ → Comb) where
       ∙ ap (λ o. total_from t f o ys) (sym (both-none s))
       ∙ from-both t f s None ys (total-has t f None xs tt p) tt q
 
+  pub any_order : (xs ys a b : List Entry) → AreOf combs xs → IsPermutation xs ys
+      → IsPartialOf xs a → IsPartialOf ys b → a ≡ b
+  any_order xs ys a b p perm x y =
+      rising_same a b x.rising y.rising (λ t f.
+      x.totals t f
+      ∙ both-order (combs t f) (given_by t f) xs ys (λ k d le. given-has t f (get_or xs k d) (p k d le)) perm
+      ∙ sym (y.totals t f))
+
   pub either_way : (xs ys a b : List Entry) → AreOf combs xs → AreOf combs ys
       → IsPartialOf (xs ++ ys) a → IsPartialOf (ys ++ xs) b → a ≡ b
   either_way xs ys a b p q x y =
-      let p' = recursion_from_All IsOf xs p in
-      let q' = recursion_from_All IsOf ys q in
-      rising_same a b x.rising y.rising (λ t f.
-      x.totals t f
-      ∙ total-both t f xs ys p' q'
-      ∙ both-comm (combs t f) (total_at t f xs) (total_at t f ys) (total-has t f None xs tt p') (total-has t f None ys tt q')
-      ∙ sym (total-both t f ys xs q' p')
-      ∙ sym (y.totals t f))
+      any_order (xs ++ ys) (ys ++ xs) a b (All-append IsOf xs ys p q) (IsPermutation-append_comm xs ys) x y
 
   pub grouped : (xs ys part entries : List Entry) → AreOf combs xs → AreOf combs ys
       → IsPartialOf ys part → IsPartialOf (xs ++ part) entries → IsPartialOf (xs ++ ys) entries
@@ -188,26 +168,3 @@ module _ (combs : ℕ → ℕ → Comb) where
         ∙ ap (both (total_at t f xs)) (x.totals t f)
         ∙ sym (total-both t f xs ys (recursion_from_All IsOf xs p) (recursion_from_All IsOf ys q));
   }
-
-  abbrev of_step : ℕ → ℕ → Option Tally → Entry → Option Tally
-  of_step t f s e = both (as_of (combs t f) s) (as_of (combs t f) (given_by t f e))
-
-  of-total : (t f : ℕ) (s : Option Tally) (es : List Entry) → Has (combs t f) s → AllByRecursion IsOf es
-      → total_from t f s es ≡ fold (of_step t f) s es
-  of-total t f s [] has of = refl
-  of-total t f s (e ∷ es) has of =
-      let c = combs t f in
-      let g = given-has t f e of.0 in
-      let same = ap₂ both (as_of-has c s has) (as_of-has c (given_by t f e) g) in
-      of-total t f (both s (given_by t f e)) es (both-has c s (given_by t f e) has g) of.1
-      ∙ ap (λ o. fold (of_step t f) o es) (sym same)
-
-  pub any_order : (xs ys a b : List Entry) → AreOf combs xs → IsPermutation xs ys
-      → IsPartialOf xs a → IsPartialOf ys b → a ≡ b
-  any_order xs ys a b p perm x y =
-      rising_same a b x.rising y.rising (λ t f.
-      x.totals t f
-      ∙ of-total t f None xs tt (recursion_from_All IsOf xs p)
-      ∙ fold-IsPermutation (of_step t f) (λ s e d. as_of-turn (combs t f) s (given_by t f e) (given_by t f d)) None xs ys perm
-      ∙ sym (of-total t f None ys tt (recursion_from_All IsOf ys (All-permutation IsOf xs ys perm p)))
-      ∙ sym (y.totals t f))

@@ -16,16 +16,15 @@ use Rattle.brace_comb.specs.declared.entry.Entry.{Entry}
 use Rattle.brace_comb.specs.declared.total.Total.{Total}
 use Rattle.brace_comb.specs.Totals.{Tally, tally, tally_of, IsBounded}
 use Rattle.brace_comb.proofs.Joins.{join-append, tally_of-bounded}
-use Rattle.brace_comb.proofs.Permutations.{fold-IsPermutation}
 use Rattle.brace_comb.specs.Entries.{IsRising, both, total_at, CanMerge, single}
 use Rattle.brace_comb.specs.Partials.{IsPartialOf, total_said, sayings_to, AreTotalsOf}
 use Rattle.brace_comb.proofs.Entries.{total-append, given-some, given-none, gives_or_misses, at-total, total-behind}
-use Rattle.brace_comb.proofs.Groups.{rising_same, Has, as_of, as_of-has, as_of-turn}
+use Rattle.brace_comb.proofs.Groups.{rising_same, Has, both-order}
 
 abbrev hits : ℕ → ℕ → Saying → Bool
 hits t f s = (s.target == t) && (s.field == f)
 
-said_to-append : (t f : ℕ) (xs ys : List Saying) → said_to t f (xs ++ ys) ≡ said_to t f xs ++ said_to t f ys
+pub said_to-append : (t f : ℕ) (xs ys : List Saying) → said_to t f (xs ++ ys) ≡ said_to t f xs ++ said_to t f ys
 said_to-append t f xs ys =
     ap (map (λ (s : Saying). s.value)) (filter-append (hits t f) xs ys)
     ∙ map-append (λ (s : Saying). s.value) (filter (hits t f) xs) (filter (hits t f) ys)
@@ -102,34 +101,19 @@ alone combs e v values total = record { rising = rising-one e; totals = totals }
 
 -- values in another order
 
-abbrev heard : Comb → ℕ → ℕ → Saying → Option Tally
-heard c t f s = if hits t f s then Some (tally_of c (s.value ∷ [])) else None
-
-heard-said : (c : Comb) (t f : ℕ) (s : Saying) → heard c t f s ≡ total_said c (said_to t f (s ∷ []))
-heard-said c t f s = split (hits t f s) refl
-  where
-    split : (b : Bool) → hits t f s ≡ b → heard c t f s ≡ total_said c (said_to t f (s ∷ []))
-    split true is = rw is refl
-    split false is = rw is refl
-
 said-has : (c : Comb) (vs : List Value) → Has c (total_said c vs)
 said-has c [] = tt
 said-has c (v ∷ vs) = refl
 
-abbrev hear : Comb → ℕ → ℕ → Option Tally → Saying → Option Tally
-hear c t f total s = both (as_of c total) (as_of c (heard c t f s))
-
-heard-all : (c : Comb) (t f : ℕ) (vs : List Value) (xs : List Saying)
-    → fold (hear c t f) (total_said c vs) xs ≡ total_said c (vs ++ said_to t f xs)
-heard-all c t f vs [] = ap (total_said c) (sym (append-nil vs))
-heard-all c t f vs (s ∷ xs) =
-    let ws = said_to t f (s ∷ []) in
-    let is = heard-said c t f s in
-    let has : Has c (heard c t f s) = subst (Has c) (sym is) (said-has c ws) in
-    ap (λ o. fold (hear c t f) o xs)
-    (ap₂ both (as_of-has c (total_said c vs) (said-has c vs)) (as_of-has c (heard c t f s) has ∙ is) ∙ said-both c vs ws)
-    ∙ heard-all c t f (vs ++ ws) xs
-    ∙ ap (total_said c) (append_assoc vs ws (said_to t f xs) ∙ ap (λ (l : List Value). vs ++ l) (sym (said_to-append t f (s ∷ []) xs)))
+-- the total of what each saying says
+each-said : (c : Comb) (t f : ℕ) (vs : List Value) (xs : List Saying)
+    → fold (λ s x. both s (total_said c (said_to t f (x ∷ [])))) (total_said c vs) xs ≡ total_said c (vs ++ said_to t f xs)
+each-said c t f vs [] = ap (total_said c) (sym (append-nil vs))
+each-said c t f vs (x ∷ xs) =
+    let ws = said_to t f (x ∷ []) in
+    ap (λ o. fold (λ s y. both s (total_said c (said_to t f (y ∷ [])))) o xs) (said-both c vs ws)
+    ∙ each-said c t f (vs ++ ws) xs
+    ∙ ap (total_said c) (append_assoc vs ws (said_to t f xs) ∙ ap (λ (l : List Value). vs ++ l) (sym (said_to-append t f (x ∷ []) xs)))
 
 pub any_order_said : (combs : ℕ → ℕ → Comb) (xs ys : List Saying) (a b : List Entry) → IsPermutation xs ys
     → AreTotalsOf combs xs a → AreTotalsOf combs ys b → a ≡ b
@@ -137,9 +121,9 @@ any_order_said combs xs ys a b perm p q =
     rising_same a b p.rising q.rising (λ t f.
     let c = combs t f in
     p.totals t f
-    ∙ sym (heard-all c t f [] xs)
-    ∙ fold-IsPermutation (hear c t f) (λ s x y. as_of-turn c s (heard c t f x) (heard c t f y)) None xs ys perm
-    ∙ heard-all c t f [] ys
+    ∙ sym (each-said c t f [] xs)
+    ∙ both-order c (λ x. total_said c (said_to t f (x ∷ []))) xs ys (λ k d le. said-has c (said_to t f (get_or xs k d ∷ []))) perm
+    ∙ each-said c t f [] ys
     ∙ sym (q.totals t f))
 
 -- may two totals be merged

@@ -1,7 +1,8 @@
 -- A walk along two rising lists of entries: what is merged so far, and what is left of each.
-use Rattle.std.proofs.Common.{◌≡◌, ◌∙◌, refl, sym, ap, ap₂, subst, ℕ, zero, suc, ◌<◌, ◌≤◌, List, [], ◌∷◌, ◌++◌, length, take, drop, get_or, set, insert, true, false, ⊎_elim, Some, None, Ordering, Less, Equal, Greater, is_lt, is_eq, All, append_assoc, append-nil, take-append-drop, drop_of_length-le, arith}
+use Rattle.std.proofs.Common.{◌≡◌, ◌∙◌, refl, sym, ap, ap₂, subst, ℕ, zero, suc, ◌+◌, ◌<◌, ◌≤◌, List, [], ◌∷◌, ◌++◌, length, take, drop, get_or, set, insert, true, false, ⊎_elim, Some, None, Ordering, Less, Equal, Greater, is_lt, is_eq, All, append_assoc, append-nil, take-append-drop, drop-cons, drop_of_length-le, arith}
 use Rattle.std.specs.List.{AllByRecursion, AllWithin}
 use Rattle.std.proofs.lemmas.Bool.{cases_lt}
+use Rattle.std.proofs.lemmas.List.{get_or_default, get_or-take, get_or-drop, length-take-le, length-drop, set_split}
 use Rattle.std.proofs.lemmas.List.Elements.{recursion_from_All, All-from_recursion, All-head}
 use Rattle.std.specs.List.Sorted.{IsStrictlySortedBy, IsPartitionedBy, IsPartitionPoint}
 use Rattle.brace_comb.specs.declared.entry.Entry.{Entry}
@@ -9,7 +10,7 @@ use Rattle.brace_comb.specs.Totals.{tally, join, CanJoin}
 use Rattle.brace_comb.specs.Entries.{by_place, IsRising, given_by, both, total_at, CanMerge}
 use Rattle.brace_comb.specs.Partials.{IsPartialOf}
 use Rattle.brace_comb.specs.inner.Ranks.{IsRank}
-use Rattle.brace_comb.proofs.Entries.{IsAlike, Gives, IsBelow, total_from, total-append, equal-alike, greater-less, below-trans, below-alike, given-some, gives_or_none, both-none, past, head-total, tail-total, part-total, rising-below, rising-part, rising-between, rising-swapped, rising-push, front-none, less-trans, total-behind}
+use Rattle.brace_comb.proofs.Entries.{IsAlike, alike-none, Gives, IsBelow, total_from, total-append, equal-alike, greater-less, below-trans, below-alike, given-some, gives_or_none, both-none, past, head-total, tail-total, part-total, rising-below, rising-part, rising-between, rising-swapped, rising-push, front-none, less-trans, total-behind}
 
 pub record Walk (given m xs ys : List Entry) : Type 0 where
   pub left : IsRising (m ++ xs)
@@ -74,13 +75,6 @@ in_place t f m xs zs x y e rising same same' total =
     ∙ ap (λ s. total_from t f s zs) here
     ∙ sym (total-append t f None m (x ∷ y ∷ zs))
   where
-    not_given : (z : Entry) → IsAlike x z → given_by t f x ≡ None → given_by t f z ≡ None
-    not_given z is none =
-        ⊎_elim
-        (λ gives. let some = given-some t f x (is.0 ∙ gives.0, is.1 ∙ gives.1) in absurd (cc))
-        (λ e. e)
-        (gives_or_none t f z)
-
     hit : Gives t f x → both (total_at t f m) (given_by t f e)
         ≡ both (both (total_at t f m) (given_by t f x)) (given_by t f y)
     hit gives =
@@ -95,8 +89,8 @@ in_place t f m xs zs x y e rising same same' total =
     miss : given_by t f x ≡ None → both (total_at t f m) (given_by t f e)
         ≡ both (both (total_at t f m) (given_by t f x)) (given_by t f y)
     miss none =
-        let gy : given_by t f y ≡ None = not_given y same none in
-        let ge : given_by t f e ≡ None = not_given e same' none in
+        let gy = alike-none t f x y same none in
+        let ge = alike-none t f x e same' none in
         ap (both (total_at t f m)) ge
         ∙ both-none (total_at t f m)
         ∙ sym (ap₂ both (ap (both (total_at t f m)) none ∙ both-none (total_at t f m)) gy ∙ both-none (total_at t f m))
@@ -146,78 +140,39 @@ end_left given m xs w = record {
 pub end_right : (given m ys : List Entry) → Walk given m [] ys → IsPartialOf given (m ++ ys)
 end_right given m ys w = record { rising = w.right; totals = w.totals }
 
--- one entry on its way into a rising list, of which it has passed a front
-begin : (xs ys : List Entry) (e : Entry) → IsRising (xs ++ ys)
-    → AllByRecursion (λ k. by_place k e ≡ Less) xs → CanMerge (xs ++ ys) (e ∷ [])
-    → Walk ((xs ++ ys) ++ e ∷ []) xs ys (e ∷ [])
-begin xs ys e rising before joins = record {
-  left = rising;
-  right = rising-push xs ys e rising before;
-  totals = λ t f. ap (total_at t f) (sym (append_assoc xs ys (e ∷ [])));
-  joins = λ t f a b p q. joins t f a b (part-total t f xs ys a rising p) q;
-}
+-- one entry on its way into a rising list, at its rank
+begin : (xs : List Entry) (at : ℕ) (e : Entry) → IsRising xs → IsRank xs e at → CanMerge xs (e ∷ [])
+    → Walk (xs ++ e ∷ []) (take at xs) (drop at xs) (e ∷ [])
+begin xs at e rising rank joins =
+    let cut = take-append-drop at xs in
+    let parts = subst IsRising (sym cut) rising in
+    record {
+      left = parts;
+      right = rising-push (take at xs) (drop at xs) e parts (recursion_from_All (λ k. by_place k e ≡ Less) (take at xs) rank.before);
+      totals = λ t f.
+          ap (total_at t f) (sym (append_assoc (take at xs) (drop at xs) (e ∷ [])))
+          ∙ ap (λ l. total_at t f (l ++ e ∷ [])) cut;
+      joins = λ t f a b p q. joins t f a b
+          (subst (λ l. total_at t f l ≡ Some a) cut (part-total t f (take at xs) (drop at xs) a parts p)) q;
+    }
 
-put_in : (xs ys : List Entry) (e : Entry) → IsRising (xs ++ ys)
-    → AllByRecursion (λ k. by_place k e ≡ Less) xs → CanMerge (xs ++ ys) (e ∷ []) → IsBelow e ys
-    → IsPartialOf ((xs ++ ys) ++ e ∷ []) (xs ++ e ∷ ys)
-put_in xs ys e rising before joins below =
-    let given = (xs ++ ys) ++ e ∷ [] in
-    subst (IsPartialOf given) (snoc xs ys e)
-    (end_left given (xs ++ e ∷ []) ys (take_right given xs ys [] e (begin xs ys e rising before joins) below))
+-- an entry of its place stands there
+module _ (xs : List Entry) (at : ℕ) (z e : Entry) (rising : IsRising xs) (rank : IsRank xs e at) (joins : CanMerge xs (e ∷ []))
+    (within : at < length xs) (is : z ≡ get_or xs at z) (equal : by_place z e ≡ Equal) where
+  stands : Walk (xs ++ e ∷ []) (take at xs) (z ∷ drop (suc at) xs) (e ∷ [])
+  stands =
+      subst (λ l. Walk (xs ++ e ∷ []) (take at xs) l (e ∷ []))
+      (drop-cons xs at z within ∙ ap (λ k. k ∷ drop (suc at) xs) (sym is)) (begin xs at e rising rank joins)
 
-join_in : (xs ys : List Entry) (z e j : Entry) → IsRising (xs ++ z ∷ ys)
-    → AllByRecursion (λ k. by_place k e ≡ Less) xs → CanMerge (xs ++ z ∷ ys) (e ∷ [])
-    → by_place z e ≡ Equal → IsAlike z j → tally j.total ≡ join (tally z.total) (tally e.total)
-    → IsPartialOf ((xs ++ z ∷ ys) ++ e ∷ []) (xs ++ j ∷ ys)
-join_in xs ys z e j rising before joins equal is total =
-    let given = (xs ++ z ∷ ys) ++ e ∷ [] in
-    subst (IsPartialOf given) (snoc xs ys j)
-    (end_left given (xs ++ j ∷ []) ys (take_both given xs ys [] z e j (begin xs (z ∷ ys) e rising before joins) equal is total))
+  pub may_join_at : CanJoin (tally z.total) (tally e.total)
+  may_join_at = may_join (xs ++ e ∷ []) (take at xs) (drop (suc at) xs) [] z e stands equal
 
--- at a place of a list
-
-cut_at : (xs : List Entry) (i : ℕ) (d : Entry) → i < length xs → take i xs ++ get_or xs i d ∷ drop (suc i) xs ≡ xs
-cut_at [] i d h = absurd (omega arith)
-cut_at (x ∷ xs) zero d h = refl
-cut_at (x ∷ xs) (suc i) d h = ap (λ l. x ∷ l) (cut_at xs i d (omega arith))
-
-set_at : (xs : List Entry) (i : ℕ) (e : Entry) → i < length xs → take i xs ++ e ∷ drop (suc i) xs ≡ set xs i e
-set_at [] i e h = absurd (omega arith)
-set_at (x ∷ xs) zero e h = refl
-set_at (x ∷ xs) (suc i) e h = ap (λ l. x ∷ l) (set_at xs i e (omega arith))
-
-drop_cut : (xs : List Entry) (i : ℕ) (d : Entry) → i < length xs → drop i xs ≡ get_or xs i d ∷ drop (suc i) xs
-drop_cut [] i d h = absurd (omega arith)
-drop_cut (x ∷ xs) zero d h = refl
-drop_cut (x ∷ xs) (suc i) d h = drop_cut xs i d (omega arith)
-
-pub any_default : (l : List Entry) (i : ℕ) (d e : Entry) → i < length l → get_or l i d ≡ get_or l i e
-any_default [] i d e h = absurd (omega arith)
-any_default (y ∷ l) zero d e h = refl
-any_default (y ∷ l) (suc i) d e h = any_default l i d e (omega arith)
-
-pub joined_at : (xs : List Entry) (at : ℕ) (z e j : Entry) → IsRising xs → IsRank xs e at
-    → CanMerge xs (e ∷ []) → at < length xs → z ≡ get_or xs at z → by_place z e ≡ Equal
-    → IsAlike z j → tally j.total ≡ join (tally z.total) (tally e.total)
-    → IsPartialOf (xs ++ e ∷ []) (set xs at j)
-joined_at xs at z e j rising rank joins within is equal alike total =
-    let cut : xs ≡ take at xs ++ z ∷ drop (suc at) xs =
-    sym (ap (λ k. take at xs ++ k ∷ drop (suc at) xs) is ∙ cut_at xs at z within) in
-    let P : List Entry → Type 0 = λ l. IsPartialOf (l ++ e ∷ []) (set xs at j) in
-    let before = recursion_from_All (λ k. by_place k e ≡ Less) (take at xs) rank.before in
-    subst P (sym cut)
-    (subst (IsPartialOf ((take at xs ++ z ∷ drop (suc at) xs) ++ e ∷ [])) (set_at xs at j within)
-    (join_in (take at xs) (drop (suc at) xs) z e j (subst IsRising cut rising) before (subst (λ l. CanMerge l (e ∷ [])) cut joins) equal alike total))
-
-pub may_join_at : (xs : List Entry) (at : ℕ) (z e : Entry) → IsRising xs → IsRank xs e at
-    → CanMerge xs (e ∷ []) → at < length xs → z ≡ get_or xs at z → by_place z e ≡ Equal
-    → CanJoin (tally z.total) (tally e.total)
-may_join_at xs at z e rising rank joins within is equal =
-    let cut : xs ≡ take at xs ++ z ∷ drop (suc at) xs =
-    sym (ap (λ k. take at xs ++ k ∷ drop (suc at) xs) is ∙ cut_at xs at z within) in
-    let before = recursion_from_All (λ k. by_place k e ≡ Less) (take at xs) rank.before in
-    may_join _ (take at xs) (drop (suc at) xs) [] z e
-    (begin (take at xs) (z ∷ drop (suc at) xs) e (subst IsRising cut rising) before (subst (λ l. CanMerge l (e ∷ [])) cut joins)) equal
+  pub joined_at : (j : Entry) → IsAlike z j → tally j.total ≡ join (tally z.total) (tally e.total)
+      → IsPartialOf (xs ++ e ∷ []) (set xs at j)
+  joined_at j alike total =
+      subst (IsPartialOf (xs ++ e ∷ [])) (snoc (take at xs) (drop (suc at) xs) j ∙ sym (set_split xs at j within))
+      (end_left (xs ++ e ∷ []) (take at xs ++ j ∷ []) (drop (suc at) xs)
+      (take_both (xs ++ e ∷ []) (take at xs) (drop (suc at) xs) [] z e j stands equal alike total))
 
 -- what is not before an entry, nor of its place, is behind it
 greater : (o : Ordering) → is_lt o ≡ false → is_eq o ≡ false → o ≡ Greater
@@ -225,24 +180,30 @@ greater Less a b = absurd (cc)
 greater Equal a b = absurd (cc)
 greater Greater a b = refl
 
+is_less : (o : Ordering) → is_lt o ≡ true → o ≡ Less
+is_less Less h = refl
+is_less Equal h = absurd (cc)
+is_less Greater h = absurd (cc)
+
 pub put_at : (xs : List Entry) (at : ℕ) (e : Entry) → IsRising xs → IsRank xs e at
     → CanMerge xs (e ∷ []) → ((z : Entry) → at < length xs → z ≡ get_or xs at z → is_eq (by_place z e) ≡ false)
     → IsPartialOf (xs ++ e ∷ []) (insert xs at e)
 put_at xs at e rising rank joins new =
-    let cut : xs ≡ take at xs ++ drop at xs = sym (take-append-drop at xs) in
-    let before = recursion_from_All (λ k. by_place k e ≡ Less) (take at xs) rank.before in
-    subst (λ l. IsPartialOf (l ++ e ∷ []) (insert xs at e)) (sym cut)
-    (put_in (take at xs) (drop at xs) e (subst IsRising cut rising) before (subst (λ l. CanMerge l (e ∷ [])) cut joins)
-    (⊎_elim behind none (cases_lt at (length xs))))
+    subst (IsPartialOf (xs ++ e ∷ [])) (snoc (take at xs) (drop at xs) e)
+    (end_left (xs ++ e ∷ []) (take at xs ++ e ∷ []) (drop at xs)
+    (take_right (xs ++ e ∷ []) (take at xs) (drop at xs) [] e walk (⊎_elim behind none (cases_lt at (length xs)))))
   where
+    walk : Walk (xs ++ e ∷ []) (take at xs) (drop at xs) (e ∷ [])
+    walk = begin xs at e rising rank joins
+
     behind : at < length xs → IsBelow e (drop at xs)
     behind within =
         let z = get_or xs at e in
-        let split = drop_cut xs at e within in
-        let first : is_lt (by_place z e) ≡ false =
-        All-head (λ k. is_lt (by_place k e) ≡ false) z (drop (suc at) xs) (subst (All (λ k. is_lt (by_place k e) ≡ false)) split rank.behind) in
-        let less = greater-less z e (greater (by_place z e) first (new z within (any_default xs at e (get_or xs at e) within))) in
-        let rest = rising-below z (drop (suc at) xs) (rising-part (take at xs) (z ∷ drop (suc at) xs) (subst IsRising (sym (cut_at xs at e within)) rising)) in
+        let split = drop-cons xs at e within in
+        let P : Entry → Type 0 = λ k. is_lt (by_place k e) ≡ false in
+        let first = All-head P z (drop (suc at) xs) (subst (All P) split rank.behind) in
+        let less = greater-less z e (greater (by_place z e) first (new z within (get_or_default xs at e z within))) in
+        let rest = rising-below z (drop (suc at) xs) (subst IsRising split (rising-part (take at xs) (drop at xs) walk.left)) in
         subst (IsBelow e) (sym split) (less, below-trans e z (drop (suc at) xs) less rest)
 
     none : length xs ≤ at → IsBelow e (drop at xs)
@@ -258,11 +219,6 @@ partitioned e (x ∷ xs) rising zero (suc j) d le within is =
     let k = get_or xs j d in
     let less : by_place x k ≡ Less = All-from_recursion (λ y. by_place x y ≡ Less) xs rising.0 j d (omega arith) in
     ap is_lt (less-trans x k e less (is_less (by_place k e) is))
-  where
-    is_less : (o : Ordering) → is_lt o ≡ true → o ≡ Less
-    is_less Less h = refl
-    is_less Equal h = absurd (cc)
-    is_less Greater h = absurd (cc)
 partitioned e (x ∷ xs) rising (suc i) zero d le within is = absurd (omega arith)
 partitioned e (x ∷ xs) rising (suc i) (suc j) d le within is =
     partitioned e xs rising.1 i j d (omega arith) (omega arith) is
@@ -272,29 +228,13 @@ pub ranked_at : (e : Entry) (xs : List Entry) (at : ℕ) → at ≤ length xs
     → IsRank xs e at
 ranked_at e xs at within point = record {
   within = within;
-  before = front xs at within point.0;
-  behind = back xs at within point.1;
+  before = λ k d le.
+      let low : k < at = omega (arith, le, length-take-le at xs within) in
+      ap (λ x. by_place x e) (get_or-take at xs k d low) ∙ is_less _ (point.0 k d (omega arith) low);
+  behind = λ k d le.
+      ap (λ x. is_lt (by_place x e)) (get_or-drop at xs k d)
+      ∙ point.1 (at + k) d (omega arith) (omega (arith, le, length-drop at xs, within));
 }
-  where
-    is_less : (o : Ordering) → is_lt o ≡ true → o ≡ Less
-    is_less Less h = refl
-    is_less Equal h = absurd (cc)
-    is_less Greater h = absurd (cc)
-
-    front : (l : List Entry) (i : ℕ) → i ≤ length l → AllWithin (λ k. is_lt (by_place k e) ≡ true) l 0 i
-        → All (λ k. by_place k e ≡ Less) (take i l)
-    front l zero le h k d in' = absurd (omega (arith, in'))
-    front [] (suc i) le h k d in' = absurd (omega (arith, in'))
-    front (x ∷ l) (suc i) le h zero d in' = is_less (by_place x e) (h zero d (omega arith) (omega arith))
-    front (x ∷ l) (suc i) le h (suc k) d in' =
-        front l i (omega arith) (λ n d' lo hi. h (suc n) d' (omega arith) (omega arith)) k d (omega (arith, in'))
-
-    back : (l : List Entry) (i : ℕ) → i ≤ length l → AllWithin (λ k. is_lt (by_place k e) ≡ false) l i (length l)
-        → All (λ k. is_lt (by_place k e) ≡ false) (drop i l)
-    back l zero le h k d in' = h k d (omega arith) in'
-    back [] (suc i) le h k d in' = absurd (omega (arith, in'))
-    back (x ∷ l) (suc i) le h k d in' =
-        back l i (omega arith) (λ n d' lo hi. h (suc n) d' (omega arith) (omega arith)) k d in'
 
 -- what all calls say of a list that was given more
 
