@@ -17,7 +17,7 @@ use Rattle.brace_model.specs.World.{number}
 use Rattle.brace_model.specs.Total.{identity, joined, total_of}
 use Rattle.brace_comb.specs.declared.total.Total.{Total}
 use Rattle.brace_comb.specs.declared.total.Total.TheVariants as total
-use Rattle.brace_comb.specs.Totals.{Tally, tally, tally_of, merged, join, IsBounded}
+use Rattle.brace_comb.specs.Totals.{Tally, tally, tally_of, brought, merged, join, IsBounded}
 use Rattle.brace_comb.specs.Folds.{IsFold, none, one, both, moved}
 use Rattle.brace_comb.proofs.Permutations.{fold-IsPermutation}
 
@@ -35,11 +35,6 @@ merged-comm Min a b = omega (arith, ints, clamps)
 merged-comm Max a b = omega (arith, ints, clamps)
 merged-comm Count a b = omega (arith, ints)
 merged-comm Or a b = omega (arith, ints, clamps)
-
--- the number that one value brings to a total
-abbrev brought : Comb → Value → ℤ
-brought Count v = pos 1
-brought _ v = number v
 
 joined-merged : (comb : Comb) (t : ℤ) (v : Value) → joined comb t v ≡ merged comb t (brought comb v)
 joined-merged Sum t v = refl
@@ -62,18 +57,20 @@ fold-through comb a b [] = refl
 fold-through comb a b (v ∷ vs) =
     ap (λ t. fold (joined comb) t vs) (through comb a b v) ∙ fold-through comb a (joined comb b v) vs
 
+-- two numbers may change places
+merged-turn : (comb : Comb) (a b c : ℤ) → merged comb (merged comb a b) c ≡ merged comb (merged comb a c) b
+merged-turn comb a b c =
+    merged-assoc comb a b c ∙ ap (merged comb a) (merged-comm comb b c) ∙ sym (merged-assoc comb a c b)
+
 -- two values may change places
-turn : (comb : Comb) (t : ℤ) (x y : Value)
-    → joined comb (joined comb t x) y ≡ joined comb (joined comb t y) x
+turn : (comb : Comb) (t : ℤ) (x y : Value) → joined comb (joined comb t x) y ≡ joined comb (joined comb t y) x
 turn comb t x y =
-    let m = merged comb in
-    let p = brought comb x in
-    let q = brought comb y in
-    ap (λ s. joined comb s y) (joined-merged comb t x)
-    ∙ through comb t p y
-    ∙ ap (m t) (joined-merged comb p y ∙ merged-comm comb p q ∙ sym (joined-merged comb q x))
-    ∙ sym (through comb t q x)
-    ∙ ap (λ s. joined comb s x) (sym (joined-merged comb t y))
+    let a = joined-merged comb t x in
+    let b = joined-merged comb t y in
+    let c = joined-merged comb (joined comb t x) y in
+    let d = joined-merged comb (joined comb t y) x in
+    let e = merged-turn comb t (brought comb x) (brought comb y) in
+    cc
 
 merged-identities : (comb : Comb) → merged comb (identity comb) (identity comb) ≡ identity comb
 merged-identities Sum = refl
@@ -90,12 +87,20 @@ total_of-identity comb vs =
     ∙ sym (fold-through comb (identity comb) (identity comb) vs)
     ∙ ap (λ t. fold (joined comb) t vs) (merged-identities comb)
 
+-- values more are merged as their total is
+pub fold-merged : (comb : Comb) (us vs : List Value)
+    → fold (joined comb) (total_of comb us) vs ≡ merged comb (total_of comb us) (total_of comb vs)
+fold-merged comb us vs =
+    sym (ap (λ t. fold (joined comb) t vs) (total_of-identity comb us)) ∙ fold-through comb (total_of comb us) (identity comb) vs
+
 total_of-append : (comb : Comb) (xs ys : List Value)
     → merged comb (total_of comb xs) (total_of comb ys) ≡ total_of comb (xs ++ ys)
-total_of-append comb xs ys =
-    sym (fold-through comb (total_of comb xs) (identity comb) ys)
-    ∙ ap (λ t. fold (joined comb) t ys) (total_of-identity comb xs)
-    ∙ sym (fold-append (joined comb) (identity comb) xs ys)
+total_of-append comb xs ys = sym (fold-merged comb xs ys) ∙ sym (fold-append (joined comb) (identity comb) xs ys)
+
+-- a count of values more
+pub fold-counted : (t : ℤ) (vs : List Value) → fold (joined Count) t vs ≡ t +ℤ pos (length vs)
+fold-counted t [] = omega (arith, ints)
+fold-counted t (v ∷ vs) = let rest = fold-counted (t +ℤ pos 1) vs in omega (arith, ints, rest)
 
 pub join-append : (comb : Comb) (xs ys : List Value)
     → join (tally_of comb xs) (tally_of comb ys) ≡ tally_of comb (xs ++ ys)
@@ -107,7 +112,7 @@ join-append comb xs ys =
 pub tally_of-IsPermutation : (comb : Comb) (xs ys : List Value) → IsPermutation xs ys
     → tally_of comb xs ≡ tally_of comb ys
 tally_of-IsPermutation comb xs ys p =
-    let number = fold-IsPermutation (joined comb) (turn comb) (identity comb) xs ys p in
+    let number = fold-IsPermutation (joined comb) (λ v. Unit {0}) (λ t x y p q. turn comb t x y) (identity comb) xs ys (λ k d le. tt) p in
     let count = length_permutation xs ys p in
     cc
 
@@ -122,6 +127,12 @@ pub join-comm : (a b : Tally) → a.comb ≡ b.comb → join a b ≡ join b a
 join-comm a b same =
     let number = merged-comm a.comb a.number b.number in
     let count : a.count + b.count ≡ b.count + a.count = omega arith in
+    cc
+
+pub join-turn : (a b c : Tally) → join (join a b) c ≡ join (join a c) b
+join-turn a b c =
+    let number = merged-turn a.comb a.number b.number c.number in
+    let count : a.count + b.count + c.count ≡ a.count + c.count + b.count = omega arith in
     cc
 
 pub fold_total : (comb : Comb) (values : List Value) (t : Tally) → IsFold comb values t

@@ -1,2 +1,5 @@
 pub mod Totals
 pub mod Folds
+pub mod Entries
+pub mod Partials
+pub mod inner

@@ -1,10 +1,11 @@
 -- A total as contracts see it, the total of values, and the join of two totals.
-use Rattle.std.specs.Prelude.{◌≡◌, ℕ, ◌+◌, ◌*◌, ◌^◌, ◌≤◌, ℤ, pos, ◌+ℤ◌, unsigned_abs, List, [], length, Bool, true, false, if◌then◌else◌}
-use Rattle.std.specs.Int.{int_min, int_max}
+use Rattle.std.specs.Prelude.{◌≡◌, ℕ, ◌+◌, ◌*◌, ◌^◌, ◌≤◌, ◌⊎◌, ℤ, pos, ◌+ℤ◌, unsigned_abs, FitsSigned, List, [], length, Bool, true, false, if◌then◌else◌}
+use Rattle.std.specs.Int.{w64, w128, int_min, int_max}
 use Rattle.brace_model.specs.declared.program.Comb.{Comb}
 use Rattle.brace_model.specs.declared.program.Comb.TheVariants as comb
 use Rattle.brace_model.specs.declared.program.Value.{Value}
 use Rattle.brace_model.specs.declared.program.Value.TheVariants.{Flag}
+use Rattle.brace_model.specs.World.{number}
 use Rattle.brace_model.specs.Total.{total_of}
 use Rattle.brace_comb.specs.declared.total.Total.{Total}
 use Rattle.brace_comb.specs.declared.total.Total.TheVariants.{Sum, Least, Greatest, Count, Any}
@@ -34,6 +35,19 @@ accepts comb.Or (Flag b) = true
 accepts comb.Or v = false
 accepts c (Flag b) = false
 accepts c v = true
+
+-- the number that one value brings to a total
+abbrev pub brought : Comb → Value → ℤ
+brought comb.Count v = pos 1
+brought _ v = number v
+
+-- a total of the combinator can have this number, where it joins so many values
+abbrev pub IsNumberOf : Comb → ℤ → ℕ → Type 0
+IsNumberOf comb.Sum n k = FitsSigned w128 n
+IsNumberOf comb.Min n k = FitsSigned w64 n
+IsNumberOf comb.Max n k = FitsSigned w64 n
+IsNumberOf comb.Count n k = n ≡ pos k
+IsNumberOf comb.Or n k = (n ≡ pos 0) ⊎ (n ≡ pos 1)
 
 -- two numbers of a combinator in one
 abbrev pub merged : Comb → ℤ → ℤ → ℤ

@@ -1,11 +1,19 @@
-// What no clause says: what totals are at values worked by hand, among them sums that no 64 bits
-// hold. A caller shows what `join` asks from its clauses alone.
-ghost use Rattle.std.specs.Prelude.{◌≡◌, ◌≤◌, ◌^◌, IsTrue, length};
+// What no clause says: totals and entries of values worked by hand, among them sums that no 64 bits
+// hold. Callers show what `join`, `add` and `merge` ask from their clauses and the laws.
+ghost use Rattle.std.specs.Prelude.{◌≡◌, ◌≤◌, ◌^◌, IsTrue, IfOk, length, map};
+ghost use Rattle.std.specs.Int.{w64};
+ghost use Rattle.std.specs.Int.RustNames.{FitsSigned};
 ghost use Rattle.std.specs.List.{All};
+ghost use Rattle.brace_model.specs.World.{number};
+ghost use Rattle.brace_model.specs.declared.program.Value.TheVariants.{Int, Flag};
 ghost use Rattle.brace_comb.specs.Totals.{tally, tally_of, accepts};
+ghost use Rattle.brace_comb.specs.Partials.{AreTotalsOf};
 
-use crate::{Combine, Entry, Total};
+use crate::{Combine, Entry, Partial, Total};
 use brace_model::{Comb, Value};
+use brace_num::NoMemory;
+use std::alloc::Global;
+use std::test::Fail;
 
 fn folded(comb: Comb, values: &[Value]) -> Total
     requires takes { All (λ v. IsTrue (accepts comb v)) values.now }
@@ -17,6 +25,69 @@ fn folded(comb: Comb, values: &[Value]) -> Total
         total.join(&Total::of(comb, *v));
     }
     total
+}
+
+/// A value said to an effect of an agent.
+#[derive(Clone, Copy, Drop)]
+struct Said {
+    target: u64,
+    field: u32,
+    value: Value,
+}
+
+/// What some values come to, where all effects have one combinator.
+fn partial_of(alloc: Global, comb: Comb, said: &[Said]) -> Result<Partial, NoMemory>
+    requires takes { All (λ s. IsTrue (accepts comb s.value)) said.now }
+    requires fit { All (λ s. FitsSigned w64 (number s.value)) said.now }
+    requires few { length said.now ≤ 2 ^ 51 }
+    ensures { IfOk result (λ partial. AreTotalsOf (λ t f. comb)
+        (map (λ s. record { target = s.target; field = s.field; value = s.value }) said.now)
+        partial) }
+{
+    let mut partial = Partial::make(alloc);
+    for s in said {
+        partial.add(s.target, s.field, &Total::of(comb, s.value))?;
+    }
+    Ok(partial)
+}
+
+/// What two parts of the values come to, where the second is merged to the first.
+fn merged_of(alloc: Global, comb: Comb, a: &[Said], b: &[Said]) -> Result<Partial, NoMemory>
+    requires first_takes { All (λ s. IsTrue (accepts comb s.value)) a.now }
+    requires first_fit { All (λ s. FitsSigned w64 (number s.value)) a.now }
+    requires first_few { length a.now ≤ 2 ^ 51 }
+    requires second_takes { All (λ s. IsTrue (accepts comb s.value)) b.now }
+    requires second_fit { All (λ s. FitsSigned w64 (number s.value)) b.now }
+    requires second_few { length b.now ≤ 2 ^ 51 }
+{
+    let mut partial = partial_of(alloc, comb, a)?;
+    let other = partial_of(alloc, comb, b)?;
+    partial.merge(other.entries())?;
+    Ok(partial)
+}
+
+fn int(target: u64, field: u32, n: i64) -> Said
+    ensures target { result.target ≡ target }
+    ensures field { result.field ≡ field }
+    ensures value { result.value ≡ Int n }
+{
+    Said {
+        target,
+        field,
+        value: Value::Int(n),
+    }
+}
+
+fn flag(target: u64, field: u32, b: bool) -> Said
+    ensures target { result.target ≡ target }
+    ensures field { result.field ≡ field }
+    ensures value { result.value ≡ Flag b }
+{
+    Said {
+        target,
+        field,
+        value: Value::Flag(b),
+    }
 }
 
 #[test]
@@ -70,21 +141,63 @@ fn totals_of_flags(rt: HostRuntime) {
     }
 }
 
+/// The entries of the effects that the test says values to.
+fn entries_of([a, b, c]: [Total; 3]) -> [Entry; 3] {
+    let entry = |target, field, total| Entry {
+        target,
+        field,
+        total,
+    };
+    [entry(2, 0, a), entry(7, 0, b), entry(7, 1, c)]
+}
+
 #[test]
-fn totals_of_parts_are_joined(rt: HostRuntime) {
-    let values = [Value::Int(i64::MAX), Value::Int(i64::MAX), Value::Int(-1)];
-    for comb in [Comb::Sum, Comb::Min, Comb::Max, Comb::Count] {
-        let whole = folded(comb, &values);
-        let mut total = folded(comb, &values[1..]);
-        total.join(&folded(comb, &values[..1]));
-        assert_eq!(rt; total, whole);
-        total.join(&Total::identity(comb));
-        assert_eq!(rt; total, whole);
-        let entry = Entry {
-            target: 7,
-            field: 2,
-            total,
-        };
-        assert_eq!(rt; entry.total.number(), whole.number());
+fn values_come_to_one_entry_for_each_effect(rt: HostRuntime) -> Result<(), Fail> {
+    let alloc = rt.alloc();
+    let most = i64::MAX;
+    let a = [int(7, 1, most), int(2, 0, 3), int(7, 0, -1)];
+    let b = [int(7, 1, most), int(2, 0, 4), int(7, 1, 1)];
+    let sums = [
+        Total::Sum(7, 2),
+        Total::Sum(-1, 1),
+        Total::Sum(18_446_744_073_709_551_615, 3),
+    ];
+    let least = [Total::Least(3, 2), Total::Least(-1, 1), Total::Least(1, 3)];
+    for (comb, totals) in [(Comb::Sum, sums), (Comb::Min, least)] {
+        let expected = entries_of(totals);
+        assert_eq!(rt;
+            merged_of(alloc, comb, &a, &b)?.entries(),
+            expected.as_slice()
+        );
+        assert_eq!(rt;
+            merged_of(alloc, comb, &b, &a)?.entries(),
+            expected.as_slice()
+        );
     }
+    let c = [flag(7, 1, false), flag(2, 0, false), flag(7, 0, true)];
+    let d = [flag(7, 1, true), flag(2, 0, false), flag(7, 1, false)];
+    let any = [
+        Total::Any(false, 2),
+        Total::Any(true, 1),
+        Total::Any(true, 3),
+    ];
+    let counts = [Total::Count(2), Total::Count(1), Total::Count(3)];
+    for (comb, totals) in [(Comb::Or, any), (Comb::Count, counts)] {
+        let expected = entries_of(totals);
+        assert_eq!(rt;
+            merged_of(alloc, comb, &c, &d)?.entries(),
+            expected.as_slice()
+        );
+        assert_eq!(rt;
+            merged_of(alloc, comb, &d, &c)?.entries(),
+            expected.as_slice()
+        );
+    }
+    let one = merged_of(alloc, Comb::Max, &b[..1], &[])?;
+    assert_eq!(rt; one.entries()[0].total, Total::Greatest(most, 1));
+    assert_eq!(rt;
+        merged_of(alloc, Comb::Max, &[], &b[..1])?.entries(),
+        one.entries()
+    );
+    Ok(())
 }

@@ -1,4 +1,4 @@
-ghost use Rattle.std.specs.Prelude.{◌≡◌, ◌+◌, ◌-◌, ◌^◌, ℕ, List, [], ◌++◌, length, min, slice_get, slice_set, slice_index_or, pos, ◌+ℤ◌, IfOk, IfSome, OnOk, Some, map, take, drop};
+ghost use Rattle.std.specs.Prelude.{◌≡◌, ◌+◌, ◌-◌, ◌^◌, ℕ, List, [], ◌++◌, length, min, slice_get, slice_set, slice_index_or, pos, ◌+ℤ◌, IfOk, OnOk, Some, map, take, drop};
 ghost use Rattle.brace_model.specs.declared.fault.Fault.{Fault};
 ghost use Rattle.brace_model.specs.declared.world.Agent.{Agent};
 ghost use Rattle.brace_model.specs.World.{RisesById, class_of};
@@ -7,7 +7,8 @@ ghost use Rattle.brace_model.specs.Total.{identity, joined};
 ghost use Rattle.brace_comb.specs.Totals.{merged};
 ghost use Rattle.brace_eval.specs.Heard.{IsHeard, AreTold, counting, effects_in, row_of};
 
-use brace_model::{Agent, Comb, Effect, Fault, Program, Value, class_of, number};
+use brace_comb::{identity, joined, merged};
+use brace_model::{Agent, Comb, Effect, Fault, Program, Value, class_of};
 use brace_num::NoMemory;
 use std::alloc::Global;
 
@@ -31,41 +32,6 @@ pub fn effects_of<'a>(program: &'a Program, a: &Agent) -> &'a [Effect]
     match class_of(program, a) {
         Some(class) => class.effects.as_slice(),
         None => &[],
-    }
-}
-
-/// The total of no value.
-fn identity(comb: Comb) -> i128
-    ensures { result ≡ identity comb }
-{
-    match comb {
-        Comb::Sum | Comb::Count | Comb::Or => 0,
-        Comb::Min => i128::from(i64::MAX),
-        Comb::Max => i128::from(i64::MIN),
-    }
-}
-
-/// A total and one more value; None where 128 bits do not hold it.
-fn joined(comb: Comb, total: i128, v: Value) -> Option<i128>
-    ensures { IfSome result (λ n. n ≡ joined comb total v) }
-{
-    let n = i128::from(number(v));
-    match comb {
-        Comb::Sum => total.checked_add(n),
-        Comb::Min => Some(total.min(n)),
-        Comb::Max | Comb::Or => Some(total.max(n)),
-        Comb::Count => total.checked_add(1),
-    }
-}
-
-/// Two totals in one; None where 128 bits do not hold it.
-fn merged(comb: Comb, total: i128, more: i128) -> Option<i128>
-    ensures { IfSome result (λ n. n ≡ merged comb total more) }
-{
-    match comb {
-        Comb::Sum | Comb::Count => total.checked_add(more),
-        Comb::Min => Some(total.min(more)),
-        Comb::Max | Comb::Or => Some(total.max(more)),
     }
 }
 

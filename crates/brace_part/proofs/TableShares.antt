@@ -1,5 +1,5 @@
 -- The shares of agents, one effect and one agent after another.
-use Rattle.std.proofs.Common.{◌≡◌, ◌∙◌, refl, sym, ap, ap₂, subst, ℕ, zero, suc, ◌+◌, ◌<◌, ◌≤◌, min, ℤ, pos, ◌+ℤ◌, ◌<ℤ◌, ◌≤ℤ◌, List, [], ◌∷◌, ◌++◌, length, take, get_or, map, flat_map, Bool, true, false, cond, Option, Some, None, IfSome, arith, add-one, append_assoc, append-nil}
+use Rattle.std.proofs.Common.{◌≡◌, ◌∙◌, refl, sym, ap, ap₂, subst, ℕ, zero, suc, ◌+◌, ◌<◌, ◌≤◌, min, ℤ, pos, ◌+ℤ◌, unsigned_abs, ◌<ℤ◌, ◌≤ℤ◌, List, [], ◌∷◌, ◌++◌, length, take, get_or, map, flat_map, Bool, true, false, cond, Option, Some, None, IfSome, arith, add-one, append_assoc, append-nil}
 use Rattle.std.specs.Prelude.{fold}
 use Rattle.std.proofs.lemmas.Int.{ints}
 use Rattle.std.proofs.lemmas.Grind.{flat_map-append, common_steps}
@@ -15,7 +15,7 @@ use Rattle.brace_model.specs.declared.world.Agent.{Agent}
 use Rattle.brace_model.specs.World.{class_of}
 use Rattle.brace_model.specs.Query.{Saying}
 use Rattle.brace_model.specs.Total.{joined, total_of, said_to, totals_from}
-use Rattle.brace_comb.specs.Totals.{Tally}
+use Rattle.brace_comb.proofs.Joins.{fold-counted}
 use Rattle.brace_eval.specs.Heard.{counted, counting, effects_in, row_of}
 use Rattle.brace_eval.proofs.CountLemmas.{counted-effects}
 use Rattle.brace_eval.proofs.TableLemmas.{row-length}
@@ -23,7 +23,7 @@ use Rattle.std.proofs.lemmas.List.{length-map}
 use Rattle.brace_cuts.specs.declared.space.Cuts.{Cuts}
 use Rattle.brace_pieces.specs.Owned.{owns, owned}
 use Rattle.brace_pieces.specs.Right.{Share, share_unless_silent, shares_from, shares_to}
-use Rattle.brace_part.specs.inner.Tables.{IsTotal, shares_in}
+use Rattle.brace_part.specs.inner.Tables.{shares_in}
 
 take_more : {A : Type 0} (xs : List A) (i : ℕ) (x : A) → i < length xs → x ≡ get_or xs i x → take (i + 1) xs ≡ take i xs ++ x ∷ []
 take_more xs i x le is = ap (λ n. take n xs) (add-one i) ∙ take-suc xs i x le ∙ ap (λ y. take i xs ++ y ∷ []) (sym is)
@@ -60,17 +60,13 @@ total_at n id (f ∷ effects) said (suc i) e t le is =
     let here : suc n + i ≡ n + suc i = omega arith in
     total_at (suc n) id effects said i e t (omega (arith, le)) is ∙ ap (λ (m : ℕ). total_of e.comb (said_to id m said)) here
 
-counted_values : (k : ℤ) (vs : List Value) → fold (joined Count) k vs ≡ k +ℤ pos (length vs)
-counted_values k [] = omega (arith, ints)
-counted_values k (v ∷ vs) = let rest = counted_values (k +ℤ pos 1) vs in omega (arith, ints, rest)
-
 -- and a count
 pub count_at : (n id : ℕ) (effects : List Effect) (said : List Saying) (i : ℕ) (t : ℤ) → i < length effects
     → get_or (totals_from n id (map counted effects) said) i t ≡ pos (length (said_to id (n + i) said))
 count_at n id [] said i t le = absurd (omega (arith, le))
 count_at n id (f ∷ effects) said zero t le =
     let here : n ≡ n + 0 = omega arith in
-    let all = counted_values (pos 0) (said_to id n said) in
+    let all = fold-counted (pos 0) (said_to id n said) in
     let plain : pos 0 +ℤ pos (length (said_to id n said)) ≡ pos (length (said_to id n said)) = omega (arith, ints) in
     all ∙ plain ∙ ap (λ (m : ℕ). pos (length (said_to id m said))) here
 count_at n id (f ∷ effects) said (suc i) t le =
@@ -95,24 +91,14 @@ reads id effects said totals counts i e number count le is d f at many all numbe
           ∙ ap (λ (m : ℕ). pos (length (said_to id m said))) plain;
     }
 
-one_number : (a b : ℕ) → pos a ≡ pos b → a ≡ b
-one_number a b is = omega (arith, ints, is)
-
--- what a total is from its parts
-tally_is : (t : Tally) (comb : Comb) (number : ℤ) (count : ℕ) → t.comb ≡ comb → t.number ≡ number → t.count ≡ count → t ≡ record { comb = comb; number = number; count = count }
-tally_is t comb number count a b c =
-    ap (λ (x : Comb). record { comb = x; number = t.number; count = t.count }) a
-    ∙ ap (λ (x : ℤ). record { comb = comb; number = x; count = t.count }) b
-    ∙ ap (λ (x : ℕ). record { comb = comb; number = number; count = x }) c
-
 -- the share of an effect to which something is said
-pub share_told : (id n : ℕ) (e : Effect) (values : List Value) (t : Tally) (number count : ℤ) → IsTotal e.comb number count t
+pub share_told : (id n : ℕ) (e : Effect) (values : List Value) (number count : ℤ)
     → number ≡ total_of e.comb values → count ≡ pos (length values) → 0 < length values
-    → record { target = id; field = n; total = t } ∷ [] ≡ share_unless_silent id n e values
-share_told id n e [] t number count is total many some = absurd (omega (arith, some))
-share_told id n e (v ∷ vs) t number count is total many some =
-    ap (λ (x : Tally). record { target = id; field = n; total = x } ∷ [])
-    (tally_is t e.comb (total_of e.comb (v ∷ vs)) (length (v ∷ vs)) is.combinator (is.number_is ∙ total) (one_number t.count (length (v ∷ vs)) (is.count_is ∙ many)))
+    → record { target = id; field = n; total = record { comb = e.comb; number = number; count = unsigned_abs count } } ∷ []
+    ≡ share_unless_silent id n e values
+share_told id n e [] number count total many some = absurd (omega (arith, some))
+share_told id n e (v ∷ vs) number count total many some =
+    ap₂ (λ x k. record { target = id; field = n; total = record { comb = e.comb; number = x; count = unsigned_abs k } } ∷ []) total many
 
 -- nothing is said to it
 pub share_silent : (id n : ℕ) (e : Effect) (values : List Value) → length values ≡ 0 → [] ≡ share_unless_silent id n e values
@@ -136,11 +122,13 @@ module _ (id : ℕ) (effects : List Effect) (said : List Saying) (i : ℕ) (e : 
       ∙ ap (λ (l : List Share). before ++ l) (sym (more_shares id effects said i e le is))
 
   -- something is said to an effect
-  pub tells : (t : Tally) → IsTotal e.comb number count t → pos 0 <ℤ count
-      → so_far ++ record { target = id; field = i; total = t } ∷ [] ≡ before ++ shares_from 0 id (take (i + 1) effects) said
-  tells t total more =
-      grown (record { target = id; field = i; total = t } ∷ [])
-      (share_told id i e (said_to id i said) t number count total read.number_is read.count_is
+  pub tells : (share : Share)
+      → share ≡ record { target = id; field = i; total = record { comb = e.comb; number = number; count = unsigned_abs count } }
+      → pos 0 <ℤ count → so_far ++ share ∷ [] ≡ before ++ shares_from 0 id (take (i + 1) effects) said
+  tells share told more =
+      grown (share ∷ [])
+      (ap (λ x. x ∷ []) told
+      ∙ share_told id i e (said_to id i said) number count read.number_is read.count_is
       (some_said (length (said_to id i said)) count read.count_is more))
 
   -- nothing is said to it
@@ -210,12 +198,6 @@ all_taken id effects said totals counts i all numbers le =
 
 pub within_effects : (a b c i : ℕ) → i < min (min a b) c → i < a
 within_effects a b c i le = omega (arith, le)
-
--- a total by other names of its combinator and numbers
-pub total_named : (before after : Comb) (number other count others : ℤ) (t : Tally) → before ≡ after → number ≡ other → count ≡ others
-    → IsTotal before number count t → IsTotal after other others t
-total_named before after number other count others t combs numbers counts h =
-    record { combinator = h.combinator ∙ combs; number_is = h.number_is ∙ numbers; count_is = h.count_is ∙ counts }
 
 -- what holds of what may be there, where it is there
 pub of_some : {A : Type 0} (o : Option A) (x : A) (P : A → Type 0) → o ≡ Some x → IfSome o P → P x

@@ -1,13 +1,12 @@
-ghost use Rattle.std.specs.Prelude.{◌≡◌, ◌++◌, List, map, IfOk, IfSome, OnOk};
+ghost use Rattle.std.specs.Prelude.{◌≡◌, ◌++◌, List, map, unsigned_abs, IfOk, IfSome, OnOk};
 ghost use Rattle.brace_model.specs.declared.fault.Fault.{Fault};
 ghost use Rattle.brace_model.specs.World.{RisesById};
 ghost use Rattle.brace_model.specs.Query.{Saying};
 ghost use Rattle.brace_model.specs.Total.{totals_from};
-ghost use Rattle.brace_comb.specs.Totals.{tally};
 ghost use Rattle.brace_cuts.specs.Space.{LawfulCuts};
 ghost use Rattle.brace_eval.specs.Heard.{IsHeard, counted};
 ghost use Rattle.brace_pieces.specs.Right.{share_of, shares_from};
-ghost use Rattle.brace_part.specs.inner.Tables.{IsTotal, TellsOf, TellsBy, TellBy, shares_in};
+ghost use Rattle.brace_part.specs.inner.Tables.{TellsOf, TellsBy, TellBy, shares_in};
 
 use brace_comb::{Combine, Entry, Total};
 use brace_cuts::Cuts;
@@ -17,28 +16,20 @@ use brace_num::{List, NoMemory};
 use brace_pieces::{Piece, owns};
 use std::alloc::Global;
 
-/// The total of a number and a count, None where no total of the combinator has them.
-fn total(comb: Comb, number: i128, count: i128) -> Option<Total>
-    ensures { IfSome result (λ t. IsTotal comb number count (tally t)) }
+/// The entry of an effect, by its place, with the number and the count of its total; None where there
+/// is no such entry.
+fn entry_of(target: u64, effect: usize, comb: Comb, number: i128, count: i128) -> Option<Entry>
+    ensures { IfSome result (λ e. share_of e
+        ≡ record { target = target; field = effect; total =
+        record { comb = comb; number = number; count = unsigned_abs count } }) }
 {
-    let count = u64::try_from(count).ok()?;
-    match comb {
-        Comb::Sum => Some(Total::Sum(number, count)),
-        Comb::Min => Some(Total::Least(i64::try_from(number).ok()?, count)),
-        Comb::Max => Some(Total::Greatest(i64::try_from(number).ok()?, count)),
-        Comb::Count => {
-            if number == i128::from(count) {
-                Some(Total::Count(count))
-            } else {
-                None
-            }
-        }
-        Comb::Or => match number {
-            0 => Some(Total::Any(false, count)),
-            1 => Some(Total::Any(true, count)),
-            _ => None,
-        },
-    }
+    let field = u32::try_from(effect).ok()?;
+    let total = Total::make(comb, number, u64::try_from(count).ok()?)?;
+    Some(Entry {
+        target,
+        field,
+        total,
+    })
 }
 
 /// Adds an entry for each effect of an agent to which something was said.
@@ -57,15 +48,9 @@ fn add_entries(
 {
     for i in 0..effects.len().min(totals.len()).min(counts.len()) {
         if counts[i] > 0 {
-            let Ok(field) = u32::try_from(i) else {
-                return Err(NoMemory);
-            };
-            let total = total(effects[i].comb, totals[i], counts[i]).ok_or(NoMemory)?;
-            entries.push(Entry {
-                target,
-                field,
-                total,
-            })?;
+            let comb = effects[i].comb;
+            let told = entry_of(target, i, comb, totals[i], counts[i]).ok_or(NoMemory)?;
+            entries.push(told)?;
         }
     }
     Ok(())
@@ -96,19 +81,6 @@ pub fn told_to(
     Ok(entries)
 }
 
-/// How many values a total joins.
-fn count_of(total: &Total) -> u64
-    ensures { result ≡ (tally total.now).count }
-{
-    match *total {
-        Total::Sum(_, n)
-        | Total::Least(_, n)
-        | Total::Greatest(_, n)
-        | Total::Count(n)
-        | Total::Any(_, n) => n,
-    }
-}
-
 /// Joins what an entry tells of an agent that is held.
 fn join_entry(
     program: &Program,
@@ -123,7 +95,7 @@ fn join_entry(
         → IsHeard program.now held.now (said ++ told) faults heard.new) }
 {
     let number = entry.total.number();
-    let count = count_of(&entry.total);
+    let count = entry.total.count();
     match held.binary_search_by_key(&entry.target, |a| a.id) {
         Ok(place) => heard.join(program, held, place, entry.field, number, count),
         Err(_) => Ok(()),

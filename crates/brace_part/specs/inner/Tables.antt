@@ -1,14 +1,13 @@
 -- What a part hears and tells by its tables. Only the crate's own functions cite this.
-use Rattle.std.specs.Prelude.{◌≡◌, ℕ, ℤ, pos, List, [], ◌∷◌, ◌++◌, flat_map, if◌then◌else◌}
+use Rattle.std.specs.Prelude.{◌≡◌, ℕ, List, [], ◌∷◌, ◌++◌, flat_map, if◌then◌else◌}
 use Rattle.std.specs.List.{Contains}
-use Rattle.brace_model.specs.declared.program.Comb.{Comb}
 use Rattle.brace_model.specs.declared.program.Program.{Program}
 use Rattle.brace_model.specs.declared.fault.Fault.{Fault}
 use Rattle.brace_model.specs.declared.world.Agent.{Agent}
 use Rattle.brace_model.specs.World.{class_of}
 use Rattle.brace_model.specs.Query.{Saying}
 use Rattle.brace_comb.specs.declared.entry.Entry.{Entry}
-use Rattle.brace_comb.specs.Totals.{Tally, tally}
+use Rattle.brace_comb.specs.Totals.{tally}
 use Rattle.brace_eval.specs.Heard.{AreTold, said_by, faults_by}
 use Rattle.brace_invert.specs.Split.{forward_program, inverse_program}
 use Rattle.brace_cuts.specs.declared.space.Cuts.{Cuts}
@@ -41,12 +40,6 @@ faults_over s tick own held =
 abbrev pub shares_in : Program → Cuts → ℕ → List Agent → List Saying → List Share
 shares_in program cuts to held said =
     flat_map (λ b. shares_to said b (class_of program b)) (owned program cuts to held)
-
--- a total of a combinator has this number and joins so many values
-pub record IsTotal (comb : Comb) (number count : ℤ) (t : Tally) : Type 0 where
-  pub combinator : t.comb ≡ comb
-  pub number_is : t.number ≡ number
-  pub count_is : pos t.count ≡ count
 
 -- an entry tells of values said to an effect of an agent of a list
 pub record TellsOf (program : Program) (held : List Agent) (entry : Entry) (told : List Saying)

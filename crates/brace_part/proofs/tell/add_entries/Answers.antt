@@ -24,19 +24,18 @@ loop-i-preserved c said all numbers =
       | then-counts-i-gt0+in-Ok+in_ok-total+in_ok-push w ↦
           let e = w.index-effects-i.result in
           let is = w.index-effects-i.is in
-          let field_is : w.in-Ok.field ≡ i = search rules in
-          let entry : Entry = record { target = c.args.target; field = w.in-Ok.field; total = w.in_ok-total.total } in
           let number = get_or c.args.totals.now i (pos 0) in
           let count = get_or c.args.counts.now i (pos 0) in
           let number_fits : FitsSigned w128 number = search rules in
           let count_fits : FitsSigned w128 count = search rules in
           let read = reads c.args.target effects said c.args.totals.now c.args.counts.now i e number count within is (pos 0) (pos 0) refl refl all numbers in
           ap (map share_of) (w.entries-is ∙ w.in_ok-push.ensures.ok)
-          ∙ map-append share_of c.loop-i.entries (entry ∷ [])
-          ∙ ap (λ (n : ℕ). map share_of c.loop-i.entries ++ record { target = c.args.target; field = n; total = tally w.in_ok-total.total } ∷ []) field_is
-          ∙ tells c.args.target effects said i e _ _ within is read (map share_of c.args.entries.now) (map share_of c.loop-i.entries) so (tally w.in_ok-total.total)
-          (total_named _ e.comb _ number _ count (tally w.in_ok-total.total) (ap (λ (x : Effect). x.comb) (sym is)) (to_z-of_z w128 number number_fits) (to_z-of_z w128 count count_fits)
-          (of_some w.total.result w.in_ok-total.total _ w.in_ok-total.ensures.ok_part w.total.ensures)) (lt_z_yes (T_from_true _ (ap (lt_z (pos 0)) (sym (to_z-of_z w128 count count_fits)) ∙ w.if-counts-i-gt0.true)))
+          ∙ map-append share_of c.loop-i.entries (w.in_ok-told.told ∷ [])
+          ∙ tells c.args.target effects said i e _ _ within is read (map share_of c.args.entries.now) (map share_of c.loop-i.entries) so (share_of w.in_ok-told.told)
+          (of_some w.entry_of.result w.in_ok-told.told _ w.in_ok-told.ensures.ok_part w.entry_of.ensures
+          ∙ ap₂ (λ x n. record { target = c.args.target; field = i; total = record { comb = x; number = n; count = unsigned_abs (to_z w128 (of_z w128 count)) } }) (ap (λ (x : Effect). x.comb) (sym is)) (to_z-of_z w128 number number_fits)
+          ∙ ap (λ k. record { target = c.args.target; field = i; total = record { comb = e.comb; number = number; count = unsigned_abs k } }) (to_z-of_z w128 count count_fits))
+          (lt_z_yes (T_from_true _ (ap (lt_z (pos 0)) (sym (to_z-of_z w128 count count_fits)) ∙ w.if-counts-i-gt0.true)))
       | else-counts-i-gt0 w ↦
           let (e, is) = item_there effects i within in
           let count = get_or c.args.counts.now i (pos 0) in

@@ -5,7 +5,7 @@ use Rattle.brace_comb.proofs.total.TotalCombine.join.Goals as goal
 
 pub returns-clause-total : goal.returns-clause-total
 returns-clause-total c comb xs ys e f =
-    c.joined.ensures.joined
+    c.of_both.ensures.joined
     ∙ ap (λ t. join t (tally c.args.other.now)) e
     ∙ ap (join (tally_of comb xs)) f
     ∙ join-append comb xs ys

@@ -1,0 +1,17 @@
+use Rattle.std.proofs.Common.{sym, subst, List}
+use Rattle.brace_model.specs.Query.{Saying}
+use Rattle.brace_comb.specs.declared.entry.Entry.{Entry}
+use Rattle.brace_comb.specs.declared.tests.Said.{Said}
+use Rattle.brace_comb.specs.Entries.{CanMerge}
+use Rattle.brace_comb.proofs.Said.{may_merge_said}
+use Rattle.brace_comb.proofs.tests.merged_of.Goals as goal
+
+abbrev saying : Said → Saying
+saying s = record { target = s.target; field = s.field; value = s.value }
+
+pub merge-requires-clause-joins : goal.merge-requires-clause-joins
+merge-requires-clause-joins c =
+    let r = c.requires in
+    subst (λ (l : List Entry). CanMerge c.in_ok-partial.partial l) (sym c.entries.ensures.same)
+    (may_merge_said saying (λ t f. c.args.comb) c.args.a.now c.args.b.now c.in_ok-partial.partial c.in_ok-other.other
+    c.in_ok-partial.ensures c.in_ok-other.ensures r.first_fit r.second_fit r.first_few r.second_few)

@@ -1,4 +1,0 @@
-pub mod Entries
-pub mod Walks
-pub mod Groups
-pub mod Said

@@ -1,5 +1,0 @@
-use Rattle.brace_partial.proofs.Said.{may_merge}
-use Rattle.brace_partial.proofs.laws.totals_may_be_merged.Goals as goal
-
-pub returns : goal.returns
-returns c = record { joins = may_merge }
