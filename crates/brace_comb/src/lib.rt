@@ -8,8 +8,6 @@ pub mod laws;
 mod merge;
 mod numbers;
 mod partial;
-#[cfg(test)]
-mod tests;
 mod total;
 
 pub use combine::Combine;

@@ -7,3 +7,4 @@ mod parts;
 mod pieces;
 mod scripts;
 mod steps;
+mod totals;

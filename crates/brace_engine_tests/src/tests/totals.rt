@@ -9,7 +9,7 @@ ghost use Rattle.brace_model.specs.declared.program.Value.TheVariants.{Int, Flag
 ghost use Rattle.brace_comb.specs.Totals.{tally, tally_of, accepts};
 ghost use Rattle.brace_comb.specs.Partials.{AreTotalsOf};
 
-use crate::{Combine, Entry, Partial, Total};
+use brace_comb::{Combine, Entry, Partial, Total};
 use brace_model::{Comb, Value};
 use brace_num::NoMemory;
 use std::alloc::Global;

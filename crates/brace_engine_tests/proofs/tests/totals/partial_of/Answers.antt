@@ -1,8 +1,8 @@
 use Rattle.std.proofs.Common.{◌<◌, length, arith}
 use Rattle.brace_model.specs.Query.{Saying}
-use Rattle.brace_comb.specs.declared.tests.Said.{Said}
+use Rattle.brace_engine_tests.specs.declared.tests.totals.Said.{Said}
 use Rattle.brace_comb.proofs.Said.{may_say, said_next, one_said}
-use Rattle.brace_comb.proofs.tests.partial_of.Goals as goal
+use Rattle.brace_engine_tests.proofs.tests.totals.partial_of.Goals as goal
 
 abbrev saying : Said → Saying
 saying s = record { target = s.target; field = s.field; value = s.value }

@@ -1,10 +1,10 @@
 use Rattle.std.proofs.Common.{sym, subst, List}
 use Rattle.brace_model.specs.Query.{Saying}
 use Rattle.brace_comb.specs.declared.entry.Entry.{Entry}
-use Rattle.brace_comb.specs.declared.tests.Said.{Said}
+use Rattle.brace_engine_tests.specs.declared.tests.totals.Said.{Said}
 use Rattle.brace_comb.specs.Entries.{CanMerge}
 use Rattle.brace_comb.proofs.Said.{may_merge_said}
-use Rattle.brace_comb.proofs.tests.merged_of.Goals as goal
+use Rattle.brace_engine_tests.proofs.tests.totals.merged_of.Goals as goal
 
 abbrev saying : Said → Saying
 saying s = record { target = s.target; field = s.field; value = s.value }
