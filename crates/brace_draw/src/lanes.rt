@@ -15,6 +15,7 @@ fn add(a: u32x4, b: u32x4) -> u32x4
 }
 
 #[inline(always)]
+#[tactic(auto, using(rand_chacha::proofs::LaneLemmas::shifts_rotate))]
 fn xor_rotate(a: u32x4, b: u32x4, k: u32) -> u32x4
     requires { (0 < k) × (k < 32) }
     ensures { (j : ℕ) → j < 4
@@ -25,6 +26,7 @@ fn xor_rotate(a: u32x4, b: u32x4, k: u32) -> u32x4
 }
 
 #[inline(always)]
+#[tactic(auto, unfolding(rand_chacha::specs::Block::quarter_round))]
 fn quarter_round(a: u32x4, b: u32x4, c: u32x4, d: u32x4) -> (u32x4, u32x4, u32x4, u32x4)
     ensures { (j : ℕ) → j < 4
         → (slice_index result.0 j, slice_index result.1 j, slice_index result.2 j, slice_index result.3 j)
@@ -42,6 +44,7 @@ fn quarter_round(a: u32x4, b: u32x4, c: u32x4, d: u32x4) -> (u32x4, u32x4, u32x4
 }
 
 #[inline(always)]
+#[tactic(auto, unfolding(rand_chacha::specs::Block::column_round))]
 fn column_round(x: [u32x4; 16]) -> [u32x4; 16]
     ensures { (j : ℕ) → j < 4 → lane j result ≡ column_round (lane j x) }
 {
@@ -55,6 +58,7 @@ fn column_round(x: [u32x4; 16]) -> [u32x4; 16]
 }
 
 #[inline(always)]
+#[tactic(auto, unfolding(rand_chacha::specs::Block::diagonal_round))]
 fn diagonal_round(x: [u32x4; 16]) -> [u32x4; 16]
     ensures { (j : ℕ) → j < 4 → lane j result ≡ diagonal_round (lane j x) }
 {

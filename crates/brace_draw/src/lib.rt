@@ -6,9 +6,8 @@ ghost use Rattle.rand_chacha.specs.ChaCha.{word_at, key_of};
 ghost use Rattle.brace_draw.specs.Draw.{draw_word, draw_value, seed_bytes, place_of};
 
 use rand_chacha::ChaCha8Rng;
-use rand_core::SeedableRng;
-use rand_core::utils;
 use rand_core::utils::NextWord;
+use rand_core::{SeedableRng, utils};
 
 mod lanes;
 #[cfg(test)]

@@ -11,9 +11,9 @@ agents-preserved c =
     let i = c.agents.i in
     let ids = c.args.ids.now in
     let known : (j : ℕ) → j < 4 → i / 4 * 4 + j < length ids
-      → slice_index_or c.if-i-eq0.values j (pos 0)
-      ≡ pos (draw_value c.args.self.now.seed c.args.tick (slice_index ids (i / 4 * 4 + j)) c.args.site)
-      = elim c.if-i-eq0.branch [
+    → slice_index_or c.if-i-eq0.values j (pos 0)
+    ≡ pos (draw_value c.args.self.now.seed c.args.tick (slice_index ids (i / 4 * 4 + j)) c.args.site)
+    = elim c.if-i-eq0.branch [
       | then-i-eq0 w ↦ λ j lane within.
           let start : i / 4 * 4 ≡ i = omega arith in
           rw (w.values-is, start) (w.four-values.ensures j (omega arith) lane)
@@ -24,6 +24,6 @@ agents-preserved c =
     record {
       done = grind (arith, common_steps, this, ints, to_z-of_z, word_low);
       group = λ j lane some within.
-        let same : (i + 1) / 4 ≡ i / 4 = omega arith in
-        rw same (known j lane (rw same at within))
+          let same : (i + 1) / 4 ≡ i / 4 = omega arith in
+          rw same (known j lane (rw same at within));
     }

@@ -5,7 +5,7 @@ abbrev pub invariant-loop-self : goal.invariant-loop-self
 invariant-loop-self l = record {
   seed : l.self.seed ≡ l.fn.self.seed;
   stream : l.self.rng.stream ≡ l.fn.self.rng.stream;
-  from : l.self.from ≡ l.fn.self.from
+  from : l.self.from ≡ l.fn.self.from;
 }
 
 abbrev pub decreases-loop-self : goal.decreases-loop-self

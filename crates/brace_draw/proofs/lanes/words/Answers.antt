@@ -1,4 +1,4 @@
-use Rattle.std.proofs.Common.{◌≡◌, ◌<◌, ◌/◌, ◌%◌, refl, sym, ap, ap₂, slice_index, ◌∙◌, arith, add-one}
+use Rattle.std.proofs.Common.{◌≡◌, ◌<◌, ◌%◌, refl, sym, ap, ap₂, slice_index, ◌∙◌, arith, add-one}
 use Rattle.rand_chacha.specs.Block.{add32, column_round, diagonal_round, double_rounds, block_word}
 use Rattle.rand_chacha.proofs.LaneLemmas.{slice_index-lane}
 use Rattle.brace_draw.proofs.lanes.words.Goals as goal
