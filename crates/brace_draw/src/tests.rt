@@ -31,3 +31,39 @@ fn draws_are_those_of_chacha8(rt: HostRuntime) {
         assert_eq!(rt; drawer.draw(tick, agent, site), value);
     }
 }
+
+#[test]
+fn a_column_is_what_single_draws_give(rt: HostRuntime) {
+    let ids: [u64; 9] = [
+        0,
+        3,
+        1,
+        4294967295,
+        4294967296,
+        9223372036854775807,
+        18446744073709551615,
+        77,
+        78,
+    ];
+    for seed in [0, 1, 18446744073709551615] {
+        let mut drawer = Drawer::make(seed);
+        for (tick, site) in [
+            (0, 0),
+            (1, 17),
+            (65536, 63),
+            (4294967295, 4095),
+            (4294967296, 4294967295),
+        ] {
+            for count in 0..10 {
+                let mut out = [-1; 9];
+                drawer.column(tick, site, &ids[0..count], &mut out[0..count]);
+                for i in 0..count {
+                    assert_eq!(rt; out[i], drawer.draw(tick, ids[i], site));
+                }
+                for i in count..9 {
+                    assert_eq!(rt; out[i], -1);
+                }
+            }
+        }
+    }
+}

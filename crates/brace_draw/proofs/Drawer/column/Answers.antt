@@ -1,0 +1,29 @@
+use Rattle.std.proofs.Common.{◌≡◌, ℕ, ◌+◌, ◌*◌, ◌/◌, ◌%◌, ◌<◌, length, slice_index, slice_index_or, pos, arith}
+use Rattle.std.proofs.lemmas.Grind.{common_steps}
+use Rattle.std.proofs.lemmas.Int.{ints, to_z-of_z}
+use Rattle.brace_draw.specs.Draw.{draw_value}
+use Rattle.brace_draw.proofs.Words.{word_low}
+use Rattle.brace_draw.proofs.Drawer.column.Goals as goal
+use Rattle.brace_draw.proofs.Drawer.column.Goals.{then-i-eq0, else-i-eq0}
+
+pub agents-preserved : goal.agents-preserved
+agents-preserved c =
+    let i = c.agents.i in
+    let ids = c.args.ids.now in
+    let known : (j : ℕ) → j < 4 → i / 4 * 4 + j < length ids
+    → slice_index_or c.if-i-eq0.values j (pos 0)
+    ≡ pos (draw_value c.args.self.now.seed c.args.tick (slice_index ids (i / 4 * 4 + j)) c.args.site)
+    = elim c.if-i-eq0.branch [
+      | then-i-eq0 w ↦ λ j lane within.
+          let start : i / 4 * 4 ≡ i = omega arith in
+          rw (w.values-is, start) (w.four-values.ensures j (omega arith) lane)
+      | else-i-eq0 w ↦ λ j lane within. rw w.values-is (c.agents.invariant.group j lane (omega arith) within)
+    ] in
+    let place : i / 4 * 4 + i % 4 ≡ i = omega arith in
+    let this = rw place at (known (i % 4) (omega arith) (omega arith)) in
+    record {
+      done = grind (arith, common_steps, this, ints, to_z-of_z, word_low);
+      group = λ j lane some within.
+          let same : (i + 1) / 4 ≡ i / 4 = omega arith in
+          rw same (known j lane (rw same at within));
+    }
