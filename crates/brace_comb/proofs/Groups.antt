@@ -7,7 +7,7 @@ use Rattle.std.proofs.lemmas.List.Sorted.{IsPermutation-append_comm}
 use Rattle.brace_model.specs.declared.program.Comb.{Comb}
 use Rattle.brace_comb.specs.declared.entry.Entry.{Entry}
 use Rattle.brace_comb.specs.declared.total.Total.{Total}
-use Rattle.brace_comb.specs.Totals.{Tally, tally, join}
+use Rattle.brace_comb.specs.Totals.{Tally, tally}
 use Rattle.brace_comb.proofs.Joins.{join-assoc, join-comm, join-turn, as_seen}
 use Rattle.brace_comb.proofs.Permutations.{fold-IsPermutation}
 use Rattle.brace_comb.specs.Entries.{by_place, IsRising, given_by, both, total_at, AreOf}

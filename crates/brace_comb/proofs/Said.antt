@@ -1,5 +1,5 @@
 -- Totals of values said: of lists one behind the other, in any order, and what may be merged.
-use Rattle.std.proofs.Common.{◌≡◌, ◌∙◌, refl, sym, ap, ap₂, subst, ℕ, ◌+◌, ◌^◌, ◌≤◌, List, [], ◌∷◌, ◌++◌, length, map, Bool, true, false, ◌==◌, ◌&&◌, ⊎_elim, Option, Some, None, fold, All, arith, eq-eqb, append-nil, append_assoc, get_or, take, take-suc, add-one, length-take-le, ◌<◌, if◌then◌else◌}
+use Rattle.std.proofs.Common.{◌≡◌, ◌∙◌, refl, sym, ap, ap₂, subst, ℕ, ◌+◌, ◌^◌, ◌≤◌, List, [], ◌∷◌, ◌++◌, length, map, Bool, true, false, ◌==◌, ◌&&◌, ⊎_elim, Some, None, fold, All, arith, eq-eqb, append-nil, append_assoc, get_or, take, take-suc, add-one, length-take-le, ◌<◌}
 use Rattle.std.specs.Int.{w64}
 use Rattle.std.specs.Int.RustNames.{FitsSigned}
 use Rattle.std.specs.List.{filter}

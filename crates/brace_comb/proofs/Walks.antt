@@ -1,6 +1,5 @@
 -- A walk along two rising lists of entries: what is merged so far, and what is left of each.
 use Rattle.std.proofs.Common.{◌≡◌, ◌∙◌, refl, sym, ap, ap₂, subst, ℕ, zero, suc, ◌+◌, ◌<◌, ◌≤◌, List, [], ◌∷◌, ◌++◌, length, take, drop, get_or, set, insert, true, false, ⊎_elim, Some, None, Ordering, Less, Equal, Greater, is_lt, is_eq, All, append_assoc, append-nil, take-append-drop, drop-cons, drop_of_length-le, arith}
-use Rattle.std.specs.List.{AllByRecursion, AllWithin}
 use Rattle.std.proofs.lemmas.Bool.{cases_lt}
 use Rattle.std.proofs.lemmas.List.{get_or_default, get_or-take, get_or-drop, length-take-le, length-drop, set_split}
 use Rattle.std.proofs.lemmas.List.Elements.{recursion_from_All, All-from_recursion, All-head}

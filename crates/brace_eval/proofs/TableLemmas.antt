@@ -1,21 +1,19 @@
 -- The table of totals after one saying more.
 use Rattle.std.proofs.Common.{◌≡◌, ◌∙◌, sym, refl, ap, subst, ℕ, zero, suc, ◌+◌, ◌-◌, ◌<◌, ◌≤◌, ℤ, pos, List, [], ◌∷◌, ◌++◌, true, false, Bool, length, take, get_or, set, map, Some, None, Ok, Err, arith, add-one, flat_map}
 use Rattle.std.specs.Prelude.{◌==◌, ◌&&◌, slice_get}
-use Rattle.std.specs.List.{filter}
 use Rattle.std.specs.List.Sorted.{IsBinarySearchResult}
 use Rattle.std.specs.Ordering.{nat_cmp}
 use Rattle.std.proofs.lemmas.List.Sorted.{searched}
 use Rattle.std.proofs.Math.Nat.{eq-or-lt_of_le}
 use Rattle.std.specs.Prelude.{eqb, leb}
-use Rattle.std.proofs.lemmas.Option.{slice_get_read, slice_get_past}
+use Rattle.std.proofs.lemmas.Option.{slice_get_read, slice_get_past, slice_get_within}
 use Rattle.std.proofs.lemmas.Bool.{ne_eqb, eq-eqb}
 use Rattle.std.proofs.lemmas.Bool.Decides.{eqb_tells, leb_tells}
 use Rattle.std.proofs.lemmas.List.Kept.{AllPairs-from_increasing}
 use mathlib.Core.Logic.{⊎_elim}
 use Rattle.std.proofs.Math.Seq.{take-suc, get_or-append_seam}
 use Rattle.std.proofs.lemmas.Grind.{flat_map-append}
-use Rattle.std.proofs.lemmas.List.{get_or_append_left as get_or-append_left, map-append, append-nil, length-append, set-append_left, set-append_right, length-map}
-use Rattle.std.proofs.lemmas.List.Elements.{filter-append}
+use Rattle.std.proofs.lemmas.List.{get_or_default, get_or_append_left as get_or-append_left, map-append, append-nil, length-append, set-append_left, set-append_right, length-map}
 use Rattle.std.proofs.lemmas.List.Sums.{fold-append}
 use Rattle.std.proofs.lemmas.List.Folds.{length-flat_map-take}
 use Rattle.std.proofs.lemmas.List.Concat.{get_or-flat_map}
@@ -28,29 +26,24 @@ use Rattle.brace_model.specs.World.{RisesById, ids, class_of}
 use Rattle.brace_model.proofs.WorldLemmas.{id_at}
 use Rattle.brace_model.specs.Query.{Saying}
 use Rattle.brace_model.specs.Total.{identity, joined, total_of, said_to, totals_from}
+use Rattle.brace_comb.proofs.Said.{said_to-append}
 use Rattle.brace_eval.specs.Heard.{effects_in, row_of, table_of, AreStarts}
 
 -- a saying is to an effect of an agent
 abbrev hits : ℕ → ℕ → Saying → Bool
 hits id n s = (s.target == id) && (s.field == n)
 
-said_to-snoc : (id n : ℕ) (xs : List Saying) (s : Saying)
-    → said_to id n (xs ++ s ∷ []) ≡ said_to id n xs ++ said_to id n (s ∷ [])
-said_to-snoc id n xs s =
-    ap (map (λ (t : Saying). t.value)) (filter-append (hits id n) xs (s ∷ []))
-    ∙ map-append (λ (t : Saying). t.value) (filter (hits id n) xs) (filter (hits id n) (s ∷ []))
-
 said_to-miss : (id n : ℕ) (xs : List Saying) (s : Saying) → hits id n s ≡ false
     → said_to id n (xs ++ s ∷ []) ≡ said_to id n xs
 said_to-miss id n xs s e =
     let none : said_to id n (s ∷ []) ≡ [] = rw e refl in
-    said_to-snoc id n xs s ∙ ap (λ (l : List Value). said_to id n xs ++ l) none ∙ append-nil _
+    said_to-append id n xs (s ∷ []) ∙ ap (λ (l : List Value). said_to id n xs ++ l) none ∙ append-nil _
 
 total-hit : (comb : Comb) (id n : ℕ) (xs : List Saying) (s : Saying) → hits id n s ≡ true
     → total_of comb (said_to id n (xs ++ s ∷ [])) ≡ joined comb (total_of comb (said_to id n xs)) s.value
 total-hit comb id n xs s e =
     let one : said_to id n (s ∷ []) ≡ s.value ∷ [] = rw e refl in
-    ap (total_of comb) (said_to-snoc id n xs s ∙ ap (λ (l : List Value). said_to id n xs ++ l) one)
+    ap (total_of comb) (said_to-append id n xs (s ∷ []) ∙ ap (λ (l : List Value). said_to id n xs ++ l) one)
     ∙ fold-append (joined comb) (identity comb) (said_to id n xs) (s.value ∷ [])
 
 row-miss : (n id : ℕ) (effects : List Effect) (xs : List Saying) (s : Saying)
@@ -186,16 +179,6 @@ item-none xs i t =
     (λ (le : (leb (suc i) (length xs) ≡ false) × (length xs < suc i)). slice_get_past xs i (omega (arith, le.1)))
     (leb_tells (suc i) (length xs))
 
-pub got-length : (effects : List Effect) (k : ℕ) (e : Effect) → slice_get effects k ≡ Some e → k < length effects
-got-length [] k e is = absurd (cc)
-got-length (f ∷ effects) zero e is = omega arith
-got-length (f ∷ effects) (suc k) e is = let rest = got-length effects k e is in omega (arith, rest)
-
-get_or_default : (agents : List Agent) (i : ℕ) (d e : Agent) → i < length agents → get_or agents i d ≡ get_or agents i e
-get_or_default [] i d e le = absurd (omega (arith, le))
-get_or_default (a ∷ agents) zero d e le = refl
-get_or_default (a ∷ agents) (suc i) d e le = get_or_default agents i d e (omega (arith, le))
-
 -- different places have different ids
 module _ (agents : List Agent) (rises : RisesById agents) where
   differ : (i j : ℕ) → i < length (ids agents) → j < length (ids agents) → (j ≡ i → ⊥)
@@ -273,7 +256,7 @@ module _ (program : Program) (xs : List Saying) (s : Saying) (agents : List Agen
       room : s.field < length (row_of program xs (get_or agents i d))
       room =
           let effects = effects_in (class_of program (get_or agents i d)) in
-          let has_room = got-length effects s.field e has in
+          let has_room = slice_get_within effects s.field e has in
           let long = row-length 0 (get_or agents i d).id effects xs in
           omega (arith, has_room, long)
 

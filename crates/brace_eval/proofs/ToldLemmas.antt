@@ -2,16 +2,13 @@
 use Rattle.std.proofs.Common.{◌≡◌, ◌∙◌, sym, ap, subst, ℕ, zero, suc, ◌+◌, ◌-◌, ◌^◌, ◌<◌, ℤ, pos, ◌+ℤ◌, List, [], ◌∷◌, ◌++◌, length, take, drop, get_or, set, map, min, Some, arith, append_assoc}
 use Rattle.std.specs.Prelude.{slice_get, fold}
 use Rattle.std.specs.List.{All}
-use Rattle.std.proofs.lemmas.Int.{ints}
 use Rattle.std.proofs.lemmas.Option.{slice_get_within, get_or_from_slice_get}
 use Rattle.std.proofs.lemmas.List.{append-nil, length-map, set-set, get_or-set_same, set-get_or, take-append-drop}
 use Rattle.std.proofs.lemmas.List.Elements.{All-head, All-tail}
-use Rattle.std.proofs.lemmas.List.Sums.{fold-append}
 use Rattle.std.proofs.lemmas.List.Concat.{get_or-flat_map}
 use Rattle.std.proofs.lemmas.List.Folds.{length-flat_map-take}
 use Rattle.std.proofs.lemmas.Grind.{flat_map-append}
 use Rattle.std.proofs.Math.Seq.{drop-append_seam}
-use Rattle.brace_model.specs.declared.program.Comb.{Comb}
 use Rattle.brace_model.specs.declared.program.Comb.TheVariants.{Count}
 use Rattle.brace_model.specs.declared.program.Effect.{Effect}
 use Rattle.brace_model.specs.declared.program.Program.{Program}
@@ -21,13 +18,13 @@ use Rattle.brace_model.specs.declared.world.Agent.{Agent}
 use Rattle.brace_model.specs.World.{RisesById, ids, class_of}
 use Rattle.brace_model.proofs.WorldLemmas.{id_at}
 use Rattle.brace_model.specs.Query.{Saying}
-use Rattle.brace_model.specs.Total.{identity, joined, total_of, said_to, totals_from}
+use Rattle.brace_model.specs.Total.{joined, total_of, said_to, totals_from}
 use Rattle.brace_comb.specs.Totals.{merged}
-use Rattle.brace_comb.proofs.Joins.{join-append}
+use Rattle.brace_comb.proofs.Joins.{fold-merged, fold-counted}
 use Rattle.brace_eval.specs.declared.heard.Heard.{Heard}
 use Rattle.brace_eval.specs.Heard.{IsHeard, AreTold, counted, counting, effects_in, row_of, table_of}
 use Rattle.brace_eval.proofs.CountLemmas.{counted-at, counted-effects, counts-long}
-use Rattle.brace_eval.proofs.TableLemmas.{table-hit, table-room, table-length, row-length, got-length}
+use Rattle.brace_eval.proofs.TableLemmas.{table-hit, table-room, table-length, row-length}
 use Rattle.brace_eval.proofs.StepLemmas.{row-first}
 use Rattle.brace_eval.proofs.HeardLemmas.{place-is, counts-place-is}
 
@@ -72,16 +69,6 @@ row-total n id (f ∷ effects) (suc k) e xs is =
     let at : suc n + k ≡ n + suc k = omega arith in
     row-total (suc n) id effects k e xs is ∙ ap (λ (m : ℕ). total_of e.comb (said_to id m xs)) at
 
--- values more are joined as their total is
-fold-merged : (comb : Comb) (us vs : List Value)
-    → fold (joined comb) (total_of comb us) vs ≡ merged comb (total_of comb us) (total_of comb vs)
-fold-merged comb us vs =
-    sym (fold-append (joined comb) (identity comb) us vs) ∙ sym (ap (λ t. t.number) (join-append comb us vs))
-
-fold-counted : (t : ℤ) (vs : List Value) → fold (joined Count) t vs ≡ t +ℤ pos (length vs)
-fold-counted t [] = omega (arith, ints)
-fold-counted t (v ∷ vs) = let rest = fold-counted (t +ℤ pos 1) vs in omega (arith, ints, rest)
-
 -- the agent at a place
 pub agent-at : (agents : List Agent) (place : ℕ) (a : Agent) → slice_get agents place ≡ Some a
     → (place < length agents) × (a ≡ get_or agents place a)
@@ -112,7 +99,7 @@ heard-told program agents said told faults before after place a e field at count
     let effects = effects_in (class_of program b) in
     let here : at ≡ length (table_of program said (take place agents)) + field =
     stands ∙ ap (λ (n : ℕ). n + field) (sym (table-length program said (take place agents))) in
-    let inside = got-length effects field e has_b in
+    let inside = slice_get_within effects field e has_b in
     let width = row-length 0 b.id effects said in
     let from_zero : 0 + field ≡ field = omega arith in
     let read : get_or old at (pos 0) ≡ total_of e.comb (said_to b.id field said) =
