@@ -186,9 +186,10 @@ class Slips:
         path = os.path.join("slip", name)
         with open(os.path.join(self.page.folder, path), "w", encoding="utf-8") as file:
             file.write(base.replace(right, wrong))
-        found = self.page.shell(command.format(path) + " >rows")[1]
-        checks.same(f"{what} {wrong}", found.replace("slip/", ""), f"brace: {name}{said}\n")
-        found = self.page.shell(command.format(name) + " >rows")
+        found = self.page.shell(command.format(path) + " >out")[1]
+        told = f"brace: {name}:{'' if name.endswith('.brasil') else ' '}{said}\n"
+        checks.same(f"{what} {wrong}", found.replace("slip/", ""), told)
+        found = self.page.shell(command.format(name) + " >out")
         checks.same(f"{what} {name}", found, (0, ""))
 
 
