@@ -1,5 +1,5 @@
 #!/usr/bin/env python3
-"""Runs the commands of README, the man page and docs/ as they are written, and compares what they show.
+"""Runs the commands of README, the man page and docs/ as written, and compares what they show.
 
     tools/tests/test_docs.py [PAGE ..] [--program PROGRAM]
 
@@ -40,7 +40,7 @@ class Checks:
 
 
 def blocks(text):
-    """The indented blocks of a page, each with the number of its first line and the line before it."""
+    """The indented blocks of a page: the number of the first line, the line before it, the text."""
     lines, at, before = text.split("\n"), 0, ""
     while at < len(lines):
         if not lines[at].startswith("    ") or (before and not NAMED.search(before)
