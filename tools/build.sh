@@ -10,7 +10,8 @@ log=$top/out/build.log
 say() { echo "brace: $*"; }
 
 if ! command -v rt >/dev/null; then
-  say "dist/brace can't be used here, and there is no toolchain (rt) to build the program with; README.md says what it takes"
+  say "dist/brace can't be used here, and there is no toolchain (rt) to build the program with"
+  say "README.md, \"Where it runs\", says which machines run dist/brace, and what building takes"
   exit 1
 fi
 mkdir -p "$top/out"

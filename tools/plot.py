@@ -3,11 +3,16 @@
 
     plot.py rows.csv --script fish.brasil --tick 100 --out school.svg
     plot.py rows.csv --script fish.brasil --series vx --out speed.svg
+    plot.py rows.csv --script ill.brasil --counts status --out cases.svg
 
 A column is named as in the script, or by CLASS.NAME; without a script by its number, from 1.
 """
 import argparse
+import collections
+import gc
+import itertools
 import math
+import operator
 import os
 import re
 import sys
@@ -20,6 +25,8 @@ VALUE = re.compile("|".join(f"(?P<{kind}>{form})" for kind, form in FORMS.items(
 DIGITS, NAME = re.compile("[0-9]+"), re.compile(r"[A-Za-z_]\w*", re.A)
 WIDTH, HEIGHT = 640, 480
 LEFT, RIGHT, TOP, BOTTOM = 70, 620, 40, 430
+# Bytes that are read at once: few first, in which the classes are met.
+FIRST, CHUNK = 1 << 16, 1 << 20
 
 
 class Refusal(Exception):
@@ -44,6 +51,11 @@ def read_script(path):
 
 def number(text):
     return float(text == "true" if text in ("true", "false") else text)
+
+
+def numbers(kind, texts):
+    """The numbers of values of one type, spelled in bytes."""
+    return list(map(b"true".__eq__ if kind == "bool" else float, texts))
 
 
 def kinds_of(texts):
@@ -81,6 +93,43 @@ class Rows:
         if before == (-1, -1):
             raise Refusal(f"{self.path}: the file has no rows")
 
+    def pieces(self, wanted, last=math.inf):
+        """Gives tick, class and columns of rows that lie together, up to the tick `last`.
+
+        `wanted(kind)` says which columns of a class, by rising index; each is given under its
+        index, as the list of its texts in bytes.
+        """
+        count, before, rest, size, pattern = 0, (-1, -1), b"", FIRST, None
+        with open(self.path, "rb") as file:
+            while piece := file.read(size):
+                lines, feed, rest = (rest + piece).rpartition(b"\n")
+                lines, size = lines + feed, CHUNK
+                found = pattern and pattern.read(lines, before)
+                if not found:
+                    found = self.slowly(lines, count, before, wanted)
+                    pattern = Pattern(self.types, {kind: wanted(kind) for kind in self.forms})
+                for tick, kind, columns, before in found:
+                    if tick > last:
+                        return
+                    yield tick, kind, columns
+                count += lines.count(b"\n")
+        if rest:
+            list(self.slowly(rest, count, before, wanted))
+        if before == (-1, -1):
+            raise Refusal(f"{self.path}: the file has no rows")
+
+    def slowly(self, lines, count, before, wanted):
+        """The rows of some lines one by one, behind `count` rows of which the last was `before`."""
+        found = []
+        for count, line in enumerate(lines.splitlines(keepends=True), count + 1):
+            try:
+                tick, kind, name, texts = self.row(line.decode("utf-8", "replace"), before)
+            except Refusal as refusal:
+                raise Refusal(f"{self.path}: row {count} {refusal}") from None
+            before = tick, name
+            found.append((tick, kind, {i: [texts[i].encode()] for i in wanted(kind)}, before))
+        return found
+
     def row(self, line, before):
         if not line.endswith("\n"):
             raise Refusal("ends before its line feed; is the file cut off?")
@@ -107,6 +156,46 @@ class Rows:
             raise Refusal(f"has values of the types {' '.join(kinds_of(texts))}, and {kind} has "
                           f"{' '.join(self.types[kind]) or 'none'}")
         return texts
+
+
+class Pattern:
+    """Reads many rows at once, where they are of known classes and in order, and else none."""
+
+    def __init__(self, types, wanted):
+        self.kinds, rows, group = [], [], 1
+        for kind, indexes in wanted.items():
+            self.kinds.append((kind, group, indexes))
+            group += 1 + len(indexes)
+            forms = [f"({FORMS[value]})" if i in indexes else FORMS[value]
+                     for i, value in enumerate(types[kind])]
+            rows.append(f"{kind},([0-9]+),{','.join(forms)}")
+        self.form = re.compile(f"^([0-9]+),(?:{'|'.join(rows)})\n".encode(), re.M)
+
+    def read(self, lines, before):
+        """Tick, class, columns and the last row of each piece, or None."""
+        rows = self.form.findall(lines)
+        # A row has one line feed and begins a line, so these are all of the lines.
+        if not rows or len(rows) != lines.count(b"\n"):
+            return None
+        groups = list(zip(*rows))
+        names = groups[self.kinds[0][1]]
+        for _, group, _ in self.kinds[1:]:
+            names = map(operator.add, names, groups[group])
+        names = list(map(int, names))
+        found, end = [], 0
+        for text, run in itertools.groupby(groups[0]):
+            tick, at, end = int(text), end, end + len(list(run))
+            run = names[at:end]
+            if (tick, run[0]) <= before or not all(map(operator.lt, run, run[1:])):
+                return None
+            before = tick, run[-1]
+            for kind, group, indexes in self.kinds:
+                mine = groups[group][at:end]
+                if any(mine):
+                    found.append((tick, kind, {
+                        index: list(itertools.compress(groups[group + 1 + i][at:end], mine))
+                        for i, index in enumerate(indexes)}, before))
+        return found
 
 
 class Columns:
@@ -227,19 +316,27 @@ def shade(part):
 
 def draw_tick(path, columns, tick, colour):
     """The agents of one tick, as dots on the plane."""
-    dots, last = [], None
-    for last, kind, _, texts in Rows(path, columns.types).read(tick):
+    rows, dots, last = Rows(path, columns.types), [], None
+
+    def wanted(kind):
         columns.known(kind)
-        across, up = columns.place(kind)
-        if last == tick and across is not None and up is not None:
+        found = {*columns.place(kind), columns.index(kind, colour) if colour else None}
+        return sorted(found - {None})
+
+    for last, kind, texts in rows.pieces(wanted, tick):
+        places = columns.place(kind)
+        if last == tick and None not in places:
+            across, up = (numbers("fixed", texts[place]) for place in places)
             index = columns.index(kind, colour) if colour else None
-            value = None if index is None else number(texts[index])
-            dots.append((number(texts[across]), number(texts[up]), kind, value))
+            values = [None] * len(across) if index is None else numbers(
+                rows.types[kind][index], texts[index])
+            dots += zip(across, up, itertools.repeat(kind), values)
     if not dots:
         raise Refusal(f"{path}: has no agents at tick {tick}; the last tick read is {last}")
     axes = Axes((min(x for x, *_ in dots), max(x for x, *_ in dots)),
                 (min(y for _, y, *_ in dots), max(y for _, y, *_ in dots)), square=True)
     kinds = sorted({kind for _, _, kind, _ in dots}, key=list(columns.types).index)
+    dots.sort(key=lambda dot: kinds.index(dot[2]))
     fills = {kind: COLOURS[i % len(COLOURS)] for i, kind in enumerate(kinds)}
     key = [(fills[kind], kind) for kind in kinds]
     if colour:
@@ -258,35 +355,74 @@ def draw_tick(path, columns, tick, colour):
     return picture(f"tick {tick}, {len(dots)} agents", key, "x", parts)
 
 
-def draw_series(path, columns, column):
-    """The least, mean and greatest value of a column over all ticks."""
-    owner, found = None, {}
-    for tick, kind, _, texts in Rows(path, columns.types).read():
+def column_of(path, columns, column):
+    """The name of a column, and tick, type and texts of its values, piece by piece."""
+    rows, owner, found = Rows(path, columns.types), None, []
+
+    def wanted(kind):
         columns.known(kind)
         index = columns.index(kind, column)
-        if index is None:
-            continue
-        if owner not in (None, kind):
-            raise Refusal(f"{column} is a column of {owner} and of {kind}; say {owner}.{column}")
-        owner, value = kind, number(texts[index])
-        least, total, count, greatest = found.get(tick, (value, 0.0, 0, value))
-        found[tick] = min(least, value), total + value, count + 1, max(greatest, value)
+        return [] if index is None else [index]
+
+    for tick, kind, texts in rows.pieces(wanted):
+        for index, values in texts.items():
+            if owner not in (None, kind):
+                raise Refusal(f"{column} is a column of {owner} and of {kind}; "
+                              f"say {owner}.{column}")
+            owner = kind
+            found.append((tick, rows.types[kind][index], values))
     if not found:
         raise Refusal(f"{path}: no class has a column {column}")
-    axes = Axes((min(found), max(found)),
-                (min(f[0] for f in found.values()), max(f[3] for f in found.values())))
+    return column if "." in column else f"{owner}.{column}", found
 
-    def points(value):
-        return [f"{axes.x(tick):.2f},{axes.y(value(figures)):.2f}"
-                for tick, figures in found.items()]
 
-    band = " ".join(points(lambda f: f[3]) + points(lambda f: f[0])[::-1])
-    mean = " ".join(points(lambda f: f[1] / f[2]))
+def points(axes, line):
+    return [f"{axes.x(tick):.2f},{axes.y(value):.2f}" for tick, value in line.items()]
+
+
+def draw_series(path, columns, column):
+    """The least, mean and greatest value of a column over all ticks."""
+    name, pieces = column_of(path, columns, column)
+    least, total, count, greatest = {}, {}, {}, {}
+    for tick, kind, texts in pieces:
+        values = numbers(kind, texts)
+        least[tick] = min(least.get(tick, math.inf), min(values))
+        total[tick] = total.get(tick, 0.0) + sum(values)
+        count[tick] = count.get(tick, 0) + len(values)
+        greatest[tick] = max(greatest.get(tick, -math.inf), max(values))
+    axes = Axes((min(least), max(least)), (min(least.values()), max(greatest.values())))
+    band = " ".join(points(axes, greatest) + points(axes, least)[::-1])
+    mean = " ".join(points(axes, {tick: total[tick] / count[tick] for tick in total}))
     parts = axes.drawn() + [
         f'<polygon points="{band}" fill="{COLOURS[0]}" fill-opacity="0.2"/>',
         f'<polyline points="{mean}" fill="none" stroke="{COLOURS[0]}" stroke-width="2"/>']
-    name = column if "." in column else f"{owner}.{column}"
     return picture(name, [(COLOURS[0], "mean"), ("#c5dbf5", "least to greatest")], "tick", parts)
+
+
+def draw_counts(path, columns, column):
+    """How many agents have each value of a column, over all ticks."""
+    name, pieces = column_of(path, columns, column)
+    counts, total = {}, collections.Counter()
+    for tick, kind, texts in pieces:
+        if kind == "fixed":
+            raise Refusal(f"{name} is fixed; --counts takes an int or a bool")
+        counts.setdefault(tick, collections.Counter()).update(texts)
+    for found in counts.values():
+        total.update(found)
+    # The commonest values have lines of their own, by rising value; the others one together.
+    told = [value for value, _ in total.most_common(len(COLOURS))]
+    told.sort(key=lambda text: (len(text), text) if text[:1].isalpha() else (0, int(text)))
+    lines = [(COLOURS[i], value.decode(), {tick: found[value] for tick, found in counts.items()})
+             for i, value in enumerate(told)]
+    if len(total) > len(told):
+        lines.append(("#9aa3af", "others", {tick: sum(found.values()) - sum(map(
+            found.__getitem__, told)) for tick, found in counts.items()}))
+    axes = Axes((min(counts), max(counts)), (0, max(max(line.values()) for *_, line in lines)))
+    parts = axes.drawn()
+    parts += [f'<polyline points="{" ".join(points(axes, line))}" fill="none" stroke="{colour}" '
+              f'stroke-width="2"/>' for colour, _, line in lines]
+    key = [(colour, value) for colour, value, _ in lines]
+    return picture(f"agents by {name}", key, "tick", parts)
 
 
 def save(path, text):
@@ -316,15 +452,21 @@ def main():
     what = words.add_mutually_exclusive_group(required=True)
     what.add_argument("--tick", type=whole, help="draw the agents of this tick")
     what.add_argument("--series", metavar="COLUMN", help="draw a column over all ticks")
+    what.add_argument("--counts", metavar="COLUMN",
+                      help="draw how many agents have each value of a column, over all ticks")
     words.add_argument("--colour", metavar="COLUMN", help="colour the agents by a column")
     words.add_argument("--out", required=True, metavar="PICTURE.svg")
     asked = words.parse_args()
-    if asked.colour and asked.series:
+    if asked.colour and asked.tick is None:
         words.error("--colour goes with --tick")
+    # Millions of short texts, and no cycles.
+    gc.disable()
     try:
         columns = Columns(asked.script)
         if asked.series:
             text = draw_series(asked.rows, columns, asked.series)
+        elif asked.counts:
+            text = draw_counts(asked.rows, columns, asked.counts)
         else:
             text = draw_tick(asked.rows, columns, asked.tick, asked.colour)
         save(asked.out, text)

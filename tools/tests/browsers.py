@@ -29,7 +29,7 @@ class Chromium:
         shell = f'exec "$@" 3<&{read_there} 4>&{write_there}'
         self.job = subprocess.Popen(
             ["/bin/bash", "-c", shell, "browser", *words], pass_fds=(read_there, write_there),
-            stdout=subprocess.DEVNULL, stderr=subprocess.DEVNULL)
+            stdout=subprocess.DEVNULL, stderr=said(self.folder))
         os.close(read_there)
         os.close(write_there)
         self.answers = read_here
@@ -39,9 +39,8 @@ class Chromium:
         try:
             target = self.call("Target.createTarget", url="about:blank")["targetId"]
             attached = self.call("Target.attachToTarget", targetId=target, flatten=True)
-        except (RuntimeError, OSError):
-            end(self.job, self.folder)
-            raise
+        except (RuntimeError, OSError) as error:
+            raise end(self.job, self.folder, error) from None
         self.session = attached["sessionId"]
         self.call("Emulation.setDeviceMetricsOverride", width=width, height=height,
                   deviceScaleFactor=1, mobile=False)
@@ -125,7 +124,7 @@ class Firefox:
             for name, value in settings.items():
                 file.write(f"user_pref({json.dumps(name)}, {json.dumps(value)});\n")
         words = [program, "--headless", "--marionette", "--no-remote", "--profile", self.folder]
-        self.job = subprocess.Popen(words, stdout=subprocess.DEVNULL, stderr=subprocess.DEVNULL)
+        self.job = subprocess.Popen(words, stdout=subprocess.DEVNULL, stderr=said(self.folder))
         self.calls = 0
         try:
             wait(lambda: self.connect(port), PATIENCE)
@@ -133,9 +132,8 @@ class Firefox:
             self.call("WebDriver:NewSession", {})
             # The window's frame takes some of its size.
             self.call("WebDriver:SetWindowRect", {"width": width, "height": height + 86})
-        except (RuntimeError, OSError):
-            end(self.job, self.folder)
-            raise
+        except (RuntimeError, OSError) as error:
+            raise end(self.job, self.folder, error) from None
 
     def connect(self, port):
         try:
@@ -215,11 +213,22 @@ def wait(is_done, seconds=PATIENCE):
         time.sleep(0.05)
 
 
-def end(job, folder):
-    """Ends a browser that was told to quit, or does not answer, and takes its folder away."""
+def said(folder):
+    """Where a browser's errors go, so that it can be told why it did not start."""
+    return open(os.path.join(folder, "said"), "wb")
+
+
+def end(job, folder, error=None):
+    """Ends a browser that was told to quit, or does not answer, and takes its folder away.
+
+    Of an error it makes one that has the last lines, too, that the browser said.
+    """
     try:
         job.wait(10)
     except subprocess.TimeoutExpired:
         job.kill()
         job.wait()
+    with open(os.path.join(folder, "said"), encoding="utf-8", errors="replace") as file:
+        lines = file.read().strip().split("\n")[-5:]
     shutil.rmtree(folder, ignore_errors=True)
+    return RuntimeError("\n".join([f"{error}, and it ended with {job.returncode}", *lines]))

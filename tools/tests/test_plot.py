@@ -23,6 +23,8 @@ DRAWN = [
     ("--script s --series n", ("polyline", 3)),
     ("--script s --series B.b", ("polyline", 3)),
     ("--series A.3", ("polyline", 3)),
+    ("--script s --counts n", ("polyline", 3)),
+    ("--script s --counts B.b", ("polyline", 3)),
 ]
 
 # Words, what the rows are, and the line of the refusal.
@@ -32,6 +34,8 @@ REFUSED = [
     ("--script s --series z", ROWS, "rows: no class has a column z"),
     ("--script s --series x", ROWS, "x is a column of A and of B; say A.x"),
     ("--script s --tick 0 --colour z", ROWS, "no class at tick 0 has a column z"),
+    ("--script s --counts A.x", ROWS, "A.x is fixed; --counts takes an int or a bool"),
+    ("--script s --counts z", ROWS, "rows: no class has a column z"),
     ("--script absent --tick 0", ROWS, "absent: No such file or directory"),
     ("--script rows --tick 0", ROWS, "rows: has no class"),
     ("--script s --tick 0", "0,C,1,2\n", "the script has no class C, and the rows have"),
@@ -45,6 +49,21 @@ REFUSED = [
     ("--series 1", "1,A,1,2\n0,A,1,2\n", "rows: row 2 is of tick 0, behind rows of tick 1"),
     ("--series 1", "1,A,1,2\n2,A,1,",
      "rows: row 2 ends before its line feed; is the file cut off?"),
+]
+
+
+# Many rows, of which all but the first are read in pieces: ticks, classes, ids and a wrong row behind.
+MANY = [f"{tick},A,{name},{name}.500000,-{tick}.250000,{name % 3}\n" if name % 4 else
+        f"{tick},B,{name},{'true' if tick > 1 else 'false'},0.000000,{tick}.000000\n"
+        for tick in range(4) for name in range(4000)]
+WRONG = [
+    (9000, "2,A,1001,1.500000,-2.250000,yes\n", "has 'yes' for value 3"),
+    (9000, "2,A,1001,1.500000,-2.250000,1.0\n",
+     "has values of the types fixed fixed fixed, and A has fixed fixed int"),
+    (9000, "2,A,5,1.500000,-2.250000,1\n", "has the id 5 behind 999; in a tick ids rise"),
+    (9000, "1,A,1001,1.500000,-2.250000,1\n", "is of tick 1, behind rows of tick 2"),
+    (9000, "\n", "is not tick,class,id,values: ''"),
+    (15999, "3,A,3999,1.50", "ends before its line feed; is the file cut off?"),
 ]
 
 
@@ -65,6 +84,25 @@ def drawn(folder, words, form):
     if form == "circle":
         return sum(float(dot.get("cy")) > 30 for dot in root.iter(SVG + form))
     return len(next(root.iter(SVG + form)).get("points").split())
+
+
+def check_many(same, folder):
+    """Rows that are read in pieces come to what they come to one by one; the first wrong one is told."""
+    write(folder, "rows", "".join(MANY))
+    for words in ("--series A.x", "--series b", "--counts n", "--counts b", "--tick 2 --colour n",
+                  "--tick 3"):
+        plot(folder, f"--script s {words}")
+        with open(os.path.join(folder, "out.svg"), encoding="utf-8") as file:
+            pieces = file.read()
+        write(folder, "rows", "".join(MANY).replace("\n", "\r\n"))
+        plot(folder, f"--script s {words}")
+        with open(os.path.join(folder, "out.svg"), encoding="utf-8") as file:
+            same(f"many rows {words}", file.read() == pieces and len(pieces) > 1000, True)
+        write(folder, "rows", "".join(MANY))
+    for at, line, told in WRONG:
+        write(folder, "rows", "".join(MANY[:at] + [line] + MANY[at + 1:] * line.endswith("\n")))
+        made = plot(folder, "--script s --series n")
+        same(told, made.stderr, f"plot.py: rows: row {at + 1} {told}\n")
 
 
 def main():
@@ -89,6 +127,7 @@ def main():
             same(words, (made.returncode, made.stderr, made.stdout), (1, f"plot.py: {line}\n", ""))
         with open(os.path.join(folder, "out.svg"), encoding="utf-8") as file:
             same("a refusal leaves the picture", file.read(), "old")
+        check_many(same, folder)
         write(folder, "rows", ROWS)
         made = plot(folder, "--tick 0", "none/out.svg")
         same("no folder", made.stderr, "plot.py: none/out.svg: No such file or directory\n")

@@ -152,7 +152,8 @@ def check_example(checks, page, example):
     wanted = []
     for kind, states in plot.read_script(example.script).items():
         wanted += [f"{kind}.{name}" for name, _ in states]
-    found = page.browser.value("[...$('charted').options].slice(1).map(o => o.textContent)")
+    found = page.browser.value("[...$('charted').options].slice(1).map(o => o.textContent)"
+                               ".filter(text => !text.includes(' '))")
     present = {name.split(".")[0] for name in found}
     checks.same(f"{example.name} columns", sorted(found),
                 sorted(name for name in wanted if name.split(".")[0] in present))
@@ -223,6 +224,76 @@ def check_misfit(checks, page, folder):
         checks.same(f"script {source}", page.text("message"), message)
 
 
+def check_counts(checks, page, folder):
+    """The chart by a column has a line for each value, and one for what is too many."""
+    path = os.path.join(folder, "counts.csv")
+    with open(path, "w", encoding="utf-8") as file:
+        for tick in range(3):
+            for name in range(30):
+                file.write(f"{tick},A,{name},1.000000,2.000000,{-1 if name < 10 * tick else 7},"
+                           f"{'true' if name == tick else 'false'},{name}\n")
+    page.load(path)
+    read = "shown.figures.map(({ label, line }) => `${label}: ${[...line]}`).join('; ')"
+    for chosen, wanted in (
+            ("counts 0 2", "-1: 0,10,20; 7: 30,20,10"),
+            ("counts 0 3", "false: 29,29,29; true: 1,1,1"),
+            ("counts 0 4", "; ".join(f"{i}: 1,1,1" for i in range(8)) + "; others: 22,22,22")):
+        page.do(f"$('charted').value = '{chosen}'; rechart()")
+        checks.same(chosen, page.browser.value(read), wanted)
+
+
+def check_many_dots(checks, page, folder):
+    """100,000 agents in a tick: each is painted, and a frame takes no longer than is told here."""
+    path = os.path.join(folder, "many.csv")
+    with open(path, "w", encoding="utf-8") as file:
+        for tick in range(2):
+            for name in range(100000):
+                file.write(f"{tick},A,{name},{name % 400}.000000,{name // 400}.000000,"
+                           f"{name % 7}\n")
+    page.load(path)
+    page.do("fit()")
+    dots = [(name % 400, name // 400) for name in range(0, 100000, 977)]
+    checks.same("many dots", page.painted(dots), len(dots))
+    measure = ("(() => {{ const start = performance.now(); for (let i = 0; i < 10; i++) go(i % 2);"
+               " plane.getContext('2d').getImageData(0, 0, 1, 1);"
+               " return (performance.now() - start) / 10; }})()")
+    took = min(page.browser.value(measure.format()) for _ in range(3))
+    print(f"a frame of 100,000 dots took {took:.0f} ms")
+    checks.same("a frame of 100,000 dots within a quarter of a second", took < 250, True)
+    page.do("$('colour').value = 'value 3'; recolour()")
+    found = page.browser.value("""(() => {
+        const { data } = plane.getContext('2d').getImageData(0, 0, plane.width, plane.height);
+        const at = 4 * (Math.floor(toY(249)) * plane.width + Math.floor(toX(399)));
+        return `rgb(${[...data.slice(at, at + 3)].join(' ')})` === SHADE[
+          Math.floor((99999 % 7) / 6 * SHADES)]; })()""")
+    checks.same("the shade of the last of many dots", found, True)
+
+
+def check_pictures(checks, page, folder):
+    """The picture is kept as a PNG; the film, where the browser makes one, as a film."""
+    path = os.path.join(folder, "short.csv")
+    with open(path, "w", encoding="utf-8") as file:
+        for tick in range(4):
+            file.write(f"{tick},A,1,{tick}.000000,2.000000\n")
+    page.load(path)
+    page.do("HTMLAnchorElement.prototype.click = () => {}; shown.kept = null; go(2);"
+            "$('picture').click()")
+    browsers.wait(lambda: page.browser.value("!!shown.kept"))
+    checks.same("picture", page.browser.value(
+        "[shown.kept.name, shown.kept.type, shown.kept.size > 500]"),
+        ["short-2.png", "image/png", True])
+    if page.browser.value("$('film').hidden"):
+        print("this browser makes no films")
+        return
+    page.do("shown.kept = null; go(0); $('speed').value = '5'; $('film').click()")
+    checks.same("film's button", page.text("film"), "End film")
+    browsers.wait(lambda: page.browser.value("!!shown.kept"))
+    checks.same("film", page.browser.value(
+        "[shown.kept.name.startsWith('short-film.'), shown.kept.type.startsWith('video/'),"
+        " shown.kept.size > 500, $('film').textContent, shown.frame]"),
+        [True, True, True, "Film", 3])
+
+
 def take_picture(page, example, folder):
     tick, settings = SCENES.get(example.name, (0, ""))
     page.browser.point(WIDTH - 2, 2)
@@ -233,7 +304,12 @@ def take_picture(page, example, folder):
 
 
 def run(kind, program, shown, folder, pictures):
-    checks, browser = Checks(), kind(program, WIDTH, HEIGHT, dark=False)
+    checks = Checks()
+    try:
+        browser = kind(program, WIDTH, HEIGHT, dark=False)
+    except (RuntimeError, OSError) as error:
+        print(f"{os.path.basename(program)} does not start: {error}")
+        return 1
     try:
         page = Page(browser)
         for example in shown:
@@ -245,6 +321,9 @@ def run(kind, program, shown, folder, pictures):
         check_misfit(checks, page, folder)
         check_playing(checks, page, folder)
         check_drop(checks, page)
+        check_counts(checks, page, folder)
+        check_many_dots(checks, page, folder)
+        check_pictures(checks, page, folder)
     finally:
         browser.close()
     print(f"{os.path.basename(program)}: {checks.count - checks.failed} passed, "
