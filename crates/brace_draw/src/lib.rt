@@ -10,8 +10,6 @@ use rand_core::utils::NextWord;
 use rand_core::{SeedableRng, utils};
 
 mod lanes;
-#[cfg(test)]
-mod tests;
 
 // A generator computes so many words at once.
 const WORDS: u64 = 64;

@@ -1,5 +1,6 @@
 //! What no clause says: answers worked by hand, and that calls answer where memory is ample.
 mod crews;
+mod draws;
 mod grids;
 mod inversion;
 mod models;

@@ -1,7 +1,7 @@
 // Words that were computed outside: by a ChaCha8 written from the structure of RFC 8439 with 8
 // rounds, a 64-bit block counter and a 64-bit stream number. It gives the published key stream of
 // ChaCha8 at a key and a stream of zeros (3e00ef2f895f40d6..).
-use crate::Drawer;
+use brace_draw::Drawer;
 
 #[test]
 fn draws_are_those_of_chacha8(rt: HostRuntime) {
