@@ -70,6 +70,7 @@ fn changes_no_other_host_file(rt: HostRuntime) -> Result<(), Fail> {
     assert!(rt; !exists(&rt, ".brace-part-2")?);
     remove_file(&rt, "brace_io_saved")?;
     for other in others {
+        let mut shelf = DirShelf::make(rt.alloc(), &rt);
         let old = read_whole(rt.alloc(), &mut shelf, other, 3)?;
         assert_eq!(rt; old.as_slice(), b"old".as_slice(), "{other}");
         remove_file(&rt, other)?;
