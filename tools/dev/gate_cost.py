@@ -1,0 +1,91 @@
+#!/usr/bin/env python3
+"""What a gate costs: runs a command (`rt ci` if none is given), and prints the processor seconds of
+its crates when it has ended: of their proofs, their tests, their must-fail edits and all else.
+
+    tools/dev/gate_cost.py [COMMAND ..] > gate.log        (the table stands on standard error)
+
+The processes below the command are looked at five times a second, so a process that lives for less
+is missed. Linux alone.
+"""
+import collections
+import os
+import subprocess
+import sys
+import time
+
+TICKS = os.sysconf("SC_CLK_TCK")
+KINDS = ("proof", "tests", "edits", "other")
+
+
+def stat_of(pid):
+    """The parent and the processor seconds of a process, or None once it is gone."""
+    try:
+        with open(f"/proc/{pid}/stat") as file:
+            fields = file.read().rpartition(")")[2].split()
+    except OSError:
+        return None
+    return int(fields[1]), (int(fields[11]) + int(fields[12])) / TICKS
+
+
+def work_of(pid):
+    """The crate that a process works at, and the kind of the work, or None."""
+    try:
+        with open(f"/proc/{pid}/cmdline", "rb") as file:
+            words = file.read().decode(errors="replace").split("\0")
+        folder = os.readlink(f"/proc/{pid}/cwd")
+    except OSError:
+        return None
+    if "--crate-name" not in words:
+        return None
+    crate = words[words.index("--crate-name") + 1]
+    line = " ".join(words)
+    if "rt-edit" in folder or "rt-edit" in line:
+        return crate, "edits"
+    return crate, "tests" if "--test" in words else "proof"
+
+
+def below(root):
+    """The processes below one, each with its processor seconds and the work of the nearest at or above it."""
+    stats = {}
+    for name in os.listdir("/proc"):
+        if name.isdigit():
+            found = stat_of(int(name))
+            if found:
+                stats[int(name)] = found
+    children = collections.defaultdict(list)
+    for pid, (parent, _) in stats.items():
+        children[parent].append(pid)
+    found, left = {}, [(root, ("", "other"))]
+    while left:
+        pid, work = left.pop()
+        work = work_of(pid) or work
+        if pid in stats:
+            found[pid] = (stats[pid][1], work)
+        left += [(child, work) for child in children[pid]]
+    return found
+
+
+def main(command):
+    begun = time.time()
+    process = subprocess.Popen(command)
+    seconds = {}
+    while process.poll() is None:
+        for pid, (spent, work) in below(process.pid).items():
+            key = (pid, work)
+            seconds[key] = max(spent, seconds.get(key, 0))
+        time.sleep(0.2)
+    table = collections.defaultdict(lambda: dict.fromkeys(KINDS, 0.0))
+    for (_, (crate, kind)), spent in seconds.items():
+        table[crate or "(all)"][kind] += spent
+    rows = sorted(table.items(), key=lambda row: -sum(row[1].values()))
+    rows.append(("sum", {kind: sum(row[kind] for row in table.values()) for kind in KINDS}))
+    print(f"{'crate':24}" + "".join(f"{kind:>9}" for kind in KINDS) + f"{'minutes':>9}", file=sys.stderr)
+    for crate, row in rows:
+        cells = "".join(f"{row[kind]:9.0f}" for kind in KINDS)
+        print(f"{crate:24}{cells}{sum(row.values()) / 60:9.1f}", file=sys.stderr)
+    print(f"{time.time() - begun:.0f} s by the clock, {os.cpu_count()} processors", file=sys.stderr)
+    return process.returncode
+
+
+if __name__ == "__main__":
+    sys.exit(main(sys.argv[1:] or ["rt", "ci"]))
