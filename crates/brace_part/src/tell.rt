@@ -20,8 +20,12 @@ use std::alloc::Global;
 /// is no such entry.
 fn entry_of(target: u64, effect: usize, comb: Comb, number: i128, count: i128) -> Option<Entry>
     ensures { IfSome result (λ e. share_of e
-        ≡ record { target = target; field = effect; total =
-        record { comb = comb; number = number; count = unsigned_abs count } }) }
+        ≡ record {
+          target = target;
+          field = effect;
+          total =
+              record { comb = comb; number = number; count = unsigned_abs count };
+        }) }
 {
     let field = u32::try_from(effect).ok()?;
     let total = Total::make(comb, number, u64::try_from(count).ok()?)?;

@@ -193,11 +193,19 @@ fn values_come_to_one_entry_for_each_effect(rt: HostRuntime) -> Result<(), Fail>
             expected.as_slice()
         );
     }
-    let one = merged_of(alloc, Comb::Max, &b[..1], &[])?;
-    assert_eq!(rt; one.entries()[0].total, Total::Greatest(most, 1));
+    let one = [Entry {
+        target: 7,
+        field: 1,
+        total: Total::Greatest(most, 1),
+    }];
+    let first = &b[..1];
     assert_eq!(rt;
-        merged_of(alloc, Comb::Max, &[], &b[..1])?.entries(),
-        one.entries()
+        merged_of(alloc, Comb::Max, first, &[])?.entries(),
+        one.as_slice()
+    );
+    assert_eq!(rt;
+        merged_of(alloc, Comb::Max, &[], first)?.entries(),
+        one.as_slice()
     );
     Ok(())
 }
