@@ -4,6 +4,7 @@
     python3 tools/tests/test_cudrenal.py        (or -m unittest discover tools/tests)
 """
 import decimal
+import importlib.util
 import os
 import subprocess
 import sys
@@ -22,7 +23,8 @@ TWO = """class A { public state fixed x; public state fixed y; public state int 
 class B { public state fixed x; public state fixed y; public state bool b; }"""
 DIVIDES = """class P { public state fixed x; public state fixed y; public state fixed v : 1.0 / x;
   public effect fixed s : sum; }"""
-NEAR = """class P { #visible[9]; public state fixed x; public state fixed y; public effect int n : count;
+NEAR = """class P { #visible[9]; public state fixed x; public state fixed y;
+  public effect int n : count;
   public void run() { foreach (P p : Extent<P>) { foreach (P q : Extent<P>) {
     if (1 / (trunc(x) - 1) > 0 && p.x < q.x) { n <- 1; } } } } }"""
 
@@ -34,7 +36,8 @@ def agent(**values):
 class Spellings(unittest.TestCase):
     def test_values_as_agent_files_have_them(self):
         for kind, value, text in (
-                ("fixed", 0.1 + 0.2, "0.300000"), ("fixed", 1e-3, "0.001000"), ("fixed", 3, "3.000000"),
+                ("fixed", 0.1 + 0.2, "0.300000"), ("fixed", 1e-3, "0.001000"),
+                ("fixed", 3, "3.000000"),
                 ("fixed", -1e-9, "0.000000"), ("fixed", decimal.Decimal("-0.25"), "-0.250000"),
                 ("fixed", decimal.Decimal("9223372036854.775807"), "9223372036854.775807"),
                 ("fixed", -1.5e6, "-1500000.000000"), ("int", 7, "7"), ("int", -3.0, "-3"),
@@ -65,7 +68,8 @@ class Files(unittest.TestCase):
         self.assertEqual(cudrenal.write_agents(self.path("a"), agents, TWO), 2)
         with open(self.path("a"), encoding="utf-8") as file:
             self.assertEqual(file.read(), "B,5,1.000000,0.500000,true\nA,2,0.000000,0.000000,-1\n")
-        self.assertEqual([a["class"] for a in cudrenal.read_agents(self.path("a"), TWO)], ["B", "A"])
+        kinds = [agent["class"] for agent in cudrenal.read_agents(self.path("a"), TWO)]
+        self.assertEqual(kinds, ["B", "A"])
 
     def test_a_data_frame(self):
         class Frame:  # what is used of pandas' frames
@@ -84,7 +88,8 @@ class Files(unittest.TestCase):
                             ({"id": 0}, "the id 0 stands twice"), ({"id": -1}, "-1 is no id"),
                             ({"on": 1}, "on: 1 is no bool")):
             with self.assertRaisesRegex(cudrenal.BadAgents, told):
-                cudrenal.write_agents(self.path("a"), [agent(id=0), agent(**{"id": 9, **wrong})], ONE)
+                agents = [agent(id=0), agent(**{"id": 9, **wrong})]
+                cudrenal.write_agents(self.path("a"), agents, ONE)
             self.assertEqual(os.listdir(self.folder.name), [])
         with self.assertRaisesRegex(cudrenal.BadAgents, "agent 1: has no value for on"):
             cudrenal.write_agents(self.path("a"), [{"x": 0, "y": 0, "n": 0}], ONE)
@@ -121,6 +126,23 @@ class Files(unittest.TestCase):
         for fish in cudrenal.read_agents(FISH, SCHOOL):
             parts[sum(fish["x"] >= float(cut) for cut in words[3:5])] += 1
         self.assertEqual(parts, [100, 100, 100])
+
+
+@unittest.skipUnless(importlib.util.find_spec("pandas"), "pandas is not installed")
+class Frames(unittest.TestCase):
+    def test_there_and_back(self):
+        import pandas
+        frame = pandas.DataFrame({"class": ["A", "B"], "x": [1, 2], "y": [0.5, 0.1 + 0.2],
+                                  "a": [3, None], "b": [None, True]})
+        made = cudrenal.run(TWO, frame, 2, every=2)
+        tables = made.tables(ticks={2})
+        self.assertEqual(tables["A"].to_dict("records"), [{"tick": 2, "id": 0, "x": 1.0, "y": 0.5,
+                                                           "a": 3}])
+        self.assertEqual(tables["B"].dtypes["b"], bool)
+        self.assertEqual(tables["B"]["y"].tolist(), [0.3])
+        tables["A"]["a"] += 1
+        again = cudrenal.run(TWO.split("class B")[0], tables["A"].drop(columns="tick"), 0)
+        self.assertEqual(again.columns()["A"]["a"], [4])
 
 
 class Runs(unittest.TestCase):
@@ -180,8 +202,8 @@ class Failures(unittest.TestCase):
         with self.assertRaises(cudrenal.Fault) as met:
             cudrenal.run(DIVIDES, [{"id": 3, "x": 0, "y": 0, "v": 2}], 5)
         fault = met.exception
-        self.assertEqual((fault.status, fault.tick, fault.phase, fault.agent, fault.outer, fault.site,
-                          fault.kind), (7, 0, "update", 3, None, 0, "DivZero"))
+        self.assertEqual((fault.status, fault.tick, fault.phase, fault.agent, fault.outer,
+                          fault.site, fault.kind), (7, 0, "update", 3, None, 0, "DivZero"))
         self.assertEqual([row.tick for row in fault.made.rows()], [0])
         with self.assertRaises(cudrenal.Fault) as met:
             cudrenal.run(NEAR, [{"x": 1, "y": 0}, {"x": 2, "y": 0}], 1)
@@ -208,7 +230,8 @@ class Failures(unittest.TestCase):
                 with self.assertRaises(cudrenal.Refusal) as met:
                     call()
                 told = met.exception
-                self.assertEqual((told.status, told.kind, told.line, told.column, told.record), wanted)
+                found = told.status, told.kind, told.line, told.column, told.record
+                self.assertEqual(found, wanted)
             self.assertEqual(sum(1 for _ in saved.rows()), 2)
 
     def test_other_failures_have_status_and_line(self):

@@ -52,7 +52,7 @@ REFUSED = [
 ]
 
 
-# Many rows, of which all but the first are read in pieces: ticks, classes, ids and a wrong row behind.
+# Many rows, of which all but the first are read in pieces; and rows that are wrong among them.
 MANY = [f"{tick},A,{name},{name}.500000,-{tick}.250000,{name % 3}\n" if name % 4 else
         f"{tick},B,{name},{'true' if tick > 1 else 'false'},0.000000,{tick}.000000\n"
         for tick in range(4) for name in range(4000)]
@@ -87,7 +87,7 @@ def drawn(folder, words, form):
 
 
 def check_many(same, folder):
-    """Rows that are read in pieces come to what they come to one by one; the first wrong one is told."""
+    """Rows in pieces come to what they come to one by one; the first wrong one is told."""
     write(folder, "rows", "".join(MANY))
     for words in ("--series A.x", "--series b", "--counts n", "--counts b", "--tick 2 --colour n",
                   "--tick 3"):
