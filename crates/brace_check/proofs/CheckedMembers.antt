@@ -23,7 +23,6 @@ use Rattle.brace_check.proofs.Rising.{Rises, range_rises}
 use Rattle.brace_check.proofs.ConstantNumbers.{BlockDeclares, none_declared, block_declares}
 
 module _ {A : Type 0} where
-
   pub nil_back : (xs ys : List A) → xs ++ ys ≡ [] → ys ≡ []
   nil_back [] ys h = h
   nil_back (x ∷ xs) ys h = absurd (cc)

@@ -65,7 +65,6 @@ pub record Tied (n : names.Scope) (c : Scope) (m : Names) : Type 0 where
   pub known : AllByRecursion (λ k. k.0 < length c.constants) m.known
 
 module _ {A : Type 0} where
-
   pub slice_get-front : (xs ys : List A) (i : ℕ) → i < length xs → slice_get (xs ++ ys) i ≡ slice_get xs i
   slice_get-front [] ys i under = absurd (omega (arith, under))
   slice_get-front (x ∷ xs) ys zero under = refl

@@ -64,7 +64,6 @@ abbrev pub Knows : Scope → Names → List ℕ → Type 0
 Knows scope names = AllByRecursion (λ n. constant_type names.known n ≡ slice_get scope.constants n)
 
 module _ {A : Type 0} (P : A → Type 0) where
-
   pub all_back : (xs ys : List A) → AllByRecursion P (xs ++ ys) → AllByRecursion P ys
   all_back [] ys h = h
   all_back (x ∷ xs) ys h = all_back xs ys h.1

@@ -21,4 +21,3 @@ pub use heard::{Heard, effects_of};
 pub use ledger::with_earlier;
 pub use step::plain_step;
 pub use update::{Left, left_by};
-

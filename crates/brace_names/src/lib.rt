@@ -18,4 +18,3 @@ mod word;
 pub use entry::resolve;
 pub use fault::{NameFault, Which};
 pub use resolved::{Binding, Resolved, Target};
-

@@ -10,4 +10,3 @@ mod literal;
 mod stmt;
 
 pub use entry::show;
-

@@ -20,4 +20,3 @@ mod words;
 
 pub use command::{run, run_alone};
 pub use words::built;
-
