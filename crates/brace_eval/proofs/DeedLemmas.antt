@@ -16,6 +16,7 @@ use Rattle.brace_model.specs.FaultOrder.{least, earlier, with_earlier}
 use Rattle.brace_model.specs.Value.{Scope, Worth}
 use Rattle.brace_model.specs.declared.program.Stmt.{Stmt}
 use Rattle.brace_model.specs.Query.{Saying, Deed, silent, deed_of, followed_by, block, chosen, statement}
+use Rattle.brace_model.proofs.Deeds.{after, goes_to, stops_at}
 use Rattle.brace_eval.specs.declared.heard.Heard.{Heard}
 use Rattle.brace_eval.specs.declared.scene.Scene.{Scene}
 use Rattle.brace_eval.specs.declared.ledger.Ledger.{Ledger}
@@ -36,16 +37,6 @@ followed-silent d false e =
     let second : plain ≡ d = λ i. record { said = said i; faults = faults i; stopped = sym e i; scope = d.scope } in
     first ∙ second
 
--- what was done before stands before what is done then
-abbrev after : Deed → Deed → Deed
-after d next = record next { said = d.said ++ next.said; faults = d.faults ++ next.faults }
-
-followed-going : (d : Deed) (f : Scope → Deed) → d.stopped ≡ false → followed_by d f ≡ after d (f d.scope)
-followed-going d f e = rw e refl
-
-followed-stopped : (d : Deed) (f : Scope → Deed) → d.stopped ≡ true → followed_by d f ≡ d
-followed-stopped d f e = rw e refl
-
 after-after : (c d e : Deed) → after (after c d) e ≡ after c (after d e)
 after-after c d e =
     let said = append_assoc c.said d.said e.said in
@@ -55,23 +46,23 @@ after-after c d e =
 followed-assoc : (d : Deed) (f g : Scope → Deed) (b : Bool) → d.stopped ≡ b → (c : Bool) → (f d.scope).stopped ≡ c
     → followed_by (followed_by d f) g ≡ followed_by d (λ s. followed_by (f s) g)
 followed-assoc d f g true e c h =
-    ap (λ (x : Deed). followed_by x g) (followed-stopped d f e) ∙ followed-stopped d g e
-    ∙ sym (followed-stopped d (λ s. followed_by (f s) g) e)
+    ap (λ (x : Deed). followed_by x g) (stops_at d f e) ∙ stops_at d g e
+    ∙ sym (stops_at d (λ s. followed_by (f s) g) e)
 followed-assoc d f g false e true h =
-    ap (λ (x : Deed). followed_by x g) (followed-going d f e) ∙ followed-stopped (after d (f d.scope)) g h
-    ∙ ap (after d) (sym (followed-stopped (f d.scope) g h))
-    ∙ sym (followed-going d (λ s. followed_by (f s) g) e)
+    ap (λ (x : Deed). followed_by x g) (goes_to d f e) ∙ stops_at (after d (f d.scope)) g h
+    ∙ ap (after d) (sym (stops_at (f d.scope) g h))
+    ∙ sym (goes_to d (λ s. followed_by (f s) g) e)
 followed-assoc d f g false e false h =
-    ap (λ (x : Deed). followed_by x g) (followed-going d f e) ∙ followed-going (after d (f d.scope)) g h
+    ap (λ (x : Deed). followed_by x g) (goes_to d f e) ∙ goes_to (after d (f d.scope)) g h
     ∙ after-after d (f d.scope) (g (f d.scope).scope)
-    ∙ ap (after d) (sym (followed-going (f d.scope) g h))
-    ∙ sym (followed-going d (λ s. followed_by (f s) g) e)
+    ∙ ap (after d) (sym (goes_to (f d.scope) g h))
+    ∙ sym (goes_to d (λ s. followed_by (f s) g) e)
 
 -- two ways to go on that agree in the scope that is left
 followed-same : (d : Deed) (f g : Scope → Deed) (b : Bool) → d.stopped ≡ b → f d.scope ≡ g d.scope
     → followed_by d f ≡ followed_by d g
-followed-same d f g true e same = followed-stopped d f e ∙ sym (followed-stopped d g e)
-followed-same d f g false e same = followed-going d f e ∙ ap (after d) same ∙ sym (followed-going d g e)
+followed-same d f g true e same = stops_at d f e ∙ sym (stops_at d g e)
+followed-same d f g false e same = goes_to d f e ∙ ap (after d) same ∙ sym (goes_to d g e)
 
 -- a block and one statement more
 pub block-snoc : (fs : List (Scope → Deed)) (f : Scope → Deed) (scope : Scope)
@@ -83,9 +74,9 @@ block-snoc (h ∷ fs) f scope =
 
 cut_short : (d : Deed) (f g : Scope → Deed) (b : Bool) → d.stopped ≡ b → (followed_by d g).stopped ≡ true
     → ((g d.scope).stopped ≡ true → f d.scope ≡ g d.scope) → followed_by d f ≡ followed_by d g
-cut_short d f g true e h same = followed-stopped d f e ∙ sym (followed-stopped d g e)
+cut_short d f g true e h same = stops_at d f e ∙ sym (stops_at d g e)
 cut_short d f g false e h same =
-    followed-same d f g false e (same (sym (ap (λ (x : Deed). x.stopped) (followed-going d g e)) ∙ h))
+    followed-same d f g false e (same (sym (ap (λ (x : Deed). x.stopped) (goes_to d g e)) ∙ h))
 
 -- a block that is cut short does nothing further
 pub block-stopped : (fs gs : List (Scope → Deed)) (scope : Scope) → (block fs scope).stopped ≡ true
@@ -226,7 +217,7 @@ pub block-step : (scene : Scene) (fs gs : List (Scope → Deed)) (f : Scope → 
 block-step scene fs gs f start here a b c more going at first second =
     let d = block fs start in
     let whole : block gs start ≡ after d (f here) =
-    ap (λ (hs : List (Scope → Deed)). block hs start) more ∙ block-snoc fs f start ∙ followed-going d f going
+    ap (λ (hs : List (Scope → Deed)). block hs start) more ∙ block-snoc fs f start ∙ goes_to d f going
     ∙ ap (λ (s : Scope). after d (f s)) at in
     record {
       noted = subst (λ (e : Deed). NotesDeed scene e a c) (sym whole)

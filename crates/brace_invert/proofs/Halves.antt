@@ -10,8 +10,8 @@ use Rattle.brace_model.specs.Sites.{constant_numbers, assignments}
 use Rattle.brace_model.proofs.LawEquations.{assignments-If, assignments-Foreach, assignments-Assign}
 use Rattle.brace_invert.specs.Split.{forward_of, inverse_of, places}
 use Rattle.brace_invert.proofs.PartEquations.{forward_of-Const, forward_of-If, forward_of-Foreach, forward_of-Assign, inverse_of-Const, inverse_of-If, inverse_of-Foreach, inverse_of-Assign}
-use Rattle.brace_invert.proofs.Blocks as b
-use Rattle.brace_invert.proofs.Blocks.{Plain, plain}
+use Rattle.brace_model.proofs.Blocks as b
+use Rattle.brace_model.proofs.Blocks.{Plain, plain}
 use Rattle.brace_invert.proofs.Pruned as p
 use Rattle.brace_invert.proofs.Pruned.{Pruned}
 use Rattle.brace_invert.proofs.Numbers.{count-cons, count-append, numbers_kept}

@@ -30,12 +30,13 @@ use Rattle.brace_model.proofs.FaultLemmas.{before_in_turn, least_is, least_none}
 use Rattle.brace_invert.specs.Split.{with_query, with_queries, forward_query, inverse_query, forward_program, inverse_program}
 use Rattle.brace_invert.specs.Inversion.{said_by_both, found_by_both, ComesAfter, IsForeseen}
 use Rattle.brace_invert.proofs.Sublists.{rising_from}
-use Rattle.brace_invert.proofs.Blocks.{plain}
+use Rattle.brace_model.proofs.Blocks.{plain}
+use Rattle.brace_model.proofs.Deeds.{run}
 use Rattle.brace_invert.proofs.Halves.{halves}
 use Rattle.brace_invert.proofs.Numbers.{constants_kept}
 use Rattle.brace_invert.proofs.Typed.{is_there}
 use Rattle.brace_invert.proofs.LawfulParts.{IsPart, forward_is_part, inverse_is_part}
-use Rattle.brace_invert.proofs.Runs.{run, Joined, Together, together_nothing, together_append, joined_run}
+use Rattle.brace_invert.proofs.Runs.{Joined, Together, together_nothing, together_append, joined_run}
 use Rattle.brace_invert.proofs.Traces.{Foretold, foretold_append, foretold_run}
 
 -- agents of a program with other queries see the same

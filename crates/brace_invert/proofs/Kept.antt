@@ -1,61 +1,63 @@
 -- A fault of the inverse program at an assignment to an agent of the area is one over the owner's list.
-use Rattle.std.proofs.Common.{◌≡◌, ◌∙◌, refl, sym, ap, subst, eq-eqb, ℕ, zero, suc, List, [], ◌∷◌, ◌++◌, map, filter, flat_map, Bool, true, false, cond, Some, Ok, Err, arith, ⊎_elim}
+use Rattle.std.proofs.Common.{◌≡◌, ◌∙◌, refl, sym, ap, subst, ℕ, zero, suc, List, [], ◌∷◌, ◌++◌, map, filter, flat_map, Bool, true, false, Option, Some, None, Err, arith, ⊎_elim}
 use Rattle.std.specs.Prelude.{◌&&◌, ◌||◌, ◌==◌, if◌then◌else◌, option_map}
 use Rattle.std.specs.List.{Contains}
 use Rattle.std.proofs.lemmas.List.{append-nil}
 use Rattle.std.proofs.lemmas.List.Elements.{Contains-append_left, Contains-append_right, Contains-append_cases}
+use Rattle.brace_num.specs.declared.kinds.Area.{Area}
 use Rattle.brace_model.specs.declared.program.Who.{Who}
 use Rattle.brace_model.specs.declared.program.Who.TheVariants as who
-use Rattle.brace_model.specs.declared.program.Value.{Value}
-use Rattle.brace_model.specs.declared.program.Value.TheVariants.{Int, Fixed, Flag}
+use Rattle.brace_model.specs.declared.program.Ty.{Ty}
 use Rattle.brace_model.specs.declared.program.Expr.{Expr}
 use Rattle.brace_model.specs.declared.program.Stmt.{Stmt}
-use Rattle.brace_model.specs.declared.program.Stmt.TheVariants.{Const, If, Foreach, Assign, rolls-Const, rolls-If, rolls-Foreach, rolls-Assign}
-use Rattle.brace_model.specs.declared.program.Stmt.TheOpen as layer
-use Rattle.brace_model.specs.declared.program.Stmt.TheFolds.{fold-roll-Stmt}
+use Rattle.brace_model.specs.declared.program.Stmt.TheVariants.{Const, If, Foreach, Assign}
+use Rattle.brace_model.specs.declared.program.Class.{Class}
 use Rattle.brace_model.specs.declared.program.Program.{Program}
 use Rattle.brace_model.specs.declared.fault.Fault.{Fault}
 use Rattle.brace_model.specs.declared.fault.Stop.{Stop}
 use Rattle.brace_model.specs.declared.world.Agent.{Agent}
-use Rattle.brace_model.specs.World.{sees}
-use Rattle.brace_model.specs.Value.{Scope, Worth, value}
-use Rattle.brace_model.specs.Query.{Deed, query_fault, deed_of, followed_by, closed, inside, chosen, statement}
+use Rattle.brace_model.specs.World.{RisesById, ids, class_of, sees}
+use Rattle.brace_model.specs.Value.{Scope, value}
+use Rattle.brace_model.specs.Query.{Saying, query_fault, opening_scope, query_of, query_faults}
 use Rattle.brace_model.specs.Sites.{sites_of, sites_in}
-use Rattle.brace_model.proofs.LawEquations.{sites_in-Assign}
-use Rattle.brace_model.proofs.ValueEquations.{statement-If, statement-Foreach, statement-Assign}
-use Rattle.brace_invert.specs.Assigned.{is_one_of, targets_at_step, targets_at, id_in}
+use Rattle.brace_model.specs.Typing.{Names, type_of, in_turn, scope_after}
+use Rattle.brace_model.specs.Lawful.{query_scope, LawfulProgram}
+use Rattle.brace_model.proofs.Blocks as b
+use Rattle.brace_model.proofs.Blocks.{Plain, plain}
+use Rattle.brace_model.proofs.Folds.{fold-Const, fold-If, fold-Foreach, fold-Assign}
+use Rattle.brace_model.proofs.LawEquations.{sites_in-Const, sites_in-Assign}
+use Rattle.brace_model.proofs.Simulation.{Tie, IsTie, Sim, Stops, over_all, sim_none, sim_const, sim_if, sim_loop, sim_say}
+use Rattle.brace_invert.specs.Split.{with_query, inverse_query, inverse_program}
+use Rattle.brace_invert.specs.Range.{says_in_inner_loops, range_of}
+use Rattle.brace_invert.specs.Held.{is_in, HoldsNear}
+use Rattle.brace_invert.specs.Assigned.{is_one_of, targets_at_step, targets_at, id_in, IsAtAssignmentTo}
 use Rattle.brace_invert.proofs.PartEquations.{joined}
-use Rattle.brace_invert.proofs.Blocks as b
-use Rattle.brace_invert.proofs.Blocks.{Plain, plain}
-use Rattle.brace_invert.proofs.Numbers.{sites-If, sites-Foreach}
-use Rattle.brace_model.specs.Typing.{Names, scope_after}
-use Rattle.brace_invert.proofs.Typed.{both_hold, After, after_split, formed_if, formed_loop}
-use Rattle.brace_invert.proofs.Sites.{FaultsAt, value_sited}
-use Rattle.brace_invert.proofs.Runs.{run, goes_to, stops_at, by_stop, grown}
-use Rattle.brace_invert.proofs.Traces.{none_within, sited_const, sited_if, sited_loop, sited_say, sited_run, only_one}
-use Rattle.brace_invert.proofs.Owners.{Fewer, fewer_const, fewer_say, fewer_if, fewer_loop, fewer_run}
+use Rattle.brace_invert.proofs.Numbers.{sites-If, sites-Foreach, sites_kept}
+use Rattle.brace_invert.proofs.Typed.{After, after_split, formed_const, formed_if, formed_loop, formed_assign, renamed, part_formed, is_there}
+use Rattle.brace_invert.proofs.Sites.{none_within, only_one, value_sited}
+use Rattle.brace_invert.proofs.Sublists.{Rising, rising_from, rising-left, rising-right, rising-between, sub-Rising}
+use Rattle.brace_invert.proofs.LawfulParts.{inverse_is_part}
+use Rattle.brace_invert.proofs.Traces.{sited_run}
+use Rattle.brace_invert.proofs.Inverting.{class_same, part_deed, part_of}
 use Rattle.brace_invert.proofs.Outward as o
 use Rattle.brace_invert.proofs.Outward.{Depth, Outward}
-use Rattle.brace_invert.proofs.Heard as h
-use Rattle.brace_invert.proofs.Heard.{Stands, Reaches, Alike, holds_one, holds_all, holds_so, holds_alike, stands_alike, stands_first, stands_second, alike_const, alike_if, alike_loop, alike_say}
-use Rattle.brace_invert.proofs.HeardSame.{first_all, second_all, heard_by}
-use Rattle.brace_invert.proofs.Sublists.{Rising, rising-left, rising-right, rising-between}
+use Rattle.brace_invert.proofs.Heard.{Reaches, Hits, Stands, At, at_bound, Enters, enters_first, enters_second, loop_over, loop_agent, near_hit, far_hit, farthest_hit, one_agent, reaches_it, query_outward, opening_at}
 
 -- to whom statements of each kind say values at a site
 targets-Const : (site n : ℕ) (e : Expr) → targets_at site (Const n e) ≡ []
-targets-Const site n e = ap (targets_at site) (sym (rolls-Const n e)) ∙ fold-roll-Stmt (List Who) (targets_at_step site) (layer.Const n e)
+targets-Const site n e = fold-Const (targets_at_step site) n e
 
 targets-If : (site : ℕ) (c : Expr) (x y : List Stmt) → targets_at site (If c x y) ≡ flat_map (targets_at site) x ++ flat_map (targets_at site) y
 targets-If site c x y =
-    ap (targets_at site) (sym (rolls-If c x y)) ∙ fold-roll-Stmt (List Who) (targets_at_step site) (layer.If c x y)
+    fold-If (targets_at_step site) c x y
     ∙ ap (λ p. p ++ flat_map (λ z. z) (map (targets_at site) y)) (joined (targets_at site) x) ∙ ap (λ p. flat_map (targets_at site) x ++ p) (joined (targets_at site) y)
 
 targets-Foreach : (site class : ℕ) (body : List Stmt) (at : ℕ) → targets_at site (Foreach class body at) ≡ flat_map (targets_at site) body
 targets-Foreach site class body at =
-    ap (targets_at site) (sym (rolls-Foreach class body at)) ∙ fold-roll-Stmt (List Who) (targets_at_step site) (layer.Foreach class body at) ∙ joined (targets_at site) body
+    fold-Foreach (targets_at_step site) class body at ∙ joined (targets_at site) body
 
 targets-Assign : (site : ℕ) (x : Who) (effect : ℕ) (e : Expr) (at : ℕ) → targets_at site (Assign x effect e at) ≡ (if is_one_of (sites_of e) site then x ∷ [] else [])
-targets-Assign site x effect e at = ap (targets_at site) (sym (rolls-Assign x effect e at)) ∙ fold-roll-Stmt (List Who) (targets_at_step site) (layer.Assign x effect e at)
+targets-Assign site x effect e at = fold-Assign (targets_at_step site) x effect e at
 
 first_or : (s site : ℕ) (sites : List ℕ) (here : Bool) → (s == site) ≡ here → (is_one_of sites site ≡ true → Contains sites site) → (here || is_one_of sites site) ≡ true → Contains (s ∷ sites) site
 first_or s site sites true is rest e = (0, omega arith, grind (arith, is))
@@ -93,259 +95,180 @@ named_sites site _ (b.say y effect e at s h) x w =
     (λ (v : Contains (flat_map (targets_at site) s) x). Contains-append_right (sites_in (Assign y effect e at)) (flat_map sites_in s) site (named_sites site s h x v))
     (Contains-append_cases (targets_at site (Assign y effect e at)) (flat_map (targets_at site) s) x w)
 
--- a fault is kept: all agents of the scope are held, and it is met over the list
-pub record Kept (held : Agent → Bool) (scope : Scope) (d : Deed) (g : Fault) : Type 0 where
-  pub all : holds_all held scope ≡ true
-  pub there : Contains d.faults g
+-- sites that rise, at one of which, if it is among them, a name is said a value
+pub record Fits (site : ℕ) (x : Who) (sites : List ℕ) (targets : List Who) : Type 0 where
+  pub rises : Rising sites
+  pub named : Contains sites site → Contains targets x
 
--- a site does not stand twice
 apart : (P : Type 0) (xs ys : List ℕ) (site : ℕ) → Rising (xs ++ ys) → Contains xs site → Contains ys site → P
 apart P xs ys site r left right = let less = rising-between xs ys site site r left right in absurd (omega (arith, less))
 
--- of two statements in turn the fault's own names the agent
-own_left : (X : Stmt) (s : List Stmt) (g : Fault) (x : Who) → Rising (sites_in X ++ flat_map sites_in s) → Contains (sites_in X) g.site → Contains (targets_at g.site X ++ flat_map (targets_at g.site) s) x → Contains (targets_at g.site X) x
-own_left X s g x r here w =
-    ⊎_elim (λ (v : Contains (targets_at g.site X) x). v)
-    (λ (v : Contains (flat_map (targets_at g.site) s) x). apart _ (sites_in X) (flat_map sites_in s) g.site r here (named_sites g.site s (plain s) x v))
-    (Contains-append_cases (targets_at g.site X) (flat_map (targets_at g.site) s) x w)
+fits_left : (site : ℕ) (x : Who) (xs ys : List ℕ) (ts us : List Who) → (Contains us x → Contains ys site) → Fits site x (xs ++ ys) (ts ++ us) → Fits site x xs ts
+fits_left site x xs ys ts us there h = record {
+  rises = rising-left xs ys h.rises;
+  named = λ here. ⊎_elim (λ (v : Contains ts x). v) (λ (v : Contains us x). apart _ xs ys site h.rises here (there v)) (Contains-append_cases ts us x (h.named (Contains-append_left xs ys site here)));
+}
 
-one_site : (X : Stmt) (site : ℕ) (x : Who) → Contains (targets_at site X) x → Contains (sites_in X) site
-one_site X site x w =
-    subst (λ t. Contains t site) (append-nil (sites_in X)) (named_sites site (X ∷ []) (plain (X ∷ [])) x (subst (λ t. Contains t x) (sym (append-nil (targets_at site X))) w))
+fits_right : (site : ℕ) (x : Who) (xs ys : List ℕ) (ts us : List Who) → (Contains ts x → Contains xs site) → Fits site x (xs ++ ys) (ts ++ us) → Fits site x ys us
+fits_right site x xs ys ts us there h = record {
+  rises = rising-right xs ys h.rises;
+  named = λ here. ⊎_elim (λ (v : Contains ts x). apart _ xs ys site h.rises (there v) here) (λ (v : Contains us x). v) (Contains-append_cases ts us x (h.named (Contains-append_right xs ys site here)));
+}
 
-own_right : (X : Stmt) (s : List Stmt) (g : Fault) (x : Who) → Rising (sites_in X ++ flat_map sites_in s) → Contains (flat_map sites_in s) g.site → Contains (targets_at g.site X ++ flat_map (targets_at g.site) s) x → Contains (flat_map (targets_at g.site) s) x
-own_right X s g x r there w =
-    ⊎_elim (λ (v : Contains (targets_at g.site X) x). apart _ (sites_in X) (flat_map sites_in s) g.site r (one_site X g.site x v) there)
-    (λ (v : Contains (flat_map (targets_at g.site) s) x). v)
-    (Contains-append_cases (targets_at g.site X) (flat_map (targets_at g.site) s) x w)
+one_site : (y : Stmt) (site : ℕ) (x : Who) → Contains (targets_at site y) x → Contains (sites_in y) site
+one_site y site x w =
+    subst (λ t. Contains t site) (append-nil (sites_in y)) (named_sites site (y ∷ []) (plain (y ∷ [])) x (subst (λ t. Contains t x) (sym (append-nil (targets_at site y))) w))
 
--- two deeds in turn
-kept_then : (held : Agent → Bool) (scope : Scope) (d e : Deed) (nd ne : Scope → Deed) (g : Fault) → Fewer d e → Alike e.scope scope → (Contains e.faults g → Kept held scope d g) → (Contains (ne e.scope).faults g → Kept held e.scope (nd e.scope) g)
-    → Contains (followed_by e ne).faults g → Kept held scope (followed_by d nd) g
-kept_then held scope d e nd ne g fewer alike head tail w = by_stop (Kept held scope (followed_by d nd) g) e
-    (λ stopped. let k = head (subst (λ x. Contains x.faults g) (stops_at e ne stopped) w) in record { all = k.all; there = grown d nd g k.there })
-    (λ on. ⊎_elim
-    (λ (v : Contains e.faults g). let k = head v in record { all = k.all; there = grown d nd g k.there })
-    (λ (v : Contains (ne e.scope).faults g). let k = tail v in record {
-      all = sym (holds_alike held e.scope scope alike) ∙ k.all;
-      there = subst (λ x. Contains x.faults g) (sym (goes_to d nd (fewer.stopped ∙ on)))
-          (Contains-append_right d.faults (nd d.scope).faults g (subst (λ s. Contains (nd s).faults g) (sym fewer.scope) k.there));
-    })
-    (Contains-append_cases e.faults (ne e.scope).faults g (subst (λ x. Contains x.faults g) (goes_to e ne on) w)))
+-- a fault that is met over the world is met over the owner's list, and then all agents of the scope are held
+abbrev Kept : Fault → Bool → Tie
+Kept g all p f q e = Contains e g → (all ≡ true) × Contains f g
 
--- iterations
-one_more : (f : Agent → Deed) (t : Agent → Bool) (x : Agent) (xs : List Agent) (g : Fault) (tx : Bool) → t x ≡ tx → Contains (flat_map (λ d. d.faults) (map f (filter t xs))) g → Contains (flat_map (λ d. d.faults) (map f (filter t (x ∷ xs)))) g
-one_more f t x xs g true e w =
-    subst (λ ys. Contains (flat_map (λ d. d.faults) (map f ys)) g) (sym (ap (λ c. cond c (x ∷ filter t xs) (filter t xs)) e)) (Contains-append_right (f x).faults (flat_map (λ d. d.faults) (map f (filter t xs))) g w)
-one_more f t x xs g false e w = subst (λ ys. Contains (flat_map (λ d. d.faults) (map f ys)) g) (sym (ap (λ c. cond c (x ∷ filter t xs) (filter t xs)) e)) w
-
--- the list with one agent more
-more_held : (f : Agent → Deed) (t held : Agent → Bool) (x : Agent) (xs : List Agent) (g : Fault) (hx : Bool) → held x ≡ hx → Contains (flat_map (λ d. d.faults) (map f (filter t (filter held xs)))) g
-    → Contains (flat_map (λ d. d.faults) (map f (filter t (filter held (x ∷ xs))))) g
-more_held f t held x xs g false e w = subst (λ ys. Contains (flat_map (λ d. d.faults) (map f (filter t ys))) g) (sym (ap (λ c. cond c (x ∷ filter held xs) (filter held xs)) e)) w
-more_held f t held x xs g true e w =
-    subst (λ ys. Contains (flat_map (λ d. d.faults) (map f (filter t ys))) g) (sym (ap (λ c. cond c (x ∷ filter held xs) (filter held xs)) e)) (one_more f t x (filter held xs) g (t x) refl w)
-
-kept_step : (P : Type 0) (f e : Agent → Deed) (t held : Agent → Bool) (x : Agent) (xs : List Agent) (g : Fault) (tx : Bool) → t x ≡ tx → (tx ≡ true → Contains (e x).faults g → P × (held x ≡ true) × Contains (f x).faults g)
-    → (Contains (flat_map (λ d. d.faults) (map e (filter t xs))) g → P × Contains (flat_map (λ d. d.faults) (map f (filter t (filter held xs)))) g)
-    → Contains (flat_map (λ d. d.faults) (map e (filter t (x ∷ xs)))) g → P × Contains (flat_map (λ d. d.faults) (map f (filter t (filter held (x ∷ xs))))) g
-kept_step P f e t held x xs g true et here rest w =
-    ⊎_elim (λ (v : Contains (e x).faults g). let (p, hx, there) = here refl v in (
-      p,
-      subst (λ ys. Contains (flat_map (λ d. d.faults) (map f (filter t ys))) g) (sym (ap (λ c. cond c (x ∷ filter held xs) (filter held xs)) hx))
-          (subst (λ ys. Contains (flat_map (λ d. d.faults) (map f ys)) g) (sym (ap (λ c. cond c (x ∷ filter t (filter held xs)) (filter t (filter held xs))) et))
-          (Contains-append_left (f x).faults (flat_map (λ d. d.faults) (map f (filter t (filter held xs)))) g there)),
-    ))
-    (λ (v : Contains (flat_map (λ d. d.faults) (map e (filter t xs))) g). let (p, there) = rest v in (p, more_held f t held x xs g (held x) refl there))
-    (Contains-append_cases (e x).faults (flat_map (λ d. d.faults) (map e (filter t xs))) g (subst (λ ys. Contains (flat_map (λ d. d.faults) (map e ys)) g) (ap (λ c. cond c (x ∷ filter t xs) (filter t xs)) et) w))
-kept_step P f e t held x xs g false et here rest w =
-    let (p, there) = rest (subst (λ ys. Contains (flat_map (λ d. d.faults) (map e ys)) g) (ap (λ c. cond c (x ∷ filter t xs) (filter t xs)) et) w) in
-    (p, more_held f t held x xs g (held x) refl there)
-
-kept_over : (P : Type 0) (f e : Agent → Deed) (t held : Agent → Bool) (xs : List Agent) (g : Fault) → ((x : Agent) → Contains xs x → t x ≡ true → Contains (e x).faults g → P × (held x ≡ true) × Contains (f x).faults g)
-    → Contains (flat_map (λ d. d.faults) (map e (filter t xs))) g → P × Contains (flat_map (λ d. d.faults) (map f (filter t (filter held xs)))) g
-kept_over P f e t held [] g here w = none_within _ g w
-kept_over P f e t held (x ∷ xs) g here w =
-    kept_step P f e t held x xs g (t x) refl (here x (0, omega arith, refl)) (kept_over P f e t held xs g (λ y v. here y (Contains-append_right (x ∷ []) xs y v))) w
-
--- a condition's fault stands at its own site, so it is at no assignment
-kept_if : (held : Agent → Bool) (scope : Scope) (v : Worth) (fa fd ea ed : Deed) (g : Fault) (xs : List ℕ) → FaultsAt v xs → (Contains xs g.site → Kept held scope (deed_of scope v (λ x. closed scope (chosen x fa fd))) g)
-    → (Contains ea.faults g → Kept held scope fa g) → (Contains ed.faults g → Kept held scope fd g)
-    → Contains (deed_of scope v (λ x. closed scope (chosen x ea ed))).faults g → Kept held scope (deed_of scope v (λ x. closed scope (chosen x fa fd))) g
-kept_if held scope (Err stop) fa fd ea ed g xs at own ha hd w = own (only_one (λ f. Contains xs f.site) (query_fault scope stop) g (at stop refl) w)
-kept_if held scope (Ok (Flag true)) fa fd ea ed g xs at own ha hd w = let k = ha w in record { all = k.all; there = k.there }
-kept_if held scope (Ok (Flag false)) fa fd ea ed g xs at own ha hd w = let k = hd w in record { all = k.all; there = k.there }
-kept_if held scope (Ok (Int n)) fa fd ea ed g xs at own ha hd w = let k = hd w in record { all = k.all; there = k.there }
-kept_if held scope (Ok (Fixed n)) fa fd ea ed g xs at own ha hd w = let k = hd w in record { all = k.all; there = k.there }
-
--- an assignment that faults
-only_name : (x y : Who) (test : Bool) → Contains (if test then x ∷ [] else []) y → x ≡ y
-only_name x y true (zero, below, is) = is
-only_name x y true (suc k, below, is) = absurd (omega (arith, below))
-only_name x y false w = none_within _ y w
-
-said_fault : (scope : Scope) (v : Worth) (next : Value → Deed) (g : Fault) → ((x : Value) → (next x).faults ≡ []) → Contains (deed_of scope v next).faults g → (stop : Stop) × (query_fault scope stop ≡ g)
-said_fault scope (Ok x) next g silent w = none_within _ g (subst (λ fs. Contains fs g) (silent x) w)
-said_fault scope (Err stop) next g silent w = (stop, only_one (λ f. query_fault scope stop ≡ f) (query_fault scope stop) g refl w)
-
-kept_say : (m : Program) (w : List Agent) (held : Agent → Bool) (x : Who) (effect : ℕ) (e : Expr) (at : ℕ) (scope : Scope) (g : Fault) (y : Who) (id : ℕ)
-    → ((stop : Stop) → id_in (query_fault scope stop) x ≡ Some id → holds_all held scope ≡ true) → Contains (targets_at g.site (Assign x effect e at)) y → id_in g y ≡ Some id
-    → Contains (statement m w (Assign x effect e at) scope).faults g → Kept held scope (statement m (filter held w) (Assign x effect e at) scope) g
-kept_say m w held x effect e at scope g y id hits named is v =
-    let same = only_name x y (is_one_of (sites_of e) g.site) (subst (λ t. Contains t y) (targets-Assign g.site x effect e at) named) in
-    let (stop, fault) = said_fault scope (value e scope) _ g (λ z. refl) (subst (λ d. Contains d.faults g) (statement-Assign m w x effect e at scope) v) in
-    record {
-      all = hits stop (ap (λ f. id_in f x) fault ∙ ap (id_in g) same ∙ is);
-      there = subst (λ d. Contains d.faults g) (statement-Assign m w x effect e at scope ∙ sym (statement-Assign m (filter held w) x effect e at scope)) v;
-    }
-
--- an agent of this id hears what is said to it
-hears : (p : Agent) (id : ℕ) → p.id ≡ id → heard_by id 0 (record { target = p.id; field = 0; value = Flag false }) ≡ true
-hears p id e = ap (λ t. t && (0 == 0)) (eq-eqb p.id id e)
+kept_tie : (g : Fault) (all : Bool) → IsTie (Kept g all)
+kept_tie g all = record {
+  none = λ h. none_within _ g h;
+  join = λ p f q e pp ff qq ee h k w.
+      ⊎_elim (λ (v : Contains e g). ((h v).0, Contains-append_left f ff g (h v).1)) (λ (v : Contains ee g). ((k v).0, Contains-append_right f ff g (k v).1)) (Contains-append_cases e ee g w);
+}
 
 same_id : (p q : ℕ) → Some p ≡ Some q → p ≡ q
 same_id p q e = cc
 
--- the iterations of a loop
-loop_kept : (m : Program) (w : List Agent) (held : Agent → Bool) (class at : ℕ) (body : List Stmt) (scope : Scope) (g : Fault) → ((x : Agent) → holds_all held (inside scope x) ≡ (holds_all held scope && held x))
-    → ((x : Agent) → Contains w x → sees m scope.this x ≡ true → Contains (run m w body (inside scope x)).faults g → Kept held (inside scope x) (run m (filter held w) body (inside scope x)) g)
-    → Contains (statement m w (Foreach class body at) scope).faults g → Kept held scope (statement m (filter held w) (Foreach class body at) scope) g
-loop_kept m w held class at body scope g all each v =
-    let (p, there) = kept_over (holds_all held scope ≡ true) (λ x. run m (filter held w) body (inside scope x)) (λ x. run m w body (inside scope x)) (λ x. (x.class == class) && sees m scope.this x) held w g
-    (λ x wx passes u. let k = each x wx (both_hold (x.class == class) (sees m scope.this x) passes).1 u in
-    let (p, hx) = both_hold (holds_all held scope) (held x) (sym (all x) ∙ k.all) in (p, hx, k.there))
-    (subst (λ d. Contains d.faults g) (statement-Foreach m w class body at scope) v) in
-    record { all = p; there = subst (λ d. Contains d.faults g) (sym (statement-Foreach m (filter held w) class body at scope)) there }
+only_name : (x y : Who) (test : Bool) → Contains (if test then x ∷ [] else []) y → x ≡ y
+only_name x y true w = only_one (λ z. x ≡ z) x y refl w
+only_name x y false w = none_within _ y w
 
--- of two blocks the fault's own names the agent
-named_two : (site : ℕ) (x z : List Stmt) (y : Who) → Contains (flat_map (targets_at site) x ++ flat_map (targets_at site) z) y → Contains (flat_map sites_in x ++ flat_map sites_in z) site
-named_two site x z y w =
-    ⊎_elim (λ (v : Contains (flat_map (targets_at site) x) y). Contains-append_left (flat_map sites_in x) (flat_map sites_in z) site (named_sites site x (plain x) y v))
-    (λ (v : Contains (flat_map (targets_at site) z) y). Contains-append_right (flat_map sites_in x) (flat_map sites_in z) site (named_sites site z (plain z) y v))
-    (Contains-append_cases (flat_map (targets_at site) x) (flat_map (targets_at site) z) y w)
+-- whom a fault names
+named_agent : (scope : Scope) (stop : Stop) (x : Who) (id : ℕ) → id_in (query_fault scope stop) x ≡ Some id → (p : Agent) → loop_agent scope x ≡ Some p → p.id ≡ id
+named_agent scope stop who.This id is p e = absurd (cc)
+named_agent scope stop who.Outer id is p e = same_id p.id id (sym (ap (option_map (λ y. y.id)) e) ∙ is)
+named_agent scope stop who.Inner id is p e = same_id p.id id (sym (ap (option_map (λ y. y.id)) e) ∙ is)
 
-block_left : (x z : List Stmt) (g : Fault) (y : Who) → Rising (flat_map sites_in x ++ flat_map sites_in z) → Contains (flat_map sites_in x) g.site → Contains (flat_map (targets_at g.site) x ++ flat_map (targets_at g.site) z) y → Contains (flat_map (targets_at g.site) x) y
-block_left x z g y r here w =
-    ⊎_elim (λ (v : Contains (flat_map (targets_at g.site) x) y). v)
-    (λ (v : Contains (flat_map (targets_at g.site) z) y). apart _ (flat_map sites_in x) (flat_map sites_in z) g.site r here (named_sites g.site z (plain z) y v))
-    (Contains-append_cases (flat_map (targets_at g.site) x) (flat_map (targets_at g.site) z) y w)
+module _ (m : Program) (w : List Agent) (held : Agent → Bool) (deep : Bool) (a : Agent) (id : ℕ) (r : Reaches m w held deep a id) (g : Fault) (y : Who) (had : id_in g y ≡ Some id) where
+  abbrev Keeps : Depth → Bool → List Stmt → Type 0
+  Keeps k all s = Sim (Kept g all) (kept_tie g all) m m (filter held w) w (At m w held a k all) (at_bound m w held a k all) s s
 
-block_right : (x z : List Stmt) (g : Fault) (y : Who) → Rising (flat_map sites_in x ++ flat_map sites_in z) → Contains (flat_map sites_in z) g.site → Contains (flat_map (targets_at g.site) x ++ flat_map (targets_at g.site) z) y → Contains (flat_map (targets_at g.site) z) y
-block_right x z g y r there w =
-    ⊎_elim (λ (v : Contains (flat_map (targets_at g.site) x) y). apart _ (flat_map sites_in x) (flat_map sites_in z) g.site r (named_sites g.site x (plain x) y v) there)
-    (λ (v : Contains (flat_map (targets_at g.site) z) y). v)
-    (Contains-append_cases (flat_map (targets_at g.site) x) (flat_map (targets_at g.site) z) y w)
+  abbrev FitsBlock : List Stmt → Type 0
+  FitsBlock s = Fits g.site y (flat_map sites_in s) (flat_map (targets_at g.site) s)
 
--- who is hit by an assignment at each depth
-near_hit : (m : Program) (w : List Agent) (held : Agent → Bool) (deep : Bool) (a : Agent) (id : ℕ) → Reaches m w held deep a (heard_by id 0) → (scope : Scope) → Stands m w a o.middle scope
-    → (stop : Stop) → id_in (query_fault scope stop) who.Outer ≡ Some id → holds_all held scope ≡ true
-near_hit m w held deep a id r _ (h.with_one scope p this outer inner wp sp) stop e =
-    let same = same_id p.id id (sym (ap (option_map (λ x. x.id)) outer) ∙ e) in
-    let (ha, hp) = r.one p 0 (Flag false) wp sp (hears p id same) in
-    holds_so held scope (ap held this ∙ ha) (ap (holds_one held) outer ∙ hp) (ap (holds_one held) inner)
+  -- a fault at an expression's site
+  kept_at : (all : Bool) (scope : Scope) (e : Expr) (names : Names) (t : Ty) → type_of e names ≡ Some t → ((stop : Stop) → query_fault scope stop ≡ g → Contains (sites_of e) g.site → all ≡ true) → Stops (Kept g all) (kept_tie g all) scope (value e scope)
+  kept_at all scope e names t typed holds stop is v =
+      let same = only_one (λ f. query_fault scope stop ≡ f) (query_fault scope stop) g refl v in
+      (holds stop same (subst (λ f. Contains (sites_of e) f.site) same (value_sited e names t typed scope stop is)), v)
 
-far_hit : (m : Program) (w : List Agent) (held : Agent → Bool) (deep : Bool) (a : Agent) (id : ℕ) → Reaches m w held deep a (heard_by id 0) → (scope : Scope) → Stands m w a o.deepest scope → deep ≡ true
-    → (stop : Stop) → id_in (query_fault scope stop) who.Outer ≡ Some id → holds_all held scope ≡ true
-far_hit m w held deep a id r _ (h.with_two scope p q this outer inner wp sp wq sq) d stop e =
-    let same = same_id p.id id (sym (ap (option_map (λ x. x.id)) outer) ∙ e) in
-    let (ha, hp) = r.one p 0 (Flag false) wp sp (hears p id same) in
-    holds_so held scope (ap held this ∙ ha) (ap (holds_one held) outer ∙ hp) (ap (holds_one held) inner ∙ r.three d p q 0 (Flag false) wp sp wq sq (hears p id same))
+  first_fits : (x : Stmt) (s : List Stmt) → FitsBlock (x ∷ s) → Fits g.site y (sites_in x) (targets_at g.site x)
+  first_fits x s h = fits_left g.site y (sites_in x) (flat_map sites_in s) (targets_at g.site x) (flat_map (targets_at g.site) s) (named_sites g.site s (plain s) y) h
 
-farthest_hit : (m : Program) (w : List Agent) (held : Agent → Bool) (deep : Bool) (a : Agent) (id : ℕ) → Reaches m w held deep a (heard_by id 0) → (scope : Scope) → Stands m w a o.deepest scope → deep ≡ true
-    → (stop : Stop) → id_in (query_fault scope stop) who.Inner ≡ Some id → holds_all held scope ≡ true
-farthest_hit m w held deep a id r _ (h.with_two scope p q this outer inner wp sp wq sq) d stop e =
-    let same = same_id q.id id (sym (ap (option_map (λ x. x.id)) inner) ∙ e) in
-    let (ha, hq) = r.one q 0 (Flag false) wq sq (hears q id same) in
-    holds_so held scope (ap held this ∙ ha) (ap (holds_one held) outer ∙ r.three d q p 0 (Flag false) wq sq wp sp (hears q id same)) (ap (holds_one held) inner ∙ hq)
+  rest_fits : (x : Stmt) (s : List Stmt) → FitsBlock (x ∷ s) → FitsBlock s
+  rest_fits x s h = fits_right g.site y (sites_in x) (flat_map sites_in s) (targets_at g.site x) (flat_map (targets_at g.site) s) (one_site x g.site y) h
 
-say_kept : (m : Program) (w : List Agent) (held : Agent → Bool) (deep : Bool) (a : Agent) (id : ℕ) → Reaches m w held deep a (heard_by id 0) → (k : Depth) (x : Who) (effect : ℕ) (e : Expr) (here : ℕ) (s : List Stmt) (names mid last : Names)
-    → scope_after (Assign x effect e here) names ≡ Some mid → After s mid last → Rising (sites_in (Assign x effect e here) ++ flat_map sites_in s) → (scope : Scope) → Stands m w a k scope
-    → ((stop : Stop) → id_in (query_fault scope stop) x ≡ Some id → holds_all held scope ≡ true) → (g : Fault) (y : Who) → Contains (targets_at g.site (Assign x effect e here) ++ flat_map (targets_at g.site) s) y → id_in g y ≡ Some id
-    → ((head : Scope) → Stands m w a k head → Contains (flat_map (targets_at g.site) s) y → Contains (run m w s head).faults g → Kept held head (run m (filter held w) s head) g)
-    → Contains (run m w (Assign x effect e here ∷ s) scope).faults g → Kept held scope (run m (filter held w) (Assign x effect e here ∷ s) scope) g
-say_kept m w held deep a id r k x effect e here s names mid last first rest up scope at hits g y named is next v =
-    let head = statement m w (Assign x effect e here) scope in
-    kept_then held scope (statement m (filter held w) (Assign x effect e here) scope) head (run m (filter held w) s) (run m w s) g (fewer_say m w (filter held w) x effect e here scope) (alike_say m w x effect e here scope)
-    (λ u. kept_say m w held x effect e here scope g y id hits (own_left (Assign x effect e here) s g y up ((sited_say m w x effect e here names mid first scope).at g u).site named) is u)
-    (λ u. next head.scope (stands_alike m w a k head.scope scope (alike_say m w x effect e here scope) at) (own_right (Assign x effect e here) s g y up ((sited_run m w s (plain s) mid last rest head.scope).at g u).site named) u)
-    v
+  fits_as : (sites others : List ℕ) (targets names : List Who) → sites ≡ others → targets ≡ names → Fits g.site y sites targets → Fits g.site y others names
+  fits_as sites others targets names same alike h = subst (λ xs. Fits g.site y xs names) same (subst (λ ts. Fits g.site y sites ts) alike h)
 
--- a loop, and what follows it
-loop_then : (m : Program) (w : List Agent) (held : Agent → Bool) (class here : ℕ) (body s : List Stmt) (names last : Names) → After (Foreach class body here ∷ s) names last → Rising (sites_in (Foreach class body here) ++ flat_map sites_in s)
-    → (scope : Scope) (g : Fault) (y : Who) → Contains (targets_at g.site (Foreach class body here) ++ flat_map (targets_at g.site) s) y → ((x : Agent) → holds_all held (inside scope x) ≡ (holds_all held scope && held x))
-    → ((inner end : Names) → After body inner end → Rising (flat_map sites_in body) → Contains (flat_map (targets_at g.site) body) y → (x : Agent) → Contains w x → sees m scope.this x ≡ true → Contains (run m w body (inside scope x)).faults g
-    → Kept held (inside scope x) (run m (filter held w) body (inside scope x)) g)
-    → ((mid : Names) → After s mid last → Rising (flat_map sites_in s) → (head : Scope) → Alike head scope → Contains (flat_map (targets_at g.site) s) y → Contains (run m w s head).faults g → Kept held head (run m (filter held w) s head) g)
-    → Contains (run m w (Foreach class body here ∷ s) scope).faults g → Kept held scope (run m (filter held w) (Foreach class body here ∷ s) scope) g
-loop_then m w held class here body s names last e up scope g y named all each next v =
-    let (mid, first, rest) = after_split (Foreach class body here) s names last e in
-    let f = formed_loop class body here names mid first in
-    let head = statement m w (Foreach class body here) scope in
-    let inner = f.inside in
-    let (end, formed) = f.body_is_formed in
-    let within = subst Rising (sites-Foreach class body here) (rising-left (sites_in (Foreach class body here)) _ up) in
-    kept_then held scope (statement m (filter held w) (Foreach class body here) scope) head (run m (filter held w) s) (run m w s) g
-    (fewer_loop m w held class here body scope (fewer_run m w held body (plain body))) (alike_loop m w class here body scope)
-    (λ u.
-    let mine = subst (λ t. Contains t y) (targets-Foreach g.site class body here)
-    (own_left (Foreach class body here) s g y up ((sited_loop m w class here body scope (sited_run m w body (plain body) inner end formed)).at g u).site named) in
-    loop_kept m w held class here body scope g all (each inner end formed within mine) u)
-    (λ u. next mid rest (rising-right (sites_in (Foreach class body here)) _ up) head.scope (alike_loop m w class here body scope)
-    (own_right (Foreach class body here) s g y up ((sited_run m w s (plain s) mid last rest head.scope).at g u).site named) u)
-    v
+  never_here : (sites : List ℕ) (all : Bool) → Fits g.site y sites [] → Contains sites g.site → all ≡ true
+  never_here sites all h here = none_within _ y (h.named here)
 
-pub kept_run : (m : Program) (w : List Agent) (held : Agent → Bool) (deep : Bool) (a : Agent) (id : ℕ) → Reaches m w held deep a (heard_by id 0) → (k : Depth) (s : List Stmt) → Outward deep k s → (names last : Names) → After s names last
-    → Rising (flat_map sites_in s) → (scope : Scope) → Stands m w a k scope → (g : Fault) (y : Who) → Contains (flat_map (targets_at g.site) s) y → id_in g y ≡ Some id → Contains (run m w s scope).faults g
-    → Kept held scope (run m (filter held w) s scope) g
-kept_run m w held deep a id r _ _ (o.none k) names last e up scope at g y named is v = none_within _ g v
-kept_run m w held deep a id r _ _ (o.const k n x s h) names last e up scope at g y named is v =
-    let (mid, first, rest) = after_split (Const n x) s names last e in
-    let head = statement m w (Const n x) scope in
-    kept_then held scope (statement m (filter held w) (Const n x) scope) head (run m (filter held w) s) (run m w s) g (fewer_const m w (filter held w) n x scope) (alike_const m w n x scope)
-    (λ u. none_within _ y (subst (λ t. Contains t y) (targets-Const g.site n x) (own_left (Const n x) s g y up ((sited_const m w n x names mid first scope).at g u).site named)))
-    (λ u. kept_run m w held deep a id r k s h mid last rest (rising-right (sites_in (Const n x)) _ up) head.scope (stands_alike m w a k head.scope scope (alike_const m w n x scope) at) g y
-    (own_right (Const n x) s g y up ((sited_run m w s (plain s) mid last rest head.scope).at g u).site named) is u)
-    v
-kept_run m w held deep a id r _ _ (o.cond k c x z s hx hz h) names last e up scope at g y named is v =
-    let (mid, first, rest) = after_split (If c x z) s names last e in
-    let f = formed_if c x z names mid first in
-    let head = statement m w (If c x z) scope in
-    let here : Rising (sites_of c ++ (flat_map sites_in x ++ flat_map sites_in z)) = subst Rising (sites-If c x z) (rising-left (sites_in (If c x z)) (flat_map sites_in s) up) in
-    let blocks = rising-right (sites_of c) _ here in
-    let site_x = sited_run m w x (plain x) names f.first.0 f.first.1 scope in
-    let site_z = sited_run m w z (plain z) names f.second.0 f.second.1 scope in
-    kept_then held scope (statement m (filter held w) (If c x z) scope) head (run m (filter held w) s) (run m w s) g
-    (fewer_if m w (filter held w) c x z scope (fewer_run m w held x (plain x) scope) (fewer_run m w held z (plain z) scope)) (alike_if m w c x z scope)
-    (λ u.
-    let mine = subst (λ t. Contains t y) (targets-If g.site c x z) (own_left (If c x z) s g y up ((sited_if m w c x z names mid first scope site_x site_z).at g u).site named) in
-    subst (λ d. Kept held scope d g) (sym (statement-If m (filter held w) c x z scope))
-    (kept_if held scope (value c scope) (run m (filter held w) x scope) (run m (filter held w) z scope) (run m w x scope) (run m w z scope) g (sites_of c) (value_sited c names _ f.condition scope)
-    (λ site. apart _ (sites_of c) (flat_map sites_in x ++ flat_map sites_in z) g.site here site (named_two g.site x z y mine))
-    (λ t. kept_run m w held deep a id r k x hx names f.first.0 f.first.1 (rising-left (flat_map sites_in x) _ blocks) scope at g y (block_left x z g y blocks (site_x.at g t).site mine) is t)
-    (λ t. kept_run m w held deep a id r k z hz names f.second.0 f.second.1 (rising-right (flat_map sites_in x) _ blocks) scope at g y (block_right x z g y blocks (site_z.at g t).site mine) is t)
-    (subst (λ d. Contains d.faults g) (statement-If m w c x z scope) u)))
-    (λ u. kept_run m w held deep a id r k s h mid last rest (rising-right (sites_in (If c x z)) _ up) head.scope (stands_alike m w a k head.scope scope (alike_if m w c x z scope) at) g y
-    (own_right (If c x z) s g y up ((sited_run m w s (plain s) mid last rest head.scope).at g u).site named) is u)
-    v
-kept_run m w held deep a id r _ _ (o.loop class here body s hb h) names last e up scope at g y named is v =
-    loop_then m w held class here body s names last e up scope g y named (λ x. first_all m w a held scope x at)
-    (λ inner end formed rises mine x wx sx u. kept_run m w held deep a id r o.middle body hb inner end formed rises (inside scope x) (stands_first m w a scope x at wx sx) g y mine is u)
-    (λ mid rest rises head same mine u. kept_run m w held deep a id r o.top s h mid last rest rises head (stands_alike m w a o.top head scope same at) g y mine is u)
-    v
-kept_run m w held deep a id r _ _ (o.inner class here body s hb h) names last e up scope at g y named is v =
-    loop_then m w held class here body s names last e up scope g y named (λ x. second_all m w a held scope x at)
-    (λ inner end formed rises mine x wx sx u. kept_run m w held deep a id r o.deepest body hb inner end formed rises (inside scope x) (stands_second m w a scope x at wx sx) g y mine is u)
-    (λ mid rest rises head same mine u. kept_run m w held deep a id r o.middle s h mid last rest rises head (stands_alike m w a o.middle head scope same at) g y mine is u)
-    v
-kept_run m w held deep a id r _ _ (o.near effect x here s h) names last e up scope at g y named is v =
-    let (mid, first, rest) = after_split (Assign who.Outer effect x here) s names last e in
-    say_kept m w held deep a id r o.middle who.Outer effect x here s names mid last first rest up scope at (near_hit m w held deep a id r scope at) g y named is
-    (λ head st nm u. kept_run m w held deep a id r o.middle s h mid last rest (rising-right (sites_in (Assign who.Outer effect x here)) _ up) head st g y nm is u) v
-kept_run m w held deep a id r _ _ (o.far effect x here s d h) names last e up scope at g y named is v =
-    let (mid, first, rest) = after_split (Assign who.Outer effect x here) s names last e in
-    say_kept m w held deep a id r o.deepest who.Outer effect x here s names mid last first rest up scope at (far_hit m w held deep a id r scope at d) g y named is
-    (λ head st nm u. kept_run m w held deep a id r o.deepest s h mid last rest (rising-right (sites_in (Assign who.Outer effect x here)) _ up) head st g y nm is u) v
-kept_run m w held deep a id r _ _ (o.farthest effect x here s d h) names last e up scope at g y named is v =
-    let (mid, first, rest) = after_split (Assign who.Inner effect x here) s names last e in
-    say_kept m w held deep a id r o.deepest who.Inner effect x here s names mid last first rest up scope at (farthest_hit m w held deep a id r scope at d) g y named is
-    (λ head st nm u. kept_run m w held deep a id r o.deepest s h mid last rest (rising-right (sites_in (Assign who.Inner effect x here)) _ up) head st g y nm is u) v
+  keeps_loop : (k inner : Depth) → Enters m w held a k inner → (class here : ℕ) (body s : List Stmt) (all : Bool) → ((each : Bool) → Keeps inner each body) → Keeps k all s → Keeps k all (Foreach class body here ∷ s)
+  keeps_loop k inner enters class here body s all each rest =
+      sim_loop (Kept g all) (kept_tie g all) m m (filter held w) w (At m w held a k all) (at_bound m w held a k all) class here body s body s
+      (λ scope at. loop_over (Kept g) (kept_tie g) (λ all q e h v. never (h v).0) (λ all p f q e h v. never (h v).0) m w held a k inner enters all scope at class body each) rest
+    where
+      never : {P : Type 0} → false ≡ true → P
+      never e = absurd (cc)
+
+  keeps_say : (k : Depth) (x : Who) (field : ℕ) (e : Expr) (here : ℕ) (s : List Stmt) (names last : Names) → After (Assign x field e here ∷ s) names last → FitsBlock (Assign x field e here ∷ s) → (all : Bool)
+      → ((scope : Scope) → Stands m w a k scope → Hits m w held deep a id r scope x) → ((mid : Names) → After s mid last → Keeps k all s) → Keeps k all (Assign x field e here ∷ s)
+  keeps_say k x field e here s names last formed fits all hits rest =
+      let (mid, first, after) = after_split (Assign x field e here) s names last formed in
+      let f = formed_assign x field e here names mid first in
+      let own = fits_as _ _ _ _ (sites_in-Assign x field e here) (targets-Assign g.site x field e here) (first_fits (Assign x field e here) s fits) in
+      sim_say (Kept g all) (kept_tie g all) m m (filter held w) w (At m w held a k all) (at_bound m w held a k all) x field e here s s
+      (λ scope at. kept_at all scope e names f.type f.typed (λ stop same there.
+      let is = only_name x y (is_one_of (sites_of e) g.site) (own.named there) in
+      sym at.1 ∙ hits scope at.0 (named_agent scope stop x id (ap (λ h. id_in h x) same ∙ ap (id_in g) is ∙ had))))
+      (λ scope at v h. none_within _ g h) (rest mid after)
+
+  keeps : (k : Depth) (s : List Stmt) → Outward deep k s → (names last : Names) → After s names last → FitsBlock s → (all : Bool) → Keeps k all s
+  keeps _ _ (o.none k) names last formed fits all = sim_none (Kept g all) (kept_tie g all) m m (filter held w) w (At m w held a k all) (at_bound m w held a k all)
+  keeps _ _ (o.const k n e s h) names last formed fits all =
+      let (mid, first, after) = after_split (Const n e) s names last formed in
+      let f = formed_const n e names mid first in
+      let own = fits_as _ _ _ _ (sites_in-Const n e) (targets-Const g.site n e) (first_fits (Const n e) s fits) in
+      sim_const (Kept g all) (kept_tie g all) m m (filter held w) w (At m w held a k all) (at_bound m w held a k all) n e s s
+      (λ scope at. kept_at all scope e names f.type f.typed (λ stop same. never_here (sites_of e) all own)) (keeps k s h mid last after (rest_fits (Const n e) s fits) all)
+  keeps _ _ (o.cond k c x z s hx hz h) names last formed fits all =
+      let (mid, first, after) = after_split (If c x z) s names last formed in
+      let f = formed_if c x z names mid first in
+      let tx = flat_map (targets_at g.site) x in
+      let tz = flat_map (targets_at g.site) z in
+      let own = fits_as _ (sites_of c ++ (flat_map sites_in x ++ flat_map sites_in z)) _ ([] ++ (tx ++ tz)) (sites-If c x z) (targets-If g.site c x z) (first_fits (If c x z) s fits) in
+      let blocks = fits_right g.site y (sites_of c) (flat_map sites_in x ++ flat_map sites_in z) [] (tx ++ tz) (λ v. none_within _ y v) own in
+      sim_if (Kept g all) (kept_tie g all) m m (filter held w) w (At m w held a k all) (at_bound m w held a k all) c x z s x z s
+      (λ scope at. kept_at all scope c names _ f.condition (λ stop same. never_here (sites_of c) all (fits_left g.site y (sites_of c) (flat_map sites_in x ++ flat_map sites_in z) [] (tx ++ tz)
+      (λ v. two_sites x z v) own)))
+      (keeps k x hx names f.first.0 f.first.1 (fits_left g.site y (flat_map sites_in x) (flat_map sites_in z) tx tz (named_sites g.site z (plain z) y) blocks) all)
+      (keeps k z hz names f.second.0 f.second.1 (fits_right g.site y (flat_map sites_in x) (flat_map sites_in z) tx tz (named_sites g.site x (plain x) y) blocks) all)
+      (keeps k s h mid last after (rest_fits (If c x z) s fits) all)
+    where
+      two_sites : (x z : List Stmt) → Contains (flat_map (targets_at g.site) x ++ flat_map (targets_at g.site) z) y → Contains (flat_map sites_in x ++ flat_map sites_in z) g.site
+      two_sites x z v =
+          ⊎_elim (λ (u : Contains (flat_map (targets_at g.site) x) y). Contains-append_left (flat_map sites_in x) (flat_map sites_in z) g.site (named_sites g.site x (plain x) y u))
+          (λ (u : Contains (flat_map (targets_at g.site) z) y). Contains-append_right (flat_map sites_in x) (flat_map sites_in z) g.site (named_sites g.site z (plain z) y u))
+          (Contains-append_cases (flat_map (targets_at g.site) x) (flat_map (targets_at g.site) z) y v)
+  keeps _ _ (o.loop class here body s hb h) names last formed fits all =
+      let (mid, first, after) = after_split (Foreach class body here) s names last formed in
+      let f = formed_loop class body here names mid first in
+      let own = fits_as _ _ _ _ (sites-Foreach class body here) (targets-Foreach g.site class body here) (first_fits (Foreach class body here) s fits) in
+      keeps_loop o.top o.middle (enters_first m w held a) class here body s all (keeps o.middle body hb f.inside f.body_is_formed.0 f.body_is_formed.1 own) (keeps o.top s h mid last after (rest_fits (Foreach class body here) s fits) all)
+  keeps _ _ (o.inner class here body s hb h) names last formed fits all =
+      let (mid, first, after) = after_split (Foreach class body here) s names last formed in
+      let f = formed_loop class body here names mid first in
+      let own = fits_as _ _ _ _ (sites-Foreach class body here) (targets-Foreach g.site class body here) (first_fits (Foreach class body here) s fits) in
+      keeps_loop o.middle o.deepest (enters_second m w held a) class here body s all (keeps o.deepest body hb f.inside f.body_is_formed.0 f.body_is_formed.1 own)
+      (keeps o.middle s h mid last after (rest_fits (Foreach class body here) s fits) all)
+  keeps _ _ (o.near field e here s h) names last formed fits all =
+      keeps_say o.middle who.Outer field e here s names last formed fits all (near_hit m w held deep a id r) (λ mid after. keeps o.middle s h mid last after (rest_fits (Assign who.Outer field e here) s fits) all)
+  keeps _ _ (o.far field e here s d h) names last formed fits all =
+      keeps_say o.deepest who.Outer field e here s names last formed fits all (far_hit m w held deep a id r d) (λ mid after. keeps o.deepest s h mid last after (rest_fits (Assign who.Outer field e here) s fits) all)
+  keeps _ _ (o.farthest field e here s d h) names last formed fits all =
+      keeps_say o.deepest who.Inner field e here s names last formed fits all (farthest_hit m w held deep a id r d) (λ mid after. keeps o.deepest s h mid last after (rest_fits (Assign who.Inner field e here) s fits) all)
+
+same_class : (c d : Class) → Some c ≡ Some d → c ≡ d
+same_class c d e = cc
+
+module _ (m : Program) (seed tick : ℕ) (w : List Agent) (area : Area) (held : Agent → Bool) (lawful : LawfulProgram m) (rises : RisesById w) (holds : HoldsNear m area (range_of m true) w held)
+    (b : Agent) (wb : Contains w b) (stands : is_in m area b ≡ true) (g : Fault) (hit : IsAtAssignmentTo (inverse_program m) w g b.id) where
+  -- the inverse query of one agent
+  one_kept : (a : Agent) → Contains w a → (class : Option Class) → class_of m a ≡ class
+      → let d = part_deed inverse_query m seed tick (filter held w) a class in let e = part_deed inverse_query m seed tick w a class in Kept g (held a) d.said d.faults e.said e.faults
+  one_kept a wa None e v = none_within _ g v
+  one_kept a wa (Some class) e v =
+      let here = lawful.classes_are_lawful a.class class e in
+      let (last, formed) = is_there (in_turn (map scope_after class.query) (query_scope m a.class)) here.query_is_typed in
+      let block = inverse_query class.query in
+      let pruned = inverse_is_part class.query in
+      let names = renamed (λ q. q) (query_scope m a.class) in
+      let end = renamed (λ q. q) last in
+      let typed : After block names end = part_formed (λ q. q) class.query block pruned (query_scope m a.class) last formed in
+      let scope = opening_scope seed tick class.query [] a in
+      let up : Rising (flat_map sites_in block) = sub-Rising _ _ (sites_kept class.query block pruned) (rising_from (flat_map sites_in class.query) here.query_sites_rise) in
+      let at = sited_run m w block names end typed scope g v in
+      let same : hit.agent ≡ a = one_agent w (rising_from (ids w) rises) hit.agent a hit.is_in_world wa (hit.met_it ∙ at.agent) in
+      let its : with_query inverse_query class ≡ hit.class = same_class (with_query inverse_query class) hit.class
+      (sym (class_same inverse_query m a ∙ ap (option_map (with_query inverse_query)) e) ∙ ap (class_of (inverse_program m)) (sym same) ∙ hit.has_class) in
+      let named : Contains (flat_map (targets_at g.site) block) hit.target = subst (λ c. Contains (flat_map (targets_at g.site) c.query) hit.target) (sym its) hit.stands_there in
+      (keeps m w held (says_in_inner_loops m) a b.id (reaches_it m seed tick w area held lawful rises holds b wb stands a wa) g hit.target hit.had_id o.top block (query_outward m lawful a class e) names end typed
+      (record { rises = up; named = λ there. named }) (held a) scope (opening_at m seed tick w area held lawful rises holds b wb stands class.query a)).tie v
+
+  kept_of : (a : Agent) → Contains w a → (c : Bool) → held a ≡ c → Contains (query_of (inverse_program m) seed tick w a).faults g → (c ≡ true) × Contains (query_of (inverse_program m) seed tick (filter held w) a).faults g
+  kept_of a wa c is v =
+      let (ha, there) = one_kept a wa (class_of m a) refl (subst (λ d. Contains d.faults g) (part_of inverse_query inverse_is_part m seed tick w a) v) in
+      (sym is ∙ ha, subst (λ d. Contains d.faults g) (sym (part_of inverse_query inverse_is_part m seed tick (filter held w) a)) there)
+
+  pub inverse_fault_held : Contains (query_faults (inverse_program m) seed tick w) g → Contains (query_faults (inverse_program m) seed tick (filter held w)) g
+  inverse_fault_held v =
+      (over_all (Kept g true) (kept_tie g true) (query_of (inverse_program m) seed tick (filter held w)) (query_of (inverse_program m) seed tick w) held w
+      (λ a wa ha. kept_of a wa true ha) (λ a wa ha v. never (kept_of a wa false ha v).0) v).1
+    where
+      never : {P : Type 0} → false ≡ true → P
+      never e = absurd (cc)

@@ -22,7 +22,7 @@ use Rattle.brace_model.specs.Typing.{Names, is_of_type, type_of, in_turn, scope_
 use Rattle.brace_model.specs.Lawful.{rule_scope, query_scope, is_ruled, is_given, is_spawn, LawfulClass, LawfulProgram}
 use Rattle.brace_invert.specs.Split.{with_query, with_queries, forward_query, inverse_query, forward_program, inverse_program}
 use Rattle.brace_invert.proofs.Sublists.{Sub, none, sub-refl, sub-append, sub-IsStrictlyIncreasing, sub-list_all, sub-IsDistinct}
-use Rattle.brace_invert.proofs.Blocks.{plain}
+use Rattle.brace_model.proofs.Blocks.{plain}
 use Rattle.brace_invert.proofs.Pruned.{Pruned}
 use Rattle.brace_invert.proofs.Halves.{halves, forward_pruned, inverse_pruned}
 use Rattle.brace_invert.proofs.Numbers.{numbers_kept, constants_kept, sites_kept, loops_kept, assignments_kept}

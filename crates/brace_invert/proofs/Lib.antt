@@ -1,7 +1,6 @@
 pub mod PartEquations
 pub mod RangeLemmas
 pub mod Sublists
-pub mod Blocks
 pub mod Pruned
 pub mod Numbers
 pub mod Halves
@@ -15,7 +14,5 @@ pub mod Nearness
 pub mod Owners
 pub mod Outward
 pub mod Heard
-pub mod HeardSame
 pub mod Kept
-pub mod KeptHeld
 mod Examples

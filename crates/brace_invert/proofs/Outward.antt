@@ -18,8 +18,8 @@ use Rattle.brace_invert.specs.Split.{unread, places, inverse_of}
 use Rattle.brace_invert.specs.Range.{says_within}
 use Rattle.brace_invert.proofs.PartEquations.{inverse_of-Const, inverse_of-If, inverse_of-Foreach, inverse_of-Assign}
 use Rattle.brace_invert.proofs.RangeLemmas.{says_within-If, says_within-Foreach, says_within-Assign}
-use Rattle.brace_invert.proofs.Blocks as b
-use Rattle.brace_invert.proofs.Blocks.{Plain}
+use Rattle.brace_model.proofs.Blocks as b
+use Rattle.brace_model.proofs.Blocks.{Plain}
 use Rattle.brace_invert.proofs.Typed.{After, after_split, formed_const, formed_if, formed_loop, formed_assign, only_where}
 
 -- in how many loops a block stands

@@ -4,9 +4,9 @@ use Rattle.std.specs.List.{sum_by}
 use Rattle.brace_model.specs.declared.program.Who.{Who}
 use Rattle.brace_model.specs.declared.program.Expr.{Expr}
 use Rattle.brace_model.specs.declared.program.Stmt.{Stmt}
-use Rattle.brace_model.specs.declared.program.Stmt.TheVariants.{Const, If, Foreach, Assign, rolls-Const, rolls-If, rolls-Foreach, rolls-Assign}
+use Rattle.brace_model.specs.declared.program.Stmt.TheVariants.{Const, If, Foreach, Assign}
 use Rattle.brace_model.specs.declared.program.Stmt.TheOpen as layer
-use Rattle.brace_model.specs.declared.program.Stmt.TheFolds.{fold-roll-Stmt}
+use Rattle.brace_model.proofs.Folds.{fold-Const, fold-If, fold-Foreach, fold-Assign}
 use Rattle.std.proofs.lemmas.List.Sums.{get_or-le-sum_by, sum-map}
 use Rattle.brace_model.proofs.LawEquations.{assignments-Const, assignments-If, assignments-Foreach, assignments-Assign}
 use Rattle.brace_invert.specs.Split.{forward_step, forward_of, inner_loop, loop_part, inverse_step, inverse_of}
@@ -21,32 +21,32 @@ joined_at f i [] = refl
 joined_at f i (x ∷ xs) = ap (λ t. f x i ++ t) (joined_at f i xs)
 
 pub forward_of-Const : (n : ℕ) (e : Expr) → forward_of (Const n e) ≡ Const n e ∷ []
-forward_of-Const n e = ap forward_of (sym (rolls-Const n e)) ∙ fold-roll-Stmt (List Stmt) forward_step (layer.Const n e)
+forward_of-Const n e = fold-Const forward_step n e
 
 pub forward_of-If : (c : Expr) (a b : List Stmt) → forward_of (If c a b) ≡ If c (flat_map forward_of a) (flat_map forward_of b) ∷ []
-forward_of-If c a b = ap forward_of (sym (rolls-If c a b)) ∙ fold-roll-Stmt (List Stmt) forward_step (layer.If c a b)
+forward_of-If c a b = fold-If forward_step c a b
     ∙ ap (λ p. If c p (flat_map (λ s. s) (map forward_of b)) ∷ []) (joined forward_of a) ∙ ap (λ p. If c (flat_map forward_of a) p ∷ []) (joined forward_of b)
 
 pub forward_of-Foreach : (class : ℕ) (body : List Stmt) (at : ℕ) → forward_of (Foreach class body at) ≡ Foreach class (flat_map forward_of body) at ∷ []
-forward_of-Foreach class body at = ap forward_of (sym (rolls-Foreach class body at)) ∙ fold-roll-Stmt (List Stmt) forward_step (layer.Foreach class body at)
+forward_of-Foreach class body at = fold-Foreach forward_step class body at
     ∙ ap (λ p. Foreach class p at ∷ []) (joined forward_of body)
 
 pub forward_of-Assign : (who : Who) (effect : ℕ) (e : Expr) (at : ℕ) → forward_of (Assign who effect e at) ≡ forward_step (layer.Assign who effect e at)
-forward_of-Assign who effect e at = ap forward_of (sym (rolls-Assign who effect e at)) ∙ fold-roll-Stmt (List Stmt) forward_step (layer.Assign who effect e at)
+forward_of-Assign who effect e at = fold-Assign forward_step who effect e at
 
 pub inverse_of-Const : (n : ℕ) (e : Expr) (in_loop : Bool) → inverse_of (Const n e) in_loop ≡ Const n e ∷ []
-inverse_of-Const n e in_loop = ap (λ s. inverse_of s in_loop) (sym (rolls-Const n e)) ∙ ap (λ f. f in_loop) (fold-roll-Stmt (Bool → List Stmt) inverse_step (layer.Const n e))
+inverse_of-Const n e in_loop = ap (λ f. f in_loop) (fold-Const inverse_step n e)
 
 pub inverse_of-If : (c : Expr) (a b : List Stmt) (in_loop : Bool) → inverse_of (If c a b) in_loop ≡ If c (flat_map (λ s. inverse_of s in_loop) a) (flat_map (λ s. inverse_of s in_loop) b) ∷ []
-inverse_of-If c a b in_loop = ap (λ s. inverse_of s in_loop) (sym (rolls-If c a b)) ∙ ap (λ f. f in_loop) (fold-roll-Stmt (Bool → List Stmt) inverse_step (layer.If c a b))
+inverse_of-If c a b in_loop = ap (λ f. f in_loop) (fold-If inverse_step c a b)
     ∙ ap (λ p. If c p (flat_map (λ s. s in_loop) (map inverse_of b)) ∷ []) (joined_at inverse_of in_loop a) ∙ ap (λ p. If c (flat_map (λ s. inverse_of s in_loop) a) p ∷ []) (joined_at inverse_of in_loop b)
 
 pub inverse_of-Foreach : (class : ℕ) (body : List Stmt) (at : ℕ) (in_loop : Bool) → inverse_of (Foreach class body at) in_loop ≡ loop_part in_loop class (flat_map (λ s. inverse_of s true) body) at
-inverse_of-Foreach class body at in_loop = ap (λ s. inverse_of s in_loop) (sym (rolls-Foreach class body at)) ∙ ap (λ f. f in_loop) (fold-roll-Stmt (Bool → List Stmt) inverse_step (layer.Foreach class body at))
+inverse_of-Foreach class body at in_loop = ap (λ f. f in_loop) (fold-Foreach inverse_step class body at)
     ∙ ap (λ p. loop_part in_loop class p at) (joined_at inverse_of true body)
 
 pub inverse_of-Assign : (who : Who) (effect : ℕ) (e : Expr) (at : ℕ) (in_loop : Bool) → inverse_of (Assign who effect e at) in_loop ≡ inverse_step (layer.Assign who effect e at) in_loop
-inverse_of-Assign who effect e at in_loop = ap (λ s. inverse_of s in_loop) (sym (rolls-Assign who effect e at)) ∙ ap (λ f. f in_loop) (fold-roll-Stmt (Bool → List Stmt) inverse_step (layer.Assign who effect e at))
+inverse_of-Assign who effect e at in_loop = ap (λ f. f in_loop) (fold-Assign inverse_step who effect e at)
 
 -- what is made of the parts of blocks
 pub inverse_if : (s : Stmt) (in_loop : Bool) (c d : Expr) (a b p q : List Stmt) → s ≡ If d a b → c ≡ d → p ≡ flat_map (λ x. inverse_of x in_loop) a → q ≡ flat_map (λ x. inverse_of x in_loop) b

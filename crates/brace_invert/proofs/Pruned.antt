@@ -6,8 +6,8 @@ use Rattle.brace_model.specs.declared.program.Stmt.{Stmt}
 use Rattle.brace_model.specs.declared.program.Stmt.TheVariants.{Const, If, Foreach, Assign}
 use Rattle.brace_model.specs.Sites.{constant_numbers}
 use Rattle.brace_invert.specs.Split.{places}
-use Rattle.brace_invert.proofs.Blocks as b
-use Rattle.brace_invert.proofs.Blocks.{Plain}
+use Rattle.brace_model.proofs.Blocks as b
+use Rattle.brace_model.proofs.Blocks.{Plain}
 
 -- a block and a part of it: assignments are left out, and loops but for their constants
 pub data Pruned : List Stmt → List Stmt → Type 0 where

@@ -6,9 +6,9 @@ use Rattle.std.specs.Int.{int_max}
 use Rattle.brace_model.specs.declared.program.Who.{Who}
 use Rattle.brace_model.specs.declared.program.Expr.{Expr}
 use Rattle.brace_model.specs.declared.program.Stmt.{Stmt}
-use Rattle.brace_model.specs.declared.program.Stmt.TheVariants.{Const, If, Foreach, Assign, rolls-Const, rolls-If, rolls-Foreach, rolls-Assign}
+use Rattle.brace_model.specs.declared.program.Stmt.TheVariants.{Const, If, Foreach, Assign}
 use Rattle.brace_model.specs.declared.program.Stmt.TheOpen as layer
-use Rattle.brace_model.specs.declared.program.Stmt.TheFolds.{fold-roll-Stmt}
+use Rattle.brace_model.proofs.Folds.{fold-Const, fold-If, fold-Foreach, fold-Assign}
 use Rattle.brace_model.specs.declared.program.Class.{Class}
 use Rattle.brace_model.specs.declared.program.Program.{Program}
 use Rattle.brace_model.specs.Lawful.{LawfulProgram, is_distance}
@@ -19,19 +19,19 @@ any_at f i j [] = refl
 any_at f i j (x ∷ xs) = ap (λ t. f x i j || t) (any_at f i j xs)
 
 pub says_within-Const : (n : ℕ) (e : Expr) (in_loop in_inner : Bool) → says_within (Const n e) in_loop in_inner ≡ false
-says_within-Const n e in_loop in_inner = ap (λ s. says_within s in_loop in_inner) (sym (rolls-Const n e)) ∙ ap (λ f. f in_loop in_inner) (fold-roll-Stmt (Bool → Bool → Bool) says_within_step (layer.Const n e))
+says_within-Const n e in_loop in_inner = ap (λ f. f in_loop in_inner) (fold-Const says_within_step n e)
 
 pub says_within-If : (c : Expr) (a b : List Stmt) (in_loop in_inner : Bool)
     → says_within (If c a b) in_loop in_inner ≡ (list_any (λ s. says_within s in_loop in_inner) a || list_any (λ s. says_within s in_loop in_inner) b)
-says_within-If c a b in_loop in_inner = ap (λ s. says_within s in_loop in_inner) (sym (rolls-If c a b)) ∙ ap (λ f. f in_loop in_inner) (fold-roll-Stmt (Bool → Bool → Bool) says_within_step (layer.If c a b))
+says_within-If c a b in_loop in_inner = ap (λ f. f in_loop in_inner) (fold-If says_within_step c a b)
     ∙ ap (λ t. t || list_any (λ s. s in_loop in_inner) (map says_within b)) (any_at says_within in_loop in_inner a) ∙ ap (λ t. list_any (λ s. says_within s in_loop in_inner) a || t) (any_at says_within in_loop in_inner b)
 
 pub says_within-Foreach : (class : ℕ) (body : List Stmt) (at : ℕ) (in_loop in_inner : Bool) → says_within (Foreach class body at) in_loop in_inner ≡ list_any (λ s. says_within s true in_loop) body
-says_within-Foreach class body at in_loop in_inner = ap (λ s. says_within s in_loop in_inner) (sym (rolls-Foreach class body at)) ∙ ap (λ f. f in_loop in_inner) (fold-roll-Stmt (Bool → Bool → Bool) says_within_step (layer.Foreach class body at))
+says_within-Foreach class body at in_loop in_inner = ap (λ f. f in_loop in_inner) (fold-Foreach says_within_step class body at)
     ∙ any_at says_within true in_loop body
 
 pub says_within-Assign : (who : Who) (effect : ℕ) (e : Expr) (at : ℕ) (in_loop in_inner : Bool) → says_within (Assign who effect e at) in_loop in_inner ≡ (is_other who && in_inner)
-says_within-Assign who effect e at in_loop in_inner = ap (λ s. says_within s in_loop in_inner) (sym (rolls-Assign who effect e at)) ∙ ap (λ f. f in_loop in_inner) (fold-roll-Stmt (Bool → Bool → Bool) says_within_step (layer.Assign who effect e at))
+says_within-Assign who effect e at in_loop in_inner = ap (λ f. f in_loop in_inner) (fold-Assign says_within_step who effect e at)
 
 pub says_within_if : (c : Expr) (a b : List Stmt) (in_loop in_inner p q : Bool) → p ≡ list_any (λ s. says_within s in_loop in_inner) a → q ≡ list_any (λ s. says_within s in_loop in_inner) b
     → (p || q) ≡ says_within (If c a b) in_loop in_inner

@@ -20,16 +20,12 @@ use Rattle.brace_model.specs.Query.{Saying, Deed, silent, halted, deed_of, follo
 use Rattle.brace_model.specs.Sites.{constant_numbers}
 use Rattle.brace_model.proofs.ValueEquations.{value-Lit, statement-Const, statement-If, statement-Foreach, statement-Assign}
 use Rattle.brace_invert.specs.Split.{unread, places}
-use Rattle.brace_invert.proofs.Blocks as b
-use Rattle.brace_invert.proofs.Blocks.{Plain, plain}
+use Rattle.brace_model.proofs.Deeds.{run, goes_to, stops_at, by_stop, never_both, grown, Halts, halts_one}
+use Rattle.brace_invert.proofs.Sites.{none_within}
 use Rattle.brace_invert.proofs.Pruned as pruned
 use Rattle.brace_invert.proofs.Pruned.{Pruned}
 use Rattle.brace_invert.proofs.Halves as halves
 use Rattle.brace_invert.proofs.Halves.{Halves, forward_pruned, inverse_pruned}
-
--- what the statements of a block do in turn
-abbrev pub run : Program → List Agent → List Stmt → Scope → Deed
-run m w s = block (map (statement m w) s)
 
 abbrev pub constant_deed : ℕ → Expr → Scope → Deed
 constant_deed n e scope = deed_of scope (value e scope) (λ v. silent (bound scope n v))
@@ -42,27 +38,6 @@ loop_deed m w class body scope = iterated scope (map (λ a. run m w body (inside
 
 abbrev pub say_deed : Who → ℕ → Expr → Scope → Deed
 say_deed who effect e scope = deed_of scope (value e scope) (saying scope (agent_of scope who) effect)
-
--- two deeds in turn, as one record
-pub goes_to : (d : Deed) (next : Scope → Deed) → d.stopped ≡ false → followed_by d next ≡ record (next d.scope) { said = d.said ++ (next d.scope).said; faults = d.faults ++ (next d.scope).faults }
-goes_to d next e = rw e refl
-
-pub stops_at : (d : Deed) (next : Scope → Deed) → d.stopped ≡ true → followed_by d next ≡ d
-stops_at d next e = rw e refl
-
-either_way : (P : Type 0) (x : Bool) → (x ≡ true → P) → (x ≡ false → P) → P
-either_way P true f g = f refl
-either_way P false f g = g refl
-
-pub by_stop : (P : Type 0) (d : Deed) → (d.stopped ≡ true → P) → (d.stopped ≡ false → P) → P
-by_stop P d = either_way P d.stopped
-
-not_both : (P : Type 0) (x : Bool) → x ≡ true → x ≡ false → P
-not_both P true e g = absurd (cc)
-not_both P false e g = absurd (cc)
-
-pub never_both : (P : Type 0) (d : Deed) → d.stopped ≡ true → d.stopped ≡ false → P
-never_both P d = not_both P d.stopped
 
 -- where a block goes on so does a part of it, in the same scope
 pub record Goes (d p : Deed) : Type 0 where
@@ -139,47 +114,9 @@ goes_run m w _ _ (pruned.kept who effect e at s p h) scope = goes_then _ _ _ _ (
 goes_run m w _ _ (pruned.left_out who effect e at s p h) scope =
     goes_then (statement m w (Assign who effect e at) scope) (silent scope) _ (run m w p) (head_say m w who effect e at scope) (goes_run m w s p h)
 
--- a deed without a fault goes on
-abbrev pub Calm : Deed → Type 0
-Calm d = d.faults ≡ [] → d.stopped ≡ false
-
-calm_deed : (scope : Scope) (v : Worth) (f : Value → Deed) → ((x : Value) → Calm (f x)) → Calm (deed_of scope v f)
-calm_deed scope (Ok x) f h = h x
-calm_deed scope (Err stop) f h = λ e. absurd (cc)
-
-calm_chosen : (v : Value) (a d : Deed) → Calm a → Calm d → Calm (chosen v a d)
-calm_chosen (Flag true) a d ha hd = ha
-calm_chosen (Flag false) a d ha hd = hd
-calm_chosen (Int n) a d ha hd = hd
-calm_chosen (Fixed n) a d ha hd = hd
-
 no_faults : (xs ys : List Fault) → xs ++ ys ≡ [] → (xs ≡ []) × (ys ≡ [])
 no_faults [] ys e = (refl, e)
 no_faults (x ∷ xs) ys e = absurd (cc)
-
-calm_then : (d : Deed) (next : Scope → Deed) → Calm d → ((scope : Scope) → Calm (next scope)) → Calm (followed_by d next)
-calm_then d next h n = by_stop (Calm (followed_by d next)) d
-    (λ stopped. subst Calm (sym (stops_at d next stopped)) h)
-    (λ on. subst Calm (sym (goes_to d next on)) (λ e. n d.scope (no_faults d.faults (next d.scope).faults e).1))
-
-calm_const : (m : Program) (w : List Agent) (n : ℕ) (x : Expr) (scope : Scope) → Calm (statement m w (Const n x) scope)
-calm_const m w n x scope = subst Calm (sym (statement-Const m w n x scope)) (calm_deed scope (value x scope) _ (λ v e. refl))
-
-calm_if : (m : Program) (w : List Agent) (c : Expr) (a d : List Stmt) (scope : Scope) → Calm (run m w a scope) → Calm (run m w d scope) → Calm (statement m w (If c a d) scope)
-calm_if m w c a d scope ha hd = subst Calm (sym (statement-If m w c a d scope)) (calm_deed scope (value c scope) _ (λ v. calm_chosen v (run m w a scope) (run m w d scope) ha hd))
-
-calm_loop : (m : Program) (w : List Agent) (class at : ℕ) (body : List Stmt) (scope : Scope) → Calm (statement m w (Foreach class body at) scope)
-calm_loop m w class at body scope = subst Calm (sym (statement-Foreach m w class body at scope)) (λ e. refl)
-
-calm_say : (m : Program) (w : List Agent) (who : Who) (effect : ℕ) (x : Expr) (at : ℕ) (scope : Scope) → Calm (statement m w (Assign who effect x at) scope)
-calm_say m w who effect x at scope = subst Calm (sym (statement-Assign m w who effect x at scope)) (calm_deed scope (value x scope) _ (λ v e. refl))
-
-pub calm_run : (m : Program) (w : List Agent) (s : List Stmt) → Plain s → (scope : Scope) → Calm (run m w s scope)
-calm_run m w _ b.none scope = λ e. refl
-calm_run m w _ (b.const n x s h) scope = calm_then (statement m w (Const n x) scope) (run m w s) (calm_const m w n x scope) (calm_run m w s h)
-calm_run m w _ (b.cond c a d s ha hd h) scope = calm_then (statement m w (If c a d) scope) (run m w s) (calm_if m w c a d scope (calm_run m w a ha scope) (calm_run m w d hd scope)) (calm_run m w s h)
-calm_run m w _ (b.loop class at body s hb h) scope = calm_then (statement m w (Foreach class body at) scope) (run m w s) (calm_loop m w class at body scope) (calm_run m w s h)
-calm_run m w _ (b.say who effect x at s h) scope = calm_then (statement m w (Assign who effect x at) scope) (run m w s) (calm_say m w who effect x at scope) (calm_run m w s h)
 
 -- permutations of lists that are joined
 pub mix : {A : Type 0} (xs ys fs gs is js : List A) → IsPermutation xs (fs ++ is) → IsPermutation ys (gs ++ js) → IsPermutation (xs ++ ys) ((fs ++ gs) ++ (is ++ js))
@@ -238,17 +175,11 @@ together_append a b fa fb ia ib p q fp fq ip iq h k = record {
   kept = λ g within. ⊎_elim (λ (x : Contains p g). mixed fp fq ip iq g (h.kept g x)) (λ (x : Contains q g). mixed_behind fp fq ip iq g (k.kept g x)) (Contains-append_cases p q g within);
 }
 
--- nothing was found and said that is not in what follows
-pub grown : (d : Deed) (next : Scope → Deed) (g : Fault) → Contains d.faults g → Contains (followed_by d next).faults g
-grown d next g h = by_stop (Contains (followed_by d next).faults g) d
-    (λ stopped. subst (λ x. Contains x.faults g) (sym (stops_at d next stopped)) h)
-    (λ on. subst (λ x. Contains x.faults g) (sym (goes_to d next on)) (Contains-append_left d.faults (next d.scope).faults g h))
-
-joined_then : (d f i : Deed) (nd nf ni : Scope → Deed) → Joined d f i → Calm d → Goes d f → Goes d i → ((scope : Scope) → Joined (nd scope) (nf scope) (ni scope))
+joined_then : (d f i : Deed) (nd nf ni : Scope → Deed) → Joined d f i → Halts d → Goes d f → Goes d i → ((scope : Scope) → Joined (nd scope) (nf scope) (ni scope))
     → Joined (followed_by d nd) (followed_by f nf) (followed_by i ni)
-joined_then d f i nd nf ni h calm gf gi next = by_stop (Joined (followed_by d nd) (followed_by f nf) (followed_by i ni)) d
+joined_then d f i nd nf ni h halts gf gi next = by_stop (Joined (followed_by d nd) (followed_by f nf) (followed_by i ni)) d
     (λ stopped. subst (λ x. Joined x (followed_by f nf) (followed_by i ni)) (sym (stops_at d nd stopped)) (record {
-      same = λ test e. never_both _ d stopped (calm e);
+      same = λ test e. let (g, w) = halts stopped in none_within _ g (subst (λ xs. Contains xs g) e w);
       kept = λ g within. ⊎_elim (λ (x : Contains f.faults g). Contains-append_left (followed_by f nf).faults (followed_by i ni).faults g (grown f nf g x))
           (λ (x : Contains i.faults g). Contains-append_right (followed_by f nf).faults (followed_by i ni).faults g (grown i ni g x)) (Contains-append_cases f.faults i.faults g (h.kept g within));
     }))
@@ -302,26 +233,26 @@ joined_run m w _ _ _ halves.none scope = together_nothing
 joined_run m w _ _ _ (halves.const n e s f i h) scope =
     joined_then (statement m w (Const n e) scope) (statement m w (Const n e) scope) (statement m w (Const n e) scope) (run m w s) (run m w f) (run m w i)
     (subst (λ x. Joined x x x) (sym (statement-Const m w n e scope)) (joined_constant scope n (value e scope)))
-    (calm_const m w n e scope) (goes_itself _) (goes_itself _) (joined_run m w s f i h)
+    (halts_one m w (Const n e) scope) (goes_itself _) (goes_itself _) (joined_run m w s f i h)
 joined_run m w _ _ _ (halves.cond c a fa ia d fd id s f i ha hd h) scope =
     joined_then (statement m w (If c a d) scope) (statement m w (If c fa fd) scope) (statement m w (If c ia id) scope) (run m w s) (run m w f) (run m w i) (joined_if m w c a fa ia d fd id scope (joined_run m w a fa ia ha scope) (joined_run m w d fd id hd scope))
-    (calm_if m w c a d scope (calm_run m w a (plain a) scope) (calm_run m w d (plain d) scope))
+    (halts_one m w (If c a d) scope)
     (head_if m w c a d fa fd scope (goes_run m w a fa (forward_pruned a fa ia ha) scope) (goes_run m w d fd (forward_pruned d fd id hd) scope))
     (head_if m w c a d ia id scope (goes_run m w a ia (inverse_pruned a fa ia ha) scope) (goes_run m w d id (inverse_pruned d fd id hd) scope))
     (joined_run m w s f i h)
 joined_run m w _ _ _ (halves.loop class at body fb ib s f i hb h) scope =
     joined_then (statement m w (Foreach class body at) scope) (statement m w (Foreach class fb at) scope) (statement m w (Foreach class ib at) scope) (run m w s) (run m w f) (run m w i) (joined_loop m w class at body fb ib scope (joined_run m w body fb ib hb))
-    (calm_loop m w class at body scope) (head_loop m w class at body fb scope) (head_loop m w class at body ib scope) (joined_run m w s f i h)
+    (halts_one m w (Foreach class body at) scope) (head_loop m w class at body fb scope) (head_loop m w class at body ib scope) (joined_run m w s f i h)
 joined_run m w _ _ _ (halves.away class at body s f i h) scope =
     subst (Joined (run m w (Foreach class body at ∷ s) scope) (run m w (Foreach class body at ∷ f) scope)) (sym (places_run m w (flat_map constant_numbers body) i scope))
     (joined_then (statement m w (Foreach class body at) scope) (statement m w (Foreach class body at) scope) (silent scope) (run m w s) (run m w f) (run m w i)
     (together_forward (statement m w (Foreach class body at) scope).said (statement m w (Foreach class body at) scope).faults)
-    (calm_loop m w class at body scope) (goes_itself _) (head_away m w class at body scope) (joined_run m w s f i h))
+    (halts_one m w (Foreach class body at) scope) (goes_itself _) (head_away m w class at body scope) (joined_run m w s f i h))
 joined_run m w _ _ _ (halves.own who effect e at s f i h) scope =
     joined_then (statement m w (Assign who effect e at) scope) (statement m w (Assign who effect e at) scope) (silent scope) (run m w s) (run m w f) (run m w i)
     (together_forward (statement m w (Assign who effect e at) scope).said (statement m w (Assign who effect e at) scope).faults)
-    (calm_say m w who effect e at scope) (goes_itself _) (head_say m w who effect e at scope) (joined_run m w s f i h)
+    (halts_one m w (Assign who effect e at) scope) (goes_itself _) (head_say m w who effect e at scope) (joined_run m w s f i h)
 joined_run m w _ _ _ (halves.other who effect e at s f i h) scope =
     joined_then (statement m w (Assign who effect e at) scope) (silent scope) (statement m w (Assign who effect e at) scope) (run m w s) (run m w f) (run m w i)
     (together_inverse (statement m w (Assign who effect e at) scope).said (statement m w (Assign who effect e at) scope).faults)
-    (calm_say m w who effect e at scope) (head_say m w who effect e at scope) (goes_itself _) (joined_run m w s f i h)
+    (halts_one m w (Assign who effect e at) scope) (head_say m w who effect e at scope) (goes_itself _) (joined_run m w s f i h)

@@ -1,5 +1,5 @@
 -- Where expressions and blocks fault: at their own sites.
-use Rattle.std.proofs.Common.{◌≡◌, ◌∙◌, refl, sym, ap, subst, ℕ, ℤ, List, [], ◌∷◌, ◌++◌, Bool, true, false, Option, Some, None, Result, Ok, Err, arith}
+use Rattle.std.proofs.Common.{◌≡◌, ◌∙◌, refl, sym, ap, subst, ℕ, ℤ, List, [], ◌∷◌, ◌++◌, Bool, true, false, Option, Some, None, Result, Ok, Err, arith, zero, suc}
 use Rattle.std.specs.Prelude.{if◌then◌else◌, slice_index_or, pos}
 use Rattle.std.specs.List.{Contains}
 use Rattle.std.specs.Option.{option_and_then, option_to_list}
@@ -20,6 +20,13 @@ use Rattle.brace_model.specs.Typing.{Names, is_sited, unary_faults, binary_fault
 use Rattle.brace_model.specs.Sites.{sites_step, sites_of}
 use Rattle.brace_model.specs.Value.{Scope, Worth, made, unary, strict, binary, choose, with_value, total_read, value_step, value}
 use Rattle.brace_invert.proofs.Typed.{two_steps}
+
+pub none_within : {A : Type 0} (P : Type 0) (x : A) → Contains [] x → P
+none_within P x (k, below, is) = absurd (omega (arith, below))
+
+pub only_one : {A : Type 0} (P : A → Type 0) (f g : A) → P f → Contains (f ∷ []) g → P g
+only_one P f g p (zero, below, is) = subst P is p
+only_one P f g p (suc k, below, is) = absurd (omega (arith, below))
 
 -- an outcome that faults does so at one of these sites
 abbrev pub FaultsAt : Worth → List ℕ → Type 0

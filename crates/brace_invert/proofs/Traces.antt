@@ -18,19 +18,22 @@ use Rattle.brace_model.specs.declared.world.Agent.{Agent}
 use Rattle.brace_model.specs.Value.{Scope, Worth, value, agent_of}
 use Rattle.brace_model.specs.Query.{Deed, silent, halted, query_fault, deed_of, followed_by, closed, bound, inside, chosen, seen_by, saying, statement}
 use Rattle.brace_model.specs.Sites.{sites_of, sites_in, constant_numbers}
-use Rattle.brace_model.specs.Typing.{Names, scope_after}
+use Rattle.brace_model.specs.Typing.{Names, type_of}
 use Rattle.brace_model.proofs.ValueEquations.{statement-Const, statement-If, statement-Foreach, statement-Assign}
 use Rattle.brace_model.proofs.LawEquations.{sites_in-Const, sites_in-Assign}
 use Rattle.brace_invert.specs.Inversion.{ComesAfter, IsForeseen}
 use Rattle.brace_invert.proofs.Sublists.{Rising, rising-left, rising-right, rising-between, sub-Contains}
-use Rattle.brace_invert.proofs.Blocks as b
-use Rattle.brace_invert.proofs.Blocks.{Plain, plain}
+use Rattle.brace_model.proofs.Blocks as b
+use Rattle.brace_model.proofs.Blocks.{Plain, plain}
 use Rattle.brace_invert.proofs.Pruned as pruned
 use Rattle.brace_invert.proofs.Pruned.{Pruned}
 use Rattle.brace_invert.proofs.Numbers.{sites-If, sites-Foreach, sites_kept}
-use Rattle.brace_invert.proofs.Typed.{After, renamed, after_split, formed_const, formed_if, formed_loop, formed_assign, part_formed}
-use Rattle.brace_invert.proofs.Sites.{FaultsAt, value_sited}
-use Rattle.brace_invert.proofs.Runs.{run, if_deed, loop_deed, goes_to, stops_at, by_stop, never_both, Goes, goes_itself, goes_run, head_if, head_loop, head_away, head_say, places_run}
+use Rattle.brace_invert.proofs.Typed.{After, renamed, after_split, after_cons, formed_const, formed_if, formed_loop, formed_assign, part_formed}
+use Rattle.brace_invert.proofs.Sites.{none_within, only_one, value_sited}
+use Rattle.brace_invert.proofs.Runs.{if_deed, loop_deed, Goes, goes_itself, goes_run, head_if, head_loop, head_away, head_say, places_run}
+use Rattle.brace_model.proofs.Deeds.{run, goes_to, stops_at, by_stop, never_both, grown, Halts, halts_one, inside_either}
+use Rattle.brace_model.proofs.Simulation.{Tie, IsTie, Sim, Stops, sim_none, sim_const, sim_if, sim_loop, sim_say, over_same}
+use Rattle.brace_model.specs.declared.program.Ty.{Ty}
 
 -- a fault of a query in a scope, at one of these sites
 pub record IsAt (scope : Scope) (sites : List ℕ) (g : Fault) : Type 0 where
@@ -39,136 +42,74 @@ pub record IsAt (scope : Scope) (sites : List ℕ) (g : Fault) : Type 0 where
   pub agent : g.agent ≡ scope.this.id
   pub site : Contains sites g.site
 
--- a deed whose faults stand at these sites, and which is cut short by a fault alone; its scope has the same agent and tick
-pub record Sited (scope : Scope) (sites : List ℕ) (d : Deed) : Type 0 where
-  pub this : d.scope.this ≡ scope.this
-  pub tick : d.scope.tick ≡ scope.tick
-  pub at : (g : Fault) → Contains d.faults g → IsAt scope sites g
-  pub stops : d.stopped ≡ true → (g : Fault) × Contains d.faults g
+-- faults of one agent at these sites
+module _ (m : Program) (w : List Agent) (base : Scope) (all : List ℕ) where
+  abbrev Found : Tie
+  Found p f q g = (x : Fault) → Contains f x → IsAt base all x
 
-at_more : (scope : Scope) (xs ys : List ℕ) (g : Fault) → ((x : ℕ) → Contains xs x → Contains ys x) → IsAt scope xs g → IsAt scope ys g
-at_more scope xs ys g more h = record { tick = h.tick; phase = h.phase; agent = h.agent; site = more g.site h.site }
+  found_tie : IsTie Found
+  found_tie = record {
+    none = λ x h. none_within _ x h;
+    join = λ p f q g pp ff qq gg h k x w. ⊎_elim (λ (y : Contains f x). h x y) (λ (y : Contains ff x). k x y) (Contains-append_cases f ff x w);
+  }
 
-sited_more : (scope : Scope) (xs ys : List ℕ) (d : Deed) → ((x : ℕ) → Contains xs x → Contains ys x) → Sited scope xs d → Sited scope ys d
-sited_more scope xs ys d more h = record { this = h.this; tick = h.tick; at = λ g w. at_more scope xs ys g more (h.at g w); stops = h.stops }
+  abbrev IsBased : Scope → Type 0
+  IsBased scope = (scope.this ≡ base.this) × (scope.tick ≡ base.tick)
 
-pub none_within : {A : Type 0} (P : Type 0) (x : A) → Contains [] x → P
-none_within P x (k, below, is) = absurd (omega (arith, below))
+  abbrev AreSited : List ℕ → Type 0
+  AreSited sites = (k : ℕ) → Contains sites k → Contains all k
 
-sited_silent : (scope : Scope) (n : ℕ) (v : Value) (sites : List ℕ) → Sited scope sites (silent (bound scope n v))
-sited_silent scope n v sites = record { this = refl; tick = refl; at = λ g h. none_within _ g h; stops = λ e. absurd (cc) }
+  abbrev Finds : List Stmt → Type 0
+  Finds s = Sim Found found_tie m m w w IsBased (λ scope n v at. at) s s
 
-pub only_one : (P : Fault → Type 0) (f g : Fault) → P f → Contains (f ∷ []) g → P g
-only_one P f g p (zero, below, is) = subst P is p
-only_one P f g p (suc k, below, is) = absurd (omega (arith, below))
+  finds_at : (e : Expr) (names : Names) (t : Ty) → type_of e names ≡ Some t → AreSited (sites_of e) → (scope : Scope) → IsBased scope → Stops Found found_tie scope (value e scope)
+  finds_at e names t typed sited scope at stop is x h =
+      only_one (IsAt base all) (query_fault scope stop) x (record { tick = at.1; phase = refl; agent = ap (λ a. a.id) at.0; site = sited stop.site (value_sited e names t typed scope stop is) }) h
 
-sited_halted : (scope : Scope) (stop : Stop) (sites : List ℕ) → Contains sites stop.site → Sited scope sites (halted scope stop)
-sited_halted scope stop sites h = record {
-  this = refl;
-  tick = refl;
-  at = λ g w. only_one (IsAt scope sites) (query_fault scope stop) g (record { tick = refl; phase = refl; agent = refl; site = h }) w;
-  stops = λ e. (query_fault scope stop, (0, omega arith, refl));
-}
+  left_sited : (xs ys : List ℕ) → AreSited (xs ++ ys) → AreSited xs
+  left_sited xs ys h k there = h k (Contains-append_left xs ys k there)
 
-sited_deed : (scope : Scope) (v : Worth) (next : Value → Deed) (xs ys : List ℕ) → FaultsAt v xs → ((x : Value) → Sited scope ys (next x)) → Sited scope (xs ++ ys) (deed_of scope v next)
-sited_deed scope (Ok x) next xs ys h g = sited_more scope ys (xs ++ ys) (next x) (λ n. Contains-append_right xs ys n) (g x)
-sited_deed scope (Err stop) next xs ys h g = sited_halted scope stop (xs ++ ys) (Contains-append_left xs ys stop.site (h stop refl))
+  right_sited : (xs ys : List ℕ) → AreSited (xs ++ ys) → AreSited ys
+  right_sited xs ys h k there = h k (Contains-append_right xs ys k there)
 
-sited_chosen : (scope : Scope) (v : Value) (a d : Deed) (xs : List ℕ) → Sited scope xs a → Sited scope xs d → Sited scope xs (chosen v a d)
-sited_chosen scope (Flag true) a d xs ha hd = ha
-sited_chosen scope (Flag false) a d xs ha hd = hd
-sited_chosen scope (Int n) a d xs ha hd = hd
-sited_chosen scope (Fixed n) a d xs ha hd = hd
+  -- the faults of a well-formed block
+  sited : (s : List Stmt) → Plain s → (names last : Names) → After s names last → AreSited (flat_map sites_in s) → Finds s
+  sited _ b.none names last e at = sim_none Found found_tie m m w w IsBased (λ scope n v at. at)
+  sited _ (b.const n x s h) names last e at =
+      let (mid, first, rest) = after_split (Const n x) s names last e in
+      let f = formed_const n x names mid first in
+      sim_const Found found_tie m m w w IsBased (λ scope n v at. at) n x s s (finds_at x names f.type f.typed (subst AreSited (sites_in-Const n x) (left_sited (sites_in (Const n x)) _ at)))
+      (sited s h mid last rest (right_sited (sites_in (Const n x)) _ at))
+  sited _ (b.cond c a d s ha hd h) names last e at =
+      let (mid, first, rest) = after_split (If c a d) s names last e in
+      let f = formed_if c a d names mid first in
+      let here = subst AreSited (sites-If c a d) (left_sited (sites_in (If c a d)) _ at) in
+      let blocks = right_sited (sites_of c) _ here in
+      sim_if Found found_tie m m w w IsBased (λ scope n v at. at) c a d s a d s (finds_at c names _ f.condition (left_sited (sites_of c) _ here))
+      (sited a ha names f.first.0 f.first.1 (left_sited (flat_map sites_in a) _ blocks)) (sited d hd names f.second.0 f.second.1 (right_sited (flat_map sites_in a) _ blocks))
+      (sited s h mid last rest (right_sited (sites_in (If c a d)) _ at))
+  sited _ (b.loop class here body s hb h) names last e at =
+      let (mid, first, rest) = after_split (Foreach class body here) s names last e in
+      let f = formed_loop class body here names mid first in
+      let inner = sited body hb f.inside f.body_is_formed.0 f.body_is_formed.1 (subst AreSited (sites-Foreach class body here) (left_sited (sites_in (Foreach class body here)) _ at)) in
+      sim_loop Found found_tie m m w w IsBased (λ scope n v at. at) class here body s body s
+      (λ scope is. over_same Found found_tie (λ x. run m w body (inside scope x)) (λ x. run m w body (inside scope x)) (seen_by m w scope.this class) (λ x there. (inner (inside scope x) (inside_either IsBased scope x is is)).tie))
+      (sited s h mid last rest (right_sited (sites_in (Foreach class body here)) _ at))
+  sited _ (b.say who effect x here s h) names last e at =
+      let (mid, first, rest) = after_split (Assign who effect x here) s names last e in
+      let f = formed_assign who effect x here names mid first in
+      sim_say Found found_tie m m w w IsBased (λ scope n v at. at) who effect x here s s
+      (finds_at x names f.type f.typed (subst AreSited (sites_in-Assign who effect x here) (left_sited (sites_in (Assign who effect x here)) _ at)))
+      (λ scope is v y h. none_within _ y h) (sited s h mid last rest (right_sited (sites_in (Assign who effect x here)) _ at))
 
-sited_closed : (scope : Scope) (d : Deed) (xs : List ℕ) → Sited scope xs d → Sited scope xs (closed scope d)
-sited_closed scope d xs h = record { this = refl; tick = refl; at = h.at; stops = h.stops }
+pub sited_run : (m : Program) (w : List Agent) (s : List Stmt) (names last : Names) → After s names last → (scope : Scope) (g : Fault) → Contains (run m w s scope).faults g → IsAt scope (flat_map sites_in s) g
+sited_run m w s names last e scope = (sited m w scope (flat_map sites_in s) s (plain s) names last e (λ k h. h) scope (refl, refl)).tie
 
-moved_at : (scope other : Scope) (xs : List ℕ) (g : Fault) → other.this ≡ scope.this → other.tick ≡ scope.tick → IsAt other xs g → IsAt scope xs g
-moved_at scope other xs g this tick h = record { tick = h.tick ∙ tick; phase = h.phase; agent = h.agent ∙ ap (λ a. a.id) this; site = h.site }
-
-sited_then : (scope : Scope) (d : Deed) (next : Scope → Deed) (xs ys : List ℕ) → Sited scope xs d → ((other : Scope) → Sited other ys (next other)) → Sited scope (xs ++ ys) (followed_by d next)
-sited_then scope d next xs ys h n = by_stop (Sited scope (xs ++ ys) (followed_by d next)) d
-    (λ stopped. subst (Sited scope (xs ++ ys)) (sym (stops_at d next stopped)) (sited_more scope xs (xs ++ ys) d (λ x. Contains-append_left xs ys x) h))
-    (λ on. subst (Sited scope (xs ++ ys)) (sym (goes_to d next on)) (let rest = n d.scope in record {
-      this = rest.this ∙ h.this;
-      tick = rest.tick ∙ h.tick;
-      at = λ g w. ⊎_elim (λ (x : Contains d.faults g). at_more scope xs (xs ++ ys) g (λ x. Contains-append_left xs ys x) (h.at g x))
-          (λ (x : Contains (next d.scope).faults g). at_more scope ys (xs ++ ys) g (λ x. Contains-append_right xs ys x) (moved_at scope d.scope ys g h.this h.tick (rest.at g x)))
-          (Contains-append_cases d.faults (next d.scope).faults g w);
-      stops = λ e. let (g, w) = rest.stops e in (g, Contains-append_right d.faults (next d.scope).faults g w);
-    }))
-
--- a loop's agent changes neither the agent that asks nor the tick
-either_scope : {A : Type 0} (f : Scope → A) (test : Bool) (x y : Scope) (a : A) → f x ≡ a → f y ≡ a → f (if test then x else y) ≡ a
-either_scope f true x y a p q = p
-either_scope f false x y a p q = q
-
-pub inside_this : (scope : Scope) (a : Agent) → (inside scope a).this ≡ scope.this
-inside_this scope a = either_scope (λ s. s.this) (is_none scope.outer) (record scope { outer = Some a }) (record scope { inner = Some a }) scope.this refl refl
-
-inside_tick : (scope : Scope) (a : Agent) → (inside scope a).tick ≡ scope.tick
-inside_tick scope a = either_scope (λ s. s.tick) (is_none scope.outer) (record scope { outer = Some a }) (record scope { inner = Some a }) scope.tick refl refl
-
-at_over : (scope : Scope) (xs : List ℕ) (f : Agent → Deed) → ((a : Agent) → Sited (inside scope a) xs (f a)) → (agents : List Agent) (g : Fault) → Contains (flat_map (λ d. d.faults) (map f agents)) g → IsAt scope xs g
-at_over scope xs f h [] g w = none_within _ g w
-at_over scope xs f h (a ∷ agents) g w =
-    ⊎_elim (λ (x : Contains (f a).faults g). moved_at scope (inside scope a) xs g (inside_this scope a) (inside_tick scope a) ((h a).at g x))
-    (λ (x : Contains (flat_map (λ d. d.faults) (map f agents)) g). at_over scope xs f h agents g x)
-    (Contains-append_cases (f a).faults (flat_map (λ d. d.faults) (map f agents)) g w)
-
-pub sited_const : (m : Program) (w : List Agent) (n : ℕ) (e : Expr) (names mid : Names) → scope_after (Const n e) names ≡ Some mid → (scope : Scope) → Sited scope (sites_in (Const n e)) (statement m w (Const n e) scope)
-sited_const m w n e names mid first scope =
-    let f = formed_const n e names mid first in
-    subst (Sited scope (sites_in (Const n e))) (sym (statement-Const m w n e scope))
-    (subst (λ xs. Sited scope xs (deed_of scope (value e scope) (λ v. silent (bound scope n v)))) (append-nil (sites_of e) ∙ sym (sites_in-Const n e))
-    (sited_deed scope (value e scope) _ (sites_of e) [] (value_sited e names f.type f.typed scope) (λ v. sited_silent scope n v [])))
-
-pub sited_say : (m : Program) (w : List Agent) (who : Who) (effect : ℕ) (e : Expr) (at : ℕ) (names mid : Names) → scope_after (Assign who effect e at) names ≡ Some mid → (scope : Scope)
-    → Sited scope (sites_in (Assign who effect e at)) (statement m w (Assign who effect e at) scope)
-sited_say m w who effect e at names mid first scope =
-    let f = formed_assign who effect e at names mid first in
-    subst (Sited scope (sites_in (Assign who effect e at))) (sym (statement-Assign m w who effect e at scope))
-    (subst (λ xs. Sited scope xs (deed_of scope (value e scope) (saying scope (agent_of scope who) effect))) (append-nil (sites_of e) ∙ sym (sites_in-Assign who effect e at))
-    (sited_deed scope (value e scope) _ (sites_of e) [] (value_sited e names f.type f.typed scope) (λ v. record { this = refl; tick = refl; at = λ g h. none_within _ g h; stops = λ e. absurd (cc) })))
-
-pub sited_if : (m : Program) (w : List Agent) (c : Expr) (a d : List Stmt) (names mid : Names) → scope_after (If c a d) names ≡ Some mid → (scope : Scope)
-    → Sited scope (flat_map sites_in a) (run m w a scope) → Sited scope (flat_map sites_in d) (run m w d scope) → Sited scope (sites_in (If c a d)) (statement m w (If c a d) scope)
-sited_if m w c a d names mid first scope ha hd =
-    let f = formed_if c a d names mid first in
-    let xs = flat_map sites_in a in
-    let ys = flat_map sites_in d in
-    subst (Sited scope (sites_in (If c a d))) (sym (statement-If m w c a d scope))
-    (subst (λ zs. Sited scope zs (if_deed m w c a d scope)) (sym (sites-If c a d))
-    (sited_deed scope (value c scope) _ (sites_of c) (xs ++ ys) (value_sited c names _ f.condition scope)
-    (λ v. sited_closed scope (chosen v (run m w a scope) (run m w d scope)) (xs ++ ys) (sited_chosen scope v (run m w a scope) (run m w d scope) (xs ++ ys)
-    (sited_more scope xs (xs ++ ys) (run m w a scope) (λ x. Contains-append_left xs ys x) ha) (sited_more scope ys (xs ++ ys) (run m w d scope) (λ x. Contains-append_right xs ys x) hd)))))
-
-pub sited_loop : (m : Program) (w : List Agent) (class at : ℕ) (body : List Stmt) (scope : Scope) → ((other : Scope) → Sited other (flat_map sites_in body) (run m w body other))
-    → Sited scope (sites_in (Foreach class body at)) (statement m w (Foreach class body at) scope)
-sited_loop m w class at body scope h =
-    subst (Sited scope (sites_in (Foreach class body at))) (sym (statement-Foreach m w class body at scope))
-    (subst (λ zs. Sited scope zs (loop_deed m w class body scope)) (sym (sites-Foreach class body at))
-    (record { this = refl; tick = refl; at = at_over scope (flat_map sites_in body) (λ a. run m w body (inside scope a)) (λ a. h (inside scope a)) (seen_by m w scope.this class); stops = λ e. absurd (cc) }))
-
--- the faults of a well-formed block
-pub sited_run : (m : Program) (w : List Agent) (s : List Stmt) → Plain s → (names last : Names) → After s names last → (scope : Scope) → Sited scope (flat_map sites_in s) (run m w s scope)
-sited_run m w _ b.none names last e scope = record { this = refl; tick = refl; at = λ g h. none_within _ g h; stops = λ e. absurd (cc) }
-sited_run m w _ (b.const n x s h) names last e scope =
-    let (mid, first, rest) = after_split (Const n x) s names last e in
-    sited_then scope (statement m w (Const n x) scope) (run m w s) _ _ (sited_const m w n x names mid first scope) (sited_run m w s h mid last rest)
-sited_run m w _ (b.cond c a d s ha hd h) names last e scope =
-    let (mid, first, rest) = after_split (If c a d) s names last e in
-    let f = formed_if c a d names mid first in
-    sited_then scope (statement m w (If c a d) scope) (run m w s) _ _
-    (sited_if m w c a d names mid first scope (sited_run m w a ha names f.first.0 f.first.1 scope) (sited_run m w d hd names f.second.0 f.second.1 scope)) (sited_run m w s h mid last rest)
-sited_run m w _ (b.loop class at body s hb h) names last e scope =
-    let (mid, first, rest) = after_split (Foreach class body at) s names last e in
-    let f = formed_loop class body at names mid first in
-    sited_then scope (statement m w (Foreach class body at) scope) (run m w s) _ _
-    (sited_loop m w class at body scope (sited_run m w body hb f.inside f.body_is_formed.0 f.body_is_formed.1)) (sited_run m w s h mid last rest)
-sited_run m w _ (b.say who effect x at s h) names last e scope =
-    let (mid, first, rest) = after_split (Assign who effect x at) s names last e in
-    sited_then scope (statement m w (Assign who effect x at) scope) (run m w s) _ _ (sited_say m w who effect x at names mid first scope) (sited_run m w s h mid last rest)
+sited_one : (m : Program) (w : List Agent) (x : Stmt) (s : List Stmt) (names last : Names) → After (x ∷ s) names last → (scope : Scope) (g : Fault) → Contains (statement m w x scope).faults g → IsAt scope (sites_in x) g
+sited_one m w x s names last e scope g h =
+    let (mid, first, rest) = after_split x s names last e in
+    subst (λ xs. IsAt scope xs g) (append-nil (sites_in x))
+    (sited_run m w (x ∷ []) names mid (after_cons x [] names mid mid first refl) scope g (grown (statement m w x scope) (run m w []) g h))
 
 -- a part finds what its block finds, or what comes after it
 abbrev pub Foretold : List Fault → List Fault → Type 0
@@ -210,12 +151,12 @@ never_behind : (d : Deed) (np : Scope → Deed) → Behind d d np
 never_behind d np stopped on = never_both _ d stopped on
 
 -- sites rise, so what comes behind is at a greater site
-rise_behind : (scope : Scope) (d p : Deed) (np : Scope → Deed) (xs ys zs : List ℕ) → Sited scope xs d → p.scope ≡ scope → Sited scope ys (np scope) → ((y : ℕ) → Contains ys y → Contains zs y) → Rising (xs ++ zs)
-    → Behind d p np
-rise_behind scope d p np xs ys zs sited same rest within rising stopped on g w =
-    let (f, found) = sited.stops stopped in
-    let here = sited.at f found in
-    let there = rest.at g (subst (λ s. Contains (np s).faults g) same w) in
+rise_behind : (scope : Scope) (d p : Deed) (np : Scope → Deed) (xs ys zs : List ℕ) → Halts d → ((g : Fault) → Contains d.faults g → IsAt scope xs g) → p.scope ≡ scope → ((g : Fault) → Contains (np scope).faults g → IsAt scope ys g)
+    → ((y : ℕ) → Contains ys y → Contains zs y) → Rising (xs ++ zs) → Behind d p np
+rise_behind scope d p np xs ys zs halts sited same rest within rising stopped on g w =
+    let (f, found) = halts stopped in
+    let here = sited f found in
+    let there = rest g (subst (λ s. Contains (np s).faults g) same w) in
     inr (
       f,
       found,
@@ -267,8 +208,8 @@ pub loop_scope : (m : Program) (w : List Agent) (class at : ℕ) (body : List St
 loop_scope m w class at body scope = ap (λ x. x.scope) (statement-Foreach m w class body at scope)
 
 -- a part of a block is well formed, so its faults are sited
-part_sited : (m : Program) (w : List Agent) (s p : List Stmt) → Pruned s p → (names last : Names) → After s names last → (scope : Scope) → Sited scope (flat_map sites_in p) (run m w p scope)
-part_sited m w s p h names last e scope = sited_run m w p (plain p) (renamed (λ q. q) names) (renamed (λ q. q) last) (part_formed (λ q. q) s p h names last e) scope
+part_sited : (m : Program) (w : List Agent) (s p : List Stmt) → Pruned s p → (names last : Names) → After s names last → (scope : Scope) (g : Fault) → Contains (run m w p scope).faults g → IsAt scope (flat_map sites_in p) g
+part_sited m w s p h names last e scope = sited_run m w p (renamed (λ q. q) names) (renamed (λ q. q) last) (part_formed (λ q. q) s p h names last e) scope
 
 pub foretold_run : (m : Program) (w : List Agent) (s p : List Stmt) → Pruned s p → (names last : Names) → After s names last → Rising (flat_map sites_in s) → (scope : Scope)
     → Foretold (run m w s scope).faults (run m w p scope).faults
@@ -288,7 +229,7 @@ foretold_run m w _ _ (pruned.cond c a pa d pd s p ha hd h) names last e r scope 
     (foretold_run m w d pd hd names f.second.0 f.second.1 (rising-right (flat_map sites_in a) _ blocks) scope))
     (head_if m w c a d pa pd scope (goes_run m w a pa ha scope) (goes_run m w d pd hd scope))
     (rise_behind scope (statement m w (If c a d) scope) (statement m w (If c pa pd) scope) (run m w p) (sites_in (If c a d)) (flat_map sites_in p) (flat_map sites_in s)
-    (sited_if m w c a d names mid first scope (sited_run m w a (plain a) names f.first.0 f.first.1 scope) (sited_run m w d (plain d) names f.second.0 f.second.1 scope))
+    (halts_one m w (If c a d) scope) (sited_one m w (If c a d) s names last e scope)
     (if_scope m w c pa pd scope) (part_sited m w s p h mid last rest scope) (λ y. sub-Contains _ _ y (sites_kept s p h)) r)
     (foretold_run m w s p h mid last rest (rising-right (sites_in (If c a d)) _ r))
 foretold_run m w _ _ (pruned.loop class at body pb s p hb h) names last e r scope =
@@ -298,7 +239,7 @@ foretold_run m w _ _ (pruned.loop class at body pb s p hb h) names last e r scop
     (foretold_loop m w class at body pb scope (foretold_run m w body pb hb f.inside f.body_is_formed.0 f.body_is_formed.1 (subst Rising (sites-Foreach class body at) (rising-left (sites_in (Foreach class body at)) _ r))))
     (head_loop m w class at body pb scope)
     (rise_behind scope (statement m w (Foreach class body at) scope) (statement m w (Foreach class pb at) scope) (run m w p) (sites_in (Foreach class body at)) (flat_map sites_in p) (flat_map sites_in s)
-    (sited_loop m w class at body scope (sited_run m w body (plain body) f.inside f.body_is_formed.0 f.body_is_formed.1))
+    (halts_one m w (Foreach class body at) scope) (sited_one m w (Foreach class body at) s names last e scope)
     (loop_scope m w class at pb scope) (part_sited m w s p h mid last rest scope) (λ y. sub-Contains _ _ y (sites_kept s p h)) r)
     (foretold_run m w s p h mid last rest (rising-right (sites_in (Foreach class body at)) _ r))
 foretold_run m w _ _ (pruned.away class at body s p h) names last e r scope =
@@ -307,7 +248,7 @@ foretold_run m w _ _ (pruned.away class at body s p h) names last e r scope =
     subst (λ x. Foretold (run m w (Foreach class body at ∷ s) scope).faults x.faults) (sym (places_run m w (flat_map constant_numbers body) p scope))
     (foretold_then (statement m w (Foreach class body at) scope) (silent scope) (run m w s) (run m w p) (foretold_nothing _) (head_away m w class at body scope)
     (rise_behind scope (statement m w (Foreach class body at) scope) (silent scope) (run m w p) (sites_in (Foreach class body at)) (flat_map sites_in p) (flat_map sites_in s)
-    (sited_loop m w class at body scope (sited_run m w body (plain body) f.inside f.body_is_formed.0 f.body_is_formed.1))
+    (halts_one m w (Foreach class body at) scope) (sited_one m w (Foreach class body at) s names last e scope)
     refl (part_sited m w s p h mid last rest scope) (λ y. sub-Contains _ _ y (sites_kept s p h)) r)
     (foretold_run m w s p h mid last rest (rising-right (sites_in (Foreach class body at)) _ r)))
 foretold_run m w _ _ (pruned.kept who effect x at s p h) names last e r scope =
@@ -319,6 +260,6 @@ foretold_run m w _ _ (pruned.left_out who effect x at s p h) names last e r scop
     let (mid, first, rest) = after_split (Assign who effect x at) s names last e in
     foretold_then (statement m w (Assign who effect x at) scope) (silent scope) (run m w s) (run m w p) (foretold_nothing _) (head_say m w who effect x at scope)
     (rise_behind scope (statement m w (Assign who effect x at) scope) (silent scope) (run m w p) (sites_in (Assign who effect x at)) (flat_map sites_in p) (flat_map sites_in s)
-    (sited_say m w who effect x at names mid first scope)
+    (halts_one m w (Assign who effect x at) scope) (sited_one m w (Assign who effect x at) s names last e scope)
     refl (part_sited m w s p h mid last rest scope) (λ y. sub-Contains _ _ y (sites_kept s p h)) r)
     (foretold_run m w s p h mid last rest (rising-right (sites_in (Assign who effect x at)) _ r))

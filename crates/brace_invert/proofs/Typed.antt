@@ -191,7 +191,7 @@ in_turn-append (x ∷ xs) ys names = in_turn-through xs ys (x names) (in_turn-ap
 pub after_split : (x : Stmt) (s : List Stmt) (names last : Names) → After (x ∷ s) names last → (mid : Names) × (scope_after x names ≡ Some mid) × After s mid last
 after_split x s names last e = two_steps (in_turn (map scope_after s)) (scope_after x names) last e
 
-after_cons : (x : Stmt) (s : List Stmt) (names mid last : Names) → scope_after x names ≡ Some mid → After s mid last → After (x ∷ s) names last
+pub after_cons : (x : Stmt) (s : List Stmt) (names mid last : Names) → scope_after x names ≡ Some mid → After s mid last → After (x ∷ s) names last
 after_cons x s names mid last first rest = ap (option_and_then (in_turn (map scope_after s))) first ∙ rest
 
 after_append : (r s : List Stmt) (names mid last : Names) → After r names mid → After s mid last → After (r ++ s) names last

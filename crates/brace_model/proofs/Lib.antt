@@ -1,9 +1,12 @@
 mod Examples
+pub mod Blocks
+pub mod Deeds
 pub mod FaultLemmas
+pub mod Folds
 pub mod LawEquations
 mod LawfulExamples
 mod LifeExamples
 pub mod ValueEquations
 pub mod RunLemmas
-pub mod StepLemmas
+pub mod Simulation
 pub mod WorldLemmas

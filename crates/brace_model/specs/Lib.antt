@@ -7,7 +7,6 @@ pub mod Next
 pub mod Step
 pub mod Run
 pub mod Published
-pub mod Rules
 pub mod Sites
 pub mod Typing
 pub mod Lawful

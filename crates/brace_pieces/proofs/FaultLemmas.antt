@@ -26,9 +26,9 @@ use Rattle.brace_model.specs.Step.{all_next, living, children, first_too_far, bi
 use Rattle.brace_model.proofs.FaultLemmas.{before_itself, least_is, least_none}
 use Rattle.brace_invert.specs.Inversion.{found_by_both}
 use Rattle.brace_invert.proofs.Inverting.{least_same}
-use Rattle.brace_invert.proofs.Blocks.{plain}
 use Rattle.brace_invert.proofs.Typed.{is_there}
-use Rattle.brace_invert.proofs.Traces.{sited_run, none_within}
+use Rattle.brace_invert.proofs.Sites.{none_within}
+use Rattle.brace_invert.proofs.Traces.{sited_run}
 use Rattle.brace_pieces.specs.declared.setting.Setting.{Setting}
 use Rattle.brace_pieces.specs.Continued.{listed, birth_faults, update_faults}
 use Rattle.brace_pieces.specs.Finds.{all_queries_found}
@@ -76,8 +76,8 @@ query_is_of m lawful seed t w a None e g h = none_within (IsOf t Query g) g h
 query_is_of m lawful seed t w a (Some class) e g h =
     let here = lawful.classes_are_lawful a.class class e in
     let (last, formed) = is_there (in_turn (map scope_after class.query) (query_scope m a.class)) here.query_is_typed in
-    let sited = sited_run m w class.query (plain class.query) (query_scope m a.class) last formed (opening_scope seed t class.query [] a) in
-    record { tick = (sited.at g h).tick; phase = (sited.at g h).phase }
+    let at = sited_run m w class.query (query_scope m a.class) last formed (opening_scope seed t class.query [] a) g h in
+    record { tick = at.tick; phase = at.phase }
 
 pub queries_are_of : (m : Program) → LawfulProgram m → (seed t : ℕ) (w : List Agent) (g : Fault) → Contains (query_faults m seed t w) g → IsOf t Query g
 queries_are_of m lawful seed t w g h = contains_some (IsOf t Query) (λ a. (query_of m seed t w a).faults) (λ a b y. query_is_of m lawful seed t w a (class_of m a) refl b y) w g h

@@ -27,7 +27,7 @@ use Rattle.brace_invert.specs.Held.{is_in, is_near, HoldsNear}
 use Rattle.brace_invert.proofs.Nearness.{nearer}
 use Rattle.brace_invert.proofs.Heard.{seen_in}
 use Rattle.brace_invert.proofs.Owners.{range_reaches}
-use Rattle.brace_invert.proofs.Traces.{none_within}
+use Rattle.brace_invert.proofs.Sites.{none_within}
 use Rattle.brace_pieces.specs.declared.setting.Setting.{Setting}
 use Rattle.brace_pieces.specs.Settings.{LawfulSetting, range, cuts_of, parts}
 use Rattle.brace_pieces.specs.Owned.{owns_at, owns}

@@ -43,19 +43,6 @@ given_by_held to t h [] none = refl
 given_by_held to t h (x ∷ xs) none =
     given_step to t h x xs (h x) refl (none x (0, omega arith, refl)) (given_by_held to t h xs (λ y w. none y (behind x y xs w)))
 
--- of two tests the second lets through what passes the first
-kept_of_kept : {A : Type 0} (t h : A → Bool) (x : A) (xs : List A) (tx hx : Bool) → t x ≡ tx → h x ≡ hx → (tx ≡ true → hx ≡ true) → filter t (filter h xs) ≡ filter t xs → filter t (filter h (x ∷ xs)) ≡ filter t (x ∷ xs)
-kept_of_kept t h x xs tx true et eh imp rest =
-    ap (λ c. filter t (cond c (x ∷ filter h xs) (filter h xs))) eh ∙ ap (λ ys. cond (t x) (x ∷ ys) ys) rest
-kept_of_kept t h x xs false false et eh imp rest =
-    ap (λ c. filter t (cond c (x ∷ filter h xs) (filter h xs))) eh ∙ rest ∙ sym (ap (λ c. cond c (x ∷ filter t xs) (filter t xs)) et)
-kept_of_kept t h x xs true false et eh imp rest = absurd (true≢false (sym (imp refl)))
-
-pub kept_twice : {A : Type 0} (t h : A → Bool) (xs : List A) → ((x : A) → Contains xs x → t x ≡ true → h x ≡ true) → filter t (filter h xs) ≡ filter t xs
-kept_twice t h [] imp = refl
-kept_twice t h (x ∷ xs) imp =
-    kept_of_kept t h x xs (t x) (h x) refl refl (imp x (0, omega arith, refl)) (kept_twice t h xs (λ y w. imp y (behind x y xs w)))
-
 -- two functions that give the same for each element of a list
 pub given_alike : {A B : Type 0} (f g : A → List B) (xs : List A) → ((x : A) → Contains xs x → f x ≡ g x) → flat_map f xs ≡ flat_map g xs
 given_alike f g [] h = refl

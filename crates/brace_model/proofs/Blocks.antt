@@ -40,3 +40,22 @@ statement_plain = ind-Stmt IsPlain (λ x y is. subst (λ z. IsPlain (roll-Stmt z
 pub plain : (s : List Stmt) → Plain s
 plain [] = none
 plain (x ∷ s) = statement_plain x s (plain s)
+
+-- a block whose assignments are to some names alone
+pub data Allowed (P : Who → Type 0) : List Stmt → Type 0 where
+  none : Allowed P []
+  const : (n : ℕ) (e : Expr) (s : List Stmt) → Allowed P s → Allowed P (Const n e ∷ s)
+  cond : (c : Expr) (x y s : List Stmt) → Allowed P x → Allowed P y → Allowed P s → Allowed P (If c x y ∷ s)
+  loop : (class at : ℕ) (body s : List Stmt) → Allowed P body → Allowed P s → Allowed P (Foreach class body at ∷ s)
+  say : (x : Who) (effect : ℕ) (e : Expr) (at : ℕ) (s : List Stmt) → P x → Allowed P s → Allowed P (Assign x effect e at ∷ s)
+
+pub all_allowed : (P : Who → Type 0) → ((x : Who) → P x) → (s : List Stmt) → Plain s → Allowed P s
+all_allowed P each _ none = none
+all_allowed P each _ (const n e s h) = const n e s (all_allowed P each s h)
+all_allowed P each _ (cond c x y s hx hy h) = cond c x y s (all_allowed P each x hx) (all_allowed P each y hy) (all_allowed P each s h)
+all_allowed P each _ (loop class at body s hb h) = loop class at body s (all_allowed P each body hb) (all_allowed P each s h)
+all_allowed P each _ (say x effect e at s h) = say x effect e at s (each x) (all_allowed P each s h)
+
+-- a block may assign to any name
+pub free : (s : List Stmt) → Allowed (λ x. Unit {0}) s
+free s = all_allowed (λ x. Unit {0}) (λ x. tt) s (plain s)
