@@ -1,6 +1,7 @@
 -- Scripts that are the same apart from places have the same faults, targets and programs.
 use Rattle.std.proofs.Common.{◌≡◌, refl, sym, ap, subst, ◌∙◌, ℕ, List, [], ◌∷◌, ◌++◌, map, flat_map, length}
 use Rattle.std.specs.Prelude.{slice_get}
+use Rattle.brace_num.proofs.Lists.{none_front}
 use Rattle.brace_tok.specs.declared.kinds.Token.{Token}
 use Rattle.brace_tok.proofs.Unique.{one_list}
 use Rattle.brace_syntax.specs.declared.tree.ClassTree.{ClassTree}
@@ -33,7 +34,6 @@ use Rattle.brace_check.specs.Meanings.{Sited}
 use Rattle.brace_check.specs.Programs.{classes_from, program_with, program_of}
 use Rattle.brace_check.specs.Resolved.{IsResolved}
 use Rattle.brace_check.specs.Scopes.{targets_of}
-use Rattle.brace_check.proofs.CheckedMembers.{nil_front}
 use Rattle.brace_check.proofs.Places.{AllFine, all_fine}
 use Rattle.brace_check.proofs.TypeSound.{all_back}
 use Rattle.brace_layout.specs.Formatted.{IsFormatted}
@@ -103,8 +103,8 @@ module _ (src : List ℕ) (r : Resolved) (is : IsResolved src r) where
   no_fault : flat_map fault_of all_found ≡ []
   no_fault =
       let sites : List NameFault = too_many which.Sites (slice_get (flat_map site_of all_found) 4096) in
-      nil_front (flat_map fault_of all_found) sites
-      (nil_front (flat_map fault_of all_found ++ sites) (too_many which.Assignments (slice_get (flat_map assignment_of all_found) 4096)) is.faultless)
+      none_front (flat_map fault_of all_found) sites
+      (none_front (flat_map fault_of all_found ++ sites) (too_many which.Assignments (slice_get (flat_map assignment_of all_found) 4096)) is.faultless)
 
   fine : AllFine targets all_found
   fine =

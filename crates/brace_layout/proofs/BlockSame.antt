@@ -3,6 +3,7 @@ use Rattle.std.proofs.Common.{◌≡◌, refl, sym, ap, subst, ◌∙◌, ℕ, �
 use Rattle.std.specs.Prelude.{not, nat_le, Option, Some, None, option_and_then, Result, Ok, Err}
 use Rattle.std.proofs.lemmas.Bool.{true≢false}
 use Rattle.std.proofs.lemmas.List.Sums.{sum_by-cons}
+use Rattle.brace_num.proofs.Lists.{each_front}
 use Rattle.brace_syntax.specs.declared.tree.Ident.{Ident}
 use Rattle.brace_syntax.specs.declared.tree.TyName.{TyName}
 use Rattle.brace_syntax.specs.declared.tree.TyName.TheVariants as tyname
@@ -43,7 +44,7 @@ use Rattle.brace_check.specs.Meanings.{Sited, plain, followed, with_sites, assig
 use Rattle.brace_check.specs.Meanings as means
 use Rattle.brace_check.proofs.ByKind.{ProvedStmt, stmts_of, Statements, proved, stmts-proved}
 use Rattle.brace_check.proofs.Folds.{of-Const, of-when, of-either, of-Foreach, of-Assign, of-AssignThis, of-AssignLoop}
-use Rattle.brace_check.proofs.TypeSound.{all_front, all_back}
+use Rattle.brace_check.proofs.TypeSound.{all_back}
 use Rattle.brace_layout.specs.Unplaced.{stmt_step, stmt_at_0}
 use Rattle.brace_layout.proofs.Codes.{Coded, AllCoded}
 use Rattle.brace_layout.proofs.Recoded.{as_field, as_variable, as_loop_field, as_class, recoded, Recoded, parts_of, trees_in, recoded_stmt_step, recoded_stmt}
@@ -193,7 +194,7 @@ module _ (table : List (ℕ × Target)) where
         let d : Scope = retargeted table c in
         let y : StmtTree = r.tree n in
         let ys : List StmtTree = trees_in rs (names.behind r.part n) in
-        let h : StepSame p (found.part y) s (means.part y) c = one.step n c asked (all_front (Coded table c.targets) (n_part.found n) (names.block ns later) fine) in
+        let h : StepSame p (found.part y) s (means.part y) c = one.step n c asked (each_front (Coded table c.targets) (n_part.found n) (names.block ns later) fine) in
         let still : Asked later (past p.constants c) = (declared_asked n_part.declared n ∙ asked.0, asked.1) in
         let g : RunSame ps (map found.part ys) ss (map means.part ys) (past p.constants c) =
         subst (λ (m : scopes.Scope). RunSame ps (map found.part (trees_in rs m)) ss (map means.part (trees_in rs m)) (past p.constants c)) (sym (one.scope n))
@@ -300,8 +301,8 @@ module _ (table : List (ℕ × Target)) where
         let v : ExprTree = recoded (expr_at_0 w) n in
         let d : Scope = retargeted table c in
         let both : AllCoded table c.targets (names.expression w n ++ names.block (map names.part a) n) =
-        all_front (Coded table c.targets) (names.expression w n ++ names.block (map names.part a) n) [] fine in
-        let all : AllCoded table c.targets (names.expression w n) = all_front (Coded table c.targets) (names.expression w n) (names.block (map names.part a) n) both in
+        each_front (Coded table c.targets) (names.expression w n ++ names.block (map names.part a) n) [] fine in
+        let all : AllCoded table c.targets (names.expression w n) = each_front (Coded table c.targets) (names.expression w n) (names.block (map names.part a) n) both in
         let g : RunSame (map found.part a) (map found.part ys) (map means.part a) (map means.part ys) c =
         first.run n c asked (all_back (Coded table c.targets) (names.expression w n) (names.block (map names.part a) n) both) in
         stepped (s.If v ys None 0) _ _ _ _ c (of-when found.part_step v ys 0) (of-when means.part_step v ys 0)
@@ -338,8 +339,8 @@ module _ (table : List (ℕ × Target)) where
             let d : Scope = retargeted table c in
             let before : List Finding = names.expression w n ++ names.block (map names.part a) n in
             let last : List Finding = names.block (map names.part b) later in
-            let both : AllCoded table c.targets before = all_front (Coded table c.targets) before last fine in
-            let all : AllCoded table c.targets (names.expression w n) = all_front (Coded table c.targets) (names.expression w n) (names.block (map names.part a) n) both in
+            let both : AllCoded table c.targets before = each_front (Coded table c.targets) before last fine in
+            let all : AllCoded table c.targets (names.expression w n) = each_front (Coded table c.targets) (names.expression w n) (names.block (map names.part a) n) both in
             let g : RunSame (map found.part a) (map found.part ys) (map means.part a) (map means.part ys) c =
             first.run n c asked (all_back (Coded table c.targets) (names.expression w n) (names.block (map names.part a) n) both) in
             let here : Scope = past (constants_in (map found.part a)) c in
@@ -387,9 +388,9 @@ module _ (table : List (ℕ × Target)) where
         let head : List Finding = f.loops_over n class other ++ f.declares n variable in
         let body : List Finding = names.block (map names.part a) inner in
         let over : AllCoded table c.targets (f.loops_over n class other) =
-        all_front (Coded table c.targets) (f.loops_over n class other) (f.declares n variable) (all_front (Coded table c.targets) head body fine) in
+        each_front (Coded table c.targets) (f.loops_over n class other) (f.declares n variable) (each_front (Coded table c.targets) head body fine) in
         let one : look table named.at ≡ look c.targets class.at =
-        class_stands c.targets class o (all_front (Coded table c.targets) (f.names_class class.at o) (f.names_again n class other) over) in
+        class_stands c.targets class o (each_front (Coded table c.targets) (f.names_class class.at o) (f.names_again n class other) over) in
         let k : ℕ = number_of (stands c class.at) in
         let k0 : ℕ = number_of (stands d named.at) in
         let number : k0 ≡ k = ap number_of one in
@@ -444,7 +445,7 @@ module _ (table : List (ℕ × Target)) where
       let d : Scope = retargeted table c in
       let all : AllCoded table c.targets (names.expression x n) = all_back (Coded table c.targets) (f.assigns n at name) (names.expression x n) fine in
       let one : look table named.at ≡ look c.targets name.at =
-      field_stands table c.targets at name o (all_front (Coded table c.targets) (f.names_field at name o) (f.assignment at) (all_front (Coded table c.targets) (f.assigns n at name) (names.expression x n) fine)) in
+      field_stands table c.targets at name o (each_front (Coded table c.targets) (f.names_field at name o) (f.assignment at) (each_front (Coded table c.targets) (f.assigns n at name) (names.expression x n) fine)) in
       record {
         types = refl;
         kinds = refl;
@@ -514,7 +515,7 @@ module _ (table : List (ℕ × Target)) where
       → BothStand table targets variable name (as_variable (ident_at_0 variable) (named_in n.locals variable.text)) (as_loop_field n (ident_at_0 name) (named_in n.locals variable.text))
   loop_both variable name x n targets fine =
       loop_stands table targets n variable name (named_in n.locals variable.text)
-      (all_front (Coded table targets) (f.names_of_loop n variable name) (f.assignment variable.at) (all_front (Coded table targets) (f.assigns_of_loop n variable name) (names.expression x n) fine))
+      (each_front (Coded table targets) (f.names_of_loop n variable name) (f.assignment variable.at) (each_front (Coded table targets) (f.assigns_of_loop n variable name) (names.expression x n) fine))
 
   kinds_same : Statements StmtSame
   kinds_same = record {

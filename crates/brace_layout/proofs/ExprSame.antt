@@ -3,6 +3,7 @@ use Rattle.std.proofs.Common.{◌≡◌, refl, sym, ap, subst, ◌∙◌, ℕ, �
 use Rattle.std.specs.Prelude.{not, ◌&&◌, ◌==◌, Option, Some, None, option_and_then, slice_get, Result, Ok, Err, if◌then◌else◌}
 use mathlib.Core.List.{map-append}
 use Rattle.std.proofs.lemmas.Bool.{cases_Bool, true≢false}
+use Rattle.brace_num.proofs.Lists.{each_front, none_front}
 use Rattle.brace_syntax.specs.declared.tree.Ident.{Ident}
 use Rattle.brace_syntax.specs.declared.tree.Number.{Number}
 use Rattle.brace_syntax.specs.declared.tree.UnName.{UnName}
@@ -39,8 +40,8 @@ use Rattle.brace_check.specs.Meanings as means
 use Rattle.brace_check.specs.Meanings.{Sited, plain, site_if, literal, total, named, agent_of}
 use Rattle.brace_check.proofs.ByKind.{Expressions, of_expression}
 use Rattle.brace_check.proofs.Equations.{type-Lit, type-True, type-False, type-Name, type-OfThis, type-OfLoop, type-Unary, type-Binary, type-Choice, type-Rand, found-Lit, found-True, found-False, found-Name, found-OfThis, found-OfLoop, found-Unary, found-Binary, found-Choice, found-Rand, meant-Lit, meant-True, meant-False, meant-Name, meant-OfThis, meant-OfLoop, meant-Unary, meant-Binary, meant-Choice, meant-Rand}
-use Rattle.brace_check.proofs.CheckedMembers.{nil_front, nil_back}
-use Rattle.brace_check.proofs.TypeSound.{all_front, all_back}
+use Rattle.brace_check.proofs.CheckedMembers.{nil_back}
+use Rattle.brace_check.proofs.TypeSound.{all_back}
 use Rattle.brace_layout.specs.Unplaced.{check_fault_at_0}
 use Rattle.brace_layout.proofs.Codes.{Coded, AllCoded}
 use Rattle.brace_layout.proofs.Recoded.{as_field, as_read, as_variable, as_loop_field, recoded, recoded-Lit, recoded-True, recoded-False, recoded-Name, recoded-OfThis, recoded-OfLoop, recoded-Unary, recoded-Binary, recoded-Choice, recoded-Rand}
@@ -90,7 +91,7 @@ Clear query faults = (query ≡ true) ⊎ (faults ≡ [])
 
 clear_front : (query : Bool) (xs ys : List CheckFault) → Clear query (xs ++ ys) → Clear query xs
 clear_front query xs ys (inl asked) = inl asked
-clear_front query xs ys (inr none) = inr (nil_front xs ys none)
+clear_front query xs ys (inr none) = inr (none_front xs ys none)
 
 clear_back : (query : Bool) (xs ys : List CheckFault) → Clear query (xs ++ ys) → Clear query ys
 clear_back query xs ys (inl asked) = inl asked
@@ -387,7 +388,7 @@ module _ (table : List (ℕ × Target)) where
       → look table (as_read n (ident_at_0 name) o).at ≡ look targets name.at
   read_stands targets n name None fine =
       let o : Option Field = named_in n.own name.text in
-      field_stands targets name.at name o (all_front (Coded table targets) (f.names_field name.at name o) (f.summed n name.at o) fine)
+      field_stands targets name.at name o (each_front (Coded table targets) (f.names_field name.at name o) (f.summed n name.at o) fine)
   read_stands targets n name (Some k) fine = fine.0
 
   pub record BothStand (targets : List (ℕ × Target)) (variable name v u : Ident) : Type 0 where
@@ -456,14 +457,14 @@ module _ (table : List (ℕ × Target)) where
         let y : Ident = as_field (ident_at_0 name) o in
         turned (e.OfThis name at) (e.OfThis y 0) _ c _ _ (sense-OfThis c name at) (recoded-OfThis n name at) (sense-OfThis (retargeted c) y 0)
         (field_same c.in_query c at 0 (stands c name.at) (stands (retargeted c) y.at)
-        (field_stands c.targets at name o (all_front (Coded table c.targets) (f.names_field at name o) (f.summed n at o) (subst (AllCoded table c.targets) (q.in_OfThis name at n) fine))));
+        (field_stands c.targets at name o (each_front (Coded table c.targets) (f.names_field at name o) (f.summed n at o) (subst (AllCoded table c.targets) (q.in_OfThis name at n) fine))));
     of_loop = loop_same;
     unary = λ op x at hx n c both none fine.
         let all : AllCoded table c.targets (names.expression x n ++ f.operation (f.unary_site op) at) = subst (AllCoded table c.targets) (q.in_Unary op x at n) fine in
         let y : ExprTree = recoded (expr_at_0 x) n in
         turned (e.Unary op x at) (e.Unary op y 0) _ c _ _ (sense-Unary c op x at) (recoded-Unary n op x at) (sense-Unary (retargeted c) op y 0)
         (unary_same c.in_query op at 0 (sense x c) (sense y (retargeted c))
-        (hx n c both none (all_front (Coded table c.targets) (names.expression x n) (f.operation (f.unary_site op) at) all)));
+        (hx n c both none (each_front (Coded table c.targets) (names.expression x n) (f.operation (f.unary_site op) at) all)));
     binary = λ op x y at hx hy n c both none fine.
         let last : List Finding = f.operation (f.binary_site op) at in
         let all : AllCoded table c.targets (names.expression x n ++ (names.expression y n ++ last)) = subst (AllCoded table c.targets) (q.in_Binary op x y at n) fine in
@@ -472,18 +473,18 @@ module _ (table : List (ℕ × Target)) where
         let b : ExprTree = recoded (expr_at_0 y) n in
         turned (e.Binary op x y at) (e.Binary op a b 0) _ c _ _ (sense-Binary c op x y at) (recoded-Binary n op x y at) (sense-Binary (retargeted c) op a b 0)
         (binary_same c.in_query op at 0 (sense x c) (sense y c) (sense a (retargeted c)) (sense b (retargeted c))
-        (hx n c both none (all_front (Coded table c.targets) (names.expression x n) (names.expression y n ++ last) all))
-        (hy n c both none (all_front (Coded table c.targets) (names.expression y n) last rest)));
+        (hx n c both none (each_front (Coded table c.targets) (names.expression x n) (names.expression y n ++ last) all))
+        (hy n c both none (each_front (Coded table c.targets) (names.expression y n) last rest)));
     choice = λ w x y at hw hx hy n c both none fine.
         let all : AllCoded table c.targets (names.expression w n ++ names.expression x n ++ names.expression y n) = subst (AllCoded table c.targets) (q.in_Choice w x y at n) fine in
         let front : AllCoded table c.targets (names.expression w n ++ names.expression x n) =
-        all_front (Coded table c.targets) (names.expression w n ++ names.expression x n) (names.expression y n) all in
+        each_front (Coded table c.targets) (names.expression w n ++ names.expression x n) (names.expression y n) all in
         let v : ExprTree = recoded (expr_at_0 w) n in
         let a : ExprTree = recoded (expr_at_0 x) n in
         let b : ExprTree = recoded (expr_at_0 y) n in
         turned (e.Choice w x y at) (e.Choice v a b 0) _ c _ _ (sense-Choice c w x y at) (recoded-Choice n w x y at) (sense-Choice (retargeted c) v a b 0)
         (choice_same c.in_query at 0 (sense w c) (sense x c) (sense y c) (sense v (retargeted c)) (sense a (retargeted c)) (sense b (retargeted c))
-        (hw n c both none (all_front (Coded table c.targets) (names.expression w n) (names.expression x n) front))
+        (hw n c both none (each_front (Coded table c.targets) (names.expression w n) (names.expression x n) front))
         (hx n c both none (all_back (Coded table c.targets) (names.expression w n) (names.expression x n) front))
         (hy n c both none (all_back (Coded table c.targets) (names.expression w n ++ names.expression x n) (names.expression y n) all)));
     rand = λ at n c both none fine.

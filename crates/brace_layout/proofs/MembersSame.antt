@@ -1,6 +1,7 @@
 -- A class has the same faults and, but for offsets, one meaning wherever its names stand, as long as they stand for the same.
 use Rattle.std.proofs.Common.{◌≡◌, refl, sym, ap, subst, ◌∙◌, ℕ, ◌+◌, ℤ, Bool, true, false, List, [], ◌∷◌, ◌++◌, map, flat_map, inr}
 use Rattle.std.specs.Prelude.{not, Option, Some, None, slice_get, unwrap_or, codes}
+use Rattle.brace_num.proofs.Lists.{each_front, none_front}
 use mathlib.Core.List.{map-append}
 use Rattle.brace_syntax.specs.declared.tree.Ident.{Ident}
 use Rattle.brace_syntax.specs.declared.tree.TyName.{TyName}
@@ -48,8 +49,8 @@ use Rattle.brace_check.specs.Found as found
 use Rattle.brace_check.specs.Meanings.{Sited, plain, followed, with_sites}
 use Rattle.brace_check.specs.Meanings as means
 use Rattle.brace_check.specs.Programs.{rule, gifts_in, spawn_of, no_share, share, shared_by, shares, effect_of, visible_of, reach_of, first_or_0, place_of, class_with, class_of, classes_from}
-use Rattle.brace_check.proofs.CheckedMembers.{nil_front, nil_back}
-use Rattle.brace_check.proofs.TypeSound.{all_front, all_back}
+use Rattle.brace_check.proofs.CheckedMembers.{nil_back}
+use Rattle.brace_check.proofs.TypeSound.{all_back}
 use Rattle.brace_layout.specs.Unplaced.{stmt_at_0, class_at_0}
 use Rattle.brace_layout.proofs.Codes.{Coded, AllCoded}
 use Rattle.brace_layout.proofs.Recoded.{as_field, recoded, trees_in, recoded_gift, recoded_member, recoded_class}
@@ -90,7 +91,7 @@ module _ (table : List (ℕ × Target)) where
       → SameUnder same_ (means.expression x c) (means.expression (recoded (expr_at_0 x) n) (retargeted table c))
   meant_outside x n c apart fine want clean =
       as_same (means.expression x c) (means.expression (recoded (expr_at_0 x) n) (retargeted table c))
-      ((outside x n c apart fine).meant (inr (nil_front (found.expression x c) (misfits want (place x) (type_of x c)) clean)))
+      ((outside x n c apart fine).meant (inr (none_front (found.expression x c) (misfits want (place x) (type_of x c)) clean)))
 
   -- gifts
   gift_stands : (n : scopes.Scope) (c : Scope) (g : GiftTree) → AllCoded table c.targets (names.gift n g)
@@ -98,8 +99,8 @@ module _ (table : List (ℕ × Target)) where
   gift_stands n c g fine =
       let o : Option Field = named_in n.own g.state.text in
       field_stands table c.targets g.state.at g.state o
-      (all_front (Coded table c.targets) (f.names_field g.state.at g.state o) (f.assignment g.state.at)
-      (all_front (Coded table c.targets) (f.assigns n g.state.at g.state) (names.expression g.value n) fine))
+      (each_front (Coded table c.targets) (f.names_field g.state.at g.state o) (f.assignment g.state.at)
+      (each_front (Coded table c.targets) (f.assigns n g.state.at g.state) (names.expression g.value n) fine))
 
   gift_value : (n : scopes.Scope) (c : Scope) (g : GiftTree) → AllCoded table c.targets (names.gift n g) → AllCoded table c.targets (names.expression g.value n)
   gift_value n c g fine = all_back (Coded table c.targets) (f.assigns n g.state.at g.state) (names.expression g.value n) fine
@@ -124,7 +125,7 @@ module _ (table : List (ℕ × Target)) where
     gifts_same [] fine = refl
     gifts_same (g ∷ gifts) fine =
         faults_both (found.gift c g) (flat_map (found.gift c) gifts) (found.gift (retargeted table c) (again g)) (flat_map (found.gift (retargeted table c)) (map (recoded_gift n) (map gift_at_0 gifts)))
-        (gift_same g (all_front (Coded table c.targets) (names.gift n g) (flat_map (names.gift n) gifts) fine))
+        (gift_same g (each_front (Coded table c.targets) (names.gift n g) (flat_map (names.gift n) gifts) fine))
         (gifts_same gifts (all_back (Coded table c.targets) (names.gift n g) (flat_map (names.gift n) gifts) fine))
 
     abbrev given_by : Option Target → Expr → List Gift → List Gift
@@ -135,14 +136,14 @@ module _ (table : List (ℕ × Target)) where
     gifts_meant [] fine clean = record { sites = refl; means = λ k. refl }
     gifts_meant (g ∷ gifts) fine clean =
         let d : Scope = retargeted table c in
-        let here : AllCoded table c.targets (names.gift n g) = all_front (Coded table c.targets) (names.gift n g) (flat_map (names.gift n) gifts) fine in
+        let here : AllCoded table c.targets (names.gift n g) = each_front (Coded table c.targets) (names.gift n g) (flat_map (names.gift n) gifts) fine in
         let rest : List GiftTree = map (recoded_gift n) (map gift_at_0 gifts) in
         let y : ExprTree = recoded (expr_at_0 g.value) n in
         let t : Option Target = stands c g.state.at in
         let u : Option Target = stands d (again g).state.at in
         let one : u ≡ t = gift_stands n c g here in
         let value : valued (given_type c t) g.value c ≡ [] =
-        nil_back (gives g.state.at t) (valued (given_type c t) g.value c) (nil_front (found.gift c g) (flat_map (found.gift c) gifts) clean) in
+        nil_back (gives g.state.at t) (valued (given_type c t) g.value c) (none_front (found.gift c g) (flat_map (found.gift c) gifts) clean) in
         followed_same same_ same_ same_ (given_by t) (given_by t) (given_by u) (λ x xs. refl) (λ x xs. ap (λ (v : Option Target). given_by v x xs) one)
         (means.expression g.value c) (means.expression y d) (gifts_in gifts c) (gifts_in rest d)
         (meant_outside g.value n c apart (gift_value n c g here) (given_type c t) value)
@@ -229,15 +230,15 @@ module _ (table : List (ℕ × Target)) where
         let value : List CheckFault = valued (Some ty.Bool) x c in
         let given : List Finding = flat_map (names.gift names_) gifts in
         let repeats : List Finding = f.faults_at DuplicateName (repeated (names.states_given names_ gifts)) in
-        let first : AllCoded table targets (names.expression x names_) = all_front (Coded table targets) (names.expression x names_) (names.gifts_found names_ gifts at) fine in
+        let first : AllCoded table targets (names.expression x names_) = each_front (Coded table targets) (names.expression x names_) (names.gifts_found names_ gifts at) fine in
         let both : AllCoded table targets (given ++ repeats) =
-        all_front (Coded table targets) (given ++ repeats) (f.site at) (all_back (Coded table targets) (names.expression x names_) (names.gifts_found names_ gifts at) fine) in
-        let there : AllCoded table targets given = all_front (Coded table targets) given repeats both in
+        each_front (Coded table targets) (given ++ repeats) (f.site at) (all_back (Coded table targets) (names.expression x names_) (names.gifts_found names_ gifts at) fine) in
+        let there : AllCoded table targets given = each_front (Coded table targets) given repeats both in
         record {
           faults = faults_both value (flat_map (found.gift c) gifts) (valued (Some ty.Bool) y d) (flat_map (found.gift d) rest)
               (value_same false (Some ty.Bool) x y c d (outside x names_ c apart_ first)) (gifts_same names_ c apart_ gifts there);
           meant = λ clean. made_same same_ share_at_0 with_spawn with_spawn with_spawn (λ s. refl) (λ s. refl) (spawn_of x gifts at c) (spawn_of y rest 0 d)
-              (spawn_meant names_ c apart_ x gifts at first there (nil_front value (flat_map (found.gift c) gifts) clean) (nil_back value (flat_map (found.gift c) gifts) clean));
+              (spawn_meant names_ c apart_ x gifts at first there (none_front value (flat_map (found.gift c) gifts) clean) (nil_back value (flat_map (found.gift c) gifts) clean));
         }
 
     run_same : (block : List StmtTree) (at : ℕ) → AllCoded table targets (names.member all own (m.Run block at))
@@ -290,7 +291,7 @@ module _ (table : List (ℕ × Target)) where
     members_faults [] fine = refl
     members_faults (x ∷ xs) fine =
         let h : MemberSame targets headings number x (recoded_member all own (member_at_0 x)) =
-        member_same x (all_front (Coded table targets) (names.member all own x) (flat_map (names.member all own) xs) fine) in
+        member_same x (each_front (Coded table targets) (names.member all own x) (flat_map (names.member all own) xs) fine) in
         faults_both (found.member targets headings number x) (flat_map (found.member targets headings number) xs)
         (found.member table headings number (recoded_member all own (member_at_0 x))) (flat_map (found.member table headings number) (again_ xs)) h.faults
         (members_faults xs (all_back (Coded table targets) (names.member all own x) (flat_map (names.member all own) xs) fine))
@@ -300,10 +301,10 @@ module _ (table : List (ℕ × Target)) where
     members_meant [] fine clean = record { sites = refl; means = λ k. refl }
     members_meant (x ∷ xs) fine clean =
         let h : MemberSame targets headings number x (recoded_member all own (member_at_0 x)) =
-        member_same x (all_front (Coded table targets) (names.member all own x) (flat_map (names.member all own) xs) fine) in
+        member_same x (each_front (Coded table targets) (names.member all own x) (flat_map (names.member all own) xs) fine) in
         followed_same share_at_0 share_at_0 share_at_0 shared_by shared_by shared_by joined_zero joined_zero
         (share targets headings number x) (share table headings number (recoded_member all own (member_at_0 x))) (shares targets headings number xs) (shares table headings number (again_ xs))
-        (h.meant (nil_front (found.member targets headings number x) (flat_map (found.member targets headings number) xs) clean))
+        (h.meant (none_front (found.member targets headings number x) (flat_map (found.member targets headings number) xs) clean))
         (members_meant xs (all_back (Coded table targets) (names.member all own x) (flat_map (names.member all own) xs) fine)
         (nil_back (found.member targets headings number x) (flat_map (found.member targets headings number) xs) clean))
 
@@ -439,7 +440,7 @@ module _ (table targets : List (ℕ × Target)) (headings : List Heading) (all :
       let own0 : List (List ℕ × Field) = table_of (fields (tree.class_at_0 class)) in
       let h : SameUnder class_at_0 (class_of targets headings number class) (class_of table headings number (with_own all class own0)) =
       subst (λ (own : List (List ℕ × Field)). SameUnder class_at_0 (class_of targets headings number class) (class_of table headings number (with_own all class own))) (own_zero class)
-      (class_meant number class (table_of (fields class)) (all_front (Coded table targets) (names.members all class) (flat_map (names.members all) classes) fine) (nil_front here rest clean)) in
+      (class_meant number class (table_of (fields class)) (each_front (Coded table targets) (names.members all class) (flat_map (names.members all) classes) fine) (none_front here rest clean)) in
       followed_same class_at_0 (map class_at_0) (map class_at_0) (λ c rest. c ∷ rest) (λ c rest. c ∷ rest) (λ c rest. c ∷ rest) (λ c rest. refl) (λ c rest. refl)
       (class_of targets headings number class) (class_of table headings number (class_again all class)) (classes_from targets headings (number + 1) classes)
       (classes_from table headings (number + 1) (map (recoded_class all) (map tree.class_at_0 classes))) h
@@ -452,6 +453,6 @@ module _ (table targets : List (ℕ × Target)) (headings : List Heading) (all :
       let here : List CheckFault = flat_map (found.member targets headings number) class.members in
       faults_both here (found.classes_from targets headings (number + 1) classes)
       (flat_map (found.member table headings number) (class_again all class).members) (found.classes_from table headings (number + 1) (map (recoded_class all) (map tree.class_at_0 classes)))
-      (members_faults table targets headings number all (table_of (fields class)) class.members (all_front (Coded table targets) (names.members all class) (flat_map (names.members all) classes) fine)
+      (members_faults table targets headings number all (table_of (fields class)) class.members (each_front (Coded table targets) (names.members all class) (flat_map (names.members all) classes) fine)
       ∙ ap (λ (own : List (List ℕ × Field)). faults_at_0 (flat_map (found.member table headings number) (map (recoded_member all own) (map member_at_0 class.members)))) (own_zero class))
       (classes_faults (number + 1) classes (all_back (Coded table targets) (names.members all class) (flat_map (names.members all) classes) fine))

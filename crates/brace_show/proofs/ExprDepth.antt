@@ -3,6 +3,7 @@ use Rattle.std.proofs.Common.{◌≡◌, refl, sym, ap, ◌∙◌, subst, ℕ, �
 use Rattle.std.specs.Fmt.{decimal}
 use Rattle.std.proofs.lemmas.Bool.Decides.{nat_tests}
 use Rattle.std.proofs.lemmas.Option.{same_Some}
+use Rattle.std.proofs.lemmas.Bool.{and_parts}
 use Rattle.brace_num.specs.Names.{is_name}
 use Rattle.brace_num.specs.Spelling.{six_digits}
 use Rattle.brace_tok.specs.Tables.{reserved, symbol}
@@ -11,7 +12,6 @@ use Rattle.brace_tok.specs.Roles.{role_at, token}
 use Rattle.brace_tok.specs.declared.kinds.Token.{Token}
 use Rattle.brace_tok.specs.declared.kinds.TokKind.{TokKind}
 use Rattle.brace_tok.specs.declared.kinds.TokKind.TheVariants as k
-use Rattle.brace_tok.proofs.Scans.{first_of_both, second_of_both}
 use Rattle.brace_syntax.specs.Depth.{opened_by, counted_by}
 use Rattle.brace_syntax.specs.Tables.{Is, compares, prefixes, calls_one, calls_two, number_at}
 use Rattle.brace_syntax.specs.Reads as g
@@ -458,14 +458,14 @@ each_fine (expr.Name name) = rolled (expr.Name name) (λ s. atom_fine 0 _ (λ o 
 each_fine (expr.OfThis name at) = rolled (expr.OfThis name at) (λ s. atom_fine 0 _ (λ o c l.
     plain k.KwThis (word (codes "this")) o c (λ from. refl) refl refl ⊕ plain k.Dot (sign (codes ".")) o c (λ from. refl) refl refl ⊕ name_runs name.text s o c))
 each_fine (expr.OfLoop loop name) = rolled (expr.OfLoop loop name) (λ s. atom_fine 0 _ (λ o c l.
-    name_runs loop.text (first_of_both (is_name loop.text) (is_name name.text) s) o c ⊕ plain k.Dot (sign (codes ".")) o c (λ from. refl) refl refl ⊕ name_runs name.text (second_of_both (is_name loop.text) (is_name name.text) s) o c))
+    name_runs loop.text ((and_parts (is_name loop.text) (is_name name.text) s).0) o c ⊕ plain k.Dot (sign (codes ".")) o c (λ from. refl) refl refl ⊕ name_runs name.text ((and_parts (is_name loop.text) (is_name name.text) s).1) o c))
 each_fine (expr.Unary op x at) = rolled (expr.Unary op x.0 at) (λ s. unary_fine op (phrased_of x.0) (measure x.0) (x.1 s))
 each_fine (expr.Binary op x y at) = rolled (expr.Binary op x.0 y.0 at) (λ s.
-    binary_fine op (phrased_of x.0) (phrased_of y.0) (measure x.0) (measure y.0) (x.1 (first_of_both (expr_sound x.0) (expr_sound y.0) s)) (y.1 (second_of_both (expr_sound x.0) (expr_sound y.0) s)))
+    binary_fine op (phrased_of x.0) (phrased_of y.0) (measure x.0) (measure y.0) (x.1 ((and_parts (expr_sound x.0) (expr_sound y.0) s).0)) (y.1 ((and_parts (expr_sound x.0) (expr_sound y.0) s).1)))
 each_fine (expr.Choice c x y at) = rolled (expr.Choice c.0 x.0 y.0 at) (λ s.
-    let s' : (expr_sound c.0 && expr_sound x.0) ≡ true = first_of_both (expr_sound c.0 && expr_sound x.0) (expr_sound y.0) s in
+    let s' : (expr_sound c.0 && expr_sound x.0) ≡ true = (and_parts (expr_sound c.0 && expr_sound x.0) (expr_sound y.0) s).0 in
     choice_fine (phrased_of c.0) (phrased_of x.0) (phrased_of y.0) (measure c.0) (measure x.0) (measure y.0)
-    (c.1 (first_of_both (expr_sound c.0) (expr_sound x.0) s')) (x.1 (second_of_both (expr_sound c.0) (expr_sound x.0) s')) (y.1 (second_of_both (expr_sound c.0 && expr_sound x.0) (expr_sound y.0) s)))
+    (c.1 ((and_parts (expr_sound c.0) (expr_sound x.0) s').0)) (x.1 ((and_parts (expr_sound c.0) (expr_sound x.0) s').1)) (y.1 ((and_parts (expr_sound c.0 && expr_sound x.0) (expr_sound y.0) s).1)))
 each_fine (expr.Rand at) = rolled (expr.Rand at) (λ s. atom_fine 1 _ (λ o c l. plain k.KwRand (word (codes "rand")) o c (λ from. refl) refl refl ⊕ opens o c ⊕ closes o c l))
 
 expr_fine : (x : ExprTree) → expr_sound x ≡ true → Fine (phrased_of x) (measure x)

@@ -2,6 +2,7 @@
 use Rattle.std.proofs.Common.{◌≡◌, refl, sym, ap, ◌∙◌, subst, ℕ, ◌/◌, ◌%◌, nat_lt, List, [], ◌∷◌, ◌++◌, Bool, true, false, ◌&&◌, if◌then◌else◌, append_assoc, Some, pos, negsuc, codes}
 use Rattle.std.specs.Fmt.{decimal}
 use Rattle.std.proofs.lemmas.List.{append-nil}
+use Rattle.std.proofs.lemmas.Bool.{and_parts}
 use Rattle.brace_num.specs.Spelling.{six_digits}
 use Rattle.brace_show.specs.Literals.{shortened}
 use Rattle.brace_num.specs.Names.{is_name}
@@ -11,7 +12,6 @@ use Rattle.brace_tok.specs.Roles.{role_at, token}
 use Rattle.brace_tok.specs.declared.kinds.Token.{Token}
 use Rattle.brace_tok.specs.declared.kinds.TokKind.{TokKind}
 use Rattle.brace_tok.specs.declared.kinds.TokKind.TheVariants as k
-use Rattle.brace_tok.proofs.Scans.{first_of_both, second_of_both}
 use Rattle.brace_syntax.specs.Tables.{Is, ident, number, number_at, compares, prefixes, calls_one, calls_two}
 use Rattle.brace_syntax.specs.Reads as g
 use Rattle.brace_syntax.specs.Reads.{ReadsExpr, operands, repeats}
@@ -367,14 +367,14 @@ each_good (expr.True at) = rolled (expr.True at) (λ s. truth_good)
 each_good (expr.False at) = rolled (expr.False at) (λ s. falsity_good)
 each_good (expr.Name name) = rolled (expr.Name name) (λ s. named_good name s)
 each_good (expr.OfThis name at) = rolled (expr.OfThis name at) (λ s. of_this_good name s)
-each_good (expr.OfLoop loop name) = rolled (expr.OfLoop loop name) (λ s. of_loop_good loop name (first_of_both (is_name loop.text) (is_name name.text) s) (second_of_both (is_name loop.text) (is_name name.text) s))
+each_good (expr.OfLoop loop name) = rolled (expr.OfLoop loop name) (λ s. of_loop_good loop name ((and_parts (is_name loop.text) (is_name name.text) s).0) ((and_parts (is_name loop.text) (is_name name.text) s).1))
 each_good (expr.Unary op x at) = rolled (expr.Unary op x.0 at) (λ s. unary_good op (phrased_of x.0) (expr_at_0 x.0) (x.1 s))
 each_good (expr.Binary op x y at) = rolled (expr.Binary op x.0 y.0 at) (λ s.
-    binary_good op (phrased_of x.0) (phrased_of y.0) (expr_at_0 x.0) (expr_at_0 y.0) (x.1 (first_of_both (expr_sound x.0) (expr_sound y.0) s)) (y.1 (second_of_both (expr_sound x.0) (expr_sound y.0) s)))
+    binary_good op (phrased_of x.0) (phrased_of y.0) (expr_at_0 x.0) (expr_at_0 y.0) (x.1 ((and_parts (expr_sound x.0) (expr_sound y.0) s).0)) (y.1 ((and_parts (expr_sound x.0) (expr_sound y.0) s).1)))
 each_good (expr.Choice c x y at) = rolled (expr.Choice c.0 x.0 y.0 at) (λ s.
-    let s' : (expr_sound c.0 && expr_sound x.0) ≡ true = first_of_both (expr_sound c.0 && expr_sound x.0) (expr_sound y.0) s in
+    let s' : (expr_sound c.0 && expr_sound x.0) ≡ true = (and_parts (expr_sound c.0 && expr_sound x.0) (expr_sound y.0) s).0 in
     chosen_good (phrased_of c.0) (phrased_of x.0) (phrased_of y.0) (expr_at_0 c.0) (expr_at_0 x.0) (expr_at_0 y.0)
-    (c.1 (first_of_both (expr_sound c.0) (expr_sound x.0) s')) (x.1 (second_of_both (expr_sound c.0) (expr_sound x.0) s')) (y.1 (second_of_both (expr_sound c.0 && expr_sound x.0) (expr_sound y.0) s)))
+    (c.1 ((and_parts (expr_sound c.0) (expr_sound x.0) s').0)) (x.1 ((and_parts (expr_sound c.0) (expr_sound x.0) s').1)) (y.1 ((and_parts (expr_sound c.0 && expr_sound x.0) (expr_sound y.0) s).1)))
 each_good (expr.Rand at) = rolled (expr.Rand at) (λ s. random_good)
 
 pub expr_good : (x : ExprTree) → expr_sound x ≡ true → Good (phrased_of x) (expr_at_0 x)

@@ -1,13 +1,12 @@
 -- The pieces of a sound expression stand before what is no part of it.
 use Rattle.std.proofs.Common.{◌≡◌, ◌∙◌, sym, ap, subst, refl, ℕ, nat_lt, nat_le, ◌==◌, Bool, true, false, not, ◌&&◌, if◌then◌else◌, List, [], ◌∷◌, ◌++◌, length, is_some, codes, pos, negsuc, ◌/◌, arith, append_assoc}
 use Rattle.std.specs.Fmt.{decimal}
-use Rattle.std.proofs.lemmas.Bool.{ne_eqb}
+use Rattle.std.proofs.lemmas.Bool.{ne_eqb, and_parts, and_from}
 use Rattle.brace_num.specs.Names.{is_digit, is_letter, begins, is_word, is_name}
 use Rattle.brace_tok.specs.Bytes.{are_digits}
 use Rattle.brace_tok.specs.Tables.{symbol}
 use Rattle.brace_tok.specs.Pieces.{whole, fraction}
 use Rattle.brace_tok.specs.Spells.{text_of}
-use Rattle.brace_tok.proofs.Scans.{both, first_of_both, second_of_both}
 use Rattle.brace_syntax.specs.declared.tree.Digits.{Digits}
 use Rattle.brace_syntax.specs.declared.tree.Digits.TheVariants.{Int, Fixed}
 use Rattle.brace_syntax.specs.declared.tree.UnName.{UnName}
@@ -44,15 +43,15 @@ opens_run row rows o after = ap (λ r. begins (λ b. is_some (symbol (33 ∷ b �
 
 begins_word : (f : List ℕ) → is_word f ≡ true → (rest after : List ℕ) → begins (λ b. is_some (symbol (33 ∷ b ∷ []))) ((f ++ rest) ++ after) ≡ false
 begins_word [] e rest after = absurd (cc)
-begins_word (b ∷ f) e rest after = no_equals b (other is_letter b 61 (first_of_both (is_letter b) _ e) refl)
+begins_word (b ∷ f) e rest after = no_equals b (other is_letter b 61 ((and_parts (is_letter b) _ e).0) refl)
 
 opens_whole : (ds : List ℕ) → are_digits ds ≡ true → Opens (whole ds ∷ [])
 opens_whole [] e after = absurd (cc)
-opens_whole (b ∷ ds) e after = no_equals b (other is_digit b 61 (first_of_both (is_digit b) _ e) refl)
+opens_whole (b ∷ ds) e after = no_equals b (other is_digit b 61 ((and_parts (is_digit b) _ e).0) refl)
 
 opens_fraction : (ds decimals : List ℕ) → are_digits ds ≡ true → Opens (fraction ds decimals ∷ [])
 opens_fraction [] decimals e after = absurd (cc)
-opens_fraction (b ∷ ds) decimals e after = no_equals b (other is_digit b 61 (first_of_both (is_digit b) _ e) refl)
+opens_fraction (b ∷ ds) decimals e after = no_equals b (other is_digit b 61 ((and_parts (is_digit b) _ e).0) refl)
 
 literal_opens : (d : Digits) → digits_are d ≡ true → Opens (literal_row d)
 literal_opens (Int (pos n)) e = opens_whole (decimal n) (decimal_digits n (word_fits n e))
@@ -88,7 +87,7 @@ fitting : (level : ℕ) (s : Stood) → ((after : List ℕ) → stops after ≡ 
 fitting level s n o = record { stands = λ after h. s.stands after (n after h); opens = o }
 
 pub begins_no_word : (after : List ℕ) → stops after ≡ true → no_word after ≡ true
-begins_no_word after h = first_of_both (no_word after) _ h
+begins_no_word after h = (and_parts (no_word after) _ h).0
 
 one_fits : (f : List ℕ) → is_word f ≡ true → nat_le (length f) 64 ≡ true → (p : Phrased) → Fit p → Fit (call_one_row f p)
 one_fits f e short p fit =
@@ -112,7 +111,7 @@ no_longer after = not (begins (λ b. is_some (symbol (33 ∷ b ∷ []))) after)
 
 bang_stands : Stands no_longer (mark (codes "!"))
 unfolding symbol
-bang_stands after h = both _ _ (both _ _ (both true _ refl (both _ _ h refl)) refl) refl
+bang_stands after h = and_from _ _ (and_from _ _ (and_from true _ refl (and_from _ _ h refl)) refl) refl
 
 bang_fits : (p : Phrased) → Fit p → Fit (prefixed_row (codes "!") p)
 unfolding symbol
@@ -182,14 +181,14 @@ step_fits (False at) e = fitting 8 (lettered (codes "false") refl refl) begins_n
 step_fits (Name name) e = fitting 8 (named name.text e) begins_no_word (begins_word name.text (name_word name.text e) [])
 step_fits (OfThis name at) e = fitting 8 (pointed (codes "this") name.text refl refl e) begins_no_word (begins_word (codes "this") refl (codes "." ++ (name.text ++ [])))
 step_fits (OfLoop loop name) e =
-    let l = first_of_both (is_name loop.text) (is_name name.text) e in
-    fitting 8 (pointed loop.text name.text (name_word loop.text l) (name_short loop.text l) (second_of_both (is_name loop.text) (is_name name.text) e)) begins_no_word (begins_word loop.text (name_word loop.text l) _)
+    let l = (and_parts (is_name loop.text) (is_name name.text) e).0 in
+    fitting 8 (pointed loop.text name.text (name_word loop.text l) (name_short loop.text l) ((and_parts (is_name loop.text) (is_name name.text) e).1)) begins_no_word (begins_word loop.text (name_word loop.text l) _)
 step_fits (Unary op p at) e = unary_fits op (phrased_of p.0) (p.1 e)
-step_fits (Binary op p q at) e = binary_fits op (phrased_of p.0) (phrased_of q.0) (p.1 (first_of_both _ (expr_sound q.0) e)) (q.1 (second_of_both (expr_sound p.0) _ e))
+step_fits (Binary op p q at) e = binary_fits op (phrased_of p.0) (phrased_of q.0) (p.1 ((and_parts _ (expr_sound q.0) e).0)) (q.1 ((and_parts (expr_sound p.0) _ e).1))
 step_fits (Choice c p q at) e =
-    let front = first_of_both (expr_sound c.0 && expr_sound p.0) (expr_sound q.0) e in
-    choice_fits (phrased_of c.0) (phrased_of p.0) (phrased_of q.0) (c.1 (first_of_both _ (expr_sound p.0) front)) (p.1 (second_of_both (expr_sound c.0) _ front))
-    (q.1 (second_of_both (expr_sound c.0 && expr_sound p.0) _ e))
+    let front = (and_parts (expr_sound c.0 && expr_sound p.0) (expr_sound q.0) e).0 in
+    choice_fits (phrased_of c.0) (phrased_of p.0) (phrased_of q.0) (c.1 ((and_parts _ (expr_sound p.0) front).0)) (p.1 ((and_parts (expr_sound c.0) _ front).1))
+    (q.1 ((and_parts (expr_sound c.0 && expr_sound p.0) _ e).1))
 step_fits (Rand at) e = fitting 8 (record { need = any; row = letters (codes "rand") ++ mark (codes "(") ++ mark (codes ")"); stands = rand_stands }) (λ after h. refl) (begins_word (codes "rand") refl (codes "()"))
 
 -- a sound expression stands before what is no part of it

@@ -1,6 +1,6 @@
 -- Rows of pieces that stand before what may follow them: each piece is the longest at its place, and no fault.
 use Rattle.std.proofs.Common.{◌≡◌, ◌∙◌, ap, refl, ℕ, nat_le, ◌==◌, Bool, true, false, not, ◌&&◌, if◌then◌else◌, List, [], ◌∷◌, ◌++◌, length, Option, Some, None, is_some, codes, pos, negsuc, ◌/◌, arith, append_assoc}
-use Rattle.std.proofs.lemmas.Bool.{and_parts, or_parts, not-true}
+use Rattle.std.proofs.lemmas.Bool.{and_parts, or_parts, not-true, and_from}
 use Rattle.brace_num.specs.Names.{is_digit, is_letter, is_word_byte, begins, is_word, is_name}
 use Rattle.brace_tok.specs.Bytes.{begins_fraction, begins_comment}
 use Rattle.brace_tok.specs.Tables.{reserved, symbol}
@@ -9,7 +9,6 @@ use Rattle.brace_tok.specs.Spells.{text_of, is_sound, is_longest, is_row}
 use Rattle.brace_tok.specs.declared.kinds.TokKind.{TokKind}
 use Rattle.brace_tok.specs.declared.fault.TokFault.{TokFault}
 use Rattle.brace_tok.specs.declared.fault.TokFault.TheVariants as fault
-use Rattle.brace_tok.proofs.Scans.{both, first_of_both, second_of_both}
 use Rattle.brace_syntax.specs.declared.tree.Digits.{Digits}
 use Rattle.brace_syntax.specs.declared.tree.Digits.TheVariants.{Int, Fixed}
 use Rattle.brace_show.proofs.Sound.{digits_are}
@@ -23,9 +22,9 @@ pub row_split : (a b : Row) (after : List ℕ) → is_row a (text_of b ++ after)
 row_split [] b after e f = f
 row_split (p ∷ a) b after e f =
     let t : text_of (a ++ b) ++ after ≡ text_of a ++ (text_of b ++ after) = ap (λ u. u ++ after) (text_append a b) ∙ append_assoc (text_of a) (text_of b) after in
-    let here : (is_longest p (text_of a ++ (text_of b ++ after)) && is_sound (role_at 0 p)) ≡ true = first_of_both _ (is_row a (text_of b ++ after)) e in
-    both _ _ (ap (λ u. is_longest p u && is_sound (role_at 0 p)) t ∙ here)
-    (row_split a b after (second_of_both (is_longest p (text_of a ++ (text_of b ++ after)) && is_sound (role_at 0 p)) _ e) f)
+    let here : (is_longest p (text_of a ++ (text_of b ++ after)) && is_sound (role_at 0 p)) ≡ true = (and_parts _ (is_row a (text_of b ++ after)) e).0 in
+    and_from _ _ (ap (λ u. is_longest p u && is_sound (role_at 0 p)) t ∙ here)
+    (row_split a b after ((and_parts (is_longest p (text_of a ++ (text_of b ++ after)) && is_sound (role_at 0 p)) _ e).1) f)
 
 pub run_split : (row : Row) (rows : List Row) (after : List ℕ) → is_row row (text_of (run [] rows) ++ after) ≡ true → is_row (run [] rows) after ≡ true → is_row (run row rows) after ≡ true
 run_split row rows after e f = ap (λ r. is_row r after) (run_is row rows) ∙ row_split row (run [] rows) after e f
@@ -66,8 +65,8 @@ sound_some f (Some k) e = refl
 
 -- a mark that begins no longer one
 pub lone : (m : List ℕ) → is_some (symbol m) ≡ true → ((b : ℕ) → is_some (symbol (m ++ b ∷ [])) ≡ false) → ((after : List ℕ) → begins_comment (m ++ after) ≡ false) → Stands any (mark m)
-lone m e f g [] h = both _ _ (both _ _ (both _ _ e (both _ _ refl (ap not (g [])))) (sound_some _ (symbol m) e)) refl
-lone m e f g (b ∷ after) h = both _ _ (both _ _ (both _ _ e (both _ _ (ap not (f b)) (ap not (g (b ∷ after))))) (sound_some _ (symbol m) e)) refl
+lone m e f g [] h = and_from _ _ (and_from _ _ (and_from _ _ e (and_from _ _ refl (ap not (g [])))) (sound_some _ (symbol m) e)) refl
+lone m e f g (b ∷ after) h = and_from _ _ (and_from _ _ (and_from _ _ e (and_from _ _ (ap not (f b)) (ap not (g (b ∷ after))))) (sound_some _ (symbol m) e)) refl
 
 abbrev pub marked : (m : List ℕ) → Stands any (mark m) → Stood
 marked m s = record { need = any; row = mark m; stands = s }
@@ -95,7 +94,7 @@ minus_stands = lone (codes "-") refl (λ b. refl) (λ after. refl)
 -- words
 pub word_stands : (f : List ℕ) → is_word f ≡ true → nat_le (length f) 64 ≡ true → Stands no_word (letters f)
 word_stands f e short after h =
-    both _ _ (both _ _ (both _ _ e h) (ap (λ b. is_sound (token_or (fault.LongWord 0) (if b then Some (name_or (reserved f)) else None))) short)) refl
+    and_from _ _ (and_from _ _ (and_from _ _ e h) (ap (λ b. is_sound (token_or (fault.LongWord 0) (if b then Some (name_or (reserved f)) else None))) short)) refl
 
 abbrev pub lettered : (f : List ℕ) → is_word f ≡ true → nat_le (length f) 64 ≡ true → Stood
 lettered f e short = record { need = no_word; row = letters f; stands = word_stands f e short }
@@ -118,8 +117,8 @@ no_fraction (b ∷ after) h = ap (λ v. not (v && begins is_digit after)) (not_a
 
 pub literal_stands : (d : Digits) → digits_are d ≡ true → Stands stops (literal_row d)
 literal_stands (Int (pos n)) e after h =
-    both _ _ (both _ _ (both _ _ (decimal_digits n (word_fits n e)) (both _ _ (no_digit after h) (no_fraction after h))) (ap is_sound (whole_says 0 n e))) refl
+    and_from _ _ (and_from _ _ (and_from _ _ (decimal_digits n (word_fits n e)) (and_from _ _ (no_digit after h) (no_fraction after h))) (ap is_sound (whole_says 0 n e))) refl
 literal_stands (Int (negsuc n)) e after h = absurd (cc)
 literal_stands (Fixed (pos n)) e after h =
-    both _ _ (both _ _ (both _ _ (both _ _ (decimal_digits (n / 1000000) (omega (arith, word_fits n e))) (fraction_digits n)) (no_digit after h)) (ap is_sound (fraction_says 0 n e))) refl
+    and_from _ _ (and_from _ _ (and_from _ _ (and_from _ _ (decimal_digits (n / 1000000) (omega (arith, word_fits n e))) (fraction_digits n)) (no_digit after h)) (ap is_sound (fraction_says 0 n e))) refl
 literal_stands (Fixed (negsuc n)) e after h = absurd (cc)

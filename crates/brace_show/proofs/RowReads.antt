@@ -2,6 +2,7 @@
 use Rattle.std.proofs.Common.{◌≡◌, refl, sym, ap, ◌∙◌, subst, ℕ, ◌+◌, nat_le, List, [], ◌∷◌, ◌++◌, length, map, flat_map, Bool, true, false, ◌&&◌, append_assoc, Option, Some, None, codes}
 use Rattle.std.specs.List.{list_all}
 use Rattle.std.proofs.lemmas.List.{append-nil}
+use Rattle.std.proofs.lemmas.Bool.{and_parts}
 use Rattle.brace_num.specs.Names.{is_name}
 use Rattle.brace_tok.specs.Tables.{reserved, directive, symbol}
 use Rattle.brace_tok.specs.Pieces.{blank, word, hash, sign}
@@ -10,7 +11,6 @@ use Rattle.brace_tok.specs.Spells.{text_of, tokens_from}
 use Rattle.brace_tok.specs.declared.kinds.Token.{Token}
 use Rattle.brace_tok.specs.declared.kinds.TokKind.{TokKind}
 use Rattle.brace_tok.specs.declared.kinds.TokKind.TheVariants as k
-use Rattle.brace_tok.proofs.Scans.{first_of_both, second_of_both}
 use Rattle.brace_syntax.specs.Tables.{Is, ident, number, type_name, combines}
 use Rattle.brace_syntax.specs.Reads as g
 use Rattle.brace_syntax.specs.Reads.{ReadsField, ReadsGift, ReadsGifts, ReadsMember, ReadsMembers, ReadsClass, ReadsClasses, Reads}
@@ -146,9 +146,9 @@ unfolding symbol
 gift_good x h margin src toks l =
     let C : List Token → Type 0 = FoundGift src (gift_at_0 x) in
     let given : Ident → ExprTree → GiftTree = λ name value. record { state = name; value = value } in
-    say_name C src x.state _ toks (first_of_both (is_name x.state.text) (expr_sound x.value) h) (on_line src margin _ toks l) (λ tok t1 is same l1.
+    say_name C src x.state _ toks ((and_parts (is_name x.state.text) (expr_sound x.value) h).0) (on_line src margin _ toks l) (λ tok t1 is same l1.
     say (λ z. C (tok ∷ z)) k.Arrow src (sign (codes "<-")) _ t1 (λ from. refl) (past src 32 _ t1 l1) (λ arrow t2 ha _ l2.
-    value_then (λ z. C (tok ∷ arrow ∷ z)) x.value (second_of_both (is_name x.state.text) (expr_sound x.value) h) src t2 (past src 32 _ t2 l2) (λ a semicolon found hs.
+    value_then (λ z. C (tok ∷ arrow ∷ z)) x.value ((and_parts (is_name x.state.text) (expr_sound x.value) h).1) src t2 (past src 32 _ t2 l2) (λ a semicolon found hs.
     let i : Ident = ident src tok in (
       given i found.0,
       g.gift a tok arrow semicolon found.0 is ha hs found.1,
@@ -159,8 +159,8 @@ gifts_good : (xs : List GiftTree) → list_all gift_sound xs ≡ true → (margi
 gifts_good [] h margin src toks l = done (FoundGifts src []) src toks l ([], g.none, refl)
 gifts_good (x ∷ xs) h margin src toks l =
     split (FoundGifts src (map gift_at_0 (x ∷ xs))) src (gift_row margin x) (flat_map (gift_row margin) xs) toks l (λ a b la lb.
-    let y = gift_good x (first_of_both (gift_sound x) (list_all gift_sound xs) h) margin src a la in
-    let ys = gifts_good xs (second_of_both (gift_sound x) (list_all gift_sound xs) h) margin src b lb in
+    let y = gift_good x ((and_parts (gift_sound x) (list_all gift_sound xs) h).0) margin src a la in
+    let ys = gifts_good xs ((and_parts (gift_sound x) (list_all gift_sound xs) h).1) margin src b lb in
     (y.0 ∷ ys.0, g.more a b y.0 ys.0 y.1 ys.1, ap (λ z. z ∷ map gift_at_0 xs) y.2 ∙ ap (λ z. gift_at_0 y.0 ∷ z) ys.2))
 
 die_good : (x : ExprTree) → expr_sound x ≡ true → (margin : ℕ) (src : List ℕ) (toks : List Token) → Laid src (line_row margin (die_row x)) toks → FoundMember src (m.Die (expr_at_0 x) 0) toks
@@ -220,11 +220,11 @@ member_good (m.Reach n at) h margin src toks l =
     let i : Number = record { digits = n.digits; at = range.from } in
     (m.Reach i w.from, g.reach w opening range closing semicolon i hw ho hn hc hs, refl)))
 member_good (m.State shared t name None at) h margin src toks l =
-    let h' : (type_is t && is_name name.text) ≡ true = first_of_both (type_is t && is_name name.text) true h in
+    let h' : (type_is t && is_name name.text) ≡ true = (and_parts (type_is t && is_name name.text) true h).0 in
     let C : List Token → Type 0 = FoundMember src (m.State shared (type_at_0 t) (ident_at_0 name) None 0) in
     let here : Laid src (line_row margin (state_row (letters (sharing shared)) (letters (type_text t)) name None)) toks =
     laid_as src _ _ toks (ap (λ z. line_row margin (state_row z (type_row t) name None)) (sharing_word shared) ∙ ap (λ z. line_row margin (state_row (letters (sharing shared)) z name None)) (type_word t)) l in
-    state_then C shared t name (first_of_both (type_is t) (is_name name.text) h') (second_of_both (type_is t) (is_name name.text) h') (sign (codes ";") ∷ blank 10 ∷ []) src toks
+    state_then C shared t name ((and_parts (type_is t) (is_name name.text) h').0) ((and_parts (type_is t) (is_name name.text) h').1) (sign (codes ";") ∷ blank 10 ∷ []) src toks
     (on_line src margin (state_row (letters (sharing shared)) (letters (type_text t)) name None) toks here) (λ share state type tok ts u h1 h2 hu same_type is same l1.
     ends (λ z. C (share ∷ state ∷ type ∷ tok ∷ z)) src ts l1 (λ semicolon hs.
     let i : Ident = ident src tok in (
@@ -233,15 +233,15 @@ member_good (m.State shared t name None at) h margin src toks l =
       ap (λ (z : TyName). m.State shared z (ident_at_0 name) None 0) same_type ∙ ap (λ (z : Ident). m.State shared (type_at_0 u) z None 0) same,
     )))
 member_good (m.State shared t name (Some x) at) h margin src toks l =
-    let h' : (type_is t && is_name name.text) ≡ true = first_of_both (type_is t && is_name name.text) (expr_sound x) h in
+    let h' : (type_is t && is_name name.text) ≡ true = (and_parts (type_is t && is_name name.text) (expr_sound x) h).0 in
     let C : List Token → Type 0 = FoundMember src (m.State shared (type_at_0 t) (ident_at_0 name) (Some (expr_at_0 x)) 0) in
     let here : Laid src (line_row margin (state_row (letters (sharing shared)) (letters (type_text t)) name (Some x))) toks =
     laid_as src _ _ toks (ap (λ z. line_row margin (state_row z (type_row t) name (Some x))) (sharing_word shared) ∙ ap (λ z. line_row margin (state_row (letters (sharing shared)) z name (Some x))) (type_word t)) l in
-    state_then C shared t name (first_of_both (type_is t) (is_name name.text) h') (second_of_both (type_is t) (is_name name.text) h')
+    state_then C shared t name ((and_parts (type_is t) (is_name name.text) h').0) ((and_parts (type_is t) (is_name name.text) h').1)
     (blank 32 ∷ sign (codes ":") ∷ blank 32 ∷ ((expression_row x ++ mark (codes ";")) ++ (blank 10 ∷ []))) src toks
     (on_line src margin (state_row (letters (sharing shared)) (letters (type_text t)) name (Some x)) toks here) (λ share state type tok ts u h1 h2 hu same_type is same l1.
     say (λ z. C (share ∷ state ∷ type ∷ tok ∷ z)) k.Colon src (sign (codes ":")) _ ts (λ from. refl) (past src 32 _ ts l1) (λ colon t2 hc _ l2.
-    value_then (λ z. C (share ∷ state ∷ type ∷ tok ∷ colon ∷ z)) x (second_of_both (type_is t && is_name name.text) (expr_sound x) h) src t2 (past src 32 _ t2 l2) (λ a semicolon found hs.
+    value_then (λ z. C (share ∷ state ∷ type ∷ tok ∷ colon ∷ z)) x ((and_parts (type_is t && is_name name.text) (expr_sound x) h).1) src t2 (past src 32 _ t2 l2) (λ a semicolon found hs.
     let i : Ident = ident src tok in (
       m.State shared u i (Some found.0) share.from,
       member_of src shared share _ _ h1 (g.ruled a state type tok colon semicolon u found.0 h2 hu is hc hs found.1),
@@ -256,8 +256,8 @@ member_good (m.Effect shared t name c at) h margin src toks l =
     ∙ (ap (λ z. line_row margin (effect_row (letters (sharing shared)) z name (combinator_row c))) (type_word t) ∙ ap (λ z. line_row margin (effect_row (letters (sharing shared)) (letters (type_text t)) name z)) (combinator_word c))) l in
     say C (sharing_kind shared) src (word (sharing shared)) _ toks (sharing_role shared) (on_line src margin row toks here) (λ share t1 h1 _ l1.
     say (λ z. C (share ∷ z)) k.KwEffect src (word (codes "effect")) _ t1 (λ from. refl) (past src 32 _ t1 l1) (λ effect t2 h2 _ l2.
-    say_type (λ z. C (share ∷ effect ∷ z)) src t _ t2 (first_of_both (type_is t) (is_name name.text) h) (past src 32 _ t2 l2) (λ type t3 u hu same_type l3.
-    say_name (λ z. C (share ∷ effect ∷ type ∷ z)) src name _ t3 (second_of_both (type_is t) (is_name name.text) h) (past src 32 _ t3 l3) (λ tok t4 is same l4.
+    say_type (λ z. C (share ∷ effect ∷ z)) src t _ t2 ((and_parts (type_is t) (is_name name.text) h).0) (past src 32 _ t2 l2) (λ type t3 u hu same_type l3.
+    say_name (λ z. C (share ∷ effect ∷ type ∷ z)) src name _ t3 ((and_parts (type_is t) (is_name name.text) h).1) (past src 32 _ t3 l3) (λ tok t4 is same l4.
     say (λ z. C (share ∷ effect ∷ type ∷ tok ∷ z)) k.Colon src (sign (codes ":")) _ t4 (λ from. refl) (past src 32 _ t4 l4) (λ colon t5 h5 _ l5.
     say (λ z. C (share ∷ effect ∷ type ∷ tok ∷ colon ∷ z)) (combinator_kind c) src (word (combinator c)) _ t5 (combinator_says c) (past src 32 _ t5 l5) (λ joins t6 h6 _ l6.
     ends (λ z. C (share ∷ effect ∷ type ∷ tok ∷ colon ∷ joins ∷ z)) src t6 l6 (λ semicolon hs.
@@ -279,14 +279,14 @@ member_good (m.Run xs at) h margin src toks l =
     (m.Run ys.0 w.from, g.run a w void run opening closing ys.0 h1 h2 h3 h4 h5 ys.1, ap (λ (z : List StmtTree). m.Run z 0) ys.2))))))
 member_good (m.Die x at) h margin src toks l = die_good x h margin src toks l
 member_good (m.Spawn x gifts at) h margin src toks l =
-    spawn_good x gifts (first_of_both (expr_sound x) (list_all gift_sound gifts) h) (second_of_both (expr_sound x) (list_all gift_sound gifts) h) margin src toks l
+    spawn_good x gifts ((and_parts (expr_sound x) (list_all gift_sound gifts) h).0) ((and_parts (expr_sound x) (list_all gift_sound gifts) h).1) margin src toks l
 
 members_good : (xs : List MemberTree) → list_all member_sound xs ≡ true → (margin : ℕ) (src : List ℕ) (toks : List Token) → Laid src (flat_map (member_row margin) xs) toks → FoundMembers src (map member_at_0 xs) toks
 members_good [] h margin src toks l = done (FoundMembers src []) src toks l ([], g.none, refl)
 members_good (x ∷ xs) h margin src toks l =
     split (FoundMembers src (map member_at_0 (x ∷ xs))) src (member_row margin x) (flat_map (member_row margin) xs) toks l (λ a b la lb.
-    let y = member_good x (first_of_both (member_sound x) (list_all member_sound xs) h) margin src a la in
-    let ys = members_good xs (second_of_both (member_sound x) (list_all member_sound xs) h) margin src b lb in
+    let y = member_good x ((and_parts (member_sound x) (list_all member_sound xs) h).0) margin src a la in
+    let ys = members_good xs ((and_parts (member_sound x) (list_all member_sound xs) h).1) margin src b lb in
     (y.0 ∷ ys.0, g.more a b y.0 ys.0 y.1 ys.1, ap (λ z. z ∷ map member_at_0 xs) y.2 ∙ ap (λ z. member_at_0 y.0 ∷ z) ys.2))
 
 class_good : (x : ClassTree) → class_sound x ≡ true → (src : List ℕ) (toks : List Token) → Laid src (class_row x) toks → FoundClass src (class_at_0 x) toks
@@ -295,12 +295,12 @@ class_good x h src toks l =
     let C : List Token → Type 0 = FoundClass src (class_at_0 x) in
     let inner : Row = flat_map (member_row 2) x.members in
     say C k.KwClass src (word (codes "class")) _ toks (λ from. refl) l (λ w t1 h1 _ l1.
-    say_name (λ z. C (w ∷ z)) src x.name _ t1 (first_of_both (is_name x.name.text) (list_all member_sound x.members) h) (past src 32 _ t1 l1) (λ tok t2 is same l2.
+    say_name (λ z. C (w ∷ z)) src x.name _ t1 ((and_parts (is_name x.name.text) (list_all member_sound x.members) h).0) (past src 32 _ t1 l1) (λ tok t2 is same l2.
     say (λ z. C (w ∷ tok ∷ z)) k.OpenBrace src (sign (codes "{")) _ t2 (λ from. refl) (past src 32 _ t2 l2) (λ opening t3 h3 _ l3.
     split (λ z. C (w ∷ tok ∷ opening ∷ z)) src inner (closing_row 0) t3 (past src 10 _ t3 l3) (λ a t4 la l4.
     say (λ z. C (w ∷ tok ∷ opening ∷ (a ++ z))) k.CloseBrace src (sign (codes "}")) (blank 10 ∷ []) t4 (λ from. refl) l4 (λ closing t5 h5 _ l5.
     done (λ z. C (w ∷ tok ∷ opening ∷ (a ++ closing ∷ z))) src t5 (past src 10 [] t5 l5)
-    (let ys = members_good x.members (second_of_both (is_name x.name.text) (list_all member_sound x.members) h) 2 src a la in
+    (let ys = members_good x.members ((and_parts (is_name x.name.text) (list_all member_sound x.members) h).1) 2 src a la in
     let c : ClassTree = record { name = ident src tok; members = ys.0; at = w.from } in (
       c,
       g.class a w tok opening closing ys.0 h1 is h3 h5 ys.1,
@@ -315,17 +315,17 @@ classes_good x [] h hs src toks l =
 classes_good x (x' ∷ xs) h hs src toks l =
     split (FoundClasses src (map class_at_0 (x ∷ x' ∷ xs))) src (class_row x) (flat_map class_row (x' ∷ xs)) toks l (λ a b la lb.
     let y = class_good x h src a la in
-    let ys = classes_good x' xs (first_of_both (class_sound x') (list_all class_sound xs) hs) (second_of_both (class_sound x') (list_all class_sound xs) hs) src b lb in
+    let ys = classes_good x' xs ((and_parts (class_sound x') (list_all class_sound xs) hs).0) ((and_parts (class_sound x') (list_all class_sound xs) hs).1) src b lb in
     (y.0 ∷ ys.0, g.more a b y.0 ys.0 y.1 ys.1, ap (λ z. z ∷ map class_at_0 (x' ∷ xs)) y.2 ∙ ap (λ z. class_at_0 y.0 ∷ z) ys.2))
 
 script_good : (xs : List ClassTree) → nat_le 1 (length xs) ≡ true → list_all class_sound xs ≡ true → (src : List ℕ) (toks : List Token) → Laid src (flat_map class_row xs) toks → FoundClasses src (map class_at_0 xs) toks
 script_good [] h hs src toks l = absurd (cc)
-script_good (x ∷ xs) h hs src toks l = classes_good x xs (first_of_both (class_sound x) (list_all class_sound xs) hs) (second_of_both (class_sound x) (list_all class_sound xs) hs) src toks l
+script_good (x ∷ xs) h hs src toks l = classes_good x xs ((and_parts (class_sound x) (list_all class_sound xs) hs).0) ((and_parts (class_sound x) (list_all class_sound xs) hs).1) src toks l
 
 pub row_reads : (tree : Tree) → script_sound tree ≡ true → (again : Tree) × Reads (text_of (script_row tree)) (tokens_from 0 (script_row tree)) again × Alike tree again
 row_reads tree h =
     let src : List ℕ = text_of (script_row tree) in
     let l : Laid src (script_row tree) (tokens_from 0 (script_row tree)) = record { before = []; after = []; whole = sym (append-nil src); said = refl } in
-    let found = script_good tree.classes (first_of_both (nat_le 1 (length tree.classes)) (list_all class_sound tree.classes) h) (second_of_both (nat_le 1 (length tree.classes)) (list_all class_sound tree.classes) h) src _ l in
+    let found = script_good tree.classes ((and_parts (nat_le 1 (length tree.classes)) (list_all class_sound tree.classes) h).0) ((and_parts (nat_le 1 (length tree.classes)) (list_all class_sound tree.classes) h).1) src _ l in
     let again : Tree = record { classes = found.0 } in
     (again, found.1, found.2)

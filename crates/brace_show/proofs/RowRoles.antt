@@ -4,7 +4,7 @@ use Rattle.std.specs.List.{list_all}
 use Rattle.std.specs.Fmt.{decimal}
 use Rattle.std.specs.Char.{digit_value}
 use Rattle.std.specs.Str.Parse.{AllDigits, digits_value}
-use Rattle.std.proofs.lemmas.Bool.{leb-true, le-leb}
+use Rattle.std.proofs.lemmas.Bool.{leb-true, le-leb, and_from}
 use Rattle.std.proofs.lemmas.Fmt.{decimal_is_IsNumeral}
 use Rattle.std.proofs.lemmas.Str.Parse.{digit_from_value}
 use Rattle.std.proofs.lemmas.Int.Digits.{digits_value_push}
@@ -19,7 +19,6 @@ use Rattle.brace_tok.specs.Pieces.{word, whole, fraction}
 use Rattle.brace_tok.specs.Roles.{role_at, token, token_or, name_or, millionths}
 use Rattle.brace_tok.specs.declared.kinds.TokKind.TheVariants as kind
 use Rattle.brace_tok.specs.declared.fault.TokFault.TheVariants as fault
-use Rattle.brace_tok.proofs.Scans.{both}
 use Rattle.brace_tok.proofs.Named.{name_short, name_free}
 use Rattle.brace_show.specs.Literals.{shortened}
 use Rattle.brace_show.proofs.Zeros.{zeros_behind, below}
@@ -35,15 +34,15 @@ pub word_fits : (n : ℕ) → nat_le n 9223372036854775807 ≡ true → n < 2 ^ 
 word_fits n e = let small : n ≤ 9223372036854775807 = leb-true _ _ e in omega arith
 
 digit_byte : (c : ℕ) → digit_value c < 10 → is_digit c ≡ true
-digit_byte c h = let r = digit_from_value c h in both _ _ (le-leb 48 c r.0) (le-leb c 57 r.1)
+digit_byte c h = let r = digit_from_value c h in and_from _ _ (le-leb 48 c r.0) (le-leb c 57 r.1)
 
 all_bytes : (text : List ℕ) → AllDigits 10 text → list_all is_digit text ≡ true
 all_bytes [] d = refl
-all_bytes (c ∷ text) (h, d) = both _ _ (digit_byte c h) (all_bytes text d)
+all_bytes (c ∷ text) (h, d) = and_from _ _ (digit_byte c h) (all_bytes text d)
 
 some_bytes : (text : List ℕ) → 0 < length text → AllDigits 10 text → are_digits text ≡ true
 some_bytes [] h d = absurd (omega arith)
-some_bytes (c ∷ text) h (e, d) = both _ _ (digit_byte c e) (all_bytes (c ∷ text) (e, d))
+some_bytes (c ∷ text) h (e, d) = and_from _ _ (digit_byte c e) (all_bytes (c ∷ text) (e, d))
 
 pub decimal_digits : (n : ℕ) → n < 2 ^ 64 → are_digits (decimal n) ≡ true
 decimal_digits n h = let d = decimal_is_IsNumeral n h in some_bytes (decimal n) d.0.0 d.0.1

@@ -1,11 +1,11 @@
 -- The pieces of a sound script stand: each is the longest at its place, and no fault.
 use Rattle.std.proofs.Common.{◌≡◌, ◌∙◌, sym, ap, subst, refl, ℕ, zero, suc, nat_le, ◌+◌, Bool, true, false, not, ◌&&◌, List, [], ◌∷◌, ◌++◌, length, map, flat_map, Option, Some, None, is_some, codes}
 use Rattle.std.specs.List.{list_all}
+use Rattle.std.proofs.lemmas.Bool.{and_parts, and_from}
 use Rattle.brace_num.specs.Names.{is_letter, begins, is_word, is_name}
 use Rattle.brace_tok.specs.Tables.{symbol, directive}
 use Rattle.brace_tok.specs.Pieces.{blank, hash}
 use Rattle.brace_tok.specs.Spells.{text_of, is_row}
-use Rattle.brace_tok.proofs.Scans.{both, first_of_both, second_of_both}
 use Rattle.brace_syntax.specs.declared.tree.Digits.{Digits}
 use Rattle.brace_syntax.specs.declared.tree.ExprTree.{ExprTree}
 use Rattle.brace_syntax.specs.declared.tree.TyName.{TyName}
@@ -30,7 +30,7 @@ use Rattle.brace_show.proofs.ExprStands.{other, begins_no_word, pointed, valued}
 -- lines
 margin_stands : (n : ℕ) (after : List ℕ) → is_row (margin_row n) after ≡ true
 margin_stands zero after = refl
-margin_stands (suc n) after = both _ _ refl (margin_stands n after)
+margin_stands (suc n) after = and_from _ _ refl (margin_stands n after)
 
 line_stands : (n : ℕ) (row : Row) (after : List ℕ) → is_row row (10 ∷ after) ≡ true → is_row (line_row n row) after ≡ true
 line_stands n row after e = row_split (margin_row n ++ row) (blank 10 ∷ []) after (row_split (margin_row n) row (10 ∷ after) (margin_stands n _) e) refl
@@ -62,7 +62,7 @@ no_arrow after = not (begins (λ b. is_some (symbol (60 ∷ b ∷ []))) after)
 
 less_stands : Stands no_arrow (mark (codes "<"))
 unfolding symbol
-less_stands after h = both _ _ (both _ _ (both true _ refl (both _ _ h refl)) refl) refl
+less_stands after h = and_from _ _ (and_from _ _ (and_from true _ refl (and_from _ _ h refl)) refl) refl
 
 less_letter : (b : ℕ) → is_letter b ≡ true → is_some (symbol (60 ∷ b ∷ [])) ≡ false
 unfolding symbol
@@ -70,13 +70,13 @@ less_letter b e = rw (other is_letter b 61 e refl, other is_letter b 45 e refl) 
 
 less_meets : (f : List ℕ) → is_word f ≡ true → (rest after : List ℕ) → no_arrow ((f ++ rest) ++ after) ≡ true
 less_meets [] e rest after = absurd (cc)
-less_meets (b ∷ f) e rest after = ap not (less_letter b (first_of_both (is_letter b) _ e))
+less_meets (b ∷ f) e rest after = ap not (less_letter b ((and_parts (is_letter b) _ e).0))
 
 flat_stands : {A : Type 0} (f : A → Row) (test : A → Bool) → ((x : A) → test x ≡ true → (after : List ℕ) → is_row (f x) after ≡ true)
     → (xs : List A) → list_all test xs ≡ true → (after : List ℕ) → is_row (flat_map f xs) after ≡ true
 flat_stands f test s [] e after = refl
 flat_stands f test s (x ∷ xs) e after =
-    row_split (f x) (flat_map f xs) after (s x (first_of_both (test x) _ e) _) (flat_stands f test s xs (second_of_both (test x) _ e) after)
+    row_split (f x) (flat_map f xs) after (s x ((and_parts (test x) _ e).0) _) (flat_stands f test s xs ((and_parts (test x) _ e).1) after)
 
 -- statements
 abbrev IsStanding : StmtTree → Type 0
@@ -92,7 +92,7 @@ block_stands : (ys : List Standing) → all_sound (map stmt_sound (map stmt_of y
 block_stands [] e n after = refl
 block_stands (y ∷ ys) e n after =
     row_split (statement_row y.0 (n + 2)) (block_row (map statement_row (map stmt_of ys)) n) after
-    (y.1 (first_of_both (stmt_sound y.0) _ e) (n + 2) _) (block_stands ys (second_of_both (stmt_sound y.0) _ e) n after)
+    (y.1 ((and_parts (stmt_sound y.0) _ e).0) (n + 2) _) (block_stands ys ((and_parts (stmt_sound y.0) _ e).1) n after)
 
 assign_stands : (n : ℕ) (target : Stood) (x : ExprTree) → expr_sound x ≡ true → ((after : List ℕ) → target.need (32 ∷ after) ≡ true) → (after : List ℕ)
     → is_row (line_row n (target.row ++ space ++ mark (codes "<-") ++ space ++ expression_row x ++ mark (codes ";"))) after ≡ true
@@ -142,47 +142,47 @@ foreach_row class variable other =
 step_stands : (y : StmtTree-F Standing) → stmt_sound_step (map-StmtTree StmtTree Bool stmt_sound (map-StmtTree Standing StmtTree stmt_of y)) ≡ true → (n : ℕ) (after : List ℕ)
     → is_row (statement_row_step (map-StmtTree StmtTree (ℕ → Row) statement_row (map-StmtTree Standing StmtTree stmt_of y)) n) after ≡ true
 step_stands (Const type name x at) e n after =
-    let front = first_of_both (type_is type && is_name name.text) (expr_sound x) e in
-    const_stands n type name.text x (first_of_both _ (is_name name.text) front) (second_of_both (type_is type) _ front) (second_of_both (type_is type && is_name name.text) _ e) after
+    let front = (and_parts (type_is type && is_name name.text) (expr_sound x) e).0 in
+    const_stands n type name.text x ((and_parts _ (is_name name.text) front).0) ((and_parts (type_is type) _ front).1) ((and_parts (type_is type && is_name name.text) _ e).1) after
 step_stands (If x ys None at) e n after =
-    let front = first_of_both (expr_sound x && all_sound (map stmt_sound (map stmt_of ys))) true e in
+    let front = (and_parts (expr_sound x && all_sound (map stmt_sound (map stmt_of ys))) true e).0 in
     let first = line_row n (tested_row x) in
     let block = block_row (map statement_row (map stmt_of ys)) n in
     row_split (first ++ block ++ []) (closing_row n) after
-    (row_split (first ++ block) [] _ (row_split first block _ (if_stands n x (first_of_both _ _ front) _) (block_stands ys (second_of_both (expr_sound x) _ front) n _)) refl)
+    (row_split (first ++ block) [] _ (row_split first block _ (if_stands n x ((and_parts _ _ front).0) _) (block_stands ys ((and_parts (expr_sound x) _ front).1) n _)) refl)
     (closing_stands n after)
 step_stands (If x ys (Some others) at) e n after =
-    let front = first_of_both (expr_sound x && all_sound (map stmt_sound (map stmt_of ys))) (all_sound (map stmt_sound (map stmt_of others))) e in
+    let front = (and_parts (expr_sound x && all_sound (map stmt_sound (map stmt_of ys))) (all_sound (map stmt_sound (map stmt_of others))) e).0 in
     let first = line_row n (tested_row x) in
     let block = block_row (map statement_row (map stmt_of ys)) n in
     let second = line_row n (mark (codes "}") ++ space ++ letters (codes "else") ++ space ++ mark (codes "{")) in
     let other_block = block_row (map statement_row (map stmt_of others)) n in
     row_split (first ++ block ++ (second ++ other_block)) (closing_row n) after
     (row_split (first ++ block) (second ++ other_block) _
-    (row_split first block _ (if_stands n x (first_of_both _ _ front) _) (block_stands ys (second_of_both (expr_sound x) _ front) n _))
+    (row_split first block _ (if_stands n x ((and_parts _ _ front).0) _) (block_stands ys ((and_parts (expr_sound x) _ front).1) n _))
     (row_split second other_block _ (else_stands n _)
-    (block_stands others (second_of_both (expr_sound x && all_sound (map stmt_sound (map stmt_of ys))) _ e) n _)))
+    (block_stands others ((and_parts (expr_sound x && all_sound (map stmt_sound (map stmt_of ys))) _ e).1) n _)))
     (closing_stands n after)
 step_stands (Foreach class variable other ys at) e n after =
-    let three = first_of_both (is_name class.text && is_name variable.text && is_name other.text) (all_sound (map stmt_sound (map stmt_of ys))) e in
-    let two = first_of_both (is_name class.text && is_name variable.text) (is_name other.text) three in
+    let three = (and_parts (is_name class.text && is_name variable.text && is_name other.text) (all_sound (map stmt_sound (map stmt_of ys))) e).0 in
+    let two = (and_parts (is_name class.text && is_name variable.text) (is_name other.text) three).0 in
     let block = block_row (map statement_row (map stmt_of ys)) n in
     let first = line_row n (foreach_row class.text variable.text other.text) in
     row_split (first ++ block) (closing_row n) after
     (row_split first block _
-    (foreach_stands n class.text variable.text other.text (first_of_both _ (is_name variable.text) two) (second_of_both (is_name class.text) _ two)
-    (second_of_both (is_name class.text && is_name variable.text) _ three) _)
-    (block_stands ys (second_of_both (is_name class.text && is_name variable.text && is_name other.text) _ e) n _))
+    (foreach_stands n class.text variable.text other.text ((and_parts _ (is_name variable.text) two).0) ((and_parts (is_name class.text) _ two).1)
+    ((and_parts (is_name class.text && is_name variable.text) _ three).1) _)
+    (block_stands ys ((and_parts (is_name class.text && is_name variable.text && is_name other.text) _ e).1) n _))
     (closing_stands n after)
 step_stands (Assign name x) e n after =
-    assign_stands n (named name.text (first_of_both _ (expr_sound x) e)) x (second_of_both (is_name name.text) _ e) (λ after. refl) after
+    assign_stands n (named name.text ((and_parts _ (expr_sound x) e).0)) x ((and_parts (is_name name.text) _ e).1) (λ after. refl) after
 step_stands (AssignThis name x at) e n after =
-    assign_stands n (pointed (codes "this") name.text refl refl (first_of_both _ (expr_sound x) e)) x (second_of_both (is_name name.text) _ e) (λ after. refl) after
+    assign_stands n (pointed (codes "this") name.text refl refl ((and_parts _ (expr_sound x) e).0)) x ((and_parts (is_name name.text) _ e).1) (λ after. refl) after
 step_stands (AssignLoop loop name x) e n after =
-    let front = first_of_both (is_name loop.text && is_name name.text) (expr_sound x) e in
-    let l = first_of_both (is_name loop.text) (is_name name.text) front in
-    assign_stands n (pointed loop.text name.text (name_word loop.text l) (name_short loop.text l) (second_of_both (is_name loop.text) _ front)) x
-    (second_of_both (is_name loop.text && is_name name.text) _ e) (λ after. refl) after
+    let front = (and_parts (is_name loop.text && is_name name.text) (expr_sound x) e).0 in
+    let l = (and_parts (is_name loop.text) (is_name name.text) front).0 in
+    assign_stands n (pointed loop.text name.text (name_word loop.text l) (name_short loop.text l) ((and_parts (is_name loop.text) _ front).1)) x
+    ((and_parts (is_name loop.text && is_name name.text) _ e).1) (λ after. refl) after
 
 -- a sound statement stands before anything
 statement_stands : (s : StmtTree) → stmt_sound s ≡ true → (n : ℕ) (after : List ℕ) → is_row (statement_row s n) after ≡ true
@@ -238,11 +238,11 @@ statements_stand : (xs : List StmtTree) → all_sound (map stmt_sound xs) ≡ tr
 statements_stand [] e n after = refl
 statements_stand (x ∷ xs) e n after =
     row_split (statement_row x (n + 2)) (block_row (map statement_row xs) n) after
-    (statement_stands x (first_of_both (stmt_sound x) _ e) (n + 2) _) (statements_stand xs (second_of_both (stmt_sound x) _ e) n after)
+    (statement_stands x ((and_parts (stmt_sound x) _ e).0) (n + 2) _) (statements_stand xs ((and_parts (stmt_sound x) _ e).1) n after)
 
 gift_stands : (n : ℕ) (gift : GiftTree) → gift_sound gift ≡ true → (after : List ℕ) → is_row (gift_row n gift) after ≡ true
 gift_stands n gift e after =
-    assign_stands n (named gift.state.text (first_of_both _ (expr_sound gift.value) e)) gift.value (second_of_both (is_name gift.state.text) _ e) (λ after. refl) after
+    assign_stands n (named gift.state.text ((and_parts _ (expr_sound gift.value) e).0)) gift.value ((and_parts (is_name gift.state.text) _ e).1) (λ after. refl) after
 
 die_stands : (n : ℕ) (x : ExprTree) → expr_sound x ≡ true → (after : List ℕ) → is_row (line_row n (die_row x)) after ≡ true
 unfolding symbol
@@ -261,12 +261,12 @@ unfolding symbol directive
 member_stands n (member.Visible range at) e after = range_stands n (codes "visible") range.digits (λ after. refl) e after
 member_stands n (member.Reach range at) e after = range_stands n (codes "reach") range.digits (λ after. refl) e after
 member_stands n (member.State shared type name x at) e after =
-    let front = first_of_both (type_is type && is_name name.text) (rule_sound x) e in
-    let fields = field shared (codes "state") type name.text (λ after. refl) (first_of_both _ (is_name name.text) front) (second_of_both (type_is type) _ front) in
-    let ruled : Stood = record { need = stops; row = rule_row x; stands = rule_stands x (second_of_both (type_is type && is_name name.text) _ e) } in
+    let front = (and_parts (type_is type && is_name name.text) (rule_sound x) e).0 in
+    let fields = field shared (codes "state") type name.text (λ after. refl) ((and_parts _ (is_name name.text) front).0) ((and_parts (type_is type) _ front).1) in
+    let ruled : Stood = record { need = stops; row = rule_row x; stands = rule_stands x ((and_parts (type_is type && is_name name.text) _ e).1) } in
     ended_line n (follow fields ruled (rule_meets x)) (mark (codes ";") ∷ []) after refl refl
 member_stands n (member.Effect shared type name comb at) e after =
-    let fields = field shared (codes "effect") type name.text (λ after. refl) (first_of_both _ (is_name name.text) e) (second_of_both (type_is type) _ e) in
+    let fields = field shared (codes "effect") type name.text (λ after. refl) ((and_parts _ (is_name name.text) e).0) ((and_parts (type_is type) _ e).1) in
     ended_line n (follow (ended fields (space ∷ mark (codes ":") ∷ space ∷ []) any (λ after h. refl) (λ after h. refl))
     (record { need = no_word; row = combinator_row comb; stands = combinator_stands comb }) (λ after h. refl)) (mark (codes ";") ∷ []) after refl refl
 member_stands n (member.Run statements at) e after =
@@ -277,8 +277,8 @@ member_stands n (member.Die x at) e after = die_stands n x e after
 member_stands n (member.Spawn x gifts at) e after =
     let block = flat_map (gift_row (n + 2)) gifts in
     row_split (line_row n (spawn_row x) ++ block) (closing_row n) after
-    (row_split (line_row n (spawn_row x)) block _ (spawn_stands n x (first_of_both _ (list_all gift_sound gifts) e) _)
-    (flat_stands (gift_row (n + 2)) gift_sound (gift_stands (n + 2)) gifts (second_of_both (expr_sound x) _ e) _))
+    (row_split (line_row n (spawn_row x)) block _ (spawn_stands n x ((and_parts _ (list_all gift_sound gifts) e).0) _)
+    (flat_stands (gift_row (n + 2)) gift_sound (gift_stands (n + 2)) gifts ((and_parts (expr_sound x) _ e).1) _))
     (closing_stands n after)
 
 class_line_stands : (name : List ℕ) → is_name name ≡ true → (after : List ℕ)
@@ -292,10 +292,10 @@ class_stands class e after =
     let first = line_row 0 (letters (codes "class") ++ space ++ letters class.name.text ++ space ++ mark (codes "{")) in
     let block = flat_map (member_row 2) class.members in
     row_split (first ++ block) (closing_row 0) after
-    (row_split first block _ (class_line_stands class.name.text (first_of_both _ (list_all member_sound class.members) e) (text_of block ++ (text_of (closing_row 0) ++ after)))
-    (flat_stands (member_row 2) member_sound (member_stands 2) class.members (second_of_both (is_name class.name.text) _ e) _))
+    (row_split first block _ (class_line_stands class.name.text ((and_parts _ (list_all member_sound class.members) e).0) (text_of block ++ (text_of (closing_row 0) ++ after)))
+    (flat_stands (member_row 2) member_sound (member_stands 2) class.members ((and_parts (is_name class.name.text) _ e).1) _))
     (closing_stands 0 after)
 
 -- the row of a sound script stands
 pub row_stands : (tree : Tree) → script_sound tree ≡ true → is_row (script_row tree) [] ≡ true
-row_stands tree e = flat_stands class_row class_sound class_stands tree.classes (second_of_both (nat_le 1 (length tree.classes)) _ e) []
+row_stands tree e = flat_stands class_row class_sound class_stands tree.classes ((and_parts (nat_le 1 (length tree.classes)) _ e).1) []

@@ -2,6 +2,7 @@
 use Rattle.std.proofs.Common.{◌≡◌, refl, sym, ap, ◌∙◌, subst, ℕ, ◌+◌, ◌≤◌, nat_le, List, [], ◌∷◌, ◌++◌, length, map, flat_map, Bool, true, false, ◌&&◌, Some, None, arith, append_assoc, codes}
 use Rattle.std.specs.List.{list_all}
 use Rattle.std.proofs.lemmas.List.{append-nil}
+use Rattle.std.proofs.lemmas.Bool.{and_parts}
 use Rattle.brace_num.specs.Names.{is_name}
 use Rattle.brace_tok.specs.Tables.{reserved, symbol, directive}
 use Rattle.brace_tok.specs.Pieces.{word, hash, sign}
@@ -10,7 +11,6 @@ use Rattle.brace_tok.specs.Spells.{Spells, tokens_from}
 use Rattle.brace_tok.specs.declared.kinds.Token.{Token}
 use Rattle.brace_tok.specs.declared.kinds.TokKind.{TokKind}
 use Rattle.brace_tok.specs.declared.kinds.TokKind.TheVariants as k
-use Rattle.brace_tok.proofs.Scans.{first_of_both, second_of_both}
 use Rattle.brace_tok.proofs.Unique.{one_list}
 use Rattle.brace_syntax.specs.Depth.{opened_by, counted_by, NowhereDeep}
 use Rattle.brace_syntax.specs.Tables.{Is, ident, number, type_name, type_at, combines}
@@ -131,15 +131,15 @@ const_moves : (src : List ℕ) (a : List Token) (w type name equals semicolon : 
 unfolding symbol reserved
 const_moves src a w type name equals semicolon t x at hw ht hn he hs r sound o rest h =
     let n : List ℕ = (ident src name).text in
-    let both : (type_is t && is_name n) ≡ true = first_of_both (type_is t && is_name n) (expr_sound x) sound in
+    let both : (type_is t && is_name n) ≡ true = (and_parts (type_is t && is_name n) (expr_sound x) sound).0 in
     let h1 = past_token k.KwConst w _ o 0 hw h in
     let h2 = past_rest type _ o 0 (type_rests (ident src type) type.kind t ht) h1 in
     let h3 = past_token k.Assign equals _ o 0 he (past_token k.Word name _ o 0 hn h2) in
-    let v = value_passed src a x semicolon (second_of_both (type_is t && is_name n) (expr_sound x) sound) r o 0 rest h3 in (
+    let v = value_passed src a x semicolon ((and_parts (type_is t && is_name n) (expr_sound x) sound).1) r o 0 rest h3 in (
       past_token k.Semicolon semicolon rest o v.count hs v.calm,
       λ margin. line_runs margin o 0 o 0 _ (
-          plain k.KwConst (word (codes "const")) o 0 (λ from. refl) refl refl ⊕ blank_runs 32 o 0 ⊕ type_runs t (first_of_both (type_is t) (is_name n) both) o 0 ⊕ blank_runs 32 o 0
-          ⊕ name_runs n (second_of_both (type_is t) (is_name n) both) o 0 ⊕ blank_runs 32 o 0 ⊕ plain k.Assign (sign (codes "=")) o 0 (λ from. refl) refl refl ⊕ blank_runs 32 o 0
+          plain k.KwConst (word (codes "const")) o 0 (λ from. refl) refl refl ⊕ blank_runs 32 o 0 ⊕ type_runs t ((and_parts (type_is t) (is_name n) both).0) o 0 ⊕ blank_runs 32 o 0
+          ⊕ name_runs n ((and_parts (type_is t) (is_name n) both).1) o 0 ⊕ blank_runs 32 o 0 ⊕ plain k.Assign (sign (codes "=")) o 0 (λ from. refl) refl refl ⊕ blank_runs 32 o 0
           ⊕ v.runs ⊕ semicolon_runs o v.count v.few),
     )
 
@@ -207,34 +207,34 @@ mutual
       (const_moves src a w type name equals semicolon t x w.from hw ht hn he hs r)
   stmt_moves src _ _ (g.assign a name arrow semicolon x hn ha hs r) sound =
       stmt_as (Moves (name ∷ arrow ∷ a ++ semicolon ∷ [])) (stmt.Assign (ident src name) x) _ (s.rolls-Assign (ident src name) x) sound (λ b.
-      assign_moves src a name arrow semicolon x hn ha hs r (first_of_both (is_name (ident src name).text) (expr_sound x) b) (second_of_both (is_name (ident src name).text) (expr_sound x) b))
+      assign_moves src a name arrow semicolon x hn ha hs r ((and_parts (is_name (ident src name).text) (expr_sound x) b).0) ((and_parts (is_name (ident src name).text) (expr_sound x) b).1))
   stmt_moves src _ _ (g.assign_this a this dot name arrow semicolon x ht hd hn ha hs r) sound =
       stmt_as (Moves (this ∷ dot ∷ name ∷ arrow ∷ a ++ semicolon ∷ [])) (stmt.AssignThis (ident src name) x this.from) _ (s.rolls-AssignThis (ident src name) x this.from) sound (λ b o rest h.
       let u = owned_moves src a k.KwThis this dot name arrow semicolon x (letters (codes "this")) ht (λ p q. (refl, refl)) this_runs hd hn ha hs r
-      (first_of_both (is_name (ident src name).text) (expr_sound x) b) (second_of_both (is_name (ident src name).text) (expr_sound x) b) o rest h in
+      ((and_parts (is_name (ident src name).text) (expr_sound x) b).0) ((and_parts (is_name (ident src name).text) (expr_sound x) b).1) o rest h in
       (u.0, λ margin. line_runs margin o 0 o 0 _ u.1))
   stmt_moves src _ _ (g.assign_loop a loop dot name arrow semicolon x hl hd hn ha hs r) sound =
       stmt_as (Moves (loop ∷ dot ∷ name ∷ arrow ∷ a ++ semicolon ∷ [])) (stmt.AssignLoop (ident src loop) (ident src name) x) _ (s.rolls-AssignLoop (ident src loop) (ident src name) x) sound (λ b o rest h.
       let l : List ℕ = (ident src loop).text in
       let n : List ℕ = (ident src name).text in
-      let b' : (is_name l && is_name n) ≡ true = first_of_both (is_name l && is_name n) (expr_sound x) b in
-      let u = owned_moves src a k.Word loop dot name arrow semicolon x (letters l) hl (λ p q. (refl, refl)) (name_runs l (first_of_both (is_name l) (is_name n) b')) hd hn ha hs r
-      (second_of_both (is_name l) (is_name n) b') (second_of_both (is_name l && is_name n) (expr_sound x) b) o rest h in
+      let b' : (is_name l && is_name n) ≡ true = (and_parts (is_name l && is_name n) (expr_sound x) b).0 in
+      let u = owned_moves src a k.Word loop dot name arrow semicolon x (letters l) hl (λ p q. (refl, refl)) (name_runs l ((and_parts (is_name l) (is_name n) b').0)) hd hn ha hs r
+      ((and_parts (is_name l) (is_name n) b').1) ((and_parts (is_name l && is_name n) (expr_sound x) b).1) o rest h in
       (u.0, λ margin. line_runs margin o 0 o 0 _ u.1))
   stmt_moves src _ _ (g.when a b w opening closing x block hw ho hc r rb) sound =
       stmt_as (Moves (w ∷ opening ∷ a ++ closing ∷ b)) (stmt.If x block None w.from) _ (s.rolls-If x block None w.from) sound (λ q o rest h.
-      let q' : (expr_sound x && block_sound block) ≡ true = first_of_both (expr_sound x && block_sound block) true q in
-      let u = if_passed src a w opening closing x hw ho hc r (first_of_both (expr_sound x) (block_sound block) q') o (b ++ rest) (subst (λ z. Calm o 0 (w ∷ opening ∷ z)) (append_assoc a (closing ∷ b) rest) h) in
-      let v = block_moves src b block rb (second_of_both (expr_sound x) (block_sound block) q') o u.0 rest u.1.0 in
+      let q' : (expr_sound x && block_sound block) ≡ true = (and_parts (expr_sound x && block_sound block) true q).0 in
+      let u = if_passed src a w opening closing x hw ho hc r ((and_parts (expr_sound x) (block_sound block) q').0) o (b ++ rest) (subst (λ z. Calm o 0 (w ∷ opening ∷ z)) (append_assoc a (closing ∷ b) rest) h) in
+      let v = block_moves src b block rb ((and_parts (expr_sound x) (block_sound block) q').1) o u.0 rest u.1.0 in
       (v.1, λ margin. line_runs margin o 0 (o + 1) 0 _ (u.1.1 margin v.0) ⊕ v.2 margin ⊕ nothing_runs (o + 1) 0 ⊕ closing_runs o margin v.0))
   stmt_moves src _ _ (g.either_way a b d w opening closing otherwise x block other hw ho hc he r rb rd) sound =
       stmt_as (Moves ((w ∷ opening ∷ a ++ closing ∷ b) ++ otherwise ∷ d)) (stmt.If x block (Some other) w.from) _ (s.rolls-If x block (Some other) w.from) sound (λ q o rest h.
-      let q' : (expr_sound x && block_sound block) ≡ true = first_of_both (expr_sound x && block_sound block) (block_sound other) q in
+      let q' : (expr_sound x && block_sound block) ≡ true = (and_parts (expr_sound x && block_sound block) (block_sound other) q).0 in
       let behind : List Token = otherwise ∷ (d ++ rest) in
       let cut : ((a ++ (closing ∷ b)) ++ (otherwise ∷ d)) ++ rest ≡ a ++ (closing ∷ (b ++ behind)) = append_assoc (a ++ (closing ∷ b)) (otherwise ∷ d) rest ∙ append_assoc a (closing ∷ b) behind in
-      let u = if_passed src a w opening closing x hw ho hc r (first_of_both (expr_sound x) (block_sound block) q') o (b ++ behind) (subst (λ z. Calm o 0 (w ∷ opening ∷ z)) cut h) in
-      let v = block_moves src b block rb (second_of_both (expr_sound x) (block_sound block) q') o u.0 behind u.1.0 in
-      let y = block_moves src d other rd (second_of_both (expr_sound x && block_sound block) (block_sound other) q) o 0 rest (past_token k.KwElse otherwise (d ++ rest) o 0 he v.1) in
+      let u = if_passed src a w opening closing x hw ho hc r ((and_parts (expr_sound x) (block_sound block) q').0) o (b ++ behind) (subst (λ z. Calm o 0 (w ∷ opening ∷ z)) cut h) in
+      let v = block_moves src b block rb ((and_parts (expr_sound x) (block_sound block) q').1) o u.0 behind u.1.0 in
+      let y = block_moves src d other rd ((and_parts (expr_sound x && block_sound block) (block_sound other) q).1) o 0 rest (past_token k.KwElse otherwise (d ++ rest) o 0 he v.1) in
       (y.1, λ margin. line_runs margin o 0 (o + 1) 0 _ (u.1.1 margin v.0) ⊕ v.2 margin ⊕ (line_runs margin (o + 1) 0 (o + 1) 0 _ (else_runs o v.0) ⊕ y.2 margin) ⊕ closing_runs o margin v.0))
   stmt_moves src _ _ (g.foreach a w opening class variable colon extent less other greater closing block h1 h2 h3 h4 h5 h6 h7 h8 h9 h10 rb) sound =
       stmt_as (Moves (w ∷ opening ∷ class ∷ variable ∷ colon ∷ extent ∷ less ∷ other ∷ greater ∷ closing ∷ a)) (stmt.Foreach (ident src class) (ident src variable) (ident src other) block w.from) _
@@ -242,25 +242,25 @@ mutual
       let nc : List ℕ = (ident src class).text in
       let nv : List ℕ = (ident src variable).text in
       let no : List ℕ = (ident src other).text in
-      let q2 : (is_name nc && is_name nv && is_name no) ≡ true = first_of_both (is_name nc && is_name nv && is_name no) (block_sound block) q in
-      let q1 : (is_name nc && is_name nv) ≡ true = first_of_both (is_name nc && is_name nv) (is_name no) q2 in
+      let q2 : (is_name nc && is_name nv && is_name no) ≡ true = (and_parts (is_name nc && is_name nv && is_name no) (block_sound block) q).0 in
+      let q1 : (is_name nc && is_name nv) ≡ true = (and_parts (is_name nc && is_name nv) (is_name no) q2).0 in
       let p : ℕ = o + 1 in
       let t2 = past_token k.OpenParen opening _ o 0 h2 (past_token k.KwForeach w _ o 0 h1 h) in
       let t4 = past_token k.Word variable _ p 0 h4 (past_token k.Word class _ p 0 h3 t2) in
       let t6 = past_token k.KwExtent extent _ p 0 h6 (past_token k.Colon colon _ p 0 h5 t4) in
       let t8 = past_token k.Word other _ p (0 + 1) h8 (past_token k.Less less _ p 0 h7 t6) in
       let t10 = past_close closing (a ++ rest) o (0 + 1 + 1) h10 (past_token k.Greater greater _ p (0 + 1) h9 t8) in
-      let v = block_moves src a block rb (second_of_both (is_name nc && is_name nv && is_name no) (block_sound block) q) o (0 + 1 + 1) rest t10 in (
+      let v = block_moves src a block rb ((and_parts (is_name nc && is_name nv && is_name no) (block_sound block) q).1) o (0 + 1 + 1) rest t10 in (
         v.1,
-        λ margin. line_runs margin o 0 (o + 1) 0 _ (foreach_runs o nc nv no (first_of_both (is_name nc) (is_name nv) q1) (second_of_both (is_name nc) (is_name nv) q1)
-            (second_of_both (is_name nc && is_name nv) (is_name no) q2) v.0) ⊕ v.2 margin ⊕ closing_runs o margin v.0,
+        λ margin. line_runs margin o 0 (o + 1) 0 _ (foreach_runs o nc nv no ((and_parts (is_name nc) (is_name nv) q1).0) ((and_parts (is_name nc) (is_name nv) q1).1)
+            ((and_parts (is_name nc && is_name nv) (is_name no) q2).1) v.0) ⊕ v.2 margin ⊕ closing_runs o margin v.0,
       ))
 
   stmts_moves : (src : List ℕ) (a : List Token) (xs : List StmtTree) → ReadsStmts src a xs → block_sound xs ≡ true → Moves a (λ margin. flat_map (λ row. row margin) (map statement_row xs))
   stmts_moves src _ _ g.none sound o rest h = (h, λ margin. nothing_runs o 0)
   stmts_moves src _ _ (g.more a b x xs r rs) sound o rest h =
-      let u = stmt_moves src a x r (first_of_both (stmt_sound x) (block_sound xs) sound) o (b ++ rest) (subst (Calm o 0) (append_assoc a b rest) h) in
-      let v = stmts_moves src b xs rs (second_of_both (stmt_sound x) (block_sound xs) sound) o rest u.0 in
+      let u = stmt_moves src a x r ((and_parts (stmt_sound x) (block_sound xs) sound).0) o (b ++ rest) (subst (Calm o 0) (append_assoc a b rest) h) in
+      let v = stmts_moves src b xs rs ((and_parts (stmt_sound x) (block_sound xs) sound).1) o rest u.0 in
       (v.0, λ margin. u.1 margin ⊕ v.1 margin)
 
   block_moves : (src : List ℕ) (a : List Token) (xs : List StmtTree) → ReadsBlock src a xs → block_sound xs ≡ true → Fills a (block_row (map statement_row xs))
@@ -277,8 +277,8 @@ member_rows x margin = member_row margin x
 state_front : (b : Bool) (t : TyName) (name : List ℕ) → (type_is t && is_name name) ≡ true → (o : ℕ) → Runs o 0 (sharing_row b ++ space ++ letters (codes "state") ++ space ++ type_row t ++ space ++ letters name) o 0
 unfolding reserved
 state_front b t name h o =
-    sharing_runs b o 0 ⊕ blank_runs 32 o 0 ⊕ plain k.KwState (word (codes "state")) o 0 (λ from. refl) refl refl ⊕ blank_runs 32 o 0 ⊕ type_runs t (first_of_both (type_is t) (is_name name) h) o 0 ⊕ blank_runs 32 o 0
-    ⊕ name_runs name (second_of_both (type_is t) (is_name name) h) o 0
+    sharing_runs b o 0 ⊕ blank_runs 32 o 0 ⊕ plain k.KwState (word (codes "state")) o 0 (λ from. refl) refl refl ⊕ blank_runs 32 o 0 ⊕ type_runs t ((and_parts (type_is t) (is_name name) h).0) o 0 ⊕ blank_runs 32 o 0
+    ⊕ name_runs name ((and_parts (type_is t) (is_name name) h).1) o 0
 
 field_moves : (src : List ℕ) (b : Bool) (at : ℕ) (a : List Token) (x : MemberTree) → ReadsField src b at a x → member_sound x ≡ true → Moves a (member_rows x)
 unfolding reserved
@@ -287,16 +287,16 @@ field_moves src b at _ _ (g.state w type name semicolon t hw ht hn hs) sound o r
     let n : List ℕ = (ident src name).text in (
       past_token k.Semicolon semicolon rest o 0 hs (past_token k.Word name _ o 0 hn h2),
       λ margin. line_runs margin o 0 o 0 _ (
-          state_front b t n (first_of_both (type_is t && is_name n) true sound) o ⊕ nothing_runs o 0 ⊕ semicolon_runs o 0 (omega arith)),
+          state_front b t n ((and_parts (type_is t && is_name n) true sound).0) o ⊕ nothing_runs o 0 ⊕ semicolon_runs o 0 (omega arith)),
     )
 field_moves src b at _ _ (g.ruled a w type name colon semicolon t x hw ht hn hc hs r) sound o rest h =
     let h2 = past_rest type _ o 0 (type_rests (ident src type) type.kind t ht) (past_token k.KwState w _ o 0 hw h) in
     let h4 = past_token k.Colon colon _ o 0 hc (past_token k.Word name _ o 0 hn h2) in
     let n : List ℕ = (ident src name).text in
-    let v = value_passed src a x semicolon (second_of_both (type_is t && is_name n) (expr_sound x) sound) r o 0 rest h4 in (
+    let v = value_passed src a x semicolon ((and_parts (type_is t && is_name n) (expr_sound x) sound).1) r o 0 rest h4 in (
       past_token k.Semicolon semicolon rest o v.count hs v.calm,
       λ margin. line_runs margin o 0 o 0 _ (
-          state_front b t n (first_of_both (type_is t && is_name n) (expr_sound x) sound) o ⊕ (blank_runs 32 o 0 ⊕ colon_runs o 0 ⊕ blank_runs 32 o 0 ⊕ v.runs) ⊕ semicolon_runs o v.count v.few),
+          state_front b t n ((and_parts (type_is t && is_name n) (expr_sound x) sound).0) o ⊕ (blank_runs 32 o 0 ⊕ colon_runs o 0 ⊕ blank_runs 32 o 0 ⊕ v.runs) ⊕ semicolon_runs o v.count v.few),
     )
 field_moves src b at _ _ (g.effect w type name colon joins semicolon t c hw ht hn hc hj hs) sound o rest h =
     let h2 = past_rest type _ o 0 (type_rests (ident src type) type.kind t ht) (past_token k.KwEffect w _ o 0 hw h) in
@@ -304,19 +304,19 @@ field_moves src b at _ _ (g.effect w type name colon joins semicolon t c hw ht h
     let n : List ℕ = (ident src name).text in (
       past_token k.Semicolon semicolon rest o 0 hs (past_rest joins _ o 0 (combines_rests joins.kind c hj) h4),
       λ margin. line_runs margin o 0 o 0 _ (
-          sharing_runs b o 0 ⊕ blank_runs 32 o 0 ⊕ plain k.KwEffect (word (codes "effect")) o 0 (λ from. refl) refl refl ⊕ blank_runs 32 o 0 ⊕ type_runs t (first_of_both (type_is t) (is_name n) sound) o 0 ⊕ blank_runs 32 o 0
-          ⊕ name_runs n (second_of_both (type_is t) (is_name n) sound) o 0 ⊕ blank_runs 32 o 0 ⊕ colon_runs o 0 ⊕ blank_runs 32 o 0 ⊕ combinator_runs c o 0 ⊕ semicolon_runs o 0 (omega arith)),
+          sharing_runs b o 0 ⊕ blank_runs 32 o 0 ⊕ plain k.KwEffect (word (codes "effect")) o 0 (λ from. refl) refl refl ⊕ blank_runs 32 o 0 ⊕ type_runs t ((and_parts (type_is t) (is_name n) sound).0) o 0 ⊕ blank_runs 32 o 0
+          ⊕ name_runs n ((and_parts (type_is t) (is_name n) sound).1) o 0 ⊕ blank_runs 32 o 0 ⊕ colon_runs o 0 ⊕ blank_runs 32 o 0 ⊕ combinator_runs c o 0 ⊕ semicolon_runs o 0 (omega arith)),
     )
 
 gift_moves : (src : List ℕ) (a : List Token) (x : GiftTree) → ReadsGift src a x → gift_sound x ≡ true → Moves a (λ margin. gift_row margin x)
 gift_moves src _ _ (g.gift a name arrow semicolon x hn ha hs r) sound =
-    assign_moves src a name arrow semicolon x hn ha hs r (first_of_both (is_name (ident src name).text) (expr_sound x) sound) (second_of_both (is_name (ident src name).text) (expr_sound x) sound)
+    assign_moves src a name arrow semicolon x hn ha hs r ((and_parts (is_name (ident src name).text) (expr_sound x) sound).0) ((and_parts (is_name (ident src name).text) (expr_sound x) sound).1)
 
 gifts_moves : (src : List ℕ) (a : List Token) (xs : List GiftTree) → ReadsGifts src a xs → list_all gift_sound xs ≡ true → Moves a (λ margin. flat_map (gift_row margin) xs)
 gifts_moves src _ _ g.none sound o rest h = (h, λ margin. nothing_runs o 0)
 gifts_moves src _ _ (g.more a b x xs r rs) sound o rest h =
-    let u = gift_moves src a x r (first_of_both (gift_sound x) (list_all gift_sound xs) sound) o (b ++ rest) (subst (Calm o 0) (append_assoc a b rest) h) in
-    let v = gifts_moves src b xs rs (second_of_both (gift_sound x) (list_all gift_sound xs) sound) o rest u.0 in
+    let u = gift_moves src a x r ((and_parts (gift_sound x) (list_all gift_sound xs) sound).0) o (b ++ rest) (subst (Calm o 0) (append_assoc a b rest) h) in
+    let v = gifts_moves src b xs rs ((and_parts (gift_sound x) (list_all gift_sound xs) sound).1) o rest u.0 in
     (v.0, λ margin. u.1 margin ⊕ v.1 margin)
 
 -- a directive
@@ -362,10 +362,10 @@ member_moves src _ _ (g.die a w when semicolon x hw hn hs r) sound o rest h =
 member_moves src _ _ (g.spawn a b w when opening closing x gifts hw hn ho hc r rs) sound o rest h =
     let h2 = past_token k.KwWhen when _ o 0 hn (past_token k.KwSpawn w _ o 0 hw h) in
     let cut : ((a ++ (opening ∷ b)) ++ (closing ∷ [])) ++ rest ≡ a ++ (opening ∷ (b ++ (closing ∷ rest))) = append_assoc (a ++ (opening ∷ b)) (closing ∷ []) rest ∙ append_assoc a (opening ∷ b) (closing ∷ rest) in
-    let v = expr_passed src a x (first_of_both (expr_sound x) (list_all gift_sound gifts) sound) r o 0 (opening ∷ (b ++ (closing ∷ rest))) (subst (Calm o 0) cut h2) in
+    let v = expr_passed src a x ((and_parts (expr_sound x) (list_all gift_sound gifts) sound).0) r o 0 (opening ∷ (b ++ (closing ∷ rest))) (subst (Calm o 0) cut h2) in
     let h3 : Calm (o + 1) 0 (b ++ (closing ∷ rest)) = past_token k.OpenBrace opening _ o v.count ho v.calm in
     let l : o + 1 ≤ 64 = few_open (o + 1) 0 _ h3 in
-    let y = gifts_moves src b gifts rs (second_of_both (expr_sound x) (list_all gift_sound gifts) sound) (o + 1) (closing ∷ rest) h3 in (
+    let y = gifts_moves src b gifts rs ((and_parts (expr_sound x) (list_all gift_sound gifts) sound).1) (o + 1) (closing ∷ rest) h3 in (
       past_end closing rest o 0 hc y.0,
       λ margin. line_runs margin o 0 (o + 1) 0 _ (
           plain k.KwSpawn (word (codes "spawn")) o 0 (λ from. refl) refl refl ⊕ blank_runs 32 o 0 ⊕ when_runs o 0 ⊕ blank_runs 32 o 0 ⊕ v.runs ⊕ blank_runs 32 o v.count ⊕ begins o v.count v.few) ⊕ y.1 (margin + 2) ⊕ closing_runs o margin l,
@@ -374,8 +374,8 @@ member_moves src _ _ (g.spawn a b w when opening closing x gifts hw hn ho hc r r
 members_moves : (src : List ℕ) (a : List Token) (xs : List MemberTree) → ReadsMembers src a xs → list_all member_sound xs ≡ true → Moves a (λ margin. flat_map (member_row margin) xs)
 members_moves src _ _ g.none sound o rest h = (h, λ margin. nothing_runs o 0)
 members_moves src _ _ (g.more a b x xs r rs) sound o rest h =
-    let u = member_moves src a x r (first_of_both (member_sound x) (list_all member_sound xs) sound) o (b ++ rest) (subst (Calm o 0) (append_assoc a b rest) h) in
-    let v = members_moves src b xs rs (second_of_both (member_sound x) (list_all member_sound xs) sound) o rest u.0 in
+    let u = member_moves src a x r ((and_parts (member_sound x) (list_all member_sound xs) sound).0) o (b ++ rest) (subst (Calm o 0) (append_assoc a b rest) h) in
+    let v = members_moves src b xs rs ((and_parts (member_sound x) (list_all member_sound xs) sound).1) o rest u.0 in
     (v.0, λ margin. u.1 margin ⊕ v.1 margin)
 
 class_moves : (src : List ℕ) (a : List Token) (x : ClassTree) → ReadsClass src a x → class_sound x ≡ true → Moves a (λ margin. class_row x)
@@ -384,20 +384,20 @@ class_moves src _ _ (g.class a w name opening closing members hw hn ho hc rs) so
     let n : List ℕ = (ident src name).text in
     let h3 : Calm (o + 1) 0 ((a ++ closing ∷ []) ++ rest) = past_token k.OpenBrace opening _ o 0 ho (past_token k.Word name _ o 0 hn (past_token k.KwClass w _ o 0 hw h)) in
     let l : o + 1 ≤ 64 = few_open (o + 1) 0 _ h3 in
-    let y = members_moves src a members rs (second_of_both (is_name n) (list_all member_sound members) sound) (o + 1) (closing ∷ rest) (subst (Calm (o + 1) 0) (append_assoc a (closing ∷ []) rest) h3) in (
+    let y = members_moves src a members rs ((and_parts (is_name n) (list_all member_sound members) sound).1) (o + 1) (closing ∷ rest) (subst (Calm (o + 1) 0) (append_assoc a (closing ∷ []) rest) h3) in (
       past_end closing rest o 0 hc y.0,
       λ margin. line_runs 0 o 0 (o + 1) 0 _ (
-          plain k.KwClass (word (codes "class")) o 0 (λ from. refl) refl refl ⊕ blank_runs 32 o 0 ⊕ name_runs n (first_of_both (is_name n) (list_all member_sound members) sound) o 0 ⊕ blank_runs 32 o 0 ⊕ begins o 0 (omega arith))
+          plain k.KwClass (word (codes "class")) o 0 (λ from. refl) refl refl ⊕ blank_runs 32 o 0 ⊕ name_runs n ((and_parts (is_name n) (list_all member_sound members) sound).0) o 0 ⊕ blank_runs 32 o 0 ⊕ begins o 0 (omega arith))
           ⊕ y.1 2 ⊕ closing_runs o 0 l,
     )
 
 classes_moves : (src : List ℕ) (a : List Token) (xs : List ClassTree) → ReadsClasses src a xs → list_all class_sound xs ≡ true → Moves a (λ margin. flat_map class_row xs)
 classes_moves src _ _ (g.last a x r) sound o rest h =
-    let u = class_moves src a x r (first_of_both (class_sound x) true sound) o rest h in
+    let u = class_moves src a x r ((and_parts (class_sound x) true sound).0) o rest h in
     (u.0, λ margin. u.1 margin ⊕ nothing_runs o 0)
 classes_moves src _ _ (g.more a b x xs r rs) sound o rest h =
-    let u = class_moves src a x r (first_of_both (class_sound x) (list_all class_sound xs) sound) o (b ++ rest) (subst (Calm o 0) (append_assoc a b rest) h) in
-    let v = classes_moves src b xs rs (second_of_both (class_sound x) (list_all class_sound xs) sound) o rest u.0 in
+    let u = class_moves src a x r ((and_parts (class_sound x) (list_all class_sound xs) sound).0) o (b ++ rest) (subst (Calm o 0) (append_assoc a b rest) h) in
+    let v = classes_moves src b xs rs ((and_parts (class_sound x) (list_all class_sound xs) sound).1) o rest u.0 in
     (v.0, λ margin. u.1 margin ⊕ v.1 margin)
 
 pub canonical_is_shallow : (src : List ℕ) (toks : List Token) (tree : Tree) → Spells src toks → Reads src toks tree → NowhereDeep toks → (again : List Token) → Spells (canonical tree) again → NowhereDeep again
@@ -405,6 +405,6 @@ canonical_is_shallow src toks tree spelled read shallow again spelled_again =
     let sound = readings_are_sound src toks tree spelled read in
     let found : List Token = tokens_from 0 (script_row tree) in
     let only : again ≡ found = one_list (canonical tree) again found spelled_again (script_row tree, sym (row_text tree), row_stands tree sound, refl) in
-    let u = classes_moves src toks tree.classes read (second_of_both (nat_le 1 (length tree.classes)) (list_all class_sound tree.classes) sound) 0 [] (subst (Calm 0 0) (sym (append-nil toks)) (shallow_calm toks shallow)) in
+    let u = classes_moves src toks tree.classes read ((and_parts (nat_le 1 (length tree.classes)) (list_all class_sound tree.classes) sound).1) 0 [] (subst (Calm 0 0) (sym (append-nil toks)) (shallow_calm toks shallow)) in
     let calm : Calm 0 0 (found ++ []) = (u.1 0).calm 0 [] none_calm in
     subst NowhereDeep (sym only) (calm_shallow found (subst (Calm 0 0) (append-nil found) calm))

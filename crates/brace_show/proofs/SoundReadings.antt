@@ -4,7 +4,7 @@ use Rattle.std.specs.Prelude.{IsTrue}
 use Rattle.std.specs.List.{list_all}
 use Rattle.std.specs.Str.{bytes_eq}
 use Rattle.std.specs.Str.Parse.{digits_value}
-use Rattle.std.proofs.lemmas.Bool.{le-leb}
+use Rattle.std.proofs.lemmas.Bool.{le-leb, and_parts, and_from}
 use Rattle.std.proofs.lemmas.Option.{same_Some}
 use Rattle.std.proofs.lemmas.List.Elements.{All-head, All-rest}
 use Rattle.brace_num.specs.Names.{is_name}
@@ -18,7 +18,6 @@ use Rattle.brace_tok.specs.declared.kinds.TokKind.{TokKind}
 use Rattle.brace_tok.specs.declared.kinds.TokKind.TheVariants as k
 use Rattle.brace_tok.specs.declared.fault.TokFault.{TokFault}
 use Rattle.brace_tok.specs.declared.fault.TokFault.TheVariants as fault
-use Rattle.brace_tok.proofs.Scans.{both, first_of_both, second_of_both}
 use Rattle.brace_tok.proofs.Named.{spells_names}
 use Rattle.brace_syntax.specs.Tables.{Is, ident, number, number_at, type_name, type_at}
 use Rattle.brace_syntax.specs.Reads as g
@@ -65,8 +64,8 @@ table_fits : (table : List (List ℕ × TokKind)) (text : List ℕ) → list_all
 table_fits [] text h = refl
 table_fits (entry ∷ table) text h =
     elim (bytes_eq entry.0 text) as (λ v. found_fits (cond v (Some entry.1) (found table text)) ≡ true) [
-      | true ↦ first_of_both (kind_fits entry.1) (list_all (λ en. kind_fits en.1) table) h
-      | false ↦ table_fits table text (second_of_both (kind_fits entry.1) (list_all (λ en. kind_fits en.1) table) h)
+      | true ↦ (and_parts (kind_fits entry.1) (list_all (λ en. kind_fits en.1) table) h).0
+      | false ↦ table_fits table text ((and_parts (kind_fits entry.1) (list_all (λ en. kind_fits en.1) table) h).1)
     ]
 
 name_fits : (o : Option TokKind) → found_fits o ≡ true → kind_fits (name_or o) ≡ true
@@ -86,7 +85,7 @@ role_at_fits from (word text) = said_fits (fault.LongWord from) (word_kind text)
 role_at_fits from (whole text) = said_fits (fault.WideLiteral from) (whole_kind text) (guarded (nat_le (digits_value 10 text) 9223372036854775807) (k.Int (pos (digits_value 10 text))) (λ h. h))
 role_at_fits from (fraction text decimals) =
     let n : ℕ = millionths text decimals in
-    said_fits (fault.WideLiteral from) (fixed_kind text decimals) (guarded (nat_le (length decimals) 6 && nat_le n 9223372036854775807) (k.Fixed (pos n)) (λ h. second_of_both (nat_le (length decimals) 6) (nat_le n 9223372036854775807) h))
+    said_fits (fault.WideLiteral from) (fixed_kind text decimals) (guarded (nat_le (length decimals) 6 && nat_le n 9223372036854775807) (k.Fixed (pos n)) (λ h. (and_parts (nat_le (length decimals) 6) (nat_le n 9223372036854775807) h).1))
 role_at_fits from (hash text) = said_fits (fault.BadByte from) (found directives text) (table_fits directives text refl)
 role_at_fits from (sign text) = said_fits (fault.BadByte from) (found symbols text) (table_fits symbols text refl)
 role_at_fits from (open_comment body) = refl
@@ -97,7 +96,7 @@ fits tok = kind_fits tok.kind
 
 token_fits : (from to : ℕ) (said : Role) (toks : List Token) → role_fits said ≡ true → list_all fits toks ≡ true → list_all fits (token_at from to said ++ toks) ≡ true
 token_fits from to nothing toks h hs = hs
-token_fits from to (token kind) toks h hs = both (kind_fits kind) (list_all fits toks) h hs
+token_fits from to (token kind) toks h hs = and_from (kind_fits kind) (list_all fits toks) h hs
 token_fits from to (refused f) toks h hs = hs
 
 row_fits : (from : ℕ) (row : List Piece) → list_all fits (tokens_from from row) ≡ true
@@ -124,8 +123,8 @@ kind_is_sound text kind n h = refl
 sounds_of : (src : List ℕ) (toks : List Token) → All (IsNamed src) toks → list_all fits toks ≡ true → Sounds src toks
 sounds_of src [] n h = tt
 sounds_of src (tok ∷ toks) n h = (
-  kind_is_sound (text_at src tok) tok.kind (All-head (IsNamed src) tok toks n) (first_of_both (fits tok) (list_all fits toks) h),
-  sounds_of src toks (All-rest (IsNamed src) tok toks (tok ∷ toks) refl n) (second_of_both (fits tok) (list_all fits toks) h),
+  kind_is_sound (text_at src tok) tok.kind (All-head (IsNamed src) tok toks n) ((and_parts (fits tok) (list_all fits toks) h).0),
+  sounds_of src toks (All-rest (IsNamed src) tok toks (tok ∷ toks) refl n) ((and_parts (fits tok) (list_all fits toks) h).1),
 )
 
 spells_sounds : (src : List ℕ) (toks : List Token) → Spells src toks → Sounds src toks
@@ -169,15 +168,15 @@ expr_reading : (src : List ℕ) (r : g.Row) (toks : List Token) (x : ExprTree) �
 expr_reading src _ _ _ (g.alone row inner a x e r) h = expr_reading src inner a x r h
 expr_reading src _ _ _ (g.joined row inner a b op name x y e e' r r') h =
     sound_expr (expr.Binary name x y op.from) _ (node.rolls-Binary name x y op.from)
-    (both (expr_sound x) (expr_sound y) (expr_reading src row a x r (left src a (op ∷ b) h)) (expr_reading src inner b y r' (right src a (op ∷ b) h).1))
+    (and_from (expr_sound x) (expr_sound y) (expr_reading src row a x r (left src a (op ∷ b) h)) (expr_reading src inner b y r' (right src a (op ∷ b) h).1))
 expr_reading src _ _ _ (g.compared a b op name x y e r r') h =
     sound_expr (expr.Binary name x y op.from) _ (node.rolls-Binary name x y op.from)
-    (both (expr_sound x) (expr_sound y) (expr_reading src g.sums a x r (left src a (op ∷ b) h)) (expr_reading src g.sums b y r' (right src a (op ∷ b) h).1))
+    (and_from (expr_sound x) (expr_sound y) (expr_reading src g.sums a x r (left src a (op ∷ b) h)) (expr_reading src g.sums b y r' (right src a (op ∷ b) h).1))
 expr_reading src _ _ _ (g.chosen a b c question colon w x y e e' r r' r'') h =
     let front : Sounds src (a ++ (question ∷ b)) = left src (a ++ (question ∷ b)) (colon ∷ c) h in
     sound_expr (expr.Choice w x y question.from) _ (node.rolls-Choice w x y question.from)
-    (both (expr_sound w && expr_sound x) (expr_sound y)
-    (both (expr_sound w) (expr_sound x) (expr_reading src g.ors a w r (left src a (question ∷ b) front)) (expr_reading src g.choices b x r' (right src a (question ∷ b) front).1))
+    (and_from (expr_sound w && expr_sound x) (expr_sound y)
+    (and_from (expr_sound w) (expr_sound x) (expr_reading src g.ors a w r (left src a (question ∷ b) front)) (expr_reading src g.choices b x r' (right src a (question ∷ b) front).1))
     (expr_reading src g.choices c y r'' (right src (a ++ (question ∷ b)) (colon ∷ c) h).1))
 expr_reading src _ _ _ (g.prefix a op name x e r) h = sound_expr (expr.Unary name x op.from) _ (node.rolls-Unary name x op.from) (expr_reading src g.prefixed a x r h.1)
 expr_reading src _ _ _ (g.literal tok n e) h = sound_expr (expr.Lit n) _ (node.rolls-Lit n) (number_sound src tok n e h.0)
@@ -188,13 +187,13 @@ expr_reading src _ _ _ (g.of_this this dot name e e' e'') h = sound_expr (expr.O
 expr_reading src _ _ _ (g.named name e) h = sound_expr (expr.Name (ident src name)) _ (node.rolls-Name (ident src name)) (name_sound src name e h.0)
 expr_reading src _ _ _ (g.of_loop loop dot name e e' e'') h =
     sound_expr (expr.OfLoop (ident src loop) (ident src name)) _ (node.rolls-OfLoop (ident src loop) (ident src name))
-    (both (is_name (text_at src loop)) (is_name (text_at src name)) (name_sound src loop e h.0) (name_sound src name e'' h.1.1.0))
+    (and_from (is_name (text_at src loop)) (is_name (text_at src name)) (name_sound src loop e h.0) (name_sound src name e'' h.1.1.0))
 expr_reading src _ _ _ (g.called_one a w opening closing name x e e' e'' r) h =
     sound_expr (expr.Unary name x w.from) _ (node.rolls-Unary name x w.from) (expr_reading src g.choices a x r (left src a (closing ∷ []) h.1.1))
 expr_reading src _ _ _ (g.called_two a b w opening comma closing name x y e e' e'' e''' r r') h =
     let inner : Sounds src (a ++ (comma ∷ b)) = left src (a ++ (comma ∷ b)) (closing ∷ []) h.1.1 in
     sound_expr (expr.Binary name x y w.from) _ (node.rolls-Binary name x y w.from)
-    (both (expr_sound x) (expr_sound y) (expr_reading src g.choices a x r (left src a (comma ∷ b) inner)) (expr_reading src g.choices b y r' (right src a (comma ∷ b) inner).1))
+    (and_from (expr_sound x) (expr_sound y) (expr_reading src g.choices a x r (left src a (comma ∷ b) inner)) (expr_reading src g.choices b y r' (right src a (comma ∷ b) inner).1))
 expr_reading src _ _ _ (g.random w opening closing e e' e'') h = sound_expr (expr.Rand w.from) _ (node.rolls-Rand w.from) refl
 
 -- statements
@@ -208,37 +207,37 @@ mutual
   stmt_reading : (src : List ℕ) (toks : List Token) (x : StmtTree) → ReadsStmt src toks x → Sounds src toks → stmt_sound x ≡ true
   stmt_reading src _ _ (g.const a w type name equals semicolon t x e e' e'' e3 e4 r) h =
       sound_stmt (stmt.Const t (ident src name) x w.from) _ (s.rolls-Const t (ident src name) x w.from)
-      (both (type_is t && is_name (text_at src name)) (expr_sound x) (both (type_is t) (is_name (text_at src name)) (type_sound src type t e' h.1.0) (name_sound src name e'' h.1.1.0))
+      (and_from (type_is t && is_name (text_at src name)) (expr_sound x) (and_from (type_is t) (is_name (text_at src name)) (type_sound src type t e' h.1.0) (name_sound src name e'' h.1.1.0))
       (expr_reading src g.choices a x r (left src a (semicolon ∷ []) h.1.1.1.1)))
   stmt_reading src _ _ (g.when a b w opening closing x block e e' e'' r rb) h =
       sound_stmt (stmt.If x block None w.from) _ (s.rolls-If x block None w.from)
-      (both (expr_sound x && sound_block block) true (both (expr_sound x) (sound_block block) (expr_reading src g.choices a x r (left src a (closing ∷ b) h.1.1)) (block_reading src b block rb (right src a (closing ∷ b) h.1.1).1)) refl)
+      (and_from (expr_sound x && sound_block block) true (and_from (expr_sound x) (sound_block block) (expr_reading src g.choices a x r (left src a (closing ∷ b) h.1.1)) (block_reading src b block rb (right src a (closing ∷ b) h.1.1).1)) refl)
   stmt_reading src _ _ (g.either_way a b c w opening closing otherwise x block other e e' e'' e3 r rb rc) h =
       let front : Sounds src (a ++ (closing ∷ b)) = left src (a ++ (closing ∷ b)) (otherwise ∷ c) h.1.1 in
       sound_stmt (stmt.If x block (Some other) w.from) _ (s.rolls-If x block (Some other) w.from)
-      (both (expr_sound x && sound_block block) (sound_block other)
-      (both (expr_sound x) (sound_block block) (expr_reading src g.choices a x r (left src a (closing ∷ b) front)) (block_reading src b block rb (right src a (closing ∷ b) front).1))
+      (and_from (expr_sound x && sound_block block) (sound_block other)
+      (and_from (expr_sound x) (sound_block block) (expr_reading src g.choices a x r (left src a (closing ∷ b) front)) (block_reading src b block rb (right src a (closing ∷ b) front).1))
       (block_reading src c other rc (right src (a ++ (closing ∷ b)) (otherwise ∷ c) h.1.1).1))
   stmt_reading src _ _ (g.foreach a w opening class variable colon extent less other greater closing block e e1 e2 e3 e4 e5 e6 e7 e8 e9 r) h =
       sound_stmt (stmt.Foreach (ident src class) (ident src variable) (ident src other) block w.from) _ (s.rolls-Foreach (ident src class) (ident src variable) (ident src other) block w.from)
-      (both (is_name (text_at src class) && is_name (text_at src variable) && is_name (text_at src other)) (sound_block block)
-      (both (is_name (text_at src class) && is_name (text_at src variable)) (is_name (text_at src other))
-      (both (is_name (text_at src class)) (is_name (text_at src variable)) (name_sound src class e2 h.1.1.0) (name_sound src variable e3 h.1.1.1.0)) (name_sound src other e7 h.1.1.1.1.1.1.1.0))
+      (and_from (is_name (text_at src class) && is_name (text_at src variable) && is_name (text_at src other)) (sound_block block)
+      (and_from (is_name (text_at src class) && is_name (text_at src variable)) (is_name (text_at src other))
+      (and_from (is_name (text_at src class)) (is_name (text_at src variable)) (name_sound src class e2 h.1.1.0) (name_sound src variable e3 h.1.1.1.0)) (name_sound src other e7 h.1.1.1.1.1.1.1.0))
       (block_reading src a block r h.1.1.1.1.1.1.1.1.1.1))
   stmt_reading src _ _ (g.assign_this a this dot name arrow semicolon x e e1 e2 e3 e4 r) h =
       sound_stmt (stmt.AssignThis (ident src name) x this.from) _ (s.rolls-AssignThis (ident src name) x this.from)
-      (both (is_name (text_at src name)) (expr_sound x) (name_sound src name e2 h.1.1.0) (expr_reading src g.choices a x r (left src a (semicolon ∷ []) h.1.1.1.1)))
+      (and_from (is_name (text_at src name)) (expr_sound x) (name_sound src name e2 h.1.1.0) (expr_reading src g.choices a x r (left src a (semicolon ∷ []) h.1.1.1.1)))
   stmt_reading src _ _ (g.assign a name arrow semicolon x e e1 e2 r) h =
       sound_stmt (stmt.Assign (ident src name) x) _ (s.rolls-Assign (ident src name) x)
-      (both (is_name (text_at src name)) (expr_sound x) (name_sound src name e h.0) (expr_reading src g.choices a x r (left src a (semicolon ∷ []) h.1.1)))
+      (and_from (is_name (text_at src name)) (expr_sound x) (name_sound src name e h.0) (expr_reading src g.choices a x r (left src a (semicolon ∷ []) h.1.1)))
   stmt_reading src _ _ (g.assign_loop a loop dot name arrow semicolon x e e1 e2 e3 e4 r) h =
       sound_stmt (stmt.AssignLoop (ident src loop) (ident src name) x) _ (s.rolls-AssignLoop (ident src loop) (ident src name) x)
-      (both (is_name (text_at src loop) && is_name (text_at src name)) (expr_sound x)
-      (both (is_name (text_at src loop)) (is_name (text_at src name)) (name_sound src loop e h.0) (name_sound src name e2 h.1.1.0)) (expr_reading src g.choices a x r (left src a (semicolon ∷ []) h.1.1.1.1)))
+      (and_from (is_name (text_at src loop) && is_name (text_at src name)) (expr_sound x)
+      (and_from (is_name (text_at src loop)) (is_name (text_at src name)) (name_sound src loop e h.0) (name_sound src name e2 h.1.1.0)) (expr_reading src g.choices a x r (left src a (semicolon ∷ []) h.1.1.1.1)))
 
   stmts_reading : (src : List ℕ) (toks : List Token) (xs : List StmtTree) → ReadsStmts src toks xs → Sounds src toks → sound_block xs ≡ true
   stmts_reading src _ _ g.none h = refl
-  stmts_reading src _ _ (g.more a b x xs r rs) h = both (stmt_sound x) (sound_block xs) (stmt_reading src a x r (left src a b h)) (stmts_reading src b xs rs (right src a b h))
+  stmts_reading src _ _ (g.more a b x xs r rs) h = and_from (stmt_sound x) (sound_block xs) (stmt_reading src a x r (left src a b h)) (stmts_reading src b xs rs (right src a b h))
 
   block_reading : (src : List ℕ) (toks : List Token) (xs : List StmtTree) → ReadsBlock src toks xs → Sounds src toks → sound_block xs ≡ true
   block_reading src _ _ (g.braced a opening closing xs e e' rs) h = stmts_reading src a xs rs (left src a (closing ∷ []) h.1)
@@ -246,20 +245,20 @@ mutual
 -- members, classes and scripts
 field_reading : (src : List ℕ) (shared : Bool) (at : ℕ) (toks : List Token) (x : MemberTree) → ReadsField src shared at toks x → Sounds src toks → member_sound x ≡ true
 field_reading src shared at _ _ (g.state w type name semicolon t e e1 e2 e3) h =
-    both (type_is t && is_name (text_at src name)) true (both (type_is t) (is_name (text_at src name)) (type_sound src type t e1 h.1.0) (name_sound src name e2 h.1.1.0)) refl
+    and_from (type_is t && is_name (text_at src name)) true (and_from (type_is t) (is_name (text_at src name)) (type_sound src type t e1 h.1.0) (name_sound src name e2 h.1.1.0)) refl
 field_reading src shared at _ _ (g.ruled a w type name colon semicolon t x e e1 e2 e3 e4 r) h =
-    both (type_is t && is_name (text_at src name)) (expr_sound x) (both (type_is t) (is_name (text_at src name)) (type_sound src type t e1 h.1.0) (name_sound src name e2 h.1.1.0))
+    and_from (type_is t && is_name (text_at src name)) (expr_sound x) (and_from (type_is t) (is_name (text_at src name)) (type_sound src type t e1 h.1.0) (name_sound src name e2 h.1.1.0))
     (expr_reading src g.choices a x r (left src a (semicolon ∷ []) h.1.1.1.1))
-field_reading src shared at _ _ (g.effect w type name colon joins semicolon t c e e1 e2 e3 e4 e5) h = both (type_is t) (is_name (text_at src name)) (type_sound src type t e1 h.1.0) (name_sound src name e2 h.1.1.0)
+field_reading src shared at _ _ (g.effect w type name colon joins semicolon t c e e1 e2 e3 e4 e5) h = and_from (type_is t) (is_name (text_at src name)) (type_sound src type t e1 h.1.0) (name_sound src name e2 h.1.1.0)
 
 gift_reading : (src : List ℕ) (toks : List Token) (x : GiftTree) → ReadsGift src toks x → Sounds src toks → gift_sound x ≡ true
 gift_reading src _ _ (g.gift a name arrow semicolon x e e1 e2 r) h =
-    both (is_name (text_at src name)) (expr_sound x) (name_sound src name e h.0) (expr_reading src g.choices a x r (left src a (semicolon ∷ []) h.1.1))
+    and_from (is_name (text_at src name)) (expr_sound x) (name_sound src name e h.0) (expr_reading src g.choices a x r (left src a (semicolon ∷ []) h.1.1))
 
 gifts_reading : (src : List ℕ) (toks : List Token) (xs : List GiftTree) → ReadsGifts src toks xs → Sounds src toks → list_all gift_sound xs ≡ true
 gifts_reading src _ _ g.none h = refl
 gifts_reading src _ _ (g.more a b x xs r rs) h =
-    both (gift_sound x) (list_all gift_sound xs) (gift_reading src a x r (left src a b h)) (gifts_reading src b xs rs (right src a b h))
+    and_from (gift_sound x) (list_all gift_sound xs) (gift_reading src a x r (left src a b h)) (gifts_reading src b xs rs (right src a b h))
 
 member_reading : (src : List ℕ) (toks : List Token) (x : MemberTree) → ReadsMember src toks x → Sounds src toks → member_sound x ≡ true
 member_reading src _ _ (g.visible w opening range closing semicolon n e e1 e2 e3 e4) h = number_sound src range n e2 h.1.1.0
@@ -270,22 +269,22 @@ member_reading src _ _ (g.run a w void run opening closing block e e1 e2 e3 e4 r
 member_reading src _ _ (g.die a w when semicolon x e e1 e2 r) h = expr_reading src g.choices a x r (left src a (semicolon ∷ []) h.1.1)
 member_reading src _ _ (g.spawn a b w when opening closing x gifts e e1 e2 e3 r rs) h =
     let front : Sounds src (a ++ (opening ∷ b)) = left src (a ++ (opening ∷ b)) (closing ∷ []) h.1.1 in
-    both (expr_sound x) (list_all gift_sound gifts) (expr_reading src g.choices a x r (left src a (opening ∷ b) front))
+    and_from (expr_sound x) (list_all gift_sound gifts) (expr_reading src g.choices a x r (left src a (opening ∷ b) front))
     (gifts_reading src b gifts rs (right src a (opening ∷ b) front).1)
 
 members_reading : (src : List ℕ) (toks : List Token) (xs : List MemberTree) → ReadsMembers src toks xs → Sounds src toks → list_all member_sound xs ≡ true
 members_reading src _ _ g.none h = refl
-members_reading src _ _ (g.more a b x xs r rs) h = both (member_sound x) (list_all member_sound xs) (member_reading src a x r (left src a b h)) (members_reading src b xs rs (right src a b h))
+members_reading src _ _ (g.more a b x xs r rs) h = and_from (member_sound x) (list_all member_sound xs) (member_reading src a x r (left src a b h)) (members_reading src b xs rs (right src a b h))
 
 class_reading : (src : List ℕ) (toks : List Token) (x : ClassTree) → ReadsClass src toks x → Sounds src toks → class_sound x ≡ true
 class_reading src _ _ (g.class a w name opening closing members e e1 e2 e3 r) h =
-    both (is_name (text_at src name)) (list_all member_sound members) (name_sound src name e1 h.1.0) (members_reading src a members r (left src a (closing ∷ []) h.1.1.1))
+    and_from (is_name (text_at src name)) (list_all member_sound members) (name_sound src name e1 h.1.0) (members_reading src a members r (left src a (closing ∷ []) h.1.1.1))
 
 classes_reading : (src : List ℕ) (toks : List Token) (xs : List ClassTree) → ReadsClasses src toks xs → Sounds src toks → (nat_le 1 (length xs) && list_all class_sound xs) ≡ true
-classes_reading src _ _ (g.last a x r) h = both (class_sound x) true (class_reading src a x r h) refl
+classes_reading src _ _ (g.last a x r) h = and_from (class_sound x) true (class_reading src a x r h) refl
 classes_reading src _ _ (g.more a b x xs r rs) h =
-    both (nat_le 1 (length (x ∷ xs))) (class_sound x && list_all class_sound xs) (le-leb 1 (length (x ∷ xs)) (omega arith))
-    (both (class_sound x) (list_all class_sound xs) (class_reading src a x r (left src a b h)) (second_of_both (nat_le 1 (length xs)) (list_all class_sound xs) (classes_reading src b xs rs (right src a b h))))
+    and_from (nat_le 1 (length (x ∷ xs))) (class_sound x && list_all class_sound xs) (le-leb 1 (length (x ∷ xs)) (omega arith))
+    (and_from (class_sound x) (list_all class_sound xs) (class_reading src a x r (left src a b h)) ((and_parts (nat_le 1 (length xs)) (list_all class_sound xs) (classes_reading src b xs rs (right src a b h))).1))
 
 pub readings_are_sound : (src : List ℕ) (toks : List Token) (tree : Tree) → Spells src toks → Reads src toks tree → script_sound tree ≡ true
 readings_are_sound src toks tree spelled read = classes_reading src toks tree.classes read (spells_sounds src toks spelled)

@@ -1,12 +1,12 @@
 -- The pieces of statements are read back as those statements, apart from places.
 use Rattle.std.proofs.Common.{◌≡◌, refl, sym, ap, ◌∙◌, subst, ℕ, ◌+◌, List, [], ◌∷◌, ◌++◌, map, Bool, true, ◌&&◌, append_assoc, Option, Some, None, codes}
 use Rattle.std.proofs.lemmas.List.{append-nil}
+use Rattle.std.proofs.lemmas.Bool.{and_parts}
 use Rattle.brace_num.specs.Names.{is_name}
 use Rattle.brace_tok.specs.Tables.{reserved, symbol}
 use Rattle.brace_tok.specs.Pieces.{blank, word, sign}
 use Rattle.brace_tok.specs.declared.kinds.Token.{Token}
 use Rattle.brace_tok.specs.declared.kinds.TokKind.TheVariants as k
-use Rattle.brace_tok.proofs.Scans.{first_of_both, second_of_both}
 use Rattle.brace_syntax.specs.Tables.{Is, ident, type_name, type_at}
 use Rattle.brace_syntax.specs.Reads as g
 use Rattle.brace_syntax.specs.Reads.{ReadsExpr, ReadsStmt, ReadsStmts, ReadsBlock}
@@ -281,35 +281,35 @@ rolled x f h =
 goods_of : (xs : List ((x : StmtTree) × SoundIsGood x)) → all_sound (map stmt_sound (map (λ z. z.0) xs)) ≡ true → Goods (map statement_row (map (λ z. z.0) xs)) (map stmt_at_0 (map (λ z. z.0) xs))
 goods_of [] h = none
 goods_of (x ∷ xs) h =
-    more (statement_row x.0) (stmt_at_0 x.0) _ _ (x.1 (first_of_both (stmt_sound x.0) (all_sound (map stmt_sound (map (λ z. z.0) xs))) h))
-    (goods_of xs (second_of_both (stmt_sound x.0) (all_sound (map stmt_sound (map (λ z. z.0) xs))) h))
+    more (statement_row x.0) (stmt_at_0 x.0) _ _ (x.1 ((and_parts (stmt_sound x.0) (all_sound (map stmt_sound (map (λ z. z.0) xs))) h).0))
+    (goods_of xs ((and_parts (stmt_sound x.0) (all_sound (map stmt_sound (map (λ z. z.0) xs))) h).1))
 
 each_good : (y : stmt.StmtTree-F ((x : StmtTree) × SoundIsGood x)) → SoundIsGood (roll-StmtTree (map-StmtTree ((x : StmtTree) × SoundIsGood x) StmtTree (λ z. z.0) y))
 each_good (stmt.Const t name x at) = rolled (stmt.Const t name x at) (λ h.
-    let h' : (type_is t && is_name name.text) ≡ true = first_of_both (type_is t && is_name name.text) (expr_sound x) h in
-    const_good t name x at (first_of_both (type_is t) (is_name name.text) h') (second_of_both (type_is t) (is_name name.text) h') (second_of_both (type_is t && is_name name.text) (expr_sound x) h))
+    let h' : (type_is t && is_name name.text) ≡ true = (and_parts (type_is t && is_name name.text) (expr_sound x) h).0 in
+    const_good t name x at ((and_parts (type_is t) (is_name name.text) h').0) ((and_parts (type_is t) (is_name name.text) h').1) ((and_parts (type_is t && is_name name.text) (expr_sound x) h).1))
 each_good (stmt.If c xs None at) = rolled (stmt.If c (map (λ z. z.0) xs) None at) (λ h.
     let sounds : Bool = all_sound (map stmt_sound (map (λ z. z.0) xs)) in
-    let h' : (expr_sound c && sounds) ≡ true = first_of_both (expr_sound c && sounds) true h in
-    when_good c _ _ at (first_of_both (expr_sound c) sounds h') (goods_of xs (second_of_both (expr_sound c) sounds h')))
+    let h' : (expr_sound c && sounds) ≡ true = (and_parts (expr_sound c && sounds) true h).0 in
+    when_good c _ _ at ((and_parts (expr_sound c) sounds h').0) (goods_of xs ((and_parts (expr_sound c) sounds h').1)))
 each_good (stmt.If c xs (Some ys) at) = rolled (stmt.If c (map (λ z. z.0) xs) (Some (map (λ z. z.0) ys)) at) (λ h.
     let sounds : Bool = all_sound (map stmt_sound (map (λ z. z.0) xs)) in
     let others : Bool = all_sound (map stmt_sound (map (λ z. z.0) ys)) in
-    let h' : (expr_sound c && sounds) ≡ true = first_of_both (expr_sound c && sounds) others h in
-    either_way_good c _ _ _ _ at (first_of_both (expr_sound c) sounds h') (goods_of xs (second_of_both (expr_sound c) sounds h')) (goods_of ys (second_of_both (expr_sound c && sounds) others h)))
+    let h' : (expr_sound c && sounds) ≡ true = (and_parts (expr_sound c && sounds) others h).0 in
+    either_way_good c _ _ _ _ at ((and_parts (expr_sound c) sounds h').0) (goods_of xs ((and_parts (expr_sound c) sounds h').1)) (goods_of ys ((and_parts (expr_sound c && sounds) others h).1)))
 each_good (stmt.Foreach class variable other xs at) = rolled (stmt.Foreach class variable other (map (λ z. z.0) xs) at) (λ h.
     let sounds : Bool = all_sound (map stmt_sound (map (λ z. z.0) xs)) in
-    let h2 : (is_name class.text && is_name variable.text && is_name other.text) ≡ true = first_of_both (is_name class.text && is_name variable.text && is_name other.text) sounds h in
-    let h1 : (is_name class.text && is_name variable.text) ≡ true = first_of_both (is_name class.text && is_name variable.text) (is_name other.text) h2 in
-    foreach_good class variable other _ _ at (first_of_both (is_name class.text) (is_name variable.text) h1) (second_of_both (is_name class.text) (is_name variable.text) h1)
-    (second_of_both (is_name class.text && is_name variable.text) (is_name other.text) h2)
-    (goods_of xs (second_of_both (is_name class.text && is_name variable.text && is_name other.text) sounds h)))
-each_good (stmt.Assign name x) = rolled (stmt.Assign name x) (λ h. assign_good name x (first_of_both (is_name name.text) (expr_sound x) h) (second_of_both (is_name name.text) (expr_sound x) h))
+    let h2 : (is_name class.text && is_name variable.text && is_name other.text) ≡ true = (and_parts (is_name class.text && is_name variable.text && is_name other.text) sounds h).0 in
+    let h1 : (is_name class.text && is_name variable.text) ≡ true = (and_parts (is_name class.text && is_name variable.text) (is_name other.text) h2).0 in
+    foreach_good class variable other _ _ at ((and_parts (is_name class.text) (is_name variable.text) h1).0) ((and_parts (is_name class.text) (is_name variable.text) h1).1)
+    ((and_parts (is_name class.text && is_name variable.text) (is_name other.text) h2).1)
+    (goods_of xs ((and_parts (is_name class.text && is_name variable.text && is_name other.text) sounds h).1)))
+each_good (stmt.Assign name x) = rolled (stmt.Assign name x) (λ h. assign_good name x ((and_parts (is_name name.text) (expr_sound x) h).0) ((and_parts (is_name name.text) (expr_sound x) h).1))
 each_good (stmt.AssignThis name x at) = rolled (stmt.AssignThis name x at) (λ h.
-    assign_this_good name x at (first_of_both (is_name name.text) (expr_sound x) h) (second_of_both (is_name name.text) (expr_sound x) h))
+    assign_this_good name x at ((and_parts (is_name name.text) (expr_sound x) h).0) ((and_parts (is_name name.text) (expr_sound x) h).1))
 each_good (stmt.AssignLoop loop name x) = rolled (stmt.AssignLoop loop name x) (λ h.
-    let h' : (is_name loop.text && is_name name.text) ≡ true = first_of_both (is_name loop.text && is_name name.text) (expr_sound x) h in
-    assign_loop_good loop name x (first_of_both (is_name loop.text) (is_name name.text) h') (second_of_both (is_name loop.text) (is_name name.text) h') (second_of_both (is_name loop.text && is_name name.text) (expr_sound x) h))
+    let h' : (is_name loop.text && is_name name.text) ≡ true = (and_parts (is_name loop.text && is_name name.text) (expr_sound x) h).0 in
+    assign_loop_good loop name x ((and_parts (is_name loop.text) (is_name name.text) h').0) ((and_parts (is_name loop.text) (is_name name.text) h').1) ((and_parts (is_name loop.text && is_name name.text) (expr_sound x) h).1))
 
 pub stmt_good : (x : StmtTree) → stmt_sound x ≡ true → GoodStmt (statement_row x) (stmt_at_0 x)
 stmt_good = ind-StmtTree SoundIsGood (λ x y is. subst (λ z. SoundIsGood (roll-StmtTree z)) is (each_good y))
@@ -317,8 +317,8 @@ stmt_good = ind-StmtTree SoundIsGood (λ x y is. subst (λ z. SoundIsGood (roll-
 stmts_good : (xs : List StmtTree) → all_sound (map stmt_sound xs) ≡ true → Goods (map statement_row xs) (map stmt_at_0 xs)
 stmts_good [] h = none
 stmts_good (x ∷ xs) h =
-    more (statement_row x) (stmt_at_0 x) _ _ (stmt_good x (first_of_both (stmt_sound x) (all_sound (map stmt_sound xs)) h))
-    (stmts_good xs (second_of_both (stmt_sound x) (all_sound (map stmt_sound xs)) h))
+    more (statement_row x) (stmt_at_0 x) _ _ (stmt_good x ((and_parts (stmt_sound x) (all_sound (map stmt_sound xs)) h).0))
+    (stmts_good xs ((and_parts (stmt_sound x) (all_sound (map stmt_sound xs)) h).1))
 
 -- a block of statements at the end
 pub block_reads : (xs : List StmtTree) → all_sound (map stmt_sound xs) ≡ true → (margin : ℕ) (src : List ℕ) (toks : List Token)

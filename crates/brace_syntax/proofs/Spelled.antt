@@ -6,10 +6,10 @@ use Rattle.std.specs.Str.{IsUtf8}
 use Rattle.std.proofs.lemmas.Bool.Decides.{nat_tests}
 use Rattle.std.proofs.lemmas.Str.{IsUtf8-from_ascii}
 use Rattle.std.proofs.lemmas.List.Elements.{All-rest}
+use Rattle.std.proofs.lemmas.Bool.{and_parts}
 use Rattle.brace_num.specs.Names.{is_word_byte, is_letter, begins, is_name}
 use Rattle.brace_tok.specs.Spells.{Spells, Rises}
 use Rattle.brace_tok.specs.declared.kinds.Token.{Token}
-use Rattle.brace_tok.proofs.Scans.{first_of_both, second_of_both}
 use Rattle.brace_tok.proofs.Named.{name_word, spells_names}
 use Rattle.brace_tok.proofs.Unique.{spells_rises}
 use Rattle.brace_syntax.specs.inner.Cursor.{AreSpelled, IsSpelled}
@@ -22,11 +22,11 @@ word_byte_ascii b e = grind (arith, nat_tests)
 
 word_bytes_ascii : (bs : List ℕ) → list_all is_word_byte bs ≡ true → (i : ℕ) → get_or bs i 0 < 128
 word_bytes_ascii [] e i = omega arith
-word_bytes_ascii (b ∷ bs) e zero = word_byte_ascii b (first_of_both (is_word_byte b) (list_all is_word_byte bs) e)
-word_bytes_ascii (b ∷ bs) e (suc i) = word_bytes_ascii bs (second_of_both (is_word_byte b) (list_all is_word_byte bs) e) i
+word_bytes_ascii (b ∷ bs) e zero = word_byte_ascii b ((and_parts (is_word_byte b) (list_all is_word_byte bs) e).0)
+word_bytes_ascii (b ∷ bs) e (suc i) = word_bytes_ascii bs ((and_parts (is_word_byte b) (list_all is_word_byte bs) e).1) i
 
 name_is_text : (text : List ℕ) → IsTrue (is_name text) → IsUtf8 text
-name_is_text text name = IsUtf8-from_ascii text (word_bytes_ascii text (second_of_both (begins is_letter text) (list_all is_word_byte text) (name_word text name)))
+name_is_text text name = IsUtf8-from_ascii text (word_bytes_ascii text ((and_parts (begins is_letter text) (list_all is_word_byte text) (name_word text name)).1))
 
 rises_end : (low high : ℕ) (toks : List Token) → Rises low high toks → low ≤ high
 rises_end low high [] r = r

@@ -2,6 +2,7 @@
 use Rattle.std.proofs.Common.{◌≡◌, refl, ap, ap₂, subst, ℕ, ℤ, zero, suc, ◌+◌, ◌-◌, ◌^◌, ◌≤◌, ◌<◌, nat_le, List, [], ◌∷◌, Contains, Bool, true, false, ◌&&◌, Result, Ok, Err, w64, arith}
 use Rattle.std.specs.Prelude.{FitsSigned}
 use Rattle.std.specs.List.{list_all}
+use Rattle.std.proofs.lemmas.Bool.{and_parts}
 use Rattle.brace_num.specs.Exact.{fits}
 use Rattle.brace_model.specs.declared.fault.Fault.{Fault}
 use Rattle.brace_model.specs.declared.job.Job.{Job}
@@ -26,7 +27,6 @@ use Rattle.brace_pieces.proofs.WorldLemmas.{continued_is}
 use Rattle.brace_rows.proofs.Order.{rising_are_numbered}
 use Rattle.brace_save.specs.Lines.{IsText}
 use Rattle.brace_save.specs.Texts.{IsMoment, Moment, lines, text, value_fits}
-use Rattle.brace_save.proofs.ReadBack.{both}
 use Rattle.brace_crew.specs.Shows.{checkpoint_file}
 
 -- ---- worlds stay lawful
@@ -68,8 +68,8 @@ agents_fit program agents whole classed = each_fits agents (λ a has. let (class
 few_ids : (program : Program) (agents : List Agent) → list_all (is_lawful_agent program) agents ≡ true → list_all (λ a. nat_le a.id greatest_id) agents ≡ true
 few_ids program [] lawful = refl
 few_ids program (a ∷ rest) lawful =
-    let (first, others) = both (is_lawful_agent program a) (list_all (is_lawful_agent program) rest) lawful in
-    let (low, states) = both (nat_le a.id greatest_id) (has_states (class_of program a) a) first in
+    let (first, others) = and_parts (is_lawful_agent program a) (list_all (is_lawful_agent program) rest) lawful in
+    let (low, states) = and_parts (nat_le a.id greatest_id) (has_states (class_of program a) a) first in
     ap₂ (λ (x y : Bool). x && y) low (few_ids program rest others)
 
 -- ---- what is saved
