@@ -1,6 +1,6 @@
 -- Where the points of a part stand, and that each point has one part.
 use Rattle.std.proofs.Common.{◌≡◌, ◌∙◌, ℕ, zero, suc, ◌+◌, ◌*◌, ◌/◌, ◌%◌, ◌≤◌, ◌<◌, ℤ, pos, ◌-ℤ◌, ◌≤ℤ◌, List, [], ◌∷◌, length, get_or, true, false, sym, ap, ap₂, subst, arith}
-use Rattle.std.specs.Prelude.{int_lt, int_le, max, FitsSigned}
+use Rattle.std.specs.Prelude.{int_lt, int_le, FitsSigned}
 use Rattle.std.specs.Int.{int_max, w64}
 use Rattle.std.specs.List.{list_all}
 use Rattle.std.proofs.lemmas.Int.{ints}

@@ -1,6 +1,5 @@
 -- Parts that hold points near each other are near.
 use Rattle.std.proofs.Common.{◌≡◌, ℕ, ℤ, pos, ◌-ℤ◌, ◌≤ℤ◌, true, arith}
-use Rattle.std.specs.Prelude.{int_le}
 use Rattle.std.specs.Int.{int_max}
 use Rattle.std.proofs.lemmas.Int.{ints}
 use Rattle.brace_num.specs.declared.kinds.Area.{Area}
