@@ -1,5 +1,5 @@
 -- The shares of agents, one effect and one agent after another.
-use Rattle.std.proofs.Common.{◌≡◌, ◌∙◌, refl, sym, ap, ap₂, subst, ℕ, zero, suc, ◌+◌, ◌<◌, ◌≤◌, min, ℤ, pos, ◌+ℤ◌, unsigned_abs, ◌<ℤ◌, ◌≤ℤ◌, List, [], ◌∷◌, ◌++◌, length, take, get_or, map, flat_map, Bool, true, false, cond, Option, Some, None, IfSome, arith, add-one, append_assoc, append-nil}
+use Rattle.std.proofs.Common.{◌≡◌, ◌∙◌, refl, sym, ap, ap₂, subst, ℕ, zero, suc, ◌+◌, ◌<◌, ◌≤◌, min, ℤ, pos, ◌+ℤ◌, ◌<ℤ◌, ◌≤ℤ◌, List, [], ◌∷◌, ◌++◌, length, take, get_or, map, flat_map, Bool, true, false, cond, Option, Some, None, IfSome, arith, add-one, append_assoc, append-nil}
 use Rattle.std.specs.Prelude.{fold}
 use Rattle.std.proofs.lemmas.Int.{ints}
 use Rattle.std.proofs.lemmas.Grind.{flat_map-append, common_steps}
@@ -23,7 +23,7 @@ use Rattle.std.proofs.lemmas.List.{length-map}
 use Rattle.brace_cuts.specs.declared.space.Cuts.{Cuts}
 use Rattle.brace_pieces.specs.Owned.{owns, owned}
 use Rattle.brace_pieces.specs.Right.{Share, share_unless_silent, shares_from, shares_to}
-use Rattle.brace_part.specs.inner.Tables.{shares_in}
+use Rattle.brace_part.specs.inner.Tables.{share_with, shares_in}
 
 take_more : {A : Type 0} (xs : List A) (i : ℕ) (x : A) → i < length xs → x ≡ get_or xs i x → take (i + 1) xs ≡ take i xs ++ x ∷ []
 take_more xs i x le is = ap (λ n. take n xs) (add-one i) ∙ take-suc xs i x le ∙ ap (λ y. take i xs ++ y ∷ []) (sym is)
@@ -94,11 +94,10 @@ reads id effects said totals counts i e number count le is d f at many all numbe
 -- the share of an effect to which something is said
 pub share_told : (id n : ℕ) (e : Effect) (values : List Value) (number count : ℤ)
     → number ≡ total_of e.comb values → count ≡ pos (length values) → 0 < length values
-    → record { target = id; field = n; total = record { comb = e.comb; number = number; count = unsigned_abs count } } ∷ []
-    ≡ share_unless_silent id n e values
+    → share_with id n e.comb number count ∷ [] ≡ share_unless_silent id n e values
 share_told id n e [] number count total many some = absurd (omega (arith, some))
 share_told id n e (v ∷ vs) number count total many some =
-    ap₂ (λ x k. record { target = id; field = n; total = record { comb = e.comb; number = x; count = unsigned_abs k } } ∷ []) total many
+    ap₂ (λ x k. share_with id n e.comb x k ∷ []) total many
 
 -- nothing is said to it
 pub share_silent : (id n : ℕ) (e : Effect) (values : List Value) → length values ≡ 0 → [] ≡ share_unless_silent id n e values
@@ -122,9 +121,8 @@ module _ (id : ℕ) (effects : List Effect) (said : List Saying) (i : ℕ) (e : 
       ∙ ap (λ (l : List Share). before ++ l) (sym (more_shares id effects said i e le is))
 
   -- something is said to an effect
-  pub tells : (share : Share)
-      → share ≡ record { target = id; field = i; total = record { comb = e.comb; number = number; count = unsigned_abs count } }
-      → pos 0 <ℤ count → so_far ++ share ∷ [] ≡ before ++ shares_from 0 id (take (i + 1) effects) said
+  pub tells : (share : Share) → share ≡ share_with id i e.comb number count → pos 0 <ℤ count
+      → so_far ++ share ∷ [] ≡ before ++ shares_from 0 id (take (i + 1) effects) said
   tells share told more =
       grown (share ∷ [])
       (ap (λ x. x ∷ []) told

@@ -1,4 +1,4 @@
-ghost use Rattle.std.specs.Prelude.{◌≡◌, ◌++◌, List, map, unsigned_abs, IfOk, IfSome, OnOk};
+ghost use Rattle.std.specs.Prelude.{◌≡◌, ◌++◌, List, map, IfOk, IfSome, OnOk};
 ghost use Rattle.brace_model.specs.declared.fault.Fault.{Fault};
 ghost use Rattle.brace_model.specs.World.{RisesById};
 ghost use Rattle.brace_model.specs.Query.{Saying};
@@ -6,7 +6,7 @@ ghost use Rattle.brace_model.specs.Total.{totals_from};
 ghost use Rattle.brace_cuts.specs.Space.{LawfulCuts};
 ghost use Rattle.brace_eval.specs.Heard.{IsHeard, counted};
 ghost use Rattle.brace_pieces.specs.Right.{share_of, shares_from};
-ghost use Rattle.brace_part.specs.inner.Tables.{TellsOf, TellsBy, TellBy, shares_in};
+ghost use Rattle.brace_part.specs.inner.Tables.{TellsOf, TellsBy, TellBy, share_with, shares_in};
 
 use brace_comb::{Combine, Entry, Total};
 use brace_cuts::Cuts;
@@ -19,13 +19,7 @@ use std::alloc::Global;
 /// The entry of an effect, by its place, with the number and the count of its total; None where there
 /// is no such entry.
 fn entry_of(target: u64, effect: usize, comb: Comb, number: i128, count: i128) -> Option<Entry>
-    ensures { IfSome result (λ e. share_of e
-        ≡ record {
-          target = target;
-          field = effect;
-          total =
-              record { comb = comb; number = number; count = unsigned_abs count };
-        }) }
+    ensures { IfSome result (λ e. share_of e ≡ share_with target effect comb number count) }
 {
     let field = u32::try_from(effect).ok()?;
     let total = Total::make(comb, number, u64::try_from(count).ok()?)?;

@@ -1,6 +1,7 @@
 -- What a part hears and tells by its tables. Only the crate's own functions cite this.
-use Rattle.std.specs.Prelude.{◌≡◌, ℕ, List, [], ◌∷◌, ◌++◌, flat_map, if◌then◌else◌}
+use Rattle.std.specs.Prelude.{◌≡◌, ℕ, ℤ, unsigned_abs, List, [], ◌∷◌, ◌++◌, flat_map, if◌then◌else◌}
 use Rattle.std.specs.List.{Contains}
+use Rattle.brace_model.specs.declared.program.Comb.{Comb}
 use Rattle.brace_model.specs.declared.program.Program.{Program}
 use Rattle.brace_model.specs.declared.fault.Fault.{Fault}
 use Rattle.brace_model.specs.declared.world.Agent.{Agent}
@@ -40,6 +41,14 @@ faults_over s tick own held =
 abbrev pub shares_in : Program → Cuts → ℕ → List Agent → List Saying → List Share
 shares_in program cuts to held said =
     flat_map (λ b. shares_to said b (class_of program b)) (owned program cuts to held)
+
+-- the share of an effect, from the number and the count of its total
+abbrev pub share_with : ℕ → ℕ → Comb → ℤ → ℤ → Share
+share_with target field comb number count = record {
+  target = target;
+  field = field;
+  total = record { comb = comb; number = number; count = unsigned_abs count };
+}
 
 -- an entry tells of values said to an effect of an agent of a list
 pub record TellsOf (program : Program) (held : List Agent) (entry : Entry) (told : List Saying)

@@ -20,8 +20,8 @@ returns-in-Ok c =
           join tells.agent said told faults
           (found_there c.args.held.now c.requires.rises c.in-Ok.place entry.target tells.agent c.in-Ok.ensures.bound found tells.is_held tells.is_target)
           heard
-          (subst (λ (n : ℤ). AreTold program tells.agent entry.field n c.count_of-count.result told) (sym (to_z-of_z w128 c.number-number.result fits ∙ c.number-number.ensures))
-          (subst (λ (n : ℕ). AreTold program tells.agent entry.field (tally entry.total).number n told) (sym c.count_of-count.ensures) tells.values)));
+          (subst (λ (n : ℤ). AreTold program tells.agent entry.field n c.count-count.result told) (sym (to_z-of_z w128 c.number-number.result fits ∙ c.number-number.ensures))
+          (subst (λ (n : ℕ). AreTold program tells.agent entry.field (tally entry.total).number n told) (sym c.count-count.ensures) tells.values)));
     }
 
 pub returns-in-Err : goal.returns-in-Err
