@@ -1,5 +1,5 @@
 -- Over the owner's list the inverse program says to the agents of the area what it says over the world.
-use Rattle.std.proofs.Common.{◌≡◌, ◌∙◌, refl, sym, ap, ap₂, subst, ℕ, zero, suc, ℤ, pos, ◌≤ℤ◌, ◌+ℤ◌, List, [], ◌∷◌, ◌++◌, map, filter, flat_map, Bool, true, false, cond, Option, Some, None, arith, ◌<◌}
+use Rattle.std.proofs.Common.{◌≡◌, ◌∙◌, refl, sym, ap, ap₂, subst, ℕ, zero, suc, ℤ, pos, ◌≤ℤ◌, ◌+ℤ◌, List, [], ◌∷◌, ◌++◌, map, filter, Bool, true, false, cond, Option, Some, None, arith, ◌<◌}
 use Rattle.std.specs.Prelude.{◌&&◌, ◌||◌, ◌==◌, if◌then◌else◌, is_none, unwrap_or, slice_get}
 use Rattle.std.specs.List.{All, Contains, list_any}
 use Rattle.std.proofs.lemmas.List.Elements.{All-nil, All-cons, All-contains, filter-append, Contains-append_right}
@@ -17,7 +17,7 @@ use Rattle.brace_model.specs.declared.fault.Fault.{Fault}
 use Rattle.brace_model.specs.declared.world.Agent.{Agent}
 use Rattle.brace_model.specs.World.{RisesById, ids, class_of, sees}
 use Rattle.brace_model.specs.Value.{Scope, agent_of}
-use Rattle.brace_model.specs.Query.{Saying, Deed, bound, inside, seen_by, query_fault, opening_scope, query_of, said_in}
+use Rattle.brace_model.specs.Query.{Saying, bound, inside, seen_by, query_fault, opening_scope, query_of, said_in}
 use Rattle.brace_model.specs.Total.{said_to}
 use Rattle.brace_model.specs.Typing.{in_turn, scope_after}
 use Rattle.brace_model.specs.Lawful.{query_scope, LawfulProgram}

@@ -1,6 +1,6 @@
 -- A fault of the inverse program at an assignment to an agent of the area is one over the owner's list.
-use Rattle.std.proofs.Common.{◌≡◌, ◌∙◌, refl, sym, ap, subst, ℕ, zero, suc, List, [], ◌∷◌, ◌++◌, map, filter, flat_map, Bool, true, false, Option, Some, None, Err, arith, ⊎_elim}
-use Rattle.std.specs.Prelude.{◌&&◌, ◌||◌, ◌==◌, if◌then◌else◌, option_map}
+use Rattle.std.proofs.Common.{◌≡◌, ◌∙◌, refl, sym, ap, subst, ℕ, List, [], ◌∷◌, ◌++◌, map, filter, flat_map, Bool, true, false, Option, Some, None, arith, ⊎_elim}
+use Rattle.std.specs.Prelude.{◌||◌, ◌==◌, if◌then◌else◌, option_map}
 use Rattle.std.specs.List.{Contains}
 use Rattle.std.proofs.lemmas.List.{append-nil}
 use Rattle.std.proofs.lemmas.List.Elements.{Contains-append_left, Contains-append_right, Contains-append_cases}
@@ -16,9 +16,9 @@ use Rattle.brace_model.specs.declared.program.Program.{Program}
 use Rattle.brace_model.specs.declared.fault.Fault.{Fault}
 use Rattle.brace_model.specs.declared.fault.Stop.{Stop}
 use Rattle.brace_model.specs.declared.world.Agent.{Agent}
-use Rattle.brace_model.specs.World.{RisesById, ids, class_of, sees}
+use Rattle.brace_model.specs.World.{RisesById, ids, class_of}
 use Rattle.brace_model.specs.Value.{Scope, value}
-use Rattle.brace_model.specs.Query.{Saying, query_fault, opening_scope, query_of, query_faults}
+use Rattle.brace_model.specs.Query.{query_fault, opening_scope, query_of, query_faults}
 use Rattle.brace_model.specs.Sites.{sites_of, sites_in}
 use Rattle.brace_model.specs.Typing.{Names, type_of, in_turn, scope_after}
 use Rattle.brace_model.specs.Lawful.{query_scope, LawfulProgram}

@@ -1,24 +1,16 @@
 -- What the owner of an area needs to hold of a world.
-use Rattle.std.proofs.Common.{◌≡◌, ◌∙◌, refl, sym, ap, subst, ℕ, ℤ, pos, ◌≤ℤ◌, ◌+ℤ◌, List, [], ◌∷◌, ◌++◌, map, filter, flat_map, Bool, true, false, cond, Option, Some, None, Ok, Err, arith, ⊎_elim}
+use Rattle.std.proofs.Common.{◌≡◌, ◌∙◌, sym, ℕ, ℤ, pos, ◌≤ℤ◌, ◌+ℤ◌, List, [], filter, Bool, true, false, Option, Some, None, arith, ⊎_elim}
 use Rattle.std.specs.Prelude.{◌&&◌, ◌==◌, if◌then◌else◌}
 use Rattle.std.specs.List.{Contains}
 use Rattle.std.proofs.lemmas.List.Elements.{Contains-append_left, Contains-append_right, Contains-append_cases}
 use Rattle.brace_num.specs.declared.kinds.Area.{Area}
-use Rattle.brace_model.specs.declared.program.Who.{Who}
-use Rattle.brace_model.specs.declared.program.Value.{Value}
-use Rattle.brace_model.specs.declared.program.Value.TheVariants.{Int, Fixed, Flag}
-use Rattle.brace_model.specs.declared.program.Expr.{Expr}
-use Rattle.brace_model.specs.declared.program.Stmt.{Stmt}
-use Rattle.brace_model.specs.declared.program.Stmt.TheVariants.{Const, If, Foreach, Assign}
 use Rattle.brace_model.specs.declared.program.Class.{Class}
 use Rattle.brace_model.specs.declared.program.Program.{Program}
 use Rattle.brace_model.specs.declared.fault.Fault.{Fault}
 use Rattle.brace_model.specs.declared.world.Agent.{Agent}
 use Rattle.brace_model.specs.World.{class_of, sees}
-use Rattle.brace_model.specs.Value.{Scope, Worth, value}
-use Rattle.brace_model.specs.Query.{Deed, silent, halted, deed_of, followed_by, closed, bound, inside, chosen, iterated, seen_by, statement, opening_scope, query_in, query_of, query_faults}
+use Rattle.brace_model.specs.Query.{seen_by, opening_scope, query_in, query_of, query_faults}
 use Rattle.brace_model.specs.Lawful.{LawfulProgram}
-use Rattle.brace_model.proofs.ValueEquations.{statement-Const, statement-If, statement-Foreach, statement-Assign}
 use Rattle.brace_invert.specs.Split.{forward_query, forward_program}
 use Rattle.brace_invert.specs.Range.{greatest_visible, says_in_inner_loops, range_of}
 use Rattle.brace_invert.specs.Held.{is_in, HoldsNear}

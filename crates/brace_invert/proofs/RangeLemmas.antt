@@ -7,7 +7,6 @@ use Rattle.brace_model.specs.declared.program.Who.{Who}
 use Rattle.brace_model.specs.declared.program.Expr.{Expr}
 use Rattle.brace_model.specs.declared.program.Stmt.{Stmt}
 use Rattle.brace_model.specs.declared.program.Stmt.TheVariants.{Const, If, Foreach, Assign}
-use Rattle.brace_model.specs.declared.program.Stmt.TheOpen as layer
 use Rattle.brace_model.proofs.Folds.{fold-Const, fold-If, fold-Foreach, fold-Assign}
 use Rattle.brace_model.specs.declared.program.Class.{Class}
 use Rattle.brace_model.specs.declared.program.Program.{Program}

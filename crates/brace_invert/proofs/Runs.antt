@@ -16,7 +16,7 @@ use Rattle.brace_model.specs.declared.program.Program.{Program}
 use Rattle.brace_model.specs.declared.fault.Fault.{Fault}
 use Rattle.brace_model.specs.declared.world.Agent.{Agent}
 use Rattle.brace_model.specs.Value.{Scope, Worth, value, agent_of}
-use Rattle.brace_model.specs.Query.{Saying, Deed, silent, halted, deed_of, followed_by, block, closed, bound, inside, chosen, iterated, seen_by, saying, statement}
+use Rattle.brace_model.specs.Query.{Saying, Deed, silent, halted, deed_of, followed_by, closed, bound, inside, chosen, iterated, seen_by, saying, statement}
 use Rattle.brace_model.specs.Sites.{constant_numbers}
 use Rattle.brace_model.proofs.ValueEquations.{value-Lit, statement-Const, statement-If, statement-Foreach, statement-Assign}
 use Rattle.brace_invert.specs.Split.{unread, places}

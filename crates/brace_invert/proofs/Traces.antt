@@ -1,10 +1,8 @@
 -- Where a block faults; and that a part of it faults as the block does, or behind a fault of the block.
-use Rattle.std.proofs.Common.{◌≡◌, ◌∙◌, refl, sym, ap, subst, ℕ, zero, suc, List, [], ◌∷◌, ◌++◌, map, flat_map, Bool, true, false, Some, Ok, Err, arith, ⊎_elim, inl, inr}
-use Rattle.std.specs.Prelude.{if◌then◌else◌, is_none}
+use Rattle.std.proofs.Common.{◌≡◌, ◌∙◌, refl, sym, ap, subst, ℕ, List, [], ◌∷◌, ◌++◌, map, flat_map, true, false, Some, Ok, Err, ⊎_elim, inl, inr}
 use Rattle.std.specs.List.{Contains}
 use Rattle.std.proofs.lemmas.List.{append-nil}
 use Rattle.std.proofs.lemmas.List.Elements.{Contains-append_left, Contains-append_right, Contains-append_cases}
-use Rattle.brace_model.specs.declared.program.Who.{Who}
 use Rattle.brace_model.specs.declared.program.Value.{Value}
 use Rattle.brace_model.specs.declared.program.Value.TheVariants.{Int, Fixed, Flag}
 use Rattle.brace_model.specs.declared.program.Expr.{Expr}
@@ -13,13 +11,12 @@ use Rattle.brace_model.specs.declared.program.Stmt.TheVariants.{Const, If, Forea
 use Rattle.brace_model.specs.declared.program.Program.{Program}
 use Rattle.brace_model.specs.declared.fault.Fault.{Fault}
 use Rattle.brace_model.specs.declared.fault.Phase.TheVariants.{Query}
-use Rattle.brace_model.specs.declared.fault.Stop.{Stop}
 use Rattle.brace_model.specs.declared.world.Agent.{Agent}
-use Rattle.brace_model.specs.Value.{Scope, Worth, value, agent_of}
-use Rattle.brace_model.specs.Query.{Deed, silent, halted, query_fault, deed_of, followed_by, closed, bound, inside, chosen, seen_by, saying, statement}
+use Rattle.brace_model.specs.Value.{Scope, Worth, value}
+use Rattle.brace_model.specs.Query.{Deed, silent, halted, query_fault, deed_of, followed_by, inside, chosen, seen_by, statement}
 use Rattle.brace_model.specs.Sites.{sites_of, sites_in, constant_numbers}
 use Rattle.brace_model.specs.Typing.{Names, type_of}
-use Rattle.brace_model.proofs.ValueEquations.{statement-Const, statement-If, statement-Foreach, statement-Assign}
+use Rattle.brace_model.proofs.ValueEquations.{statement-If, statement-Foreach}
 use Rattle.brace_model.proofs.LawEquations.{sites_in-Const, sites_in-Assign}
 use Rattle.brace_invert.specs.Inversion.{ComesAfter, IsForeseen}
 use Rattle.brace_invert.proofs.Sublists.{Rising, rising-left, rising-right, rising-between, sub-Contains}
