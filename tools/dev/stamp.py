@@ -4,10 +4,10 @@
     tools/dev/stamp.py FROM CRATE..     the libraries of these crates
     tools/dev/stamp.py FROM --below CRATE..     of all of the repository that they stand on
 
-Copies crates/NAME/out/rlib from the clone FROM into this one and stamps it with the checksum of this
-clone's sources, so that `rt check` of a crate above does not build it anew. It does not look whether
-FROM was built from the same sources: that is the caller's word, and the gate believes none of it,
-since `rt ci` keeps its own. Needs the toolchain's own modules (rtlib), so a new kit may break it.
+Copies crates/NAME/out/rlib from the clone FROM into this one and stamps it with the checksum of
+this clone's sources, so that `rt check` of a crate above does not build it anew. It does not look
+whether FROM was built from the same sources: that is the caller's word, and the gate believes none
+of it, since `rt ci` keeps its own. Needs the toolchain's module rtlib, so a new kit may break it.
 """
 import argparse
 import os

@@ -3,10 +3,10 @@
 
     tools/dev/unused.py CRATE..     (or no name: all crates)
 
-A name of a file of crates/NAME/proofs/ is told where no source, definition or proof of any crate has
-it but at its own declaration. It is a search by words: a name that stands in a comment counts as
-used, and what the toolchain's tactics find without naming it is told although it is needed. So try
-`rt check` without it before it goes.
+A name of a file of crates/NAME/proofs/ is told where no source, definition or proof of any crate
+has it but at its own declaration. It is a search by words: a name that stands in a comment counts
+as used, and what the toolchain's tactics find without naming it is told although it is needed. So
+try `rt check` without it before it goes.
 """
 import argparse
 import glob

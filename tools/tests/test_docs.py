@@ -10,9 +10,10 @@ In a page an indented block is
 - a command, where its first line begins with one of STARTS: it has to end with 0,
 - a Python session, where its first line begins with '>>> ': it is run by doctest.
 A row in docs/TROUBLE.md's tables is a slip: the command or file with it has to say what is told,
-and without it nothing; a row of docs/LANGUAGE.md's refusals is a script and its place. Each page is run in a folder of its own, from which ./brace, tools/, docs/
-and examples/ are reached. Commands that need the toolchain (rt), and sessions that need pandas where it is
-not installed, are not run. Run by hand.
+and without it nothing; a row of docs/LANGUAGE.md's refusals is a script and its place. Each page is
+run in a folder of its own, from which ./brace, tools/, docs/ and examples/ are reached. Commands
+that need the toolchain (rt), and sessions that need pandas where it is not installed, are not run.
+Run by hand.
 """
 import argparse
 import doctest
