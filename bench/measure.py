@@ -22,17 +22,17 @@ def measured(words):
     return sorted(seconds)[RUNS // 2], sorted(mib)[RUNS // 2]
 
 
-def machine():
-    """The processor, the number of cores and the load of the last minute."""
+def machine(how):
+    """The processor, the number of cores, the load of the last minute, and what is told of how it was measured."""
     with open("/proc/cpuinfo") as f:
         models = re.findall(r"model name\s*: (.*)", f.read())
     model = models[0] if models else "unknown processor"
-    return f"{model}, {os.cpu_count()} cores, load {os.getloadavg()[0]:.1f}, median of {RUNS} runs"
+    return f"{model}, {os.cpu_count()} cores, load {os.getloadavg()[0]:.1f}, {how}"
 
 
-def written(title, lines):
+def written(title, lines, how=f"median of {RUNS} runs"):
     """Prints the lines of a table, and puts them under the title on the page."""
-    text = f"## {title}\n\n{machine()}\n\n" + "\n".join(lines) + "\n"
+    text = f"## {title}\n\n{machine(how)}\n\n" + "\n".join(lines) + "\n"
     print(text)
     page = "# Performance\n"
     if os.path.exists(PAGE):

@@ -9,10 +9,11 @@ In a page an indented block is
   the next are all that it writes; '..' on a line of its own stands for any lines,
 - a command, where its first line begins with one of STARTS: it has to end with 0,
 - a Python session, where its first line begins with '>>> ': it is run by doctest.
-A block in docs/TROUBLE.md's tables is a slip: the command or file with it has to say what is told,
-and without it nothing. Each page is run in a folder of its own, from which ./brace, tools/, docs/
-and examples/ are reached. Commands that need the toolchain (rt), and sessions that need pandas where it is
-not installed, are not run. Run by hand.
+A row in docs/TROUBLE.md's tables is a slip: the command or file with it has to say what is told,
+and without it nothing; a row of docs/LANGUAGE.md's refusals is a script and its place. Each page is
+run in a folder of its own, from which ./brace, tools/, docs/ and examples/ are reached. Commands
+that need the toolchain (rt), and sessions that need pandas where it is not installed, are not run.
+Run by hand.
 """
 import argparse
 import doctest
@@ -210,6 +211,19 @@ def tables(text):
             yield at + 1, heads, [cells(row) for row in lines[at + 2:end]]
 
 
+def refusals(page, text):
+    """Tries the scripts of tables of kinds: each is refused so, at its place."""
+    for number, line in enumerate(text.split("\n"), 1):
+        row = cells(line) if line.startswith("| ") else []
+        script = bare(row[2]) if len(row) == 4 else None
+        if script and re.fullmatch("[0-9]+:[0-9]+", row[3]):
+            with open(os.path.join(page.folder, "refused.brasil"), "w", encoding="utf-8") as file:
+                file.write(script)
+            found = page.shell("./brace check --script refused.brasil || true")[1]
+            told = f"brace: refused.brasil:{row[3]}: {row[0]}\n"
+            page.checks.same(f"{page.name}:{number}", found, told)
+
+
 def prepared(folder, program):
     """The folder in which a page is run: links to what it names, and a model of one's own."""
     for name in ("tools", "docs", "examples", "bench", "README.md", "crates"):
@@ -235,6 +249,7 @@ def check_page(checks, path, program):
             page.run(line, above, block)
         for line, heads, rows in tables(text):
             slips.table(line, heads, rows)
+        refusals(page, text)
     told = f", {slips.count} slips" if slips.count else ""
     print(f"{name}: {checks.count - before} checks{told}", flush=True)
 
