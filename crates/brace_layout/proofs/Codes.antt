@@ -10,7 +10,7 @@ use Rattle.brace_names.specs.declared.resolved.Target.TheVariants as target
 use Rattle.brace_names.specs.Faults.{binding_of}
 use Rattle.brace_check.specs.Scopes.{look, number_of}
 use Rattle.brace_check.proofs.Places.{AllFine}
-use Rattle.brace_check.proofs.Ties.{each}
+use Rattle.brace_num.proofs.Lists.{each_weaker}
 
 abbrev kind : Target → ℕ
 kind (target.Class n) = 0
@@ -72,7 +72,7 @@ all_there [] = tt
 all_there (t ∷ ts) =
     let self : nat_eq (code t) (code t) ≡ true = grind arith in (
       ap (λ (b : Bool). cond b (Some t) (look (coded_table ts) (code t))) self,
-      each (There (coded_table ts)) (There (coded_table (t ∷ ts))) (still_there t ts) ts (all_there ts),
+      each_weaker (There (coded_table ts)) (There (coded_table (t ∷ ts))) (still_there t ts) ts (all_there ts),
     )
 
 -- a finding is no fault, and what a name stands for by its place stands in the table at its number

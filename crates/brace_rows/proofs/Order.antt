@@ -17,7 +17,6 @@ use Rattle.brace_model.specs.declared.world.Agent.{Agent}
 use Rattle.brace_model.specs.World.{RisesById, IsNumbered, ids, least_next, world_of}
 use Rattle.brace_model.specs.Step.{greatest_id}
 use Rattle.brace_model.proofs.WorldLemmas.{RisesById-pair}
-use Rattle.brace_rows.specs.AgentFile.{placed, by_id}
 
 -- the last of rising ids is the greatest
 last_above : (xs : List Agent) → RisesById xs → (n k : ℕ) (d : Agent) → k + n + 1 ≡ length xs → (get_or xs k d).id ≤ (get_or xs (k + n) d).id
