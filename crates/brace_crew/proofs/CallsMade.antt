@@ -12,7 +12,7 @@ use Rattle.brace_model.specs.declared.fault.Phase.{Phase}
 use Rattle.brace_model.specs.declared.fault.Phase.TheVariants.{Query, Update, Birth}
 use Rattle.brace_model.specs.Run.{world_after, first_fault}
 use Rattle.brace_invert.proofs.Heard.{seen_in}
-use Rattle.brace_invert.proofs.Traces.{none_within}
+use Rattle.brace_invert.proofs.Sites.{none_within}
 use Rattle.brace_pieces.specs.declared.setting.Setting.{Setting}
 use Rattle.brace_pieces.specs.Settings.{parts, is_end, ends, shown_from, shown_ticks}
 use Rattle.brace_pieces.specs.Continued.{on, birth_faults}

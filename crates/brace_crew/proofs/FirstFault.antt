@@ -11,7 +11,7 @@ use Rattle.brace_model.specs.FaultOrder.{comes_before, least}
 use Rattle.brace_model.specs.Next.{has_births}
 use Rattle.brace_model.specs.Run.{first_fault}
 use Rattle.brace_model.proofs.FaultLemmas.{one_before, least_is, least_none}
-use Rattle.brace_invert.proofs.Traces.{none_within, only_one}
+use Rattle.brace_invert.proofs.Sites.{none_within, only_one}
 use Rattle.brace_pieces.specs.declared.setting.Setting.{Setting}
 use Rattle.brace_pieces.specs.declared.setting.Stage.TheVariants as stage
 use Rattle.brace_pieces.specs.declared.piece.Cause.{Cause}

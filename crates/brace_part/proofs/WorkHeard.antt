@@ -18,7 +18,7 @@ use Rattle.brace_invert.specs.Held.{is_near}
 use Rattle.brace_invert.specs.Split.{forward_program, inverse_program}
 use Rattle.brace_invert.proofs.Heard.{seen_in}
 use Rattle.brace_invert.proofs.Nearness.{nearer}
-use Rattle.brace_invert.proofs.Traces.{none_within}
+use Rattle.brace_invert.proofs.Sites.{none_within}
 use Rattle.brace_eval.specs.declared.heard.Heard.{Heard}
 use Rattle.brace_eval.specs.Heard.{IsHeard}
 use Rattle.brace_eval.specs.Heard as table
@@ -38,7 +38,8 @@ use Rattle.brace_pieces.specs.Heard.{own, near, said_here, heard, told, tellers,
 use Rattle.brace_pieces.proofs.Meetings.{range_some}
 use Rattle.brace_pieces.proofs.OnLemmas.{on_rises, on_whole}
 use Rattle.brace_pieces.proofs.Merges.{filter_rises}
-use Rattle.brace_pieces.proofs.Partings.{behind, kept_twice}
+use Rattle.brace_pieces.proofs.Partings.{behind}
+use Rattle.brace_model.proofs.Simulation.{kept_twice}
 use Rattle.brace_pieces.proofs.HeardHere.{StandInside, whole_inside, becomes_heard, becomes_joined, finds_here}
 use Rattle.brace_pieces.proofs.FaultLemmas.{later_phase}
 use Rattle.brace_pieces.proofs.ToldLemmas.{Ticks, steps_tick, at_place, query_found, update_found}

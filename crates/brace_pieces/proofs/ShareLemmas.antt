@@ -20,7 +20,8 @@ use Rattle.brace_invert.proofs.Typed.{both_hold}
 use Rattle.brace_invert.proofs.Sites.{none_within}
 use Rattle.brace_pieces.specs.Right.{Share, share_unless_silent, shares_from, shares_to}
 use Rattle.brace_pieces.specs.Heard.{sayings_of, IsShareOf}
-use Rattle.brace_pieces.proofs.Partings.{behind, kept_twice}
+use Rattle.brace_pieces.proofs.Partings.{behind}
+use Rattle.brace_model.proofs.Simulation.{kept_twice}
 use Rattle.brace_pieces.proofs.Sayings.{joined_twice, said_to-each}
 
 -- ---- the shares of one agent
