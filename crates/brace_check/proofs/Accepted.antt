@@ -1,6 +1,7 @@
 -- What holds of the program of a script in which nothing is found.
 use Rattle.std.proofs.Common.{◌≡◌, refl, subst, ℕ, zero, suc, ◌+◌, false, List, [], ◌∷◌, map, flat_map, length, arith}
 use Rattle.std.specs.Prelude.{Some, slice_get, unwrap_or, option_to_list}
+use Rattle.brace_num.proofs.Lists.{none_front}
 use Rattle.brace_syntax.specs.declared.tree.ClassTree.{ClassTree}
 use Rattle.brace_names.specs.declared.resolved.Target.{Target}
 use Rattle.brace_names.specs.declared.resolved.Resolved.{Resolved}
@@ -21,7 +22,7 @@ use Rattle.brace_check.specs.Checked.{CheckedClass, IsChecked}
 use Rattle.brace_check.proofs.Rising.{Rises, increasing_from_rises, front_rises, first_rises}
 use Rattle.brace_check.proofs.BlockNumbering.{block_sites}
 use Rattle.brace_check.proofs.ShareNumbers.{SharesRise, shares_rise, ruled_sites}
-use Rattle.brace_check.proofs.CheckedMembers.{nil_front, nil_back, visible_fits, reach_fits, effects_fit, FromZero, from_zero, first_from_zero, constants_below, constants_apart}
+use Rattle.brace_check.proofs.CheckedMembers.{nil_back, visible_fits, reach_fits, effects_fit, FromZero, from_zero, first_from_zero, constants_below, constants_apart}
 use Rattle.brace_check.proofs.TypeSound.{Agrees, heading_of}
 use Rattle.brace_check.proofs.RulesTyped.{classes_kept, states_typed, deaths_typed, first_typed, rule_agrees}
 
@@ -64,7 +65,7 @@ module _ (targets : List (ℕ × Target)) (headings : List Heading) (program : P
       let here : number ≡ j = omega (arith, at) in
       subst (λ (i : ℕ). CheckedClass program i c) here
       (subst (CheckedClass program number) same (class_checked number class n
-      (nil_front (flat_map (member targets headings number) class.members) (found.classes_from targets headings (number + 1) classes) h)))
+      (none_front (flat_map (member targets headings number) class.members) (found.classes_from targets headings (number + 1) classes) h)))
   classes_checked number (class ∷ classes) n h (suc k) c is j at =
       let there : (number + 1) + k ≡ j = omega (arith, at) in
       classes_checked (number + 1) classes (n + length (class_of targets headings number class).sites)

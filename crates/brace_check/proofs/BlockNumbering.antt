@@ -15,11 +15,7 @@ use Rattle.brace_check.specs.Scopes.{Scope, Part, stands, number_of, inside, pas
 use Rattle.brace_check.specs.Meanings.{Sited, plain, followed, with_sites, agent_of, expression, assigned, block, part, part_step}
 use Rattle.brace_check.proofs.ByKind.{ProvedStmt, stmts_of, Statements, proved, stmts-proved}
 use Rattle.brace_check.proofs.Folds.{of-Const, of-when, of-either, of-Foreach, of-Assign, of-AssignThis, of-AssignLoop}
-use Rattle.brace_check.proofs.Numbering.{Numbered, plain_numbered, made_numbered, followed_numbered, expression_numbered}
-
-concat-map : (f : Stmt → List ℕ) (xs : List Stmt) → concat (map f xs) ≡ flat_map f xs
-concat-map f [] = refl
-concat-map f (x ∷ xs) = ap (λ (l : List ℕ). f x ++ l) (concat-map f xs)
+use Rattle.brace_check.proofs.Numbering.{Numbered, plain_numbered, made_numbered, followed_numbered, expression_numbered, concat-map}
 
 -- the sites of a block, and of two blocks
 abbrev pub block_sites : List Stmt → List ℕ

@@ -2,9 +2,10 @@
 use Rattle.std.proofs.Common.{◌≡◌, refl, sym, ap, subst, ◌∙◌, ℕ, suc, ◌+◌, ◌<◌, ◌≤◌, nat_lt, Bool, true, false, List, [], ◌∷◌, ◌++◌, map, length, length-append, append_assoc, arith, tests}
 use Rattle.std.specs.Prelude.{nat_le, ◌&&◌, Option, Some, None, is_some, is_none, option_map, option_and_then, slice_get, if◌then◌else◌}
 use Rattle.std.specs.Str.{bytes_eq}
-use Rattle.std.proofs.lemmas.Bool.{true≢false}
+use Rattle.std.proofs.lemmas.Bool.{true≢false, and_from, lt-ltb, leb-false}
 use Rattle.std.proofs.lemmas.List.{length-map}
 use Rattle.std.proofs.lemmas.List.Sums.{sum_by-cons}
+use Rattle.brace_num.proofs.Lists.{none_front, each_front}
 use Rattle.brace_syntax.specs.declared.tree.Ident.{Ident}
 use Rattle.brace_syntax.specs.declared.tree.TyName.{TyName}
 use Rattle.brace_syntax.specs.declared.tree.TyName.TheVariants as tyname
@@ -40,8 +41,8 @@ use Rattle.brace_check.specs.Meanings.{Sited, agent_of, expression, block, part,
 use Rattle.brace_check.specs.Meanings as means
 use Rattle.brace_check.proofs.ByKind.{ProvedStmt, stmts_of, Statements, proved, stmts-proved}
 use Rattle.brace_check.proofs.Folds.{of-Const, of-when, of-either, of-Foreach, of-Assign, of-AssignThis, of-AssignLoop}
-use Rattle.brace_check.proofs.CheckedMembers.{nil_front, nil_back, both_true}
-use Rattle.brace_check.proofs.TypeSound.{Agrees, heading_of, all_front, all_back, not_if}
+use Rattle.brace_check.proofs.CheckedMembers.{nil_back}
+use Rattle.brace_check.proofs.TypeSound.{Agrees, heading_of, all_back, not_if}
 use Rattle.brace_check.proofs.Places.{Fine, AllFine, found_among}
 use Rattle.brace_check.proofs.Ties.{Tied, tied_past, tied_declared, tied_inside}
 use Rattle.brace_check.proofs.ExprTied.{places, places-both, loop_places, TiedIn}
@@ -82,8 +83,8 @@ more_block p q s ps qs ss one rest = record {
       ∙ (ap (λ (k : ℕ). k + length (constants_in ss)) one.many
       ∙ (ap (λ (k : ℕ). p.constants + k) rest.many ∙ sym (sum_by-cons (λ (part : names.Part). part.constants) p ps)));
   run = λ n c m tied fine clean k.
-      let h : StepTied p s n c m k = one.step n c m tied (all_front (Fine c.targets) (p.found n) (names.block ps (names.behind p n)) fine)
-      (nil_front (q.here c) (checks.block qs (behind q c)) clean) k in
+      let h : StepTied p s n c m k = one.step n c m tied (each_front (Fine c.targets) (p.found n) (names.block ps (names.behind p n)) fine)
+      (none_front (q.here c) (checks.block qs (behind q c)) clean) k in
       let j : ℕ = k + length (s.here c).sites in
       let g : RunTied ps ss (names.behind p n) (behind s c) h.after j =
       rest.run (names.behind p n) (behind s c) h.after h.tied (all_back (Fine c.targets) (p.found n) (names.block ps (names.behind p n)) fine)
@@ -162,9 +163,9 @@ fits_if : (m : Names) (e : Expr) (a b : List Stmt) (one other : Names) → type_
 fits_if m e a b one other is first second =
     scope_after-If e a b m
     ∙ ap (λ (t : Bool). only t m)
-    (both_true (is_of_type ty.Bool (type_in e m)) (is_some (in_turn (map scope_after a) m) && is_some (in_turn (map scope_after b) m))
+    (and_from (is_of_type ty.Bool (type_in e m)) (is_some (in_turn (map scope_after a) m) && is_some (in_turn (map scope_after b) m))
     (ap (is_of_type ty.Bool) is)
-    (both_true (is_some (in_turn (map scope_after a) m)) (is_some (in_turn (map scope_after b) m)) (ap is_some first) (ap is_some second)))
+    (and_from (is_some (in_turn (map scope_after a) m)) (is_some (in_turn (map scope_after b) m)) (ap is_some first) (ap is_some second)))
 
 -- `if` without `else`
 when_tied : (w : ExprTree) (a : List StmtTree) (at : ℕ) → TreesTied a
@@ -174,11 +175,11 @@ when_tied w a at first = record {
   many = length-append (constants_in (map part a)) [] ∙ ap (λ (k : ℕ). k + 0) first.many;
   step = λ n c m tied fine clean k.
       let before : List Finding = names.expression w n ++ names.block (map names.part a) n in
-      let both : AllFine c.targets before = all_front (Fine c.targets) before [] fine in
-      let all : AllFine c.targets (names.expression w n) = all_front (Fine c.targets) (names.expression w n) (names.block (map names.part a) n) both in
+      let both : AllFine c.targets before = each_front (Fine c.targets) before [] fine in
+      let all : AllFine c.targets (names.expression w n) = each_front (Fine c.targets) (names.expression w n) (names.block (map names.part a) n) both in
       let value : List CheckFault = valued (Some ty.Bool) w c in
-      let none : value ++ checks.block (map checks.part a) c ≡ [] = nil_front (value ++ checks.block (map checks.part a) c) [] clean in
-      let no_value : value ≡ [] = nil_front value (checks.block (map checks.part a) c) none in
+      let none : value ++ checks.block (map checks.part a) c ≡ [] = none_front (value ++ checks.block (map checks.part a) c) [] clean in
+      let no_value : value ≡ [] = none_front value (checks.block (map checks.part a) c) none in
       let h : TiedIn w n c m = in_value n c m tied w all k (Some ty.Bool) no_value in
       let j : ℕ = k + length (expression w c).sites in
       let g : RunTied (map names.part a) (map part a) n c m j =
@@ -212,13 +213,13 @@ either_tied w a b at first second =
           let later : scopes.Scope = scopes.past na n in
           let before : List Finding = names.expression w n ++ names.block (map names.part a) n in
           let last : List Finding = names.block (map names.part b) later in
-          let both : AllFine c.targets before = all_front (Fine c.targets) before last fine in
-          let all : AllFine c.targets (names.expression w n) = all_front (Fine c.targets) (names.expression w n) (names.block (map names.part a) n) both in
+          let both : AllFine c.targets before = each_front (Fine c.targets) before last fine in
+          let all : AllFine c.targets (names.expression w n) = each_front (Fine c.targets) (names.expression w n) (names.block (map names.part a) n) both in
           let value : List CheckFault = valued (Some ty.Bool) w c in
           let one : List CheckFault = checks.block (map checks.part a) c in
           let other : List CheckFault = checks.block (map checks.part b) (past (constants_in (map checks.part a)) c) in
-          let none : value ++ one ≡ [] = nil_front (value ++ one) other clean in
-          let no_value : value ≡ [] = nil_front value one none in
+          let none : value ++ one ≡ [] = none_front (value ++ one) other clean in
+          let no_value : value ≡ [] = none_front value one none in
           let h : TiedIn w n c m = in_value n c m tied w all k (Some ty.Bool) no_value in
           let j : ℕ = k + length (expression w c).sites in
           let g : RunTied (map names.part a) (map part a) n c m j =
@@ -284,12 +285,6 @@ entered c m number (first ∷ second ∷ rest) is few h =
     let many : length c.over ≡ suc (suc (length rest)) = ap length is in
     absurd (omega (arith, few, many))
 
-not_deep : (k : ℕ) → nat_le 2 k ≡ false → k < 2
-not_deep k h = grind (arith, tests)
-
-below : (a b : ℕ) → a < b → nat_lt a b ≡ true
-below a b h = grind (arith, tests)
-
 -- the class of a loop stands for a number
 record ClassNamed (n : scopes.Scope) (c : Scope) (class : Ident) : Type 0 where
   number : ℕ
@@ -313,7 +308,7 @@ module _ (class variable other : Ident) (a : List StmtTree) (at : ℕ) (first : 
   foreach_step n c m tied fine number is clean k =
       let head : List Finding = f.loops_over n class other ++ f.declares n variable in
       let body : List Finding = names.block (map names.part a) (scopes.inside class variable n) in
-      let few : length c.over < 2 = not_deep (length c.over) (not_if (nat_le 2 (length c.over)) (NestedTooDeep at) (nil_front (nests c at) (checks.block (map checks.part a) (inside number c)) clean)) in
+      let few : length c.over < 2 = leb-false 2 (length c.over) (not_if (nat_le 2 (length c.over)) (NestedTooDeep at) (none_front (nests c at) (checks.block (map checks.part a) (inside number c)) clean)) in
       let e : Entered c m number = entered c m number c.over refl few tied.agrees in
       let g : RunTied (map names.part a) (map part a) (scopes.inside class variable n) (inside number c) e.inner k =
       first.run (scopes.inside class variable n) (inside number c) e.inner (tied_inside n c m e.inner class variable number is e.known e.agrees tied)
@@ -329,8 +324,8 @@ module _ (class variable other : Ident) (a : List StmtTree) (at : ℕ) (first : 
             (no_fault (is_taken n variable.text) (DuplicateName variable.at))) g.sites,
         scope_after-Foreach number run at m
             ∙ ap (λ (t : Bool). only t m)
-            (both_true (nat_lt number (length m.classes)) (is_some (option_and_then (in_turn (map scope_after run)) (within_loop m number)))
-            (below number (length m.classes) there)
+            (and_from (nat_lt number (length m.classes)) (is_some (option_and_then (in_turn (map scope_after run)) (within_loop m number)))
+            (lt-ltb number (length m.classes) there)
             (ap (λ (o : Option Names). is_some (option_and_then (in_turn (map scope_after run)) o)) e.is ∙ ap is_some g.gives)),
       )
 
@@ -342,9 +337,9 @@ module _ (class variable other : Ident) (a : List StmtTree) (at : ℕ) (first : 
     step = λ n c m tied fine clean k.
         let head : List Finding = f.loops_over n class other ++ f.declares n variable in
         let body : List Finding = names.block (map names.part a) (scopes.inside class variable n) in
-        let over : AllFine c.targets (f.loops_over n class other) = all_front (Fine c.targets) (f.loops_over n class other) (f.declares n variable) (all_front (Fine c.targets) head body fine) in
+        let over : AllFine c.targets (f.loops_over n class other) = each_front (Fine c.targets) (f.loops_over n class other) (f.declares n variable) (each_front (Fine c.targets) head body fine) in
         let named : ClassNamed n c class = class_named n c class (class_number n class.text) refl
-        (all_front (Fine c.targets) (f.names_class class.at (class_number n class.text)) (again n) over) in
+        (each_front (Fine c.targets) (f.names_class class.at (class_number n class.text)) (again n) over) in
         let stands_for : ℕ = number_of (stands c class.at) in
         let done : (places (head ++ body) ≡ (block (map part a) (inside stands_for c)).sites)
         × (scope_after (stmt.Foreach stands_for ((block (map part a) (inside stands_for c)).behind k) at) m ≡ Some m) =
@@ -371,7 +366,7 @@ module _ (at : ℕ) (name : Ident) (x : ExprTree) where
       let o : Option Field = look n.own name.text in
       let all : AllFine c.targets (names.expression x n) = all_back (Fine c.targets) (f.assigns n at name) (names.expression x n) fine in
       let target : AllFine c.targets (f.names_field at name o) =
-      all_front (Fine c.targets) (f.names_field at name o) (f.assignment at) (all_front (Fine c.targets) (f.assigns n at name) (names.expression x n) fine) in
+      each_front (Fine c.targets) (f.names_field at name o) (f.assignment at) (each_front (Fine c.targets) (f.assigns n at name) (names.expression x n) fine) in
       let h : TiedIn x n c m = in_value n c m tied x all k (wanted c c.own (stands c name.at))
       (nil_back (assigns at (stands c name.at)) (valued (wanted c c.own (stands c name.at)) x c) clean) in
       record {
@@ -390,18 +385,18 @@ loop_step : (variable name : Ident) (x : ExprTree) (n : scopes.Scope) (c : Scope
 loop_step variable name x n c m tied fine clean k =
     let all : AllFine c.targets (names.expression x n) = all_back (Fine c.targets) (f.assigns_of_loop n variable name) (names.expression x n) fine in
     let target : AllFine c.targets (f.names_of_loop n variable name) =
-    all_front (Fine c.targets) (f.names_of_loop n variable name) (f.assignment variable.at) (all_front (Fine c.targets) (f.assigns_of_loop n variable name) (names.expression x n) fine) in
+    each_front (Fine c.targets) (f.names_of_loop n variable name) (f.assignment variable.at) (each_front (Fine c.targets) (f.assigns_of_loop n variable name) (names.expression x n) fine) in
     let one : List CheckFault = assigns variable.at (stands c name.at) in
     let two : List CheckFault = crosses_to c variable name in
     let three : List CheckFault = valued (wanted_of_loop c variable name) x c in
-    let front : one ++ two ≡ [] = nil_front (one ++ two) three clean in
+    let front : one ++ two ≡ [] = none_front (one ++ two) three clean in
     let value : three ≡ [] = nil_back (one ++ two) three clean in
     let h : TiedIn x n c m = in_value n c m tied x all k (wanted_of_loop c variable name) value in
     record {
       sites = places-both (f.assigns_of_loop n variable name) (names.expression x n) [] (expression x c).sites
           (places-both (f.names_of_loop n variable name) (f.assignment variable.at) [] [] (loop_places n variable name) refl) h.sites;
       after = m;
-      gives = said_to_loop n c m tied x all k variable name (look n.locals variable.text) refl target (nil_front one two front) (nil_back one two front) value;
+      gives = said_to_loop n c m tied x all k variable name (look n.locals variable.text) refl target (none_front one two front) (nil_back one two front) value;
       tied = tied_still n c m tied;
     }
 

@@ -2,7 +2,8 @@
 use Rattle.std.proofs.Common.{◌≡◌, refl, sym, subst, ℕ, zero, suc, ◌+◌, ◌≤◌, ◌<◌, nat_lt, Bool, true, false, List, [], ◌∷◌, ◌++◌, map, flat_map, length, arith, tests}
 use Rattle.std.specs.Prelude.{not, ◌&&◌, nat_eq, IsTrue, slice_get, unwrap_or, sum}
 use Rattle.std.specs.List.{AllByRecursion, IsDistinct, list_all, range_with_len}
-use Rattle.std.proofs.lemmas.Bool.{true≢false, ne_eqb}
+use Rattle.std.proofs.lemmas.Bool.{true≢false, ne_eqb, and_from, lt-ltb}
+use Rattle.brace_num.proofs.Lists.{none_front}
 use Rattle.brace_syntax.specs.declared.tree.MemberTree.{MemberTree}
 use Rattle.brace_syntax.specs.declared.tree.MemberTree.TheVariants as m
 use Rattle.brace_names.specs.declared.resolved.Target.{Target}
@@ -22,9 +23,6 @@ use Rattle.brace_check.proofs.Rising.{Rises, range_rises}
 use Rattle.brace_check.proofs.ConstantNumbers.{BlockDeclares, none_declared, block_declares}
 
 module _ {A : Type 0} where
-  pub nil_front : (xs ys : List A) → xs ++ ys ≡ [] → xs ≡ []
-  nil_front [] ys h = refl
-  nil_front (x ∷ xs) ys h = absurd (cc)
 
   pub nil_back : (xs ys : List A) → xs ++ ys ≡ [] → ys ≡ []
   nil_back [] ys h = h
@@ -34,10 +32,6 @@ none_if : (test : Bool) (f : CheckFault) → fault_if (not test) f ≡ [] → te
 none_if true f h = refl
 none_if false f h = absurd (cc)
 
-pub both_true : (p q : Bool) → p ≡ true → q ≡ true → (p && q) ≡ true
-both_true true q h g = g
-both_true false q h g = absurd (true≢false (sym h))
-
 module _ (targets : List (ℕ × Target)) (headings : List Heading) (own : ℕ) where
   abbrev rest : MemberTree → List MemberTree → Type 0
   rest one members = flat_map (member targets headings own) (one ∷ members) ≡ []
@@ -46,7 +40,7 @@ module _ (targets : List (ℕ × Target)) (headings : List Heading) (own : ℕ) 
   behind_one one members h = nil_back (member targets headings own one) (flat_map (member targets headings own) members) h
 
   first_one : (one : MemberTree) (members : List MemberTree) → rest one members → member targets headings own one ≡ []
-  first_one one members h = nil_front (member targets headings own one) (flat_map (member targets headings own) members) h
+  first_one one members h = none_front (member targets headings own one) (flat_map (member targets headings own) members) h
 
   -- the visible range is a distance
   pub visible_fits : (members : List MemberTree) → flat_map (member targets headings own) members ≡ []
@@ -79,7 +73,7 @@ module _ (targets : List (ℕ × Target)) (headings : List Heading) (own : ℕ) 
       → IsTrue (list_all (λ e. combines e.comb e.ty) (flat_map effect_of members))
   effects_fit [] h = refl
   effects_fit (m.Effect shared type name c at ∷ members) h =
-      both_true (combines (comb_named c) (type_named type)) (list_all (λ e. combines e.comb e.ty) (flat_map effect_of members))
+      and_from (combines (comb_named c) (type_named type)) (list_all (λ e. combines e.comb e.ty) (flat_map effect_of members))
       (none_if (combines (comb_named c) (type_named type)) (WrongCombinator name.at) (first_one (m.Effect shared type name c at) members h))
       (effects_fit members (behind_one (m.Effect shared type name c at) members h))
   effects_fit (m.Visible range at ∷ members) h = effects_fit members (behind_one (m.Visible range at) members h)
@@ -122,15 +116,12 @@ pub first_from_zero : (queries : List (List Stmt)) → AllByRecursion FromZero q
 first_from_zero [] h = record { count = 0; declares = none_declared 0 }
 first_from_zero (b ∷ queries) h = h.0
 
-below : (a c : ℕ) → a < c → nat_lt a c ≡ true
-below a c h = grind (arith, tests)
-
 below_range : (a n c : ℕ) → a + n ≤ c → list_all (λ k. nat_lt k c) (range_with_len a n) ≡ true
 below_range a zero c h = refl
 below_range a (suc n) c h =
     let more : (a + 1) + n ≤ c = omega (arith, h) in
     let here : a < c = omega (arith, h) in
-    both_true (nat_lt a c) (list_all (λ k. nat_lt k c) (range_with_len (a + 1) n)) (below a c here) (below_range (a + 1) n c more)
+    and_from (nat_lt a c) (list_all (λ k. nat_lt k c) (range_with_len (a + 1) n)) (lt-ltb a c here) (below_range (a + 1) n c more)
 
 apart : (lo hi x : ℕ) (xs : List ℕ) → x < lo → Rises lo hi xs → AllByRecursion (λ y. nat_eq x y ≡ false) xs
 apart lo hi x [] under h = tt

@@ -3,6 +3,7 @@ use Rattle.std.proofs.Common.{◌≡◌, refl, sym, ap, subst, ◌∙◌, ℕ, �
 use Rattle.std.specs.Prelude.{Some, None, sum}
 use Rattle.std.specs.List.{concat, range_with_len}
 use Rattle.std.proofs.lemmas.List.Sums.{sum_by-cons}
+use Rattle.brace_num.proofs.Rows.{row_joined}
 use Rattle.brace_syntax.specs.declared.tree.StmtTree.{StmtTree}
 use Rattle.brace_syntax.specs.declared.tree.StmtTree.TheVariants as s
 use Rattle.brace_model.specs.declared.program.Ty.{Ty}
@@ -18,12 +19,8 @@ use Rattle.brace_model.proofs.ValueEquations.{constants-Const, constants-If, con
 use Rattle.brace_check.specs.Scopes.{Scope, Part, stands, number_of, inside, past, behind, constants_in}
 use Rattle.brace_check.specs.Meanings.{Sited, agent_of, expression, block, part, part_step}
 use Rattle.brace_check.proofs.ByKind.{ProvedStmt, stmts_of, Statements, proved, stmts-proved}
+use Rattle.brace_check.proofs.Numbering.{concat-map}
 use Rattle.brace_check.proofs.Folds.{of-Const, of-when, of-either, of-Foreach, of-Assign, of-AssignThis, of-AssignLoop}
-use Rattle.brace_check.proofs.Numbering.{numbers-joined}
-
-concat-map : (f : Stmt → List ℕ) (xs : List Stmt) → concat (map f xs) ≡ flat_map f xs
-concat-map f [] = refl
-concat-map f (x ∷ xs) = ap (λ (l : List ℕ). f x ++ l) (concat-map f xs)
 
 -- a statement declares so many constants, numbered from one on
 pub record Declares (x : Stmt) (first count : ℕ) : Type 0 where
@@ -42,7 +39,7 @@ more_declared : (x : Stmt) (b : List Stmt) (first c d : ℕ) → Declares x firs
 more_declared x b first c d one rest = record {
   numbers =
       ap (λ (l : List ℕ). l ++ flat_map constant_numbers b) one.numbers
-      ∙ (ap (λ (l : List ℕ). range_with_len first c ++ l) rest.numbers ∙ numbers-joined first c d);
+      ∙ (ap (λ (l : List ℕ). range_with_len first c ++ l) rest.numbers ∙ row_joined first c d);
   many =
       sum_by-cons (λ (k : ℕ). k) (constants x) (map constants b)
       ∙ (ap (λ (k : ℕ). k + sum (map constants b)) one.many ∙ ap (λ (k : ℕ). c + k) rest.many);
@@ -53,7 +50,7 @@ if_declares x a b first c d one other = record {
   numbers =
       constant_numbers-If x a b
       ∙ (ap (λ (l : List ℕ). l ++ concat (map constant_numbers b)) (concat-map constant_numbers a ∙ one.numbers)
-      ∙ (ap (λ (l : List ℕ). range_with_len first c ++ l) (concat-map constant_numbers b ∙ other.numbers) ∙ numbers-joined first c d));
+      ∙ (ap (λ (l : List ℕ). range_with_len first c ++ l) (concat-map constant_numbers b ∙ other.numbers) ∙ row_joined first c d));
   many =
       constants-If x a b
       ∙ (ap (λ (k : ℕ). k + sum (map constants b)) one.many ∙ ap (λ (k : ℕ). c + k) other.many);

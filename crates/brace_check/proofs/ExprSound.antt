@@ -3,6 +3,7 @@ use Rattle.std.proofs.Common.{◌≡◌, refl, sym, ap, subst, ◌∙◌, ℕ, z
 use Rattle.std.specs.Prelude.{not, ◌&&◌, ◌||◌, ◌==◌, Option, Some, None, option_map, option_and_then, slice_get, Ok, if◌then◌else◌}
 use Rattle.std.proofs.lemmas.Option.{slice_get_past}
 use Rattle.std.proofs.lemmas.Bool.{true≢false, cases_Bool}
+use Rattle.brace_num.proofs.Lists.{none_front, each_front}
 use Rattle.brace_syntax.specs.declared.tree.Ident.{Ident}
 use Rattle.brace_syntax.specs.declared.tree.Digits.{Digits}
 use Rattle.brace_syntax.specs.declared.tree.Digits.TheVariants as d
@@ -33,8 +34,8 @@ use Rattle.brace_check.specs.Meanings.{Sited, literal, total, named, loop_agent,
 use Rattle.brace_check.proofs.ByKind.{Expressions, of_expression}
 use Rattle.brace_check.proofs.Folds.{of-Name, of-Unary, of-Binary, of-Choice}
 use Rattle.brace_check.proofs.Equations.{type-Lit, type-True, type-False, type-Name, type-OfThis, type-OfLoop, type-Unary, type-Binary, type-Choice, type-Rand, found-Name, found-OfThis, found-OfLoop, found-Unary, found-Binary, found-Choice, meant-Lit, meant-True, meant-False, meant-Name, meant-OfThis, meant-OfLoop, meant-Unary, meant-Binary, meant-Choice, meant-Rand}
-use Rattle.brace_check.proofs.CheckedMembers.{nil_front, nil_back}
-use Rattle.brace_check.proofs.TypeSound.{Agrees, local_of, locals_step, locals, Knows, all_front, all_back, same-self, sited, TypeOk, type_ok, typed_ok, not_if, EffectIs, state_typed, effect_is, own_may, own_is}
+use Rattle.brace_check.proofs.CheckedMembers.{nil_back}
+use Rattle.brace_check.proofs.TypeSound.{Agrees, local_of, locals_step, locals, Knows, all_back, same-self, sited, TypeOk, type_ok, typed_ok, not_if, EffectIs, state_typed, effect_is, own_may, own_is}
 
 record Mapped {A : Type 0} (f : A → Ty) (o : Option A) (t : Ty) : Type 0 where
   pub inner : A
@@ -211,7 +212,7 @@ of_loop_sound variable name scope names a f t h =
           let clean : front ++ back ≡ [] = sym (ap (λ (b : Bool). if b then front ++ back else OtherAgentInUpdate variable.at ∷ []) query) ∙ f in
           model.type_of-Field (agent_of (stands scope variable.at)) (number_of (stands scope name.at)) names
           ∙ loop_sound scope names a variable.at (stands scope variable.at) (stands scope name.at) query
-          (nil_front front back clean) (nil_back front back clean) t (typed_ok variable.at (of_loop_type scope variable name) t h)
+          (none_front front back clean) (nil_back front back clean) t (typed_ok variable.at (of_loop_type scope variable name) t h)
       | inr rule ↦
           let never : OtherAgentInUpdate variable.at ∷ [] ≡ [] = sym (ap (λ (b : Bool). if b then front ++ back else OtherAgentInUpdate variable.at ∷ []) rule) ∙ f in
           absurd (cc)
@@ -228,16 +229,16 @@ choice_case c x y at hc hx hy scope names a k f t h n =
     let q : TypeOk (λ v. typed_at at (choice_type o.operand p.operand v)) (type_of y scope) t =
     type_ok (λ v. typed_at at (choice_type o.operand p.operand v)) (type_of y scope) t p.gives in
     let clean : (found_in c scope ++ found_in x scope) ++ found_in y scope ≡ [] = sym (found-Choice c x y at scope) ∙ f in
-    let clean_front : found_in c scope ++ found_in x scope ≡ [] = nil_front (found_in c scope ++ found_in x scope) (found_in y scope) clean in
+    let clean_front : found_in c scope ++ found_in x scope ≡ [] = none_front (found_in c scope ++ found_in x scope) (found_in y scope) clean in
     let known : Knows scope names (locals c scope ++ (locals x scope ++ locals y scope)) =
     known_as (e.Choice c x y at) scope names (λ s. locals c s ++ (locals x s ++ locals y s)) (of-Choice locals_step c x y at) k in
     let known_back : Knows scope names (locals x scope ++ locals y scope) =
     all_back (λ n. constant_type names.known n ≡ slice_get scope.constants n) (locals c scope) (locals x scope ++ locals y scope) known in
     meaning (e.Choice c x y at) scope _ names n t (meant-Choice c x y at scope)
     (choice_sound ((expression c scope).behind n) ((expression x scope).behind m) ((expression y scope).behind l) names o.operand p.operand q.operand t
-    (hc scope names a (all_front (λ n. constant_type names.known n ≡ slice_get scope.constants n) (locals c scope) (locals x scope ++ locals y scope) known)
-    (nil_front (found_in c scope) (found_in x scope) clean_front) o.operand o.is n)
-    (hx scope names a (all_front (λ n. constant_type names.known n ≡ slice_get scope.constants n) (locals x scope) (locals y scope) known_back)
+    (hc scope names a (each_front (λ n. constant_type names.known n ≡ slice_get scope.constants n) (locals c scope) (locals x scope ++ locals y scope) known)
+    (none_front (found_in c scope) (found_in x scope) clean_front) o.operand o.is n)
+    (hx scope names a (each_front (λ n. constant_type names.known n ≡ slice_get scope.constants n) (locals x scope) (locals y scope) known_back)
     (nil_back (found_in c scope) (found_in x scope) clean_front) p.operand p.is m)
     (hy scope names a (all_back (λ n. constant_type names.known n ≡ slice_get scope.constants n) (locals x scope) (locals y scope) known_back)
     (nil_back (found_in c scope ++ found_in x scope) (found_in y scope) clean) q.operand q.is l)
@@ -276,8 +277,8 @@ kinds_sound = record {
       let known : Knows scope names (locals x scope ++ locals y scope) = known_as (e.Binary op x y at) scope names (λ s. locals x s ++ locals y s) (of-Binary locals_step op x y at) k in
       meaning (e.Binary op x y at) scope _ names n t (meant-Binary op x y at scope)
       (binary_sound (binary_named op) (m + length (expression y scope).sites) ((expression x scope).behind n) ((expression y scope).behind m) names o.operand p.operand t
-      (hx scope names a (all_front (λ n. constant_type names.known n ≡ slice_get scope.constants n) (locals x scope) (locals y scope) known)
-      (nil_front (found_in x scope) (found_in y scope) clean) o.operand o.is n)
+      (hx scope names a (each_front (λ n. constant_type names.known n ≡ slice_get scope.constants n) (locals x scope) (locals y scope) known)
+      (none_front (found_in x scope) (found_in y scope) clean) o.operand o.is n)
       (hy scope names a (all_back (λ n. constant_type names.known n ≡ slice_get scope.constants n) (locals x scope) (locals y scope) known)
       (nil_back (found_in x scope) (found_in y scope) clean) p.operand p.is m)
       (typed_ok at (binary_type (binary_named op) o.operand p.operand) t p.gives));

@@ -4,6 +4,8 @@ use Rattle.std.specs.Prelude.{not, ◌&&◌, Option, Some, None, if◌then◌els
 use Rattle.std.specs.Str.{bytes_eq}
 use Rattle.std.proofs.lemmas.Bool.{true≢false}
 use Rattle.std.proofs.lemmas.Grind.{flat_map-append}
+use Rattle.brace_num.proofs.Lists.{none_front, each_front}
+use Rattle.brace_num.proofs.Booleans.{and_false}
 use Rattle.brace_syntax.specs.declared.tree.Ident.{Ident}
 use Rattle.brace_syntax.specs.declared.tree.UnName.{UnName}
 use Rattle.brace_syntax.specs.declared.tree.UnName.TheVariants as un
@@ -36,8 +38,8 @@ use Rattle.brace_check.specs.Meanings.{Sited, site_if, total, named, expression}
 use Rattle.brace_check.proofs.ByKind.{Expressions, of_expression}
 use Rattle.brace_check.proofs.Folds.{of-Lit, of-True, of-False, of-Name, of-OfThis, of-OfLoop, of-Unary, of-Binary, of-Choice, of-Rand}
 use Rattle.brace_check.proofs.Equations.{found-Name, found-OfThis, found-Unary, found-Binary, found-Choice, meant-Lit, meant-True, meant-False, meant-Name, meant-OfThis, meant-OfLoop, meant-Unary, meant-Binary, meant-Choice, meant-Rand}
-use Rattle.brace_check.proofs.CheckedMembers.{nil_front, nil_back}
-use Rattle.brace_check.proofs.TypeSound.{Knows, local_of, locals_step, locals, all_front, all_back, not_if}
+use Rattle.brace_check.proofs.CheckedMembers.{nil_back}
+use Rattle.brace_check.proofs.TypeSound.{Knows, local_of, locals_step, locals, all_back, not_if}
 use Rattle.brace_check.proofs.Places.{Fine, AllFine, found_among}
 use Rattle.brace_check.proofs.Ties.{Tied, FieldIs, EffectIn, LocalIs, ConstantIs}
 
@@ -78,10 +80,6 @@ places-if : (test : Bool) (at : ℕ) → places (if test then f.site at else [])
 places-if true at = refl
 places-if false at = refl
 
-and-false : (test : Bool) → (test && false) ≡ false
-and-false true = refl
-and-false false = refl
-
 pub record TiedIn (x : ExprTree) (n : scopes.Scope) (c : Scope) (m : Names) : Type 0 where
   pub sites : places (names.expression x n) ≡ (expression x c).sites
   pub knows : Knows c m (locals x c)
@@ -97,7 +95,7 @@ module _ (n : scopes.Scope) (c : Scope) (m : Names) (tied : Tied n c m) where
   field_tied at name None is fine clean = absurd (true≢false fine.0)
   field_tied at name (Some (field.State i)) is fine clean =
       subst (λ (t : Option Target). NameTied c m at t (f.names_field at name (Some (field.State i)) ++ f.summed n at (Some (field.State i)))) (sym fine.0)
-      (record { sites = places-if (not n.in_query && false) at ∙ ap (λ (b : Bool). site_if b at) (and-false (not n.in_query)); knows = tt })
+      (record { sites = places-if (not n.in_query && false) at ∙ ap (λ (b : Bool). site_if b at) (and_false (not n.in_query)); knows = tt })
   field_tied at name (Some (field.Effect i sums)) is fine clean =
       let effect : EffectIn c.headings c.own i sums = found_among (bytes_eq name.text) (FieldIs c.headings c.own) n.own (field.Effect i sums) tied.own is in
       let outside : c.in_query ≡ false = not_if c.in_query (ReadsEffectInQuery at) (subst (λ (t : Option Target). reads c at t ≡ []) fine.0 clean) in
@@ -166,7 +164,7 @@ kinds_tied = record {
       tie (e.OfLoop variable name) n c m _ _ [] (q.in_OfLoop variable name n) (meant-OfLoop variable name c) (ap (λ g. g c) (of-OfLoop locals_step variable name)) (loop_places_if n.in_query n variable name) tt;
   unary = λ op x at hx n c m tied fine clean.
       let all : AllFine c.targets (names.expression x n ++ f.operation (f.unary_site op) at) = subst (AllFine c.targets) (q.in_Unary op x at n) fine in
-      let h : TiedIn x n c m = hx n c m tied (all_front (Fine c.targets) (names.expression x n) (f.operation (f.unary_site op) at) all) (sym (found-Unary op x at c) ∙ clean) in
+      let h : TiedIn x n c m = hx n c m tied (each_front (Fine c.targets) (names.expression x n) (f.operation (f.unary_site op) at) all) (sym (found-Unary op x at c) ∙ clean) in
       tie (e.Unary op x at) n c m _ _ (locals x c) (q.in_Unary op x at n) (meant-Unary op x at c) (ap (λ g. g c) (of-Unary locals_step op x at))
       (places-both (names.expression x n) (f.operation (f.unary_site op) at) (expression x c).sites (site_if (unary_faults (unary_named op)) at) h.sites
       (places-if (f.unary_site op) at ∙ ap (λ (b : Bool). site_if b at) (unary_sites op))) h.knows;
@@ -176,8 +174,8 @@ kinds_tied = record {
       let all : AllFine c.targets (names.expression x n ++ (names.expression y n ++ last)) = subst (AllFine c.targets) (q.in_Binary op x y at n) fine in
       let rest : AllFine c.targets (names.expression y n ++ last) = all_back (Fine c.targets) (names.expression x n) (names.expression y n ++ last) all in
       let none : found_in x c ++ found_in y c ≡ [] = sym (found-Binary op x y at c) ∙ clean in
-      let h : TiedIn x n c m = hx n c m tied (all_front (Fine c.targets) (names.expression x n) (names.expression y n ++ last) all) (nil_front (found_in x c) (found_in y c) none) in
-      let g : TiedIn y n c m = hy n c m tied (all_front (Fine c.targets) (names.expression y n) last rest) (nil_back (found_in x c) (found_in y c) none) in
+      let h : TiedIn x n c m = hx n c m tied (each_front (Fine c.targets) (names.expression x n) (names.expression y n ++ last) all) (none_front (found_in x c) (found_in y c) none) in
+      let g : TiedIn y n c m = hy n c m tied (each_front (Fine c.targets) (names.expression y n) last rest) (nil_back (found_in x c) (found_in y c) none) in
       tie (e.Binary op x y at) n c m _ _ (locals x c ++ locals y c) (q.in_Binary op x y at n) (meant-Binary op x y at c) (ap (λ g. g c) (of-Binary locals_step op x y at))
       (places-both (names.expression x n) (names.expression y n ++ last) (expression x c).sites ((expression y c).sites ++ site) h.sites
       (places-both (names.expression y n) last (expression y c).sites site g.sites (places-if (f.binary_site op) at ∙ ap (λ (b : Bool). site_if b at) (binary_sites op)))
@@ -185,11 +183,11 @@ kinds_tied = record {
       (both_known c m (locals x c) (locals y c) h.knows g.knows);
   choice = λ w x y at hw hx hy n c m tied fine clean.
       let all : AllFine c.targets (names.expression w n ++ names.expression x n ++ names.expression y n) = subst (AllFine c.targets) (q.in_Choice w x y at n) fine in
-      let front : AllFine c.targets (names.expression w n ++ names.expression x n) = all_front (Fine c.targets) (names.expression w n ++ names.expression x n) (names.expression y n) all in
+      let front : AllFine c.targets (names.expression w n ++ names.expression x n) = each_front (Fine c.targets) (names.expression w n ++ names.expression x n) (names.expression y n) all in
       let none : found_in w c ++ found_in x c ++ found_in y c ≡ [] = sym (found-Choice w x y at c) ∙ clean in
-      let none_front : found_in w c ++ found_in x c ≡ [] = nil_front (found_in w c ++ found_in x c) (found_in y c) none in
-      let k : TiedIn w n c m = hw n c m tied (all_front (Fine c.targets) (names.expression w n) (names.expression x n) front) (nil_front (found_in w c) (found_in x c) none_front) in
-      let h : TiedIn x n c m = hx n c m tied (all_back (Fine c.targets) (names.expression w n) (names.expression x n) front) (nil_back (found_in w c) (found_in x c) none_front) in
+      let no_front : found_in w c ++ found_in x c ≡ [] = none_front (found_in w c ++ found_in x c) (found_in y c) none in
+      let k : TiedIn w n c m = hw n c m tied (each_front (Fine c.targets) (names.expression w n) (names.expression x n) front) (none_front (found_in w c) (found_in x c) no_front) in
+      let h : TiedIn x n c m = hx n c m tied (all_back (Fine c.targets) (names.expression w n) (names.expression x n) front) (nil_back (found_in w c) (found_in x c) no_front) in
       let g : TiedIn y n c m = hy n c m tied (all_back (Fine c.targets) (names.expression w n ++ names.expression x n) (names.expression y n) all) (nil_back (found_in w c ++ found_in x c) (found_in y c) none) in
       tie (e.Choice w x y at) n c m _ _ (locals w c ++ (locals x c ++ locals y c)) (q.in_Choice w x y at n) (meant-Choice w x y at c) (ap (λ g. g c) (of-Choice locals_step w x y at))
       (places-both (names.expression w n ++ names.expression x n) (names.expression y n) ((expression w c).sites ++ (expression x c).sites) (expression y c).sites

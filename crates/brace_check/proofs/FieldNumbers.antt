@@ -7,6 +7,7 @@ use Rattle.std.proofs.lemmas.Bool.{cases_Bool, true≢false}
 use Rattle.std.proofs.lemmas.List.{length-map}
 use Rattle.std.proofs.lemmas.Option.{slice_get-map}
 use Rattle.std.proofs.lemmas.Grind.{flat_map-append}
+use Rattle.brace_num.proofs.Lists.{each_weaker, at_seam}
 use Rattle.brace_syntax.specs.declared.tree.Ident.{Ident}
 use Rattle.brace_syntax.specs.declared.tree.CombName.{CombName}
 use Rattle.brace_syntax.specs.declared.tree.CombName.TheVariants as combname
@@ -23,7 +24,7 @@ use Rattle.brace_check.specs.declared.heading.EffectHeading.{EffectHeading}
 use Rattle.brace_check.specs.declared.heading.Heading.{Heading}
 use Rattle.brace_check.specs.Headings.{type_named, comb_named, state_of, effect_of, heading}
 use Rattle.brace_check.proofs.Rising.{Rises, rises-joined}
-use Rattle.brace_check.proofs.Ties.{FieldIs, FieldsFit, each, named_too, slice_get-seam}
+use Rattle.brace_check.proofs.Ties.{FieldIs, FieldsFit, named_too}
 
 sums_alike : (c : CombName) → model.is_sum (comb_named c) ≡ is_sum c
 sums_alike combname.Sum = refl
@@ -59,7 +60,7 @@ fields_of states effects [] = tt
 fields_of states effects (m.State shared type name x at ∷ members) =
     let one : StateHeading = record { ty = type_named type; shared = shared } in
     let seam : (states ++ one ∷ []) ++ flat_map state_of members ≡ states ++ one ∷ flat_map state_of members = append_assoc states (one ∷ []) (flat_map state_of members) in (
-      record { heading = one; is = slice_get-seam states one (flat_map state_of members) },
+      record { heading = one; is = at_seam states one (flat_map state_of members) },
       subst (λ (l : List StateHeading). AllOf l (effects ++ flat_map effect_of members) (fields_behind (length states + 1) (length effects) members)) seam
           (subst (λ (k : ℕ). AllOf ((states ++ one ∷ []) ++ flat_map state_of members) (effects ++ flat_map effect_of members) (fields_behind k (length effects) members))
           (one-more states one) (fields_of (states ++ one ∷ []) effects members)),
@@ -67,7 +68,7 @@ fields_of states effects (m.State shared type name x at ∷ members) =
 fields_of states effects (m.Effect shared type name c at ∷ members) =
     let one : EffectHeading = record { ty = type_named type; shared = shared; comb = comb_named c } in
     let seam : (effects ++ one ∷ []) ++ flat_map effect_of members ≡ effects ++ one ∷ flat_map effect_of members = append_assoc effects (one ∷ []) (flat_map effect_of members) in (
-      record { heading = one; is = slice_get-seam effects one (flat_map effect_of members); adds = sums_alike c },
+      record { heading = one; is = at_seam effects one (flat_map effect_of members); adds = sums_alike c },
       subst (λ (l : List EffectHeading). AllOf (states ++ flat_map state_of members) l (fields_behind (length states) (length effects + 1) members)) seam
           (subst (λ (k : ℕ). AllOf (states ++ flat_map state_of members) ((effects ++ one ∷ []) ++ flat_map effect_of members) (fields_behind (length states) k members))
           (one-more effects one) (fields_of states (effects ++ one ∷ []) members)),
@@ -94,7 +95,7 @@ field_is headings number h there (field.Effect i sums) is =
 -- the fields of a class are those that its heading has
 pub fields_fit : (headings : List Heading) (number : ℕ) (class : ClassTree) → slice_get headings number ≡ Some (heading class) → FieldsFit headings number (table (fields class))
 fields_fit headings number class there =
-    each (λ (e : List ℕ × Field). FieldOf (flat_map state_of class.members) (flat_map effect_of class.members) e.1) (λ (e : List ℕ × Field). FieldIs headings number e.1)
+    each_weaker (λ (e : List ℕ × Field). FieldOf (flat_map state_of class.members) (flat_map effect_of class.members) e.1) (λ (e : List ℕ × Field). FieldIs headings number e.1)
     (λ e is. field_is headings number (heading class) there e.1 is) (table (fields class))
     (table_keeps (FieldOf (flat_map state_of class.members) (flat_map effect_of class.members)) [] (fields class) tt (fields_of [] [] class.members))
 

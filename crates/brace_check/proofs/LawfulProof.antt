@@ -4,11 +4,12 @@ use Rattle.std.specs.Prelude.{nat_eq, ◌&&◌, IsTrue, Option, Some, None, slic
 use Rattle.std.specs.Option.{option_map}
 use Rattle.std.specs.List.{AllByRecursion, IsDistinct, list_all, list_any}
 use Rattle.std.specs.Str.{bytes_eq}
-use Rattle.std.proofs.lemmas.Bool.{true≢false}
+use Rattle.std.proofs.lemmas.Bool.{true≢false, and_parts}
 use Rattle.std.proofs.lemmas.List.{length-map}
 use Rattle.std.proofs.lemmas.Grind.{flat_map-append}
 use Rattle.std.proofs.lemmas.Option.{slice_get-map}
 use Rattle.brace_num.specs.Names.{is_name}
+use Rattle.brace_num.proofs.Lists.{none_front, each_front}
 use Rattle.brace_syntax.specs.declared.tree.Ident.{Ident}
 use Rattle.brace_syntax.specs.declared.tree.ClassTree.{ClassTree}
 use Rattle.brace_names.specs.declared.resolved.Target.{Target}
@@ -46,8 +47,8 @@ use Rattle.brace_check.specs.Faults.{faults}
 use Rattle.brace_check.specs.Programs.{shares, class_of, classes_from, program_of}
 use Rattle.brace_check.specs.Resolved.{IsResolved}
 use Rattle.brace_check.specs.Checked.{CheckedClass}
-use Rattle.brace_check.proofs.CheckedMembers.{nil_front, nil_back}
-use Rattle.brace_check.proofs.TypeSound.{Agrees, heading_of, all_front, all_back}
+use Rattle.brace_check.proofs.CheckedMembers.{nil_back}
+use Rattle.brace_check.proofs.TypeSound.{Agrees, heading_of, all_back}
 use Rattle.brace_check.proofs.RulesTyped.{class_kept, classes_kept, rule_agrees}
 use Rattle.brace_check.proofs.Accepted.{accepted_checked}
 use Rattle.brace_check.proofs.Places.{Fine, AllFine, all_fine}
@@ -78,14 +79,6 @@ first_born : (m : Names) (states : List State) (spawns : List Spawn) → AllByRe
 unfolding IsDistinct
 first_born m states [] h = (refl, tt)
 first_born m states (s ∷ spawns) h = (h.0.is, h.0.differ)
-
-both_left : (a b : Bool) → (a && b) ≡ true → a ≡ true
-both_left true b h = refl
-both_left false b h = absurd (true≢false (sym h))
-
-both_right : (a b : Bool) → (a && b) ≡ true → b ≡ true
-both_right true b h = h
-both_right false b h = absurd (true≢false (sym h))
 
 module _ (targets : List (ℕ × Target)) (trees : List ClassTree) (program : Program) (kept : map heading_of program.classes ≡ map heading trees) where
   abbrev headings : List Heading
@@ -135,8 +128,8 @@ module _ (targets : List (ℕ × Target)) (trees : List ClassTree) (program : Pr
       let s : Share = (shares targets headings number class.members).behind n in
       let again : List Finding = f.faults_at DuplicateName (repeated (map title class.members)) in
       let more : List Finding = too_many which.Fields (option_map (λ (one : Ident × Field). one.0) (slice_get (fields class) 64)) in
-      let front : AllFine targets (again ++ more) = all_front (Fine targets) (again ++ more) (position class) declared in
-      let titles : IsDistinct bytes_eq (map text (map title class.members)) = names_differ DuplicateName targets (map title class.members) (all_front (Fine targets) again more front) in
+      let front : AllFine targets (again ++ more) = each_front (Fine targets) (again ++ more) (position class) declared in
+      let titles : IsDistinct bytes_eq (map text (map title class.members)) = names_differ DuplicateName targets (map title class.members) (each_front (Fine targets) again more front) in
       let few : length (fields class) ≤ 64 = few_of which.Fields targets (fields class) 64 (all_back (Fine targets) again more front) in
       let positioned : has_position class ≡ true = has_its_position targets class (all_back (Fine targets) (again ++ more) (position class) declared) in
       let ok : MembersOk s.states (rule_scope program number) (query_scope program number) (places (names.members (known trees) class)) (shares targets headings number class.members) =
@@ -149,9 +142,9 @@ module _ (targets : List (ℕ × Target)) (trees : List ClassTree) (program : Pr
         field_names_differ = fields_differ targets headings number class.members n titles;
         few_fields = subst (λ (k : ℕ). k ≤ 64) (fields_count targets headings number class.members n 0 0) few;
         x_is_position = is_placed targets headings number (codes "x") class.members n titles
-            (both_left (list_any (is_coordinate (codes "x")) class.members) (list_any (is_coordinate (codes "y")) class.members) positioned);
+            ((and_parts (list_any (is_coordinate (codes "x")) class.members) (list_any (is_coordinate (codes "y")) class.members) positioned).0);
         y_is_position = is_placed targets headings number (codes "y") class.members n titles
-            (both_right (list_any (is_coordinate (codes "x")) class.members) (list_any (is_coordinate (codes "y")) class.members) positioned);
+            ((and_parts (list_any (is_coordinate (codes "x")) class.members) (list_any (is_coordinate (codes "y")) class.members) positioned).1);
         spawn_is_typed = born.0;
         gifts_differ = born.1;
         query_is_typed = first_asked (query_scope program number) s.queries (ok.asked n);
@@ -178,9 +171,9 @@ module _ (targets : List (ℕ × Target)) (trees : List ClassTree) (program : Pr
       let here : number ≡ j = omega (arith, at) in
       subst (λ (i : ℕ). NamedClass program i c) here
       (subst (NamedClass program number) same
-      (class_named number class n (among_first number class classes among) (all_front (Fine targets) (declarations class) (flat_map declarations classes) declared)
-      (all_front (Fine targets) (names.members (known trees) class) (flat_map (names.members (known trees)) classes) fine)
-      (nil_front (flat_map (member targets headings number) class.members) (checks.classes_from targets headings (number + 1) classes) clean) words.0))
+      (class_named number class n (among_first number class classes among) (each_front (Fine targets) (declarations class) (flat_map declarations classes) declared)
+      (each_front (Fine targets) (names.members (known trees) class) (flat_map (names.members (known trees)) classes) fine)
+      (none_front (flat_map (member targets headings number) class.members) (checks.classes_from targets headings (number + 1) classes) clean) words.0))
   classes_named number (class ∷ classes) n among declared fine clean words (suc k) c is j at =
       let there : (number + 1) + k ≡ j = omega (arith, at) in
       classes_named (number + 1) classes (n + length (class_of targets headings number class).sites) (among_rest number class classes among)
@@ -196,8 +189,8 @@ module _ (targets : List (ℕ × Target)) (trees : List ClassTree) (program : Pr
       let ok : MembersOk ((shares targets headings number class.members).behind 0).states (rule_scope program number) (query_scope program number)
       (places (names.members (known trees) class)) (shares targets headings number class.members) =
       class_members number class 0 (among_first number class classes among)
-      (all_front (Fine targets) (names.members (known trees) class) (flat_map (names.members (known trees)) classes) fine)
-      (nil_front (flat_map (member targets headings number) class.members) (checks.classes_from targets headings (number + 1) classes) clean) in
+      (each_front (Fine targets) (names.members (known trees) class) (flat_map (names.members (known trees)) classes) fine)
+      (none_front (flat_map (member targets headings number) class.members) (checks.classes_from targets headings (number + 1) classes) clean) in
       places-both (names.members (known trees) class) (flat_map (names.members (known trees)) classes)
       (shares targets headings number class.members).sites (classes_from targets headings (number + 1) classes).sites ok.counted
       (classes_counted (number + 1) classes (among_rest number class classes among)
@@ -258,15 +251,15 @@ module _ (src : List ℕ) (r : Resolved) (is : IsResolved src r) (clean : faults
 
   no_fault : flat_map fault_of all_found ≡ []
   no_fault =
-      nil_front (flat_map fault_of all_found) (name_faults.too_many which.Sites (slice_get (flat_map site_of all_found) 4096))
-      (nil_front (flat_map fault_of all_found ++ name_faults.too_many which.Sites (slice_get (flat_map site_of all_found) 4096))
+      none_front (flat_map fault_of all_found) (name_faults.too_many which.Sites (slice_get (flat_map site_of all_found) 4096))
+      (none_front (flat_map fault_of all_found ++ name_faults.too_many which.Sites (slice_get (flat_map site_of all_found) 4096))
       (name_faults.too_many which.Assignments (slice_get (flat_map assignment_of all_found) 4096)) is.faultless)
 
   few_sites : length (flat_map site_of all_found) ≤ 4096
   few_sites =
       few_found (flat_map site_of all_found) 4096 which.Sites
       (nil_back (flat_map fault_of all_found) (name_faults.too_many which.Sites (slice_get (flat_map site_of all_found) 4096))
-      (nil_front (flat_map fault_of all_found ++ name_faults.too_many which.Sites (slice_get (flat_map site_of all_found) 4096))
+      (none_front (flat_map fault_of all_found ++ name_faults.too_many which.Sites (slice_get (flat_map site_of all_found) 4096))
       (name_faults.too_many which.Assignments (slice_get (flat_map assignment_of all_found) 4096)) is.faultless))
 
   few_said : length (flat_map assignment_of all_found) ≤ 4096
@@ -287,10 +280,10 @@ module _ (src : List ℕ) (r : Resolved) (is : IsResolved src r) (clean : faults
   members_found = flat_map (names.members (known trees_)) trees_
 
   fine_front : AllFine targets_ (class_names names_of_classes ++ flat_map declarations trees_)
-  fine_front = all_front (Fine targets_) (class_names names_of_classes ++ flat_map declarations trees_) members_found fine
+  fine_front = each_front (Fine targets_) (class_names names_of_classes ++ flat_map declarations trees_) members_found fine
 
   fine_names : AllFine targets_ (class_names names_of_classes)
-  fine_names = all_front (Fine targets_) (class_names names_of_classes) (flat_map declarations trees_) fine_front
+  fine_names = each_front (Fine targets_) (class_names names_of_classes) (flat_map declarations trees_) fine_front
 
   fine_declared : AllFine targets_ (flat_map declarations trees_)
   fine_declared = all_back (Fine targets_) (class_names names_of_classes) (flat_map declarations trees_) fine_front
@@ -356,7 +349,7 @@ module _ (src : List ℕ) (r : Resolved) (is : IsResolved src r) (clean : faults
       record {
         few_classes = omega (arith, few, count, a, b, d);
         class_names_differ = subst (IsDistinct bytes_eq) (sym (class_names-map targets_ (map heading trees_) 0 trees_ 0))
-            (names_differ DuplicateClass targets_ names_of_classes (all_front (Fine targets_) again more fine_names));
+            (names_differ DuplicateClass targets_ names_of_classes (each_front (Fine targets_) again more fine_names));
         classes_are_lawful = lawful_class;
         sites_in_range = sites_below targets_ (map heading trees_) trees_ 4096 few_numbered;
         sites_differ = sites_differ targets_ (map heading trees_) trees_;

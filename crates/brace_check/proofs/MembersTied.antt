@@ -3,10 +3,11 @@ use Rattle.std.proofs.Common.{◌≡◌, refl, sym, ap, subst, ◌∙◌, ℕ, �
 use Rattle.std.specs.Prelude.{nat_eq, Option, Some, None, is_some, option_map, option_and_then, slice_get, unwrap_or}
 use Rattle.std.specs.List.{AllByRecursion, IsDistinct, list_all, filter}
 use Rattle.std.specs.Str.{bytes_eq}
-use Rattle.std.proofs.lemmas.Bool.{cases_Bool, true≢false}
+use Rattle.std.proofs.lemmas.Bool.{cases_Bool, true≢false, and_from}
 use Rattle.std.proofs.lemmas.List.{append-nil}
 use Rattle.std.proofs.lemmas.Option.{slice_get-map}
 use Rattle.std.proofs.lemmas.Slice.Eq.{bytes_eq-Decides}
+use Rattle.brace_num.proofs.Lists.{none_front, each_front, each_append}
 use Rattle.brace_syntax.specs.declared.tree.Ident.{Ident}
 use Rattle.brace_syntax.specs.declared.tree.ExprTree.{ExprTree}
 use Rattle.brace_syntax.specs.declared.tree.GiftTree.{GiftTree}
@@ -43,10 +44,10 @@ use Rattle.brace_check.specs.Found.{valued}
 use Rattle.brace_check.specs.Found as checks
 use Rattle.brace_check.specs.Meanings.{Sited, expression, part}
 use Rattle.brace_check.specs.Programs.{gifts_in, share, shares}
-use Rattle.brace_check.proofs.CheckedMembers.{nil_front, nil_back, both_true}
-use Rattle.brace_check.proofs.TypeSound.{all_front, all_back, same-self, state_heading}
+use Rattle.brace_check.proofs.CheckedMembers.{nil_back}
+use Rattle.brace_check.proofs.TypeSound.{all_back, same-self, state_heading}
 use Rattle.brace_check.proofs.Places.{Fine, AllFine, found_among}
-use Rattle.brace_check.proofs.Ties.{Tied, FieldIs, StateIs, joined}
+use Rattle.brace_check.proofs.Ties.{Tied, FieldIs, StateIs}
 use Rattle.brace_check.proofs.ExprTied.{places, places-both, TiedIn}
 use Rattle.brace_check.proofs.Said.{in_value, has_type}
 use Rattle.brace_check.proofs.BlockTied.{RunTied, TreesTied, block_tied, no_typed}
@@ -110,10 +111,10 @@ module _ (n : scopes.Scope) (c : Scope) (m : Names) (tied : Tied n c m) (hd : He
       let o : Option Field = look n.own g.state.text in
       let all : AllFine c.targets (names.expression g.value n) = all_back (Fine c.targets) (f.assigns n g.state.at g.state) (names.expression g.value n) fine in
       let front : AllFine c.targets (f.names_field g.state.at g.state o) =
-      all_front (Fine c.targets) (f.names_field g.state.at g.state o) (f.assignment g.state.at) (all_front (Fine c.targets) (f.assigns n g.state.at g.state) (names.expression g.value n) fine) in
+      each_front (Fine c.targets) (f.names_field g.state.at g.state o) (f.assignment g.state.at) (each_front (Fine c.targets) (f.assigns n g.state.at g.state) (names.expression g.value n) fine) in
       let want : Option Ty = given_type c (stands c g.state.at) in
       let value : valued want g.value c ≡ [] = nil_back (gives g.state.at (stands c g.state.at)) (valued want g.value c) clean in
-      let is : GiftIs n c g = gift_is g o refl front (nil_front (gives g.state.at (stands c g.state.at)) (valued want g.value c) clean) in
+      let is : GiftIs n c g = gift_is g o refl front (none_front (gives g.state.at (stands c g.state.at)) (valued want g.value c) clean) in
       let s : StateIs c.headings c.own is.number = found_among (bytes_eq g.state.text) (FieldIs c.headings c.own) n.own (field.State is.number) tied.own is.named in
       let at : slice_get hd.states is.number ≡ Some s.heading = sym (ap (λ (o : Option Heading). option_and_then (λ h. slice_get h.states is.number) o) there) ∙ s.is in
       let st : StateThere states is.number s.heading.ty = state_there states is.number s.heading (slice_get states is.number) refl
@@ -135,7 +136,7 @@ module _ (n : scopes.Scope) (c : Scope) (m : Names) (tied : Tied n c m) (hd : He
   gifts_ok : (gifts : List GiftTree) → AllFine c.targets (flat_map (names.gift n) gifts) → flat_map (checks.gift c) gifts ≡ [] → AllByRecursion (GiftOk n c m states) gifts
   gifts_ok [] fine clean = tt
   gifts_ok (g ∷ gifts) fine clean = (
-    gift_ok g (all_front (Fine c.targets) (names.gift n g) (flat_map (names.gift n) gifts) fine) (nil_front (checks.gift c g) (flat_map (checks.gift c) gifts) clean),
+    gift_ok g (each_front (Fine c.targets) (names.gift n g) (flat_map (names.gift n) gifts) fine) (none_front (checks.gift c g) (flat_map (checks.gift c) gifts) clean),
     gifts_ok gifts (all_back (Fine c.targets) (names.gift n g) (flat_map (names.gift n) gifts) fine) (nil_back (checks.gift c g) (flat_map (checks.gift c) gifts) clean),
   )
 
@@ -143,7 +144,7 @@ module _ (n : scopes.Scope) (c : Scope) (m : Names) (tied : Tied n c m) (hd : He
   all_given [] k h = refl
   all_given (g ∷ gifts) k h =
       let j : ℕ = k + length (expression g.value c).sites in
-      both_true (is_given m states (record { state = number_given c g; value = (expression g.value c).behind k })) (list_all (is_given m states) ((gifts_in gifts c).behind j))
+      and_from (is_given m states (record { state = number_given c g; value = (expression g.value c).behind k })) (list_all (is_given m states) ((gifts_in gifts c).behind j))
       (h.0.given k) (all_given gifts j h.1)
 
   gifts_sites : (gifts : List GiftTree) → AllByRecursion (GiftOk n c m states) gifts → places (flat_map (names.gift n) gifts) ≡ (gifts_in gifts c).sites
@@ -228,12 +229,12 @@ module _ (targets : List (ℕ × Target)) (headings : List Heading) (own : ℕ) 
       let given : List Finding = flat_map (names.gift names_) gifts in
       let again : List Finding = f.faults_at DuplicateName (repeated (states_given names_ gifts)) in
       let value : List CheckFault = valued (Some ty.Bool) x scope_ in
-      let first : AllFine targets (names.expression x names_) = all_front (Fine targets) (names.expression x names_) (gifts_found names_ gifts at) fine in
-      let both : AllFine targets (given ++ again) = all_front (Fine targets) (given ++ again) (f.site at) (all_back (Fine targets) (names.expression x names_) (gifts_found names_ gifts at) fine) in
-      let no_value : value ≡ [] = nil_front value (flat_map (checks.gift scope_) gifts) clean in
+      let first : AllFine targets (names.expression x names_) = each_front (Fine targets) (names.expression x names_) (gifts_found names_ gifts at) fine in
+      let both : AllFine targets (given ++ again) = each_front (Fine targets) (given ++ again) (f.site at) (all_back (Fine targets) (names.expression x names_) (gifts_found names_ gifts at) fine) in
+      let no_value : value ≡ [] = none_front value (flat_map (checks.gift scope_) gifts) clean in
       let h : TiedIn x names_ scope_ rule = in_value names_ scope_ rule in_rule x first 0 (Some ty.Bool) no_value in
       let g : AllByRecursion (GiftOk names_ scope_ rule states) gifts =
-      gifts_ok names_ scope_ rule in_rule hd states there kept gifts (all_front (Fine targets) given again both) (nil_back value (flat_map (checks.gift scope_) gifts) clean) in
+      gifts_ok names_ scope_ rule in_rule hd states there kept gifts (each_front (Fine targets) given again both) (nil_back value (flat_map (checks.gift scope_) gifts) clean) in
       let s : List ℕ = (expression x scope_).sites in
       let t : List ℕ = (gifts_in gifts scope_).sites in
       record {
@@ -244,7 +245,7 @@ module _ (targets : List (ℕ × Target)) (headings : List Heading) (own : ℕ) 
         asked = λ k. tt;
         born = λ k. (
           record {
-            is = both_true (is_of_type ty.Bool (type_in ((expression x scope_).behind k) rule)) (list_all (is_given rule states) ((gifts_in gifts scope_).behind (k + length s)))
+            is = and_from (is_of_type ty.Bool (type_in ((expression x scope_).behind k) rule)) (list_all (is_given rule states) ((gifts_in gifts scope_).behind (k + length s)))
                 (ap (is_of_type ty.Bool) (has_type names_ scope_ rule in_rule x first k ty.Bool no_value))
                 (all_given names_ scope_ rule in_rule hd states there kept gifts (k + length s) g);
             differ = subst (IsDistinct nat_eq) (sym (gifts_numbers names_ scope_ rule in_rule hd states there kept gifts (k + length s)))
@@ -286,16 +287,16 @@ module _ (targets : List (ℕ × Target)) (headings : List Heading) (own : ℕ) 
   members_ok [] fine clean = record { counted = refl; asked = λ k. tt; born = λ k. tt }
   members_ok (x ∷ xs) fine clean =
       let h : MembersOk states rule query (places (names.member all table_ x)) (share targets headings own x) =
-      member_ok x (all_front (Fine targets) (names.member all table_ x) (flat_map (names.member all table_) xs) fine)
-      (nil_front (checks.member targets headings own x) (flat_map (checks.member targets headings own) xs) clean) in
+      member_ok x (each_front (Fine targets) (names.member all table_ x) (flat_map (names.member all table_) xs) fine)
+      (none_front (checks.member targets headings own x) (flat_map (checks.member targets headings own) xs) clean) in
       let g : MembersOk states rule query (places (flat_map (names.member all table_) xs)) (shares targets headings own xs) =
       members_ok xs (all_back (Fine targets) (names.member all table_ x) (flat_map (names.member all table_) xs) fine)
       (nil_back (checks.member targets headings own x) (flat_map (checks.member targets headings own) xs) clean) in
       let s : List ℕ = (share targets headings own x).sites in
       record {
         counted = places-both (names.member all table_ x) (flat_map (names.member all table_) xs) s (shares targets headings own xs).sites h.counted g.counted;
-        asked = λ k. joined (Asked query) ((share targets headings own x).behind k).queries ((shares targets headings own xs).behind (k + length s)).queries (h.asked k) (g.asked (k + length s));
-        born = λ k. joined (Born rule states) ((share targets headings own x).behind k).spawn ((shares targets headings own xs).behind (k + length s)).spawn (h.born k) (g.born (k + length s));
+        asked = λ k. each_append (Asked query) ((share targets headings own x).behind k).queries ((shares targets headings own xs).behind (k + length s)).queries (h.asked k) (g.asked (k + length s));
+        born = λ k. each_append (Born rule states) ((share targets headings own x).behind k).spawn ((shares targets headings own xs).behind (k + length s)).spawn (h.born k) (g.born (k + length s));
       }
 
 -- the first of them

@@ -4,9 +4,10 @@ use Rattle.std.specs.Prelude.{◌&&◌, ◌||◌, Option, Some, None, slice_get,
 use Rattle.std.specs.Option.{option_map}
 use Rattle.std.specs.List.{AllByRecursion, IsDistinct, list_any}
 use Rattle.std.specs.Str.{bytes_eq}
-use Rattle.std.proofs.lemmas.Bool.{cases_Bool, true≢false}
+use Rattle.std.proofs.lemmas.Bool.{cases_Bool, true≢false, or_parts}
 use Rattle.std.proofs.lemmas.List.Folds.{list_any-append}
 use Rattle.std.proofs.lemmas.Slice.Eq.{bytes_eq-Decides}
+use Rattle.brace_num.proofs.Lists.{each_weaker, each_append}
 use Rattle.brace_syntax.specs.declared.tree.Ident.{Ident}
 use Rattle.brace_syntax.specs.declared.tree.TyName.{TyName}
 use Rattle.brace_syntax.specs.declared.tree.TyName.TheVariants as tyname
@@ -32,7 +33,6 @@ use Rattle.brace_check.specs.Headings.{type_named}
 use Rattle.brace_check.specs.Scopes.{outermost}
 use Rattle.brace_check.specs.Programs.{rule, share, shares, effect_of, place_of}
 use Rattle.brace_check.proofs.Places.{AllFine}
-use Rattle.brace_check.proofs.Ties.{each, joined}
 
 -- equal bytes
 bytes-flip : (a b : List ℕ) → bytes_eq a b ≡ true → bytes_eq b a ≡ true
@@ -59,18 +59,6 @@ rest_if : (test : Bool) (at : ℕ) (rest : List ℕ) → (if test then at ∷ []
 rest_if true at rest h = absurd (cc)
 rest_if false at rest h = h
 
-or_left : (a b : Bool) → (a || b) ≡ false → a ≡ false
-or_left true b h = absurd (true≢false h)
-or_left false b h = refl
-
-or_right : (a b : Bool) → (a || b) ≡ false → b ≡ false
-or_right true b h = absurd (true≢false h)
-or_right false b h = h
-
-or_false : (b : Bool) → (b || false) ≡ b
-or_false true = refl
-or_false false = refl
-
 abbrev New : List (List ℕ) → List ℕ → Type 0
 New earlier name = list_any (bytes_eq name) earlier ≡ false
 
@@ -90,12 +78,12 @@ fresh earlier (name ∷ names) h =
     record {
       new = (
         none_if (list_any (bytes_eq name.text) earlier) name.at (repeated_after (earlier ++ name.text ∷ []) names) h,
-        each (New (earlier ++ name.text ∷ [])) (New earlier)
-            (λ other is. or_left (list_any (bytes_eq other) earlier) (bytes_eq other name.text || false) (new_one earlier name.text other is)) (map text names) later.new,
+        each_weaker (New (earlier ++ name.text ∷ [])) (New earlier)
+            (λ other is. (or_parts (list_any (bytes_eq other) earlier) (bytes_eq other name.text || false) (new_one earlier name.text other is)).0) (map text names) later.new,
       );
       differ = (
-        each (New (earlier ++ name.text ∷ [])) (λ other. bytes_eq name.text other ≡ false)
-            (λ other is. bytes-apart other name.text (or_left (bytes_eq other name.text) false (or_right (list_any (bytes_eq other) earlier) (bytes_eq other name.text || false) (new_one earlier name.text other is))))
+        each_weaker (New (earlier ++ name.text ∷ [])) (λ other. bytes_eq name.text other ≡ false)
+            (λ other is. bytes-apart other name.text ((or_parts (bytes_eq other name.text) false ((or_parts (list_any (bytes_eq other) earlier) (bytes_eq other name.text || false) (new_one earlier name.text other is)).1)).0))
             (map text names) later.new,
         later.differ,
       );
@@ -204,7 +192,7 @@ module _ (targets : List (ℕ × Target)) (headings : List Heading) (own : ℕ) 
   fields_differ (m.State shared type name x at ∷ members) n h =
       let k : ℕ = n + length (share targets headings own (m.State shared type name x at)).sites in
       let apart : Apart name.text (state_names members k) × Apart name.text (effect_names members) = apart_from name.text members k h.0 in
-      (joined (λ other. bytes_eq name.text other ≡ false) (state_names members k) (effect_names members) apart.0 apart.1, fields_differ members k h.1)
+      (each_append (λ other. bytes_eq name.text other ≡ false) (state_names members k) (effect_names members) apart.0 apart.1, fields_differ members k h.1)
   fields_differ (m.Effect shared type name c at ∷ members) n h =
       let apart : Apart name.text (state_names members (n + 0)) × Apart name.text (effect_names members) = apart_from name.text members (n + 0) h.0 in
       differ_between name.text (state_names members (n + 0)) (effect_names members) (fields_differ members (n + 0) h.1) apart.0 apart.1

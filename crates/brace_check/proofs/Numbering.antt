@@ -1,8 +1,9 @@
 -- Sites are numbered in finishing order, each by how many come before it.
-use Rattle.std.proofs.Common.{◌≡◌, refl, sym, ap, subst, ◌∙◌, ℕ, zero, suc, ◌+◌, Bool, true, false, List, [], ◌∷◌, ◌++◌, length, length-append, append_assoc, arith}
+use Rattle.std.proofs.Common.{◌≡◌, refl, sym, ap, subst, ◌∙◌, ℕ, zero, suc, ◌+◌, Bool, true, false, List, [], ◌∷◌, ◌++◌, length, length-append, append_assoc, arith, map, flat_map}
 use Rattle.std.specs.Prelude.{Option, Some, None, option_to_list}
-use Rattle.std.specs.List.{range_with_len}
+use Rattle.std.specs.List.{range_with_len, concat}
 use Rattle.std.proofs.lemmas.List.{append-nil}
+use Rattle.brace_num.proofs.Rows.{row_joined}
 use Rattle.brace_syntax.specs.declared.tree.ExprTree.{ExprTree}
 use Rattle.brace_syntax.specs.declared.tree.ExprTree.TheVariants as e
 use Rattle.brace_names.specs.declared.resolved.Target.{Target}
@@ -24,19 +25,16 @@ use Rattle.brace_check.specs.Meanings.{Sited, plain, followed, with_sites, site_
 use Rattle.brace_check.proofs.ByKind.{Expressions, of_expression}
 use Rattle.brace_check.proofs.Folds.{of-Lit, of-True, of-False, of-Name, of-OfThis, of-OfLoop, of-Unary, of-Binary, of-Choice, of-Rand}
 
--- numbers from one on, and then those behind them
-pub numbers-joined : (n a b : ℕ) → range_with_len n a ++ range_with_len (n + a) b ≡ range_with_len n (a + b)
-numbers-joined n zero b = let h : n + 0 ≡ n = omega arith in let g : 0 + b ≡ b = omega arith in rw (h, g) refl
-numbers-joined n (suc a) b =
-    let h : n + suc a ≡ (n + 1) + a = omega arith in
-    let g : suc a + b ≡ suc (a + b) = omega arith in
-    rw (h, g) (ap (λ (l : List ℕ). n ∷ l) (numbers-joined (n + 1) a b))
+-- what is made of each item, joined
+pub concat-map : {A : Type 0} (f : A → List ℕ) (xs : List A) → concat (map f xs) ≡ flat_map f xs
+concat-map f [] = refl
+concat-map f (x ∷ xs) = ap (λ (l : List ℕ). f x ++ l) (concat-map f xs)
 
 -- the numbers of the sites that are noted so far, and that of one more, where there is one
 pub numbers-site : (test : Bool) (at n : ℕ) (sites : List ℕ)
     → range_with_len n (length sites) ++ option_to_list (only test (n + length sites)) ≡ range_with_len n (length (sites ++ site_if test at))
 numbers-site true at n sites =
-    numbers-joined n (length sites) 1 ∙ ap (range_with_len n) (sym (length-append sites (at ∷ [])))
+    row_joined n (length sites) 1 ∙ ap (range_with_len n) (sym (length-append sites (at ∷ [])))
 numbers-site false at n sites =
     append-nil (range_with_len n (length sites)) ∙ ap (λ (l : List ℕ). range_with_len n (length l)) (sym (append-nil sites))
 
@@ -66,7 +64,7 @@ followed_numbered f g k both x y same hx hy n =
     same (x.behind n) (y.behind (n + length x.sites))
     ∙ (ap (λ (l : List ℕ). l ++ g (y.behind (n + length x.sites))) (hx n)
     ∙ (ap (λ (l : List ℕ). a ++ l) (hy (n + length x.sites))
-    ∙ (numbers-joined n (length x.sites) (length y.sites)
+    ∙ (row_joined n (length x.sites) (length y.sites)
     ∙ ap (range_with_len n) (sym (length-append x.sites y.sites)))))
 
 total_numbered : (at i : ℕ) (e : Option EffectHeading) → Numbered sites_of (total at i e)
@@ -100,7 +98,7 @@ binary_numbered test at op x y hx hy n =
     ∙ (ap (λ (l : List ℕ). l ++ (sites_of (y.behind m) ++ site)) (hx n)
     ∙ (ap (λ (l : List ℕ). range_with_len n (length x.sites) ++ (l ++ site)) (hy m)
     ∙ (ap (λ (l : List ℕ). range_with_len n (length x.sites) ++ l) (numbers-site test at m y.sites)
-    ∙ (numbers-joined n (length x.sites) (length rest)
+    ∙ (row_joined n (length x.sites) (length rest)
     ∙ (ap (range_with_len n) (sym (length-append x.sites rest))
     ∙ ap (λ (l : List ℕ). range_with_len n (length l)) (sym (append_assoc x.sites y.sites (site_if test at))))))))
 
@@ -112,8 +110,8 @@ choice_numbered c x y hc hx hy n =
     ∙ (ap (λ (l : List ℕ). l ++ (sites_of (x.behind m) ++ sites_of (y.behind k))) (hc n)
     ∙ (ap (λ (l : List ℕ). range_with_len n (length c.sites) ++ (l ++ sites_of (y.behind k))) (hx m)
     ∙ (ap (λ (l : List ℕ). range_with_len n (length c.sites) ++ (range_with_len m (length x.sites) ++ l)) (hy k)
-    ∙ (ap (λ (l : List ℕ). range_with_len n (length c.sites) ++ l) (numbers-joined m (length x.sites) (length y.sites))
-    ∙ (numbers-joined n (length c.sites) (length x.sites + length y.sites)
+    ∙ (ap (λ (l : List ℕ). range_with_len n (length c.sites) ++ l) (row_joined m (length x.sites) (length y.sites))
+    ∙ (row_joined n (length c.sites) (length x.sites + length y.sites)
     ∙ (ap (λ (k : ℕ). range_with_len n (length c.sites + k)) (sym (length-append x.sites y.sites))
     ∙ (ap (range_with_len n) (sym (length-append c.sites (x.sites ++ y.sites)))
     ∙ ap (λ (l : List ℕ). range_with_len n (length l)) (sym (append_assoc c.sites x.sites y.sites)))))))))

@@ -2,9 +2,10 @@
 use Rattle.std.proofs.Common.{◌≡◌, refl, sym, ap, ◌∙◌, ℕ, ◌+◌, ◌≤◌, Bool, true, false, List, [], ◌∷◌, ◌++◌, map, flat_map, length, arith}
 use Rattle.std.specs.Prelude.{not, Some, None, slice_get, Result, Ok, Err}
 use Rattle.std.specs.List.{AllByRecursion, list_all}
-use Rattle.std.proofs.lemmas.Bool.{true≢false}
+use Rattle.std.proofs.lemmas.Bool.{true≢false, and_from, not-false}
 use Rattle.std.proofs.lemmas.List.{map-append}
 use Rattle.std.proofs.lemmas.List.Folds.{list_all-append}
+use Rattle.brace_num.proofs.Lists.{none_front}
 use Rattle.brace_syntax.specs.declared.tree.ExprTree.{ExprTree}
 use Rattle.brace_syntax.specs.declared.tree.MemberTree.{MemberTree}
 use Rattle.brace_syntax.specs.declared.tree.MemberTree.TheVariants as m
@@ -29,7 +30,7 @@ use Rattle.brace_check.specs.Found.{expression as found_in, valued, member}
 use Rattle.brace_check.specs.Meanings.{expression}
 use Rattle.brace_check.specs.Programs as programs
 use Rattle.brace_check.specs.Programs.{share, shares, class_of, classes_from}
-use Rattle.brace_check.proofs.CheckedMembers.{nil_front, nil_back, both_true}
+use Rattle.brace_check.proofs.CheckedMembers.{nil_back}
 use Rattle.brace_check.proofs.TypeSound.{Agrees, Knows, locals, state_heading, effect_heading, heading_of, same-self, not_if}
 use Rattle.brace_check.proofs.ExprSound.{sound}
 
@@ -93,14 +94,10 @@ one_type ty.Bool ty.Int h = absurd (cc)
 one_type ty.Bool ty.Fixed h = absurd (cc)
 one_type ty.Bool ty.Bool h = refl
 
-opposite : (b : Bool) → not b ≡ false → b ≡ true
-opposite true h = refl
-opposite false h = absurd (true≢false h)
-
 pub fits : (want : Ty) (at : ℕ) (r : Result Ty ℕ) → misfits (Some want) at r ≡ [] → r ≡ Ok want
 fits want at (Err place) h = absurd (cc)
 fits want at (Ok t) h =
-    let same : want ≡ t = one_type want t (opposite (same_type want t) (not_if (not (same_type want t)) (WrongType at) h)) in
+    let same : want ≡ t = one_type want t (not-false (same_type want t) (not_if (not (same_type want t)) (WrongType at) h)) in
     ap (λ (u : Ty). Ok u) (sym same)
 
 -- no constant is in scope in a rule
@@ -117,7 +114,7 @@ module _ (targets : List (ℕ × Target)) (headings : List Heading) (own : ℕ) 
       → is_of_type want (type_in ((expression x (outermost targets headings own false)).behind n) names) ≡ true
   value_typed want x n h =
       let scope : Scope = outermost targets headings own false in
-      let clean : found_in x scope ≡ [] = nil_front (found_in x scope) (misfits (Some want) (place x) (type_of x scope)) h in
+      let clean : found_in x scope ≡ [] = none_front (found_in x scope) (misfits (Some want) (place x) (type_of x scope)) h in
       let fit : type_of x scope ≡ Ok want = fits want (place x) (type_of x scope) (nil_back (found_in x scope) (misfits (Some want) (place x) (type_of x scope)) h) in
       ap (is_of_type want) (sound x scope names agrees (none_known targets headings own names none (locals x scope)) clean want fit n) ∙ same-self want
 
@@ -126,7 +123,7 @@ module _ (targets : List (ℕ × Target)) (headings : List Heading) (own : ℕ) 
 
   state_typed : (one : MemberTree) (n : ℕ) → member targets headings own one ≡ [] → list_all ruled ((share targets headings own one).behind n).states ≡ true
   state_typed (m.State shared type name None at) n h = refl
-  state_typed (m.State shared type name (Some x) at) n h = both_true (is_of_type (type_named type) (type_in ((expression x (outermost targets headings own false)).behind n) names)) true (value_typed (type_named type) x n h) refl
+  state_typed (m.State shared type name (Some x) at) n h = and_from (is_of_type (type_named type) (type_in ((expression x (outermost targets headings own false)).behind n) names)) true (value_typed (type_named type) x n h) refl
   state_typed (m.Visible range at) n h = refl
   state_typed (m.Reach range at) n h = refl
   state_typed (m.Effect shared type name c at) n h = refl
@@ -142,8 +139,8 @@ module _ (targets : List (ℕ × Target)) (headings : List Heading) (own : ℕ) 
       let k : ℕ = n + length (share targets headings own one).sites in
       let b : List State = ((shares targets headings own members).behind k).states in
       list_all-append ruled a b
-      ∙ both_true (list_all ruled a) (list_all ruled b)
-      (state_typed one n (nil_front (member targets headings own one) (flat_map (member targets headings own) members) h))
+      ∙ and_from (list_all ruled a) (list_all ruled b)
+      (state_typed one n (none_front (member targets headings own one) (flat_map (member targets headings own) members) h))
       (states_typed members k (nil_back (member targets headings own one) (flat_map (member targets headings own) members) h))
 
   abbrev bool_typed : Expr → Type 0
@@ -168,7 +165,7 @@ module _ (targets : List (ℕ × Target)) (headings : List Heading) (own : ℕ) 
   deaths_typed (one ∷ members) n h =
       let k : ℕ = n + length (share targets headings own one).sites in
       joined ((share targets headings own one).behind n).die ((shares targets headings own members).behind k).die
-      (death_typed one n (nil_front (member targets headings own one) (flat_map (member targets headings own) members) h))
+      (death_typed one n (none_front (member targets headings own one) (flat_map (member targets headings own) members) h))
       (deaths_typed members k (nil_back (member targets headings own one) (flat_map (member targets headings own) members) h))
 
   pub first_typed : (conditions : List Expr) → AllByRecursion bool_typed conditions → is_ruled names ty.Bool (slice_get conditions 0) ≡ true

@@ -3,6 +3,7 @@ use Rattle.std.proofs.Common.{◌≡◌, refl, sym, ap, subst, ◌∙◌, ℕ, B
 use Rattle.std.specs.Prelude.{not, ◌&&◌, ◌||◌, ◌==◌, Option, Some, None, option_map, option_and_then, slice_get, Result, Ok, Err}
 use Rattle.std.specs.Str.{bytes_eq}
 use Rattle.std.proofs.lemmas.Bool.{true≢false}
+use Rattle.brace_num.proofs.Lists.{none_front}
 use Rattle.brace_syntax.specs.declared.tree.Ident.{Ident}
 use Rattle.brace_syntax.specs.declared.tree.ExprTree.{ExprTree}
 use Rattle.brace_names.specs.declared.resolved.Target.{Target}
@@ -32,7 +33,7 @@ use Rattle.brace_check.specs.Types.{type_of, place}
 use Rattle.brace_check.specs.Findings.{assigns, crosses, crosses_to, is_private, is_shared, said_type, wanted, wanted_of_loop, misfits}
 use Rattle.brace_check.specs.Found.{expression as found_in, valued, says}
 use Rattle.brace_check.specs.Meanings.{expression, loop_agent, agent_of}
-use Rattle.brace_check.proofs.CheckedMembers.{nil_front, nil_back}
+use Rattle.brace_check.proofs.CheckedMembers.{nil_back}
 use Rattle.brace_check.proofs.TypeSound.{same-self, not_if, EffectIs, effect_heading, effect_is, own_may, own_is}
 use Rattle.brace_check.proofs.ExprSound.{sound, agent_is, may_from}
 use Rattle.brace_check.proofs.RulesTyped.{fits}
@@ -62,11 +63,11 @@ module _ (name : List ℕ) (t : Ty) (shared : Bool) (at : ℕ) (r : Result Ty �
 module _ (n : scopes.Scope) (c : Scope) (m : Names) (tied : Tied n c m) (x : ExprTree) (fine : AllFine c.targets (names.expression x n)) (k : ℕ) where
   -- a value in which nothing is found
   pub in_value : (want : Option Ty) → valued want x c ≡ [] → TiedIn x n c m
-  in_value want h = expression_tied x n c m tied fine (nil_front (found_in x c) (misfits want (place x) (type_of x c)) h)
+  in_value want h = expression_tied x n c m tied fine (none_front (found_in x c) (misfits want (place x) (type_of x c)) h)
 
   pub has_type : (want : Ty) → valued (Some want) x c ≡ [] → type_in ((expression x c).behind k) m ≡ Some want
   has_type want h =
-      sound x c m tied.agrees (in_value (Some want) h).knows (nil_front (found_in x c) (misfits (Some want) (place x) (type_of x c)) h) want
+      sound x c m tied.agrees (in_value (Some want) h).knows (none_front (found_in x c) (misfits (Some want) (place x) (type_of x c)) h) want
       (fits want (place x) (type_of x c) (nil_back (found_in x c) (misfits (Some want) (place x) (type_of x c)) h)) k
 
   -- a value is said to an effect of the class of an agent
@@ -75,7 +76,7 @@ module _ (n : scopes.Scope) (c : Scope) (m : Names) (tied : Tied n c m) (x : Exp
   said who class i h at named may is clean =
       let e : EffectIs h (effect_named m who i) = effect_is c m tied.agrees who class i h named may is in
       let found : Result Ty ℕ = type_of x c in
-      let none : found_in x c ≡ [] = nil_front (found_in x c) (misfits (said_type h) (place x) found) clean in
+      let none : found_in x c ≡ [] = none_front (found_in x c) (misfits (said_type h) (place x) found) clean in
       let fit : misfits (said_type (effect_heading e.effect)) (place x) found ≡ [] =
       subst (λ (g : EffectHeading). misfits (said_type g) (place x) found ≡ []) (sym e.is) (nil_back (found_in x c) (misfits (said_type h) (place x) found) clean) in
       scope_after-Assign who i ((expression x c).behind k) at m

@@ -2,7 +2,7 @@
 use Rattle.std.proofs.Common.{◌≡◌, refl, sym, ap, subst, ◌∙◌, ℕ, ◌+◌, ◌<◌, ◌≤◌, nat_lt, Bool, true, false, List, [], ◌∷◌, ◌++◌, flat_map, length, length-append, arith, tests, inl, inr}
 use Rattle.std.specs.Prelude.{nat_eq, cond, slice_get, unwrap_or, option_to_list}
 use Rattle.std.specs.List.{AllByRecursion, IsDistinct, list_all}
-use Rattle.std.proofs.lemmas.Bool.{cases_Bool, cases_lt, ne_eqb}
+use Rattle.std.proofs.lemmas.Bool.{cases_Bool, cases_lt, ne_eqb, and_from}
 use Rattle.std.proofs.lemmas.List.{append-nil}
 use Rattle.std.proofs.lemmas.Grind.{flat_map-append}
 use Rattle.brace_syntax.specs.declared.tree.MemberTree.{MemberTree}
@@ -19,7 +19,6 @@ use Rattle.brace_check.specs.Programs.{no_share, share, shared_by, shares, class
 use Rattle.brace_check.proofs.Rising.{Rises, bounds_rise}
 use Rattle.brace_check.proofs.BlockNumbering.{block_sites}
 use Rattle.brace_check.proofs.ShareNumbers.{ruled_sites, ruled-append, asked_sites, born_sites, asking_sites, SharesRise, share_rises}
-use Rattle.brace_check.proofs.CheckedMembers.{both_true}
 
 -- how often a number stands in a place, and in a list
 abbrev here : ℕ → ℕ → ℕ
@@ -284,7 +283,7 @@ below bound [] h = refl
 below bound (x ∷ xs) h =
     let rest : list_all (λ x. nat_lt x bound) xs ≡ true =
     below bound xs (λ y past. let none : times y (x ∷ xs) ≡ 0 = h y past in let less : times y xs ≤ times y (x ∷ xs) = less_behind y x xs in omega (arith, none, less)) in
-    both_true (nat_lt x bound) (list_all (λ x. nat_lt x bound) xs) (elim (cases_lt x bound) [
+    and_from (nat_lt x bound) (list_all (λ x. nat_lt x bound) xs) (elim (cases_lt x bound) [
       | inl under ↦ grind (arith, tests)
       | inr past ↦
           let none : times x (x ∷ xs) ≡ 0 = h x past in

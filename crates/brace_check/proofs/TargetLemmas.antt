@@ -4,13 +4,10 @@ use Rattle.std.specs.Prelude.{Option, Some, None, is_some, nat_eq}
 use Rattle.std.proofs.lemmas.Bool.{false≢true}
 use Rattle.indexmap.specs.IndexMap.{IndexMap, get, insert_entry}
 use Rattle.indexmap.proofs.CallerLemmas.{insert_entry-new}
+use Rattle.brace_num.proofs.Options.{not_some}
 use Rattle.brace_names.specs.declared.resolved.Target.{Target}
 use Rattle.brace_names.specs.declared.resolved.Binding.{Binding}
 use Rattle.brace_check.specs.Scopes.{look, with_binding}
-
-none-absent : {A : Type 0} (o : Option A) → false ≡ is_some o → o ≡ None
-none-absent None absent = refl
-none-absent (Some x) absent = absurd (false≢true absent)
 
 module _ {S : Type 0} (m : IndexMap ℕ Target S) (one : Binding) where
   -- a place where a name stands already keeps it
@@ -23,5 +20,5 @@ module _ {S : Type 0} (m : IndexMap ℕ Target S) (one : Binding) where
   added entries absent inserted =
       let h : is_some (look m.entries one.at) ≡ false = sym absent in
       let new : insert_entry nat_eq m.entries one.at one.target ≡ m.entries ++ (one.at, one.target) ∷ [] =
-      insert_entry-new nat_eq m one.at one.target (none-absent _ absent) in
+      insert_entry-new nat_eq m one.at one.target (not_some _ (sym absent)) in
       rw h (inserted ∙ new)

@@ -4,6 +4,7 @@ use Rattle.std.specs.Prelude.{◌==◌, Option, Some, option_and_then, slice_get
 use Rattle.std.specs.List.{AllByRecursion}
 use Rattle.std.proofs.lemmas.Bool.{cases_Bool, ne_eqb}
 use Rattle.std.proofs.lemmas.Option.{slice_get_within}
+use Rattle.brace_num.proofs.Lists.{each_weaker, each_append, at_seam}
 use Rattle.brace_syntax.specs.declared.tree.Ident.{Ident}
 use Rattle.brace_names.specs.declared.declared.Field.{Field}
 use Rattle.brace_names.specs.declared.declared.Field.TheVariants as field
@@ -64,22 +65,11 @@ pub record Tied (n : names.Scope) (c : Scope) (m : Names) : Type 0 where
   pub known : AllByRecursion (λ k. k.0 < length c.constants) m.known
 
 module _ {A : Type 0} where
-  pub each : (P Q : A → Type 0) → ((x : A) → P x → Q x) → (xs : List A) → AllByRecursion P xs → AllByRecursion Q xs
-  each P Q next [] done = tt
-  each P Q next (x ∷ xs) done = (next x done.0, each P Q next xs done.1)
-
-  pub joined : (P : A → Type 0) (xs ys : List A) → AllByRecursion P xs → AllByRecursion P ys → AllByRecursion P (xs ++ ys)
-  joined P [] ys here there = there
-  joined P (x ∷ xs) ys here there = (here.0, joined P xs ys here.1 there)
 
   pub slice_get-front : (xs ys : List A) (i : ℕ) → i < length xs → slice_get (xs ++ ys) i ≡ slice_get xs i
   slice_get-front [] ys i under = absurd (omega (arith, under))
   slice_get-front (x ∷ xs) ys zero under = refl
   slice_get-front (x ∷ xs) ys (suc i) under = slice_get-front xs ys i (omega (arith, under))
-
-  pub slice_get-seam : (xs : List A) (y : A) (ys : List A) → slice_get (xs ++ y ∷ ys) (length xs) ≡ Some y
-  slice_get-seam [] y ys = refl
-  slice_get-seam (x ∷ xs) y ys = slice_get-seam xs y ys
 
 module _ {A : Type 0} where
   -- a table of names keeps what holds of its entries
@@ -87,7 +77,7 @@ module _ {A : Type 0} where
       → AllByRecursion (λ e. P e.1) (with_name table name x)
   named_too P table name x all this = elim (cases_Bool (has table name)) [
     | inl there ↦ rw there all
-    | inr new ↦ rw new (joined (λ (e : List ℕ × A). P e.1) table ((name, x) ∷ []) all (this, tt))
+    | inr new ↦ rw new (each_append (λ (e : List ℕ × A). P e.1) table ((name, x) ∷ []) all (this, tt))
   ]
 
 -- more constants
@@ -136,9 +126,9 @@ tied_past n c m count types same h = record {
   in_query = h.in_query;
   loops = h.loops;
   constants = ap (λ (k : ℕ). k + count) h.constants ∙ (ap (λ (k : ℕ). length c.constants + k) (sym same) ∙ sym (length-append c.constants types));
-  locals = each (λ (e : List ℕ × Local). LocalIs c.over c.constants m.known e.1) (λ (e : List ℕ × Local). LocalIs c.over (c.constants ++ types) m.known e.1)
+  locals = each_weaker (λ (e : List ℕ × Local). LocalIs c.over c.constants m.known e.1) (λ (e : List ℕ × Local). LocalIs c.over (c.constants ++ types) m.known e.1)
       (λ e is. local_past c.over c.constants types m.known e.1 is) n.locals h.locals;
-  known = each (λ (k : ℕ × Ty). k.0 < length c.constants) (λ (k : ℕ × Ty). k.0 < length (c.constants ++ types))
+  known = each_weaker (λ (k : ℕ × Ty). k.0 < length c.constants) (λ (k : ℕ × Ty). k.0 < length (c.constants ++ types))
       (λ k few. under_more c.over c.constants types m.known k few) m.known h.known;
 }
 
@@ -150,7 +140,7 @@ tied_declared n c m name t h =
     let last : length c.constants < length (c.constants ++ t ∷ []) = omega (arith, size) in
     let self : (length c.constants == length c.constants) ≡ true = grind arith in
     let is : constant_type ((length c.constants, t) ∷ m.known) (length c.constants) ≡ slice_get (c.constants ++ t ∷ []) (length c.constants) =
-    ap (λ (b : Bool). if b then Some t else constant_type m.known (length c.constants)) self ∙ sym (slice_get-seam c.constants t []) in
+    ap (λ (b : Bool). if b then Some t else constant_type m.known (length c.constants)) self ∙ sym (at_seam c.constants t []) in
     record {
       agrees = agrees_past c m (t ∷ []) ((length c.constants, t) ∷ m.known) h.agrees;
       own = h.own;
@@ -160,12 +150,12 @@ tied_declared n c m name t h =
       loops = h.loops;
       constants = ap (λ (k : ℕ). k + 1) h.constants ∙ sym size;
       locals = named_too (LocalIs c.over (c.constants ++ t ∷ []) ((length c.constants, t) ∷ m.known)) n.locals name.text (local.Constant n.constants)
-          (each (λ (e : List ℕ × Local). LocalIs c.over c.constants m.known e.1) (λ (e : List ℕ × Local). LocalIs c.over (c.constants ++ t ∷ []) ((length c.constants, t) ∷ m.known) e.1)
+          (each_weaker (λ (e : List ℕ × Local). LocalIs c.over c.constants m.known e.1) (λ (e : List ℕ × Local). LocalIs c.over (c.constants ++ t ∷ []) ((length c.constants, t) ∷ m.known) e.1)
           (λ e is. local_declared c.over c.constants [] m.known t e.1 is) n.locals h.locals)
           (subst (ConstantIs (c.constants ++ t ∷ []) ((length c.constants, t) ∷ m.known)) (sym h.constants) (record { under = last; is = is }));
       known = (
         last,
-        each (λ (k : ℕ × Ty). k.0 < length c.constants) (λ (k : ℕ × Ty). k.0 < length (c.constants ++ t ∷ []))
+        each_weaker (λ (k : ℕ × Ty). k.0 < length c.constants) (λ (k : ℕ × Ty). k.0 < length (c.constants ++ t ∷ []))
             (λ k few. under_more c.over c.constants (t ∷ []) m.known k few) m.known h.known,
       );
     }
@@ -194,8 +184,8 @@ tied_inside n c m inner class variable number named same agrees h =
       constants = h.constants;
       locals = subst (λ (known : List (ℕ × Ty)). AllByRecursion (λ e. LocalIs over c.constants known e.1) (names.inside class variable n).locals) (sym same)
           (named_too (LocalIs over c.constants m.known) n.locals variable.text (local.Loop n.loops (names.class_number n class.text))
-          (each (λ (e : List ℕ × Local). LocalIs c.over c.constants m.known e.1) (λ (e : List ℕ × Local). LocalIs over c.constants m.known e.1)
+          (each_weaker (λ (e : List ℕ × Local). LocalIs c.over c.constants m.known e.1) (λ (e : List ℕ × Local). LocalIs over c.constants m.known e.1)
           (λ e is. local_inside c.over number c.constants m.known e.1 is) n.locals h.locals)
-          (record { number = number; named = named; is = ap (slice_get over) h.loops ∙ slice_get-seam c.over number [] }));
+          (record { number = number; named = named; is = ap (slice_get over) h.loops ∙ at_seam c.over number [] }));
       known = subst (AllByRecursion (λ (k : ℕ × Ty). k.0 < length c.constants)) (sym same) h.known;
     }

@@ -3,6 +3,7 @@ use Rattle.std.proofs.Common.{◌≡◌, refl, sym, ap, subst, ◌∙◌, ℕ, �
 use Rattle.std.specs.Prelude.{not, ◌||◌, ◌==◌, Option, Some, None, option_map, option_and_then, slice_get, Result, Ok, Err}
 use Rattle.std.specs.List.{AllByRecursion}
 use Rattle.std.proofs.lemmas.Option.{slice_get-map}
+use Rattle.brace_num.proofs.Booleans.{or_true}
 use Rattle.brace_syntax.specs.declared.tree.ExprTree.{ExprTree}
 use Rattle.brace_syntax.specs.declared.tree.ExprTree.TheOpen as layer
 use Rattle.brace_syntax.specs.declared.tree.ExprTree.TheFolds.{fold-ExprTree}
@@ -63,9 +64,6 @@ abbrev pub Knows : Scope → Names → List ℕ → Type 0
 Knows scope names = AllByRecursion (λ n. constant_type names.known n ≡ slice_get scope.constants n)
 
 module _ {A : Type 0} (P : A → Type 0) where
-  pub all_front : (xs ys : List A) → AllByRecursion P (xs ++ ys) → AllByRecursion P xs
-  all_front [] ys h = tt
-  all_front (x ∷ xs) ys h = (h.0, all_front xs ys h.1)
 
   pub all_back : (xs ys : List A) → AllByRecursion P (xs ++ ys) → AllByRecursion P ys
   all_back [] ys h = h
@@ -80,10 +78,6 @@ same-self ty.Bool = refl
 pub sited : (test : Bool) (n : ℕ) → is_sited test (only test n) ≡ true
 sited true n = refl
 sited false n = refl
-
-or-true : (b : Bool) → (b || true) ≡ true
-or-true true = refl
-or-true false = refl
 
 own-own : (n : ℕ) → (n == n) ≡ true
 own-own n = grind arith
@@ -159,7 +153,7 @@ module _ (scope : Scope) (names : Names) (agrees : Agrees scope names) where
 
   -- the class of `this`
   pub own_may : (shared : Bool) → may_name names scope.own shared ≡ true
-  own_may shared = ap (λ (k : ℕ). shared || (scope.own == k)) agrees.own ∙ (ap (λ (b : Bool). shared || b) (own-own scope.own) ∙ or-true shared)
+  own_may shared = ap (λ (k : ℕ). shared || (scope.own == k)) agrees.own ∙ (ap (λ (b : Bool). shared || b) (own-own scope.own) ∙ or_true shared)
 
   pub own_is : class_named names This ≡ Some scope.own
   own_is = ap (λ (k : ℕ). Some k) agrees.own

@@ -3,7 +3,10 @@ use Rattle.std.proofs.Common.{◌≡◌, refl, ◌∙◌, ℕ, suc, ◌+◌, Boo
 use Rattle.std.specs.Prelude.{⊤, IsTrue}
 use Rattle.std.specs.List.{All, AllByRecursion, list_all}
 use Rattle.std.proofs.lemmas.List.Folds.{list_all-append}
+use Rattle.std.proofs.lemmas.Bool.{and_from}
+use Rattle.std.proofs.lemmas.List.Elements.{recursion_from_All}
 use Rattle.brace_num.specs.Names.{is_name}
+use Rattle.brace_num.proofs.Lists.{each_front}
 use Rattle.brace_tok.specs.declared.kinds.Token.{Token}
 use Rattle.brace_tok.specs.Names.{IsNamed}
 use Rattle.brace_tok.specs.Spells.{Spells}
@@ -17,13 +20,7 @@ use Rattle.brace_names.specs.declared.resolved.Target.{Target}
 use Rattle.brace_model.specs.declared.program.State.{State}
 use Rattle.brace_check.specs.declared.heading.Heading.{Heading}
 use Rattle.brace_check.specs.Programs.{share, shares, effect_of}
-use Rattle.brace_check.proofs.CheckedMembers.{both_true}
-use Rattle.brace_check.proofs.TypeSound.{all_front, all_back}
-
-module _ {A : Type 0} (P : A → Type 0) where
-  by_recursion : (xs : List A) → All P xs → AllByRecursion P xs
-  by_recursion [] h = tt
-  by_recursion (x ∷ xs) h = (h 0 x (omega arith), by_recursion xs (λ k d under. h (suc k) d (omega (arith, under))))
+use Rattle.brace_check.proofs.TypeSound.{all_back}
 
 -- a member that is a field has a name
 abbrev pub Worded : MemberTree → Type 0
@@ -60,26 +57,26 @@ module _ (src : List ℕ) where
 
   worded_members : (toks : List Token) (xs : List MemberTree) → ReadsMembers src toks xs → Words toks → AllByRecursion Worded xs
   worded_members _ _ r.none h = tt
-  worded_members _ _ (r.more a b x xs g e) h = (worded_member a x g (all_front (IsNamed src) a b h), worded_members b xs e (all_back (IsNamed src) a b h))
+  worded_members _ _ (r.more a b x xs g e) h = (worded_member a x g (each_front (IsNamed src) a b h), worded_members b xs e (all_back (IsNamed src) a b h))
 
   worded_class : (toks : List Token) (x : ClassTree) → ReadsClass src toks x → Words toks → WordedClass x
   worded_class _ _ (r.class a word name opening closing xs _ is _ _ g) h =
-      record { named = h.1.0 is; members = worded_members a xs g (all_front (IsNamed src) a (closing ∷ []) h.1.1.1) }
+      record { named = h.1.0 is; members = worded_members a xs g (each_front (IsNamed src) a (closing ∷ []) h.1.1.1) }
 
   worded_classes : (toks : List Token) (xs : List ClassTree) → ReadsClasses src toks xs → Words toks → AllByRecursion WordedClass xs
   worded_classes _ _ (r.last a x g) h = (worded_class a x g h, tt)
-  worded_classes _ _ (r.more a b x xs g e) h = (worded_class a x g (all_front (IsNamed src) a b h), worded_classes b xs e (all_back (IsNamed src) a b h))
+  worded_classes _ _ (r.more a b x xs g e) h = (worded_class a x g (each_front (IsNamed src) a b h), worded_classes b xs e (all_back (IsNamed src) a b h))
 
   -- the classes of a script that is read from a source
   pub script_worded : (toks : List Token) (xs : List ClassTree) → Spells src toks → ReadsClasses src toks xs → AllByRecursion WordedClass xs
-  script_worded toks xs spelled read = worded_classes toks xs read (by_recursion (IsNamed src) toks (spells_names src toks spelled))
+  script_worded toks xs spelled read = worded_classes toks xs read (recursion_from_All (IsNamed src) toks (spells_names src toks spelled))
 
 -- the names of the fields in the program
 module _ (targets : List (ℕ × Target)) (headings : List Heading) (own : ℕ) where
   states_named : (members : List MemberTree) (n : ℕ) → AllByRecursion Worded members → list_all is_name (map (λ (s : State). s.name) ((shares targets headings own members).behind n).states) ≡ true
   states_named [] n h = refl
   states_named (m.State shared type name x at ∷ members) n h =
-      both_true (is_name name.text) (list_all is_name (map (λ (s : State). s.name) ((shares targets headings own members).behind _).states)) h.0
+      and_from (is_name name.text) (list_all is_name (map (λ (s : State). s.name) ((shares targets headings own members).behind _).states)) h.0
       (states_named members (n + length (share targets headings own (m.State shared type name x at)).sites) h.1)
   states_named (m.Effect shared type name c at ∷ members) n h = states_named members (n + 0) h.1
   states_named (m.Visible range at ∷ members) n h = states_named members (n + 0) h.1
@@ -91,7 +88,7 @@ module _ (targets : List (ℕ × Target)) (headings : List Heading) (own : ℕ) 
   effects_named : (members : List MemberTree) → AllByRecursion Worded members → list_all is_name (map (λ e. e.name) (flat_map effect_of members)) ≡ true
   effects_named [] h = refl
   effects_named (m.Effect shared type name c at ∷ members) h =
-      both_true (is_name name.text) (list_all is_name (map (λ e. e.name) (flat_map effect_of members))) h.0 (effects_named members h.1)
+      and_from (is_name name.text) (list_all is_name (map (λ e. e.name) (flat_map effect_of members))) h.0 (effects_named members h.1)
   effects_named (m.State shared type name x at ∷ members) h = effects_named members h.1
   effects_named (m.Visible range at ∷ members) h = effects_named members h.1
   effects_named (m.Reach range at ∷ members) h = effects_named members h.1
@@ -104,4 +101,4 @@ module _ (targets : List (ℕ × Target)) (headings : List Heading) (own : ℕ) 
   fields_named members n h =
       let states : List (List ℕ) = map (λ (s : State). s.name) ((shares targets headings own members).behind n).states in
       let effects : List (List ℕ) = map (λ e. e.name) (flat_map effect_of members) in
-      list_all-append is_name states effects ∙ both_true (list_all is_name states) (list_all is_name effects) (states_named members n h) (effects_named members h)
+      list_all-append is_name states effects ∙ and_from (list_all is_name states) (list_all is_name effects) (states_named members n h) (effects_named members h)

@@ -17,7 +17,6 @@ use Rattle.brace_lanes.specs.Views.{Serves}
 use Rattle.brace_pieces.specs.declared.setting.Setting.{Setting}
 use Rattle.brace_pieces.specs.Steps.{schedule}
 use Rattle.brace_pieces.specs.Courses.{past_of}
-use Rattle.brace_pieces.proofs.Origins.{kept_of}
 use Rattle.brace_crew.specs.declared.bench.Went.{Went}
 use Rattle.brace_crew.specs.declared.bench.Went.TheVariants as went
 use Rattle.brace_crew.specs.declared.member.Member.{Member}
@@ -27,6 +26,7 @@ use Rattle.brace_crew.specs.inner.Driven.{IsCounted, AreCounted, IsLater, IsSame
 use Rattle.brace_crew.proofs.FirstFault.{row_place}
 use Rattle.brace_crew.proofs.RunMembers.{of_all_map}
 use Rattle.brace_crew.proofs.CountedMembers.{all_put, all_taken, counted_still}
+use Rattle.brace_num.proofs.Lists.{in_filter}
 
 -- ---- numbers that a test keeps of a row rise
 
@@ -143,7 +143,7 @@ module _ {P : Type 0} where
 
       at : (a : ℕ) → a < v.actors → Serves v a → AllUsed v a
       at a low serves =
-          let has : Contains (served_by v) a = kept_of (λ b. b % v.seats == v.number) (range_with_len 0 v.actors) a (row_place 0 v.actors a (omega arith) (omega (arith, low))) (eq-eqb (a % v.seats) v.number serves) in
+          let has : Contains (served_by v) a = in_filter (λ b. b % v.seats == v.number) (range_with_len 0 v.actors) a (row_place 0 v.actors a (omega arith) (omega (arith, low))) (eq-eqb (a % v.seats) v.number serves) in
           All-contains (AllUsed v) (served_by v) a (subst (All (AllUsed v)) are.numbers (All-map (AllUsed v) number_of ms each)) has
 
   -- ---- a later time

@@ -6,17 +6,19 @@ use Rattle.std.specs.List.{list_all}
 use Rattle.std.proofs.lemmas.Int.{ints}
 use Rattle.std.proofs.lemmas.List.Sums.{count_by-le-length}
 use Rattle.std.proofs.lemmas.Nat.{div-add-mod', div-mul-add, mod-mul-add, div_below, mod_below}
+use Rattle.std.proofs.lemmas.Bool.{and_parts}
 use Rattle.brace_num.specs.declared.kinds.Area.{Area}
 use Rattle.brace_num.specs.Areas.{outside, gap_to}
+use Rattle.brace_num.proofs.Numbers.{le_holds, le_told}
 use Rattle.brace_cuts.specs.declared.space.Cuts.{Cuts}
 use Rattle.brace_cuts.specs.Space.{least, behind_all, rises, strip, low_end, high_end, columns_of, parts_of, area_of, owner_of, can_cut}
-use Rattle.brace_cuts.proofs.Strips.{both_hold, own_low, own_high, only_strip}
+use Rattle.brace_cuts.proofs.Strips.{own_low, own_high, only_strip}
 
 -- a cut, as an order
 pub cut_is_above : (cuts : List ℤ) (i : ℕ) (d : ℤ) → list_all can_cut cuts ≡ true → i < length cuts → int_lt least (get_or cuts i d) ≡ true
 cut_is_above [] i d all below = absurd (omega (arith, below))
-cut_is_above (c ∷ cuts) zero d all below = (both_hold (can_cut c) (list_all can_cut cuts) all).0
-cut_is_above (c ∷ cuts) (suc i) d all below = cut_is_above cuts i d (both_hold (can_cut c) (list_all can_cut cuts) all).1 (omega (arith, below))
+cut_is_above (c ∷ cuts) zero d all below = (and_parts (can_cut c) (list_all can_cut cuts) all).0
+cut_is_above (c ∷ cuts) (suc i) d all below = cut_is_above cuts i d (and_parts (can_cut c) (list_all can_cut cuts) all).1 (omega (arith, below))
 
 -- a number of 64 bits is between the ends of all
 above_least : (v : ℤ) → FitsSigned w64 v → int_le least v ≡ true
@@ -31,20 +33,14 @@ high_of c v h = grind (arith, ints, h)
 of_high : (c v : ℤ) → int_le c v ≡ false → v ≤ℤ (c -ℤ pos 1)
 of_high c v e = grind (arith, ints, e)
 
-low_of : (c v : ℤ) → c ≤ℤ v → int_le c v ≡ true
-low_of c v h = grind (arith, ints, h)
-
-of_low : (c v : ℤ) → int_le c v ≡ true → c ≤ℤ v
-of_low c v e = grind (arith, ints, e)
-
 -- a number is between the ends of its strip
 strip_holds : (cuts : List ℤ) (v : ℤ) → rises cuts ≡ true → FitsSigned w64 v → (low_end cuts (strip cuts v) ≤ℤ v) × (v ≤ℤ high_end cuts (strip cuts v))
 strip_holds cuts v r f =
-    (of_low _ v (own_low least v least cuts r (above_least v f)), of_high _ v (own_high v behind_all cuts r (below_all v f)))
+    (le_told _ v (own_low least v least cuts r (above_least v f)), of_high _ v (own_high v behind_all cuts r (below_all v f)))
 
 -- and of no other one
 strip_only : (cuts : List ℤ) (v : ℤ) (i : ℕ) → rises cuts ≡ true → i ≤ length cuts → low_end cuts i ≤ℤ v → v ≤ℤ high_end cuts i → i ≡ strip cuts v
-strip_only cuts v i r within above below = only_strip least v behind_all least cuts i r within (low_of _ v above) (high_of _ v below)
+strip_only cuts v i r within above below = only_strip least v behind_all least cuts i r within (le_holds _ v above) (high_of _ v below)
 
 max_zero : (a b : ℤ) → int_max (pos 0) (int_max a b) ≤ℤ pos 0 → (a ≤ℤ pos 0) × (b ≤ℤ pos 0)
 max_zero a b h = (grind (arith, h), grind (arith, h))
@@ -107,7 +103,3 @@ owner_holds cuts x y rx ry fx fy p e =
 pub owner_only : (cuts : Cuts) (x y : ℤ) → rises cuts.xs ≡ true → rises cuts.ys ≡ true → FitsSigned w64 x → FitsSigned w64 y → (p : ℕ) → p < parts_of cuts
     → (gap_to (area_of cuts p) x y ≡ pos 0 → p ≡ owner_of cuts x y) × (p ≡ owner_of cuts x y → gap_to (area_of cuts p) x y ≡ pos 0)
 owner_only cuts x y rx ry fx fy p below = (only_owner cuts x y rx ry p below, owner_holds cuts x y rx ry fx fy p)
-
--- the greater of two distances
-pub greater : (m n : ℕ) (a b : ℤ) → pos m ≡ a → pos n ≡ b → pos (max m n) ≡ int_max a b
-greater m n a b e f = grind (arith, e, f)

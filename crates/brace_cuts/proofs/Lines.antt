@@ -6,6 +6,7 @@ use Rattle.std.specs.Str.{bytes_eq}
 use Rattle.std.proofs.lemmas.List.{take_more, map-append, length-map, take-append-drop, take_all, take-map, drop-map, length-drop}
 use Rattle.std.proofs.lemmas.List.Folds.{list_all-append}
 use Rattle.std.proofs.lemmas.List.Elements.{filter_map-append}
+use Rattle.std.proofs.lemmas.Bool.{and_from, and_right}
 use Rattle.brace_cuts.specs.CutPlans.{tick_of, cut_of, cuts_of, line_with, line_around}
 
 prefix_len-map : {X Y : Type 0} (p : Y → Bool) (f : X → Y) (xs : List X) → prefix_len p (map f xs) ≡ prefix_len (λ x. p (f x)) xs
@@ -27,13 +28,6 @@ read_none f texts = record { so_far = refl; all_there = refl }
 front_more : {X : Type 0} (f : X → List ℕ) (texts : List X) (i : ℕ) (d : X) → i < length texts → map f (take (i + 1) texts) ≡ map f (take i texts) ++ f (get_or texts i d) ∷ []
 front_more f texts i d below = ap (map f) (take_more texts i d below) ∙ map-append f (take i texts) (get_or texts i d ∷ [])
 
-both_true : (p q : Bool) → p ≡ true → q ≡ true → (p && q) ≡ true
-both_true p q e f = grind (arith, e, f)
-
-second_false : (p q : Bool) → q ≡ false → (p && q) ≡ false
-second_false true q e = e
-second_false false q e = refl
-
 -- the next text spells a cut
 pub read_more : {X : Type 0} (f : X → List ℕ) (texts : List X) (cuts : List ℤ) (i : ℕ) (d : X) (c : ℤ) → i < length texts → Some c ≡ cut_of (f (get_or texts i d))
     → ReadSoFar f texts cuts i → ReadSoFar f texts (cuts ++ c ∷ []) (i + 1)
@@ -48,7 +42,7 @@ read_more f texts cuts i d c below some r =
           ∙ ap (filter_map cut_of) (sym front);
       all_there =
           ap (list_all p) front ∙ list_all-append p (map f (take i texts)) (f x ∷ [])
-          ∙ both_true (list_all p (map f (take i texts))) (list_all p (f x ∷ [])) r.all_there (ap (λ o. is_some o && true) (sym some));
+          ∙ and_from (list_all p (map f (take i texts))) (list_all p (f x ∷ [])) r.all_there (ap (λ o. is_some o && true) (sym some));
     }
 
 -- all texts are read
@@ -66,7 +60,7 @@ read_bad f texts i d below none =
     let p : List ℕ → Bool = λ text. is_some (cut_of text) in
     let front : list_all p (map f (take (i + 1) texts)) ≡ false =
     ap (list_all p) (front_more f texts i d below) ∙ list_all-append p (map f (take i texts)) (f x ∷ [])
-    ∙ second_false (list_all p (map f (take i texts))) (list_all p (f x ∷ [])) (ap (λ o. is_some o && true) (sym none)) in
+    ∙ and_right (list_all p (map f (take i texts))) (list_all p (f x ∷ [])) (ap (λ o. is_some o && true) (sym none)) in
     let parts : map f texts ≡ map f (take (i + 1) texts) ++ map f (drop (i + 1) texts) =
     ap (map f) (sym (take-append-drop (i + 1) texts)) ∙ map-append f (take (i + 1) texts) (drop (i + 1) texts) in
     let isnt : list_all p (map f texts) ≡ false =

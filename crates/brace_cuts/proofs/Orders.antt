@@ -5,6 +5,7 @@ use Rattle.std.specs.List.{last_or}
 use Rattle.std.specs.List.Sorted.{IsStrictlyIncreasing, IsPartitionedBy}
 use Rattle.std.proofs.lemmas.Bool.Decides.{nat_tests}
 use Rattle.std.proofs.lemmas.List.{length-map, get_or-map, length-take-le, get_or-take}
+use Rattle.std.proofs.lemmas.Option.{same_Some}
 use Rattle.brace_cuts.specs.declared.plan.CutLine.{CutLine}
 use Rattle.brace_cuts.specs.declared.plan.CutPlan.{CutPlan}
 use Rattle.brace_cuts.specs.Space.{cuts_at, no_cuts}
@@ -54,9 +55,6 @@ le_test a b t le e = grind (arith, nat_tests)
 pub lines_are_parted : (lines : List CutLine) (tick : ℕ) → IsStrictlyIncreasing (ticks_of lines) → IsPartitionedBy (λ line. nat_le line.tick tick) lines
 lines_are_parted lines tick up i j d le below is = le_test _ _ tick (lines_rise lines i j d up le below) is
 
-some_is : (a b : ℕ) → Some a ≡ Some b → a ≡ b
-some_is a b e = cc
-
 zero_le : (t : ℕ) → nat_le 0 t ≡ true
 zero_le t = grind (arith, nat_tests)
 
@@ -64,7 +62,7 @@ zero_le t = grind (arith, nat_tests)
 pub first_is_not_later : (lines : List CutLine) (tick : ℕ) (d : CutLine) → IsInOrder lines → (0 < length lines) × (nat_le (get_or lines 0 d).tick tick ≡ true)
 first_is_not_later [] tick d order = absurd (cc (order.begins))
 first_is_not_later (line ∷ lines) tick d order =
-    let first : line.tick ≡ 0 = some_is line.tick 0 order.begins in
+    let first : line.tick ≡ 0 = same_Some line.tick 0 order.begins in
     (omega arith, ap (λ n. nat_le n tick) first ∙ zero_le tick)
 
 -- so some line is not later

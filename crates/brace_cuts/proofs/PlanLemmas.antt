@@ -5,7 +5,7 @@ use Rattle.std.specs.List.{list_all, last_or, cons_option}
 use Rattle.std.specs.List.Sorted.{IsStrictlyIncreasing}
 use Rattle.std.specs.Str.{bytes_eq}
 use Rattle.std.proofs.Math.Seq.{get_or-append_seam}
-use Rattle.std.proofs.lemmas.Bool.{cases_lt}
+use Rattle.std.proofs.lemmas.Bool.{cases_lt, and_parts}
 use Rattle.std.proofs.lemmas.Bool.Decides.{nat_tests}
 use Rattle.std.proofs.lemmas.List.{length-map, get_or-map, map-append, get_or_append_left}
 use Rattle.std.proofs.Common.{length-append}
@@ -14,7 +14,6 @@ use Rattle.brace_cuts.specs.declared.plan.CutLine.{CutLine}
 use Rattle.brace_cuts.specs.declared.kinds.PlanKind.TheVariants.{NotRising, OffEpoch, OtherCount, TooMany}
 use Rattle.brace_cuts.specs.Space.{rises, can_cut, parts_of}
 use Rattle.brace_cuts.specs.CutPlans.{tick_in_range, cut_in_range, cut_of, cuts_of, parts_in, line_with, line_around, line_in, line_of, is_later, is_rising, are_alike, fault_of, ticks_of, IsPlanLine, IsPlan}
-use Rattle.brace_cuts.proofs.Strips.{both_hold}
 use Rattle.brace_cuts.proofs.Orders.{last_is}
 
 -- what a line of the form is made of
@@ -124,8 +123,8 @@ lt_of m n e = grind (arith, nat_tests)
 
 new_line : (epoch : ℕ) (earlier : List CutLine) (first line : CutLine) → Formed line → Judged epoch earlier line → unwrap_or (slice_get earlier 0) line ≡ first → IsPlanLine epoch first line
 new_line epoch earlier first line f j e =
-    let (both, later) = both_hold (rises line.cuts.xs && rises line.cuts.ys) (is_later (last_or None earlier) line.tick) j.rising in
-    let (xs, ys) = both_hold (rises line.cuts.xs) (rises line.cuts.ys) both in
+    let (both, later) = and_parts (rises line.cuts.xs && rises line.cuts.ys) (is_later (last_or None earlier) line.tick) j.rising in
+    let (xs, ys) = and_parts (rises line.cuts.xs) (rises line.cuts.ys) both in
     record {
       tick_ends_an_epoch = is_zero (line.tick % epoch) j.on_epoch;
       tick_is_low = f.low;
@@ -203,7 +202,7 @@ pub more_so_far : (epoch : ℕ) (earlier : List CutLine) (line : CutLine) (text 
 more_so_far epoch earlier line text form none p =
     let f = formed_in (parts_in text) line form in
     let j = judged epoch earlier line none in
-    let (both, later) = both_hold (rises line.cuts.xs && rises line.cuts.ys) (is_later (last_or None earlier) line.tick) j.rising in
+    let (both, later) = and_parts (rises line.cuts.xs && rises line.cuts.ys) (is_later (last_or None earlier) line.tick) j.rising in
     record {
       begins = λ h. first_tick earlier line later p.begins;
       goes_on = subst IsStrictlyIncreasing (sym (map-append (λ (l : CutLine). l.tick) earlier (line ∷ []))) (later_tick (ticks_of earlier) line.tick p.goes_on (last_below earlier line.tick later));

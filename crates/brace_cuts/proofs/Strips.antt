@@ -6,12 +6,9 @@ use Rattle.std.specs.List.Sorted.{IsPartitionedBy}
 use Rattle.std.proofs.lemmas.List.{length-take-le}
 use Rattle.std.proofs.lemmas.List.Sums.{length-filter, sum_by-cons}
 use Rattle.std.proofs.lemmas.Int.{ints}
-use Rattle.std.proofs.lemmas.Bool.{cases_Bool}
+use Rattle.std.proofs.lemmas.Bool.{cases_Bool, and_parts}
+use Rattle.brace_num.proofs.Numbers.{le_told, le_holds, le_through}
 use Rattle.brace_cuts.specs.Space.{rises, strip}
-
-pub both_hold : (p q : Bool) → (p && q) ≡ true → (p ≡ true) × (q ≡ true)
-both_hold true q e = (refl, e)
-both_hold false q e = absurd (cc)
 
 lt_then_not : (c d v : ℤ) → int_lt c d ≡ true → int_le c v ≡ false → int_le d v ≡ false
 lt_then_not c d v up isnt = grind (arith, ints, up, isnt)
@@ -29,25 +26,16 @@ strip_skip c v cuts isnt = sum_by-cons (λ z. cond (int_le z v) 1 0) c cuts ∙ 
 strip_no : (c v : ℤ) (cuts : List ℤ) → rises (c ∷ cuts) ≡ true → int_le c v ≡ false → strip (c ∷ cuts) v ≡ 0
 strip_no c v [] r isnt = strip_skip c v [] isnt
 strip_no c v (d ∷ cuts) r isnt =
-    let (up, rest) = both_hold (int_lt c d) (rises (d ∷ cuts)) r in
+    let (up, rest) = and_parts (int_lt c d) (rises (d ∷ cuts)) r in
     strip_skip c v (d ∷ cuts) isnt ∙ strip_no d v cuts rest (lt_then_not c d v up isnt)
 
 -- cuts but for the first rise
 tail_rises : (c : ℤ) (cuts : List ℤ) → rises (c ∷ cuts) ≡ true → rises cuts ≡ true
 tail_rises c [] r = refl
-tail_rises c (d ∷ cuts) r = (both_hold (int_lt c d) (rises (d ∷ cuts)) r).1
-
-le_of : (c v : ℤ) → int_le c v ≡ true → c ≤ℤ v
-le_of c v e = grind (arith, ints, e)
-
-of_le : (c v : ℤ) → c ≤ℤ v → int_le c v ≡ true
-of_le c v h = grind (arith, ints, h)
+tail_rises c (d ∷ cuts) r = (and_parts (int_lt c d) (rises (d ∷ cuts)) r).1
 
 lt_of : (c v : ℤ) → int_lt c v ≡ true → c ≤ℤ v
 lt_of c v e = grind (arith, ints, e)
-
-le_trans : (a b c : ℤ) → a ≤ℤ b → b ≤ℤ c → a ≤ℤ c
-le_trans a b c h g = grind (arith, ints, h, g)
 
 -- a number is not below the low end of its strip
 pub own_low : (low v d : ℤ) (cuts : List ℤ) → rises cuts ≡ true → int_le low v ≡ true → int_le (get_or (low ∷ cuts) (strip cuts v) d) v ≡ true
@@ -72,8 +60,8 @@ first_least : (c d : ℤ) (cuts : List ℤ) (k : ℕ) → rises (c ∷ cuts) ≡
 first_least c d cuts zero r low = grind (arith, ints)
 first_least c d [] (suc k) r low = absurd (omega (arith, low))
 first_least c d (b ∷ cuts) (suc k) r low =
-    let (up, rest) = both_hold (int_lt c b) (rises (b ∷ cuts)) r in
-    le_trans c b _ (lt_of c b up) (first_least b d cuts k rest (omega (arith, low)))
+    let (up, rest) = and_parts (int_lt c b) (rises (b ∷ cuts)) r in
+    le_through c b _ (lt_of c b up) (first_least b d cuts k rest (omega (arith, low)))
 
 -- no other strip has the number between its ends
 pub only_strip : (low v high d : ℤ) (cuts : List ℤ) (i : ℕ) → rises cuts ≡ true → i ≤ length cuts
@@ -83,7 +71,7 @@ only_strip low v high d [] (suc i) r within above below = absurd (omega (arith, 
 only_strip low v high d (c ∷ cuts) zero r within above below = sym (strip_no c v cuts r below)
 only_strip low v high d (c ∷ cuts) (suc i) r within above below =
     let short : i ≤ length cuts = omega (arith, within) in
-    let is = of_le c v (le_trans c _ v (first_least c d cuts i r short) (le_of _ v above)) in
+    let is = le_holds c v (le_through c _ v (first_least c d cuts i r short) (le_told _ v above)) in
     ap suc (only_strip c v high d cuts i (tail_rises c cuts r) short above below) ∙ sym (strip_yes c v cuts is)
 
 -- rising cuts, in order
@@ -95,7 +83,7 @@ in_order d (c ∷ cuts) (suc i) (suc j) r up below = in_order d cuts i j (tail_r
 
 -- the cuts that a number is not below come first
 pub cuts_are_parted : (v : ℤ) (cuts : List ℤ) → rises cuts ≡ true → IsPartitionedBy (λ c. int_le c v) cuts
-cuts_are_parted v cuts r i j d up below is = of_le _ v (le_trans _ _ v (in_order d cuts i j r up below) (le_of _ v is))
+cuts_are_parted v cuts r i j d up below is = le_holds _ v (le_through _ _ v (in_order d cuts i j r up below) (le_told _ v is))
 
 -- what passes a test before a place and not behind it is what stands before that place
 pub filter_is_front : {X : Type 0} (p : X → Bool) (xs : List X) (i : ℕ) → i ≤ length xs

@@ -12,6 +12,8 @@ use Rattle.brace_model.specs.Sites.{rule_sites, die_sites, spawn_sites, all_site
 use Rattle.brace_model.specs.Lawful.{is_distance, rule_scope, is_ruled, is_spawn, given_states, LawfulClass, LawfulProgram}
 use Rattle.brace_model.proofs.LawEquations.{type_of-Lit, type_of-Field, type_of-Binary, sites_of-Lit, sites_of-Field, sites_of-Binary}
 use Rattle.brace_eval.specs.inner.Worked.{states, class, script, mortal, dividing, walking, bearing, passing}
+use Rattle.brace_num.proofs.Orders.{none_rise}
+use Rattle.brace_num.proofs.Orders.{one_rises}
 
 -- what rules, deaths and births owe
 record Owed (reach : ℤ) (move tick die : Option Expr) (spawn : Option Spawn) : Type 0 where
@@ -23,12 +25,6 @@ record Owed (reach : ℤ) (move tick die : Option Expr) (spawn : Option Spawn) :
   pub rules_rise : IsStrictlyIncreasing (rule_sites (class reach (states move tick) die spawn))
   pub die_rises : IsStrictlyIncreasing (die_sites (class reach (states move tick) die spawn))
   pub spawn_rises : IsStrictlyIncreasing (spawn_sites (class reach (states move tick) die spawn))
-
-none_rise : IsStrictlyIncreasing []
-none_rise k below = absurd (omega arith)
-
-one_rises : (n : ℕ) → IsStrictlyIncreasing (n ∷ [])
-one_rises n k below = absurd (omega arith)
 
 two_rise : IsStrictlyIncreasing (1 ∷ 2 ∷ [])
 two_rise zero below = omega arith

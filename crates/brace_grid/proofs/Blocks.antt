@@ -5,12 +5,13 @@ use Rattle.std.specs.List.{count_by}
 use Rattle.std.proofs.lemmas.Int.{ints}
 use Rattle.std.proofs.lemmas.List.Sums.{sum_by-le-sum_by}
 use Rattle.std.proofs.Math.Nat.{add-mul, mul-le-mul_right}
+use Rattle.std.proofs.lemmas.Bool.{and_right}
 use Rattle.brace_num.specs.declared.kinds.Area.{Area}
 use Rattle.brace_grid.specs.declared.cells.Spot.{Spot}
 use Rattle.brace_grid.specs.declared.search.Block.{Block}
 use Rattle.brace_grid.specs.Grids.{is_between}
 use Rattle.brace_grid.specs.inner.Search.{is_spot_inside, is_in_rows, is_in_block, is_chosen}
-use Rattle.brace_grid.proofs.Counts.{count_two, count_same, count_none, both_false}
+use Rattle.brace_grid.proofs.Counts.{count_two, count_same, count_none}
 
 -- the columns of a block before a column
 abbrev pub until : Block → ℤ → Block
@@ -51,7 +52,7 @@ at_end west east column t e (inr h) n = omega (arith, ints, e, h)
 module _ (block : Block) (spots : List Spot) where
   pub block_none : (column : ℤ) → column ≡ block.west → (m : Spot → Bool) → count_by (λ s. m s && is_in_block (until block column) s) spots ≡ 0
   block_none column e m = subst (λ z. count_by (λ s. m s && is_in_block (until block z) s) spots ≡ 0) (sym e)
-      (count_none _ spots (λ j d h. both_false (m _) _ (none_yet block.west _ _)))
+      (count_none _ spots (λ j d h. and_right (m _) _ (none_yet block.west _ _)))
 
   pub block_more : (column : ℤ) → block.west ≤ℤ column → (m : Spot → Bool)
       → count_by (λ s. m s && is_in_block (until block (column +ℤ pos 1)) s) spots

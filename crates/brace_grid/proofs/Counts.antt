@@ -2,6 +2,7 @@
 use Rattle.std.proofs.Common.{◌≡◌, ◌∙◌, ℕ, zero, suc, ◌+◌, ◌-◌, ◌<◌, ◌≤◌, Bool, true, false, cond, ◌&&◌, List, [], ◌∷◌, length, map, get_or, take, drop, refl, sym, ap, ap₂, arith}
 use Rattle.std.specs.List.{count_by, filter}
 use Rattle.std.proofs.lemmas.List.Sums.{sum_by-cons}
+use Rattle.std.proofs.lemmas.Bool.{and_right}
 
 pub count-cons : {X : Type 0} (p : X → Bool) (x : X) (xs : List X) → count_by p (x ∷ xs) ≡ cond (p x) 1 0 + count_by p xs
 count-cons p x xs = sum_by-cons (λ x. cond (p x) 1 0) x xs
@@ -36,10 +37,6 @@ take_none : {X : Type 0} (q : X → Bool) (n : ℕ) → count_by q (take n []) �
 take_none q zero = refl
 take_none q (suc n) = refl
 
-pub both_false : (p q : Bool) → q ≡ false → (p && q) ≡ false
-both_false true q e = e
-both_false false q e = refl
-
 -- a test holds of a list at the places from a on and before b alone
 pub record HoldsBetween {X : Type 0} (t : X → Bool) (xs : List X) (a b : ℕ) : Type 0 where
   pub below : (j : ℕ) (d : X) → j < length xs → j < a → t (get_or xs j d) ≡ false
@@ -60,7 +57,7 @@ count_part q t [] (suc a) b h = take_none q (b - suc a)
 count_part q t (x ∷ xs) a zero h =
     let n : 0 - a ≡ 0 = omega arith in
     ap (λ k. count_by q (take k (drop a (x ∷ xs)))) n
-    ∙ sym (count_none (λ x. q x && t x) (x ∷ xs) (λ j d small. both_false (q (get_or (x ∷ xs) j d)) _ (h.behind j d small (omega arith))))
+    ∙ sym (count_none (λ x. q x && t x) (x ∷ xs) (λ j d small. and_right (q (get_or (x ∷ xs) j d)) _ (h.behind j d small (omega arith))))
 count_part q t (x ∷ xs) zero (suc b) h =
     let n : suc b - 0 ≡ suc b = omega arith in
     let m : (suc b - 1) - (0 - 1) ≡ b = omega arith in
@@ -77,7 +74,7 @@ count_part q t (x ∷ xs) zero (suc b) h =
 count_part q t (x ∷ xs) (suc a) (suc b) h =
     let n : suc b - suc a ≡ (suc b - 1) - (suc a - 1) = omega arith in
     let z : suc a - 1 ≡ a = omega arith in
-    let off : (q x && t x) ≡ false = both_false (q x) (t x) (h.below 0 x (omega arith) (omega arith)) in
+    let off : (q x && t x) ≡ false = and_right (q x) (t x) (h.below 0 x (omega arith) (omega arith)) in
     ap₂ (λ k a. count_by q (take k (drop a xs))) n (sym z) ∙ count_part q t xs (suc a - 1) (suc b - 1) (holds_behind t x xs (suc a) (suc b) h)
     ∙ (sym (count-cons (λ x. q x && t x) x xs ∙ ap (λ c. cond c 1 0 + count_by (λ x. q x && t x) xs) off ∙ omega arith))
 

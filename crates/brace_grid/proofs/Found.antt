@@ -10,6 +10,7 @@ use Rattle.std.proofs.lemmas.List.FromFn.{fill_by_all}
 use Rattle.std.proofs.lemmas.List.Sorted.{sum_by-IsPermutation, list_any-IsPermutation}
 use Rattle.std.proofs.lemmas.Map.Keys.{IsDistinct-from_apart}
 use Rattle.std.proofs.lemmas.Map.Made.{length-from_keys}
+use Rattle.std.proofs.lemmas.Bool.{and_parts, and_from}
 use Rattle.brace_num.specs.declared.kinds.Area.{Area}
 use Rattle.brace_grid.specs.declared.cells.Spot.{Spot}
 use Rattle.brace_grid.specs.declared.cells.Cell.{Cell}
@@ -41,18 +42,11 @@ number_between side some low high v h =
     of_ends : (low high v : ℤ) → low ≤ℤ v → v ≤ℤ high → is_between low high v ≡ true
     of_ends low high v h g = grind (arith, ints, h, g)
 
-first_both : (a b : Bool) → (a && b) ≡ true → (a ≡ true) × (b ≡ true)
-first_both true b h = (refl, h)
-first_both false b h = absurd (cc)
-
-both_true : (a b : Bool) → a ≡ true → b ≡ true → (a && b) ≡ true
-both_true a b h g = ap₂ (λ x y. x && y) h g
-
 -- an area touches the cells of the points in it
 touched_inside : (side : ℤ) → pos 1 ≤ℤ side → (area : Area) (p : Point) → is_inside area p ≡ true → is_touched side area p ≡ true
 touched_inside side some area p h =
-    let (x, y) = first_both (is_between area.x0 area.x1 p.x) (is_between area.y0 area.y1 p.y) h in
-    both_true _ _ (number_between side some area.x0 area.x1 p.x x) (number_between side some area.y0 area.y1 p.y y)
+    let (x, y) = and_parts (is_between area.x0 area.x1 p.x) (is_between area.y0 area.y1 p.y) h in
+    and_from _ _ (number_between side some area.x0 area.x1 p.x x) (number_between side some area.y0 area.y1 p.y y)
 
 absorbs : (a q t : Bool) → (a ≡ true → t ≡ true) → ((a && q) && t) ≡ (a && q)
 absorbs true true t h = h refl

@@ -15,6 +15,7 @@ use Rattle.brace_model.specs.Lawful.{is_distance, combines, query_scope, LawfulC
 use Rattle.brace_model.proofs.LawEquations.{type_of-Lit, type_of-Field, type_of-Local, type_of-Binary, scope_after-Const, scope_after-If, scope_after-Foreach, scope_after-Assign, sites_of-Lit, sites_of-Field, sites_of-Local, sites_of-Binary, sites_in-Const, sites_in-If, sites_in-Foreach, sites_in-Assign, constant_numbers-Const, constant_numbers-If, constant_numbers-Foreach, constant_numbers-Assign, loop_offsets-Const, loop_offsets-If, loop_offsets-Foreach, loop_offsets-Assign, assignments-Const, assignments-If, assignments-Foreach, assignments-Assign}
 use Rattle.brace_model.proofs.ValueEquations.{constants-Const, constants-If, constants-Foreach, constants-Assign}
 use Rattle.brace_invert.specs.inner.Worked.{class, script, neighbours, pairs, constants_in_loops}
+use Rattle.brace_num.proofs.Orders.{none_rise}
 
 -- what a query without sites owes
 record Owed (visible : ℤ) (how : Comb) (query : List Stmt) : Type 0 where
@@ -24,9 +25,6 @@ record Owed (visible : ℤ) (how : Comb) (query : List Stmt) : Type 0 where
   pub in_range : IsTrue (list_all (λ n. nat_lt n (sum (map constants query))) (flat_map constant_numbers query))
   pub differ : IsDistinct nat_eq (flat_map constant_numbers query)
   pub siteless : flat_map sites_in query ≡ []
-
-none_rise : IsStrictlyIncreasing []
-none_rise k below = absurd (omega arith)
 
 only_class : (p : Program) (c : Class) → LawfulClass p 0 c → (number : ℕ) (d : Class) → slice_get (c ∷ []) number ≡ Some d → LawfulClass p number d
 only_class p c h zero d is = let same : c ≡ d = cc in subst (LawfulClass p 0) same h

@@ -4,6 +4,7 @@ use Rattle.std.specs.Prelude.{◌==◌, ◌&&◌, ◌||◌}
 use Rattle.std.specs.List.{AllByRecursion}
 use Rattle.std.proofs.lemmas.Bool.{cases_Bool}
 use Rattle.std.proofs.lemmas.List.{append-nil}
+use Rattle.brace_num.proofs.Lists.{each_weaker, each_append}
 use Rattle.brace_names.specs.Answered.{is_before, earlier, first, IsFirst}
 
 abbrev lex : ℕ → ℕ → ℕ → ℕ → Bool
@@ -18,25 +19,16 @@ lex-past a p b q c r ab cb = grind (arith, tests)
 lex-apart : (a p b q : ℕ) → lex a p b q ≡ true → lex b q a p ≡ false
 lex-apart a p b q ab = grind (arith, tests)
 
-module _ {A : Type 0} where
-  each : (P Q : A → Type 0) → ((x : A) → P x → Q x) → (xs : List A) → AllByRecursion P xs → AllByRecursion Q xs
-  each P Q next [] done = tt
-  each P Q next (x ∷ xs) done = (next x done.0, each P Q next xs done.1)
-
-  joined : (P : A → Type 0) (xs ys : List A) → AllByRecursion P xs → AllByRecursion P ys → AllByRecursion P (xs ++ ys)
-  joined P [] ys here there = there
-  joined P (x ∷ xs) ys here there = (here.0, joined P xs ys here.1 there)
-
 module _ {A : Type 0} (pass rank : A → ℕ) where
   -- a fault that is before the first one is before all
   before_all : (f x : A) (all : List A) → IsFirst pass rank f all → is_before pass rank x f ≡ true → AllByRecursion (λ g. is_before pass rank x g ≡ true) all
   before_all f x all best xf =
       subst (λ (l : List A). AllByRecursion (λ g. is_before pass rank x g ≡ true) l) (sym best.stands)
-      (joined (λ g. is_before pass rank x g ≡ true) best.earlier_ones (f ∷ best.later_ones)
-      (each (λ g. is_before pass rank f g ≡ true) (λ g. is_before pass rank x g ≡ true)
+      (each_append (λ g. is_before pass rank x g ≡ true) best.earlier_ones (f ∷ best.later_ones)
+      (each_weaker (λ g. is_before pass rank f g ≡ true) (λ g. is_before pass rank x g ≡ true)
       (λ g fg. lex-transitive (pass x) (rank x) (pass f) (rank f) (pass g) (rank g) xf fg) best.earlier_ones best.is_before_earlier_ones) (
         xf,
-        each (λ g. is_before pass rank g f ≡ false) (λ g. is_before pass rank x g ≡ true)
+        each_weaker (λ g. is_before pass rank g f ≡ false) (λ g. is_before pass rank x g ≡ true)
             (λ g gf. lex-past (pass x) (rank x) (pass f) (rank f) (pass g) (rank g) xf gf) best.later_ones best.no_later_one_is_before,
       ))
 
@@ -55,7 +47,7 @@ module _ {A : Type 0} (pass rank : A → ℕ) where
       later_ones = best.later_ones ++ x ∷ [];
       stands = ap (λ (l : List A). l ++ x ∷ []) best.stands ∙ append_assoc best.earlier_ones (f ∷ best.later_ones) (x ∷ []);
       is_before_earlier_ones = best.is_before_earlier_ones;
-      no_later_one_is_before = joined (λ g. is_before pass rank g f ≡ false) best.later_ones (x ∷ []) best.no_later_one_is_before (apart, tt);
+      no_later_one_is_before = each_append (λ g. is_before pass rank g f ≡ false) best.later_ones (x ∷ []) best.no_later_one_is_before (apart, tt);
     })
   ]
 

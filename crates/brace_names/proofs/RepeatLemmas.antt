@@ -8,16 +8,9 @@ use Rattle.std.proofs.lemmas.List.{map-append, at_drop_more}
 use Rattle.std.proofs.lemmas.List.Folds.{list_any-append}
 use Rattle.std.proofs.lemmas.Slice.Eq.{bytes_eq-Decides}
 use Rattle.std.proofs.Math.Seq.{take-suc}
+use Rattle.brace_num.proofs.Booleans.{or_false, or_true}
 use Rattle.brace_syntax.specs.declared.tree.Ident.{Ident}
 use Rattle.brace_names.specs.Tables.{has, with_name, repeated, repeated_after}
-
-or_false : (b : Bool) → (b || false) ≡ b
-or_false true = refl
-or_false false = refl
-
-or_true : (b : Bool) → (b || true) ≡ true
-or_true true = refl
-or_true false = refl
 
 module _ {A : Type 0} where
   has-last : (table : List (List ℕ × A)) (name : List ℕ) (x : A) (other : List ℕ) → has (table ++ (name, x) ∷ []) other ≡ (has table other || bytes_eq other name)

@@ -7,14 +7,11 @@ use Rattle.std.proofs.lemmas.Bool.{false≢true}
 use Rattle.std.proofs.lemmas.List.{map-append}
 use Rattle.indexmap.specs.IndexMap.{IndexMap, get, insert_entry}
 use Rattle.indexmap.proofs.CallerLemmas.{insert_entry-new}
+use Rattle.brace_num.proofs.Options.{not_some}
 use Rattle.brace_names.specs.Tables.{look, has, with_name}
 
 abbrev pub same_bytes : Bor (List ℕ) → Bor (List ℕ) → Bool
 same_bytes a b = bytes_eq a.now b.now
-
-none-absent : {A : Type 0} (o : Option A) → false ≡ is_some o → o ≡ None
-none-absent None absent = refl
-none-absent (Some x) absent = absurd (false≢true absent)
 
 module _ {V : Type 0} where
   abbrev pub entry_of : Bor (List ℕ) × V → List ℕ × V
@@ -47,4 +44,4 @@ module _ {V S : Type 0} (m : IndexMap (Bor (List ℕ)) V S) (names : List (List 
   pub added-shown : (v : V) (entries : List (Bor (List ℕ) × V)) → false ≡ is_some (get same_bytes m key)
       → entries ≡ insert_entry same_bytes m.entries key v → shown entries ≡ with_name names key.now v
   added-shown v entries absent inserted =
-      ap shown (inserted ∙ insert_entry-new same_bytes m key v (none-absent _ absent)) ∙ appended m.entries names key v view (absent-shown absent)
+      ap shown (inserted ∙ insert_entry-new same_bytes m key v (not_some _ (sym absent))) ∙ appended m.entries names key v view (absent-shown absent)

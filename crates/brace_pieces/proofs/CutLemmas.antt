@@ -83,6 +83,3 @@ parts_stay epoch plan tick other lawful =
     let (first, is_first, at_0) = first_of plan.lines lawful.in_order.begins in
     parts_at epoch plan first tick lawful is_first at_0 ∙ sym (parts_at epoch plan first other lawful is_first at_0)
 
--- the greater of two distances
-pub greater : (m n : ℕ) (a b : ℤ) → pos m ≡ a → pos n ≡ b → pos (max m n) ≡ int_max a b
-greater m n a b e f = grind (arith, e, f)

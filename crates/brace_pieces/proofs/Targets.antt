@@ -20,11 +20,11 @@ use Rattle.brace_model.proofs.Blocks as b
 use Rattle.brace_model.proofs.Blocks.{Plain, plain, Allowed, free}
 use Rattle.brace_model.proofs.Deeds.{run}
 use Rattle.brace_model.proofs.Simulation.{Tie, IsTie, simulation, over_seen}
-use Rattle.brace_invert.proofs.Typed.{both_hold}
 use Rattle.brace_invert.specs.Split.{forward_query, forward_program}
 use Rattle.brace_invert.proofs.PartEquations.{forward_of-Const, forward_of-If, forward_of-Foreach, forward_of-Assign}
 use Rattle.brace_invert.proofs.LawfulParts.{forward_is_part}
 use Rattle.brace_invert.proofs.Inverting.{part_deed, part_of}
+use Rattle.std.proofs.lemmas.Bool.{and_parts}
 
 -- an agent of a world whom another sees has this id
 pub record Sight (m : Program) (w : List Agent) (a : Agent) (id : ℕ) : Type 0 where
@@ -86,7 +86,7 @@ module _ (m : Program) (w : List Agent) (a : Agent) (K : ℕ → Type 0) (own : 
         (simulation Says says_tie m m w w Good (λ scope n v g. record { this = g.this; outer = g.outer; inner = g.inner }) P (λ e scope g stop is. All-nil (λ s. T s.target))
         (λ x may effect scope g v. All-cons (λ s. T s.target) (record { target = (agent_of scope x).id; field = effect; value = v }) [] (to scope x may g) (All-nil (λ s. T s.target)))
         (λ scope class f e g each. over_seen Says says_tie f e (λ y. (y.class == class) && sees m scope.this y) w (λ x within passes.
-        (each x (good_inside scope x g (near x within (ap (λ y. sees m y x) (sym g.this) ∙ (both_hold (x.class == class) (sees m scope.this x) passes).1)))).tie))
+        (each x (good_inside scope x g (near x within (ap (λ y. sees m y x) (sym g.this) ∙ (and_parts (x.class == class) (sees m scope.this x) passes).1)))).tie))
         s h scope good).tie
 
   opening_good : (seed tick : ℕ) (query : List Stmt) → Good (opening_scope seed tick query [] a)

@@ -10,9 +10,7 @@ use Rattle.brace_cuts.specs.CutPlans.{IsPlan}
 use Rattle.brace_pieces.specs.declared.setting.Setting.{Setting}
 use Rattle.brace_pieces.specs.Settings.{LawfulSetting}
 use Rattle.brace_pieces.specs.inner.Worked.{class, resting}
-
-none_rise : IsStrictlyIncreasing []
-none_rise k below = absurd (omega arith)
+use Rattle.brace_num.proofs.Orders.{none_rise}
 
 class_lawful : LawfulClass resting 0 class
 unfolding IsDistinct

@@ -6,7 +6,7 @@ use Rattle.std.specs.BTreeSet.{BTreeSet}
 use Rattle.std.specs.Cmp.{nat_eq_equiv}
 use Rattle.std.specs.List.{list_any, IsDistinct}
 use Rattle.std.specs.Ordering.{nat_cmp, eq_by_cmp}
-use Rattle.std.proofs.lemmas.Bool.{ltb-false}
+use Rattle.std.proofs.lemmas.Bool.{ltb-false, or_parts}
 use Rattle.std.proofs.lemmas.Bool.Decides.{nat_tests}
 use Rattle.std.proofs.lemmas.List.{map-append, length_push}
 use Rattle.std.proofs.lemmas.List.Folds.{list_any-append}
@@ -48,19 +48,11 @@ differ_more agents a differ new = subst (IsDistinct nat_eq) (sym (ids_more agent
 pub counted_more : (agents : List Agent) (a : Agent) → count_values (agents ++ a ∷ []) ≡ count_values agents + length a.states
 counted_more agents a = sum_by_push (λ (b : Agent). length b.states) agents a
 
-second_false : (p q : Bool) → (p || q) ≡ false → q ≡ false
-second_false true q e = absurd cc
-second_false false q e = e
-
-first_false : (p q : Bool) → (p || q) ≡ false → p ≡ false
-first_false true q e = absurd cc
-first_false false q e = refl
-
 pub few_values : (agents : List Agent) → are_too_many agents ≡ false → count_values agents ≤ most_values
-few_values agents few = ltb-false most_values (count_values agents) (second_false _ _ few)
+few_values agents few = ltb-false most_values (count_values agents) ((or_parts _ _ few).1)
 
 pub few_agents : (agents : List Agent) → are_too_many agents ≡ false → length agents ≤ most_agents
-few_agents agents few = ltb-false most_agents (length agents) (first_false _ _ few)
+few_agents agents few = ltb-false most_agents (length agents) ((or_parts _ _ few).0)
 
 -- what is tested in the place of the limits
 pub many_more : (agents : List Agent) (a : Agent) (values : ℕ) → values ≡ count_values agents

@@ -11,8 +11,9 @@ use Rattle.std.proofs.lemmas.List.{length-drop}
 use Rattle.std.proofs.lemmas.List.Quantifiers.{position-Some}
 use Rattle.std.proofs.lemmas.List.Sorted.{All-permutation, length_permutation, sum_by-IsPermutation}
 use Rattle.std.proofs.lemmas.List.Sums.{AllPass-from_list_all, list_all-from_AllPass}
-use Rattle.std.proofs.lemmas.Option.{slice_get-get_or}
+use Rattle.std.proofs.lemmas.Option.{slice_get-get_or, same_Some, none-some}
 use Rattle.brace_num.specs.Spelling.{count_of, int_of, fixed_of}
+use Rattle.brace_num.proofs.Options.{ok_same}
 use Rattle.brace_model.specs.declared.program.Ty.{Ty}
 use Rattle.brace_model.specs.declared.program.Ty.TheVariants as ty
 use Rattle.brace_model.specs.declared.program.Value.{Value}
@@ -29,30 +30,21 @@ use Rattle.brace_rows.specs.AgentFile.{Fields, field, flag_of, value_of, values_
 use Rattle.brace_rows.proofs.Entering.{few_agents, few_values}
 use Rattle.brace_rows.proofs.Values.{there, complete_all, complete_gap}
 
-ok_same : {A E : Type 0} (x y : A) → ◌≡◌ {A = Result A E} (Ok x) (Ok y) → x ≡ y
-ok_same x y e = cc
-
-some_same : {A : Type 0} (x y : A) → Some x ≡ Some y → x ≡ y
-some_same x y e = cc
-
 err_not_ok : {A E : Type 0} (x : E) (y : A) → ◌≡◌ {A = Result A E} (Err x) (Ok y) → ⊥
 err_not_ok x y e = cc
 
-none_not_some : {A : Type 0} (x : A) → None ≡ Some x → ⊥
-none_not_some x e = cc
-
 -- a value is of the type that it was read by
 int_typed : (o : Option ℤ) (v : Value) → option_map Int o ≡ Some v → same_type ty.Int (type_of_value v) ≡ true
-int_typed None v e = absurd (none_not_some v e)
-int_typed (Some n) v e = subst (λ w. same_type ty.Int (type_of_value w) ≡ true) (some_same (Int n) v e) refl
+int_typed None v e = absurd (none-some v e)
+int_typed (Some n) v e = subst (λ w. same_type ty.Int (type_of_value w) ≡ true) (same_Some (Int n) v e) refl
 
 fixed_typed : (o : Option ℤ) (v : Value) → option_map Fixed o ≡ Some v → same_type ty.Fixed (type_of_value v) ≡ true
-fixed_typed None v e = absurd (none_not_some v e)
-fixed_typed (Some n) v e = subst (λ w. same_type ty.Fixed (type_of_value w) ≡ true) (some_same (Fixed n) v e) refl
+fixed_typed None v e = absurd (none-some v e)
+fixed_typed (Some n) v e = subst (λ w. same_type ty.Fixed (type_of_value w) ≡ true) (same_Some (Fixed n) v e) refl
 
 flag_typed : (o : Option Bool) (v : Value) → option_map Flag o ≡ Some v → same_type ty.Bool (type_of_value v) ≡ true
-flag_typed None v e = absurd (none_not_some v e)
-flag_typed (Some b) v e = subst (λ w. same_type ty.Bool (type_of_value w) ≡ true) (some_same (Flag b) v e) refl
+flag_typed None v e = absurd (none-some v e)
+flag_typed (Some b) v e = subst (λ w. same_type ty.Bool (type_of_value w) ≡ true) (same_Some (Flag b) v e) refl
 
 value_typed : (t : Ty) (text : List ℕ) (v : Value) → value_of t text ≡ Some v → same_type t (type_of_value v) ≡ true
 value_typed ty.Int text v e = int_typed (int_of text) v e
@@ -91,10 +83,10 @@ complete_gives read values e = elim (split_gap read) [
 ]
 
 id_is_low : (o : Option ℕ) (id : ℕ) → id_in_range o ≡ Some id → nat_le id greatest_id ≡ true
-id_is_low None id e = absurd (none_not_some id e)
+id_is_low None id e = absurd (none-some id e)
 id_is_low (Some n) id e = elim (cases_Bool (nat_le n greatest_id)) [
-  | inl low ↦ let same : n ≡ id = some_same n id (rw low at e) in subst (λ i. nat_le i greatest_id ≡ true) same low
-  | inr high ↦ let none : None ≡ Some id = rw high at e in absurd (none_not_some id none)
+  | inl low ↦ let same : n ≡ id = same_Some n id (rw low at e) in subst (λ i. nat_le i greatest_id ≡ true) same low
+  | inr high ↦ let none : None ≡ Some id = rw high at e in absurd (none-some id none)
 ]
 
 -- what an agent is made of
@@ -121,7 +113,7 @@ agent_fits program number class fields a there_is e = elim (cases_Bool (eqb (len
 
 class_there : (classes : List Class) (test : Class → Bool) (number : ℕ) → position test classes ≡ Some number
     → (class : Class) × (slice_get classes number ≡ Some class)
-class_there [] test number e = absurd (none_not_some number e)
+class_there [] test number e = absurd (none-some number e)
 class_there (c ∷ rest) test number e =
     let below = position-Some test (c ∷ rest) number c e in
     (get_or (c ∷ rest) number c, slice_get-get_or (c ∷ rest) number c below.0)

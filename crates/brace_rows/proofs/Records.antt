@@ -13,6 +13,7 @@ use Rattle.csv.specs.declared.parser.Action.{Action}
 use Rattle.csv.specs.declared.parser.Action.TheVariants as act
 use Rattle.csv.specs.declared.reader.Reader.{Reader}
 use Rattle.csv.proofs.ReadFacts.{rows-more}
+use Rattle.std.proofs.lemmas.Option.{same_Some}
 
 -- where a byte ends a record, the machine stands between two records
 abbrev Parts : State × Action → Type 0
@@ -61,17 +62,14 @@ parts_step cfg st.AfterCr c = parts_if (c == 10) (st.StartRecord, act.Skip) (sta
 abbrev Took : List ℕ → Read → Type 0
 Took xs p = (length p.2 ≤ length xs - 1) × (ends_at_end p.1 ≡ false)
 
-some_same : (r p : Read) → Some r ≡ Some p → r ≡ p
-some_same r p e = cc
-
 takes_a_byte : (cfg : Config) (s : State) (fields : List (List ℕ)) (field xs : List ℕ) (p : Read) → next_record cfg s fields field xs ≡ Some p → Took xs p
 unfolding next_record
 takes_a_byte cfg s fields field [] p e = elim (cases_Bool (ends_at_end s)) [
-  | inl over ↦ let q = some_same _ p (rw over at e) in rw (← q) ((omega arith), refl)
+  | inl over ↦ let q = same_Some _ p (rw over at e) in rw (← q) ((omega arith), refl)
   | inr more ↦ let bad : None ≡ Some p = rw more at e in absurd cc
 ]
 takes_a_byte cfg s fields field (c ∷ rest) p e = elim (cases_Bool (is_end (step cfg s c).1)) [
-  | inl over ↦ let q = some_same _ p (rw over at e) in rw (← q) (omega arith, parts_step cfg s c over)
+  | inl over ↦ let q = same_Some _ p (rw over at e) in rw (← q) (omega arith, parts_step cfg s c over)
   | inr more ↦
       let t = takes_a_byte cfg (step cfg s c).0 (fields_after (step cfg s c).1 fields field) (field_after (step cfg s c).1 c field) rest p (rw more at e) in
       (omega (arith, t.0), t.1)

@@ -6,6 +6,7 @@ use Rattle.std.specs.List.{list_any, range_with_len}
 use Rattle.std.specs.Result.{result_ok}
 use Rattle.std.specs.Str.{bytes_eq}
 use Rattle.csv.specs.Reading.{records, default_config, strip_bom}
+use Rattle.brace_num.specs.Orders.{by_key}
 use Rattle.brace_num.specs.Spelling.{count_of, int_of, fixed_of}
 use Rattle.brace_model.specs.declared.program.Ty.{Ty}
 use Rattle.brace_model.specs.declared.program.Ty.TheVariants as ty
@@ -130,12 +131,6 @@ faults_in program rows =
 abbrev pub first_fault : Program → List Fields → Option (ℕ × RowKind)
 first_fault program rows = slice_get (faults_in program rows) 0
 
--- agents by rising id, with one more in its place
-abbrev pub placed : Agent → List Agent → List Agent
-placed a [] = a ∷ []
-placed a (b ∷ rest) = if nat_lt a.id b.id then a ∷ b ∷ rest else b ∷ placed a rest
-
 -- agents, put by rising id
 abbrev pub by_id : List Agent → List Agent
-by_id [] = []
-by_id (a ∷ rest) = placed a (by_id rest)
+by_id agents = by_key (λ a. a.id) agents

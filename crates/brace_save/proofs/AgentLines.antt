@@ -6,6 +6,7 @@ use Rattle.std.specs.Result.{result_ok}
 use Rattle.std.specs.Str.{bytes_eq}
 use Rattle.std.proofs.lemmas.Bool.{true≢false}
 use Rattle.std.proofs.lemmas.Slice.Eq.{bytes_eq-Decides}
+use Rattle.std.proofs.lemmas.Option.{none-some, same_Some}
 use Rattle.brace_model.specs.declared.program.Program.{Program}
 use Rattle.brace_model.specs.declared.world.Agent.{Agent}
 use Rattle.brace_model.specs.Lawful.{LawfulProgram}
@@ -24,17 +25,11 @@ ok_of : {A E : Type 0} (r : Result A E) (x : A) → result_ok r ≡ Some x → r
 ok_of (Ok y) x e = cc
 ok_of (Err y) x e = absurd cc
 
-some_same : {A : Type 0} (x y : A) → Some x ≡ Some y → x ≡ y
-some_same x y e = cc
-
-none_not_some : {A : Type 0} (x : A) → None ≡ Some x → ⊥
-none_not_some x e = absurd cc
-
 pub reads : (program : Program) (a : Agent) (line : List ℕ) → LawfulProgram program → IsAgentLine program a line → read program line ≡ Some a
 reads program a line lawful is = ap (read program) is.same ∙ ap result_ok (agent_back program a lawful is.lawful is.values_fit)
 
 pub none_read : (program : Program) (line : List ℕ) (o : Option Agent) → o ≡ read program line → None ≡ o → LawfulProgram program → (a : Agent) → IsAgentLine program a line → ⊥
-none_read program line o e none lawful a is = none_not_some a (none ∙ e ∙ reads program a line lawful is)
+none_read program line o e none lawful a is = none-some a (none ∙ e ∙ reads program a line lawful is)
 
 pub some_read : (program : Program) (line : List ℕ) (o : Option Agent) (a : Agent) → o ≡ read program line → Some a ≡ o → list_all value_fits a.states ≡ true → bytes_eq (agent_text program a) line ≡ true → IsAgentLine program a line
 some_read program line o a e some fit same = record {
@@ -45,6 +40,6 @@ some_read program line o a e some fit same = record {
 
 pub other_read : (program : Program) (line : List ℕ) (o : Option Agent) (b : Agent) → o ≡ read program line → Some b ≡ o → bytes_eq (agent_text program b) line ≡ false → LawfulProgram program → (a : Agent) → IsAgentLine program a line → ⊥
 other_read program line o b e some differs lawful a is =
-    let one : b ≡ a = some_same b a (some ∙ e ∙ reads program a line lawful is) in
+    let one : b ≡ a = same_Some b a (some ∙ e ∙ reads program a line lawful is) in
     let same : agent_text program b ≡ line = ap (agent_text program) one ∙ sym is.same in
     true≢false (sym ((bytes_eq-Decides (agent_text program b) line).1 same) ∙ differs)

@@ -5,17 +5,12 @@ use Rattle.std.proofs.Math.Seq.{drop-append_seam}
 use Rattle.std.proofs.lemmas.Bool.{true≢false}
 use Rattle.std.proofs.lemmas.List.{take-append-drop}
 use Rattle.std.proofs.lemmas.Slice.Eq.{bytes_eq-Decides}
+use Rattle.std.proofs.lemmas.Option.{none-some, same_Some}
 use Rattle.brace_num.specs.Spelling.{canonical_count, count_of}
 use Rattle.brace_num.proofs.Canonical.{count_printed}
 use Rattle.brace_num.proofs.Spellings.{count_found}
 use Rattle.brace_rows.proofs.Texts.{starts_here}
 use Rattle.brace_save.specs.Texts.{count_line}
-
-some_same : {A : Type 0} (x y : A) → Some x ≡ Some y → x ≡ y
-some_same x y e = cc
-
-none_not_some : {A : Type 0} (x : A) → None ≡ Some x → ⊥
-none_not_some x e = absurd cc
 
 -- the line does not begin with the word
 pub no_word : (word line : List ℕ) → bytes_eq (take (length word) line) word ≡ false → (n : ℕ) → line ≡ count_line word n → ⊥
@@ -28,13 +23,13 @@ count_behind word line digits d n small e =
     (same, ap count_of same ∙ count_found (canonical_count n) n (count_printed n small))
 
 pub no_count : (word line digits : List ℕ) (o : Option ℕ) → digits ≡ drop (length word) line → o ≡ count_of digits → None ≡ o → (n : ℕ) → n < 2 ^ 64 → line ≡ count_line word n → ⊥
-no_count word line digits o d e none n small is = none_not_some n (none ∙ e ∙ (count_behind word line digits d n small is).1)
+no_count word line digits o d e none n small is = none-some n (none ∙ e ∙ (count_behind word line digits d n small is).1)
 
 -- where there is a count, it is the one that was read
 pub same_count : (word line digits : List ℕ) (o : Option ℕ) (m : ℕ) → digits ≡ drop (length word) line → o ≡ count_of digits → Some m ≡ o → (n : ℕ) → n < 2 ^ 64 → line ≡ count_line word n → (m ≡ n) × (digits ≡ canonical_count m)
 same_count word line digits o m d e some n small is =
     let both = count_behind word line digits d n small is in
-    let one : m ≡ n = some_same m n (some ∙ e ∙ both.1) in
+    let one : m ≡ n = same_Some m n (some ∙ e ∙ both.1) in
     (one, both.0 ∙ ap canonical_count (sym one))
 
 pub is_count_line : (word line digits : List ℕ) (m : ℕ) → bytes_eq (take (length word) line) word ≡ true → digits ≡ drop (length word) line → bytes_eq (canonical_count m) digits ≡ true → line ≡ count_line word m

@@ -3,6 +3,7 @@ use Rattle.std.proofs.Common.{◌≡◌, ◌∙◌, ℕ, ◌+◌, ◌-◌, ◌^�
 use Rattle.std.specs.Prelude.{codes}
 use Rattle.std.proofs.lemmas.Fmt.{decimal_injective}
 use Rattle.std.proofs.lemmas.List.{append_cancel_left, drop_at, length_push, map_push, take_all, take_at, take_more}
+use Rattle.brace_num.proofs.Lists.{same_parts}
 use Rattle.brace_model.specs.declared.program.Program.{Program}
 use Rattle.brace_model.specs.declared.world.Agent.{Agent}
 use Rattle.brace_model.specs.Lawful.{LawfulProgram}
@@ -59,9 +60,6 @@ pub data Behind (program : Program) (agents : List Agent) (next : ℕ) (l : List
   ends : l ≡ end_line agents → tail ≡ [] → Behind program agents next l tail
   goes_on : (a : Agent) → IsAgentLine program a l → MayFollow agents next a → Behind program agents next l tail
 
-heads : (x y : List ℕ) (xs ys : List (List ℕ)) → x ∷ xs ≡ y ∷ ys → (x ≡ y) × (xs ≡ ys)
-heads x y xs ys e = (cc, cc)
-
 pub behind : (program : Program) (h : Heading) (agents : List Agent) (all : List (List ℕ)) (c : Bool) (m : Moment) (l : List ℕ) (tail : List (List ℕ)) → LawfulProgram program
     → IsFront program h agents all → IsMoment program c m → take (front_length program h.tells_next agents) all ++ l ∷ tail ≡ lines program c m → Behind program agents h.next l tail
 behind program h agents all c m l tail lawful is moment_is e =
@@ -83,10 +81,10 @@ behind program h agents all c m l tail lawful is moment_is e =
     of : (more : List Agent) → IsMoment program h.tells_next m → m.world.next ≤ h.next → m.world.agents ≡ agents ++ more
         → l ∷ tail ≡ map (agent_text program) more ++ end_line m.world.agents ∷ [] → Behind program agents h.next l tail
     of [] mine low are rest =
-        let (one, none) = heads l (end_line m.world.agents) tail [] rest in
+        let (one, none) = same_parts l (end_line m.world.agents) tail [] rest in
         ends (one ∙ ap end_line (are ∙ append-nil agents)) none
     of (a ∷ more) mine low are rest =
-        let (one, others) = heads l (agent_text program a) tail (map (agent_text program) more ++ end_line m.world.agents ∷ []) rest in
+        let (one, others) = same_parts l (agent_text program a) tail (map (agent_text program) more ++ end_line m.world.agents ∷ []) rest in
         let fit = fit_at program agents more a (subst (Fit program) are (fit_of program h.tells_next m mine)) in
         goes_on a (record { lawful = fit.lawful; values_fit = fit.values_fit; same = one }) (next_may program h.tells_next m agents more a h.next mine are low)
 

@@ -2,7 +2,7 @@
 use Rattle.std.proofs.Common.{◌≡◌, ◌∙◌, ℕ, suc, ◌+◌, ◌-◌, ◌^◌, ◌<◌, ◌≤◌, List, [], ◌∷◌, ◌++◌, length, take, drop, map, flat_map, get_or, ltb, Bool, true, false, Option, Some, None, refl, sym, ap, ap₂, subst, arith, append-nil, append_assoc, inl, inr}
 use Rattle.std.specs.Prelude.{◌&&◌, ◌==◌, not, codes, option_map, slice_get, unwrap_or}
 use Rattle.std.specs.List.{All, AllByRecursion, list_all, join_with_byte}
-use Rattle.std.proofs.lemmas.Bool.{cases_Bool, false≢true}
+use Rattle.std.proofs.lemmas.Bool.{cases_Bool, false≢true, and_parts}
 use Rattle.std.proofs.lemmas.Bool.Decides.{nat_tests}
 use Rattle.std.proofs.lemmas.List.{get_or_at, length-append, length_push, take_all, take_at, take-append-drop, take_more, take-append-le}
 use Rattle.std.proofs.lemmas.List.Folds.{list_all-append}
@@ -23,7 +23,7 @@ use Rattle.brace_model.specs.Published.{spelled, class_name, agent_text}
 use Rattle.std.specs.Prelude.{nat_le}
 use Rattle.brace_save.specs.Lines.{parts, whole_lines, unfinished}
 use Rattle.brace_save.specs.Texts.{Moment, IsMoment, type_name, state_text, class_line, count_line, end_line, heading, lines, text, value_fits}
-use Rattle.brace_save.proofs.ReadBack.{Free, both, count_free, name_free, no_feed, values_free}
+use Rattle.brace_save.proofs.ReadBack.{Free, count_free, name_free, no_feed, values_free}
 use Rattle.brace_save.proofs.Runs.{Fit, fit_first}
 
 -- no byte 10 is in it
@@ -56,7 +56,7 @@ state_one s h = both_one (32 ∷ s.name) (58 ∷ type_name s.ty) (name_one s.nam
 states_one : (states : List State) → list_all is_name (map (λ (s : State). s.name) states) ≡ true → one_line (flat_map state_text states) ≡ true
 states_one [] h = refl
 states_one (s ∷ states) h =
-    let (one, more) = both (is_name s.name) (list_all is_name (map (λ (t : State). t.name) states)) h in
+    let (one, more) = and_parts (is_name s.name) (list_all is_name (map (λ (t : State). t.name) states)) h in
     both_one (state_text s) (flat_map state_text states) (state_one s one) (states_one states more)
 
 class_one : (class : Class) → is_name class.name ≡ true → list_all is_name (map (λ (s : State). s.name) class.states) ≡ true → one_line (class_line class) ≡ true
@@ -73,7 +73,7 @@ classes_one (class ∷ classes) h =
 -- the lines of agents
 agent_one : (program : Program) (a : Agent) → LawfulProgram program → is_lawful_agent program a ≡ true → list_all value_fits a.states ≡ true → one_line (agent_text program a) ≡ true
 agent_one program a lawful is fit =
-    let (low, states) = both (nat_le a.id greatest_id) (has_states (class_of program a) a) is in
+    let (low, states) = and_parts (nat_le a.id greatest_id) (has_states (class_of program a) a) is in
     of_class (class_of program a) refl states (let small : a.id < 2 ^ 64 = grind (arith, nat_tests) in small)
   where
     of_class : (o : Option Class) → class_of program a ≡ o → has_states o a ≡ true → a.id < 2 ^ 64 → one_line (agent_text program a) ≡ true
@@ -113,7 +113,7 @@ lines_one program b m lawful is =
     λ i class at.
     let one = lawful.classes_are_lawful i class at in (
       one.class_is_named,
-      (both (list_all is_name (map (λ (s : State). s.name) class.states)) (list_all is_name (map (λ e. e.name) class.effects))
+      (and_parts (list_all is_name (map (λ (s : State). s.name) class.states)) (list_all is_name (map (λ e. e.name) class.effects))
           (sym (list_all-append is_name (map (λ (s : State). s.name) class.states) (map (λ e. e.name) class.effects)) ∙ one.fields_are_named)).0,
     ) in
     list_all-append one_line ((top ++ classes) ++ agents) (end_line m.world.agents ∷ [])
@@ -135,7 +135,7 @@ line_parts line rest h = ap parts (append_assoc line (10 ∷ []) rest) ∙ slice
 pub text_parts : (all : List (List ℕ)) → list_all one_line all ≡ true → parts (text all) ≡ all ++ [] ∷ []
 text_parts [] h = refl
 text_parts (line ∷ all) h =
-    let (one, more) = both (one_line line) (list_all one_line all) h in
+    let (one, more) = and_parts (one_line line) (list_all one_line all) h in
     line_parts line (text all) one ∙ ap (λ l. line ∷ l) (text_parts all more)
 
 pub whole_text : (all : List (List ℕ)) → list_all one_line all ≡ true → whole_lines (text all) ≡ all
@@ -163,14 +163,14 @@ take_on (x ∷ a) b d =
 
 front_one : (line : List ℕ) (n : ℕ) → one_line line ≡ true → one_line (take n line) ≡ true
 front_one line n h =
-    (both (one_line (take n line)) (one_line (drop n line)) (sym (list_all-append (λ b. not (b == 10)) (take n line) (drop n line)) ∙ ap one_line (take-append-drop n line) ∙ h)).0
+    (and_parts (one_line (take n line)) (one_line (drop n line)) (sym (list_all-append (λ b. not (b == 10)) (take n line) (drop n line)) ∙ ap one_line (take-append-drop n line) ∙ h)).0
 
 -- the whole lines of a proper front of a text are a proper front of its lines
 pub front_lines : (all : List (List ℕ)) (n : ℕ) → list_all one_line all ≡ true → n < length (text all) → (k : ℕ) × (k < length all) × (whole_lines (take n (text all)) ≡ take k all)
 front_lines [] n h le = absurd (omega (arith, le))
 front_lines (line ∷ all) n h le = elim (cases_Bool (ltb (length line) n)) [
   | inl behind ↦
-      let (one, more) = both (one_line line) (list_all one_line all) h in
+      let (one, more) = and_parts (one_line line) (list_all one_line all) h in
       let over : length line < n = grind (arith, nat_tests) in
       let ended = line ++ 10 ∷ [] in
       let long : length ended ≡ length line + 1 = length_push line 10 in
@@ -186,7 +186,7 @@ front_lines (line ∷ all) n h le = elim (cases_Bool (ltb (length line) n)) [
             ∙ whole_more line (parts (take d (text all))) (omega (arith, many)) ∙ ap (λ l. line ∷ l) is,
       )
   | inr within ↦
-      let (one, more) = both (one_line line) (list_all one_line all) h in
+      let (one, more) = and_parts (one_line line) (list_all one_line all) h in
       let low : n ≤ length line = grind (arith, nat_tests) in
       let cut : take n (text (line ∷ all)) ≡ take n line = ap (take n) (append_assoc line (10 ∷ []) (text all)) ∙ take-append-le n line (10 ∷ text all) low in
       (0, omega arith, ap whole_lines cut ∙ ap (λ p. take (length p - 1) p) (slice_split_none (λ b. b == 10) (take n line) (none_ends (take n line) (front_one line n one))))

@@ -3,6 +3,7 @@ use Rattle.std.proofs.Common.{◌≡◌, ◌∙◌, ℕ, ℤ, Bool, Option, Some
 use Rattle.std.specs.Prelude.{◌&&◌, option_map}
 use Rattle.std.specs.List.{list_all}
 use Rattle.std.proofs.lemmas.List.Folds.{list_all-append}
+use Rattle.std.proofs.lemmas.Option.{same_Some}
 use Rattle.brace_num.specs.Spelling.{int_of, fixed_of}
 use Rattle.brace_num.proofs.Spellings.{int_reads, fixed_reads}
 use Rattle.brace_model.specs.declared.program.Ty.{Ty}
@@ -16,23 +17,20 @@ use Rattle.brace_save.specs.Texts.{value_fits}
 pub fit_more : (values : List Value) (v : Value) → list_all value_fits values ≡ true → value_fits v ≡ true → list_all value_fits (values ++ v ∷ []) ≡ true
 fit_more values v all one = list_all-append value_fits values (v ∷ []) ∙ ap₂ (λ a b. a && (b && true)) all one
 
-some_same : {A : Type 0} (x y : A) → Some x ≡ Some y → x ≡ y
-some_same x y e = cc
-
 -- a value that a text spells fits
 pub value_fit : (t : Ty) (text : List ℕ) (v : Value) → value_of t text ≡ Some v → value_fits v ≡ true
 value_fit ty.Int text v e = of (int_of text) refl e
   where
     of : (o : Option ℤ) → int_of text ≡ o → option_map Int o ≡ Some v → value_fits v ≡ true
     of None at e = absurd cc
-    of (Some n) at e = subst (λ w. value_fits w ≡ true) (some_same (Int n) v e) ((int_reads text n).1 at).1
+    of (Some n) at e = subst (λ w. value_fits w ≡ true) (same_Some (Int n) v e) ((int_reads text n).1 at).1
 value_fit ty.Fixed text v e = of (fixed_of text) refl e
   where
     of : (o : Option ℤ) → fixed_of text ≡ o → option_map Fixed o ≡ Some v → value_fits v ≡ true
     of None at e = absurd cc
-    of (Some n) at e = subst (λ w. value_fits w ≡ true) (some_same (Fixed n) v e) ((fixed_reads text n).1 at).1
+    of (Some n) at e = subst (λ w. value_fits w ≡ true) (same_Some (Fixed n) v e) ((fixed_reads text n).1 at).1
 value_fit ty.Bool text v e = of (flag_of text) e
   where
     of : (o : Option Bool) → option_map Flag o ≡ Some v → value_fits v ≡ true
     of None e = absurd cc
-    of (Some b) e = subst (λ w. value_fits w ≡ true) (some_same (Flag b) v e) refl
+    of (Some b) e = subst (λ w. value_fits w ≡ true) (same_Some (Flag b) v e) refl

@@ -2,6 +2,7 @@
 use Rattle.std.proofs.Common.{◌≡◌, ◌∙◌, ℕ, ◌+◌, ◌-◌, ◌^◌, ◌<◌, ◌≤◌, List, [], ◌∷◌, ◌++◌, length, take, map, Bool, true, false, refl, sym, ap, subst, arith, Result, Ok, Err}
 use Rattle.std.specs.Prelude.{codes}
 use Rattle.std.proofs.lemmas.List.{get_or-take, length-append, take-append-le, take_more_same}
+use Rattle.brace_num.proofs.Options.{ok_not_err}
 use Rattle.brace_model.specs.declared.program.Program.{Program}
 use Rattle.brace_save.specs.declared.kinds.PointFault.TheVariants.{BadLine, NoMemory}
 use Rattle.brace_save.specs.declared.kinds.PointFault.{PointFault}
@@ -57,9 +58,6 @@ version_first all n b tick seed next some e =
 
 err_same : {A E : Type 0} (x y : E) → ◌≡◌ {A = Result A E} (Err x) (Err y) → x ≡ y
 err_same x y e = cc
-
-ok_not_err : {A E : Type 0} (x : A) (y : E) → ◌≡◌ {A = Result A E} (Ok x) (Err y) → ⊥
-ok_not_err x y e = absurd cc
 
 -- a count of a heading that is refused
 pub count_refused : (program : Program) (all : List (List ℕ)) (rest : List ℕ) (i : ℕ) (b : Bool) (tick seed next : ℕ) (word : List ℕ) (most : ℕ) (r : Result ℕ PointFault) (cause : PointFault)

@@ -3,6 +3,7 @@ use Rattle.std.proofs.Common.{◌≡◌, ◌∙◌, ℕ, ◌^◌, ◌<◌, ◌�
 use Rattle.std.specs.Prelude.{codes}
 use Rattle.std.proofs.lemmas.Fmt.{decimal_injective}
 use Rattle.std.proofs.lemmas.List.{append_cancel_left, length-drop, length-take-le, take_all, take-append-drop, take-take}
+use Rattle.brace_num.proofs.Lists.{same_parts}
 use Rattle.brace_model.specs.declared.program.Program.{Program}
 use Rattle.brace_model.specs.declared.world.Agent.{Agent}
 use Rattle.brace_model.specs.Lawful.{LawfulProgram}
@@ -46,9 +47,6 @@ worlds_same program true w m p q e agents =
     ap (λ l. record { agents = l; next = w.world.next }) agents ∙ ap (λ n. record { agents = m.world.agents; next = n }) (next_same w m p.numbered.in_range q.numbered.in_range e)
 worlds_same program false w m p q e agents = p.least refl ∙ ap world_of agents ∙ sym (q.least refl)
 
-heads : (x y : List ℕ) (xs ys : List (List ℕ)) → x ∷ xs ≡ y ∷ ys → (x ≡ y) × (xs ≡ ys)
-heads x y xs ys e = (cc, cc)
-
 -- the lines of a moment are no proper front of those of another one
 pub lines_front : (program : Program) (b c : Bool) (m w : Moment) (rest : List (List ℕ)) → LawfulProgram program → IsMoment program b m → IsMoment program c w → lines program c w ++ rest ≡ lines program b m
     → (w ≡ m) × (rest ≡ [])
@@ -66,15 +64,12 @@ lines_front program b c m w rest lawful is_m is_w e =
         → end_line w.world.agents ∷ rest ≡ map (agent_text program) more ++ end_line m.world.agents ∷ [] → (w ≡ m) × (rest ≡ [])
     of [] mine top are behind =
         let (tick, seed) = heads_same program c w m is_w mine top in
-        (moment_same w m tick seed (worlds_same program c w m is_w mine top (sym (are ∙ append-nil w.world.agents))), (heads (end_line w.world.agents) (end_line m.world.agents) rest [] behind).1)
+        (moment_same w m tick seed (worlds_same program c w m is_w mine top (sym (are ∙ append-nil w.world.agents))), (same_parts (end_line w.world.agents) (end_line m.world.agents) rest [] behind).1)
     of (a ∷ more) mine top are behind =
-        let (one, others) = heads (end_line w.world.agents) (agent_text program a) rest (map (agent_text program) more ++ end_line m.world.agents ∷ []) behind in
+        let (one, others) = same_parts (end_line w.world.agents) (agent_text program a) rest (map (agent_text program) more ++ end_line m.world.agents ∷ []) behind in
         let fit = fit_at program w.world.agents more a (subst (Fit program) are (fit_of program c m mine)) in
         let few = is_w.lawful.few_agents in
         absurd (no_end program a (length w.world.agents) (omega (arith, few)) lawful (record { lawful = fit.lawful; values_fit = fit.values_fit; same = one }))
-
-ok_not_err : {A E : Type 0} (x : A) (y : E) → ◌≡◌ {A = Result A E} (Ok x) (Err y) → ⊥
-ok_not_err x y e = absurd cc
 
 -- the lines of a moment are read as the moment
 pub lines_read : (program : Program) (b : Bool) (m : Moment) (r : Result Moment PointFault) → LawfulProgram program → IsMoment program b m → IsRead program (lines program b m) [] r → r ≡ Ok m

@@ -6,17 +6,18 @@ use Rattle.std.specs.List.{AllByRecursion, IsDistinct, list_all, slice_split, on
 use Rattle.std.specs.Fmt.{decimal}
 use Rattle.std.specs.Str.{bytes_eq}
 use Rattle.std.specs.Str.Parse.{AllDigits}
-use Rattle.std.proofs.lemmas.Bool.{cases_Bool, false≢true, eqb-true, lt-ltb}
+use Rattle.std.proofs.lemmas.Bool.{cases_Bool, false≢true, eqb-true, lt-ltb, and_parts}
 use Rattle.std.proofs.lemmas.Bool.Decides.{nat_tests}
 use Rattle.std.proofs.lemmas.Int.{ints}
 use Rattle.std.proofs.lemmas.List.{length-map}
 use Rattle.std.proofs.lemmas.List.Splits.{slice_split-cons_no}
 use Rattle.std.proofs.lemmas.Str.Parse.{digit_from_value}
 use Rattle.std.proofs.lemmas.Slice.Eq.{bytes_eq-Decides}
+use Rattle.std.proofs.lemmas.Option.{same_Some}
 use Rattle.brace_num.specs.Exact.{fits}
 use Rattle.brace_num.specs.Names.{is_name, is_letter, is_word, is_word_byte, begins, is_among, reserved_words}
 use Rattle.brace_num.specs.Spelling.{canonical_count, canonical_int, canonical_fixed, six_digits}
-use Rattle.brace_num.proofs.Canonical.{count_printed, int_printed, fixed_printed, decimal_digits, zeros_digits}
+use Rattle.brace_num.proofs.Canonical.{count_printed, int_printed, fixed_printed, decimal_digits, zeros_digits, pos_small, negsuc_small}
 use Rattle.brace_num.proofs.Spellings.{count_found, int_reads, fixed_reads}
 use Rattle.brace_model.specs.declared.program.Ty.{Ty}
 use Rattle.brace_model.specs.declared.program.Ty.TheVariants as ty
@@ -83,12 +84,6 @@ digits_free (c ∷ cs) d = let r = digit_from_value c d.0 in (grind arith, digit
 pub count_free : (n : ℕ) → n < 2 ^ 64 → Free (canonical_count n)
 count_free n h = digits_free (decimal n) (decimal_digits n h).0.1
 
-pos_small : (n : ℕ) → IsTrue (fits (pos n)) → n < 2 ^ 63
-pos_small n f = grind (arith, ints)
-
-negsuc_small : (n : ℕ) → IsTrue (fits (negsuc n)) → n < 2 ^ 63
-negsuc_small n f = grind (arith, ints)
-
 int_free : (z : ℤ) → IsTrue (fits z) → Free (canonical_int z)
 int_free (pos n) f = let h = pos_small n f in count_free n (omega arith)
 int_free (negsuc n) f = let h = negsuc_small n f in (refl, count_free (suc n) (omega arith))
@@ -111,13 +106,9 @@ value_free (Fixed n) f = fixed_free n f
 value_free (Flag true) f = (refl, (refl, (refl, (refl, tt))))
 value_free (Flag false) f = (refl, (refl, (refl, (refl, (refl, tt)))))
 
-pub both : (p q : Bool) → (p && q) ≡ true → (p ≡ true) × (q ≡ true)
-both true q h = (refl, h)
-both false q h = absurd (false≢true h)
-
 pub values_free : (values : List Value) → list_all value_fits values ≡ true → AllByRecursion Free (map spelled values)
 values_free [] f = tt
-values_free (v ∷ values) f = let (one, more) = both (value_fits v) (list_all value_fits values) f in (value_free v one, values_free values more)
+values_free (v ∷ values) f = let (one, more) = and_parts (value_fits v) (list_all value_fits values) f in (value_free v one, values_free values more)
 
 no_word_byte : (b k : ℕ) → is_word_byte k ≡ false → is_word_byte b ≡ true → (b == k) ≡ false
 no_word_byte b k never h = elim (cases_Bool (b == k)) [
@@ -132,12 +123,12 @@ word_byte b h = ap₂ (λ c d. c || d) (no_word_byte b 44 refl h) (no_word_byte 
 
 word_free : (text : List ℕ) → list_all is_word_byte text ≡ true → Free text
 word_free [] h = tt
-word_free (b ∷ text) h = let (one, more) = both (is_word_byte b) (list_all is_word_byte text) h in (word_byte b one, word_free text more)
+word_free (b ∷ text) h = let (one, more) = and_parts (is_word_byte b) (list_all is_word_byte text) h in (word_byte b one, word_free text more)
 
 pub name_free : (text : List ℕ) → is_name text ≡ true → Free text
 name_free text h =
-    let word = both (is_word text) (nat_le (length text) 64) (both (is_word text && nat_le (length text) 64) (not (is_among reserved_words text)) h).0 in
-    word_free text (both (begins is_letter text) (list_all is_word_byte text) word.0).1
+    let word = and_parts (is_word text) (nat_le (length text) 64) (and_parts (is_word text && nat_le (length text) 64) (not (is_among reserved_words text)) h).0 in
+    word_free text (and_parts (begins is_letter text) (list_all is_word_byte text) word.0).1
 
 -- the spelling of a value spells it
 value_back : (t : Ty) (v : Value) → same_type t (type_of_value v) ≡ true → value_fits v ≡ true → value_of t (spelled v) ≡ Some v
@@ -161,19 +152,16 @@ values_back [] [] s f = (refl, refl)
 values_back [] (v ∷ values) s f = absurd (false≢true s)
 values_back (t ∷ states) [] s f = absurd (false≢true s)
 values_back (t ∷ states) (v ∷ values) s f =
-    let (same, alike) = both (same_type t.ty (type_of_value v)) (pointwise same_type (map (λ (s : State). s.ty) states) (map type_of_value values)) s in
-    let (fit, more) = both (value_fits v) (list_all value_fits values) f in
+    let (same, alike) = and_parts (same_type t.ty (type_of_value v)) (pointwise same_type (map (λ (s : State). s.ty) states) (map type_of_value values)) s in
+    let (fit, more) = and_parts (value_fits v) (list_all value_fits values) f in
     let (each, long) = values_back states values alike more in
     (ap₂ (λ (o : Option Value) (l : List (Option Value)). o ∷ l) (sym (value_back t.ty v same fit)) each, ap suc long)
 
 -- the first class of a name is the only one
-some_same : {A : Type 0} (x y : A) → Some x ≡ Some y → x ≡ y
-some_same x y e = cc
-
 other_name : (name : List ℕ) (classes : List Class) (i : ℕ) (c : Class) → AllByRecursion (λ y. bytes_eq name y ≡ false) (map (λ (d : Class). d.name) classes)
     → slice_get classes i ≡ Some c → bytes_eq name c.name ≡ false
 other_name name [] i c h e = absurd cc
-other_name name (d ∷ rest) zero c h e = subst (λ (k : Class). bytes_eq name k.name ≡ false) (some_same d c e) h.0
+other_name name (d ∷ rest) zero c h e = subst (λ (k : Class). bytes_eq name k.name ≡ false) (same_Some d c e) h.0
 other_name name (d ∷ rest) (suc i) c h e = other_name name rest i c h.1 e
 
 class_place : (classes : List Class) (i : ℕ) (c : Class) → IsDistinct bytes_eq (map (λ (d : Class). d.name) classes) → slice_get classes i ≡ Some c
@@ -181,7 +169,7 @@ class_place : (classes : List Class) (i : ℕ) (c : Class) → IsDistinct bytes_
 unfolding IsDistinct
 class_place [] i c h e = absurd cc
 class_place (d ∷ rest) zero c h e =
-    let same : d ≡ c = some_same d c e in
+    let same : d ≡ c = same_Some d c e in
     let this : bytes_eq d.name c.name ≡ true = (bytes_eq-Decides d.name c.name).1 (ap (λ (k : Class). k.name) same) in
     (grind arith, omega arith)
 class_place (d ∷ rest) (suc i) c h e =
@@ -205,7 +193,7 @@ id_small id low = grind (arith, nat_tests)
 pub agent_back : (program : Program) (a : Agent) → LawfulProgram program → is_lawful_agent program a ≡ true → list_all value_fits a.states ≡ true
     → agent_of program (slice_split comma (agent_text program a)) ≡ Ok a
 agent_back program a lawful is fit =
-    let (low, states) = both (nat_le a.id greatest_id) (has_states (class_of program a) a) is in
+    let (low, states) = and_parts (nat_le a.id greatest_id) (has_states (class_of program a) a) is in
     of_class low (class_of program a) refl states
   where
     of_class : nat_le a.id greatest_id ≡ true → (o : Option Class) → class_of program a ≡ o → has_states o a ≡ true → agent_of program (slice_split comma (agent_text program a)) ≡ Ok a

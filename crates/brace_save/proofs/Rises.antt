@@ -2,7 +2,7 @@
 use Rattle.std.proofs.Common.{◌≡◌, ◌∙◌, ℕ, ◌+◌, ◌-◌, ◌<◌, ◌≤◌, List, [], ◌∷◌, ◌++◌, length, get_or, ltb, Bool, true, false, Option, refl, sym, ap, ap₂, subst, arith, inl, inr}
 use Rattle.std.specs.Prelude.{◌&&◌, nat_le, option_map, unwrap_or, slice_get}
 use Rattle.std.specs.List.{All, list_all}
-use Rattle.std.proofs.lemmas.Bool.{cases_Bool}
+use Rattle.std.proofs.lemmas.Bool.{cases_Bool, and_parts}
 use Rattle.std.proofs.lemmas.Bool.Decides.{nat_tests}
 use Rattle.std.proofs.lemmas.List.{get_or_append_left, get_or_at, get_or_push, length-append, length_push}
 use Rattle.std.proofs.lemmas.List.Folds.{list_all-append}
@@ -17,7 +17,6 @@ use Rattle.brace_model.proofs.WorldLemmas.{RisesById-from_pairs, RisesById-pair}
 use Rattle.brace_rows.proofs.Order.{rising_are_numbered}
 use Rattle.brace_save.specs.Texts.{Moment, IsMoment, value_fits}
 use Rattle.brace_save.specs.inner.Spelled.{IsAgentLine}
-use Rattle.brace_save.proofs.ReadBack.{both}
 use Rattle.brace_save.specs.inner.Steps.{MayFollow, next_of, moment_of}
 
 least_is : (xs : List Agent) (d : Agent) (k : ℕ) → k + 1 ≡ length xs → least_next xs ≡ (get_or xs k d).id + 1
@@ -106,8 +105,8 @@ moment_more program b tick seed next xs a line is told may = record {
     low_ids : (ys : List Agent) → list_all (is_lawful_agent program) ys ≡ true → list_all (λ (c : Agent). nat_le c.id greatest_id) ys ≡ true
     low_ids [] h = refl
     low_ids (y ∷ ys) h =
-        let (one, others) = both (is_lawful_agent program y) (list_all (is_lawful_agent program) ys) h in
-        let low = (both (nat_le y.id greatest_id) (has_states (class_of program y) y) one).0 in
+        let (one, others) = and_parts (is_lawful_agent program y) (list_all (is_lawful_agent program) ys) h in
+        let low = (and_parts (nat_le y.id greatest_id) (has_states (class_of program y) y) one).0 in
         ap₂ (λ p q. p && q) low (low_ids ys others)
 
     values : count_values (xs ++ a ∷ []) ≡ count_values xs + length a.states

@@ -12,6 +12,7 @@ use Rattle.std.proofs.lemmas.List.{length-replicate}
 use Rattle.std.proofs.lemmas.Grind.{pow_more}
 use Rattle.brace_num.specs.Spelling.{six_digits}
 use Rattle.brace_num.specs.Names.{is_digit, is_name}
+use Rattle.brace_num.proofs.Canonical.{six_long, zeros_digits, zeros_value}
 use Rattle.brace_tok.specs.Bytes.{are_digits}
 use Rattle.brace_tok.specs.Tables.{reserved}
 use Rattle.brace_tok.specs.Pieces.{word, whole, fraction}
@@ -21,7 +22,7 @@ use Rattle.brace_tok.specs.declared.fault.TokFault.TheVariants as fault
 use Rattle.brace_tok.proofs.Scans.{both}
 use Rattle.brace_tok.proofs.Named.{name_short, name_free}
 use Rattle.brace_show.specs.Literals.{shortened}
-use Rattle.brace_show.proofs.Zeros.{zeros_behind, length-six_digits, below}
+use Rattle.brace_show.proofs.Zeros.{zeros_behind, below}
 
 -- a name says that it is a word
 pub name_says : (at_ : ℕ) (text : List ℕ) → is_name text ≡ true → role_at at_ (word text) ≡ token kind.Word
@@ -53,15 +54,6 @@ whole_says at_ n e =
     let value : digits_value 10 (decimal n) ≡ n = (decimal_is_IsNumeral n (word_fits n e)).1 in
     ap (λ v. token_or (fault.WideLiteral at_) (if nat_le v 9223372036854775807 then Some (kind.Int (pos v)) else None)) value
     ∙ ap (λ b. token_or (fault.WideLiteral at_) (if b then Some (kind.Int (pos n)) else None)) e
-
--- zeros before digits
-zeros_digits : (k : ℕ) (ds : List ℕ) → AllDigits 10 ds → AllDigits 10 (replicate k 48 ++ ds)
-zeros_digits zero ds d = d
-zeros_digits (suc k) ds d = (omega arith, zeros_digits k ds d)
-
-zeros_value : (k : ℕ) (ds : List ℕ) → digits_value 10 (replicate k 48 ++ ds) ≡ digits_value 10 ds
-zeros_value zero ds = refl
-zeros_value (suc k) ds = zeros_value k ds
 
 -- zeros behind digits
 value_behind : (ds : List ℕ) (k : ℕ) → digits_value 10 (ds ++ replicate k 48) ≡ digits_value 10 ds * 10 ^ k
@@ -110,7 +102,7 @@ parts : (n : ℕ) → n < 1000000 → (are_digits (shortened (six_digits n)) ≡
     × (digits_value 10 (shortened (six_digits n)) * 10 ^ (6 - length (shortened (six_digits n))) ≡ n)
 parts n h =
     let d = decimal_is_IsNumeral n (omega arith) in
-    of_six (six_digits n) n (length-six_digits n h) (zeros_digits (6 - length (decimal n)) (decimal n) d.0.1) (zeros_value (6 - length (decimal n)) (decimal n) ∙ d.1)
+    of_six (six_digits n) n (six_long n h) (zeros_digits (6 - length (decimal n)) (decimal n) d.0.1) (zeros_value (6 - length (decimal n)) (decimal n) ∙ d.1)
 
 pub fraction_digits : (n : ℕ) → are_digits (shortened (six_digits (n % 1000000))) ≡ true
 fraction_digits n = (parts (n % 1000000) (below n)).0

@@ -6,6 +6,7 @@ use Rattle.std.proofs.lemmas.List.{reverse-append, reverse-reverse, length-repli
 use Rattle.std.proofs.Math.Seq.{take-append_seam, take-append-add, drop-append_seam}
 use Rattle.brace_num.specs.Spelling.{sign_of, six_digits, canonical_fixed}
 use Rattle.brace_num.proofs.Printings.{short_decimal}
+use Rattle.brace_num.proofs.Canonical.{six_long}
 use Rattle.brace_show.specs.Literals.{past_zeros, without_zeros, shortened, short_fixed}
 
 -- what stands at the front of a list are zeros
@@ -51,11 +52,6 @@ cut_short front (digit ∷ others) e =
     ∙ ap (λ t. (front ++ digit ∷ []) ++ t) (starts_with_kept others)
     ∙ append_assoc front (digit ∷ []) (without_zeros others)
 
--- six digits are six
-pub length-six_digits : (n : ℕ) → n < 1000000 → length (six_digits n) ≡ 6
-length-six_digits n h =
-    omega (arith, short_decimal n h, length-append (replicate (6 - length (decimal n)) 48) (decimal n), length-replicate {A = ℕ} (6 - length (decimal n)) 48)
-
 pub below : (n : ℕ) → n % 1000000 < 1000000
 below n = omega arith
 
@@ -76,8 +72,8 @@ ends_long_enough out printed sign whole part six e =
 pub fixed_shortened : (out printed : List ℕ) (z : ℤ) → printed ≡ out ++ canonical_fixed z
     → take ((length printed - 5) + length (without_zeros (drop (length printed - 5) printed))) printed ≡ out ++ short_fixed z
 fixed_shortened out printed z e =
-    ends_cut_short out printed (sign_of z) (decimal (unsigned_abs z / 1000000)) (six_digits (unsigned_abs z % 1000000)) (length-six_digits (unsigned_abs z % 1000000) (below (unsigned_abs z))) e
+    ends_cut_short out printed (sign_of z) (decimal (unsigned_abs z / 1000000)) (six_digits (unsigned_abs z % 1000000)) (six_long (unsigned_abs z % 1000000) (below (unsigned_abs z))) e
 
 pub long_enough : (out printed : List ℕ) (z : ℤ) → printed ≡ out ++ canonical_fixed z → 5 ≤ length printed
 long_enough out printed z e =
-    ends_long_enough out printed (sign_of z) (decimal (unsigned_abs z / 1000000)) (six_digits (unsigned_abs z % 1000000)) (length-six_digits (unsigned_abs z % 1000000) (below (unsigned_abs z))) e
+    ends_long_enough out printed (sign_of z) (decimal (unsigned_abs z / 1000000)) (six_digits (unsigned_abs z % 1000000)) (six_long (unsigned_abs z % 1000000) (below (unsigned_abs z))) e

@@ -4,14 +4,13 @@ use Rattle.std.specs.Bool.{nat_le}
 use Rattle.std.specs.List.{list_all}
 use Rattle.std.specs.Str.{bytes_eq}
 use Rattle.std.specs.Cmp.Lexicographic.{same_text}
-use Rattle.std.proofs.lemmas.Bool.{eqb-true, leb-true, lt-leb, ne_eqb}
+use Rattle.std.proofs.lemmas.Bool.{eqb-true, leb-true, lt-leb, ne_eqb, and_parts, and_from, cond-true, cond-false, not-true, or_parts}
 use Rattle.brace_num.specs.Names.{is_digit, is_letter, is_word_byte, is_word, begins}
 use Rattle.brace_tok.specs.Bytes.{is_blank, are_digits, begins_close, has_close, begins_fraction, begins_comment}
 use Rattle.brace_tok.specs.Tables.{found, symbol, symbols}
 use Rattle.brace_tok.specs.declared.kinds.TokKind.{TokKind}
 use Rattle.brace_tok.specs.Pieces.{Piece, blank, line_comment, block_comment, word, whole, fraction, hash, sign, open_comment, stray, bytes_of, is_formed, ends_before}
 use Rattle.brace_tok.specs.Spells.{is_longest}
-use Rattle.brace_tok.proofs.Scans.{both, first_of_both, second_of_both}
 
 -- the bytes of the kind at the front, and those behind them
 abbrev pub front : (ℕ → Bool) → List ℕ → List ℕ
@@ -52,35 +51,17 @@ head [] = stray 0
 head (b ∷ text) = cond (is_letter b) (word (front is_word_byte (b ∷ text))) (cond (is_digit b) (number (b ∷ text))
     (cond (is_blank b) (blank b) (cond (b == 35) (hash (front is_word_byte text)) (mark b text))))
 
-pick_true : {A : Type 0} (v : Bool) (x y : A) → v ≡ true → cond v x y ≡ x
-pick_true v x y e = ap (λ b. cond b x y) e
-
-pick_false : {A : Type 0} (v : Bool) (x y : A) → v ≡ false → cond v x y ≡ y
-pick_false v x y e = ap (λ b. cond b x y) e
-
-is_false : (v : Bool) → not v ≡ true → v ≡ false
-is_false true e = sym e
-is_false false e = refl
-
 front_is : (kind : ℕ → Bool) (text after : List ℕ) → list_all kind text ≡ true → begins kind after ≡ false → front kind (text ++ after) ≡ text
 front_is kind [] [] e f = refl
-front_is kind [] (b ∷ after) e f = pick_false (kind b) _ _ f
+front_is kind [] (b ∷ after) e f = cond-false (kind b) _ _ f
 front_is kind (b ∷ text) after e f =
-    pick_true (kind b) _ _ (first_of_both (kind b) (list_all kind text) e) ∙ ap (λ t. b ∷ t) (front_is kind text after (second_of_both (kind b) (list_all kind text) e) f)
+    cond-true (kind b) _ _ ((and_parts (kind b) (list_all kind text) e).0) ∙ ap (λ t. b ∷ t) (front_is kind text after ((and_parts (kind b) (list_all kind text) e).1) f)
 
 behind_is : (kind : ℕ → Bool) (text after : List ℕ) → list_all kind text ≡ true → begins kind after ≡ false → behind kind (text ++ after) ≡ after
 behind_is kind [] [] e f = refl
-behind_is kind [] (b ∷ after) e f = pick_false (kind b) _ _ f
+behind_is kind [] (b ∷ after) e f = cond-false (kind b) _ _ f
 behind_is kind (b ∷ text) after e f =
-    pick_true (kind b) _ _ (first_of_both (kind b) (list_all kind text) e) ∙ behind_is kind text after (second_of_both (kind b) (list_all kind text) e) f
-
-left_false : (a b : Bool) → (a || b) ≡ false → a ≡ false
-left_false true b e = e
-left_false false b e = refl
-
-right_false : (a b : Bool) → (a || b) ≡ false → b ≡ false
-right_false true b e = absurd (cc)
-right_false false b e = e
+    cond-true (kind b) _ _ ((and_parts (kind b) (list_all kind text) e).0) ∙ behind_is kind text after ((and_parts (kind b) (list_all kind text) e).1) f
 
 same_begin : (kind : ℕ → Bool) (text : List ℕ) (a : ℕ) (r s : List ℕ) → begins kind (text ++ a ∷ r) ≡ begins kind (text ++ a ∷ s)
 same_begin kind [] a r s = refl
@@ -89,20 +70,20 @@ same_begin kind (b ∷ text) a r s = refl
 body_closed : (body after : List ℕ) → has_close (body ++ 42 ∷ []) ≡ false → body_of (body ++ 42 ∷ 47 ∷ after) ≡ Some body
 body_closed [] after e = refl
 body_closed (b ∷ body) after e =
-    let here : begins_close (b ∷ (body ++ 42 ∷ [])) ≡ false = left_false _ (has_close (body ++ 42 ∷ [])) e in
-    let rest : has_close (body ++ 42 ∷ []) ≡ false = right_false (begins_close (b ∷ (body ++ 42 ∷ []))) _ e in
-    pick_false (begins_close (b ∷ (body ++ 42 ∷ 47 ∷ after))) _ _ (ap (λ v. b == 42 && v) (same_begin (λ c. c == 47) body 42 (47 ∷ after) []) ∙ here)
+    let here : begins_close (b ∷ (body ++ 42 ∷ [])) ≡ false = (or_parts _ (has_close (body ++ 42 ∷ [])) e).0 in
+    let rest : has_close (body ++ 42 ∷ []) ≡ false = (or_parts (begins_close (b ∷ (body ++ 42 ∷ []))) _ e).1 in
+    cond-false (begins_close (b ∷ (body ++ 42 ∷ 47 ∷ after))) _ _ (ap (λ v. b == 42 && v) (same_begin (λ c. c == 47) body 42 (47 ∷ after) []) ∙ here)
     ∙ ap (with_byte b) (body_closed body after rest)
 
 body_open : (body : List ℕ) → has_close body ≡ false → body_of body ≡ None
 body_open [] e = refl
 body_open (b ∷ body) e =
-    pick_false (begins_close (b ∷ body)) _ _ (left_false (begins_close (b ∷ body)) (has_close body) e)
-    ∙ ap (with_byte b) (body_open body (right_false (begins_close (b ∷ body)) (has_close body) e))
+    cond-false (begins_close (b ∷ body)) _ _ ((or_parts (begins_close (b ∷ body)) (has_close body) e).0)
+    ∙ ap (with_byte b) (body_open body ((or_parts (begins_close (b ∷ body)) (has_close body) e).1))
 
 digit_no_letter : (b : ℕ) → is_digit b ≡ true → is_letter b ≡ false
 digit_no_letter b e =
-    let low : b ≤ 57 = leb-true _ _ (second_of_both (nat_le 48 b) (nat_le b 57) e) in
+    let low : b ≤ 57 = leb-true _ _ ((and_parts (nat_le 48 b) (nat_le b 57) e).1) in
     ap (λ v. (v && nat_le b 122) || (nat_le 65 b && nat_le b 90) || b == 95) (lt-leb 97 b (omega arith))
     ∙ ap (λ v. (v && nat_le b 90) || b == 95) (lt-leb 65 b (omega arith))
     ∙ ne_eqb b 95 (λ p. omega arith)
@@ -128,8 +109,8 @@ found_holds : (P : List ℕ → Bool) (table : List (List ℕ × TokKind)) (text
 found_holds P [] text all e = absurd (cc)
 found_holds P (entry ∷ table) text all e =
     elim (bytes_eq entry.0 text) as (λ v. bytes_eq entry.0 text ≡ v → P text ≡ true) [
-      | true ↦ λ s. ap P (sym (same_text entry.0 text (sym s))) ∙ first_of_both (P entry.0) _ all
-      | false ↦ λ s. found_holds P table text (second_of_both (P entry.0) _ all) (sym (ap (λ v. is_some (cond v (Some entry.1) (found table text))) s) ∙ e)
+      | true ↦ λ s. ap P (sym (same_text entry.0 text (sym s))) ∙ (and_parts (P entry.0) _ all).0
+      | false ↦ λ s. found_holds P table text ((and_parts (P entry.0) _ all).1) (sym (ap (λ v. is_some (cond v (Some entry.1) (found table text))) s) ∙ e)
     ] refl
 
 -- a symbol is short, and begins with no other kind of byte
@@ -142,38 +123,38 @@ symbol_mark text e = found_holds is_mark symbols text refl e
 
 head_mark : (b : ℕ) (text : List ℕ) → (not (is_letter b) && not (is_digit b) && not (is_blank b) && not (b == 35)) ≡ true → head (b ∷ text) ≡ mark b text
 head_mark b text e =
-    let three : (not (is_letter b) && not (is_digit b) && not (is_blank b)) ≡ true = first_of_both _ (not (b == 35)) e in
-    let two : (not (is_letter b) && not (is_digit b)) ≡ true = first_of_both _ (not (is_blank b)) three in
-    pick_false (is_letter b) _ _ (is_false _ (first_of_both _ (not (is_digit b)) two))
-    ∙ pick_false (is_digit b) _ _ (is_false _ (second_of_both (not (is_letter b)) _ two))
-    ∙ pick_false (is_blank b) _ _ (is_false _ (second_of_both (not (is_letter b) && not (is_digit b)) _ three))
-    ∙ pick_false (b == 35) _ _ (is_false _ (second_of_both (not (is_letter b) && not (is_digit b) && not (is_blank b)) _ e))
+    let three : (not (is_letter b) && not (is_digit b) && not (is_blank b)) ≡ true = (and_parts _ (not (b == 35)) e).0 in
+    let two : (not (is_letter b) && not (is_digit b)) ≡ true = (and_parts _ (not (is_blank b)) three).0 in
+    cond-false (is_letter b) _ _ (not-true _ ((and_parts _ (not (is_digit b)) two).0))
+    ∙ cond-false (is_digit b) _ _ (not-true _ ((and_parts (not (is_letter b)) _ two).1))
+    ∙ cond-false (is_blank b) _ _ (not-true _ ((and_parts (not (is_letter b) && not (is_digit b)) _ three).1))
+    ∙ cond-false (b == 35) _ _ (not-true _ ((and_parts (not (is_letter b) && not (is_digit b) && not (is_blank b)) _ e).1))
 
 head_blank : (b : ℕ) (after : List ℕ) → is_blank b ≡ true → head (b ∷ after) ≡ blank b
 head_blank b after e =
-    pick_false (is_letter b) _ _ (blank_no is_letter refl refl refl refl b e)
-    ∙ pick_false (is_digit b) _ _ (blank_no is_digit refl refl refl refl b e)
-    ∙ pick_true (is_blank b) _ _ e
+    cond-false (is_letter b) _ _ (blank_no is_letter refl refl refl refl b e)
+    ∙ cond-false (is_digit b) _ _ (blank_no is_digit refl refl refl refl b e)
+    ∙ cond-true (is_blank b) _ _ e
 
 head_word : (letters after : List ℕ) → is_word letters ≡ true → begins is_word_byte after ≡ false → head (letters ++ after) ≡ word letters
 head_word [] after e f = absurd (cc)
 head_word (b ∷ letters) after e f =
-    pick_true (is_letter b) _ _ (first_of_both (is_letter b) (list_all is_word_byte (b ∷ letters)) e)
-    ∙ ap word (front_is is_word_byte (b ∷ letters) after (second_of_both (is_letter b) (list_all is_word_byte (b ∷ letters)) e) f)
+    cond-true (is_letter b) _ _ ((and_parts (is_letter b) (list_all is_word_byte (b ∷ letters)) e).0)
+    ∙ ap word (front_is is_word_byte (b ∷ letters) after ((and_parts (is_letter b) (list_all is_word_byte (b ∷ letters)) e).1) f)
 
 head_number : (digits after : List ℕ) → are_digits digits ≡ true → head (digits ++ after) ≡ number (digits ++ after)
 head_number [] after e = absurd (cc)
 head_number (b ∷ digits) after e =
-    let digit : is_digit b ≡ true = first_of_both (is_digit b) (list_all is_digit (b ∷ digits)) e in
-    pick_false (is_letter b) _ _ (digit_no_letter b digit) ∙ pick_true (is_digit b) _ _ digit
+    let digit : is_digit b ≡ true = (and_parts (is_digit b) (list_all is_digit (b ∷ digits)) e).0 in
+    cond-false (is_letter b) _ _ (digit_no_letter b digit) ∙ cond-true (is_digit b) _ _ digit
 
 all_digits : (digits : List ℕ) → are_digits digits ≡ true → list_all is_digit digits ≡ true
-all_digits digits e = second_of_both (begins is_digit digits) (list_all is_digit digits) e
+all_digits digits e = (and_parts (begins is_digit digits) (list_all is_digit digits) e).1
 
 head_whole : (digits after : List ℕ) → are_digits digits ≡ true → begins is_digit after ≡ false → begins_fraction after ≡ false → head (digits ++ after) ≡ whole digits
 head_whole digits after e f g =
     head_number digits after e
-    ∙ pick_false (begins_fraction (behind is_digit (digits ++ after))) _ _ (ap begins_fraction (behind_is is_digit digits after (all_digits digits e) f) ∙ g)
+    ∙ cond-false (begins_fraction (behind is_digit (digits ++ after))) _ _ (ap begins_fraction (behind_is is_digit digits after (all_digits digits e) f) ∙ g)
     ∙ ap whole (front_is is_digit digits after (all_digits digits e) f)
 
 begins_front : (kind : ℕ → Bool) (text after : List ℕ) → begins kind text ≡ true → begins kind (text ++ after) ≡ true
@@ -186,28 +167,28 @@ head_fraction digits decimals after e d f =
     let tail : List ℕ = 46 ∷ (decimals ++ after) in
     let rest : behind is_digit (digits ++ tail) ≡ tail = behind_is is_digit digits tail (all_digits digits e) refl in
     head_number digits tail e
-    ∙ pick_true (begins_fraction (behind is_digit (digits ++ tail))) _ _
-    (ap begins_fraction rest ∙ begins_front is_digit decimals after (first_of_both (begins is_digit decimals) (list_all is_digit decimals) d))
+    ∙ cond-true (begins_fraction (behind is_digit (digits ++ tail))) _ _
+    (ap begins_fraction rest ∙ begins_front is_digit decimals after ((and_parts (begins is_digit decimals) (list_all is_digit decimals) d).0))
     ∙ ap (λ t. fraction t (front is_digit (drop 1 (behind is_digit (digits ++ tail))))) (front_is is_digit digits tail (all_digits digits e) refl)
     ∙ ap (λ t. fraction digits (front is_digit (drop 1 t))) rest
     ∙ ap (fraction digits) (front_is is_digit decimals after (all_digits decimals d) f)
 
 head_single : (b : ℕ) (after : List ℕ) → is_some (symbol (b ∷ [])) ≡ true
     → begins (λ c. is_some (symbol (b ∷ c ∷ []))) after ≡ false → begins_comment (b ∷ after) ≡ false → mark b after ≡ sign (b ∷ [])
-head_single b [] e f g = pick_true _ _ _ e
+head_single b [] e f g = cond-true _ _ _ e
 head_single b (c ∷ after) e f g =
-    pick_false (begins_comment (b ∷ c ∷ after)) _ _ g ∙ pick_false (is_some (symbol (b ∷ c ∷ []))) _ _ f ∙ pick_true (is_some (symbol (b ∷ []))) _ _ e
+    cond-false (begins_comment (b ∷ c ∷ after)) _ _ g ∙ cond-false (is_some (symbol (b ∷ c ∷ []))) _ _ f ∙ cond-true (is_some (symbol (b ∷ []))) _ _ e
 
 head_sign : (marks after : List ℕ) → is_some (symbol marks) ≡ true
     → begins (λ b. is_some (symbol (marks ++ b ∷ []))) after ≡ false → begins_comment (marks ++ after) ≡ false → head (marks ++ after) ≡ sign marks
 unfolding is_mark
-head_sign [] after e f g = let h : false ≡ true = second_of_both true false (symbol_mark [] e) in absurd (cc)
-head_sign (b ∷ []) after e f g = head_mark b after (second_of_both true _ (symbol_mark (b ∷ []) e)) ∙ head_single b after e f g
+head_sign [] after e f g = let h : false ≡ true = (and_parts true false (symbol_mark [] e)).1 in absurd (cc)
+head_sign (b ∷ []) after e f g = head_mark b after ((and_parts true _ (symbol_mark (b ∷ []) e)).1) ∙ head_single b after e f g
 head_sign (b ∷ c ∷ []) after e f g =
-    head_mark b (c ∷ after) (second_of_both true _ (symbol_mark (b ∷ c ∷ []) e))
-    ∙ pick_false (begins_comment (b ∷ c ∷ after)) _ _ g ∙ pick_true (is_some (symbol (b ∷ c ∷ []))) _ _ e
+    head_mark b (c ∷ after) ((and_parts true _ (symbol_mark (b ∷ c ∷ []) e)).1)
+    ∙ cond-false (begins_comment (b ∷ c ∷ after)) _ _ g ∙ cond-true (is_some (symbol (b ∷ c ∷ []))) _ _ e
 head_sign (b ∷ c ∷ d ∷ marks) after e f g =
-    let short : length (b ∷ c ∷ d ∷ marks) ≤ 2 = leb-true _ _ (first_of_both (nat_le (length (b ∷ c ∷ d ∷ marks)) 2) _ (symbol_mark (b ∷ c ∷ d ∷ marks) e)) in
+    let short : length (b ∷ c ∷ d ∷ marks) ≤ 2 = leb-true _ _ ((and_parts (nat_le (length (b ∷ c ∷ d ∷ marks)) 2) _ (symbol_mark (b ∷ c ∷ d ∷ marks) e)).0) in
     absurd (omega arith)
 
 slash_some : is_some (symbol (47 ∷ [])) ≡ true
@@ -218,16 +199,16 @@ no_slash : (b : ℕ) → is_some (symbol (b ∷ [])) ≡ false → (b == 47) ≡
 no_slash b e = ne_eqb b 47 (λ p. let h : is_some (symbol (b ∷ [])) ≡ true = ap (λ x. is_some (symbol (x ∷ []))) p ∙ slash_some in cc)
 
 mark_stray : (b : ℕ) (after : List ℕ) → is_some (symbol (b ∷ [])) ≡ false → begins (λ c. is_some (symbol (b ∷ c ∷ []))) after ≡ false → mark b after ≡ stray b
-mark_stray b [] e f = pick_false _ _ _ e
+mark_stray b [] e f = cond-false _ _ _ e
 mark_stray b (c ∷ after) e f =
-    pick_false (begins_comment (b ∷ c ∷ after)) _ _ (ap (λ v. v && (c == 47 || c == 42)) (no_slash b e))
-    ∙ pick_false (is_some (symbol (b ∷ c ∷ []))) _ _ f ∙ pick_false (is_some (symbol (b ∷ []))) _ _ e
+    cond-false (begins_comment (b ∷ c ∷ after)) _ _ (ap (λ v. v && (c == 47 || c == 42)) (no_slash b e))
+    ∙ cond-false (is_some (symbol (b ∷ c ∷ []))) _ _ f ∙ cond-false (is_some (symbol (b ∷ []))) _ _ e
 
 head_stray : (b : ℕ) (after : List ℕ) → is_blank b ≡ false → is_word_byte b ≡ false → (b == 35) ≡ false → is_some (symbol (b ∷ [])) ≡ false
     → begins (λ c. is_some (symbol (b ∷ c ∷ []))) after ≡ false → head (b ∷ after) ≡ stray b
 head_stray b after p q r e f =
     let fine : (not (is_letter b) && not (is_digit b) && not (is_blank b) && not (b == 35)) ≡ true =
-    both _ _ (both _ _ (both _ _ (ap not (left_false (is_letter b) (is_digit b) q)) (ap not (right_false (is_letter b) (is_digit b) q))) (ap not p)) (ap not r) in
+    and_from _ _ (and_from _ _ (and_from _ _ (ap not ((or_parts (is_letter b) (is_digit b) q).0)) (ap not ((or_parts (is_letter b) (is_digit b) q).1))) (ap not p)) (ap not r) in
     head_mark b after fine ∙ mark_stray b after e f
 
 nothing_after : (after : List ℕ) → begins (λ b. true) after ≡ false → after ≡ []
@@ -240,37 +221,37 @@ append_none (b ∷ text) = ap (λ t. b ∷ t) (append_none text)
 
 pub head_is : (p : Piece) (after : List ℕ) → is_formed p ≡ true → ends_before p after ≡ true → head (bytes_of p ++ after) ≡ p
 head_is (blank b) after e f = head_blank b after e
-head_is (line_comment body) after e f = ap line_comment (front_is (λ x. not (x == 10)) body after e (is_false _ f))
+head_is (line_comment body) after e f = ap line_comment (front_is (λ x. not (x == 10)) body after e (not-true _ f))
 head_is (block_comment body) after e f =
     ap (λ t. block_or t (body_of t)) (append_assoc body (42 ∷ 47 ∷ []) after)
-    ∙ ap (block_or (body ++ 42 ∷ 47 ∷ after)) (body_closed body after (is_false _ e))
-head_is (word letters) after e f = head_word letters after e (is_false _ f)
+    ∙ ap (block_or (body ++ 42 ∷ 47 ∷ after)) (body_closed body after (not-true _ e))
+head_is (word letters) after e f = head_word letters after e (not-true _ f)
 head_is (whole digits) after e f =
-    head_whole digits after e (is_false _ (first_of_both _ (not (begins_fraction after)) f)) (is_false _ (second_of_both (not (begins is_digit after)) _ f))
+    head_whole digits after e (not-true _ ((and_parts _ (not (begins_fraction after)) f).0)) (not-true _ ((and_parts (not (begins is_digit after)) _ f).1))
 head_is (fraction digits decimals) after e f =
     ap head (append_assoc digits (46 ∷ decimals) after)
-    ∙ head_fraction digits decimals after (first_of_both _ (are_digits decimals) e) (second_of_both (are_digits digits) _ e) (is_false _ f)
-head_is (hash letters) after e f = ap hash (front_is is_word_byte letters after e (is_false _ f))
+    ∙ head_fraction digits decimals after ((and_parts _ (are_digits decimals) e).0) ((and_parts (are_digits digits) _ e).1) (not-true _ f)
+head_is (hash letters) after e f = ap hash (front_is is_word_byte letters after e (not-true _ f))
 head_is (sign marks) after e f =
     head_sign marks after e
-    (is_false _ (first_of_both _ (not (begins_comment (marks ++ after))) f))
-    (is_false _ (second_of_both (not (begins (λ b. is_some (symbol (marks ++ b ∷ []))) after)) _ f))
+    (not-true _ ((and_parts _ (not (begins_comment (marks ++ after))) f).0))
+    (not-true _ ((and_parts (not (begins (λ b. is_some (symbol (marks ++ b ∷ []))) after)) _ f).1))
 head_is (open_comment body) after e f =
-    let none : after ≡ [] = nothing_after after (is_false _ f) in
+    let none : after ≡ [] = nothing_after after (not-true _ f) in
     let all : body ++ after ≡ body = ap (λ t. body ++ t) none ∙ append_none body in
-    ap (λ t. block_or t (body_of t)) all ∙ ap (block_or body) (body_open body (is_false _ e))
+    ap (λ t. block_or t (body_of t)) all ∙ ap (block_or body) (body_open body (not-true _ e))
 head_is (stray b) after e f =
-    let three : (not (is_blank b) && not (is_word_byte b) && not (b == 35)) ≡ true = first_of_both _ (not (is_some (symbol (b ∷ [])))) e in
-    let two : (not (is_blank b) && not (is_word_byte b)) ≡ true = first_of_both _ (not (b == 35)) three in
+    let three : (not (is_blank b) && not (is_word_byte b) && not (b == 35)) ≡ true = (and_parts _ (not (is_some (symbol (b ∷ [])))) e).0 in
+    let two : (not (is_blank b) && not (is_word_byte b)) ≡ true = (and_parts _ (not (b == 35)) three).0 in
     head_stray b after
-    (is_false _ (first_of_both _ (not (is_word_byte b)) two))
-    (is_false _ (second_of_both (not (is_blank b)) _ two))
-    (is_false _ (second_of_both (not (is_blank b) && not (is_word_byte b)) _ three))
-    (is_false _ (second_of_both (not (is_blank b) && not (is_word_byte b) && not (b == 35)) _ e))
-    (is_false _ f)
+    (not-true _ ((and_parts _ (not (is_word_byte b)) two).0))
+    (not-true _ ((and_parts (not (is_blank b)) _ two).1))
+    (not-true _ ((and_parts (not (is_blank b) && not (is_word_byte b)) _ three).1))
+    (not-true _ ((and_parts (not (is_blank b) && not (is_word_byte b) && not (b == 35)) _ e).1))
+    (not-true _ f)
 
 pub one_piece : (p q : Piece) (r s : List ℕ) → bytes_of p ++ r ≡ bytes_of q ++ s → is_longest p r ≡ true → is_longest q s ≡ true → p ≡ q
 one_piece p q r s e f g =
-    sym (head_is p r (first_of_both _ (ends_before p r) f) (second_of_both (is_formed p) _ f))
+    sym (head_is p r ((and_parts _ (ends_before p r) f).0) ((and_parts (is_formed p) _ f).1))
     ∙ ap head e
-    ∙ head_is q s (first_of_both _ (ends_before q s) g) (second_of_both (is_formed q) _ g)
+    ∙ head_is q s ((and_parts _ (ends_before q s) g).0) ((and_parts (is_formed q) _ g).1)

@@ -4,15 +4,15 @@ use Rattle.std.specs.List.{filter}
 use Rattle.std.specs.Str.{bytes_eq}
 use Rattle.std.specs.Bool.{nat_eq}
 use Rattle.std.proofs.lemmas.Bool.{ne_eqb, eqb-false}
+use Rattle.brace_num.proofs.Booleans.{and_false}
 use Rattle.brace_tok.specs.Tables.{found, words, reserved, reserved_of}
 use Rattle.brace_tok.specs.declared.kinds.TokKind.{TokKind}
-use Rattle.brace_tok.proofs.Scans.{and-false}
 
 lengths_differ : (a b : List ℕ) → (length a ≡ length b → ⊥) → bytes_eq a b ≡ false
 lengths_differ [] [] h = absurd (h refl)
 lengths_differ [] (y ∷ b) h = refl
 lengths_differ (x ∷ a) [] h = refl
-lengths_differ (x ∷ a) (y ∷ b) h = ap (λ v. nat_eq x y && v) (lengths_differ a b (λ e. h (ap suc e))) ∙ and-false _
+lengths_differ (x ∷ a) (y ∷ b) h = ap (λ v. nat_eq x y && v) (lengths_differ a b (λ e. h (ap suc e))) ∙ and_false _
 
 found_short : (table : List (List ℕ × TokKind)) (text : List ℕ) → found table text ≡ found (filter (λ entry. length entry.0 == length text) table) text
 found_short [] text = refl

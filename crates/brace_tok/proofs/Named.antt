@@ -7,6 +7,7 @@ use Rattle.std.specs.Str.{bytes_eq}
 use Rattle.std.specs.Str.Parse.{digits_value}
 use Rattle.std.proofs.lemmas.List.Elements.{All-append}
 use Rattle.std.proofs.Math.Seq.{drop-append_seam, take-append_seam}
+use Rattle.std.proofs.lemmas.Bool.{and_parts, and_from, not-true}
 use Rattle.brace_num.specs.Names.{is_word, is_among, is_name, reserved_words}
 use Rattle.brace_tok.specs.Tables.{found, words, directives, symbols, reserved, directive, symbol}
 use Rattle.brace_tok.specs.Pieces.{Piece, blank, line_comment, block_comment, word, whole, fraction, hash, sign, open_comment, stray, bytes_of, is_formed, ends_before}
@@ -18,7 +19,6 @@ use Rattle.brace_tok.specs.declared.kinds.TokKind.{TokKind}
 use Rattle.brace_tok.specs.declared.kinds.TokKind.TheVariants as kind
 use Rattle.brace_tok.specs.declared.fault.TokFault.{TokFault}
 use Rattle.brace_tok.specs.declared.fault.TokFault.TheVariants as fault
-use Rattle.brace_tok.proofs.Scans.{both, first_of_both, second_of_both}
 use Rattle.brace_tok.proofs.Heads.{append_none}
 use Rattle.brace_tok.proofs.Unique.{row_longest, row_rest}
 
@@ -34,8 +34,8 @@ found_kind (entry ∷ table) text k all e =
       | true ↦ λ s.
           let here : Some entry.1 ≡ Some k = sym (ap (λ v. cond v (Some entry.1) (found table text)) s) ∙ e in
           let same : entry.1 ≡ k = cc in
-          ap is_other (sym same) ∙ first_of_both (is_other entry.1) (list_all (λ en. is_other en.1) table) all
-      | false ↦ λ s. found_kind table text k (second_of_both (is_other entry.1) (list_all (λ en. is_other en.1) table) all)
+          ap is_other (sym same) ∙ (and_parts (is_other entry.1) (list_all (λ en. is_other en.1) table) all).0
+      | false ↦ λ s. found_kind table text k ((and_parts (is_other entry.1) (list_all (λ en. is_other en.1) table) all).1)
           (sym (ap (λ v. cond v (Some entry.1) (found table text)) s) ∙ e)
     ] refl
 
@@ -80,20 +80,16 @@ not_among (entry ∷ table) text e =
       | false ↦ λ h. not_among table text h
     ] e
 
-not_true : (v : Bool) → not v ≡ true → v ≡ false
-not_true true e = absurd (cc)
-not_true false e = refl
-
 -- a name has a word's bytes, at most 64 of them, and is not reserved
 pub name_word : (text : List ℕ) → is_name text ≡ true → is_word text ≡ true
-name_word text e = first_of_both _ _ (first_of_both (is_word text && nat_le (length text) 64) _ e)
+name_word text e = (and_parts _ _ ((and_parts (is_word text && nat_le (length text) 64) _ e).0)).0
 
 pub name_short : (text : List ℕ) → is_name text ≡ true → nat_le (length text) 64 ≡ true
-name_short text e = second_of_both (is_word text) _ (first_of_both (is_word text && nat_le (length text) 64) _ e)
+name_short text e = (and_parts (is_word text) _ ((and_parts (is_word text && nat_le (length text) 64) _ e).0)).1
 
 pub name_free : (text : List ℕ) → is_name text ≡ true → reserved text ≡ None
 unfolding reserved
-name_free text e = not_among words text (not_true _ (second_of_both (is_word text && nat_le (length text) 64) _ e))
+name_free text e = not_among words text (not-true _ ((and_parts (is_word text && nat_le (length text) 64) _ e).1))
 
 free_name : (text : List ℕ) → reserved text ≡ None → not (is_among reserved_words text) ≡ true
 unfolding reserved
@@ -105,7 +101,7 @@ word_name letters e f =
       | true ↦ λ s.
           let here : Some (name_or (reserved letters)) ≡ Some kind.Word = sym (ap (λ v. cond v (Some (name_or (reserved letters))) None) s) ∙ f in
           let plain : name_or (reserved letters) ≡ kind.Word = cc in
-          both _ _ (both _ _ e s) (free_name letters (name_none (reserved letters) (reserved_other letters) plain))
+          and_from _ _ (and_from _ _ e s) (free_name letters (name_none (reserved letters) (reserved_other letters) plain))
       | false ↦ λ s.
           let here : None ≡ Some kind.Word = sym (ap (λ v. cond v (Some (name_or (reserved letters))) None) s) ∙ f in
           absurd (cc)
@@ -164,7 +160,7 @@ row_named before (p ∷ row) after e =
     subst (λ t. All (IsNamed t) (tokens_from (length (before ++ bytes_of p)) row)) moved more in
     let rest : All (IsNamed (before ++ ((bytes_of p ++ text_of row) ++ after))) (tokens_from (length before + length (bytes_of p)) row) =
     subst (λ n. All (IsNamed (before ++ ((bytes_of p ++ text_of row) ++ after))) (tokens_from n row)) place there in
-    let formed : is_formed p ≡ true = first_of_both (is_formed p) (ends_before p (text_of row ++ after)) (row_longest p row after e) in
+    let formed : is_formed p ≡ true = (and_parts (is_formed p) (ends_before p (text_of row ++ after)) (row_longest p row after e)).0 in
     let text : take (length before + length (bytes_of p) - length before) (drop (length before) (before ++ ((bytes_of p ++ text_of row) ++ after))) ≡ bytes_of p =
     ap (λ t. take (length before + length (bytes_of p) - length before) (drop (length before) t)) flat ∙ cut_out before (bytes_of p) (text_of row ++ after) in
     All-append (IsNamed (before ++ ((bytes_of p ++ text_of row) ++ after)))

@@ -2,6 +2,7 @@
 use Rattle.std.proofs.Common.{◌≡◌, ℕ, ◌+◌, ◌-◌, ◌<◌, ◌≤◌, Bool, true, ◌&&◌, List, [], ◌∷◌, ◌++◌, length, drop, refl, sym, ap, subst, ◌∙◌, arith, append_assoc, length-append, add-zero, Option, Some, None, is_some, ◌⊎◌, inl, inr}
 use Rattle.std.proofs.lemmas.List.{take-append-drop}
 use Rattle.std.proofs.Common.{length-take}
+use Rattle.std.proofs.lemmas.Bool.{and_parts, and_from}
 use Rattle.brace_tok.specs.Pieces.{Piece, blank, line_comment, block_comment, word, whole, fraction, hash, sign, open_comment, stray, bytes_of, is_formed}
 use Rattle.brace_num.specs.Names.{begins, is_digit, is_letter}
 use Rattle.brace_tok.specs.Tables.{symbol, directive}
@@ -15,7 +16,6 @@ use Rattle.brace_tok.specs.declared.fault.TokFault.{TokFault}
 use Rattle.brace_tok.specs.declared.fault.TokFault.TheVariants as fault
 use Rattle.brace_tok.specs.declared.step.Step.{Step}
 use Rattle.brace_tok.specs.declared.step.Step.TheVariants as step
-use Rattle.brace_tok.proofs.Scans.{both, first_of_both, second_of_both}
 
 append_nothing : {A : Type 0} (xs : List A) → xs ++ [] ≡ xs
 append_nothing [] = refl
@@ -30,11 +30,11 @@ text_snoc_after row p after = ap (λ t. t ++ after) (text_snoc row p) ∙ append
 
 pub row_snoc : (row : List Piece) (p : Piece) (after : List ℕ) → is_row row (bytes_of p ++ after) ≡ true
     → is_longest p after ≡ true → is_sound (role_at 0 p) ≡ true → is_row (row ++ p ∷ []) after ≡ true
-row_snoc [] p after e l s = both _ _ (both _ _ l s) refl
+row_snoc [] p after e l s = and_from _ _ (and_from _ _ l s) refl
 row_snoc (q ∷ row) p after e l s =
-    let front : (is_longest q (text_of row ++ (bytes_of p ++ after)) && is_sound (role_at 0 q)) ≡ true = first_of_both _ (is_row row (bytes_of p ++ after)) e in
-    let rest : is_row row (bytes_of p ++ after) ≡ true = second_of_both (is_longest q (text_of row ++ (bytes_of p ++ after)) && is_sound (role_at 0 q)) _ e in
-    both _ _
+    let front : (is_longest q (text_of row ++ (bytes_of p ++ after)) && is_sound (role_at 0 q)) ≡ true = (and_parts _ (is_row row (bytes_of p ++ after)) e).0 in
+    let rest : is_row row (bytes_of p ++ after) ≡ true = (and_parts (is_longest q (text_of row ++ (bytes_of p ++ after)) && is_sound (role_at 0 q)) _ e).1 in
+    and_from _ _
     (ap (λ t. is_longest q t && is_sound (role_at 0 q)) (text_snoc_after row p after) ∙ front)
     (row_snoc row p after rest l s)
 
@@ -136,8 +136,8 @@ pub formed_some : (p : Piece) → is_formed p ≡ true → 0 < length (bytes_of 
 formed_some (blank x) e = omega arith
 formed_some (line_comment x) e = omega arith
 formed_some (block_comment x) e = omega arith
-formed_some (word x) e = begins_some is_letter x (first_of_both _ _ e)
-formed_some (whole x) e = begins_some is_digit x (first_of_both _ _ e)
+formed_some (word x) e = begins_some is_letter x ((and_parts _ _ e).0)
+formed_some (whole x) e = begins_some is_digit x ((and_parts _ _ e).0)
 formed_some (fraction x y) e = omega (arith, length-append x (46 ∷ y))
 formed_some (hash x) e = omega arith
 formed_some (sign x) e = symbol_some x e
@@ -145,7 +145,7 @@ formed_some (open_comment x) e = omega arith
 formed_some (stray x) e = omega arith
 
 stands_some : (text : List ℕ) (p : Piece) (n : ℕ) → Stands text p n → 0 < n
-stands_some text p n s = omega (arith, stands_length text p n s, formed_some p (first_of_both _ _ s.longest))
+stands_some text p n s = omega (arith, stands_length text p n s, formed_some p ((and_parts _ _ s.longest).0))
 
 pub step_bounds : (text : List ℕ) (toks new : List Token) (at_ n : ℕ) (s : Step) → StepIs at_ text s → Passes at_ s toks new n → (0 < n) × (n ≤ length text)
 step_bounds text toks new at_ n (step.Gap m) (p, stands, says_) (same, kept) =

@@ -3,35 +3,12 @@ use Rattle.std.proofs.Common.{◌≡◌, ℕ, zero, suc, ◌+◌, ◌<◌, ◌�
 use Rattle.std.proofs.Math.Numerals.{sub-one}
 use Rattle.std.proofs.lemmas.Bool.{ne_eqb}
 use Rattle.brace_num.specs.Names.{begins}
+use Rattle.brace_num.proofs.Booleans.{and_false, or_false}
 use Rattle.brace_tok.specs.Bytes.{begins_close, has_close}
-
-pub and-false : (a : Bool) → (a && false) ≡ false
-and-false true = refl
-and-false false = refl
-
-pub and-true : (a : Bool) → (a && true) ≡ a
-and-true true = refl
-and-true false = refl
-
-pub or-false : (a : Bool) → (a || false) ≡ a
-or-false true = refl
-or-false false = refl
 
 pub or-assoc : (a b c : Bool) → (a || (b || c)) ≡ ((a || b) || c)
 or-assoc true b c = refl
 or-assoc false b c = refl
-
-pub both : (a b : Bool) → a ≡ true → b ≡ true → (a && b) ≡ true
-both true b p q = q
-both false b p q = p
-
-pub first_of_both : (a b : Bool) → (a && b) ≡ true → a ≡ true
-first_of_both true b p = refl
-first_of_both false b p = p
-
-pub second_of_both : (a b : Bool) → (a && b) ≡ true → b ≡ true
-second_of_both true b p = p
-second_of_both false b p = absurd (cc)
 
 pub begins-drop : (kind : ℕ → Bool) (text : List ℕ) (n : ℕ) → n < length text → begins kind (drop n text) ≡ kind (get_or text n 0)
 begins-drop kind [] n h = absurd (omega arith)
@@ -46,7 +23,7 @@ pub close_next : (text : List ℕ) (n : ℕ) → suc n < length text →
     has_close (take (suc (suc n)) text) ≡ (has_close (take (suc n) text) || (get_or text n 0 == 42 && get_or text (suc n) 0 == 47))
 close_next [] n h = absurd (omega arith)
 close_next (x ∷ []) n h = absurd (omega arith)
-close_next (x ∷ y ∷ text) zero h = rw (and-false (y == 42), and-false (x == 42), or-false (x == 42 && y == 47)) refl
+close_next (x ∷ y ∷ text) zero h = rw (and_false (y == 42), and_false (x == 42), or_false (x == 42 && y == 47)) refl
 close_next (x ∷ y ∷ text) (suc n) h =
     ap (λ v. (x == 42 && y == 47) || v) (close_next (y ∷ text) n (omega arith)) ∙ or-assoc (x == 42 && y == 47) (has_close (take (suc n) (y ∷ text))) (get_or (y ∷ text) n 0 == 42 && get_or (y ∷ text) (suc n) 0 == 47)
 
@@ -58,7 +35,7 @@ close_here (x ∷ y ∷ text) (suc n) h = close_here (y ∷ text) n (omega arith
 
 pub close_none : (text : List ℕ) → length text ≤ 1 → has_close text ≡ false
 close_none [] h = refl
-close_none (x ∷ []) h = rw (and-false (x == 42)) refl
+close_none (x ∷ []) h = rw (and_false (x == 42)) refl
 close_none (x ∷ y ∷ text) h = absurd (omega arith)
 
 pub both_false : (a b : Bool) → a ≡ false → b ≡ false → (a || b) ≡ false
@@ -74,4 +51,4 @@ close_step_first text (suc n) p h ne e =
 pub close_step_second : (text : List ℕ) (n : ℕ) → 1 ≤ n → n < length text → get_or text n 0 ≢ 47 → has_close (take n text) ≡ false → has_close (take (n + 1) text) ≡ false
 close_step_second text zero p h ne e = absurd (omega arith)
 close_step_second text (suc n) p h ne e =
-    rw add-one (close_next text n h ∙ both_false _ _ e (ap (λ v. (get_or text n 0 == 42) && v) (ne_eqb _ _ ne) ∙ and-false _))
+    rw add-one (close_next text n h ∙ both_false _ _ e (ap (λ v. (get_or text n 0 == 42) && v) (ne_eqb _ _ ne) ∙ and_false _))

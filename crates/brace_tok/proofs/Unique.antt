@@ -1,6 +1,7 @@
 -- A text is one row of pieces: it spells one list of tokens, or has one first fault.
 use Rattle.std.proofs.Common.{◌≡◌, ℕ, ◌+◌, ◌<◌, ◌≤◌, true, false, ◌&&◌, List, [], ◌∷◌, ◌++◌, length, refl, sym, ap, subst, ◌∙◌, arith, append_assoc, length-append, ◌⊎◌, inl, inr}
 use Rattle.std.proofs.lemmas.List.{append_cancel_left}
+use Rattle.std.proofs.lemmas.Bool.{and_parts}
 use Rattle.brace_tok.specs.Pieces.{Piece, bytes_of, is_formed, ends_before}
 use Rattle.brace_tok.specs.Roles.{Role, nothing, token, refused, role_at}
 use Rattle.brace_tok.specs.Spells.{text_of, is_sound, is_longest, is_row, token_at, tokens_from, Spells, FirstFault, Rises}
@@ -8,7 +9,6 @@ use Rattle.brace_tok.specs.Answers.{IsFault}
 use Rattle.brace_tok.specs.declared.kinds.Token.{Token}
 use Rattle.brace_tok.specs.declared.fault.TokFault.{TokFault}
 use Rattle.brace_tok.specs.declared.fault.TokFault.TheVariants as fault
-use Rattle.brace_tok.proofs.Scans.{first_of_both, second_of_both}
 use Rattle.brace_tok.proofs.Heads.{one_piece, append_none}
 use Rattle.brace_tok.proofs.Rows.{Read, sound_anywhere, formed_some}
 
@@ -17,16 +17,16 @@ abbrev pub Ends : List ℕ → Type 0
 Ends text = (text ≡ []) ⊎ ((bad : Piece) × (after : List ℕ) × (text ≡ bytes_of bad ++ after) × (is_longest bad after ≡ true) × (is_sound (role_at 0 bad) ≡ false))
 
 pub row_longest : (p : Piece) (row : List Piece) (after : List ℕ) → is_row (p ∷ row) after ≡ true → is_longest p (text_of row ++ after) ≡ true
-row_longest p row after e = first_of_both (is_longest p (text_of row ++ after)) (is_sound (role_at 0 p)) (first_of_both _ (is_row row after) e)
+row_longest p row after e = (and_parts (is_longest p (text_of row ++ after)) (is_sound (role_at 0 p)) ((and_parts _ (is_row row after) e).0)).0
 
 pub row_sound : (p : Piece) (row : List Piece) (after : List ℕ) → is_row (p ∷ row) after ≡ true → is_sound (role_at 0 p) ≡ true
-row_sound p row after e = second_of_both (is_longest p (text_of row ++ after)) (is_sound (role_at 0 p)) (first_of_both _ (is_row row after) e)
+row_sound p row after e = (and_parts (is_longest p (text_of row ++ after)) (is_sound (role_at 0 p)) ((and_parts _ (is_row row after) e).0)).1
 
 pub row_rest : (p : Piece) (row : List Piece) (after : List ℕ) → is_row (p ∷ row) after ≡ true → is_row row after ≡ true
-row_rest p row after e = second_of_both (is_longest p (text_of row ++ after) && is_sound (role_at 0 p)) (is_row row after) e
+row_rest p row after e = (and_parts (is_longest p (text_of row ++ after) && is_sound (role_at 0 p)) (is_row row after) e).1
 
 pub longest_some : (p : Piece) (after : List ℕ) → is_longest p after ≡ true → 0 < length (bytes_of p)
-longest_some p after e = formed_some p (first_of_both (is_formed p) (ends_before p after) e)
+longest_some p after e = formed_some p ((and_parts (is_formed p) (ends_before p after) e).0)
 
 no_start : (text : List ℕ) (q : Piece) (s : List ℕ) → Ends text → text ≡ bytes_of q ++ s → is_longest q s ≡ true → is_sound (role_at 0 q) ≡ true → ⊥
 no_start text q s (inl none) e l sound = omega (arith, ap length (sym none ∙ e), length-append (bytes_of q) s, longest_some q s l)

@@ -1,4 +1,5 @@
 use Rattle.std.proofs.Common.{◌≡◌, ◌<◌, ◌∙◌, ℕ, List, Bor, map, length, sym, ap, subst, rules, Result, Ok, Err}
+use Rattle.brace_num.proofs.Options.{ok_same}
 use Rattle.brace_model.specs.declared.world.Agent.{Agent}
 use Rattle.brace_save.specs.declared.kinds.Point.{Point}
 use Rattle.brace_save.specs.Lines.{AreOf, IsRead, read}
@@ -20,9 +21,6 @@ returns-in_err-read_end-clause-refused c = λ lawful cause err ok.
 
 abbrev moment_in : Point → Moment
 moment_in point = record { tick = point.tick; seed = point.seed; world = point.world }
-
-ok_same : {A E : Type 0} (x y : A) → ◌≡◌ {A = Result A E} (Ok x) (Ok y) → x ≡ y
-ok_same x y e = cc
 
 pub returns-clause-point : goal.returns-clause-point
 returns-clause-point c = λ lawful point e.

@@ -3,7 +3,7 @@ use Rattle.std.specs.Int.{w64}
 use Rattle.std.specs.Prelude.{FitsSigned}
 use Rattle.std.proofs.lemmas.Int.{to_z-of_z}
 use Rattle.brace_num.specs.Areas.{gap}
-use Rattle.brace_cuts.proofs.Areas.{greater}
+use Rattle.brace_num.proofs.Numbers.{max_pos}
 use Rattle.brace_cuts.proofs.space.Cuts.gap.Goals as goal
 
 pub returns : goal.returns
@@ -20,4 +20,4 @@ returns c =
     let by1 : FitsSigned w64 b.y1 = search rules in
     let along_x = simp to_z-of_z at c.apart.ensures in
     let along_y = simp to_z-of_z at c.apart-2.ensures in
-    ap pos c.max.ensures ∙ greater _ _ _ _ along_x along_y ∙ ap₂ gap c.area-a.ensures c.area-b.ensures
+    ap pos c.max.ensures ∙ max_pos _ _ _ _ along_x along_y ∙ ap₂ gap c.area-a.ensures c.area-b.ensures
