@@ -36,9 +36,7 @@ use Rattle.brace_invert.proofs.Nearness.{seen_near, seer_near, nearer}
 use Rattle.brace_invert.proofs.Owners.{range_reaches, no_farther}
 use Rattle.brace_invert.proofs.Outward as o
 use Rattle.brace_invert.proofs.Outward.{Depth, Outward, outward}
-use Rattle.std.proofs.lemmas.Bool.{and_parts}
-use Rattle.std.proofs.lemmas.Bool.{and_from}
-use Rattle.std.proofs.lemmas.Bool.{and_right}
+use Rattle.std.proofs.lemmas.Bool.{and_parts, and_from, and_right}
 use Rattle.brace_num.proofs.Lists.{in_map}
 
 -- all agents of a scope are held

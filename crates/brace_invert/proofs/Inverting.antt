@@ -38,8 +38,7 @@ use Rattle.brace_invert.proofs.Typed.{is_there}
 use Rattle.brace_invert.proofs.LawfulParts.{IsPart, forward_is_part, inverse_is_part}
 use Rattle.brace_invert.proofs.Runs.{Joined, Together, together_nothing, together_append, joined_run}
 use Rattle.brace_invert.proofs.Traces.{Foretold, foretold_append, foretold_run}
-use Rattle.brace_num.proofs.Lists.{none_in}
-use Rattle.brace_num.proofs.Lists.{filter_all}
+use Rattle.brace_num.proofs.Lists.{none_in, filter_all}
 
 -- agents of a program with other queries see the same
 reaches_same : (part : List Stmt → List Stmt) (c d : Option Class) (a b : Agent) → reaches_to (option_map (with_query part) c) (option_map (with_query part) d) a b ≡ reaches_to c d a b

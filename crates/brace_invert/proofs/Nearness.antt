@@ -1,6 +1,6 @@
 -- Who sees an agent of an area, or is seen by one, stands near it.
 use Rattle.std.proofs.Common.{◌≡◌, refl, subst, ℕ, zero, suc, ℤ, pos, ◌≤ℤ◌, ◌+ℤ◌, ◌-ℤ◌, List, [], ◌∷◌, true, Option, Some, None, arith}
-use Rattle.std.specs.Prelude.{not, ◌==◌, int_le, fold, slice_get}
+use Rattle.std.specs.Prelude.{not, ◌==◌, fold, slice_get}
 use Rattle.std.specs.Int.{int_max}
 use Rattle.std.proofs.lemmas.Int.{ints}
 use Rattle.brace_num.specs.declared.kinds.Area.{Area}
@@ -14,11 +14,7 @@ use Rattle.brace_invert.specs.Range.{greatest_visible}
 use Rattle.brace_invert.proofs.RangeLemmas.{distance_low}
 use Rattle.brace_invert.specs.Held.{stands_near, is_near}
 use Rattle.std.proofs.lemmas.Bool.{and_parts}
-use Rattle.brace_num.proofs.Numbers.{le_holds}
-use Rattle.brace_num.proofs.Numbers.{le_told}
-use Rattle.brace_num.proofs.Numbers.{le_through}
-use Rattle.brace_num.proofs.Numbers.{max_within}
-use Rattle.brace_num.proofs.Numbers.{within_max}
+use Rattle.brace_num.proofs.Numbers.{le_holds, le_told, le_through, max_within, within_max}
 
 -- two numbers within a distance, as an order of each
 within_up : (v p q : ℤ) → is_within v p q ≡ true → (p -ℤ q) ≤ℤ v

@@ -1,7 +1,7 @@
 -- What a part of a block keeps of the block's numbers: all constants, some sites, loops and assignments, in their order.
 use Rattle.std.proofs.Common.{◌≡◌, ◌∙◌, refl, sym, ap, ℕ, ◌+◌, ◌≤◌, List, [], ◌∷◌, ◌++◌, map, flat_map, sum, false, arith, append_assoc, ◌<◌, length, get_or, take}
 use Rattle.std.specs.List.{concat, sum_by}
-use Rattle.std.proofs.lemmas.List.{append-nil, map-append, take_more, length-append}
+use Rattle.std.proofs.lemmas.List.{append-nil, map-append, length-append}
 use Rattle.std.proofs.lemmas.List.Concat.{flat_map-append}
 use Rattle.std.proofs.lemmas.List.Sums.{sum-map, sum_by-cons, sum_by-append}
 use Rattle.brace_model.specs.declared.program.Value.TheVariants.{Flag}

@@ -1,6 +1,6 @@
 -- Blocks of an inverse program: values are said to the agents of loops alone.
 use Rattle.std.proofs.Common.{◌≡◌, ◌∙◌, refl, sym, subst, ℕ, List, [], ◌∷◌, ◌++◌, map, flat_map, sum, Bool, true, false, Option, Some, None, ◌==◌}
-use Rattle.std.specs.Prelude.{◌||◌, if◌then◌else◌, is_none, not}
+use Rattle.std.specs.Prelude.{if◌then◌else◌, is_none, not}
 use Rattle.std.specs.Option.{option_and_then}
 use Rattle.std.specs.List.{list_any}
 use Rattle.brace_model.specs.declared.program.Value.TheVariants.{Flag}
@@ -21,8 +21,7 @@ use Rattle.brace_invert.proofs.RangeLemmas.{says_within-If, says_within-Foreach,
 use Rattle.brace_model.proofs.Blocks as b
 use Rattle.brace_model.proofs.Blocks.{Plain}
 use Rattle.brace_invert.proofs.Typed.{After, after_split, formed_const, formed_if, formed_loop, formed_assign, only_where}
-use Rattle.std.proofs.lemmas.Bool.{or_right}
-use Rattle.std.proofs.lemmas.Bool.{or_left}
+use Rattle.std.proofs.lemmas.Bool.{or_right, or_left}
 
 -- in how many loops a block stands
 pub data Depth : Type 0 where

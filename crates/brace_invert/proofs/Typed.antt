@@ -23,8 +23,7 @@ use Rattle.brace_model.proofs.LawEquations.{type_of-Lit, scope_after-Const, scop
 use Rattle.brace_invert.specs.Split.{unread, places, with_query}
 use Rattle.brace_invert.proofs.Pruned as pruned
 use Rattle.brace_invert.proofs.Pruned.{Pruned}
-use Rattle.std.proofs.lemmas.Bool.{and_from}
-use Rattle.std.proofs.lemmas.Bool.{and_parts}
+use Rattle.std.proofs.lemmas.Bool.{and_from, and_parts}
 
 -- the same names, in a program whose classes have other queries
 abbrev pub renamed : (List Stmt → List Stmt) → Names → Names

@@ -1,5 +1,5 @@
 -- All parts together own each agent of a class once.
-use Rattle.std.proofs.Common.{◌≡◌, ◌∙◌, refl, sym, ap, subst, ℕ, List, [], ◌∷◌, filter, flat_map, true, Option, Some, None, arith}
+use Rattle.std.proofs.Common.{◌≡◌, ◌∙◌, refl, sym, ap, subst, ℕ, List, flat_map, true, Option, Some, None, arith}
 use Rattle.std.specs.List.{list_any, range_with_len}
 use Rattle.std.specs.List.Sorted.{IsPermutation}
 use Rattle.std.proofs.lemmas.Bool.{eq-eqb}
@@ -17,9 +17,8 @@ use Rattle.brace_pieces.specs.Together.{HaveClasses, IsSorted}
 use Rattle.brace_pieces.proofs.Merges.{Apart, apart_in_row, any_in_row, gathered}
 use Rattle.brace_pieces.proofs.Meetings.{owner_is_part}
 use Rattle.brace_pieces.proofs.HeldLemmas.{one_owns}
-use Rattle.brace_num.proofs.Lists.{filter_alike}
+use Rattle.brace_num.proofs.Lists.{filter_alike, filter_all}
 use Rattle.brace_num.proofs.Orders.{one_sorted}
-use Rattle.brace_num.proofs.Lists.{filter_all}
 
 module _ (s : Setting) (lawful : LawfulSetting s) (t : ℕ) where
   abbrev m : Program

@@ -18,9 +18,7 @@ use Rattle.brace_pieces.specs.Steps.{steps, meet, met, pairs_below, schedule}
 use Rattle.brace_pieces.specs.Courses.{OnCourse, IsCourse, met_in, step_of, others_of, exchanges, turn_in, turn_of, turns_in, past_of, gone_behind, gone_on}
 use Rattle.brace_pieces.proofs.PlaceLemmas.{some_is}
 use Rattle.brace_pieces.proofs.Pairs.{has, met_where, met_in_rows}
-use Rattle.brace_num.proofs.Rows.{row_more}
-use Rattle.brace_num.proofs.Rows.{row_alike}
-use Rattle.brace_num.proofs.Rows.{row_kept}
+use Rattle.brace_num.proofs.Rows.{row_more, row_alike, row_kept}
 use Rattle.brace_num.proofs.Booleans.{and_true}
 
 -- ---- whom an actor meets

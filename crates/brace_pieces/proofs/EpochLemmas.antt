@@ -5,7 +5,6 @@ use Rattle.std.specs.List.{Contains, last_or, range_with_len, list_any}
 use Rattle.std.proofs.lemmas.Bool.{cases_lt, cases_eq, eq-eqb, ne_eqb, or_parts, or_from, true≢false}
 use Rattle.std.proofs.lemmas.Bool.Decides.{nat_tests}
 use Rattle.std.proofs.lemmas.List.Elements.{filter-append}
-use Rattle.std.proofs.lemmas.List.FromFn.{length-range_with_len, get_or-range_with_len}
 use Rattle.std.proofs.lemmas.List.Sums.{fold-append}
 use Rattle.brace_cuts.specs.declared.plan.CutLine.{CutLine}
 use Rattle.brace_cuts.specs.CutPlans.{IsPlan}
@@ -15,9 +14,7 @@ use Rattle.brace_pieces.specs.declared.setting.Setting.{Setting}
 use Rattle.brace_pieces.specs.Settings.{LawfulSetting, cuts_of, cuts_shown, is_end, ends, shown_from, shown_ticks}
 use Rattle.brace_pieces.proofs.WalkLemmas.{is_low}
 use Rattle.brace_num.proofs.Lists.{in_filter}
-use Rattle.brace_num.proofs.Rows.{in_row}
-use Rattle.brace_num.proofs.Rows.{row_has}
-use Rattle.brace_num.proofs.Rows.{row_more}
+use Rattle.brace_num.proofs.Rows.{in_row, row_has, row_more}
 
 -- ---- numbers in a row
 

@@ -2,7 +2,7 @@
 -- they have, those that the other one owns.
 use Rattle.std.proofs.Common.{◌≡◌, ◌∙◌, refl, sym, ap, ap₂, ℕ, zero, suc, List, [], ◌∷◌, ◌++◌, map, filter, zip, Bool, true, false, cond, ◌||◌, Option, Some, None, Contains, append-nil, true≢false, ℤ, filter_map, is_some, arith, ◌⊎◌, inl, inr, take, length, option_map, unwrap_or, subst, ◌+◌}
 use Rattle.std.specs.Prelude.{slice_get, ◌==◌}
-use Rattle.std.specs.List.{list_any, cons_option}
+use Rattle.std.specs.List.{list_any, cons_option, position_from, find, range_with_len}
 use Rattle.brace_model.specs.declared.program.Class.{Class}
 use Rattle.brace_model.specs.declared.program.Program.{Program}
 use Rattle.brace_model.specs.declared.program.Spawn.{Spawn}
@@ -12,7 +12,7 @@ use Rattle.brace_model.specs.World.{class_of, RisesById, ids}
 use Rattle.brace_model.specs.Value.{Scope}
 use Rattle.brace_model.specs.Query.{opening_scope}
 use Rattle.brace_model.specs.Next.{Next, has_births, next_in, unless_stopped, left_by, child_in, first_stop, update_in}
-use Rattle.brace_model.specs.Step.{living, children, numbered}
+use Rattle.brace_model.specs.Step.{living, children, numbered, goes_too_far}
 use Rattle.brace_pieces.specs.declared.setting.Setting.{Setting}
 use Rattle.brace_pieces.specs.Settings.{cuts_of, LawfulSetting}
 use Rattle.brace_pieces.specs.Owned.{owns, owned}
@@ -26,11 +26,7 @@ use Rattle.brace_pieces.proofs.Merges.{Rises}
 use Rattle.std.proofs.lemmas.List.Elements.{filter-append}
 use Rattle.std.proofs.lemmas.List.{map-append}
 use Rattle.std.proofs.lemmas.Bool.{ne_eqb, eq-eqb}
-use Rattle.std.specs.List.{position_from, find, range_with_len}
-use Rattle.brace_model.specs.Step.{goes_too_far}
-use Rattle.brace_num.proofs.Lists.{in_more}
-use Rattle.brace_num.proofs.Lists.{first_or_later}
-use Rattle.brace_num.proofs.Lists.{filter_map_alike}
+use Rattle.brace_num.proofs.Lists.{in_more, first_or_later, filter_map_alike}
 use Rattle.brace_num.proofs.Orders.{rises_by_keys}
 
 no_spawn : (classes : List Class) → list_any (λ c. is_some c.spawn) classes ≡ false → (n : ℕ) (c : Class) → slice_get classes n ≡ Some c → c.spawn ≡ None

@@ -29,8 +29,7 @@ use Rattle.brace_invert.proofs.Sublists.{rising_from}
 use Rattle.brace_invert.proofs.RangeLemmas.{greatest_in_range}
 use Rattle.brace_invert.proofs.Nearness.{seer_near, nearer}
 use Rattle.brace_invert.proofs.Owners.{forward_held}
-use Rattle.brace_invert.proofs.Heard.{seen_in}
-use Rattle.brace_invert.proofs.Heard.{one_agent, inverse_said_held}
+use Rattle.brace_invert.proofs.Heard.{seen_in, one_agent, inverse_said_held}
 use Rattle.brace_pieces.specs.declared.setting.Setting.{Setting}
 use Rattle.brace_pieces.specs.declared.setting.Stage.TheVariants as stage
 use Rattle.brace_pieces.specs.Settings.{LawfulSetting, greatest_reach, range, cuts_of, parts}

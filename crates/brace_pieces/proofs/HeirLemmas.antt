@@ -1,6 +1,6 @@
 -- What an agent leaves to the next world is of its class, has as many values, and stands within the
 -- class's reach of where it stood.
-use Rattle.std.proofs.Common.{◌≡◌, ◌∙◌, refl, sym, ap, subst, ℕ, zero, suc, ◌<◌, ℤ, pos, ◌-ℤ◌, ◌≤ℤ◌, List, [], ◌∷◌, ◌++◌, map, filter_map, zip, length, Bool, true, false, if◌then◌else◌, Option, Some, None, Ok, Err, arith, codes, length-set, FitsSigned}
+use Rattle.std.proofs.Common.{◌≡◌, ◌∙◌, refl, sym, ap, subst, ℕ, suc, ◌<◌, ℤ, pos, ◌-ℤ◌, ◌≤ℤ◌, List, [], ◌∷◌, map, filter_map, zip, length, Bool, true, false, if◌then◌else◌, Option, Some, None, Ok, Err, arith, codes, length-set, FitsSigned}
 use Rattle.std.specs.Prelude.{slice_get, slice_set, slice_index}
 use Rattle.std.specs.List.{reduce, cons_option, list_all}
 use Rattle.std.specs.Result.{result_ok, result_err}
@@ -9,7 +9,7 @@ use Rattle.std.proofs.lemmas.Int.{ints, clamps}
 use Rattle.std.proofs.lemmas.Bool.{and_parts}
 use Rattle.std.proofs.lemmas.List.{get_or-set_same, get_or-set_other}
 use Rattle.std.proofs.lemmas.List.Elements.{filter_map-append}
-use Rattle.std.proofs.lemmas.Option.{unwrap_or-slice_get}
+use Rattle.std.proofs.lemmas.Option.{unwrap_or-slice_get, same_Some, none-some, slice_get_within}
 use Rattle.std.proofs.lemmas.Slice.Eq.{bytes_eq-Decides}
 use Rattle.brace_num.specs.Exact.{clamped}
 use Rattle.brace_model.specs.declared.program.Value.{Value}
@@ -35,9 +35,6 @@ use Rattle.brace_model.specs.declared.program.Expr.{Expr}
 use Rattle.std.specs.Int.{w64}
 use Rattle.brace_pieces.proofs.FitLemmas.{AllFit, HasFit, ok_fit, own_value_fits, none_fit, one_more_fits, put_fits}
 use Rattle.brace_num.proofs.Lists.{none_front}
-use Rattle.std.proofs.lemmas.Option.{same_Some}
-use Rattle.std.proofs.lemmas.Option.{none-some}
-use Rattle.std.proofs.lemmas.Option.{slice_get_within}
 
 -- ---- places
 

@@ -1,8 +1,8 @@
 -- What a part holds comes from its own agents and from those that the parts that it meets show it.
-use Rattle.std.proofs.Common.{◌≡◌, ◌∙◌, refl, sym, ap₂, subst, ℕ, ◌+◌, ◌-◌, ◌<◌, arith, ℤ, pos, List, ◌∷◌, ◌++◌, filter, flat_map, Bool, true, false, ◌&&◌, ◌||◌, Option, Some, None}
+use Rattle.std.proofs.Common.{◌≡◌, ◌∙◌, refl, sym, ap₂, subst, ℕ, ◌+◌, ◌-◌, ◌<◌, arith, ℤ, pos, List, ◌∷◌, ◌++◌, filter, flat_map, Bool, true, false, ◌&&◌, Option, Some, None}
 use Rattle.std.specs.List.{list_any}
 use Rattle.std.specs.List.Sorted.{IsPermutation}
-use Rattle.std.proofs.lemmas.Bool.{eqb-true, and_parts}
+use Rattle.std.proofs.lemmas.Bool.{eqb-true, and_parts, or_right}
 use Rattle.std.proofs.lemmas.List.Sorted.{IsPermutation-sym, IsPermutation-trans}
 use Rattle.brace_model.specs.declared.program.Class.{Class}
 use Rattle.brace_model.specs.declared.program.Program.{Program}
@@ -21,15 +21,9 @@ use Rattle.brace_pieces.specs.Together.{IsWhole, AreWhole, IsSorted}
 use Rattle.brace_pieces.proofs.Merges.{together, covered, covered_none}
 use Rattle.brace_pieces.proofs.Meetings.{gap_by_point, no_gap, owner_is_part, owner_has, meets, range_some}
 use Rattle.brace_pieces.proofs.ScheduleLemmas.{meets_no_self}
-use Rattle.brace_num.proofs.Lists.{filter_alike}
-use Rattle.brace_num.proofs.Lists.{filter_twice}
-use Rattle.brace_num.proofs.Orders.{filter_rises}
-use Rattle.brace_num.proofs.Orders.{one_sorted}
-use Rattle.brace_num.proofs.Numbers.{le_holds}
-use Rattle.brace_num.proofs.Numbers.{le_told}
-use Rattle.brace_num.proofs.Numbers.{below_max}
-use Rattle.std.proofs.lemmas.Bool.{or_right}
-use Rattle.brace_num.proofs.Lists.{flat_map_alike}
+use Rattle.brace_num.proofs.Lists.{filter_alike, filter_twice, flat_map_alike}
+use Rattle.brace_num.proofs.Orders.{filter_rises, one_sorted}
+use Rattle.brace_num.proofs.Numbers.{le_holds, le_told, below_max}
 
 one_owner : (cuts : Cuts) (o : Option Class) (p q : ℕ) (a : Agent) → owns_at cuts p o a ≡ true → owns_at cuts q o a ≡ true → p ≡ q
 one_owner cuts None p q a e f = absurd (cc)

@@ -18,9 +18,7 @@ use Rattle.brace_pieces.specs.declared.setting.Step.{Step}
 use Rattle.brace_pieces.specs.Settings.{cuts_of, parts, range, LawfulSetting}
 use Rattle.brace_pieces.specs.Steps.{meet, parts_meet, is_show}
 use Rattle.brace_pieces.proofs.CutLemmas.{cuts_lawful, parts_stay}
-use Rattle.brace_num.proofs.Numbers.{max_within}
-use Rattle.brace_num.proofs.Numbers.{within_max}
-use Rattle.brace_num.proofs.Numbers.{le_holds}
+use Rattle.brace_num.proofs.Numbers.{max_within, within_max, le_holds}
 
 -- ---- gaps
 

@@ -1,19 +1,12 @@
 -- Lists that are put together of the lists of several parts, and put in order by id.
-use Rattle.std.proofs.Common.{◌≡◌, ◌∙◌, ◌⊎◌, refl, sym, ap, ap₂, subst, ℕ, zero, suc, ◌+◌, ◌<◌, ◌≤◌, List, [], ◌∷◌, ◌++◌, filter, flat_map, length, Bool, true, false, cond, ◌||◌, ◌&&◌, ◌==◌, nat_eq, arith, inl, inr, AllPairs, Contains}
-use Rattle.std.specs.List.{list_any, range_with_len, IsDistinct}
-use Rattle.std.specs.List.Sorted.{IsPermutation, IsNonDecreasingBy}
+use Rattle.std.proofs.Common.{◌≡◌, ◌∙◌, ◌⊎◌, refl, sym, ap, subst, ℕ, zero, suc, ◌+◌, ◌<◌, ◌≤◌, List, [], ◌∷◌, ◌++◌, filter, flat_map, Bool, true, false, cond, ◌||◌, ◌&&◌, ◌==◌, arith, inl, inr, Contains}
+use Rattle.std.specs.List.{list_any, range_with_len}
+use Rattle.std.specs.List.Sorted.{IsPermutation}
 use Rattle.std.proofs.lemmas.Bool.{cases_Bool, cases_eq, ne_eqb, eq-eqb, true≢false}
-use Rattle.std.proofs.lemmas.Bool.Decides.{nat_tests}
-use Rattle.std.proofs.lemmas.List.{get_or-map, length-map}
-use Rattle.std.proofs.lemmas.List.Kept.{AllPairs-from_increasing, AllPairs-filter}
-use Rattle.std.proofs.lemmas.List.Sorted.{IsPermutation-refl, IsPermutation-sym, IsPermutation-trans, IsPermutation-cons, IsPermutation-middle, IsPermutation-append_right, IsPermutation-map, Contains-permutation}
-use Rattle.std.proofs.lemmas.Map.Keys.{IsDistinct-IsPermutation, IsStrictlyIncreasing-from_distinct, IsDistinct-from_apart}
+use Rattle.std.proofs.lemmas.List.Sorted.{IsPermutation-refl, IsPermutation-trans, IsPermutation-cons, IsPermutation-middle, IsPermutation-append_right}
 use Rattle.brace_model.specs.declared.world.Agent.{Agent}
-use Rattle.brace_model.specs.World.{RisesById, ids}
-use Rattle.brace_model.proofs.WorldLemmas.{id_at, RisesById-from_pairs}
 use Rattle.brace_num.proofs.Lists.{filter_alike}
-use Rattle.brace_num.proofs.Orders.{rises_by_keys}
-use Rattle.brace_num.proofs.Orders.{keys_by_rises}
+use Rattle.brace_num.proofs.Orders.{rises_by_keys, keys_by_rises}
 use Rattle.brace_num.proofs.Orders as orders
 
 -- ---- by rising id

@@ -35,13 +35,9 @@ use Rattle.brace_pieces.proofs.ScheduleLemmas.{meets_no_self}
 use Rattle.brace_pieces.proofs.HeldLemmas.{one_owns}
 use Rattle.brace_pieces.proofs.HeirLemmas.{has_place, IsNear, IsHeir, agent_is_heir, child_is_heir}
 use Rattle.brace_pieces.proofs.Origins.{of_filter_map, of_map, of_take, of_numbered, of_id, id_of}
-use Rattle.brace_num.proofs.Lists.{filter_twice}
-use Rattle.brace_num.proofs.Orders.{rises_by_keys}
-use Rattle.brace_num.proofs.Orders.{filter_rises}
-use Rattle.brace_num.proofs.Orders.{one_sorted}
-use Rattle.std.proofs.lemmas.Option.{same_Some}
-use Rattle.std.proofs.lemmas.Option.{none-some}
-use Rattle.brace_num.proofs.Lists.{flat_map_alike}
+use Rattle.brace_num.proofs.Lists.{filter_twice, flat_map_alike}
+use Rattle.brace_num.proofs.Orders.{rises_by_keys, filter_rises, one_sorted}
+use Rattle.std.proofs.lemmas.Option.{same_Some, none-some}
 
 -- ---- reach
 

@@ -31,10 +31,8 @@ use Rattle.brace_pieces.proofs.FitLemmas.{fit_by_test}
 use Rattle.brace_pieces.proofs.MoveLemmas.{descent_after, left_each}
 use Rattle.brace_pieces.proofs.Origins.{of_filter_map, of_map}
 use Rattle.brace_pieces.proofs.WorldLemmas.{seconds_both}
-use Rattle.brace_num.proofs.Orders.{rises_by_keys}
-use Rattle.brace_num.proofs.Orders.{keys_by_rises}
-use Rattle.std.proofs.lemmas.Option.{same_Some}
-use Rattle.std.proofs.lemmas.Option.{none-some}
+use Rattle.brace_num.proofs.Orders.{rises_by_keys, keys_by_rises}
+use Rattle.std.proofs.lemmas.Option.{same_Some, none-some}
 
 -- ---- ids
 

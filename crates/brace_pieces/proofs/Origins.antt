@@ -1,5 +1,5 @@
 -- Of what lists come: an item of a list that was made of others is made of one of their items.
-use Rattle.std.proofs.Common.{◌≡◌, ◌∙◌, ◌⊎◌, refl, sym, ap, subst, ℕ, zero, suc, List, [], ◌∷◌, ◌++◌, map, filter, filter_map, flat_map, zip, take, get_or-take, Bool, true, false, cond, ◌||◌, Option, Some, None, Contains, inl, inr, arith}
+use Rattle.std.proofs.Common.{◌≡◌, ◌∙◌, ◌⊎◌, refl, sym, ap, subst, ℕ, suc, List, [], ◌∷◌, ◌++◌, map, filter, filter_map, flat_map, zip, take, get_or-take, Bool, true, false, cond, ◌||◌, Option, Some, None, Contains, inl, inr, arith}
 use Rattle.std.specs.Prelude.{◌==◌}
 use Rattle.std.specs.List.{list_any, cons_option}
 use Rattle.std.proofs.lemmas.Bool.{eqb-true, eq-eqb}
@@ -7,8 +7,7 @@ use Rattle.std.proofs.lemmas.List.{length-take}
 use Rattle.std.proofs.lemmas.List.Elements.{Contains-append_left, Contains-append_right, Contains-append_cases}
 use Rattle.brace_model.specs.declared.world.Agent.{Agent}
 use Rattle.brace_model.specs.Step.{numbered}
-use Rattle.brace_num.proofs.Lists.{in_more}
-use Rattle.brace_num.proofs.Lists.{first_or_later}
+use Rattle.brace_num.proofs.Lists.{in_more, first_or_later}
 
 -- an item that something is made of
 pub record MadeOf {A B : Type 0} (h : A → Option B) (xs : List A) (b : B) : Type 0 where

@@ -1,20 +1,15 @@
 -- What the query of an agent does over a list hangs on the agents of it that the agent sees.
-use Rattle.std.proofs.Common.{◌≡◌, ◌∙◌, refl, sym, ap, ap₂, ℕ, ℤ, pos, ◌≤ℤ◌, ◌+ℤ◌, List, [], ◌∷◌, ◌++◌, map, filter, Bool, true, Option, Some, None, arith}
-use Rattle.std.specs.Prelude.{◌==◌, ◌&&◌, if◌then◌else◌}
+use Rattle.std.proofs.Common.{◌≡◌, ◌∙◌, sym, ℕ, ℤ, pos, ◌≤ℤ◌, ◌+ℤ◌, List, filter, Bool, true, arith}
+use Rattle.std.specs.Prelude.{◌==◌, ◌&&◌}
 use Rattle.std.specs.List.{Contains}
 use Rattle.std.proofs.lemmas.Int.{ints}
 use Rattle.brace_num.specs.declared.kinds.Area.{Area}
-use Rattle.brace_model.specs.declared.program.Expr.{Expr}
 use Rattle.brace_model.specs.declared.program.Stmt.{Stmt}
-use Rattle.brace_model.specs.declared.program.Stmt.TheVariants.{Const, If, Foreach, Assign}
-use Rattle.brace_model.specs.declared.program.Class.{Class}
 use Rattle.brace_model.specs.declared.program.Program.{Program}
 use Rattle.brace_model.specs.declared.world.Agent.{Agent}
 use Rattle.brace_model.specs.World.{class_of, sees}
-use Rattle.brace_model.specs.Value.{Scope, value}
-use Rattle.brace_model.specs.Query.{Deed, deed_of, closed, chosen, iterated, inside, seen_by, statement, opening_scope, query_in, query_of}
+use Rattle.brace_model.specs.Query.{seen_by, query_of}
 use Rattle.brace_model.specs.Lawful.{LawfulProgram}
-use Rattle.brace_model.proofs.ValueEquations.{statement-Const, statement-If, statement-Foreach, statement-Assign}
 use Rattle.brace_invert.specs.Split.{with_queries}
 use Rattle.brace_invert.specs.Range.{greatest_visible}
 use Rattle.brace_invert.specs.Held.{is_in, HoldsNear}

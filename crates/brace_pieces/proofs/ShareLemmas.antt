@@ -2,7 +2,7 @@
 use Rattle.std.proofs.Common.{◌≡◌, ◌∙◌, refl, sym, ap, ap₂, subst, ℕ, zero, suc, ◌+◌, ◌<◌, ◌≤◌, List, [], ◌∷◌, ◌++◌, map, filter, flat_map, length, Bool, true, false, cond, ◌==◌, Option, Some, None, arith, ⊎_elim, inl, inr}
 use Rattle.std.specs.Prelude.{◌&&◌, slice_get}
 use Rattle.std.specs.List.{Contains}
-use Rattle.std.proofs.lemmas.Bool.{ne_eqb, eqb-true, and_left, and_right, cases_eq}
+use Rattle.std.proofs.lemmas.Bool.{ne_eqb, eqb-true, and_left, and_right, cases_eq, and_parts}
 use Rattle.std.proofs.lemmas.List.{append-nil, length-map}
 use Rattle.std.proofs.lemmas.List.Concat.{flat_map-append}
 use Rattle.std.proofs.lemmas.List.Elements.{All-contains, Contains-append_cases}
@@ -20,9 +20,7 @@ use Rattle.brace_invert.proofs.Sites.{none_within}
 use Rattle.brace_pieces.specs.Right.{Share, share_unless_silent, shares_from, shares_to}
 use Rattle.brace_pieces.specs.Heard.{sayings_of, IsShareOf}
 use Rattle.brace_pieces.proofs.Sayings.{joined_twice, said_to-each}
-use Rattle.brace_num.proofs.Lists.{in_more}
-use Rattle.std.proofs.lemmas.Bool.{and_parts}
-use Rattle.brace_num.proofs.Lists.{filter_weaker}
+use Rattle.brace_num.proofs.Lists.{in_more, filter_weaker}
 
 -- ---- the shares of one agent
 

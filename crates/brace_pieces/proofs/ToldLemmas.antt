@@ -1,10 +1,10 @@
 -- The faults that a part finds may be told, behind the step in whose work they are found.
-use Rattle.std.proofs.Common.{◌≡◌, ◌∙◌, refl, sym, ap, subst, ℕ, zero, suc, ◌+◌, ◌<◌, ◌≤◌, List, [], ◌∷◌, ◌++◌, map, filter, filter_map, flat_map, Bool, true, false, cond, Option, Some, Result, Ok, Err, arith, ⊎_elim, inl, inr}
-use Rattle.std.specs.Prelude.{◌-◌, slice_get, option_map, not, if◌then◌else◌}
+use Rattle.std.proofs.Common.{◌≡◌, ◌∙◌, refl, sym, ap, subst, ℕ, zero, suc, ◌+◌, ◌<◌, ◌≤◌, List, [], ◌∷◌, ◌++◌, map, filter, filter_map, flat_map, Bool, true, false, cond, Option, Result, Ok, Err, arith, ⊎_elim, inl, inr}
+use Rattle.std.specs.Prelude.{◌-◌, option_map, not, if◌then◌else◌}
 use Rattle.std.specs.List.{All, Contains, cons_option, range_with_len}
 use Rattle.std.specs.Result.{result_err}
 use Rattle.std.proofs.lemmas.Bool.{cases_lt}
-use Rattle.std.proofs.lemmas.List.Elements.{All-nil, All-cons, All-head, All-tail, All-append, All-same, Contains-append_left, Contains-append_right, Contains-append_cases}
+use Rattle.std.proofs.lemmas.List.Elements.{All-nil, All-cons, All-append, All-same, Contains-append_left, Contains-append_right, Contains-append_cases}
 use Rattle.brace_model.specs.declared.program.Program.{Program}
 use Rattle.brace_model.specs.declared.fault.Fault.{Fault}
 use Rattle.brace_model.specs.declared.fault.Phase.{Phase}
