@@ -19,14 +19,14 @@ use Rattle.brace_lanes.specs.Views.{Serves}
 use Rattle.brace_pieces.specs.declared.setting.Setting.{Setting}
 use Rattle.brace_pieces.specs.Steps.{schedule}
 use Rattle.brace_pieces.specs.Courses.{past_of}
-use Rattle.brace_pieces.proofs.Origins.{kept_of}
 use Rattle.brace_pieces.proofs.ScheduleLemmas.{schedule_lawful}
 use Rattle.brace_crew.specs.declared.member.Member.{Member}
 use Rattle.brace_crew.specs.Members.{course_of, opening_of, next_of, IsDone}
 use Rattle.brace_crew.specs.Benches.{served_by, IsUnused, IsUsedUp, AreServed, Waits, AreWaiting}
 use Rattle.brace_crew.specs.inner.Driven.{Counts, AreCounted, AreSame, WentAll, turns_left, both}
-use Rattle.brace_crew.proofs.FirstFault.{row_place}
 use Rattle.brace_crew.proofs.RunMembers.{of_all_map}
+use Rattle.brace_num.proofs.Lists.{in_filter}
+use Rattle.brace_num.proofs.Rows.{row_has}
 
 -- ---- numbers that a test keeps of a row rise
 
@@ -103,12 +103,13 @@ module _ {P : Type 0} where
       still x two (setting, is) =
           let a : ℕ = number_of x in
           let past : ℕ = past_of (course_of x) in
-          let plan : Schedule = schedule (course_of m).setting in (
+          let plan : Schedule = schedule (course_of m).setting in
+          (
             setting ∙ sym seat.setting,
             counted_still (schedule v.setting) a past (Serves v) (puts_of v) (takes_of v) is (schedule w.setting) a past (Serves w) (puts_of w) (takes_of w) (ap schedule seat.setting) refl
-                (serves_still v w seat a is.served) refl
-                (λ q. let none = puts_none plan (number_of m) (past_of (course_of m)) a q two by in omega (arith, put a q, none))
-                (λ q. let none = takes_none plan (number_of m) (past_of (course_of m)) q a two by in omega (arith, taken q a, none)),
+            (serves_still v w seat a is.served) refl
+            (λ q. let none = puts_none plan (number_of m) (past_of (course_of m)) a q two by in omega (arith, put a q, none))
+            (λ q. let none = takes_none plan (number_of m) (past_of (course_of m)) q a two by in omega (arith, taken q a, none)),
           )
 
       each : All (Counts w) (set ms i n)
@@ -136,10 +137,11 @@ module _ {P : Type 0} where
       each : All (Counts v) ms
       each k d low =
           let m : Member P = get_or ms k d in
-          let a : ℕ = number_of m in (
+          let a : ℕ = number_of m in
+          (
             are.settings k d low,
             subst (λ n. IsCounted (schedule v.setting) a n (Serves v) (puts_of v) (takes_of v)) (sym (are.first_turns k d low))
-                (record { served = eqb-true (a % v.seats) v.number (served k d low); put = λ q. unused.nothing_put a q; taken = λ q. unused.nothing_taken q a }),
+            (record { served = eqb-true (a % v.seats) v.number (served k d low); put = λ q. unused.nothing_put a q; taken = λ q. unused.nothing_taken q a }),
           )
 
   pub used_up : (v : View Setting) (ms : List (Member P)) → AreCounted v ms → All IsDone ms → IsUsedUp v
@@ -154,14 +156,15 @@ module _ {P : Type 0} where
           let a : ℕ = number_of m in
           let past : ℕ = past_of (course_of m) in
           let (setting, is) = are.counted k d low in
-          let over : turn_at (schedule v.setting) a past ≡ Done = ap (λ (s : Setting). turn_at (schedule s) a past) (sym setting) ∙ done k d low in (
+          let over : turn_at (schedule v.setting) a past ≡ Done = ap (λ (s : Setting). turn_at (schedule s) a past) (sym setting) ∙ done k d low in
+          (
             all_put (schedule v.setting) a past (Serves v) (puts_of v) (takes_of v) is (schedule_lawful v.setting) over,
             all_taken (schedule v.setting) a past (Serves v) (puts_of v) (takes_of v) is (schedule_lawful v.setting) over,
           )
 
       at : (a : ℕ) → a < v.actors → Serves v a → AllUsed v a
       at a low serves =
-          let has : Contains (served_by v) a = kept_of (λ b. b % v.seats == v.number) (range_with_len 0 v.actors) a (row_place 0 v.actors a (omega arith) (omega (arith, low))) (eq-eqb (a % v.seats) v.number serves) in
+          let has : Contains (served_by v) a = in_filter (λ b. b % v.seats == v.number) (range_with_len 0 v.actors) a (row_has 0 v.actors a (omega arith) (omega (arith, low))) (eq-eqb (a % v.seats) v.number serves) in
           All-contains (AllUsed v) (served_by v) a (subst (All (AllUsed v)) are.numbers (All-map (AllUsed v) number_of ms each)) has
 
   -- ---- a later time

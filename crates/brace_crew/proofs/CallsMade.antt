@@ -19,7 +19,7 @@ use Rattle.brace_pieces.specs.Continued.{on, birth_faults}
 use Rattle.brace_pieces.specs.Finds.{finds, found_by, queries_found, updates_found}
 use Rattle.brace_pieces.specs.Right.{IsFaultless}
 use Rattle.brace_pieces.proofs.Origins.{of_take}
-use Rattle.brace_pieces.proofs.EpochLemmas.{in_row, since, from_one}
+use Rattle.brace_pieces.proofs.EpochLemmas.{since, from_one}
 use Rattle.brace_pieces.proofs.FoundLemmas.{found_by_part, run_reaches, first_not_before, first_found, before_first}
 use Rattle.brace_crew.specs.declared.publisher.Publisher as publisher
 use Rattle.brace_crew.specs.declared.publisher.PubFault.{PubFault}
@@ -27,6 +27,7 @@ use Rattle.brace_crew.specs.Calls.{world_shown, worlds_at, call_at, ticks_left, 
 use Rattle.brace_crew.specs.Desks.{whole_at, end_calls, AreFaultless}
 use Rattle.brace_crew.proofs.EndCalls.{whole_call}
 use Rattle.brace_crew.proofs.FirstFault.{IsRun, EndsIn}
+use Rattle.brace_num.proofs.Rows.{in_row}
 
 -- ---- lists and their first items
 

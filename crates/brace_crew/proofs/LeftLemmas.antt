@@ -13,7 +13,6 @@ use Rattle.brace_pieces.specs.Settings.{LawfulSetting, is_end, parts, shown_from
 use Rattle.brace_pieces.specs.Continued.{on}
 use Rattle.brace_pieces.specs.Owned.{owned}
 use Rattle.brace_pieces.specs.Right.{IsShown, shown}
-use Rattle.brace_pieces.proofs.Origins.{one_on}
 use Rattle.brace_part.specs.inner.Ready.{AreKept}
 use Rattle.brace_crew.specs.declared.desk.Lot.{Lot}
 use Rattle.brace_crew.specs.declared.member.Member.{Member}
@@ -23,6 +22,7 @@ use Rattle.brace_crew.specs.inner.Lots.{world_of, brought, tick_shown}
 use Rattle.brace_crew.specs.inner.Crews.{AreOf, AreParts}
 use Rattle.brace_pieces.proofs.EpochLemmas.{shown_alike, from_one, from_first, row_one}
 use Rattle.brace_crew.proofs.MemberLemmas.{row_more}
+use Rattle.brace_num.proofs.Lists.{in_more}
 
 -- what a search finds is there, and passes
 pub found_one : {A : Type 0} (test : A → Bool) (xs : List A) (x : A) → find test xs ≡ Some x → Contains xs x × (test x ≡ true)
@@ -31,7 +31,7 @@ found_one {A} test (y ∷ ys) x e = by_test (test y) refl e (found_one test ys x
   where
     by_test : (c : Bool) → test y ≡ c → cond c (Some y) (find test ys) ≡ Some x → (find test ys ≡ Some x → Contains ys x × (test x ≡ true)) → Contains (y ∷ ys) x × (test x ≡ true)
     by_test true is e rest = let same : y ≡ x = cc in ((0, omega arith, same), subst (λ z. test z ≡ true) same is)
-    by_test false is e rest = let h = rest e in (one_on y ys x h.0, h.1)
+    by_test false is e rest = let h = rest e in (in_more y ys x h.0, h.1)
 
 module _ (s : Setting) (end : ℕ) (lawful : LawfulSetting s) (ticks : List ℕ) (shows : All (Contains (shown_ticks s end)) ticks) where
   -- what a part keeps

@@ -19,11 +19,12 @@ use Rattle.brace_invert.proofs.Heard.{seen_in}
 use Rattle.brace_pieces.specs.declared.setting.Setting.{Setting}
 use Rattle.brace_pieces.specs.declared.piece.Shown.{Shown}
 use Rattle.brace_pieces.specs.Settings.{LawfulSetting, is_end, ends, shown_from, shown_ticks}
-use Rattle.brace_pieces.proofs.EpochLemmas.{row_one, in_row, last_ends, from_one, from_first, since}
+use Rattle.brace_pieces.proofs.EpochLemmas.{row_one, last_ends, from_one, from_first, since}
 use Rattle.brace_pieces.proofs.FaultLemmas.{step_is_of}
 use Rattle.brace_pieces.proofs.HaltLemmas.{ended}
 use Rattle.brace_crew.specs.Calls.{Call, world_shown, worlds_at, call_at, ticks_left, call_of, calls_to, calls}
 use Rattle.brace_crew.specs.Shows.{as_world, shown_text, last_shown, saved_world}
+use Rattle.brace_num.proofs.Rows.{in_row}
 
 -- ---- what is left out of a row of ticks
 

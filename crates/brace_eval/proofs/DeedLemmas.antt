@@ -176,13 +176,6 @@ map-more f xs i x le is =
     ap (map f) (ap (λ (n : ℕ). take n xs) (add-one i) ∙ take-suc xs i x le) ∙ map-append f (take i xs) _
     ∙ ap (λ y. map f (take i xs) ++ f y ∷ []) (sym is)
 
-pub flat_map-more : {A B : Type 0} (f : A → List B) (xs : List A) (i : ℕ) (x : A) → i < length xs → x ≡ get_or xs i x
-    → flat_map f (take (i + 1) xs) ≡ flat_map f (take i xs) ++ f x
-flat_map-more f xs i x le is =
-    ap (flat_map f) (ap (λ (n : ℕ). take n xs) (add-one i) ∙ take-suc xs i x le ∙ ap (λ y. take i xs ++ y ∷ []) (sym is))
-    ∙ flat_map-append f (take i xs) (x ∷ [])
-    ∙ ap (λ l. flat_map f (take i xs) ++ l) (append-nil (f x))
-
 filter-more : (p : Agent → Bool) (xs : List Agent) (i : ℕ) (x : Agent) → i < length xs → x ≡ get_or xs i x
     → filter p (take (i + 1) xs) ≡ filter p (take i xs) ++ filter p (x ∷ [])
 filter-more p xs i x le is =

@@ -13,6 +13,7 @@ use Rattle.brace_model.specs.FaultOrder.{least}
 use Rattle.brace_model.specs.Query.{query_faults}
 use Rattle.brace_model.specs.Step.{step, all_next, living, children, goes_too_far, first_too_far, birth_fault, grown, unless_faulty, most_agents, most_values, greatest_id, count_values}
 use Rattle.brace_eval.proofs.NumberLemmas.{numbered_grown}
+use Rattle.std.proofs.lemmas.Option.{same_Some}
 
 abbrev pub stepped : World → Result World Fault
 stepped w = Ok w
@@ -36,9 +37,6 @@ stepped-ok None None None w next is = (refl, same-world w next is)
 some-none : {A : Type 0} (a : A) → Some a ≡ None → ⊥
 some-none a e = cc
 
-same-number : (i j : ℕ) → Some i ≡ Some j → i ≡ j
-same-number i j e = cc
-
 pub unmapped : (f : Agent → Fault) (o : Option Agent) → option_map f o ≡ None → o ≡ None
 unmapped f None e = refl
 unmapped f (Some a) e = absurd (some-none (f a) e)
@@ -49,7 +47,7 @@ found-within p a zero i is = absurd (some-none i (sym is))
 found-within p a (suc n) i is = by_first (p a) refl (found-within p (a + 1) n i)
   where
     by_first : (b : Bool) → p a ≡ b → (find p (range_with_len (a + 1) n) ≡ Some i → i < a + 1 + n) → i < a + suc n
-    by_first true here rest = let same = same-number a i (rw here at is) in omega (arith, same)
+    by_first true here rest = let same = same_Some a i (rw here at is) in omega (arith, same)
     by_first false here rest = let less = rest (rw here at is) in omega (arith, less)
 
 none-passes : (p : ℕ → Bool) (a n : ℕ) → find p (range_with_len a n) ≡ None → (i : ℕ) → i < n → p (a + i) ≡ false

@@ -31,18 +31,13 @@ use Rattle.brace_model.specs.Step.{step, all_next, living, children, numbered, f
 use Rattle.brace_model.specs.Lawful.{LawfulProgram, LawfulClass, LawfulAgents, is_lawful_agent, has_states, is_position, rule_scope, is_ruled, is_given, is_spawn}
 use Rattle.brace_eval.specs.Typed.{Fits}
 use Rattle.brace_eval.proofs.TypeLemmas.{passed, only_same, one_type, IsOf, just, sound}
-use Rattle.brace_eval.proofs.NumberLemmas.{ok, same-next, not-both, same-agent, none-some}
+use Rattle.brace_eval.proofs.NumberLemmas.{ok, same-next, not-both, none-some}
 use Rattle.brace_eval.proofs.LawLemmas.{stepped, stepped-ok, unmapped, keeps-limits, last-fits}
+use Rattle.std.proofs.lemmas.Bool.{and_from}
+use Rattle.std.proofs.lemmas.Bool.{and_parts}
+use Rattle.std.proofs.lemmas.Option.{same_Some}
 
 -- ---- tests
-
-both : (p q : Bool) → (p && q) ≡ true → (p ≡ true) × (q ≡ true)
-both true q e = (refl, e)
-both false q e = absurd (cc)
-
-so : (p q : Bool) → p ≡ true → q ≡ true → (p && q) ≡ true
-so true q e f = f
-so false q e f = absurd (cc)
 
 own_type : (t : Ty) → same_type t t ≡ true
 own_type ty.Int = refl
@@ -55,12 +50,6 @@ of_type t (Some s) e = ap Some (sym (one_type t s e))
 
 nothing_typed : (t : Ty) → None ≡ Some t → ⊥
 nothing_typed t e = cc
-
-same_state : (t s : State) → Some t ≡ Some s → t ≡ s
-same_state t s e = cc
-
-same_class : (c d : Class) → Some c ≡ Some d → c ≡ d
-same_class c d e = cc
 
 -- ---- counts
 
@@ -100,7 +89,7 @@ are_of [] [] e = tt
 are_of [] (v ∷ vs) e = absurd (cc)
 are_of (s ∷ ss) [] e = absurd (cc)
 are_of (s ∷ ss) (v ∷ vs) e =
-    let (here, rest) = both (same_type s.ty (type_of_value v)) _ e in
+    let (here, rest) = and_parts (same_type s.ty (type_of_value v)) _ e in
     (sym (one_type s.ty (type_of_value v) here), are_of ss vs rest)
 
 of_are : (ss : List State) (vs : List Value) → AreOf ss vs
@@ -109,7 +98,7 @@ of_are [] [] of = refl
 of_are [] (v ∷ vs) of = absurd of
 of_are (s ∷ ss) [] of = absurd of
 of_are (s ∷ ss) (v ∷ vs) of =
-    so (same_type s.ty (type_of_value v)) _ (ap (same_type s.ty) of.0 ∙ own_type s.ty) (of_are ss vs of.1)
+    and_from (same_type s.ty (type_of_value v)) _ (ap (same_type s.ty) of.0 ∙ own_type s.ty) (of_are ss vs of.1)
 
 as_long : (ss : List State) (vs : List Value) → AreOf ss vs → length vs ≡ length ss
 as_long [] [] of = refl
@@ -122,7 +111,7 @@ value_is : (ss : List State) (vs : List Value) (i : ℕ) (s : State) → AreOf s
 value_is [] [] i s of found = absurd (cc)
 value_is [] (v ∷ vs) i s of found = absurd of
 value_is (t ∷ ss) [] i s of found = absurd of
-value_is (t ∷ ss) (v ∷ vs) zero s of found = of.0 ∙ ap (λ (u : State). u.ty) (same_state t s found)
+value_is (t ∷ ss) (v ∷ vs) zero s of found = of.0 ∙ ap (λ (u : State). u.ty) (same_Some t s found)
 value_is (t ∷ ss) (v ∷ vs) (suc i) s of found = value_is ss vs i s of.1 found
 
 -- a value of the type of a state, put in the state's place
@@ -131,7 +120,7 @@ put : (ss : List State) (vs : List Value) (i : ℕ) (s : State) (v : Value) → 
 put [] [] i s v of found is = absurd (cc)
 put [] (x ∷ vs) i s v of found is = absurd of
 put (t ∷ ss) [] i s v of found is = absurd of
-put (t ∷ ss) (x ∷ vs) zero s v of found is = (is ∙ ap (λ (u : State). u.ty) (sym (same_state t s found)), of.1)
+put (t ∷ ss) (x ∷ vs) zero s v of found is = (is ∙ ap (λ (u : State). u.ty) (sym (same_Some t s found)), of.1)
 put (t ∷ ss) (x ∷ vs) (suc i) s v of found is = (of.0, put ss vs i s v of.1 found is)
 
 moved_is : (ss : List State) (reach : ℤ) (old new : List Value) (name : List ℕ) (place : ℕ)
@@ -141,7 +130,7 @@ moved_is ss reach old new name place is of = by_state (slice_get ss place) refl 
     by_state : (o : Option State) → slice_get ss place ≡ o → is_position name o ≡ true → AreOf ss (moved reach old place new)
     by_state None found e = absurd (cc)
     by_state (Some s) found e =
-        let fixed = (both s.shared (same_type s.ty ty.Fixed) (both _ _ e).1).1 in
+        let fixed = (and_parts s.shared (same_type s.ty ty.Fixed) (and_parts _ _ e).1).1 in
         put ss new place s _ of found (sym (one_type s.ty ty.Fixed fixed))
 
 -- ---- what a rule may name
@@ -158,7 +147,7 @@ opens program seed tick totals a class is of = record { states = named; constant
         let type_in : State → Option Ty = λ s. only (may_name (rule_scope program a.class) a.class s.shared) s.ty in
         let p = passed (slice_get program.classes a.class) (λ c. option_and_then type_in (slice_get c.states i)) t e in
         let q = passed (slice_get p.from.states i) type_in t p.gives in
-        let own : p.from ≡ class = same_class p.from class (sym p.was ∙ is) in
+        let own : p.from ≡ class = same_Some p.from class (sym p.was ∙ is) in
         let found : slice_get class.states i ≡ Some q.from = ap (λ (c : Class). slice_get c.states i) (sym own) ∙ q.was in
         value_is class.states a.states i q.from of found ∙ only_same _ q.from.ty t q.gives
 
@@ -203,7 +192,7 @@ module _ (names : Names) (scope : Scope) (fits : Fits names scope) where
   rules_are [] (v ∷ vs) typed of q = absurd of
   rules_are (s ∷ ss) [] typed of q = absurd of
   rules_are (s ∷ ss) (v ∷ vs) typed of q =
-      let (here, rest) = both (is_ruled names s.ty s.rule) _ typed in
+      let (here, rest) = and_parts (is_ruled names s.ty s.rule) _ typed in
       by_worth (ruled scope s.rule v) (rule_is s.ty s.rule v here of.0) (rules_are ss vs rest of.1) q
     where
       by_worth : (w : Worth) → IsOf s.ty w → (Unstopped (outcomes scope ss vs) → AreOf ss (values_of (outcomes scope ss vs)))
@@ -225,7 +214,7 @@ module _ (names : Names) (scope : Scope) (fits : Fits names scope) where
       → Unstopped (gift_values scope gifts) → AreOf ss (with_gifts old gifts (values_of (gift_values scope gifts)))
   gifts_are ss [] old typed of q = of
   gifts_are ss (g ∷ gifts) old typed of q =
-      let (here, rest) = both (is_given names ss g) _ typed in
+      let (here, rest) = and_parts (is_given names ss g) _ typed in
       by_worth (value g.value scope) refl here (λ new is. gifts_are ss gifts new rest is) q
     where
       by_worth : (w : Worth) → value g.value scope ≡ w → is_given names ss g ≡ true
@@ -254,12 +243,12 @@ module _ (program : Program) (a : Agent) (class : Class) (is : class_of program 
       let states : has_states (class_of program a) (changed class a new) ≡ true =
       ap (λ (o : Option Class). has_states o (changed class a new)) is ∙ of_are class.states _ twice in
       record {
-        lawful = so (leb a.id greatest_id) _ low states;
+        lawful = and_from (leb a.id greatest_id) _ low states;
         long = as_long class.states _ twice ∙ sym (as_long class.states a.states of);
       }
 
   heir_there : (new : List Value) (b : Agent) → AreOf class.states new → Some (changed class a new) ≡ Some b → Heir program a b
-  heir_there new b fit e = subst (Heir program a) (same-agent (changed class a new) b e) (heir new fit)
+  heir_there new b fit e = subst (Heir program a) (same_Some (changed class a new) b e) (heir new fit)
 
   module _ (scope : Scope) (fits : Fits (rule_scope program a.class) scope) where
     lives_on : (b : Agent) (dies : Bool) → holds (condition_in scope class.die) ≡ dies → Unstopped (rules_in scope class a)
@@ -287,7 +276,7 @@ module _ (program : Program) (a : Agent) (class : Class) (is : class_of program 
         ap (λ (d : Bool). if d then Some (changed class a (with_gifts a.states spawn.gifts (values_of (gifts_in scope (Some spawn))))) else None) h
         ∙ ap (λ (ws : List Worth). Some (changed class a (with_gifts a.states spawn.gifts (values_of ws)))) all in
         heir_there (with_gifts a.states spawn.gifts (values_of values)) b
-        (gifts_are (rule_scope program a.class) scope fits class.states spawn.gifts a.states (both _ _ typed).1 of (subst Unstopped all q)) (sym one ∙ has)
+        (gifts_are (rule_scope program a.class) scope fits class.states spawn.gifts a.states (and_parts _ _ typed).1 of (subst Unstopped all q)) (sym one ∙ has)
 
     bears_any : (b : Agent) (spawn : Option Spawn) → is_spawn (rule_scope program a.class) class.states spawn ≡ true → Unstopped (gifts_in scope spawn)
         → child_in scope class a spawn ≡ Some b → Heir program a b
@@ -313,9 +302,9 @@ module _ (program : Program) (a : Agent) (class : Class) (is : class_of program 
 next_lawful : (program : Program) (seed tick : ℕ) → LawfulProgram program → (o : Option Class) (totals : List ℤ) (a : Agent) (n : Next)
     → class_of program a ≡ o → is_lawful_agent program a ≡ true → next_in seed tick o totals a ≡ ok n → Leaves program a n
 next_lawful program seed tick laws None totals a n is lawful came =
-    absurd (let no_way : false ≡ true = sym (ap (λ (o : Option Class). has_states o a) is) ∙ (both (leb a.id greatest_id) _ lawful).1 in cc)
+    absurd (let no_way : false ≡ true = sym (ap (λ (o : Option Class). has_states o a) is) ∙ (and_parts (leb a.id greatest_id) _ lawful).1 in cc)
 next_lawful program seed tick laws (Some class) totals a n is lawful came =
-    let (low, states) = both (leb a.id greatest_id) _ lawful in
+    let (low, states) = and_parts (leb a.id greatest_id) _ lawful in
     let of = are_of class.states a.states (sym (ap (λ (o : Option Class). has_states o a) is) ∙ states) in
     next_leaves program a class is low of (laws.classes_are_lawful a.class class is) (opening_scope seed tick [] totals a)
     (opens program seed tick totals a class is of) tick n _ refl came
@@ -334,7 +323,7 @@ record AllLeave (program : Program) (agents : List Agent) (left : List Next) : T
 one_more : (test : Agent → Bool) (o : Option Agent) (agents : List Agent) → ((b : Agent) → o ≡ Some b → test b ≡ true)
     → list_all test agents ≡ true → list_all test (cons_option o agents) ≡ true
 one_more test None agents is all = all
-one_more test (Some b) agents is all = so (test b) _ (is b refl) all
+one_more test (Some b) agents is all = and_from (test b) _ (is b refl) all
 
 one_longer : (o : Option Agent) (agents : List Agent) (n : ℕ) → length agents ≤ n → length (cons_option o agents) ≤ suc n
 one_longer None agents n le = up (length agents) n le
@@ -372,7 +361,7 @@ module _ (program : Program) (f : Agent → Result Next Fault)
   all_leave : (agents : List Agent) → AreLawful program agents → AllLeave program agents (filter_map result_ok (map f agents))
   all_leave [] all = record { lives = refl; bears = refl; few = omega arith; values = omega arith }
   all_leave (a ∷ agents) all =
-      let (here, rest) = both (is_lawful_agent program a) _ all in
+      let (here, rest) = and_parts (is_lawful_agent program a) _ all in
       by_result (f a) refl here (all_leave agents rest)
     where
       by_result : (x : Result Next Fault) → f a ≡ x → is_lawful_agent program a ≡ true
@@ -391,11 +380,11 @@ numbered_lawful : (program : Program) (next : ℕ) (born : List Agent) → AreLa
     → AreLawful program (numbered next born)
 numbered_lawful program next [] all fits = refl
 numbered_lawful program next (c ∷ born) all fits =
-    let (here, rest) = both (is_lawful_agent program c) _ all in
+    let (here, rest) = and_parts (is_lawful_agent program c) _ all in
     let low : next ≤ greatest_id = omega (arith, fits) in
-    let states = other_id (class_of program c) c next ∙ (both (leb c.id greatest_id) _ here).1 in
-    so (leb next greatest_id && has_states (class_of program c) (record c { id = next })) _
-    (so (leb next greatest_id) _ (le-leb next greatest_id low) states)
+    let states = other_id (class_of program c) c next ∙ (and_parts (leb c.id greatest_id) _ here).1 in
+    and_from (leb next greatest_id && has_states (class_of program c) (record c { id = next })) _
+    (and_from (leb next greatest_id) _ (le-leb next greatest_id low) states)
     (numbered_lawful program (suc next) born rest (omega (arith, fits)))
 
 numbered_long : (next : ℕ) (born : List Agent) → length (numbered next born) ≡ length born
@@ -417,7 +406,7 @@ grown_lawful program next ls bs lives bears fits few values =
     record {
       each_is_lawful =
           list_all-append (is_lawful_agent program) ls (numbered next bs)
-          ∙ so (list_all (is_lawful_agent program) ls) _ lives (numbered_lawful program next bs bears fits);
+          ∙ and_from (list_all (is_lawful_agent program) ls) _ lives (numbered_lawful program next bs bears fits);
       few_agents = of_parts _ (length ls) _ (length bs) most_agents (length-append ls (numbered next bs)) (numbered_long next bs) few;
       few_values =
           of_parts _ (count_values ls) _ (count_values bs) most_values (sum_by-append (λ (a : Agent). length a.states) ls (numbered next bs)) (numbered_values next bs) values;

@@ -15,6 +15,7 @@ use Rattle.brace_model.specs.Value.{Scope}
 use Rattle.brace_model.specs.Query.{opening_scope}
 use Rattle.brace_model.specs.Next.{Next, next, next_in, totals_in, next_of, unless_stopped, first_stop, update_in, left_by, holds, condition_in, changed, values_of, rules_in, update_fault}
 use Rattle.brace_model.specs.Step.{living, numbered, grown, all_next}
+use Rattle.std.proofs.lemmas.Option.{same_Some}
 
 -- numbers that rise from one number on, and stay below another
 abbrev pub Rise : ℕ → List ℕ → ℕ → Type 0
@@ -93,9 +94,6 @@ same-next m n e = cc
 pub not-both : (f : Fault) (n : Next) → failed f ≡ ok n → ⊥
 not-both f n e = cc
 
-pub same-agent : (a b : Agent) → Some a ≡ Some b → a ≡ b
-same-agent a b e = cc
-
 pub none-some : (a : Agent) (o : Option Agent) → o ≡ None → o ≡ Some a → ⊥
 none-some a o e f = cc
 
@@ -107,7 +105,7 @@ left-keeps scope class a b true h has =
 left-keeps scope class a b false h has =
     let stays : (left_by scope class a).agent ≡ Some (changed class a (values_of (rules_in scope class a))) =
     ap (λ (d : Bool). if d then None else Some (changed class a (values_of (rules_in scope class a)))) h in
-    ap (λ (x : Agent). x.id) (sym (same-agent (changed class a (values_of (rules_in scope class a))) b (sym stays ∙ has)))
+    ap (λ (x : Agent). x.id) (sym (same_Some (changed class a (values_of (rules_in scope class a))) b (sym stays ∙ has)))
 
 keeps-id : (scope : Scope) (class : Class) (tick : ℕ) (a b : Agent) (n : Next) (s : Option Stop)
     → first_stop (update_in scope class a) ≡ s → next_of tick class a scope ≡ ok n → n.agent ≡ Some b → b.id ≡ a.id
@@ -121,7 +119,7 @@ next-keeps : (seed tick : ℕ) (o : Option Class) (totals : List ℤ) (a b : Age
     → next_in seed tick o totals a ≡ ok n → n.agent ≡ Some b → b.id ≡ a.id
 next-keeps seed tick None totals a b n is has =
     let same = same-next (record { agent = Some a; child = None }) n is in
-    ap (λ (x : Agent). x.id) (sym (same-agent a b (ap (λ (m : Next). m.agent) same ∙ has)))
+    ap (λ (x : Agent). x.id) (sym (same_Some a b (ap (λ (m : Next). m.agent) same ∙ has)))
 next-keeps seed tick (Some class) totals a b n is has =
     keeps-id (opening_scope seed tick [] totals a) class tick a b n _ refl is has
 

@@ -29,13 +29,15 @@ use Rattle.brace_invert.specs.Range.{greatest_visible, says_within, says_in_inne
 use Rattle.brace_invert.specs.Held.{is_in, HoldsNear}
 use Rattle.brace_invert.proofs.RangeLemmas.{greatest_in_range}
 use Rattle.brace_invert.proofs.Sublists.{Rising, rising_from}
-use Rattle.brace_invert.proofs.Typed.{both_hold, is_there}
+use Rattle.brace_invert.proofs.Typed.{is_there}
 use Rattle.brace_invert.proofs.LawfulParts.{inverse_is_part}
 use Rattle.brace_invert.proofs.Inverting.{part_deed, part_of}
 use Rattle.brace_invert.proofs.Nearness.{seen_near, seer_near, nearer}
 use Rattle.brace_invert.proofs.Owners.{range_reaches, no_farther}
 use Rattle.brace_invert.proofs.Outward as o
 use Rattle.brace_invert.proofs.Outward.{Depth, Outward, outward}
+use Rattle.std.proofs.lemmas.Bool.{and_parts, and_from, and_right}
+use Rattle.brace_num.proofs.Lists.{in_map}
 
 -- all agents of a scope are held
 abbrev pub holds_one : (Agent → Bool) → Option Agent → Bool
@@ -110,17 +112,9 @@ holds_second held scope x p outer inner =
     moved true false r = refl
     moved false q r = refl
 
-pub right_false : (p q : Bool) → q ≡ false → (p && q) ≡ false
-right_false true q e = e
-right_false false q e = refl
-
-pub both_so : (p q : Bool) → p ≡ true → q ≡ true → (p && q) ≡ true
-both_so true q e g = g
-both_so false q e g = absurd (cc)
-
 -- all are held where each is
 pub holds_so : (held : Agent → Bool) (scope : Scope) → held scope.this ≡ true → holds_one held scope.outer ≡ true → holds_one held scope.inner ≡ true → holds_all held scope ≡ true
-holds_so held scope this outer inner = both_so _ _ this (both_so _ _ outer inner)
+holds_so held scope this outer inner = and_from _ _ this (and_from _ _ outer inner)
 
 -- the agents of the scope in a loop
 first_all : (m : Program) (w : List Agent) (a : Agent) (held : Agent → Bool) (scope : Scope) (x : Agent) → Stands m w a o.top scope → holds_all held (inside scope x) ≡ (holds_all held scope && held x)
@@ -140,12 +134,6 @@ doubled_so false v e = absurd (cc)
 zero_and : (v : ℤ) → pos 0 ≤ℤ v → pos 0 ≤ℤ (pos 0 +ℤ v)
 zero_and v h = omega (arith, ints, h)
 
--- agents of rising ids that have one id are one
-contains_map : {A B : Type 0} (f : A → B) (xs : List A) (x : A) → Contains xs x → Contains (map f xs) (f x)
-contains_map f [] x (k, below, is) = absurd (omega (arith, below))
-contains_map f (y ∷ xs) x (zero, below, is) = (0, omega arith, ap f is)
-contains_map f (y ∷ xs) x (suc k, below, is) = Contains-append_right (f y ∷ []) (map f xs) (f x) (contains_map f xs x (k, omega (arith, below), is))
-
 less_not : (p q : ℕ) → p < q → p ≡ q → ⊥
 less_not p q less same = omega (arith, less, same)
 
@@ -153,9 +141,9 @@ pub one_agent : (w : List Agent) → Rising (ids w) → (p q : Agent) → Contai
 one_agent [] r p q (k, below, is) wq e = absurd (omega (arith, below))
 one_agent (x ∷ w) r p q (zero, pb, pis) (zero, qb, qis) e = sym pis ∙ qis
 one_agent (x ∷ w) r p q (zero, pb, pis) (suc l, qb, qis) e =
-    absurd (less_not x.id q.id (All-contains (λ y. x.id < y) (ids w) q.id r.0 (contains_map (λ y. y.id) w q (l, omega (arith, qb), qis))) (ap (λ y. y.id) pis ∙ e))
+    absurd (less_not x.id q.id (All-contains (λ y. x.id < y) (ids w) q.id r.0 (in_map (λ y. y.id) w q (l, omega (arith, qb), qis))) (ap (λ y. y.id) pis ∙ e))
 one_agent (x ∷ w) r p q (suc k, pb, pis) (zero, qb, qis) e =
-    absurd (less_not x.id p.id (All-contains (λ y. x.id < y) (ids w) p.id r.0 (contains_map (λ y. y.id) w p (k, omega (arith, pb), pis))) (ap (λ y. y.id) qis ∙ sym e))
+    absurd (less_not x.id p.id (All-contains (λ y. x.id < y) (ids w) p.id r.0 (in_map (λ y. y.id) w p (k, omega (arith, pb), pis))) (ap (λ y. y.id) qis ∙ sym e))
 one_agent (x ∷ w) r p q (suc k, pb, pis) (suc l, qb, qis) e = one_agent w r.1 p q (k, omega (arith, pb), pis) (l, omega (arith, qb), qis) e
 
 -- the agent that a loop's name stands for
@@ -209,14 +197,14 @@ pub loop_over : (T : Bool → Tie) (tie : (all : Bool) → IsTie (T all)) → ((
 loop_over T tie weaker alone_ m w held a k inner enters all scope at class body each =
     over_held (T all) (tie all) (λ x. run m (filter held w) body (inside scope x)) (λ x. run m w body (inside scope x)) (λ x. (x.class == class) && sees m scope.this x) held w
     (λ x wx passes hx. (each all (inside scope x) (subst (λ c. At m w held a inner c (inside scope x)) (ap (λ c. all && c) hx ∙ and_true all) (entered x wx passes))).tie)
-    (λ x wx passes hx. weaker all _ _ (alone_ all _ _ _ _ (each false (inside scope x) (subst (λ c. At m w held a inner c (inside scope x)) (right_false all (held x) hx) (entered x wx passes))).tie))
+    (λ x wx passes hx. weaker all _ _ (alone_ all _ _ _ _ (each false (inside scope x) (subst (λ c. At m w held a inner c (inside scope x)) (and_right all (held x) hx) (entered x wx passes))).tie))
   where
     and_true : (c : Bool) → (c && true) ≡ c
     and_true true = refl
     and_true false = refl
 
     entered : (x : Agent) → Contains w x → ((x.class == class) && sees m scope.this x) ≡ true → At m w held a inner (all && held x) (inside scope x)
-    entered x wx passes = enters.at all scope at x wx (both_hold (x.class == class) (sees m scope.this x) passes).1
+    entered x wx passes = enters.at all scope at x wx (and_parts (x.class == class) (sees m scope.this x) passes).1
 
 -- what is said to an effect of an agent
 abbrev pub heard_by : ℕ → ℕ → Saying → Bool
@@ -264,7 +252,7 @@ module _ (m : Program) (w : List Agent) (held : Agent → Bool) (deep : Bool) (a
   hears_say k x field e here s all hits named rest =
       sim_say (Heard to all) (heard_tie to all) m m (filter held w) w (At m w held a k all) (at_bound m w held a k all) x field e here s s (λ scope at stop is. heard_nothing to all (query_fault scope stop ∷ []))
       (λ scope at v. heard_one to all _ (λ passes. sym at.1 ∙ hits scope at.0 (λ p is.
-      ap (λ y. y.id) (sym (named scope p is)) ∙ same_number (agent_of scope x).id id (both_hold ((agent_of scope x).id == id) (field == effect) passes).0))) rest
+      ap (λ y. y.id) (sym (named scope p is)) ∙ same_number (agent_of scope x).id id (and_parts ((agent_of scope x).id == id) (field == effect) passes).0))) rest
 
   hears : (k : Depth) (s : List Stmt) → Outward deep k s → (all : Bool) → Hears k all s
   hears _ _ (o.none k) all = sim_none (Heard to all) (heard_tie to all) m m (filter held w) w (At m w held a k all) (at_bound m w held a k all)

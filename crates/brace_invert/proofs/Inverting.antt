@@ -38,6 +38,7 @@ use Rattle.brace_invert.proofs.Typed.{is_there}
 use Rattle.brace_invert.proofs.LawfulParts.{IsPart, forward_is_part, inverse_is_part}
 use Rattle.brace_invert.proofs.Runs.{Joined, Together, together_nothing, together_append, joined_run}
 use Rattle.brace_invert.proofs.Traces.{Foretold, foretold_append, foretold_run}
+use Rattle.brace_num.proofs.Lists.{none_in, filter_all}
 
 -- agents of a program with other queries see the same
 reaches_same : (part : List Stmt → List Stmt) (c d : Option Class) (a b : Agent) → reaches_to (option_map (with_query part) c) (option_map (with_query part) d) a b ≡ reaches_to c d a b
@@ -99,15 +100,10 @@ joined_all : (m : Program) (seed tick : ℕ) (w agents : List Agent)
 joined_all m seed tick w [] = together_nothing
 joined_all m seed tick w (a ∷ agents) = together_append _ _ _ _ _ _ _ _ _ _ _ _ (joined_of m seed tick w a) (joined_all m seed tick w agents)
 
--- both programs say what the script says
-all_pass : {A : Type 0} (xs : List A) → filter (λ x. true) xs ≡ xs
-all_pass [] = refl
-all_pass (x ∷ xs) = ap (λ t. x ∷ t) (all_pass xs)
-
 pub said_same : (m : Program) (seed tick : ℕ) (w : List Agent) → query_faults m seed tick w ≡ [] → IsPermutation (said_in m seed tick w) (said_by_both m seed tick w)
 said_same m seed tick w e =
-    subst (λ x. IsPermutation x (said_by_both m seed tick w)) (all_pass (said_in m seed tick w))
-    (subst (IsPermutation (filter (λ s. true) (said_in m seed tick w))) (sym (filter-append (λ s. true) (said_in (forward_program m) seed tick w) (said_in (inverse_program m) seed tick w)) ∙ all_pass (said_by_both m seed tick w))
+    subst (λ x. IsPermutation x (said_by_both m seed tick w)) (filter_all (said_in m seed tick w))
+    (subst (IsPermutation (filter (λ s. true) (said_in m seed tick w))) (sym (filter-append (λ s. true) (said_in (forward_program m) seed tick w) (said_in (inverse_program m) seed tick w)) ∙ filter_all (said_by_both m seed tick w))
     ((joined_all m seed tick w w).same (λ s. true) e))
 
 pub said_to_each : (m : Program) (seed tick : ℕ) (w : List Agent) (id effect : ℕ) → query_faults m seed tick w ≡ [] → IsPermutation (said_to id effect (said_in m seed tick w)) (said_to id effect (said_by_both m seed tick w))
@@ -179,15 +175,11 @@ behind e f g low after = behind_so e f g low after (comes_before g f) refl
 no_such : {A : Type 0} (P : Type 0) (x : A) → Contains [] x → P
 no_such P x (k, below, is) = absurd (omega (arith, below))
 
-none_there : {A : Type 0} (xs : List A) → ((x : A) → Contains xs x → ⊥) → xs ≡ []
-none_there [] h = refl
-none_there (x ∷ xs) h = absurd (h x (0, omega arith, refl))
-
 -- there is a fault with both exactly where there is one without
 pub found_none : (m : Program) (seed tick : ℕ) (w : List Agent) → LawfulProgram m → found_by_both m seed tick w ≡ [] ↔ query_faults m seed tick w ≡ []
 found_none m seed tick w lawful = (
-  λ e. none_there (query_faults m seed tick w) (λ g h. no_such ⊥ g (subst (λ xs. Contains xs g) e (faults_kept m seed tick w g h))),
-  λ e. none_there (found_by_both m seed tick w) (λ g h. ⊎_elim (λ (x : Contains (query_faults m seed tick w) g). no_such ⊥ g (subst (λ xs. Contains xs g) e x))
+  λ e. none_in (query_faults m seed tick w) (λ g h. no_such ⊥ g (subst (λ xs. Contains xs g) e (faults_kept m seed tick w g h))),
+  λ e. none_in (found_by_both m seed tick w) (λ g h. ⊎_elim (λ (x : Contains (query_faults m seed tick w) g). no_such ⊥ g (subst (λ xs. Contains xs g) e x))
       (λ (x : (f : Fault) × Contains (query_faults m seed tick w) f × ComesAfter f g). no_such ⊥ x.0 (subst (λ xs. Contains xs x.0) e x.1)) (found_foreseen m seed tick w lawful g h)),
 )
 

@@ -42,6 +42,7 @@ use Rattle.brace_invert.proofs.Inverting.{class_same, part_deed, part_of}
 use Rattle.brace_invert.proofs.Outward as o
 use Rattle.brace_invert.proofs.Outward.{Depth, Outward}
 use Rattle.brace_invert.proofs.Heard.{Reaches, Hits, Stands, At, at_bound, Enters, enters_first, enters_second, loop_over, loop_agent, near_hit, far_hit, farthest_hit, one_agent, reaches_it, query_outward, opening_at}
+use Rattle.std.proofs.lemmas.Option.{same_Some}
 
 -- to whom statements of each kind say values at a site
 targets-Const : (site n : ℕ) (e : Expr) → targets_at site (Const n e) ≡ []
@@ -130,9 +131,6 @@ kept_tie g all = record {
       ⊎_elim (λ (v : Contains e g). ((h v).0, Contains-append_left f ff g (h v).1)) (λ (v : Contains ee g). ((k v).0, Contains-append_right f ff g (k v).1)) (Contains-append_cases e ee g w);
 }
 
-same_id : (p q : ℕ) → Some p ≡ Some q → p ≡ q
-same_id p q e = cc
-
 only_name : (x y : Who) (test : Bool) → Contains (if test then x ∷ [] else []) y → x ≡ y
 only_name x y true w = only_one (λ z. x ≡ z) x y refl w
 only_name x y false w = none_within _ y w
@@ -140,8 +138,8 @@ only_name x y false w = none_within _ y w
 -- whom a fault names
 named_agent : (scope : Scope) (stop : Stop) (x : Who) (id : ℕ) → id_in (query_fault scope stop) x ≡ Some id → (p : Agent) → loop_agent scope x ≡ Some p → p.id ≡ id
 named_agent scope stop who.This id is p e = absurd (cc)
-named_agent scope stop who.Outer id is p e = same_id p.id id (sym (ap (option_map (λ y. y.id)) e) ∙ is)
-named_agent scope stop who.Inner id is p e = same_id p.id id (sym (ap (option_map (λ y. y.id)) e) ∙ is)
+named_agent scope stop who.Outer id is p e = same_Some p.id id (sym (ap (option_map (λ y. y.id)) e) ∙ is)
+named_agent scope stop who.Inner id is p e = same_Some p.id id (sym (ap (option_map (λ y. y.id)) e) ∙ is)
 
 module _ (m : Program) (w : List Agent) (held : Agent → Bool) (deep : Bool) (a : Agent) (id : ℕ) (r : Reaches m w held deep a id) (g : Fault) (y : Who) (had : id_in g y ≡ Some id) where
   abbrev Keeps : Depth → Bool → List Stmt → Type 0
@@ -233,9 +231,6 @@ module _ (m : Program) (w : List Agent) (held : Agent → Bool) (deep : Bool) (a
   keeps _ _ (o.farthest field e here s d h) names last formed fits all =
       keeps_say o.deepest who.Inner field e here s names last formed fits all (farthest_hit m w held deep a id r d) (λ mid after. keeps o.deepest s h mid last after (rest_fits (Assign who.Inner field e here) s fits) all)
 
-same_class : (c d : Class) → Some c ≡ Some d → c ≡ d
-same_class c d e = cc
-
 module _ (m : Program) (seed tick : ℕ) (w : List Agent) (area : Area) (held : Agent → Bool) (lawful : LawfulProgram m) (rises : RisesById w) (holds : HoldsNear m area (range_of m true) w held)
     (b : Agent) (wb : Contains w b) (stands : is_in m area b ≡ true) (g : Fault) (hit : IsAtAssignmentTo (inverse_program m) w g b.id) where
   -- the inverse query of one agent
@@ -254,7 +249,7 @@ module _ (m : Program) (seed tick : ℕ) (w : List Agent) (area : Area) (held : 
       let up : Rising (flat_map sites_in block) = sub-Rising _ _ (sites_kept class.query block pruned) (rising_from (flat_map sites_in class.query) here.query_sites_rise) in
       let at = sited_run m w block names end typed scope g v in
       let same : hit.agent ≡ a = one_agent w (rising_from (ids w) rises) hit.agent a hit.is_in_world wa (hit.met_it ∙ at.agent) in
-      let its : with_query inverse_query class ≡ hit.class = same_class (with_query inverse_query class) hit.class
+      let its : with_query inverse_query class ≡ hit.class = same_Some (with_query inverse_query class) hit.class
       (sym (class_same inverse_query m a ∙ ap (option_map (with_query inverse_query)) e) ∙ ap (class_of (inverse_program m)) (sym same) ∙ hit.has_class) in
       let named : Contains (flat_map (targets_at g.site) block) hit.target = subst (λ c. Contains (flat_map (targets_at g.site) c.query) hit.target) (sym its) hit.stands_there in
       (keeps m w held (says_in_inner_loops m) a b.id (reaches_it m seed tick w area held lawful rises holds b wb stands a wa) g hit.target hit.had_id o.top block (query_outward m lawful a class e) names end typed

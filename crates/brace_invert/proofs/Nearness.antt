@@ -1,6 +1,6 @@
 -- Who sees an agent of an area, or is seen by one, stands near it.
 use Rattle.std.proofs.Common.{◌≡◌, refl, subst, ℕ, zero, suc, ℤ, pos, ◌≤ℤ◌, ◌+ℤ◌, ◌-ℤ◌, List, [], ◌∷◌, true, Option, Some, None, arith}
-use Rattle.std.specs.Prelude.{not, ◌==◌, int_le, fold, slice_get}
+use Rattle.std.specs.Prelude.{not, ◌==◌, fold, slice_get}
 use Rattle.std.specs.Int.{int_max}
 use Rattle.std.proofs.lemmas.Int.{ints}
 use Rattle.brace_num.specs.declared.kinds.Area.{Area}
@@ -12,8 +12,9 @@ use Rattle.brace_model.specs.Lawful.{LawfulProgram}
 use Rattle.brace_num.specs.Areas.{outside, gap_to}
 use Rattle.brace_invert.specs.Range.{greatest_visible}
 use Rattle.brace_invert.proofs.RangeLemmas.{distance_low}
-use Rattle.brace_invert.proofs.Typed.{both_hold}
 use Rattle.brace_invert.specs.Held.{stands_near, is_near}
+use Rattle.std.proofs.lemmas.Bool.{and_parts}
+use Rattle.brace_num.proofs.Numbers.{le_holds, le_told, le_through, max_within, within_max}
 
 -- two numbers within a distance, as an order of each
 within_up : (v p q : ℤ) → is_within v p q ≡ true → (p -ℤ q) ≤ℤ v
@@ -21,12 +22,6 @@ within_up v p q e = grind (arith, e)
 
 within_down : (v p q : ℤ) → is_within v p q ≡ true → (q -ℤ p) ≤ℤ v
 within_down v p q e = grind (arith, e)
-
-max_within : (a b k : ℤ) → int_max a b ≤ℤ k → (a ≤ℤ k) × (b ≤ℤ k)
-max_within a b k h = (grind (arith, h), grind (arith, h))
-
-within_max : (a b k : ℤ) → a ≤ℤ k → b ≤ℤ k → int_max a b ≤ℤ k
-within_max a b k h g = grind (arith, h, g)
 
 low_near : (low p q v k : ℤ) → (q -ℤ p) ≤ℤ v → (low -ℤ q) ≤ℤ k → (low -ℤ p) ≤ℤ (k +ℤ v)
 low_near low p q v k down h = omega (arith, ints, down, h)
@@ -39,22 +34,16 @@ none_near v k some more = grind (arith, some, more)
 
 outside_near : (low high p q v k : ℤ) → pos 0 ≤ℤ v → pos 0 ≤ℤ k → (p -ℤ q) ≤ℤ v → (q -ℤ p) ≤ℤ v → outside low high q ≤ℤ k → outside low high p ≤ℤ (k +ℤ v)
 outside_near low high p q v k some more up down h =
-    let (zero_so, ends) = max_within (pos 0) (int_max (low -ℤ q) (q -ℤ high)) k h in
-    let (below, above) = max_within (low -ℤ q) (q -ℤ high) k ends in
-    within_max (pos 0) (int_max (low -ℤ p) (p -ℤ high)) (k +ℤ v) (none_near v k some more)
-    (within_max (low -ℤ p) (p -ℤ high) (k +ℤ v) (low_near low p q v k down below) (high_near high p q v k up above))
+    let (zero_so, ends) = within_max (pos 0) (int_max (low -ℤ q) (q -ℤ high)) k h in
+    let (below, above) = within_max (low -ℤ q) (q -ℤ high) k ends in
+    max_within (pos 0) (int_max (low -ℤ p) (p -ℤ high)) (k +ℤ v) (none_near v k some more)
+    (max_within (low -ℤ p) (p -ℤ high) (k +ℤ v) (low_near low p q v k down below) (high_near high p q v k up above))
 
 gap_near : (area : Area) (ax ay bx by v k : ℤ) → pos 0 ≤ℤ v → pos 0 ≤ℤ k → (ax -ℤ bx) ≤ℤ v → (bx -ℤ ax) ≤ℤ v → (ay -ℤ by) ≤ℤ v → (by -ℤ ay) ≤ℤ v → gap_to area bx by ≤ℤ k → gap_to area ax ay ≤ℤ (k +ℤ v)
 gap_near area ax ay bx by v k some more xu xd yu yd h =
-    let (along_x, along_y) = max_within (outside area.x0 area.x1 bx) (outside area.y0 area.y1 by) k h in
-    within_max (outside area.x0 area.x1 ax) (outside area.y0 area.y1 ay) (k +ℤ v)
+    let (along_x, along_y) = within_max (outside area.x0 area.x1 bx) (outside area.y0 area.y1 by) k h in
+    max_within (outside area.x0 area.x1 ax) (outside area.y0 area.y1 ay) (k +ℤ v)
     (outside_near area.x0 area.x1 ax bx v k some more xu xd along_x) (outside_near area.y0 area.y1 ay by v k some more yu yd along_y)
-
-le_true : (x y : ℤ) → x ≤ℤ y → int_le x y ≡ true
-le_true x y h = grind (arith, h)
-
-true_le : (x y : ℤ) → int_le x y ≡ true → x ≤ℤ y
-true_le x y e = grind (arith, e)
 
 le_plus : (z k v w : ℤ) → z ≤ℤ (k +ℤ v) → v ≤ℤ w → z ≤ℤ (k +ℤ w)
 le_plus z k v w h g = grind (arith, h, g)
@@ -66,10 +55,10 @@ reaching_near area None p a b k most bounds more r h = absurd (cc)
 reaching_near area (Some c) None a b k most bounds more r h = absurd (cc)
 reaching_near area (Some c) (Some d) a b k most bounds more r h =
     let (some, little) = bounds c refl in
-    let (x, y) = both_hold (is_within c.visible (x_of c a) (x_of d b)) (is_within c.visible (y_of c a) (y_of d b)) r in
-    le_true _ _ (le_plus (gap_to area (x_of c a) (y_of c a)) k c.visible most
+    let (x, y) = and_parts (is_within c.visible (x_of c a) (x_of d b)) (is_within c.visible (y_of c a) (y_of d b)) r in
+    le_holds _ _ (le_plus (gap_to area (x_of c a) (y_of c a)) k c.visible most
     (gap_near area (x_of c a) (y_of c a) (x_of d b) (y_of d b) c.visible k some more
-    (within_up c.visible (x_of c a) (x_of d b) x) (within_down c.visible (x_of c a) (x_of d b) x) (within_up c.visible (y_of c a) (y_of d b) y) (within_down c.visible (y_of c a) (y_of d b) y) (true_le _ _ h))
+    (within_up c.visible (x_of c a) (x_of d b) x) (within_down c.visible (x_of c a) (x_of d b) x) (within_up c.visible (y_of c a) (y_of d b) y) (within_down c.visible (y_of c a) (y_of d b) y) (le_told _ _ h))
     little)
 
 -- and so does who is reached from near it
@@ -79,10 +68,10 @@ reached_near area None p a b k most bounds more r h = absurd (cc)
 reached_near area (Some c) None a b k most bounds more r h = absurd (cc)
 reached_near area (Some c) (Some d) a b k most bounds more r h =
     let (some, little) = bounds c refl in
-    let (x, y) = both_hold (is_within c.visible (x_of c a) (x_of d b)) (is_within c.visible (y_of c a) (y_of d b)) r in
-    le_true _ _ (le_plus (gap_to area (x_of d b) (y_of d b)) k c.visible most
+    let (x, y) = and_parts (is_within c.visible (x_of c a) (x_of d b)) (is_within c.visible (y_of c a) (y_of d b)) r in
+    le_holds _ _ (le_plus (gap_to area (x_of d b) (y_of d b)) k c.visible most
     (gap_near area (x_of d b) (y_of d b) (x_of c a) (y_of c a) c.visible k some more
-    (within_down c.visible (x_of c a) (x_of d b) x) (within_up c.visible (x_of c a) (x_of d b) x) (within_down c.visible (y_of c a) (y_of d b) y) (within_up c.visible (y_of c a) (y_of d b) y) (true_le _ _ h))
+    (within_down c.visible (x_of c a) (x_of d b) x) (within_up c.visible (x_of c a) (x_of d b) x) (within_down c.visible (y_of c a) (y_of d b) y) (within_up c.visible (y_of c a) (y_of d b) y) (le_told _ _ h))
     little)
 
 -- no class sees farther than the greatest visible range
@@ -104,21 +93,17 @@ visible_bounds m lawful a c e = (distance_low c.visible (lawful.classes_are_lawf
 
 pub seer_near : (m : Program) → LawfulProgram m → (area : Area) (a b : Agent) (k : ℤ) → pos 0 ≤ℤ k → sees m a b ≡ true → is_near m area k b ≡ true → is_near m area (k +ℤ greatest_visible m) a ≡ true
 seer_near m lawful area a b k more e h =
-    let (two, reaches) = both_hold (not (a.id == b.id)) (reaches_to (class_of m a) (class_of m b) a b) e in
+    let (two, reaches) = and_parts (not (a.id == b.id)) (reaches_to (class_of m a) (class_of m b) a b) e in
     reaching_near area (class_of m a) (class_of m b) a b k (greatest_visible m) (visible_bounds m lawful a) more reaches h
 
 pub seen_near : (m : Program) → LawfulProgram m → (area : Area) (a b : Agent) (k : ℤ) → pos 0 ≤ℤ k → sees m a b ≡ true → is_near m area k a ≡ true → is_near m area (k +ℤ greatest_visible m) b ≡ true
 seen_near m lawful area a b k more e h =
-    let (two, reaches) = both_hold (not (a.id == b.id)) (reaches_to (class_of m a) (class_of m b) a b) e in
+    let (two, reaches) = and_parts (not (a.id == b.id)) (reaches_to (class_of m a) (class_of m b) a b) e in
     reached_near area (class_of m a) (class_of m b) a b k (greatest_visible m) (visible_bounds m lawful a) more reaches h
-
--- near is near to each greater range
-no_less : (z k n : ℤ) → z ≤ℤ k → k ≤ℤ n → z ≤ℤ n
-no_less z k n h g = grind (arith, h, g)
 
 farther : (area : Area) (o : Option Class) (a : Agent) (k n : ℤ) → k ≤ℤ n → stands_near area k o a ≡ true → stands_near area n o a ≡ true
 farther area None a k n le h = absurd (cc)
-farther area (Some c) a k n le h = le_true (gap_to area (x_of c a) (y_of c a)) n (no_less (gap_to area (x_of c a) (y_of c a)) k n (true_le (gap_to area (x_of c a) (y_of c a)) k h) le)
+farther area (Some c) a k n le h = le_holds (gap_to area (x_of c a) (y_of c a)) n (le_through (gap_to area (x_of c a) (y_of c a)) k n (le_told (gap_to area (x_of c a) (y_of c a)) k h) le)
 
 pub nearer : (m : Program) (area : Area) (a : Agent) (k n : ℤ) → k ≤ℤ n → is_near m area k a ≡ true → is_near m area n a ≡ true
 nearer m area a k n = farther area (class_of m a) a k n

@@ -1,7 +1,7 @@
 -- What a part of a block keeps of the block's numbers: all constants, some sites, loops and assignments, in their order.
 use Rattle.std.proofs.Common.{◌≡◌, ◌∙◌, refl, sym, ap, ℕ, ◌+◌, ◌≤◌, List, [], ◌∷◌, ◌++◌, map, flat_map, sum, false, arith, append_assoc, ◌<◌, length, get_or, take}
 use Rattle.std.specs.List.{concat, sum_by}
-use Rattle.std.proofs.lemmas.List.{append-nil, map-append, take_more, length-append}
+use Rattle.std.proofs.lemmas.List.{append-nil, map-append, length-append}
 use Rattle.std.proofs.lemmas.List.Concat.{flat_map-append}
 use Rattle.std.proofs.lemmas.List.Sums.{sum-map, sum_by-cons, sum_by-append}
 use Rattle.brace_model.specs.declared.program.Value.TheVariants.{Flag}
@@ -19,6 +19,7 @@ use Rattle.brace_model.proofs.Blocks as b
 use Rattle.brace_model.proofs.Blocks.{Plain, plain}
 use Rattle.brace_invert.proofs.Pruned as pruned
 use Rattle.brace_invert.proofs.Pruned.{Pruned}
+use Rattle.brace_num.proofs.Lists.{flat_map_next}
 
 -- counts over a list
 pub count-cons : {A : Type 0} (f : A → ℕ) (x : A) (xs : List A) → sum (map f (x ∷ xs)) ≡ f x + sum (map f xs)
@@ -190,16 +191,12 @@ assignments_kept _ _ (pruned.kept who effect e at s p h) =
     omega (arith, assignments_kept s p h, count-cons assignments (Assign who effect e at) s, count-cons assignments (Assign who effect e at) p)
 assignments_kept _ _ (pruned.left_out who effect e at s p h) = omega (arith, assignments_kept s p h, count-cons assignments (Assign who effect e at) s)
 
-flat_map-take_more : {A B : Type 0} (f : A → List B) (xs : List A) (i : ℕ) (x : A) → i < length xs → x ≡ get_or xs i x → flat_map f (take (i + 1) xs) ≡ flat_map f (take i xs) ++ f x
-flat_map-take_more f xs i x below is =
-    ap (flat_map f) (take_more xs i x below ∙ ap (λ y. take i xs ++ y ∷ []) (sym is)) ∙ flat_map-append f (take i xs) (x ∷ []) ∙ ap (λ t. flat_map f (take i xs) ++ t) (append-nil (f x))
-
 -- declarations that are added one statement after another
 pub unread_more : (first : List Stmt) (xs : List Stmt) (i : ℕ) (x : Stmt) → i < length xs → x ≡ get_or xs i x
     → (first ++ map unread (flat_map constant_numbers (take i xs))) ++ map unread (constant_numbers x) ≡ first ++ map unread (flat_map constant_numbers (take (i + 1) xs))
 unread_more first xs i x below is =
     append_assoc first (map unread (flat_map constant_numbers (take i xs))) (map unread (constant_numbers x))
-    ∙ ap (λ t. first ++ t) (sym (map-append unread (flat_map constant_numbers (take i xs)) (constant_numbers x)) ∙ ap (map unread) (sym (flat_map-take_more constant_numbers xs i x below is)))
+    ∙ ap (λ t. first ++ t) (sym (map-append unread (flat_map constant_numbers (take i xs)) (constant_numbers x)) ∙ ap (map unread) (sym (flat_map_next constant_numbers xs i x below is)))
 
 pub unread-If : (first : List Stmt) (c : Expr) (a b : List Stmt) → (first ++ map unread (flat_map constant_numbers a)) ++ map unread (flat_map constant_numbers b) ≡ first ++ map unread (constant_numbers (If c a b))
 unread-If first c a b =

@@ -1,6 +1,6 @@
 -- Blocks of an inverse program: values are said to the agents of loops alone.
 use Rattle.std.proofs.Common.{◌≡◌, ◌∙◌, refl, sym, subst, ℕ, List, [], ◌∷◌, ◌++◌, map, flat_map, sum, Bool, true, false, Option, Some, None, ◌==◌}
-use Rattle.std.specs.Prelude.{◌||◌, if◌then◌else◌, is_none, not}
+use Rattle.std.specs.Prelude.{if◌then◌else◌, is_none, not}
 use Rattle.std.specs.Option.{option_and_then}
 use Rattle.std.specs.List.{list_any}
 use Rattle.brace_model.specs.declared.program.Value.TheVariants.{Flag}
@@ -21,6 +21,7 @@ use Rattle.brace_invert.proofs.RangeLemmas.{says_within-If, says_within-Foreach,
 use Rattle.brace_model.proofs.Blocks as b
 use Rattle.brace_model.proofs.Blocks.{Plain}
 use Rattle.brace_invert.proofs.Typed.{After, after_split, formed_const, formed_if, formed_loop, formed_assign, only_where}
+use Rattle.std.proofs.lemmas.Bool.{or_right, or_left}
 
 -- in how many loops a block stands
 pub data Depth : Type 0 where
@@ -96,14 +97,6 @@ one_statement deep deepest Outer effect e at names last placed formed allowed =
 one_statement deep deepest Inner effect e at names last placed formed allowed =
     subst (Outward deep deepest) (sym (inverse_of-Assign Inner effect e at true)) (farthest effect e at [] (allowed (says_within-Assign Inner effect e at true true)) (none deepest))
 
-first_so : (p q : Bool) → p ≡ true → (p || q) ≡ true
-first_so true q e = refl
-first_so false q e = absurd (cc)
-
-second_so : (p q : Bool) → q ≡ true → (p || q) ≡ true
-second_so true q e = refl
-second_so false q e = e
-
 -- a scope one loop further in
 chosen_within : (first second : Bool) (x y inside : Names) → (if first then Some x else only second y) ≡ Some inside → first ≡ true → x ≡ inside
 chosen_within true second x y inside e f = cc
@@ -142,30 +135,30 @@ outward deep _ (b.const n x s h) k names last placed e allowed =
     let f = formed_const n x names mid first in
     outward_append deep k (inverse_of (Const n x) (in_a_loop k)) _ (subst (Outward deep k) (sym (inverse_of-Const n x (in_a_loop k))) (const k n x [] (none k)))
     (outward deep s h k mid last (subst (Placed k) (sym f.bound) (record { outer = placed.outer; inner_one = placed.inner_one })) rest
-    (λ y. allowed (second_so (says_within (Const n x) (in_a_loop k) (in_an_inner k)) _ y)))
+    (λ y. allowed (or_right (says_within (Const n x) (in_a_loop k) (in_an_inner k)) _ y)))
 outward deep _ (b.cond c a d s ha hd h) k names last placed e allowed =
     let (mid, first, rest) = after_split (If c a d) s names last e in
     let f = formed_if c a d names mid first in
     outward_append deep k (inverse_of (If c a d) (in_a_loop k)) _ (subst (Outward deep k) (sym (inverse_of-If c a d (in_a_loop k)))
     (cond k c _ _ []
-    (outward deep a ha k names f.first.0 placed f.first.1 (λ y. allowed (first_so (says_within (If c a d) (in_a_loop k) (in_an_inner k)) _ (says_within-If c a d (in_a_loop k) (in_an_inner k) ∙ first_so _ _ y))))
-    (outward deep d hd k names f.second.0 placed f.second.1 (λ y. allowed (first_so (says_within (If c a d) (in_a_loop k) (in_an_inner k)) _ (says_within-If c a d (in_a_loop k) (in_an_inner k) ∙ second_so _ _ y))))
+    (outward deep a ha k names f.first.0 placed f.first.1 (λ y. allowed (or_left (says_within (If c a d) (in_a_loop k) (in_an_inner k)) _ (says_within-If c a d (in_a_loop k) (in_an_inner k) ∙ or_left _ _ y))))
+    (outward deep d hd k names f.second.0 placed f.second.1 (λ y. allowed (or_left (says_within (If c a d) (in_a_loop k) (in_an_inner k)) _ (says_within-If c a d (in_a_loop k) (in_an_inner k) ∙ or_right _ _ y))))
     (none k)))
-    (outward deep s h k mid last (subst (Placed k) f.closed placed) rest (λ y. allowed (second_so (says_within (If c a d) (in_a_loop k) (in_an_inner k)) _ y)))
+    (outward deep s h k mid last (subst (Placed k) f.closed placed) rest (λ y. allowed (or_right (says_within (If c a d) (in_a_loop k) (in_an_inner k)) _ y)))
 outward deep _ (b.loop class at body s hb h) top names last placed e allowed =
     let (mid, first, rest) = after_split (Foreach class body at) s names last e in
     let f = formed_loop class body at names mid first in
     outward_append deep top (inverse_of (Foreach class body at) false) _ (subst (Outward deep top) (sym (inverse_of-Foreach class body at false))
     (loop class at _ [] (outward deep body hb middle f.inside f.body_is_formed.0 (enter_first names f.inside class placed f.entered) f.body_is_formed.1
-    (λ y. allowed (first_so (says_within (Foreach class body at) false false) _ (says_within-Foreach class body at false false ∙ y)))) (none top)))
-    (outward deep s h top mid last (subst (Placed top) f.closed placed) rest (λ y. allowed (second_so (says_within (Foreach class body at) false false) _ y)))
+    (λ y. allowed (or_left (says_within (Foreach class body at) false false) _ (says_within-Foreach class body at false false ∙ y)))) (none top)))
+    (outward deep s h top mid last (subst (Placed top) f.closed placed) rest (λ y. allowed (or_right (says_within (Foreach class body at) false false) _ y)))
 outward deep _ (b.loop class at body s hb h) middle names last placed e allowed =
     let (mid, first, rest) = after_split (Foreach class body at) s names last e in
     let f = formed_loop class body at names mid first in
     outward_append deep middle (inverse_of (Foreach class body at) true) _ (subst (Outward deep middle) (sym (inverse_of-Foreach class body at true))
     (outward_inner deep class at _ (sum (map assignments (flat_map (λ x. inverse_of x true) body)) == 0) (outward deep body hb deepest f.inside f.body_is_formed.0 (enter_second names f.inside class placed f.entered) f.body_is_formed.1
-    (λ y. allowed (first_so (says_within (Foreach class body at) true false) _ (says_within-Foreach class body at true false ∙ y))))))
-    (outward deep s h middle mid last (subst (Placed middle) f.closed placed) rest (λ y. allowed (second_so (says_within (Foreach class body at) true false) _ y)))
+    (λ y. allowed (or_left (says_within (Foreach class body at) true false) _ (says_within-Foreach class body at true false ∙ y))))))
+    (outward deep s h middle mid last (subst (Placed middle) f.closed placed) rest (λ y. allowed (or_right (says_within (Foreach class body at) true false) _ y)))
 outward deep _ (b.loop class at body s hb h) deepest names last placed e allowed =
     let (mid, first, rest) = after_split (Foreach class body at) s names last e in
     let f = formed_loop class body at names mid first in
@@ -174,5 +167,5 @@ outward deep _ (b.say who effect x at s h) k names last placed e allowed =
     let (mid, first, rest) = after_split (Assign who effect x at) s names last e in
     let f = formed_assign who effect x at names mid first in
     outward_append deep k (inverse_of (Assign who effect x at) (in_a_loop k)) _
-    (one_statement deep k who effect x at names mid placed first (λ y. allowed (first_so (says_within (Assign who effect x at) (in_a_loop k) (in_an_inner k)) _ y)))
-    (outward deep s h k mid last (subst (Placed k) f.closed placed) rest (λ y. allowed (second_so (says_within (Assign who effect x at) (in_a_loop k) (in_an_inner k)) _ y)))
+    (one_statement deep k who effect x at names mid placed first (λ y. allowed (or_left (says_within (Assign who effect x at) (in_a_loop k) (in_an_inner k)) _ y)))
+    (outward deep s h k mid last (subst (Placed k) f.closed placed) rest (λ y. allowed (or_right (says_within (Assign who effect x at) (in_a_loop k) (in_an_inner k)) _ y)))

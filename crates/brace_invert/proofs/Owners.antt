@@ -15,12 +15,13 @@ use Rattle.brace_invert.specs.Split.{forward_query, forward_program}
 use Rattle.brace_invert.specs.Range.{greatest_visible, says_in_inner_loops, range_of}
 use Rattle.brace_invert.specs.Held.{is_in, HoldsNear}
 use Rattle.brace_invert.proofs.RangeLemmas.{greatest_in_range}
-use Rattle.brace_invert.proofs.Typed.{both_hold}
 use Rattle.brace_invert.proofs.Inverting.{seen_same}
 use Rattle.brace_invert.proofs.Nearness.{seen_near, nearer}
 use Rattle.brace_model.proofs.Blocks.{free}
-use Rattle.brace_model.proofs.Simulation.{Tie, IsTie, simulation, over_held, over_all, same_sight, kept_twice}
+use Rattle.brace_model.proofs.Simulation.{Tie, IsTie, simulation, over_held, over_all, same_sight}
 use Rattle.brace_invert.proofs.Sites.{none_within}
+use Rattle.std.proofs.lemmas.Bool.{and_parts}
+use Rattle.brace_num.proofs.Lists.{filter_weaker}
 
 -- the range is at least the greatest visible range
 doubled : (twice : Bool) (v : ℤ) → pos 0 ≤ℤ v → (pos 0 +ℤ v) ≤ℤ (if twice then v +ℤ v else v)
@@ -32,8 +33,8 @@ range_reaches m lawful = doubled (says_in_inner_loops m) (greatest_visible m) (g
 
 held_seen : (m : Program) → LawfulProgram m → (area : Area) (w : List Agent) (held : Agent → Bool) → HoldsNear m area (range_of m true) w held → (a : Agent) → is_in m area a ≡ true → (class : ℕ) → seen_by m (filter held w) a class ≡ seen_by m w a class
 held_seen m lawful area w held holds a stands class =
-    kept_twice (λ x. (x.class == class) && sees m a x) held w (λ x within passes.
-    holds x within (nearer m area x _ _ (range_reaches m lawful) (seen_near m lawful area a x (pos 0) (grind arith) (both_hold (x.class == class) (sees m a x) passes).1 stands)))
+    filter_weaker (λ x. (x.class == class) && sees m a x) held w (λ x within passes.
+    holds x within (nearer m area x _ _ (range_reaches m lawful) (seen_near m lawful area a x (pos 0) (grind arith) (and_parts (x.class == class) (sees m a x) passes).1 stands)))
 
 -- the forward program does the same over the owner's list
 pub forward_held : (m : Program) (seed tick : ℕ) (w : List Agent) (area : Area) (held : Agent → Bool) → LawfulProgram m → HoldsNear m area (range_of m true) w held → (a : Agent) → is_in m area a ≡ true

@@ -23,6 +23,7 @@ use Rattle.brace_model.proofs.LawEquations.{type_of-Lit, scope_after-Const, scop
 use Rattle.brace_invert.specs.Split.{unread, places, with_query}
 use Rattle.brace_invert.proofs.Pruned as pruned
 use Rattle.brace_invert.proofs.Pruned.{Pruned}
+use Rattle.std.proofs.lemmas.Bool.{and_from, and_parts}
 
 -- the same names, in a program whose classes have other queries
 abbrev pub renamed : (List Stmt → List Stmt) → Names → Names
@@ -91,14 +92,6 @@ pub only_where : {A : Type 0} (test : Bool) (a b : A) → only test a ≡ Some b
 only_where true a b e = (refl, cc)
 only_where false a b e = absurd (cc)
 
-pub both_hold : (p q : Bool) → (p && q) ≡ true → (p ≡ true) × (q ≡ true)
-both_hold true q e = (refl, e)
-both_hold false q e = absurd (cc)
-
-both_so : (p q : Bool) → p ≡ true → q ≡ true → (p && q) ≡ true
-both_so true q e g = g
-both_so false q e g = absurd (cc)
-
 pub is_there : {A : Type 0} (o : Option A) → is_some o ≡ true → (a : A) × (o ≡ Some a)
 is_there None e = absurd (cc)
 is_there (Some a) e = (a, refl)
@@ -145,14 +138,14 @@ bool_type (Some ty.Bool) e = refl
 pub formed_if : (c : Expr) (a b : List Stmt) (names last : Names) → scope_after (If c a b) names ≡ Some last → FormedIf c a b names last
 formed_if c a b names last e =
     let (test, same) = only_where _ names last (sym (scope_after-If c a b names) ∙ e) in
-    let (condition, blocks) = both_hold _ _ test in
-    let (first, second) = both_hold _ _ blocks in
+    let (condition, blocks) = and_parts _ _ test in
+    let (first, second) = and_parts _ _ blocks in
     record { condition = bool_type (type_of c names) condition; first = is_there _ first; second = is_there _ second; closed = same }
 
 pub formed_loop : (class : ℕ) (body : List Stmt) (at : ℕ) (names last : Names) → scope_after (Foreach class body at) names ≡ Some last → FormedLoop class body names last
 formed_loop class body at names last e =
     let (test, same) = only_where _ names last (sym (scope_after-Foreach class body at names) ∙ e) in
-    let (in_range, fits) = both_hold _ _ test in
+    let (in_range, fits) = and_parts _ _ test in
     let (end, is) = is_there _ fits in
     let (inside, entered, formed) = two_steps (in_turn (map scope_after body)) (within_loop names class) end is in
     record { inside = inside; entered = entered; known_class = in_range; body_is_formed = (end, formed); closed = same }
@@ -213,7 +206,7 @@ unread_formed (n ∷ ns) names =
 if_formed : (c : Expr) (a b : List Stmt) (names : Names) → type_of c names ≡ Some ty.Bool → IsFormed a names → IsFormed b names → scope_after (If c a b) names ≡ Some names
 if_formed c a b names condition first second =
     scope_after-If c a b names
-    ∙ only_so _ names (both_so _ _ (ap (is_of_type ty.Bool) condition) (both_so _ _ (ap is_some first.1) (ap is_some second.1)))
+    ∙ only_so _ names (and_from _ _ (ap (is_of_type ty.Bool) condition) (and_from _ _ (ap is_some first.1) (ap is_some second.1)))
 
 places_formed : (ns : List ℕ) (names : Names) → After (places ns) names names
 places_formed [] names = refl
@@ -233,7 +226,7 @@ loop_formed : (class : ℕ) (body : List Stmt) (at : ℕ) (names inside : Names)
     → scope_after (Foreach class body at) names ≡ Some names
 loop_formed class body at names inside in_range entered formed =
     scope_after-Foreach class body at names
-    ∙ only_so _ names (both_so _ _ in_range (ap (λ o. is_some (option_and_then (in_turn (map scope_after body)) o)) entered ∙ ap is_some formed.1))
+    ∙ only_so _ names (and_from _ _ in_range (ap (λ o. is_some (option_and_then (in_turn (map scope_after body)) o)) entered ∙ ap is_some formed.1))
 
 pub part_formed : (part : List Stmt → List Stmt) (s p : List Stmt) → Pruned s p → (names last : Names) → After s names last → After p (renamed part names) (renamed part last)
 part_formed part _ _ pruned.none names last e = ap (option_map (renamed part)) e

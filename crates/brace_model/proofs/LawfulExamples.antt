@@ -18,6 +18,7 @@ use Rattle.brace_model.specs.declared.program.Class.{Class}
 use Rattle.brace_model.specs.Lawful.{LawfulClass, LawfulProgram, LawfulJob}
 use Rattle.brace_model.proofs.Examples.{state, effect, class, script, drifting, drift}
 use Rattle.brace_model.proofs.LawEquations.{type_of-Lit, type_of-Field, type_of-Total, type_of-Local, type_of-Binary, sites_of-Lit, sites_of-Field, sites_of-Total, sites_of-Binary, scope_after-Const, scope_after-If, scope_after-Foreach, scope_after-Assign, sites_in-Foreach, sites_in-Assign, constant_numbers-Foreach, constant_numbers-Assign}
+use Rattle.brace_num.proofs.Orders.{none_rise}
 
 -- what a program of one class owes is that the class is lawful
 only_class : (c : Class) → LawfulClass (script (c ∷ [])) 0 c → (number : ℕ) (d : Class) → slice_get (c ∷ []) number ≡ Some d → LawfulClass (script (c ∷ [])) number d
@@ -36,9 +37,6 @@ drift_rule = Binary op.Add (Some 0) (Field who.This 0) one_and_a_half
 
 one_rises : IsStrictlyIncreasing (0 ∷ [])
 one_rises k below = absurd (omega arith)
-
-none_rise : IsStrictlyIncreasing []
-none_rise k below = absurd (omega arith)
 
 drifting_class : LawfulClass (script (moving drift_rule ∷ [])) 0 (moving drift_rule)
 unfolding IsDistinct

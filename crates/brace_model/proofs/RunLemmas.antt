@@ -1,5 +1,5 @@
 -- A run tick by tick: its worlds, and the text published so far.
-use Rattle.std.proofs.Common.{◌≡◌, ◌∙◌, sym, refl, ap, ℕ, zero, suc, ◌+◌, List, [], ◌∷◌, ◌++◌, Bool, Result, Ok, Err, flat_map, append_assoc, add-suc, add-zero, add-one, zero-add, arith}
+use Rattle.std.proofs.Common.{◌≡◌, ◌∙◌, sym, refl, ap, ℕ, zero, suc, ◌+◌, List, [], ◌∷◌, ◌++◌, Bool, Result, Ok, Err, flat_map, append_assoc, add-suc, add-zero, add-one, zero-add}
 use Rattle.std.specs.List.{range_with_len}
 use Rattle.std.proofs.lemmas.Grind.{flat_map-append}
 use Rattle.std.proofs.lemmas.List.{append-nil}
@@ -9,6 +9,7 @@ use Rattle.brace_model.specs.World.{World}
 use Rattle.brace_model.specs.Step.{step}
 use Rattle.brace_model.specs.Run.{world_after, stepped}
 use Rattle.brace_model.specs.Published.{tick_text, text_of_ticks}
+use Rattle.brace_num.proofs.Rows.{row_more}
 
 -- the start world, and one more tick
 pub world_after-zero : (job : Job) → world_after job 0 ≡ Ok job.start
@@ -25,16 +26,11 @@ unfolding world_after
 world_after-ended job n zero fault e = rw add-zero e
 world_after-ended job n (suc k) fault e = rw add-suc (ap (stepped job (job.first + (n + k))) (world_after-ended job n k fault e))
 
--- one number more at the end
-range-suc : (a n : ℕ) → range_with_len a (suc n) ≡ range_with_len a n ++ (a + n) ∷ []
-range-suc a zero = rw add-zero refl
-range-suc a (suc n) = ap (λ (l : List ℕ). a ∷ l) (range-suc (a + 1) n ∙ ap (λ (m : ℕ). range_with_len (a + 1) n ++ m ∷ []) (omega arith))
-
 -- the text of one tick more
 pub text-next : (job : Job) (fresh : Bool) (n : ℕ) → text_of_ticks job fresh (n + 1) ≡ text_of_ticks job fresh n ++ tick_text job fresh (job.first + n) (world_after job n)
 text-next job fresh n =
     let text : ℕ → List ℕ = λ k. tick_text job fresh (job.first + k) (world_after job k) in
-    ap (λ (m : ℕ). text_of_ticks job fresh m) (add-one n) ∙ ap (flat_map text) (range-suc 0 n ∙ ap (λ (m : ℕ). range_with_len 0 n ++ m ∷ []) (zero-add n)) ∙ flat_map-append text (range_with_len 0 n) (n ∷ []) ∙ ap (λ (l : List ℕ). flat_map text (range_with_len 0 n) ++ l) (append-nil (text n))
+    ap (λ (m : ℕ). text_of_ticks job fresh m) (add-one n) ∙ ap (flat_map text) (row_more 0 n ∙ ap (λ (m : ℕ). range_with_len 0 n ++ m ∷ []) (zero-add n)) ∙ flat_map-append text (range_with_len 0 n) (n ∷ []) ∙ ap (λ (l : List ℕ). flat_map text (range_with_len 0 n) ++ l) (append-nil (text n))
 
 -- no text after the end of a run
 pub text-ended : (job : Job) (fresh : Bool) (n k : ℕ) (fault : Fault) → world_after job n ≡ Err fault → text_of_ticks job fresh (n + k) ≡ text_of_ticks job fresh n

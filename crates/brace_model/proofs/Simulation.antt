@@ -21,6 +21,7 @@ use Rattle.brace_model.proofs.ValueEquations.{statement-Const, statement-If, sta
 use Rattle.brace_model.proofs.Blocks as b
 use Rattle.brace_model.proofs.Blocks.{Allowed, free}
 use Rattle.brace_model.proofs.Deeds.{run, after, goes_to, stops_at, by_stop, inside_either}
+use Rattle.brace_num.proofs.Lists.{filter_twice}
 
 -- how what one deed says and finds is tied to what another one says and finds
 abbrev pub Tie : Type 1
@@ -48,30 +49,6 @@ Either T f g x true true = T (f x).said (f x).faults (g x).said (g x).faults
 Either T f g x true false = T (f x).said (f x).faults [] []
 Either T f g x false true = T [] [] (g x).said (g x).faults
 Either T f g x false false = Unit {0}
-
--- of those that pass one test, those that pass another
-filter_twice : {A : Type 0} (p h : A → Bool) (xs : List A) → filter p (filter h xs) ≡ filter (λ x. h x && p x) xs
-filter_twice p h [] = refl
-filter_twice p h (x ∷ xs) = step (h x) (filter_twice p h xs)
-  where
-    step : (c : Bool) → filter p (filter h xs) ≡ filter (λ y. h y && p y) xs → filter p (cond c (x ∷ filter h xs) (filter h xs)) ≡ cond (c && p x) (x ∷ filter (λ y. h y && p y) xs) (filter (λ y. h y && p y) xs)
-    step true rest = ap (λ ys. cond (p x) (x ∷ ys) ys) rest
-    step false rest = rest
-
--- where those that pass one test pass another
-pub kept_twice : {A : Type 0} (p h : A → Bool) (xs : List A) → ((x : A) → Contains xs x → p x ≡ true → h x ≡ true) → filter p (filter h xs) ≡ filter p xs
-kept_twice {A = A} p h xs passes = filter_twice p h xs ∙ without xs passes
-  where
-    step : (x : A) (ys zs : List A) (c d : Bool) → (c ≡ true → d ≡ true) → ys ≡ zs → cond (d && c) (x ∷ ys) ys ≡ cond c (x ∷ zs) zs
-    step x ys zs true true e rest = ap (λ l. x ∷ l) rest
-    step x ys zs true false e rest = absurd (let no = e refl in cc)
-    step x ys zs false true e rest = rest
-    step x ys zs false false e rest = rest
-
-    without : (xs : List A) → ((x : A) → Contains xs x → p x ≡ true → h x ≡ true) → filter (λ x. h x && p x) xs ≡ filter p xs
-    without [] passes = refl
-    without (x ∷ xs) passes =
-        step x (filter (λ y. h y && p y) xs) (filter p xs) (p x) (h x) (passes x (0, omega arith, refl)) (without xs (λ y there. passes y (Contains-append_right (x ∷ []) xs y there)))
 
 module _ (T : Tie) (tie : IsTie T) where
   -- ---- over agents

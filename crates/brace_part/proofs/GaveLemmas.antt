@@ -26,7 +26,6 @@ use Rattle.brace_pieces.specs.Continued.{said, becomes, all_left, fitting, desce
 use Rattle.brace_pieces.specs.Right.{border, handed, moved, shares, shares_to, comes_from}
 use Rattle.brace_pieces.specs.Heard.{own, near, said_here}
 use Rattle.brace_pieces.specs.Counts.{changing}
-use Rattle.brace_pieces.proofs.Merges.{rises_by_pairs, filter_rises, filter_same}
 use Rattle.brace_pieces.proofs.HeldLemmas.{one_owns, held_together, handed_together}
 use Rattle.brace_pieces.proofs.Origins.{of_id}
 use Rattle.brace_pieces.proofs.MoveLemmas.{left_each, owner_by_id, moved_together}
@@ -36,6 +35,9 @@ use Rattle.brace_pieces.proofs.HeardHere.{StandInside, whole_inside, told_same}
 use Rattle.brace_pieces.proofs.ScheduleLemmas.{parts_either_way}
 use Rattle.brace_part.proofs.SumLemmas.{kept_in, either_first, common, nothing_left}
 use Rattle.brace_part.proofs.OutLemmas.{met_passes}
+use Rattle.brace_num.proofs.Lists.{filter_alike}
+use Rattle.brace_num.proofs.Orders.{rises_by_keys}
+use Rattle.brace_num.proofs.Orders.{filter_rises}
 
 -- ---- two parts that do not meet
 
@@ -87,7 +89,7 @@ module _ (s : Setting) (lawful : LawfulSetting s) (numbers : NumbersFit s) (t : 
   -- those whose owner changes
   pub handed_changing : (p q : ℕ) → length (gone p q) ≡ changing m before p w now q w
   handed_changing p q =
-      ap length (sym (filter_same (λ a. list_any (λ b. b.id == a.id) (owned m now q w)) (owns m now q) (owned m before p w) (λ a has. owner_by_id s lawful t w up q a (seen_in (owns m before p) w a has).0)))
+      ap length (sym (filter_alike (λ a. list_any (λ b. b.id == a.id) (owned m now q w)) (owns m now q) (owned m before p w) (λ a has. owner_by_id s lawful t w up q a (seen_in (owns m before p) w a has).0)))
 
   module _ (p q : ℕ) (other : p < parts s) (part : q < parts s) (apart : p ≡ q → ⊥) where
     pub no_handed : parts_meet s (step Hand t) p q ≡ false → gone p q ≡ []
@@ -173,8 +175,8 @@ module _ (s : Setting) (lawful : LawfulSetting s) (numbers : NumbersFit s) (t : 
     pub moved_changing : (p q : ℕ) → length (given p q) ≡ changing m now p w now q next
     moved_changing p q =
         ap length (moved_from p q)
-        ∙ sym (common (λ (a : Agent). a.id) (owned m now p w) (owned m now q next) (rises_by_pairs (owned m now p w) (filter_rises (owns m now p) w up))
-        (rises_by_pairs (owned m now q next) (filter_rises (owns m now q) next (on_rises s lawful (t + 1)))))
+        ∙ sym (common (λ (a : Agent). a.id) (owned m now p w) (owned m now q next) (rises_by_keys (λ (a : Agent). a.id) (owned m now p w) (filter_rises (λ (a : Agent). a.id) (owns m now p) w up))
+        (rises_by_keys (λ (a : Agent). a.id) (owned m now q next) (filter_rises (λ (a : Agent). a.id) (owns m now q) next (on_rises s lawful (t + 1)))))
 
     one_origin : (p r id : ℕ) → list_any (λ a. a.id == id) (owned m now p w) ≡ true → list_any (λ a. a.id == id) (owned m now r w) ≡ true → p ≡ r
     one_origin p r id first second =

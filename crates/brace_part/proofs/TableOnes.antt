@@ -16,7 +16,7 @@ use Rattle.std.proofs.lemmas.Option.{slice_get_read}
 use Rattle.brace_model.specs.declared.world.Agent.{Agent}
 use Rattle.brace_model.specs.World.{RisesById, ids}
 use Rattle.brace_model.proofs.WorldLemmas.{id_at}
-use Rattle.brace_pieces.proofs.Merges.{rises_by_pairs}
+use Rattle.brace_num.proofs.Orders.{rises_by_keys}
 
 module _ (agents : List Agent) (rises : RisesById agents) where
   -- one place has an id
@@ -48,7 +48,7 @@ module _ (agents : List Agent) (rises : RisesById agents) where
 
   no_falls : (i j : ℕ) (d : Agent) → (i ≡ j) ⊎ (i < j) → j < length agents → (get_or agents i d).id ≤ (get_or agents j d).id
   no_falls i j d (inl same) within = let one = ap (λ (k : ℕ). (get_or agents k d).id) same in omega (arith, one)
-  no_falls i j d (inr lt) within = let up = rises_by_pairs agents rises i j d lt within in omega (arith, up)
+  no_falls i j d (inr lt) within = let up = rises_by_keys (λ (a : Agent). a.id) agents rises i j d lt within in omega (arith, up)
 
   -- what a search by an id finds
   pub found_there : (place target : ℕ) (a : Agent) → place < length agents

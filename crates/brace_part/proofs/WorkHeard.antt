@@ -37,23 +37,24 @@ use Rattle.brace_pieces.specs.Right.{said_by}
 use Rattle.brace_pieces.specs.Heard.{own, near, said_here, heard, told, tellers, joined}
 use Rattle.brace_pieces.proofs.Meetings.{range_some}
 use Rattle.brace_pieces.proofs.OnLemmas.{on_rises, on_whole}
-use Rattle.brace_pieces.proofs.Merges.{filter_rises}
-use Rattle.brace_pieces.proofs.Partings.{behind}
-use Rattle.brace_model.proofs.Simulation.{kept_twice}
 use Rattle.brace_pieces.proofs.HeardHere.{StandInside, whole_inside, becomes_heard, becomes_joined, finds_here}
 use Rattle.brace_pieces.proofs.FaultLemmas.{later_phase}
-use Rattle.brace_pieces.proofs.ToldLemmas.{Ticks, steps_tick, at_place, query_found, update_found}
+use Rattle.brace_pieces.proofs.ToldLemmas.{Ticks, steps_tick, query_found, update_found}
 use Rattle.brace_part.specs.declared.work.Worker.{Worker}
 use Rattle.brace_part.specs.Parts.{found_in_work, IsCauseOf}
 use Rattle.brace_part.specs.inner.Ready.{own_in, left_in, updates_in, HearsAsked, HearsAll}
 use Rattle.brace_part.specs.inner.Sound.{IsWorker}
 use Rattle.brace_part.specs.inner.Tables.{said_over, faults_over, TellBy}
+use Rattle.brace_num.proofs.Lists.{in_more}
+use Rattle.brace_num.proofs.Orders.{filter_rises}
+use Rattle.brace_num.proofs.Lists.{All-place}
+use Rattle.brace_num.proofs.Lists.{filter_weaker}
 
 -- ---- lists
 
 mapped_alike : {A B : Type 0} (f g : A → B) (xs : List A) → ((x : A) → Contains xs x → f x ≡ g x) → map f xs ≡ map g xs
 mapped_alike f g [] same = refl
-mapped_alike f g (x ∷ xs) same = ap₂ (λ y ys. y ∷ ys) (same x (0, omega arith, refl)) (mapped_alike f g xs (λ y h. same y (behind x y xs h)))
+mapped_alike f g (x ∷ xs) same = ap₂ (λ y ys. y ∷ ys) (same x (0, omega arith, refl)) (mapped_alike f g xs (λ y h. same y (in_more x xs y h)))
 
 -- where no update faults, agents leave what becomes of them
 all_leave : (f : Agent → Result Next Fault) (xs : List Agent) → filter_map result_err (map f xs) ≡ [] → filter_map result_ok (map f xs) ≡ map (λ a. left_or_kept a (f a)) xs
@@ -83,7 +84,7 @@ err_weaker (Err e) P Q f p = f e p
 -- ---- steps
 
 pub step_ticks : (s : Setting) (k t : ℕ) (at : Stage) → (at ≡ stage.Show → ⊥) → slice_get (steps s) k ≡ Some (step at t) → (s.job.first ≤ t) × (t < s.job.last)
-step_ticks s k t at other stands = at_place (Ticks s) (steps s) k (step at t) (steps_tick s) stands other
+step_ticks s k t at other stands = All-place (Ticks s) (steps s) k (step at t) (steps_tick s) stands other
 
 module _ (worker : Worker) (part : IsWorker worker) (t : ℕ) where
   abbrev s : Setting
@@ -110,14 +111,14 @@ module _ (worker : Worker) (part : IsWorker worker) (t : ℕ) where
   -- ---- what a part owns of what it holds
 
   pub own_of_near : own s t p (near s t p w) ≡ own s t p w
-  own_of_near = kept_twice (owns m (cuts_of s t) p) (is_near m (area_of (cuts_of s t) p) (range s)) w
+  own_of_near = filter_weaker (owns m (cuts_of s t) p) (is_near m (area_of (cuts_of s t) p) (range s)) w
       (λ a there owned. nearer m (area_of (cuts_of s t) p) a _ (range s) (range_some s part.lawful) (whole_inside s part.lawful t w whole p a part.is_part there owned))
 
   pub own_is_near : (a : Agent) → Contains (own s t p w) a → Contains (near s t p w) a
   own_is_near a there = (seen_in (owns m (cuts_of s t) p) (near s t p w) a (subst (λ xs. Contains xs a) (sym own_of_near) there)).0
 
   pub near_rises : (agents : List Agent) → agents ≡ near s t p w → RisesById agents
-  near_rises agents e = subst RisesById (sym e) (filter_rises (is_near m (area_of (cuts_of s t) p) (range s)) w rises)
+  near_rises agents e = subst RisesById (sym e) (filter_rises (λ (a : Agent). a.id) (is_near m (area_of (cuts_of s t) p) (range s)) w rises)
 
   -- ---- what it hears
 

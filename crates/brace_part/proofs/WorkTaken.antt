@@ -21,10 +21,10 @@ use Rattle.brace_pieces.specs.Steps.{step, steps}
 use Rattle.brace_pieces.specs.Continued.{on}
 use Rattle.brace_pieces.specs.Right.{Share, share_of, IsRight, IsRightIn, IsRightAt, border, handed, moved, said_by, shares}
 use Rattle.brace_pieces.specs.Heard.{own, near, sayings_of, told, IsShareOf}
-use Rattle.brace_pieces.proofs.Partings.{behind}
 use Rattle.brace_part.specs.inner.Pieces.{brought, GoesOn, AreTaken, none_taken, more_taken}
 use Rattle.brace_part.specs.inner.Tables.{TellsOf, TellsBy, no_entry, one_entry, TellBy, no_piece, one_piece}
 use Rattle.brace_part.proofs.KindLemmas.{border_alone, hand_alone, move_alone, effects_alone}
+use Rattle.brace_num.proofs.Lists.{in_more}
 
 -- ---- what a piece brings
 
@@ -72,7 +72,7 @@ module _ (m : Program) (held mine : List Agent) (said : List Saying) (within : (
   tells_by (e ∷ entries) each =
       one_entry e entries (sayings_of said (share_of e)) (flat_map (sayings_of said) (map share_of entries))
       (tells_of e (each (share_of e) (0, omega arith, refl)))
-      (tells_by entries (λ g h. each g (behind (share_of e) g (map share_of entries) h)))
+      (tells_by entries (λ g h. each g (in_more (share_of e) (map share_of entries) g h)))
 
 -- a piece tells of values said
 pub record Tells (m : Program) (held : List Agent) (x : Piece) (said : List Saying) : Type 0 where

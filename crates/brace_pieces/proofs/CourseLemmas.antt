@@ -18,6 +18,8 @@ use Rattle.brace_pieces.specs.Steps.{steps, meet, met, pairs_below, schedule}
 use Rattle.brace_pieces.specs.Courses.{OnCourse, IsCourse, met_in, step_of, others_of, exchanges, turn_in, turn_of, turns_in, past_of, gone_behind, gone_on}
 use Rattle.brace_pieces.proofs.PlaceLemmas.{some_is}
 use Rattle.brace_pieces.proofs.Pairs.{has, met_where, met_in_rows}
+use Rattle.brace_num.proofs.Rows.{row_more, row_alike, row_kept}
+use Rattle.brace_num.proofs.Booleans.{and_true}
 
 -- ---- whom an actor meets
 
@@ -32,17 +34,6 @@ has_within (suc n) a q low high = elim (cases_eq a q) [
     or_true true = refl
     or_true false = refl
 
--- tests that agree on numbers in a row keep the same ones
-same_kept : (f g : ℕ → Bool) (n a : ℕ) → ((q : ℕ) → a ≤ q → q < a + n → f q ≡ g q) → filter f (range_with_len a n) ≡ filter g (range_with_len a n)
-same_kept f g zero a same = refl
-same_kept f g (suc n) a same =
-    ap (λ v. cond v (a ∷ filter f (range_with_len (a + 1) n)) (filter f (range_with_len (a + 1) n))) (same a (omega arith) (omega arith))
-    ∙ ap (λ xs. cond (g a) (a ∷ xs) xs) (same_kept f g n (a + 1) (λ q low high. same q (omega arith) (omega arith)))
-
-and_true : (v : Bool) → (v && true) ≡ v
-and_true true = refl
-and_true false = refl
-
 module _ (s : Setting) (p : ℕ) (is_actor : p < parts s + 1) where
   -- the pairs of a step
   abbrev pairs_in : Step → List Pair
@@ -52,7 +43,7 @@ module _ (s : Setting) (p : ℕ) (is_actor : p < parts s + 1) where
   met_same at =
       let n : ℕ = parts s + 1 in
       let all : List ℕ = range_with_len 0 n in
-      same_kept (meets (pairs_in at) p) (meet s at p) n 0 (λ q low high.
+      row_alike (meets (pairs_in at) p) (meet s at p) 0 n (λ q low high.
       met_where (meet s at) (pairs_below n) p q
       ∙ ap (λ v. meet s at p q && v) (met_in_rows all all p q ∙ ap₂ (λ a b. a && b) (has_within n 0 p (omega arith) (omega (arith, is_actor))) (has_within n 0 q (omega arith) (omega (arith, high))))
       ∙ and_true (meet s at p q))
@@ -230,25 +221,12 @@ there_within (x ∷ xs) (suc n) at is = omega (arith, there_within xs n at is)
 
 -- ---- numbers in a row, one by one
 
-row_more : (n a : ℕ) → range_with_len a (suc n) ≡ range_with_len a n ++ (a + n) ∷ []
-row_more zero a = let here : a ≡ a + 0 = omega arith in ap (λ b. b ∷ []) here
-row_more (suc n) a =
-    let there : a + 1 + n ≡ a + suc n = omega arith in
-    ap (λ xs. a ∷ xs) (row_more n (a + 1) ∙ ap (λ b. range_with_len (a + 1) n ++ b ∷ []) there)
-
 pub kept_more : (f : ℕ → Bool) (n : ℕ) → filter f (range_with_len 0 (n + 1)) ≡ filter f (range_with_len 0 n) ++ cond (f n) (n ∷ []) []
 kept_more f n =
     let one : n + 1 ≡ suc n = omega arith in
     let here : 0 + n ≡ n = omega arith in
-    ap (λ m. filter f (range_with_len 0 m)) one ∙ ap (filter f) (row_more n 0 ∙ ap (λ b. range_with_len 0 n ++ b ∷ []) here) ∙ filter-append f (range_with_len 0 n) (n ∷ [])
-
-kept_in_row : (f : ℕ → Bool) (n a : ℕ) → length (filter f (range_with_len a n)) ≤ n
-kept_in_row f zero a = omega arith
-kept_in_row f (suc n) a = elim (f a) as (λ v. length (cond v (a ∷ filter f (range_with_len (a + 1) n)) (filter f (range_with_len (a + 1) n))) ≤ suc n) [
-  | true ↦ omega (arith, kept_in_row f n (a + 1))
-  | false ↦ omega (arith, kept_in_row f n (a + 1))
-]
+    ap (λ m. filter f (range_with_len 0 m)) one ∙ ap (filter f) (row_more 0 n ∙ ap (λ b. range_with_len 0 n ++ b ∷ []) here) ∙ filter-append f (range_with_len 0 n) (n ∷ [])
 
 -- of so many numbers no more are kept
 pub kept_few : (f : ℕ → Bool) (n : ℕ) (xs : List ℕ) → xs ≡ filter f (range_with_len 0 n) → length xs ≤ n
-kept_few f n xs same = omega (arith, ap length same, kept_in_row f n 0)
+kept_few f n xs same = omega (arith, ap length same, row_kept f 0 n)

@@ -1,8 +1,7 @@
 -- The cuts that hold in a tick of a lawful plan are lawful, and make as many parts in every tick.
-use Rattle.std.proofs.Common.{◌≡◌, ◌∙◌, refl, sym, ap, ap₂, ℕ, suc, ◌+◌, ◌*◌, ℤ, pos, max, List, [], ◌∷◌, length, filter, Bool, true, false, cond, Option, Some, None, arith}
+use Rattle.std.proofs.Common.{◌≡◌, ◌∙◌, refl, sym, ap, ap₂, ℕ, suc, ◌+◌, ◌*◌, List, [], ◌∷◌, length, filter, Bool, true, false, cond, Option, Some, None, arith}
 use Rattle.std.specs.Prelude.{slice_get, option_map, unwrap_or, nat_le, ◌==◌}
 use Rattle.std.specs.List.{last_or}
-use Rattle.std.specs.Int.{int_max}
 use Rattle.std.proofs.lemmas.Bool.{and_parts, eqb-true}
 use Rattle.brace_cuts.specs.declared.space.Cuts.{Cuts}
 use Rattle.brace_cuts.specs.declared.plan.CutLine.{CutLine}
@@ -82,7 +81,3 @@ pub parts_stay : (epoch : ℕ) (plan : CutPlan) (tick other : ℕ) → IsPlan ep
 parts_stay epoch plan tick other lawful =
     let (first, is_first, at_0) = first_of plan.lines lawful.in_order.begins in
     parts_at epoch plan first tick lawful is_first at_0 ∙ sym (parts_at epoch plan first other lawful is_first at_0)
-
--- the greater of two distances
-pub greater : (m n : ℕ) (a b : ℤ) → pos m ≡ a → pos n ≡ b → pos (max m n) ≡ int_max a b
-greater m n a b e f = grind (arith, e, f)

@@ -5,7 +5,6 @@ use Rattle.std.specs.List.{Contains, last_or, range_with_len, list_any}
 use Rattle.std.proofs.lemmas.Bool.{cases_lt, cases_eq, eq-eqb, ne_eqb, or_parts, or_from, true≢false}
 use Rattle.std.proofs.lemmas.Bool.Decides.{nat_tests}
 use Rattle.std.proofs.lemmas.List.Elements.{filter-append}
-use Rattle.std.proofs.lemmas.List.FromFn.{length-range_with_len, get_or-range_with_len}
 use Rattle.std.proofs.lemmas.List.Sums.{fold-append}
 use Rattle.brace_cuts.specs.declared.plan.CutLine.{CutLine}
 use Rattle.brace_cuts.specs.CutPlans.{IsPlan}
@@ -13,28 +12,14 @@ use Rattle.brace_cuts.specs.Space.{no_cuts}
 use Rattle.brace_invert.proofs.Heard.{seen_in}
 use Rattle.brace_pieces.specs.declared.setting.Setting.{Setting}
 use Rattle.brace_pieces.specs.Settings.{LawfulSetting, cuts_of, cuts_shown, is_end, ends, shown_from, shown_ticks}
-use Rattle.brace_pieces.proofs.Origins.{kept_of}
 use Rattle.brace_pieces.proofs.WalkLemmas.{is_low}
+use Rattle.brace_num.proofs.Lists.{in_filter}
+use Rattle.brace_num.proofs.Rows.{in_row, row_has, row_more}
 
 -- ---- numbers in a row
 
 pub row_one : (n a : ℕ) → range_with_len a (suc n) ≡ range_with_len a n ++ (a + n) ∷ []
-row_one zero a = let here : a ≡ a + 0 = omega arith in ap (λ b. b ∷ []) here
-row_one (suc n) a =
-    let there : a + 1 + n ≡ a + suc n = omega arith in
-    ap (λ xs. a ∷ xs) (row_one n (a + 1) ∙ ap (λ b. range_with_len (a + 1) n ++ b ∷ []) there)
-
--- which numbers stand in a row
-pub in_row : (a n v : ℕ) → Contains (range_with_len a n) v → (a ≤ v) × (v < a + n)
-in_row a n v (k, low, is) =
-    let short = length-range_with_len a n in
-    let place : a + k ≡ v = sym (get_or-range_with_len a n k v (omega (arith, low, short))) ∙ is in
-    (omega (arith, place), omega (arith, place, low, short))
-
-row_has : (a n v : ℕ) → a ≤ v → v < a + n → Contains (range_with_len a n) v
-row_has a n v low high =
-    let there : a + (v - a) ≡ v = omega (arith, low) in
-    (v - a, omega (arith, low, high, length-range_with_len a n), get_or-range_with_len a n (v - a) v (omega (arith, low, high)) ∙ there)
+row_one n a = row_more a n
 
 -- ---- cuts of a tick at which no line begins
 
@@ -70,7 +55,7 @@ last_ends s t is = grind (arith, nat_tests, is)
 pub last_is_end : (s : Setting) → s.job.first ≤ s.job.last → Contains (ends s) s.job.last
 last_is_end s up =
     let last : ℕ = s.job.last in
-    kept_of (is_end s) (range_with_len s.job.first (last + 1 - s.job.first)) last (row_has s.job.first (last + 1 - s.job.first) last up (omega (arith, up))) (last_ends s last refl)
+    in_filter (is_end s) (range_with_len s.job.first (last + 1 - s.job.first)) last (row_has s.job.first (last + 1 - s.job.first) last up (omega (arith, up))) (last_ends s last refl)
 
 module _ (s : Setting) where
   abbrev behind : ℕ → ℕ → ℕ

@@ -1,6 +1,6 @@
 -- The first fault of a tick, and the faults that are found in it.
 use Rattle.std.proofs.Common.{◌≡◌, ◌∙◌, refl, sym, ap, subst, ℕ, zero, suc, ◌<◌, ◌≤◌, ℤ, List, [], ◌∷◌, map, filter_map, flat_map, Bool, true, false, Option, Some, None, Result, Ok, Err, arith, ⊎_elim, inl, inr}
-use Rattle.std.specs.Prelude.{option_map, if◌then◌else◌, is_some}
+use Rattle.std.specs.Prelude.{option_map, if◌then◌else◌, is_some, slice_get}
 use Rattle.std.specs.List.{Contains, cons_option}
 use Rattle.std.specs.Result.{result_ok, result_err}
 use Rattle.std.specs.declared.cmp.Ordering.{Ordering}
@@ -19,7 +19,7 @@ use Rattle.brace_model.specs.declared.world.Agent.{Agent}
 use Rattle.brace_model.specs.World.{World, class_of}
 use Rattle.brace_model.specs.FaultOrder.{phase_rank, comes_before, least}
 use Rattle.brace_model.specs.Query.{opening_scope, query_in, query_of, query_faults}
-use Rattle.brace_model.specs.Next.{Next, next, next_in, unless_stopped, first_stop, update_in, left_by}
+use Rattle.brace_model.specs.Next.{Next, next, next_in, unless_stopped, first_stop, update_in, left_by, child_in, has_births}
 use Rattle.brace_model.specs.Typing.{in_turn, scope_after}
 use Rattle.brace_model.specs.Lawful.{query_scope, LawfulProgram}
 use Rattle.brace_model.specs.Step.{all_next, living, children, first_too_far, birth_fault, grown, unless_faulty, step}
@@ -35,9 +35,7 @@ use Rattle.brace_pieces.specs.Finds.{all_queries_found}
 use Rattle.brace_pieces.proofs.WorldLemmas.{all_become_next, left_then}
 use Rattle.std.proofs.lemmas.Bool.{cases_Bool, true≢false}
 use Rattle.std.proofs.lemmas.Map.Keys.{any_passes_from_place}
-use Rattle.std.specs.Prelude.{slice_get}
 use Rattle.brace_model.specs.declared.program.Spawn.{Spawn}
-use Rattle.brace_model.specs.Next.{child_in, has_births}
 use Rattle.brace_model.specs.Value.{Scope}
 
 -- ---- the order of faults

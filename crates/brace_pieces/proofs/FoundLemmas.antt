@@ -37,7 +37,7 @@ use Rattle.brace_pieces.specs.Continued.{said, becomes, continued_after, on, bir
 use Rattle.brace_pieces.specs.Finds.{faults_of, queries_found, updates_found, finds, found_by, IsFoundBy, all_queries_found, found_in}
 use Rattle.brace_pieces.specs.Right.{IsFaultless}
 use Rattle.brace_pieces.specs.Heard.{own, near}
-use Rattle.brace_pieces.proofs.Origins.{of_flat_map, flat_map_of, kept_of}
+use Rattle.brace_pieces.proofs.Origins.{of_flat_map, flat_map_of}
 use Rattle.brace_pieces.proofs.Meetings.{owner_is_part, range_some}
 use Rattle.brace_pieces.proofs.QueryHeld.{part_held}
 use Rattle.brace_pieces.proofs.HeardHere.{whole_inside}
@@ -46,6 +46,7 @@ use Rattle.brace_pieces.proofs.FaultLemmas.{found_over, step_is_of, step_found}
 use Rattle.brace_pieces.proofs.HaltLemmas.{Ended, ended, found_same}
 use Rattle.brace_pieces.proofs.ToldLemmas.{errors, errors_are}
 use Rattle.brace_pieces.proofs.OnLemmas.{on_whole, on_classed}
+use Rattle.brace_num.proofs.Lists.{in_filter}
 
 -- a part gives something
 record SomeGives {B : Type 0} (s : Setting) (gives : ℕ → List B) (b : B) : Type 0 where
@@ -69,7 +70,7 @@ module _ (s : Setting) (lawful : LawfulSetting s) (t : ℕ) (w : List Agent) (wh
       record {
         part = p;
         is_part = owner_is_part s lawful t (x_of c a) (y_of c a);
-        given = kept_of (owns m cuts p) w a there (ap (λ o. owns_at cuts p o a) is ∙ eq-eqb p p refl);
+        given = in_filter (owns m cuts p) w a there (ap (λ o. owns_at cuts p o a) is ∙ eq-eqb p p refl);
       }
 
   -- each agent has an owner
@@ -107,7 +108,7 @@ module _ (s : Setting) (lawful : LawfulSetting s) (t : ℕ) (w : List Agent) (wh
     inverse_found : (f : Fault) → Contains (query_of (inverse_program m) s.job.seed t w a).faults f → Contains (faults_of (inverse_program m) s t (near s t p w) (near s t p w)) f
     inverse_found f h =
         flat_map_of (λ b. (query_of (inverse_program m) s.job.seed t (near s t p w) b).faults) (near s t p w) a f
-        (kept_of by w a (seen_in (owns m cuts p) w a there).0 (nearer m area a (pos 0) (range s) (range_some s lawful) stands))
+        (in_filter by w a (seen_in (owns m cuts p) w a there).0 (nearer m area a (pos 0) (range s) (range_some s lawful) stands))
         (subst (λ d. Contains d.faults f) (sym (part_held inverse_query m s.job.seed t w area by lawful.job_is_lawful.program_is_lawful holds a stands)) h)
 
   inverse_by_owner : s.invert ≡ true → (f : Fault) → Contains (query_faults (inverse_program m) s.job.seed t w) f → SomeGives s (λ p. faults_of (inverse_program m) s t (near s t p w) (near s t p w)) f

@@ -2,7 +2,7 @@
 -- they have, those that the other one owns.
 use Rattle.std.proofs.Common.{◌≡◌, ◌∙◌, refl, sym, ap, ap₂, ℕ, zero, suc, List, [], ◌∷◌, ◌++◌, map, filter, zip, Bool, true, false, cond, ◌||◌, Option, Some, None, Contains, append-nil, true≢false, ℤ, filter_map, is_some, arith, ◌⊎◌, inl, inr, take, length, option_map, unwrap_or, subst, ◌+◌}
 use Rattle.std.specs.Prelude.{slice_get, ◌==◌}
-use Rattle.std.specs.List.{list_any, cons_option}
+use Rattle.std.specs.List.{list_any, cons_option, position_from, find, range_with_len}
 use Rattle.brace_model.specs.declared.program.Class.{Class}
 use Rattle.brace_model.specs.declared.program.Program.{Program}
 use Rattle.brace_model.specs.declared.program.Spawn.{Spawn}
@@ -12,7 +12,7 @@ use Rattle.brace_model.specs.World.{class_of, RisesById, ids}
 use Rattle.brace_model.specs.Value.{Scope}
 use Rattle.brace_model.specs.Query.{opening_scope}
 use Rattle.brace_model.specs.Next.{Next, has_births, next_in, unless_stopped, left_by, child_in, first_stop, update_in}
-use Rattle.brace_model.specs.Step.{living, children, numbered}
+use Rattle.brace_model.specs.Step.{living, children, numbered, goes_too_far}
 use Rattle.brace_pieces.specs.declared.setting.Setting.{Setting}
 use Rattle.brace_pieces.specs.Settings.{cuts_of, LawfulSetting}
 use Rattle.brace_pieces.specs.Owned.{owns, owned}
@@ -21,14 +21,13 @@ use Rattle.brace_pieces.specs.Right.{comes_from}
 use Rattle.brace_pieces.specs.Right as right
 use Rattle.brace_pieces.specs.Together.{AreWhole, left_of, children_of, all_born, with_number, born_of}
 use Rattle.brace_pieces.proofs.MoveLemmas.{agent_left, left_each, owner_by_id}
-use Rattle.brace_pieces.proofs.Origins.{one_on, first_or}
 use Rattle.brace_pieces.proofs.OnLemmas.{child_id_stays, children_each, kept_rise}
-use Rattle.brace_pieces.proofs.Merges.{Rises, rises_by_pairs}
+use Rattle.brace_pieces.proofs.Merges.{Rises}
 use Rattle.std.proofs.lemmas.List.Elements.{filter-append}
 use Rattle.std.proofs.lemmas.List.{map-append}
 use Rattle.std.proofs.lemmas.Bool.{ne_eqb, eq-eqb}
-use Rattle.std.specs.List.{position_from, find, range_with_len}
-use Rattle.brace_model.specs.Step.{goes_too_far}
+use Rattle.brace_num.proofs.Lists.{in_more, first_or_later, filter_map_alike}
+use Rattle.brace_num.proofs.Orders.{rises_by_keys}
 
 no_spawn : (classes : List Class) → list_any (λ c. is_some c.spawn) classes ≡ false → (n : ℕ) (c : Class) → slice_get classes n ≡ Some c → c.spawn ≡ None
 no_spawn [] none n c e = absurd (cc)
@@ -43,10 +42,6 @@ no_spawn (d ∷ classes) none n c e = by_spawn d.spawn refl none n e (no_spawn c
     by_spawn None is none zero e rest = ap (λ x. x.spawn) (sym (class_is d c e)) ∙ is
     by_spawn None is none (suc k) e rest = rest none k c e
 
-filter_map_same : {A B : Type 0} (f g : A → Option B) (xs : List A) → ((a : A) → Contains xs a → f a ≡ g a) → filter_map f xs ≡ filter_map g xs
-filter_map_same f g [] same = refl
-filter_map_same f g (x ∷ xs) same = ap₂ cons_option (same x (0, omega arith, refl)) (filter_map_same f g xs (λ a has. same a (one_on x xs a has)))
-
 none_made : {A B : Type 0} (xs : List A) → filter_map {Y = B} (λ x. None) xs ≡ []
 none_made [] = refl
 none_made (x ∷ xs) = none_made xs
@@ -57,11 +52,11 @@ of_filter test (x ∷ xs) a has = by_test (test x) has (of_filter test xs a)
   where
     by_first : (x ≡ a) ⊎ Contains (filter test xs) a → (Contains (filter test xs) a → Contains xs a) → Contains (x ∷ xs) a
     by_first (inl same) rest = (0, omega arith, same)
-    by_first (inr behind) rest = one_on x xs a (rest behind)
+    by_first (inr behind) rest = in_more x xs a (rest behind)
 
     by_test : (v : Bool) → Contains (cond v (x ∷ filter test xs) (filter test xs)) a → (Contains (filter test xs) a → Contains xs a) → Contains (x ∷ xs) a
-    by_test true has rest = by_first (first_or x (filter test xs) a has) rest
-    by_test false has rest = one_on x xs a (rest has)
+    by_test true has rest = by_first (first_or_later x (filter test xs) a has) rest
+    by_test false has rest = in_more x xs a (rest has)
 
 module _ (s : Setting) (t : ℕ) where
   abbrev m : Program
@@ -112,7 +107,7 @@ module _ (s : Setting) (t : ℕ) where
 
       own_left : (xs : List Agent) → ((a : Agent) → Contains xs a → Contains w a) → filter is_own (of_all xs) ≡ of_all (owned_of xs)
       own_left [] those = refl
-      own_left (x ∷ xs) those = by_agent (h (leaves w x)) refl (owns m (cuts_of s t) p x) refl (own_left xs (λ a has. those a (one_on x xs a has)))
+      own_left (x ∷ xs) those = by_agent (h (leaves w x)) refl (owns m (cuts_of s t) p x) refl (own_left xs (λ a has. those a (in_more x xs a has)))
         where
           here : Contains w x
           here = those x (0, omega arith, refl)
@@ -150,7 +145,7 @@ module _ (s : Setting) (t : ℕ) where
     children_rise : Rises (children (all_left s t w))
     children_rise =
         subst Rises (sym (ap children (left_each (becomes s t (said s t w)) w) ∙ children_each (leaves w) w))
-        (kept_rise (λ a. (leaves w a).child) child_keeps_id w (rises_by_pairs w up))
+        (kept_rise (λ a. (leaves w a).child) child_keeps_id w (rises_by_keys (λ (a : Agent). a.id) w up))
 
     -- children with the ids of their ranks among all that are born
     numbered_own : (n k : ℕ) (kids : List Agent) → Rises kids
@@ -163,7 +158,7 @@ module _ (s : Setting) (t : ℕ) where
         others = filter is_own kids
 
         later : filter_map (with_number n (c.id ∷ ids (take k kids))) others ≡ filter_map (with_number (suc n) (ids (take k kids))) others
-        later = filter_map_same (with_number n (c.id ∷ ids (take k kids))) (with_number (suc n) (ids (take k kids))) others (λ d has.
+        later = filter_map_alike (with_number n (c.id ∷ ids (take k kids))) (with_number (suc n) (ids (take k kids))) others (λ d has.
             let (j, low, is) = of_filter is_own kids d has in
             let below = rise zero (suc j) d (omega arith) (omega (arith, low)) in
             let first = ap (λ (x : Agent). x.id) is in

@@ -29,8 +29,7 @@ use Rattle.brace_invert.proofs.Sublists.{rising_from}
 use Rattle.brace_invert.proofs.RangeLemmas.{greatest_in_range}
 use Rattle.brace_invert.proofs.Nearness.{seer_near, nearer}
 use Rattle.brace_invert.proofs.Owners.{forward_held}
-use Rattle.brace_invert.proofs.Heard.{seen_in}
-use Rattle.brace_invert.proofs.Heard.{one_agent, inverse_said_held}
+use Rattle.brace_invert.proofs.Heard.{seen_in, one_agent, inverse_said_held}
 use Rattle.brace_pieces.specs.declared.setting.Setting.{Setting}
 use Rattle.brace_pieces.specs.declared.setting.Stage.TheVariants as stage
 use Rattle.brace_pieces.specs.Settings.{LawfulSetting, greatest_reach, range, cuts_of, parts}
@@ -48,7 +47,8 @@ use Rattle.brace_pieces.proofs.ShareLemmas.{shares_say, share_is, totals_within}
 use Rattle.brace_pieces.proofs.Sayings.{said_to-append, said_to-each, Others, silent_to, all_given, no_share}
 use Rattle.brace_pieces.proofs.Targets.{says_of, forward_says}
 use Rattle.brace_pieces.proofs.QueryHeld.{seen_held, query_held}
-use Rattle.brace_pieces.proofs.Partings.{given_by_kept, given_by_held, given_alike, by_parts, OneOwns, one_of, parted}
+use Rattle.brace_pieces.proofs.Partings.{given_by_kept, given_by_held, by_parts, OneOwns, one_of, parted}
+use Rattle.brace_num.proofs.Lists.{flat_map_alike}
 
 -- ---- areas and owners
 
@@ -115,7 +115,7 @@ module _ (s : Setting) (lawful : LawfulSetting s) (t : ℕ) (w : List Agent) (in
     queries_same a there = query_held m s.job.seed t w area by lawful_m holds a (stands a there).1
 
     pub said_same : said_here m s t p w ≡ said_by s t p w
-    said_same = given_alike (λ a. (query_of m s.job.seed t (near s t p w) a).said) (λ a. (query_of m s.job.seed t w a).said) (own s t p w) (λ a there. ap (λ d. d.said) (queries_same a there))
+    said_same = flat_map_alike (λ a. (query_of m s.job.seed t (near s t p w) a).said) (λ a. (query_of m s.job.seed t w a).said) (own s t p w) (λ a there. ap (λ d. d.said) (queries_same a there))
 
     module _ (rises : RisesById w) where
       one_of_id : (a b : Agent) → Contains w a → Contains w b → a.id ≡ b.id → a ≡ b
@@ -249,7 +249,7 @@ module _ (s : Setting) (lawful : LawfulSetting s) (t : ℕ) (w : List Agent) (in
       by_forward =
           said_to-each b.id n (λ a. (query_of (forward_program m) s.job.seed t w a).said) w
           ∙ sym (given_by_kept (forward w) ours w not_ours)
-          ∙ given_alike (forward w) (forward (near s t p w)) (own s t p w) (λ a is. ap (λ d. said_to b.id n d.said) (sym (forward_same a is)))
+          ∙ flat_map_alike (forward w) (forward (near s t p w)) (own s t p w) (λ a is. ap (λ d. said_to b.id n d.said) (sym (forward_same a is)))
           ∙ sym (said_to-each b.id n (λ a. (query_of (forward_program m) s.job.seed t (near s t p w) a).said) (own s t p w))
 
       by_inverse : said_to b.id n (said_in (inverse_program m) s.job.seed t w) ≡ said_to b.id n (said_in (inverse_program m) s.job.seed t (near s t p w))
@@ -291,8 +291,8 @@ module _ (s : Setting) (lawful : LawfulSetting s) (t : ℕ) (w : List Agent) (in
       by_choice : (c : Bool) → s.invert ≡ c
           → (if c then (faults_of (forward_program m) s t (near s t p w) (own s t p w) ++ faults_of (inverse_program m) s t (near s t p w) (near s t p w)) else faults_of m s t (near s t p w) (own s t p w))
           ≡ (if c then (faults_of (forward_program m) s t w (own s t p w) ++ faults_of (inverse_program m) s t (near s t p w) (near s t p w)) else faults_of m s t w (own s t p w))
-      by_choice true is = ap (λ xs. xs ++ faults_of (inverse_program m) s t (near s t p w) (near s t p w)) (given_alike _ _ (own s t p w) (λ a there. ap (λ d. d.faults) (forward_same is a there)))
-      by_choice false is = given_alike _ _ (own s t p w) (λ a there. ap (λ d. d.faults) (queries_same is a there))
+      by_choice true is = ap (λ xs. xs ++ faults_of (inverse_program m) s t (near s t p w) (near s t p w)) (flat_map_alike _ _ (own s t p w) (λ a there. ap (λ d. d.faults) (forward_same is a there)))
+      by_choice false is = flat_map_alike _ _ (own s t p w) (λ a there. ap (λ d. d.faults) (queries_same is a there))
 
   -- by the shares that it is told, an agent of a part becomes the same
   module _ (plain : s.invert ≡ false) (rises : RisesById w) (b : Agent) (there : Contains (own s t p w) b) where
@@ -308,7 +308,7 @@ module _ (s : Setting) (lawful : LawfulSetting s) (t : ℕ) (w : List Agent) (in
         ∙ said_to-append b.id k (said_here m s t p w) (flat_map (λ q. said_by s t q w) others)
         ∙ ap (λ ys. said_to b.id k (said_here m s t p w) ++ ys)
         (said_to-each b.id k (λ q. said_by s t q w) others
-        ∙ given_alike (λ q. said_to b.id k (said_by s t q w)) (λ q. said_to b.id k (told s t q p w)) others (λ q _. sym (told_to class is k low q))
+        ∙ flat_map_alike (λ q. said_to b.id k (said_by s t q w)) (λ q. said_to b.id k (told s t q p w)) others (λ q _. sym (told_to class is k low q))
         ∙ sym (said_to-each b.id k (λ q. told s t q p w) others))
         ∙ sym (said_to-append b.id k (said_here m s t p w) (flat_map (λ q. told s t q p w) others))
 

@@ -1,6 +1,6 @@
 -- What an agent leaves to the next world is of its class, has as many values, and stands within the
 -- class's reach of where it stood.
-use Rattle.std.proofs.Common.{◌≡◌, ◌∙◌, refl, sym, ap, subst, ℕ, zero, suc, ◌<◌, ℤ, pos, ◌-ℤ◌, ◌≤ℤ◌, List, [], ◌∷◌, ◌++◌, map, filter_map, zip, length, Bool, true, false, if◌then◌else◌, Option, Some, None, Ok, Err, arith, codes, length-set, FitsSigned}
+use Rattle.std.proofs.Common.{◌≡◌, ◌∙◌, refl, sym, ap, subst, ℕ, suc, ◌<◌, ℤ, pos, ◌-ℤ◌, ◌≤ℤ◌, List, [], ◌∷◌, map, filter_map, zip, length, Bool, true, false, if◌then◌else◌, Option, Some, None, Ok, Err, arith, codes, length-set, FitsSigned}
 use Rattle.std.specs.Prelude.{slice_get, slice_set, slice_index}
 use Rattle.std.specs.List.{reduce, cons_option, list_all}
 use Rattle.std.specs.Result.{result_ok, result_err}
@@ -9,7 +9,7 @@ use Rattle.std.proofs.lemmas.Int.{ints, clamps}
 use Rattle.std.proofs.lemmas.Bool.{and_parts}
 use Rattle.std.proofs.lemmas.List.{get_or-set_same, get_or-set_other}
 use Rattle.std.proofs.lemmas.List.Elements.{filter_map-append}
-use Rattle.std.proofs.lemmas.Option.{unwrap_or-slice_get}
+use Rattle.std.proofs.lemmas.Option.{unwrap_or-slice_get, same_Some, none-some, slice_get_within}
 use Rattle.std.proofs.lemmas.Slice.Eq.{bytes_eq-Decides}
 use Rattle.brace_num.specs.Exact.{clamped}
 use Rattle.brace_model.specs.declared.program.Value.{Value}
@@ -34,6 +34,7 @@ use Rattle.brace_num.proofs.Exactness.{clamped_fits}
 use Rattle.brace_model.specs.declared.program.Expr.{Expr}
 use Rattle.std.specs.Int.{w64}
 use Rattle.brace_pieces.proofs.FitLemmas.{AllFit, HasFit, ok_fit, own_value_fits, none_fit, one_more_fits, put_fits}
+use Rattle.brace_num.proofs.Lists.{none_front}
 
 -- ---- places
 
@@ -54,14 +55,6 @@ state_of name None e = absurd (cc)
 state_of name (Some s) e =
     record { state = s; is = refl; named = (bytes_eq-Decides s.name name).0 (and_parts (bytes_eq s.name name) _ e).0 }
 
-within : {A : Type 0} (xs : List A) (i : ℕ) (x : A) → slice_get xs i ≡ Some x → i < length xs
-within [] i x e = absurd (cc)
-within (y ∷ xs) zero x e = omega arith
-within (y ∷ xs) (suc i) x e = omega (arith, within xs i x e)
-
-same_state : (s t : State) → Some s ≡ Some t → s ≡ t
-same_state s t e = cc
-
 letters_differ : codes "x" ≡ codes "y" → ⊥
 letters_differ e = absurd (omega (arith, ap (λ l. slice_index l 0) e))
 
@@ -70,15 +63,15 @@ has_place program n c lawful =
     let x = state_of (codes "x") (slice_get c.states c.x) lawful.x_is_position in
     let y = state_of (codes "y") (slice_get c.states c.y) lawful.y_is_position in
     record {
-      x_there = within c.states c.x x.state x.is;
-      y_there = within c.states c.y y.state y.is;
-      apart = λ e. letters_differ (sym x.named ∙ ap (λ s. s.name) (same_state x.state y.state (sym x.is ∙ ap (slice_get c.states) e ∙ y.is)) ∙ y.named);
+      x_there = slice_get_within c.states c.x x.state x.is;
+      y_there = slice_get_within c.states c.y y.state y.is;
+      apart = λ e. letters_differ (sym x.named ∙ ap (λ s. s.name) (same_Some x.state y.state (sym x.is ∙ ap (slice_get c.states) e ∙ y.is)) ∙ y.named);
       some_reach = distance_low c.reach lawful.reach_is_distance;
     }
 
 -- ---- an agent with other states
 
--- an agent has as many values as another, stands within a class's reach of it, and has values that
+-- an agent has as many values as another, stands slice_get_within a class's reach of it, and has values that
 -- fit where the other's do
 pub record IsNear (c : Class) (a b : Agent) : Type 0 where
   pub as_long : length b.states ≡ length a.states
@@ -145,10 +138,6 @@ nothing_stops : (stops : List Stop) → reduce earlier_stop stops ≡ None → s
 nothing_stops [] e = refl
 nothing_stops (stop ∷ stops) e = absurd (cc)
 
-front_empty : {A : Type 0} (xs ys : List A) → (xs ++ ys) ≡ [] → xs ≡ []
-front_empty [] ys e = refl
-front_empty (x ∷ xs) ys e = absurd (cc)
-
 all_kept : (outcomes : List Worth) → filter_map result_err outcomes ≡ [] → length (values_of outcomes) ≡ length outcomes
 all_kept [] e = refl
 all_kept (Ok v ∷ outcomes) e = ap suc (all_kept outcomes e)
@@ -164,7 +153,7 @@ pub as_many_values : (scope : Scope) (c : Class) (a : Agent) → first_stop (upd
 as_many_values scope c a none whole =
     let rest : List Worth = condition_in scope c.die ∷ (spawns_in scope c.spawn ∷ gifts_in scope c.spawn) in
     let nothing = nothing_stops (filter_map result_err (update_in scope c a)) none in
-    let front = front_empty (filter_map result_err (rules_in scope c a)) (filter_map result_err rest) (sym (filter_map-append result_err (rules_in scope c a) rest) ∙ nothing) in
+    let front = none_front (filter_map result_err (rules_in scope c a)) (filter_map result_err rest) (sym (filter_map-append result_err (rules_in scope c a) rest) ∙ nothing) in
     all_kept (rules_in scope c a) front ∙ as_many_rules scope c.states a.states whole
 
 pub gifts_as_long : (old : List Value) (gifts : List Gift) (given : List Value) → length (with_gifts old gifts given) ≡ length old
@@ -211,33 +200,27 @@ pub record IsHeir (c : Class) (a b : Agent) : Type 0 where
   pub same_class : b.class ≡ a.class
   pub is_near : IsNear c a b
 
-some_is : (a b : Agent) → Some a ≡ Some b → a ≡ b
-some_is a b e = cc
-
-none_some : (b : Agent) → None ≡ Some b → ⊥
-none_some b e = cc
-
 module _ (c : Class) (place : HasPlace c) (a : Agent) (whole : length a.states ≡ length c.states) where
   itself : (b : Agent) → Some a ≡ Some b → IsHeir c a b
-  itself b e = subst (IsHeir c a) (some_is a b e) (record { same_id = refl; same_class = refl; is_near = near_itself c a place })
+  itself b e = subst (IsHeir c a) (same_Some a b e) (record { same_id = refl; same_class = refl; is_near = near_itself c a place })
 
   with_states : (states : List Value) → length states ≡ length a.states → StayFit c a states → (b : Agent) → Some (changed c a states) ≡ Some b → IsHeir c a b
-  with_states states long fit b e = subst (IsHeir c a) (some_is (changed c a states) b e) (record { same_id = refl; same_class = refl; is_near = near_changed c a states place whole long fit })
+  with_states states long fit b e = subst (IsHeir c a) (same_Some (changed c a states) b e) (record { same_id = refl; same_class = refl; is_near = near_changed c a states place whole long fit })
 
   lives_on : (dies : Bool) (states : List Value) → length states ≡ length a.states → StayFit c a states → (b : Agent) → (if dies then None else Some (changed c a states)) ≡ Some b → IsHeir c a b
-  lives_on true states long fit b e = absurd (none_some b e)
+  lives_on true states long fit b e = absurd (none-some b e)
   lives_on false states long fit b e = with_states states long fit b e
 
   born : (bears : Bool) (states : List Value) → length states ≡ length a.states → StayFit c a states → (b : Agent) → (if bears then Some (changed c a states) else None) ≡ Some b → IsHeir c a b
   born true states long fit b e = with_states states long fit b e
-  born false states long fit b e = absurd (none_some b e)
+  born false states long fit b e = absurd (none-some b e)
 
   module _ (seed tick : ℕ) (totals : List ℤ) where
     abbrev here : Scope
     here = opening_scope seed tick [] totals a
 
     child_of : (spawn : Option Spawn) → c.spawn ≡ spawn → (b : Agent) → child_in here c a spawn ≡ Some b → IsHeir c a b
-    child_of None is b e = absurd (none_some b e)
+    child_of None is b e = absurd (none-some b e)
     child_of (Some spawn) is b e =
         let given : List Value = values_of (gifts_in here (Some spawn)) in
         born (holds (value spawn.when here)) (with_gifts a.states spawn.gifts given) (gifts_as_long a.states spawn.gifts given)
@@ -251,7 +234,7 @@ module _ (c : Class) (place : HasPlace c) (a : Agent) (whole : length a.states �
         (λ own written. rules_all_fit seed tick totals a own c.states a.states (and_parts (list_all (λ (st : State). rule_fits st.rule) c.states) (gifts_fit c.spawn) written).0 own) b e
 
     child_by_stop : (o : Option Stop) → first_stop (update_in here c a) ≡ o → (b : Agent) → (left_or_kept a (unless_stopped tick a o (left_by here c a))).child ≡ Some b → IsHeir c a b
-    child_by_stop (Some stop) is b e = absurd (none_some b e)
+    child_by_stop (Some stop) is b e = absurd (none-some b e)
     child_by_stop None is b e = child_of c.spawn refl b e
 
     pub agent_is_heir : (b : Agent) → (left_or_kept a (next_in seed tick (Some c) totals a)).agent ≡ Some b → IsHeir c a b

@@ -1,8 +1,8 @@
 -- What a part holds comes from its own agents and from those that the parts that it meets show it.
-use Rattle.std.proofs.Common.{◌≡◌, ◌∙◌, refl, sym, ap₂, subst, ℕ, ◌+◌, ◌-◌, ◌<◌, arith, ℤ, pos, List, ◌∷◌, ◌++◌, filter, flat_map, Bool, true, false, ◌&&◌, ◌||◌, Option, Some, None}
+use Rattle.std.proofs.Common.{◌≡◌, ◌∙◌, refl, sym, ap₂, subst, ℕ, ◌+◌, ◌-◌, ◌<◌, arith, ℤ, pos, List, ◌∷◌, ◌++◌, filter, flat_map, Bool, true, false, ◌&&◌, Option, Some, None}
 use Rattle.std.specs.List.{list_any}
 use Rattle.std.specs.List.Sorted.{IsPermutation}
-use Rattle.std.proofs.lemmas.Bool.{eqb-true, and_parts}
+use Rattle.std.proofs.lemmas.Bool.{eqb-true, and_parts, or_right}
 use Rattle.std.proofs.lemmas.List.Sorted.{IsPermutation-sym, IsPermutation-trans}
 use Rattle.brace_model.specs.declared.program.Class.{Class}
 use Rattle.brace_model.specs.declared.program.Program.{Program}
@@ -18,9 +18,12 @@ use Rattle.brace_pieces.specs.Steps.{step, meet, met}
 use Rattle.brace_pieces.specs.Owned.{owns_at, owns, owned, held}
 use Rattle.brace_pieces.specs.Right.{border, handed}
 use Rattle.brace_pieces.specs.Together.{IsWhole, AreWhole, IsSorted}
-use Rattle.brace_pieces.proofs.Merges.{together, covered, covered_none, filter_same, filter_both, flat_map_same, filter_rises, in_order}
-use Rattle.brace_pieces.proofs.Meetings.{gap_by_point, le_so, so_le, le_greater, no_gap, owner_is_part, owner_has, meets, range_some}
+use Rattle.brace_pieces.proofs.Merges.{together, covered, covered_none}
+use Rattle.brace_pieces.proofs.Meetings.{gap_by_point, no_gap, owner_is_part, owner_has, meets, range_some}
 use Rattle.brace_pieces.proofs.ScheduleLemmas.{meets_no_self}
+use Rattle.brace_num.proofs.Lists.{filter_alike, filter_twice, flat_map_alike}
+use Rattle.brace_num.proofs.Orders.{filter_rises, one_sorted}
+use Rattle.brace_num.proofs.Numbers.{le_holds, le_told, below_max}
 
 one_owner : (cuts : Cuts) (o : Option Class) (p q : ℕ) (a : Agent) → owns_at cuts p o a ≡ true → owns_at cuts q o a ≡ true → p ≡ q
 one_owner cuts None p q a e f = absurd (cc)
@@ -37,10 +40,6 @@ only_and m cuts n p q a e f = one_owns m cuts p q a (and_parts (owns m cuts p a)
 and_so : (a b : Bool) → (a ≡ true → b ≡ true) → a ≡ (a && b)
 and_so true b h = sym (h refl)
 and_so false b h = refl
-
-or_right : (a b : Bool) → b ≡ true → (a || b) ≡ true
-or_right true b e = refl
-or_right false b e = e
 
 module _ (s : Setting) (lawful : LawfulSetting s) (p : ℕ) (part : p < parts s) (t : ℕ) where
   abbrev m : Program
@@ -70,20 +69,20 @@ module _ (s : Setting) (lawful : LawfulSetting s) (p : ℕ) (part : p < parts s)
       let owner : ℕ = owner_of now x y in
       covered (meet s (step Border t) p) (parts s + 1) owner p (stands_near (area_of now p) (range s) (Some c) a) (λ close other.
       let is_part : owner < parts s = owner_is_part s lawful t x y in
-      let gap_is = gap_by_point (area_of now p) (area_of now owner) x y (range s) (so_le _ _ close) (owner_has s lawful t owner x y (at.values_fit c.x) (at.values_fit c.y) refl) in
-      (omega (arith, is_part), meets s lawful (step Border t) p owner part other is_part (le_so _ _ (le_greater _ (range s) (greatest_reach m) gap_is))))
+      let gap_is = gap_by_point (area_of now p) (area_of now owner) x y (range s) (le_told _ _ close) (owner_has s lawful t owner x y (at.values_fit c.x) (at.values_fit c.y) refl) in
+      (omega (arith, is_part), meets s lawful (step Border t) p owner part other is_part (le_holds _ _ (below_max _ (range s) (greatest_reach m) gap_is))))
 
   pub held_together : (w : List Agent) → AreWhole m w → IsPermutation (owned m now p w ++ flat_map (λ q. border s t q p w) (met s (step Border t) p)) (held m now (range s) p w)
   held_together w on =
       let u : ℕ → Agent → Bool = λ q a. owns m now q a && near a in
-      let own : owned m now p w ≡ filter (u p) w = filter_same (owns m now p) (u p) w (λ a h. and_so (owns m now p a) (near a) (own_near (class_of m a) a (λ c e. on a c h e))) in
-      let pieces : flat_map (λ q. border s t q p w) (met s (step Border t) p) ≡ flat_map (λ q. filter (u q) w) (met s (step Border t) p) = flat_map_same (λ q. border s t q p w) (λ q. filter (u q) w) (λ q. filter_both near (owns m now q) w) (met s (step Border t) p) in
+      let own : owned m now p w ≡ filter (u p) w = filter_alike (owns m now p) (u p) w (λ a h. and_so (owns m now p a) (near a) (own_near (class_of m a) a (λ c e. on a c h e))) in
+      let pieces : flat_map (λ q. border s t q p w) (met s (step Border t) p) ≡ flat_map (λ q. filter (u q) w) (met s (step Border t) p) = flat_map_alike (λ q. border s t q p w) (λ q. filter (u q) w) (met s (step Border t) p) (λ q has. filter_twice near (owns m now q) w) in
       subst (λ xs. IsPermutation xs (held m now (range s) p w)) (sym (ap₂ (λ xs ys. xs ++ ys) own pieces))
       (together u (only_and m now near) (meet s (step Border t) p) (parts s + 1) p (meets_no_self s (step Border t) p) near w (λ a h. shown_by (class_of m a) a (λ c e. on a c h e)))
 
   pub held_is : (w xs : List Agent) → RisesById w → AreWhole m w → IsSorted (owned m now p w ++ flat_map (λ q. border s t q p w) (met s (step Border t) p)) xs → xs ≡ held m now (range s) p w
   held_is w xs up on sorted =
-      in_order xs (held m now (range s) p w) (IsPermutation-trans _ _ _ (IsPermutation-sym _ _ (held_together w on)) sorted.same) sorted.in_order (filter_rises near w up)
+      one_sorted (λ (a : Agent). a.id) xs (held m now (range s) p w) (IsPermutation-trans _ _ _ (IsPermutation-sym _ _ (held_together w on)) sorted.same) sorted.in_order (filter_rises (λ (a : Agent). a.id) near w up)
 
   -- ---- what is handed where other cuts hold
 
@@ -102,17 +101,17 @@ module _ (s : Setting) (lawful : LawfulSetting s) (p : ℕ) (part : p < parts s)
       let is_part : owner < parts s = owner_is_part s lawful (t - 1) x y in
       let here = owner_has s lawful (t - 1) owner x y (at.values_fit c.x) (at.values_fit c.y) refl in
       let there = owner_has s lawful t p x y (at.values_fit c.x) (at.values_fit c.y) (eqb-true (owner_of now x y) p own) in
-      let gap_is = gap_by_point (area_of before owner) (area_of now p) x y (pos 0) (so_le _ _ (no_gap _ (pos 0) here (grind arith))) there in
-      (omega (arith, is_part), meets s lawful (step Hand t) p owner part other is_part (or_right _ _ (le_so _ _ gap_is))))
+      let gap_is = gap_by_point (area_of before owner) (area_of now p) x y (pos 0) (le_told _ _ (no_gap _ (pos 0) here (grind arith))) there in
+      (omega (arith, is_part), meets s lawful (step Hand t) p owner part other is_part (or_right _ _ (le_holds _ _ gap_is))))
 
   pub handed_together : (w : List Agent) → AreWhole m w → IsPermutation (owned m now p (owned m before p w) ++ flat_map (λ q. handed s t q p w) (met s (step Hand t) p)) (owned m now p w)
   handed_together w on =
       let u : ℕ → Agent → Bool = λ q a. owns m before q a && owns m now p a in
-      let own : owned m now p (owned m before p w) ≡ filter (u p) w = filter_both (owns m now p) (owns m before p) w in
-      let pieces : flat_map (λ q. handed s t q p w) (met s (step Hand t) p) ≡ flat_map (λ q. filter (u q) w) (met s (step Hand t) p) = flat_map_same (λ q. handed s t q p w) (λ q. filter (u q) w) (λ q. filter_both (owns m now p) (owns m before q) w) (met s (step Hand t) p) in
+      let own : owned m now p (owned m before p w) ≡ filter (u p) w = filter_twice (owns m now p) (owns m before p) w in
+      let pieces : flat_map (λ q. handed s t q p w) (met s (step Hand t) p) ≡ flat_map (λ q. filter (u q) w) (met s (step Hand t) p) = flat_map_alike (λ q. handed s t q p w) (λ q. filter (u q) w) (met s (step Hand t) p) (λ q has. filter_twice (owns m now p) (owns m before q) w) in
       subst (λ xs. IsPermutation xs (owned m now p w)) (sym (ap₂ (λ xs ys. xs ++ ys) own pieces))
       (together u (only_and m before (owns m now p)) (meet s (step Hand t) p) (parts s + 1) p (meets_no_self s (step Hand t) p) (owns m now p) w (λ a h. handed_by (class_of m a) a (λ c e. on a c h e)))
 
   pub handed_is : (w xs : List Agent) → RisesById w → AreWhole m w → IsSorted (owned m now p (owned m before p w) ++ flat_map (λ q. handed s t q p w) (met s (step Hand t) p)) xs → xs ≡ owned m now p w
   handed_is w xs up on sorted =
-      in_order xs (owned m now p w) (IsPermutation-trans _ _ _ (IsPermutation-sym _ _ (handed_together w on)) sorted.same) sorted.in_order (filter_rises (owns m now p) w up)
+      one_sorted (λ (a : Agent). a.id) xs (owned m now p w) (IsPermutation-trans _ _ _ (IsPermutation-sym _ _ (handed_together w on)) sorted.same) sorted.in_order (filter_rises (λ (a : Agent). a.id) (owns m now p) w up)

@@ -1,5 +1,5 @@
 -- Lanes can be made for the schedule of a lawful run, with one actor more than it has parts.
-use Rattle.std.proofs.Common.{ℕ, ◌+◌, ◌≤◌, ◌^◌, List, length, filter, arith}
+use Rattle.std.proofs.Common.{◌+◌, ◌≤◌, ◌^◌, List, length, filter, arith}
 use Rattle.std.proofs.lemmas.List.{length-map}
 use Rattle.brace_core.specs.Schedule.{Pair}
 use Rattle.brace_core.specs.Lanes.{AreBelow}

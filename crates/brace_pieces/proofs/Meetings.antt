@@ -18,14 +18,9 @@ use Rattle.brace_pieces.specs.declared.setting.Step.{Step}
 use Rattle.brace_pieces.specs.Settings.{cuts_of, parts, range, LawfulSetting}
 use Rattle.brace_pieces.specs.Steps.{meet, parts_meet, is_show}
 use Rattle.brace_pieces.proofs.CutLemmas.{cuts_lawful, parts_stay}
+use Rattle.brace_num.proofs.Numbers.{max_within, within_max, le_holds}
 
 -- ---- gaps
-
-at_most : (a b d : ℤ) → a ≤ℤ d → b ≤ℤ d → int_max a b ≤ℤ d
-at_most a b d h g = grind (arith, h, g)
-
-both_within : (a b d : ℤ) → int_max a b ≤ℤ d → (a ≤ℤ d) × (b ≤ℤ d)
-both_within a b d h = (grind (arith, h), grind (arith, h))
 
 low_apart : (low p other d : ℤ) → (low -ℤ p) ≤ℤ d → (p -ℤ other) ≤ℤ pos 0 → (low -ℤ other) ≤ℤ d
 low_apart low p other d h g = omega (arith, ints, h, g)
@@ -35,12 +30,12 @@ high_apart high p other d h g = omega (arith, ints, h, g)
 
 spans_apart : (low high other_low other_high p d : ℤ) → outside low high p ≤ℤ d → outside other_low other_high p ≤ℤ pos 0 → apart low high other_low other_high ≤ℤ d
 spans_apart low high other_low other_high p d h g =
-    let (some, ends) = both_within (pos 0) (int_max (low -ℤ p) (p -ℤ high)) d h in
-    let (below, above) = both_within (low -ℤ p) (p -ℤ high) d ends in
-    let (none, others) = both_within (pos 0) (int_max (other_low -ℤ p) (p -ℤ other_high)) (pos 0) g in
-    let (from, to) = both_within (other_low -ℤ p) (p -ℤ other_high) (pos 0) others in
-    at_most (pos 0) (int_max (low -ℤ other_high) (other_low -ℤ high)) d some
-    (at_most (low -ℤ other_high) (other_low -ℤ high) d (low_apart low p other_high d below to) (high_apart high p other_low d above from))
+    let (some, ends) = within_max (pos 0) (int_max (low -ℤ p) (p -ℤ high)) d h in
+    let (below, above) = within_max (low -ℤ p) (p -ℤ high) d ends in
+    let (none, others) = within_max (pos 0) (int_max (other_low -ℤ p) (p -ℤ other_high)) (pos 0) g in
+    let (from, to) = within_max (other_low -ℤ p) (p -ℤ other_high) (pos 0) others in
+    max_within (pos 0) (int_max (low -ℤ other_high) (other_low -ℤ high)) d some
+    (max_within (low -ℤ other_high) (other_low -ℤ high) d (low_apart low p other_high d below to) (high_apart high p other_low d above from))
 
 no_more : (z d : ℤ) → z ≡ pos 0 → pos 0 ≤ℤ d → z ≤ℤ d
 no_more z d e h = grind (arith, e, h)
@@ -48,21 +43,12 @@ no_more z d e h = grind (arith, e, h)
 -- an area that a point of another one is so far from is no farther from that
 pub gap_by_point : (a b : Area) (x y d : ℤ) → gap_to a x y ≤ℤ d → gap_to b x y ≡ pos 0 → gap a b ≤ℤ d
 gap_by_point a b x y d near here =
-    let (near_x, near_y) = both_within (outside a.x0 a.x1 x) (outside a.y0 a.y1 y) d near in
-    let (here_x, here_y) = both_within (outside b.x0 b.x1 x) (outside b.y0 b.y1 y) (pos 0) (no_more (gap_to b x y) (pos 0) here (grind arith)) in
-    at_most (apart a.x0 a.x1 b.x0 b.x1) (apart a.y0 a.y1 b.y0 b.y1) d (spans_apart a.x0 a.x1 b.x0 b.x1 x d near_x here_x) (spans_apart a.y0 a.y1 b.y0 b.y1 y d near_y here_y)
-
-pub le_so : (z d : ℤ) → z ≤ℤ d → int_le z d ≡ true
-le_so z d h = grind (arith, h)
-
-pub so_le : (z d : ℤ) → int_le z d ≡ true → z ≤ℤ d
-so_le z d e = grind (arith, e)
-
-pub le_greater : (z a b : ℤ) → z ≤ℤ a → z ≤ℤ int_max a b
-le_greater z a b h = grind (arith, h)
+    let (near_x, near_y) = within_max (outside a.x0 a.x1 x) (outside a.y0 a.y1 y) d near in
+    let (here_x, here_y) = within_max (outside b.x0 b.x1 x) (outside b.y0 b.y1 y) (pos 0) (no_more (gap_to b x y) (pos 0) here (grind arith)) in
+    max_within (apart a.x0 a.x1 b.x0 b.x1) (apart a.y0 a.y1 b.y0 b.y1) d (spans_apart a.x0 a.x1 b.x0 b.x1 x d near_x here_x) (spans_apart a.y0 a.y1 b.y0 b.y1 y d near_y here_y)
 
 pub no_gap : (z d : ℤ) → z ≡ pos 0 → pos 0 ≤ℤ d → int_le z d ≡ true
-no_gap z d e h = le_so z d (no_more z d e h)
+no_gap z d e h = le_holds z d (no_more z d e h)
 
 -- ---- owners
 

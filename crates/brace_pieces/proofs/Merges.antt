@@ -1,100 +1,19 @@
 -- Lists that are put together of the lists of several parts, and put in order by id.
-use Rattle.std.proofs.Common.{◌≡◌, ◌∙◌, ◌⊎◌, refl, sym, ap, ap₂, subst, ℕ, zero, suc, ◌+◌, ◌<◌, ◌≤◌, List, [], ◌∷◌, ◌++◌, filter, flat_map, length, Bool, true, false, cond, ◌||◌, ◌&&◌, ◌==◌, nat_eq, arith, inl, inr, AllPairs, Contains}
-use Rattle.std.specs.List.{list_any, range_with_len, IsDistinct}
-use Rattle.std.specs.List.Sorted.{IsPermutation, IsNonDecreasingBy}
+use Rattle.std.proofs.Common.{◌≡◌, ◌∙◌, ◌⊎◌, refl, sym, ap, subst, ℕ, zero, suc, ◌+◌, ◌<◌, ◌≤◌, List, [], ◌∷◌, ◌++◌, filter, flat_map, Bool, true, false, cond, ◌||◌, ◌&&◌, ◌==◌, arith, inl, inr, Contains}
+use Rattle.std.specs.List.{list_any, range_with_len}
+use Rattle.std.specs.List.Sorted.{IsPermutation}
 use Rattle.std.proofs.lemmas.Bool.{cases_Bool, cases_eq, ne_eqb, eq-eqb, true≢false}
-use Rattle.std.proofs.lemmas.Bool.Decides.{nat_tests}
-use Rattle.std.proofs.lemmas.List.{get_or-map, length-map}
-use Rattle.std.proofs.lemmas.List.Kept.{AllPairs-from_increasing, AllPairs-filter}
-use Rattle.std.proofs.lemmas.List.Sorted.{IsPermutation-refl, IsPermutation-sym, IsPermutation-trans, IsPermutation-cons, IsPermutation-middle, IsPermutation-append_right, IsPermutation-map, Contains-permutation}
-use Rattle.std.proofs.lemmas.Map.Keys.{IsDistinct-IsPermutation, IsStrictlyIncreasing-from_distinct, IsDistinct-from_apart}
+use Rattle.std.proofs.lemmas.List.Sorted.{IsPermutation-refl, IsPermutation-trans, IsPermutation-cons, IsPermutation-middle, IsPermutation-append_right}
 use Rattle.brace_model.specs.declared.world.Agent.{Agent}
-use Rattle.brace_model.specs.World.{RisesById, ids}
-use Rattle.brace_model.proofs.WorldLemmas.{id_at, RisesById-from_pairs}
+use Rattle.brace_num.proofs.Lists.{filter_alike}
+use Rattle.brace_num.proofs.Orders.{rises_by_keys, keys_by_rises}
+use Rattle.brace_num.proofs.Orders as orders
 
 -- ---- by rising id
 
 -- each id is below those behind it
 abbrev pub Rises : List Agent → Type 0
-Rises xs = AllPairs (λ (a b : Agent). a.id < b.id) xs
-
-pub rises_by_pairs : (xs : List Agent) → RisesById xs → Rises xs
-rises_by_pairs xs up i j d lt within =
-    let long : length (ids xs) ≡ length xs = length-map xs (λ (a : Agent). a.id) in
-    let below = AllPairs-from_increasing (ids xs) up i j 0 lt (omega (arith, long, within)) in
-    let first = id_at xs i d (omega (arith, lt, within)) in
-    let second = id_at xs j d within in
-    omega (arith, below, first, second)
-
-pub pairs_by_rises : (xs : List Agent) → Rises xs → RisesById xs
-pairs_by_rises xs up = RisesById-from_pairs xs (λ k d within. up k (k + 1) d (omega arith) within)
-
-tail_rises : (x : Agent) (xs : List Agent) → Rises (x ∷ xs) → Rises xs
-tail_rises x xs up i j d lt within = up (suc i) (suc j) d (omega (arith, lt)) (omega (arith, within))
-
--- of two rising lists of which each has what the other has, the rest has what the other's rest has
-rest_has : (x y : Agent) (xs ys : List Agent) → x ≡ y → Rises (x ∷ xs) → ((a : Agent) → Contains (x ∷ xs) a → Contains (y ∷ ys) a) → (a : Agent) → Contains xs a → Contains ys a
-rest_has x y xs ys same up each a (k, lt, is) = by_place (each a (suc k, omega (arith, lt), is))
-  where
-    by_place : Contains (y ∷ ys) a → Contains ys a
-    by_place (zero, lt', is') =
-        let below = up zero (suc k) a (omega arith) (omega (arith, lt)) in
-        let one = ap (λ (b : Agent). b.id) is in
-        let two = ap (λ (b : Agent). b.id) is' in
-        let three = ap (λ (b : Agent). b.id) same in
-        absurd (omega (arith, below, one, two, three))
-    by_place (suc m, lt', is') = (m, omega (arith, lt'), is')
-
--- two rising lists with the same agents are one
-one_rising : (xs ys : List Agent) → Rises xs → Rises ys → ((a : Agent) → Contains xs a → Contains ys a) → ((a : Agent) → Contains ys a → Contains xs a) → xs ≡ ys
-one_rising [] [] u v h g = refl
-one_rising [] (y ∷ ys) u v h g = let (k, lt, is) = g y (0, omega arith, refl) in absurd (omega (arith, lt))
-one_rising (x ∷ xs) [] u v h g = let (k, lt, is) = h x (0, omega arith, refl) in absurd (omega (arith, lt))
-one_rising (x ∷ xs) (y ∷ ys) u v h g =
-    let same : x ≡ y = heads (h x (0, omega arith, refl)) (g y (0, omega arith, refl)) in
-    ap₂ (λ (a : Agent) (l : List Agent). a ∷ l) same
-    (one_rising xs ys (tail_rises x xs u) (tail_rises y ys v) (rest_has x y xs ys same u h) (rest_has y x ys xs (sym same) v g))
-  where
-    heads : Contains (y ∷ ys) x → Contains (x ∷ xs) y → x ≡ y
-    heads (zero, lt, is) other = sym is
-    heads (suc k, lt, is) (zero, lt', is') = is'
-    heads (suc k, lt, is) (suc m, lt', is') =
-        let low = v zero (suc k) x (omega arith) (omega (arith, lt)) in
-        let high = u zero (suc m) y (omega arith) (omega (arith, lt')) in
-        let one = ap (λ (b : Agent). b.id) is in
-        let two = ap (λ (b : Agent). b.id) is' in
-        absurd (omega (arith, low, high, one, two))
-
-same_test : (x y : ℕ) → nat_eq x y ≡ nat_eq y x
-same_test x y = grind (arith, nat_tests)
-
-ids_differ : (ys : List Agent) → Rises ys → IsDistinct nat_eq (ids ys)
-ids_differ ys up = IsDistinct-from_apart nat_eq (ids ys) (λ i j d lt within.
-    let long : length (ids ys) ≡ length ys = length-map ys (λ (a : Agent). a.id) in
-    let e : Agent = record { class = 0; id = 0; states = [] } in
-    let there : j < length ys = omega (arith, long, within) in
-    let below = up i j e lt there in
-    let first = get_or-map (λ (a : Agent). a.id) ys i e d (omega (arith, lt, there)) in
-    let second = get_or-map (λ (a : Agent). a.id) ys j e d there in
-    ne_eqb _ _ (λ same. omega (arith, below, first, second, same)))
-
--- what has the agents of a rising list, in an order in which ids do not fall, is that list
-pub in_order : (xs ys : List Agent) → IsPermutation ys xs → IsNonDecreasingBy (λ (a : Agent). a.id) xs → RisesById ys → xs ≡ ys
-in_order xs ys p up rises =
-    let apart : IsDistinct nat_eq (ids xs) = IsDistinct-IsPermutation nat_eq same_test (ids ys) (ids xs) (IsPermutation-map (λ (a : Agent). a.id) ys xs p) (ids_differ ys (rises_by_pairs ys rises)) in
-    let long : length (ids xs) ≡ length xs = length-map xs (λ (a : Agent). a.id) in
-    let e : Agent = record { class = 0; id = 0; states = [] } in
-    let risen : RisesById xs = IsStrictlyIncreasing-from_distinct (ids xs) (λ i j d le within.
-    let there : j < length xs = omega (arith, long, within) in
-    let first = get_or-map (λ (a : Agent). a.id) xs i e d (omega (arith, le, there)) in
-    let second = get_or-map (λ (a : Agent). a.id) xs j e d there in
-    omega (arith, up i j e le there, first, second)) apart in
-    one_rising xs ys (rises_by_pairs xs risen) (rises_by_pairs ys rises)
-    (λ a h. Contains-permutation xs ys a (IsPermutation-sym ys xs p) h) (λ a h. Contains-permutation ys xs a p h)
-
--- some of a rising list rise
-pub filter_rises : (t : Agent → Bool) (xs : List Agent) → RisesById xs → RisesById (filter t xs)
-filter_rises t xs up = pairs_by_rises (filter t xs) (AllPairs-filter (λ (a b : Agent). a.id < b.id) t xs (rises_by_pairs xs up))
+Rises = orders.Rises (λ (a : Agent). a.id)
 
 -- ---- of several parts
 
@@ -194,24 +113,6 @@ module _ {A : Type 0} where
       IsPermutation-trans _ _ _ (IsPermutation-append_right (filter (u q) xs) _ _ (gathered u only ms apart.1 xs))
       (of_two (u q) (λ a. list_any (λ m. u m a) ms) (none_other u only q ms apart.0) xs)
 
-  -- tests that agree on the items of a list keep the same ones
-  pub filter_same : (t u : A → Bool) (xs : List A) → ((a : A) → Contains xs a → t a ≡ u a) → filter t xs ≡ filter u xs
-  filter_same t u [] same = refl
-  filter_same t u (x ∷ xs) same =
-      ap₂ (λ b ys. cond b (x ∷ ys) ys) (same x (0, omega arith, refl)) (filter_same t u xs (λ a (k, lt, is). same a (suc k, omega (arith, lt), is)))
-
-  -- what passes two tests, one after the other
-  pub filter_both : (t u : A → Bool) (xs : List A) → filter t (filter u xs) ≡ filter (λ a. u a && t a) xs
-  filter_both t u [] = refl
-  filter_both t u (x ∷ xs) = elim (u x) as (λ v. filter t (cond v (x ∷ filter u xs) (filter u xs)) ≡ cond (v && t x) (x ∷ filter (λ a. u a && t a) xs) (filter (λ a. u a && t a) xs)) [
-    | true ↦ ap (λ ys. cond (t x) (x ∷ ys) ys) (filter_both t u xs)
-    | false ↦ filter_both t u xs
-  ]
-
-  pub flat_map_same : (f g : ℕ → List A) → ((q : ℕ) → f q ≡ g q) → (ms : List ℕ) → flat_map f ms ≡ flat_map g ms
-  flat_map_same f g same [] = refl
-  flat_map_same f g same (q ∷ ms) = ap₂ (λ xs ys. xs ++ ys) (same q) (flat_map_same f g same ms)
-
 -- of some parts none has what no part has
 pub covered_none : (ms : List ℕ) → list_any (λ q. false) ms ≡ false
 covered_none [] = refl
@@ -247,5 +148,5 @@ pub together : {A : Type 0} (u : ℕ → A → Bool) → ((p q : ℕ) (a : A) �
     → IsPermutation (filter (u p) xs ++ flat_map (λ q. filter (u q) xs) (filter t (range_with_len 0 len))) (filter n xs)
 together u only t len p never n xs all =
     let others : List ℕ = filter t (range_with_len 0 len) in
-    subst (IsPermutation (filter (u p) xs ++ flat_map (λ q. filter (u q) xs) others)) (filter_same (λ a. list_any (λ q. u q a) (p ∷ others)) n xs all)
+    subst (IsPermutation (filter (u p) xs ++ flat_map (λ q. filter (u q) xs) others)) (filter_alike (λ a. list_any (λ q. u q a) (p ∷ others)) n xs all)
     (gathered u only (p ∷ others) (has_failed t len 0 p never, apart_in_row t len 0) xs)

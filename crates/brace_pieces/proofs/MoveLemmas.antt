@@ -29,12 +29,15 @@ use Rattle.brace_pieces.specs.Continued.{said, totals_of, becomes, left_or_kept,
 use Rattle.brace_pieces.specs.Right.{comes_from}
 use Rattle.brace_pieces.specs.Right as right
 use Rattle.brace_pieces.specs.Together.{IsWhole, AreWhole, IsSorted}
-use Rattle.brace_pieces.proofs.Merges.{Rises, rises_by_pairs, together, covered, covered_none, filter_both, flat_map_same, filter_rises, in_order}
+use Rattle.brace_pieces.proofs.Merges.{Rises, together, covered, covered_none}
 use Rattle.brace_pieces.proofs.Meetings.{owner_is_part, owner_has, meets}
 use Rattle.brace_pieces.proofs.ScheduleLemmas.{meets_no_self}
 use Rattle.brace_pieces.proofs.HeldLemmas.{one_owns}
 use Rattle.brace_pieces.proofs.HeirLemmas.{has_place, IsNear, IsHeir, agent_is_heir, child_is_heir}
 use Rattle.brace_pieces.proofs.Origins.{of_filter_map, of_map, of_take, of_numbered, of_id, id_of}
+use Rattle.brace_num.proofs.Lists.{filter_twice, flat_map_alike}
+use Rattle.brace_num.proofs.Orders.{rises_by_keys, filter_rises, one_sorted}
+use Rattle.std.proofs.lemmas.Option.{same_Some, none-some}
 
 -- ---- reach
 
@@ -76,15 +79,6 @@ pub record ComesAfter (m : Program) (w : List Agent) (d : ℕ × Agent) : Type 0
   pub there : Contains w from
   pub same_id : from.id ≡ d.0
   pub is_after : IsAfter m from d.1
-
-some_is : (a b : Agent) → Some a ≡ Some b → a ≡ b
-some_is a b e = cc
-
-class_is : (c d : Class) → Some c ≡ Some d → c ≡ d
-class_is c d e = cc
-
-no_agent : (b : Agent) → None ≡ Some b → ⊥
-no_agent b e = cc
 
 -- what each agent leaves, one by one
 pub left_each : (f : Agent → Result Next Fault) (agents : List Agent) → map (λ p. left_or_kept p.0 p.1) (zip agents (map f agents)) ≡ map (λ a. left_or_kept a (f a)) agents
@@ -137,11 +131,11 @@ module _ (s : Setting) (lawful : LawfulSetting s) (t : ℕ) where
     by_heir : (a b : Agent) (c : Class) → class_of m a ≡ Some c → IsHeir c a b → Leaves a b
     by_heir a b c is heir = record {
       same_id = heir.same_id;
-      is_after = record { same_class = heir.same_class; is_near = λ d e. subst (λ x. IsNear x a b) (class_is c d (sym is ∙ e)) heir.is_near };
+      is_after = record { same_class = heir.same_class; is_near = λ d e. subst (λ x. IsNear x a b) (same_Some c d (sym is ∙ e)) heir.is_near };
     }
 
     by_itself : (a b : Agent) → class_of m a ≡ None → Some a ≡ Some b → Leaves a b
-    by_itself a b is e = subst (Leaves a) (some_is a b e) (record { same_id = refl; is_after = record { same_class = refl; is_near = λ d f. absurd (nothing d (sym is ∙ f)) } })
+    by_itself a b is e = subst (Leaves a) (same_Some a b e) (record { same_id = refl; is_after = record { same_class = refl; is_near = λ d f. absurd (nothing d (sym is ∙ f)) } })
       where
         nothing : (d : Class) → None ≡ Some d → ⊥
         nothing d e = cc
@@ -152,7 +146,7 @@ module _ (s : Setting) (lawful : LawfulSetting s) (t : ℕ) where
         by_heir a b c is (agent_is_heir c (has_place m a.class c (lawful_program.classes_are_lawful a.class c is)) a (whole a c has is).has_values s.job.seed t totals b e)
 
     child_by : (o : Option Class) (a : Agent) → Contains w a → class_of m a ≡ o → (totals : List ℤ) (b : Agent) → (left_or_kept a (next_in s.job.seed t o totals a)).child ≡ Some b → Leaves a b
-    child_by None a has is totals b e = absurd (no_agent b e)
+    child_by None a has is totals b e = absurd (none-some b e)
     child_by (Some c) a has is totals b e =
         by_heir a b c is (child_is_heir c (has_place m a.class c (lawful_program.classes_are_lawful a.class c is)) a (whole a c has is).has_values s.job.seed t totals b e)
 
@@ -245,7 +239,7 @@ module _ (s : Setting) (lawful : LawfulSetting s) (t : ℕ) where
         by_any false is fails = refl
         by_any true is fails =
             let one = of_id (owns m now q) w a.id is in
-            absurd (true≢false (sym one.passes ∙ ap (owns m now q) (one_id w (rises_by_pairs w up) one.agent a one.there has one.same_id) ∙ fails))
+            absurd (true≢false (sym one.passes ∙ ap (owns m now q) (one_id w (rises_by_keys (λ (a : Agent). a.id) w up) one.agent a one.there has one.same_id) ∙ fails))
 
         by_owner : (v : Bool) → owns m now q a ≡ v → list_any (λ b. b.id == a.id) (owned m now q w) ≡ v
         by_owner true is = id_of (owns m now q) w a has is
@@ -279,7 +273,7 @@ module _ (s : Setting) (lawful : LawfulSetting s) (t : ℕ) where
     given_once q r d e f =
         let one = of_id (owns m now q) w d.0 (and_parts (comes_from (owned m now q w) d) (owns m now p d.1) e).0 in
         let two = of_id (owns m now r) w d.0 (and_parts (comes_from (owned m now r w) d) (owns m now p d.1) f).0 in
-        let same = one_id w (rises_by_pairs w up) one.agent two.agent one.there two.there (one.same_id ∙ sym two.same_id) in
+        let same = one_id w (rises_by_keys (λ (a : Agent). a.id) w up) one.agent two.agent one.there two.there (one.same_id ∙ sym two.same_id) in
         one_owns m now q r one.agent one.passes (ap (owns m now r) same ∙ two.passes)
 
     second_there : (xs : List (ℕ × Agent)) (d : ℕ × Agent) → Contains xs d → Contains (map (λ p. p.1) xs) d.1
@@ -297,13 +291,13 @@ module _ (s : Setting) (lawful : LawfulSetting s) (t : ℕ) where
         ∙ ap (λ o. owns_at now p o d.1) (sym same)
 
     moved_parts : (q : ℕ) → right.moved s t q p world ≡ map (λ d. d.1) (filter (gives q) entries)
-    moved_parts q = seconds_that (owns m now p) (filter (comes_from (owned m now q w)) entries) ∙ ap (map (λ d. d.1)) (filter_both (λ d. owns m now p d.1) (comes_from (owned m now q w)) entries)
+    moved_parts q = seconds_that (owns m now p) (filter (comes_from (owned m now q w)) entries) ∙ ap (map (λ d. d.1)) (filter_twice (λ d. owns m now p d.1) (comes_from (owned m now q w)) entries)
 
     pub moved_together : IsPermutation (right.moved s t p p world ++ flat_map (λ q. right.moved s t q p world) (met s (step Move t) p)) (owned m now p (continued s t world).agents)
     moved_together =
         let ms : List ℕ = met s (step Move t) p in
         let lists : List (ℕ × Agent) = filter (gives p) entries ++ flat_map (λ q. filter (gives q) entries) ms in
-        let pieces = flat_map_same (λ q. right.moved s t q p world) (λ q. map (λ d. d.1) (filter (gives q) entries)) moved_parts ms ∙ seconds_all (λ q. filter (gives q) entries) ms in
+        let pieces = flat_map_alike (λ q. right.moved s t q p world) (λ q. map (λ d. d.1) (filter (gives q) entries)) ms (λ q has. moved_parts q) ∙ seconds_all (λ q. filter (gives q) entries) ms in
         let all = together gives given_once (meet s (step Move t) p) (parts s + 1) p (meets_no_self s (step Move t) p) (λ d. owns m now p d.1) entries all_given in
         let given : map (λ d. d.1) lists ≡ right.moved s t p p world ++ flat_map (λ q. right.moved s t q p world) ms = map-append (λ (d : ℕ × Agent). d.1) (filter (gives p) entries) (flat_map (λ q. filter (gives q) entries) ms) ∙ sym (ap₂ (λ xs ys. xs ++ ys) (moved_parts p) pieces) in
         let owned_is : map (λ d. d.1) (filter (λ d. owns m now p d.1) entries) ≡ owned m now p (continued s t world).agents = sym (seconds_that (owns m now p) entries) in
@@ -312,4 +306,4 @@ module _ (s : Setting) (lawful : LawfulSetting s) (t : ℕ) where
 
     pub moved_is : (xs : List Agent) → RisesById (continued s t world).agents → IsSorted (right.moved s t p p world ++ flat_map (λ q. right.moved s t q p world) (met s (step Move t) p)) xs → xs ≡ owned m now p (continued s t world).agents
     moved_is xs rises sorted =
-        in_order xs (owned m now p (continued s t world).agents) (IsPermutation-trans _ _ _ (IsPermutation-sym _ _ moved_together) sorted.same) sorted.in_order (filter_rises (owns m now p) (continued s t world).agents rises)
+        one_sorted (λ (a : Agent). a.id) xs (owned m now p (continued s t world).agents) (IsPermutation-trans _ _ _ (IsPermutation-sym _ _ moved_together) sorted.same) sorted.in_order (filter_rises (λ (a : Agent). a.id) (owns m now p) (continued s t world).agents rises)

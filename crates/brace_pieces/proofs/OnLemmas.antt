@@ -26,48 +26,44 @@ use Rattle.brace_pieces.specs.Settings.{LawfulSetting}
 use Rattle.brace_pieces.specs.Continued.{said, totals_of, becomes, left_or_kept, all_left, fitting, descent, continued, continued_after, on}
 use Rattle.brace_pieces.specs.Numbers.{class_fits, agent_fits, NumbersFit}
 use Rattle.brace_pieces.specs.Together.{IsWhole, AreWhole, HaveClasses}
-use Rattle.brace_pieces.proofs.Merges.{Rises, rises_by_pairs, pairs_by_rises}
+use Rattle.brace_pieces.proofs.Merges.{Rises}
 use Rattle.brace_pieces.proofs.FitLemmas.{fit_by_test}
 use Rattle.brace_pieces.proofs.MoveLemmas.{descent_after, left_each}
 use Rattle.brace_pieces.proofs.Origins.{of_filter_map, of_map}
 use Rattle.brace_pieces.proofs.WorldLemmas.{seconds_both}
+use Rattle.brace_num.proofs.Orders.{rises_by_keys, keys_by_rises}
+use Rattle.std.proofs.lemmas.Option.{same_Some, none-some}
 
 -- ---- ids
 
-some_agent : (a b : Agent) → Some a ≡ Some b → a ≡ b
-some_agent a b e = cc
-
-no_agent : (b : Agent) → None ≡ Some b → ⊥
-no_agent b e = cc
-
 if_living : (dies : Bool) (a c b : Agent) → c.id ≡ a.id → (if dies then None else Some c) ≡ Some b → b.id ≡ a.id
-if_living true a c b same e = absurd (no_agent b e)
-if_living false a c b same e = ap (λ (x : Agent). x.id) (sym (some_agent c b e)) ∙ same
+if_living true a c b same e = absurd (none-some b e)
+if_living false a c b same e = ap (λ (x : Agent). x.id) (sym (same_Some c b e)) ∙ same
 
 id_by_stop : (tick : ℕ) (scope : Scope) (c : Class) (a b : Agent) (o : Option Stop) → (left_or_kept a (unless_stopped tick a o (left_by scope c a))).agent ≡ Some b → b.id ≡ a.id
-id_by_stop tick scope c a b (Some stop) e = ap (λ (x : Agent). x.id) (sym (some_agent a b e))
+id_by_stop tick scope c a b (Some stop) e = ap (λ (x : Agent). x.id) (sym (same_Some a b e))
 id_by_stop tick scope c a b None e = if_living (holds (condition_in scope c.die)) a (changed c a (values_of (rules_in scope c a))) b refl e
 
 id_stays : (seed tick : ℕ) (o : Option Class) (totals : List ℤ) (a b : Agent) → (left_or_kept a (next_in seed tick o totals a)).agent ≡ Some b → b.id ≡ a.id
-id_stays seed tick None totals a b e = ap (λ (x : Agent). x.id) (sym (some_agent a b e))
+id_stays seed tick None totals a b e = ap (λ (x : Agent). x.id) (sym (same_Some a b e))
 id_stays seed tick (Some c) totals a b e = id_by_stop tick (opening_scope seed tick [] totals a) c a b (first_stop (update_in (opening_scope seed tick [] totals a) c a)) e
 
 if_born : (bears : Bool) (a c b : Agent) → c.id ≡ a.id → (if bears then Some c else None) ≡ Some b → b.id ≡ a.id
-if_born true a c b same e = ap (λ (x : Agent). x.id) (sym (some_agent c b e)) ∙ same
-if_born false a c b same e = absurd (no_agent b e)
+if_born true a c b same e = ap (λ (x : Agent). x.id) (sym (same_Some c b e)) ∙ same
+if_born false a c b same e = absurd (none-some b e)
 
 child_id_by_spawn : (scope : Scope) (c : Class) (a b : Agent) (o : Option Spawn) → child_in scope c a o ≡ Some b → b.id ≡ a.id
-child_id_by_spawn scope c a b None e = absurd (no_agent b e)
+child_id_by_spawn scope c a b None e = absurd (none-some b e)
 child_id_by_spawn scope c a b (Some spawn) e =
     if_born (holds (value spawn.when scope)) a (changed c a (with_gifts a.states spawn.gifts (values_of (gifts_in scope (Some spawn))))) b refl e
 
 child_id_by_stop : (tick : ℕ) (scope : Scope) (c : Class) (a b : Agent) (o : Option Stop) → (left_or_kept a (unless_stopped tick a o (left_by scope c a))).child ≡ Some b → b.id ≡ a.id
-child_id_by_stop tick scope c a b (Some stop) e = absurd (no_agent b e)
+child_id_by_stop tick scope c a b (Some stop) e = absurd (none-some b e)
 child_id_by_stop tick scope c a b None e = child_id_by_spawn scope c a b c.spawn e
 
 -- a child that has no id of its own bears its parent's
 pub child_id_stays : (seed tick : ℕ) (o : Option Class) (totals : List ℤ) (a b : Agent) → (left_or_kept a (next_in seed tick o totals a)).child ≡ Some b → b.id ≡ a.id
-child_id_stays seed tick None totals a b e = absurd (no_agent b e)
+child_id_stays seed tick None totals a b e = absurd (none-some b e)
 child_id_stays seed tick (Some c) totals a b e = child_id_by_stop tick (opening_scope seed tick [] totals a) c a b (first_stop (update_in (opening_scope seed tick [] totals a) c a)) e
 
 -- rising ids, all below the next free one
@@ -151,11 +147,11 @@ module _ (s : Setting) where
 
   ordered_after : (lawful : LawfulSetting s) (n : ℕ) → IsOrdered (continued_after s n)
   unfolding continued_after
-  ordered_after lawful zero = record { rises = rises_by_pairs s.job.start.agents lawful.start_is_numbered.rises; below = lawful.start_is_numbered.below }
+  ordered_after lawful zero = record { rises = rises_by_keys (λ (a : Agent). a.id) s.job.start.agents lawful.start_is_numbered.rises; below = lawful.start_is_numbered.below }
   ordered_after lawful (suc n) = ordered_step (s.job.first + n) (continued_after s n) (ordered_after lawful n)
 
   pub on_rises : (lawful : LawfulSetting s) (t : ℕ) → RisesById (on s t).agents
-  on_rises lawful t = pairs_by_rises (on s t).agents (ordered_after lawful (t - s.job.first)).rises
+  on_rises lawful t = keys_by_rises (λ (a : Agent). a.id) (on s t).agents (ordered_after lawful (t - s.job.first)).rises
 
   after_next : (n t : ℕ) → s.job.first + n ≡ t → continued_after s (suc n) ≡ continued s t (continued_after s n)
   unfolding continued_after
@@ -185,7 +181,7 @@ module _ (s : Setting) where
   whole_step lawful written t world whole b c has is =
       let made = of_map (λ (d : ℕ × Agent). d.1) (descent s t world) b has in
       let from = descent_after s lawful t world.agents whole world.next made.from made.there in
-      let same : b ≡ made.from.1 = sym (some_agent made.from.1 b made.made) in
+      let same : b ≡ made.from.1 = sym (same_Some made.from.1 b made.made) in
       let classed : class_of s.job.program from.from ≡ Some c = ap (slice_get s.job.program.classes) (sym from.is_after.same_class) ∙ sym (ap (class_of s.job.program) same) ∙ is in
       let near = from.is_after.is_near c classed in
       let before = whole from.from c from.there classed in
@@ -231,7 +227,7 @@ module _ (s : Setting) where
   classed_step lawful t world whole classed b has =
       let made = of_map (λ (d : ℕ × Agent). d.1) (descent s t world) b has in
       let from = descent_after s lawful t world.agents whole world.next made.from made.there in
-      let same : b ≡ made.from.1 = sym (some_agent made.from.1 b made.made) in
+      let same : b ≡ made.from.1 = sym (same_Some made.from.1 b made.made) in
       let (c, is) = classed from.from from.there in
       (c, ap (class_of s.job.program) same ∙ ap (slice_get s.job.program.classes) from.is_after.same_class ∙ is)
 

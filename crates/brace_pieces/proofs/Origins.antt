@@ -1,5 +1,5 @@
 -- Of what lists come: an item of a list that was made of others is made of one of their items.
-use Rattle.std.proofs.Common.{◌≡◌, ◌∙◌, ◌⊎◌, refl, sym, ap, subst, ℕ, zero, suc, List, [], ◌∷◌, ◌++◌, map, filter, filter_map, flat_map, zip, take, get_or-take, Bool, true, false, cond, ◌||◌, Option, Some, None, Contains, inl, inr, arith}
+use Rattle.std.proofs.Common.{◌≡◌, ◌∙◌, ◌⊎◌, refl, sym, ap, subst, ℕ, suc, List, [], ◌∷◌, ◌++◌, map, filter, filter_map, flat_map, zip, take, get_or-take, Bool, true, false, cond, ◌||◌, Option, Some, None, Contains, inl, inr, arith}
 use Rattle.std.specs.Prelude.{◌==◌}
 use Rattle.std.specs.List.{list_any, cons_option}
 use Rattle.std.proofs.lemmas.Bool.{eqb-true, eq-eqb}
@@ -7,15 +7,7 @@ use Rattle.std.proofs.lemmas.List.{length-take}
 use Rattle.std.proofs.lemmas.List.Elements.{Contains-append_left, Contains-append_right, Contains-append_cases}
 use Rattle.brace_model.specs.declared.world.Agent.{Agent}
 use Rattle.brace_model.specs.Step.{numbered}
-
--- an item of a list, with its place behind one more
-pub one_on : {A : Type 0} (x : A) (xs : List A) (a : A) → Contains xs a → Contains (x ∷ xs) a
-one_on x xs a (k, low, is) = (suc k, omega (arith, low), is)
-
--- the first item, or one of the rest
-pub first_or : {A : Type 0} (x : A) (xs : List A) (a : A) → Contains (x ∷ xs) a → (x ≡ a) ⊎ Contains xs a
-first_or x xs a (zero, low, is) = inl is
-first_or x xs a (suc k, low, is) = inr (k, omega (arith, low), is)
+use Rattle.brace_num.proofs.Lists.{in_more, first_or_later}
 
 -- an item that something is made of
 pub record MadeOf {A B : Type 0} (h : A → Option B) (xs : List A) (b : B) : Type 0 where
@@ -24,7 +16,7 @@ pub record MadeOf {A B : Type 0} (h : A → Option B) (xs : List A) (b : B) : Ty
   pub made : h from ≡ Some b
 
 one_more : {A B : Type 0} (h : A → Option B) (x : A) (xs : List A) (b : B) → MadeOf h xs b → MadeOf h (x ∷ xs) b
-one_more h x xs b m = record { from = m.from; there = one_on x xs m.from m.there; made = m.made }
+one_more h x xs b m = record { from = m.from; there = in_more x xs m.from m.there; made = m.made }
 
 pub of_filter_map : {A B : Type 0} (h : A → Option B) (xs : List A) (b : B) → Contains (filter_map h xs) b → MadeOf h xs b
 of_filter_map {B = B} h [] b (k, low, is) = absurd (omega (arith, low))
@@ -32,7 +24,7 @@ of_filter_map {B = B} h (x ∷ xs) b has = by_made (h x) refl has (of_filter_map
   where
     by_made : (o : Option B) → h x ≡ o → Contains (cons_option o (filter_map h xs)) b → (Contains (filter_map h xs) b → MadeOf h xs b) → MadeOf h (x ∷ xs) b
     by_made None is has rest = one_more h x xs b (rest has)
-    by_made (Some y) is has rest = by_place (first_or y (filter_map h xs) b has)
+    by_made (Some y) is has rest = by_place (first_or_later y (filter_map h xs) b has)
       where
         by_place : (y ≡ b) ⊎ Contains (filter_map h xs) b → MadeOf h (x ∷ xs) b
         by_place (inl same) = record { from = x; there = (0, omega arith, refl); made = is ∙ ap Some same }
@@ -40,7 +32,7 @@ of_filter_map {B = B} h (x ∷ xs) b has = by_made (h x) refl has (of_filter_map
 
 pub of_map : {A B : Type 0} (f : A → B) (xs : List A) (b : B) → Contains (map f xs) b → MadeOf (λ a. Some (f a)) xs b
 of_map f [] b (k, low, is) = absurd (omega (arith, low))
-of_map f (x ∷ xs) b has = by_place (first_or (f x) (map f xs) b has) (of_map f xs b)
+of_map f (x ∷ xs) b has = by_place (first_or_later (f x) (map f xs) b has) (of_map f xs b)
   where
     by_place : (f x ≡ b) ⊎ Contains (map f xs) b → (Contains (map f xs) b → MadeOf (λ a. Some (f a)) xs b) → MadeOf (λ a. Some (f a)) (x ∷ xs) b
     by_place (inl same) rest = record { from = x; there = (0, omega arith, refl); made = ap Some same }
@@ -57,7 +49,7 @@ of_flat_map f [] b (k, low, is) = absurd (omega (arith, low))
 of_flat_map f (x ∷ xs) b has = by_place (Contains-append_cases (f x) (flat_map f xs) b has) (of_flat_map f xs b)
   where
     later : GivenBy f xs b → GivenBy f (x ∷ xs) b
-    later g = record { from = g.from; there = one_on x xs g.from g.there; gives = g.gives }
+    later g = record { from = g.from; there = in_more x xs g.from g.there; gives = g.gives }
 
     by_place : Contains (f x) b ⊎ Contains (flat_map f xs) b → (Contains (flat_map f xs) b → GivenBy f xs b) → GivenBy f (x ∷ xs) b
     by_place (inl here) rest = record { from = x; there = (0, omega arith, refl); gives = here }
@@ -66,24 +58,11 @@ of_flat_map f (x ∷ xs) b has = by_place (Contains-append_cases (f x) (flat_map
 -- what an item gives all of them give
 pub flat_map_of : {A B : Type 0} (f : A → List B) (xs : List A) (a : A) (b : B) → Contains xs a → Contains (f a) b → Contains (flat_map f xs) b
 flat_map_of f [] a b (k, low, is) gives = absurd (omega (arith, low))
-flat_map_of f (x ∷ xs) a b has gives = by_place (first_or x xs a has) (λ behind. flat_map_of f xs a b behind gives)
+flat_map_of f (x ∷ xs) a b has gives = by_place (first_or_later x xs a has) (λ behind. flat_map_of f xs a b behind gives)
   where
     by_place : (x ≡ a) ⊎ Contains xs a → (Contains xs a → Contains (flat_map f xs) b) → Contains (f x ++ flat_map f xs) b
     by_place (inl same) rest = Contains-append_left (f x) (flat_map f xs) b (subst (λ y. Contains (f y) b) (sym same) gives)
     by_place (inr behind) rest = Contains-append_right (f x) (flat_map f xs) b (rest behind)
-
--- an item that passes a test is kept
-pub kept_of : {A : Type 0} (t : A → Bool) (xs : List A) (a : A) → Contains xs a → t a ≡ true → Contains (filter t xs) a
-kept_of t [] a (k, low, is) passes = absurd (omega (arith, low))
-kept_of t (x ∷ xs) a has passes = by_place (first_or x xs a has) (λ behind. kept_of t xs a behind passes)
-  where
-    by_test : (v : Bool) → Contains (filter t xs) a → Contains (cond v (x ∷ filter t xs) (filter t xs)) a
-    by_test true there = one_on x (filter t xs) a there
-    by_test false there = there
-
-    by_place : (x ≡ a) ⊎ Contains xs a → (Contains xs a → Contains (filter t xs) a) → Contains (cond (t x) (x ∷ filter t xs) (filter t xs)) a
-    by_place (inl same) rest = subst (λ v. Contains (cond v (x ∷ filter t xs) (filter t xs)) a) (sym (ap t same ∙ passes)) (0, omega arith, same)
-    by_place (inr behind) rest = by_test (t x) (rest behind)
 
 -- some first items are items
 pub of_take : {A : Type 0} (n : ℕ) (xs : List A) (a : A) → Contains (take n xs) a → Contains xs a
@@ -100,14 +79,14 @@ pub record IsNumberedOf (born : List Agent) (d : ℕ × Agent) : Type 0 where
 
 pub of_numbered : (n : ℕ) (born : List Agent) (d : ℕ × Agent) → Contains (map (λ p. (p.0.id, p.1)) (zip born (numbered n born))) d → IsNumberedOf born d
 of_numbered n [] d (k, low, is) = absurd (omega (arith, low))
-of_numbered n (c ∷ born) d has = by_place (first_or (c.id, record c { id = n }) (map (λ p. (p.0.id, p.1)) (zip born (numbered (suc n) born))) d has) (of_numbered (suc n) born d)
+of_numbered n (c ∷ born) d has = by_place (first_or_later (c.id, record c { id = n }) (map (λ p. (p.0.id, p.1)) (zip born (numbered (suc n) born))) d has) (of_numbered (suc n) born d)
   where
     by_place : ((c.id, record c { id = n }) ≡ d) ⊎ Contains (map (λ p. (p.0.id, p.1)) (zip born (numbered (suc n) born))) d
         → (Contains (map (λ p. (p.0.id, p.1)) (zip born (numbered (suc n) born))) d → IsNumberedOf born d) → IsNumberedOf (c ∷ born) d
     by_place (inl same) rest = record { child = c; there = (0, omega arith, refl); number = n; is = sym same }
     by_place (inr behind) rest =
         let later = rest behind in
-        record { child = later.child; there = one_on c born later.child later.there; number = later.number; is = later.is }
+        record { child = later.child; there = in_more c born later.child later.there; number = later.number; is = later.is }
 
 -- an agent of an id that passes a test
 pub record OfId (t : Agent → Bool) (xs : List Agent) (id : ℕ) : Type 0 where
@@ -121,7 +100,7 @@ of_id t [] id e = absurd (cc)
 of_id t (x ∷ xs) id e = by_test (t x) refl e (of_id t xs id)
   where
     later : OfId t xs id → OfId t (x ∷ xs) id
-    later o = record { agent = o.agent; there = one_on x xs o.agent o.there; same_id = o.same_id; passes = o.passes }
+    later o = record { agent = o.agent; there = in_more x xs o.agent o.there; same_id = o.same_id; passes = o.passes }
 
     by_id : (v : Bool) → (x.id == id) ≡ v → t x ≡ true → (v || list_any (λ b. b.id == id) (filter t xs)) ≡ true → (list_any (λ b. b.id == id) (filter t xs) ≡ true → OfId t xs id) → OfId t (x ∷ xs) id
     by_id true same passes e rest = record { agent = x; there = (0, omega arith, refl); same_id = eqb-true x.id id same; passes = passes }
@@ -134,7 +113,7 @@ of_id t (x ∷ xs) id e = by_test (t x) refl e (of_id t xs id)
 -- and the way back
 pub id_of : (t : Agent → Bool) (xs : List Agent) (a : Agent) → Contains xs a → t a ≡ true → list_any (λ b. b.id == a.id) (filter t xs) ≡ true
 id_of t [] a (k, low, is) passes = absurd (omega (arith, low))
-id_of t (x ∷ xs) a has passes = by_place (first_or x xs a has) (λ behind. id_of t xs a behind passes)
+id_of t (x ∷ xs) a has passes = by_place (first_or_later x xs a has) (λ behind. id_of t xs a behind passes)
   where
     others : Bool
     others = list_any (λ b. b.id == a.id) (filter t xs)

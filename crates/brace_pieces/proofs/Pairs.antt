@@ -10,6 +10,7 @@ use Rattle.brace_core.specs.Schedule.{Pair, IsLawfulStep, is_pair, meets}
 use Rattle.brace_core.proofs.Lists.{pick_true, pick_false}
 use Rattle.brace_core.proofs.Lawful.{none_counted}
 use Rattle.brace_pieces.specs.Steps.{pairs_below}
+use Rattle.brace_num.proofs.Booleans.{and_swap}
 
 abbrev pub ordered : ℕ → ℕ → Pair
 ordered p q = record { from = p; to = q }
@@ -35,12 +36,6 @@ or_and true true false = refl
 or_and true false true = refl
 or_and true false false = refl
 or_and false c x = refl
-
-and_swap : (a b : Bool) → (a && b) ≡ (b && a)
-and_swap true true = refl
-and_swap true false = refl
-and_swap false true = refl
-and_swap false false = refl
 
 met_in_row : (a : ℕ) (bs : List ℕ) (p q : ℕ) → meets (row a bs) p q ≡ ((a == p) && has q bs)
 met_in_row a [] p q = sym (and_right (a == p) false refl)

@@ -3,11 +3,8 @@ use Rattle.std.proofs.Common.{◌≡◌, ◌∙◌, refl, sym, ap, ap₂, subst,
 use Rattle.std.specs.List.{Contains, range_with_len}
 use Rattle.std.specs.List.Sorted.{IsPermutation}
 use Rattle.std.proofs.lemmas.Bool.{ne_eqb, eq-eqb, cases_Bool, cases_eq, true≢false}
-use Rattle.std.proofs.lemmas.List.Elements.{Contains-append_right}
 use Rattle.std.proofs.lemmas.List.Sorted.{IsPermutation-refl, IsPermutation-trans, IsPermutation-append_left, IsPermutation-append_right, IsPermutation-append_comm}
-
-pub behind : {A : Type 0} (x y : A) (xs : List A) → Contains xs y → Contains (x ∷ xs) y
-behind x y xs h = Contains-append_right (x ∷ []) xs y h
+use Rattle.brace_num.proofs.Lists.{in_more}
 
 none_given : {A B : Type 0} (f : A → List B) → ((x : A) → f x ≡ []) → (xs : List A) → flat_map f xs ≡ []
 none_given f none [] = refl
@@ -22,7 +19,7 @@ left_out to t x xs false is none rest = ap (λ c. flat_map to (cond c (x ∷ fil
 pub given_by_kept : {A B : Type 0} (to : A → List B) (t : A → Bool) (xs : List A) → ((x : A) → Contains xs x → t x ≡ false → to x ≡ []) → flat_map to (filter t xs) ≡ flat_map to xs
 given_by_kept to t [] none = refl
 given_by_kept to t (x ∷ xs) none =
-    left_out to t x xs (t x) refl (none x (0, omega arith, refl)) (given_by_kept to t xs (λ y w. none y (behind x y xs w)))
+    left_out to t x xs (t x) refl (none x (0, omega arith, refl)) (given_by_kept to t xs (λ y w. none y (in_more x xs y w)))
 
 -- what those give that pass a test, of those that pass another; who does not gives nothing
 front : {A B : Type 0} (to : A → List B) (c : Bool) (x : A) (xs ys : List A) → flat_map to xs ≡ flat_map to ys → flat_map to (cond c (x ∷ xs) xs) ≡ flat_map to (cond c (x ∷ ys) ys)
@@ -41,12 +38,7 @@ given_step to t h x xs false is none rest = ap (λ c. flat_map to (filter t (con
 pub given_by_held : {A B : Type 0} (to : A → List B) (t h : A → Bool) (xs : List A) → ((x : A) → Contains xs x → h x ≡ false → to x ≡ []) → flat_map to (filter t (filter h xs)) ≡ flat_map to (filter t xs)
 given_by_held to t h [] none = refl
 given_by_held to t h (x ∷ xs) none =
-    given_step to t h x xs (h x) refl (none x (0, omega arith, refl)) (given_by_held to t h xs (λ y w. none y (behind x y xs w)))
-
--- two functions that give the same for each element of a list
-pub given_alike : {A B : Type 0} (f g : A → List B) (xs : List A) → ((x : A) → Contains xs x → f x ≡ g x) → flat_map f xs ≡ flat_map g xs
-given_alike f g [] h = refl
-given_alike f g (x ∷ xs) h = ap₂ (λ ys zs. ys ++ zs) (h x (0, omega arith, refl)) (given_alike f g xs (λ y w. h y (behind x y xs w)))
+    given_step to t h x xs (h x) refl (none x (0, omega arith, refl)) (given_by_held to t h xs (λ y w. none y (in_more x xs y w)))
 
 module _ {A B : Type 0} (to : A → List B) (own : ℕ → A → Bool) where
   abbrev pub part : ℕ → List A → List B
@@ -102,7 +94,7 @@ module _ {A B : Type 0} (to : A → List B) (own : ℕ → A → Bool) where
   pub parted : (qs : List ℕ) (xs : List A) → ((x : A) → Contains xs x → (to x ≡ []) ⊎ OneOwns x qs) → IsPermutation (flat_map to xs) (by_parts qs xs)
   parted qs [] h = subst (IsPermutation []) (sym (none_given (λ q. part q []) (λ q. refl) qs)) (IsPermutation-refl [])
   parted qs (x ∷ xs) h =
-      let rest = parted qs xs (λ y w. h y (behind x y xs w)) in
+      let rest = parted qs xs (λ y w. h y (in_more x xs y w)) in
       elim (h x (0, omega arith, refl)) [
         | inl none ↦ subst (IsPermutation (to x ++ flat_map to xs)) (sym (parts_silent qs x xs none)) (subst (λ ys. IsPermutation (ys ++ flat_map to xs) (by_parts qs xs)) (sym none) rest)
         | inr one ↦ IsPermutation-trans _ _ _ (IsPermutation-append_right (to x) _ _ rest) (parts_take x xs qs one)

@@ -1,27 +1,23 @@
 -- What the query of an agent does over a list hangs on the agents of it that the agent sees.
-use Rattle.std.proofs.Common.{◌≡◌, ◌∙◌, refl, sym, ap, ap₂, ℕ, ℤ, pos, ◌≤ℤ◌, ◌+ℤ◌, List, [], ◌∷◌, ◌++◌, map, filter, Bool, true, Option, Some, None, arith}
-use Rattle.std.specs.Prelude.{◌==◌, ◌&&◌, if◌then◌else◌}
+use Rattle.std.proofs.Common.{◌≡◌, ◌∙◌, sym, ℕ, ℤ, pos, ◌≤ℤ◌, ◌+ℤ◌, List, filter, Bool, true, arith}
+use Rattle.std.specs.Prelude.{◌==◌, ◌&&◌}
 use Rattle.std.specs.List.{Contains}
 use Rattle.std.proofs.lemmas.Int.{ints}
 use Rattle.brace_num.specs.declared.kinds.Area.{Area}
-use Rattle.brace_model.specs.declared.program.Expr.{Expr}
 use Rattle.brace_model.specs.declared.program.Stmt.{Stmt}
-use Rattle.brace_model.specs.declared.program.Stmt.TheVariants.{Const, If, Foreach, Assign}
-use Rattle.brace_model.specs.declared.program.Class.{Class}
 use Rattle.brace_model.specs.declared.program.Program.{Program}
 use Rattle.brace_model.specs.declared.world.Agent.{Agent}
 use Rattle.brace_model.specs.World.{class_of, sees}
-use Rattle.brace_model.specs.Value.{Scope, value}
-use Rattle.brace_model.specs.Query.{Deed, deed_of, closed, chosen, iterated, inside, seen_by, statement, opening_scope, query_in, query_of}
+use Rattle.brace_model.specs.Query.{seen_by, query_of}
 use Rattle.brace_model.specs.Lawful.{LawfulProgram}
-use Rattle.brace_model.proofs.ValueEquations.{statement-Const, statement-If, statement-Foreach, statement-Assign}
 use Rattle.brace_invert.specs.Split.{with_queries}
 use Rattle.brace_invert.specs.Range.{greatest_visible}
 use Rattle.brace_invert.specs.Held.{is_in, HoldsNear}
-use Rattle.brace_invert.proofs.Typed.{both_hold}
 use Rattle.brace_invert.proofs.Inverting.{seen_same}
 use Rattle.brace_invert.proofs.Nearness.{seen_near, nearer}
-use Rattle.brace_model.proofs.Simulation.{same_sight, kept_twice}
+use Rattle.brace_model.proofs.Simulation.{same_sight}
+use Rattle.std.proofs.lemmas.Bool.{and_parts}
+use Rattle.brace_num.proofs.Lists.{filter_weaker}
 
 -- who is seen from an area is held
 plus_none : (v : ℤ) → (pos 0 +ℤ v) ≤ℤ v
@@ -35,8 +31,8 @@ seen_held m lawful area w held holds a stands x within seen =
 sight_held : (m : Program) (w : List Agent) (area : Area) (held : Agent → Bool) → LawfulProgram m → HoldsNear m area (greatest_visible m) w held → (a : Agent) → is_in m area a ≡ true
     → (class : ℕ) → seen_by m (filter held w) a class ≡ seen_by m w a class
 sight_held m w area held lawful holds a stands class =
-    kept_twice (λ x. (x.class == class) && sees m a x) held w (λ x within passes.
-    seen_held m lawful area w held holds a stands x within (both_hold (x.class == class) (sees m a x) passes).1)
+    filter_weaker (λ x. (x.class == class) && sees m a x) held w (λ x within passes.
+    seen_held m lawful area w held holds a stands x within (and_parts (x.class == class) (sees m a x) passes).1)
 
 -- the query of an agent of an area does over the agents that are held what it does over all
 pub query_held : (m : Program) (seed tick : ℕ) (w : List Agent) (area : Area) (held : Agent → Bool) → LawfulProgram m → HoldsNear m area (greatest_visible m) w held → (a : Agent) → is_in m area a ≡ true

@@ -12,7 +12,7 @@ use Rattle.brace_model.specs.declared.world.Agent.{Agent}
 use Rattle.brace_model.specs.Query.{Saying}
 use Rattle.brace_model.specs.Total.{said_to}
 use Rattle.brace_pieces.specs.Right.{share_unless_silent, shares_from, shares_to}
-use Rattle.brace_pieces.proofs.Partings.{behind}
+use Rattle.brace_num.proofs.Lists.{in_more}
 
 -- lists that are joined twice
 pub joined_twice : {A B C : Type 0} (g : B → List C) (f : A → List B) (xs : List A) → flat_map g (flat_map f xs) ≡ flat_map (λ x. flat_map g (f x)) xs
@@ -40,7 +40,7 @@ silent_to id n (x ∷ xs) h =
 
 pub all_given : {A : Type 0} (P : Saying → Type 0) (f : A → List Saying) (xs : List A) → ((x : A) → Contains xs x → All P (f x)) → All P (flat_map f xs)
 all_given P f [] h = All-nil P
-all_given P f (x ∷ xs) h = All-append P (f x) (flat_map f xs) (h x (0, omega arith, refl)) (all_given P f xs (λ y w. h y (behind x y xs w)))
+all_given P f (x ∷ xs) h = All-append P (f x) (flat_map f xs) (h x (0, omega arith, refl)) (all_given P f xs (λ y w. h y (in_more x xs y w)))
 
 -- where nothing is said to an agent there is no share
 pub no_shares : (n id : ℕ) (effects : List Effect) (xs : List Saying) → ((k : ℕ) → said_to id k xs ≡ []) → shares_from n id effects xs ≡ []

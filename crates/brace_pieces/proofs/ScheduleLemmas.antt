@@ -16,6 +16,8 @@ use Rattle.brace_pieces.specs.declared.setting.Step.{Step}
 use Rattle.brace_pieces.specs.Settings.{parts, range, greatest_reach, cuts_of}
 use Rattle.brace_pieces.specs.Steps.{schedule, steps, pairs_below, meet, parts_meet, may_reach, are_recut, share, is_show}
 use Rattle.brace_pieces.proofs.Pairs.{lawful_where}
+use Rattle.brace_num.proofs.Booleans.{and_swap}
+use Rattle.brace_num.proofs.Numbers.{eq_swap}
 
 max_either_way : (a b : ℤ) → int_max a b ≡ int_max b a
 max_either_way a b = grind (arith)
@@ -37,12 +39,6 @@ or_swap true false = refl
 or_swap false true = refl
 or_swap false false = refl
 
-and_swap : (a b : Bool) → (a && b) ≡ (b && a)
-and_swap true true = refl
-and_swap true false = refl
-and_swap false true = refl
-and_swap false false = refl
-
 recut_either_way : (s : Setting) (tick p q : ℕ) → are_recut s tick p q ≡ are_recut s tick q p
 recut_either_way s tick p q =
     let before : Cuts = cuts_of s (tick - 1) in
@@ -57,12 +53,9 @@ parts_either_way s Census tick p q = refl
 parts_either_way s Move tick p q = reach_either_way s tick p q
 parts_either_way s Show tick p q = refl
 
-same_either_way : (p q : ℕ) → (p == q) ≡ (q == p)
-same_either_way p q = grind (arith)
-
 meet_either_way : (s : Setting) (at : Step) (p q : ℕ) → meet s at p q ≡ meet s at q p
 meet_either_way s at p q =
-    ap₂ (λ a b. not a && b) (same_either_way p q)
+    ap₂ (λ a b. not a && b) (eq_swap p q)
     (ap (λ c. if c then parts_meet s at p q else is_show at.stage) (and_swap (nat_lt p (parts s)) (nat_lt q (parts s)))
     ∙ ap (λ m. if nat_lt q (parts s) && nat_lt p (parts s) then m else is_show at.stage) (parts_either_way s at.stage at.tick p q))
 

@@ -2,7 +2,7 @@
 use Rattle.std.proofs.Common.{◌≡◌, ◌∙◌, refl, sym, ap, ap₂, subst, ℕ, zero, suc, ◌+◌, ◌<◌, ◌≤◌, List, [], ◌∷◌, ◌++◌, map, filter, flat_map, length, Bool, true, false, cond, ◌==◌, Option, Some, None, arith, ⊎_elim, inl, inr}
 use Rattle.std.specs.Prelude.{◌&&◌, slice_get}
 use Rattle.std.specs.List.{Contains}
-use Rattle.std.proofs.lemmas.Bool.{ne_eqb, eqb-true, and_left, and_right, cases_eq}
+use Rattle.std.proofs.lemmas.Bool.{ne_eqb, eqb-true, and_left, and_right, cases_eq, and_parts}
 use Rattle.std.proofs.lemmas.List.{append-nil, length-map}
 use Rattle.std.proofs.lemmas.List.Concat.{flat_map-append}
 use Rattle.std.proofs.lemmas.List.Elements.{All-contains, Contains-append_cases}
@@ -16,13 +16,11 @@ use Rattle.brace_model.specs.World.{ids, class_of}
 use Rattle.brace_model.specs.Query.{Saying}
 use Rattle.brace_model.specs.Total.{said_to, total_of, totals_from}
 use Rattle.brace_invert.proofs.Sublists.{Rising}
-use Rattle.brace_invert.proofs.Typed.{both_hold}
 use Rattle.brace_invert.proofs.Sites.{none_within}
 use Rattle.brace_pieces.specs.Right.{Share, share_unless_silent, shares_from, shares_to}
 use Rattle.brace_pieces.specs.Heard.{sayings_of, IsShareOf}
-use Rattle.brace_pieces.proofs.Partings.{behind}
-use Rattle.brace_model.proofs.Simulation.{kept_twice}
 use Rattle.brace_pieces.proofs.Sayings.{joined_twice, said_to-each}
+use Rattle.brace_num.proofs.Lists.{in_more, filter_weaker}
 
 -- ---- the shares of one agent
 
@@ -43,18 +41,18 @@ module _ (xs : List Saying) (id k : ℕ) where
 
   other_target : (e : Share) → (e.target ≡ id → ⊥) → given e ≡ []
   other_target e other = ap (map (λ x. x.value)) (none_pass (λ x. (x.target == id) && (x.field == k)) (λ x. (x.target == e.target) && (x.field == e.field)) xs (λ x h.
-      let (same, field) = both_hold (x.target == e.target) (x.field == e.field) h in
+      let (same, field) = and_parts (x.target == e.target) (x.field == e.field) h in
       and_left (x.target == id) (x.field == k) (ne_eqb x.target id (λ is. other (sym (eqb-true x.target e.target same) ∙ is)))))
 
   other_field : (e : Share) → (e.field ≡ k → ⊥) → given e ≡ []
   other_field e other = ap (map (λ x. x.value)) (none_pass (λ x. (x.target == id) && (x.field == k)) (λ x. (x.target == e.target) && (x.field == e.field)) xs (λ x h.
-      let (target, same) = both_hold (x.target == e.target) (x.field == e.field) h in
+      let (target, same) = and_parts (x.target == e.target) (x.field == e.field) h in
       and_right (x.target == id) (x.field == k) (ne_eqb x.field k (λ is. other (sym (eqb-true x.field e.field same) ∙ is)))))
 
   this_field : (e : Share) → e.target ≡ id → e.field ≡ k → given e ≡ values
   this_field e target field =
       ap₂ (λ i f. map (λ x. x.value) (filter (λ x. (x.target == id) && (x.field == k)) (filter (λ x. (x.target == i) && (x.field == f)) xs))) target field
-      ∙ ap (map (λ x. x.value)) (kept_twice (λ x. (x.target == id) && (x.field == k)) (λ x. (x.target == id) && (x.field == k)) xs (λ x within passes. passes))
+      ∙ ap (map (λ x. x.value)) (filter_weaker (λ x. (x.target == id) && (x.field == k)) (λ x. (x.target == id) && (x.field == k)) xs (λ x within passes. passes))
 
   silent_field : (n : ℕ) (e : Effect) → (n ≡ k → ⊥) → (vs : List Value) → flat_map given (share_unless_silent id n e vs) ≡ []
   silent_field n e other [] = refl
@@ -97,8 +95,8 @@ module _ (xs : List Saying) (id k : ℕ) where
 all_silent : {A B : Type 0} (f : A → List B) (t : A → Bool) (xs : List A) → ((x : A) → Contains xs x → f x ≡ []) → flat_map f (filter t xs) ≡ []
 all_silent f t [] none = refl
 all_silent f t (x ∷ xs) none = (elim (t x) as (λ c. flat_map f (cond c (x ∷ filter t xs) (filter t xs)) ≡ []) [
-  | true ↦ ap (λ ys. ys ++ flat_map f (filter t xs)) (none x (0, omega arith, refl)) ∙ all_silent f t xs (λ y w. none y (behind x y xs w))
-  | false ↦ all_silent f t xs (λ y w. none y (behind x y xs w))
+  | true ↦ ap (λ ys. ys ++ flat_map f (filter t xs)) (none x (0, omega arith, refl)) ∙ all_silent f t xs (λ y w. none y (in_more x xs y w))
+  | false ↦ all_silent f t xs (λ y w. none y (in_more x xs y w))
 ])
 
 above_first : (x : Agent) (w : List Agent) (y : Agent) → Rising (ids (x ∷ w)) → Contains w y → x.id < y.id
@@ -107,7 +105,7 @@ above_first x w y r there = All-contains (λ n. x.id < n) (ids w) y.id r.0 (cont
     contains_id : (w : List Agent) (y : Agent) → Contains w y → Contains (ids w) y.id
     contains_id [] y (k, below, is) = absurd (omega (arith, below))
     contains_id (x ∷ w) y (zero, below, is) = (0, omega arith, ap (λ a. a.id) is)
-    contains_id (x ∷ w) y (suc k, below, is) = behind x.id y.id (ids w) (contains_id w y (k, omega (arith, below), is))
+    contains_id (x ∷ w) y (suc k, below, is) = in_more x.id (ids w) y.id (contains_id w y (k, omega (arith, below), is))
 
 alone : {B : Type 0} (f : Agent → List B) (t : Agent → Bool) (b : Agent) → t b ≡ true → (w : List Agent) → Rising (ids w) → Contains w b → ((x : Agent) → (x.id ≡ b.id → ⊥) → f x ≡ []) → flat_map f (filter t w) ≡ f b
 alone f t b passes [] r (k, below, is) silent = absurd (omega (arith, below))
@@ -190,7 +188,7 @@ share_is m agents [] xs there g h = none_within (IsShareOf m agents xs g) g h
 share_is m agents (a ∷ some) xs there g h =
     ⊎_elim
     (λ (y : Contains (shares_to xs a (class_of m a)) g). shared_agent m agents xs a (there a (0, omega arith, refl)) (class_of m a) refl g y)
-    (λ (y : Contains (flat_map (λ b. shares_to xs b (class_of m b)) some) g). share_is m agents some xs (λ b w. there b (behind a b some w)) g y)
+    (λ (y : Contains (flat_map (λ b. shares_to xs b (class_of m b)) some) g). share_is m agents some xs (λ b w. there b (in_more a some b w)) g y)
     (Contains-append_cases (shares_to xs a (class_of m a)) (flat_map (λ b. shares_to xs b (class_of m b)) some) g h)
 
 -- ---- totals hang on what is said to the effects that a class has

@@ -1,30 +1,26 @@
 -- To whom an agent's query says values: to the agent itself, and to those that it sees.
-use Rattle.std.proofs.Common.{◌≡◌, ◌∙◌, refl, sym, ap, subst, ℕ, List, [], ◌∷◌, ◌++◌, map, flat_map, true, false, Option, Some, None, Ok, Err, arith}
+use Rattle.std.proofs.Common.{◌≡◌, ◌∙◌, refl, sym, ap, subst, ℕ, List, [], ◌++◌, true, false, Option, Some, None}
 use Rattle.std.specs.Prelude.{◌==◌, ◌&&◌, is_none, if◌then◌else◌}
 use Rattle.std.specs.List.{All, Contains}
-use Rattle.std.proofs.lemmas.List.Elements.{All-nil, All-cons, All-append, Contains-append_right}
+use Rattle.std.proofs.lemmas.List.Elements.{All-nil, All-cons, All-append}
 use Rattle.brace_model.specs.declared.program.Who.{Who}
 use Rattle.brace_model.specs.declared.program.Who.TheVariants.{This, Outer, Inner}
-use Rattle.brace_model.specs.declared.program.Value.{Value}
-use Rattle.brace_model.specs.declared.program.Value.TheVariants.{Int, Fixed, Flag}
-use Rattle.brace_model.specs.declared.program.Expr.{Expr}
 use Rattle.brace_model.specs.declared.program.Stmt.{Stmt}
-use Rattle.brace_model.specs.declared.program.Stmt.TheVariants.{Const, If, Foreach, Assign}
 use Rattle.brace_model.specs.declared.program.Class.{Class}
 use Rattle.brace_model.specs.declared.program.Program.{Program}
 use Rattle.brace_model.specs.declared.world.Agent.{Agent}
 use Rattle.brace_model.specs.World.{class_of, sees}
-use Rattle.brace_model.specs.Value.{Scope, Worth, value, agent_of}
-use Rattle.brace_model.specs.Query.{Deed, deed_of, followed_by, inside, chosen, seen_by, statement, opening_scope, query_in, query_of}
+use Rattle.brace_model.specs.Value.{Scope, agent_of}
+use Rattle.brace_model.specs.Query.{inside, opening_scope, query_in, query_of}
 use Rattle.brace_model.proofs.Blocks as b
 use Rattle.brace_model.proofs.Blocks.{Plain, plain, Allowed, free}
 use Rattle.brace_model.proofs.Deeds.{run}
 use Rattle.brace_model.proofs.Simulation.{Tie, IsTie, simulation, over_seen}
-use Rattle.brace_invert.proofs.Typed.{both_hold}
 use Rattle.brace_invert.specs.Split.{forward_query, forward_program}
 use Rattle.brace_invert.proofs.PartEquations.{forward_of-Const, forward_of-If, forward_of-Foreach, forward_of-Assign}
 use Rattle.brace_invert.proofs.LawfulParts.{forward_is_part}
 use Rattle.brace_invert.proofs.Inverting.{part_deed, part_of}
+use Rattle.std.proofs.lemmas.Bool.{and_parts}
 
 -- an agent of a world whom another sees has this id
 pub record Sight (m : Program) (w : List Agent) (a : Agent) (id : ℕ) : Type 0 where
@@ -86,7 +82,7 @@ module _ (m : Program) (w : List Agent) (a : Agent) (K : ℕ → Type 0) (own : 
         (simulation Says says_tie m m w w Good (λ scope n v g. record { this = g.this; outer = g.outer; inner = g.inner }) P (λ e scope g stop is. All-nil (λ s. T s.target))
         (λ x may effect scope g v. All-cons (λ s. T s.target) (record { target = (agent_of scope x).id; field = effect; value = v }) [] (to scope x may g) (All-nil (λ s. T s.target)))
         (λ scope class f e g each. over_seen Says says_tie f e (λ y. (y.class == class) && sees m scope.this y) w (λ x within passes.
-        (each x (good_inside scope x g (near x within (ap (λ y. sees m y x) (sym g.this) ∙ (both_hold (x.class == class) (sees m scope.this x) passes).1)))).tie))
+        (each x (good_inside scope x g (near x within (ap (λ y. sees m y x) (sym g.this) ∙ (and_parts (x.class == class) (sees m scope.this x) passes).1)))).tie))
         s h scope good).tie
 
   opening_good : (seed tick : ℕ) (query : List Stmt) → Good (opening_scope seed tick query [] a)

@@ -1,10 +1,10 @@
 -- The faults that a part finds may be told, behind the step in whose work they are found.
-use Rattle.std.proofs.Common.{◌≡◌, ◌∙◌, refl, sym, ap, subst, ℕ, zero, suc, ◌+◌, ◌<◌, ◌≤◌, List, [], ◌∷◌, ◌++◌, map, filter, filter_map, flat_map, Bool, true, false, cond, Option, Some, Result, Ok, Err, arith, ⊎_elim, inl, inr}
-use Rattle.std.specs.Prelude.{◌-◌, slice_get, option_map, not, if◌then◌else◌}
+use Rattle.std.proofs.Common.{◌≡◌, ◌∙◌, refl, sym, ap, subst, ℕ, zero, suc, ◌+◌, ◌<◌, ◌≤◌, List, [], ◌∷◌, ◌++◌, map, filter, filter_map, flat_map, Bool, true, false, cond, Option, Result, Ok, Err, arith, ⊎_elim, inl, inr}
+use Rattle.std.specs.Prelude.{◌-◌, option_map, not, if◌then◌else◌}
 use Rattle.std.specs.List.{All, Contains, cons_option, range_with_len}
 use Rattle.std.specs.Result.{result_err}
 use Rattle.std.proofs.lemmas.Bool.{cases_lt}
-use Rattle.std.proofs.lemmas.List.Elements.{All-nil, All-cons, All-head, All-tail, All-append, All-same, Contains-append_left, Contains-append_right, Contains-append_cases}
+use Rattle.std.proofs.lemmas.List.Elements.{All-nil, All-cons, All-append, All-same, Contains-append_left, Contains-append_right, Contains-append_cases}
 use Rattle.brace_model.specs.declared.program.Program.{Program}
 use Rattle.brace_model.specs.declared.fault.Fault.{Fault}
 use Rattle.brace_model.specs.declared.fault.Phase.{Phase}
@@ -36,6 +36,7 @@ use Rattle.brace_pieces.specs.Right.{StandsBefore, IsTold, IsRightCause}
 use Rattle.brace_pieces.specs.Heard.{own, near}
 use Rattle.brace_pieces.proofs.FaultLemmas.{IsOf, queries_are_of, next_is_of, updates_are_of, births_of, in_births}
 use Rattle.brace_pieces.proofs.PlaceLemmas.{no_show, shape}
+use Rattle.brace_num.proofs.Lists.{All-place}
 
 -- ---- what some elements of a list give all of them give
 
@@ -177,15 +178,10 @@ module _ (s : Setting) where
     | inr up ↦ run_ticks s.job.last (omega arith) (omega (arith, up))
   ]
 
-pub at_place : {A : Type 0} (P : A → Type 0) (xs : List A) (k : ℕ) (x : A) → All P xs → slice_get xs k ≡ Some x → P x
-at_place P [] k x all e = absurd (cc)
-at_place P (y ∷ xs) zero x all e = let same : y ≡ x = cc in subst P same (All-head P y xs all)
-at_place P (y ∷ xs) (suc k) x all e = at_place P xs k x (All-tail P y xs all) e
-
 -- a fault of a tick and a phase that is found there may be told behind the step of that tick and phase
 told_then : (s : Setting) (t : ℕ) (phase : Phase) (f : Fault) (number : ℕ) → Contains (found_in s t phase) f → IsOf t phase f → StandsBefore s (step (stage_of s phase) t) number → IsTold s number f
 told_then s t phase f number found of before =
-    let (low, high) = at_place (Ticks s) (steps s) before.place (step (stage_of s phase) t) (steps_tick s) before.stands_there (λ e. no_show s phase (sym e)) in record {
+    let (low, high) = All-place (Ticks s) (steps s) before.place (step (stage_of s phase) t) (steps_tick s) before.stands_there (λ e. no_show s phase (sym e)) in record {
       not_before = subst (λ u. s.job.first ≤ u) (sym of.tick) low;
       within = subst (λ u. u < s.job.last) (sym of.tick) high;
       found = subst (λ u. Contains (found_in s u f.phase) f) (sym of.tick) (subst (λ q. Contains (found_in s t q) f) (sym of.phase) found);

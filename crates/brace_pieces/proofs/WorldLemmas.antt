@@ -23,6 +23,7 @@ use Rattle.brace_invert.specs.Inversion.{said_by_both}
 use Rattle.brace_invert.proofs.Inverting.{said_to_each}
 use Rattle.brace_pieces.specs.declared.setting.Setting.{Setting}
 use Rattle.brace_pieces.specs.Continued.{said, totals_of, becomes, left_or_kept, all_becoming, all_left, fitting, continued, continued_after}
+use Rattle.brace_num.proofs.Options.{none_mapped}
 
 -- totals hang on what is said to each effect, in whatever order
 pub totals_same : (n id : ℕ) (effects : List Effect) (xs ys : List Saying)
@@ -110,10 +111,6 @@ none_faulty None (Some f) birth new world e = absurd (cc)
 none_faulty None None (Some f) new world e = absurd (cc)
 none_faulty None None None new world e = record { no_query = refl; no_update = refl; no_birth = refl; same = cc }
 
-no_option : {A B : Type 0} (f : A → B) (o : Option A) → option_map f o ≡ None → o ≡ None
-no_option f None e = refl
-no_option f (Some a) e = absurd (cc)
-
 -- what a world's agents leave, where none faults
 pub left_then : (s : Setting) (t : ℕ) (w : List Agent) → query_faults s.job.program s.job.seed t w ≡ [] → filter_map result_err (all_next s.job.program s.job.seed t w) ≡ []
     → all_left s t w ≡ filter_map result_ok (all_next s.job.program s.job.seed t w)
@@ -132,7 +129,7 @@ continued_step s t world new e =
     let no_query : query_faults m s.job.seed t world.agents ≡ [] = (least_none (query_faults m s.job.seed t world.agents)).0 none.no_query in
     let no_update : filter_map result_err nexts ≡ [] = (least_none (filter_map result_err nexts)).0 none.no_update in
     let is_left : all_left s t world.agents ≡ left = left_then s t world.agents no_query no_update in
-    let fits : fitting lives world.next born ≡ born = fitting_all lives world.next born (no_option (birth_fault m t) (first_too_far lives world.next born) none.no_birth) in
+    let fits : fitting lives world.next born ≡ born = fitting_all lives world.next born (none_mapped (birth_fault m t) (first_too_far lives world.next born) none.no_birth) in
     let made : List Next → World = λ ns. record {
       agents = map (λ (p : ℕ × Agent). p.1) (map (λ a. (a.id, a)) (living ns) ++ map (λ p. (p.0.id, p.1)) (zip (fitting (living ns) world.next (children ns)) (numbered world.next (fitting (living ns) world.next (children ns)))));
       next = world.next + length (fitting (living ns) world.next (children ns));

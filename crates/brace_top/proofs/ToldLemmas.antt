@@ -22,12 +22,12 @@ use Rattle.brace_pieces.specs.Numbers.{NumbersFit}
 use Rattle.brace_pieces.specs.Settings.{LawfulSetting}
 use Rattle.brace_pieces.specs.Together.{AreWhole, HaveClasses}
 use Rattle.brace_pieces.proofs.OnLemmas.{on_classed, on_rises, on_whole}
-use Rattle.brace_pieces.proofs.Origins.{one_on}
 use Rattle.brace_pieces.proofs.WorldLemmas.{continued_is}
 use Rattle.brace_rows.proofs.Order.{rising_are_numbered}
 use Rattle.brace_save.specs.Lines.{IsText}
 use Rattle.brace_save.specs.Texts.{IsMoment, Moment, lines, text, value_fits}
 use Rattle.brace_crew.specs.Shows.{checkpoint_file}
+use Rattle.brace_num.proofs.Lists.{in_more}
 
 -- ---- worlds stay lawful
 
@@ -60,7 +60,7 @@ values_back (v ∷ rest) fit = ap₂ (λ (a b : Bool). a && b) (value_back v (fi
 
 each_fits : (agents : List Agent) → ((a : Agent) → Contains agents a → list_all value_fits a.states ≡ true) → list_all (λ a. list_all value_fits a.states) agents ≡ true
 each_fits [] fit = refl
-each_fits (a ∷ rest) fit = ap₂ (λ (x y : Bool). x && y) (fit a (0, omega arith, refl)) (each_fits rest (λ b has. fit b (one_on a rest b has)))
+each_fits (a ∷ rest) fit = ap₂ (λ (x y : Bool). x && y) (fit a (0, omega arith, refl)) (each_fits rest (λ b has. fit b (in_more a rest b has)))
 
 agents_fit : (program : Program) (agents : List Agent) → AreWhole program agents → HaveClasses program agents → list_all (λ a. list_all value_fits a.states) agents ≡ true
 agents_fit program agents whole classed = each_fits agents (λ a has. let (class, is) = classed a has in values_back a.states (whole a class has is).values_fit)

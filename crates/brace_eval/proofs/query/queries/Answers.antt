@@ -5,8 +5,9 @@ use Rattle.brace_model.specs.Query.{Saying, Deed, query_of}
 use Rattle.std.proofs.lemmas.List.{take_all}
 use Rattle.brace_eval.specs.Heard.{said_by, faults_by}
 use Rattle.brace_eval.specs.inner.Tables.{Notes, NotesDeed}
-use Rattle.brace_eval.proofs.DeedLemmas.{flat_map-more, notes-then}
+use Rattle.brace_eval.proofs.DeedLemmas.{notes-then}
 use Rattle.brace_eval.proofs.query.queries.Goals as goal
+use Rattle.brace_num.proofs.Lists.{flat_map_next}
 
 pub loop-this-preserved : goal.loop-this-preserved
 loop-this-preserved c =
@@ -23,8 +24,8 @@ loop-this-preserved c =
     subst (λ (n : ℕ). NotesDeed scene (query_of scene.program.now n c.args.tick scene.agents.now a) c.loop-this.ledger last) c.loop-this.invariant.seed c.in_ok-query.ensures.noted in
     let both = notes-then scene (flat_map said (take i asking)) (said a) (flat_map faults (take i asking)) (faults a) first c.loop-this.ledger last c.loop-this.invariant.noted noted in
     record {
-      noted = subst (λ (xs : List Saying). Notes scene xs (flat_map faults (take (i + 1) asking)) first last) (sym (flat_map-more said asking i a c.loop-this-test.true c.this-item.is))
-          (subst (λ (fs : List Fault). Notes scene (flat_map said (take i asking) ++ said a) fs first last) (sym (flat_map-more faults asking i a c.loop-this-test.true c.this-item.is)) both);
+      noted = subst (λ (xs : List Saying). Notes scene xs (flat_map faults (take (i + 1) asking)) first last) (sym (flat_map_next said asking i a c.loop-this-test.true c.this-item.is))
+          (subst (λ (fs : List Fault). Notes scene (flat_map said (take i asking) ++ said a) fs first last) (sym (flat_map_next faults asking i a c.loop-this-test.true c.this-item.is)) both);
       seed = c.in_ok-query.ensures.seed ∙ c.loop-this.invariant.seed;
     }
 

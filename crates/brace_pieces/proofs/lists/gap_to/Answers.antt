@@ -2,8 +2,8 @@ use Rattle.std.proofs.Common.{◌∙◌, pos, ap, rules}
 use Rattle.std.specs.Int.{w64}
 use Rattle.std.specs.Prelude.{FitsSigned}
 use Rattle.std.proofs.lemmas.Int.{to_z-of_z}
-use Rattle.brace_pieces.proofs.CutLemmas.{greater}
 use Rattle.brace_pieces.proofs.lists.gap_to.Goals as goal
+use Rattle.brace_num.proofs.Numbers.{max_pos}
 
 pub returns : goal.returns
 returns c =
@@ -16,4 +16,4 @@ returns c =
     let y : FitsSigned w64 c.args.y = search rules in
     let along_x = simp to_z-of_z at c.outside.ensures in
     let along_y = simp to_z-of_z at c.outside-2.ensures in
-    ap pos c.max.ensures ∙ greater _ _ _ _ along_x along_y
+    ap pos c.max.ensures ∙ max_pos _ _ _ _ along_x along_y
