@@ -16,10 +16,10 @@ decimal_digits n h = let d = decimal_is_IsNumeral n h in (d.0, sym d.1)
 pub count_printed : (n : ℕ) → n < 2 ^ 64 → SpellsCount (canonical_count n) n
 count_printed n h = (decimal_digits n h, h)
 
-pos_small : (n : ℕ) → IsTrue (fits (pos n)) → n < 2 ^ 63
+pub pos_small : (n : ℕ) → IsTrue (fits (pos n)) → n < 2 ^ 63
 pos_small n f = grind (arith, ints)
 
-negsuc_small : (n : ℕ) → IsTrue (fits (negsuc n)) → n < 2 ^ 63
+pub negsuc_small : (n : ℕ) → IsTrue (fits (negsuc n)) → n < 2 ^ 63
 negsuc_small n f = grind (arith, ints)
 
 pub int_printed : (z : ℤ) → IsTrue (fits z) → SpellsInt (canonical_int z) z

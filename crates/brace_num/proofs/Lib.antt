@@ -1,7 +1,14 @@
+pub mod Booleans
 pub mod Canonical
 pub mod Exactness
 pub mod FirstGiven
+pub mod Lists
+pub mod Numbers
+pub mod Options
+pub mod Orders
 pub mod Printings
+pub mod Quotients
 pub mod Readings
 pub mod Roots
+pub mod Rows
 pub mod Spellings

@@ -1,8 +1,9 @@
 -- The readings of texts agree with the relation of spellings.
-use Rattle.std.proofs.Common.{◌≡◌, ◌∙◌, ℕ, suc, add-one, length-append, drop-cons, inl, inr, ◌⊎◌, ◌+◌, ◌-◌, ◌*◌, ◌^◌, ◌<◌, ◌≤◌, List, [], ◌∷◌, ◌++◌, length, take, drop, get_or, Bool, true, false, arith, refl, sym, ap, subst}
+use Rattle.std.proofs.Common.{◌≡◌, ◌∙◌, ℕ, suc, add-one, length-append, drop-cons, inl, inr, ◌+◌, ◌-◌, ◌*◌, ◌^◌, ◌<◌, ◌≤◌, List, [], ◌∷◌, ◌++◌, length, take, drop, get_or, Bool, true, false, arith, refl, sym, ap, subst}
 use Rattle.std.specs.Prelude.{ℤ, pos, neg_ℤ, Option, Some, None, position, ◌==◌, IsTrue, slice_index, ◌↔◌}
 use Rattle.std.specs.List.{position_or_len}
 use Rattle.std.specs.Char.{digit_value}
+use Rattle.std.proofs.lemmas.Bool.{cases_Bool}
 use Rattle.std.proofs.lemmas.Str.Parse.{digit_from_value}
 use Rattle.std.proofs.Math.Seq.{take-append_seam}
 use Rattle.std.proofs.lemmas.List.{take-append-drop}
@@ -147,10 +148,6 @@ at_spells text n (Some i) at e =
 decimals_spells : (text : List ℕ) (n : ℕ) → decimals_of text ≡ Some n → Decimals text n
 decimals_spells text n e = at_spells text n (position is_point text) refl e
 
-bool_cases : (b : Bool) → (b ≡ true) ⊎ (b ≡ false)
-bool_cases true = inl refl
-bool_cases false = inr refl
-
 -- what a signed number was made of
 record SignedBy (minus : Bool) (m : Option ℕ) (z : ℤ) : Type 0 where
   n : ℕ
@@ -175,7 +172,7 @@ module _ (Spelled : List ℕ → ℕ → Type 0) (reading : List ℕ → Option 
 
   signed_spells : (text : List ℕ) (z : ℤ) → signed_of reading text ≡ Some z → Signed Spelled text z × IsTrue (fits z)
   signed_spells [] z e = by_plain [] z e
-  signed_spells (c ∷ rest) z e = elim (bool_cases (c == 45)) [
+  signed_spells (c ∷ rest) z e = elim (cases_Bool (c == 45)) [
     | inl t ↦ let first : c ≡ 45 = grind arith in
         let P : ℕ → Type 0 = λ d. Signed Spelled (d ∷ rest) z × IsTrue (fits z) in
         let read : with_sign true (reading rest) ≡ Some z = rw t at e in

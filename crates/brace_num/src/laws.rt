@@ -24,10 +24,12 @@ pub fn roots_are_greatest()
     ensures no_greater { (n r : ℕ) → r * r ≤ n → r ≤ root n }
 {}
 
-/// A quotient and its remainder give back the dividend, and the remainder is nearer to zero than
-/// the divisor.
+/// A quotient and its remainder give back the dividend, the remainder is nearer to zero than the
+/// divisor, and the quotient is cut toward zero: it never takes more than the dividend.
 pub fn quotients_leave_remainders()
     ensures gives_back { (a d : ℤ) → (int_div a d *ℤ d) +ℤ int_rem a d ≡ a }
     ensures near_zero { (a d : ℤ) → 0 < unsigned_abs d
         → unsigned_abs (int_rem a d) < unsigned_abs d }
+    ensures toward_zero { (a d : ℤ)
+        → unsigned_abs (int_div a d) * unsigned_abs d ≤ unsigned_abs a }
 {}
