@@ -19,14 +19,14 @@ use Rattle.brace_lanes.specs.Views.{Serves}
 use Rattle.brace_pieces.specs.declared.setting.Setting.{Setting}
 use Rattle.brace_pieces.specs.Steps.{schedule}
 use Rattle.brace_pieces.specs.Courses.{past_of}
-use Rattle.brace_pieces.proofs.Origins.{kept_of}
 use Rattle.brace_pieces.proofs.ScheduleLemmas.{schedule_lawful}
 use Rattle.brace_crew.specs.declared.member.Member.{Member}
 use Rattle.brace_crew.specs.Members.{course_of, opening_of, next_of, IsDone}
 use Rattle.brace_crew.specs.Benches.{served_by, IsUnused, IsUsedUp, AreServed, Waits, AreWaiting}
 use Rattle.brace_crew.specs.inner.Driven.{Counts, AreCounted, AreSame, WentAll, turns_left, both}
-use Rattle.brace_crew.proofs.FirstFault.{row_place}
 use Rattle.brace_crew.proofs.RunMembers.{of_all_map}
+use Rattle.brace_num.proofs.Lists.{in_filter}
+use Rattle.brace_num.proofs.Rows.{row_has}
 
 -- ---- numbers that a test keeps of a row rise
 
@@ -164,7 +164,7 @@ module _ {P : Type 0} where
 
       at : (a : ℕ) → a < v.actors → Serves v a → AllUsed v a
       at a low serves =
-          let has : Contains (served_by v) a = kept_of (λ b. b % v.seats == v.number) (range_with_len 0 v.actors) a (row_place 0 v.actors a (omega arith) (omega (arith, low))) (eq-eqb (a % v.seats) v.number serves) in
+          let has : Contains (served_by v) a = in_filter (λ b. b % v.seats == v.number) (range_with_len 0 v.actors) a (row_has 0 v.actors a (omega arith) (omega (arith, low))) (eq-eqb (a % v.seats) v.number serves) in
           All-contains (AllUsed v) (served_by v) a (subst (All (AllUsed v)) are.numbers (All-map (AllUsed v) number_of ms each)) has
 
   -- ---- a later time
