@@ -1,7 +1,7 @@
 -- What an actor's turns so far put and took: which name is next, and one turn more.
 use Rattle.std.proofs.Common.{◌≡◌, ◌∙◌, refl, sym, ap, subst, ℕ, ◌+◌, ◌<◌, ◌==◌, true, List, [], ◌∷◌, ◌++◌, length, take, Some, slice_get, arith}
 use Rattle.std.specs.List.{filter}
-use Rattle.std.proofs.lemmas.Bool.{and_from, eq-eqb}
+use Rattle.std.proofs.lemmas.Bool.{and_from, eq-eqb, cond-true}
 use Rattle.std.proofs.lemmas.List.{append_assoc, append-nil, length-append, take_more, take_all}
 use Rattle.std.proofs.lemmas.List.Elements.{filter-append}
 use Rattle.brace_core.specs.declared.name.Name.{Name}
@@ -10,16 +10,13 @@ use Rattle.brace_core.specs.declared.name.Turn.TheVariants.{Put, Take, Done}
 use Rattle.brace_core.specs.Schedule.{Schedule, lane, turns, turn_at}
 use Rattle.brace_core.specs.Events.{is_on, names_put, names_taken}
 use Rattle.brace_core.specs.Exchanges.{put_by, taken_by}
-use Rattle.brace_core.proofs.Lists.{IsFront, pick_true}
+use Rattle.brace_core.proofs.Lists.{IsFront}
 use Rattle.brace_core.proofs.Turns.{AreLawful, put_first, taken_first, names_put-append, names_taken-append, put_front, taken_front, in_step, all_put, all_taken}
 use Rattle.brace_core.proofs.Owners.{IsOwn, own_turns, own_at, left_before, done_past}
+use Rattle.brace_num.proofs.Lists.{at_seam}
 
 front_next : {A : Type 0} (xs all : List A) (x : A) → IsFront (xs ++ x ∷ []) all → slice_get all (length xs) ≡ Some x
-front_next {A} xs all x (rest, e) = ap (λ (ys : List A). slice_get ys (length xs)) (e ∙ append_assoc xs (x ∷ []) rest) ∙ at xs
-  where
-    at : (xs : List A) → slice_get (xs ++ x ∷ rest) (length xs) ≡ Some x
-    at [] = refl
-    at (y ∷ ys) = at ys
+front_next {A} xs all x (rest, e) = ap (λ (ys : List A). slice_get ys (length xs)) (e ∙ append_assoc xs (x ∷ []) rest) ∙ at_seam xs x rest
 
 module _ (s : Schedule) (a past : ℕ) where
   abbrev turn : Turn
@@ -69,7 +66,7 @@ module _ (s : Schedule) (a past : ℕ) where
 
       one_put : puts_in n.to (past + 1) ≡ puts_in n.to past ++ n ∷ []
       one_put = puts_more put_left n.to ∙ ap (λ t. puts_in n.to past ++ filter (is_on a n.to) (names_put (t ∷ []))) is
-          ∙ ap (λ names. puts_in n.to past ++ names) (pick_true (is_on a n.to n) (n ∷ []) [] put_here)
+          ∙ ap (λ names. puts_in n.to past ++ names) (cond-true (is_on a n.to n) (n ∷ []) [] put_here)
 
       pub put_next : slice_get (lane s a n.to) (length (puts_in n.to past)) ≡ Some n
       put_next = front_next (puts_in n.to past) (lane s a n.to) n
@@ -95,7 +92,7 @@ module _ (s : Schedule) (a past : ℕ) where
 
       one_taken : takes_in n.from (past + 1) ≡ takes_in n.from past ++ n ∷ []
       one_taken = takes_more take_left n.from ∙ ap (λ t. takes_in n.from past ++ filter (is_on n.from a) (names_taken (t ∷ []))) is
-          ∙ ap (λ names. takes_in n.from past ++ names) (pick_true (is_on n.from a n) (n ∷ []) [] take_here)
+          ∙ ap (λ names. takes_in n.from past ++ names) (cond-true (is_on n.from a n) (n ∷ []) [] take_here)
 
       pub take_front : IsFront (takes_in n.from past ++ n ∷ []) (lane s n.from a)
       take_front = subst (λ names. IsFront names (lane s n.from a)) one_taken (taken_front 0 s.actors s.steps lawful a n.from (past + 1))

@@ -1,19 +1,21 @@
 -- The law of the core: what the facts along runs say at their ends.
 use Rattle.std.proofs.Common.{◌≡◌, ℕ, zero, suc, ◌+◌, ◌<◌, ◌≤◌, ◌⊎◌, true, false, cond, ◌==◌, nat_lt, IsTrue, List, [], ◌∷◌, ◌++◌, length, take, drop, get_or, refl, sym, ap, ◌∙◌, subst, arith, inl, inr}
 use Rattle.std.specs.List.{filter, list_any, sum_by, range_with_len}
-use Rattle.std.proofs.lemmas.Bool.{eq-eqb, ne_eqb, and_parts, and_from, lt-ltb, ltb-true, ltb-false, cases_lt, cases_eq}
+use Rattle.std.proofs.lemmas.Bool.{eq-eqb, ne_eqb, and_parts, and_from, lt-ltb, ltb-true, ltb-false, cases_lt, cases_eq, cond-true, cond-false}
 use Rattle.std.proofs.lemmas.List.{append_assoc, take_all, take_at, drop_at, length-append, get_or_past}
 use Rattle.std.proofs.lemmas.List.Sums.{sum_by-cons}
 use Rattle.brace_core.specs.declared.name.Name.{Name}
 use Rattle.brace_core.specs.declared.name.Turn.TheVariants.{Take, Done}
 use Rattle.brace_core.specs.Schedule.{Pair, Schedule, IsLawful, meets, name, names_from, lane, turns}
 use Rattle.brace_core.specs.Events.{State, opening, is_name, next, is_ready, is_enabled, after, are_enabled, after_all, OnRuns, IsRun, AllDone, end_of, put_on, taken_from, in_flight, is_on, names_put, names_taken}
-use Rattle.brace_core.proofs.Lists.{IsFront, front_takes, same_next, pick_true, pick_false, search_below}
+use Rattle.brace_core.proofs.Lists.{IsFront, front_takes, same_next, search_below}
 use Rattle.brace_core.proofs.Turns.{AreLawful, are_lawful, meets_below, all_put as turns_put, all_taken as turns_take, put_front, taken_front, in_step}
 use Rattle.brace_core.proofs.Owners.{own_turns, done_past}
 use Rattle.brace_core.proofs.ActorTurns.{take_front}
 use Rattle.brace_core.proofs.Runs.{IsKept, kept_opening, kept_all, put_made, taken_made, put_by_now, taken_by_now, first_in_flight}
 use Rattle.brace_core.proofs.Progress.{progress_from}
+use Rattle.brace_num.proofs.Lists.{sum_alike, sum_none}
+use Rattle.brace_num.proofs.Rows.{in_row}
 
 pub lawful_steps : (s : Schedule) → IsLawful s → AreLawful s.actors s.steps
 lawful_steps s lawful = are_lawful s.actors s.steps lawful
@@ -109,12 +111,12 @@ pub lane_outside : (k actors : ℕ) (steps : List (List Pair)) → AreLawful act
 lane_outside k actors [] lawful p q h = refl
 lane_outside k actors (step ∷ steps) lawful p q h =
     let none : meets step p q ≡ false = lawful.0.both_ways p q ∙ meets_below actors step lawful.0 q p h in
-    pick_false (meets step p q) _ _ none ∙ lane_outside (suc k) actors steps lawful.1 p q h
+    cond-false (meets step p q) _ _ none ∙ lane_outside (suc k) actors steps lawful.1 p q h
 
 pub lane_outside_to : (k actors : ℕ) (steps : List (List Pair)) → AreLawful actors steps → (p q : ℕ) → actors ≤ q → names_from k steps p q ≡ []
 lane_outside_to k actors [] lawful p q h = refl
 lane_outside_to k actors (step ∷ steps) lawful p q h =
-    pick_false (meets step p q) _ _ (meets_below actors step lawful.0 p q h) ∙ lane_outside_to (suc k) actors steps lawful.1 p q h
+    cond-false (meets step p q) _ _ (meets_below actors step lawful.0 p q h) ∙ lane_outside_to (suc k) actors steps lawful.1 p q h
 
 front_of_nothing : {A : Type 0} (xs : List A) → IsFront xs [] → xs ≡ []
 front_of_nothing [] f = refl
@@ -182,11 +184,7 @@ pub progress : OnRuns (λ s events. AllDone s (end_of s events) ⊎ ((p : ℕ) �
 progress s events lawful run = can_go_on s (lawful_steps s lawful) (end_of s events) (kept s events lawful run)
 
 pub sum_agree : (f g : ℕ → ℕ) (a n : ℕ) → ((p : ℕ) → a ≤ p → p < a + n → f p ≡ g p) → sum_by f (range_with_len a n) ≡ sum_by g (range_with_len a n)
-sum_agree f g a zero same = refl
-sum_agree f g a (suc n) same =
-    let rest : sum_by f (range_with_len (a + 1) n) ≡ sum_by g (range_with_len (a + 1) n) = sum_agree f g (a + 1) n (λ p h l. same p (omega arith) (omega arith)) in
-    let here : f a ≡ g a = same a (omega arith) (omega arith) in
-    omega (arith, sum_by-cons f a (range_with_len (a + 1) n), sum_by-cons g a (range_with_len (a + 1) n))
+sum_agree f g a n same = sum_alike f g (range_with_len a n) (λ p has. let h = in_row a n p has in same p h.0 h.1)
 
 -- one more at one number is one more in the sum
 sum_one_more : (f : ℕ → ℕ) (e a n : ℕ) → a ≤ e → e < a + n → sum_by (λ p. cond (p == e) (f p + 1) (f p)) (range_with_len a n) ≡ sum_by f (range_with_len a n) + 1
@@ -197,12 +195,12 @@ sum_one_more f e a (suc n) h l =
     let sum_f : sum_by f (range_with_len a (suc n)) ≡ f a + sum_by f (range_with_len (a + 1) n) = sum_by-cons f a (range_with_len (a + 1) n) in
     elim (cases_eq a e) [
       | inl same ↦
-          let here : g a ≡ f a + 1 = pick_true (a == e) (f a + 1) (f a) (eq-eqb a e same) in
+          let here : g a ≡ f a + 1 = cond-true (a == e) (f a + 1) (f a) (eq-eqb a e same) in
           let rest : sum_by g (range_with_len (a + 1) n) ≡ sum_by f (range_with_len (a + 1) n) =
-          sum_agree g f (a + 1) n (λ p above below. pick_false (p == e) (f p + 1) (f p) (ne_eqb p e (λ is. omega arith))) in
+          sum_agree g f (a + 1) n (λ p above below. cond-false (p == e) (f p + 1) (f p) (ne_eqb p e (λ is. omega arith))) in
           omega arith
       | inr other ↦
-          let here : g a ≡ f a = pick_false (a == e) (f a + 1) (f a) (ne_eqb a e other) in
+          let here : g a ≡ f a = cond-false (a == e) (f a + 1) (f a) (ne_eqb a e other) in
           let rest : sum_by g (range_with_len (a + 1) n) ≡ sum_by f (range_with_len (a + 1) n) + 1 = sum_one_more f e (a + 1) n (omega arith) (omega arith) in
           omega arith
     ]
@@ -220,10 +218,6 @@ places_sum s x (e ∷ events) run =
     places_sum s (after s x e) events later in
     omega arith
 
-pub sum_zero : (a n : ℕ) → sum_by (λ p. 0) (range_with_len a n) ≡ 0
-sum_zero a zero = refl
-sum_zero a (suc n) = omega (arith, sum_by-cons (λ p. 0) a (range_with_len (a + 1) n), sum_zero (a + 1) n)
-
 -- how many turns all actors have
 abbrev pub turns_of_all : Schedule → ℕ
 turns_of_all s = sum_by (λ p. length (turns s p)) (range_with_len 0 s.actors)
@@ -237,4 +231,4 @@ all_turns_made s events lawful run done =
     let past : length (turns s p) ≤ x.place p = turns_past s events lawful run done p (omega arith) in
     let within : x.place p ≤ length (turns s p) = (kept s events lawful run).within p (omega arith) in
     omega arith) in
-    omega (arith, sum_zero 0 s.actors)
+    omega (arith, sum_none (range_with_len 0 s.actors))

@@ -1,17 +1,17 @@
 -- How many turns all actors have: two for each pair of each step, and one for each actor of each step.
 use Rattle.std.proofs.Common.{◌≡◌, ℕ, zero, suc, ◌+◌, ◌<◌, ◌≤◌, Bool, true, false, cond, ◌==◌, ◌&&◌, ◌||◌, List, [], ◌∷◌, ◌++◌, length, count_by, refl, sym, ap, ◌∙◌, arith, inl, inr}
 use Rattle.std.specs.List.{filter, sum_by, range_with_len}
-use Rattle.std.proofs.lemmas.Bool.{eq-eqb, ne_eqb, and_from, cases_Bool, cases_eq}
+use Rattle.std.proofs.lemmas.Bool.{eq-eqb, ne_eqb, and_from, cases_Bool, cases_eq, cond-true, cond-false}
 use Rattle.std.proofs.Math.Bool.{or-true}
 use Rattle.std.proofs.lemmas.List.{length-append, length-map}
 use Rattle.std.proofs.lemmas.List.Sums.{sum_by-cons}
 use Rattle.brace_core.specs.declared.name.Turn.TheVariants.{Put, Take, Work}
 use Rattle.brace_core.specs.Schedule.{Pair, name, Schedule, IsLawful, IsLawfulStep, is_pair, meets, met, puts, takes, turns_from}
 use Rattle.brace_core.specs.Events.{OnRuns, AllDone, end_of, events_of}
-use Rattle.brace_core.proofs.Lists.{pick_true, pick_false}
 use Rattle.brace_core.proofs.Turns.{AreLawful}
-use Rattle.brace_core.proofs.CoreLaw.{lawful_steps, sum_agree, sum_zero, turns_of_all, all_turns_made}
+use Rattle.brace_core.proofs.CoreLaw.{lawful_steps, sum_agree, turns_of_all, all_turns_made}
 use Rattle.brace_core.proofs.Lawful.{none_counted}
+use Rattle.brace_num.proofs.Lists.{sum_none}
 
 abbrev numbers : ℕ → ℕ → List ℕ
 numbers a n = range_with_len a n
@@ -31,7 +31,7 @@ sum_single f e a zero h l none = absurd (omega arith)
 sum_single f e a (suc n) h l none = elim (cases_eq a e) [
   | inl same ↦
       let rest : sum_by f (numbers (a + 1) n) ≡ sum_by (λ p. 0) (numbers (a + 1) n) = sum_agree f (λ p. 0) (a + 1) n (λ p above below. none p (λ is. omega arith)) in
-      omega (arith, sum_by-cons f a (numbers (a + 1) n), sum_zero (a + 1) n, ap f same)
+      omega (arith, sum_by-cons f a (numbers (a + 1) n), sum_none (range_with_len (a + 1) n), ap f same)
   | inr other ↦ omega (arith, sum_by-cons f a (numbers (a + 1) n), none a other, sum_single f e (a + 1) n (omega arith) (omega arith) none)
 ]
 
@@ -49,11 +49,11 @@ pair_once : (n : ℕ) (x : Pair) → x.from < n → x.to < n → sum_by (λ p. s
 pair_once n x from to =
     let row : (p : ℕ) → ℕ = λ p. sum_by (λ q. cond (is_pair p q x) 1 0) (numbers 0 n) in
     let none : (p : ℕ) → (p ≡ x.from → ⊥) → row p ≡ 0 = λ p other.
-    sum_agree (λ q. cond (is_pair p q x) 1 0) (λ q. 0) 0 n (λ q above below. pick_false (is_pair p q x) 1 0 (ap (λ v. v && (x.to == q)) (ne_eqb x.from p (λ e. other (sym e))))) ∙ sum_zero 0 n in
+    sum_agree (λ q. cond (is_pair p q x) 1 0) (λ q. 0) 0 n (λ q above below. cond-false (is_pair p q x) 1 0 (ap (λ v. v && (x.to == q)) (ne_eqb x.from p (λ e. other (sym e))))) ∙ sum_none (range_with_len 0 n) in
     let here : row x.from ≡ cond (is_pair x.from x.to x) 1 0 =
     sum_single (λ q. cond (is_pair x.from q x) 1 0) x.to 0 n (omega arith) (omega arith)
-    (λ q other. pick_false (is_pair x.from q x) 1 0 (and_false (x.from == x.from) (x.to == q) (ne_eqb x.to q (λ e. other (sym e))))) in
-    sum_single row x.from 0 n (omega arith) (omega arith) none ∙ here ∙ pick_true (is_pair x.from x.to x) 1 0 (and_from (x.from == x.from) (x.to == x.to) (eq-eqb x.from x.from refl) (eq-eqb x.to x.to refl))
+    (λ q other. cond-false (is_pair x.from q x) 1 0 (and_false (x.from == x.from) (x.to == q) (ne_eqb x.to q (λ e. other (sym e))))) in
+    sum_single row x.from 0 n (omega arith) (omega arith) none ∙ here ∙ cond-true (is_pair x.from x.to x) 1 0 (and_from (x.from == x.from) (x.to == x.to) (eq-eqb x.from x.from refl) (eq-eqb x.to x.to refl))
   where
     and_false : (a b : Bool) → b ≡ false → (a && b) ≡ false
     and_false true b e = e
@@ -72,7 +72,7 @@ are_in n (x ∷ step) met =
     (from, to, are_in n step (λ p q e. met p q (ap (λ v. is_pair p q x || v) e ∙ or-true (is_pair p q x))))
 
 pairs_counted : (n : ℕ) (step : List Pair) → AreIn n step → sum_by (λ p. sum_by (λ q. count_by (is_pair p q) step) (numbers 0 n)) (numbers 0 n) ≡ length step
-pairs_counted n [] all = sum_agree (λ p. sum_by (λ q. 0) (numbers 0 n)) (λ p. 0) 0 n (λ p above below. sum_zero 0 n) ∙ sum_zero 0 n
+pairs_counted n [] all = sum_agree (λ p. sum_by (λ q. 0) (numbers 0 n)) (λ p. 0) 0 n (λ p above below. sum_none (range_with_len 0 n)) ∙ sum_none (range_with_len 0 n)
 pairs_counted n (x ∷ step) (from, to, rest) =
     let one : ℕ → ℕ = λ p. sum_by (λ q. cond (is_pair p q x) 1 0) (numbers 0 n) in
     let more : ℕ → ℕ = λ p. sum_by (λ q. count_by (is_pair p q) step) (numbers 0 n) in
@@ -88,7 +88,7 @@ some_counted : (p q : ℕ) (step : List Pair) → meets step p q ≡ true → 1 
 some_counted p q [] e = absurd cc
 some_counted p q (x ∷ step) e = elim (cases_Bool (is_pair p q x)) [
   | inl is ↦
-      let here : cond {A = ℕ} (is_pair p q x) 1 0 ≡ 1 = pick_true (is_pair p q x) 1 0 is in
+      let here : cond {A = ℕ} (is_pair p q x) 1 0 ≡ 1 = cond-true (is_pair p q x) 1 0 is in
       omega (arith, sum_by-cons (λ (y : Pair). cond (is_pair p q y) 1 0) x step)
   | inr other ↦
       let rest : 1 ≤ count_by (is_pair p q) step = some_counted p q step (ap (λ v. v || meets step p q) (sym other) ∙ e) in
@@ -102,17 +102,17 @@ met_counted n step lawful =
     length_kept (meets step p) 0 n
     ∙ sum_agree (λ q. cond (meets step p q) 1 0) (λ q. count_by (is_pair p q) step) 0 n (λ q a b. elim (cases_Bool (meets step p q)) [
       | inl yes_they_meet ↦
-          let one : cond {A = ℕ} (meets step p q) 1 0 ≡ 1 = pick_true (meets step p q) 1 0 yes_they_meet in
+          let one : cond {A = ℕ} (meets step p q) 1 0 ≡ 1 = cond-true (meets step p q) 1 0 yes_they_meet in
           let low : 1 ≤ count_by (is_pair p q) step = some_counted p q step yes_they_meet in
           let high : count_by (is_pair p q) step ≤ 1 = lawful.once p q in
           omega arith
-      | inr apart ↦ pick_false (meets step p q) 1 0 apart ∙ sym (none_counted p q step apart)
+      | inr apart ↦ cond-false (meets step p q) 1 0 apart ∙ sym (none_counted p q step apart)
     ]))
     ∙ pairs_counted n step (are_in n step (λ p q e. (lawful.below p q e, lawful.below q p (sym (lawful.both_ways p q) ∙ e))))
 
 turns_counted : (k n : ℕ) (steps : List (List Pair)) → AreLawful n steps →
     sum_by (λ p. length (turns_from k n steps p)) (numbers 0 n) ≡ sum_by (λ step. length step + length step + n) steps
-turns_counted k n [] lawful = sum_zero 0 n
+turns_counted k n [] lawful = sum_none (range_with_len 0 n)
 turns_counted k n (step ∷ steps) (here, later) =
     let m : ℕ → ℕ = λ p. length (met n step p) in
     let rest : ℕ → ℕ = λ p. length (turns_from (suc k) n steps p) in

@@ -1,7 +1,7 @@
 -- What a put and a take on one of the plain lanes change.
 use Rattle.std.proofs.Common.{◌≡◌, ℕ, zero, suc, ◌+◌, ◌*◌, ◌^◌, ◌<◌, ◌≤◌, true, false, cond, ◌==◌, ◌⊎◌, nat_lt, List, [], ◌∷◌, ◌++◌, length, take, drop, get_or, set, replicate, Option, Some, None, is_some, IfSome, OnSome, option_to_list, refl, sym, ap, ◌∙◌, subst, arith, inl, inr}
 use Rattle.std.specs.List.{filter, list_any, slice_get}
-use Rattle.std.proofs.lemmas.Bool.{eqb-true, eq-eqb, and_parts, and_from, lt-ltb, le-ltb, cases_lt, cases_Bool}
+use Rattle.std.proofs.lemmas.Bool.{eqb-true, eq-eqb, and_parts, and_from, lt-ltb, le-ltb, cases_lt, cases_Bool, cond-true, cond-false}
 use Rattle.std.proofs.lemmas.List.{get_or-set_same, get_or-set_other, length-set, length-append, length-take-le, length-take, length-replicate, get_or-replicate, get_or_past, append-nil, take_more, drop_more, drop_all, drop-append-le, get_or-take, get_or_read, set-get_or}
 use Rattle.std.proofs.lemmas.List.Elements.{filter-append}
 use Rattle.std.proofs.lemmas.Nat.{mul-add-lt, same_from_place}
@@ -13,7 +13,6 @@ use Rattle.brace_core.specs.Events.{is_name, is_on, without}
 use Rattle.brace_core.specs.Exchanges.{IsNext, one_on}
 use Rattle.brace_core.specs.Lanes.{OnLane, OnLanes, fresh, lane_of, puts_of, takes_of, AreBelow, AreInFlight, MakesTurn}
 use Rattle.brace_core.specs.inner.Sound.{IsSound}
-use Rattle.brace_core.proofs.Lists.{pick_true, pick_false}
 use Rattle.brace_core.proofs.Runs.{without_first, without_elsewhere, some_in_flight, first_in_flight}
 
 pub at_push : {A : Type 0} (xs : List A) (x : A) (i : ℕ) (y : A) → slice_get (xs ++ x ∷ []) i ≡ Some y → (slice_get xs i ≡ Some y) ⊎ ((i ≡ length xs) × (x ≡ y))
@@ -40,7 +39,7 @@ module _ {F S : Type 0} (v : OnLanes F S) (name : Name) (size : length v.lanes �
   place_within = let low : name.from * v.actors + name.to < v.actors * v.actors = mul-add-lt name.from v.actors name.to v.actors from to in omega arith
 
   pub lane_here : lane_of (with_lane v name l) name.from name.to ≡ l
-  lane_here = pick_true (nat_lt name.to v.actors) _ _ (lt-ltb _ _ to) ∙ get_or-set_same v.lanes (name.from * v.actors + name.to) l fresh place_within
+  lane_here = cond-true (nat_lt name.to v.actors) _ _ (lt-ltb _ _ to) ∙ get_or-set_same v.lanes (name.from * v.actors + name.to) l fresh place_within
 
   pub lane_elsewhere : (p q : ℕ) → is_on p q name ≡ false → lane_of (with_lane v name l) p q ≡ lane_of v p q
   lane_elsewhere p q off = elim (cases_lt q v.actors) [
@@ -48,7 +47,7 @@ module _ {F S : Type 0} (v : OnLanes F S) (name : Name) (size : length v.lanes �
         let (a, b) = same_from_place p q name.from name.to v.actors low to same in
         let on : is_on p q name ≡ true = and_from (name.from == p) (name.to == q) (eq-eqb name.from p (sym a)) (eq-eqb name.to q (sym b)) in
         cc))
-    | inr high ↦ pick_false (nat_lt q v.actors) _ _ (le-ltb _ _ high) ∙ sym (pick_false (nat_lt q v.actors) _ _ (le-ltb _ _ high))
+    | inr high ↦ cond-false (nat_lt q v.actors) _ _ (le-ltb _ _ high) ∙ sym (cond-false (nat_lt q v.actors) _ _ (le-ltb _ _ high))
   ]
 
   pub lane_counts : (m : OnLane F → ℕ) (k : ℕ) → m l ≡ m (lane_of v name.from name.to) + k → (p q : ℕ) →
@@ -57,11 +56,11 @@ module _ {F S : Type 0} (v : OnLanes F S) (name : Name) (size : length v.lanes �
     | inl on ↦
         let now : m (lane_of (with_lane v name l) p q) ≡ m l = ap m (at_name (lane_of (with_lane v name l)) p q name on ∙ lane_here) in
         let before : m (lane_of v p q) ≡ m (lane_of v name.from name.to) = ap m (at_name (lane_of v) p q name on) in
-        let more : cond (is_on p q name) k 0 ≡ k = pick_true (is_on p q name) k 0 on in
+        let more : cond (is_on p q name) k 0 ≡ k = cond-true (is_on p q name) k 0 on in
         omega arith
     | inr off ↦
         let same : m (lane_of (with_lane v name l) p q) ≡ m (lane_of v p q) = ap m (lane_elsewhere p q off) in
-        let none : cond (is_on p q name) k 0 ≡ 0 = pick_false (is_on p q name) k 0 off in
+        let none : cond (is_on p q name) k 0 ≡ 0 = cond-false (is_on p q name) k 0 off in
         omega arith
   ]
 
@@ -107,18 +106,18 @@ module _ {F S : Type 0} (schedule : S → Schedule) (right : S → Name → F �
               let low : puts_of v p q < length (lane (schedule v.setting) p q) =
               subst (λ n. n < length (lane (schedule v.setting) p q)) (sym (at_name (puts_of v) p q name on))
               (subst (λ n. puts_of v name.from name.to < n) (sym (at_name (λ a b. length (lane (schedule v.setting) a b)) p q name on)) (slice_get_within _ _ name next)) in
-              let one : one_on name p q ≡ 1 = pick_true (is_on p q name) 1 0 on in
+              let one : one_on name p q ≡ 1 = cond-true (is_on p q name) 1 0 on in
               omega (arith, put_puts p q)
-          | inr off ↦ let none : one_on name p q ≡ 0 = pick_false (is_on p q name) 1 0 off in omega (arith, put_puts p q, sound.within p q)
+          | inr off ↦ let none : one_on name p q ≡ 0 = cond-false (is_on p q name) 1 0 off in omega (arith, put_puts p q, sound.within p q)
         ]
 
         balanced : (p q : ℕ) → puts_of (with_lane v name put) p q ≤ takes_of (with_lane v name put) q p + 1
         balanced p q = elim (one_or_none p q name) [
           | inl on ↦
               let same : puts_of v p q ≡ takes_of v q p = at_name (puts_of v) p q name on ∙ answered ∙ sym (at_name (λ a b. takes_of v b a) p q name on) in
-              let one : one_on name p q ≡ 1 = pick_true (is_on p q name) 1 0 on in
+              let one : one_on name p q ≡ 1 = cond-true (is_on p q name) 1 0 on in
               omega (arith, put_puts p q, put_takes q p)
-          | inr off ↦ let none : one_on name p q ≡ 0 = pick_false (is_on p q name) 1 0 off in omega (arith, put_puts p q, put_takes q p, sound.answered p q)
+          | inr off ↦ let none : one_on name p q ≡ 0 = cond-false (is_on p q name) 1 0 off in omega (arith, put_puts p q, put_takes q p, sound.answered p q)
         ]
 
         is_right : (p q i : ℕ) (other : Name) (x : F) → slice_get (lane (schedule v.setting) p q) (takes_of (with_lane v name put) p q + i) ≡ Some other →
@@ -151,10 +150,10 @@ module _ {F S : Type 0} (schedule : S → Schedule) (right : S → Name → F �
           let is : slice_get names (puts_of v p q) ≡ Some name =
           ap (slice_get names) (at_name (puts_of v) p q name on) ∙ ap (λ ns. slice_get ns (puts_of v name.from name.to)) (at_name (lane (schedule v.setting)) p q name on) ∙ next in
           let low : puts_of v p q < length names = slice_get_within names _ name is in
-          let more : puts_of (with_lane v name put) p q ≡ puts_of v p q + 1 = put_puts p q ∙ ap (λ n. puts_of v p q + n) (pick_true (is_on p q name) 1 0 on) in
+          let more : puts_of (with_lane v name put) p q ≡ puts_of v p q + 1 = put_puts p q ∙ ap (λ n. puts_of v p q + n) (cond-true (is_on p q name) 1 0 on) in
           filter-append (is_on p q) flight (name ∷ [])
           ∙ ap (λ ns. ns ++ filter (is_on p q) (name ∷ [])) (shown p q)
-          ∙ ap (λ ns. drop (takes_of v p q) (take (puts_of v p q) names) ++ ns) (pick_true (is_on p q name) (name ∷ []) [] on)
+          ∙ ap (λ ns. drop (takes_of v p q) (take (puts_of v p q) names) ++ ns) (cond-true (is_on p q name) (name ∷ []) [] on)
           ∙ sym (
           ap (λ n. drop n (take (puts_of (with_lane v name put) p q) names)) (put_takes p q)
           ∙ ap (λ n. drop (takes_of v p q) (take n names)) more
@@ -162,12 +161,12 @@ module _ {F S : Type 0} (schedule : S → Schedule) (right : S → Name → F �
           ∙ drop-append-le (takes_of v p q) (take (puts_of v p q) names) (name ∷ []) (omega (arith, length-take-le (puts_of v p q) names (omega arith))))
       | inr off ↦
           filter-append (is_on p q) flight (name ∷ [])
-          ∙ ap (λ ns. filter (is_on p q) flight ++ ns) (pick_false (is_on p q name) (name ∷ []) [] off)
+          ∙ ap (λ ns. filter (is_on p q) flight ++ ns) (cond-false (is_on p q name) (name ∷ []) [] off)
           ∙ append-nil (filter (is_on p q) flight) ∙ shown p q
           ∙ sym (
           ap (λ n. drop n (take (puts_of (with_lane v name put) p q) (lane (schedule v.setting) p q))) (put_takes p q)
           ∙ ap (λ n. drop (takes_of v p q) (take n (lane (schedule v.setting) p q)))
-          (put_puts p q ∙ ap (λ n. puts_of v p q + n) (pick_false (is_on p q name) 1 0 off) ∙ (let none : puts_of v p q + 0 ≡ puts_of v p q = omega arith in none)))
+          (put_puts p q ∙ ap (λ n. puts_of v p q + n) (cond-false (is_on p q name) 1 0 off) ∙ (let none : puts_of v p q + 0 ≡ puts_of v p q = omega arith in none)))
     ]
 
   module _ (x : F) (rest : List F) (held : here.pieces ≡ x ∷ rest) (next : IsNext (schedule v.setting) name (takes_of v name.from name.to)) where
@@ -204,13 +203,13 @@ module _ {F S : Type 0} (schedule : S → Schedule) (right : S → Name → F �
               ap (λ xs. slice_get xs (suc i)) held
               ∙ ap (λ l. slice_get l.pieces i) (sym (at_name (lane_of (with_lane v name took)) p q name on ∙ lane_here v name sound.size from to took)) ∙ kept in
               let more : takes_of (with_lane v name took) p q + i ≡ takes_of v name.from name.to + suc i =
-              let one : one_on name p q ≡ 1 = pick_true (is_on p q name) 1 0 on in
+              let one : one_on name p q ≡ 1 = cond-true (is_on p q name) 1 0 on in
               omega (arith, took_takes p q, at_name (takes_of v) p q name on) in
               sound.is_right name.from name.to (suc i) other y
               (ap (slice_get (lane (schedule v.setting) name.from name.to)) (sym more)
               ∙ ap (λ names. slice_get names (takes_of (with_lane v name took) p q + i)) (sym (at_name (lane (schedule v.setting)) p q name on)) ∙ at) kept'
           | inr off ↦ let (from, to) = next_below _ next in
-              let same : takes_of (with_lane v name took) p q ≡ takes_of v p q = let none : one_on name p q ≡ 0 = pick_false (is_on p q name) 1 0 off in omega (arith, took_takes p q) in
+              let same : takes_of (with_lane v name took) p q ≡ takes_of v p q = let none : one_on name p q ≡ 0 = cond-false (is_on p q name) 1 0 off in omega (arith, took_takes p q) in
               sound.is_right p q i other y (ap (λ n. slice_get (lane (schedule v.setting) p q) (n + i)) (sym same) ∙ at)
               (ap (λ l. slice_get l.pieces i) (sym (lane_elsewhere v name sound.size from to took p q off)) ∙ kept)
         ]
@@ -233,13 +232,13 @@ module _ {F S : Type 0} (schedule : S → Schedule) (right : S → Name → F �
       | inl on ↦
           without_first p q name flight _ on (flies_first flight shown p q on)
           ∙ sym (
-          ap (λ n. drop n (take (puts_of (with_lane v name took) p q) (lane (schedule v.setting) p q))) (took_takes p q ∙ ap (λ n. takes_of v p q + n) (pick_true (is_on p q name) 1 0 on))
+          ap (λ n. drop n (take (puts_of (with_lane v name took) p q) (lane (schedule v.setting) p q))) (took_takes p q ∙ ap (λ n. takes_of v p q + n) (cond-true (is_on p q name) 1 0 on))
           ∙ ap (λ n. drop (takes_of v p q + 1) (take n (lane (schedule v.setting) p q))) (took_puts p q))
       | inr off ↦
           without_elsewhere p q name flight off ∙ shown p q
           ∙ sym (
           ap (λ n. drop n (take (puts_of (with_lane v name took) p q) (lane (schedule v.setting) p q)))
-          (took_takes p q ∙ ap (λ n. takes_of v p q + n) (pick_false (is_on p q name) 1 0 off) ∙ (let none : takes_of v p q + 0 ≡ takes_of v p q = omega arith in none))
+          (took_takes p q ∙ ap (λ n. takes_of v p q + n) (cond-false (is_on p q name) 1 0 off) ∙ (let none : takes_of v p q + 0 ≡ takes_of v p q = omega arith in none))
           ∙ ap (λ n. drop (takes_of v p q) (take n (lane (schedule v.setting) p q))) (took_puts p q))
     ]
 
@@ -298,7 +297,7 @@ module _ {F S : Type 0} (schedule : S → Schedule) (right : S → Name → F �
   lane_read : name.from < V.actors → name.to < V.actors → r ≡ lane_of V name.from name.to
   lane_read from to =
       let low : name.from * V.actors + name.to < length V.lanes = place_within V name sound.size from to (lane_of V name.from name.to) in
-      get_or_read V.lanes (name.from * V.actors + name.to) r low read fresh ∙ sym (pick_true (nat_lt name.to V.actors) _ _ (lt-ltb _ _ to))
+      get_or_read V.lanes (name.from * V.actors + name.to) r low read fresh ∙ sym (cond-true (nat_lt name.to V.actors) _ _ (lt-ltb _ _ to))
 
   pub room : IsNext (schedule v.setting) name (puts_of v name.from name.to) → puts_of v name.from name.to ≡ takes_of v name.to name.from → length r.pieces < 2
   room = subst (λ (u : OnLanes F S). IsNext (schedule u.setting) name (puts_of u name.from name.to) → puts_of u name.from name.to ≡ takes_of u name.to name.from → length r.pieces < 2) is

@@ -1,11 +1,11 @@
 -- Lawful schedules: their names are between their actors, and steps made pair by pair are lawful.
 use Rattle.std.proofs.Common.{◌≡◌, ℕ, ◌+◌, ◌<◌, ◌≤◌, Bool, true, false, cond, ◌==◌, ◌&&◌, ◌||◌, List, [], ◌∷◌, length, count_by, refl, sym, ap, ◌∙◌, arith, inl, inr}
-use Rattle.std.proofs.lemmas.Bool.{eqb-true, ne_eqb, and_parts, or_cases, cases_lt, cases_Bool, true≢false}
+use Rattle.std.proofs.lemmas.Bool.{eqb-true, ne_eqb, and_parts, or_cases, cases_lt, cases_Bool, true≢false, cond-true, cond-false}
 use Rattle.std.proofs.lemmas.List.Sums.{sum_by-cons}
 use Rattle.brace_core.specs.Schedule.{Pair, Schedule, IsLawful, IsLawfulStep, is_pair, meets, lane}
 use Rattle.brace_core.specs.Lanes.{AreBelow}
-use Rattle.brace_core.proofs.Lists.{pick_true, pick_false}
 use Rattle.brace_core.proofs.CoreLaw.{lawful_steps, lane_outside, lane_outside_to}
+use Rattle.brace_num.proofs.Booleans.{and_swap}
 
 -- the names of a lawful schedule are between its actors
 pub names_below : (s : Schedule) → IsLawful s → AreBelow s s.actors
@@ -32,12 +32,6 @@ ordered p q = record { from = p; to = q }
 abbrev pub both : ℕ → ℕ → List Pair → List Pair
 both p q step = ordered p q ∷ ordered q p ∷ step
 
-and_swap : (a b : Bool) → (a && b) ≡ (b && a)
-and_swap true true = refl
-and_swap true false = refl
-and_swap false true = refl
-and_swap false false = refl
-
 or_swap : (a b c : Bool) → (a || (b || c)) ≡ (b || (a || c))
 or_swap true true c = refl
 or_swap true false c = refl
@@ -49,7 +43,7 @@ none_counted p q [] e = refl
 none_counted p q (pair ∷ step) e = elim (cases_Bool (is_pair p q pair)) [
   | inl is ↦ absurd (true≢false (sym (ap (λ v. v || meets step p q) is) ∙ e))
   | inr other ↦
-      let here : cond {A = ℕ} (is_pair p q pair) 1 0 ≡ 0 = pick_false (is_pair p q pair) 1 0 other in
+      let here : cond {A = ℕ} (is_pair p q pair) 1 0 ≡ 0 = cond-false (is_pair p q pair) 1 0 other in
       let rest : count_by (is_pair p q) step ≡ 0 = none_counted p q step (sym (ap (λ v. v || meets step p q) other) ∙ e) in
       omega (arith, sum_by-cons (λ (x : Pair). cond (is_pair p q x) 1 0) pair step)
 ]
@@ -97,20 +91,20 @@ module _ (actors p q : ℕ) (step : List Pair) (p_low : p < actors) (q_low : q <
           let second : count_by (is_pair a b) (ordered q p ∷ step) ≡ f (ordered q p) + count_by (is_pair a b) step = sum_by-cons f (ordered q p) step in
           elim (cases_Bool (is_pair a b (ordered p q))) [
             | inl one ↦ let (x, y) = is_at a b p q one in
-                let here : f (ordered p q) ≡ 1 = pick_true (is_pair a b (ordered p q)) 1 0 one in
+                let here : f (ordered p q) ≡ 1 = cond-true (is_pair a b (ordered p q)) 1 0 one in
                 let not_other : is_pair a b (ordered q p) ≡ false = ap (λ v. v && (p == b)) (ne_eqb q a (λ e. differ (x ∙ sym e))) in
-                let there : f (ordered q p) ≡ 0 = pick_false (is_pair a b (ordered q p)) 1 0 not_other in
+                let there : f (ordered q p) ≡ 0 = cond-false (is_pair a b (ordered q p)) 1 0 not_other in
                 let rest : count_by (is_pair a b) step ≡ 0 = none_counted a b step (ap (λ c. meets step c b) (sym x) ∙ ap (meets step p) (sym y) ∙ new) in
                 omega arith
             | inr not_one ↦
-                let here : f (ordered p q) ≡ 0 = pick_false (is_pair a b (ordered p q)) 1 0 not_one in
+                let here : f (ordered p q) ≡ 0 = cond-false (is_pair a b (ordered p q)) 1 0 not_one in
                 elim (cases_Bool (is_pair a b (ordered q p))) [
                   | inl other ↦ let (x, y) = is_at a b q p other in
-                      let there : f (ordered q p) ≡ 1 = pick_true (is_pair a b (ordered q p)) 1 0 other in
+                      let there : f (ordered q p) ≡ 1 = cond-true (is_pair a b (ordered q p)) 1 0 other in
                       let rest : count_by (is_pair a b) step ≡ 0 = none_counted a b step (ap (λ c. meets step c b) (sym x) ∙ ap (meets step q) (sym y) ∙ lawful.both_ways q p ∙ new) in
                       omega arith
                   | inr not_other ↦
-                      let there : f (ordered q p) ≡ 0 = pick_false (is_pair a b (ordered q p)) 1 0 not_other in
+                      let there : f (ordered q p) ≡ 0 = cond-false (is_pair a b (ordered q p)) 1 0 not_other in
                       let rest : count_by (is_pair a b) step ≤ 1 = lawful.once a b in
                       omega arith
                 ]

@@ -1,16 +1,10 @@
 -- Fronts of lists, and what a filter keeps of numbered items.
 use Rattle.std.proofs.Common.{◌≡◌, ℕ, zero, suc, ◌+◌, ◌<◌, ◌≤◌, Bool, true, false, ◌-◌, cond, ◌==◌, ◌⊎◌, List, [], ◌∷◌, ◌++◌, map, length, take, drop, get_or, refl, sym, ap, ◌∙◌, subst, arith, inl, inr}
 use Rattle.std.specs.List.{filter, range_with_len, All}
-use Rattle.std.proofs.lemmas.Bool.{ne_eqb, eq-eqb, cases_eq, cases_Bool}
+use Rattle.std.proofs.lemmas.Bool.{ne_eqb, eq-eqb, cases_eq, cases_Bool, cond-true, cond-false}
 use Rattle.std.proofs.lemmas.List.{append_assoc, take-append-drop, take_at}
 use Rattle.std.proofs.lemmas.List.Elements.{filter-append, filter_passes, All-filter}
 use Rattle.std.proofs.lemmas.List.FromFn.{get_or-range_with_len, length-range_with_len}
-
-pub pick_true : {A : Type 0} (v : Bool) (x y : A) → v ≡ true → cond v x y ≡ x
-pick_true v x y e = ap (λ b. cond b x y) e
-
-pub pick_false : {A : Type 0} (v : Bool) (x y : A) → v ≡ false → cond v x y ≡ y
-pick_false v x y e = ap (λ b. cond b x y) e
 
 -- ys begins with xs
 abbrev pub IsFront : {A : Type 0} → List A → List A → Type 0
@@ -44,7 +38,7 @@ module _ (f : ℕ → Bool) {A : Type 0} (h : ℕ → A) (t : A → Bool) (q : �
   none_below a (suc n) l =
       let rest : List ℕ = filter f (range_with_len (a + 1) n) in
       elim (f a) as (λ v. filter t (map h (cond v (a ∷ rest) rest)) ≡ []) [
-        | true ↦ pick_false (t (h a)) _ _ (says a ∙ ne_eqb a q (λ e. omega arith)) ∙ none_below (a + 1) n (omega arith)
+        | true ↦ cond-false (t (h a)) _ _ (says a ∙ ne_eqb a q (λ e. omega arith)) ∙ none_below (a + 1) n (omega arith)
         | false ↦ none_below (a + 1) n (omega arith)
       ]
 
@@ -53,7 +47,7 @@ module _ (f : ℕ → Bool) {A : Type 0} (h : ℕ → A) (t : A → Bool) (q : �
   none_above a (suc n) l =
       let rest : List ℕ = filter f (range_with_len (a + 1) n) in
       elim (f a) as (λ v. filter t (map h (cond v (a ∷ rest) rest)) ≡ []) [
-        | true ↦ pick_false (t (h a)) _ _ (says a ∙ ne_eqb a q (λ e. omega arith)) ∙ none_above (a + 1) n (omega arith)
+        | true ↦ cond-false (t (h a)) _ _ (says a ∙ ne_eqb a q (λ e. omega arith)) ∙ none_above (a + 1) n (omega arith)
         | false ↦ none_above (a + 1) n (omega arith)
       ]
 
@@ -62,7 +56,7 @@ module _ (f : ℕ → Bool) {A : Type 0} (h : ℕ → A) (t : A → Bool) (q : �
       let rest : List ℕ = filter f (range_with_len (q + 1) n) in
       let none : filter t (map h rest) ≡ [] = none_below (q + 1) n (omega arith) in
       elim (f q) as (λ v. filter t (map h (cond v (q ∷ rest) rest)) ≡ cond v (h q ∷ []) []) [
-        | true ↦ pick_true (t (h q)) _ _ (says q ∙ eq-eqb q q refl) ∙ ap (λ xs. h q ∷ xs) none
+        | true ↦ cond-true (t (h q)) _ _ (says q ∙ eq-eqb q q refl) ∙ ap (λ xs. h q ∷ xs) none
         | false ↦ none
       ]
 
@@ -73,7 +67,7 @@ module _ (f : ℕ → Bool) {A : Type 0} (h : ℕ → A) (t : A → Bool) (q : �
       elim (cases_eq a q) [
         | inl e ↦ subst (λ b. filter t (map h (filter f (range_with_len b (suc n)))) ≡ cond (f q) (h q ∷ []) []) (sym e) (kept_first n)
         | inr other ↦ elim (f a) as (λ v. filter t (map h (cond v (a ∷ rest) rest)) ≡ cond (f q) (h q ∷ []) []) [
-          | true ↦ pick_false (t (h a)) _ _ (says a ∙ ne_eqb a q other) ∙ kept_one (a + 1) n (omega arith) (omega arith)
+          | true ↦ cond-false (t (h a)) _ _ (says a ∙ ne_eqb a q other) ∙ kept_one (a + 1) n (omega arith) (omega arith)
           | false ↦ kept_one (a + 1) n (omega arith) (omega arith)
         ]
       ]

@@ -1,7 +1,7 @@
 -- The loop over drawn events: where actors and lanes stand after a run, one event more, and the end.
 use Rattle.std.proofs.Common.{◌≡◌, ℕ, zero, suc, ◌+◌, ◌-◌, ◌*◌, ◌/◌, ◌%◌, ◌^◌, ◌<◌, Bool, true, false, cond, ◌==◌, ◌&&◌, nat_lt, List, [], ◌∷◌, ◌++◌, map, length, get_or, set, slice_index, refl, sym, ap, ◌∙◌, subst, arith, inl, inr}
 use Rattle.std.specs.List.{All, range_with_len, sum_by}
-use Rattle.std.proofs.lemmas.Bool.{eq-eqb, ne_eqb, and_parts, lt-ltb, ltb-true, cases_lt, cases_eq}
+use Rattle.std.proofs.lemmas.Bool.{eq-eqb, ne_eqb, and_parts, lt-ltb, ltb-true, cases_lt, cases_eq, cond-true, cond-false}
 use Rattle.std.proofs.lemmas.List.{get_or-set_same, get_or-set_other, length-map, map-set, get_or_default}
 use Rattle.std.proofs.lemmas.Nat.{mod-mul-add}
 use Rattle.brace_num.specs.Generator.{following}
@@ -16,7 +16,6 @@ use Rattle.brace_core.specs.Lanes.{OnLanes, puts_of, takes_of}
 use Rattle.brace_core.specs.Order.{IsChosen, IsDrawn, none, one_more, StandsAfter, HasRun}
 use Rattle.brace_core.specs.inner.Turns.{can_make, IsFirst}
 use Rattle.brace_core.proofs.ActorLemmas.{count, setting_at, number_at, past_at, turn_is, all_set, map_kept, left_smaller}
-use Rattle.brace_core.proofs.Lists.{pick_true, pick_false}
 use Rattle.brace_core.proofs.Turns.{put_first, taken_first}
 use Rattle.brace_core.proofs.Counted.{moved}
 use Rattle.brace_core.proofs.CoreLaw.{put_is, taken_is, progress, all_put, all_taken}
@@ -120,12 +119,12 @@ module _ {F S : Type 0} (s : Schedule) (lawful : IsLawful s) (order : ℕ) (past
                 ∙ get_or-set_same pasts p (slice_index pasts p + 1) 0 (omega arith)
                 ∙ ap (λ n. n + 1) (has.stands.places p low)
                 ∙ ap (λ a. x.place a + 1) (sym same)
-                ∙ sym (end ∙ pick_true (q == p) _ _ (eq-eqb q p same))
+                ∙ sym (end ∙ cond-true (q == p) _ _ (eq-eqb q p same))
             | inr other ↦
                 ap (λ (ns : List ℕ). get_or ns q 0) now
                 ∙ get_or-set_other pasts p q (slice_index pasts p + 1) 0 other
                 ∙ has.stands.places q q_low
-                ∙ sym (end ∙ pick_false (q == p) _ _ (ne_eqb q p other))
+                ∙ sym (end ∙ cond-false (q == p) _ _ (ne_eqb q p other))
           ]
 
       stands : StandsAfter s (has.events ++ p ∷ []) pasts' (puts_of w) (takes_of w)

@@ -1,7 +1,7 @@
 -- While not all actors are Done some event is enabled: of the actors in the least step that some actor has not finished, one can go on.
 use Rattle.std.proofs.Common.{◌≡◌, ℕ, suc, ◌+◌, ◌-◌, ◌<◌, ◌≤◌, true, false, cond, ◌==◌, ◌&&◌, ltb, List, [], ◌∷◌, ◌++◌, length, take, get_or, refl, sym, ap, ◌∙◌, subst, arith, inl, inr}
 use Rattle.std.specs.List.{filter, list_any}
-use Rattle.std.proofs.lemmas.Bool.{eq-eqb, cases_lt, ltb-true, ltb-false}
+use Rattle.std.proofs.lemmas.Bool.{eq-eqb, cases_lt, ltb-true, ltb-false, cond-true}
 use Rattle.std.proofs.lemmas.List.{append_assoc, take_more, length-append, length-map, get_or_append_left, get_or-append_right}
 use Rattle.std.proofs.lemmas.List.Elements.{filter-append}
 use Rattle.brace_core.specs.declared.name.Name.{Name}
@@ -9,7 +9,7 @@ use Rattle.brace_core.specs.declared.name.Turn.{Turn}
 use Rattle.brace_core.specs.declared.name.Turn.TheVariants.{Put, Take, Work, Done}
 use Rattle.brace_core.specs.Schedule.{Pair, IsLawfulStep, meets, name, names_from, met, puts, takes, turns_from}
 use Rattle.brace_core.specs.Events.{is_name, is_ready, is_on, names_put, names_taken}
-use Rattle.brace_core.proofs.Lists.{IsFront, pick_true, kept_passes, kept_below, at_map, take_past, search_below}
+use Rattle.brace_core.proofs.Lists.{IsFront, kept_passes, kept_below, at_map, take_past, search_below}
 use Rattle.brace_core.proofs.Turns.{AreLawful, is_with, put_with, taken_with, puts_with, takes_with, names_put-append, names_taken-append, put_first, taken_first, taken_front}
 
 -- the names of a lane from step k on have no earlier step
@@ -171,7 +171,7 @@ taken_none k actors step steps lawful p q i l at =
     ap (λ us. filter (is_on q p) (names_taken us)) (take_more ts i Done l ∙ ap (λ t. take i ts ++ t ∷ []) at)
     ∙ ap (filter (is_on q p)) (names_taken-append (take i ts) (Take (name k q p) ∷ []))
     ∙ filter-append (is_on q p) (names_taken (take i ts)) (name k q p ∷ [])
-    ∙ ap (λ ns. taken_first q p ts i ++ ns) (pick_true (is_on q p (name k q p)) (name k q p ∷ []) [] on) in
+    ∙ ap (λ ns. taken_first q p ts i ++ ns) (cond-true (is_on q p (name k q p)) (name k q p ∷ []) [] on) in
     none_before k step steps q p (taken_first q p ts i) (subst (λ ns. IsFront ns (names_from k (step ∷ steps) q p)) more (taken_front k actors (step ∷ steps) lawful p q (i + 1)))
 
 -- takes of names that were put are ready

@@ -1,7 +1,7 @@
 -- What holds along every run: on each lane what was put is what was taken and what is in flight.
 use Rattle.std.proofs.Common.{◌≡◌, ℕ, ◌+◌, ◌<◌, ◌≤◌, true, false, cond, ◌==◌, ◌&&◌, ◌||◌, nat_lt, List, [], ◌∷◌, ◌++◌, length, refl, sym, ap, ◌∙◌, subst, arith, inl, inr}
 use Rattle.std.specs.List.{filter, list_any}
-use Rattle.std.proofs.lemmas.Bool.{eqb-true, eq-eqb, ne_eqb, and_parts, cases_Bool, cases_eq}
+use Rattle.std.proofs.lemmas.Bool.{eqb-true, eq-eqb, ne_eqb, and_parts, cases_Bool, cases_eq, cond-true, cond-false}
 use Rattle.std.proofs.Math.Bool.{or-true}
 use Rattle.std.proofs.lemmas.List.{append-nil, append_assoc}
 use Rattle.std.proofs.lemmas.List.Elements.{filter-append}
@@ -10,7 +10,7 @@ use Rattle.brace_core.specs.declared.name.Turn.{Turn}
 use Rattle.brace_core.specs.declared.name.Turn.TheVariants.{Put, Take, Work, Done}
 use Rattle.brace_core.specs.Schedule.{Schedule, lane, turns}
 use Rattle.brace_core.specs.Events.{State, opening, is_name, next, is_ready, is_enabled, without, flight_after, after, are_enabled, after_all, turns_made, is_on, names_put, names_taken}
-use Rattle.brace_core.proofs.Lists.{IsFront, pick_true, pick_false, same_next}
+use Rattle.brace_core.proofs.Lists.{IsFront, same_next}
 use Rattle.brace_core.proofs.Turns.{AreLawful, names_put-append, names_taken-append, put_first, taken_first, put_front, taken_front}
 use Rattle.brace_core.proofs.Owners.{left_before, puts_no_other, takes_no_other}
 use Rattle.brace_core.proofs.ActorTurns.{turn_own, puts_more, takes_more}
@@ -34,9 +34,9 @@ is_itself n =
 pub without_elsewhere : (p q : ℕ) (n : Name) (names : List Name) → is_on p q n ≡ false → filter (is_on p q) (without n names) ≡ filter (is_on p q) names
 without_elsewhere p q n [] off = refl
 without_elsewhere p q n (m ∷ names) off = elim (cases_Bool (is_name n m)) [
-  | inl e ↦ ap (filter (is_on p q)) (pick_true (is_name n m) names (m ∷ without n names) e)
-      ∙ sym (pick_false (is_on p q m) (m ∷ filter (is_on p q) names) _ (ap (is_on p q) (sym (same_name n m e)) ∙ off))
-  | inr e ↦ ap (filter (is_on p q)) (pick_false (is_name n m) names (m ∷ without n names) e)
+  | inl e ↦ ap (filter (is_on p q)) (cond-true (is_name n m) names (m ∷ without n names) e)
+      ∙ sym (cond-false (is_on p q m) (m ∷ filter (is_on p q) names) _ (ap (is_on p q) (sym (same_name n m e)) ∙ off))
+  | inr e ↦ ap (filter (is_on p q)) (cond-false (is_name n m) names (m ∷ without n names) e)
       ∙ ap (λ ms. cond (is_on p q m) (m ∷ ms) ms) (without_elsewhere p q n names off)
 ]
 
@@ -46,17 +46,17 @@ without_first p q n [] rest on e = absurd cc
 without_first p q n (m ∷ names) rest on e = elim (cases_Bool (is_name n m)) [
   | inl same ↦
       let here : cond (is_on p q m) (m ∷ filter (is_on p q) names) (filter (is_on p q) names) ≡ m ∷ filter (is_on p q) names =
-      pick_true (is_on p q m) _ _ (ap (is_on p q) (sym (same_name n m same)) ∙ on) in
-      ap (filter (is_on p q)) (pick_true (is_name n m) names (m ∷ without n names) same) ∙ (let both : m ∷ filter (is_on p q) names ≡ n ∷ rest = sym here ∙ e in cc)
-  | inr other ↦ ap (filter (is_on p q)) (pick_false (is_name n m) names (m ∷ without n names) other) ∙ elim (cases_Bool (is_on p q m)) [
+      cond-true (is_on p q m) _ _ (ap (is_on p q) (sym (same_name n m same)) ∙ on) in
+      ap (filter (is_on p q)) (cond-true (is_name n m) names (m ∷ without n names) same) ∙ (let both : m ∷ filter (is_on p q) names ≡ n ∷ rest = sym here ∙ e in cc)
+  | inr other ↦ ap (filter (is_on p q)) (cond-false (is_name n m) names (m ∷ without n names) other) ∙ elim (cases_Bool (is_on p q m)) [
     | inl at ↦
-        let first : m ∷ filter (is_on p q) names ≡ n ∷ rest = sym (pick_true (is_on p q m) _ _ at) ∙ e in
+        let first : m ∷ filter (is_on p q) names ≡ n ∷ rest = sym (cond-true (is_on p q m) _ _ at) ∙ e in
         let same : m ≡ n = cc in
         let is : is_name n m ≡ true = ap (is_name n) same ∙ is_itself n in
         absurd cc
     | inr off ↦
-        pick_false (is_on p q m) _ _ off
-        ∙ without_first p q n names rest on (sym (pick_false (is_on p q m) (m ∷ filter (is_on p q) names) _ off) ∙ e)
+        cond-false (is_on p q m) _ _ off
+        ∙ without_first p q n names rest on (sym (cond-false (is_on p q m) (m ∷ filter (is_on p q) names) _ off) ∙ e)
   ]
 ]
 
@@ -65,12 +65,12 @@ pub some_in_flight : (p q : ℕ) (n : Name) (names : List Name) → is_on p q n 
     (m : Name) × (rest : List Name) × (filter (is_on p q) names ≡ m ∷ rest)
 some_in_flight p q n [] on e = absurd cc
 some_in_flight p q n (m ∷ names) on e = elim (cases_Bool (is_on p q m)) [
-  | inl at ↦ (m, filter (is_on p q) names, pick_true (is_on p q m) _ _ at)
+  | inl at ↦ (m, filter (is_on p q) names, cond-true (is_on p q m) _ _ at)
   | inr off ↦ elim (cases_Bool (is_name n m)) [
     | inl same ↦ let at : is_on p q m ≡ true = ap (is_on p q) (sym (same_name n m same)) ∙ on in absurd cc
     | inr other ↦
         let (first, rest, h) = some_in_flight p q n names on (ap (λ v. v || list_any (is_name n) names) (sym other) ∙ e) in
-        (first, rest, pick_false (is_on p q m) _ _ off ∙ h)
+        (first, rest, cond-false (is_on p q m) _ _ off ∙ h)
   ]
 ]
 
@@ -79,11 +79,11 @@ pub first_in_flight : (p q : ℕ) (n : Name) (names rest : List Name) → filter
 first_in_flight p q n [] rest e = absurd cc
 first_in_flight p q n (m ∷ names) rest e = elim (cases_Bool (is_on p q m)) [
   | inl at ↦
-      let first : m ∷ filter (is_on p q) names ≡ n ∷ rest = sym (pick_true (is_on p q m) _ _ at) ∙ e in
+      let first : m ∷ filter (is_on p q) names ≡ n ∷ rest = sym (cond-true (is_on p q m) _ _ at) ∙ e in
       let same : m ≡ n = cc in
       ap (λ v. v || list_any (is_name n) names) (ap (is_name n) same ∙ is_itself n)
   | inr off ↦
-      ap (λ v. is_name n m || v) (first_in_flight p q n names rest (sym (pick_false (is_on p q m) (m ∷ filter (is_on p q) names) _ off) ∙ e))
+      ap (λ v. is_name n m || v) (first_in_flight p q n names rest (sym (cond-false (is_on p q m) (m ∷ filter (is_on p q) names) _ off) ∙ e))
       ∙ or-true (is_name n m)
 ]
 
@@ -111,9 +111,9 @@ module _ (s : Schedule) (lawful : AreLawful s.actors s.steps) (x : State) (e : �
       put_by_now s (after s x e) p q ≡ put_by_now s x p q ++ filter (is_on p q) (names_put (next s x e ∷ []))
   put_more l p q = elim (cases_eq p e) [
     | inl same ↦ subst (λ a. put_by_now s (after s x e) a q ≡ put_by_now s x a q ++ filter (is_on a q) (names_put (next s x e ∷ []))) (sym same)
-        (ap (put_first e q (turns s e)) (pick_true (e == e) _ _ (eq-eqb e e refl)) ∙ puts_more s e (x.place e) l q)
+        (ap (put_first e q (turns s e)) (cond-true (e == e) _ _ (eq-eqb e e refl)) ∙ puts_more s e (x.place e) l q)
     | inr other ↦
-        ap (put_first p q (turns s p)) (pick_false (p == e) _ _ (ne_eqb p e other))
+        ap (put_first p q (turns s p)) (cond-false (p == e) _ _ (ne_eqb p e other))
         ∙ sym (ap (λ names. put_by_now s x p q ++ names) (puts_no_other e p q (next s x e) (turn_own s e (x.place e) l) other) ∙ append-nil (put_by_now s x p q))
   ]
 
@@ -121,9 +121,9 @@ module _ (s : Schedule) (lawful : AreLawful s.actors s.steps) (x : State) (e : �
       taken_by_now s (after s x e) p q ≡ taken_by_now s x p q ++ filter (is_on p q) (names_taken (next s x e ∷ []))
   taken_more l p q = elim (cases_eq q e) [
     | inl same ↦ subst (λ a. taken_by_now s (after s x e) p a ≡ taken_by_now s x p a ++ filter (is_on p a) (names_taken (next s x e ∷ []))) (sym same)
-        (ap (taken_first p e (turns s e)) (pick_true (e == e) _ _ (eq-eqb e e refl)) ∙ takes_more s e (x.place e) l p)
+        (ap (taken_first p e (turns s e)) (cond-true (e == e) _ _ (eq-eqb e e refl)) ∙ takes_more s e (x.place e) l p)
     | inr other ↦
-        ap (taken_first p q (turns s q)) (pick_false (q == e) _ _ (ne_eqb q e other))
+        ap (taken_first p q (turns s q)) (cond-false (q == e) _ _ (ne_eqb q e other))
         ∙ sym (ap (λ names. taken_by_now s x p q ++ names) (takes_no_other e p q (next s x e) (turn_own s e (x.place e) l) other) ∙ append-nil (taken_by_now s x p q))
   ]
 
@@ -143,17 +143,17 @@ module _ (s : Schedule) (lawful : AreLawful s.actors s.steps) (x : State) (e : �
             let put : put_by_now s x p q ≡ taken_by_now s x p q ++ m ∷ rest = kept.flown p q ∙ ap (λ names. taken_by_now s x p q ++ names) h in
             let taken : taken_by_now s (after s x e) p q ≡ taken_by_now s x p q ++ n ∷ [] =
             taken_more l p q ∙ ap (λ t. taken_by_now s x p q ++ filter (is_on p q) (names_taken (t ∷ []))) is
-            ∙ ap (λ names. taken_by_now s x p q ++ names) (pick_true (is_on p q n) (n ∷ []) [] on) in
+            ∙ ap (λ names. taken_by_now s x p q ++ names) (cond-true (is_on p q n) (n ∷ []) [] on) in
             let first : m ≡ n = same_next (taken_by_now s x p q) rest [] (lane s p q) m n
             (subst (λ names. IsFront names (lane s p q)) put (put_front 0 s.actors s.steps lawful p q (x.place p)))
             (subst (λ names. IsFront names (lane s p q)) taken (taken_front 0 s.actors s.steps lawful q p ((after s x e).place q))) in
             let h' : filter (is_on p q) x.flight ≡ n ∷ rest = h ∙ ap (λ a. a ∷ rest) first in
             append-nil (filter (is_on p q) x.flight) ∙ h' ∙ sym (
-            ap (λ names. names ++ filter (is_on p q) (without n x.flight)) (pick_true (is_on p q n) (n ∷ []) [] on)
+            ap (λ names. names ++ filter (is_on p q) (without n x.flight)) (cond-true (is_on p q n) (n ∷ []) [] on)
             ∙ ap (λ names. n ∷ names) (without_first p q n x.flight rest on h'))
         | inr off ↦
             append-nil (filter (is_on p q) x.flight) ∙ sym (
-            ap (λ names. names ++ filter (is_on p q) (without n x.flight)) (pick_false (is_on p q n) (n ∷ []) [] off)
+            ap (λ names. names ++ filter (is_on p q) (without n x.flight)) (cond-false (is_on p q n) (n ∷ []) [] off)
             ∙ without_elsewhere p q n x.flight off)
       ]
       go Work is ok = append-nil (filter (is_on p q) x.flight)
@@ -177,11 +177,11 @@ module _ (s : Schedule) (lawful : AreLawful s.actors s.steps) (x : State) (e : �
       within : (p : ℕ) → p < s.actors → (after s x e).place p ≤ length (turns s p)
       within p l = elim (cases_eq p e) [
         | inl same ↦
-            let at : (after s x e).place p ≡ x.place p + 1 = pick_true (p == e) _ _ (eq-eqb p e same) in
+            let at : (after s x e).place p ≡ x.place p + 1 = cond-true (p == e) _ _ (eq-eqb p e same) in
             let left : x.place p < length (turns s p) = subst (λ a. x.place a < length (turns s a)) (sym same) (is_left ready) in
             omega arith
         | inr other ↦
-            let at : (after s x e).place p ≡ x.place p = pick_false (p == e) _ _ (ne_eqb p e other) in
+            let at : (after s x e).place p ≡ x.place p = cond-false (p == e) _ _ (ne_eqb p e other) in
             let low : x.place p ≤ length (turns s p) = kept.within p l in
             omega arith
       ]

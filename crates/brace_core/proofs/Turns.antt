@@ -1,7 +1,7 @@
 -- One actor's turns towards another: it puts and takes in turn, and its puts and takes are the names of the two lanes between them.
 use Rattle.std.proofs.Common.{◌≡◌, ℕ, zero, suc, ◌+◌, ◌<◌, ◌≤◌, Bool, true, false, cond, ◌==◌, ◌&&◌, List, [], ◌∷◌, ◌++◌, length, take, refl, sym, ap, ◌∙◌, subst, arith, inl, inr}
 use Rattle.std.specs.List.{filter, All}
-use Rattle.std.proofs.lemmas.Bool.{eq-eqb, cases_lt}
+use Rattle.std.proofs.lemmas.Bool.{eq-eqb, cases_lt, cond-false}
 use Rattle.std.proofs.Math.Bool.{and-true}
 use Rattle.std.proofs.lemmas.List.Elements.{filter-append}
 use Rattle.brace_core.specs.declared.name.Name.{Name}
@@ -9,7 +9,7 @@ use Rattle.brace_core.specs.declared.name.Turn.{Turn}
 use Rattle.brace_core.specs.declared.name.Turn.TheVariants.{Put, Take, Work, Done}
 use Rattle.brace_core.specs.Schedule.{Pair, IsLawfulStep, meets, name, names_from, met, puts, takes, turns_from}
 use Rattle.brace_core.specs.Events.{is_on, names_put, names_taken}
-use Rattle.brace_core.proofs.Lists.{IsFront, pick_false, none_above, kept_one, front_takes, take_is_front, filter_front}
+use Rattle.brace_core.proofs.Lists.{IsFront, none_above, kept_one, front_takes, take_is_front, filter_front}
 
 pub names_put-append : (xs ys : List Turn) → names_put (xs ++ ys) ≡ names_put xs ++ names_put ys
 names_put-append [] ys = refl
@@ -78,7 +78,7 @@ module _ (actors : ℕ) (step : List Pair) (lawful : IsLawfulStep actors step) (
       let says : (b : ℕ) → is_with p q (Put (name k p b)) ≡ (b == q) = λ b. ap (λ v. v && (b == q)) (eq-eqb p p refl) in
       elim (cases_lt q actors) [
         | inl l ↦ kept_one (meets step p) (λ b. Put (name k p b)) (is_with p q) q says 0 actors (omega arith) (omega arith)
-        | inr h ↦ none_above (meets step p) (λ b. Put (name k p b)) (is_with p q) q says 0 actors (omega arith) ∙ sym (pick_false (meets step p q) _ _ (meets_below actors step lawful p q h))
+        | inr h ↦ none_above (meets step p) (λ b. Put (name k p b)) (is_with p q) q says 0 actors (omega arith) ∙ sym (cond-false (meets step p q) _ _ (meets_below actors step lawful p q h))
       ]
 
   pub takes_with : filter (is_with p q) (takes k p (met actors step p)) ≡ cond (meets step p q) (Take (name k q p) ∷ []) []
@@ -86,7 +86,7 @@ module _ (actors : ℕ) (step : List Pair) (lawful : IsLawfulStep actors step) (
       let says : (b : ℕ) → is_with p q (Take (name k b p)) ≡ (b == q) = λ b. ap (λ v. (b == q) && v) (eq-eqb p p refl) ∙ and-true (b == q) in
       elim (cases_lt q actors) [
         | inl l ↦ kept_one (meets step p) (λ b. Take (name k b p)) (is_with p q) q says 0 actors (omega arith) (omega arith)
-        | inr h ↦ none_above (meets step p) (λ b. Take (name k b p)) (is_with p q) q says 0 actors (omega arith) ∙ sym (pick_false (meets step p q) _ _ (meets_below actors step lawful p q h))
+        | inr h ↦ none_above (meets step p) (λ b. Take (name k b p)) (is_with p q) q says 0 actors (omega arith) ∙ sym (cond-false (meets step p q) _ _ (meets_below actors step lawful p q h))
       ]
 
 -- each step is lawful

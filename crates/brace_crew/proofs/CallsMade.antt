@@ -27,12 +27,10 @@ use Rattle.brace_crew.specs.Calls.{world_shown, worlds_at, call_at, ticks_left, 
 use Rattle.brace_crew.specs.Desks.{whole_at, end_calls, AreFaultless}
 use Rattle.brace_crew.proofs.EndCalls.{whole_call}
 use Rattle.brace_crew.proofs.FirstFault.{IsRun, EndsIn}
+use Rattle.brace_num.proofs.Lists.{All-from_contains}
 use Rattle.brace_num.proofs.Rows.{in_row}
 
 -- ---- lists and their first items
-
-pub all_of : {A : Type 0} (P : A → Type 0) (xs : List A) → ((x : A) → Contains xs x → P x) → All P xs
-all_of P xs each = All-weaker (Contains xs) P each xs (All-contains_itself xs)
 
 front_made : {A B : Type 0} (f : A → B) (xs ys : List A) (rest : List B) → take (length xs) (map f (xs ++ ys) ++ rest) ≡ map f xs
 front_made f [] ys rest = refl
@@ -183,18 +181,18 @@ module _ (s : Setting) where
     worlds_there e none t low high = run_reaches s run.lawful run.numbers t low (up_to e t high none)
 
     worlds_shown : (e : ℕ) → s.job.first ≤ e → NoneBefore e → All HasWorld (shown_ticks s e)
-    worlds_shown e low none = all_of HasWorld (shown_ticks s e) (λ t has. let (from, to) = shown_within e t low has in worlds_there e none t from to)
+    worlds_shown e low none = All-from_contains HasWorld (shown_ticks s e) (λ t has. let (from, to) = shown_within e t low has in worlds_there e none t from to)
 
     -- the calls at ends before which no part found a fault are calls with the run's worlds
     pub calls_front : (count : ℕ) → AreFaultless s count → take count (end_calls s) ≡ map (call_at s) (take count (ends s))
     calls_front count none =
         take-map (whole_call s) count (ends s)
         ∙ calls_are (take count (ends s))
-        (all_of (λ e. All HasWorld (shown_ticks s e)) (take count (ends s)) (λ e has. worlds_shown e (end_within e (of_take count (ends s) e has)).0 (All-contains NoneBefore (take count (ends s)) e none has)))
+        (All-from_contains (λ e. All HasWorld (shown_ticks s e)) (take count (ends s)) (λ e has. worlds_shown e (end_within e (of_take count (ends s) e has)).0 (All-contains NoneBefore (take count (ends s)) e none has)))
 
     -- these ends are not behind the first fault
     ends_low : (count : ℕ) → AreFaultless s count → (g : Fault) → first_fault s.job ≡ Some g → All (λ e. e ≤ g.tick) (take count (ends s))
-    ends_low count none g first = all_of (λ e. e ≤ g.tick) (take count (ends s)) (λ e has. not_behind e (All-contains NoneBefore (take count (ends s)) e none has))
+    ends_low count none g first = All-from_contains (λ e. e ≤ g.tick) (take count (ends s)) (λ e has. not_behind e (All-contains NoneBefore (take count (ends s)) e none has))
       where
         not_behind : (e : ℕ) → NoneBefore e → e ≤ g.tick
         not_behind e none = elim (cases_lt g.tick e) [
@@ -298,7 +296,7 @@ module _ (s : Setting) where
     left_are : worlds_at s (ticks_left s g.tick) ≡ map (whole_at s) (ticks_left s g.tick)
     left_are =
         worlds_are (ticks_left s g.tick)
-        (all_of HasWorld (ticks_left s g.tick) (λ t has. let (low, high) = left_within t has in before_first s h.ended.run.lawful g h.ended.first t low high))
+        (All-from_contains HasWorld (ticks_left s g.tick) (λ t has. let (low, high) = left_within t has in before_first s h.ended.run.lawful g h.ended.first t low high))
 
     -- all calls of the run: those at the first ends, and one of what is left
     pub all_calls : calls s ≡ take count (end_calls s) ++ call_of g.tick (map (whole_at s) (ticks_left s g.tick))

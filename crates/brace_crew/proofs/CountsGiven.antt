@@ -19,10 +19,6 @@ use Rattle.brace_crew.proofs.DeskCourses.{last_behind}
 abbrev pub gives : {P : Type 0} → Setting → Member P → Counts
 gives s m = counts_up_to s (course_of m).actor (length (steps s))
 
-pub none_there : {A : Type 0} (o : Option A) → is_none o ≡ true → o ≡ None
-none_there None e = refl
-none_there (Some x) e = absurd (cc)
-
 one_sum : {A : Type 0} (f : A → ℕ) (xs : List A) (i : ℕ) (x : A) → i < length xs → get_or xs i x ≡ x → sum_by f (take (i + 1) xs) ≡ sum_by f (take i xs) + f x
 one_sum f xs i x low is = sum_by_more f xs i x low ∙ ap (λ y. sum_by f (take i xs) + f y) is
 

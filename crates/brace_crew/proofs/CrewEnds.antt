@@ -39,11 +39,11 @@ use Rattle.brace_crew.proofs.EndCalls.{end_there}
 use Rattle.brace_pieces.specs.Courses.{past_of}
 use Rattle.brace_pieces.proofs.EpochLemmas.{last_is_end}
 use Rattle.brace_pieces.proofs.OrderLemmas.{shows_later}
-use Rattle.brace_crew.proofs.FirstFault.{IsRun, EndsIn, row_place, none_sooner}
-use Rattle.brace_crew.proofs.CallsMade.{StopsAt, all_of, all_calls, same_from, calls_begin, calls_front, worlds_there, cut_of_run}
+use Rattle.brace_crew.proofs.FirstFault.{IsRun, EndsIn, none_sooner}
+use Rattle.brace_crew.proofs.CallsMade.{StopsAt, all_calls, same_from, calls_begin, calls_front, worlds_there, cut_of_run}
 use Rattle.brace_crew.proofs.RiseLemmas.{rose_from, then_rises}
-use Rattle.brace_num.proofs.Lists.{in_filter}
-use Rattle.brace_num.proofs.Rows.{in_row}
+use Rattle.brace_num.proofs.Lists.{All-from_contains, in_filter}
+use Rattle.brace_num.proofs.Rows.{in_row, row_has}
 
 -- ---- where a desk halted
 
@@ -155,7 +155,7 @@ left_shown s end tick high same t has =
     let (in_row_there, passes) = seen_in (λ t. t % s.job.every == 0) (range_with_len from (tick + 1 - from)) t has in
     let (low, below) = in_row from (tick + 1 - from) t in_row_there in
     let to = shown_from s end in
-    in_filter (λ t. (t == end) || (t % s.job.every == 0)) (range_with_len to (end + 1 - to)) t (row_place to (end + 1 - to) t (omega (arith, same, low)) (omega (arith, same, low, below, high)))
+    in_filter (λ t. (t == end) || (t % s.job.every == 0)) (range_with_len to (end + 1 - to)) t (row_has to (end + 1 - to) t (omega (arith, same, low)) (omega (arith, same, low, below, high)))
     (either (t == end) (t % s.job.every == 0) passes)
   where
     either : (a b : Bool) → b ≡ true → (a || b) ≡ true
@@ -163,7 +163,7 @@ left_shown s end tick high same t has =
     either false b is = is
 
 pub left_all : (s : Setting) (end tick : ℕ) → tick < end → shown_from s end ≡ shown_from s (tick + 1) → All (Contains (shown_ticks s end)) (ticks_left s tick)
-left_all s end tick high same = all_of (Contains (shown_ticks s end)) (ticks_left s tick) (left_shown s end tick high same)
+left_all s end tick high same = All-from_contains (Contains (shown_ticks s end)) (ticks_left s tick) (left_shown s end tick high same)
 
 -- ---- a run without a fault
 

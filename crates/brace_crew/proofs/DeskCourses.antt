@@ -1,7 +1,7 @@
 -- The publisher's course: it meets all parts where all is shown, and nobody else.
 use Rattle.std.proofs.Common.{◌≡◌, ◌∙◌, refl, sym, ap, ap₂, subst, ℕ, zero, suc, ◌+◌, ◌-◌, ◌<◌, ◌≤◌, List, [], ◌∷◌, ◌++◌, filter, length, get_or, slice_get, nat_lt, if◌then◌else◌, Bool, true, false, cond, not, ◌&&◌, ◌==◌, Option, Some, None, arith, append-nil, true≢false, inl, inr}
 use Rattle.std.specs.List.{range_with_len}
-use Rattle.std.proofs.lemmas.Bool.{and_right, ne_eqb, eq-eqb, cases_lt}
+use Rattle.std.proofs.lemmas.Bool.{and_right, ne_eqb, eq-eqb, cases_lt, le-ltb}
 use Rattle.std.proofs.lemmas.List.FromFn.{length-range_with_len, get_or-range_with_len}
 use Rattle.brace_core.specs.declared.name.Name.{Name}
 use Rattle.brace_core.specs.declared.name.Turn.TheVariants.{Put, Take, Work, Done}
@@ -20,28 +20,23 @@ use Rattle.brace_pieces.specs.Right.{IsRight, IsRightIn, IsRightAt, IsShown}
 use Rattle.brace_pieces.specs.Courses.{OnCourse, IsCourse, met_in, step_of, others_of, turn_in, past_of}
 use Rattle.brace_pieces.proofs.CourseLemmas.{kept_more, put_there, take_there, work_there, course_turn}
 use Rattle.brace_part.proofs.OutLemmas.{right_in}
-use Rattle.brace_part.proofs.PartLemmas.{none_kept, not_below}
 use Rattle.brace_part.proofs.TurnLemmas.{PutsNext, TakesNext}
+use Rattle.brace_num.proofs.Rows.{row_alike}
+use Rattle.brace_num.proofs.Lists.{filter_all, filter_none}
 
 -- ---- whom the publisher meets
 
 apart : (s : Setting) (at : Step) → is_show at.stage ≡ false → (q : ℕ) → meet s at (parts s) q ≡ false
 apart s at none q =
-    ap₂ (λ a b. not (parts s == q) && (if a && nat_lt q (parts s) then parts_meet s at (parts s) q else b)) (not_below (parts s)) none ∙ and_right (not (parts s == q)) false refl
+    ap₂ (λ a b. not (parts s == q) && (if a && nat_lt q (parts s) then parts_meet s at (parts s) q else b)) (le-ltb (parts s) (parts s) (omega arith)) none ∙ and_right (not (parts s == q)) false refl
 
 meets_none : (s : Setting) (at : Step) → is_show at.stage ≡ false → met s at (parts s) ≡ []
-meets_none s at none = none_kept (meet s at (parts s)) (parts s + 1) 0 (λ q low high. apart s at none q)
-
-all_kept : (f : ℕ → Bool) (n a : ℕ) → ((q : ℕ) → a ≤ q → q < a + n → f q ≡ true) → filter f (range_with_len a n) ≡ range_with_len a n
-all_kept f zero a all = refl
-all_kept f (suc n) a all =
-    ap (λ c. cond c (a ∷ filter f (range_with_len (a + 1) n)) (filter f (range_with_len (a + 1) n))) (all a (omega arith) (omega arith))
-    ∙ ap (λ xs. a ∷ xs) (all_kept f n (a + 1) (λ q low high. all q (omega (arith, low)) (omega (arith, high))))
+meets_none s at none = row_alike (meet s at (parts s)) (λ q. false) 0 (parts s + 1) (λ q low high. apart s at none q) ∙ filter_none (range_with_len 0 (parts s + 1))
 
 module _ (s : Setting) (t : ℕ) where
   meets_part : (q : ℕ) → q < parts s → meet s (step stage.Show t) (parts s) q ≡ true
   meets_part q low =
-      ap₂ (λ a b. not a && (if b && nat_lt q (parts s) then false else true)) (ne_eqb (parts s) q (λ same. omega (arith, low, same))) (not_below (parts s))
+      ap₂ (λ a b. not a && (if b && nat_lt q (parts s) then false else true)) (ne_eqb (parts s) q (λ same. omega (arith, low, same))) (le-ltb (parts s) (parts s) (omega arith))
 
   not_itself : meet s (step stage.Show t) (parts s) (parts s) ≡ false
   not_itself = ap (λ a. not a && (if nat_lt (parts s) (parts s) && nat_lt (parts s) (parts s) then false else true)) (eq-eqb (parts s) (parts s) refl)
@@ -50,7 +45,7 @@ module _ (s : Setting) (t : ℕ) where
   meets_all =
       let f : ℕ → Bool = meet s (step stage.Show t) (parts s) in
       kept_more f (parts s)
-      ∙ ap₂ (λ xs c. xs ++ cond c (parts s ∷ []) []) (all_kept f (parts s) 0 (λ q low high. meets_part q (omega (arith, high)))) not_itself
+      ∙ ap₂ (λ xs c. xs ++ cond c (parts s ∷ []) []) (row_alike f (λ q. true) 0 (parts s) (λ q low high. meets_part q (omega (arith, high))) ∙ filter_all (range_with_len 0 (parts s))) not_itself
       ∙ append-nil (range_with_len 0 (parts s))
 
 show_is : (at : Stage) (t : ℕ) → is_show at ≡ true → step at t ≡ step stage.Show t

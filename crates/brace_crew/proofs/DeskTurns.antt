@@ -27,21 +27,15 @@ use Rattle.brace_crew.specs.inner.Sound.{HalfHalted, IsOpen, IsClosedBy, IsAsItS
 use Rattle.brace_crew.proofs.EndCalls.{ends_all}
 use Rattle.brace_crew.proofs.DeskCourses.{ack_right, takes_shown, takes_from, shown_taken, nothing_else, none_made, last_behind}
 use Rattle.brace_crew.proofs.DeskKept.{desk_at, desk_on, desk_within, closed_kept, halt_told, nothing_yet, open_put, open_halt, open_again, open_lot, has_place}
+use Rattle.brace_num.proofs.Options.{some_none}
 
 -- the turn of the schedule that a desk is due
 abbrev pub turn_due : {P : Type 0} → OnDesk P → Turn
 turn_due d = turn_at (schedule d.course.setting) d.course.actor (past_of d.course)
 
-some_none : {A : Type 0} (o : Option A) (x : A) → o ≡ Some x → o ≡ None → ⊥
-some_none o x some none = cc
-
 -- a desk that stopped has why
 pub some_left : {A : Type 0} (o : Option A) → is_some o ≡ true → o ≡ None → ⊥
 some_left o some none = true≢false (sym some ∙ ap is_some none)
-
-pub none_left : {A : Type 0} (o : Option A) → is_some o ≡ false → o ≡ None
-none_left None e = refl
-none_left (Some x) e = absurd (true≢false e)
 
 take_same : (m n : Name) → Take m ≡ Take n → m ≡ n
 take_same m n e = cc

@@ -36,6 +36,7 @@ use Rattle.brace_pieces.specs.Finds.{found_by}
 use Rattle.brace_crew.specs.Members.{course_of, IsDone}
 use Rattle.brace_crew.specs.inner.Crews.{AreParts, fault_in, told_by, TellsAll, IsTelling}
 use Rattle.brace_crew.proofs.DeskCourses.{last_behind}
+use Rattle.brace_num.proofs.Rows.{row_has}
 
 -- a lawful run without births
 pub record IsRun (s : Setting) : Type 0 where
@@ -47,14 +48,6 @@ pub record IsRun (s : Setting) : Type 0 where
 pub record EndsIn (s : Setting) (g : Fault) : Type 0 where
   pub run : IsRun s
   pub first : first_fault s.job ≡ Some g
-
--- a number stands in a row
-pub row_place : (a n v : ℕ) → a ≤ v → v < a + n → Contains (range_with_len a n) v
-row_place a n v low high =
-    let place : ℕ = v - a in
-    let within : place < n = omega (arith, low, high) in
-    let back : a + place ≡ v = omega (arith, low) in
-    (place, omega (arith, within, length-range_with_len a n), get_or-range_with_len a n place v within ∙ back)
 
 -- ---- faults that are told
 
@@ -156,7 +149,7 @@ module _ {P : Type 0} (s : Setting) where
     first_among : (g : Fault) → EndsIn s g → (number : ℕ) (f : Fault) → IsTold s number f → Contains (flat_map told_by members) g
     first_among g e number f told =
         let found = found_by_part s e.run.lawful e.run.numbers g.tick g.phase g (first_found s e.run.lawful g e.first) in
-        let by = of_map (λ m. (course_of m).actor) members found.part (subst (λ numbers. Contains numbers found.part) (sym are.numbers) (row_place 0 (parts s) found.part (omega arith) (omega (arith, found.is_part)))) in
+        let by = of_map (λ m. (course_of m).actor) members found.part (subst (λ numbers. Contains numbers found.part) (sym are.numbers) (row_has 0 (parts s) found.part (omega arith) (omega (arith, found.is_part)))) in
         let actor : (course_of by.from).actor ≡ found.part = some_same _ _ by.made in
         let sooner = none_sooner s g e number f told in
         flat_map_of told_by members by.from g by.there

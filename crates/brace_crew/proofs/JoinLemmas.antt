@@ -46,10 +46,6 @@ none_of f (x ∷ xs) e = absurd (cc)
 
 -- ---- worlds with the agents of others
 
-pub nothing_left : {A : Type 0} (xs : List A) → length xs ≡ 0 → xs ≡ []
-nothing_left [] none = refl
-nothing_left (x ∷ xs) none = absurd (omega arith)
-
 no_more : (xs : List Shown) → added_to xs [] ≡ []
 no_more [] = refl
 no_more (x ∷ xs) = refl

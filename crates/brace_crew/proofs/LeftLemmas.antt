@@ -20,18 +20,10 @@ use Rattle.brace_crew.specs.Members.{course_of}
 use Rattle.brace_crew.specs.Calls.{ticks_left}
 use Rattle.brace_crew.specs.inner.Lots.{world_of, brought, tick_shown}
 use Rattle.brace_crew.specs.inner.Crews.{AreOf, AreParts}
-use Rattle.brace_pieces.proofs.EpochLemmas.{shown_alike, from_one, from_first, row_one}
+use Rattle.brace_pieces.proofs.EpochLemmas.{shown_alike, from_one, from_first}
 use Rattle.brace_crew.proofs.MemberLemmas.{row_more}
-use Rattle.brace_num.proofs.Lists.{in_more}
-
--- what a search finds is there, and passes
-pub found_one : {A : Type 0} (test : A → Bool) (xs : List A) (x : A) → find test xs ≡ Some x → Contains xs x × (test x ≡ true)
-found_one test [] x e = absurd (cc)
-found_one {A} test (y ∷ ys) x e = by_test (test y) refl e (found_one test ys x)
-  where
-    by_test : (c : Bool) → test y ≡ c → cond c (Some y) (find test ys) ≡ Some x → (find test ys ≡ Some x → Contains ys x × (test x ≡ true)) → Contains (y ∷ ys) x × (test x ≡ true)
-    by_test true is e rest = let same : y ≡ x = cc in ((0, omega arith, same), subst (λ z. test z ≡ true) same is)
-    by_test false is e rest = let h = rest e in (in_more y ys x h.0, h.1)
+use Rattle.brace_num.proofs.Lists.{found_passes}
+use Rattle.brace_num.proofs.Rows.{row_more as one_more}
 
 module _ (s : Setting) (end : ℕ) (lawful : LawfulSetting s) (ticks : List ℕ) (shows : All (Contains (shown_ticks s end)) ticks) where
   -- what a part keeps
@@ -46,7 +38,7 @@ module _ (s : Setting) (end : ℕ) (lawful : LawfulSetting s) (ticks : List ℕ)
   pub lot_is : (kept : List Lot) (p : ℕ) (lot : Lot) → All (λ lot. IsShown s end lot.part lot.worlds) kept → Some lot ≡ find (λ lot. lot.part == p) kept
       → AreOf s (tick_shown s end) p ticks lot.worlds
   lot_is kept p lot all is =
-      let h = found_one (λ (l : Lot). l.part == p) kept lot (sym is) in
+      let h = found_passes (λ (l : Lot). l.part == p) kept lot (sym is) in
       let of : lot.part ≡ p = eqb-true lot.part p h.1 in
       let shows_it = All-contains (λ (l : Lot). IsShown s end l.part l.worlds) kept lot all h.0 in
       let worlds = shows_it.shown ∙ ap (λ q. map (shown s end q) (shown_ticks s end)) of in
@@ -89,7 +81,7 @@ ticks_more every from t ticks more r low so divides is =
     let there : from + (t - from) ≡ t = omega (arith, low) in
     is ∙ ap₂ (λ l c. l ++ cond c (t ∷ []) []) so (sym (same_test r (t % every) divides))
     ∙ sym (filter-append test (range_with_len from (t - from)) (t ∷ []))
-    ∙ ap (filter test) (ap (λ v. range_with_len from (t - from) ++ v ∷ []) (sym there) ∙ sym (row_one (t - from) from) ∙ ap (range_with_len from) more_on)
+    ∙ ap (filter test) (ap (λ v. range_with_len from (t - from) ++ v ∷ []) (sym there) ∙ sym (one_more from (t - from)) ∙ ap (range_with_len from) more_on)
 
 -- ---- worlds out of a list
 
@@ -99,7 +91,7 @@ module _ (s : Setting) (held p : ℕ) (ticks : List ℕ) (worlds : List Shown) (
   picked_more i d w all low found so =
       let t : ℕ = get_or ticks i d in
       let here : t ≡ get_or ticks i t = get_or_default ticks i d t low in
-      let h = found_one (λ (w : Shown). w.tick == t) worlds w (sym found) in
+      let h = found_passes (λ (w : Shown). w.tick == t) worlds w (sym found) in
       let at : w.tick ≡ t = eqb-true w.tick t h.1 in
       let has : Contains ticks w.tick = subst (Contains ticks) (sym at) (i, low, sym here) in
       let one : w ≡ world_of s held p t =

@@ -13,13 +13,13 @@ use Rattle.brace_crew.specs.Members.{course_of, opening_of}
 use Rattle.brace_crew.specs.declared.member.Member.{Member}
 use Rattle.brace_crew.specs.declared.member.Member.TheVariants as member
 use Rattle.brace_crew.specs.inner.Crews.{AreMembers, AreNew, opening_in, served}
-use Rattle.brace_pieces.proofs.EpochLemmas.{row_one}
+use Rattle.brace_num.proofs.Rows.{row_more as one_more}
 
 pub row_more : (n : ℕ) → range_with_len 0 n ++ n ∷ [] ≡ range_with_len 0 (n + 1)
 row_more n =
     let more : suc n ≡ n + 1 = omega arith in
     let here : n ≡ 0 + n = omega arith in
-    ap (λ m. range_with_len 0 n ++ m ∷ []) here ∙ sym (row_one n 0) ∙ ap (range_with_len 0) more
+    ap (λ m. range_with_len 0 n ++ m ∷ []) here ∙ sym (one_more 0 n) ∙ ap (range_with_len 0) more
 
 -- a worker serves a number behind a row, or it does not
 pub serves_more : (workers worker n : ℕ) → n % workers ≡ worker → served workers worker (range_with_len 0 (n + 1)) ≡ served workers worker (range_with_len 0 n) ++ n ∷ []

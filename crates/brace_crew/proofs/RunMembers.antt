@@ -1,7 +1,7 @@
 -- The members of a run behind it: its parts, and its desk behind them.
 use Rattle.std.proofs.Common.{◌≡◌, ◌∙◌, refl, sym, ap, subst, ℕ, ◌<◌, List, [], ◌∷◌, ◌++◌, map, Some, None, All, arith}
 use Rattle.std.specs.List.{range_with_len}
-use Rattle.std.proofs.lemmas.List.{map-append}
+use Rattle.std.proofs.lemmas.List.{map-append, same_from_push}
 use Rattle.std.proofs.lemmas.List.Elements.{All-nil, All-cons, All-head, All-tail, All-map}
 use Rattle.std.proofs.lemmas.List.FromFn.{length-map-range_with_len, get_or-map-range_with_len}
 use Rattle.brace_core.specs.declared.name.Turn.TheVariants.{Done}
@@ -31,27 +31,6 @@ pub of_all_map : {A B : Type 0} (f : A → B) (P : B → Type 0) (xs : List A) �
 of_all_map f P [] all = All-nil (λ x. P (f x))
 of_all_map f P (x ∷ xs) all = All-cons (λ x. P (f x)) x xs (All-head P (f x) (map f xs) all) (of_all_map f P xs (All-tail P (f x) (map f xs) all))
 
--- two lists with one item behind them are the same only where both are
-both_same : {A : Type 0} (xs ys : List A) (x y : A) → xs ++ x ∷ [] ≡ ys ++ y ∷ [] → (xs ≡ ys) × (x ≡ y)
-both_same [] [] x y is = (refl, first is)
-  where
-    first : x ∷ [] ≡ y ∷ [] → x ≡ y
-    first is = cc
-both_same [] (b ∷ []) x y is = absurd (cc)
-both_same [] (b ∷ c ∷ ys) x y is = absurd (cc)
-both_same (a ∷ []) [] x y is = absurd (cc)
-both_same (a ∷ c ∷ xs) [] x y is = absurd (cc)
-both_same {A} (a ∷ xs) (b ∷ ys) x y is = let (rest, last) = both_same xs ys x y (behind is) in (cons (first is) rest, last)
-  where
-    first : a ∷ (xs ++ x ∷ []) ≡ b ∷ (ys ++ y ∷ []) → a ≡ b
-    first is = cc
-
-    behind : a ∷ (xs ++ x ∷ []) ≡ b ∷ (ys ++ y ∷ []) → xs ++ x ∷ [] ≡ ys ++ y ∷ []
-    behind is = cc
-
-    cons : a ≡ b → xs ≡ ys → a ∷ xs ≡ b ∷ ys
-    cons first rest = cc
-
 -- ---- the members behind a run
 
 module _ {P : Type 0} (s : Setting) (publisher : P) where
@@ -80,12 +59,12 @@ module _ {P : Type 0} (s : Setting) (publisher : P) (members : List (Member P)) 
 
   in_order : (map number_of front ≡ range_with_len 0 (parts s)) × (number_of last ≡ parts s)
   in_order =
-      both_same (map number_of front) (range_with_len 0 (parts s)) (number_of last) (parts s)
+      same_from_push (map number_of front) (range_with_len 0 (parts s)) (number_of last) (parts s)
       (sym (map-append number_of front (last ∷ [])) ∙ ap (map number_of) (sym is) ∙ are.numbered ∙ sym (row_more (parts s)))
 
   opened : (map opening_of front ≡ map (opening_in s publisher) (range_with_len 0 (parts s))) × (opening_of last ≡ opening_in s publisher (parts s))
   opened =
-      both_same (map opening_of front) (map (opening_in s publisher) (range_with_len 0 (parts s))) (opening_of last) (opening_in s publisher (parts s))
+      same_from_push (map opening_of front) (map (opening_in s publisher) (range_with_len 0 (parts s))) (opening_of last) (opening_in s publisher (parts s))
       (sym (map-append opening_of front (last ∷ [])) ∙ ap (map opening_of) (sym is) ∙ are.openings
       ∙ ap (map (opening_in s publisher)) (sym (row_more (parts s))) ∙ map-append (opening_in s publisher) (range_with_len 0 (parts s)) (parts s ∷ []))
 

@@ -19,12 +19,13 @@ use Rattle.brace_invert.proofs.Heard.{seen_in}
 use Rattle.brace_pieces.specs.declared.setting.Setting.{Setting}
 use Rattle.brace_pieces.specs.declared.piece.Shown.{Shown}
 use Rattle.brace_pieces.specs.Settings.{LawfulSetting, is_end, ends, shown_from, shown_ticks}
-use Rattle.brace_pieces.proofs.EpochLemmas.{row_one, last_ends, from_one, from_first, since}
+use Rattle.brace_pieces.proofs.EpochLemmas.{last_ends, from_one, from_first, since}
 use Rattle.brace_pieces.proofs.FaultLemmas.{step_is_of}
 use Rattle.brace_pieces.proofs.HaltLemmas.{ended}
 use Rattle.brace_crew.specs.Calls.{Call, world_shown, worlds_at, call_at, ticks_left, call_of, calls_to, calls}
 use Rattle.brace_crew.specs.Shows.{as_world, shown_text, last_shown, saved_world}
-use Rattle.brace_num.proofs.Rows.{in_row}
+use Rattle.brace_num.proofs.Lists.{at_seam}
+use Rattle.brace_num.proofs.Rows.{in_row, row_more}
 
 -- ---- what is left out of a row of ticks
 
@@ -107,7 +108,7 @@ module _ (s : Setting) (fresh : Bool) where
 
   over_one : (from n t : ℕ) → from + n ≡ t → over from (suc n) ≡ over from n ++ text t
   over_one from n t is =
-      ap (flat_map text) (row_one n from ∙ ap (λ v. range_with_len from n ++ v ∷ []) is)
+      ap (flat_map text) (row_more from n ∙ ap (λ v. range_with_len from n ++ v ∷ []) is)
       ∙ flat_map-append text (range_with_len from n) (t ∷ [])
       ∙ ap (λ l. over from n ++ l) (append-nil (text t))
 
@@ -147,7 +148,7 @@ module _ (s : Setting) (fresh : Bool) where
   told_one : (n t : ℕ) → s.job.first + n ≡ t → told (suc n) ≡ told n ++ cond (is_end s t) (shown_at t) []
   told_one n t is =
       let row : List ℕ = range_with_len s.job.first n in
-      ap (λ xs. flat_map shown_at (filter (is_end s) xs)) (row_one n s.job.first ∙ ap (λ v. row ++ v ∷ []) is)
+      ap (λ xs. flat_map shown_at (filter (is_end s) xs)) (row_more s.job.first n ∙ ap (λ v. row ++ v ∷ []) is)
       ∙ ap (flat_map shown_at) (filter-append (is_end s) row (t ∷ []))
       ∙ flat_map-append shown_at (filter (is_end s) row) (cond (is_end s t) (t ∷ []) [])
       ∙ ap (λ l. told n ++ l) (one_end t (is_end s t))
@@ -261,15 +262,11 @@ all_told s fresh lawful up =
 
 -- ---- the world that is shown last
 
-at_seam : {A : Type 0} (xs : List A) (y : A) → slice_get (xs ++ y ∷ []) (length xs) ≡ Some y
-at_seam [] y = refl
-at_seam (x ∷ xs) y = at_seam xs y
-
 last_item : {A : Type 0} (xs : List A) (y : A) → slice_get (xs ++ y ∷ []) (length (xs ++ y ∷ []) - 1) ≡ Some y
 last_item xs y =
     let whole = length-append xs (y ∷ []) in
     let place : length (xs ++ y ∷ []) - 1 ≡ length xs = omega (arith, whole) in
-    ap (slice_get (xs ++ y ∷ [])) place ∙ at_seam xs y
+    ap (slice_get (xs ++ y ∷ [])) place ∙ at_seam xs y []
 
 row_one_more : (s : Setting) (end : ℕ) → s.job.first ≤ end → range_with_len (shown_from s end) (end + 1 - shown_from s end) ≡ range_with_len (shown_from s end) (end - shown_from s end) ++ end ∷ []
 row_one_more s end low =
@@ -278,7 +275,7 @@ row_one_more s end low =
     let from : ℕ = shown_from s end in
     let one : end + 1 - from ≡ suc (end - from) = omega (arith, high) in
     let there : from + (end - from) ≡ end = omega (arith, high) in
-    ap (range_with_len from) one ∙ row_one (end - from) from ∙ ap (λ v. range_with_len from (end - from) ++ v ∷ []) there
+    ap (range_with_len from) one ∙ row_more from (end - from) ∙ ap (λ v. range_with_len from (end - from) ++ v ∷ []) there
 
 module _ (s : Setting) (end : ℕ) (w : World) (low : s.job.first ≤ end) (there : world_after s.job (end - s.job.first) ≡ Ok w) where
   abbrev its : Shown

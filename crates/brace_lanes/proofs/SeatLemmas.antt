@@ -1,7 +1,7 @@
 -- What a put and a take change of a seat's counts.
 use Rattle.std.proofs.Common.{◌≡◌, ◌≢◌, ◌≤◌, ◌<◌, ◌+◌, ◌*◌, ◌^◌, ◌∙◌, ℕ, zero, suc, Bool, true, false, ◌==◌, ◌&&◌, nat_lt, List, [], ◌∷◌, cond, length, get_or, refl, sym, ap, subst, inl, inr, arith, length-set, true≢false}
 use Rattle.std.specs.Prelude.{Option as opt, None, Some, IfSome, OnSome, is_some, slice_get, slice_index, slice_set}
-use Rattle.std.proofs.lemmas.Bool.{eqb-true, eq-eqb, ne_eqb, and_parts, and_from, lt-ltb, ltb-true, cases_eq, cases_Bool}
+use Rattle.std.proofs.lemmas.Bool.{eqb-true, eq-eqb, ne_eqb, and_parts, and_from, lt-ltb, ltb-true, cases_eq, cases_Bool, cond-true, cond-false}
 use Rattle.std.proofs.lemmas.List.{get_or-set_same, get_or-set_other, get_or_read}
 use Rattle.std.proofs.lemmas.Option.{slice_get_within, same_Some}
 use Rattle.std.proofs.Math.Bool.{and_comm, and-false}
@@ -11,7 +11,6 @@ use Rattle.brace_core.specs.declared.name.Name.{Name}
 use Rattle.brace_core.specs.Schedule.{Schedule, lane}
 use Rattle.brace_core.specs.Exchanges.{Follows, IsAnswered, one_on}
 use Rattle.brace_core.specs.Lanes.{AreBelow}
-use Rattle.brace_core.proofs.Lists.{pick_true, pick_false}
 use Rattle.brace_core.proofs.LaneLemmas.{names_at_most}
 use Rattle.brace_lanes.specs.declared.table.View.{View}
 use Rattle.brace_lanes.specs.Places.{place, slot}
@@ -25,7 +24,7 @@ use Rattle.brace_lanes.proofs.StepsKept.{set_each}
 use Rattle.brace_lanes.proofs.StepsAllowed.{missing, finding, is_missing, is_finding}
 
 pub count_in : (n : ℕ) (l : List ℕ) (a b : ℕ) → a < n → b < n → count_at n l a b ≡ slice_index l (place n a b)
-count_in n l a b la lb = pick_true (nat_lt a n && nat_lt b n) _ _ (and_from (nat_lt a n) (nat_lt b n) (lt-ltb a n la) (lt-ltb b n lb))
+count_in n l a b la lb = cond-true (nat_lt a n && nat_lt b n) _ _ (and_from (nat_lt a n) (nat_lt b n) (lt-ltb a n la) (lt-ltb b n lb))
 
 unlike : (a b c d : ℕ) → ((a ≡ c) × (b ≡ d) → ⊥) → (a == c && b == d) ≡ false
 unlike a b c d other = elim (cases_Bool (a == c && b == d)) [
@@ -39,13 +38,13 @@ count_raised n l a b square la lb c d = elim (cases_Bool (nat_lt c n && nat_lt d
   | inl e ↦
       let (x, y) = and_parts (nat_lt c n) (nat_lt d n) e in
       let within = set_each n l (λ c d y. y ≡ slice_index l (place n c d) + cond (a == c && b == d) 1 0) a b (slice_index l (place n a b) + 1) lb (omega (arith, square, place_below n a b la lb))
-      (ap (λ j. slice_index l (place n a b) + j) (sym (pick_true {A = ℕ} (a == a && b == b) 1 0 (and_from (a == a) (b == b) (eq-eqb a a refl) (eq-eqb b b refl)))))
-      (λ c d lc ld far. let none = pick_false {A = ℕ} (a == c && b == d) 1 0 (unlike a b c d (λ t. far (λ i. place n (sym t.0 i) (sym t.1 i)))) in omega (arith, none)) in
-      pick_true (nat_lt c n && nat_lt d n) _ _ e ∙ within c d (ltb-true c n x) (ltb-true d n y) ∙ ap (λ j. j + cond (a == c && b == d) 1 0) (sym (pick_true (nat_lt c n && nat_lt d n) _ _ e))
+      (ap (λ j. slice_index l (place n a b) + j) (sym (cond-true {A = ℕ} (a == a && b == b) 1 0 (and_from (a == a) (b == b) (eq-eqb a a refl) (eq-eqb b b refl)))))
+      (λ c d lc ld far. let none = cond-false {A = ℕ} (a == c && b == d) 1 0 (unlike a b c d (λ t. far (λ i. place n (sym t.0 i) (sym t.1 i)))) in omega (arith, none)) in
+      cond-true (nat_lt c n && nat_lt d n) _ _ e ∙ within c d (ltb-true c n x) (ltb-true d n y) ∙ ap (λ j. j + cond (a == c && b == d) 1 0) (sym (cond-true (nat_lt c n && nat_lt d n) _ _ e))
   | inr e ↦
-      let none = pick_false {A = ℕ} (a == c && b == d) 1 0 (unlike a b c d (λ t. true≢false (sym (and_from (nat_lt c n) (nat_lt d n) (lt-ltb c n (subst (λ j. j < n) t.0 la)) (lt-ltb d n (subst (λ j. j < n) t.1 lb))) ∙ e))) in
-      let was : count_at n l c d ≡ 0 = pick_false (nat_lt c n && nat_lt d n) _ _ e in
-      let now : count_at n (raised l (place n a b)) c d ≡ 0 = pick_false (nat_lt c n && nat_lt d n) _ _ e in
+      let none = cond-false {A = ℕ} (a == c && b == d) 1 0 (unlike a b c d (λ t. true≢false (sym (and_from (nat_lt c n) (nat_lt d n) (lt-ltb c n (subst (λ j. j < n) t.0 la)) (lt-ltb d n (subst (λ j. j < n) t.1 lb))) ∙ e))) in
+      let was : count_at n l c d ≡ 0 = cond-false (nat_lt c n && nat_lt d n) _ _ e in
+      let now : count_at n (raised l (place n a b)) c d ≡ 0 = cond-false (nat_lt c n && nat_lt d n) _ _ e in
       omega (arith, was, now, none)
 ]
 

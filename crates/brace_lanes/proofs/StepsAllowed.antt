@@ -1,14 +1,13 @@
 -- Each step is allowed by the whole rule, and tells its seat what it should.
 use Rattle.std.proofs.Common.{◌≡◌, ◌≢◌, ◌≤◌, ◌<◌, ◌+◌, ◌*◌, ◌-◌, ◌∙◌, ◌⊎◌, ℕ, List, [], ◌∷◌, ◌++◌, set, replicate, refl, sym, ap, subst, inl, inr, arith}
 use Rattle.std.specs.Prelude.{◌==◌, Option as opt, None, Some, slice_index, slice_set}
-use Rattle.std.proofs.lemmas.Bool.{cases_eq, eq-eqb, ne_eqb}
+use Rattle.std.proofs.lemmas.Bool.{cases_eq, eq-eqb, ne_eqb, cond-true, cond-false}
 use Rattle.std.proofs.lemmas.List.{set-get_or}
 use mathlib.Core.Option.{Option, some, none}
 use lib.ListN.{get_elem?}
 use Rattle.atomic_table.specs.Table.{Me, State, step, Act, keeps, takes, gives, put_back, rest, Allows, Splits, opening as opened}
 use Rattle.brace_core.specs.declared.name.Name.{Name}
 use Rattle.brace_core.specs.Schedule.{Schedule}
-use Rattle.brace_core.proofs.Lists.{pick_true, pick_false}
 use Rattle.brace_lanes.specs.declared.table.View.{View}
 use Rattle.brace_lanes.specs.declared.table.Hand.TheVariants.{Empty, ToPut, ToTake}
 use Rattle.brace_lanes.specs.Places.{place, opposite, slot, slot_count, word_count, put_of, taken_of}
@@ -27,10 +26,10 @@ module _ {S : Type 0} where
   finding v at x = record v { seen = slice_set v.seen at x; hand = ToTake at }
 
   pub is_missing : (v : View S) (at x : ℕ) → x ≡ slice_index v.taken at → looked v at x ≡ missing v at x
-  is_missing v at x e = pick_true (x == slice_index v.taken at) (missing v at x) (finding v at x) (eq-eqb x (slice_index v.taken at) e)
+  is_missing v at x e = cond-true (x == slice_index v.taken at) (missing v at x) (finding v at x) (eq-eqb x (slice_index v.taken at) e)
 
   pub is_finding : (v : View S) (at x : ℕ) → x ≢ slice_index v.taken at → looked v at x ≡ finding v at x
-  is_finding v at x e = pick_false (x == slice_index v.taken at) (missing v at x) (finding v at x) (ne_eqb x (slice_index v.taken at) e)
+  is_finding v at x e = cond-false (x == slice_index v.taken at) (missing v at x) (finding v at x) (ne_eqb x (slice_index v.taken at) e)
 
 module _ {F S : Type 0} (schedule : S → Schedule) (right : S → Name → F → Type 0) where
   abbrev Rule : State (opt F) (View S) → Type 0

@@ -1,12 +1,11 @@
 -- The names of two actors that meet in each step, and what their seats know.
 use Rattle.std.proofs.Common.{◌≡◌, ◌≤◌, ◌<◌, ◌+◌, ◌%◌, ◌∙◌, ℕ, zero, suc, Bool, true, false, List, [], ◌∷◌, length, replicate, refl, sym, ap, subst, inl, inr, arith, true≢false}
 use Rattle.std.specs.Prelude.{◌==◌, ◌&&◌, ◌||◌, Some, cond, slice_get}
-use Rattle.std.proofs.lemmas.Bool.{cases_Bool, and_from, and_parts, eq-eqb, eqb-true}
+use Rattle.std.proofs.lemmas.Bool.{cases_Bool, and_from, and_parts, eq-eqb, eqb-true, cond-true, cond-false}
 use Rattle.brace_core.specs.declared.name.Name.{Name}
 use Rattle.brace_core.specs.Schedule.{Schedule, name, names_from, lane, meets}
 use Rattle.brace_core.specs.Exchanges.{one_on}
 use Rattle.brace_core.specs.Lanes.{AreBelow}
-use Rattle.brace_core.proofs.Lists.{pick_true, pick_false}
 use Rattle.brace_core.specs.Exchanges.{Follows, IsAnswered}
 use Rattle.brace_lanes.specs.declared.table.View.{View}
 use Rattle.brace_lanes.specs.Seats.{IsSameSeat, puts_of, takes_of}
@@ -32,7 +31,7 @@ both_below p q e = elim (cases_Bool (0 == p && 1 == q)) [
 
 no_names : (i t p q : ℕ) → meets both p q ≡ false → length (names_from i (replicate t both) p q) ≡ 0
 no_names i zero p q e = refl
-no_names i (suc t) p q e = ap length (pick_false (meets both p q) (name i p q ∷ names_from (suc i) (replicate t both) p q) (names_from (suc i) (replicate t both) p q) e) ∙ no_names (suc i) t p q e
+no_names i (suc t) p q e = ap length (cond-false (meets both p q) (name i p q ∷ names_from (suc i) (replicate t both) p q) (names_from (suc i) (replicate t both) p q) e) ∙ no_names (suc i) t p q e
 
 pub talk_below : (t : ℕ) → AreBelow (talk t) 2
 talk_below t p q some = elim (cases_Bool (meets both p q)) [
@@ -42,10 +41,10 @@ talk_below t p q some = elim (cases_Bool (meets both p q)) [
 
 at_turn : (i t p q k : ℕ) → meets both p q ≡ true → k < t → slice_get (names_from i (replicate t both) p q) k ≡ Some (name (i + k) p q)
 at_turn i zero p q k e l = absurd (omega (arith, l))
-at_turn i (suc t) p q zero e l = ap (λ ns. slice_get ns zero) (pick_true (meets both p q) (name i p q ∷ names_from (suc i) (replicate t both) p q) (names_from (suc i) (replicate t both) p q) e) ∙ ap (λ j. Some (name j p q)) (omega arith)
+at_turn i (suc t) p q zero e l = ap (λ ns. slice_get ns zero) (cond-true (meets both p q) (name i p q ∷ names_from (suc i) (replicate t both) p q) (names_from (suc i) (replicate t both) p q) e) ∙ ap (λ j. Some (name j p q)) (omega arith)
 at_turn i (suc t) p q (suc k) e l =
     let z : suc i + k ≡ i + suc k = omega arith in
-    ap (λ ns. slice_get ns (suc k)) (pick_true (meets both p q) (name i p q ∷ names_from (suc i) (replicate t both) p q) (names_from (suc i) (replicate t both) p q) e) ∙ at_turn (suc i) t p q k e (omega (arith, l)) ∙ ap (λ j. Some (name j p q)) z
+    ap (λ ns. slice_get ns (suc k)) (cond-true (meets both p q) (name i p q ∷ names_from (suc i) (replicate t both) p q) (names_from (suc i) (replicate t both) p q) e) ∙ at_turn (suc i) t p q k e (omega (arith, l)) ∙ ap (λ j. Some (name j p q)) z
 
 meet : (p q : ℕ) → p + q ≡ 1 → meets both p q ≡ true
 meet zero zero e = absurd (omega (arith, e))
@@ -60,7 +59,7 @@ pub next_turn : (t p q k : ℕ) → p + q ≡ 1 → k < t → slice_get (lane (t
 next_turn t p q k e l = let z : 0 + k ≡ k = omega arith in at_turn 0 t p q k (meet p q e) l ∙ ap (λ j. Some (name j p q)) z
 
 one_here : (n : Name) → one_on n n.from n.to ≡ 1
-one_here n = pick_true {A = ℕ} (n.from == n.from && n.to == n.to) 1 0 (and_from (n.from == n.from) (n.to == n.to) (eq-eqb n.from n.from refl) (eq-eqb n.to n.to refl))
+one_here n = cond-true {A = ℕ} (n.from == n.from && n.to == n.to) 1 0 (and_from (n.from == n.from) (n.to == n.to) (eq-eqb n.from n.from refl) (eq-eqb n.to n.to refl))
 
 module _ {S : Type 0} (steps_of : S → ℕ) (v : View S) (setting : S) (own other k m : ℕ) (h : HasTalked v setting own other k m) (apart : own + other ≡ 1) where
   pub says_next : k < steps_of setting → Follows (talk (steps_of v.setting)) (puts_of v) (name k own other)

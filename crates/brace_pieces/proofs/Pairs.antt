@@ -2,12 +2,11 @@
 use Rattle.std.proofs.Common.{◌≡◌, ◌∙◌, ◌++◌, refl, sym, ap, ℕ, zero, suc, ◌+◌, ◌<◌, ◌≤◌, List, [], ◌∷◌, map, filter, count_by, Bool, true, false, cond, ◌==◌, ◌&&◌, ◌||◌, arith, inl, inr}
 use Rattle.std.specs.Prelude.{flat_map}
 use Rattle.std.specs.List.{list_any, range_with_len}
-use Rattle.std.proofs.lemmas.Bool.{eqb-true, ne_eqb, and_parts, and_left, and_right, cases_lt, cases_Bool, true≢false, cases_eq}
+use Rattle.std.proofs.lemmas.Bool.{eqb-true, ne_eqb, and_parts, and_left, and_right, cases_lt, cases_Bool, true≢false, cases_eq, cond-true, cond-false}
 use Rattle.std.proofs.lemmas.List.Sums.{sum_by-cons}
 use Rattle.std.proofs.lemmas.List.Folds.{list_any-append}
 use Rattle.std.proofs.lemmas.Map.Views.{any-filter_same}
 use Rattle.brace_core.specs.Schedule.{Pair, IsLawfulStep, is_pair, meets}
-use Rattle.brace_core.proofs.Lists.{pick_true, pick_false}
 use Rattle.brace_core.proofs.Lawful.{none_counted}
 use Rattle.brace_pieces.specs.Steps.{pairs_below}
 use Rattle.brace_num.proofs.Booleans.{and_swap}
@@ -78,10 +77,10 @@ once_in_row a (suc n) k p q =
           let (x, y) = and_parts (a == p) (k == q) one in
           let same : k ≡ q = eqb-true k q y in
           let none : count_by (is_pair p q) rest ≡ 0 = none_counted p q rest (met_in_row a (range_with_len (k + 1) n) p q ∙ and_right (a == p) (has q (range_with_len (k + 1) n)) (has_not_before n (k + 1) q (omega arith))) in
-          let here : cond {A = ℕ} (is_pair p q (ordered a k)) 1 0 ≡ 1 = pick_true (is_pair p q (ordered a k)) 1 0 one in
+          let here : cond {A = ℕ} (is_pair p q (ordered a k)) 1 0 ≡ 1 = cond-true (is_pair p q (ordered a k)) 1 0 one in
           omega (arith, counted p q (ordered a k) rest)
       | inr other ↦
-          let here : cond {A = ℕ} (is_pair p q (ordered a k)) 1 0 ≡ 0 = pick_false (is_pair p q (ordered a k)) 1 0 other in
+          let here : cond {A = ℕ} (is_pair p q (ordered a k)) 1 0 ≡ 0 = cond-false (is_pair p q (ordered a k)) 1 0 other in
           omega (arith, counted p q (ordered a k) rest, once_in_row a n (k + 1) p q)
     ]
 

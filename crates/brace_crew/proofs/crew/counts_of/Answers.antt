@@ -1,7 +1,8 @@
 use Rattle.std.proofs.Common.{rules, ◌≡◌, ◌∙◌, sym, ap, get_or, true, None, is_none}
 use Rattle.brace_part.specs.Given.{together}
-use Rattle.brace_crew.proofs.CountsGiven.{none_there, one_given}
+use Rattle.brace_crew.proofs.CountsGiven.{one_given}
 use Rattle.brace_crew.proofs.crew.counts_of.Goals as goal
+use Rattle.brace_num.proofs.Options.{none_there}
 
 pub loop-member-preserved : goal.loop-member-preserved
 loop-member-preserved g c s are =

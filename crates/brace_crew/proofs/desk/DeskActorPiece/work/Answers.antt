@@ -5,10 +5,11 @@ use Rattle.brace_pieces.specs.Courses.{step_of}
 use Rattle.brace_pieces.specs.Steps.{is_show}
 use Rattle.brace_crew.specs.declared.desk.Desk.TheInside.{Inside}
 use Rattle.brace_crew.specs.inner.Sound.{IsDesk}
-use Rattle.brace_crew.proofs.DeskTurns.{some_left, none_left}
+use Rattle.brace_crew.proofs.DeskTurns.{some_left}
 use Rattle.brace_crew.proofs.DeskWorks.{next_work, work_left, work_closed, work_other, work_brought, work_stopped, work_shown, work_refused}
 use Rattle.brace_crew.proofs.desk.DeskActorPiece.work.Goals as goal
 use Rattle.brace_crew.proofs.desk.DeskActorPiece.work.Goals.{then-is_none+in-Err, then-is_none+in_default-shown, else-is_none}
+use Rattle.brace_num.proofs.Options.{not_some}
 
 pub go_on-requires : goal.go_on-requires
 go_on-requires g c = record { is_left = work_left g.P.Publisher _ (vec_capacity c.self.inside.lots) c.self.invariant _ c.self.view_is c.requires }
@@ -20,7 +21,7 @@ pub publish-shown-requires-clause-brought : goal.publish-shown-requires-clause-b
 publish-shown-requires-clause-brought g c =
     let stands : step_of c.self.inside.course ≡ Some c.in-Some.at = sym c.step-at.ensures ∙ c.in-Some.is in
     let shows : c.in-Some.at.stage ≡ stage.Show = search rules in
-    let went = none_left c.self.inside.stop (c.is_none.ensures ∙ ap not c.if-is_none.true) in
+    let went = not_some c.self.inside.stop (c.is_none.ensures ∙ ap not c.if-is_none.true) in
     work_brought g.P.Publisher _ (vec_capacity c.self.inside.lots) c.self.invariant _ c.self.view_is c.requires c.go_on.new.self c.go_on.ensures.place c.if-self.false
     c.in-Some.at stands shows c.setting.result.now (c.setting.ensures.setting ∙ c.go_on.ensures.same_setting) went
 
@@ -36,7 +37,7 @@ invariant_of-self-then-eq g c =
           IsDesk g.P.Publisher (record { course = x.course; opening = x.opening.value; publisher = x.publisher; stop = x.stop; lots = x.lots.items; closed = closed }) (vec_capacity x.lots)) (sym w.self-inside-is)
           (work_refused g.P.Publisher _ (vec_capacity c.self.inside.lots) c.self.invariant _ c.self.view_is c.requires
           c.go_on.new.self c.go_on.ensures.place c.if-self.false at stands shows w.setting.result.now (w.setting.ensures.setting ∙ c.go_on.ensures.same_setting)
-          (none_left c.self.inside.stop (c.is_none.ensures ∙ ap not w.if-is_none.true)) w.publish-shown.new.publisher w.clear.new.self.items w.clear.ensures.items
+          (not_some c.self.inside.stop (c.is_none.ensures ∙ ap not w.if-is_none.true)) w.publish-shown.new.publisher w.clear.new.self.items w.clear.ensures.items
           (vec_capacity w.clear.new.self) (w.clear.ensures.capacity ∙ w.publish-shown.ensures.places) w.publish-shown.ensures.rises closed
           w.publish-shown.result w.publish-shown.ensures.refused w.publish-shown.ensures.named w.publish-shown.ensures.halted w.publish-shown.ensures.written w.publish-shown.ensures.saved
           w.in-Err.stop w.in-Err.is (c.is_some-self-inside.ensures ∙ ap (λ (x : Inside g.row.P.Denot). is_some x.stop) w.self-inside-is))
@@ -45,7 +46,7 @@ invariant_of-self-then-eq g c =
           IsDesk g.P.Publisher (record { course = x.course; opening = x.opening.value; publisher = x.publisher; stop = x.stop; lots = x.lots.items; closed = closed }) (vec_capacity x.lots)) (sym w.self-inside-is)
           (work_shown g.P.Publisher _ (vec_capacity c.self.inside.lots) c.self.invariant _ c.self.view_is c.requires
           c.go_on.new.self c.go_on.ensures.place c.if-self.false at stands shows w.setting.result.now (w.setting.ensures.setting ∙ c.go_on.ensures.same_setting)
-          (none_left c.self.inside.stop (c.is_none.ensures ∙ ap not w.if-is_none.true)) w.publish-shown.new.publisher w.clear.new.self.items w.clear.ensures.items
+          (not_some c.self.inside.stop (c.is_none.ensures ∙ ap not w.if-is_none.true)) w.publish-shown.new.publisher w.clear.new.self.items w.clear.ensures.items
           (vec_capacity w.clear.new.self) (w.clear.ensures.capacity ∙ w.publish-shown.ensures.places) w.publish-shown.ensures.rises closed
           (c.is_some-self-inside.ensures ∙ ap (λ (x : Inside g.row.P.Denot). is_some x.stop) w.self-inside-is) w.in_default-shown.ensures.done)
       | else-is_none w ↦
