@@ -16,9 +16,6 @@ lex-transitive a p b q c r ab bc = grind (arith, tests)
 lex-past : (a p b q c r : ℕ) → lex a p b q ≡ true → lex c r b q ≡ false → lex a p c r ≡ true
 lex-past a p b q c r ab cb = grind (arith, tests)
 
-lex-apart : (a p b q : ℕ) → lex a p b q ≡ true → lex b q a p ≡ false
-lex-apart a p b q ab = grind (arith, tests)
-
 module _ {A : Type 0} (pass rank : A → ℕ) where
   -- a fault that is before the first one is before all
   before_all : (f x : A) (all : List A) → IsFirst pass rank f all → is_before pass rank x f ≡ true → AllByRecursion (λ g. is_before pass rank x g ≡ true) all

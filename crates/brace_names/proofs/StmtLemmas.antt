@@ -28,10 +28,6 @@ module _ {A : Type 0} where
     | inr new ↦ rw new (record { more = (name, x) ∷ []; is = refl })
   ]
 
-  -- the first names are those that were there
-  pub taken-added : (table : List (List ℕ × A)) (name : List ℕ) (x : A) → take (length table) (with_name table name x) ≡ table
-  taken-added table name x = let a : Added table (with_name table name x) = added table name x in ap (take (length table)) a.is ∙ take-append_seam table a.more
-
 -- the scope is the first one with more names and so many more constants
 record Grown (scope after : Scope) (count : ℕ) : Type 0 where
   pub more : List (List ℕ × Local)

@@ -2,10 +2,9 @@
 use Rattle.std.proofs.Common.{◌≡◌, ◌∙◌, sym, ap, refl, ℕ, zero, suc, ◌+◌, ◌-◌, ◌/◌, ◌%◌, ◌<◌, ◌≤◌, true, false, ◌==◌, if◌then◌else◌, List, [], ◌∷◌, ◌++◌, length, reverse, take, drop, replicate, arith, append_assoc, length-append, ℤ, unsigned_abs, ◌⊎◌, inl, inr, add-one}
 use Rattle.std.specs.Fmt.{decimal}
 use Rattle.std.proofs.lemmas.Bool.{cases_Bool, eqb-true}
-use Rattle.std.proofs.lemmas.List.{reverse-append, reverse-reverse, length-replicate, replicate_more}
+use Rattle.std.proofs.lemmas.List.{reverse-append, reverse-reverse, replicate_more}
 use Rattle.std.proofs.Math.Seq.{take-append_seam, take-append-add, drop-append_seam}
 use Rattle.brace_num.specs.Spelling.{sign_of, six_digits, canonical_fixed}
-use Rattle.brace_num.proofs.Printings.{short_decimal}
 use Rattle.brace_num.proofs.Canonical.{six_long}
 use Rattle.brace_show.specs.Literals.{past_zeros, without_zeros, shortened, short_fixed}
 

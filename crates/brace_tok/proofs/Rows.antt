@@ -154,11 +154,6 @@ step_bounds text toks new at_ n (step.Token k m) (p, stands, says_) (same, put) 
     let w : m ≤ length text = stands.within in (omega (arith, stands_some text p m stands), omega arith)
 step_bounds text toks new at_ n (step.Fault f) s p = absurd p
 
-pub step_end : (text : List ℕ) (at_ : ℕ) (s : Step) → at_ + length text ≤ 1048576 → StepIs at_ text s → HasEnd at_ s
-step_end text at_ (step.Gap m) h s = tt
-step_end text at_ (step.Token k m) h (p, stands, says_) = let w : m ≤ length text = stands.within in omega arith
-step_end text at_ (step.Fault f) h s = tt
-
 pub fault_of : (src rest : List ℕ) (toks : List Token) (at_ : ℕ) (s : Step) (f : TokFault) → Read src rest toks → at_ ≡ length src - length rest
     → StepIs at_ rest s → (f ≡ fault.NoMemory) ⊎ (s ≡ step.Fault f) → IsFault src f
 fault_of src rest toks at_ s f r e there (inl none) = subst (λ g. IsFault src g) (sym none) tt

@@ -33,11 +33,6 @@ close_here (x ∷ []) n h = absurd (omega arith)
 close_here (x ∷ y ∷ text) zero h = refl
 close_here (x ∷ y ∷ text) (suc n) h = close_here (y ∷ text) n (omega arith)
 
-pub close_none : (text : List ℕ) → length text ≤ 1 → has_close text ≡ false
-close_none [] h = refl
-close_none (x ∷ []) h = rw (and_false (x == 42)) refl
-close_none (x ∷ y ∷ text) h = absurd (omega arith)
-
 pub both_false : (a b : Bool) → a ≡ false → b ≡ false → (a || b) ≡ false
 both_false false b p q = q
 both_false true b p q = p
