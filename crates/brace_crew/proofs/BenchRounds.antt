@@ -103,13 +103,12 @@ module _ {P : Type 0} where
       still x two (setting, is) =
           let a : ℕ = number_of x in
           let past : ℕ = past_of (course_of x) in
-          let plan : Schedule = schedule (course_of m).setting in
-          (
+          let plan : Schedule = schedule (course_of m).setting in (
             setting ∙ sym seat.setting,
             counted_still (schedule v.setting) a past (Serves v) (puts_of v) (takes_of v) is (schedule w.setting) a past (Serves w) (puts_of w) (takes_of w) (ap schedule seat.setting) refl
-            (serves_still v w seat a is.served) refl
-            (λ q. let none = puts_none plan (number_of m) (past_of (course_of m)) a q two by in omega (arith, put a q, none))
-            (λ q. let none = takes_none plan (number_of m) (past_of (course_of m)) q a two by in omega (arith, taken q a, none)),
+                (serves_still v w seat a is.served) refl
+                (λ q. let none = puts_none plan (number_of m) (past_of (course_of m)) a q two by in omega (arith, put a q, none))
+                (λ q. let none = takes_none plan (number_of m) (past_of (course_of m)) q a two by in omega (arith, taken q a, none)),
           )
 
       each : All (Counts w) (set ms i n)
@@ -137,11 +136,10 @@ module _ {P : Type 0} where
       each : All (Counts v) ms
       each k d low =
           let m : Member P = get_or ms k d in
-          let a : ℕ = number_of m in
-          (
+          let a : ℕ = number_of m in (
             are.settings k d low,
             subst (λ n. IsCounted (schedule v.setting) a n (Serves v) (puts_of v) (takes_of v)) (sym (are.first_turns k d low))
-            (record { served = eqb-true (a % v.seats) v.number (served k d low); put = λ q. unused.nothing_put a q; taken = λ q. unused.nothing_taken q a }),
+                (record { served = eqb-true (a % v.seats) v.number (served k d low); put = λ q. unused.nothing_put a q; taken = λ q. unused.nothing_taken q a }),
           )
 
   pub used_up : (v : View Setting) (ms : List (Member P)) → AreCounted v ms → All IsDone ms → IsUsedUp v
@@ -156,8 +154,7 @@ module _ {P : Type 0} where
           let a : ℕ = number_of m in
           let past : ℕ = past_of (course_of m) in
           let (setting, is) = are.counted k d low in
-          let over : turn_at (schedule v.setting) a past ≡ Done = ap (λ (s : Setting). turn_at (schedule s) a past) (sym setting) ∙ done k d low in
-          (
+          let over : turn_at (schedule v.setting) a past ≡ Done = ap (λ (s : Setting). turn_at (schedule s) a past) (sym setting) ∙ done k d low in (
             all_put (schedule v.setting) a past (Serves v) (puts_of v) (takes_of v) is (schedule_lawful v.setting) over,
             all_taken (schedule v.setting) a past (Serves v) (puts_of v) (takes_of v) is (schedule_lawful v.setting) over,
           )
