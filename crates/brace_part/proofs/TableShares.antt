@@ -1,20 +1,17 @@
 -- The shares of agents, one effect and one agent after another.
 use Rattle.std.proofs.Common.{◌≡◌, ◌∙◌, refl, sym, ap, ap₂, subst, ℕ, zero, suc, ◌+◌, ◌<◌, ◌≤◌, min, ℤ, pos, ◌+ℤ◌, ◌<ℤ◌, ◌≤ℤ◌, List, [], ◌∷◌, ◌++◌, length, take, get_or, map, flat_map, Bool, true, false, cond, Option, Some, None, IfSome, arith, add-one, append_assoc, append-nil}
-use Rattle.std.specs.Prelude.{fold}
 use Rattle.std.proofs.lemmas.Int.{ints}
 use Rattle.std.proofs.lemmas.Grind.{flat_map-append, common_steps}
 use Rattle.std.proofs.lemmas.List.Elements.{filter-append}
 use Rattle.std.proofs.Math.Seq.{take-suc}
 use Rattle.brace_model.specs.declared.program.Class.{Class}
-use Rattle.brace_model.specs.declared.program.Comb.{Comb}
-use Rattle.brace_model.specs.declared.program.Comb.TheVariants.{Count}
 use Rattle.brace_model.specs.declared.program.Effect.{Effect}
 use Rattle.brace_model.specs.declared.program.Program.{Program}
 use Rattle.brace_model.specs.declared.program.Value.{Value}
 use Rattle.brace_model.specs.declared.world.Agent.{Agent}
 use Rattle.brace_model.specs.World.{class_of}
 use Rattle.brace_model.specs.Query.{Saying}
-use Rattle.brace_model.specs.Total.{joined, total_of, said_to, totals_from}
+use Rattle.brace_model.specs.Total.{total_of, said_to, totals_from}
 use Rattle.brace_comb.proofs.Joins.{fold-counted}
 use Rattle.brace_eval.specs.Heard.{counted, counting, effects_in, row_of}
 use Rattle.brace_eval.proofs.CountLemmas.{counted-effects}

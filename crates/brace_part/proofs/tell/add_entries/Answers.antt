@@ -1,4 +1,4 @@
-use Rattle.std.proofs.Common.{◌≡◌, ◌∙◌, ◌++◌, ◌∷◌, [], refl, sym, ap, ap₂, ℕ, List, not, length, map, min, subst, pos, ◌<◌, ◌≤◌, get_or, to_z, of_z, rules}
+use Rattle.std.proofs.Common.{◌∙◌, ◌++◌, ◌∷◌, [], refl, sym, ap, ap₂, ℕ, List, not, length, map, min, subst, pos, ◌<◌, ◌≤◌, get_or, to_z, of_z, rules}
 use Rattle.std.specs.Int.{w128}
 use Rattle.std.specs.Int.Signed.{lt_z, lt_z_yes, lt_z_no}
 use Rattle.std.proofs.lemmas.Float.{T_from_true}
