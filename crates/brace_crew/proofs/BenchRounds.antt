@@ -4,7 +4,6 @@ use Rattle.std.specs.List.{All, Contains, filter, range_with_len, sum_by}
 use Rattle.std.proofs.lemmas.Bool.{cases_eq, cases_lt, eq-eqb, eqb-true}
 use Rattle.std.proofs.lemmas.List.{length-map, length-set, get_or-set_same, get_or-set_other, get_or_default, set-get_or, take_all}
 use Rattle.std.proofs.lemmas.List.Elements.{All-nil, All-cons, All-map, All-more, All-contains, All-filter, filter_passes}
-use Rattle.std.proofs.lemmas.List.Sums.{sum_by-set}
 use Rattle.brace_core.specs.declared.name.Name.{Name}
 use Rattle.brace_core.specs.declared.name.Turn.TheVariants.{Take, Done}
 use Rattle.brace_core.specs.declared.turn.Went.{Went}
