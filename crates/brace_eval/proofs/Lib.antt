@@ -12,6 +12,5 @@ pub mod BirthLemmas
 pub mod StepLemmas
 pub mod NumberLemmas
 pub mod LawLemmas
-pub mod TypeLemmas
 pub mod LawfulLemmas
 pub mod WorkedLawful

@@ -7,3 +7,4 @@ pub mod ValueEquations
 pub mod RunLemmas
 pub mod StepLemmas
 pub mod WorldLemmas
+pub mod TypeLemmas

@@ -11,3 +11,5 @@ pub mod Rules
 pub mod Sites
 pub mod Typing
 pub mod Lawful
+pub mod Scopes
+pub mod Typed
