@@ -29,8 +29,8 @@ use Rattle.brace_model.specs.Query.{opening_scope, query_faults}
 use Rattle.brace_model.specs.Next.{Next, next, next_in, totals_in, next_of, unless_stopped, first_stop, earlier_stop, update_in, left_by, holds, condition_in, spawns_in, gifts_in, child_in, changed, moved, with_gifts, values_of, ruled, rules_in, update_fault}
 use Rattle.brace_model.specs.Step.{step, all_next, living, children, numbered, first_too_far, birth_fault, grown, most_agents, most_values, greatest_id, count_values}
 use Rattle.brace_model.specs.Lawful.{LawfulProgram, LawfulClass, LawfulAgents, is_lawful_agent, has_states, is_position, rule_scope, is_ruled, is_given, is_spawn}
-use Rattle.brace_eval.specs.Typed.{Fits}
-use Rattle.brace_eval.proofs.TypeLemmas.{passed, only_same, one_type, IsOf, just, sound}
+use Rattle.brace_model.specs.Typed.{Fits}
+use Rattle.brace_model.proofs.TypeLemmas.{passed, only_same, one_type, IsOf, just, sound}
 use Rattle.brace_eval.proofs.NumberLemmas.{ok, same-next, not-both, none-some}
 use Rattle.brace_eval.proofs.LawLemmas.{stepped, stepped-ok, unmapped, keeps-limits, last-fits}
 use Rattle.std.proofs.lemmas.Bool.{and_from}

@@ -12,5 +12,4 @@ pub mod BirthLemmas
 pub mod StepLemmas
 pub mod NumberLemmas
 pub mod LawLemmas
-pub mod TypeLemmas
 pub mod LawfulLemmas

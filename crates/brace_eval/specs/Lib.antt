@@ -1,4 +1,2 @@
-pub mod Scopes
-pub mod Typed
 pub mod Heard
 pub mod inner

@@ -1,7 +1,7 @@
 ghost use Rattle.std.specs.Prelude.{◌≡◌, ◌≤◌, ◌^◌};
 ghost use Rattle.brace_model.specs.World.{value_at};
 ghost use Rattle.brace_model.specs.Value.{agent_of, value, choose};
-ghost use Rattle.brace_eval.specs.Scopes.{scope_of};
+ghost use Rattle.brace_model.specs.Scopes.{scope_of};
 
 use crate::operations::{strict, total_read, unary};
 use brace_draw::Drawer;

@@ -14,7 +14,7 @@ ghost use Rattle.brace_model.specs.Typing.{Names, type_of, type_of_value};
 ghost use Rattle.brace_model.specs.Lawful.{LawfulProgram, LawfulAgents};
 ghost use Rattle.brace_model.specs.Step.{step};
 ghost use Rattle.brace_eval.specs.declared.heard.Heard.{Heard};
-ghost use Rattle.brace_eval.specs.Typed.{Fits};
+ghost use Rattle.brace_model.specs.Typed.{Fits};
 ghost use Rattle.brace_eval.specs.Heard.{IsHeard, effects_in};
 
 /// The value of a well-typed expression is of its type, where each name has a value of its type.

@@ -4,7 +4,7 @@ ghost use Rattle.brace_model.specs.World.{class_of};
 ghost use Rattle.brace_model.specs.Lawful.{LawfulProgram};
 ghost use Rattle.brace_model.specs.Value.{value};
 ghost use Rattle.brace_model.specs.Next.{ruled, condition_in, holds, spawns_in, gifts_in, rules_in, moved, changed, with_gifts, child_in, values_of, update_fault, next_in};
-ghost use Rattle.brace_eval.specs.Scopes.{scope_of};
+ghost use Rattle.brace_model.specs.Scopes.{scope_of};
 ghost use Rattle.brace_eval.specs.inner.Updates.{with_one, with_stop, worths, gift_worths, Meets};
 
 use crate::expression::eval;

@@ -10,3 +10,4 @@ pub mod ValueEquations
 pub mod RunLemmas
 pub mod Simulation
 pub mod WorldLemmas
+pub mod TypeLemmas

@@ -10,3 +10,5 @@ pub mod Published
 pub mod Sites
 pub mod Typing
 pub mod Lawful
+pub mod Scopes
+pub mod Typed

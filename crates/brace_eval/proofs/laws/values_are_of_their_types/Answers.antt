@@ -1,4 +1,4 @@
-use Rattle.brace_eval.proofs.TypeLemmas.{sound}
+use Rattle.brace_model.proofs.TypeLemmas.{sound}
 use Rattle.brace_eval.proofs.laws.values_are_of_their_types.Goals as goal
 
 pub returns : goal.returns

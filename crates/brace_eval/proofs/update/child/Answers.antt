@@ -4,7 +4,7 @@ use Rattle.brace_model.specs.declared.program.Spawn.{Spawn}
 use Rattle.brace_model.specs.declared.program.Value.TheVariants.{Flag}
 use Rattle.brace_model.specs.Value.{Worth, value}
 use Rattle.brace_model.specs.Next.{spawns_in, gifts_in, holds}
-use Rattle.brace_eval.specs.Scopes.{scope_of}
+use Rattle.brace_model.specs.Scopes.{scope_of}
 use Rattle.brace_eval.specs.inner.Updates.{Meets, gift_worths}
 use Rattle.brace_eval.proofs.UpdateLemmas.{meets-ok, meets-then, scope_from}
 use Rattle.brace_eval.proofs.update.child.Goals as goal

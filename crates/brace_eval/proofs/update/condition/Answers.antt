@@ -2,7 +2,7 @@ use Rattle.std.proofs.Common.{sym, subst, [], ◌∷◌, Option, false}
 use Rattle.brace_model.specs.declared.program.Expr.{Expr}
 use Rattle.brace_model.specs.declared.program.Value.TheVariants.{Flag}
 use Rattle.brace_model.specs.Next.{condition_in}
-use Rattle.brace_eval.specs.Scopes.{scope_of}
+use Rattle.brace_model.specs.Scopes.{scope_of}
 use Rattle.brace_eval.specs.inner.Updates.{Meets}
 use Rattle.brace_eval.proofs.UpdateLemmas.{meets-ok}
 use Rattle.brace_eval.proofs.update.condition.Goals as goal

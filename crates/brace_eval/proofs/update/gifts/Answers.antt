@@ -4,7 +4,7 @@ use Rattle.brace_model.specs.declared.program.Gift.{Gift}
 use Rattle.brace_model.specs.declared.program.Value.{Value}
 use Rattle.brace_model.specs.Value.{Worth, value}
 use Rattle.brace_model.specs.Next.{values_of}
-use Rattle.brace_eval.specs.Scopes.{scope_of}
+use Rattle.brace_model.specs.Scopes.{scope_of}
 use Rattle.brace_eval.specs.inner.Updates.{Meets, with_one}
 use Rattle.brace_eval.proofs.DeedLemmas.{map-more}
 use Rattle.brace_eval.proofs.UpdateLemmas.{values-more, meets-then, scope_from}

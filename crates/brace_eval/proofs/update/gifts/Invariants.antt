@@ -2,7 +2,7 @@ use Rattle.std.proofs.Common.{◌≡◌, map, take}
 use Rattle.brace_model.specs.declared.program.Gift.{Gift}
 use Rattle.brace_model.specs.Value.{value}
 use Rattle.brace_model.specs.Next.{values_of}
-use Rattle.brace_eval.specs.Scopes.{scope_of}
+use Rattle.brace_model.specs.Scopes.{scope_of}
 use Rattle.brace_eval.specs.inner.Updates.{Meets}
 use Rattle.brace_eval.proofs.update.gifts.Given as goal
 

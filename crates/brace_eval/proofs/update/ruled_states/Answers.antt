@@ -3,7 +3,7 @@ use Rattle.brace_model.specs.declared.program.State.{State}
 use Rattle.brace_model.specs.declared.program.Value.{Value}
 use Rattle.brace_model.specs.Value.{Worth}
 use Rattle.brace_model.specs.Next.{values_of, ruled}
-use Rattle.brace_eval.specs.Scopes.{scope_of}
+use Rattle.brace_model.specs.Scopes.{scope_of}
 use Rattle.brace_eval.specs.inner.Updates.{Meets, with_one}
 use Rattle.brace_eval.proofs.UpdateLemmas.{zip-more, zip-all, values-more, meets-then}
 use Rattle.brace_eval.proofs.update.ruled_states.Goals as goal

@@ -2,7 +2,7 @@ use Rattle.std.proofs.Common.{◌≡◌, map, take, zip}
 use Rattle.brace_model.specs.declared.program.State.{State}
 use Rattle.brace_model.specs.declared.program.Value.{Value}
 use Rattle.brace_model.specs.Next.{ruled, values_of}
-use Rattle.brace_eval.specs.Scopes.{scope_of}
+use Rattle.brace_model.specs.Scopes.{scope_of}
 use Rattle.brace_eval.specs.inner.Updates.{Meets}
 use Rattle.brace_eval.proofs.update.ruled_states.Given as goal
 

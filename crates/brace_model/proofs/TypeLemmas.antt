@@ -18,7 +18,7 @@ use Rattle.brace_model.specs.declared.program.Expr.TheOpen as expr
 use Rattle.brace_model.specs.declared.program.Expr.TheFolds.{map-Expr, ind-Expr, fold-roll-Expr}
 use Rattle.brace_model.specs.Value.{Scope, Worth, made, typed, like, unary, strict, with_value, choose, binary, total_read, value_step, value}
 use Rattle.brace_model.specs.Typing.{Names, same_type, is_number, type_of_value, only, effect_named, is_sited, is_sum, unary_faults, binary_faults, unary_type, operation_type, binary_type, choice_type, type_step, type_of}
-use Rattle.brace_eval.specs.Typed.{Fits}
+use Rattle.brace_model.specs.Typed.{Fits}
 
 -- ---- what an answer says of its parts
 
@@ -42,13 +42,13 @@ reached : (w : Worth) (f : Value → Worth) (v : Value) → with_value w f ≡ O
 reached (Ok u) f v e = record { from = u; was = refl; gives = e }
 reached (Err stop) f v e = absurd (cc)
 
-some_is : (s t : Ty) → Some s ≡ Some t → s ≡ t
+pub some_is : (s t : Ty) → Some s ≡ Some t → s ≡ t
 some_is s t e = cc
 
 ok_is : (u v : Value) → (let w : Worth = Ok u in w) ≡ Ok v → u ≡ v
 ok_is u v e = cc
 
-only_true : (test : Bool) (s t : Ty) → only test s ≡ Some t → test ≡ true
+pub only_true : (test : Bool) (s t : Ty) → only test s ≡ Some t → test ≡ true
 only_true true s t e = refl
 only_true false s t e = absurd (cc)
 
@@ -56,15 +56,19 @@ pub only_same : (test : Bool) (s t : Ty) → only test s ≡ Some t → s ≡ t
 only_same true s t e = cc
 only_same false s t e = absurd (cc)
 
-chosen_some : (test : Bool) (o : Option Ty) (t : Ty) → (if test then o else None) ≡ Some t → o ≡ Some t
+pub chosen_some : (test : Bool) (o : Option Ty) (t : Ty) → (if test then o else None) ≡ Some t → o ≡ Some t
 chosen_some true o t e = e
 chosen_some false o t e = absurd (cc)
 
-chosen_true : (test : Bool) (o : Option Ty) (t : Ty) → (if test then o else None) ≡ Some t → test ≡ true
+pub chosen_true : (test : Bool) (o : Option Ty) (t : Ty) → (if test then o else None) ≡ Some t → test ≡ true
 chosen_true true o t e = refl
 chosen_true false o t e = absurd (cc)
 
-and_second : (p q : Bool) → (p && q) ≡ true → q ≡ true
+pub and_first : (p q : Bool) → (p && q) ≡ true → p ≡ true
+and_first true q e = refl
+and_first false q e = absurd (cc)
+
+pub and_second : (p q : Bool) → (p && q) ≡ true → q ≡ true
 and_second true q e = e
 and_second false q e = absurd (cc)
 

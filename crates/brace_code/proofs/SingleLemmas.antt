@@ -1,0 +1,172 @@
+-- What each instruction does in one environment.
+use Rattle.std.proofs.Common.{◌≡◌, ◌∙◌, refl, sym, ap, subst, ℕ, ◌+◌, ◌-◌, ◌<◌, ◌≤◌, ℤ, pos, Bool, true, false, List, [], ◌∷◌, ◌++◌, length, take, drop, set, reverse, map, Result, Ok, Err, get_or, drop-cons, add-one, arith, length-set}
+use Rattle.std.specs.Prelude.{nat_lt, if◌then◌else◌}
+use Rattle.std.specs.Ordering.{int_eq}
+use Rattle.std.proofs.lemmas.List.{drop_all, take_more, take_more_set, reverse-append, length-reverse, length-take-le, take-append-le, take-take}
+use Rattle.std.proofs.lemmas.Bool.Decides.{nat_tests}
+use Rattle.brace_model.specs.declared.program.Ty.{Ty}
+use Rattle.brace_model.specs.declared.program.UnOp.{UnOp}
+use Rattle.brace_model.specs.declared.program.BinOp.{BinOp}
+use Rattle.brace_model.specs.declared.fault.Stop.{Stop}
+use Rattle.brace_draw.specs.declared.Drawer.{Drawer}
+use Rattle.brace_model.specs.declared.job.Env.{Env}
+use Rattle.brace_model.specs.Scopes.{scope_of}
+use Rattle.brace_model.specs.Value.{Scope}
+use Rattle.brace_code.specs.declared.code.Operand.{Operand}
+use Rattle.brace_code.specs.declared.code.Instr.{Instr}
+use Rattle.brace_code.specs.declared.code.Instr.TheVariants.{Push, Unary, Binary, Choice}
+use Rattle.brace_code.specs.declared.code.Instr.TheOpen as layer
+use Rattle.brace_code.specs.inner.Words.{Outcome, made_word, unary_word, binary_word, choose_word, operand_word}
+use Rattle.brace_code.specs.inner.Runs.{Left, Deed, onward, pushed, put, stuck, top, deed, deed_step, run, outcome, stack_of, Did}
+use Rattle.brace_code.proofs.CodeLemmas.{deed-Push, deed-Unary, deed-Binary, deed-Choice}
+
+-- ---- stacks of the first words
+
+pub written : (words : List ℤ) (place : ℕ) (word : ℤ) → place < length words → stack_of (set words place word) (place + 1) ≡ word ∷ stack_of words place
+written words place word h = ap reverse (take_more_set words place word h) ∙ reverse-append (take place words) (word ∷ [])
+
+at_popped : (words : List ℤ) (n : ℕ) (d : ℤ) → n < length words → stack_of words (n + 1) ≡ get_or words n d ∷ stack_of words n
+at_popped words n d h = ap reverse (take_more words n d h) ∙ reverse-append (take n words) (get_or words n d ∷ [])
+
+pub high : (words : List ℤ) (n : ℕ) → n ≤ length words → length (stack_of words n) ≡ n
+high words n h = length-reverse (take n words) ∙ length-take-le n words h
+
+-- the stack of so many words, its top by itself
+pub popped : (words : List ℤ) (height : ℕ) (d : ℤ) → 0 < height → height ≤ length words
+    → stack_of words height ≡ get_or words (height - 1) d ∷ stack_of words (height - 1)
+popped words height d some h = let e : height - 1 + 1 ≡ height = omega arith in
+    subst (λ (n : ℕ). stack_of words n ≡ get_or words (height - 1) d ∷ stack_of words (height - 1)) e (at_popped words (height - 1) d (omega arith))
+
+-- an outcome that was written
+pub write_did : (words : List ℤ) (place : ℕ) (word : ℤ) → place < length words → Did (pushed (stack_of words place) (Ok word)) (Ok (place + 1)) (set words place word)
+write_did words place word h = (ap (λ (s : List ℤ). let l : Left = Ok s in l) (sym (written words place word h)), simp length-set (omega arith))
+
+pub did_same : (l m : Left) (r : Result ℕ Stop) (words : List ℤ) → l ≡ m → Did m r words → Did l r words
+did_same l m r words e d = subst (λ (x : Left). Did x r words) (sym e) d
+
+-- ---- instructions
+
+module _ (i : Instr) (room : ℕ) (scope : Scope) (stack : List ℤ) where
+  at : (f : Deed) → deed i ≡ f → deed i room scope stack ≡ f room scope stack
+  at f e = ap (λ (x : Deed). x room scope stack) e
+
+  pub push_does : (o : Operand) → i ≡ Push o → length stack < room → deed i room scope stack ≡ pushed stack (operand_word scope o)
+  push_does o is h = at (deed_step (layer.Push o)) (ap deed is ∙ deed-Push o) ∙ go (grind (arith, nat_tests))
+    where
+      go : nat_lt (length stack) room ≡ true → put room stack (operand_word scope o) ≡ pushed stack (operand_word scope o)
+      go e = rw e refl
+
+  pub push_lacks : (o : Operand) → i ≡ Push o → room ≤ length stack → deed i room scope stack ≡ Err stuck
+  push_lacks o is h = at (deed_step (layer.Push o)) (ap deed is ∙ deed-Push o) ∙ go (grind (arith, nat_tests))
+    where
+      go : nat_lt (length stack) room ≡ false → put room stack (operand_word scope o) ≡ Err stuck
+      go e = rw e refl
+
+  pub unary_does : (op : UnOp) (site : ℕ) (a : ℤ) (rest : List ℤ) → i ≡ Unary op site → stack ≡ a ∷ rest → deed i room scope stack ≡ pushed rest (made_word site (unary_word op a))
+  unary_does op site a rest is s = at (deed_step (layer.Unary op site)) (ap deed is ∙ deed-Unary op site) ∙ ap (deed_step (layer.Unary op site) room scope) s
+
+  pub unary_lacks : (op : UnOp) (site : ℕ) → i ≡ Unary op site → stack ≡ [] → deed i room scope stack ≡ Err stuck
+  unary_lacks op site is s = at (deed_step (layer.Unary op site)) (ap deed is ∙ deed-Unary op site) ∙ ap (deed_step (layer.Unary op site) room scope) s
+
+  pub binary_does : (op : BinOp) (t : Ty) (site : ℕ) (a b : ℤ) (rest : List ℤ) → i ≡ Binary op t site → stack ≡ b ∷ (a ∷ rest)
+      → deed i room scope stack ≡ pushed rest (made_word site (binary_word op t a b))
+  binary_does op t site a b rest is s = at (deed_step (layer.Binary op t site)) (ap deed is ∙ deed-Binary op t site) ∙ ap (deed_step (layer.Binary op t site) room scope) s
+
+  pub binary_lacks_two : (op : BinOp) (t : Ty) (site : ℕ) → i ≡ Binary op t site → stack ≡ [] → deed i room scope stack ≡ Err stuck
+  binary_lacks_two op t site is s = at (deed_step (layer.Binary op t site)) (ap deed is ∙ deed-Binary op t site) ∙ ap (deed_step (layer.Binary op t site) room scope) s
+
+  pub binary_lacks_one : (op : BinOp) (t : Ty) (site : ℕ) (b : ℤ) → i ≡ Binary op t site → stack ≡ b ∷ [] → deed i room scope stack ≡ Err stuck
+  binary_lacks_one op t site b is s = at (deed_step (layer.Binary op t site)) (ap deed is ∙ deed-Binary op t site) ∙ ap (deed_step (layer.Binary op t site) room scope) s
+
+  pub choice_does : (a b : List Instr) (t : ℤ) (rest : List ℤ) → i ≡ Choice a b → stack ≡ t ∷ rest
+      → deed i room scope stack ≡ pushed rest (outcome (choose_word t a b) (room - length rest) scope)
+  choice_does a b t rest is s = at (deed_step (layer.Choice (map deed a) (map deed b))) (ap deed is ∙ deed-Choice a b)
+      ∙ ap (deed_step (layer.Choice (map deed a) (map deed b)) room scope) s ∙ ap (pushed rest) (go (int_eq t (pos 0)))
+    where
+      go : (e : Bool) → (if e then outcome b (room - length rest) scope else outcome a (room - length rest) scope) ≡ outcome (if e then b else a) (room - length rest) scope
+      go true = refl
+      go false = refl
+
+  pub choice_lacks : (a b : List Instr) → i ≡ Choice a b → stack ≡ [] → deed i room scope stack ≡ Err stuck
+  choice_lacks a b is s = at (deed_step (layer.Choice (map deed a) (map deed b))) (ap deed is ∙ deed-Choice a b)
+      ∙ ap (deed_step (layer.Choice (map deed a) (map deed b)) room scope) s
+
+-- one more instruction
+pub run_more : (code : List Instr) (at : ℕ) (e : Instr) (room : ℕ) (scope : Scope) (stack : List ℤ) → at < length code →
+    run (drop at code) room scope stack ≡ onward (deed (get_or code at e) room scope stack) (run (drop (at + 1) code) room scope)
+run_more code at e room scope stack h = rw (add-one, drop-cons code at e) refl
+
+-- the scope depends on a drawer's seed alone
+pub same_scope : (env : Env) (d e : Drawer) → d.seed ≡ e.seed → scope_of env d ≡ scope_of env e
+same_scope env d e p = rw p refl
+
+-- a loop's step, its end at a fault, and its end
+module _ (code : List Instr) (at : ℕ) (room : ℕ) (scope : Scope) (stack : List ℤ) (all : Left) where
+  pub goes_on : (e : Instr) (more : List ℤ) → at < length code → deed (get_or code at e) room scope stack ≡ Ok more
+      → run (drop at code) room scope stack ≡ all → run (drop (at + 1) code) room scope more ≡ all
+  goes_on e more h d p = sym (run_more code at e room scope stack h ∙ ap (λ (l : Left). onward l (run (drop (at + 1) code) room scope)) d) ∙ p
+
+  pub stops : (e : Instr) (stop : Stop) → at < length code → deed (get_or code at e) room scope stack ≡ Err stop
+      → run (drop at code) room scope stack ≡ all → all ≡ Err stop
+  stops e stop h d p = sym p ∙ run_more code at e room scope stack h ∙ ap (λ (l : Left). onward l (run (drop (at + 1) code) room scope)) d
+
+  pub ends : length code ≤ at → run (drop at code) room scope stack ≡ all → all ≡ Ok stack
+  ends h p = sym p ∙ ap (λ (c : List Instr). run c room scope stack) (drop_all at code h)
+
+-- ---- what is done on the stack of the first words
+
+module _ (i : Instr) (scope : Scope) (words : List ℤ) (height : ℕ) (result : Result ℕ Stop) (after : List ℤ) where
+  pub push_did : (o : Operand) (w : Outcome) → i ≡ Push o → height < length words → w ≡ operand_word scope o
+      → Did (pushed (stack_of words height) w) result after → Did (deed i (length words) scope (stack_of words height)) result after
+  push_did o w is h e d =
+      did_same _ _ result after (push_does i (length words) scope (stack_of words height) o is (subst (λ (n : ℕ). n < length words) (sym (high words height (omega arith))) h) ∙ ap (pushed (stack_of words height)) (sym e)) d
+
+  pub unary_did : (op : UnOp) (site : ℕ) (a : ℤ) (rest : ℕ) (w : Outcome) → i ≡ Unary op site → stack_of words height ≡ a ∷ stack_of words rest
+      → w ≡ made_word site (unary_word op a) → Did (pushed (stack_of words rest) w) result after → Did (deed i (length words) scope (stack_of words height)) result after
+  unary_did op site a rest w is s e d =
+      did_same _ _ result after (unary_does i (length words) scope (stack_of words height) op site a (stack_of words rest) is s ∙ ap (pushed (stack_of words rest)) (sym e)) d
+
+  pub binary_did : (op : BinOp) (t : Ty) (site : ℕ) (a b : ℤ) (middle rest : ℕ) (w : Outcome) → i ≡ Binary op t site
+      → stack_of words height ≡ b ∷ stack_of words middle → stack_of words middle ≡ a ∷ stack_of words rest
+      → w ≡ made_word site (binary_word op t a b) → Did (pushed (stack_of words rest) w) result after → Did (deed i (length words) scope (stack_of words height)) result after
+  binary_did op t site a b middle rest w is s m e d =
+      did_same _ _ result after (binary_does i (length words) scope (stack_of words height) op t site a b (stack_of words rest) is (s ∙ ap (λ (x : List ℤ). b ∷ x) m) ∙ ap (pushed (stack_of words rest)) (sym e)) d
+
+  pub choice_did : (a b code : List Instr) (t : ℤ) (rest : ℕ) (between : List ℤ) (w : Outcome) → i ≡ Choice a b → stack_of words height ≡ t ∷ stack_of words rest
+      → rest < length words → code ≡ choose_word t a b → w ≡ outcome code (length words - rest) scope → stack_of between rest ≡ stack_of words rest
+      → Did (pushed (stack_of between rest) w) result after → Did (deed i (length words) scope (stack_of words height)) result after
+  choice_did a b code t rest between w is s h e o kept d =
+      let room : length words - length (stack_of words rest) ≡ length words - rest = ap (λ (n : ℕ). length words - n) (high words rest (omega arith)) in
+      did_same _ _ result after (choice_does i (length words) scope (stack_of words height) a b t (stack_of words rest) is s
+      ∙ ap (λ (n : ℕ). pushed (stack_of words rest) (outcome (choose_word t a b) n scope)) room
+      ∙ ap (λ (c : List Instr). pushed (stack_of words rest) (outcome c (length words - rest) scope)) (sym e)
+      ∙ ap (pushed (stack_of words rest)) (sym o) ∙ ap (λ (x : List ℤ). pushed x w) (sym kept)) d
+
+pub ruleset step_rules = (push_did, unary_did, binary_did, choice_did, push_lacks, unary_lacks, binary_lacks_two, binary_lacks_one, choice_lacks)
+
+-- the words below a part that was changed
+pub below_kept : (base : ℕ) (words part : List ℤ) → base ≤ length words → stack_of (take base words ++ part) base ≡ stack_of words base
+below_kept base words part h = ap reverse (take-append-le base (take base words) part (omega (arith, length-take-le base words h)) ∙ take-take base base words (omega arith))
+
+pub ruleset above_rules = (below_kept)
+
+-- ---- what a run answers
+
+module _ (code : List Instr) (at room : ℕ) (env : Env) (d d0 : Drawer) (stack : List ℤ) where
+  pub run_goes_on : (e : Instr) (more : List ℤ) → at < length code → d.seed ≡ d0.seed → deed (get_or code at e) room (scope_of env d) stack ≡ Ok more
+      → run (drop at code) room (scope_of env d0) stack ≡ run code room (scope_of env d0) [] → run (drop (at + 1) code) room (scope_of env d0) more ≡ run code room (scope_of env d0) []
+  run_goes_on e more h s did p = goes_on code at room (scope_of env d0) stack _ e more h (ap (λ (x : Scope). deed (get_or code at e) room x stack) (sym (same_scope env d d0 s)) ∙ did) p
+
+  pub run_stops : (e : Instr) (stop : Stop) → at < length code → d.seed ≡ d0.seed → deed (get_or code at e) room (scope_of env d) stack ≡ Err stop
+      → run (drop at code) room (scope_of env d0) stack ≡ run code room (scope_of env d0) [] → outcome code room (scope_of env d0) ≡ Err stop
+  run_stops e stop h s did p = ap top (stops code at room (scope_of env d0) stack _ e stop h (ap (λ (x : Scope). deed (get_or code at e) room x stack) (sym (same_scope env d d0 s)) ∙ did) p)
+
+  pub run_ends : (word : ℤ) (rest : List ℤ) → length code ≤ at → run (drop at code) room (scope_of env d0) stack ≡ run code room (scope_of env d0) []
+      → stack ≡ word ∷ rest → outcome code room (scope_of env d0) ≡ Ok word
+  run_ends word rest h p s = ap top (ends code at room (scope_of env d0) stack _ h p) ∙ ap (λ (x : List ℤ). top (let l : Left = Ok x in l)) s
+
+  pub run_lacks : length code ≤ at → run (drop at code) room (scope_of env d0) stack ≡ run code room (scope_of env d0) [] → stack ≡ []
+      → outcome code room (scope_of env d0) ≡ Err stuck
+  run_lacks h p s = ap top (ends code at room (scope_of env d0) stack _ h p) ∙ ap (λ (x : List ℤ). top (let l : Left = Ok x in l)) s
+
+pub ruleset run_rules = (run_goes_on, run_stops, run_ends, run_lacks)

@@ -1,0 +1,58 @@
+ghost use Rattle.std.specs.Prelude.{◌≡◌};
+ghost use Rattle.brace_code.specs.Codes.{depth_of, type_given};
+
+use brace_model::{BinOp, Ty, UnOp, Who};
+use brace_num::List;
+
+/// A word that an instruction reads.
+#[derive(Debug, Clone, Copy, Drop)]
+pub enum Operand {
+    Word(i64),
+    /// The state of an agent, by its place in the class's states.
+    Field(Who, u32),
+    /// The total of an effect, by its place in the class's effects, with its type and its site.
+    Total(u32, Ty, Option<u32>),
+    /// A constant of the class.
+    Local(u32),
+    /// A draw at a site.
+    Rand(u32),
+}
+
+/// An instruction over a stack of words, each a value whose type is known: a fixed number counts
+/// millionths, and a flag is 0 or 1.
+#[derive(Debug, Drop)]
+pub enum Instr {
+    /// Puts an operand on the stack.
+    Push(Operand),
+    /// Replaces the top by what an operation gives, whose faults stand at a site.
+    Unary(UnOp, u32),
+    /// Replaces the two words on top, of one type, by what an operation gives.
+    Binary(BinOp, Ty, u32),
+    /// Takes the top, and puts on the stack what the first code leaves where it is set, and what
+    /// the second leaves where it is 0.
+    Choice(List<Instr>, List<Instr>),
+}
+
+/// The postfix code of an expression.
+#[derive(Debug, Drop)]
+pub struct Code {
+    pub(crate) instrs: List<Instr>,
+    pub(crate) ty: Ty,
+    pub(crate) depth: usize,
+}
+
+impl Code {
+    /// How many words its stack needs at most.
+    pub fn depth(&self) -> usize
+        ensures { result ≡ depth_of self.now }
+    {
+        self.depth
+    }
+
+    /// The type of its values.
+    pub fn ty(&self) -> Ty
+        ensures { result ≡ type_given self.now }
+    {
+        self.ty
+    }
+}

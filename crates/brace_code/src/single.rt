@@ -1,0 +1,259 @@
+ghost use Rattle.std.specs.Prelude.{◌≡◌, ◌<◌, ◌≤◌, ◌-◌, ◌^◌, ℕ, Option, MatchOption, [], ◌∷◌, length, Ok};
+ghost use Rattle.brace_model.specs.Scopes.{scope_of};
+ghost use Rattle.brace_model.specs.Value.{agent_of, total_read, typed};
+ghost use Rattle.brace_code.specs.Codes.{depth_of, gives};
+ghost use Rattle.brace_code.specs.inner.Words.{Outcome, word_of, value_of, made_word, choose_word, operand_word};
+ghost use Rattle.brace_code.specs.inner.Runs.{Left, deed, outcome, put, pushed, stack_of, Did};
+
+use crate::code::{Code, Instr, Operand};
+use crate::operations::{binary, flag, unary};
+use crate::stack::Stack;
+use brace_draw::Drawer;
+use brace_model::{Agent, Env, Stop, Ty, Value, Who, number, value_at};
+use brace_num::{Kind, List};
+
+/// The agent that a name stands for.
+fn agent_of<'a>(env: &Env<'a>, drawer: &Drawer, who: Who) -> &'a Agent
+    ensures { result.now ≡ agent_of (scope_of env.now drawer.now) who }
+{
+    match who {
+        Who::This => env.this,
+        Who::Outer => env.outer.unwrap_or(env.this),
+        Who::Inner => env.inner.unwrap_or(env.this),
+    }
+}
+
+/// The word of a total of a type.
+fn total_word(ty: Ty, n: i64) -> i64
+    ensures { (site : Option ℕ) → word_of (total_read ty site n) ≡ Ok result }
+{
+    match ty {
+        Ty::Int | Ty::Fixed => n,
+        Ty::Bool => flag(n != 0),
+    }
+}
+
+/// A total as a word; with a site it faults where it does not fit.
+fn read_total(ty: Ty, site: Option<u32>, total: i128) -> Result<i64, Stop>
+    ensures { result ≡ word_of (total_read ty site total) }
+{
+    match (site, i64::try_from(total)) {
+        (_, Ok(n)) => Ok(total_word(ty, n)),
+        (Some(site), Err(_)) => Err(Stop {
+            site,
+            kind: Kind::Overflow,
+        }),
+        (None, Err(_)) => Ok(0),
+    }
+}
+
+/// The word of an operand.
+fn read(operand: Operand, env: &Env, drawer: &mut Drawer) -> Result<i64, Stop>
+    requires { env.now.tick ≤ 2 ^ 32 }
+    ensures word { result ≡ operand_word (scope_of env.now drawer.old) operand }
+    ensures seed { drawer.new.seed ≡ drawer.old.seed }
+{
+    match operand {
+        Operand::Word(word) => Ok(word),
+        Operand::Field(who, place) => Ok(number(value_at(
+            agent_of(env, drawer, who).states.as_slice(),
+            place,
+        ))),
+        Operand::Total(effect, ty, site) => {
+            let total = env.totals.get(effect as usize).copied().unwrap_or(0);
+            read_total(ty, site, total)
+        }
+        Operand::Local(n) => Ok(number(value_at(env.locals, n))),
+        Operand::Rand(site) => Ok(drawer.draw(env.tick, env.this.id, site)),
+    }
+}
+
+/// The fault of code that finds no operand or no room, which no expression's code meets.
+const STUCK: Stop = Stop {
+    site: 0,
+    kind: Kind::Overflow,
+};
+
+#[tactic(auto, using(crate::proofs::SingleLemmas::write_did))]
+/// Writes an outcome over the word at a place, above which the stack ends then.
+fn write(words: &mut [i64], place: usize, outcome: Result<i64, Stop>) -> Result<usize, Stop>
+    requires { place < length words.old }
+    ensures { Did (pushed (stack_of words.old place) outcome) result words.new }
+{
+    match outcome {
+        Ok(word) => {
+            words[place] = word;
+            Ok(place + 1)
+        }
+        Err(stop) => Err(stop),
+    }
+}
+
+/// An exact result, or its fault at a site.
+fn made(site: u32, exact: Result<i64, Kind>) -> Result<i64, Stop>
+    ensures { result ≡ made_word site exact }
+{
+    match exact {
+        Ok(word) => Ok(word),
+        Err(kind) => Err(Stop { site, kind }),
+    }
+}
+
+/// The code that a word chooses.
+fn chosen<'a>(word: i64, set: &'a List<Instr>, unset: &'a List<Instr>) -> &'a [Instr]
+    ensures { result.now ≡ choose_word word set.now unset.now }
+{
+    if word == 0 {
+        unset.as_slice()
+    } else {
+        set.as_slice()
+    }
+}
+
+/// The word on top, and how high the stack is without it.
+#[derive(Clone, Copy, Drop)]
+struct Popped {
+    word: i64,
+    rest: usize,
+}
+
+/// Takes the top of the stack of the first `top` words.
+#[tactic(auto, using(crate::proofs::SingleLemmas::popped))]
+fn pop(words: &[i64], top: usize) -> Option<Popped>
+    requires { top ≤ length words.now }
+    ensures { MatchOption result (stack_of words.now top ≡ [])
+        (λ p. (stack_of words.now top ≡ p.word ∷ stack_of words.now p.rest)
+        × (p.rest < length words.now)) }
+{
+    if top == 0 {
+        return None;
+    }
+    let rest = top - 1;
+    Some(Popped {
+        word: words[rest],
+        rest,
+    })
+}
+
+/// One instruction on a stack of the first `top` words.
+#[tactic(auto, using(crate::proofs::SingleLemmas::step_rules))]
+#[cycle(running)]
+fn step(
+    instr: &Instr,
+    env: &Env,
+    drawer: &mut Drawer,
+    words: &mut [i64],
+    top: usize,
+) -> Result<usize, Stop>
+    requires tick { env.now.tick ≤ 2 ^ 32 }
+    requires top { top ≤ length words.old }
+    ensures did { Did (deed instr.now (length words.old) (scope_of env.now drawer.old)
+        (stack_of words.old top)) result words.new }
+    ensures seed { drawer.new.seed ≡ drawer.old.seed }
+{
+    match instr {
+        Instr::Push(operand) => {
+            if top >= words.len() {
+                return Err(STUCK);
+            }
+            let word = read(*operand, env, drawer);
+            write(words, top, word)
+        }
+        Instr::Unary(op, site) => {
+            let Some(a) = pop(words, top) else {
+                return Err(STUCK);
+            };
+            let word = made(*site, unary(*op, a.word));
+            write(words, a.rest, word)
+        }
+        Instr::Binary(op, ty, site) => {
+            let Some(b) = pop(words, top) else {
+                return Err(STUCK);
+            };
+            let Some(a) = pop(words, b.rest) else {
+                return Err(STUCK);
+            };
+            let word = made(*site, binary(*op, *ty, a.word, b.word));
+            write(words, a.rest, word)
+        }
+        Instr::Choice(set, unset) => {
+            let Some(test) = pop(words, top) else {
+                return Err(STUCK);
+            };
+            let branch = chosen(test.word, set, unset);
+            let word = run_above(branch, env, drawer, words, test.rest);
+            write(words, test.rest, word)
+        }
+    }
+}
+
+/// What code leaves on top of an empty stack above the first `base` words.
+#[tactic(auto, using(crate::proofs::SingleLemmas::above_rules))]
+#[cycle(running)]
+fn run_above(
+    code: &[Instr],
+    env: &Env,
+    drawer: &mut Drawer,
+    words: &mut [i64],
+    base: usize,
+) -> Result<i64, Stop>
+    requires tick { env.now.tick ≤ 2 ^ 32 }
+    requires base { base ≤ length words.old }
+    ensures word { result ≡ outcome code.now (length words.old - base)
+        (scope_of env.now drawer.old) }
+    ensures kept { stack_of words.new base ≡ stack_of words.old base }
+    ensures seed { drawer.new.seed ≡ drawer.old.seed }
+{
+    run(code, env, drawer, &mut words[base..])
+}
+
+/// What code leaves on top of an empty stack with room for these words.
+#[tactic(auto, using(crate::proofs::SingleLemmas::run_rules))]
+#[cycle(running)]
+fn run(code: &[Instr], env: &Env, drawer: &mut Drawer, words: &mut [i64]) -> Result<i64, Stop>
+    requires { env.now.tick ≤ 2 ^ 32 }
+    ensures word { result ≡ outcome code.now (length words.old) (scope_of env.now drawer.old) }
+    ensures seed { drawer.new.seed ≡ drawer.old.seed }
+{
+    let mut top = 0;
+    for instr in code {
+        top = match step(instr, env, drawer, words, top) {
+            Ok(top) => top,
+            Err(stop) => return Err(stop),
+        };
+    }
+    match pop(words, top) {
+        Some(popped) => Ok(popped.word),
+        None => Err(STUCK),
+    }
+}
+
+fn typed(ty: Ty, word: i64) -> Value
+    ensures { result ≡ typed ty word }
+{
+    match ty {
+        Ty::Int => Value::Int(word),
+        Ty::Fixed => Value::Fixed(word),
+        Ty::Bool => Value::Flag(word != 0),
+    }
+}
+
+impl Code {
+    /// What the code gives in an environment: its expression's value, or the site and kind of the
+    /// first fault met from left to right. It takes no memory.
+    ///
+    /// The tick is at most 2^32, and the stack has room for the code's depth.
+    pub fn eval(&self, env: &Env, drawer: &mut Drawer, stack: &mut Stack) -> Result<Value, Stop>
+        requires tick { env.now.tick ≤ 2 ^ 32 }
+        requires room { depth_of self.now ≤ stack.old }
+        ensures value { result ≡ gives self.now (scope_of env.now drawer.old) }
+        ensures seed { drawer.new.seed ≡ drawer.old.seed }
+        ensures room { stack.new ≡ stack.old }
+    {
+        let words = &mut stack.words[..self.depth];
+        match run(self.instrs.as_slice(), env, drawer, words) {
+            Ok(word) => Ok(typed(self.ty, word)),
+            Err(stop) => Err(stop),
+        }
+    }
+}
