@@ -17,9 +17,9 @@ use Rattle.brace_pieces.specs.Settings.{LawfulSetting, is_end, ends, shown_from}
 use Rattle.brace_pieces.proofs.EpochLemmas.{row_one, from_one}
 use Rattle.brace_pieces.proofs.FaultLemmas.{step_is_of}
 use Rattle.brace_pieces.proofs.HaltLemmas.{ended}
+use Rattle.brace_num.proofs.Rows.{row_has}
 use Rattle.brace_crew.specs.Calls.{Call, worlds_at, call_at, ticks_left, call_of, calls_to, calls}
 use Rattle.brace_crew.specs.Shows.{Named, shown_text, saved_world, saved_file, checkpoint_file}
-use Rattle.brace_crew.proofs.FirstFault.{row_place}
 use Rattle.brace_crew.proofs.TextLemmas.{up_to, cut_row, shown_at, told, text_at_end, all_saved}
 use Rattle.brace_top.specs.Savings.{Saving, saving_of, savings}
 use Rattle.brace_num.proofs.Lists.{in_filter}
@@ -108,7 +108,7 @@ module _ (s : Setting) (name : List ℕ) (fresh : Bool) where
   file_at : (t : ℕ) (w : World) → s.job.first ≤ t → t ≤ s.job.last → is_end s t ≡ true → world_after s.job (t - s.job.first) ≡ Ok w
       → file_of s (Some name) (call_at s t) ≡ Some (checkpoint_file name s t w)
   file_at t w low high is there =
-      let among : Contains (ends s) t = in_filter (is_end s) (range_with_len s.job.first (s.job.last + 1 - s.job.first)) t (row_place s.job.first (s.job.last + 1 - s.job.first) t low (omega (arith, low, high))) is in
+      let among : Contains (ends s) t = in_filter (is_end s) (range_with_len s.job.first (s.job.last + 1 - s.job.first)) t (row_has s.job.first (s.job.last + 1 - s.job.first) t low (omega (arith, low, high))) is in
       ap (option_map (checkpoint_file name s t)) (all_saved s t w among there)
 
   -- the call at an end saves its world behind all text up to it
