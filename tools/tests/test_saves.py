@@ -218,7 +218,7 @@ def together(program):
 
 def main():
     words = argparse.ArgumentParser(description=__doc__.split("\n", 1)[0], allow_abbrev=False)
-    words.add_argument("--program", default=os.path.join(TOP, "brace"), help="./brace else")
+    words.add_argument("--program", default=os.path.join(TOP, "dist", "brace"), help="dist/brace else")
     program = os.path.realpath(words.parse_args().program)
     for each in (others_stay, permissions_stay, names, failures, refusals, together):
         each(program)
