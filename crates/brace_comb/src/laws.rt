@@ -1,5 +1,5 @@
-//! Facts on totals, and on what they are joined to, that hold always. The functions do nothing; their
-//! clauses are the laws.
+//! Facts on totals, and on what they are joined to, that hold always. The functions do nothing;
+//! their clauses are the laws.
 ghost use Rattle.std.specs.Prelude.{◌≡◌, ◌≤◌, ◌^◌, ℕ, List, [], ◌∷◌, ◌++◌, length, map};
 ghost use Rattle.std.specs.Int.{w64};
 ghost use Rattle.std.specs.Int.RustNames.{FitsSigned};

@@ -66,7 +66,8 @@ impl Total {
 /// The total of a number that is there and that one of the combinator can have.
 fn known(comb: Comb, number: Option<i128>, count: u64) -> Total
     requires { IsSomeAnd number (λ n. IsNumberOf comb n count) }
-    ensures { IfSome number (λ n. tally result ≡ record { comb = comb; number = n; count = count }) }
+    ensures { IfSome number
+        (λ n. tally result ≡ record { comb = comb; number = n; count = count }) }
 {
     let Some(number) = number else { unreachable!() };
     let Some(total) = Total::make(comb, number, count) else {

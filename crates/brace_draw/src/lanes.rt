@@ -29,7 +29,12 @@ fn xor_rotate(a: u32x4, b: u32x4, k: u32) -> u32x4
 #[tactic(auto, unfolding(rand_chacha::specs::Block::quarter_round))]
 fn quarter_round(a: u32x4, b: u32x4, c: u32x4, d: u32x4) -> (u32x4, u32x4, u32x4, u32x4)
     ensures { (j : ℕ) → j < 4
-        → (slice_index result.0 j, slice_index result.1 j, slice_index result.2 j, slice_index result.3 j)
+        → (
+          slice_index result.0 j,
+          slice_index result.1 j,
+          slice_index result.2 j,
+          slice_index result.3 j,
+        )
         ≡ quarter_round (slice_index a j) (slice_index b j) (slice_index c j) (slice_index d j) }
 {
     let a1 = add(a, b);

@@ -185,8 +185,8 @@ impl Drawer {
     // The word so many places behind the first that is kept.
     fn read(&mut self, i: usize) -> u32
         requires { i < 64 }
-        ensures word { result
-            ≡ word_at 4 (key_of (seed_bytes self.old.seed)) self.old.rng.stream (self.old.from + i) }
+        ensures word { result ≡ word_at 4 (key_of (seed_bytes self.old.seed))
+            self.old.rng.stream (self.old.from + i) }
         ensures seed { self.new.seed ≡ self.old.seed }
     {
         while self.kept <= i {

@@ -6,7 +6,6 @@ use Rattle.std.proofs.lemmas.Int.Digits.{number_lt, all_below_base_digits_of, nu
 use Rattle.brace_grid.specs.declared.cells.Cell.{Cell}
 use Rattle.brace_grid.specs.Grids.{digits}
 use Rattle.brace_grid.specs.inner.Layout.{before, CellsRise}
-use Rattle.brace_grid.specs.inner.Search.{IsRank}
 use Rattle.brace_grid.proofs.Orders.{before_trans, behind_trans}
 
 -- what a halving search knows: cells below `low` come before cell (column, row), those from `high`
@@ -56,11 +55,4 @@ halve_down cells column row low middle high cell rise halved h g is here = recor
       (λ (higher : middle < k). behind_trans cell.column cell.row _ _ column row (subst (λ c. before c.column c.row (get_or cells k d).column (get_or cells k d).row ≡ true) (sym (is d)) (rise middle k d higher small)) here)
       (λ (same : k ≤ middle). let e : k ≡ middle = omega (arith, same, more) in subst (λ i. before (get_or cells i d).column (get_or cells i d).row column row ≡ false) (sym e) (subst (λ c. before c.column c.row column row ≡ false) (is d) here))
       (cases_lt middle k);
-}
-
-pub rank_of : (cells : List Cell) (column row : ℤ) (low high : ℕ) → IsHalved cells column row low high → high ≤ low → IsRank cells column row low
-rank_of cells column row low high halved met = record {
-  within = omega (arith, halved.within, halved.ordered);
-  below = halved.below;
-  behind = λ k d more small. halved.behind k d (omega (arith, met, more)) small;
 }

@@ -1,8 +1,8 @@
 -- What std's lemmas on lists leave out: membership, equal maps and filters, one more item.
-use Rattle.std.proofs.Common.{◌≡◌, ◌∙◌, ◌+◌, ◌<◌, ℕ, zero, suc, Bool, true, false, cond, ◌&&◌, List, [], ◌∷◌, ◌++◌, map, filter, filter_map, flat_map, find, sum_by, length, take, drop, get_or, slice_get, All, Contains, Option, Some, refl, sym, ap, ap₂, subst, arith, inl, inr, append-nil}
+use Rattle.std.proofs.Common.{◌≡◌, ◌∙◌, ◌+◌, ◌<◌, ℕ, zero, suc, Bool, true, false, cond, ◌&&◌, List, [], ◌∷◌, ◌++◌, map, filter, filter_map, flat_map, find, sum_by, length, take, get_or, slice_get, All, Contains, Option, Some, refl, sym, ap, ap₂, subst, arith, inl, inr, append-nil}
 use Rattle.std.specs.Prelude.{◌⊎◌}
 use Rattle.std.specs.List.{AllByRecursion, cons_option}
-use Rattle.std.proofs.lemmas.List.{take_more, drop_more}
+use Rattle.std.proofs.lemmas.List.{take_more}
 use Rattle.std.proofs.lemmas.List.Sums.{sum_by-cons}
 use Rattle.std.proofs.lemmas.List.Concat.{flat_map-append}
 use Rattle.std.proofs.lemmas.Option.{get_or_from_slice_get, slice_get_within}
@@ -170,10 +170,6 @@ module _ {A : Type 0} where
   pub take_next : (xs : List A) (i : ℕ) (x : A) → i < length xs → x ≡ get_or xs i x
       → take (i + 1) xs ≡ take i xs ++ x ∷ []
   take_next xs i x le is = take_more xs i x le ∙ ap (λ y. take i xs ++ y ∷ []) (sym is)
-
-  pub drop_next : (xs : List A) (i : ℕ) (x : A) → i < length xs → x ≡ get_or xs i x
-      → drop i xs ≡ x ∷ drop (i + 1) xs
-  drop_next xs i x le is = drop_more xs i x le ∙ ap (λ y. y ∷ drop (i + 1) xs) (sym is)
 
 module _ {A B : Type 0} where
   -- ---- functions that agree on what the list has

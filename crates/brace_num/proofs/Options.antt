@@ -1,20 +1,10 @@
 -- What std's lemmas on answers leave out.
-use Rattle.std.proofs.Common.{◌≡◌, ◌∙◌, true, false, Option, Some, None, Result, Ok, Err, is_some, is_none, option_map, refl, sym}
-use Rattle.std.proofs.lemmas.Option.{same_Some}
+use Rattle.std.proofs.Common.{◌≡◌, true, false, Option, Some, None, Result, Ok, Err, is_some, is_none, option_map, refl}
 
 module _ {A : Type 0} where
-  -- an answer is one
-  pub one_answer : (o : Option A) (a b : A) → o ≡ Some a → o ≡ Some b → a ≡ b
-  one_answer o a b e f = same_Some a b (sym e ∙ f)
-
   -- an answer that is there is not none
   pub some_none : (o : Option A) (a : A) → o ≡ Some a → o ≡ None → ⊥
   some_none o a e f = cc
-
-  -- the answer of which a test says that it is there
-  pub some_there : (o : Option A) → is_some o ≡ true → (a : A) × (o ≡ Some a)
-  some_there None e = absurd (cc)
-  some_there (Some a) e = (a, refl)
 
   -- the test says that it is not there
   pub not_some : (o : Option A) → is_some o ≡ false → o ≡ None

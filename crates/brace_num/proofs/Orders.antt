@@ -5,12 +5,12 @@ use Rattle.std.specs.List.{All, AllPairs, Contains, IsDistinct}
 use Rattle.std.specs.List.Sorted.{IsPermutation, IsNonDecreasingBy, IsStrictlyIncreasing}
 use Rattle.std.proofs.lemmas.Bool.{cases_Bool, ltb-true, ltb-false, ne_eqb, eq-eqb}
 use Rattle.std.proofs.lemmas.List.{get_or-map, length-map}
-use Rattle.std.proofs.lemmas.List.Elements.{All-cons, All-filter, All-contains, All-contains_itself, filter_passes}
+use Rattle.std.proofs.lemmas.List.Elements.{All-cons}
 use Rattle.std.proofs.lemmas.List.Kept.{AllPairs-cons, AllPairs-filter, AllPairs-from_increasing}
 use Rattle.std.proofs.lemmas.List.Sorted.{IsPermutation-refl, IsPermutation-sym, IsPermutation-trans, IsPermutation-cons, IsPermutation-middle, IsPermutation-map, All-permutation, Contains-permutation}
 use Rattle.std.proofs.lemmas.Map.Keys.{IsDistinct-IsPermutation, IsDistinct-from_apart, apart_from_distinct, IsStrictlyIncreasing-from_distinct}
 use Rattle.brace_num.specs.Orders.{placed, by_key}
-use Rattle.brace_num.proofs.Lists.{in_first, in_filter}
+use Rattle.brace_num.proofs.Lists.{in_first}
 use Rattle.brace_num.proofs.Numbers.{eq_swap}
 
 -- no number, and one number, rise
@@ -230,32 +230,3 @@ module _ {X : Type 0} (key : X → ℕ) where
       → IsNonDecreasingBy key ys → by_key key xs ≡ ys
   by_key_sorted xs ys apart p up =
       by_key_unique xs ys apart p (sorted_rises ys (distinct_moved xs ys p apart) up)
-
-  -- the order of the items before does not matter
-  pub by_key_same : (xs ys : List X) → IsPermutation xs ys → IsDistinct nat_eq (map key xs)
-      → by_key key xs ≡ by_key key ys
-  by_key_same xs ys p apart =
-      by_key_unique xs (by_key key ys) apart (IsPermutation-trans _ _ _ p (by_key_keeps ys))
-      (by_key_rises ys (distinct_moved xs ys p apart))
-
-  -- a filter before or behind it
-  pub by_key-filter : (t : X → Bool) (xs : List X) → IsDistinct nat_eq (map key xs)
-      → by_key key (filter t xs) ≡ filter t (by_key key xs)
-  by_key-filter t xs apart =
-      one_rising (by_key key (filter t xs)) (filter t (by_key key xs))
-      (rises_by_keys _ (by_key_rises (filter t xs) (filter_distinct t xs apart)))
-      (rises_by_keys _ (filter_rises t _ (by_key_rises xs apart)))
-      (λ a has. let h = kept xs a
-      (Contains-permutation _ _ a (IsPermutation-sym _ _ (by_key_keeps (filter t xs))) has) in
-      in_filter t (by_key key xs) a (Contains-permutation _ _ a (by_key_keeps xs) h.0) h.1)
-      (λ a has. let h = kept (by_key key xs) a has in
-      Contains-permutation _ _ a (by_key_keeps (filter t xs))
-      (in_filter t xs a
-      (Contains-permutation _ _ a (IsPermutation-sym _ _ (by_key_keeps xs)) h.0) h.1))
-    where
-      kept : (ys : List X) (a : X) → Contains (filter t ys) a → Contains ys a × (t a ≡ true)
-      kept ys a has = (
-        All-contains (Contains ys) (filter t ys) a
-            (All-filter t (Contains ys) ys (All-contains_itself ys)) has,
-        All-contains (λ x. t x ≡ true) (filter t ys) a (filter_passes t ys) has,
-      )

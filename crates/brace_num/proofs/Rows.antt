@@ -1,9 +1,9 @@
 -- Numbers in a row.
-use Rattle.std.proofs.Common.{◌≡◌, ◌∙◌, ◌+◌, ◌-◌, ◌<◌, ◌≤◌, ℕ, zero, suc, Bool, [], ◌∷◌, ◌++◌, filter, find, length, Contains, Some, refl, sym, ap, arith}
+use Rattle.std.proofs.Common.{◌≡◌, ◌∙◌, ◌+◌, ◌-◌, ◌<◌, ◌≤◌, ℕ, zero, suc, Bool, [], ◌∷◌, ◌++◌, filter, length, Contains, refl, sym, ap, arith}
 use Rattle.std.specs.List.{range_with_len}
 use Rattle.std.proofs.lemmas.List.FromFn.{length-range_with_len, get_or-range_with_len}
 use Rattle.std.proofs.lemmas.List.Sums.{length-filter, count_by-le-length}
-use Rattle.brace_num.proofs.Lists.{filter_alike, found_passes}
+use Rattle.brace_num.proofs.Lists.{filter_alike}
 
 -- two rows are one
 pub row_joined : (a n m : ℕ)
@@ -52,8 +52,3 @@ row_kept f a n = omega (
       (range_with_len a n),
   length-range_with_len a n,
 )
-
--- what is found in a row stands there
-pub row_found : (f : ℕ → Bool) (a n i : ℕ) → find f (range_with_len a n) ≡ Some i
-    → (a ≤ i) × (i < a + n)
-row_found f a n i e = in_row a n i (found_passes f (range_with_len a n) i e).0

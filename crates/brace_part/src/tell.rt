@@ -16,8 +16,8 @@ use brace_num::{List, NoMemory};
 use brace_pieces::{Piece, owns};
 use std::alloc::Global;
 
-/// The entry of an effect, by its place, with the number and the count of its total; None where there
-/// is no such entry.
+/// The entry of an effect, by its place, with the number and the count of its total; None where
+/// there is no such entry.
 fn entry_of(target: u64, effect: usize, comb: Comb, number: i128, count: i128) -> Option<Entry>
     ensures { IfSome result (λ e. share_of e ≡ share_with target effect comb number count) }
 {

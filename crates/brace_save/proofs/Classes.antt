@@ -15,11 +15,6 @@ use Rattle.brace_save.proofs.Begins.{bare_is, bad_at, cut_at, front_begins, one_
 abbrev pub Stand : Program → Heading → ℕ → List (List ℕ) → Type 0
 Stand program h j all = take (place h.tells_next + j) all ≡ heading h.tells_next (told h []) ++ map class_line (take j program.classes)
 
-pub stand_none : (program : Program) (h : Heading) (all : List (List ℕ)) → IsHeading all h → Stand program h 0 all
-stand_none program h all is =
-    let same : place h.tells_next ≡ place h.tells_next + 0 = omega arith in
-    subst (λ n. take n all ≡ heading h.tells_next (told h []) ++ []) same (is.same ∙ sym (append-nil (heading h.tells_next (told h []))))
-
 -- one class more stands in its place
 pub stand_more : (program : Program) (h : Heading) (all : List (List ℕ)) (j : ℕ) (d : Class) → Stand program h j all → j < length program.classes → place h.tells_next + j < length all
     → line all (place h.tells_next + j) ≡ class_line (get_or program.classes j d) → Stand program h (j + 1) all
@@ -93,19 +88,3 @@ class_missing program h all rest j is e below over =
     let places = place_range h.tells_next in
     cut_at program all rest (place h.tells_next + j) over (classes_begin program h all j is e)
     (λ whole. let long = whole_long program all h.tells_next whole (told_first all h is) (omega (arith, is.there, places.0)) in absurd (omega (arith, long, below, over)))
-
--- all classes stand
-pub classes_stand : (program : Program) (h : Heading) (all : List (List ℕ)) (j : ℕ) → IsHeading all h → Stand program h j all → length program.classes ≤ j → place h.tells_next + j ≤ length all
-    → j ≤ length program.classes → IsFront program h [] all
-classes_stand program h all j is e over there most =
-    let b = h.tells_next in
-    let top = heading b (told h []) in
-    let count : j ≡ length program.classes = omega (arith, over, most) in
-    let same : place b + j ≡ place b + length program.classes + 0 = omega (arith, count) in
-    record {
-      moment_is = told_is program all h is;
-      greatest = is.greatest;
-      there = omega (arith, there, count);
-      same = subst (λ n. take n all ≡ front program b (told h [])) same
-          (e ∙ ap (λ l. top ++ map class_line l) (take_all j program.classes over) ∙ sym (append-nil (top ++ map class_line program.classes)));
-    }

@@ -13,10 +13,12 @@ use Rattle.brace_code.specs.inner.Runs.{run, pushed}
 -- on any stack with room for so many words more, code leaves the expression's word or its fault
 pub record Does (names : Names) (e : Expr) (depth : ℕ) (code : List Instr) : Type 0 where
   pub each : (scope : Scope) → Fits names scope → (room : ℕ) (stack : List ℤ)
-      → length stack + depth ≤ room → run code room scope stack ≡ pushed stack (word_of (value e scope))
+      → length stack + depth ≤ room
+      → run code room scope stack ≡ pushed stack (word_of (value e scope))
 
 -- of a typed expression, code has the type that is told and does what the expression means
-pub record Appends (names : Names) (e : Expr) (part : Part) (before after : List Instr) : Type 0 where
+pub record Appends (names : Names) (e : Expr) (part : Part)
+    (before after : List Instr) : Type 0 where
   pub added : List Instr
   pub is : after ≡ before ++ added
   pub does : (t : Ty) → type_of e names ≡ Some t → (part.ty ≡ t) × Does names e part.depth added
