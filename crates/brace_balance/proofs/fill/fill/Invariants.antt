@@ -1,0 +1,10 @@
+use Rattle.std.proofs.Common.{◌≡◌, ◌++◌, ◌-◌, true}
+use Rattle.brace_balance.specs.Loads.{never_falls}
+use Rattle.brace_balance.specs.Fillings.{filled}
+use Rattle.brace_balance.proofs.fill.fill.Given as goal
+
+abbrev pub invariant-loop-i : goal.invariant-loop-i
+invariant-loop-i l = record {
+  sorted : never_falls l.rest ≡ true;
+  pushed : l.cuts ++ filled l.n (l.most - l.i) l.rest ≡ l.fn.cuts ++ filled l.n l.most l.fn.xs;
+}
