@@ -15,3 +15,6 @@ pub use balancing::balance;
 pub use confirm::confirms;
 pub use kinds::{Balance, Proof};
 pub use print::{print_certificate, print_plan};
+
+#[cfg(test)]
+mod tests;
