@@ -1,11 +1,11 @@
 -- What is known of the cuts and the proof that are given.
-use Rattle.std.proofs.Common.{◌≡◌, ◌∙◌, ℕ, zero, suc, ◌+◌, ◌-◌, ◌≤◌, ◌<◌, ◌≢◌, ℤ, negsuc, Bool, true, ◌&&◌, List, [], ◌∷◌, length, get_or, refl, sym, ap, ap₂, subst, arith, int_le, nat_eq, eq-eqb, slice_get, None}
+use Rattle.std.proofs.Common.{◌≡◌, ℕ, zero, suc, ◌+◌, ◌-◌, ◌≤◌, ◌<◌, ℤ, true, ◌&&◌, List, [], ◌∷◌, length, get_or, refl, sym, ap₂, subst, arith, int_le, nat_eq, eq-eqb, slice_get, None}
 use Rattle.std.specs.Prelude.{int_lt}
 use Rattle.std.specs.List.{list_all}
 use Rattle.std.proofs.lemmas.Bool.{and_parts, and_from, le-leb}
 use Rattle.std.proofs.lemmas.Int.{ints}
 use Rattle.brace_balance.specs.Loads.{never_falls, rises, load, times, posts_hold, accepts, IsLeast}
-use Rattle.brace_balance.specs.Fillings.{filled, first_of_strips, can_cut, least_number, IsProof}
+use Rattle.brace_balance.specs.Fillings.{filled, can_cut, least_number, IsProof}
 use Rattle.brace_balance.specs.declared.kinds.Proof.{Proof}
 use Rattle.brace_balance.specs.declared.kinds.Proof.TheVariants.{Empty, Stack, Posts}
 use Rattle.brace_balance.proofs.Filled.{filled_within, filled_rises, cuts_rise, filled_loads, filled_posts}

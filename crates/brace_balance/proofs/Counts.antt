@@ -1,5 +1,5 @@
 -- Counts of what passes a test, and tests of whole numbers.
-use Rattle.std.proofs.Common.{◌≡◌, ◌∙◌, ℕ, suc, ◌+◌, ◌≤◌, ℤ, Bool, true, false, cond, ◌&&◌, List, [], ◌∷◌, refl, sym, ap, ap₂, arith, inl, inr, ◌≤ℤ◌, int_le, ◌<ℤ◌}
+use Rattle.std.proofs.Common.{◌≡◌, ◌∙◌, ℕ, suc, ◌+◌, ◌≤◌, ℤ, Bool, true, false, cond, ◌&&◌, List, [], ◌∷◌, refl, sym, ap, ap₂, arith, inl, inr, int_le}
 use Rattle.std.specs.Prelude.{int_lt}
 use Rattle.std.specs.List.{count_by, filter}
 use Rattle.std.specs.Ordering.{int_eq}

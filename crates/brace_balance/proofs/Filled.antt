@@ -1,16 +1,15 @@
 -- Strips filled from the left: how many there are, that their cuts rise, what load they have, and
 -- that they are posts.
-use Rattle.std.proofs.Common.{◌≡◌, ◌∙◌, ℕ, zero, suc, ◌+◌, ◌-◌, ◌≤◌, ◌<◌, ℤ, Bool, true, false, ◌&&◌, List, [], ◌∷◌, length, slice_get, Option, Some, None, refl, sym, ap, subst, arith, inl, inr, int_le, nat_eq, nat_le, eq-eqb}
+use Rattle.std.proofs.Common.{◌≡◌, ◌∙◌, ℕ, zero, suc, ◌+◌, ◌-◌, ◌≤◌, ◌<◌, ℤ, Bool, true, false, ◌&&◌, List, [], ◌∷◌, length, slice_get, Some, None, refl, sym, ap, subst, arith, inl, inr, int_le, nat_eq, nat_le}
 use Rattle.std.specs.Prelude.{int_lt}
-use Rattle.std.specs.List.{count_by, range_with_len}
+use Rattle.std.specs.List.{range_with_len}
 use Rattle.std.specs.Ordering.{int_eq}
-use Rattle.std.proofs.lemmas.Bool.{cases_Bool, cases_eq, and_parts, and_from, eqb-true, eqb-false, leb-true, le-leb, ne_eqb}
+use Rattle.std.proofs.lemmas.Bool.{cases_Bool, and_parts, and_from, eqb-true, leb-true, le-leb, ne_eqb}
 use Rattle.std.proofs.lemmas.Bool.Decides.{nat_tests}
 use Rattle.std.proofs.lemmas.List.Sums.{count_by-le-length}
-use Rattle.std.proofs.lemmas.Option.{slice_get_cases}
-use Rattle.brace_balance.specs.Loads.{never_falls, rises, strip, in_strip, load, times, between, posts_hold}
+use Rattle.brace_balance.specs.Loads.{never_falls, rises, strip, in_strip, load, between, posts_hold}
 use Rattle.brace_balance.specs.Fillings.{not_below, cut_at, filled, HasNoStack}
-use Rattle.brace_balance.proofs.Counts.{le_same, le_on, le_both, lt_le, lt_not, not_le, lt_differ, count_yes, count_no, count_weaker, count_filtered, count_kept}
+use Rattle.brace_balance.proofs.Counts.{le_on, lt_le, not_le, lt_differ, count_yes, count_no, count_weaker, count_filtered, count_kept}
 use Rattle.brace_balance.proofs.Ordered.{twice_first, above_first, all_kept, rest_sorted, rest_begins, few_below, many_between, between_same}
 use Rattle.brace_balance.proofs.Refusals.{greatest_within}
 
@@ -85,7 +84,7 @@ filled_rises n (suc k) s xs up short = elim (place (s ∷ xs) n) [
       let short' = subst (λ l. length (filled n k l) < k) there.is (omega (arith, short, ap length next)) in
       let rest = subst (λ l. rises (c ∷ filled n k l) ≡ true) (sym there.is) (filled_rises n k c there.others up' short') in
       let lt = lt_differ s c (above_first s (s ∷ xs) n c (twice_first s xs up) is) (λ same.
-          absurd (omega (arith, short, stuck n (suc k) s xs up (is ∙ ap Some (sym same))))) in
+      absurd (omega (arith, short, stuck n (suc k) s xs up (is ∙ ap Some (sym same))))) in
       subst (λ l. rises (s ∷ l) ≡ true) (sym next)
       (and_from (int_lt s c) (rises (c ∷ filled n k (not_below c (s ∷ xs)))) lt rest)
 ]
@@ -200,11 +199,12 @@ filled_posts n (suc k) s xs up few = elim (place (s ∷ xs) n) [
       (sym there.is) (filled_posts n k c there.others up' few') in
       let many = many_between s c ys n (twice_first s xs up) is in
       let lt = lt_differ s c (above_first s ys n c (twice_first s xs up) is) (λ same.
-          omega (arith, few s, between_same s ys, subst (λ z. n < between s z ys) (sym same) many)) in
-      subst (λ l. (rises (s ∷ l) ≡ true) × (posts_hold (suc n) ys (s ∷ l) ≡ true)) (sym (filled_next n k ys c is))
-      (and_from (int_lt s c) (rises (c ∷ filled n k (not_below c ys))) lt rest.0,
-      and_from (nat_le (suc n) (between s c ys)) (posts_hold (suc n) ys (c ∷ filled n k (not_below c ys)))
-      (le-leb (suc n) (between s c ys) many)
-      (hold_more (suc n) ys (not_below c ys) (c ∷ filled n k (not_below c ys))
-      (λ p q. count_kept (λ v. int_le p v && int_le v q) (λ v. int_le c v) ys) rest.1))
+      omega (arith, few s, between_same s ys, subst (λ z. n < between s z ys) (sym same) many)) in
+      subst (λ l. (rises (s ∷ l) ≡ true) × (posts_hold (suc n) ys (s ∷ l) ≡ true)) (sym (filled_next n k ys c is)) (
+        and_from (int_lt s c) (rises (c ∷ filled n k (not_below c ys))) lt rest.0,
+        and_from (nat_le (suc n) (between s c ys)) (posts_hold (suc n) ys (c ∷ filled n k (not_below c ys)))
+            (le-leb (suc n) (between s c ys) many)
+            (hold_more (suc n) ys (not_below c ys) (c ∷ filled n k (not_below c ys))
+            (λ p q. count_kept (λ v. int_le p v && int_le v q) (λ v. int_le c v) ys) rest.1),
+      )
 ]

@@ -1,5 +1,5 @@
 -- Rising numbers and posts, from a place on.
-use Rattle.std.proofs.Common.{◌≡◌, ◌∙◌, ℕ, zero, suc, ◌+◌, ◌-◌, ◌≤◌, ◌<◌, ℤ, Bool, true, false, ◌&&◌, List, [], ◌∷◌, length, get_or, drop, refl, sym, ap, subst, arith, nat_le}
+use Rattle.std.proofs.Common.{◌≡◌, ◌∙◌, ℕ, zero, suc, ◌+◌, ◌-◌, ◌≤◌, ◌<◌, ℤ, true, false, ◌&&◌, List, [], ◌∷◌, length, get_or, drop, refl, sym, ap, subst, arith, nat_le}
 use Rattle.std.proofs.lemmas.Bool.{and_left, le-leb, lt-leb}
 use Rattle.brace_balance.specs.Loads.{never_falls, rises, between, posts_hold}
 

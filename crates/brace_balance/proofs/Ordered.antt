@@ -1,12 +1,12 @@
 -- Numbers that do not fall: what is not below one of them, and how many are.
-use Rattle.std.proofs.Common.{◌≡◌, ◌∙◌, ℕ, zero, suc, ◌+◌, ◌≤◌, ◌<◌, ℤ, Bool, true, false, cond, ◌&&◌, List, [], ◌∷◌, length, get_or, slice_get, drop, Some, None, refl, sym, ap, subst, arith, inl, inr, int_le}
+use Rattle.std.proofs.Common.{◌≡◌, ◌∙◌, ℕ, zero, suc, ◌≤◌, ◌<◌, ℤ, Bool, true, false, cond, ◌&&◌, List, [], ◌∷◌, length, get_or, slice_get, drop, Some, refl, sym, ap, subst, arith, inl, inr, int_le}
 use Rattle.std.specs.Prelude.{int_lt}
 use Rattle.std.specs.List.{count_by, filter}
 use Rattle.std.specs.List.Sorted.{IsPartitionedBy}
 use Rattle.std.proofs.lemmas.Bool.{cases_Bool, and_parts, and_from}
 use Rattle.brace_balance.specs.Loads.{never_falls, between, times}
 use Rattle.brace_balance.specs.Fillings.{not_below}
-use Rattle.brace_balance.proofs.Counts.{eq_holds, le_same, le_on, le_both, le_not, lt_le, lt_not, not_le, not_lt, le_not_lt, count_yes, count_no, count_more, count_weaker}
+use Rattle.brace_balance.proofs.Counts.{eq_holds, le_same, le_on, le_both, lt_not, not_le, le_not_lt, count_yes, count_no, count_more, count_weaker}
 
 -- ---- fronts and tails
 

@@ -1,14 +1,14 @@
 -- What an accepted proof shows: no cuts have a lower load.
-use Rattle.std.proofs.Common.{◌≡◌, ◌∙◌, ℕ, zero, suc, ◌+◌, ◌≤◌, ◌<◌, ℤ, Bool, true, false, ◌&&◌, List, [], ◌∷◌, length, map, max, refl, sym, ap, subst, arith, inl, inr, zero-add, int_le, nat_eq, nat_le, eq-eqb}
+use Rattle.std.proofs.Common.{◌≡◌, ℕ, zero, suc, ◌+◌, ◌≤◌, ◌<◌, ℤ, true, ◌&&◌, List, [], ◌∷◌, length, map, max, ap, subst, arith, inl, inr, zero-add, int_le, nat_eq, nat_le, eq-eqb}
 use Rattle.std.specs.Prelude.{int_lt}
-use Rattle.std.specs.List.{count_by, range_with_len}
+use Rattle.std.specs.List.{range_with_len}
 use Rattle.std.specs.Ordering.{int_eq}
 use Rattle.std.proofs.lemmas.Bool.{and_parts, cases_lt, eqb-true, leb-true}
 use Rattle.std.proofs.lemmas.List.Sums.{count_by-le-length}
-use Rattle.brace_balance.specs.Loads.{rises, strip, in_strip, greatest, load, times, between, posts_hold, accepts}
+use Rattle.brace_balance.specs.Loads.{rises, strip, in_strip, greatest, load, times, between, posts_hold, accepts, NoneIsLower}
 use Rattle.brace_balance.specs.declared.kinds.Proof.{Proof}
 use Rattle.brace_balance.specs.declared.kinds.Proof.TheVariants.{Empty, Stack, Posts}
-use Rattle.brace_balance.proofs.Counts.{eq_told, lt_le, le_on, count_weaker}
+use Rattle.brace_balance.proofs.Counts.{eq_told, le_on, count_weaker}
 
 -- ---- the greatest
 
@@ -57,9 +57,9 @@ between_loads : (cuts xs : List ℤ) (p q : ℤ) → strip cuts q ≤ strip cuts
 between_loads cuts xs p q same =
     let le = count_weaker (λ v. int_le p v && int_le v q)
     (λ v. nat_eq (strip cuts v) (strip cuts p)) xs (λ v h.
-        let (above, below) = and_parts (int_le p v) (int_le v q) h in
-        eq-eqb (strip cuts v) (strip cuts p)
-        (omega (arith, same, strip_climbs cuts p v above, strip_climbs cuts v q below))) in
+    let (above, below) = and_parts (int_le p v) (int_le v q) h in
+    eq-eqb (strip cuts v) (strip cuts p)
+    (omega (arith, same, strip_climbs cuts p v above, strip_climbs cuts v q below))) in
     omega (arith, le, load_has cuts xs p)
 
 -- under a lower load, each post is in a higher strip than the one before
@@ -95,3 +95,7 @@ accepted_is_least xs cuts strips n (Posts posts) is few =
     let (front, hold) = and_parts (nat_eq (length posts) (strips + 1) && rises posts) (posts_hold n xs posts) is in
     let (long, up) = and_parts (nat_eq (length posts) (strips + 1)) (rises posts) front in
     posts_load xs cuts strips n posts (eqb-true (length posts) (strips + 1) long) up hold few
+
+pub accepted_is_lowest : (xs : List ℤ) (strips n : ℕ) (proof : Proof)
+    → accepts xs strips n proof ≡ true → NoneIsLower xs strips n
+accepted_is_lowest xs strips n proof is cuts rise few = accepted_is_least xs cuts strips n proof is few

@@ -1,10 +1,9 @@
 -- Equal numbers stand together.
-use Rattle.std.proofs.Common.{◌≡◌, ◌∙◌, ℕ, zero, suc, ◌+◌, ◌≤◌, ◌<◌, ℤ, Bool, true, false, List, [], ◌∷◌, length, get_or, slice_get, drop, take, Some, refl, sym, ap, subst, arith, inl, inr, int_le}
-use Rattle.std.specs.List.{count_by}
+use Rattle.std.proofs.Common.{◌≡◌, ◌∙◌, ℕ, zero, suc, ◌+◌, ◌≤◌, ◌<◌, ℤ, true, List, [], ◌∷◌, length, get_or, slice_get, Some, sym, ap, subst, arith, inl, inr, int_le}
 use Rattle.std.specs.Ordering.{int_eq}
 use Rattle.std.proofs.lemmas.Bool.{cases_Bool}
-use Rattle.brace_balance.specs.Loads.{never_falls, times, between}
-use Rattle.brace_balance.proofs.Counts.{eq_told, eq_holds, eq_not, le_same, le_both, count_yes, count_no, count_more}
+use Rattle.brace_balance.specs.Loads.{never_falls, times}
+use Rattle.brace_balance.proofs.Counts.{eq_told, le_same, le_both, count_yes, count_no, count_more}
 use Rattle.brace_balance.proofs.Ordered.{tail_sorted, first_below, lower_first, twice_first, without_second, first_least, many_between, between_same}
 
 -- ---- from places to counts

@@ -1,6 +1,6 @@
 -- Strips filled from the left, and the one proof that goes with the least load.
 use Rattle.std.specs.Prelude.{◌≡◌, ◌≢◌, ℕ, zero, suc, ◌-◌, ◌<◌, ◌≤◌, ℤ, negsuc, int_le, int_lt, ◌≤ℤ◌, Bool, List, [], ◌∷◌, slice_get, Option, Some, None}
-use Rattle.std.specs.List.{filter, list_all}
+use Rattle.std.specs.List.{filter}
 use Rattle.brace_balance.specs.Loads.{times}
 use Rattle.brace_balance.specs.declared.kinds.Proof.{Proof}
 use Rattle.brace_balance.specs.declared.kinds.Proof.TheVariants.{Empty, Stack, Posts}

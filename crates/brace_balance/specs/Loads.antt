@@ -36,14 +36,18 @@ greatest (n ∷ ns) = max n (greatest ns)
 abbrev pub load : List ℤ → List ℤ → ℕ
 load cuts xs = greatest (map (in_strip cuts xs) (range_with_len 0 (length cuts + 1)))
 
+-- no rising cuts that make at most so many strips have a load below n
+abbrev pub NoneIsLower : List ℤ → ℕ → ℕ → Type 0
+NoneIsLower xs strips n =
+    (cuts : List ℤ) → IsTrue (rises cuts) → length cuts < strips → n ≤ load cuts xs
+
 -- n is the least load of all rising cuts that make at most so many strips
 pub record IsLeast (xs : List ℤ) (strips n : ℕ) : Type 0 where
   pub cuts : List ℤ
   pub rising : IsTrue (rises cuts)
   pub few : length cuts < strips
   pub reached : load cuts xs ≡ n
-  pub lowest : (others : List ℤ) → IsTrue (rises others) → length others < strips
-      → n ≤ load others xs
+  pub lowest : NoneIsLower xs strips n
 
 -- how many of the numbers are p
 abbrev pub times : ℤ → List ℤ → ℕ

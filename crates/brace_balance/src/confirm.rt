@@ -1,6 +1,6 @@
 //! Whether a proof shows that no load is lower.
 ghost use Rattle.std.specs.Prelude.{◌≡◌, ◌^◌, ◌≤◌, IsTrue, length};
-ghost use Rattle.brace_balance.specs.Loads.{never_falls, rises, times, between, posts_hold, accepts};
+ghost use Rattle.brace_balance.specs.Loads.{never_falls, rises, times, between, posts_hold, accepts, NoneIsLower};
 
 use crate::Proof;
 
@@ -14,7 +14,8 @@ pub fn confirms(xs: &[i64], strips: u32, load: u32, proof: &Proof) -> bool
     requires size { length xs.now ≤ 2 ^ 20 }
     requires some { 1 ≤ strips }
     requires few { strips ≤ 64 }
-    ensures { result ≡ accepts xs.now strips load proof.now }
+    ensures accepts { result ≡ accepts xs.now strips load proof.now }
+    ensures lowest { IsTrue result → NoneIsLower xs.now strips load }
 {
     match proof {
         Proof::Empty => load == 0,

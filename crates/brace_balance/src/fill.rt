@@ -38,12 +38,7 @@ pub(crate) fn count_filled(xs: &[i64], n: usize, most: u32) -> u32
 }
 
 /// Pushes these cuts.
-pub(crate) fn fill(
-    cuts: &mut List<i64>,
-    xs: &[i64],
-    n: usize,
-    most: u32,
-) -> Result<(), NoMemory>
+pub(crate) fn fill(cuts: &mut List<i64>, xs: &[i64], n: usize, most: u32) -> Result<(), NoMemory>
     requires { IsTrue (never_falls xs.now) }
     ensures { OnOk result (cuts.new ≡ cuts.old ++ filled n most xs.now) }
 {

@@ -1,10 +1,9 @@
-use Rattle.std.proofs.Common.{◌≡◌, ℕ, ℤ, ◌<◌, ◌-◌, negsuc, pos, true, List, length, get_or, int_le, sym, subst, rules, arith, slice_get, Some, None, ◌∙◌}
+use Rattle.std.proofs.Common.{◌≡◌, ◌<◌, pos, true, length, get_or, int_le, sym, subst, rules, slice_get, Some, None, ◌∙◌}
 use Rattle.std.specs.Option.{IfSome}
 use Rattle.std.proofs.lemmas.Option.{slice_get-get_or}
 use Rattle.std.specs.List.{list_all}
-use Rattle.std.proofs.lemmas.Int.{ints}
-use Rattle.brace_balance.specs.Loads.{rises, load, accepts, IsLeast}
-use Rattle.brace_balance.specs.Fillings.{filled, can_cut, least_number, IsProof}
+use Rattle.brace_balance.specs.Loads.{rises, load}
+use Rattle.brace_balance.specs.Fillings.{filled, can_cut, least_number}
 use Rattle.brace_balance.proofs.Filled.{cuts_rise}
 use Rattle.brace_balance.proofs.Balances.{given_is_accepted, load_is, is_least, filled_can_cut, none_there, no_load, least_of_none}
 use Rattle.brace_balance.proofs.balancing.balance.Goals as goal

@@ -19,12 +19,12 @@ returns-then-xs-i c =
     let same : get_or xs (i + (c.args.n - 1)) (pos 0) ≡ get_or xs i (pos 0) = grind (arith, to_z-of_z, c.if-xs-i.true) in
     let many = run_counts (pos 0) xs i m c.requires.sorted (omega arith) same in
     let lowest : (q : ℤ) → c.args.n ≤ times q xs → get_or xs i (pos 0) ≤ℤ q = λ q stands.
-        let run = stack_stands (pos 0) xs m q c.requires.sorted (omega (arith, stands, c.requires.positive)) in
-        elim (cases_lt run.at i) [
-          | inl before ↦ absurd (c.loop-i.invariant run.at before (run.last ∙ sym run.first))
-          | inr from ↦ subst (λ z. get_or xs i (pos 0) ≤ℤ z) run.first
-              (le_told _ _ (in_order (pos 0) xs i run.at c.requires.sorted from (omega (arith, run.within))))
-        ] in
+    let run = stack_stands (pos 0) xs m q c.requires.sorted (omega (arith, stands, c.requires.positive)) in
+    elim (cases_lt run.at i) [
+      | inl before ↦ absurd (c.loop-i.invariant run.at before (run.last ∙ sym run.first))
+      | inr from ↦ subst (λ z. get_or xs i (pos 0) ≤ℤ z) run.first
+          (le_told _ _ (in_order (pos 0) xs i run.at c.requires.sorted from (omega (arith, run.within))))
+    ] in
     subst (IsLeastStack xs c.args.n) (sym (to_z-of_z w64 p here))
     (record { stands = omega (arith, many, c.requires.positive); least = lowest })
 
