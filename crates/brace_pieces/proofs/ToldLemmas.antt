@@ -35,7 +35,8 @@ use Rattle.brace_pieces.specs.Finds.{faults_of, queries_found, updates_found, al
 use Rattle.brace_pieces.specs.Right.{StandsBefore, IsTold, IsRightCause}
 use Rattle.brace_pieces.specs.Heard.{own, near}
 use Rattle.brace_pieces.proofs.FaultLemmas.{IsOf, queries_are_of, next_is_of, updates_are_of, births_of, in_births}
-use Rattle.brace_pieces.proofs.PlaceLemmas.{no_show, shape}
+pub use Rattle.brace_pieces.proofs.OrderLemmas.{Ticks, steps_tick}
+use Rattle.brace_pieces.proofs.PlaceLemmas.{no_show}
 use Rattle.brace_num.proofs.Lists.{All-place}
 
 -- ---- what some elements of a list give all of them give
@@ -119,64 +120,6 @@ pub right_later : (s : Setting) (m n : ℕ) (c : Cause) → m ≤ n → IsRightC
 right_later s m n (cause.Fault f) up h = before_later s m n f up h
 right_later s m n cause.NoMemory up h = h
 right_later s m n cause.Closed up h = h
-
--- ---- the steps of a run but for the shows are of its ticks
-
-module _ (s : Setting) where
-  abbrev pub Ticks : Step → Type 0
-  Ticks at = (at.stage ≡ stage.Show → ⊥) → (s.job.first ≤ at.tick) × (at.tick < s.job.last)
-
-  show_ticks : (t : ℕ) → All Ticks (show s t)
-  show_ticks t = by_choice (is_end s t)
-    where
-      by_choice : (c : Bool) → All Ticks (made_if c (step stage.Show t))
-      by_choice true = All-cons Ticks (step stage.Show t) [] (λ other. absurd (other refl)) (All-nil Ticks)
-      by_choice false = All-nil Ticks
-
-  module _ (v : ℕ) (low : s.job.first ≤ v) (high : v < s.job.last) where
-    here : (kind : Stage) → Ticks (step kind v)
-    here kind _ = (low, high)
-
-    if_made : (c : Bool) (kind : Stage) → All Ticks (made_if c (step kind v))
-    if_made true kind = All-cons Ticks (step kind v) [] (here kind) (All-nil Ticks)
-    if_made false kind = All-nil Ticks
-
-    tick_ticks : All Ticks (steps_in s v)
-    tick_ticks =
-        let hand : List Step = made_if (is_recut s v) (step stage.Hand v) in
-        let effects : List Step = made_if (not s.invert) (step stage.Effects v) in
-        let census : List Step = made_if (has_births s.job.program) (step stage.Census v) in
-        let ending : List Step = step stage.Move v ∷ show s (v + 1) in
-        All-same Ticks (steps_in s v) (hand ++ (step stage.Border v ∷ (effects ++ (census ++ ending)))) (shape s v)
-        (All-append Ticks hand (step stage.Border v ∷ (effects ++ (census ++ ending))) (if_made (is_recut s v) stage.Hand)
-        (All-cons Ticks (step stage.Border v) (effects ++ (census ++ ending)) (here stage.Border)
-        (All-append Ticks effects (census ++ ending) (if_made (not s.invert) stage.Effects)
-        (All-append Ticks census ending (if_made (has_births s.job.program) stage.Census)
-        (All-cons Ticks (step stage.Move v) (show s (v + 1)) (here stage.Move) (show_ticks (v + 1)))))))
-
-  row_ticks : (from len : ℕ) → s.job.first ≤ from → from + len ≤ s.job.last → All Ticks (flat_map (steps_in s) (range_with_len from len))
-  row_ticks from zero low high = All-nil Ticks
-  row_ticks from (suc len) low high =
-      All-append Ticks (steps_in s from) (flat_map (steps_in s) (range_with_len (from + 1) len)) (tick_ticks from low (omega (arith, high)))
-      (row_ticks (from + 1) len (omega (arith, low)) (omega (arith, high)))
-
-  run_ticks : (last : ℕ) → last ≤ s.job.last → s.job.first ≤ s.job.last → All Ticks (steps s)
-  run_ticks last low up =
-      All-append Ticks (show s s.job.first) (flat_map (steps_in s) (range_with_len s.job.first (s.job.last - s.job.first))) (show_ticks s.job.first)
-      (row_ticks s.job.first (s.job.last - s.job.first) (omega arith) (omega (arith, up)))
-
-  -- a run whose last tick is before its first has no step but a show
-  no_ticks : s.job.last < s.job.first → All Ticks (steps s)
-  no_ticks down =
-      let none : s.job.last - s.job.first ≡ 0 = omega (arith, down) in
-      All-append Ticks (show s s.job.first) (flat_map (steps_in s) (range_with_len s.job.first (s.job.last - s.job.first))) (show_ticks s.job.first)
-      (subst (λ n. All Ticks (flat_map (steps_in s) (range_with_len s.job.first n))) (sym none) (All-nil Ticks))
-
-  pub steps_tick : All Ticks (steps s)
-  steps_tick = elim (cases_lt s.job.last s.job.first) [
-    | inl down ↦ no_ticks down
-    | inr up ↦ run_ticks s.job.last (omega arith) (omega (arith, up))
-  ]
 
 -- a fault of a tick and a phase that is found there may be told behind the step of that tick and phase
 told_then : (s : Setting) (t : ℕ) (phase : Phase) (f : Fault) (number : ℕ) → Contains (found_in s t phase) f → IsOf t phase f → StandsBefore s (step (stage_of s phase) t) number → IsTold s number f
