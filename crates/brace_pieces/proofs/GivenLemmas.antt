@@ -26,37 +26,15 @@ use Rattle.brace_pieces.proofs.Merges.{Rises}
 use Rattle.std.proofs.lemmas.List.Elements.{filter-append}
 use Rattle.std.proofs.lemmas.List.{map-append}
 use Rattle.std.proofs.lemmas.Bool.{ne_eqb, eq-eqb}
-use Rattle.brace_num.proofs.Lists.{in_more, first_or_later, filter_map_alike}
+use Rattle.std.proofs.lemmas.Map.Keys.{any_passes_from_place}
+use Rattle.brace_invert.proofs.Heard.{seen_in}
+use Rattle.brace_num.proofs.Lists.{in_more, filter_map_alike}
+use Rattle.brace_num.proofs.Options.{not_some}
 use Rattle.brace_num.proofs.Orders.{rises_by_keys}
-
-no_spawn : (classes : List Class) → list_any (λ c. is_some c.spawn) classes ≡ false → (n : ℕ) (c : Class) → slice_get classes n ≡ Some c → c.spawn ≡ None
-no_spawn [] none n c e = absurd (cc)
-no_spawn (d ∷ classes) none n c e = by_spawn d.spawn refl none n e (no_spawn classes)
-  where
-    class_is : (d c : Class) → Some d ≡ Some c → d ≡ c
-    class_is d c e = cc
-
-    by_spawn : (o : Option Spawn) → d.spawn ≡ o → (is_some o || list_any (λ c. is_some c.spawn) classes) ≡ false → (n : ℕ) → slice_get (d ∷ classes) n ≡ Some c
-        → (list_any (λ c. is_some c.spawn) classes ≡ false → (k : ℕ) (c : Class) → slice_get classes k ≡ Some c → c.spawn ≡ None) → c.spawn ≡ None
-    by_spawn (Some spawn) is none n e rest = absurd (true≢false none)
-    by_spawn None is none zero e rest = ap (λ x. x.spawn) (sym (class_is d c e)) ∙ is
-    by_spawn None is none (suc k) e rest = rest none k c e
 
 none_made : {A B : Type 0} (xs : List A) → filter_map {Y = B} (λ x. None) xs ≡ []
 none_made [] = refl
 none_made (x ∷ xs) = none_made xs
-
-of_filter : (test : Agent → Bool) (xs : List Agent) (a : Agent) → Contains (filter test xs) a → Contains xs a
-of_filter test [] a has = has
-of_filter test (x ∷ xs) a has = by_test (test x) has (of_filter test xs a)
-  where
-    by_first : (x ≡ a) ⊎ Contains (filter test xs) a → (Contains (filter test xs) a → Contains xs a) → Contains (x ∷ xs) a
-    by_first (inl same) rest = (0, omega arith, same)
-    by_first (inr behind) rest = in_more x xs a (rest behind)
-
-    by_test : (v : Bool) → Contains (cond v (x ∷ filter test xs) (filter test xs)) a → (Contains (filter test xs) a → Contains xs a) → Contains (x ∷ xs) a
-    by_test true has rest = by_first (first_or_later x (filter test xs) a has) rest
-    by_test false has rest = in_more x xs a (rest has)
 
 module _ (s : Setting) (t : ℕ) where
   abbrev m : Program
@@ -70,7 +48,11 @@ module _ (s : Setting) (t : ℕ) where
   no_child_of none None a is totals = refl
   no_child_of none (Some c) a is totals =
       let scope : Scope = opening_scope s.job.seed t [] totals a in
-      no_child_by c a scope (first_stop (update_in scope c a)) (no_spawn m.classes none a.class c is)
+      no_child_by c a scope (first_stop (update_in scope c a)) (not_some c.spawn (not_any none (any_passes_from_place (λ (c : Class). is_some c.spawn) m.classes a.class c is)))
+    where
+      not_any : {b c : Bool} → b ≡ false → (c ≡ true → b ≡ true) → c ≡ false
+      not_any {c = true} none some = absurd (true≢false (sym (some refl) ∙ none))
+      not_any {c = false} none some = refl
 
   module _ (w : List Agent) where
     abbrev leaves : Agent → Next
@@ -159,7 +141,7 @@ module _ (s : Setting) (t : ℕ) where
 
         later : filter_map (with_number n (c.id ∷ ids (take k kids))) others ≡ filter_map (with_number (suc n) (ids (take k kids))) others
         later = filter_map_alike (with_number n (c.id ∷ ids (take k kids))) (with_number (suc n) (ids (take k kids))) others (λ d has.
-            let (j, low, is) = of_filter is_own kids d has in
+            let (j, low, is) = (seen_in is_own kids d has).0 in
             let below = rise zero (suc j) d (omega arith) (omega (arith, low)) in
             let first = ap (λ (x : Agent). x.id) is in
             let one : n + 1 ≡ suc n = omega arith in

@@ -21,6 +21,8 @@ use Rattle.brace_invert.specs.Held.{is_near}
 use Rattle.brace_cuts.specs.Space.{area_of}
 use Rattle.brace_invert.proofs.Inverting.{found_foreseen}
 use Rattle.brace_invert.proofs.Owners.{faults_held}
+use Rattle.brace_invert.proofs.Heard.{seen_in}
+use Rattle.brace_pieces.proofs.Origins.{of_flat_map, flat_map_of}
 use Rattle.brace_pieces.specs.declared.setting.Setting.{Setting}
 use Rattle.brace_pieces.specs.declared.setting.Stage.{Stage}
 use Rattle.brace_pieces.specs.declared.setting.Stage.TheVariants as stage
@@ -41,17 +43,8 @@ use Rattle.brace_num.proofs.Lists.{All-place}
 
 -- ---- what some elements of a list give all of them give
 
-more_given : {A B : Type 0} (f : A → List B) (t : A → Bool) (x : A) (xs : List A) (g : B) (tx : Bool) → t x ≡ tx → (Contains (flat_map f (filter t xs)) g → Contains (flat_map f xs) g)
-    → Contains (flat_map f (filter t (x ∷ xs))) g → Contains (flat_map f (x ∷ xs)) g
-more_given f t x xs g true is rest h =
-    ⊎_elim (λ (y : Contains (f x) g). Contains-append_left (f x) (flat_map f xs) g y) (λ (y : Contains (flat_map f (filter t xs)) g). Contains-append_right (f x) (flat_map f xs) g (rest y))
-    (Contains-append_cases (f x) (flat_map f (filter t xs)) g (subst (λ ys. Contains (flat_map f ys) g) (ap (λ c. cond c (x ∷ filter t xs) (filter t xs)) is) h))
-more_given f t x xs g false is rest h =
-    Contains-append_right (f x) (flat_map f xs) g (rest (subst (λ ys. Contains (flat_map f ys) g) (ap (λ c. cond c (x ∷ filter t xs) (filter t xs)) is) h))
-
 given_within : {A B : Type 0} (f : A → List B) (t : A → Bool) (xs : List A) (g : B) → Contains (flat_map f (filter t xs)) g → Contains (flat_map f xs) g
-given_within f t [] g h = h
-given_within f t (x ∷ xs) g h = more_given f t x xs g (t x) refl (given_within f t xs g) h
+given_within f t xs g h = let of = of_flat_map f (filter t xs) g h in flat_map_of f xs of.from g (seen_in t xs of.from of.there).0 of.gives
 
 -- errors as a list
 abbrev pub errors : Result Next Fault → List Fault

@@ -126,6 +126,10 @@ module _ (s : Setting) where
   pub next_is : (k : ℕ) (at : Step) → slice_get (steps s) k ≡ Some at → next_of s at ≡ slice_get (steps s) (k + 1)
   next_is k at e = let one : suc k ≡ k + 1 = omega arith in next_there (next_of s) (steps s) all_linked k at e ∙ ap (slice_get (steps s)) one
 
+  -- where a stage is known
+  pub is_behind : (at : Step) (stage : Stage) (o : Option Step) → at.stage ≡ stage → o ≡ next_in s stage at.tick → (k : ℕ) → slice_get (steps s) k ≡ Some at → o ≡ slice_get (steps s) (k + 1)
+  is_behind at stage o is same k e = same ∙ ap (λ x. next_in s x at.tick) (sym is) ∙ next_is k at e
+
   -- no tick is left
   pub no_tick : (t : ℕ) → s.job.last ≤ t → None ≡ slice_get (ticks_from s t) 0
   no_tick t high =
