@@ -2,7 +2,8 @@
 use Rattle.std.proofs.Common.{◌≡◌, ◌∙◌, refl, sym, ap, ap₂, subst, ℕ, zero, suc, ℤ, pos, ◌≤ℤ◌, ◌+ℤ◌, List, [], ◌∷◌, ◌++◌, map, filter, Bool, true, false, cond, Option, Some, None, arith, ◌<◌}
 use Rattle.std.specs.Prelude.{◌&&◌, ◌||◌, ◌==◌, if◌then◌else◌, is_none, unwrap_or, slice_get}
 use Rattle.std.specs.List.{All, Contains, list_any}
-use Rattle.std.proofs.lemmas.List.Elements.{All-nil, All-cons, All-contains, filter-append, Contains-append_right}
+use Rattle.std.proofs.lemmas.List.Elements.{All-contains, All-filter, All-contains_itself, filter_passes, filter-append}
+use Rattle.std.proofs.lemmas.Map.Keys.{any_passes_from_place}
 use Rattle.std.proofs.lemmas.Int.{ints}
 use Rattle.brace_num.specs.declared.kinds.Area.{Area}
 use Rattle.brace_model.specs.declared.program.Who.{Who}
@@ -64,18 +65,9 @@ pub record Reaches (m : Program) (w : List Agent) (held : Agent → Bool) (deep 
   pub one : (p : Agent) → Contains w p → sees m a p ≡ true → p.id ≡ id → (held a ≡ true) × (held p ≡ true)
   pub three : deep ≡ true → (p q : Agent) → Contains w p → sees m a p ≡ true → Contains w q → sees m a q ≡ true → p.id ≡ id → held q ≡ true
 
--- the agents that a loop takes
-passing_step : {A : Type 0} (t : A → Bool) (x : A) (xs all : List A) (tx : Bool) → t x ≡ tx → Contains all x → All (λ y. Contains all y × (t y ≡ true)) (filter t xs) → All (λ y. Contains all y × (t y ≡ true)) (filter t (x ∷ xs))
-passing_step t x xs all true e there rest =
-    subst (All (λ y. Contains all y × (t y ≡ true))) (sym (ap (λ c. cond c (x ∷ filter t xs) (filter t xs)) e)) (All-cons (λ y. Contains all y × (t y ≡ true)) x (filter t xs) (there, e) rest)
-passing_step t x xs all false e there rest = subst (All (λ y. Contains all y × (t y ≡ true))) (sym (ap (λ c. cond c (x ∷ filter t xs) (filter t xs)) e)) rest
-
-passing : {A : Type 0} (t : A → Bool) (xs all : List A) → ((y : A) → Contains xs y → Contains all y) → All (λ y. Contains all y × (t y ≡ true)) (filter t xs)
-passing t [] all h = All-nil (λ y. Contains all y × (t y ≡ true))
-passing t (x ∷ xs) all h = passing_step t x xs all (t x) refl (h x (0, omega arith, refl)) (passing t xs all (λ y w. h y (Contains-append_right (x ∷ []) xs y w)))
-
+-- what a filter keeps is there and passes
 pub seen_in : {A : Type 0} (t : A → Bool) (xs : List A) (x : A) → Contains (filter t xs) x → Contains xs x × (t x ≡ true)
-seen_in t xs x w = All-contains (λ y. Contains xs y × (t y ≡ true)) (filter t xs) x (passing t xs xs (λ y h. h)) w
+seen_in t xs x w = (All-contains (Contains xs) (filter t xs) x (All-filter t (Contains xs) xs (All-contains_itself xs)) w, All-contains (λ y. t y ≡ true) (filter t xs) x (filter_passes t xs) w)
 
 inside_first : (scope : Scope) (x : Agent) → scope.outer ≡ None → inside scope x ≡ record scope { outer = Some x }
 inside_first scope x e = ap (λ p. if is_none p then record scope { outer = Some x } else record scope { inner = Some x }) e
@@ -267,21 +259,12 @@ module _ (m : Program) (w : List Agent) (held : Agent → Bool) (deep : Bool) (a
   hears _ _ (o.far field e here s d h) all = hears_say o.deepest who.Outer field e here s all (far_hit m w held deep a id r d) (λ scope p is. ap (λ q. unwrap_or q scope.this) is) (hears o.deepest s h all)
   hears _ _ (o.farthest field e here s d h) all = hears_say o.deepest who.Inner field e here s all (farthest_hit m w held deep a id r d) (λ scope p is. ap (λ q. unwrap_or q scope.this) is) (hears o.deepest s h all)
 
-any_at : {A : Type 0} (p : A → Bool) (xs : List A) (n : ℕ) (x : A) → slice_get xs n ≡ Some x → p x ≡ true → list_any p xs ≡ true
-any_at p [] n x e h = absurd (cc)
-any_at p (y ∷ xs) zero x e h = let same : y ≡ x = cc in ap (λ z. p z || list_any p xs) same ∙ ap (λ t. t || list_any p xs) h
-any_at p (y ∷ xs) (suc n) x e h = or_later (p y) (list_any p xs) (any_at p xs n x e h)
-  where
-    or_later : (s t : Bool) → t ≡ true → (s || t) ≡ true
-    or_later true t e = refl
-    or_later false t e = e
-
 pub query_outward : (m : Program) → LawfulProgram m → (a : Agent) (class : Class) → class_of m a ≡ Some class → Outward (says_in_inner_loops m) o.top (inverse_query class.query)
 query_outward m lawful a class e =
     let here = lawful.classes_are_lawful a.class class e in
     let (last, formed) = is_there (in_turn (map scope_after class.query) (query_scope m a.class)) here.query_is_typed in
     outward (says_in_inner_loops m) class.query (plain class.query) o.top (query_scope m a.class) last (record { outer = refl; inner_one = refl }) formed
-    (λ y. any_at (λ c. list_any (λ s. says_within s false false) c.query) m.classes a.class class e y)
+    (λ y. any_passes_from_place (λ (c : Class). list_any (λ s. says_within s false false) c.query) m.classes a.class class e y)
 
 module _ (m : Program) (seed tick : ℕ) (w : List Agent) (area : Area) (held : Agent → Bool) (lawful : LawfulProgram m) (rises : RisesById w) (holds : HoldsNear m area (range_of m true) w held)
     (b : Agent) (wb : Contains w b) (stands : is_in m area b ≡ true) where

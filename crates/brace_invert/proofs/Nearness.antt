@@ -2,7 +2,7 @@
 use Rattle.std.proofs.Common.{◌≡◌, refl, subst, ℕ, zero, suc, ℤ, pos, ◌≤ℤ◌, ◌+ℤ◌, ◌-ℤ◌, List, [], ◌∷◌, true, Option, Some, None, arith}
 use Rattle.std.specs.Prelude.{not, ◌==◌, fold, slice_get}
 use Rattle.std.specs.Int.{int_max}
-use Rattle.std.proofs.lemmas.Int.{ints}
+use Rattle.std.proofs.lemmas.Int.{ints, clamps}
 use Rattle.brace_num.specs.declared.kinds.Area.{Area}
 use Rattle.brace_model.specs.declared.program.Class.{Class}
 use Rattle.brace_model.specs.declared.program.Program.{Program}
@@ -23,21 +23,8 @@ within_up v p q e = grind (arith, e)
 within_down : (v p q : ℤ) → is_within v p q ≡ true → (q -ℤ p) ≤ℤ v
 within_down v p q e = grind (arith, e)
 
-low_near : (low p q v k : ℤ) → (q -ℤ p) ≤ℤ v → (low -ℤ q) ≤ℤ k → (low -ℤ p) ≤ℤ (k +ℤ v)
-low_near low p q v k down h = omega (arith, ints, down, h)
-
-high_near : (high p q v k : ℤ) → (p -ℤ q) ≤ℤ v → (q -ℤ high) ≤ℤ k → (p -ℤ high) ≤ℤ (k +ℤ v)
-high_near high p q v k up h = omega (arith, ints, up, h)
-
-none_near : (v k : ℤ) → pos 0 ≤ℤ v → pos 0 ≤ℤ k → pos 0 ≤ℤ (k +ℤ v)
-none_near v k some more = grind (arith, some, more)
-
 outside_near : (low high p q v k : ℤ) → pos 0 ≤ℤ v → pos 0 ≤ℤ k → (p -ℤ q) ≤ℤ v → (q -ℤ p) ≤ℤ v → outside low high q ≤ℤ k → outside low high p ≤ℤ (k +ℤ v)
-outside_near low high p q v k some more up down h =
-    let (zero_so, ends) = within_max (pos 0) (int_max (low -ℤ q) (q -ℤ high)) k h in
-    let (below, above) = within_max (low -ℤ q) (q -ℤ high) k ends in
-    max_within (pos 0) (int_max (low -ℤ p) (p -ℤ high)) (k +ℤ v) (none_near v k some more)
-    (max_within (low -ℤ p) (p -ℤ high) (k +ℤ v) (low_near low p q v k down below) (high_near high p q v k up above))
+outside_near low high p q v k some more up down h = omega (arith, ints, clamps)
 
 gap_near : (area : Area) (ax ay bx by v k : ℤ) → pos 0 ≤ℤ v → pos 0 ≤ℤ k → (ax -ℤ bx) ≤ℤ v → (bx -ℤ ax) ≤ℤ v → (ay -ℤ by) ≤ℤ v → (by -ℤ ay) ≤ℤ v → gap_to area bx by ≤ℤ k → gap_to area ax ay ≤ℤ (k +ℤ v)
 gap_near area ax ay bx by v k some more xu xd yu yd h =

@@ -1,8 +1,9 @@
 -- What a part of a block keeps of the block's numbers: all constants, some sites, loops and assignments, in their order.
-use Rattle.std.proofs.Common.{◌≡◌, ◌∙◌, refl, sym, ap, ℕ, ◌+◌, ◌≤◌, List, [], ◌∷◌, ◌++◌, map, flat_map, sum, false, arith, append_assoc, ◌<◌, length, get_or, take}
+use Rattle.std.proofs.Common.{◌≡◌, ◌∙◌, refl, sym, ap, ap₂, ℕ, ◌+◌, ◌≤◌, List, [], ◌∷◌, ◌++◌, map, flat_map, sum, false, arith, append_assoc, ◌<◌, length, get_or, take}
 use Rattle.std.specs.List.{concat, sum_by}
 use Rattle.std.proofs.lemmas.List.{append-nil, map-append, length-append}
-use Rattle.std.proofs.lemmas.List.Concat.{flat_map-append}
+use Rattle.std.proofs.lemmas.List.Concat.{flat_map-append, concat_is}
+use Rattle.std.proofs.lemmas.List.Folds.{flat_map-map}
 use Rattle.std.proofs.lemmas.List.Sums.{sum-map, sum_by-cons, sum_by-append}
 use Rattle.brace_model.specs.declared.program.Value.TheVariants.{Flag}
 use Rattle.brace_model.specs.declared.program.Expr.{Expr}
@@ -29,12 +30,11 @@ pub count-append : {A : Type 0} (f : A → ℕ) (xs ys : List A) → sum (map f 
 count-append f xs ys = sum-map f (xs ++ ys) ∙ sum_by-append f xs ys ∙ ap (λ n. n + sum_by f ys) (sym (sum-map f xs)) ∙ ap (λ n. sum (map f xs) + n) (sym (sum-map f ys))
 
 pub concat-map : {A : Type 0} (f : A → List ℕ) (xs : List A) → concat (map f xs) ≡ flat_map f xs
-concat-map f [] = refl
-concat-map f (x ∷ xs) = ap (λ t. f x ++ t) (concat-map f xs)
+concat-map f xs = concat_is (map f xs) ∙ flat_map-map (λ x. x) f xs
 
 -- what blocks carry
 pub sites-If : (c : Expr) (a b : List Stmt) → sites_in (If c a b) ≡ sites_of c ++ (flat_map sites_in a ++ flat_map sites_in b)
-sites-If c a b = sites_in-If c a b ∙ ap (λ t. sites_of c ++ (t ++ concat (map sites_in b))) (concat-map sites_in a) ∙ ap (λ t. sites_of c ++ (flat_map sites_in a ++ t)) (concat-map sites_in b)
+sites-If c a b = sites_in-If c a b ∙ ap₂ (λ t u. sites_of c ++ (t ++ u)) (concat-map sites_in a) (concat-map sites_in b)
 
 pub sites-Foreach : (class : ℕ) (body : List Stmt) (at : ℕ) → sites_in (Foreach class body at) ≡ flat_map sites_in body
 sites-Foreach class body at = sites_in-Foreach class body at ∙ concat-map sites_in body

@@ -12,7 +12,7 @@ use Rattle.brace_model.specs.declared.program.Expr.TheVariants.{Lit}
 use Rattle.brace_model.specs.declared.program.Stmt.{Stmt}
 use Rattle.brace_model.specs.declared.program.Stmt.TheVariants.{Const, If, Foreach, Assign}
 use Rattle.brace_model.specs.declared.program.Ty.{Ty}
-use Rattle.brace_model.specs.Typing.{Names, only, class_named, effect_named, takes, within_loop, scope_after}
+use Rattle.brace_model.specs.Typing.{Names, type_of, only, class_named, effect_named, takes, within_loop, scope_after}
 use Rattle.brace_model.specs.Sites.{constant_numbers, assignments}
 use Rattle.brace_invert.specs.Split.{unread, places, inverse_of}
 use Rattle.brace_invert.specs.Range.{says_within}
@@ -20,7 +20,7 @@ use Rattle.brace_invert.proofs.PartEquations.{inverse_of-Const, inverse_of-If, i
 use Rattle.brace_invert.proofs.RangeLemmas.{says_within-If, says_within-Foreach, says_within-Assign}
 use Rattle.brace_model.proofs.Blocks as b
 use Rattle.brace_model.proofs.Blocks.{Plain}
-use Rattle.brace_invert.proofs.Typed.{After, after_split, formed_const, formed_if, formed_loop, formed_assign, only_where}
+use Rattle.brace_invert.proofs.Typed.{After, formed_const, formed_if, formed_loop, formed_assign, only_where}
 use Rattle.std.proofs.lemmas.Bool.{or_right, or_left}
 
 -- in how many loops a block stands
@@ -85,16 +85,16 @@ nobody names who effect o none_there taken = no_effect (class_named names who) n
     no_effect (Some n) e f t = absurd (cc)
 
 -- what an assignment to a loop's agent becomes
-one_statement : (deep : Bool) (k : Depth) (who : Who) (effect : ℕ) (e : Expr) (at : ℕ) (names last : Names) → Placed k names → scope_after (Assign who effect e at) names ≡ Some last
+one_statement : (deep : Bool) (k : Depth) (who : Who) (effect : ℕ) (e : Expr) (at : ℕ) (names : Names) → Placed k names → takes (effect_named names who effect) (type_of e names) ≡ true
     → (says_within (Assign who effect e at) (in_a_loop k) (in_an_inner k) ≡ true → deep ≡ true) → Outward deep k (inverse_of (Assign who effect e at) (in_a_loop k))
-one_statement deep k This effect e at names last placed formed allowed = subst (Outward deep k) (sym (inverse_of-Assign This effect e at (in_a_loop k))) (none k)
-one_statement deep top Outer effect e at names last placed formed allowed = absurd (nobody names Outer effect _ placed.outer (formed_assign Outer effect e at names last formed).taken)
-one_statement deep top Inner effect e at names last placed formed allowed = absurd (nobody names Inner effect _ placed.inner_one (formed_assign Inner effect e at names last formed).taken)
-one_statement deep middle Outer effect e at names last placed formed allowed = subst (Outward deep middle) (sym (inverse_of-Assign Outer effect e at true)) (near effect e at [] (none middle))
-one_statement deep middle Inner effect e at names last placed formed allowed = absurd (nobody names Inner effect _ placed.inner_one (formed_assign Inner effect e at names last formed).taken)
-one_statement deep deepest Outer effect e at names last placed formed allowed =
+one_statement deep k This effect e at names placed taken allowed = subst (Outward deep k) (sym (inverse_of-Assign This effect e at (in_a_loop k))) (none k)
+one_statement deep top Outer effect e at names placed taken allowed = absurd (nobody names Outer effect _ placed.outer taken)
+one_statement deep top Inner effect e at names placed taken allowed = absurd (nobody names Inner effect _ placed.inner_one taken)
+one_statement deep middle Outer effect e at names placed taken allowed = subst (Outward deep middle) (sym (inverse_of-Assign Outer effect e at true)) (near effect e at [] (none middle))
+one_statement deep middle Inner effect e at names placed taken allowed = absurd (nobody names Inner effect _ placed.inner_one taken)
+one_statement deep deepest Outer effect e at names placed taken allowed =
     subst (Outward deep deepest) (sym (inverse_of-Assign Outer effect e at true)) (far effect e at [] (allowed (says_within-Assign Outer effect e at true true)) (none deepest))
-one_statement deep deepest Inner effect e at names last placed formed allowed =
+one_statement deep deepest Inner effect e at names placed taken allowed =
     subst (Outward deep deepest) (sym (inverse_of-Assign Inner effect e at true)) (farthest effect e at [] (allowed (says_within-Assign Inner effect e at true true)) (none deepest))
 
 -- a scope one loop further in
@@ -131,41 +131,35 @@ MaySay deep k s = list_any (λ x. says_within x (in_a_loop k) (in_an_inner k)) s
 pub outward : (deep : Bool) (s : List Stmt) → Plain s → (k : Depth) (names last : Names) → Placed k names → After s names last → MaySay deep k s → Outward deep k (flat_map (λ x. inverse_of x (in_a_loop k)) s)
 outward deep _ b.none k names last placed e allowed = none k
 outward deep _ (b.const n x s h) k names last placed e allowed =
-    let (mid, first, rest) = after_split (Const n x) s names last e in
-    let f = formed_const n x names mid first in
+    let f = formed_const n x s names last e in
     outward_append deep k (inverse_of (Const n x) (in_a_loop k)) _ (subst (Outward deep k) (sym (inverse_of-Const n x (in_a_loop k))) (const k n x [] (none k)))
-    (outward deep s h k mid last (subst (Placed k) (sym f.bound) (record { outer = placed.outer; inner_one = placed.inner_one })) rest
+    (outward deep s h k _ last (record { outer = placed.outer; inner_one = placed.inner_one }) f.rest
     (λ y. allowed (or_right (says_within (Const n x) (in_a_loop k) (in_an_inner k)) _ y)))
 outward deep _ (b.cond c a d s ha hd h) k names last placed e allowed =
-    let (mid, first, rest) = after_split (If c a d) s names last e in
-    let f = formed_if c a d names mid first in
+    let f = formed_if c a d s names last e in
     outward_append deep k (inverse_of (If c a d) (in_a_loop k)) _ (subst (Outward deep k) (sym (inverse_of-If c a d (in_a_loop k)))
     (cond k c _ _ []
     (outward deep a ha k names f.first.0 placed f.first.1 (λ y. allowed (or_left (says_within (If c a d) (in_a_loop k) (in_an_inner k)) _ (says_within-If c a d (in_a_loop k) (in_an_inner k) ∙ or_left _ _ y))))
     (outward deep d hd k names f.second.0 placed f.second.1 (λ y. allowed (or_left (says_within (If c a d) (in_a_loop k) (in_an_inner k)) _ (says_within-If c a d (in_a_loop k) (in_an_inner k) ∙ or_right _ _ y))))
     (none k)))
-    (outward deep s h k mid last (subst (Placed k) f.closed placed) rest (λ y. allowed (or_right (says_within (If c a d) (in_a_loop k) (in_an_inner k)) _ y)))
+    (outward deep s h k names last placed f.rest (λ y. allowed (or_right (says_within (If c a d) (in_a_loop k) (in_an_inner k)) _ y)))
 outward deep _ (b.loop class at body s hb h) top names last placed e allowed =
-    let (mid, first, rest) = after_split (Foreach class body at) s names last e in
-    let f = formed_loop class body at names mid first in
+    let f = formed_loop class body at s names last e in
     outward_append deep top (inverse_of (Foreach class body at) false) _ (subst (Outward deep top) (sym (inverse_of-Foreach class body at false))
     (loop class at _ [] (outward deep body hb middle f.inside f.body_is_formed.0 (enter_first names f.inside class placed f.entered) f.body_is_formed.1
     (λ y. allowed (or_left (says_within (Foreach class body at) false false) _ (says_within-Foreach class body at false false ∙ y)))) (none top)))
-    (outward deep s h top mid last (subst (Placed top) f.closed placed) rest (λ y. allowed (or_right (says_within (Foreach class body at) false false) _ y)))
+    (outward deep s h top names last placed f.rest (λ y. allowed (or_right (says_within (Foreach class body at) false false) _ y)))
 outward deep _ (b.loop class at body s hb h) middle names last placed e allowed =
-    let (mid, first, rest) = after_split (Foreach class body at) s names last e in
-    let f = formed_loop class body at names mid first in
+    let f = formed_loop class body at s names last e in
     outward_append deep middle (inverse_of (Foreach class body at) true) _ (subst (Outward deep middle) (sym (inverse_of-Foreach class body at true))
     (outward_inner deep class at _ (sum (map assignments (flat_map (λ x. inverse_of x true) body)) == 0) (outward deep body hb deepest f.inside f.body_is_formed.0 (enter_second names f.inside class placed f.entered) f.body_is_formed.1
     (λ y. allowed (or_left (says_within (Foreach class body at) true false) _ (says_within-Foreach class body at true false ∙ y))))))
-    (outward deep s h middle mid last (subst (Placed middle) f.closed placed) rest (λ y. allowed (or_right (says_within (Foreach class body at) true false) _ y)))
+    (outward deep s h middle names last placed f.rest (λ y. allowed (or_right (says_within (Foreach class body at) true false) _ y)))
 outward deep _ (b.loop class at body s hb h) deepest names last placed e allowed =
-    let (mid, first, rest) = after_split (Foreach class body at) s names last e in
-    let f = formed_loop class body at names mid first in
+    let f = formed_loop class body at s names last e in
     absurd (enter_never names f.inside class placed f.entered)
 outward deep _ (b.say who effect x at s h) k names last placed e allowed =
-    let (mid, first, rest) = after_split (Assign who effect x at) s names last e in
-    let f = formed_assign who effect x at names mid first in
+    let f = formed_assign who effect x at s names last e in
     outward_append deep k (inverse_of (Assign who effect x at) (in_a_loop k)) _
-    (one_statement deep k who effect x at names mid placed first (λ y. allowed (or_left (says_within (Assign who effect x at) (in_a_loop k) (in_an_inner k)) _ y)))
-    (outward deep s h k mid last (subst (Placed k) f.closed placed) rest (λ y. allowed (or_right (says_within (Assign who effect x at) (in_a_loop k) (in_an_inner k)) _ y)))
+    (one_statement deep k who effect x at names placed f.taken (λ y. allowed (or_left (says_within (Assign who effect x at) (in_a_loop k) (in_an_inner k)) _ y)))
+    (outward deep s h k names last placed f.rest (λ y. allowed (or_right (says_within (Assign who effect x at) (in_a_loop k) (in_an_inner k)) _ y)))

@@ -105,6 +105,9 @@ module _ (s : Setting) (lawful : LawfulSetting s) (t : ℕ) (w : List Agent) (in
   stands : (a : Agent) → Contains (own s t p w) a → Contains w a × (is_in m area a ≡ true)
   stands a there = let (within, is) = seen_in ours w a there in (within, inside p a is_part within is)
 
+  one_of_id : RisesById w → (a b : Agent) → Contains w a → Contains w b → a.id ≡ b.id → a ≡ b
+  one_of_id rises = one_agent w (rising_from (ids w) rises)
+
   -- without inversion
   module _ (plain : s.invert ≡ false) where
     range_is : range s ≡ greatest_visible m
@@ -120,9 +123,6 @@ module _ (s : Setting) (lawful : LawfulSetting s) (t : ℕ) (w : List Agent) (in
     said_same = flat_map_alike (λ a. (query_of m s.job.seed t (near s t p w) a).said) (λ a. (query_of m s.job.seed t w a).said) (own s t p w) (λ a there. ap (λ d. d.said) (queries_same a there))
 
     module _ (rises : RisesById w) where
-      one_of_id : (a b : Agent) → Contains w a → Contains w b → a.id ≡ b.id → a ≡ b
-      one_of_id = one_agent w (rising_from (ids w) rises)
-
       -- an agent of the part is near it, and so are those that it sees
       near_itself : (a : Agent) → is_in m area a ≡ true → by a ≡ true
       near_itself a here = nearer m area a (pos 0) (range s) (subst (λ r. pos 0 ≤ℤ r) (sym range_is) (greatest_in_range m lawful_m).0) here
@@ -132,8 +132,8 @@ module _ (s : Setting) (lawful : LawfulSetting s) (t : ℕ) (w : List Agent) (in
           silent_to b.id n (said_by s t p w) (all_given (λ x. Others b.id x.target) (λ a. (query_of m s.job.seed t w a).said) (own s t p w) (λ a there.
           let (aw, here) = stands a there in
           says_of m w a (Others b.id)
-          (λ same. true≢false (sym (near_itself a here) ∙ ap by (one_of_id a b aw within same) ∙ far))
-          (λ x xw seen same. true≢false (sym (seen_held m lawful_m area w by holds a here x xw seen) ∙ ap by (one_of_id x b xw within same) ∙ far))
+          (λ same. true≢false (sym (near_itself a here) ∙ ap by (one_of_id rises a b aw within same) ∙ far))
+          (λ x xw seen same. true≢false (sym (seen_held m lawful_m area w by holds a here x xw seen) ∙ ap by (one_of_id rises x b xw within same) ∙ far))
           s.job.seed t))
 
       -- what a part tells another it makes of the agents that it holds
@@ -151,9 +151,6 @@ module _ (s : Setting) (lawful : LawfulSetting s) (t : ℕ) (w : List Agent) (in
     module _ (b : Agent) (there : Contains (own s t p w) b) (n : ℕ) (rises : RisesById w) where
       abbrev to : Agent → List Value
       to a = said_to b.id n (query_of m s.job.seed t w a).said
-
-      same_agent : (x y : Agent) → Contains w x → Contains w y → x.id ≡ y.id → x ≡ y
-      same_agent = one_agent w (rising_from (ids w) rises)
 
       ours_b : (Contains w b) × (ours b ≡ true)
       ours_b = seen_in ours w b there
@@ -177,7 +174,7 @@ module _ (s : Setting) (lawful : LawfulSetting s) (t : ℕ) (w : List Agent) (in
       unheard : (a : Agent) → Contains w a → (a.id ≡ b.id → ⊥) → sees m a b ≡ false → to a ≡ []
       unheard a aw other unseen =
           silent_to b.id n (query_of m s.job.seed t w a).said (says_of m w a (Others b.id) other
-          (λ x xw seen same. true≢false (sym seen ∙ ap (sees m a) (same_agent x b xw ours_b.0 same) ∙ unseen)) s.job.seed t)
+          (λ x xw seen same. true≢false (sym seen ∙ ap (sees m a) (one_of_id rises x b xw ours_b.0 same) ∙ unseen)) s.job.seed t)
 
       classless : (a : Agent) → class_of m a ≡ None → to a ≡ []
       classless a none = ap (λ o. said_to b.id n (query_in m s.job.seed t w a o).said) none
@@ -194,7 +191,7 @@ module _ (s : Setting) (lawful : LawfulSetting s) (t : ℕ) (w : List Agent) (in
           let owner : owns m cuts q a ≡ true = ap (λ o. owns_at cuts q o a) is ∙ eq-eqb q q refl in
           let low : q < parts s = owner_is_part s lawful t (x_of c a) (y_of c a) in
           elim (cases_eq a.id b.id) [
-            | inl same ↦ inr (covers a p (ap ours (same_agent a b aw ours_b.0 same) ∙ ours_b.1) is_part (inl refl))
+            | inl same ↦ inr (covers a p (ap ours (one_of_id rises a b aw ours_b.0 same) ∙ ours_b.1) is_part (inl refl))
             | inr other ↦ elim (cases_Bool (sees m a b)) [
               | inl seen ↦ inr (covers a q owner low (owner_met a aw q owner low seen))
               | inr unseen ↦ inl (unheard a aw other unseen)
@@ -237,7 +234,7 @@ module _ (s : Setting) (lawful : LawfulSetting s) (t : ℕ) (w : List Agent) (in
           let (bw, is) = seen_in ours w b there in
           silent_to b.id n (query_of (forward_program m) s.job.seed t w a).said
           (All-weaker (λ x. a.id ≡ x.target) (λ x. Others b.id x.target)
-          (λ x own same. true≢false (sym is ∙ ap ours (sym (one_agent w (rising_from (ids w) rises) a b aw bw (own ∙ same))) ∙ isnt))
+          (λ x own same. true≢false (sym is ∙ ap ours (sym (one_of_id rises a b aw bw (own ∙ same))) ∙ isnt))
           (query_of (forward_program m) s.job.seed t w a).said (forward_says m w a s.job.seed t))
 
       by_forward : said_to b.id n (said_in (forward_program m) s.job.seed t w) ≡ said_to b.id n (said_here (forward_program m) s t p w)

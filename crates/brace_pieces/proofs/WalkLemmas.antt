@@ -219,9 +219,5 @@ line_there lines tick n d order some within is isnt =
 
 -- ---- areas
 
--- spans with a common number are not apart
-pub spans_meet : (a b c d : ℤ) → (int_le a d && int_le c b) ≡ int_le (apart a b c d) (pos 0)
-spans_meet a b c d = grind (arith, ints)
-
 pub both_none : (m n : ℤ) → (int_le m (pos 0) && int_le n (pos 0)) ≡ int_le (int_max m n) (pos 0)
 both_none m n = grind (arith, ints)
