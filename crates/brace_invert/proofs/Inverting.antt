@@ -1,6 +1,6 @@
 -- Inversion over whole worlds: what both programs say and find.
-use Rattle.std.proofs.Common.{◌≡◌, ◌∙◌, refl, sym, ap, subst, ℕ, List, [], ◌∷◌, map, filter, flat_map, Bool, true, false, Option, Some, None, arith, ⊎_elim, inl}
-use Rattle.std.specs.Prelude.{◌↔◌, ◌==◌, ◌&&◌, not, option_map, IsTrue, replicate, slice_index_or}
+use Rattle.std.proofs.Common.{◌≡◌, ◌∙◌, refl, sym, ap, subst, ℕ, List, [], map, filter, flat_map, Bool, true, false, Option, Some, None, ⊎_elim, inl}
+use Rattle.std.specs.Prelude.{◌↔◌, ◌==◌, ◌&&◌, not, option_map, IsTrue, replicate}
 use Rattle.std.specs.List.{All, Contains}
 use Rattle.std.specs.List.Sorted.{IsPermutation}
 use Rattle.std.specs.declared.cmp.Ordering.{Ordering}
@@ -9,7 +9,7 @@ use Rattle.std.specs.Ordering.{nat_cmp, ordering_then, is_lt}
 use Rattle.std.specs.Cmp.{nat_cmp_is}
 use Rattle.std.proofs.lemmas.Cmp.{nat_cmp_total, tied_itself}
 use Rattle.std.proofs.lemmas.Option.{slice_get-map}
-use Rattle.std.proofs.lemmas.List.Elements.{filter-append, All-contains, Contains-get_or, Contains-append_cases}
+use Rattle.std.proofs.lemmas.List.Elements.{filter-append, All-contains, Contains-append_cases}
 use Rattle.brace_model.specs.declared.program.Stmt.{Stmt}
 use Rattle.brace_model.specs.declared.program.Stmt.TheOpen as layer
 use Rattle.brace_model.specs.declared.program.Stmt.TheFolds.{fold-Stmt}

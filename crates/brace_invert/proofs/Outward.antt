@@ -12,7 +12,7 @@ use Rattle.brace_model.specs.declared.program.Expr.TheVariants.{Lit}
 use Rattle.brace_model.specs.declared.program.Stmt.{Stmt}
 use Rattle.brace_model.specs.declared.program.Stmt.TheVariants.{Const, If, Foreach, Assign}
 use Rattle.brace_model.specs.declared.program.Ty.{Ty}
-use Rattle.brace_model.specs.Typing.{Names, type_of, only, class_named, effect_named, takes, within_loop, scope_after}
+use Rattle.brace_model.specs.Typing.{Names, type_of, only, class_named, effect_named, takes, within_loop}
 use Rattle.brace_model.specs.Sites.{constant_numbers, assignments}
 use Rattle.brace_invert.specs.Split.{unread, places, inverse_of}
 use Rattle.brace_invert.specs.Range.{says_within}

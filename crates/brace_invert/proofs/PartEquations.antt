@@ -1,5 +1,5 @@
 -- The two parts of a statement of each kind.
-use Rattle.std.proofs.Common.{◌≡◌, ◌∙◌, refl, sym, ap, ap₂, ℕ, List, [], ◌∷◌, ◌++◌, map, flat_map, Bool, true, false, not, ◌==◌, ◌<◌, ◌≤◌, length, get_or, sum, arith}
+use Rattle.std.proofs.Common.{◌≡◌, ◌∙◌, sym, ap, ap₂, ℕ, List, [], ◌∷◌, map, flat_map, Bool, true, false, not, ◌==◌, ◌<◌, ◌≤◌, length, get_or, sum, arith}
 use Rattle.std.specs.List.{sum_by}
 use Rattle.std.proofs.lemmas.List.Folds.{flat_map-map}
 use Rattle.brace_model.specs.declared.program.Who.{Who}

@@ -1,5 +1,5 @@
 -- What a block does and what its parts do: where the block goes on its parts do, in the same scope; together the parts say what the block says, and find each fault that it finds.
-use Rattle.std.proofs.Common.{◌≡◌, ◌∙◌, refl, sym, ap, subst, ℕ, List, [], ◌∷◌, ◌++◌, map, flat_map, Bool, true, false, Ok, Err, ⊎_elim, append_assoc, filter}
+use Rattle.std.proofs.Common.{◌≡◌, refl, sym, subst, ℕ, List, [], ◌∷◌, ◌++◌, map, flat_map, Bool, true, false, Ok, Err, ⊎_elim, append_assoc, filter}
 use Rattle.std.specs.List.{Contains}
 use Rattle.std.specs.List.Sorted.{IsPermutation}
 use Rattle.std.proofs.lemmas.List.{append-nil}
@@ -17,7 +17,7 @@ use Rattle.brace_model.specs.declared.fault.Fault.{Fault}
 use Rattle.brace_model.specs.declared.world.Agent.{Agent}
 use Rattle.brace_model.specs.declared.fault.Stop.{Stop}
 use Rattle.brace_model.specs.Value.{Scope, Worth, value, agent_of}
-use Rattle.brace_model.specs.Query.{Saying, Deed, silent, halted, deed_of, followed_by, closed, bound, inside, chosen, iterated, seen_by, saying, statement}
+use Rattle.brace_model.specs.Query.{Saying, Deed, silent, halted, deed_of, followed_by, closed, bound, inside, chosen, seen_by, saying, statement}
 use Rattle.brace_model.specs.Sites.{constant_numbers}
 use Rattle.brace_model.proofs.ValueEquations.{value-Lit, statement-Const, statement-If, statement-Foreach, statement-Assign}
 use Rattle.brace_invert.specs.Split.{unread, places}

@@ -1,11 +1,9 @@
 -- Where a block faults; and that a part of it faults as the block does, or behind a fault of the block.
-use Rattle.std.proofs.Common.{◌≡◌, ◌∙◌, refl, sym, ap, subst, ℕ, List, [], ◌∷◌, ◌++◌, map, flat_map, true, false, Some, Ok, Err, ⊎_elim, inl, inr}
+use Rattle.std.proofs.Common.{◌≡◌, ◌∙◌, refl, sym, ap, subst, ℕ, List, [], ◌∷◌, ◌++◌, flat_map, true, false, Some, ⊎_elim, inl, inr}
 use Rattle.std.specs.List.{Contains}
 use Rattle.std.proofs.lemmas.List.{append-nil}
 use Rattle.std.proofs.lemmas.List.Folds.{flat_map-map}
 use Rattle.std.proofs.lemmas.List.Elements.{Contains-append_left, Contains-append_right, Contains-append_cases}
-use Rattle.brace_model.specs.declared.program.Value.{Value}
-use Rattle.brace_model.specs.declared.program.Value.TheVariants.{Int, Fixed, Flag}
 use Rattle.brace_model.specs.declared.program.Expr.{Expr}
 use Rattle.brace_model.specs.declared.program.Stmt.{Stmt}
 use Rattle.brace_model.specs.declared.program.Stmt.TheVariants.{Const, If, Foreach, Assign}
@@ -13,8 +11,8 @@ use Rattle.brace_model.specs.declared.program.Program.{Program}
 use Rattle.brace_model.specs.declared.fault.Fault.{Fault}
 use Rattle.brace_model.specs.declared.fault.Phase.TheVariants.{Query}
 use Rattle.brace_model.specs.declared.world.Agent.{Agent}
-use Rattle.brace_model.specs.Value.{Scope, Worth, value}
-use Rattle.brace_model.specs.Query.{Deed, silent, halted, query_fault, deed_of, followed_by, inside, chosen, seen_by, statement}
+use Rattle.brace_model.specs.Value.{Scope, value}
+use Rattle.brace_model.specs.Query.{Deed, silent, halted, query_fault, followed_by, inside, seen_by, statement}
 use Rattle.brace_model.specs.Sites.{sites_of, sites_in, constant_numbers}
 use Rattle.brace_model.specs.Typing.{Names, type_of}
 use Rattle.brace_model.proofs.ValueEquations.{statement-If, statement-Foreach}
@@ -29,7 +27,7 @@ use Rattle.brace_invert.proofs.Numbers.{sites-If, sites-Foreach, sites_kept}
 use Rattle.brace_invert.proofs.Typed.{After, renamed, after_split, after_cons, formed_const, formed_if, formed_loop, formed_assign, part_formed}
 use Rattle.brace_invert.proofs.Sites.{none_within, only_one, value_sited}
 use Rattle.brace_invert.proofs.Runs.{by_condition, Goes, goes_itself, goes_run, head_if, head_loop, head_away, head_say, places_run}
-use Rattle.brace_model.proofs.Deeds.{run, goes_to, stops_at, by_stop, never_both, grown, Halts, halts_one, inside_either}
+use Rattle.brace_model.proofs.Deeds.{run, goes_to, stops_at, by_stop, never_both, grown, halts_one, inside_either}
 use Rattle.brace_model.proofs.Simulation.{Tie, IsTie, Sim, Stops, sim_none, sim_const, sim_if, sim_loop, sim_say, over_same}
 use Rattle.brace_model.specs.declared.program.Ty.{Ty}
 

@@ -1,14 +1,14 @@
 -- The first fault of a tick, and the faults that are found in it.
-use Rattle.std.proofs.Common.{◌≡◌, ◌∙◌, refl, sym, ap, ap₂, subst, ℕ, zero, suc, ◌<◌, ◌≤◌, ℤ, List, [], ◌∷◌, map, filter_map, flat_map, Bool, true, false, Option, Some, None, Result, Ok, Err, arith, ⊎_elim, inl, inr}
-use Rattle.std.specs.Prelude.{option_map, if◌then◌else◌, is_some, slice_get}
-use Rattle.std.specs.List.{Contains, cons_option}
+use Rattle.std.proofs.Common.{◌≡◌, ◌∙◌, refl, sym, ap, ap₂, subst, ℕ, ◌<◌, ◌≤◌, ℤ, List, [], map, filter_map, Bool, true, false, Option, Some, None, Result, Ok, Err, arith, inl, inr}
+use Rattle.std.specs.Prelude.{option_map, if◌then◌else◌}
+use Rattle.std.specs.List.{Contains}
 use Rattle.std.specs.Result.{result_ok, result_err}
 use Rattle.std.specs.declared.cmp.Ordering.{Ordering}
 use Rattle.std.specs.declared.cmp.Ordering.TheVariants.{Greater, Equal}
 use Rattle.std.specs.Ordering.{nat_cmp, ordering_then, is_lt}
 use Rattle.std.specs.Cmp.{nat_cmp_is}
 use Rattle.std.proofs.lemmas.Cmp.{nat_cmp_total, tied_itself}
-use Rattle.std.proofs.lemmas.List.Elements.{All-contains, Contains-append_cases}
+use Rattle.std.proofs.lemmas.List.Elements.{All-contains}
 use Rattle.brace_model.specs.declared.program.Class.{Class}
 use Rattle.brace_model.specs.declared.program.Program.{Program}
 use Rattle.brace_model.specs.declared.fault.Stop.{Stop}
@@ -19,7 +19,7 @@ use Rattle.brace_model.specs.declared.world.Agent.{Agent}
 use Rattle.brace_model.specs.World.{World, class_of}
 use Rattle.brace_model.specs.FaultOrder.{phase_rank, comes_before, least}
 use Rattle.brace_model.specs.Query.{opening_scope, query_in, query_of, query_faults}
-use Rattle.brace_model.specs.Next.{Next, next, next_in, unless_stopped, first_stop, update_in, left_by, child_in, has_births}
+use Rattle.brace_model.specs.Next.{Next, next, next_in, unless_stopped, first_stop, update_in, left_by, has_births}
 use Rattle.brace_model.specs.Typing.{in_turn, scope_after}
 use Rattle.brace_model.specs.Lawful.{query_scope, LawfulProgram}
 use Rattle.brace_model.specs.Step.{all_next, living, children, first_too_far, birth_fault, grown, unless_faulty, step}

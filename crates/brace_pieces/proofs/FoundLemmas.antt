@@ -2,7 +2,6 @@
 use Rattle.std.proofs.Common.{◌≡◌, ◌∙◌, refl, sym, ap, subst, ℕ, ◌+◌, ◌-◌, ◌<◌, ◌≤◌, ℤ, pos, ◌≤ℤ◌, ◌+ℤ◌, List, [], ◌++◌, flat_map, Bool, true, false, Some, Result, Ok, Err, arith, ⊎_elim}
 use Rattle.std.specs.Prelude.{if◌then◌else◌}
 use Rattle.std.specs.List.{Contains}
-use Rattle.std.specs.Result.{result_err}
 use Rattle.std.proofs.lemmas.Bool.{eq-eqb}
 use Rattle.std.proofs.lemmas.Int.{ints}
 use Rattle.std.proofs.lemmas.List.Elements.{Contains-append_left, Contains-append_right, Contains-append_cases}
@@ -13,7 +12,7 @@ use Rattle.brace_model.specs.declared.fault.Fault.{Fault}
 use Rattle.brace_model.specs.declared.fault.Phase.{Phase}
 use Rattle.brace_model.specs.declared.fault.Phase.TheVariants.{Query, Update, Birth}
 use Rattle.brace_model.specs.declared.world.Agent.{Agent}
-use Rattle.brace_model.specs.World.{World, class_of, x_of, y_of}
+use Rattle.brace_model.specs.World.{class_of, x_of, y_of}
 use Rattle.brace_model.specs.Query.{query_of, query_faults}
 use Rattle.brace_model.specs.Next.{Next}
 use Rattle.brace_model.specs.Run.{world_after, first_fault}

@@ -1,11 +1,10 @@
 -- What a part gives to another: of what its own agents are in the next world, and of the children that
 -- they have, those that the other one owns.
-use Rattle.std.proofs.Common.{◌≡◌, ◌∙◌, refl, sym, ap, ap₂, ℕ, zero, suc, List, [], ◌∷◌, ◌++◌, map, filter, zip, Bool, true, false, cond, ◌||◌, Option, Some, None, Contains, append-nil, true≢false, ℤ, filter_map, is_some, arith, ◌⊎◌, inl, inr, take, length, option_map, unwrap_or, subst, ◌+◌}
-use Rattle.std.specs.Prelude.{slice_get, ◌==◌}
+use Rattle.std.proofs.Common.{◌≡◌, ◌∙◌, refl, sym, ap, ap₂, ℕ, zero, suc, List, [], ◌∷◌, ◌++◌, map, filter, zip, Bool, true, false, cond, Option, Some, None, Contains, append-nil, true≢false, ℤ, filter_map, is_some, arith, take, length, option_map, unwrap_or, subst, ◌+◌}
+use Rattle.std.specs.Prelude.{◌==◌}
 use Rattle.std.specs.List.{list_any, cons_option, position_from, find, range_with_len}
 use Rattle.brace_model.specs.declared.program.Class.{Class}
 use Rattle.brace_model.specs.declared.program.Program.{Program}
-use Rattle.brace_model.specs.declared.program.Spawn.{Spawn}
 use Rattle.brace_model.specs.declared.fault.Stop.{Stop}
 use Rattle.brace_model.specs.declared.world.Agent.{Agent}
 use Rattle.brace_model.specs.World.{class_of, RisesById, ids}

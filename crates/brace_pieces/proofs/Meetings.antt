@@ -1,7 +1,7 @@
 -- Which parts meet: where a point of one is near an area of another.
-use Rattle.std.proofs.Common.{◌≡◌, ◌∙◌, sym, ap, subst, ℕ, ◌+◌, ◌*◌, ◌<◌, ℤ, pos, ◌-ℤ◌, ◌+ℤ◌, ◌≤ℤ◌, length, Bool, true, false, ◌&&◌, not, if◌then◌else◌, arith, FitsSigned}
+use Rattle.std.proofs.Common.{◌≡◌, ◌∙◌, sym, ap, subst, ℕ, ◌+◌, ◌*◌, ◌<◌, ℤ, pos, ◌+ℤ◌, ◌≤ℤ◌, length, Bool, true, false, ◌&&◌, not, if◌then◌else◌, arith, FitsSigned}
 use Rattle.std.specs.Prelude.{int_le, nat_lt}
-use Rattle.std.specs.Int.{int_max, w64}
+use Rattle.std.specs.Int.{w64}
 use Rattle.std.proofs.lemmas.Int.{ints, clamps}
 use Rattle.std.proofs.lemmas.Nat.{mul-add-lt}
 use Rattle.std.proofs.lemmas.Bool.{ne_eqb, lt-ltb}

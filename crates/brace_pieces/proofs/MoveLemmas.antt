@@ -1,13 +1,13 @@
 -- The agents of the next world that a part owns come from its own agents, and from those of the
 -- parts that it meets.
-use Rattle.std.proofs.Common.{◌≡◌, ◌∙◌, ◌⊎◌, refl, sym, ap, ap₂, subst, ℕ, zero, suc, ◌+◌, ◌<◌, ◌≤◌, ℤ, pos, ◌≤ℤ◌, List, [], ◌∷◌, ◌++◌, map, filter, filter_map, flat_map, zip, length, Bool, true, false, cond, ◌&&◌, ◌==◌, Option, Some, None, Result, Contains, inl, inr, arith, ⊎_elim, get_or}
+use Rattle.std.proofs.Common.{◌≡◌, ◌∙◌, refl, sym, ap, ap₂, subst, ℕ, zero, suc, ◌+◌, ◌<◌, ℤ, pos, ◌≤ℤ◌, List, [], ◌∷◌, ◌++◌, map, filter, filter_map, flat_map, zip, Bool, true, false, cond, ◌&&◌, ◌==◌, Option, Some, None, Result, Contains, arith, ⊎_elim}
 use Rattle.std.specs.Prelude.{fold, slice_get}
 use Rattle.std.specs.Int.{int_max}
 use Rattle.std.specs.List.{list_any}
 use Rattle.std.specs.List.Sorted.{IsPermutation}
-use Rattle.std.proofs.lemmas.Bool.{cases_lt, eqb-true, and_parts, true≢false}
+use Rattle.std.proofs.lemmas.Bool.{eqb-true, and_parts, true≢false}
 use Rattle.std.proofs.lemmas.List.{map-append, get_or-map, length-map}
-use Rattle.std.proofs.lemmas.List.Elements.{Contains-append_cases, at_from_Contains}
+use Rattle.std.proofs.lemmas.List.Elements.{Contains-append_cases}
 use Rattle.std.proofs.lemmas.List.Sorted.{IsPermutation-sym, IsPermutation-trans, IsPermutation-map}
 use Rattle.brace_model.specs.declared.program.Class.{Class}
 use Rattle.brace_model.specs.declared.program.Program.{Program}
@@ -29,7 +29,7 @@ use Rattle.brace_pieces.specs.Continued.{said, totals_of, becomes, left_or_kept,
 use Rattle.brace_pieces.specs.Right.{comes_from}
 use Rattle.brace_pieces.specs.Right as right
 use Rattle.brace_pieces.specs.Together.{IsWhole, AreWhole, IsSorted}
-use Rattle.brace_pieces.proofs.Merges.{Rises, together, covered, covered_none}
+use Rattle.brace_pieces.proofs.Merges.{together, covered, covered_none}
 use Rattle.brace_pieces.proofs.Meetings.{owner_is_part, owner_has, meets}
 use Rattle.brace_pieces.proofs.ScheduleLemmas.{meets_no_self}
 use Rattle.brace_pieces.proofs.HeldLemmas.{one_owns}

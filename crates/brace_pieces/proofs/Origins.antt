@@ -1,5 +1,5 @@
 -- Of what lists come: an item of a list that was made of others is made of one of their items.
-use Rattle.std.proofs.Common.{◌≡◌, ◌∙◌, ◌⊎◌, refl, sym, ap, subst, ℕ, suc, List, [], ◌∷◌, ◌++◌, map, filter, filter_map, flat_map, zip, take, get_or-take, Bool, true, false, cond, ◌||◌, Option, Some, None, Contains, inl, inr, arith}
+use Rattle.std.proofs.Common.{◌≡◌, ◌∙◌, refl, sym, ap, subst, ℕ, suc, List, [], ◌∷◌, map, filter, filter_map, flat_map, zip, take, get_or-take, Bool, true, Option, Some, None, Contains, inl, inr, arith}
 use Rattle.std.specs.Prelude.{◌==◌}
 use Rattle.std.specs.List.{list_any, cons_option}
 use Rattle.std.proofs.lemmas.Bool.{eqb-true, eq-eqb}

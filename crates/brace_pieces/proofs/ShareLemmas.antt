@@ -22,7 +22,7 @@ use Rattle.brace_pieces.proofs.Origins.{of_flat_map}
 use Rattle.brace_pieces.specs.Right.{Share, share_unless_silent, shares_from, shares_to}
 use Rattle.brace_pieces.specs.Heard.{sayings_of, IsShareOf}
 use Rattle.brace_pieces.proofs.Sayings.{none_given, joined_twice, said_to-each}
-use Rattle.brace_num.proofs.Lists.{in_more, in_map, filter_weaker}
+use Rattle.brace_num.proofs.Lists.{in_map, filter_weaker}
 
 -- ---- the shares of one agent
 

@@ -1,10 +1,9 @@
 -- The faults that a part finds may be told, behind the step in whose work they are found.
-use Rattle.std.proofs.Common.{◌≡◌, ◌∙◌, refl, sym, ap, subst, ℕ, zero, suc, ◌+◌, ◌<◌, ◌≤◌, List, [], ◌∷◌, ◌++◌, map, filter, filter_map, flat_map, Bool, true, false, cond, Option, Result, Ok, Err, arith, ⊎_elim, inl, inr}
-use Rattle.std.specs.Prelude.{◌-◌, option_map, not, if◌then◌else◌}
-use Rattle.std.specs.List.{All, Contains, cons_option, range_with_len}
+use Rattle.std.proofs.Common.{◌≡◌, ◌∙◌, refl, sym, ap, subst, ℕ, ◌<◌, ◌≤◌, List, [], ◌∷◌, ◌++◌, map, filter, filter_map, flat_map, Bool, true, false, Option, Result, Ok, Err, arith, ⊎_elim, inl, inr}
+use Rattle.std.specs.Prelude.{option_map, if◌then◌else◌}
+use Rattle.std.specs.List.{Contains, cons_option}
 use Rattle.std.specs.Result.{result_err}
-use Rattle.std.proofs.lemmas.Bool.{cases_lt}
-use Rattle.std.proofs.lemmas.List.Elements.{All-nil, All-cons, All-append, All-same, Contains-append_left, Contains-append_right, Contains-append_cases}
+use Rattle.std.proofs.lemmas.List.Elements.{Contains-append_left, Contains-append_right, Contains-append_cases}
 use Rattle.brace_model.specs.declared.program.Program.{Program}
 use Rattle.brace_model.specs.declared.fault.Fault.{Fault}
 use Rattle.brace_model.specs.declared.fault.Phase.{Phase}
@@ -12,7 +11,7 @@ use Rattle.brace_model.specs.declared.fault.Phase.TheVariants.{Query, Update, Bi
 use Rattle.brace_model.specs.declared.world.Agent.{Agent}
 use Rattle.brace_model.specs.World.{World, class_of}
 use Rattle.brace_model.specs.Query.{query_of, query_faults}
-use Rattle.brace_model.specs.Next.{Next, has_births}
+use Rattle.brace_model.specs.Next.{Next}
 use Rattle.brace_model.specs.Step.{living, children, first_too_far, birth_fault}
 use Rattle.brace_model.specs.Lawful.{LawfulProgram}
 use Rattle.brace_invert.specs.Split.{forward_program, inverse_program}
@@ -24,13 +23,10 @@ use Rattle.brace_invert.proofs.Owners.{faults_held}
 use Rattle.brace_invert.proofs.Heard.{seen_in}
 use Rattle.brace_pieces.proofs.Origins.{of_flat_map, flat_map_of}
 use Rattle.brace_pieces.specs.declared.setting.Setting.{Setting}
-use Rattle.brace_pieces.specs.declared.setting.Stage.{Stage}
-use Rattle.brace_pieces.specs.declared.setting.Stage.TheVariants as stage
-use Rattle.brace_pieces.specs.declared.setting.Step.{Step}
 use Rattle.brace_pieces.specs.declared.piece.Cause.{Cause}
 use Rattle.brace_pieces.specs.declared.piece.Cause.TheVariants as cause
-use Rattle.brace_pieces.specs.Settings.{LawfulSetting, range, cuts_of, is_end}
-use Rattle.brace_pieces.specs.Steps.{step, made_if, is_recut, show, steps_in, steps}
+use Rattle.brace_pieces.specs.Settings.{LawfulSetting, range, cuts_of}
+use Rattle.brace_pieces.specs.Steps.{step, steps}
 use Rattle.brace_pieces.specs.Owned.{owns}
 use Rattle.brace_pieces.specs.Continued.{said, becomes, on, all_left, birth_faults}
 use Rattle.brace_pieces.specs.Finds.{faults_of, queries_found, updates_found, all_queries_found, found_in, stage_of}
