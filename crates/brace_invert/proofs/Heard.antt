@@ -303,9 +303,7 @@ module _ (m : Program) (seed tick : ℕ) (w : List Agent) (area : Area) (held : 
         → let d = query_of (inverse_program m) seed tick (filter held w) a in let e = query_of (inverse_program m) seed tick w a in Heard (heard_by b.id effect) c d.said d.faults e.said e.faults
     heard_of a wa c is =
         subst (λ c. let d = query_of (inverse_program m) seed tick (filter held w) a in let e = query_of (inverse_program m) seed tick w a in Heard (heard_by b.id effect) c d.said d.faults e.said e.faults) is
-        (subst (λ d. let e = query_of (inverse_program m) seed tick w a in Heard (heard_by b.id effect) (held a) d.said d.faults e.said e.faults) (sym (part_of inverse_query inverse_is_part m seed tick (filter held w) a))
-        (subst (λ e. let d = part_deed inverse_query m seed tick (filter held w) a (class_of m a) in Heard (heard_by b.id effect) (held a) d.said d.faults e.said e.faults) (sym (part_of inverse_query inverse_is_part m seed tick w a))
-        (one_heard a wa (class_of m a) refl)))
+        (rw (part_of inverse_query inverse_is_part m seed tick (filter held w) a, part_of inverse_query inverse_is_part m seed tick w a) (one_heard a wa (class_of m a) refl))
 
     pub inverse_said_held : said_to b.id effect (said_in (inverse_program m) seed tick (filter held w)) ≡ said_to b.id effect (said_in (inverse_program m) seed tick w)
     inverse_said_held =

@@ -91,9 +91,7 @@ joined_in m seed tick w a (Some class) = joined_run m w class.query _ _ (halves 
 
 joined_of : (m : Program) (seed tick : ℕ) (w : List Agent) (a : Agent) → Joined (query_of m seed tick w a) (query_of (forward_program m) seed tick w a) (query_of (inverse_program m) seed tick w a)
 joined_of m seed tick w a =
-    subst (λ x. Joined (query_of m seed tick w a) x (query_of (inverse_program m) seed tick w a)) (sym (part_of forward_query forward_is_part m seed tick w a))
-    (subst (Joined (query_of m seed tick w a) (part_deed forward_query m seed tick w a (class_of m a))) (sym (part_of inverse_query inverse_is_part m seed tick w a))
-    (joined_in m seed tick w a (class_of m a)))
+    rw (part_of forward_query forward_is_part m seed tick w a, part_of inverse_query inverse_is_part m seed tick w a) (joined_in m seed tick w a (class_of m a))
 
 joined_all : (m : Program) (seed tick : ℕ) (w agents : List Agent)
     → Together (flat_map (λ a. (query_of m seed tick w a).said) agents) (flat_map (λ a. (query_of (forward_program m) seed tick w a).said) agents) (flat_map (λ a. (query_of (inverse_program m) seed tick w a).said) agents)

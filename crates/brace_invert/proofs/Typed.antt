@@ -70,11 +70,9 @@ layer_same part (expr.Total effect type site) names = ap (λ o. if names.in_rule
 layer_same part (expr.Local n) names = refl
 layer_same part (expr.Unary op site a) names = ap (λ o. if is_sited (unary_faults op) site then option_and_then (unary_type op) o else None) (a.1 names)
 layer_same part (expr.Binary op site a b) names =
-    ap (λ o. if is_sited (binary_faults op) site then option_and_then (λ s. option_and_then (binary_type op s) (type_of b.0 (renamed part names))) o else None) (a.1 names)
-    ∙ ap (λ o. if is_sited (binary_faults op) site then option_and_then (λ s. option_and_then (binary_type op s) o) (type_of a.0 names) else None) (b.1 names)
+    ap₂ (λ o p. if is_sited (binary_faults op) site then option_and_then (λ s. option_and_then (binary_type op s) p) o else None) (a.1 names) (b.1 names)
 layer_same part (expr.Choice c a b) names =
-    ap (λ o. option_and_then (λ p. option_and_then (λ s. option_and_then (choice_type p s) (type_of b.0 (renamed part names))) (type_of a.0 (renamed part names))) o) (c.1 names)
-    ∙ ap (λ o. option_and_then (λ p. option_and_then (λ s. option_and_then (choice_type p s) (type_of b.0 (renamed part names))) o) (type_of c.0 names)) (a.1 names)
+    ap₂ (λ o q. option_and_then (λ p. option_and_then (λ s. option_and_then (choice_type p s) (type_of b.0 (renamed part names))) q) o) (c.1 names) (a.1 names)
     ∙ ap (λ o. option_and_then (λ p. option_and_then (λ s. option_and_then (choice_type p s) o) (type_of a.0 names)) (type_of c.0 names)) (b.1 names)
 layer_same part (expr.Rand site) names = refl
 
