@@ -27,13 +27,9 @@ use Rattle.std.proofs.lemmas.List.{map-append}
 use Rattle.std.proofs.lemmas.Bool.{ne_eqb, eq-eqb}
 use Rattle.std.proofs.lemmas.Map.Keys.{any_passes_from_place}
 use Rattle.brace_invert.proofs.Heard.{seen_in}
-use Rattle.brace_num.proofs.Lists.{in_more, filter_map_alike}
+use Rattle.brace_num.proofs.Lists.{in_first, in_more, filter_map_alike}
 use Rattle.brace_num.proofs.Options.{not_some}
 use Rattle.brace_num.proofs.Orders.{rises_by_keys}
-
-none_made : {A B : Type 0} (xs : List A) → filter_map {Y = B} (λ x. None) xs ≡ []
-none_made [] = refl
-none_made (x ∷ xs) = none_made xs
 
 module _ (s : Setting) (t : ℕ) where
   abbrev m : Program
@@ -90,26 +86,20 @@ module _ (s : Setting) (t : ℕ) where
       own_left [] those = refl
       own_left (x ∷ xs) those = by_agent (h (leaves w x)) refl (owns m (cuts_of s t) p x) refl (own_left xs (λ a has. those a (in_more x xs a has)))
         where
-          here : Contains w x
-          here = those x (0, omega arith, refl)
-
           rest : List Agent
           rest = of_all xs
 
-          by_owner : (v : Bool) (b : Agent) → is_own b ≡ v → h (leaves w x) ≡ Some b → filter is_own rest ≡ of_all (owned_of xs) → filter is_own (b ∷ rest) ≡ of_all (cond v (x ∷ owned_of xs) (owned_of xs))
-          by_owner true b has is same =
-              ap (λ v. cond v (b ∷ filter is_own rest) (filter is_own rest)) has ∙ ap (λ ys. b ∷ ys) same ∙ ap (λ o. cons_option o (of_all (owned_of xs))) (sym is)
-          by_owner false b has is same = ap (λ v. cond v (b ∷ filter is_own rest) (filter is_own rest)) has ∙ same
-
-          gone : (v : Bool) → h (leaves w x) ≡ None → filter is_own rest ≡ of_all (owned_of xs) → filter is_own rest ≡ of_all (cond v (x ∷ owned_of xs) (owned_of xs))
-          gone true is same = same ∙ ap (λ o. cons_option o (of_all (owned_of xs))) (sym is)
-          gone false is same = same
-
           by_agent : (o : Option Agent) → h (leaves w x) ≡ o → (v : Bool) → owns m (cuts_of s t) p x ≡ v → filter is_own rest ≡ of_all (owned_of xs)
               → filter is_own (cons_option o rest) ≡ of_all (cond v (x ∷ owned_of xs) (owned_of xs))
-          by_agent None is v owner same = gone v is same
+          by_agent None is true owner same = same ∙ ap (λ o. cons_option o (of_all (owned_of xs))) (sym is)
+          by_agent None is false owner same = same
           by_agent (Some b) is v owner same =
-              by_owner v b (ap (λ id. list_any (λ y. y.id == id) own) (keeps x b here is) ∙ owner_by_id s lawful t w up p x here ∙ owner) is same
+              let own_too : is_own b ≡ v = ap (λ id. list_any (λ y. y.id == id) own) (keeps x b (those x (in_first x xs)) is) ∙ owner_by_id s lawful t w up p x (those x (in_first x xs)) ∙ owner in
+              rw own_too (by_owner v)
+            where
+              by_owner : (v : Bool) → cond v (b ∷ filter is_own rest) (filter is_own rest) ≡ of_all (cond v (x ∷ owned_of xs) (owned_of xs))
+              by_owner true = ap (λ ys. b ∷ ys) same ∙ ap (λ o. cons_option o (of_all (owned_of xs))) (sym is)
+              by_owner false = same
 
     keeps_id : (a b : Agent) → Contains w a → (leaves w a).agent ≡ Some b → b.id ≡ a.id
     keeps_id a b has e = (agent_left s lawful t w whole a b has e).same_id
@@ -128,10 +118,14 @@ module _ (s : Setting) (t : ℕ) where
         subst Rises (sym (ap children (left_each (becomes s t (said s t w)) w) ∙ children_each (leaves w) w))
         (kept_rise (λ a. (leaves w a).child) child_keeps_id w (rises_by_keys (λ (a : Agent). a.id) w up))
 
+    none_kept : (xs : List Agent) → filter_map (with_number 0 []) xs ≡ []
+    none_kept [] = refl
+    none_kept (x ∷ xs) = none_kept xs
+
     -- children with the ids of their ranks among all that are born
     numbered_own : (n k : ℕ) (kids : List Agent) → Rises kids
         → map (λ p. p.1) (filter (comes_from own) (map (λ p. (p.0.id, p.1)) (zip (take k kids) (numbered n (take k kids))))) ≡ filter_map (with_number n (ids (take k kids))) (filter is_own kids)
-    numbered_own n zero kids rise = sym (none_made (filter is_own kids))
+    numbered_own n zero kids rise = sym (none_kept (filter is_own kids))
     numbered_own n (suc k) [] rise = refl
     numbered_own n (suc k) (c ∷ kids) rise = by_owner (is_own c) later (numbered_own (suc n) k kids (λ i j d less within. rise (suc i) (suc j) d (omega (arith, less)) (omega (arith, within))))
       where

@@ -10,6 +10,7 @@ use Rattle.brace_model.specs.declared.world.Agent.{Agent}
 use Rattle.brace_num.proofs.Lists.{filter_alike, filter_none, in_filter, All-from_contains}
 use Rattle.brace_num.proofs.Rows.{in_row, row_has}
 use Rattle.brace_invert.proofs.Heard.{seen_in}
+use Rattle.brace_invert.proofs.Runs.{turned}
 use Rattle.brace_num.proofs.Orders.{rises_by_keys, keys_by_rises}
 use Rattle.brace_num.proofs.Orders as orders
 
@@ -60,11 +61,6 @@ each_itself [] = refl
 each_itself (x ∷ xs) = ap (λ ys. x ∷ ys) (each_itself xs)
 
 module _ {A B : Type 0} (to : A → List B) where
-  -- two lists before a third change places
-  turned : (xs ys zs : List B) → IsPermutation (xs ++ (ys ++ zs)) (ys ++ (xs ++ zs))
-  turned xs ys zs = subst (IsPermutation (xs ++ (ys ++ zs))) (append_assoc ys xs zs)
-      (subst (λ l. IsPermutation l ((ys ++ xs) ++ zs)) (append_assoc xs ys zs) (IsPermutation-append_left zs (xs ++ ys) (ys ++ xs) (IsPermutation-append_comm xs ys)))
-
   -- what is given by what passes one of two tests that nothing passes both of
   of_two : (p q : A → Bool) → ((a : A) → p a ≡ true → q a ≡ false) → (xs : List A) → IsPermutation (flat_map to (filter p xs) ++ flat_map to (filter q xs)) (flat_map to (filter (λ a. p a || q a) xs))
   of_two p q only [] = IsPermutation-refl []
