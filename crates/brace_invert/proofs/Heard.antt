@@ -38,6 +38,8 @@ use Rattle.brace_invert.proofs.Owners.{range_reaches, no_farther}
 use Rattle.brace_invert.proofs.Outward as o
 use Rattle.brace_invert.proofs.Outward.{Depth, Outward, outward}
 use Rattle.std.proofs.lemmas.Bool.{and_parts, and_from, and_right}
+use Rattle.brace_num.proofs.Booleans.{and_true}
+use Rattle.std.proofs.Math.Bool.{and_assoc}
 use Rattle.brace_num.proofs.Lists.{in_map}
 
 -- all agents of a scope are held
@@ -85,24 +87,11 @@ stands_second m w a _ x (with_one scope p this outer inner wp sp) wx sx =
 
 -- whether all agents of a scope one loop further in are held
 pub holds_first : (held : Agent → Bool) (scope : Scope) (x : Agent) → scope.outer ≡ None → scope.inner ≡ None → holds_all held (inside scope x) ≡ (holds_all held scope && held x)
-holds_first held scope x outer inner =
-    ap (holds_all held) (inside_first scope x outer) ∙ ap (λ q. held scope.this && (held x && holds_one held q)) inner ∙ moved (held scope.this) (held x)
-    ∙ sym (ap (λ p. (held scope.this && (holds_one held p && holds_one held scope.inner)) && held x) outer ∙ ap (λ q. (held scope.this && (true && holds_one held q)) && held x) inner)
-  where
-    moved : (p q : Bool) → (p && (q && true)) ≡ ((p && (true && true)) && q)
-    moved true true = refl
-    moved true false = refl
-    moved false q = refl
+holds_first held scope x outer inner = rw (inside_first scope x outer, outer, inner, and_true, and_true) refl
 
 pub holds_second : (held : Agent → Bool) (scope : Scope) (x p : Agent) → scope.outer ≡ Some p → scope.inner ≡ None → holds_all held (inside scope x) ≡ (holds_all held scope && held x)
 holds_second held scope x p outer inner =
-    ap (holds_all held) (inside_second scope x p outer) ∙ moved (held scope.this) (holds_one held scope.outer) (held x)
-    ∙ sym (ap (λ q. (held scope.this && (holds_one held scope.outer && holds_one held q)) && held x) inner)
-  where
-    moved : (p q r : Bool) → (p && (q && r)) ≡ ((p && (q && true)) && r)
-    moved true true r = refl
-    moved true false r = refl
-    moved false q r = refl
+    rw (inside_second scope x p outer, inner) (ap (λ t. held scope.this && (t && held x)) (sym (and_true (holds_one held scope.outer))) ∙ sym (and_assoc (held scope.this) (holds_one held scope.outer && true) (held x)))
 
 -- all are held where each is
 pub holds_so : (held : Agent → Bool) (scope : Scope) → held scope.this ≡ true → holds_one held scope.outer ≡ true → holds_one held scope.inner ≡ true → holds_all held scope ≡ true
@@ -191,10 +180,6 @@ loop_over T tie weaker alone_ m w held a k inner enters all scope at class body 
     (λ x wx passes hx. (each all (inside scope x) (subst (λ c. At m w held a inner c (inside scope x)) (ap (λ c. all && c) hx ∙ and_true all) (entered x wx passes))).tie)
     (λ x wx passes hx. weaker all _ _ (alone_ all _ _ _ _ (each false (inside scope x) (subst (λ c. At m w held a inner c (inside scope x)) (and_right all (held x) hx) (entered x wx passes))).tie))
   where
-    and_true : (c : Bool) → (c && true) ≡ c
-    and_true true = refl
-    and_true false = refl
-
     entered : (x : Agent) → Contains w x → ((x.class == class) && sees m scope.this x) ≡ true → At m w held a inner (all && held x) (inside scope x)
     entered x wx passes = enters.at all scope at x wx (and_parts (x.class == class) (sees m scope.this x) passes).1
 
@@ -285,10 +270,6 @@ module _ (m : Program) (seed tick : ℕ) (w : List Agent) (area : Area) (held : 
 
   pub opening_at : (query : List Stmt) (a : Agent) → At m w held a o.top (held a) (opening_scope seed tick query [] a)
   opening_at query a = (alone (opening_scope seed tick query [] a) refl refl refl, and_true (held a))
-    where
-      and_true : (c : Bool) → (c && (true && true)) ≡ c
-      and_true true = refl
-      and_true false = refl
 
   -- the inverse program says the same to each effect of an agent of the area
   module _ (effect : ℕ) where

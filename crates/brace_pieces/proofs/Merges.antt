@@ -4,10 +4,11 @@ use Rattle.std.specs.List.{list_any, range_with_len}
 use Rattle.std.specs.List.Sorted.{IsPermutation}
 use Rattle.std.proofs.lemmas.Bool.{cases_Bool, cases_eq, ne_eqb, eq-eqb, true≢false}
 use Rattle.std.proofs.lemmas.List.Sorted.{IsPermutation-refl, IsPermutation-trans, IsPermutation-append_comm, IsPermutation-append_left, IsPermutation-append_right}
-use Rattle.std.proofs.lemmas.List.Folds.{list_any_at, list_any_none}
+use Rattle.std.proofs.lemmas.List.Folds.{Any-from_list_any, list_any_at, list_any_none}
 use Rattle.std.proofs.lemmas.List.Elements.{All-weaker, filter_passes}
 use Rattle.brace_model.specs.declared.world.Agent.{Agent}
 use Rattle.brace_num.proofs.Lists.{filter_alike, filter_none, in_filter, All-from_contains}
+use Rattle.brace_num.proofs.Booleans.{and_false}
 use Rattle.brace_num.proofs.Rows.{in_row, row_has}
 use Rattle.brace_invert.proofs.Heard.{seen_in}
 use Rattle.brace_invert.proofs.Runs.{turned}
@@ -81,16 +82,12 @@ module _ {A B : Type 0} (to : A → List B) where
 
   -- a test that only one number passes, for each of other numbers
   none_other : (u : ℕ → A → Bool) → ((p q : ℕ) (a : A) → u p a ≡ true → u q a ≡ true → p ≡ q) → (q : ℕ) (ms : List ℕ) → has q ms ≡ false → (a : A) → u q a ≡ true → list_any (λ m. u m a) ms ≡ false
-  none_other u only q [] apart a here = refl
-  none_other u only q (m ∷ ms) apart a here = by_test (cases_Bool (u m a)) (λ rest. none_other u only q ms rest a here)
-    where
-      parts : (v w : Bool) → (v || w) ≡ false → (v ≡ false) × (w ≡ false)
-      parts true w e = absurd (true≢false e)
-      parts false w e = (refl, e)
-
-      by_test : (u m a ≡ true) ⊎ (u m a ≡ false) → (has q ms ≡ false → list_any (λ m. u m a) ms ≡ false) → (u m a || list_any (λ m. u m a) ms) ≡ false
-      by_test (inl there) later = absurd (true≢false (sym (eq-eqb m q (only m q a there here)) ∙ (parts (m == q) (has q ms) apart).0))
-      by_test (inr not_there) later = ap (λ v. v || list_any (λ m. u m a) ms) not_there ∙ later (parts (m == q) (has q ms) apart).1
+  none_other u only q ms apart a here = elim (cases_Bool (list_any (λ m. u m a) ms)) [
+    | inl some ↦
+        let (k, m, low, is, there) = Any-from_list_any (λ m. u m a) ms some in
+        absurd (true≢false (sym (list_any_at (λ m. m == q) ms k m low (eq-eqb _ _ (is ∙ only m q a there here))) ∙ apart))
+    | inr none ↦ none
+  ]
 
   -- what the items of several parts give, of which each has another one's
   pub given : (u : ℕ → A → Bool) → ((p q : ℕ) (a : A) → u p a ≡ true → u q a ≡ true → p ≡ q) → (ms : List ℕ) → Apart ms → (xs : List A)
@@ -107,20 +104,12 @@ gathered u only ms apart xs = simp each_itself at (given (λ a. a ∷ []) u only
 
 -- of some parts none has what no part has
 pub covered_none : (ms : List ℕ) → list_any (λ q. false) ms ≡ false
-covered_none [] = refl
-covered_none (m ∷ ms) = covered_none ms
-
-and_false : (u : ℕ → Bool) (ms : List ℕ) → list_any (λ q. u q && false) ms ≡ false
-and_false u [] = refl
-and_false u (m ∷ ms) = elim (u m) as (λ v. ((v && false) || list_any (λ q. u q && false) ms) ≡ false) [
-  | true ↦ and_false u ms
-  | false ↦ and_false u ms
-]
+covered_none ms = list_any_none (λ q. false) ms (λ k d low. refl)
 
 -- where one of some parts owns what is wanted, some part that owns it has it
 pub covered : (t : ℕ → Bool) (len owner p : ℕ) (n : Bool) → (n ≡ true → (owner ≡ p → ⊥) → (owner < len) × (t owner ≡ true))
     → list_any (λ q. (owner == q) && n) (p ∷ filter t (range_with_len 0 len)) ≡ n
-covered t len owner p false met = and_false (λ q. owner == q) (p ∷ filter t (range_with_len 0 len))
+covered t len owner p false met = list_any_none (λ q. (owner == q) && false) (p ∷ filter t (range_with_len 0 len)) (λ k d low. and_false _)
 covered t len owner p true met = by_place (cases_eq owner p)
   where
     others : List ℕ

@@ -3,7 +3,7 @@ use Rattle.std.proofs.Common.{◌≡◌, ◌∙◌, ◌++◌, refl, sym, ap, ℕ
 use Rattle.std.specs.Prelude.{flat_map}
 use Rattle.std.specs.List.{list_any, range_with_len}
 use Rattle.std.proofs.lemmas.Bool.{eqb-true, ne_eqb, and_parts, and_left, and_right, cases_lt, cases_Bool, true≢false, cases_eq, cond-true, cond-false}
-use Rattle.std.proofs.lemmas.List.Sums.{sum_by-cons}
+use Rattle.std.proofs.lemmas.List.Sums.{sum_by-cons, sum_by-append}
 use Rattle.std.proofs.lemmas.List.Folds.{list_any-append, list_any_none}
 use Rattle.std.proofs.lemmas.Map.Views.{any-filter_same}
 use Rattle.brace_core.specs.Schedule.{Pair, IsLawfulStep, is_pair, meets}
@@ -83,8 +83,7 @@ once_in_row a (suc n) k p q =
     ]
 
 counted_behind : (p q : ℕ) (xs ys : List Pair) → count_by (is_pair p q) (xs ++ ys) ≡ count_by (is_pair p q) xs + count_by (is_pair p q) ys
-counted_behind p q [] ys = omega arith
-counted_behind p q (x ∷ xs) ys = omega (arith, counted p q x (xs ++ ys), counted p q x xs, counted_behind p q xs ys)
+counted_behind p q xs ys = sum_by-append (λ (y : Pair). cond (is_pair p q y) 1 0) xs ys
 
 once_in_rows : (m n k p q : ℕ) → count_by (is_pair p q) (rows (range_with_len k n) (range_with_len 0 m)) ≤ 1
 once_in_rows m zero k p q = omega arith
