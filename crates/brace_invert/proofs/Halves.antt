@@ -1,5 +1,5 @@
 -- How a block and its two parts stand to each other.
-use Rattle.std.proofs.Common.{◌≡◌, ◌∙◌, refl, sym, ap, subst, ℕ, ◌+◌, List, [], ◌∷◌, ◌++◌, map, flat_map, sum, Bool, true, false, ◌==◌, arith}
+use Rattle.std.proofs.Common.{◌≡◌, ◌∙◌, refl, sym, ap, ap₂, subst, ℕ, ◌+◌, List, [], ◌∷◌, ◌++◌, map, flat_map, sum, Bool, true, false, ◌==◌, arith}
 use Rattle.brace_model.specs.declared.program.Who.{Who}
 use Rattle.brace_model.specs.declared.program.Expr.{Expr}
 use Rattle.brace_model.specs.declared.program.Stmt.{Stmt}
@@ -56,8 +56,7 @@ whole _ _ _ none e = refl
 whole _ _ _ (const n x s f i h) e = ap (λ t. Const n x ∷ t) (whole s f i h (zero_right _ _ _ (count-cons assignments (Const n x) i) e))
 whole _ _ _ (cond c a fa ia b fb ib s f i ha hb h) e =
     let here = zero_left _ _ _ (count-cons assignments (If c ia ib) i) e in
-    ap (λ t. If c t fb ∷ f) (whole a fa ia ha (zero_left _ _ _ (assignments-If c ia ib) here))
-    ∙ ap (λ t. If c a t ∷ f) (whole b fb ib hb (zero_right _ _ _ (assignments-If c ia ib) here))
+    ap₂ (λ t u. If c t u ∷ f) (whole a fa ia ha (zero_left _ _ _ (assignments-If c ia ib) here)) (whole b fb ib hb (zero_right _ _ _ (assignments-If c ia ib) here))
     ∙ ap (λ t. If c a b ∷ t) (whole s f i h (zero_right _ _ _ (count-cons assignments (If c ia ib) i) e))
 whole _ _ _ (loop class at body fb ib s f i hb h) e =
     ap (λ t. Foreach class t at ∷ f) (whole body fb ib hb (sym (assignments-Foreach class ib at) ∙ zero_left _ _ _ (count-cons assignments (Foreach class ib at) i) e))
@@ -86,31 +85,18 @@ inner_halves class at body fb ib s f i true e hb h =
 other_halves : (who : Who) (effect : ℕ) (e : Expr) (at : ℕ) (s : List Stmt) (in_loop : Bool) → forward_of (Assign who effect e at) ≡ [] → inverse_of (Assign who effect e at) in_loop ≡ Assign who effect e at ∷ []
     → AreHalves s in_loop → AreHalves (Assign who effect e at ∷ s) in_loop
 other_halves who effect e at s in_loop forward inverse h =
-    subst (λ t. Halves (Assign who effect e at ∷ s) (t ++ flat_map forward_of s) (inverse_of (Assign who effect e at) in_loop ++ flat_map (λ x. inverse_of x in_loop) s)) (sym forward)
-    (subst (λ t. Halves (Assign who effect e at ∷ s) (flat_map forward_of s) (t ++ flat_map (λ x. inverse_of x in_loop) s)) (sym inverse)
-    (other who effect e at s _ _ h))
+    rw (forward, inverse) (other who effect e at s _ _ h)
 
 pub halves : (s : List Stmt) → Plain s → (in_loop : Bool) → AreHalves s in_loop
 halves _ b.none in_loop = none
-halves _ (b.const n e s h) in_loop =
-    subst (λ t. Halves (Const n e ∷ s) (t ++ flat_map forward_of s) (inverse_of (Const n e) in_loop ++ flat_map (λ x. inverse_of x in_loop) s)) (sym (forward_of-Const n e))
-    (subst (λ t. Halves (Const n e ∷ s) (Const n e ∷ flat_map forward_of s) (t ++ flat_map (λ x. inverse_of x in_loop) s)) (sym (inverse_of-Const n e in_loop))
-    (const n e s _ _ (halves s h in_loop)))
+halves _ (b.const n e s h) in_loop = rw (forward_of-Const n e, inverse_of-Const n e in_loop) (const n e s _ _ (halves s h in_loop))
 halves _ (b.cond c a d s ha hd h) in_loop =
-    subst (λ t. Halves (If c a d ∷ s) (t ++ flat_map forward_of s) (inverse_of (If c a d) in_loop ++ flat_map (λ x. inverse_of x in_loop) s)) (sym (forward_of-If c a d))
-    (subst (λ t. Halves (If c a d ∷ s) (If c (flat_map forward_of a) (flat_map forward_of d) ∷ flat_map forward_of s) (t ++ flat_map (λ x. inverse_of x in_loop) s)) (sym (inverse_of-If c a d in_loop))
-    (cond c a _ _ d _ _ s _ _ (halves a ha in_loop) (halves d hd in_loop) (halves s h in_loop)))
+    rw (forward_of-If c a d, inverse_of-If c a d in_loop) (cond c a _ _ d _ _ s _ _ (halves a ha in_loop) (halves d hd in_loop) (halves s h in_loop))
 halves _ (b.loop class at body s hb h) false =
-    subst (λ t. Halves (Foreach class body at ∷ s) (t ++ flat_map forward_of s) (inverse_of (Foreach class body at) false ++ flat_map (λ x. inverse_of x false) s)) (sym (forward_of-Foreach class body at))
-    (subst (λ t. Halves (Foreach class body at ∷ s) (Foreach class (flat_map forward_of body) at ∷ flat_map forward_of s) (t ++ flat_map (λ x. inverse_of x false) s)) (sym (inverse_of-Foreach class body at false))
-    (loop class at body _ _ s _ _ (halves body hb true) (halves s h false)))
+    rw (forward_of-Foreach class body at, inverse_of-Foreach class body at false) (loop class at body _ _ s _ _ (halves body hb true) (halves s h false))
 halves _ (b.loop class at body s hb h) true =
-    subst (λ t. Halves (Foreach class body at ∷ s) (t ++ flat_map forward_of s) (inverse_of (Foreach class body at) true ++ flat_map (λ x. inverse_of x true) s)) (sym (forward_of-Foreach class body at))
-    (subst (λ t. Halves (Foreach class body at ∷ s) (Foreach class (flat_map forward_of body) at ∷ flat_map forward_of s) (t ++ flat_map (λ x. inverse_of x true) s)) (sym (inverse_of-Foreach class body at true))
-    (inner_halves class at body _ _ s _ _ (sum (map assignments (flat_map (λ x. inverse_of x true) body)) == 0) refl (halves body hb true) (halves s h true)))
-halves _ (b.say This effect e at s h) in_loop =
-    subst (λ t. Halves (Assign This effect e at ∷ s) (t ++ flat_map forward_of s) (inverse_of (Assign This effect e at) in_loop ++ flat_map (λ x. inverse_of x in_loop) s)) (sym (forward_of-Assign This effect e at))
-    (subst (λ t. Halves (Assign This effect e at ∷ s) (Assign This effect e at ∷ flat_map forward_of s) (t ++ flat_map (λ x. inverse_of x in_loop) s)) (sym (inverse_of-Assign This effect e at in_loop))
-    (own This effect e at s _ _ (halves s h in_loop)))
+    rw (forward_of-Foreach class body at, inverse_of-Foreach class body at true)
+    (inner_halves class at body _ _ s _ _ (sum (map assignments (flat_map (λ x. inverse_of x true) body)) == 0) refl (halves body hb true) (halves s h true))
+halves _ (b.say This effect e at s h) in_loop = rw (forward_of-Assign This effect e at, inverse_of-Assign This effect e at in_loop) (own This effect e at s _ _ (halves s h in_loop))
 halves _ (b.say Outer effect e at s h) in_loop = other_halves Outer effect e at s in_loop (forward_of-Assign Outer effect e at) (inverse_of-Assign Outer effect e at in_loop) (halves s h in_loop)
 halves _ (b.say Inner effect e at s h) in_loop = other_halves Inner effect e at s in_loop (forward_of-Assign Inner effect e at) (inverse_of-Assign Inner effect e at in_loop) (halves s h in_loop)

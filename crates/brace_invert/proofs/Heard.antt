@@ -1,8 +1,9 @@
 -- Over the owner's list the inverse program says to the agents of the area what it says over the world.
 use Rattle.std.proofs.Common.{◌≡◌, ◌∙◌, refl, sym, ap, ap₂, subst, ℕ, zero, suc, ℤ, pos, ◌≤ℤ◌, ◌+ℤ◌, List, [], ◌∷◌, ◌++◌, map, filter, Bool, true, false, cond, Option, Some, None, arith, ◌<◌}
-use Rattle.std.specs.Prelude.{◌&&◌, ◌||◌, ◌==◌, if◌then◌else◌, is_none, unwrap_or, slice_get}
-use Rattle.std.specs.List.{All, Contains, list_any}
-use Rattle.std.proofs.lemmas.List.Elements.{All-nil, All-cons, All-contains, filter-append, Contains-append_right}
+use Rattle.std.specs.Prelude.{◌&&◌, ◌==◌, if◌then◌else◌, is_none, unwrap_or}
+use Rattle.std.specs.List.{Contains, list_any}
+use Rattle.std.proofs.lemmas.List.Elements.{All-contains, All-filter, All-contains_itself, filter_passes, filter-append}
+use Rattle.std.proofs.lemmas.Map.Keys.{any_passes_from_place}
 use Rattle.std.proofs.lemmas.Int.{ints}
 use Rattle.brace_num.specs.declared.kinds.Area.{Area}
 use Rattle.brace_model.specs.declared.program.Who.{Who}
@@ -37,6 +38,8 @@ use Rattle.brace_invert.proofs.Owners.{range_reaches, no_farther}
 use Rattle.brace_invert.proofs.Outward as o
 use Rattle.brace_invert.proofs.Outward.{Depth, Outward, outward}
 use Rattle.std.proofs.lemmas.Bool.{and_parts, and_from, and_right}
+use Rattle.brace_num.proofs.Booleans.{and_true}
+use Rattle.std.proofs.Math.Bool.{and_assoc}
 use Rattle.brace_num.proofs.Lists.{in_map}
 
 -- all agents of a scope are held
@@ -64,18 +67,9 @@ pub record Reaches (m : Program) (w : List Agent) (held : Agent → Bool) (deep 
   pub one : (p : Agent) → Contains w p → sees m a p ≡ true → p.id ≡ id → (held a ≡ true) × (held p ≡ true)
   pub three : deep ≡ true → (p q : Agent) → Contains w p → sees m a p ≡ true → Contains w q → sees m a q ≡ true → p.id ≡ id → held q ≡ true
 
--- the agents that a loop takes
-passing_step : {A : Type 0} (t : A → Bool) (x : A) (xs all : List A) (tx : Bool) → t x ≡ tx → Contains all x → All (λ y. Contains all y × (t y ≡ true)) (filter t xs) → All (λ y. Contains all y × (t y ≡ true)) (filter t (x ∷ xs))
-passing_step t x xs all true e there rest =
-    subst (All (λ y. Contains all y × (t y ≡ true))) (sym (ap (λ c. cond c (x ∷ filter t xs) (filter t xs)) e)) (All-cons (λ y. Contains all y × (t y ≡ true)) x (filter t xs) (there, e) rest)
-passing_step t x xs all false e there rest = subst (All (λ y. Contains all y × (t y ≡ true))) (sym (ap (λ c. cond c (x ∷ filter t xs) (filter t xs)) e)) rest
-
-passing : {A : Type 0} (t : A → Bool) (xs all : List A) → ((y : A) → Contains xs y → Contains all y) → All (λ y. Contains all y × (t y ≡ true)) (filter t xs)
-passing t [] all h = All-nil (λ y. Contains all y × (t y ≡ true))
-passing t (x ∷ xs) all h = passing_step t x xs all (t x) refl (h x (0, omega arith, refl)) (passing t xs all (λ y w. h y (Contains-append_right (x ∷ []) xs y w)))
-
+-- what a filter keeps is there and passes
 pub seen_in : {A : Type 0} (t : A → Bool) (xs : List A) (x : A) → Contains (filter t xs) x → Contains xs x × (t x ≡ true)
-seen_in t xs x w = All-contains (λ y. Contains xs y × (t y ≡ true)) (filter t xs) x (passing t xs xs (λ y h. h)) w
+seen_in t xs x w = (All-contains (Contains xs) (filter t xs) x (All-filter t (Contains xs) xs (All-contains_itself xs)) w, All-contains (λ y. t y ≡ true) (filter t xs) x (filter_passes t xs) w)
 
 inside_first : (scope : Scope) (x : Agent) → scope.outer ≡ None → inside scope x ≡ record scope { outer = Some x }
 inside_first scope x e = ap (λ p. if is_none p then record scope { outer = Some x } else record scope { inner = Some x }) e
@@ -93,24 +87,11 @@ stands_second m w a _ x (with_one scope p this outer inner wp sp) wx sx =
 
 -- whether all agents of a scope one loop further in are held
 pub holds_first : (held : Agent → Bool) (scope : Scope) (x : Agent) → scope.outer ≡ None → scope.inner ≡ None → holds_all held (inside scope x) ≡ (holds_all held scope && held x)
-holds_first held scope x outer inner =
-    ap (holds_all held) (inside_first scope x outer) ∙ ap (λ q. held scope.this && (held x && holds_one held q)) inner ∙ moved (held scope.this) (held x)
-    ∙ sym (ap (λ p. (held scope.this && (holds_one held p && holds_one held scope.inner)) && held x) outer ∙ ap (λ q. (held scope.this && (true && holds_one held q)) && held x) inner)
-  where
-    moved : (p q : Bool) → (p && (q && true)) ≡ ((p && (true && true)) && q)
-    moved true true = refl
-    moved true false = refl
-    moved false q = refl
+holds_first held scope x outer inner = rw (inside_first scope x outer, outer, inner, and_true, and_true) refl
 
 pub holds_second : (held : Agent → Bool) (scope : Scope) (x p : Agent) → scope.outer ≡ Some p → scope.inner ≡ None → holds_all held (inside scope x) ≡ (holds_all held scope && held x)
 holds_second held scope x p outer inner =
-    ap (holds_all held) (inside_second scope x p outer) ∙ moved (held scope.this) (holds_one held scope.outer) (held x)
-    ∙ sym (ap (λ q. (held scope.this && (holds_one held scope.outer && holds_one held q)) && held x) inner)
-  where
-    moved : (p q r : Bool) → (p && (q && r)) ≡ ((p && (q && true)) && r)
-    moved true true r = refl
-    moved true false r = refl
-    moved false q r = refl
+    rw (inside_second scope x p outer, inner) (ap (λ t. held scope.this && (t && held x)) (sym (and_true (holds_one held scope.outer))) ∙ sym (and_assoc (held scope.this) (holds_one held scope.outer && true) (held x)))
 
 -- all are held where each is
 pub holds_so : (held : Agent → Bool) (scope : Scope) → held scope.this ≡ true → holds_one held scope.outer ≡ true → holds_one held scope.inner ≡ true → holds_all held scope ≡ true
@@ -199,10 +180,6 @@ loop_over T tie weaker alone_ m w held a k inner enters all scope at class body 
     (λ x wx passes hx. (each all (inside scope x) (subst (λ c. At m w held a inner c (inside scope x)) (ap (λ c. all && c) hx ∙ and_true all) (entered x wx passes))).tie)
     (λ x wx passes hx. weaker all _ _ (alone_ all _ _ _ _ (each false (inside scope x) (subst (λ c. At m w held a inner c (inside scope x)) (and_right all (held x) hx) (entered x wx passes))).tie))
   where
-    and_true : (c : Bool) → (c && true) ≡ c
-    and_true true = refl
-    and_true false = refl
-
     entered : (x : Agent) → Contains w x → ((x.class == class) && sees m scope.this x) ≡ true → At m w held a inner (all && held x) (inside scope x)
     entered x wx passes = enters.at all scope at x wx (and_parts (x.class == class) (sees m scope.this x) passes).1
 
@@ -267,21 +244,12 @@ module _ (m : Program) (w : List Agent) (held : Agent → Bool) (deep : Bool) (a
   hears _ _ (o.far field e here s d h) all = hears_say o.deepest who.Outer field e here s all (far_hit m w held deep a id r d) (λ scope p is. ap (λ q. unwrap_or q scope.this) is) (hears o.deepest s h all)
   hears _ _ (o.farthest field e here s d h) all = hears_say o.deepest who.Inner field e here s all (farthest_hit m w held deep a id r d) (λ scope p is. ap (λ q. unwrap_or q scope.this) is) (hears o.deepest s h all)
 
-any_at : {A : Type 0} (p : A → Bool) (xs : List A) (n : ℕ) (x : A) → slice_get xs n ≡ Some x → p x ≡ true → list_any p xs ≡ true
-any_at p [] n x e h = absurd (cc)
-any_at p (y ∷ xs) zero x e h = let same : y ≡ x = cc in ap (λ z. p z || list_any p xs) same ∙ ap (λ t. t || list_any p xs) h
-any_at p (y ∷ xs) (suc n) x e h = or_later (p y) (list_any p xs) (any_at p xs n x e h)
-  where
-    or_later : (s t : Bool) → t ≡ true → (s || t) ≡ true
-    or_later true t e = refl
-    or_later false t e = e
-
 pub query_outward : (m : Program) → LawfulProgram m → (a : Agent) (class : Class) → class_of m a ≡ Some class → Outward (says_in_inner_loops m) o.top (inverse_query class.query)
 query_outward m lawful a class e =
     let here = lawful.classes_are_lawful a.class class e in
     let (last, formed) = is_there (in_turn (map scope_after class.query) (query_scope m a.class)) here.query_is_typed in
     outward (says_in_inner_loops m) class.query (plain class.query) o.top (query_scope m a.class) last (record { outer = refl; inner_one = refl }) formed
-    (λ y. any_at (λ c. list_any (λ s. says_within s false false) c.query) m.classes a.class class e y)
+    (λ y. any_passes_from_place (λ (c : Class). list_any (λ s. says_within s false false) c.query) m.classes a.class class e y)
 
 module _ (m : Program) (seed tick : ℕ) (w : List Agent) (area : Area) (held : Agent → Bool) (lawful : LawfulProgram m) (rises : RisesById w) (holds : HoldsNear m area (range_of m true) w held)
     (b : Agent) (wb : Contains w b) (stands : is_in m area b ≡ true) where
@@ -302,10 +270,6 @@ module _ (m : Program) (seed tick : ℕ) (w : List Agent) (area : Area) (held : 
 
   pub opening_at : (query : List Stmt) (a : Agent) → At m w held a o.top (held a) (opening_scope seed tick query [] a)
   opening_at query a = (alone (opening_scope seed tick query [] a) refl refl refl, and_true (held a))
-    where
-      and_true : (c : Bool) → (c && (true && true)) ≡ c
-      and_true true = refl
-      and_true false = refl
 
   -- the inverse program says the same to each effect of an agent of the area
   module _ (effect : ℕ) where
@@ -320,9 +284,7 @@ module _ (m : Program) (seed tick : ℕ) (w : List Agent) (area : Area) (held : 
         → let d = query_of (inverse_program m) seed tick (filter held w) a in let e = query_of (inverse_program m) seed tick w a in Heard (heard_by b.id effect) c d.said d.faults e.said e.faults
     heard_of a wa c is =
         subst (λ c. let d = query_of (inverse_program m) seed tick (filter held w) a in let e = query_of (inverse_program m) seed tick w a in Heard (heard_by b.id effect) c d.said d.faults e.said e.faults) is
-        (subst (λ d. let e = query_of (inverse_program m) seed tick w a in Heard (heard_by b.id effect) (held a) d.said d.faults e.said e.faults) (sym (part_of inverse_query inverse_is_part m seed tick (filter held w) a))
-        (subst (λ e. let d = part_deed inverse_query m seed tick (filter held w) a (class_of m a) in Heard (heard_by b.id effect) (held a) d.said d.faults e.said e.faults) (sym (part_of inverse_query inverse_is_part m seed tick w a))
-        (one_heard a wa (class_of m a) refl)))
+        (rw (part_of inverse_query inverse_is_part m seed tick (filter held w) a, part_of inverse_query inverse_is_part m seed tick w a) (one_heard a wa (class_of m a) refl))
 
     pub inverse_said_held : said_to b.id effect (said_in (inverse_program m) seed tick (filter held w)) ≡ said_to b.id effect (said_in (inverse_program m) seed tick w)
     inverse_said_held =

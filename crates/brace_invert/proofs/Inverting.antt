@@ -1,6 +1,6 @@
 -- Inversion over whole worlds: what both programs say and find.
-use Rattle.std.proofs.Common.{◌≡◌, ◌∙◌, refl, sym, ap, subst, ℕ, List, [], ◌∷◌, map, filter, flat_map, Bool, true, false, Option, Some, None, arith, ⊎_elim, inl}
-use Rattle.std.specs.Prelude.{◌↔◌, ◌==◌, ◌&&◌, not, option_map, IsTrue, replicate, slice_index_or}
+use Rattle.std.proofs.Common.{◌≡◌, ◌∙◌, refl, sym, ap, subst, ℕ, List, [], map, filter, flat_map, Bool, true, false, Option, Some, None, ⊎_elim, inl}
+use Rattle.std.specs.Prelude.{◌↔◌, ◌==◌, ◌&&◌, not, option_map, IsTrue, replicate}
 use Rattle.std.specs.List.{All, Contains}
 use Rattle.std.specs.List.Sorted.{IsPermutation}
 use Rattle.std.specs.declared.cmp.Ordering.{Ordering}
@@ -9,7 +9,7 @@ use Rattle.std.specs.Ordering.{nat_cmp, ordering_then, is_lt}
 use Rattle.std.specs.Cmp.{nat_cmp_is}
 use Rattle.std.proofs.lemmas.Cmp.{nat_cmp_total, tied_itself}
 use Rattle.std.proofs.lemmas.Option.{slice_get-map}
-use Rattle.std.proofs.lemmas.List.Elements.{filter-append, All-contains, Contains-get_or, Contains-append_cases}
+use Rattle.std.proofs.lemmas.List.Elements.{filter-append, All-contains, Contains-append_cases}
 use Rattle.brace_model.specs.declared.program.Stmt.{Stmt}
 use Rattle.brace_model.specs.declared.program.Stmt.TheOpen as layer
 use Rattle.brace_model.specs.declared.program.Stmt.TheFolds.{fold-Stmt}
@@ -34,11 +34,12 @@ use Rattle.brace_model.proofs.Blocks.{plain}
 use Rattle.brace_model.proofs.Deeds.{run}
 use Rattle.brace_invert.proofs.Halves.{halves}
 use Rattle.brace_invert.proofs.Numbers.{constants_kept}
+use Rattle.brace_invert.proofs.Sites.{none_within}
 use Rattle.brace_invert.proofs.Typed.{is_there}
 use Rattle.brace_invert.proofs.LawfulParts.{IsPart, forward_is_part, inverse_is_part}
-use Rattle.brace_invert.proofs.Runs.{Joined, Together, together_nothing, together_append, joined_run}
-use Rattle.brace_invert.proofs.Traces.{Foretold, foretold_append, foretold_run}
-use Rattle.brace_num.proofs.Lists.{none_in, filter_all}
+use Rattle.brace_invert.proofs.Runs.{Joined, Together, together_over, joined_run}
+use Rattle.brace_invert.proofs.Traces.{Foretold, foretold_over, foretold_run}
+use Rattle.brace_num.proofs.Lists.{none_in, filter_all, All-from_contains}
 
 -- agents of a program with other queries see the same
 reaches_same : (part : List Stmt → List Stmt) (c d : Option Class) (a b : Agent) → reaches_to (option_map (with_query part) c) (option_map (with_query part) d) a b ≡ reaches_to c d a b
@@ -90,15 +91,12 @@ joined_in m seed tick w a (Some class) = joined_run m w class.query _ _ (halves 
 
 joined_of : (m : Program) (seed tick : ℕ) (w : List Agent) (a : Agent) → Joined (query_of m seed tick w a) (query_of (forward_program m) seed tick w a) (query_of (inverse_program m) seed tick w a)
 joined_of m seed tick w a =
-    subst (λ x. Joined (query_of m seed tick w a) x (query_of (inverse_program m) seed tick w a)) (sym (part_of forward_query forward_is_part m seed tick w a))
-    (subst (Joined (query_of m seed tick w a) (part_deed forward_query m seed tick w a (class_of m a))) (sym (part_of inverse_query inverse_is_part m seed tick w a))
-    (joined_in m seed tick w a (class_of m a)))
+    rw (part_of forward_query forward_is_part m seed tick w a, part_of inverse_query inverse_is_part m seed tick w a) (joined_in m seed tick w a (class_of m a))
 
 joined_all : (m : Program) (seed tick : ℕ) (w agents : List Agent)
     → Together (flat_map (λ a. (query_of m seed tick w a).said) agents) (flat_map (λ a. (query_of (forward_program m) seed tick w a).said) agents) (flat_map (λ a. (query_of (inverse_program m) seed tick w a).said) agents)
     (flat_map (λ a. (query_of m seed tick w a).faults) agents) (flat_map (λ a. (query_of (forward_program m) seed tick w a).faults) agents) (flat_map (λ a. (query_of (inverse_program m) seed tick w a).faults) agents)
-joined_all m seed tick w [] = together_nothing
-joined_all m seed tick w (a ∷ agents) = together_append _ _ _ _ _ _ _ _ _ _ _ _ (joined_of m seed tick w a) (joined_all m seed tick w agents)
+joined_all m seed tick w = together_over (query_of m seed tick w) (query_of (forward_program m) seed tick w) (query_of (inverse_program m) seed tick w) (joined_of m seed tick w)
 
 pub said_same : (m : Program) (seed tick : ℕ) (w : List Agent) → query_faults m seed tick w ≡ [] → IsPermutation (said_in m seed tick w) (said_by_both m seed tick w)
 said_same m seed tick w e =
@@ -134,9 +132,7 @@ foretold_of part is_part m lawful seed tick w a =
 
 foretold_all : (part : List Stmt → List Stmt) → IsPart part → (m : Program) → LawfulProgram m → (seed tick : ℕ) (w agents : List Agent)
     → Foretold (flat_map (λ a. (query_of m seed tick w a).faults) agents) (flat_map (λ a. (query_of (with_queries part m) seed tick w a).faults) agents)
-foretold_all part is_part m lawful seed tick w [] = λ g h. inl h
-foretold_all part is_part m lawful seed tick w (a ∷ agents) =
-    foretold_append (query_of m seed tick w a).faults _ (query_of (with_queries part m) seed tick w a).faults _ (foretold_of part is_part m lawful seed tick w a) (foretold_all part is_part m lawful seed tick w agents)
+foretold_all part is_part m lawful seed tick w = foretold_over (query_of m seed tick w) (query_of (with_queries part m) seed tick w) (foretold_of part is_part m lawful seed tick w)
 
 pub forward_foreseen : (m : Program) (seed tick : ℕ) (w : List Agent) → LawfulProgram m → (g : Fault) → Contains (query_faults (forward_program m) seed tick w) g → IsForeseen (query_faults m seed tick w) g
 forward_foreseen m seed tick w lawful = foretold_all forward_query forward_is_part m lawful seed tick w w
@@ -172,15 +168,12 @@ behind_so e f g low after true is = let less = before_in_turn e g f (after_less 
 behind : (e f g : Fault) → comes_before e f ≡ false → ComesAfter e g → comes_before g f ≡ false
 behind e f g low after = behind_so e f g low after (comes_before g f) refl
 
-no_such : {A : Type 0} (P : Type 0) (x : A) → Contains [] x → P
-no_such P x (k, below, is) = absurd (omega (arith, below))
-
 -- there is a fault with both exactly where there is one without
 pub found_none : (m : Program) (seed tick : ℕ) (w : List Agent) → LawfulProgram m → found_by_both m seed tick w ≡ [] ↔ query_faults m seed tick w ≡ []
 found_none m seed tick w lawful = (
-  λ e. none_in (query_faults m seed tick w) (λ g h. no_such ⊥ g (subst (λ xs. Contains xs g) e (faults_kept m seed tick w g h))),
-  λ e. none_in (found_by_both m seed tick w) (λ g h. ⊎_elim (λ (x : Contains (query_faults m seed tick w) g). no_such ⊥ g (subst (λ xs. Contains xs g) e x))
-      (λ (x : (f : Fault) × Contains (query_faults m seed tick w) f × ComesAfter f g). no_such ⊥ x.0 (subst (λ xs. Contains xs x.0) e x.1)) (found_foreseen m seed tick w lawful g h)),
+  λ e. none_in (query_faults m seed tick w) (λ g h. none_within ⊥ g (subst (λ xs. Contains xs g) e (faults_kept m seed tick w g h))),
+  λ e. none_in (found_by_both m seed tick w) (λ g h. ⊎_elim (λ (x : Contains (query_faults m seed tick w) g). none_within ⊥ g (subst (λ xs. Contains xs g) e x))
+      (λ (x : (f : Fault) × Contains (query_faults m seed tick w) f × ComesAfter f g). none_within ⊥ x.0 (subst (λ xs. Contains xs x.0) e x.1)) (found_foreseen m seed tick w lawful g h)),
 )
 
 -- the least fault is the same
@@ -192,14 +185,11 @@ not_before m seed tick w f lawful low g h =
     behind x.0 f g (All-contains (λ g. comes_before g f ≡ false) (query_faults m seed tick w) x.0 low x.1) x.2)
     (found_foreseen m seed tick w lawful g h)
 
-all_of : (xs : List Fault) (P : Fault → Type 0) → ((x : Fault) → Contains xs x → P x) → All P xs
-all_of xs P h k d below = h (slice_index_or xs k d) (Contains-get_or xs k d below)
-
 least_by : (m : Program) (seed tick : ℕ) (w : List Agent) → LawfulProgram m → (o : Option Fault) → least (query_faults m seed tick w) ≡ o → least (found_by_both m seed tick w) ≡ o
 least_by m seed tick w lawful None e = ap least ((found_none m seed tick w lawful).1 ((least_none (query_faults m seed tick w)).0 e))
 least_by m seed tick w lawful (Some f) e =
     let (among, low) = (least_is (query_faults m seed tick w) f).0 e in
-    (least_is (found_by_both m seed tick w) f).1 (faults_kept m seed tick w f among, all_of (found_by_both m seed tick w) _ (not_before m seed tick w f lawful low))
+    (least_is (found_by_both m seed tick w) f).1 (faults_kept m seed tick w f among, All-from_contains _ (found_by_both m seed tick w) (not_before m seed tick w f lawful low))
 
 pub least_same : (m : Program) (seed tick : ℕ) (w : List Agent) → LawfulProgram m → least (found_by_both m seed tick w) ≡ least (query_faults m seed tick w)
 least_same m seed tick w lawful = least_by m seed tick w lawful (least (query_faults m seed tick w)) refl

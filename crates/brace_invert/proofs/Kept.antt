@@ -1,6 +1,6 @@
 -- A fault of the inverse program at an assignment to an agent of the area is one over the owner's list.
-use Rattle.std.proofs.Common.{◌≡◌, ◌∙◌, refl, sym, ap, subst, ℕ, List, [], ◌∷◌, ◌++◌, map, filter, flat_map, Bool, true, false, Option, Some, None, arith, ⊎_elim}
-use Rattle.std.specs.Prelude.{◌||◌, ◌==◌, if◌then◌else◌, option_map}
+use Rattle.std.proofs.Common.{◌≡◌, ◌∙◌, refl, sym, ap, ap₂, subst, ℕ, List, [], ◌∷◌, ◌++◌, map, filter, flat_map, Bool, true, false, Option, Some, None, arith, ⊎_elim}
+use Rattle.std.specs.Prelude.{◌==◌, if◌then◌else◌, option_map}
 use Rattle.std.specs.List.{Contains}
 use Rattle.std.proofs.lemmas.List.{append-nil}
 use Rattle.std.proofs.lemmas.List.Elements.{Contains-append_left, Contains-append_right, Contains-append_cases}
@@ -31,9 +31,10 @@ use Rattle.brace_invert.specs.Split.{with_query, inverse_query, inverse_program}
 use Rattle.brace_invert.specs.Range.{says_in_inner_loops, range_of}
 use Rattle.brace_invert.specs.Held.{is_in, HoldsNear}
 use Rattle.brace_invert.specs.Assigned.{is_one_of, targets_at_step, targets_at, id_in, IsAtAssignmentTo}
-use Rattle.brace_invert.proofs.PartEquations.{joined}
+use Rattle.std.proofs.lemmas.List.Folds.{flat_map-map, Any-from_list_any}
+use Rattle.std.proofs.lemmas.Bool.{eqb-true}
 use Rattle.brace_invert.proofs.Numbers.{sites-If, sites-Foreach, sites_kept}
-use Rattle.brace_invert.proofs.Typed.{After, after_split, formed_const, formed_if, formed_loop, formed_assign, renamed, part_formed, is_there}
+use Rattle.brace_invert.proofs.Typed.{After, formed_const, formed_if, formed_loop, formed_assign, renamed, part_formed, is_there}
 use Rattle.brace_invert.proofs.Sites.{none_within, only_one, value_sited}
 use Rattle.brace_invert.proofs.Sublists.{Rising, rising_from, rising-left, rising-right, rising-between, sub-Rising}
 use Rattle.brace_invert.proofs.LawfulParts.{inverse_is_part}
@@ -50,23 +51,16 @@ targets-Const site n e = fold-Const (targets_at_step site) n e
 
 targets-If : (site : ℕ) (c : Expr) (x y : List Stmt) → targets_at site (If c x y) ≡ flat_map (targets_at site) x ++ flat_map (targets_at site) y
 targets-If site c x y =
-    fold-If (targets_at_step site) c x y
-    ∙ ap (λ p. p ++ flat_map (λ z. z) (map (targets_at site) y)) (joined (targets_at site) x) ∙ ap (λ p. flat_map (targets_at site) x ++ p) (joined (targets_at site) y)
+    fold-If (targets_at_step site) c x y ∙ ap₂ (λ p q. p ++ q) (flat_map-map (λ z. z) (targets_at site) x) (flat_map-map (λ z. z) (targets_at site) y)
 
 targets-Foreach : (site class : ℕ) (body : List Stmt) (at : ℕ) → targets_at site (Foreach class body at) ≡ flat_map (targets_at site) body
-targets-Foreach site class body at =
-    fold-Foreach (targets_at_step site) class body at ∙ joined (targets_at site) body
+targets-Foreach site class body at = fold-Foreach (targets_at_step site) class body at ∙ flat_map-map (λ z. z) (targets_at site) body
 
 targets-Assign : (site : ℕ) (x : Who) (effect : ℕ) (e : Expr) (at : ℕ) → targets_at site (Assign x effect e at) ≡ (if is_one_of (sites_of e) site then x ∷ [] else [])
 targets-Assign site x effect e at = fold-Assign (targets_at_step site) x effect e at
 
-first_or : (s site : ℕ) (sites : List ℕ) (here : Bool) → (s == site) ≡ here → (is_one_of sites site ≡ true → Contains sites site) → (here || is_one_of sites site) ≡ true → Contains (s ∷ sites) site
-first_or s site sites true is rest e = (0, omega arith, grind (arith, is))
-first_or s site sites false is rest e = Contains-append_right (s ∷ []) sites site (rest e)
-
 at_site : (sites : List ℕ) (site : ℕ) → is_one_of sites site ≡ true → Contains sites site
-at_site [] site e = absurd (cc)
-at_site (s ∷ sites) site e = first_or s site sites (s == site) refl (at_site sites site) e
+at_site sites site e = let (k, x, low, is, same) = Any-from_list_any (λ s. s == site) sites e in subst (Contains sites) (eqb-true x site same) (k, low, is)
 
 named_there : (site : ℕ) (sites : List ℕ) (x y : Who) (test : Bool) → is_one_of sites site ≡ test → Contains (if test then x ∷ [] else []) y → Contains sites site
 named_there site sites x y true e w = at_site sites site e
@@ -175,28 +169,25 @@ module _ (m : Program) (w : List Agent) (held : Agent → Bool) (deep : Bool) (a
       never e = absurd (cc)
 
   keeps_say : (k : Depth) (x : Who) (field : ℕ) (e : Expr) (here : ℕ) (s : List Stmt) (names last : Names) → After (Assign x field e here ∷ s) names last → FitsBlock (Assign x field e here ∷ s) → (all : Bool)
-      → ((scope : Scope) → Stands m w a k scope → Hits m w held deep a id r scope x) → ((mid : Names) → After s mid last → Keeps k all s) → Keeps k all (Assign x field e here ∷ s)
+      → ((scope : Scope) → Stands m w a k scope → Hits m w held deep a id r scope x) → (After s names last → Keeps k all s) → Keeps k all (Assign x field e here ∷ s)
   keeps_say k x field e here s names last formed fits all hits rest =
-      let (mid, first, after) = after_split (Assign x field e here) s names last formed in
-      let f = formed_assign x field e here names mid first in
+      let f = formed_assign x field e here s names last formed in
       let own = fits_as _ _ _ _ (sites_in-Assign x field e here) (targets-Assign g.site x field e here) (first_fits (Assign x field e here) s fits) in
       sim_say (Kept g all) (kept_tie g all) m m (filter held w) w (At m w held a k all) (at_bound m w held a k all) x field e here s s
       (λ scope at. kept_at all scope e names f.type f.typed (λ stop same there.
       let is = only_name x y (is_one_of (sites_of e) g.site) (own.named there) in
       sym at.1 ∙ hits scope at.0 (named_agent scope stop x id (ap (λ h. id_in h x) same ∙ ap (id_in g) is ∙ had))))
-      (λ scope at v h. none_within _ g h) (rest mid after)
+      (λ scope at v h. none_within _ g h) (rest f.rest)
 
   keeps : (k : Depth) (s : List Stmt) → Outward deep k s → (names last : Names) → After s names last → FitsBlock s → (all : Bool) → Keeps k all s
   keeps _ _ (o.none k) names last formed fits all = sim_none (Kept g all) (kept_tie g all) m m (filter held w) w (At m w held a k all) (at_bound m w held a k all)
   keeps _ _ (o.const k n e s h) names last formed fits all =
-      let (mid, first, after) = after_split (Const n e) s names last formed in
-      let f = formed_const n e names mid first in
+      let f = formed_const n e s names last formed in
       let own = fits_as _ _ _ _ (sites_in-Const n e) (targets-Const g.site n e) (first_fits (Const n e) s fits) in
       sim_const (Kept g all) (kept_tie g all) m m (filter held w) w (At m w held a k all) (at_bound m w held a k all) n e s s
-      (λ scope at. kept_at all scope e names f.type f.typed (λ stop same. never_here (sites_of e) all own)) (keeps k s h mid last after (rest_fits (Const n e) s fits) all)
+      (λ scope at. kept_at all scope e names f.type f.typed (λ stop same. never_here (sites_of e) all own)) (keeps k s h _ last f.rest (rest_fits (Const n e) s fits) all)
   keeps _ _ (o.cond k c x z s hx hz h) names last formed fits all =
-      let (mid, first, after) = after_split (If c x z) s names last formed in
-      let f = formed_if c x z names mid first in
+      let f = formed_if c x z s names last formed in
       let tx = flat_map (targets_at g.site) x in
       let tz = flat_map (targets_at g.site) z in
       let own = fits_as _ (sites_of c ++ (flat_map sites_in x ++ flat_map sites_in z)) _ ([] ++ (tx ++ tz)) (sites-If c x z) (targets-If g.site c x z) (first_fits (If c x z) s fits) in
@@ -206,7 +197,7 @@ module _ (m : Program) (w : List Agent) (held : Agent → Bool) (deep : Bool) (a
       (λ v. two_sites x z v) own)))
       (keeps k x hx names f.first.0 f.first.1 (fits_left g.site y (flat_map sites_in x) (flat_map sites_in z) tx tz (named_sites g.site z (plain z) y) blocks) all)
       (keeps k z hz names f.second.0 f.second.1 (fits_right g.site y (flat_map sites_in x) (flat_map sites_in z) tx tz (named_sites g.site x (plain x) y) blocks) all)
-      (keeps k s h mid last after (rest_fits (If c x z) s fits) all)
+      (keeps k s h names last f.rest (rest_fits (If c x z) s fits) all)
     where
       two_sites : (x z : List Stmt) → Contains (flat_map (targets_at g.site) x ++ flat_map (targets_at g.site) z) y → Contains (flat_map sites_in x ++ flat_map sites_in z) g.site
       two_sites x z v =
@@ -214,22 +205,20 @@ module _ (m : Program) (w : List Agent) (held : Agent → Bool) (deep : Bool) (a
           (λ (u : Contains (flat_map (targets_at g.site) z) y). Contains-append_right (flat_map sites_in x) (flat_map sites_in z) g.site (named_sites g.site z (plain z) y u))
           (Contains-append_cases (flat_map (targets_at g.site) x) (flat_map (targets_at g.site) z) y v)
   keeps _ _ (o.loop class here body s hb h) names last formed fits all =
-      let (mid, first, after) = after_split (Foreach class body here) s names last formed in
-      let f = formed_loop class body here names mid first in
+      let f = formed_loop class body here s names last formed in
       let own = fits_as _ _ _ _ (sites-Foreach class body here) (targets-Foreach g.site class body here) (first_fits (Foreach class body here) s fits) in
-      keeps_loop o.top o.middle (enters_first m w held a) class here body s all (keeps o.middle body hb f.inside f.body_is_formed.0 f.body_is_formed.1 own) (keeps o.top s h mid last after (rest_fits (Foreach class body here) s fits) all)
+      keeps_loop o.top o.middle (enters_first m w held a) class here body s all (keeps o.middle body hb f.inside f.body_is_formed.0 f.body_is_formed.1 own) (keeps o.top s h names last f.rest (rest_fits (Foreach class body here) s fits) all)
   keeps _ _ (o.inner class here body s hb h) names last formed fits all =
-      let (mid, first, after) = after_split (Foreach class body here) s names last formed in
-      let f = formed_loop class body here names mid first in
+      let f = formed_loop class body here s names last formed in
       let own = fits_as _ _ _ _ (sites-Foreach class body here) (targets-Foreach g.site class body here) (first_fits (Foreach class body here) s fits) in
       keeps_loop o.middle o.deepest (enters_second m w held a) class here body s all (keeps o.deepest body hb f.inside f.body_is_formed.0 f.body_is_formed.1 own)
-      (keeps o.middle s h mid last after (rest_fits (Foreach class body here) s fits) all)
+      (keeps o.middle s h names last f.rest (rest_fits (Foreach class body here) s fits) all)
   keeps _ _ (o.near field e here s h) names last formed fits all =
-      keeps_say o.middle who.Outer field e here s names last formed fits all (near_hit m w held deep a id r) (λ mid after. keeps o.middle s h mid last after (rest_fits (Assign who.Outer field e here) s fits) all)
+      keeps_say o.middle who.Outer field e here s names last formed fits all (near_hit m w held deep a id r) (λ after. keeps o.middle s h names last after (rest_fits (Assign who.Outer field e here) s fits) all)
   keeps _ _ (o.far field e here s d h) names last formed fits all =
-      keeps_say o.deepest who.Outer field e here s names last formed fits all (far_hit m w held deep a id r d) (λ mid after. keeps o.deepest s h mid last after (rest_fits (Assign who.Outer field e here) s fits) all)
+      keeps_say o.deepest who.Outer field e here s names last formed fits all (far_hit m w held deep a id r d) (λ after. keeps o.deepest s h names last after (rest_fits (Assign who.Outer field e here) s fits) all)
   keeps _ _ (o.farthest field e here s d h) names last formed fits all =
-      keeps_say o.deepest who.Inner field e here s names last formed fits all (farthest_hit m w held deep a id r d) (λ mid after. keeps o.deepest s h mid last after (rest_fits (Assign who.Inner field e here) s fits) all)
+      keeps_say o.deepest who.Inner field e here s names last formed fits all (farthest_hit m w held deep a id r d) (λ after. keeps o.deepest s h names last after (rest_fits (Assign who.Inner field e here) s fits) all)
 
 module _ (m : Program) (seed tick : ℕ) (w : List Agent) (area : Area) (held : Agent → Bool) (lawful : LawfulProgram m) (rises : RisesById w) (holds : HoldsNear m area (range_of m true) w held)
     (b : Agent) (wb : Contains w b) (stands : is_in m area b ≡ true) (g : Fault) (hit : IsAtAssignmentTo (inverse_program m) w g b.id) where

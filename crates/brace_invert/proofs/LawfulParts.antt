@@ -82,8 +82,7 @@ class_lawful part is_part program number class lawful =
       gifts_differ = lawful.gifts_differ;
       query_is_typed = is_some-from _ (renamed part last) (part_formed part class.query (part class.query) pruned (query_scope program number) last formed);
       constants_in_range =
-          subst (λ count. IsTrue (list_all (λ n. nat_lt n count) (flat_map constant_numbers (part class.query)))) (sym (constants_kept class.query (part class.query) pruned))
-          (subst (λ ns. IsTrue (list_all (λ n. nat_lt n (sum (map constants class.query))) ns)) (sym (numbers_kept class.query (part class.query) pruned)) lawful.constants_in_range);
+          rw (constants_kept class.query (part class.query) pruned, numbers_kept class.query (part class.query) pruned) lawful.constants_in_range;
       constants_differ = subst (IsDistinct nat_eq) (sym (numbers_kept class.query (part class.query) pruned)) lawful.constants_differ;
       rule_sites_rise = lawful.rule_sites_rise;
       die_sites_rise = lawful.die_sites_rise;
@@ -110,9 +109,8 @@ loops_among_classes : (part : List Stmt → List Stmt) → IsPart part → (clas
     → Sub (flat_map loop_offsets (flat_map (λ c. c.query) (map (with_query part) classes))) (flat_map loop_offsets (flat_map (λ c. c.query) classes))
 loops_among_classes part is_part [] = none
 loops_among_classes part is_part (c ∷ classes) =
-    subst (λ xs. Sub xs (flat_map loop_offsets (flat_map (λ c. c.query) (c ∷ classes)))) (sym (flat_map-append loop_offsets (part c.query) (flat_map (λ c. c.query) (map (with_query part) classes))))
-    (subst (Sub (flat_map loop_offsets (part c.query) ++ flat_map loop_offsets (flat_map (λ c. c.query) (map (with_query part) classes)))) (sym (flat_map-append loop_offsets c.query (flat_map (λ c. c.query) classes)))
-    (sub-append _ _ _ _ (loops_kept c.query (part c.query) (is_part c.query)) (loops_among_classes part is_part classes)))
+    rw (flat_map-append loop_offsets (part c.query) (flat_map (λ c. c.query) (map (with_query part) classes)), flat_map-append loop_offsets c.query (flat_map (λ c. c.query) classes))
+    (sub-append _ _ _ _ (loops_kept c.query (part c.query) (is_part c.query)) (loops_among_classes part is_part classes))
 
 assignments_among : (part : List Stmt → List Stmt) → IsPart part → (classes : List Class) → sum_by class_assignments (map (with_query part) classes) ≤ sum_by class_assignments classes
 assignments_among part is_part [] = omega arith

@@ -1,8 +1,8 @@
 -- Who sees an agent of an area, or is seen by one, stands near it.
 use Rattle.std.proofs.Common.{◌≡◌, refl, subst, ℕ, zero, suc, ℤ, pos, ◌≤ℤ◌, ◌+ℤ◌, ◌-ℤ◌, List, [], ◌∷◌, true, Option, Some, None, arith}
-use Rattle.std.specs.Prelude.{not, ◌==◌, fold, slice_get}
+use Rattle.std.specs.Prelude.{not, ◌==◌, fold, slice_get, int_le}
 use Rattle.std.specs.Int.{int_max}
-use Rattle.std.proofs.lemmas.Int.{ints}
+use Rattle.std.proofs.lemmas.Int.{ints, clamps}
 use Rattle.brace_num.specs.declared.kinds.Area.{Area}
 use Rattle.brace_model.specs.declared.program.Class.{Class}
 use Rattle.brace_model.specs.declared.program.Program.{Program}
@@ -17,36 +17,26 @@ use Rattle.std.proofs.lemmas.Bool.{and_parts}
 use Rattle.brace_num.proofs.Numbers.{le_holds, le_told, le_through, max_within, within_max}
 
 -- two numbers within a distance, as an order of each
-within_up : (v p q : ℤ) → is_within v p q ≡ true → (p -ℤ q) ≤ℤ v
-within_up v p q e = grind (arith, e)
+within : (v p q : ℤ) → is_within v p q ≡ true → ((p -ℤ q) ≤ℤ v) × ((q -ℤ p) ≤ℤ v)
+within v p q e = (grind (arith, e), grind (arith, e))
 
-within_down : (v p q : ℤ) → is_within v p q ≡ true → (q -ℤ p) ≤ℤ v
-within_down v p q e = grind (arith, e)
-
-low_near : (low p q v k : ℤ) → (q -ℤ p) ≤ℤ v → (low -ℤ q) ≤ℤ k → (low -ℤ p) ≤ℤ (k +ℤ v)
-low_near low p q v k down h = omega (arith, ints, down, h)
-
-high_near : (high p q v k : ℤ) → (p -ℤ q) ≤ℤ v → (q -ℤ high) ≤ℤ k → (p -ℤ high) ≤ℤ (k +ℤ v)
-high_near high p q v k up h = omega (arith, ints, up, h)
-
-none_near : (v k : ℤ) → pos 0 ≤ℤ v → pos 0 ≤ℤ k → pos 0 ≤ℤ (k +ℤ v)
-none_near v k some more = grind (arith, some, more)
+either_way : (v p q : ℤ) → is_within v p q ≡ true → is_within v q p ≡ true
+either_way v p q e = grind (arith, e)
 
 outside_near : (low high p q v k : ℤ) → pos 0 ≤ℤ v → pos 0 ≤ℤ k → (p -ℤ q) ≤ℤ v → (q -ℤ p) ≤ℤ v → outside low high q ≤ℤ k → outside low high p ≤ℤ (k +ℤ v)
-outside_near low high p q v k some more up down h =
-    let (zero_so, ends) = within_max (pos 0) (int_max (low -ℤ q) (q -ℤ high)) k h in
-    let (below, above) = within_max (low -ℤ q) (q -ℤ high) k ends in
-    max_within (pos 0) (int_max (low -ℤ p) (p -ℤ high)) (k +ℤ v) (none_near v k some more)
-    (max_within (low -ℤ p) (p -ℤ high) (k +ℤ v) (low_near low p q v k down below) (high_near high p q v k up above))
-
-gap_near : (area : Area) (ax ay bx by v k : ℤ) → pos 0 ≤ℤ v → pos 0 ≤ℤ k → (ax -ℤ bx) ≤ℤ v → (bx -ℤ ax) ≤ℤ v → (ay -ℤ by) ≤ℤ v → (by -ℤ ay) ≤ℤ v → gap_to area bx by ≤ℤ k → gap_to area ax ay ≤ℤ (k +ℤ v)
-gap_near area ax ay bx by v k some more xu xd yu yd h =
-    let (along_x, along_y) = within_max (outside area.x0 area.x1 bx) (outside area.y0 area.y1 by) k h in
-    max_within (outside area.x0 area.x1 ax) (outside area.y0 area.y1 ay) (k +ℤ v)
-    (outside_near area.x0 area.x1 ax bx v k some more xu xd along_x) (outside_near area.y0 area.y1 ay by v k some more yu yd along_y)
+outside_near low high p q v k some more up down h = omega (arith, ints, clamps)
 
 le_plus : (z k v w : ℤ) → z ≤ℤ (k +ℤ v) → v ≤ℤ w → z ≤ℤ (k +ℤ w)
 le_plus z k v w h g = grind (arith, h, g)
+
+-- a point so near another one that is near an area is near it too
+gap_near : (area : Area) (ax ay bx by v k most : ℤ) → (pos 0 ≤ℤ v) × (v ≤ℤ most) → pos 0 ≤ℤ k → is_within v ax bx ≡ true → is_within v ay by ≡ true → int_le (gap_to area bx by) k ≡ true → int_le (gap_to area ax ay) (k +ℤ most) ≡ true
+gap_near area ax ay bx by v k most (some, little) more x y h =
+    let (along_x, along_y) = within_max (outside area.x0 area.x1 bx) (outside area.y0 area.y1 by) k (le_told _ _ h) in
+    let (xu, xd) = within v ax bx x in
+    let (yu, yd) = within v ay by y in
+    le_holds _ _ (le_plus (gap_to area ax ay) k v most (max_within (outside area.x0 area.x1 ax) (outside area.y0 area.y1 ay) (k +ℤ v)
+    (outside_near area.x0 area.x1 ax bx v k some more xu xd along_x) (outside_near area.y0 area.y1 ay by v k some more yu yd along_y)) little)
 
 -- who reaches an agent that stands near an area stands near it
 reaching_near : (area : Area) (o p : Option Class) (a b : Agent) (k most : ℤ) → ((c : Class) → o ≡ Some c → (pos 0 ≤ℤ c.visible) × (c.visible ≤ℤ most)) → pos 0 ≤ℤ k
@@ -54,12 +44,8 @@ reaching_near : (area : Area) (o p : Option Class) (a b : Agent) (k most : ℤ) 
 reaching_near area None p a b k most bounds more r h = absurd (cc)
 reaching_near area (Some c) None a b k most bounds more r h = absurd (cc)
 reaching_near area (Some c) (Some d) a b k most bounds more r h =
-    let (some, little) = bounds c refl in
     let (x, y) = and_parts (is_within c.visible (x_of c a) (x_of d b)) (is_within c.visible (y_of c a) (y_of d b)) r in
-    le_holds _ _ (le_plus (gap_to area (x_of c a) (y_of c a)) k c.visible most
-    (gap_near area (x_of c a) (y_of c a) (x_of d b) (y_of d b) c.visible k some more
-    (within_up c.visible (x_of c a) (x_of d b) x) (within_down c.visible (x_of c a) (x_of d b) x) (within_up c.visible (y_of c a) (y_of d b) y) (within_down c.visible (y_of c a) (y_of d b) y) (le_told _ _ h))
-    little)
+    gap_near area (x_of c a) (y_of c a) (x_of d b) (y_of d b) c.visible k most (bounds c refl) more x y h
 
 -- and so does who is reached from near it
 reached_near : (area : Area) (o p : Option Class) (a b : Agent) (k most : ℤ) → ((c : Class) → o ≡ Some c → (pos 0 ≤ℤ c.visible) × (c.visible ≤ℤ most)) → pos 0 ≤ℤ k
@@ -67,12 +53,9 @@ reached_near : (area : Area) (o p : Option Class) (a b : Agent) (k most : ℤ) �
 reached_near area None p a b k most bounds more r h = absurd (cc)
 reached_near area (Some c) None a b k most bounds more r h = absurd (cc)
 reached_near area (Some c) (Some d) a b k most bounds more r h =
-    let (some, little) = bounds c refl in
     let (x, y) = and_parts (is_within c.visible (x_of c a) (x_of d b)) (is_within c.visible (y_of c a) (y_of d b)) r in
-    le_holds _ _ (le_plus (gap_to area (x_of d b) (y_of d b)) k c.visible most
-    (gap_near area (x_of d b) (y_of d b) (x_of c a) (y_of c a) c.visible k some more
-    (within_down c.visible (x_of c a) (x_of d b) x) (within_up c.visible (x_of c a) (x_of d b) x) (within_down c.visible (y_of c a) (y_of d b) y) (within_up c.visible (y_of c a) (y_of d b) y) (le_told _ _ h))
-    little)
+    gap_near area (x_of d b) (y_of d b) (x_of c a) (y_of c a) c.visible k most (bounds c refl) more 
+    (either_way c.visible (x_of c a) (x_of d b) x) (either_way c.visible (y_of c a) (y_of d b) y) h
 
 -- no class sees farther than the greatest visible range
 fold_up : (classes : List Class) (v : ℤ) → v ≤ℤ fold (λ v c. int_max v c.visible) v classes

@@ -1,8 +1,9 @@
 -- What a part of a block keeps of the block's numbers: all constants, some sites, loops and assignments, in their order.
-use Rattle.std.proofs.Common.{◌≡◌, ◌∙◌, refl, sym, ap, ℕ, ◌+◌, ◌≤◌, List, [], ◌∷◌, ◌++◌, map, flat_map, sum, false, arith, append_assoc, ◌<◌, length, get_or, take}
+use Rattle.std.proofs.Common.{◌≡◌, ◌∙◌, refl, sym, ap, ap₂, ℕ, ◌+◌, ◌≤◌, List, [], ◌∷◌, ◌++◌, map, flat_map, sum, false, arith, append_assoc, ◌<◌, length, get_or, take}
 use Rattle.std.specs.List.{concat, sum_by}
 use Rattle.std.proofs.lemmas.List.{append-nil, map-append, length-append}
-use Rattle.std.proofs.lemmas.List.Concat.{flat_map-append}
+use Rattle.std.proofs.lemmas.List.Concat.{flat_map-append, concat_is}
+use Rattle.std.proofs.lemmas.List.Folds.{flat_map-map}
 use Rattle.std.proofs.lemmas.List.Sums.{sum-map, sum_by-cons, sum_by-append}
 use Rattle.brace_model.specs.declared.program.Value.TheVariants.{Flag}
 use Rattle.brace_model.specs.declared.program.Expr.{Expr}
@@ -29,12 +30,11 @@ pub count-append : {A : Type 0} (f : A → ℕ) (xs ys : List A) → sum (map f 
 count-append f xs ys = sum-map f (xs ++ ys) ∙ sum_by-append f xs ys ∙ ap (λ n. n + sum_by f ys) (sym (sum-map f xs)) ∙ ap (λ n. sum (map f xs) + n) (sym (sum-map f ys))
 
 pub concat-map : {A : Type 0} (f : A → List ℕ) (xs : List A) → concat (map f xs) ≡ flat_map f xs
-concat-map f [] = refl
-concat-map f (x ∷ xs) = ap (λ t. f x ++ t) (concat-map f xs)
+concat-map f xs = concat_is (map f xs) ∙ flat_map-map (λ x. x) f xs
 
 -- what blocks carry
 pub sites-If : (c : Expr) (a b : List Stmt) → sites_in (If c a b) ≡ sites_of c ++ (flat_map sites_in a ++ flat_map sites_in b)
-sites-If c a b = sites_in-If c a b ∙ ap (λ t. sites_of c ++ (t ++ concat (map sites_in b))) (concat-map sites_in a) ∙ ap (λ t. sites_of c ++ (flat_map sites_in a ++ t)) (concat-map sites_in b)
+sites-If c a b = sites_in-If c a b ∙ ap₂ (λ t u. sites_of c ++ (t ++ u)) (concat-map sites_in a) (concat-map sites_in b)
 
 pub sites-Foreach : (class : ℕ) (body : List Stmt) (at : ℕ) → sites_in (Foreach class body at) ≡ flat_map sites_in body
 sites-Foreach class body at = sites_in-Foreach class body at ∙ concat-map sites_in body
@@ -56,43 +56,19 @@ numbers-unread : (ns : List ℕ) → flat_map constant_numbers (map unread ns) �
 numbers-unread [] = refl
 numbers-unread (n ∷ ns) = ap (λ t. t ++ flat_map constant_numbers (map unread ns)) (constant_numbers-Const n (Lit (Flag false))) ∙ ap (λ t. n ∷ t) (numbers-unread ns)
 
-sites-unread : (ns : List ℕ) → flat_map sites_in (map unread ns) ≡ []
-sites-unread [] = refl
-sites-unread (n ∷ ns) = ap (λ t. t ++ flat_map sites_in (map unread ns)) (sites_in-Const n (Lit (Flag false)) ∙ sites_of-Lit (Flag false)) ∙ sites-unread ns
-
-loops-unread : (ns : List ℕ) → flat_map loop_offsets (map unread ns) ≡ []
-loops-unread [] = refl
-loops-unread (n ∷ ns) = ap (λ t. t ++ flat_map loop_offsets (map unread ns)) (loop_offsets-Const n (Lit (Flag false))) ∙ loops-unread ns
-
 assignments-unread : (ns : List ℕ) → sum (map assignments (map unread ns)) ≡ 0
 assignments-unread [] = refl
 assignments-unread (n ∷ ns) =
-    let rest = assignments-unread ns in
-    let here = assignments-Const n (Lit (Flag false)) in
-    let all = count-cons assignments (unread n) (map unread ns) in
-    omega (arith, rest, here, all)
+    omega (arith, assignments-unread ns, assignments-Const n (Lit (Flag false)), count-cons assignments (unread n) (map unread ns))
 
 pub numbers-places : (ns : List ℕ) → flat_map constant_numbers (places ns) ≡ ns
 numbers-places [] = refl
 numbers-places (n ∷ ns) = append-nil (constant_numbers (If (Lit (Flag false)) (map unread (n ∷ ns)) [])) ∙ numbers-If (Lit (Flag false)) (map unread (n ∷ ns)) []
     ∙ append-nil (flat_map constant_numbers (map unread (n ∷ ns))) ∙ numbers-unread (n ∷ ns)
 
-sites-places : (ns : List ℕ) → flat_map sites_in (places ns) ≡ []
-sites-places [] = refl
-sites-places (n ∷ ns) = append-nil (sites_in (If (Lit (Flag false)) (map unread (n ∷ ns)) [])) ∙ sites-If (Lit (Flag false)) (map unread (n ∷ ns)) []
-    ∙ ap (λ t. t ++ (flat_map sites_in (map unread (n ∷ ns)) ++ [])) (sites_of-Lit (Flag false)) ∙ append-nil (flat_map sites_in (map unread (n ∷ ns))) ∙ sites-unread (n ∷ ns)
-
-loops-places : (ns : List ℕ) → flat_map loop_offsets (places ns) ≡ []
-loops-places [] = refl
-loops-places (n ∷ ns) = append-nil (loop_offsets (If (Lit (Flag false)) (map unread (n ∷ ns)) [])) ∙ loops-If (Lit (Flag false)) (map unread (n ∷ ns)) []
-    ∙ append-nil (flat_map loop_offsets (map unread (n ∷ ns))) ∙ loops-unread (n ∷ ns)
-
 pub assignments-places : (ns : List ℕ) → sum (map assignments (places ns)) ≡ 0
 assignments-places [] = refl
-assignments-places (n ∷ ns) =
-    let inside = assignments-unread (n ∷ ns) in
-    let here = assignments-If (Lit (Flag false)) (map unread (n ∷ ns)) [] in
-    omega (arith, inside, here)
+assignments-places (n ∷ ns) = omega (arith, assignments-unread (n ∷ ns), assignments-If (Lit (Flag false)) (map unread (n ∷ ns)) [])
 
 -- the constants of a part are those of its block
 pub numbers_kept : (s p : List Stmt) → Pruned s p → flat_map constant_numbers p ≡ flat_map constant_numbers s
@@ -115,66 +91,51 @@ numbers_kept _ _ (pruned.left_out who effect e at s p h) = numbers_kept s p h �
 pub constants_are : (s : List Stmt) → Plain s → length (flat_map constant_numbers s) ≡ sum (map constants s)
 constants_are _ b.none = refl
 constants_are _ (b.const n e s h) =
-    let rest = constants_are s h in
-    let all = count-cons constants (Const n e) s in
-    let one = constants-Const n e in
-    ap (λ t. length (t ++ flat_map constant_numbers s)) (constant_numbers-Const n e) ∙ omega (arith, rest, all, one)
+    ap (λ t. length (t ++ flat_map constant_numbers s)) (constant_numbers-Const n e) ∙ omega (arith, constants_are s h, count-cons constants (Const n e) s, constants-Const n e)
 constants_are _ (b.cond c x y s hx hy h) =
-    let rest = constants_are s h in
-    let first = constants_are x hx in
-    let second = constants_are y hy in
-    let all = count-cons constants (If c x y) s in
-    let one = constants-If c x y in
-    let counted = length-append (flat_map constant_numbers x) (flat_map constant_numbers y) in
     let joined = length-append (flat_map constant_numbers x ++ flat_map constant_numbers y) (flat_map constant_numbers s) in
-    ap (λ t. length (t ++ flat_map constant_numbers s)) (numbers-If c x y) ∙ omega (arith, rest, first, second, all, one, counted, joined)
+    ap (λ t. length (t ++ flat_map constant_numbers s)) (numbers-If c x y)
+    ∙ omega (arith, constants_are s h, constants_are x hx, constants_are y hy, count-cons constants (If c x y) s, constants-If c x y, length-append (flat_map constant_numbers x) (flat_map constant_numbers y), joined)
 constants_are _ (b.loop class at body s hb h) =
-    let rest = constants_are s h in
-    let inside = constants_are body hb in
-    let all = count-cons constants (Foreach class body at) s in
-    let one = constants-Foreach class body at in
-    let joined = length-append (flat_map constant_numbers body) (flat_map constant_numbers s) in
-    ap (λ t. length (t ++ flat_map constant_numbers s)) (numbers-Foreach class body at) ∙ omega (arith, rest, inside, all, one, joined)
+    ap (λ t. length (t ++ flat_map constant_numbers s)) (numbers-Foreach class body at)
+    ∙ omega (arith, constants_are s h, constants_are body hb, count-cons constants (Foreach class body at) s, constants-Foreach class body at, length-append (flat_map constant_numbers body) (flat_map constant_numbers s))
 constants_are _ (b.say who effect e at s h) =
-    let rest = constants_are s h in
-    let all = count-cons constants (Assign who effect e at) s in
-    let one = constants-Assign who effect e at in
-    ap (λ t. length (t ++ flat_map constant_numbers s)) (constant_numbers-Assign who effect e at) ∙ omega (arith, rest, all, one)
+    ap (λ t. length (t ++ flat_map constant_numbers s)) (constant_numbers-Assign who effect e at) ∙ omega (arith, constants_are s h, count-cons constants (Assign who effect e at) s, constants-Assign who effect e at)
 
 pub constants_kept : (s p : List Stmt) → Pruned s p → sum (map constants p) ≡ sum (map constants s)
 constants_kept s p h = sym (constants_are p (plain p)) ∙ ap length (numbers_kept s p h) ∙ constants_are s (plain s)
 
--- the sites of a part are some of its block's
-pub sites_kept : (s p : List Stmt) → Pruned s p → Sub (flat_map sites_in p) (flat_map sites_in s)
-sites_kept _ _ pruned.none = none
-sites_kept _ _ (pruned.const n e s p h) = sub-append _ _ _ _ (sub-refl (sites_in (Const n e))) (sites_kept s p h)
-sites_kept _ _ (pruned.cond c a pa x px s p ha hx h) =
-    sub-append (sites_in (If c pa px)) (sites_in (If c a x)) _ _
-    (sub-by _ _ _ _ (sites-If c pa px) (sites-If c a x) (sub-append _ _ _ _ (sub-refl (sites_of c)) (sub-append _ _ _ _ (sites_kept a pa ha) (sites_kept x px hx))))
-    (sites_kept s p h)
-sites_kept _ _ (pruned.loop class at body pb s p hb h) =
-    sub-append (sites_in (Foreach class pb at)) (sites_in (Foreach class body at)) _ _ (sub-by _ _ _ _ (sites-Foreach class pb at) (sites-Foreach class body at) (sites_kept body pb hb)) (sites_kept s p h)
-sites_kept _ _ (pruned.away class at body s p h) =
-    sub-by _ _ _ _ (flat_map-append sites_in (places (flat_map constant_numbers body)) p ∙ ap (λ t. t ++ flat_map sites_in p) (sites-places (flat_map constant_numbers body))) refl
-    (sub-right (sites_in (Foreach class body at)) _ _ (sites_kept s p h))
-sites_kept _ _ (pruned.kept who effect e at s p h) = sub-append _ _ _ _ (sub-refl (sites_in (Assign who effect e at))) (sites_kept s p h)
-sites_kept _ _ (pruned.left_out who effect e at s p h) = sub-right (sites_in (Assign who effect e at)) _ _ (sites_kept s p h)
+-- numbers that stand in conditions and at loops: those of a part are some of its block's
+module _ (f : Stmt → List ℕ) (g : Expr → List ℕ) (at : ℕ → List ℕ) (of_if : (c : Expr) (a b : List Stmt) → f (If c a b) ≡ g c ++ (flat_map f a ++ flat_map f b)) (of_loop : (class : ℕ) (body : List Stmt) (k : ℕ) → f (Foreach class body k) ≡ at k ++ flat_map f body)
+    (of_false : g (Lit (Flag false)) ≡ []) (of_unread : (n : ℕ) → f (unread n) ≡ []) where
+  unread_none : (ns : List ℕ) → flat_map f (map unread ns) ≡ []
+  unread_none [] = refl
+  unread_none (n ∷ ns) = ap₂ (λ t u. t ++ u) (of_unread n) (unread_none ns)
 
--- so are the offsets of its loops
+  places_none : (ns : List ℕ) → flat_map f (places ns) ≡ []
+  places_none [] = refl
+  places_none (n ∷ ns) = append-nil (f (If (Lit (Flag false)) (map unread (n ∷ ns)) [])) ∙ of_if (Lit (Flag false)) (map unread (n ∷ ns)) [] ∙ ap₂ (λ t u. t ++ (u ++ [])) of_false (unread_none (n ∷ ns))
+
+  some_kept : (s p : List Stmt) → Pruned s p → Sub (flat_map f p) (flat_map f s)
+  some_kept _ _ pruned.none = none
+  some_kept _ _ (pruned.const n e s p h) = sub-append _ _ _ _ (sub-refl (f (Const n e))) (some_kept s p h)
+  some_kept _ _ (pruned.cond c a pa x px s p ha hx h) =
+      sub-append (f (If c pa px)) (f (If c a x)) _ _
+      (sub-by _ _ _ _ (of_if c pa px) (of_if c a x) (sub-append _ _ _ _ (sub-refl (g c)) (sub-append _ _ _ _ (some_kept a pa ha) (some_kept x px hx)))) (some_kept s p h)
+  some_kept _ _ (pruned.loop class k body pb s p hb h) =
+      sub-append (f (Foreach class pb k)) (f (Foreach class body k)) _ _ (sub-by _ _ _ _ (of_loop class pb k) (of_loop class body k) (sub-append _ _ _ _ (sub-refl (at k)) (some_kept body pb hb))) (some_kept s p h)
+  some_kept _ _ (pruned.away class k body s p h) =
+      sub-by _ _ _ _ (flat_map-append f (places (flat_map constant_numbers body)) p ∙ ap (λ t. t ++ flat_map f p) (places_none (flat_map constant_numbers body))) refl
+      (sub-right (f (Foreach class body k)) _ _ (some_kept s p h))
+  some_kept _ _ (pruned.kept who effect e k s p h) = sub-append _ _ _ _ (sub-refl (f (Assign who effect e k))) (some_kept s p h)
+  some_kept _ _ (pruned.left_out who effect e k s p h) = sub-right (f (Assign who effect e k)) _ _ (some_kept s p h)
+
+-- so are its sites, and the offsets of its loops
+pub sites_kept : (s p : List Stmt) → Pruned s p → Sub (flat_map sites_in p) (flat_map sites_in s)
+sites_kept = some_kept sites_in sites_of (λ k. []) sites-If sites-Foreach (sites_of-Lit (Flag false)) (λ n. sites_in-Const n (Lit (Flag false)) ∙ sites_of-Lit (Flag false))
+
 pub loops_kept : (s p : List Stmt) → Pruned s p → Sub (flat_map loop_offsets p) (flat_map loop_offsets s)
-loops_kept _ _ pruned.none = none
-loops_kept _ _ (pruned.const n e s p h) = sub-append _ _ _ _ (sub-refl (loop_offsets (Const n e))) (loops_kept s p h)
-loops_kept _ _ (pruned.cond c a pa x px s p ha hx h) =
-    sub-append (loop_offsets (If c pa px)) (loop_offsets (If c a x)) _ _
-    (sub-by _ _ _ _ (loops-If c pa px) (loops-If c a x) (sub-append _ _ _ _ (loops_kept a pa ha) (loops_kept x px hx))) (loops_kept s p h)
-loops_kept _ _ (pruned.loop class at body pb s p hb h) =
-    sub-append (loop_offsets (Foreach class pb at)) (loop_offsets (Foreach class body at)) _ _
-    (sub-by _ _ _ _ (loops-Foreach class pb at) (loops-Foreach class body at) (keep at _ _ (loops_kept body pb hb))) (loops_kept s p h)
-loops_kept _ _ (pruned.away class at body s p h) =
-    sub-by _ _ _ _ (flat_map-append loop_offsets (places (flat_map constant_numbers body)) p ∙ ap (λ t. t ++ flat_map loop_offsets p) (loops-places (flat_map constant_numbers body))) refl
-    (sub-right (loop_offsets (Foreach class body at)) _ _ (loops_kept s p h))
-loops_kept _ _ (pruned.kept who effect e at s p h) = sub-append _ _ _ _ (sub-refl (loop_offsets (Assign who effect e at))) (loops_kept s p h)
-loops_kept _ _ (pruned.left_out who effect e at s p h) = sub-right (loop_offsets (Assign who effect e at)) _ _ (loops_kept s p h)
+loops_kept = some_kept loop_offsets (λ c. []) (λ k. k ∷ []) loops-If loops-Foreach refl (λ n. loop_offsets-Const n (Lit (Flag false)))
 
 -- a part has no more assignments than its block
 pub assignments_kept : (s p : List Stmt) → Pruned s p → sum (map assignments p) ≤ sum (map assignments s)

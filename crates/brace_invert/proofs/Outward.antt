@@ -1,6 +1,6 @@
 -- Blocks of an inverse program: values are said to the agents of loops alone.
 use Rattle.std.proofs.Common.{◌≡◌, ◌∙◌, refl, sym, subst, ℕ, List, [], ◌∷◌, ◌++◌, map, flat_map, sum, Bool, true, false, Option, Some, None, ◌==◌}
-use Rattle.std.specs.Prelude.{if◌then◌else◌, is_none, not}
+use Rattle.std.specs.Prelude.{if◌then◌else◌, is_none, not, ◌||◌}
 use Rattle.std.specs.Option.{option_and_then}
 use Rattle.std.specs.List.{list_any}
 use Rattle.brace_model.specs.declared.program.Value.TheVariants.{Flag}
@@ -12,7 +12,7 @@ use Rattle.brace_model.specs.declared.program.Expr.TheVariants.{Lit}
 use Rattle.brace_model.specs.declared.program.Stmt.{Stmt}
 use Rattle.brace_model.specs.declared.program.Stmt.TheVariants.{Const, If, Foreach, Assign}
 use Rattle.brace_model.specs.declared.program.Ty.{Ty}
-use Rattle.brace_model.specs.Typing.{Names, only, class_named, effect_named, takes, within_loop, scope_after}
+use Rattle.brace_model.specs.Typing.{Names, type_of, only, class_named, effect_named, takes, within_loop}
 use Rattle.brace_model.specs.Sites.{constant_numbers, assignments}
 use Rattle.brace_invert.specs.Split.{unread, places, inverse_of}
 use Rattle.brace_invert.specs.Range.{says_within}
@@ -20,7 +20,7 @@ use Rattle.brace_invert.proofs.PartEquations.{inverse_of-Const, inverse_of-If, i
 use Rattle.brace_invert.proofs.RangeLemmas.{says_within-If, says_within-Foreach, says_within-Assign}
 use Rattle.brace_model.proofs.Blocks as b
 use Rattle.brace_model.proofs.Blocks.{Plain}
-use Rattle.brace_invert.proofs.Typed.{After, after_split, formed_const, formed_if, formed_loop, formed_assign, only_where}
+use Rattle.brace_invert.proofs.Typed.{After, formed_const, formed_if, formed_loop, formed_assign, only_where}
 use Rattle.std.proofs.lemmas.Bool.{or_right, or_left}
 
 -- in how many loops a block stands
@@ -50,27 +50,17 @@ pub data Outward (deep : Bool) : Depth → List Stmt → Type 0 where
   far : (effect : ℕ) (e : Expr) (at : ℕ) (s : List Stmt) → deep ≡ true → Outward deep deepest s → Outward deep deepest (Assign Outer effect e at ∷ s)
   farthest : (effect : ℕ) (e : Expr) (at : ℕ) (s : List Stmt) → deep ≡ true → Outward deep deepest s → Outward deep deepest (Assign Inner effect e at ∷ s)
 
-outward_append : (deep : Bool) (k : Depth) (r s : List Stmt) → Outward deep k r → Outward deep k s → Outward deep k (r ++ s)
-outward_append deep _ _ s (none k) h = h
-outward_append deep _ _ s (const k n e r g) h = const k n e (r ++ s) (outward_append deep k r s g h)
-outward_append deep _ _ s (cond k c a d r ga gd g) h = cond k c a d (r ++ s) ga gd (outward_append deep k r s g h)
-outward_append deep _ _ s (loop class at body r gb g) h = loop class at body (r ++ s) gb (outward_append deep top r s g h)
-outward_append deep _ _ s (inner class at body r gb g) h = inner class at body (r ++ s) gb (outward_append deep middle r s g h)
-outward_append deep _ _ s (near effect e at r g) h = near effect e at (r ++ s) (outward_append deep middle r s g h)
-outward_append deep _ _ s (far effect e at r d g) h = far effect e at (r ++ s) d (outward_append deep deepest r s g h)
-outward_append deep _ _ s (farthest effect e at r d g) h = farthest effect e at (r ++ s) d (outward_append deep deepest r s g h)
-
 outward_unread : (deep : Bool) (k : Depth) (ns : List ℕ) → Outward deep k (map unread ns)
 outward_unread deep k [] = none k
 outward_unread deep k (n ∷ ns) = const k n (Lit (Flag false)) (map unread ns) (outward_unread deep k ns)
 
-outward_places : (deep : Bool) (k : Depth) (ns : List ℕ) → Outward deep k (places ns)
-outward_places deep k [] = none k
-outward_places deep k (n ∷ ns) = cond k (Lit (Flag false)) (map unread (n ∷ ns)) [] [] (outward_unread deep k (n ∷ ns)) (none k) (none k)
-
-outward_inner : (deep : Bool) (class at : ℕ) (body : List Stmt) (silent : Bool) → Outward deep deepest body → Outward deep middle (if silent then places (flat_map constant_numbers body) else Foreach class body at ∷ [])
-outward_inner deep class at body true h = outward_places deep middle (flat_map constant_numbers body)
-outward_inner deep class at body false h = inner class at body [] h (none middle)
+outward_inner : (deep : Bool) (class at : ℕ) (body s : List Stmt) (silent : Bool) → Outward deep deepest body → Outward deep middle s → Outward deep middle ((if silent then places (flat_map constant_numbers body) else Foreach class body at ∷ []) ++ s)
+outward_inner deep class at body s true h rest = outward_places (flat_map constant_numbers body)
+  where
+    outward_places : (ns : List ℕ) → Outward deep middle (places ns ++ s)
+    outward_places [] = rest
+    outward_places (n ∷ ns) = cond middle (Lit (Flag false)) (map unread (n ∷ ns)) [] s (outward_unread deep middle (n ∷ ns)) (none middle) rest
+outward_inner deep class at body s false h rest = inner class at body s h rest
 
 -- the names that are in scope at a depth
 pub record Placed (k : Depth) (names : Names) : Type 0 where
@@ -85,17 +75,15 @@ nobody names who effect o none_there taken = no_effect (class_named names who) n
     no_effect (Some n) e f t = absurd (cc)
 
 -- what an assignment to a loop's agent becomes
-one_statement : (deep : Bool) (k : Depth) (who : Who) (effect : ℕ) (e : Expr) (at : ℕ) (names last : Names) → Placed k names → scope_after (Assign who effect e at) names ≡ Some last
-    → (says_within (Assign who effect e at) (in_a_loop k) (in_an_inner k) ≡ true → deep ≡ true) → Outward deep k (inverse_of (Assign who effect e at) (in_a_loop k))
-one_statement deep k This effect e at names last placed formed allowed = subst (Outward deep k) (sym (inverse_of-Assign This effect e at (in_a_loop k))) (none k)
-one_statement deep top Outer effect e at names last placed formed allowed = absurd (nobody names Outer effect _ placed.outer (formed_assign Outer effect e at names last formed).taken)
-one_statement deep top Inner effect e at names last placed formed allowed = absurd (nobody names Inner effect _ placed.inner_one (formed_assign Inner effect e at names last formed).taken)
-one_statement deep middle Outer effect e at names last placed formed allowed = subst (Outward deep middle) (sym (inverse_of-Assign Outer effect e at true)) (near effect e at [] (none middle))
-one_statement deep middle Inner effect e at names last placed formed allowed = absurd (nobody names Inner effect _ placed.inner_one (formed_assign Inner effect e at names last formed).taken)
-one_statement deep deepest Outer effect e at names last placed formed allowed =
-    subst (Outward deep deepest) (sym (inverse_of-Assign Outer effect e at true)) (far effect e at [] (allowed (says_within-Assign Outer effect e at true true)) (none deepest))
-one_statement deep deepest Inner effect e at names last placed formed allowed =
-    subst (Outward deep deepest) (sym (inverse_of-Assign Inner effect e at true)) (farthest effect e at [] (allowed (says_within-Assign Inner effect e at true true)) (none deepest))
+one_statement : (deep : Bool) (k : Depth) (who : Who) (effect : ℕ) (e : Expr) (at : ℕ) (s : List Stmt) (names : Names) → Placed k names → takes (effect_named names who effect) (type_of e names) ≡ true
+    → (says_within (Assign who effect e at) (in_a_loop k) (in_an_inner k) ≡ true → deep ≡ true) → Outward deep k s → Outward deep k (inverse_of (Assign who effect e at) (in_a_loop k) ++ s)
+one_statement deep k This effect e at s names placed taken allowed rest = rw (inverse_of-Assign This effect e at (in_a_loop k)) rest
+one_statement deep top Outer effect e at s names placed taken allowed rest = absurd (nobody names Outer effect _ placed.outer taken)
+one_statement deep top Inner effect e at s names placed taken allowed rest = absurd (nobody names Inner effect _ placed.inner_one taken)
+one_statement deep middle Outer effect e at s names placed taken allowed rest = rw (inverse_of-Assign Outer effect e at true) (near effect e at s rest)
+one_statement deep middle Inner effect e at s names placed taken allowed rest = absurd (nobody names Inner effect _ placed.inner_one taken)
+one_statement deep deepest Outer effect e at s names placed taken allowed rest = rw (inverse_of-Assign Outer effect e at true) (far effect e at s (allowed (says_within-Assign Outer effect e at true true)) rest)
+one_statement deep deepest Inner effect e at s names placed taken allowed rest = rw (inverse_of-Assign Inner effect e at true) (farthest effect e at s (allowed (says_within-Assign Inner effect e at true true)) rest)
 
 -- a scope one loop further in
 chosen_within : (first second : Bool) (x y inside : Names) → (if first then Some x else only second y) ≡ Some inside → first ≡ true → x ≡ inside
@@ -131,41 +119,28 @@ MaySay deep k s = list_any (λ x. says_within x (in_a_loop k) (in_an_inner k)) s
 pub outward : (deep : Bool) (s : List Stmt) → Plain s → (k : Depth) (names last : Names) → Placed k names → After s names last → MaySay deep k s → Outward deep k (flat_map (λ x. inverse_of x (in_a_loop k)) s)
 outward deep _ b.none k names last placed e allowed = none k
 outward deep _ (b.const n x s h) k names last placed e allowed =
-    let (mid, first, rest) = after_split (Const n x) s names last e in
-    let f = formed_const n x names mid first in
-    outward_append deep k (inverse_of (Const n x) (in_a_loop k)) _ (subst (Outward deep k) (sym (inverse_of-Const n x (in_a_loop k))) (const k n x [] (none k)))
-    (outward deep s h k mid last (subst (Placed k) (sym f.bound) (record { outer = placed.outer; inner_one = placed.inner_one })) rest
-    (λ y. allowed (or_right (says_within (Const n x) (in_a_loop k) (in_an_inner k)) _ y)))
+    let f = formed_const n x s names last e in
+    rw (inverse_of-Const n x (in_a_loop k)) (const k n x _ (outward deep s h k _ last (record { outer = placed.outer; inner_one = placed.inner_one }) f.rest
+    (λ y. allowed (or_right (says_within (Const n x) (in_a_loop k) (in_an_inner k)) _ y))))
 outward deep _ (b.cond c a d s ha hd h) k names last placed e allowed =
-    let (mid, first, rest) = after_split (If c a d) s names last e in
-    let f = formed_if c a d names mid first in
-    outward_append deep k (inverse_of (If c a d) (in_a_loop k)) _ (subst (Outward deep k) (sym (inverse_of-If c a d (in_a_loop k)))
-    (cond k c _ _ []
-    (outward deep a ha k names f.first.0 placed f.first.1 (λ y. allowed (or_left (says_within (If c a d) (in_a_loop k) (in_an_inner k)) _ (says_within-If c a d (in_a_loop k) (in_an_inner k) ∙ or_left _ _ y))))
-    (outward deep d hd k names f.second.0 placed f.second.1 (λ y. allowed (or_left (says_within (If c a d) (in_a_loop k) (in_an_inner k)) _ (says_within-If c a d (in_a_loop k) (in_an_inner k) ∙ or_right _ _ y))))
-    (none k)))
-    (outward deep s h k mid last (subst (Placed k) f.closed placed) rest (λ y. allowed (or_right (says_within (If c a d) (in_a_loop k) (in_an_inner k)) _ y)))
+    let f = formed_if c a d s names last e in
+    let here = λ (y : (list_any (λ x. says_within x (in_a_loop k) (in_an_inner k)) a || list_any (λ x. says_within x (in_a_loop k) (in_an_inner k)) d) ≡ true). allowed (or_left (says_within (If c a d) (in_a_loop k) (in_an_inner k)) _ (says_within-If c a d (in_a_loop k) (in_an_inner k) ∙ y)) in
+    rw (inverse_of-If c a d (in_a_loop k)) (cond k c _ _ _ (outward deep a ha k names f.first.0 placed f.first.1 (λ y. here (or_left _ _ y))) (outward deep d hd k names f.second.0 placed f.second.1 (λ y. here (or_right _ _ y)))
+    (outward deep s h k names last placed f.rest (λ y. allowed (or_right (says_within (If c a d) (in_a_loop k) (in_an_inner k)) _ y))))
 outward deep _ (b.loop class at body s hb h) top names last placed e allowed =
-    let (mid, first, rest) = after_split (Foreach class body at) s names last e in
-    let f = formed_loop class body at names mid first in
-    outward_append deep top (inverse_of (Foreach class body at) false) _ (subst (Outward deep top) (sym (inverse_of-Foreach class body at false))
-    (loop class at _ [] (outward deep body hb middle f.inside f.body_is_formed.0 (enter_first names f.inside class placed f.entered) f.body_is_formed.1
-    (λ y. allowed (or_left (says_within (Foreach class body at) false false) _ (says_within-Foreach class body at false false ∙ y)))) (none top)))
-    (outward deep s h top mid last (subst (Placed top) f.closed placed) rest (λ y. allowed (or_right (says_within (Foreach class body at) false false) _ y)))
+    let f = formed_loop class body at s names last e in
+    rw (inverse_of-Foreach class body at false) (loop class at _ _ (outward deep body hb middle f.inside f.body_is_formed.0 (enter_first names f.inside class placed f.entered) f.body_is_formed.1
+    (λ y. allowed (or_left (says_within (Foreach class body at) false false) _ (says_within-Foreach class body at false false ∙ y))))
+    (outward deep s h top names last placed f.rest (λ y. allowed (or_right (says_within (Foreach class body at) false false) _ y))))
 outward deep _ (b.loop class at body s hb h) middle names last placed e allowed =
-    let (mid, first, rest) = after_split (Foreach class body at) s names last e in
-    let f = formed_loop class body at names mid first in
-    outward_append deep middle (inverse_of (Foreach class body at) true) _ (subst (Outward deep middle) (sym (inverse_of-Foreach class body at true))
-    (outward_inner deep class at _ (sum (map assignments (flat_map (λ x. inverse_of x true) body)) == 0) (outward deep body hb deepest f.inside f.body_is_formed.0 (enter_second names f.inside class placed f.entered) f.body_is_formed.1
-    (λ y. allowed (or_left (says_within (Foreach class body at) true false) _ (says_within-Foreach class body at true false ∙ y))))))
-    (outward deep s h middle mid last (subst (Placed middle) f.closed placed) rest (λ y. allowed (or_right (says_within (Foreach class body at) true false) _ y)))
+    let f = formed_loop class body at s names last e in
+    rw (inverse_of-Foreach class body at true) (outward_inner deep class at _ _ (sum (map assignments (flat_map (λ x. inverse_of x true) body)) == 0)
+    (outward deep body hb deepest f.inside f.body_is_formed.0 (enter_second names f.inside class placed f.entered) f.body_is_formed.1
+    (λ y. allowed (or_left (says_within (Foreach class body at) true false) _ (says_within-Foreach class body at true false ∙ y))))
+    (outward deep s h middle names last placed f.rest (λ y. allowed (or_right (says_within (Foreach class body at) true false) _ y))))
 outward deep _ (b.loop class at body s hb h) deepest names last placed e allowed =
-    let (mid, first, rest) = after_split (Foreach class body at) s names last e in
-    let f = formed_loop class body at names mid first in
-    absurd (enter_never names f.inside class placed f.entered)
+    let f = formed_loop class body at s names last e in absurd (enter_never names f.inside class placed f.entered)
 outward deep _ (b.say who effect x at s h) k names last placed e allowed =
-    let (mid, first, rest) = after_split (Assign who effect x at) s names last e in
-    let f = formed_assign who effect x at names mid first in
-    outward_append deep k (inverse_of (Assign who effect x at) (in_a_loop k)) _
-    (one_statement deep k who effect x at names mid placed first (λ y. allowed (or_left (says_within (Assign who effect x at) (in_a_loop k) (in_an_inner k)) _ y)))
-    (outward deep s h k mid last (subst (Placed k) f.closed placed) rest (λ y. allowed (or_right (says_within (Assign who effect x at) (in_a_loop k) (in_an_inner k)) _ y)))
+    let f = formed_assign who effect x at s names last e in
+    one_statement deep k who effect x at _ names placed f.taken (λ y. allowed (or_left (says_within (Assign who effect x at) (in_a_loop k) (in_an_inner k)) _ y))
+    (outward deep s h k names last placed f.rest (λ y. allowed (or_right (says_within (Assign who effect x at) (in_a_loop k) (in_an_inner k)) _ y)))

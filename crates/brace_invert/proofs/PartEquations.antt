@@ -1,6 +1,7 @@
 -- The two parts of a statement of each kind.
-use Rattle.std.proofs.Common.{◌≡◌, ◌∙◌, refl, sym, ap, ℕ, List, [], ◌∷◌, ◌++◌, map, flat_map, Bool, true, false, not, ◌==◌, ◌<◌, ◌≤◌, length, get_or, sum, arith}
+use Rattle.std.proofs.Common.{◌≡◌, ◌∙◌, sym, ap, ap₂, ℕ, List, [], ◌∷◌, map, flat_map, Bool, true, false, not, ◌==◌, ◌<◌, ◌≤◌, length, get_or, sum, arith}
 use Rattle.std.specs.List.{sum_by}
+use Rattle.std.proofs.lemmas.List.Folds.{flat_map-map}
 use Rattle.brace_model.specs.declared.program.Who.{Who}
 use Rattle.brace_model.specs.declared.program.Expr.{Expr}
 use Rattle.brace_model.specs.declared.program.Stmt.{Stmt}
@@ -11,25 +12,14 @@ use Rattle.std.proofs.lemmas.List.Sums.{get_or-le-sum_by, sum-map}
 use Rattle.brace_model.proofs.LawEquations.{assignments-Const, assignments-If, assignments-Foreach, assignments-Assign}
 use Rattle.brace_invert.specs.Split.{forward_step, forward_of, inner_loop, loop_part, inverse_step, inverse_of}
 
--- lists of what a function gives, joined
-pub joined : {A B : Type 0} (f : A → List B) (xs : List A) → flat_map (λ (b : List B). b) (map f xs) ≡ flat_map f xs
-joined f [] = refl
-joined f (x ∷ xs) = ap (λ t. f x ++ t) (joined f xs)
-
-pub joined_at : {A B I : Type 0} (f : A → I → List B) (i : I) (xs : List A) → flat_map (λ (b : I → List B). b i) (map f xs) ≡ flat_map (λ x. f x i) xs
-joined_at f i [] = refl
-joined_at f i (x ∷ xs) = ap (λ t. f x i ++ t) (joined_at f i xs)
-
 pub forward_of-Const : (n : ℕ) (e : Expr) → forward_of (Const n e) ≡ Const n e ∷ []
 forward_of-Const n e = fold-Const forward_step n e
 
 pub forward_of-If : (c : Expr) (a b : List Stmt) → forward_of (If c a b) ≡ If c (flat_map forward_of a) (flat_map forward_of b) ∷ []
-forward_of-If c a b = fold-If forward_step c a b
-    ∙ ap (λ p. If c p (flat_map (λ s. s) (map forward_of b)) ∷ []) (joined forward_of a) ∙ ap (λ p. If c (flat_map forward_of a) p ∷ []) (joined forward_of b)
+forward_of-If c a b = fold-If forward_step c a b ∙ ap₂ (λ p q. If c p q ∷ []) (flat_map-map (λ s. s) forward_of a) (flat_map-map (λ s. s) forward_of b)
 
 pub forward_of-Foreach : (class : ℕ) (body : List Stmt) (at : ℕ) → forward_of (Foreach class body at) ≡ Foreach class (flat_map forward_of body) at ∷ []
-forward_of-Foreach class body at = fold-Foreach forward_step class body at
-    ∙ ap (λ p. Foreach class p at ∷ []) (joined forward_of body)
+forward_of-Foreach class body at = fold-Foreach forward_step class body at ∙ ap (λ p. Foreach class p at ∷ []) (flat_map-map (λ s. s) forward_of body)
 
 pub forward_of-Assign : (who : Who) (effect : ℕ) (e : Expr) (at : ℕ) → forward_of (Assign who effect e at) ≡ forward_step (layer.Assign who effect e at)
 forward_of-Assign who effect e at = fold-Assign forward_step who effect e at
@@ -39,11 +29,10 @@ inverse_of-Const n e in_loop = ap (λ f. f in_loop) (fold-Const inverse_step n e
 
 pub inverse_of-If : (c : Expr) (a b : List Stmt) (in_loop : Bool) → inverse_of (If c a b) in_loop ≡ If c (flat_map (λ s. inverse_of s in_loop) a) (flat_map (λ s. inverse_of s in_loop) b) ∷ []
 inverse_of-If c a b in_loop = ap (λ f. f in_loop) (fold-If inverse_step c a b)
-    ∙ ap (λ p. If c p (flat_map (λ s. s in_loop) (map inverse_of b)) ∷ []) (joined_at inverse_of in_loop a) ∙ ap (λ p. If c (flat_map (λ s. inverse_of s in_loop) a) p ∷ []) (joined_at inverse_of in_loop b)
+    ∙ ap₂ (λ p q. If c p q ∷ []) (flat_map-map (λ s. s in_loop) inverse_of a) (flat_map-map (λ s. s in_loop) inverse_of b)
 
 pub inverse_of-Foreach : (class : ℕ) (body : List Stmt) (at : ℕ) (in_loop : Bool) → inverse_of (Foreach class body at) in_loop ≡ loop_part in_loop class (flat_map (λ s. inverse_of s true) body) at
-inverse_of-Foreach class body at in_loop = ap (λ f. f in_loop) (fold-Foreach inverse_step class body at)
-    ∙ ap (λ p. loop_part in_loop class p at) (joined_at inverse_of true body)
+inverse_of-Foreach class body at in_loop = ap (λ f. f in_loop) (fold-Foreach inverse_step class body at) ∙ ap (λ p. loop_part in_loop class p at) (flat_map-map (λ s. s true) inverse_of body)
 
 pub inverse_of-Assign : (who : Who) (effect : ℕ) (e : Expr) (at : ℕ) (in_loop : Bool) → inverse_of (Assign who effect e at) in_loop ≡ inverse_step (layer.Assign who effect e at) in_loop
 inverse_of-Assign who effect e at in_loop = ap (λ f. f in_loop) (fold-Assign inverse_step who effect e at)
@@ -52,8 +41,7 @@ inverse_of-Assign who effect e at in_loop = ap (λ f. f in_loop) (fold-Assign in
 pub inverse_if : (s : Stmt) (in_loop : Bool) (c d : Expr) (a b p q : List Stmt) → s ≡ If d a b → c ≡ d → p ≡ flat_map (λ x. inverse_of x in_loop) a → q ≡ flat_map (λ x. inverse_of x in_loop) b
     → If c p q ∷ [] ≡ inverse_of s in_loop
 inverse_if s in_loop c d a b p q is same is_p is_q =
-    ap (λ x. If x p q ∷ []) same ∙ ap (λ x. If d x q ∷ []) is_p ∙ ap (λ x. If d (flat_map (λ y. inverse_of y in_loop) a) x ∷ []) is_q ∙ sym (inverse_of-If d a b in_loop)
-    ∙ ap (λ x. inverse_of x in_loop) (sym is)
+    ap (λ x. If x p q ∷ []) same ∙ ap₂ (λ x y. If d x y ∷ []) is_p is_q ∙ sym (inverse_of-If d a b in_loop) ∙ ap (λ x. inverse_of x in_loop) (sym is)
 
 pub inverse_inner : (class : ℕ) (body p : List Stmt) (at : ℕ) (in_loop : Bool) → p ≡ flat_map (λ x. inverse_of x true) body → in_loop ≡ true → inner_loop class p at ≡ inverse_of (Foreach class body at) in_loop
 inverse_inner class body p at in_loop is_p holds = ap (λ x. inner_loop class x at) is_p ∙ sym (inverse_of-Foreach class body at true) ∙ ap (inverse_of (Foreach class body at)) (sym holds)

@@ -46,48 +46,28 @@ faults-then (Err s) next xs ys h g stop e = Contains-append_left xs ys stop.site
 own_site : (k : ℕ) (stop : Stop) → k ≡ stop.site → Contains (k ∷ []) stop.site
 own_site k stop e = (0, omega arith, e)
 
-abbrev failing : Stop → Worth
-failing s = Err s
-
-same_stop : (s t : Stop) → failing s ≡ failing t → s ≡ t
-same_stop s t e = cc
-
-site_of : (k : ℕ) (kind : Kind) (stop : Stop) → failing (record { site = k; kind = kind }) ≡ failing stop → k ≡ stop.site
-site_of k kind stop e = ap (λ s. s.site) (same_stop (record { site = k; kind = kind }) stop e)
-
 made_at : (as_value : ℤ → Value) (k : ℕ) (r : Result ℤ Kind) → FaultsAt (made as_value (Some k) r) (k ∷ [])
 made_at as_value k (Ok n) stop e = absurd (cc)
-made_at as_value k (Err kind) stop e = own_site k stop (site_of k kind stop e)
+made_at as_value k (Err kind) stop e = own_site k stop (let same : record { site = k; kind = kind } ≡ stop = cc in ap (λ (s : Stop). s.site) same)
 
-faults_where : (faults : Bool) (site : Option ℕ) (v : Worth) → is_sited faults site ≡ true → (faults ≡ false → FaultsAt v []) → ((k : ℕ) → site ≡ Some k → FaultsAt v (k ∷ [])) → FaultsAt v (option_to_list site)
-faults_where true None v e f g = absurd (cc)
-faults_where true (Some k) v e f g = g k refl
-faults_where false None v e f g = f refl
-faults_where false (Some k) v e f g = absurd (cc)
+made_sited : (as_value : ℤ → Value) (site : Option ℕ) (r : Result ℤ Kind) → is_sited true site ≡ true → FaultsAt (made as_value site r) (option_to_list site)
+made_sited as_value None r e = absurd (cc)
+made_sited as_value (Some k) r e = made_at as_value k r
 
 unary_at : (op : UnOp) (site : Option ℕ) (v : Value) → is_sited (unary_faults op) site ≡ true → FaultsAt (unary op site v) (option_to_list site)
-unary_at un.Neg None v e = absurd (cc)
-unary_at un.Neg (Some k) v e = made_at _ k _
+unary_at un.Neg site v e = made_sited _ site _ e
 unary_at un.Not site v e = fine _ _
-unary_at un.Abs None v e = absurd (cc)
-unary_at un.Abs (Some k) v e = made_at _ k _
-unary_at un.Sqrt None v e = absurd (cc)
-unary_at un.Sqrt (Some k) v e = made_at _ k _
-unary_at un.ToFixed None v e = absurd (cc)
-unary_at un.ToFixed (Some k) v e = made_at _ k _
+unary_at un.Abs site v e = made_sited _ site _ e
+unary_at un.Sqrt site v e = made_sited _ site _ e
+unary_at un.ToFixed site v e = made_sited _ site _ e
 unary_at un.Trunc site v e = fine _ _
 
 strict_at : (op : BinOp) (site : Option ℕ) (v x : Value) → is_sited (binary_faults op) site ≡ true → FaultsAt (strict op site v x) (option_to_list site)
-strict_at bin.Add None v x e = absurd (cc)
-strict_at bin.Add (Some k) v x e = made_at _ k _
-strict_at bin.Sub None v x e = absurd (cc)
-strict_at bin.Sub (Some k) v x e = made_at _ k _
-strict_at bin.Mul None v x e = absurd (cc)
-strict_at bin.Mul (Some k) v x e = made_at _ k _
-strict_at bin.Div None v x e = absurd (cc)
-strict_at bin.Div (Some k) v x e = made_at _ k _
-strict_at bin.Rem None v x e = absurd (cc)
-strict_at bin.Rem (Some k) v x e = made_at _ k _
+strict_at bin.Add site v x e = made_sited _ site _ e
+strict_at bin.Sub site v x e = made_sited _ site _ e
+strict_at bin.Mul site v x e = made_sited _ site _ e
+strict_at bin.Div site v x e = made_sited _ site _ e
+strict_at bin.Rem site v x e = made_sited _ site _ e
 strict_at bin.Lt site v x e = fine _ _
 strict_at bin.Le site v x e = fine _ _
 strict_at bin.Gt site v x e = fine _ _

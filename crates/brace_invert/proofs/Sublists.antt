@@ -3,6 +3,7 @@ use Rattle.std.proofs.Common.{◌≡◌, refl, sym, subst, ℕ, zero, suc, ◌+�
 use Rattle.std.specs.Prelude.{IsTrue, ◌&&◌, nat_eq, slice_index}
 use Rattle.std.specs.List.{All, AllPairs, Contains, IsDistinct, list_all}
 use Rattle.std.specs.List.Sorted.{IsStrictlyIncreasing}
+use Rattle.std.proofs.lemmas.List.Sums.{AllPass-from_list_all, list_all-from_AllPass}
 use Rattle.std.proofs.lemmas.List.Kept.{AllPairs-from_increasing}
 use Rattle.std.proofs.lemmas.List.Elements.{All-nil, All-cons, All-head, All-tail, All-contains, All-contains_itself, All-from_recursion, recursion_from_All, Contains-append_right}
 use Rattle.std.proofs.lemmas.Map.Keys.{IsDistinct-head, IsDistinct-tail, IsDistinct-cons}
@@ -39,18 +40,8 @@ sub-All P _ _ (keep x xs ys h) all = All-cons P x xs (All-head P x ys all) (sub-
 pub sub-Contains : (xs ys : List ℕ) (x : ℕ) → Sub xs ys → Contains xs x → Contains ys x
 sub-Contains xs ys x h within = All-contains (Contains ys) xs x (sub-All (Contains ys) xs ys h (All-contains_itself ys)) within
 
-both : (p q : Bool) → IsTrue (p && q) → IsTrue p × IsTrue q
-both true q h = (refl, h)
-both false q h = absurd (cc)
-
-and : (p q : Bool) → IsTrue p → IsTrue q → IsTrue (p && q)
-and true q g h = h
-and false q g h = absurd (cc)
-
 pub sub-list_all : (p : ℕ → Bool) (xs ys : List ℕ) → Sub xs ys → IsTrue (list_all p ys) → IsTrue (list_all p xs)
-sub-list_all p _ _ none all = all
-sub-list_all p _ _ (skip y xs ys h) all = sub-list_all p xs ys h (both (p y) (list_all p ys) all).1
-sub-list_all p _ _ (keep x xs ys h) all = let (here, rest) = both (p x) (list_all p ys) all in and (p x) (list_all p xs) here (sub-list_all p xs ys h rest)
+sub-list_all p xs ys h all = list_all-from_AllPass p xs (sub-All (λ x. p x ≡ true) xs ys h (AllPass-from_list_all p ys all))
 
 pub sub-IsDistinct : (xs ys : List ℕ) → Sub xs ys → IsDistinct nat_eq ys → IsDistinct nat_eq xs
 sub-IsDistinct _ _ none all = all

@@ -1,10 +1,9 @@
 -- Where a block faults; and that a part of it faults as the block does, or behind a fault of the block.
-use Rattle.std.proofs.Common.{◌≡◌, ◌∙◌, refl, sym, ap, subst, ℕ, List, [], ◌∷◌, ◌++◌, map, flat_map, true, false, Some, Ok, Err, ⊎_elim, inl, inr}
+use Rattle.std.proofs.Common.{◌≡◌, ◌∙◌, refl, sym, ap, subst, ℕ, List, [], ◌∷◌, ◌++◌, flat_map, true, false, Some, ⊎_elim, inl, inr}
 use Rattle.std.specs.List.{Contains}
 use Rattle.std.proofs.lemmas.List.{append-nil}
+use Rattle.std.proofs.lemmas.List.Folds.{flat_map-map}
 use Rattle.std.proofs.lemmas.List.Elements.{Contains-append_left, Contains-append_right, Contains-append_cases}
-use Rattle.brace_model.specs.declared.program.Value.{Value}
-use Rattle.brace_model.specs.declared.program.Value.TheVariants.{Int, Fixed, Flag}
 use Rattle.brace_model.specs.declared.program.Expr.{Expr}
 use Rattle.brace_model.specs.declared.program.Stmt.{Stmt}
 use Rattle.brace_model.specs.declared.program.Stmt.TheVariants.{Const, If, Foreach, Assign}
@@ -12,8 +11,8 @@ use Rattle.brace_model.specs.declared.program.Program.{Program}
 use Rattle.brace_model.specs.declared.fault.Fault.{Fault}
 use Rattle.brace_model.specs.declared.fault.Phase.TheVariants.{Query}
 use Rattle.brace_model.specs.declared.world.Agent.{Agent}
-use Rattle.brace_model.specs.Value.{Scope, Worth, value}
-use Rattle.brace_model.specs.Query.{Deed, silent, halted, query_fault, deed_of, followed_by, inside, chosen, seen_by, statement}
+use Rattle.brace_model.specs.Value.{Scope, value}
+use Rattle.brace_model.specs.Query.{Deed, silent, halted, query_fault, followed_by, inside, seen_by, statement}
 use Rattle.brace_model.specs.Sites.{sites_of, sites_in, constant_numbers}
 use Rattle.brace_model.specs.Typing.{Names, type_of}
 use Rattle.brace_model.proofs.ValueEquations.{statement-If, statement-Foreach}
@@ -27,8 +26,8 @@ use Rattle.brace_invert.proofs.Pruned.{Pruned}
 use Rattle.brace_invert.proofs.Numbers.{sites-If, sites-Foreach, sites_kept}
 use Rattle.brace_invert.proofs.Typed.{After, renamed, after_split, after_cons, formed_const, formed_if, formed_loop, formed_assign, part_formed}
 use Rattle.brace_invert.proofs.Sites.{none_within, only_one, value_sited}
-use Rattle.brace_invert.proofs.Runs.{if_deed, loop_deed, Goes, goes_itself, goes_run, head_if, head_loop, head_away, head_say, places_run}
-use Rattle.brace_model.proofs.Deeds.{run, goes_to, stops_at, by_stop, never_both, grown, Halts, halts_one, inside_either}
+use Rattle.brace_invert.proofs.Runs.{by_condition, Goes, goes_itself, goes_run, head_if, head_loop, head_away, head_say, places_run}
+use Rattle.brace_model.proofs.Deeds.{run, goes_to, stops_at, by_stop, never_both, grown, halts_one, inside_either}
 use Rattle.brace_model.proofs.Simulation.{Tie, IsTie, Sim, Stops, sim_none, sim_const, sim_if, sim_loop, sim_say, over_same}
 use Rattle.brace_model.specs.declared.program.Ty.{Ty}
 
@@ -73,31 +72,27 @@ module _ (m : Program) (w : List Agent) (base : Scope) (all : List ℕ) where
   sited : (s : List Stmt) → Plain s → (names last : Names) → After s names last → AreSited (flat_map sites_in s) → Finds s
   sited _ b.none names last e at = sim_none Found found_tie m m w w IsBased (λ scope n v at. at)
   sited _ (b.const n x s h) names last e at =
-      let (mid, first, rest) = after_split (Const n x) s names last e in
-      let f = formed_const n x names mid first in
+      let f = formed_const n x s names last e in
       sim_const Found found_tie m m w w IsBased (λ scope n v at. at) n x s s (finds_at x names f.type f.typed (subst AreSited (sites_in-Const n x) (left_sited (sites_in (Const n x)) _ at)))
-      (sited s h mid last rest (right_sited (sites_in (Const n x)) _ at))
+      (sited s h _ last f.rest (right_sited (sites_in (Const n x)) _ at))
   sited _ (b.cond c a d s ha hd h) names last e at =
-      let (mid, first, rest) = after_split (If c a d) s names last e in
-      let f = formed_if c a d names mid first in
+      let f = formed_if c a d s names last e in
       let here = subst AreSited (sites-If c a d) (left_sited (sites_in (If c a d)) _ at) in
       let blocks = right_sited (sites_of c) _ here in
       sim_if Found found_tie m m w w IsBased (λ scope n v at. at) c a d s a d s (finds_at c names _ f.condition (left_sited (sites_of c) _ here))
       (sited a ha names f.first.0 f.first.1 (left_sited (flat_map sites_in a) _ blocks)) (sited d hd names f.second.0 f.second.1 (right_sited (flat_map sites_in a) _ blocks))
-      (sited s h mid last rest (right_sited (sites_in (If c a d)) _ at))
+      (sited s h names last f.rest (right_sited (sites_in (If c a d)) _ at))
   sited _ (b.loop class here body s hb h) names last e at =
-      let (mid, first, rest) = after_split (Foreach class body here) s names last e in
-      let f = formed_loop class body here names mid first in
+      let f = formed_loop class body here s names last e in
       let inner = sited body hb f.inside f.body_is_formed.0 f.body_is_formed.1 (subst AreSited (sites-Foreach class body here) (left_sited (sites_in (Foreach class body here)) _ at)) in
       sim_loop Found found_tie m m w w IsBased (λ scope n v at. at) class here body s body s
       (λ scope is. over_same Found found_tie (λ x. run m w body (inside scope x)) (λ x. run m w body (inside scope x)) (seen_by m w scope.this class) (λ x there. (inner (inside scope x) (inside_either IsBased scope x is is)).tie))
-      (sited s h mid last rest (right_sited (sites_in (Foreach class body here)) _ at))
+      (sited s h names last f.rest (right_sited (sites_in (Foreach class body here)) _ at))
   sited _ (b.say who effect x here s h) names last e at =
-      let (mid, first, rest) = after_split (Assign who effect x here) s names last e in
-      let f = formed_assign who effect x here names mid first in
+      let f = formed_assign who effect x here s names last e in
       sim_say Found found_tie m m w w IsBased (λ scope n v at. at) who effect x here s s
       (finds_at x names f.type f.typed (subst AreSited (sites_in-Assign who effect x here) (left_sited (sites_in (Assign who effect x here)) _ at)))
-      (λ scope is v y h. none_within _ y h) (sited s h mid last rest (right_sited (sites_in (Assign who effect x here)) _ at))
+      (λ scope is v y h. none_within _ y h) (sited s h names last f.rest (right_sited (sites_in (Assign who effect x here)) _ at))
 
 pub sited_run : (m : Program) (w : List Agent) (s : List Stmt) (names last : Names) → After s names last → (scope : Scope) (g : Fault) → Contains (run m w s scope).faults g → IsAt scope (flat_map sites_in s) g
 sited_run m w s names last e scope = (sited m w scope (flat_map sites_in s) s (plain s) names last e (λ k h. h) scope (refl, refl)).tie
@@ -112,15 +107,12 @@ sited_one m w x s names last e scope g h =
 abbrev pub Foretold : List Fault → List Fault → Type 0
 Foretold faults parts = (g : Fault) → Contains parts g → IsForeseen faults g
 
-foreseen_left : (p q : List Fault) (g : Fault) → IsForeseen p g → IsForeseen (p ++ q) g
-foreseen_left p q g h = ⊎_elim (λ (x : Contains p g). inl (Contains-append_left p q g x)) (λ (x : (f : Fault) × Contains p f × ComesAfter f g). inr (x.0, Contains-append_left p q x.0 x.1, x.2)) h
+foreseen_more : (p q : List Fault) (g : Fault) → ((x : Fault) → Contains p x → Contains q x) → IsForeseen p g → IsForeseen q g
+foreseen_more p q g more h = ⊎_elim (λ (x : Contains p g). inl (more g x)) (λ (x : (f : Fault) × Contains p f × ComesAfter f g). inr (x.0, more x.0 x.1, x.2)) h
 
-foreseen_right : (p q : List Fault) (g : Fault) → IsForeseen q g → IsForeseen (p ++ q) g
-foreseen_right p q g h = ⊎_elim (λ (x : Contains q g). inl (Contains-append_right p q g x)) (λ (x : (f : Fault) × Contains q f × ComesAfter f g). inr (x.0, Contains-append_right p q x.0 x.1, x.2)) h
-
-pub foretold_append : (p q fp fq : List Fault) → Foretold p fp → Foretold q fq → Foretold (p ++ q) (fp ++ fq)
-foretold_append p q fp fq h k g w =
-    ⊎_elim (λ (x : Contains fp g). foreseen_left p q g (h g x)) (λ (x : Contains fq g). foreseen_right p q g (k g x)) (Contains-append_cases fp fq g w)
+foretold_append : (p q fp fq : List Fault) → Foretold p fp → Foretold q fq → Foretold (p ++ q) (fp ++ fq)
+foretold_append p q fp fq h k g w = ⊎_elim (λ (x : Contains fp g). foreseen_more p (p ++ q) g (Contains-append_left p q) (h g x))
+    (λ (x : Contains fq g). foreseen_more q (p ++ q) g (Contains-append_right p q) (k g x)) (Contains-append_cases fp fq g w)
 
 foretold_itself : (p : List Fault) → Foretold p p
 foretold_itself p g w = inl w
@@ -135,128 +127,82 @@ Behind d p np = d.stopped ≡ true → p.stopped ≡ false → Foretold d.faults
 foretold_then : (d p : Deed) (nd np : Scope → Deed) → Foretold d.faults p.faults → Goes d p → Behind d p np → ((scope : Scope) → Foretold (nd scope).faults (np scope).faults)
     → Foretold (followed_by d nd).faults (followed_by p np).faults
 foretold_then d p nd np h goes behind next = by_stop (Foretold (followed_by d nd).faults (followed_by p np).faults) d
-    (λ stopped. subst (λ x. Foretold x.faults (followed_by p np).faults) (sym (stops_at d nd stopped)) (by_stop (Foretold d.faults (followed_by p np).faults) p
-    (λ ended. subst (λ x. Foretold d.faults x.faults) (sym (stops_at p np ended)) h)
-    (λ on. subst (λ x. Foretold d.faults x.faults) (sym (goes_to p np on)) (λ g w.
-    ⊎_elim (λ (x : Contains p.faults g). h g x) (λ (x : Contains (np p.scope).faults g). behind stopped on g x) (Contains-append_cases p.faults (np p.scope).faults g w)))))
-    (λ on. subst (λ x. Foretold x.faults (followed_by p np).faults) (sym (goes_to d nd on))
-    (subst (λ x. Foretold (d.faults ++ (nd d.scope).faults) x.faults) (sym (goes_to p np (goes.on on)))
-    (subst (λ s. Foretold (d.faults ++ (nd d.scope).faults) (p.faults ++ (np s).faults)) (sym (goes.scope on)) (foretold_append d.faults (nd d.scope).faults p.faults (np d.scope).faults h (next d.scope)))))
+    (λ stopped. rw (stops_at d nd stopped) (by_stop (Foretold d.faults (followed_by p np).faults) p
+    (λ ended. rw (stops_at p np ended) h)
+    (λ on. rw (goes_to p np on) (λ g w. ⊎_elim (λ (x : Contains p.faults g). h g x) (λ (x : Contains (np p.scope).faults g). behind stopped on g x) (Contains-append_cases p.faults (np p.scope).faults g w)))))
+    (λ on. let too = goes.on on in let same = goes.scope on in
+    rw (goes_to d nd on, goes_to p np too, same) (foretold_append d.faults (nd d.scope).faults p.faults (np d.scope).faults h (next d.scope)))
 
--- a deed that stopped is never one that goes on
-never_behind : (d : Deed) (np : Scope → Deed) → Behind d d np
-never_behind d np stopped on = never_both _ d stopped on
-
--- sites rise, so what comes behind is at a greater site
-rise_behind : (scope : Scope) (d p : Deed) (np : Scope → Deed) (xs ys zs : List ℕ) → Halts d → ((g : Fault) → Contains d.faults g → IsAt scope xs g) → p.scope ≡ scope → ((g : Fault) → Contains (np scope).faults g → IsAt scope ys g)
-    → ((y : ℕ) → Contains ys y → Contains zs y) → Rising (xs ++ zs) → Behind d p np
-rise_behind scope d p np xs ys zs halts sited same rest within rising stopped on g w =
-    let (f, found) = halts stopped in
-    let here = sited f found in
-    let there = rest g (subst (λ s. Contains (np s).faults g) same w) in
-    inr (
-      f,
-      found,
-      record {
-        tick = there.tick ∙ sym here.tick;
-        phase = there.phase ∙ sym here.phase;
-        agent = there.agent ∙ sym here.agent;
-        site = rising-between xs zs f.site g.site rising here.site (within g.site there.site);
-      },
-    )
-
-foretold_deed : (scope : Scope) (v : Worth) (f g : Value → Deed) → ((x : Value) → Foretold (f x).faults (g x).faults) → Foretold (deed_of scope v f).faults (deed_of scope v g).faults
-foretold_deed scope (Ok x) f g h = h x
-foretold_deed scope (Err stop) f g h = foretold_itself (halted scope stop).faults
-
-foretold_chosen : (v : Value) (a d pa pd : Deed) → Foretold a.faults pa.faults → Foretold d.faults pd.faults → Foretold (chosen v a d).faults (chosen v pa pd).faults
-foretold_chosen (Flag true) a d pa pd ha hd = ha
-foretold_chosen (Flag false) a d pa pd ha hd = hd
-foretold_chosen (Int n) a d pa pd ha hd = hd
-foretold_chosen (Fixed n) a d pa pd ha hd = hd
-
-foretold_if : (m : Program) (w : List Agent) (c : Expr) (a d pa pd : List Stmt) (scope : Scope) → Foretold (run m w a scope).faults (run m w pa scope).faults → Foretold (run m w d scope).faults (run m w pd scope).faults
-    → Foretold (statement m w (If c a d) scope).faults (statement m w (If c pa pd) scope).faults
-foretold_if m w c a d pa pd scope ha hd =
-    subst (λ x. Foretold x.faults (statement m w (If c pa pd) scope).faults) (sym (statement-If m w c a d scope))
-    (subst (λ x. Foretold (if_deed m w c a d scope).faults x.faults) (sym (statement-If m w c pa pd scope))
-    (foretold_deed scope (value c scope) _ _ (λ v. foretold_chosen v (run m w a scope) (run m w d scope) (run m w pa scope) (run m w pd scope) ha hd)))
-
-foretold_over : (f g : Agent → Deed) → ((a : Agent) → Foretold (f a).faults (g a).faults) → (agents : List Agent) → Foretold (flat_map (λ d. d.faults) (map f agents)) (flat_map (λ d. d.faults) (map g agents))
+pub foretold_over : {A : Type 0} (f g : A → Deed) → ((a : A) → Foretold (f a).faults (g a).faults) → (agents : List A) → Foretold (flat_map (λ a. (f a).faults) agents) (flat_map (λ a. (g a).faults) agents)
 foretold_over f g h [] = foretold_itself []
 foretold_over f g h (a ∷ agents) = foretold_append (f a).faults _ (g a).faults _ (h a) (foretold_over f g h agents)
 
-foretold_loop : (m : Program) (w : List Agent) (class at : ℕ) (body pb : List Stmt) (scope : Scope) → ((s : Scope) → Foretold (run m w body s).faults (run m w pb s).faults)
-    → Foretold (statement m w (Foreach class body at) scope).faults (statement m w (Foreach class pb at) scope).faults
-foretold_loop m w class at body pb scope h =
-    subst (λ x. Foretold x.faults (statement m w (Foreach class pb at) scope).faults) (sym (statement-Foreach m w class body at scope))
-    (subst (λ x. Foretold (loop_deed m w class body scope).faults x.faults) (sym (statement-Foreach m w class pb at scope))
-    (foretold_over _ _ (λ a. h (inside scope a)) (seen_by m w scope.this class)))
+module _ (m : Program) (w : List Agent) where
+  -- a deed that stopped is never one that goes on; and where sites rise, what comes behind a statement is at a greater site
+  foretold_same : (x : Stmt) (s p : List Stmt) (scope : Scope) → ((scope : Scope) → Foretold (run m w s scope).faults (run m w p scope).faults) → Foretold (run m w (x ∷ s) scope).faults (run m w (x ∷ p) scope).faults
+  foretold_same x s p scope next =
+      let d = statement m w x scope in foretold_then d d (run m w s) (run m w p) (foretold_itself d.faults) (goes_itself d) (λ stopped on. never_both _ d stopped on) next
 
--- the scope that a statement other than a constant leaves
-pub deed_scope : (scope : Scope) (v : Worth) (next : Value → Deed) → ((x : Value) → (next x).scope ≡ scope) → (deed_of scope v next).scope ≡ scope
-deed_scope scope (Ok x) next h = h x
-deed_scope scope (Err stop) next h = refl
+  -- the faults of a part are sited, since it is well formed
+  part_sited : (s p : List Stmt) → Pruned s p → (names last : Names) → After s names last → (scope : Scope) (g : Fault) → Contains (run m w p scope).faults g → IsAt scope (flat_map sites_in p) g
+  part_sited s p h names last e scope = sited_run m w p (renamed (λ q. q) names) (renamed (λ q. q) last) (part_formed (λ q. q) s p h names last e) scope
 
-pub if_scope : (m : Program) (w : List Agent) (c : Expr) (a d : List Stmt) (scope : Scope) → (statement m w (If c a d) scope).scope ≡ scope
-if_scope m w c a d scope = ap (λ x. x.scope) (statement-If m w c a d scope) ∙ deed_scope scope (value c scope) _ (λ v. refl)
+  behind_one : (x : Stmt) (s p : List Stmt) → Pruned s p → (names last : Names) → After (x ∷ s) names last → Rising (flat_map sites_in (x ∷ s)) → (scope : Scope) (d : Deed) → d.scope ≡ scope → Behind (statement m w x scope) d (run m w p)
+  behind_one x s p h names last e rising scope d same stopped on g found =
+      let (mid, first, rest) = after_split x s names last e in
+      let (f, there) = halts_one m w x scope stopped in
+      let here = sited_one m w x s names last e scope f there in
+      let later = part_sited s p h mid last rest scope g (subst (λ s. Contains (run m w p s).faults g) same found) in
+      inr (f, there, record {
+        tick = later.tick ∙ sym here.tick;
+        phase = later.phase ∙ sym here.phase;
+        agent = later.agent ∙ sym here.agent;
+        site = rising-between (sites_in x) (flat_map sites_in s) f.site g.site rising here.site (sub-Contains _ _ g.site (sites_kept s p h) later.site);
+      })
 
-pub loop_scope : (m : Program) (w : List Agent) (class at : ℕ) (body : List Stmt) (scope : Scope) → (statement m w (Foreach class body at) scope).scope ≡ scope
-loop_scope m w class at body scope = ap (λ x. x.scope) (statement-Foreach m w class body at scope)
+  foretold_if : (c : Expr) (a d pa pd : List Stmt) (scope : Scope) → Foretold (run m w a scope).faults (run m w pa scope).faults → Foretold (run m w d scope).faults (run m w pd scope).faults
+      → Foretold (statement m w (If c a d) scope).faults (statement m w (If c pa pd) scope).faults
+  foretold_if c a d pa pd scope ha hd = rw (statement-If m w c a d scope, statement-If m w c pa pd scope)
+      (by_condition (λ f. Foretold (f (run m w a scope) (run m w d scope)).faults (f (run m w pa scope) (run m w pd scope)).faults) scope (value c scope) ha hd (λ stop. foretold_itself (halted scope stop).faults))
 
--- a part of a block is well formed, so its faults are sited
-part_sited : (m : Program) (w : List Agent) (s p : List Stmt) → Pruned s p → (names last : Names) → After s names last → (scope : Scope) (g : Fault) → Contains (run m w p scope).faults g → IsAt scope (flat_map sites_in p) g
-part_sited m w s p h names last e scope = sited_run m w p (renamed (λ q. q) names) (renamed (λ q. q) last) (part_formed (λ q. q) s p h names last e) scope
+  foretold_loop : (class at : ℕ) (body pb : List Stmt) (scope : Scope) → ((s : Scope) → Foretold (run m w body s).faults (run m w pb s).faults)
+      → Foretold (statement m w (Foreach class body at) scope).faults (statement m w (Foreach class pb at) scope).faults
+  foretold_loop class at body pb scope h = rw (statement-Foreach m w class body at scope, statement-Foreach m w class pb at scope)
+      (simp flat_map-map (foretold_over (λ a. run m w body (inside scope a)) (λ a. run m w pb (inside scope a)) (λ a. h (inside scope a)) (seen_by m w scope.this class)))
 
-pub foretold_run : (m : Program) (w : List Agent) (s p : List Stmt) → Pruned s p → (names last : Names) → After s names last → Rising (flat_map sites_in s) → (scope : Scope)
-    → Foretold (run m w s scope).faults (run m w p scope).faults
-foretold_run m w _ _ pruned.none names last e r scope = foretold_itself []
-foretold_run m w _ _ (pruned.const n x s p h) names last e r scope =
-    let (mid, first, rest) = after_split (Const n x) s names last e in
-    let head = statement m w (Const n x) scope in
-    foretold_then head head (run m w s) (run m w p) (foretold_itself head.faults) (goes_itself head) (never_behind head (run m w p))
-    (foretold_run m w s p h mid last rest (rising-right (sites_in (Const n x)) _ r))
-foretold_run m w _ _ (pruned.cond c a pa d pd s p ha hd h) names last e r scope =
-    let (mid, first, rest) = after_split (If c a d) s names last e in
-    let f = formed_if c a d names mid first in
-    let here : Rising (sites_of c ++ (flat_map sites_in a ++ flat_map sites_in d)) = subst Rising (sites-If c a d) (rising-left (sites_in (If c a d)) (flat_map sites_in s) r) in
-    let blocks = rising-right (sites_of c) _ here in
-    foretold_then (statement m w (If c a d) scope) (statement m w (If c pa pd) scope) (run m w s) (run m w p)
-    (foretold_if m w c a d pa pd scope (foretold_run m w a pa ha names f.first.0 f.first.1 (rising-left (flat_map sites_in a) _ blocks) scope)
-    (foretold_run m w d pd hd names f.second.0 f.second.1 (rising-right (flat_map sites_in a) _ blocks) scope))
-    (head_if m w c a d pa pd scope (goes_run m w a pa ha scope) (goes_run m w d pd hd scope))
-    (rise_behind scope (statement m w (If c a d) scope) (statement m w (If c pa pd) scope) (run m w p) (sites_in (If c a d)) (flat_map sites_in p) (flat_map sites_in s)
-    (halts_one m w (If c a d) scope) (sited_one m w (If c a d) s names last e scope)
-    (if_scope m w c pa pd scope) (part_sited m w s p h mid last rest scope) (λ y. sub-Contains _ _ y (sites_kept s p h)) r)
-    (foretold_run m w s p h mid last rest (rising-right (sites_in (If c a d)) _ r))
-foretold_run m w _ _ (pruned.loop class at body pb s p hb h) names last e r scope =
-    let (mid, first, rest) = after_split (Foreach class body at) s names last e in
-    let f = formed_loop class body at names mid first in
-    foretold_then (statement m w (Foreach class body at) scope) (statement m w (Foreach class pb at) scope) (run m w s) (run m w p)
-    (foretold_loop m w class at body pb scope (foretold_run m w body pb hb f.inside f.body_is_formed.0 f.body_is_formed.1 (subst Rising (sites-Foreach class body at) (rising-left (sites_in (Foreach class body at)) _ r))))
-    (head_loop m w class at body pb scope)
-    (rise_behind scope (statement m w (Foreach class body at) scope) (statement m w (Foreach class pb at) scope) (run m w p) (sites_in (Foreach class body at)) (flat_map sites_in p) (flat_map sites_in s)
-    (halts_one m w (Foreach class body at) scope) (sited_one m w (Foreach class body at) s names last e scope)
-    (loop_scope m w class at pb scope) (part_sited m w s p h mid last rest scope) (λ y. sub-Contains _ _ y (sites_kept s p h)) r)
-    (foretold_run m w s p h mid last rest (rising-right (sites_in (Foreach class body at)) _ r))
-foretold_run m w _ _ (pruned.away class at body s p h) names last e r scope =
-    let (mid, first, rest) = after_split (Foreach class body at) s names last e in
-    let f = formed_loop class body at names mid first in
-    subst (λ x. Foretold (run m w (Foreach class body at ∷ s) scope).faults x.faults) (sym (places_run m w (flat_map constant_numbers body) p scope))
-    (foretold_then (statement m w (Foreach class body at) scope) (silent scope) (run m w s) (run m w p) (foretold_nothing _) (head_away m w class at body scope)
-    (rise_behind scope (statement m w (Foreach class body at) scope) (silent scope) (run m w p) (sites_in (Foreach class body at)) (flat_map sites_in p) (flat_map sites_in s)
-    (halts_one m w (Foreach class body at) scope) (sited_one m w (Foreach class body at) s names last e scope)
-    refl (part_sited m w s p h mid last rest scope) (λ y. sub-Contains _ _ y (sites_kept s p h)) r)
-    (foretold_run m w s p h mid last rest (rising-right (sites_in (Foreach class body at)) _ r)))
-foretold_run m w _ _ (pruned.kept who effect x at s p h) names last e r scope =
-    let (mid, first, rest) = after_split (Assign who effect x at) s names last e in
-    let head = statement m w (Assign who effect x at) scope in
-    foretold_then head head (run m w s) (run m w p) (foretold_itself head.faults) (goes_itself head) (never_behind head (run m w p))
-    (foretold_run m w s p h mid last rest (rising-right (sites_in (Assign who effect x at)) _ r))
-foretold_run m w _ _ (pruned.left_out who effect x at s p h) names last e r scope =
-    let (mid, first, rest) = after_split (Assign who effect x at) s names last e in
-    foretold_then (statement m w (Assign who effect x at) scope) (silent scope) (run m w s) (run m w p) (foretold_nothing _) (head_say m w who effect x at scope)
-    (rise_behind scope (statement m w (Assign who effect x at) scope) (silent scope) (run m w p) (sites_in (Assign who effect x at)) (flat_map sites_in p) (flat_map sites_in s)
-    (halts_one m w (Assign who effect x at) scope) (sited_one m w (Assign who effect x at) s names last e scope)
-    refl (part_sited m w s p h mid last rest scope) (λ y. sub-Contains _ _ y (sites_kept s p h)) r)
-    (foretold_run m w s p h mid last rest (rising-right (sites_in (Assign who effect x at)) _ r))
+  -- the scope that a statement other than a constant leaves
+  if_scope : (c : Expr) (a d : List Stmt) (scope : Scope) → (statement m w (If c a d) scope).scope ≡ scope
+  if_scope c a d scope = rw (statement-If m w c a d scope) (by_condition (λ f. (f (run m w a scope) (run m w d scope)).scope ≡ scope) scope (value c scope) refl refl (λ stop. refl))
+
+  loop_scope : (class at : ℕ) (body : List Stmt) (scope : Scope) → (statement m w (Foreach class body at) scope).scope ≡ scope
+  loop_scope class at body scope = ap (λ x. x.scope) (statement-Foreach m w class body at scope)
+
+  pub foretold_run : (s p : List Stmt) → Pruned s p → (names last : Names) → After s names last → Rising (flat_map sites_in s) → (scope : Scope) → Foretold (run m w s scope).faults (run m w p scope).faults
+  foretold_run _ _ pruned.none names last e r scope = foretold_itself []
+  foretold_run _ _ (pruned.const n x s p h) names last e r scope =
+      foretold_same (Const n x) s p scope (foretold_run s p h _ last (formed_const n x s names last e).rest (rising-right (sites_in (Const n x)) _ r))
+  foretold_run _ _ (pruned.cond c a pa d pd s p ha hd h) names last e r scope =
+      let f = formed_if c a d s names last e in
+      let blocks = rising-right (sites_of c) (flat_map sites_in a ++ flat_map sites_in d) (subst Rising (sites-If c a d) (rising-left (sites_in (If c a d)) (flat_map sites_in s) r)) in
+      foretold_then (statement m w (If c a d) scope) (statement m w (If c pa pd) scope) (run m w s) (run m w p)
+      (foretold_if c a d pa pd scope (foretold_run a pa ha names f.first.0 f.first.1 (rising-left (flat_map sites_in a) _ blocks) scope)
+      (foretold_run d pd hd names f.second.0 f.second.1 (rising-right (flat_map sites_in a) _ blocks) scope))
+      (head_if m w scope c a d pa pd (goes_run m w a pa ha scope) (goes_run m w d pd hd scope))
+      (behind_one (If c a d) s p h names last e r scope (statement m w (If c pa pd) scope) (if_scope c pa pd scope)) (foretold_run s p h names last f.rest (rising-right (sites_in (If c a d)) _ r))
+  foretold_run _ _ (pruned.loop class at body pb s p hb h) names last e r scope =
+      let f = formed_loop class body at s names last e in
+      foretold_then (statement m w (Foreach class body at) scope) (statement m w (Foreach class pb at) scope) (run m w s) (run m w p)
+      (foretold_loop class at body pb scope (foretold_run body pb hb f.inside f.body_is_formed.0 f.body_is_formed.1 (subst Rising (sites-Foreach class body at) (rising-left (sites_in (Foreach class body at)) _ r))))
+      (head_loop m w scope class at body pb)
+      (behind_one (Foreach class body at) s p h names last e r scope (statement m w (Foreach class pb at) scope) (loop_scope class at pb scope)) (foretold_run s p h names last f.rest (rising-right (sites_in (Foreach class body at)) _ r))
+  foretold_run _ _ (pruned.away class at body s p h) names last e r scope =
+      rw (places_run m w (flat_map constant_numbers body) p scope)
+      (foretold_then (statement m w (Foreach class body at) scope) (silent scope) (run m w s) (run m w p) (foretold_nothing _) (head_away m w scope class at body)
+      (behind_one (Foreach class body at) s p h names last e r scope (silent scope) refl)
+      (foretold_run s p h names last (formed_loop class body at s names last e).rest (rising-right (sites_in (Foreach class body at)) _ r)))
+  foretold_run _ _ (pruned.kept who effect x at s p h) names last e r scope =
+      foretold_same (Assign who effect x at) s p scope (foretold_run s p h names last (formed_assign who effect x at s names last e).rest (rising-right (sites_in (Assign who effect x at)) _ r))
+  foretold_run _ _ (pruned.left_out who effect x at s p h) names last e r scope =
+      foretold_then (statement m w (Assign who effect x at) scope) (silent scope) (run m w s) (run m w p) (foretold_nothing _) (head_say m w scope who effect x at)
+      (behind_one (Assign who effect x at) s p h names last e r scope (silent scope) refl)
+      (foretold_run s p h names last (formed_assign who effect x at s names last e).rest (rising-right (sites_in (Assign who effect x at)) _ r))

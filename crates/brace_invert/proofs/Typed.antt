@@ -1,5 +1,5 @@
 -- Types of expressions and blocks, in a program whose classes have other queries; a part of a well-formed block is well formed.
-use Rattle.std.proofs.Common.{◌≡◌, ◌∙◌, refl, sym, ap, subst, ℕ, List, [], ◌∷◌, ◌++◌, map, flat_map, length, Bool, true, false, Option, Some, None}
+use Rattle.std.proofs.Common.{◌≡◌, ◌∙◌, refl, sym, ap, ap₂, subst, ℕ, List, [], ◌∷◌, ◌++◌, map, flat_map, length, Bool, true, false, Option, Some, None}
 use Rattle.std.specs.Prelude.{◌&&◌, if◌then◌else◌, is_some, is_none, option_map, slice_get, nat_lt}
 use Rattle.std.specs.Option.{option_and_then}
 use Rattle.std.proofs.lemmas.Option.{slice_get-map}
@@ -70,11 +70,9 @@ layer_same part (expr.Total effect type site) names = ap (λ o. if names.in_rule
 layer_same part (expr.Local n) names = refl
 layer_same part (expr.Unary op site a) names = ap (λ o. if is_sited (unary_faults op) site then option_and_then (unary_type op) o else None) (a.1 names)
 layer_same part (expr.Binary op site a b) names =
-    ap (λ o. if is_sited (binary_faults op) site then option_and_then (λ s. option_and_then (binary_type op s) (type_of b.0 (renamed part names))) o else None) (a.1 names)
-    ∙ ap (λ o. if is_sited (binary_faults op) site then option_and_then (λ s. option_and_then (binary_type op s) o) (type_of a.0 names) else None) (b.1 names)
+    ap₂ (λ o p. if is_sited (binary_faults op) site then option_and_then (λ s. option_and_then (binary_type op s) p) o else None) (a.1 names) (b.1 names)
 layer_same part (expr.Choice c a b) names =
-    ap (λ o. option_and_then (λ p. option_and_then (λ s. option_and_then (choice_type p s) (type_of b.0 (renamed part names))) (type_of a.0 (renamed part names))) o) (c.1 names)
-    ∙ ap (λ o. option_and_then (λ p. option_and_then (λ s. option_and_then (choice_type p s) (type_of b.0 (renamed part names))) o) (type_of c.0 names)) (a.1 names)
+    ap₂ (λ o q. option_and_then (λ p. option_and_then (λ s. option_and_then (choice_type p s) (type_of b.0 (renamed part names))) q) o) (c.1 names) (a.1 names)
     ∙ ap (λ o. option_and_then (λ p. option_and_then (λ s. option_and_then (choice_type p s) o) (type_of a.0 names)) (type_of c.0 names)) (b.1 names)
 layer_same part (expr.Rand site) names = refl
 
@@ -104,30 +102,40 @@ After s names last = in_turn (map scope_after s) names ≡ Some last
 abbrev pub IsFormed : List Stmt → Names → Type 0
 IsFormed s names = (last : Names) × After s names last
 
--- what a well-formed statement says of its parts
-pub record FormedIf (c : Expr) (a b : List Stmt) (names last : Names) : Type 0 where
+-- what a block says of its first statement's parts, where it is well formed, and of the rest
+pub record FormedIf (c : Expr) (a b s : List Stmt) (names last : Names) : Type 0 where
   pub condition : type_of c names ≡ Some ty.Bool
   pub first : IsFormed a names
   pub second : IsFormed b names
-  pub closed : names ≡ last
+  pub rest : After s names last
 
-pub record FormedLoop (class : ℕ) (body : List Stmt) (names last : Names) : Type 0 where
+pub record FormedLoop (class : ℕ) (body s : List Stmt) (names last : Names) : Type 0 where
   pub inside : Names
   pub entered : within_loop names class ≡ Some inside
   pub known_class : nat_lt class (length names.classes) ≡ true
   pub body_is_formed : IsFormed body inside
-  pub closed : names ≡ last
+  pub rest : After s names last
 
-pub record FormedConst (n : ℕ) (e : Expr) (names last : Names) : Type 0 where
+pub record FormedConst (n : ℕ) (e : Expr) (s : List Stmt) (names last : Names) : Type 0 where
   pub type : Ty
   pub typed : type_of e names ≡ Some type
-  pub bound : last ≡ record names { known = (n, type) ∷ names.known }
+  pub rest : After s (record names { known = (n, type) ∷ names.known }) last
 
-pub record FormedAssign (who : Who) (effect : ℕ) (e : Expr) (names last : Names) : Type 0 where
+pub record FormedAssign (who : Who) (effect : ℕ) (e : Expr) (s : List Stmt) (names last : Names) : Type 0 where
   pub type : Ty
   pub typed : type_of e names ≡ Some type
   pub taken : takes (effect_named names who effect) (type_of e names) ≡ true
-  pub closed : names ≡ last
+  pub rest : After s names last
+
+pub after_split : (x : Stmt) (s : List Stmt) (names last : Names) → After (x ∷ s) names last → (mid : Names) × (scope_after x names ≡ Some mid) × After s mid last
+after_split x s names last e = two_steps (in_turn (map scope_after s)) (scope_after x names) last e
+
+-- the same scope goes on where a statement leaves it as it is
+stays : (x : Stmt) (s : List Stmt) (names last : Names) (test : Bool) → scope_after x names ≡ only test names → After (x ∷ s) names last → (test ≡ true) × After s names last
+stays x s names last test is e =
+    let (mid, first, rest) = after_split x s names last e in
+    let (holds, same) = only_where test names mid (sym is ∙ first) in
+    (holds, subst (λ n. After s n last) (sym same) rest)
 
 bool_type : (o : Option Ty) → is_of_type ty.Bool o ≡ true → o ≡ Some ty.Bool
 bool_type None e = absurd (cc)
@@ -135,41 +143,42 @@ bool_type (Some ty.Int) e = absurd (cc)
 bool_type (Some ty.Fixed) e = absurd (cc)
 bool_type (Some ty.Bool) e = refl
 
-pub formed_if : (c : Expr) (a b : List Stmt) (names last : Names) → scope_after (If c a b) names ≡ Some last → FormedIf c a b names last
-formed_if c a b names last e =
-    let (test, same) = only_where _ names last (sym (scope_after-If c a b names) ∙ e) in
+pub formed_if : (c : Expr) (a b s : List Stmt) (names last : Names) → After (If c a b ∷ s) names last → FormedIf c a b s names last
+formed_if c a b s names last e =
+    let (test, rest) = stays (If c a b) s names last _ (scope_after-If c a b names) e in
     let (condition, blocks) = and_parts _ _ test in
     let (first, second) = and_parts _ _ blocks in
-    record { condition = bool_type (type_of c names) condition; first = is_there _ first; second = is_there _ second; closed = same }
+    record { condition = bool_type (type_of c names) condition; first = is_there _ first; second = is_there _ second; rest = rest }
 
-pub formed_loop : (class : ℕ) (body : List Stmt) (at : ℕ) (names last : Names) → scope_after (Foreach class body at) names ≡ Some last → FormedLoop class body names last
-formed_loop class body at names last e =
-    let (test, same) = only_where _ names last (sym (scope_after-Foreach class body at names) ∙ e) in
+pub formed_loop : (class : ℕ) (body : List Stmt) (at : ℕ) (s : List Stmt) (names last : Names) → After (Foreach class body at ∷ s) names last → FormedLoop class body s names last
+formed_loop class body at s names last e =
+    let (test, rest) = stays (Foreach class body at) s names last _ (scope_after-Foreach class body at names) e in
     let (in_range, fits) = and_parts _ _ test in
     let (end, is) = is_there _ fits in
     let (inside, entered, formed) = two_steps (in_turn (map scope_after body)) (within_loop names class) end is in
-    record { inside = inside; entered = entered; known_class = in_range; body_is_formed = (end, formed); closed = same }
+    record { inside = inside; entered = entered; known_class = in_range; body_is_formed = (end, formed); rest = rest }
 
 constant_bound : (n : ℕ) (names last : Names) (o : Option Ty) → option_map (λ t. record names { known = (n, t) ∷ names.known }) o ≡ Some last
     → (t : Ty) × (o ≡ Some t) × (last ≡ record names { known = (n, t) ∷ names.known })
 constant_bound n names last None e = absurd (cc)
 constant_bound n names last (Some t) e = (t, refl, cc)
 
-pub formed_const : (n : ℕ) (e : Expr) (names last : Names) → scope_after (Const n e) names ≡ Some last → FormedConst n e names last
-formed_const n e names last is =
-    let (t, typed, bound) = constant_bound n names last (type_of e names) (sym (scope_after-Const n e names) ∙ is) in
-    record { type = t; typed = typed; bound = bound }
+pub formed_const : (n : ℕ) (e : Expr) (s : List Stmt) (names last : Names) → After (Const n e ∷ s) names last → FormedConst n e s names last
+formed_const n e s names last is =
+    let (mid, first, rest) = after_split (Const n e) s names last is in
+    let (t, typed, bound) = constant_bound n names mid (type_of e names) (sym (scope_after-Const n e names) ∙ first) in
+    record { type = t; typed = typed; rest = subst (λ m. After s m last) bound rest }
 
-taken_type : (effect : Option Effect) (o : Option Ty) → takes effect o ≡ true → (t : Ty) × (o ≡ Some t)
-taken_type None o e = absurd (cc)
-taken_type (Some effect) None e = absurd (cc)
-taken_type (Some effect) (Some t) e = (t, refl)
-
-pub formed_assign : (who : Who) (effect : ℕ) (e : Expr) (at : ℕ) (names last : Names) → scope_after (Assign who effect e at) names ≡ Some last → FormedAssign who effect e names last
-formed_assign who effect e at names last is =
-    let (taken, same) = only_where _ names last (sym (scope_after-Assign who effect e at names) ∙ is) in
+pub formed_assign : (who : Who) (effect : ℕ) (e : Expr) (at : ℕ) (s : List Stmt) (names last : Names) → After (Assign who effect e at ∷ s) names last → FormedAssign who effect e s names last
+formed_assign who effect e at s names last is =
+    let (taken, rest) = stays (Assign who effect e at) s names last _ (scope_after-Assign who effect e at names) is in
     let (t, typed) = taken_type (effect_named names who effect) (type_of e names) taken in
-    record { type = t; typed = typed; taken = taken; closed = same }
+    record { type = t; typed = typed; taken = taken; rest = rest }
+  where
+    taken_type : (effect : Option Effect) (o : Option Ty) → takes effect o ≡ true → (t : Ty) × (o ≡ Some t)
+    taken_type None o e = absurd (cc)
+    taken_type (Some effect) None e = absurd (cc)
+    taken_type (Some effect) (Some t) e = (t, refl)
 
 -- a part of a well-formed block
 in_turn-through : (xs ys : List (Names → Option Names)) (o : Option Names) → ((names : Names) → in_turn (xs ++ ys) names ≡ option_and_then (in_turn ys) (in_turn xs names))
@@ -180,9 +189,6 @@ in_turn-through xs ys (Some n) h = h n
 in_turn-append : (xs ys : List (Names → Option Names)) (names : Names) → in_turn (xs ++ ys) names ≡ option_and_then (in_turn ys) (in_turn xs names)
 in_turn-append [] ys names = refl
 in_turn-append (x ∷ xs) ys names = in_turn-through xs ys (x names) (in_turn-append xs ys)
-
-pub after_split : (x : Stmt) (s : List Stmt) (names last : Names) → After (x ∷ s) names last → (mid : Names) × (scope_after x names ≡ Some mid) × After s mid last
-after_split x s names last e = two_steps (in_turn (map scope_after s)) (scope_after x names) last e
 
 pub after_cons : (x : Stmt) (s : List Stmt) (names mid last : Names) → scope_after x names ≡ Some mid → After s mid last → After (x ∷ s) names last
 after_cons x s names mid last first rest = ap (option_and_then (in_turn (map scope_after s))) first ∙ rest
@@ -231,43 +237,30 @@ loop_formed class body at names inside in_range entered formed =
 pub part_formed : (part : List Stmt → List Stmt) (s p : List Stmt) → Pruned s p → (names last : Names) → After s names last → After p (renamed part names) (renamed part last)
 part_formed part _ _ pruned.none names last e = ap (option_map (renamed part)) e
 part_formed part _ _ (pruned.const n x s p h) names last e =
-    let (mid, first, rest) = after_split (Const n x) s names last e in
-    let f = formed_const n x names mid first in
-    after_cons (Const n x) p (renamed part names) (renamed part mid) (renamed part last)
-    (scope_after-Const n x (renamed part names) ∙ ap (option_map (λ t. record (renamed part names) { known = (n, t) ∷ names.known })) (type_same part x names ∙ f.typed) ∙ ap (λ m. Some (renamed part m)) (sym f.bound))
-    (part_formed part s p h mid last rest)
+    let f = formed_const n x s names last e in
+    after_cons (Const n x) p (renamed part names) _ (renamed part last)
+    (scope_after-Const n x (renamed part names) ∙ ap (option_map (λ t. record (renamed part names) { known = (n, t) ∷ names.known })) (type_same part x names ∙ f.typed))
+    (part_formed part s p h _ last f.rest)
 part_formed part _ _ (pruned.cond c a pa b pb s p ha hb h) names last e =
-    let (mid, first, rest) = after_split (If c a b) s names last e in
-    let f = formed_if c a b names mid first in
-    after_cons (If c pa pb) p (renamed part names) (renamed part mid) (renamed part last)
+    let f = formed_if c a b s names last e in
+    after_cons (If c pa pb) p (renamed part names) (renamed part names) (renamed part last)
     (if_formed c pa pb (renamed part names) (type_same part c names ∙ f.condition)
-    (renamed part f.first.0, part_formed part a pa ha names f.first.0 f.first.1) (renamed part f.second.0, part_formed part b pb hb names f.second.0 f.second.1)
-    ∙ ap (λ m. Some (renamed part m)) f.closed)
-    (part_formed part s p h mid last rest)
+    (renamed part f.first.0, part_formed part a pa ha names f.first.0 f.first.1) (renamed part f.second.0, part_formed part b pb hb names f.second.0 f.second.1))
+    (part_formed part s p h names last f.rest)
 part_formed part _ _ (pruned.loop class at body pb s p hb h) names last e =
-    let (mid, first, rest) = after_split (Foreach class body at) s names last e in
-    let f = formed_loop class body at names mid first in
-    after_cons (Foreach class pb at) p (renamed part names) (renamed part mid) (renamed part last)
+    let f = formed_loop class body at s names last e in
+    after_cons (Foreach class pb at) p (renamed part names) (renamed part names) (renamed part last)
     (loop_formed class pb at (renamed part names) (renamed part f.inside) (ap (nat_lt class) (length-map names.classes (with_query part)) ∙ f.known_class)
     (within_same part names class ∙ ap (option_map (renamed part)) f.entered)
-    (renamed part f.body_is_formed.0, part_formed part body pb hb f.inside f.body_is_formed.0 f.body_is_formed.1)
-    ∙ ap (λ m. Some (renamed part m)) f.closed)
-    (part_formed part s p h mid last rest)
+    (renamed part f.body_is_formed.0, part_formed part body pb hb f.inside f.body_is_formed.0 f.body_is_formed.1))
+    (part_formed part s p h names last f.rest)
 part_formed part _ _ (pruned.away class at body s p h) names last e =
-    let (mid, first, rest) = after_split (Foreach class body at) s names last e in
-    let f = formed_loop class body at names mid first in
     after_append (places (flat_map constant_numbers body)) p (renamed part names) (renamed part names) (renamed part last) (places_formed (flat_map constant_numbers body) (renamed part names))
-    (subst (λ m. After p (renamed part m) (renamed part last)) (sym f.closed) (part_formed part s p h mid last rest))
+    (part_formed part s p h names last (formed_loop class body at s names last e).rest)
 part_formed part _ _ (pruned.kept who effect x at s p h) names last e =
-    let (mid, first, rest) = after_split (Assign who effect x at) s names last e in
-    let f = formed_assign who effect x at names mid first in
-    after_cons (Assign who effect x at) p (renamed part names) (renamed part mid) (renamed part last)
+    let f = formed_assign who effect x at s names last e in
+    after_cons (Assign who effect x at) p (renamed part names) (renamed part names) (renamed part last)
     (scope_after-Assign who effect x at (renamed part names)
-    ∙ ap (λ o. only (takes o (type_of x (renamed part names))) (renamed part names)) (effect_same part names who effect)
-    ∙ ap (λ o. only (takes (effect_named names who effect) o) (renamed part names)) (type_same part x names)
-    ∙ only_so _ (renamed part names) f.taken ∙ ap (λ m. Some (renamed part m)) f.closed)
-    (part_formed part s p h mid last rest)
-part_formed part _ _ (pruned.left_out who effect x at s p h) names last e =
-    let (mid, first, rest) = after_split (Assign who effect x at) s names last e in
-    let f = formed_assign who effect x at names mid first in
-    subst (λ m. After p (renamed part m) (renamed part last)) (sym f.closed) (part_formed part s p h mid last rest)
+    ∙ ap₂ (λ f o. only (takes f o) (renamed part names)) (effect_same part names who effect) (type_same part x names) ∙ only_so _ (renamed part names) f.taken)
+    (part_formed part s p h names last f.rest)
+part_formed part _ _ (pruned.left_out who effect x at s p h) names last e = part_formed part s p h names last (formed_assign who effect x at s names last e).rest

@@ -1,8 +1,8 @@
 -- An actor's course makes the turns of the run's schedule.
-use Rattle.std.proofs.Common.{◌≡◌, ◌∙◌, refl, sym, ap, ap₂, subst, ℕ, zero, suc, ◌+◌, ◌-◌, ◌*◌, ◌<◌, ◌≤◌, List, [], ◌∷◌, ◌++◌, map, filter, sum_by, length, take, get_or, Bool, true, false, cond, Option, Some, None, ◌==◌, ◌||◌, ◌&&◌, arith, inl, inr}
+use Rattle.std.proofs.Common.{◌≡◌, ◌∙◌, refl, sym, ap, ap₂, subst, ℕ, zero, suc, ◌+◌, ◌-◌, ◌*◌, ◌<◌, ◌≤◌, List, [], ◌∷◌, ◌++◌, map, filter, sum_by, length, take, get_or, Bool, true, cond, Option, Some, None, ◌==◌, ◌&&◌, arith, inl, inr}
 use Rattle.std.specs.Prelude.{slice_get, is_some}
 use Rattle.std.specs.List.{range_with_len}
-use Rattle.std.proofs.lemmas.Bool.{eq-eqb, cases_lt, cases_eq}
+use Rattle.std.proofs.lemmas.Bool.{eq-eqb, cases_lt}
 use Rattle.std.proofs.lemmas.List.Elements.{filter-append}
 use Rattle.std.proofs.lemmas.List.Sums.{sum_by-cons}
 use Rattle.std.proofs.lemmas.List.{append_assoc, length-append, length-map, get_or_append_left, get_or-append_right, get_or_past, get_or_default}
@@ -18,21 +18,14 @@ use Rattle.brace_pieces.specs.Steps.{steps, meet, met, pairs_below, schedule}
 use Rattle.brace_pieces.specs.Courses.{OnCourse, IsCourse, met_in, step_of, others_of, exchanges, turn_in, turn_of, turns_in, past_of, gone_behind, gone_on}
 use Rattle.brace_pieces.proofs.PlaceLemmas.{some_is}
 use Rattle.brace_pieces.proofs.Pairs.{has, met_where, met_in_rows}
-use Rattle.brace_num.proofs.Rows.{row_more, row_alike, row_kept}
+use Rattle.std.proofs.lemmas.List.Folds.{list_any_at}
+use Rattle.brace_num.proofs.Rows.{row_has, row_more, row_alike, row_kept}
 use Rattle.brace_num.proofs.Booleans.{and_true}
 
 -- ---- whom an actor meets
 
 has_within : (n a q : ℕ) → a ≤ q → q < a + n → has q (range_with_len a n) ≡ true
-has_within zero a q low high = absurd (omega (arith, low, high))
-has_within (suc n) a q low high = elim (cases_eq a q) [
-  | inl same ↦ ap (λ v. v || has q (range_with_len (a + 1) n)) (eq-eqb a q same)
-  | inr other ↦ ap (λ v. (a == q) || v) (has_within n (a + 1) q (omega arith) (omega arith)) ∙ or_true (a == q)
-]
-  where
-    or_true : (v : Bool) → (v || true) ≡ true
-    or_true true = refl
-    or_true false = refl
+has_within n a q low high = let (k, below, is) = row_has a n q low high in list_any_at (λ m. m == q) (range_with_len a n) k q below (eq-eqb _ _ is)
 
 module _ (s : Setting) (p : ℕ) (is_actor : p < parts s + 1) where
   -- the pairs of a step

@@ -1,5 +1,5 @@
 -- The cuts that hold in a tick of a lawful plan are lawful, and make as many parts in every tick.
-use Rattle.std.proofs.Common.{◌≡◌, ◌∙◌, refl, sym, ap, ap₂, ℕ, suc, ◌+◌, ◌*◌, List, [], ◌∷◌, length, filter, Bool, true, false, cond, Option, Some, None, arith}
+use Rattle.std.proofs.Common.{◌≡◌, ◌∙◌, refl, sym, ap, ap₂, subst, ℕ, suc, ◌+◌, ◌*◌, ◌<◌, List, [], ◌∷◌, length, filter, Bool, true, false, cond, Option, Some, None, arith}
 use Rattle.std.specs.Prelude.{slice_get, option_map, unwrap_or, nat_le, ◌==◌}
 use Rattle.std.specs.List.{last_or}
 use Rattle.std.proofs.lemmas.Bool.{and_parts, eqb-true}
@@ -81,3 +81,10 @@ pub parts_stay : (epoch : ℕ) (plan : CutPlan) (tick other : ℕ) → IsPlan ep
 parts_stay epoch plan tick other lawful =
     let (first, is_first, at_0) = first_of plan.lines lawful.in_order.begins in
     parts_at epoch plan first tick lawful is_first at_0 ∙ sym (parts_at epoch plan first other lawful is_first at_0)
+
+-- the cuts of a tick, under another name
+pub lawful_as : (epoch : ℕ) (plan : CutPlan) (tick : ℕ) (cuts : Cuts) → cuts ≡ cuts_at plan tick → IsPlan epoch plan → LawfulCuts cuts
+lawful_as epoch plan tick cuts is lawful = subst LawfulCuts (sym is) (cuts_lawful epoch plan tick lawful)
+
+pub part_as : (epoch : ℕ) (plan : CutPlan) (first tick p : ℕ) (cuts : Cuts) → cuts ≡ cuts_at plan tick → IsPlan epoch plan → p < parts_of (cuts_at plan first) → p < parts_of cuts
+part_as epoch plan first tick p cuts is lawful low = subst (λ n. p < n) (parts_stay epoch plan first tick lawful ∙ ap parts_of (sym is)) low

@@ -134,11 +134,8 @@ module _ (s : Setting) where
       or_from (line.tick == t) (list_any (λ line. line.tick == t) lines) (other_tick line.tick t s.epoch (each 0 line refl) part) (no_line lines t part (λ n d e. each (suc n) d e))
 
   not_divided : (t : ℕ) → s.job.first < t → is_end s t ≡ false → (t % s.epoch == 0) ≡ false
-  not_divided t low other = by_low (nat_lt s.job.first t) (is_above low) (or_parts (t == s.job.last) (nat_lt s.job.first t && (t % s.epoch == 0)) other).1
+  not_divided t low other = by_low (nat_lt s.job.first t) (is_low s.job.first t low) (or_parts (t == s.job.last) (nat_lt s.job.first t && (t % s.epoch == 0)) other).1
     where
-      is_above : s.job.first < t → nat_lt s.job.first t ≡ true
-      is_above low = grind (arith, nat_tests, low)
-
       by_low : (c : Bool) → c ≡ true → (c && (t % s.epoch == 0)) ≡ false → (t % s.epoch == 0) ≡ false
       by_low true is e = e
       by_low false is e = absurd (true≢false (sym is))

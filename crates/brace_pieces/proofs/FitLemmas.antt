@@ -1,6 +1,6 @@
 -- Where the numbers that are written in an expression fit 64 bits, so does its value over an agent's
 -- own states and totals.
-use Rattle.std.proofs.Common.{◌≡◌, ◌∙◌, refl, sym, ap, subst, ℕ, zero, suc, ◌*◌, ◌^◌, ◌<◌, ◌≤◌, ℤ, pos, negsuc, List, [], ◌∷◌, Bool, true, false, ◌&&◌, ◌⊎◌, if◌then◌else◌, Option, Some, None, Result, Ok, Err, inl, inr, arith, unsigned_abs, int_div, int_rem, ◌*ℤ◌, ◌+ℤ◌, ◌-ℤ◌, neg_ℤ, FitsSigned, div-le_self}
+use Rattle.std.proofs.Common.{◌≡◌, ◌∙◌, refl, sym, ap, subst, ℕ, zero, suc, ◌*◌, ◌^◌, ◌<◌, ◌≤◌, ℤ, pos, negsuc, List, [], ◌∷◌, Bool, true, false, ◌&&◌, if◌then◌else◌, Option, Some, None, Result, Ok, Err, inl, inr, arith, unsigned_abs, int_div, int_rem, ◌*ℤ◌, ◌+ℤ◌, ◌-ℤ◌, neg_ℤ, FitsSigned, div-le_self}
 use Rattle.std.specs.Prelude.{slice_set, slice_index_or, not}
 use Rattle.std.specs.List.{list_all}
 use Rattle.std.specs.Ordering.{int_eq}
@@ -16,6 +16,7 @@ use Rattle.brace_num.specs.declared.kinds.Kind.{Kind}
 use Rattle.brace_num.specs.declared.kinds.Kind.TheVariants.{Overflow, DivZero, NegRoot}
 use Rattle.brace_num.specs.Exact.{fits, fitting, is_zero, exact_add, exact_sub, exact_neg, exact_abs, exact_sqrt, exact_to_fixed, exact_int_rem, root}
 use Rattle.brace_num.proofs.Roots.{root_is}
+use Rattle.brace_num.proofs.Options.{ok_same, ok_not_err}
 use Rattle.brace_model.specs.declared.program.Ty.{Ty}
 use Rattle.brace_model.specs.declared.program.Ty.TheVariants as ty
 use Rattle.brace_model.specs.declared.program.Value.{Value}
@@ -64,17 +65,11 @@ small_fits n h = grind (arith, h)
 abbrev Sure : Result ℤ Kind → Type 0
 Sure r = (n : ℤ) → r ≡ Ok n → FitsSigned w64 n
 
-number_is : (a b : ℤ) → (let r : Result ℤ Kind = Ok a in r) ≡ Ok b → a ≡ b
-number_is a b e = cc
-
-no_number : (k : Kind) (b : ℤ) → (let r : Result ℤ Kind = Err k in r) ≡ Ok b → ⊥
-no_number k b e = cc
-
 ok_sure : (a : ℤ) → FitsSigned w64 a → Sure (Ok a)
-ok_sure a f n e = subst (FitsSigned w64) (number_is a n e) f
+ok_sure a f n e = subst (FitsSigned w64) (ok_same a n e) f
 
 err_sure : (k : Kind) → Sure (Err k)
-err_sure k n e = absurd (no_number k n e)
+err_sure k n e = absurd (ok_not_err n k (sym e))
 
 sure_if : (b : Bool) (z : ℤ) → fits z ≡ b → Sure (if b then Ok z else Err Overflow)
 sure_if true z is = ok_sure z (fit_so z is)
@@ -84,11 +79,10 @@ fitting_sure : (z : ℤ) → Sure (fitting z)
 fitting_sure z = sure_if (fits z) z refl
 
 root_low : (a r : ℕ) → r * r ≤ a * 1000000 → a < 2 ^ 63 → r < 2 ^ 63
-root_low a r below low = by_place (cases_lt r (2 ^ 63))
-  where
-    by_place : (r < 2 ^ 63) ⊎ (2 ^ 63 ≤ r) → r < 2 ^ 63
-    by_place (inl less) = less
-    by_place (inr more) = let square : 2 ^ 63 * r ≤ r * r = mul-le-mul_right r more in absurd (omega (arith, square, below, low, more))
+root_low a r below low = elim (cases_lt r (2 ^ 63)) [
+  | inl less ↦ less
+  | inr more ↦ let square : 2 ^ 63 * r ≤ r * r = mul-le-mul_right r more in absurd (omega (arith, square, below, low, more))
+]
 
 low_of : (a : ℕ) → FitsSigned w64 (pos a) → a < 2 ^ 63
 low_of a f = grind (arith, f)
@@ -130,17 +124,11 @@ draw_fits seed tick agent site =
 abbrev pub HasFit : Worth → Type 0
 HasFit w = (v : Value) → w ≡ Ok v → FitsSigned w64 (number v)
 
-value_is : (u v : Value) → (let w : Worth = Ok u in w) ≡ Ok v → u ≡ v
-value_is u v e = cc
-
-no_value_of : (stop : Stop) (v : Value) → (let w : Worth = Err stop in w) ≡ Ok v → ⊥
-no_value_of stop v e = cc
-
 pub ok_fit : (u : Value) → FitsSigned w64 (number u) → HasFit (Ok u)
-ok_fit u f v e = subst (λ x. FitsSigned w64 (number x)) (value_is u v e) f
+ok_fit u f v e = subst (λ x. FitsSigned w64 (number x)) (ok_same u v e) f
 
 err_fit : (stop : Stop) → HasFit (Err stop)
-err_fit stop v e = absurd (no_value_of stop v e)
+err_fit stop v e = absurd (ok_not_err v stop (sym e))
 
 made_fit : (f : ℤ → Value) → ((n : ℤ) → FitsSigned w64 n → FitsSigned w64 (number (f n))) → (site : Option ℕ) (r : Result ℤ Kind) → Sure r → HasFit (made f site r)
 made_fit f h site (Ok n) sure = ok_fit (f n) (h n (sure n refl))

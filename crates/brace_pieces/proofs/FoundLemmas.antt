@@ -2,7 +2,6 @@
 use Rattle.std.proofs.Common.{◌≡◌, ◌∙◌, refl, sym, ap, subst, ℕ, ◌+◌, ◌-◌, ◌<◌, ◌≤◌, ℤ, pos, ◌≤ℤ◌, ◌+ℤ◌, List, [], ◌++◌, flat_map, Bool, true, false, Some, Result, Ok, Err, arith, ⊎_elim}
 use Rattle.std.specs.Prelude.{if◌then◌else◌}
 use Rattle.std.specs.List.{Contains}
-use Rattle.std.specs.Result.{result_err}
 use Rattle.std.proofs.lemmas.Bool.{eq-eqb}
 use Rattle.std.proofs.lemmas.Int.{ints}
 use Rattle.std.proofs.lemmas.List.Elements.{Contains-append_left, Contains-append_right, Contains-append_cases}
@@ -13,7 +12,7 @@ use Rattle.brace_model.specs.declared.fault.Fault.{Fault}
 use Rattle.brace_model.specs.declared.fault.Phase.{Phase}
 use Rattle.brace_model.specs.declared.fault.Phase.TheVariants.{Query, Update, Birth}
 use Rattle.brace_model.specs.declared.world.Agent.{Agent}
-use Rattle.brace_model.specs.World.{World, class_of, x_of, y_of}
+use Rattle.brace_model.specs.World.{class_of, x_of, y_of}
 use Rattle.brace_model.specs.Query.{query_of, query_faults}
 use Rattle.brace_model.specs.Next.{Next}
 use Rattle.brace_model.specs.Run.{world_after, first_fault}
@@ -42,7 +41,7 @@ use Rattle.brace_pieces.proofs.Meetings.{owner_is_part, range_some}
 use Rattle.brace_pieces.proofs.QueryHeld.{part_held}
 use Rattle.brace_pieces.proofs.HeardHere.{whole_inside}
 use Rattle.brace_pieces.proofs.WorldLemmas.{continued_is}
-use Rattle.brace_pieces.proofs.FaultLemmas.{found_over, step_is_of, step_found}
+use Rattle.brace_pieces.proofs.FaultLemmas.{found_over, is_error, step_is_of, step_found}
 use Rattle.brace_pieces.proofs.HaltLemmas.{Ended, ended, found_same}
 use Rattle.brace_pieces.proofs.ToldLemmas.{errors, errors_are}
 use Rattle.brace_pieces.proofs.OnLemmas.{on_whole, on_classed}
@@ -211,10 +210,6 @@ run_reaches s lawful numbers k low none =
           let h = ended s n g is in
           absurd (none_found s lawful numbers k none (s.job.first + h.ticks) (omega arith) (omega (arith, low, h.before)) g.phase g (ended_found s lawful n g h))
     ]) refl
-
-is_error : (r : Result World Fault) (g : Fault) → result_err r ≡ Some g → r ≡ Err g
-is_error (Ok world) g e = absurd (cc)
-is_error (Err f) g e = let same : f ≡ g = cc in ap Err same
 
 module _ (s : Setting) (lawful : LawfulSetting s) (g : Fault) (first : first_fault s.job ≡ Some g) where
   abbrev n : ℕ

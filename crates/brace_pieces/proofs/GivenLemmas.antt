@@ -1,11 +1,10 @@
 -- What a part gives to another: of what its own agents are in the next world, and of the children that
 -- they have, those that the other one owns.
-use Rattle.std.proofs.Common.{◌≡◌, ◌∙◌, refl, sym, ap, ap₂, ℕ, zero, suc, List, [], ◌∷◌, ◌++◌, map, filter, zip, Bool, true, false, cond, ◌||◌, Option, Some, None, Contains, append-nil, true≢false, ℤ, filter_map, is_some, arith, ◌⊎◌, inl, inr, take, length, option_map, unwrap_or, subst, ◌+◌}
-use Rattle.std.specs.Prelude.{slice_get, ◌==◌}
+use Rattle.std.proofs.Common.{◌≡◌, ◌∙◌, refl, sym, ap, ap₂, ℕ, zero, suc, List, [], ◌∷◌, ◌++◌, map, filter, zip, Bool, true, false, cond, Option, Some, None, Contains, append-nil, true≢false, ℤ, filter_map, is_some, arith, take, length, option_map, unwrap_or, subst, ◌+◌}
+use Rattle.std.specs.Prelude.{◌==◌}
 use Rattle.std.specs.List.{list_any, cons_option, position_from, find, range_with_len}
 use Rattle.brace_model.specs.declared.program.Class.{Class}
 use Rattle.brace_model.specs.declared.program.Program.{Program}
-use Rattle.brace_model.specs.declared.program.Spawn.{Spawn}
 use Rattle.brace_model.specs.declared.fault.Stop.{Stop}
 use Rattle.brace_model.specs.declared.world.Agent.{Agent}
 use Rattle.brace_model.specs.World.{class_of, RisesById, ids}
@@ -26,37 +25,11 @@ use Rattle.brace_pieces.proofs.Merges.{Rises}
 use Rattle.std.proofs.lemmas.List.Elements.{filter-append}
 use Rattle.std.proofs.lemmas.List.{map-append}
 use Rattle.std.proofs.lemmas.Bool.{ne_eqb, eq-eqb}
-use Rattle.brace_num.proofs.Lists.{in_more, first_or_later, filter_map_alike}
+use Rattle.std.proofs.lemmas.Map.Keys.{any_passes_from_place}
+use Rattle.brace_invert.proofs.Heard.{seen_in}
+use Rattle.brace_num.proofs.Lists.{in_first, in_more, filter_map_alike}
+use Rattle.brace_num.proofs.Options.{not_some}
 use Rattle.brace_num.proofs.Orders.{rises_by_keys}
-
-no_spawn : (classes : List Class) → list_any (λ c. is_some c.spawn) classes ≡ false → (n : ℕ) (c : Class) → slice_get classes n ≡ Some c → c.spawn ≡ None
-no_spawn [] none n c e = absurd (cc)
-no_spawn (d ∷ classes) none n c e = by_spawn d.spawn refl none n e (no_spawn classes)
-  where
-    class_is : (d c : Class) → Some d ≡ Some c → d ≡ c
-    class_is d c e = cc
-
-    by_spawn : (o : Option Spawn) → d.spawn ≡ o → (is_some o || list_any (λ c. is_some c.spawn) classes) ≡ false → (n : ℕ) → slice_get (d ∷ classes) n ≡ Some c
-        → (list_any (λ c. is_some c.spawn) classes ≡ false → (k : ℕ) (c : Class) → slice_get classes k ≡ Some c → c.spawn ≡ None) → c.spawn ≡ None
-    by_spawn (Some spawn) is none n e rest = absurd (true≢false none)
-    by_spawn None is none zero e rest = ap (λ x. x.spawn) (sym (class_is d c e)) ∙ is
-    by_spawn None is none (suc k) e rest = rest none k c e
-
-none_made : {A B : Type 0} (xs : List A) → filter_map {Y = B} (λ x. None) xs ≡ []
-none_made [] = refl
-none_made (x ∷ xs) = none_made xs
-
-of_filter : (test : Agent → Bool) (xs : List Agent) (a : Agent) → Contains (filter test xs) a → Contains xs a
-of_filter test [] a has = has
-of_filter test (x ∷ xs) a has = by_test (test x) has (of_filter test xs a)
-  where
-    by_first : (x ≡ a) ⊎ Contains (filter test xs) a → (Contains (filter test xs) a → Contains xs a) → Contains (x ∷ xs) a
-    by_first (inl same) rest = (0, omega arith, same)
-    by_first (inr behind) rest = in_more x xs a (rest behind)
-
-    by_test : (v : Bool) → Contains (cond v (x ∷ filter test xs) (filter test xs)) a → (Contains (filter test xs) a → Contains xs a) → Contains (x ∷ xs) a
-    by_test true has rest = by_first (first_or_later x (filter test xs) a has) rest
-    by_test false has rest = in_more x xs a (rest has)
 
 module _ (s : Setting) (t : ℕ) where
   abbrev m : Program
@@ -70,7 +43,11 @@ module _ (s : Setting) (t : ℕ) where
   no_child_of none None a is totals = refl
   no_child_of none (Some c) a is totals =
       let scope : Scope = opening_scope s.job.seed t [] totals a in
-      no_child_by c a scope (first_stop (update_in scope c a)) (no_spawn m.classes none a.class c is)
+      no_child_by c a scope (first_stop (update_in scope c a)) (not_some c.spawn (not_any none (any_passes_from_place (λ (c : Class). is_some c.spawn) m.classes a.class c is)))
+    where
+      not_any : {b c : Bool} → b ≡ false → (c ≡ true → b ≡ true) → c ≡ false
+      not_any {c = true} none some = absurd (true≢false (sym (some refl) ∙ none))
+      not_any {c = false} none some = refl
 
   module _ (w : List Agent) where
     abbrev leaves : Agent → Next
@@ -109,26 +86,20 @@ module _ (s : Setting) (t : ℕ) where
       own_left [] those = refl
       own_left (x ∷ xs) those = by_agent (h (leaves w x)) refl (owns m (cuts_of s t) p x) refl (own_left xs (λ a has. those a (in_more x xs a has)))
         where
-          here : Contains w x
-          here = those x (0, omega arith, refl)
-
           rest : List Agent
           rest = of_all xs
 
-          by_owner : (v : Bool) (b : Agent) → is_own b ≡ v → h (leaves w x) ≡ Some b → filter is_own rest ≡ of_all (owned_of xs) → filter is_own (b ∷ rest) ≡ of_all (cond v (x ∷ owned_of xs) (owned_of xs))
-          by_owner true b has is same =
-              ap (λ v. cond v (b ∷ filter is_own rest) (filter is_own rest)) has ∙ ap (λ ys. b ∷ ys) same ∙ ap (λ o. cons_option o (of_all (owned_of xs))) (sym is)
-          by_owner false b has is same = ap (λ v. cond v (b ∷ filter is_own rest) (filter is_own rest)) has ∙ same
-
-          gone : (v : Bool) → h (leaves w x) ≡ None → filter is_own rest ≡ of_all (owned_of xs) → filter is_own rest ≡ of_all (cond v (x ∷ owned_of xs) (owned_of xs))
-          gone true is same = same ∙ ap (λ o. cons_option o (of_all (owned_of xs))) (sym is)
-          gone false is same = same
-
           by_agent : (o : Option Agent) → h (leaves w x) ≡ o → (v : Bool) → owns m (cuts_of s t) p x ≡ v → filter is_own rest ≡ of_all (owned_of xs)
               → filter is_own (cons_option o rest) ≡ of_all (cond v (x ∷ owned_of xs) (owned_of xs))
-          by_agent None is v owner same = gone v is same
+          by_agent None is true owner same = same ∙ ap (λ o. cons_option o (of_all (owned_of xs))) (sym is)
+          by_agent None is false owner same = same
           by_agent (Some b) is v owner same =
-              by_owner v b (ap (λ id. list_any (λ y. y.id == id) own) (keeps x b here is) ∙ owner_by_id s lawful t w up p x here ∙ owner) is same
+              let own_too : is_own b ≡ v = ap (λ id. list_any (λ y. y.id == id) own) (keeps x b (those x (in_first x xs)) is) ∙ owner_by_id s lawful t w up p x (those x (in_first x xs)) ∙ owner in
+              rw own_too (by_owner v)
+            where
+              by_owner : (v : Bool) → cond v (b ∷ filter is_own rest) (filter is_own rest) ≡ of_all (cond v (x ∷ owned_of xs) (owned_of xs))
+              by_owner true = ap (λ ys. b ∷ ys) same ∙ ap (λ o. cons_option o (of_all (owned_of xs))) (sym is)
+              by_owner false = same
 
     keeps_id : (a b : Agent) → Contains w a → (leaves w a).agent ≡ Some b → b.id ≡ a.id
     keeps_id a b has e = (agent_left s lawful t w whole a b has e).same_id
@@ -147,10 +118,14 @@ module _ (s : Setting) (t : ℕ) where
         subst Rises (sym (ap children (left_each (becomes s t (said s t w)) w) ∙ children_each (leaves w) w))
         (kept_rise (λ a. (leaves w a).child) child_keeps_id w (rises_by_keys (λ (a : Agent). a.id) w up))
 
+    none_kept : (xs : List Agent) → filter_map (with_number 0 []) xs ≡ []
+    none_kept [] = refl
+    none_kept (x ∷ xs) = none_kept xs
+
     -- children with the ids of their ranks among all that are born
     numbered_own : (n k : ℕ) (kids : List Agent) → Rises kids
         → map (λ p. p.1) (filter (comes_from own) (map (λ p. (p.0.id, p.1)) (zip (take k kids) (numbered n (take k kids))))) ≡ filter_map (with_number n (ids (take k kids))) (filter is_own kids)
-    numbered_own n zero kids rise = sym (none_made (filter is_own kids))
+    numbered_own n zero kids rise = sym (none_kept (filter is_own kids))
     numbered_own n (suc k) [] rise = refl
     numbered_own n (suc k) (c ∷ kids) rise = by_owner (is_own c) later (numbered_own (suc n) k kids (λ i j d less within. rise (suc i) (suc j) d (omega (arith, less)) (omega (arith, within))))
       where
@@ -159,7 +134,7 @@ module _ (s : Setting) (t : ℕ) where
 
         later : filter_map (with_number n (c.id ∷ ids (take k kids))) others ≡ filter_map (with_number (suc n) (ids (take k kids))) others
         later = filter_map_alike (with_number n (c.id ∷ ids (take k kids))) (with_number (suc n) (ids (take k kids))) others (λ d has.
-            let (j, low, is) = of_filter is_own kids d has in
+            let (j, low, is) = (seen_in is_own kids d has).0 in
             let below = rise zero (suc j) d (omega arith) (omega (arith, low)) in
             let first = ap (λ (x : Agent). x.id) is in
             let one : n + 1 ≡ suc n = omega arith in

@@ -26,7 +26,7 @@ use Rattle.brace_pieces.specs.Right.{IsTold, IsRightAt, IsRightIn, IsRight}
 use Rattle.brace_pieces.specs.Halts.{StandsFirst, FollowsFirst}
 use Rattle.brace_pieces.proofs.WorldLemmas.{continued_is}
 use Rattle.brace_pieces.proofs.FaultLemmas.{found_over, later_tick, step_is_of, step_births, ends_before}
-use Rattle.brace_pieces.proofs.PlaceLemmas.{found_first}
+use Rattle.brace_pieces.proofs.OrderLemmas.{found_first}
 
 -- the last world of a run that ended, and the fault that its tick ended in
 pub record Ended (s : Setting) (n : ℕ) (g : Fault) : Type 0 where

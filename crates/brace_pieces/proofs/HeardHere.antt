@@ -1,10 +1,10 @@
 -- What a part hears is what is said to its agents.
-use Rattle.std.proofs.Common.{◌≡◌, ◌∙◌, refl, sym, ap, ap₂, subst, ℕ, ◌+◌, ◌<◌, ℤ, pos, ◌≤ℤ◌, ◌-ℤ◌, ◌+ℤ◌, List, [], ◌∷◌, ◌++◌, flat_map, length, Bool, true, false, ◌==◌, Option, Some, None, arith, ◌⊎◌, inl, inr}
+use Rattle.std.proofs.Common.{◌≡◌, ◌∙◌, refl, sym, ap, ap₂, subst, ℕ, ◌+◌, ◌<◌, ℤ, pos, ◌≤ℤ◌, ◌-ℤ◌, ◌+ℤ◌, List, [], ◌∷◌, ◌++◌, flat_map, length, Bool, true, false, Option, Some, None, arith, ◌⊎◌, inl, inr}
 use Rattle.std.specs.Prelude.{int_le, if◌then◌else◌}
-use Rattle.std.specs.List.{Contains}
+use Rattle.std.specs.List.{Contains, list_any}
 use Rattle.std.specs.Int.{int_max}
 use Rattle.std.specs.List.Sorted.{IsPermutation}
-use Rattle.std.proofs.lemmas.Bool.{eq-eqb, eqb-true, cases_Bool, cases_eq, true≢false}
+use Rattle.std.proofs.lemmas.Bool.{eq-eqb, eqb-true, cases_Bool, cases_eq, true≢false, or_left, or_right}
 use Rattle.std.proofs.lemmas.Int.{ints}
 use Rattle.std.proofs.lemmas.List.Sorted.{IsPermutation-refl}
 use Rattle.std.proofs.lemmas.List.Elements.{All-weaker}
@@ -47,7 +47,9 @@ use Rattle.brace_pieces.proofs.ShareLemmas.{shares_say, share_is, totals_within}
 use Rattle.brace_pieces.proofs.Sayings.{said_to-append, said_to-each, Others, silent_to, all_given, no_share}
 use Rattle.brace_pieces.proofs.Targets.{says_of, forward_says}
 use Rattle.brace_pieces.proofs.QueryHeld.{seen_held, query_held}
-use Rattle.brace_pieces.proofs.Partings.{given_by_kept, given_by_held, by_parts, OneOwns, one_of, parted}
+use Rattle.brace_pieces.proofs.Merges.{any_in_row, apart_in_row, has_failed}
+use Rattle.brace_pieces.proofs.HeldLemmas.{one_owns}
+use Rattle.brace_pieces.proofs.Partings.{given_by_kept, given_by_held, parted}
 use Rattle.brace_num.proofs.Lists.{flat_map_alike}
 
 -- ---- areas and owners
@@ -103,6 +105,9 @@ module _ (s : Setting) (lawful : LawfulSetting s) (t : ℕ) (w : List Agent) (in
   stands : (a : Agent) → Contains (own s t p w) a → Contains w a × (is_in m area a ≡ true)
   stands a there = let (within, is) = seen_in ours w a there in (within, inside p a is_part within is)
 
+  one_of_id : RisesById w → (a b : Agent) → Contains w a → Contains w b → a.id ≡ b.id → a ≡ b
+  one_of_id rises = one_agent w (rising_from (ids w) rises)
+
   -- without inversion
   module _ (plain : s.invert ≡ false) where
     range_is : range s ≡ greatest_visible m
@@ -118,9 +123,6 @@ module _ (s : Setting) (lawful : LawfulSetting s) (t : ℕ) (w : List Agent) (in
     said_same = flat_map_alike (λ a. (query_of m s.job.seed t (near s t p w) a).said) (λ a. (query_of m s.job.seed t w a).said) (own s t p w) (λ a there. ap (λ d. d.said) (queries_same a there))
 
     module _ (rises : RisesById w) where
-      one_of_id : (a b : Agent) → Contains w a → Contains w b → a.id ≡ b.id → a ≡ b
-      one_of_id = one_agent w (rising_from (ids w) rises)
-
       -- an agent of the part is near it, and so are those that it sees
       near_itself : (a : Agent) → is_in m area a ≡ true → by a ≡ true
       near_itself a here = nearer m area a (pos 0) (range s) (subst (λ r. pos 0 ≤ℤ r) (sym range_is) (greatest_in_range m lawful_m).0) here
@@ -130,8 +132,8 @@ module _ (s : Setting) (lawful : LawfulSetting s) (t : ℕ) (w : List Agent) (in
           silent_to b.id n (said_by s t p w) (all_given (λ x. Others b.id x.target) (λ a. (query_of m s.job.seed t w a).said) (own s t p w) (λ a there.
           let (aw, here) = stands a there in
           says_of m w a (Others b.id)
-          (λ same. true≢false (sym (near_itself a here) ∙ ap by (one_of_id a b aw within same) ∙ far))
-          (λ x xw seen same. true≢false (sym (seen_held m lawful_m area w by holds a here x xw seen) ∙ ap by (one_of_id x b xw within same) ∙ far))
+          (λ same. true≢false (sym (near_itself a here) ∙ ap by (one_of_id rises a b aw within same) ∙ far))
+          (λ x xw seen same. true≢false (sym (seen_held m lawful_m area w by holds a here x xw seen) ∙ ap by (one_of_id rises x b xw within same) ∙ far))
           s.job.seed t))
 
       -- what a part tells another it makes of the agents that it holds
@@ -149,9 +151,6 @@ module _ (s : Setting) (lawful : LawfulSetting s) (t : ℕ) (w : List Agent) (in
     module _ (b : Agent) (there : Contains (own s t p w) b) (n : ℕ) (rises : RisesById w) where
       abbrev to : Agent → List Value
       to a = said_to b.id n (query_of m s.job.seed t w a).said
-
-      same_agent : (x y : Agent) → Contains w x → Contains w y → x.id ≡ y.id → x ≡ y
-      same_agent = one_agent w (rising_from (ids w) rises)
 
       ours_b : (Contains w b) × (ours b ≡ true)
       ours_b = seen_in ours w b there
@@ -172,47 +171,39 @@ module _ (s : Setting) (lawful : LawfulSetting s) (t : ℕ) (w : List Agent) (in
             (in_turn_below (gap area (area_of cuts q)) (gap_to area x y) (greatest_visible m) (greatest_reach m) (gap_by_point area (area_of cuts q) x y (gap_to area x y) (same_far (gap_to area x y)) none) far)))
       ]
 
-      owner_of_class : (a : Agent) (c : Class) → class_of m a ≡ Some c → (q : ℕ) → owns m cuts q a ≡ (owner_of cuts (x_of c a) (y_of c a) == q)
-      owner_of_class a c is q = ap (λ o. owns_at cuts q o a) is
-
       unheard : (a : Agent) → Contains w a → (a.id ≡ b.id → ⊥) → sees m a b ≡ false → to a ≡ []
       unheard a aw other unseen =
           silent_to b.id n (query_of m s.job.seed t w a).said (says_of m w a (Others b.id) other
-          (λ x xw seen same. true≢false (sym seen ∙ ap (sees m a) (same_agent x b xw ours_b.0 same) ∙ unseen)) s.job.seed t)
+          (λ x xw seen same. true≢false (sym seen ∙ ap (sees m a) (one_of_id rises x b xw ours_b.0 same) ∙ unseen)) s.job.seed t)
 
       classless : (a : Agent) → class_of m a ≡ None → to a ≡ []
       classless a none = ap (λ o. said_to b.id n (query_in m s.job.seed t w a o).said) none
 
-      one_owns : (a : Agent) (c : Class) → class_of m a ≡ Some c → (owner_of cuts (x_of c a) (y_of c a) ≡ p) ⊎ (met (owner_of cuts (x_of c a) (y_of c a)) ≡ true) → OneOwns to (owns m cuts) a (p ∷ tellers s t p)
-      one_owns a c is choice =
-          one_of to (owns m cuts) a (owner_of cuts (x_of c a) (y_of c a)) (owner_of_class a c is) met p (parts s + 1) (meets_no_self s (step stage.Effects t) p)
-          (omega (arith, owner_is_part s lawful t (x_of c a) (y_of c a))) choice
+      -- who owns an agent is the part, or met
+      covers : (a : Agent) (q : ℕ) → owns m cuts q a ≡ true → q < parts s → (q ≡ p) ⊎ (met q ≡ true) → list_any (λ r. owns m cuts r a) (p ∷ tellers s t p) ≡ true
+      covers a q owner low (inl same) = or_left (ours a) _ (sym (ap (λ r. owns m cuts r a) same) ∙ owner)
+      covers a q owner low (inr passes) = or_right (ours a) _ (any_in_row met (λ r. owns m cuts r a) (parts s + 1) 0 q (omega arith) (omega (arith, low)) passes owner)
 
-      speaks : (a : Agent) → Contains w a → (c : Class) → class_of m a ≡ Some c → (to a ≡ []) ⊎ OneOwns to (owns m cuts) a (p ∷ tellers s t p)
-      speaks a aw c is =
+      speaks : (a : Agent) → Contains w a → (o : Option Class) → class_of m a ≡ o → (to a ≡ []) ⊎ (list_any (λ q. owns m cuts q a) (p ∷ tellers s t p) ≡ true)
+      speaks a aw None is = inl (classless a is)
+      speaks a aw (Some c) is =
           let q : ℕ = owner_of cuts (x_of c a) (y_of c a) in
+          let owner : owns m cuts q a ≡ true = ap (λ o. owns_at cuts q o a) is ∙ eq-eqb q q refl in
+          let low : q < parts s = owner_is_part s lawful t (x_of c a) (y_of c a) in
           elim (cases_eq a.id b.id) [
-            | inl same ↦
-                let it : a ≡ b = same_agent a b aw ours_b.0 same in
-                inr (one_owns a c is (inl (eqb-true q p (sym (owner_of_class a c is p) ∙ ap ours it ∙ ours_b.1))))
+            | inl same ↦ inr (covers a p (ap ours (one_of_id rises a b aw ours_b.0 same) ∙ ours_b.1) is_part (inl refl))
             | inr other ↦ elim (cases_Bool (sees m a b)) [
-              | inl seen ↦ inr (one_owns a c is (owner_met a aw q (owner_of_class a c is q ∙ eq-eqb q q refl) (owner_is_part s lawful t (x_of c a) (y_of c a)) seen))
+              | inl seen ↦ inr (covers a q owner low (owner_met a aw q owner low seen))
               | inr unseen ↦ inl (unheard a aw other unseen)
             ]
           ]
-
-      speaks_once : (a : Agent) → Contains w a → (to a ≡ []) ⊎ OneOwns to (owns m cuts) a (p ∷ tellers s t p)
-      speaks_once a aw = (elim (class_of m a) as (λ o. class_of m a ≡ o → (to a ≡ []) ⊎ OneOwns to (owns m cuts) a (p ∷ tellers s t p)) [
-        | None ↦ λ is. inl (classless a is)
-        | Some c ↦ λ is. speaks a aw c is
-      ]) refl
 
       said_is : said_to b.id n (said s t w) ≡ flat_map to w
       said_is =
           ap (λ c. said_to b.id n (if c then said_by_both m s.job.seed t w else said_in m s.job.seed t w)) plain
           ∙ said_to-each b.id n (λ a. (query_of m s.job.seed t w a).said) w
 
-      heard_is : said_to b.id n (heard s t p w) ≡ by_parts to (owns m cuts) (p ∷ tellers s t p) w
+      heard_is : said_to b.id n (heard s t p w) ≡ flat_map (λ q. flat_map to (own s t q w)) (p ∷ tellers s t p)
       heard_is =
           ap (λ c. said_to b.id n (if c then (said_here (forward_program m) s t p w ++ said_in (inverse_program m) s.job.seed t (near s t p w)) else (said_here m s t p w ++ flat_map (λ q. said_by s t q w) (tellers s t p)))) plain
           ∙ ap (λ xs. said_to b.id n (xs ++ flat_map (λ q. said_by s t q w) (tellers s t p))) said_same
@@ -223,7 +214,8 @@ module _ (s : Setting) (lawful : LawfulSetting s) (t : ℕ) (w : List Agent) (in
       pub heard_all : IsPermutation (said_to b.id n (said s t w)) (said_to b.id n (heard s t p w))
       heard_all =
           subst (λ xs. IsPermutation xs (said_to b.id n (heard s t p w))) (sym said_is)
-          (subst (IsPermutation (flat_map to w)) (sym heard_is) (parted to (owns m cuts) (p ∷ tellers s t p) w speaks_once))
+          (subst (IsPermutation (flat_map to w)) (sym heard_is) (parted to (owns m cuts) (one_owns m cuts) (p ∷ tellers s t p)
+          (has_failed met (parts s + 1) 0 p (meets_no_self s (step stage.Effects t) p), apart_in_row met (parts s + 1) 0) w (λ a aw. speaks a aw (class_of m a) refl)))
 
   -- with inversion
   module _ (inverted : s.invert ≡ true) where
@@ -242,7 +234,7 @@ module _ (s : Setting) (lawful : LawfulSetting s) (t : ℕ) (w : List Agent) (in
           let (bw, is) = seen_in ours w b there in
           silent_to b.id n (query_of (forward_program m) s.job.seed t w a).said
           (All-weaker (λ x. a.id ≡ x.target) (λ x. Others b.id x.target)
-          (λ x own same. true≢false (sym is ∙ ap ours (sym (one_agent w (rising_from (ids w) rises) a b aw bw (own ∙ same))) ∙ isnt))
+          (λ x own same. true≢false (sym is ∙ ap ours (sym (one_of_id rises a b aw bw (own ∙ same))) ∙ isnt))
           (query_of (forward_program m) s.job.seed t w a).said (forward_says m w a s.job.seed t))
 
       by_forward : said_to b.id n (said_in (forward_program m) s.job.seed t w) ≡ said_to b.id n (said_here (forward_program m) s t p w)

@@ -55,9 +55,6 @@ state_of name None e = absurd (cc)
 state_of name (Some s) e =
     record { state = s; is = refl; named = (bytes_eq-Decides s.name name).0 (and_parts (bytes_eq s.name name) _ e).0 }
 
-letters_differ : codes "x" ≡ codes "y" → ⊥
-letters_differ e = absurd (omega (arith, ap (λ l. slice_index l 0) e))
-
 pub has_place : (program : Program) (n : ℕ) (c : Class) → LawfulClass program n c → HasPlace c
 has_place program n c lawful =
     let x = state_of (codes "x") (slice_get c.states c.x) lawful.x_is_position in
@@ -65,7 +62,7 @@ has_place program n c lawful =
     record {
       x_there = slice_get_within c.states c.x x.state x.is;
       y_there = slice_get_within c.states c.y y.state y.is;
-      apart = λ e. letters_differ (sym x.named ∙ ap (λ s. s.name) (same_Some x.state y.state (sym x.is ∙ ap (slice_get c.states) e ∙ y.is)) ∙ y.named);
+      apart = λ e. absurd (omega (arith, ap (λ l. slice_index l 0) (sym x.named ∙ ap (λ s. s.name) (same_Some x.state y.state (sym x.is ∙ ap (slice_get c.states) e ∙ y.is)) ∙ y.named)));
       some_reach = distance_low c.reach lawful.reach_is_distance;
     }
 
@@ -79,25 +76,14 @@ pub record IsNear (c : Class) (a b : Agent) : Type 0 where
   pub along_y : AreWithin c.reach (y_of c a) (y_of c b)
   pub stays_fit : AllFit a.states → class_fits c ≡ true → AllFit b.states
 
-no_way : (z d : ℤ) → pos 0 ≤ℤ d → (z -ℤ z) ≤ℤ d
-no_way z d h = omega (arith, ints, h)
-
 pub near_itself : (c : Class) (a : Agent) → HasPlace c → IsNear c a a
-near_itself c a place = record {
-  as_long = refl;
-  along_x = (no_way (x_of c a) c.reach place.some_reach, no_way (x_of c a) c.reach place.some_reach);
-  along_y = (no_way (y_of c a) c.reach place.some_reach, no_way (y_of c a) c.reach place.some_reach);
-  stays_fit = λ own written. own;
-}
-
-down_within : (old new reach : ℤ) → pos 0 ≤ℤ reach → (old -ℤ clamped old new reach) ≤ℤ reach
-down_within old new reach h = omega (arith, ints, clamps, h)
-
-up_within : (old new reach : ℤ) → pos 0 ≤ℤ reach → (clamped old new reach -ℤ old) ≤ℤ reach
-up_within old new reach h = omega (arith, ints, clamps, h)
+near_itself c a place = record { as_long = refl; along_x = none_far (x_of c a) c.reach place.some_reach; along_y = none_far (y_of c a) c.reach place.some_reach; stays_fit = λ own written. own }
+  where
+    none_far : (z d : ℤ) → pos 0 ≤ℤ d → AreWithin d z z
+    none_far z d h = (omega (arith, ints, h), omega (arith, ints, h))
 
 clamped_near : (old new reach z : ℤ) → pos 0 ≤ℤ reach → z ≡ clamped old new reach → AreWithin reach old z
-clamped_near old new reach z h e = subst (AreWithin reach old) (sym e) (down_within old new reach h, up_within old new reach h)
+clamped_near old new reach z h e = (omega (arith, ints, clamps, h, e), omega (arith, ints, clamps, h, e))
 
 value_put : (vs : List Value) (i : ℕ) (v : Value) → i < length vs → value_at (slice_set vs i v) i ≡ v
 value_put vs i v low = unwrap_or-slice_get (slice_set vs i v) i no_value ∙ get_or-set_same vs i v no_value low
@@ -194,6 +180,15 @@ gifts_all_fit old [] given all more = all
 gifts_all_fit old (g ∷ gifts) [] all more = all
 gifts_all_fit old (g ∷ gifts) (v ∷ given) all more = gifts_all_fit (slice_set old g.state v) gifts given (put_fits old g.state v all (more 0)) (λ i. more (suc i))
 
+-- what is there on a condition
+if_there : (test : Bool) (x b : Agent) → (if test then Some x else None) ≡ Some b → (test ≡ true) × (Some x ≡ Some b)
+if_there true x b e = (refl, e)
+if_there false x b e = absurd (none-some b e)
+
+lives_on : (dies : Bool) (x b : Agent) → (if dies then None else Some x) ≡ Some b → Some x ≡ Some b
+lives_on true x b e = absurd (none-some b e)
+lives_on false x b e = e
+
 -- what an agent leaves, itself or a child
 pub record IsHeir (c : Class) (a b : Agent) : Type 0 where
   pub same_id : b.id ≡ a.id
@@ -207,14 +202,6 @@ module _ (c : Class) (place : HasPlace c) (a : Agent) (whole : length a.states �
   with_states : (states : List Value) → length states ≡ length a.states → StayFit c a states → (b : Agent) → Some (changed c a states) ≡ Some b → IsHeir c a b
   with_states states long fit b e = subst (IsHeir c a) (same_Some (changed c a states) b e) (record { same_id = refl; same_class = refl; is_near = near_changed c a states place whole long fit })
 
-  lives_on : (dies : Bool) (states : List Value) → length states ≡ length a.states → StayFit c a states → (b : Agent) → (if dies then None else Some (changed c a states)) ≡ Some b → IsHeir c a b
-  lives_on true states long fit b e = absurd (none-some b e)
-  lives_on false states long fit b e = with_states states long fit b e
-
-  born : (bears : Bool) (states : List Value) → length states ≡ length a.states → StayFit c a states → (b : Agent) → (if bears then Some (changed c a states) else None) ≡ Some b → IsHeir c a b
-  born true states long fit b e = with_states states long fit b e
-  born false states long fit b e = absurd (none-some b e)
-
   module _ (seed tick : ℕ) (totals : List ℤ) where
     abbrev here : Scope
     here = opening_scope seed tick [] totals a
@@ -223,15 +210,16 @@ module _ (c : Class) (place : HasPlace c) (a : Agent) (whole : length a.states �
     child_of None is b e = absurd (none-some b e)
     child_of (Some spawn) is b e =
         let given : List Value = values_of (gifts_in here (Some spawn)) in
-        born (holds (value spawn.when here)) (with_gifts a.states spawn.gifts given) (gifts_as_long a.states spawn.gifts given)
+        let (bears, gives) = if_there (holds (value spawn.when here)) (changed c a (with_gifts a.states spawn.gifts given)) b e in
+        with_states (with_gifts a.states spawn.gifts given) (gifts_as_long a.states spawn.gifts given)
         (λ own written. gifts_all_fit a.states spawn.gifts given own
-        (given_all_fit seed tick totals a own (holds (value spawn.when here)) spawn.gifts (sym (ap gifts_fit is) ∙ (and_parts (list_all (λ (st : State). rule_fits st.rule) c.states) (gifts_fit c.spawn) written).1))) b e
+        (given_all_fit seed tick totals a own (holds (value spawn.when here)) spawn.gifts (sym (ap gifts_fit is) ∙ (and_parts (list_all (λ (st : State). rule_fits st.rule) c.states) (gifts_fit c.spawn) written).1))) b gives
 
     agent_by_stop : (o : Option Stop) → first_stop (update_in here c a) ≡ o → (b : Agent) → (left_or_kept a (unless_stopped tick a o (left_by here c a))).agent ≡ Some b → IsHeir c a b
     agent_by_stop (Some stop) is b e = itself b e
     agent_by_stop None is b e =
-        lives_on (holds (condition_in here c.die)) (values_of (rules_in here c a)) (as_many_values here c a is whole)
-        (λ own written. rules_all_fit seed tick totals a own c.states a.states (and_parts (list_all (λ (st : State). rule_fits st.rule) c.states) (gifts_fit c.spawn) written).0 own) b e
+        with_states (values_of (rules_in here c a)) (as_many_values here c a is whole)
+        (λ own written. rules_all_fit seed tick totals a own c.states a.states (and_parts (list_all (λ (st : State). rule_fits st.rule) c.states) (gifts_fit c.spawn) written).0 own) b (lives_on (holds (condition_in here c.die)) (changed c a (values_of (rules_in here c a))) b e)
 
     child_by_stop : (o : Option Stop) → first_stop (update_in here c a) ≡ o → (b : Agent) → (left_or_kept a (unless_stopped tick a o (left_by here c a))).child ≡ Some b → IsHeir c a b
     child_by_stop (Some stop) is b e = absurd (none-some b e)

@@ -1,6 +1,6 @@
 -- What a part holds comes from its own agents and from those that the parts that it meets show it.
-use Rattle.std.proofs.Common.{◌≡◌, ◌∙◌, refl, sym, ap₂, subst, ℕ, ◌+◌, ◌-◌, ◌<◌, arith, ℤ, pos, List, ◌∷◌, ◌++◌, filter, flat_map, Bool, true, false, ◌&&◌, Option, Some, None}
-use Rattle.std.specs.List.{list_any}
+use Rattle.std.proofs.Common.{◌≡◌, ◌∙◌, refl, sym, subst, ℕ, ◌+◌, ◌-◌, ◌<◌, arith, ℤ, pos, List, ◌∷◌, ◌++◌, filter, flat_map, Bool, true, false, ◌&&◌, Option, Some, None}
+use Rattle.std.specs.List.{Contains, list_any}
 use Rattle.std.specs.List.Sorted.{IsPermutation}
 use Rattle.std.proofs.lemmas.Bool.{eqb-true, and_parts, or_right}
 use Rattle.std.proofs.lemmas.List.Sorted.{IsPermutation-sym, IsPermutation-trans}
@@ -13,6 +13,7 @@ use Rattle.brace_cuts.specs.Space.{area_of, owner_of}
 use Rattle.brace_invert.specs.Held.{stands_near, is_near}
 use Rattle.brace_pieces.specs.declared.setting.Setting.{Setting}
 use Rattle.brace_pieces.specs.declared.setting.Stage.TheVariants.{Hand, Border}
+use Rattle.brace_pieces.specs.declared.setting.Step.{Step}
 use Rattle.brace_pieces.specs.Settings.{cuts_of, parts, range, greatest_reach, LawfulSetting}
 use Rattle.brace_pieces.specs.Steps.{step, meet, met}
 use Rattle.brace_pieces.specs.Owned.{owns_at, owns, owned, held}
@@ -21,7 +22,7 @@ use Rattle.brace_pieces.specs.Together.{IsWhole, AreWhole, IsSorted}
 use Rattle.brace_pieces.proofs.Merges.{together, covered, covered_none}
 use Rattle.brace_pieces.proofs.Meetings.{gap_by_point, no_gap, owner_is_part, owner_has, meets, range_some}
 use Rattle.brace_pieces.proofs.ScheduleLemmas.{meets_no_self}
-use Rattle.brace_num.proofs.Lists.{filter_alike, filter_twice, flat_map_alike}
+use Rattle.brace_num.proofs.Lists.{filter_alike, filter_twice}
 use Rattle.brace_num.proofs.Orders.{filter_rises, one_sorted}
 use Rattle.brace_num.proofs.Numbers.{le_holds, le_told, below_max}
 
@@ -47,6 +48,12 @@ module _ (s : Setting) (lawful : LawfulSetting s) (p : ℕ) (part : p < parts s)
 
   abbrev now : Cuts
   now = cuts_of s t
+
+  -- agents that pass a test, of which the parts that meet own all under some cuts
+  by_parts : (cuts : Cuts) (n : Agent → Bool) (at : Step) (w : List Agent) → ((a : Agent) → Contains w a → list_any (λ q. owns m cuts q a && n a) (p ∷ met s at p) ≡ n a)
+      → IsPermutation (filter n (owned m cuts p w) ++ flat_map (λ q. filter n (owned m cuts q w)) (met s at p)) (filter n w)
+  by_parts cuts n at w covers =
+      simp filter_twice (together (λ q a. owns m cuts q a && n a) (only_and m cuts n) (meet s at p) (parts s + 1) p (meets_no_self s at p) n w covers)
 
   -- ---- what is shown at a border
 
@@ -74,11 +81,9 @@ module _ (s : Setting) (lawful : LawfulSetting s) (p : ℕ) (part : p < parts s)
 
   pub held_together : (w : List Agent) → AreWhole m w → IsPermutation (owned m now p w ++ flat_map (λ q. border s t q p w) (met s (step Border t) p)) (held m now (range s) p w)
   held_together w on =
-      let u : ℕ → Agent → Bool = λ q a. owns m now q a && near a in
-      let own : owned m now p w ≡ filter (u p) w = filter_alike (owns m now p) (u p) w (λ a h. and_so (owns m now p a) (near a) (own_near (class_of m a) a (λ c e. on a c h e))) in
-      let pieces : flat_map (λ q. border s t q p w) (met s (step Border t) p) ≡ flat_map (λ q. filter (u q) w) (met s (step Border t) p) = flat_map_alike (λ q. border s t q p w) (λ q. filter (u q) w) (met s (step Border t) p) (λ q has. filter_twice near (owns m now q) w) in
-      subst (λ xs. IsPermutation xs (held m now (range s) p w)) (sym (ap₂ (λ xs ys. xs ++ ys) own pieces))
-      (together u (only_and m now near) (meet s (step Border t) p) (parts s + 1) p (meets_no_self s (step Border t) p) near w (λ a h. shown_by (class_of m a) a (λ c e. on a c h e)))
+      let own : filter near (owned m now p w) ≡ owned m now p w =
+      filter_twice near (owns m now p) w ∙ sym (filter_alike (owns m now p) _ w (λ a h. and_so (owns m now p a) (near a) (own_near (class_of m a) a (λ c e. on a c h e)))) in
+      subst (λ xs. IsPermutation (xs ++ flat_map (λ q. border s t q p w) (met s (step Border t) p)) (held m now (range s) p w)) own (by_parts now near (step Border t) w (λ a h. shown_by (class_of m a) a (λ c e. on a c h e)))
 
   pub held_is : (w xs : List Agent) → RisesById w → AreWhole m w → IsSorted (owned m now p w ++ flat_map (λ q. border s t q p w) (met s (step Border t) p)) xs → xs ≡ held m now (range s) p w
   held_is w xs up on sorted =
@@ -105,12 +110,7 @@ module _ (s : Setting) (lawful : LawfulSetting s) (p : ℕ) (part : p < parts s)
       (omega (arith, is_part), meets s lawful (step Hand t) p owner part other is_part (or_right _ _ (le_holds _ _ gap_is))))
 
   pub handed_together : (w : List Agent) → AreWhole m w → IsPermutation (owned m now p (owned m before p w) ++ flat_map (λ q. handed s t q p w) (met s (step Hand t) p)) (owned m now p w)
-  handed_together w on =
-      let u : ℕ → Agent → Bool = λ q a. owns m before q a && owns m now p a in
-      let own : owned m now p (owned m before p w) ≡ filter (u p) w = filter_twice (owns m now p) (owns m before p) w in
-      let pieces : flat_map (λ q. handed s t q p w) (met s (step Hand t) p) ≡ flat_map (λ q. filter (u q) w) (met s (step Hand t) p) = flat_map_alike (λ q. handed s t q p w) (λ q. filter (u q) w) (met s (step Hand t) p) (λ q has. filter_twice (owns m now p) (owns m before q) w) in
-      subst (λ xs. IsPermutation xs (owned m now p w)) (sym (ap₂ (λ xs ys. xs ++ ys) own pieces))
-      (together u (only_and m before (owns m now p)) (meet s (step Hand t) p) (parts s + 1) p (meets_no_self s (step Hand t) p) (owns m now p) w (λ a h. handed_by (class_of m a) a (λ c e. on a c h e)))
+  handed_together w on = by_parts before (owns m now p) (step Hand t) w (λ a h. handed_by (class_of m a) a (λ c e. on a c h e))
 
   pub handed_is : (w xs : List Agent) → RisesById w → AreWhole m w → IsSorted (owned m now p (owned m before p w) ++ flat_map (λ q. handed s t q p w) (met s (step Hand t) p)) xs → xs ≡ owned m now p w
   handed_is w xs up on sorted =

@@ -1,8 +1,8 @@
 -- Which parts meet: where a point of one is near an area of another.
-use Rattle.std.proofs.Common.{◌≡◌, ◌∙◌, sym, ap, subst, ℕ, ◌+◌, ◌*◌, ◌<◌, ℤ, pos, ◌-ℤ◌, ◌+ℤ◌, ◌≤ℤ◌, length, Bool, true, false, ◌&&◌, not, if◌then◌else◌, arith, FitsSigned}
+use Rattle.std.proofs.Common.{◌≡◌, ◌∙◌, sym, ap, subst, ℕ, ◌+◌, ◌*◌, ◌<◌, ℤ, pos, ◌+ℤ◌, ◌≤ℤ◌, length, Bool, true, false, ◌&&◌, not, if◌then◌else◌, arith, FitsSigned}
 use Rattle.std.specs.Prelude.{int_le, nat_lt}
-use Rattle.std.specs.Int.{int_max, w64}
-use Rattle.std.proofs.lemmas.Int.{ints}
+use Rattle.std.specs.Int.{w64}
+use Rattle.std.proofs.lemmas.Int.{ints, clamps}
 use Rattle.std.proofs.lemmas.Nat.{mul-add-lt}
 use Rattle.std.proofs.lemmas.Bool.{ne_eqb, lt-ltb}
 use Rattle.std.proofs.lemmas.List.Sums.{count_by-le-length}
@@ -22,20 +22,8 @@ use Rattle.brace_num.proofs.Numbers.{max_within, within_max, le_holds}
 
 -- ---- gaps
 
-low_apart : (low p other d : ℤ) → (low -ℤ p) ≤ℤ d → (p -ℤ other) ≤ℤ pos 0 → (low -ℤ other) ≤ℤ d
-low_apart low p other d h g = omega (arith, ints, h, g)
-
-high_apart : (high p other d : ℤ) → (p -ℤ high) ≤ℤ d → (other -ℤ p) ≤ℤ pos 0 → (other -ℤ high) ≤ℤ d
-high_apart high p other d h g = omega (arith, ints, h, g)
-
 spans_apart : (low high other_low other_high p d : ℤ) → outside low high p ≤ℤ d → outside other_low other_high p ≤ℤ pos 0 → apart low high other_low other_high ≤ℤ d
-spans_apart low high other_low other_high p d h g =
-    let (some, ends) = within_max (pos 0) (int_max (low -ℤ p) (p -ℤ high)) d h in
-    let (below, above) = within_max (low -ℤ p) (p -ℤ high) d ends in
-    let (none, others) = within_max (pos 0) (int_max (other_low -ℤ p) (p -ℤ other_high)) (pos 0) g in
-    let (from, to) = within_max (other_low -ℤ p) (p -ℤ other_high) (pos 0) others in
-    max_within (pos 0) (int_max (low -ℤ other_high) (other_low -ℤ high)) d some
-    (max_within (low -ℤ other_high) (other_low -ℤ high) d (low_apart low p other_high d below to) (high_apart high p other_low d above from))
+spans_apart low high other_low other_high p d h g = omega (arith, ints, clamps)
 
 no_more : (z d : ℤ) → z ≡ pos 0 → pos 0 ≤ℤ d → z ≤ℤ d
 no_more z d e h = grind (arith, e, h)

@@ -1,11 +1,17 @@
 -- Lists that are put together of the lists of several parts, and put in order by id.
-use Rattle.std.proofs.Common.{◌≡◌, ◌∙◌, ◌⊎◌, refl, sym, ap, subst, ℕ, zero, suc, ◌+◌, ◌<◌, ◌≤◌, List, [], ◌∷◌, ◌++◌, filter, flat_map, Bool, true, false, cond, ◌||◌, ◌&&◌, ◌==◌, arith, inl, inr, Contains}
+use Rattle.std.proofs.Common.{◌≡◌, ◌∙◌, ◌⊎◌, refl, sym, ap, subst, ℕ, zero, suc, ◌+◌, ◌<◌, ◌≤◌, List, [], ◌∷◌, ◌++◌, filter, flat_map, Bool, true, false, cond, ◌||◌, ◌&&◌, ◌==◌, arith, inl, inr, Contains, append_assoc}
 use Rattle.std.specs.List.{list_any, range_with_len}
 use Rattle.std.specs.List.Sorted.{IsPermutation}
 use Rattle.std.proofs.lemmas.Bool.{cases_Bool, cases_eq, ne_eqb, eq-eqb, true≢false}
-use Rattle.std.proofs.lemmas.List.Sorted.{IsPermutation-refl, IsPermutation-trans, IsPermutation-cons, IsPermutation-middle, IsPermutation-append_right}
+use Rattle.std.proofs.lemmas.List.Sorted.{IsPermutation-refl, IsPermutation-trans, IsPermutation-append_comm, IsPermutation-append_left, IsPermutation-append_right}
+use Rattle.std.proofs.lemmas.List.Folds.{Any-from_list_any, list_any_at, list_any_none}
+use Rattle.std.proofs.lemmas.List.Elements.{All-weaker, filter_passes}
 use Rattle.brace_model.specs.declared.world.Agent.{Agent}
-use Rattle.brace_num.proofs.Lists.{filter_alike}
+use Rattle.brace_num.proofs.Lists.{filter_alike, filter_none, in_filter, All-from_contains}
+use Rattle.brace_num.proofs.Booleans.{and_false}
+use Rattle.brace_num.proofs.Rows.{in_row, row_has}
+use Rattle.brace_invert.proofs.Heard.{seen_in}
+use Rattle.brace_invert.proofs.Runs.{turned}
 use Rattle.brace_num.proofs.Orders.{rises_by_keys, keys_by_rises}
 use Rattle.brace_num.proofs.Orders as orders
 
@@ -27,12 +33,14 @@ Apart [] = Unit {0}
 Apart (q ∷ ms) = (has q ms ≡ false) × Apart ms
 
 module _ (t : ℕ → Bool) where
+  -- numbers that are none of a row, or that do not pass, are not there
   has_not : (n a q : ℕ) → q < a → has q (filter t (range_with_len a n)) ≡ false
-  has_not zero a q low = refl
-  has_not (suc n) a q low = elim (t a) as (λ v. has q (cond v (a ∷ filter t (range_with_len (a + 1) n)) (filter t (range_with_len (a + 1) n))) ≡ false) [
-    | true ↦ ap (λ v. v || has q (filter t (range_with_len (a + 1) n))) (ne_eqb a q (λ e. omega (arith, low, e))) ∙ has_not n (a + 1) q (omega (arith, low))
-    | false ↦ has_not n (a + 1) q (omega (arith, low))
-  ]
+  has_not n a q low = list_any_none (λ m. m == q) (filter t (range_with_len a n)) (All-from_contains (λ m. (m == q) ≡ false) _ (λ m there.
+      ne_eqb m q (λ e. omega (arith, e, low, (in_row a n m (seen_in t (range_with_len a n) m there).0).0))))
+
+  pub has_failed : (n a q : ℕ) → t q ≡ false → has q (filter t (range_with_len a n)) ≡ false
+  has_failed n a q fails = list_any_none (λ m. m == q) (filter t (range_with_len a n)) (All-weaker (λ m. t m ≡ true) (λ m. (m == q) ≡ false)
+      (λ m passes. ne_eqb m q (λ e. true≢false (sym passes ∙ ap t e ∙ fails))) _ (filter_passes t (range_with_len a n)))
 
   -- numbers in a row that pass a test are apart
   pub apart_in_row : (n a : ℕ) → Apart (filter t (range_with_len a n))
@@ -42,93 +50,66 @@ module _ (t : ℕ → Bool) where
     | false ↦ apart_in_row n (a + 1)
   ]
 
-  -- a number that does not pass is not there
-  pub has_failed : (n a q : ℕ) → t q ≡ false → has q (filter t (range_with_len a n)) ≡ false
-  has_failed zero a q fails = refl
-  has_failed (suc n) a q fails = by_test (t a) refl (has_failed n (a + 1) q fails)
-    where
-      by_test : (v : Bool) → t a ≡ v → has q (filter t (range_with_len (a + 1) n)) ≡ false → has q (cond v (a ∷ filter t (range_with_len (a + 1) n)) (filter t (range_with_len (a + 1) n))) ≡ false
-      by_test true passes rest =
-          ap (λ v. v || has q (filter t (range_with_len (a + 1) n))) (ne_eqb a q (λ e. true≢false (sym passes ∙ ap t e ∙ fails))) ∙ rest
-      by_test false none rest = rest
-
   -- some number in a row that passes is one that another test wants
   pub any_in_row : (u : ℕ → Bool) (n a q : ℕ) → a ≤ q → q < a + n → t q ≡ true → u q ≡ true → list_any u (filter t (range_with_len a n)) ≡ true
-  any_in_row u zero a q low high passes wanted = absurd (omega (arith, low, high))
-  any_in_row u (suc n) a q low high passes wanted = by_place (cases_eq a q) (λ other. any_in_row u n (a + 1) q (omega (arith, low, other)) (omega (arith, high)) passes wanted)
-    where
-      rest : Bool
-      rest = list_any u (filter t (range_with_len (a + 1) n))
+  any_in_row u n a q low high passes wanted =
+      let (k, below, is) = in_filter t (range_with_len a n) q (row_has a n q low high) passes in
+      list_any_at u (filter t (range_with_len a n)) k q below (ap u is ∙ wanted)
 
-      by_test : (v : Bool) → rest ≡ true → list_any u (cond v (a ∷ filter t (range_with_len (a + 1) n)) (filter t (range_with_len (a + 1) n))) ≡ true
-      by_test true there = elim (u a) as (λ v. (v || rest) ≡ true) [
-        | true ↦ refl
-        | false ↦ there
-      ]
-      by_test false there = there
+-- a list of lists of one
+each_itself : {A : Type 0} (xs : List A) → flat_map (λ a. a ∷ []) xs ≡ xs
+each_itself [] = refl
+each_itself (x ∷ xs) = ap (λ ys. x ∷ ys) (each_itself xs)
 
-      by_place : (a ≡ q) ⊎ (a ≡ q → ⊥) → ((a ≡ q → ⊥) → rest ≡ true) → list_any u (filter t (range_with_len a (suc n))) ≡ true
-      by_place (inl same) later =
-          ap (λ v. list_any u (cond v (a ∷ filter t (range_with_len (a + 1) n)) (filter t (range_with_len (a + 1) n)))) (ap t same ∙ passes)
-          ∙ ap (λ v. v || rest) (ap u same ∙ wanted)
-      by_place (inr other) later = by_test (t a) (later other)
-
-module _ {A : Type 0} where
-  -- what passes one of two tests that nothing passes both of
-  of_two : (p q : A → Bool) → ((a : A) → p a ≡ true → q a ≡ false) → (xs : List A) → IsPermutation (filter p xs ++ filter q xs) (filter (λ a. p a || q a) xs)
+module _ {A B : Type 0} (to : A → List B) where
+  -- what is given by what passes one of two tests that nothing passes both of
+  of_two : (p q : A → Bool) → ((a : A) → p a ≡ true → q a ≡ false) → (xs : List A) → IsPermutation (flat_map to (filter p xs) ++ flat_map to (filter q xs)) (flat_map to (filter (λ a. p a || q a) xs))
   of_two p q only [] = IsPermutation-refl []
   of_two p q only (x ∷ xs) = by_tests (p x) (q x) (only x) (of_two p q only xs)
     where
-      joined : List A
-      joined = filter (λ a. p a || q a) xs
+      one : List B
+      one = flat_map to (filter p xs)
 
-      by_tests : (b c : Bool) → (b ≡ true → c ≡ false) → IsPermutation (filter p xs ++ filter q xs) joined → IsPermutation (cond b (x ∷ filter p xs) (filter p xs) ++ cond c (x ∷ filter q xs) (filter q xs)) (cond (b || c) (x ∷ joined) joined)
+      other : List B
+      other = flat_map to (filter q xs)
+
+      by_tests : (b c : Bool) → (b ≡ true → c ≡ false) → IsPermutation (one ++ other) (flat_map to (filter (λ a. p a || q a) xs))
+          → IsPermutation (flat_map to (cond b (x ∷ filter p xs) (filter p xs)) ++ flat_map to (cond c (x ∷ filter q xs) (filter q xs))) (flat_map to (cond (b || c) (x ∷ filter (λ a. p a || q a) xs) (filter (λ a. p a || q a) xs)))
       by_tests true true none rest = absurd (true≢false (none refl))
-      by_tests true false none rest = IsPermutation-cons x _ _ rest
-      by_tests false true none rest = IsPermutation-trans _ _ _ (IsPermutation-middle (filter p xs) x (filter q xs)) (IsPermutation-cons x _ _ rest)
+      by_tests true false none rest = subst (λ l. IsPermutation l (to x ++ flat_map to (filter (λ a. p a || q a) xs))) (sym (append_assoc (to x) one other)) (IsPermutation-append_right (to x) _ _ rest)
+      by_tests false true none rest = IsPermutation-trans _ _ _ (turned one (to x) other) (IsPermutation-append_right (to x) _ _ rest)
       by_tests false false none rest = rest
 
   -- a test that only one number passes, for each of other numbers
   none_other : (u : ℕ → A → Bool) → ((p q : ℕ) (a : A) → u p a ≡ true → u q a ≡ true → p ≡ q) → (q : ℕ) (ms : List ℕ) → has q ms ≡ false → (a : A) → u q a ≡ true → list_any (λ m. u m a) ms ≡ false
-  none_other u only q [] apart a here = refl
-  none_other u only q (m ∷ ms) apart a here = by_test (cases_Bool (u m a)) (λ rest. none_other u only q ms rest a here)
-    where
-      parts : (v w : Bool) → (v || w) ≡ false → (v ≡ false) × (w ≡ false)
-      parts true w e = absurd (true≢false e)
-      parts false w e = (refl, e)
+  none_other u only q ms apart a here = elim (cases_Bool (list_any (λ m. u m a) ms)) [
+    | inl some ↦
+        let (k, m, low, is, there) = Any-from_list_any (λ m. u m a) ms some in
+        absurd (true≢false (sym (list_any_at (λ m. m == q) ms k m low (eq-eqb _ _ (is ∙ only m q a there here))) ∙ apart))
+    | inr none ↦ none
+  ]
 
-      by_test : (u m a ≡ true) ⊎ (u m a ≡ false) → (has q ms ≡ false → list_any (λ m. u m a) ms ≡ false) → (u m a || list_any (λ m. u m a) ms) ≡ false
-      by_test (inl there) later = absurd (true≢false (sym (eq-eqb m q (only m q a there here)) ∙ (parts (m == q) (has q ms) apart).0))
-      by_test (inr not_there) later = ap (λ v. v || list_any (λ m. u m a) ms) not_there ∙ later (parts (m == q) (has q ms) apart).1
-
-  -- the items of several parts, of which each has another one's
-  pub gathered : (u : ℕ → A → Bool) → ((p q : ℕ) (a : A) → u p a ≡ true → u q a ≡ true → p ≡ q) → (ms : List ℕ) → Apart ms → (xs : List A)
-      → IsPermutation (flat_map (λ q. filter (u q) xs) ms) (filter (λ a. list_any (λ q. u q a) ms) xs)
-  gathered u only [] apart xs = none_kept xs
-    where
-      none_kept : (xs : List A) → IsPermutation [] (filter (λ a. false) xs)
-      none_kept [] = IsPermutation-refl []
-      none_kept (x ∷ xs) = none_kept xs
-  gathered u only (q ∷ ms) apart xs =
-      IsPermutation-trans _ _ _ (IsPermutation-append_right (filter (u q) xs) _ _ (gathered u only ms apart.1 xs))
+  -- what the items of several parts give, of which each has another one's
+  pub given : (u : ℕ → A → Bool) → ((p q : ℕ) (a : A) → u p a ≡ true → u q a ≡ true → p ≡ q) → (ms : List ℕ) → Apart ms → (xs : List A)
+      → IsPermutation (flat_map (λ q. flat_map to (filter (u q) xs)) ms) (flat_map to (filter (λ a. list_any (λ q. u q a) ms) xs))
+  given u only [] apart xs = subst (λ ys. IsPermutation [] (flat_map to ys)) (sym (filter_none xs)) (IsPermutation-refl [])
+  given u only (q ∷ ms) apart xs =
+      IsPermutation-trans _ _ _ (IsPermutation-append_right (flat_map to (filter (u q) xs)) _ _ (given u only ms apart.1 xs))
       (of_two (u q) (λ a. list_any (λ m. u m a) ms) (none_other u only q ms apart.0) xs)
+
+-- the items of several parts
+pub gathered : {A : Type 0} (u : ℕ → A → Bool) → ((p q : ℕ) (a : A) → u p a ≡ true → u q a ≡ true → p ≡ q) → (ms : List ℕ) → Apart ms → (xs : List A)
+    → IsPermutation (flat_map (λ q. filter (u q) xs) ms) (filter (λ a. list_any (λ q. u q a) ms) xs)
+gathered u only ms apart xs = simp each_itself at (given (λ a. a ∷ []) u only ms apart xs)
 
 -- of some parts none has what no part has
 pub covered_none : (ms : List ℕ) → list_any (λ q. false) ms ≡ false
-covered_none [] = refl
-covered_none (m ∷ ms) = covered_none ms
-
-and_false : (u : ℕ → Bool) (ms : List ℕ) → list_any (λ q. u q && false) ms ≡ false
-and_false u [] = refl
-and_false u (m ∷ ms) = elim (u m) as (λ v. ((v && false) || list_any (λ q. u q && false) ms) ≡ false) [
-  | true ↦ and_false u ms
-  | false ↦ and_false u ms
-]
+covered_none ms = list_any_none (λ q. false) ms (λ k d low. refl)
 
 -- where one of some parts owns what is wanted, some part that owns it has it
 pub covered : (t : ℕ → Bool) (len owner p : ℕ) (n : Bool) → (n ≡ true → (owner ≡ p → ⊥) → (owner < len) × (t owner ≡ true))
     → list_any (λ q. (owner == q) && n) (p ∷ filter t (range_with_len 0 len)) ≡ n
-covered t len owner p false met = and_false (λ q. owner == q) (p ∷ filter t (range_with_len 0 len))
+covered t len owner p false met = list_any_none (λ q. (owner == q) && false) (p ∷ filter t (range_with_len 0 len)) (λ k d low. and_false _)
 covered t len owner p true met = by_place (cases_eq owner p)
   where
     others : List ℕ

@@ -1,19 +1,19 @@
 -- The agents of the next world that a part owns come from its own agents, and from those of the
 -- parts that it meets.
-use Rattle.std.proofs.Common.{◌≡◌, ◌∙◌, ◌⊎◌, refl, sym, ap, ap₂, subst, ℕ, zero, suc, ◌+◌, ◌<◌, ◌≤◌, ℤ, pos, ◌≤ℤ◌, List, [], ◌∷◌, ◌++◌, map, filter, flat_map, zip, length, Bool, true, false, cond, ◌&&◌, ◌==◌, Option, Some, None, Result, Contains, inl, inr, arith, ⊎_elim, get_or}
+use Rattle.std.proofs.Common.{◌≡◌, ◌∙◌, refl, sym, ap, ap₂, subst, ℕ, zero, suc, ◌+◌, ◌<◌, ℤ, pos, ◌≤ℤ◌, List, [], ◌∷◌, ◌++◌, map, filter, filter_map, flat_map, zip, Bool, true, false, cond, ◌&&◌, ◌==◌, Option, Some, None, Result, Contains, arith, ⊎_elim}
 use Rattle.std.specs.Prelude.{fold, slice_get}
 use Rattle.std.specs.Int.{int_max}
 use Rattle.std.specs.List.{list_any}
 use Rattle.std.specs.List.Sorted.{IsPermutation}
-use Rattle.std.proofs.lemmas.Bool.{cases_lt, eqb-true, and_parts, true≢false}
+use Rattle.std.proofs.lemmas.Bool.{eqb-true, and_parts, true≢false}
 use Rattle.std.proofs.lemmas.List.{map-append, get_or-map, length-map}
-use Rattle.std.proofs.lemmas.List.Elements.{Contains-append_cases, at_from_Contains}
+use Rattle.std.proofs.lemmas.List.Elements.{Contains-append_cases}
 use Rattle.std.proofs.lemmas.List.Sorted.{IsPermutation-sym, IsPermutation-trans, IsPermutation-map}
 use Rattle.brace_model.specs.declared.program.Class.{Class}
 use Rattle.brace_model.specs.declared.program.Program.{Program}
 use Rattle.brace_model.specs.declared.fault.Fault.{Fault}
 use Rattle.brace_model.specs.declared.world.Agent.{Agent}
-use Rattle.brace_model.specs.World.{World, class_of, x_of, y_of, RisesById}
+use Rattle.brace_model.specs.World.{World, class_of, x_of, y_of, RisesById, ids}
 use Rattle.brace_model.specs.Next.{Next, next_in}
 use Rattle.brace_model.specs.Step.{living, children, numbered}
 use Rattle.brace_model.specs.Lawful.{LawfulProgram}
@@ -29,14 +29,17 @@ use Rattle.brace_pieces.specs.Continued.{said, totals_of, becomes, left_or_kept,
 use Rattle.brace_pieces.specs.Right.{comes_from}
 use Rattle.brace_pieces.specs.Right as right
 use Rattle.brace_pieces.specs.Together.{IsWhole, AreWhole, IsSorted}
-use Rattle.brace_pieces.proofs.Merges.{Rises, together, covered, covered_none}
+use Rattle.brace_pieces.proofs.Merges.{together, covered, covered_none}
 use Rattle.brace_pieces.proofs.Meetings.{owner_is_part, owner_has, meets}
 use Rattle.brace_pieces.proofs.ScheduleLemmas.{meets_no_self}
 use Rattle.brace_pieces.proofs.HeldLemmas.{one_owns}
 use Rattle.brace_pieces.proofs.HeirLemmas.{has_place, IsNear, IsHeir, agent_is_heir, child_is_heir}
 use Rattle.brace_pieces.proofs.Origins.{of_filter_map, of_map, of_take, of_numbered, of_id, id_of}
 use Rattle.brace_num.proofs.Lists.{filter_twice, flat_map_alike}
-use Rattle.brace_num.proofs.Orders.{rises_by_keys, filter_rises, one_sorted}
+use Rattle.brace_num.proofs.Options.{some_none}
+use Rattle.brace_num.proofs.Orders.{filter_rises, one_sorted}
+use Rattle.brace_invert.proofs.Sublists.{rising_from}
+use Rattle.brace_invert.proofs.Heard.{one_agent}
 use Rattle.std.proofs.lemmas.Option.{same_Some, none-some}
 
 -- ---- reach
@@ -85,30 +88,6 @@ pub left_each : (f : Agent → Result Next Fault) (agents : List Agent) → map 
 left_each f [] = refl
 left_each f (a ∷ agents) = ap (λ rest. left_or_kept a (f a) ∷ rest) (left_each f agents)
 
--- of agents with rising ids only one has an id
-one_id : (w : List Agent) → Rises w → (a b : Agent) → Contains w a → Contains w b → a.id ≡ b.id → a ≡ b
-one_id w up a b has too same =
-    let (k, low, at) = at_from_Contains w a has in
-    let (j, high, there) = at_from_Contains w b too in
-    let first = ap (λ (x : Agent). x.id) (at a) in
-    let second = ap (λ (x : Agent). x.id) (there a) in
-    by_place k j low high (at a) (there a) (cases_lt k j) (cases_lt j k)
-  where
-    by_place : (k j : ℕ) → k < length w → j < length w → get_or w k a ≡ a → get_or w j a ≡ b → (k < j) ⊎ (j ≤ k) → (j < k) ⊎ (k ≤ j) → a ≡ b
-    by_place k j low high at there (inl less) back =
-        let below = up k j a less high in
-        let first = ap (λ (x : Agent). x.id) at in
-        let second = ap (λ (x : Agent). x.id) there in
-        absurd (omega (arith, below, first, second, same))
-    by_place k j low high at there (inr more) (inl less) =
-        let below = up j k a less low in
-        let first = ap (λ (x : Agent). x.id) at in
-        let second = ap (λ (x : Agent). x.id) there in
-        absurd (omega (arith, below, first, second, same))
-    by_place k j low high at there (inr more) (inr other) =
-        let one : k ≡ j = omega (arith, more, other) in
-        sym at ∙ ap (λ n. get_or w n a) one ∙ there
-
 module _ (s : Setting) (lawful : LawfulSetting s) (t : ℕ) where
   abbrev m : Program
   m = s.job.program
@@ -135,10 +114,7 @@ module _ (s : Setting) (lawful : LawfulSetting s) (t : ℕ) where
     }
 
     by_itself : (a b : Agent) → class_of m a ≡ None → Some a ≡ Some b → Leaves a b
-    by_itself a b is e = subst (Leaves a) (same_Some a b e) (record { same_id = refl; is_after = record { same_class = refl; is_near = λ d f. absurd (nothing d (sym is ∙ f)) } })
-      where
-        nothing : (d : Class) → None ≡ Some d → ⊥
-        nothing d e = cc
+    by_itself a b is e = subst (Leaves a) (same_Some a b e) (record { same_id = refl; is_after = record { same_class = refl; is_near = λ d f. absurd (some_none _ d f is) } })
 
     agent_by : (o : Option Class) (a : Agent) → Contains w a → class_of m a ≡ o → (totals : List ℤ) (b : Agent) → (left_or_kept a (next_in s.job.seed t o totals a)).agent ≡ Some b → Leaves a b
     agent_by None a has is totals b e = by_itself a b is e
@@ -162,20 +138,12 @@ module _ (s : Setting) (lawful : LawfulSetting s) (t : ℕ) where
     all_left_each : all_left s t w ≡ map leaves w
     all_left_each = left_each (becomes s t (said s t w)) w
 
-    next_is : (n k : Next) → Some n ≡ Some k → n ≡ k
-    next_is n k e = cc
-
-    living_after : (b : Agent) → Contains (living (all_left s t w)) b → ComesAfter m w (b.id, b)
-    living_after b has =
-        let one = of_filter_map (λ n. n.agent) (map leaves w) b (subst (λ ns. Contains (living ns) b) all_left_each has) in
+    -- what all agents leave, themselves or children
+    left_after : (h : Next → Option Agent) → ((a b : Agent) → Contains w a → h (leaves a) ≡ Some b → Leaves a b) → (b : Agent) → Contains (filter_map h (all_left s t w)) b → ComesAfter m w (b.id, b)
+    left_after h each b has =
+        let one = of_filter_map h (map leaves w) b (subst (λ ns. Contains (filter_map h ns) b) all_left_each has) in
         let two = of_map leaves w one.from one.there in
-        comes two.from b two.there (agent_left two.from b two.there (ap (λ n. n.agent) (next_is (leaves two.from) one.from two.made) ∙ one.made))
-
-    child_after : (b : Agent) → Contains (children (all_left s t w)) b → ComesAfter m w (b.id, b)
-    child_after b has =
-        let one = of_filter_map (λ n. n.child) (map leaves w) b (subst (λ ns. Contains (children ns) b) all_left_each has) in
-        let two = of_map leaves w one.from one.there in
-        comes two.from b two.there (child_left two.from b two.there (ap (λ n. n.child) (next_is (leaves two.from) one.from two.made) ∙ one.made))
+        comes two.from b two.there (each two.from b two.there (ap h (same_Some _ _ two.made) ∙ one.made))
 
     with_id : (b : Agent) (n : ℕ) → ComesAfter m w (b.id, b) → ComesAfter m w (b.id, record b { id = n })
     with_id b n after = record {
@@ -188,9 +156,6 @@ module _ (s : Setting) (lawful : LawfulSetting s) (t : ℕ) where
       };
     }
 
-    pair_is : (d e : ℕ × Agent) → Some d ≡ Some e → d ≡ e
-    pair_is d e is = cc
-
     -- each entry of a descent comes from an agent of the world
     pub descent_after : (free : ℕ) (d : ℕ × Agent) → Contains (descent s t (record { agents = w; next = free })) d → ComesAfter m w d
     descent_after free d has =
@@ -200,10 +165,10 @@ module _ (s : Setting) (lawful : LawfulSetting s) (t : ℕ) where
         ⊎_elim
         (λ alive.
         let one = of_map (λ a. (a.id, a)) lives d alive in
-        subst (ComesAfter m w) (pair_is (one.from.id, one.from) d one.made) (living_after one.from one.there))
+        subst (ComesAfter m w) (same_Some (one.from.id, one.from) d one.made) (left_after (λ n. n.agent) agent_left one.from one.there))
         (λ new.
         let one = of_numbered free born d new in
-        subst (ComesAfter m w) (sym one.is) (with_id one.child one.number (child_after one.child (of_take _ kids one.child one.there))))
+        subst (ComesAfter m w) (sym one.is) (with_id one.child one.number (left_after (λ n. n.child) child_left one.child (of_take _ kids one.child one.there))))
         (Contains-append_cases (map (λ a. (a.id, a)) lives) (map (λ p. (p.0.id, p.1)) (zip born (numbered free born))) d has)
 
   module _ (p : ℕ) (part : p < parts s) where
@@ -239,7 +204,7 @@ module _ (s : Setting) (lawful : LawfulSetting s) (t : ℕ) where
         by_any false is fails = refl
         by_any true is fails =
             let one = of_id (owns m now q) w a.id is in
-            absurd (true≢false (sym one.passes ∙ ap (owns m now q) (one_id w (rises_by_keys (λ (a : Agent). a.id) w up) one.agent a one.there has one.same_id) ∙ fails))
+            absurd (true≢false (sym one.passes ∙ ap (owns m now q) (one_agent w (rising_from (ids w) up) one.agent a one.there has one.same_id) ∙ fails))
 
         by_owner : (v : Bool) → owns m now q a ≡ v → list_any (λ b. b.id == a.id) (owned m now q w) ≡ v
         by_owner true is = id_of (owns m now q) w a has is
@@ -273,7 +238,7 @@ module _ (s : Setting) (lawful : LawfulSetting s) (t : ℕ) where
     given_once q r d e f =
         let one = of_id (owns m now q) w d.0 (and_parts (comes_from (owned m now q w) d) (owns m now p d.1) e).0 in
         let two = of_id (owns m now r) w d.0 (and_parts (comes_from (owned m now r w) d) (owns m now p d.1) f).0 in
-        let same = one_id w (rises_by_keys (λ (a : Agent). a.id) w up) one.agent two.agent one.there two.there (one.same_id ∙ sym two.same_id) in
+        let same = one_agent w (rising_from (ids w) up) one.agent two.agent one.there two.there (one.same_id ∙ sym two.same_id) in
         one_owns m now q r one.agent one.passes (ap (owns m now r) same ∙ two.passes)
 
     second_there : (xs : List (ℕ × Agent)) (d : ℕ × Agent) → Contains xs d → Contains (map (λ p. p.1) xs) d.1

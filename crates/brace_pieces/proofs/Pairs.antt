@@ -3,13 +3,15 @@ use Rattle.std.proofs.Common.{◌≡◌, ◌∙◌, ◌++◌, refl, sym, ap, ℕ
 use Rattle.std.specs.Prelude.{flat_map}
 use Rattle.std.specs.List.{list_any, range_with_len}
 use Rattle.std.proofs.lemmas.Bool.{eqb-true, ne_eqb, and_parts, and_left, and_right, cases_lt, cases_Bool, true≢false, cases_eq, cond-true, cond-false}
-use Rattle.std.proofs.lemmas.List.Sums.{sum_by-cons}
-use Rattle.std.proofs.lemmas.List.Folds.{list_any-append}
+use Rattle.std.proofs.lemmas.List.Sums.{sum_by-cons, sum_by-append}
+use Rattle.std.proofs.lemmas.List.Folds.{list_any-append, list_any_none}
 use Rattle.std.proofs.lemmas.Map.Views.{any-filter_same}
 use Rattle.brace_core.specs.Schedule.{Pair, IsLawfulStep, is_pair, meets}
 use Rattle.brace_core.proofs.Lawful.{none_counted}
 use Rattle.brace_pieces.specs.Steps.{pairs_below}
 use Rattle.brace_num.proofs.Booleans.{and_swap}
+use Rattle.brace_num.proofs.Lists.{All-from_contains}
+use Rattle.brace_num.proofs.Rows.{in_row}
 
 abbrev pub ordered : ℕ → ℕ → Pair
 ordered p q = record { from = p; to = q }
@@ -48,20 +50,16 @@ met_in_rows (a ∷ ns) bs p q =
     ∙ ap (λ v. ((a == p) && has q bs) || v) (met_in_rows ns bs p q)
     ∙ or_and (a == p) (has p ns) (has q bs)
 
--- numbers in a row have none before them, and none behind them
-has_not_before : (n a q : ℕ) → q < a → has q (range_with_len a n) ≡ false
-has_not_before zero a q low = refl
-has_not_before (suc n) a q low = ap (λ v. v || has q (range_with_len (a + 1) n)) (ne_eqb a q (λ e. omega arith)) ∙ has_not_before n (a + 1) q (omega arith)
-
-has_not_behind : (n a q : ℕ) → a + n ≤ q → has q (range_with_len a n) ≡ false
-has_not_behind zero a q high = refl
-has_not_behind (suc n) a q high = ap (λ v. v || has q (range_with_len (a + 1) n)) (ne_eqb a q (λ e. omega arith)) ∙ has_not_behind n (a + 1) q (omega arith)
+-- a number that is not in a row is not there
+has_not : (n a q : ℕ) → (a ≤ q → q < a + n → ⊥) → has q (range_with_len a n) ≡ false
+has_not n a q out = list_any_none (λ m. m == q) (range_with_len a n) (All-from_contains (λ m. (m == q) ≡ false) _ (λ m there.
+    ne_eqb m q (λ e. let (low, high) = in_row a n m there in out (omega (arith, e, low)) (omega (arith, e, high)))))
 
 -- a pair's numbers stand below the bound
 below : (n p q : ℕ) → meets (pairs_below n) p q ≡ true → p < n
 below n p q met = elim (cases_lt p n) [
   | inl low ↦ low
-  | inr high ↦ absurd (true≢false (sym met ∙ met_in_rows (range_with_len 0 n) (range_with_len 0 n) p q ∙ and_left (has p (range_with_len 0 n)) (has q (range_with_len 0 n)) (has_not_behind n 0 p (omega arith))))
+  | inr high ↦ absurd (true≢false (sym met ∙ met_in_rows (range_with_len 0 n) (range_with_len 0 n) p q ∙ and_left (has p (range_with_len 0 n)) (has q (range_with_len 0 n)) (has_not n 0 p (λ _ low. omega arith))))
 ]
 
 -- what is counted of a first pair and the rest
@@ -76,7 +74,7 @@ once_in_row a (suc n) k p q =
       | inl one ↦
           let (x, y) = and_parts (a == p) (k == q) one in
           let same : k ≡ q = eqb-true k q y in
-          let none : count_by (is_pair p q) rest ≡ 0 = none_counted p q rest (met_in_row a (range_with_len (k + 1) n) p q ∙ and_right (a == p) (has q (range_with_len (k + 1) n)) (has_not_before n (k + 1) q (omega arith))) in
+          let none : count_by (is_pair p q) rest ≡ 0 = none_counted p q rest (met_in_row a (range_with_len (k + 1) n) p q ∙ and_right (a == p) (has q (range_with_len (k + 1) n)) (has_not n (k + 1) q (λ low _. omega arith))) in
           let here : cond {A = ℕ} (is_pair p q (ordered a k)) 1 0 ≡ 1 = cond-true (is_pair p q (ordered a k)) 1 0 one in
           omega (arith, counted p q (ordered a k) rest)
       | inr other ↦
@@ -85,8 +83,7 @@ once_in_row a (suc n) k p q =
     ]
 
 counted_behind : (p q : ℕ) (xs ys : List Pair) → count_by (is_pair p q) (xs ++ ys) ≡ count_by (is_pair p q) xs + count_by (is_pair p q) ys
-counted_behind p q [] ys = omega arith
-counted_behind p q (x ∷ xs) ys = omega (arith, counted p q x (xs ++ ys), counted p q x xs, counted_behind p q xs ys)
+counted_behind p q xs ys = sum_by-append (λ (y : Pair). cond (is_pair p q y) 1 0) xs ys
 
 once_in_rows : (m n k p q : ℕ) → count_by (is_pair p q) (rows (range_with_len k n) (range_with_len 0 m)) ≤ 1
 once_in_rows m zero k p q = omega arith
@@ -96,7 +93,7 @@ once_in_rows m (suc n) k p q =
     let rest : List Pair = rows (range_with_len (k + 1) n) bs in
     elim (cases_eq k p) [
       | inl same ↦
-          let none : count_by (is_pair p q) rest ≡ 0 = none_counted p q rest (met_in_rows (range_with_len (k + 1) n) bs p q ∙ and_left (has p (range_with_len (k + 1) n)) (has q bs) (has_not_before n (k + 1) p (omega arith))) in
+          let none : count_by (is_pair p q) rest ≡ 0 = none_counted p q rest (met_in_rows (range_with_len (k + 1) n) bs p q ∙ and_left (has p (range_with_len (k + 1) n)) (has q bs) (has_not n (k + 1) p (λ low _. omega arith))) in
           omega (arith, counted_behind p q first rest, once_in_row k m 0 p q)
       | inr other ↦
           let none : count_by (is_pair p q) first ≡ 0 = none_counted p q first (met_in_row k bs p q ∙ and_left (k == p) (has q bs) (ne_eqb k p other)) in

@@ -12,7 +12,12 @@ use Rattle.brace_model.specs.declared.world.Agent.{Agent}
 use Rattle.brace_model.specs.Query.{Saying}
 use Rattle.brace_model.specs.Total.{said_to}
 use Rattle.brace_pieces.specs.Right.{share_unless_silent, shares_from, shares_to}
-use Rattle.brace_num.proofs.Lists.{in_more}
+use Rattle.brace_num.proofs.Lists.{in_first, in_more}
+
+-- where no element gives anything nothing is given
+pub none_given : {A B : Type 0} (f : A → List B) (xs : List A) → ((x : A) → Contains xs x → f x ≡ []) → flat_map f xs ≡ []
+none_given f [] none = refl
+none_given f (x ∷ xs) none = ap₂ (λ ys zs. ys ++ zs) (none x (in_first x xs)) (none_given f xs (λ y w. none y (in_more x xs y w)))
 
 -- lists that are joined twice
 pub joined_twice : {A B C : Type 0} (g : B → List C) (f : A → List B) (xs : List A) → flat_map g (flat_map f xs) ≡ flat_map (λ x. flat_map g (f x)) xs

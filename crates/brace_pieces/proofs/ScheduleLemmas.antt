@@ -33,17 +33,11 @@ reach_either_way s tick p q =
     let cuts : Cuts = cuts_of s tick in
     ap (λ g. int_le g (int_max (range s) (greatest_reach s.job.program))) (gap_either_way (area_of cuts p) (area_of cuts q))
 
-or_swap : (a b : Bool) → (a || b) ≡ (b || a)
-or_swap true true = refl
-or_swap true false = refl
-or_swap false true = refl
-or_swap false false = refl
-
 recut_either_way : (s : Setting) (tick p q : ℕ) → are_recut s tick p q ≡ are_recut s tick q p
 recut_either_way s tick p q =
     let before : Cuts = cuts_of s (tick - 1) in
     let after : Cuts = cuts_of s tick in
-    or_swap (share before p after q) (share before q after p)
+    or_comm (share before p after q) (share before q after p)
 
 pub parts_either_way : (s : Setting) (stage : Stage) (tick p q : ℕ) → parts_meet s (record { stage = stage; tick = tick }) p q ≡ parts_meet s (record { stage = stage; tick = tick }) q p
 parts_either_way s Hand tick p q = recut_either_way s tick p q

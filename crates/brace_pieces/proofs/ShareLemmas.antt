@@ -2,7 +2,7 @@
 use Rattle.std.proofs.Common.{◌≡◌, ◌∙◌, refl, sym, ap, ap₂, subst, ℕ, zero, suc, ◌+◌, ◌<◌, ◌≤◌, List, [], ◌∷◌, ◌++◌, map, filter, flat_map, length, Bool, true, false, cond, ◌==◌, Option, Some, None, arith, ⊎_elim, inl, inr}
 use Rattle.std.specs.Prelude.{◌&&◌, slice_get}
 use Rattle.std.specs.List.{Contains}
-use Rattle.std.proofs.lemmas.Bool.{ne_eqb, eqb-true, and_left, and_right, cases_eq, and_parts}
+use Rattle.std.proofs.lemmas.Bool.{eqb-true, cases_eq, cases_Bool, and_parts}
 use Rattle.std.proofs.lemmas.List.{append-nil, length-map}
 use Rattle.std.proofs.lemmas.List.Concat.{flat_map-append}
 use Rattle.std.proofs.lemmas.List.Elements.{All-contains, Contains-append_cases}
@@ -16,11 +16,13 @@ use Rattle.brace_model.specs.World.{ids, class_of}
 use Rattle.brace_model.specs.Query.{Saying}
 use Rattle.brace_model.specs.Total.{said_to, total_of, totals_from}
 use Rattle.brace_invert.proofs.Sublists.{Rising}
-use Rattle.brace_invert.proofs.Sites.{none_within}
+use Rattle.brace_invert.proofs.Sites.{none_within, only_one}
+use Rattle.brace_invert.proofs.Heard.{seen_in}
+use Rattle.brace_pieces.proofs.Origins.{of_flat_map}
 use Rattle.brace_pieces.specs.Right.{Share, share_unless_silent, shares_from, shares_to}
 use Rattle.brace_pieces.specs.Heard.{sayings_of, IsShareOf}
-use Rattle.brace_pieces.proofs.Sayings.{joined_twice, said_to-each}
-use Rattle.brace_num.proofs.Lists.{in_more, filter_weaker}
+use Rattle.brace_pieces.proofs.Sayings.{none_given, joined_twice, said_to-each}
+use Rattle.brace_num.proofs.Lists.{in_map, filter_weaker}
 
 -- ---- the shares of one agent
 
@@ -39,34 +41,33 @@ module _ (xs : List Saying) (id k : ℕ) where
     | false ↦ λ is. none_pass t h ys fails
   ]) refl
 
-  other_target : (e : Share) → (e.target ≡ id → ⊥) → given e ≡ []
-  other_target e other = ap (map (λ x. x.value)) (none_pass (λ x. (x.target == id) && (x.field == k)) (λ x. (x.target == e.target) && (x.field == e.field)) xs (λ x h.
-      let (same, field) = and_parts (x.target == e.target) (x.field == e.field) h in
-      and_left (x.target == id) (x.field == k) (ne_eqb x.target id (λ is. other (sym (eqb-true x.target e.target same) ∙ is)))))
-
-  other_field : (e : Share) → (e.field ≡ k → ⊥) → given e ≡ []
-  other_field e other = ap (map (λ x. x.value)) (none_pass (λ x. (x.target == id) && (x.field == k)) (λ x. (x.target == e.target) && (x.field == e.field)) xs (λ x h.
-      let (target, same) = and_parts (x.target == e.target) (x.field == e.field) h in
-      and_right (x.target == id) (x.field == k) (ne_eqb x.field k (λ is. other (sym (eqb-true x.field e.field same) ∙ is)))))
+  other_given : (e : Share) → (e.target ≡ id → e.field ≡ k → ⊥) → given e ≡ []
+  other_given e other = ap (map (λ x. x.value)) (none_pass (λ x. (x.target == id) && (x.field == k)) (λ x. (x.target == e.target) && (x.field == e.field)) xs (λ x h. elim (cases_Bool ((x.target == id) && (x.field == k))) [
+    | inl both ↦
+        let (target, field) = and_parts (x.target == id) (x.field == k) both in
+        let (same, alike) = and_parts (x.target == e.target) (x.field == e.field) h in
+        absurd (other (sym (eqb-true x.target e.target same) ∙ eqb-true x.target id target) (sym (eqb-true x.field e.field alike) ∙ eqb-true x.field k field))
+    | inr neither ↦ neither
+  ]))
 
   this_field : (e : Share) → e.target ≡ id → e.field ≡ k → given e ≡ values
   this_field e target field =
       ap₂ (λ i f. map (λ x. x.value) (filter (λ x. (x.target == id) && (x.field == k)) (filter (λ x. (x.target == i) && (x.field == f)) xs))) target field
       ∙ ap (map (λ x. x.value)) (filter_weaker (λ x. (x.target == id) && (x.field == k)) (λ x. (x.target == id) && (x.field == k)) xs (λ x within passes. passes))
 
-  silent_field : (n : ℕ) (e : Effect) → (n ≡ k → ⊥) → (vs : List Value) → flat_map given (share_unless_silent id n e vs) ≡ []
-  silent_field n e other [] = refl
-  silent_field n e other (v ∷ vs) = append-nil _ ∙ other_field (record { target = id; field = n; total = tally_of e.comb (v ∷ vs) }) other
+  silent_field : (n other : ℕ) (e : Effect) → (other ≡ id → n ≡ k → ⊥) → (vs : List Value) → flat_map given (share_unless_silent other n e vs) ≡ []
+  silent_field n other e differs [] = refl
+  silent_field n other e differs (v ∷ vs) = append-nil _ ∙ other_given (record { target = other; field = n; total = tally_of e.comb (v ∷ vs) }) differs
 
   own_field : (n : ℕ) (e : Effect) → n ≡ k → (vs : List Value) → values ≡ vs → flat_map given (share_unless_silent id n e vs) ≡ values
   own_field n e same [] is = sym is
   own_field n e same (v ∷ vs) is = append-nil _ ∙ this_field (record { target = id; field = n; total = tally_of e.comb (v ∷ vs) }) refl same
 
-  above_field : (n : ℕ) (effects : List Effect) → k < n → flat_map given (shares_from n id effects xs) ≡ []
-  above_field n [] low = refl
-  above_field n (e ∷ effects) low =
-      flat_map-append given (share_unless_silent id n e (said_to id n xs)) (shares_from (n + 1) id effects xs)
-      ∙ ap₂ (λ a b. a ++ b) (silent_field n e (λ same. omega (arith, low, same)) (said_to id n xs)) (above_field (n + 1) effects (omega (arith, low)))
+  silent_fields : (n other : ℕ) (effects : List Effect) → ((j : ℕ) → n ≤ j → other ≡ id → j ≡ k → ⊥) → flat_map given (shares_from n other effects xs) ≡ []
+  silent_fields n other [] differs = refl
+  silent_fields n other (e ∷ effects) differs =
+      flat_map-append given (share_unless_silent other n e (said_to other n xs)) (shares_from (n + 1) other effects xs)
+      ∙ ap₂ (λ a b. a ++ b) (silent_field n other e (differs n (omega arith)) (said_to other n xs)) (silent_fields (n + 1) other effects (λ j low. differs j (omega (arith, low))))
 
   at_field : (n : ℕ) (effects : List Effect) → n ≤ k → k < n + length effects → flat_map given (shares_from n id effects xs) ≡ values
   at_field n [] low high = absurd (omega (arith, low, high))
@@ -74,44 +75,22 @@ module _ (xs : List Saying) (id k : ℕ) where
       flat_map-append given (share_unless_silent id n e (said_to id n xs)) (shares_from (n + 1) id effects xs)
       ∙ (elim (cases_eq n k) [
         | inl same ↦
-            ap₂ (λ a b. a ++ b) (own_field n e same (said_to id n xs) (ap (λ j. said_to id j xs) (sym same))) (above_field (n + 1) effects (omega (arith, same)))
+            ap₂ (λ a b. a ++ b) (own_field n e same (said_to id n xs) (ap (λ j. said_to id j xs) (sym same))) (silent_fields (n + 1) id effects (λ j low _ at. omega (arith, low, at, same)))
             ∙ append-nil values
         | inr other ↦
-            ap₂ (λ a b. a ++ b) (silent_field n e other (said_to id n xs)) (at_field (n + 1) effects (omega (arith, low, other)) (omega (arith, high)))
+            ap₂ (λ a b. a ++ b) (silent_field n id e (λ _. other) (said_to id n xs)) (at_field (n + 1) effects (omega (arith, low, other)) (omega (arith, high)))
       ])
-
-  others_shares : (n : ℕ) (other : ℕ) (effects : List Effect) → (other ≡ id → ⊥) → flat_map given (shares_from n other effects xs) ≡ []
-  others_shares n other [] not_it = refl
-  others_shares n other (e ∷ effects) not_it =
-      flat_map-append given (share_unless_silent other n e (said_to other n xs)) (shares_from (n + 1) other effects xs)
-      ∙ ap₂ (λ a b. a ++ b) (one (said_to other n xs)) (others_shares (n + 1) other effects not_it)
-    where
-      one : (vs : List Value) → flat_map given (share_unless_silent other n e vs) ≡ []
-      one [] = refl
-      one (v ∷ vs) = append-nil _ ∙ other_target (record { target = other; field = n; total = tally_of e.comb (v ∷ vs) }) not_it
 
 -- ---- the one agent of an id
 
-all_silent : {A B : Type 0} (f : A → List B) (t : A → Bool) (xs : List A) → ((x : A) → Contains xs x → f x ≡ []) → flat_map f (filter t xs) ≡ []
-all_silent f t [] none = refl
-all_silent f t (x ∷ xs) none = (elim (t x) as (λ c. flat_map f (cond c (x ∷ filter t xs) (filter t xs)) ≡ []) [
-  | true ↦ ap (λ ys. ys ++ flat_map f (filter t xs)) (none x (0, omega arith, refl)) ∙ all_silent f t xs (λ y w. none y (in_more x xs y w))
-  | false ↦ all_silent f t xs (λ y w. none y (in_more x xs y w))
-])
-
 above_first : (x : Agent) (w : List Agent) (y : Agent) → Rising (ids (x ∷ w)) → Contains w y → x.id < y.id
-above_first x w y r there = All-contains (λ n. x.id < n) (ids w) y.id r.0 (contains_id w y there)
-  where
-    contains_id : (w : List Agent) (y : Agent) → Contains w y → Contains (ids w) y.id
-    contains_id [] y (k, below, is) = absurd (omega (arith, below))
-    contains_id (x ∷ w) y (zero, below, is) = (0, omega arith, ap (λ a. a.id) is)
-    contains_id (x ∷ w) y (suc k, below, is) = in_more x.id (ids w) y.id (contains_id w y (k, omega (arith, below), is))
+above_first x w y r there = All-contains (λ n. x.id < n) (ids w) y.id r.0 (in_map (λ (a : Agent). a.id) w y there)
 
 alone : {B : Type 0} (f : Agent → List B) (t : Agent → Bool) (b : Agent) → t b ≡ true → (w : List Agent) → Rising (ids w) → Contains w b → ((x : Agent) → (x.id ≡ b.id → ⊥) → f x ≡ []) → flat_map f (filter t w) ≡ f b
 alone f t b passes [] r (k, below, is) silent = absurd (omega (arith, below))
 alone f t b passes (x ∷ w) r (zero, below, is) silent =
     ap (λ c. flat_map f (cond c (x ∷ filter t w) (filter t w))) (ap t is ∙ passes)
-    ∙ ap₂ (λ ys zs. ys ++ zs) (ap f is) (all_silent f t w (λ y there. silent y (λ same. let up = above_first x w y r there in omega (arith, up, same, ap (λ a. a.id) is))))
+    ∙ ap₂ (λ ys zs. ys ++ zs) (ap f is) (none_given f (filter t w) (λ y kept. silent y (λ same. let up = above_first x w y r (seen_in t w y kept).0 in omega (arith, up, same, ap (λ a. a.id) is))))
     ∙ append-nil (f b)
 alone f t b passes (x ∷ w) r (suc k, below, is) silent =
     let there : Contains w b = (k, omega (arith, below), is) in
@@ -134,7 +113,7 @@ shares_say m xs t w r b there passes class is k low =
   where
     silent : (x : Agent) → (x.id ≡ b.id → ⊥) → (o : Option Class) → flat_map (given xs b.id k) (shares_to xs x o) ≡ []
     silent x other None = refl
-    silent x other (Some c) = others_shares xs b.id k 0 x.id c.effects other
+    silent x other (Some c) = silent_fields xs b.id k 0 x.id c.effects (λ j _ same _. other same)
 
 -- ---- what a share is
 
@@ -142,7 +121,7 @@ shared_value : (m : Program) (agents : List Agent) (xs : List Saying) (a : Agent
     → (g : Share) → Contains (share_unless_silent a.id n e (said_to a.id n xs)) g → IsShareOf m agents xs g
 shared_value m agents xs a there class is n e at g h = (elim (said_to a.id n xs) as (λ vs. said_to a.id n xs ≡ vs → Contains (share_unless_silent a.id n e vs) g → IsShareOf m agents xs g) [
   | [] ↦ λ same h. none_within (IsShareOf m agents xs g) g h
-  | v ∷ vs ↦ λ same h. only (record { target = a.id; field = n; total = tally_of e.comb (v ∷ vs) }) g
+  | v ∷ vs ↦ λ same h. only_one (IsShareOf m agents xs) (record { target = a.id; field = n; total = tally_of e.comb (v ∷ vs) }) g
       (record {
         agent = a;
         class = class;
@@ -152,19 +131,9 @@ shared_value m agents xs a there class is n e at g h = (elim (said_to a.id n xs)
         has_class = is;
         has_effect = at;
         is_total = ap (tally_of e.comb) (sym same);
-        is_heard = λ none. some_heard v vs same none;
+        is_heard = λ none. omega (arith, ap length same, length-map (filter (λ x. (x.target == a.id) && (x.field == n)) xs) (λ (x : Saying). x.value), none);
       }) h
 ]) refl h
-  where
-    only : (x y : Share) → IsShareOf m agents xs x → Contains (x ∷ []) y → IsShareOf m agents xs y
-    only x y it (zero, below, same) = subst (IsShareOf m agents xs) same it
-    only x y it (suc k, below, same) = absurd (omega (arith, below))
-
-    some_heard : (v : Value) (vs : List Value) → said_to a.id n xs ≡ v ∷ vs → length (filter (λ x. (x.target == a.id) && (x.field == n)) xs) ≡ 0 → ⊥
-    some_heard v vs same none =
-        let long : length (said_to a.id n xs) ≡ suc (length vs) = ap length same in
-        let mapped = length-map (filter (λ x. (x.target == a.id) && (x.field == n)) xs) (λ (x : Saying). x.value) in
-        omega (arith, long, mapped, none)
 
 shared_effects : (m : Program) (agents : List Agent) (xs : List Saying) (a : Agent) → Contains agents a → (class : Class) → class_of m a ≡ Some class → (n : ℕ) (effects : List Effect)
     → ((k : ℕ) (e : Effect) → slice_get effects k ≡ Some e → slice_get class.effects (n + k) ≡ Some e)
@@ -184,12 +153,8 @@ shared_agent m agents xs a there (Some c) is g h =
 
 -- each share is of an effect of one of the agents
 pub share_is : (m : Program) (agents some : List Agent) (xs : List Saying) → ((a : Agent) → Contains some a → Contains agents a) → (g : Share) → Contains (flat_map (λ a. shares_to xs a (class_of m a)) some) g → IsShareOf m agents xs g
-share_is m agents [] xs there g h = none_within (IsShareOf m agents xs g) g h
-share_is m agents (a ∷ some) xs there g h =
-    ⊎_elim
-    (λ (y : Contains (shares_to xs a (class_of m a)) g). shared_agent m agents xs a (there a (0, omega arith, refl)) (class_of m a) refl g y)
-    (λ (y : Contains (flat_map (λ b. shares_to xs b (class_of m b)) some) g). share_is m agents some xs (λ b w. there b (in_more a some b w)) g y)
-    (Contains-append_cases (shares_to xs a (class_of m a)) (flat_map (λ b. shares_to xs b (class_of m b)) some) g h)
+share_is m agents some xs there g h =
+    let of = of_flat_map (λ a. shares_to xs a (class_of m a)) some g h in shared_agent m agents xs of.from (there of.from of.there) (class_of m of.from) refl g of.gives
 
 -- ---- totals hang on what is said to the effects that a class has
 

@@ -1,10 +1,9 @@
 -- The faults that a part finds may be told, behind the step in whose work they are found.
-use Rattle.std.proofs.Common.{◌≡◌, ◌∙◌, refl, sym, ap, subst, ℕ, zero, suc, ◌+◌, ◌<◌, ◌≤◌, List, [], ◌∷◌, ◌++◌, map, filter, filter_map, flat_map, Bool, true, false, cond, Option, Result, Ok, Err, arith, ⊎_elim, inl, inr}
-use Rattle.std.specs.Prelude.{◌-◌, option_map, not, if◌then◌else◌}
-use Rattle.std.specs.List.{All, Contains, cons_option, range_with_len}
+use Rattle.std.proofs.Common.{◌≡◌, ◌∙◌, refl, sym, ap, subst, ℕ, ◌<◌, ◌≤◌, List, [], ◌∷◌, ◌++◌, map, filter, filter_map, flat_map, Bool, true, false, Option, Result, Ok, Err, arith, ⊎_elim, inl, inr}
+use Rattle.std.specs.Prelude.{option_map, if◌then◌else◌}
+use Rattle.std.specs.List.{Contains, cons_option}
 use Rattle.std.specs.Result.{result_err}
-use Rattle.std.proofs.lemmas.Bool.{cases_lt}
-use Rattle.std.proofs.lemmas.List.Elements.{All-nil, All-cons, All-append, All-same, Contains-append_left, Contains-append_right, Contains-append_cases}
+use Rattle.std.proofs.lemmas.List.Elements.{Contains-append_left, Contains-append_right, Contains-append_cases}
 use Rattle.brace_model.specs.declared.program.Program.{Program}
 use Rattle.brace_model.specs.declared.fault.Fault.{Fault}
 use Rattle.brace_model.specs.declared.fault.Phase.{Phase}
@@ -12,7 +11,7 @@ use Rattle.brace_model.specs.declared.fault.Phase.TheVariants.{Query, Update, Bi
 use Rattle.brace_model.specs.declared.world.Agent.{Agent}
 use Rattle.brace_model.specs.World.{World, class_of}
 use Rattle.brace_model.specs.Query.{query_of, query_faults}
-use Rattle.brace_model.specs.Next.{Next, has_births}
+use Rattle.brace_model.specs.Next.{Next}
 use Rattle.brace_model.specs.Step.{living, children, first_too_far, birth_fault}
 use Rattle.brace_model.specs.Lawful.{LawfulProgram}
 use Rattle.brace_invert.specs.Split.{forward_program, inverse_program}
@@ -21,36 +20,27 @@ use Rattle.brace_invert.specs.Held.{is_near}
 use Rattle.brace_cuts.specs.Space.{area_of}
 use Rattle.brace_invert.proofs.Inverting.{found_foreseen}
 use Rattle.brace_invert.proofs.Owners.{faults_held}
+use Rattle.brace_invert.proofs.Heard.{seen_in}
+use Rattle.brace_pieces.proofs.Origins.{of_flat_map, flat_map_of}
 use Rattle.brace_pieces.specs.declared.setting.Setting.{Setting}
-use Rattle.brace_pieces.specs.declared.setting.Stage.{Stage}
-use Rattle.brace_pieces.specs.declared.setting.Stage.TheVariants as stage
-use Rattle.brace_pieces.specs.declared.setting.Step.{Step}
 use Rattle.brace_pieces.specs.declared.piece.Cause.{Cause}
 use Rattle.brace_pieces.specs.declared.piece.Cause.TheVariants as cause
-use Rattle.brace_pieces.specs.Settings.{LawfulSetting, range, cuts_of, is_end}
-use Rattle.brace_pieces.specs.Steps.{step, made_if, is_recut, show, steps_in, steps}
+use Rattle.brace_pieces.specs.Settings.{LawfulSetting, range, cuts_of}
+use Rattle.brace_pieces.specs.Steps.{step, steps}
 use Rattle.brace_pieces.specs.Owned.{owns}
 use Rattle.brace_pieces.specs.Continued.{said, becomes, on, all_left, birth_faults}
 use Rattle.brace_pieces.specs.Finds.{faults_of, queries_found, updates_found, all_queries_found, found_in, stage_of}
 use Rattle.brace_pieces.specs.Right.{StandsBefore, IsTold, IsRightCause}
 use Rattle.brace_pieces.specs.Heard.{own, near}
 use Rattle.brace_pieces.proofs.FaultLemmas.{IsOf, queries_are_of, next_is_of, updates_are_of, births_of, in_births}
-use Rattle.brace_pieces.proofs.PlaceLemmas.{no_show, shape}
+pub use Rattle.brace_pieces.proofs.OrderLemmas.{Ticks, steps_tick}
+use Rattle.brace_pieces.proofs.PlaceLemmas.{no_show}
 use Rattle.brace_num.proofs.Lists.{All-place}
 
 -- ---- what some elements of a list give all of them give
 
-more_given : {A B : Type 0} (f : A → List B) (t : A → Bool) (x : A) (xs : List A) (g : B) (tx : Bool) → t x ≡ tx → (Contains (flat_map f (filter t xs)) g → Contains (flat_map f xs) g)
-    → Contains (flat_map f (filter t (x ∷ xs))) g → Contains (flat_map f (x ∷ xs)) g
-more_given f t x xs g true is rest h =
-    ⊎_elim (λ (y : Contains (f x) g). Contains-append_left (f x) (flat_map f xs) g y) (λ (y : Contains (flat_map f (filter t xs)) g). Contains-append_right (f x) (flat_map f xs) g (rest y))
-    (Contains-append_cases (f x) (flat_map f (filter t xs)) g (subst (λ ys. Contains (flat_map f ys) g) (ap (λ c. cond c (x ∷ filter t xs) (filter t xs)) is) h))
-more_given f t x xs g false is rest h =
-    Contains-append_right (f x) (flat_map f xs) g (rest (subst (λ ys. Contains (flat_map f ys) g) (ap (λ c. cond c (x ∷ filter t xs) (filter t xs)) is) h))
-
 given_within : {A B : Type 0} (f : A → List B) (t : A → Bool) (xs : List A) (g : B) → Contains (flat_map f (filter t xs)) g → Contains (flat_map f xs) g
-given_within f t [] g h = h
-given_within f t (x ∷ xs) g h = more_given f t x xs g (t x) refl (given_within f t xs g) h
+given_within f t xs g h = let of = of_flat_map f (filter t xs) g h in flat_map_of f xs of.from g (seen_in t xs of.from of.there).0 of.gives
 
 -- errors as a list
 abbrev pub errors : Result Next Fault → List Fault
@@ -119,64 +109,6 @@ pub right_later : (s : Setting) (m n : ℕ) (c : Cause) → m ≤ n → IsRightC
 right_later s m n (cause.Fault f) up h = before_later s m n f up h
 right_later s m n cause.NoMemory up h = h
 right_later s m n cause.Closed up h = h
-
--- ---- the steps of a run but for the shows are of its ticks
-
-module _ (s : Setting) where
-  abbrev pub Ticks : Step → Type 0
-  Ticks at = (at.stage ≡ stage.Show → ⊥) → (s.job.first ≤ at.tick) × (at.tick < s.job.last)
-
-  show_ticks : (t : ℕ) → All Ticks (show s t)
-  show_ticks t = by_choice (is_end s t)
-    where
-      by_choice : (c : Bool) → All Ticks (made_if c (step stage.Show t))
-      by_choice true = All-cons Ticks (step stage.Show t) [] (λ other. absurd (other refl)) (All-nil Ticks)
-      by_choice false = All-nil Ticks
-
-  module _ (v : ℕ) (low : s.job.first ≤ v) (high : v < s.job.last) where
-    here : (kind : Stage) → Ticks (step kind v)
-    here kind _ = (low, high)
-
-    if_made : (c : Bool) (kind : Stage) → All Ticks (made_if c (step kind v))
-    if_made true kind = All-cons Ticks (step kind v) [] (here kind) (All-nil Ticks)
-    if_made false kind = All-nil Ticks
-
-    tick_ticks : All Ticks (steps_in s v)
-    tick_ticks =
-        let hand : List Step = made_if (is_recut s v) (step stage.Hand v) in
-        let effects : List Step = made_if (not s.invert) (step stage.Effects v) in
-        let census : List Step = made_if (has_births s.job.program) (step stage.Census v) in
-        let ending : List Step = step stage.Move v ∷ show s (v + 1) in
-        All-same Ticks (steps_in s v) (hand ++ (step stage.Border v ∷ (effects ++ (census ++ ending)))) (shape s v)
-        (All-append Ticks hand (step stage.Border v ∷ (effects ++ (census ++ ending))) (if_made (is_recut s v) stage.Hand)
-        (All-cons Ticks (step stage.Border v) (effects ++ (census ++ ending)) (here stage.Border)
-        (All-append Ticks effects (census ++ ending) (if_made (not s.invert) stage.Effects)
-        (All-append Ticks census ending (if_made (has_births s.job.program) stage.Census)
-        (All-cons Ticks (step stage.Move v) (show s (v + 1)) (here stage.Move) (show_ticks (v + 1)))))))
-
-  row_ticks : (from len : ℕ) → s.job.first ≤ from → from + len ≤ s.job.last → All Ticks (flat_map (steps_in s) (range_with_len from len))
-  row_ticks from zero low high = All-nil Ticks
-  row_ticks from (suc len) low high =
-      All-append Ticks (steps_in s from) (flat_map (steps_in s) (range_with_len (from + 1) len)) (tick_ticks from low (omega (arith, high)))
-      (row_ticks (from + 1) len (omega (arith, low)) (omega (arith, high)))
-
-  run_ticks : (last : ℕ) → last ≤ s.job.last → s.job.first ≤ s.job.last → All Ticks (steps s)
-  run_ticks last low up =
-      All-append Ticks (show s s.job.first) (flat_map (steps_in s) (range_with_len s.job.first (s.job.last - s.job.first))) (show_ticks s.job.first)
-      (row_ticks s.job.first (s.job.last - s.job.first) (omega arith) (omega (arith, up)))
-
-  -- a run whose last tick is before its first has no step but a show
-  no_ticks : s.job.last < s.job.first → All Ticks (steps s)
-  no_ticks down =
-      let none : s.job.last - s.job.first ≡ 0 = omega (arith, down) in
-      All-append Ticks (show s s.job.first) (flat_map (steps_in s) (range_with_len s.job.first (s.job.last - s.job.first))) (show_ticks s.job.first)
-      (subst (λ n. All Ticks (flat_map (steps_in s) (range_with_len s.job.first n))) (sym none) (All-nil Ticks))
-
-  pub steps_tick : All Ticks (steps s)
-  steps_tick = elim (cases_lt s.job.last s.job.first) [
-    | inl down ↦ no_ticks down
-    | inr up ↦ run_ticks s.job.last (omega arith) (omega (arith, up))
-  ]
 
 -- a fault of a tick and a phase that is found there may be told behind the step of that tick and phase
 told_then : (s : Setting) (t : ℕ) (phase : Phase) (f : Fault) (number : ℕ) → Contains (found_in s t phase) f → IsOf t phase f → StandsBefore s (step (stage_of s phase) t) number → IsTold s number f

@@ -8,7 +8,6 @@ use Rattle.std.proofs.lemmas.List.{length-append, get_or_default}
 use Rattle.std.proofs.lemmas.List.Folds.{list_any_at, list_any_none}
 use Rattle.std.specs.Int.{int_max}
 use Rattle.std.proofs.lemmas.Int.{ints}
-use Rattle.brace_num.specs.Areas.{apart}
 use Rattle.brace_cuts.specs.declared.plan.CutLine.{CutLine}
 use Rattle.brace_cuts.specs.CutPlans.{IsInOrder}
 use Rattle.brace_cuts.proofs.Orders.{lines_are_parted}
@@ -126,6 +125,10 @@ module _ (s : Setting) where
   pub next_is : (k : ℕ) (at : Step) → slice_get (steps s) k ≡ Some at → next_of s at ≡ slice_get (steps s) (k + 1)
   next_is k at e = let one : suc k ≡ k + 1 = omega arith in next_there (next_of s) (steps s) all_linked k at e ∙ ap (slice_get (steps s)) one
 
+  -- where a stage is known
+  pub is_behind : (at : Step) (stage : Stage) (o : Option Step) → at.stage ≡ stage → o ≡ next_in s stage at.tick → (k : ℕ) → slice_get (steps s) k ≡ Some at → o ≡ slice_get (steps s) (k + 1)
+  is_behind at stage o is same k e = same ∙ ap (λ x. next_in s x at.tick) (sym is) ∙ next_is k at e
+
   -- no tick is left
   pub no_tick : (t : ℕ) → s.job.last ≤ t → None ≡ slice_get (ticks_from s t) 0
   no_tick t high =
@@ -214,10 +217,6 @@ line_there lines tick n d order some within is isnt =
     ] refl
 
 -- ---- areas
-
--- spans with a common number are not apart
-pub spans_meet : (a b c d : ℤ) → (int_le a d && int_le c b) ≡ int_le (apart a b c d) (pos 0)
-spans_meet a b c d = grind (arith, ints)
 
 pub both_none : (m n : ℤ) → (int_le m (pos 0) && int_le n (pos 0)) ≡ int_le (int_max m n) (pos 0)
 both_none m n = grind (arith, ints)

@@ -85,10 +85,6 @@ fitting_all lives free born none =
     let test : ℕ → Bool = goes_too_far lives free born in
     all_fit born (find test ranks) (λ r e. omega (arith, found_below test 0 (length born) r e)) none
 
-seconds_same : (agents : List Agent) → map (λ (p : ℕ × Agent). p.1) (map (λ a. (a.id, a)) agents) ≡ agents
-seconds_same [] = refl
-seconds_same (a ∷ agents) = ap (λ rest. a ∷ rest) (seconds_same agents)
-
 seconds_numbered : (n : ℕ) (born : List Agent) → map (λ (p : ℕ × Agent). p.1) (map (λ p. (p.0.id, p.1)) (zip born (numbered n born))) ≡ numbered n born
 seconds_numbered n [] = refl
 seconds_numbered n (c ∷ born) = ap (λ rest. record c { id = n } ∷ rest) (seconds_numbered (suc n) born)

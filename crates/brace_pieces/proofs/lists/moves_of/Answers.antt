@@ -1,9 +1,5 @@
-use Rattle.std.proofs.Common.{sym, subst}
-use Rattle.brace_cuts.specs.Space.{LawfulCuts}
-use Rattle.brace_pieces.proofs.CutLemmas.{cuts_lawful}
+use Rattle.brace_pieces.proofs.CutLemmas.{lawful_as}
 use Rattle.brace_pieces.proofs.lists.moves_of.Goals as goal
 
 pub owns-requires : goal.owns-requires
-owns-requires c =
-    let s = c.args.setting.now in
-    subst LawfulCuts (sym c.cuts_at-cuts.ensures) (cuts_lawful s.epoch s.cuts c.args.tick c.requires)
+owns-requires c = lawful_as _ _ _ _ c.cuts_at-cuts.ensures c.requires
