@@ -4,6 +4,7 @@
 
 mod action;
 mod answer;
+mod asking;
 mod plans;
 mod room;
 
