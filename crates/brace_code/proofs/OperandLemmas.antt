@@ -1,6 +1,6 @@
 -- Columns of operands.
-use Rattle.std.proofs.Common.{◌≡◌, ◌∙◌, refl, sym, ap, subst, ℕ, ◌+◌, ◌<◌, ℤ, pos, List, length, drop, get_or, drop-cons, add-one, Option, Some, None, Ok, slice_index_or, if◌then◌else◌}
-use Rattle.std.specs.Prelude.{◌==◌}
+use Rattle.std.proofs.Common.{◌≡◌, ◌∙◌, refl, sym, ap, subst, ℕ, ◌+◌, ◌<◌, ℤ, pos, List, length, drop, get_or, drop-cons, add-one, Option, Some, None, Result, Ok, Err, slice_index_or, if◌then◌else◌}
+use Rattle.std.specs.Prelude.{◌==◌, IfOk}
 use Rattle.brace_model.specs.declared.program.Ty.{Ty}
 use Rattle.brace_model.specs.declared.program.Who.{Who}
 use Rattle.brace_model.specs.Value.{Scope, total_read}
@@ -9,6 +9,7 @@ use Rattle.brace_code.specs.declared.code.Operand.TheVariants.{Word, Field, Tota
 use Rattle.brace_code.specs.declared.lane.Lane.{Lane}
 use Rattle.brace_code.specs.declared.lane.Row.{Row}
 use Rattle.brace_code.specs.declared.lane.Frame.{Frame}
+use Rattle.brace_code.specs.declared.lane.Redo.{Redo}
 use Rattle.brace_code.specs.declared.lane.Draws.{Draws}
 use Rattle.brace_code.specs.Lanes.{Shows, column_of, row_of, number_in, draws_at}
 use Rattle.brace_code.specs.inner.Words.{Outcome, word_of, operand_word}
@@ -17,6 +18,10 @@ use Rattle.brace_code.specs.inner.Columns.{Numbers, Words, row_at}
 pub draws_more : (draws : List Draws) (k site : ℕ) (d : Draws) → k < length draws
     → draws_at (drop k draws) site ≡ (if (get_or draws k d).site == site then Some (get_or draws k d).words.now else draws_at (drop (k + 1) draws) site)
 draws_more draws k site d h = rw (add-one, drop-cons draws k d) refl
+
+if_ok : {P Q : List ℤ → Type 0} (shown : Result (List ℤ) Redo) → ((words : List ℤ) → P words → Q words) → IfOk shown P → IfOk shown Q
+if_ok (Ok words) f p = f words p
+if_ok (Err redo) f p = tt
 
 module _ (frame : Frame) (o : Operand) (lanes : List Lane) (words : List ℤ) where
   pub shown_numbers : (column : List ℤ) (row : Row) → column_of frame o ≡ Some column → ((lane : Lane) → row_at row lane ≡ row_of o lane)
@@ -67,4 +72,18 @@ module _ (frame : Frame) (o : Operand) (lanes : List Lane) (words : List ℤ) wh
         ap (operand_word at) is ∙ ap (λ (n : ℤ). word_of (total_read t site n)) number ∙ each site k (subst (λ (n : ℕ). k < n) (sym p.long) l);
   }
 
-pub ruleset operand_rules = (word_words, field_words, local_words, rand_words, total_words)
+-- the same of what was shown, if anything was
+module _ (frame : Frame) (o : Operand) (lanes : List Lane) (shown : Result (List ℤ) Redo) where
+  pub shown_field : (who : Who) (i : ℕ) → o ≡ Field who i → IfOk shown (λ words. Numbers frame o lanes words)
+      → IfOk shown (λ words. Words frame (λ scope. operand_word scope o) lanes words)
+  shown_field who i is p = if_ok shown (λ words q. field_words frame o lanes words who i is q) p
+
+  pub shown_local : (n : ℕ) → o ≡ Local n → IfOk shown (λ words. Numbers frame o lanes words)
+      → IfOk shown (λ words. Words frame (λ scope. operand_word scope o) lanes words)
+  shown_local n is p = if_ok shown (λ words q. local_words frame o lanes words n is q) p
+
+  pub shown_rand : (site : ℕ) → o ≡ Rand site → IfOk shown (λ words. Numbers frame o lanes words)
+      → IfOk shown (λ words. Words frame (λ scope. operand_word scope o) lanes words)
+  shown_rand site is p = if_ok shown (λ words q. rand_words frame o lanes words site is q) p
+
+pub ruleset operand_rules = (word_words, shown_field, shown_local, shown_rand, total_words)

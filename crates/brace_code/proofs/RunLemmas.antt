@@ -1,5 +1,5 @@
 -- What each instruction does in each lane.
-use Rattle.std.proofs.Common.{◌≡◌, ◌∙◌, refl, sym, ap, ℕ, ◌+◌, ◌-◌, ◌<◌, ◌≤◌, ℤ, pos, Bool, true, false, List, [], ◌∷◌, length, take, map, Result, Ok, Err, slice_index_or, get_or, arith}
+use Rattle.std.proofs.Common.{◌≡◌, ◌∙◌, refl, sym, ap, ℕ, suc, ◌+◌, ◌-◌, ◌<◌, ◌≤◌, ℤ, pos, Bool, true, false, List, [], ◌∷◌, length, take, map, Result, Ok, Err, slice_index_or, get_or, arith}
 use Rattle.std.specs.Prelude.{nat_lt, if◌then◌else◌}
 use Rattle.std.specs.Ordering.{int_eq}
 use Rattle.std.proofs.lemmas.List.{take_more, take_all}
@@ -25,7 +25,7 @@ use Rattle.brace_code.proofs.SingleLemmas.{push_does, unary_does, binary_does, c
 
 high : (columns : List (List ℤ)) (k : ℕ) → length (stack_at columns k) ≡ length columns
 high [] k = refl
-high (c ∷ columns) k = ap (λ (n : ℕ). n + 1) (high columns k)
+high (c ∷ columns) k = ap suc (high columns k)
 
 module _ (frame : Frame) (lanes : List Lane) (room : ℕ) (before after : List (List ℤ)) (words : List ℤ) (i : Instr) where
   -- an instruction that puts a word of each lane on the rest of its stack
