@@ -6,3 +6,4 @@ pub mod SingleLemmas
 pub mod LaneLemmas
 pub mod OperandLemmas
 pub mod RunLemmas
+pub mod LawLemmas
