@@ -3,3 +3,7 @@ pub mod WordLemmas
 pub mod CodeLemmas
 pub mod CompileLemmas
 pub mod SingleLemmas
+pub mod LaneLemmas
+pub mod OperandLemmas
+pub mod RunLemmas
+pub mod LawLemmas

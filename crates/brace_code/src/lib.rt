@@ -2,13 +2,21 @@
 #![tactic(auto)]
 
 mod code;
+mod columns;
 mod compiling;
+mod kernels;
+mod lane;
+mod laws;
 mod names;
 mod operations;
+mod running;
 mod single;
+mod splitting;
 mod stack;
 
 pub use code::Code;
 pub use compiling::compile;
+pub use lane::{Draws, Frame, Lane, Redo};
+pub use laws::{lanes_and_single_runs_agree, lanes_have_the_values_of_expressions};
 pub use names::Known;
 pub use stack::Stack;

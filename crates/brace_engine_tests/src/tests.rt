@@ -4,6 +4,7 @@ mod crews;
 mod draws;
 mod grids;
 mod inversion;
+mod lanes;
 mod models;
 mod parts;
 mod pieces;

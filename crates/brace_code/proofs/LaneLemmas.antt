@@ -1,0 +1,112 @@
+-- Splits and merges of lanes.
+use Rattle.std.proofs.Common.{◌≡◌, ◌∙◌, refl, sym, ap, arith, ℕ, zero, suc, ◌+◌, ◌<◌, ℤ, pos, Bool, true, false, if◌then◌else◌, List, [], ◌∷◌, ◌++◌, append_assoc, ⊎_elim, length, take, set, drop, get_or, Ok, slice_index_or, drop-cons, add-one, add-zero}
+use Rattle.std.proofs.lemmas.Bool.{cases_Bool}
+use Rattle.std.proofs.lemmas.List.{take_more_set, take-set, append-nil}
+use Rattle.std.specs.Ordering.{int_eq}
+use Rattle.brace_code.specs.declared.lane.Lane.{Lane}
+use Rattle.brace_code.specs.inner.Words.{Outcome, choose_word}
+use Rattle.brace_code.specs.inner.Columns.{Chosen, side, taking, merged}
+
+-- each lane has an outcome that is the column's word there
+pub record Holds (f : Lane → Outcome) (lanes : List Lane) (column : List ℤ) : Type 0 where
+  pub long : length column ≡ length lanes
+  pub each : (k : ℕ) (d : Lane) → k < length lanes → f (slice_index_or lanes k d) ≡ Ok (slice_index_or column k (pos 0))
+
+moved : {A : Type 0} (out w rest whole all : List A) → whole ≡ w ++ rest → out ++ whole ≡ all → (out ++ w) ++ rest ≡ all
+moved out w rest whole all e f = append_assoc out w rest ∙ (ap (λ xs. out ++ xs) (sym e) ∙ f)
+
+-- an element written at the end of the front, and kept or not
+pub put_kept : (out : List Lane) (place : ℕ) (lane : Lane) (keeps : Bool) → place < length out →
+    take (place + (if keeps then 1 else 0)) (set out place lane) ≡ take place out ++ (if keeps then lane ∷ [] else [])
+put_kept out place lane true h = take_more_set out place lane h
+put_kept out place lane false h = rw (add-zero, append-nil) (take-set out place lane)
+
+-- the next word of the side that is picked
+pub merged_step : (t w : ℤ) (ts ys ns rest ys' ns' out out' : List ℤ) (b : Bool) → side true t ≡ b → (if b then ys else ns) ≡ w ∷ rest →
+    ys' ≡ (if b then rest else ys) → ns' ≡ (if b then ns else rest) → out' ≡ out ++ w ∷ [] → out' ++ merged ts ys' ns' ≡ out ++ merged (t ∷ ts) ys ns
+merged_step t w ts ys ns rest ys' ns' out out' true s p y n o =
+    rw (o, y, n, s, p) (append_assoc out (w ∷ []) (merged ts rest ns))
+merged_step t w ts ys ns rest ys' ns' out out' false s p y n o =
+    rw (o, y, n, s, p) (append_assoc out (w ∷ []) (merged ts ys rest))
+
+-- a loop's step of `taking`
+pub taking_more : (set : Bool) (lanes : List Lane) (ts : List ℤ) (out all : List Lane) (k : ℕ) (d : Lane) → k < length lanes → k < length ts →
+    out ++ taking set (drop k lanes) (drop k ts) ≡ all →
+    (out ++ (if side set (get_or ts k (pos 0)) then get_or lanes k d ∷ [] else [])) ++ taking set (drop (k + 1) lanes) (drop (k + 1) ts) ≡ all
+taking_more set lanes ts out all k d h i e =
+    moved out (if side set (get_or ts k (pos 0)) then get_or lanes k d ∷ [] else []) (taking set (drop (k + 1) lanes) (drop (k + 1) ts)) (taking set (drop k lanes) (drop k ts)) all
+    (rw (add-one, drop-cons lanes k d, drop-cons ts k (pos 0)) refl) e
+
+-- the same fact by recursion
+unfoldable All_give : (Lane → Outcome) → List Lane → List ℤ → Type 0
+All_give f [] [] = Unit {0}
+All_give f [] (w ∷ ws) = ⊥
+All_give f (lane ∷ lanes) [] = ⊥
+All_give f (lane ∷ lanes) (w ∷ ws) = (f lane ≡ Ok w) × All_give f lanes ws
+
+to_all : (f : Lane → Outcome) (lanes : List Lane) (ws : List ℤ) → Holds f lanes ws → All_give f lanes ws
+unfolding All_give
+to_all f [] [] g = tt
+to_all f [] (w ∷ ws) g = absurd (omega (arith, g.long))
+to_all f (lane ∷ lanes) [] g = absurd (omega (arith, g.long))
+to_all f (lane ∷ lanes) (w ∷ ws) g = (g.each 0 lane (omega arith), to_all f lanes ws (record { long = omega (arith, g.long); each = λ k d h. g.each (suc k) d (omega arith) }))
+
+from_all : (f : Lane → Outcome) (lanes : List Lane) (ws : List ℤ) → All_give f lanes ws → Holds f lanes ws
+unfolding All_give
+from_all f [] [] g = record { long = refl; each = λ k d h. absurd (omega arith) }
+from_all f [] (w ∷ ws) g = absurd g
+from_all f (lane ∷ lanes) [] g = absurd g
+from_all f (lane ∷ lanes) (w ∷ ws) g =
+    let rest = from_all f lanes ws g.1 in
+    record { long = ap suc rest.long; each = λ k d h. elim k as (λ k. k < length (lane ∷ lanes) → f (slice_index_or (lane ∷ lanes) k d) ≡ Ok (slice_index_or (w ∷ ws) k (pos 0))) [ zero ↦ λ h. g.0 | suc k ↦ λ h. rest.each k d (omega arith) ] h }
+
+-- a choice in each lane, by recursion
+All_chosen : (f g : Lane → Outcome) → List Lane → List ℤ → List ℤ → Type 0
+All_chosen f g [] ts [] = Unit {0}
+All_chosen f g [] ts (w ∷ ws) = ⊥
+All_chosen f g (lane ∷ lanes) [] ws = ⊥
+All_chosen f g (lane ∷ lanes) (t ∷ ts) [] = ⊥
+All_chosen f g (lane ∷ lanes) (t ∷ ts) (w ∷ ws) = (choose_word t (f lane) (g lane) ≡ Ok w) × All_chosen f g lanes ts ws
+
+chosen_from_all : (f g : Lane → Outcome) (lanes : List Lane) (ts ws : List ℤ) → All_chosen f g lanes ts ws → Chosen f g lanes ts ws
+unfolding All_chosen
+chosen_from_all f g [] ts [] p = record { long = refl; each = λ k d h. absurd (omega arith) }
+chosen_from_all f g [] ts (w ∷ ws) p = absurd p
+chosen_from_all f g (lane ∷ lanes) [] ws p = absurd p
+chosen_from_all f g (lane ∷ lanes) (t ∷ ts) [] p = absurd p
+chosen_from_all f g (lane ∷ lanes) (t ∷ ts) (w ∷ ws) p =
+    let rest = chosen_from_all f g lanes ts ws p.1 in
+    record { long = ap suc rest.long; each = λ k d h. elim k as (λ k. k < length (lane ∷ lanes) → choose_word (slice_index_or (t ∷ ts) k (pos 0)) (f (slice_index_or (lane ∷ lanes) k d)) (g (slice_index_or (lane ∷ lanes) k d)) ≡ Ok (slice_index_or (w ∷ ws) k (pos 0))) [ zero ↦ λ h. p.0 | suc k ↦ λ h. rest.each k d (omega arith) ] h }
+
+module _ (f g : Lane → Outcome) where
+  abbrev Merging : List Lane → List ℤ → Type 0
+  Merging lanes ts = (ys ns : List ℤ) → All_give f (taking true lanes ts) ys → All_give g (taking false lanes ts) ns → All_chosen f g lanes ts (merged ts ys ns)
+
+  set_case : (lane : Lane) (lanes : List Lane) (t : ℤ) (ts ys ns : List ℤ) → int_eq t (pos 0) ≡ false → Merging lanes ts →
+      All_give f (taking true (lane ∷ lanes) (t ∷ ts)) ys → All_give g (taking false (lane ∷ lanes) (t ∷ ts)) ns → All_chosen f g (lane ∷ lanes) (t ∷ ts) (merged (t ∷ ts) ys ns)
+  unfolding All_give All_chosen
+  set_case lane lanes t ts [] ns e next q r = absurd (rw e at q)
+  set_case lane lanes t ts (y ∷ ys) ns e next q r =
+      let q' = rw e at q in let r' = rw e at r in rw e (rw e q'.0, next ys ns q'.1 r')
+
+  unset_case : (lane : Lane) (lanes : List Lane) (t : ℤ) (ts ys ns : List ℤ) → int_eq t (pos 0) ≡ true → Merging lanes ts →
+      All_give f (taking true (lane ∷ lanes) (t ∷ ts)) ys → All_give g (taking false (lane ∷ lanes) (t ∷ ts)) ns → All_chosen f g (lane ∷ lanes) (t ∷ ts) (merged (t ∷ ts) ys ns)
+  unfolding All_give All_chosen
+  unset_case lane lanes t ts ys [] e next q r = absurd (rw e at r)
+  unset_case lane lanes t ts ys (n ∷ ns) e next q r =
+      let q' = rw e at q in let r' = rw e at r in rw e (rw e r'.0, next ys ns q' r'.1)
+
+  all_merged : (lanes : List Lane) (ts : List ℤ) → length ts ≡ length lanes → Merging lanes ts
+  unfolding All_chosen
+  all_merged [] [] l ys ns q r = tt
+  all_merged [] (t ∷ ts) l ys ns q r = absurd (omega (arith, l))
+  all_merged (lane ∷ lanes) [] l ys ns q r = absurd (omega (arith, l))
+  all_merged (lane ∷ lanes) (t ∷ ts) l ys ns q r =
+      let next : Merging lanes ts = all_merged lanes ts (omega (arith, l)) in
+      ⊎_elim (λ e. unset_case lane lanes t ts ys ns e next q r) (λ e. set_case lane lanes t ts ys ns e next q r) (cases_Bool (int_eq t (pos 0)))
+
+  -- the words of each side, merged, are the choice's in each lane
+  pub merged_chosen : (lanes set unset : List Lane) (ts ys ns words : List ℤ) → length ts ≡ length lanes →
+      set ≡ taking true lanes ts → unset ≡ taking false lanes ts → Holds f set ys → Holds g unset ns → words ≡ merged ts ys ns → Chosen f g lanes ts words
+  merged_chosen lanes set unset ts ys ns words l d e q r h =
+      rw h (chosen_from_all f g _ _ _ (all_merged lanes ts l ys ns (to_all f _ _ (rw d at q)) (to_all g _ _ (rw e at r))))

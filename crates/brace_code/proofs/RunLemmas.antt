@@ -1,0 +1,103 @@
+-- What each instruction does in each lane.
+use Rattle.std.proofs.Common.{◌≡◌, ◌∙◌, refl, sym, ap, ℕ, suc, ◌+◌, ◌-◌, ◌<◌, ◌≤◌, ℤ, pos, Bool, true, false, List, [], ◌∷◌, length, take, map, Result, Ok, Err, slice_index_or, get_or, arith}
+use Rattle.std.specs.Prelude.{nat_lt, if◌then◌else◌}
+use Rattle.std.specs.Ordering.{int_eq}
+use Rattle.std.proofs.lemmas.List.{take_more, take_all}
+use Rattle.brace_num.specs.declared.kinds.Kind.{Kind}
+use Rattle.brace_model.specs.declared.program.Ty.{Ty}
+use Rattle.brace_model.specs.declared.program.UnOp.{UnOp}
+use Rattle.brace_model.specs.declared.program.BinOp.{BinOp}
+use Rattle.brace_model.specs.Value.{Scope, typed}
+use Rattle.brace_code.specs.declared.code.Code.{Code}
+use Rattle.brace_code.specs.declared.code.Operand.{Operand}
+use Rattle.brace_code.specs.declared.code.Instr.{Instr}
+use Rattle.brace_code.specs.declared.code.Instr.TheVariants.{Push, Unary, Binary, Choice}
+use Rattle.brace_code.specs.declared.lane.Lane.{Lane}
+use Rattle.brace_code.specs.declared.lane.Frame.{Frame}
+use Rattle.brace_code.specs.Codes.{type_given, gives}
+use Rattle.brace_code.specs.Lanes.{Shows, Gives}
+use Rattle.brace_code.specs.inner.Words.{Outcome, value_of, made_word, unary_word, binary_word, choose_word, operand_word}
+use Rattle.brace_code.specs.inner.Runs.{Left, Deed, onward, pushed, put, top, deed, run, outcome}
+use Rattle.brace_code.specs.inner.Columns.{Words, Maps, Pairs, Leads, stack_at, taking, merged}
+use Rattle.brace_code.proofs.LaneLemmas.{Holds, merged_chosen}
+use Rattle.brace_code.proofs.CodeLemmas.{run-push}
+use Rattle.brace_code.proofs.SingleLemmas.{push_does, unary_does, binary_does, choice_does}
+
+high : (columns : List (List ℤ)) (k : ℕ) → length (stack_at columns k) ≡ length columns
+high [] k = refl
+high (c ∷ columns) k = ap suc (high columns k)
+
+module _ (frame : Frame) (lanes : List Lane) (room : ℕ) (before after : List (List ℤ)) (words : List ℤ) (i : Instr) where
+  -- an instruction that puts a word of each lane on the rest of its stack
+  puts : (rest : List (List ℤ)) → after ≡ words ∷ rest
+      → ((scope : Lane → Scope) → Shows frame scope → (k : ℕ) (d : Lane) → k < length lanes
+      → deed i room (scope (slice_index_or lanes k d)) (stack_at before k) ≡ pushed (stack_at rest k) (Ok (slice_index_or words k (pos 0))))
+      → Leads (deed i) room frame lanes before after
+  puts rest h each = record { each = λ scope shows k d l. each scope shows k d l ∙ ap (λ (s : List (List ℤ)). let r : Left = Ok (stack_at s k) in r) (sym h) }
+
+  pub push_leads : (o : Operand) → i ≡ Push o → length before < room → Words frame (λ scope. operand_word scope o) lanes words → after ≡ words ∷ before
+      → Leads (deed i) room frame lanes before after
+  push_leads o is below p h = puts before h (λ scope shows k d l.
+      push_does i room (scope (slice_index_or lanes k d)) (stack_at before k) o is (rw high below) ∙ ap (pushed (stack_at before k)) (p.each scope shows k d l))
+
+  pub unary_leads : (op : UnOp) (site : ℕ) (a : List ℤ) (rest : List (List ℤ)) → i ≡ Unary op site → before ≡ a ∷ rest → length a ≡ length lanes
+      → Maps (unary_word op) a words → after ≡ words ∷ rest → Leads (deed i) room frame lanes before after
+  unary_leads op site a rest is b long p h = puts rest h (λ scope shows k d l.
+      unary_does i room (scope (slice_index_or lanes k d)) (stack_at before k) op site (slice_index_or a k (pos 0)) (stack_at rest k) is (ap (λ (s : List (List ℤ)). stack_at s k) b)
+      ∙ ap (λ (w : Result ℤ Kind). pushed (stack_at rest k) (made_word site w)) (p.each k (rw long l)))
+
+  pub binary_leads : (op : BinOp) (t : Ty) (site : ℕ) (a b : List ℤ) (middle rest : List (List ℤ)) → i ≡ Binary op t site → before ≡ b ∷ middle → middle ≡ a ∷ rest
+      → length a ≡ length lanes → Pairs (binary_word op t) a b words → after ≡ words ∷ rest → Leads (deed i) room frame lanes before after
+  binary_leads op t site a b middle rest is s m long p h = puts rest h (λ scope shows k d l.
+      binary_does i room (scope (slice_index_or lanes k d)) (stack_at before k) op t site (slice_index_or a k (pos 0)) (slice_index_or b k (pos 0)) (stack_at rest k) is
+      (ap (λ (s : List (List ℤ)). stack_at s k) (s ∙ ap (λ (s : List (List ℤ)). b ∷ s) m))
+      ∙ ap (λ (w : Result ℤ Kind). pushed (stack_at rest k) (made_word site w)) (p.each k (rw long l)))
+
+  pub choice_leads : (a b : List Instr) (set unset : List Lane) (ts ys ns : List ℤ) (rest : List (List ℤ)) (left : ℕ) → i ≡ Choice a b → before ≡ ts ∷ rest
+      → length ts ≡ length lanes → left ≡ room - length rest → set ≡ taking true lanes ts → unset ≡ taking false lanes ts
+      → Words frame (outcome a left) set ys → Words frame (outcome b left) unset ns → words ≡ merged ts ys ns → after ≡ words ∷ rest
+      → Leads (deed i) room frame lanes before after
+  choice_leads a b set unset ts ys ns rest left is s long r p q f g m h = puts rest h (λ scope shows k d l.
+      let below : room - length (stack_at rest k) ≡ left = ap (λ (n : ℕ). room - n) (high rest k) ∙ sym r in
+      let c = merged_chosen (λ lane. outcome a left (scope lane)) (λ lane. outcome b left (scope lane)) lanes set unset ts ys ns words long p q
+      (record { long = f.long; each = f.each scope shows }) (record { long = g.long; each = g.each scope shows }) m in
+      choice_does i room (scope (slice_index_or lanes k d)) (stack_at before k) a b (slice_index_or ts k (pos 0)) (stack_at rest k) is (ap (λ (s : List (List ℤ)). stack_at s k) s)
+      ∙ ap (λ (n : ℕ). pushed (stack_at rest k) (outcome (choose_word (slice_index_or ts k (pos 0)) a b) n (scope (slice_index_or lanes k d)))) below
+      ∙ ap (pushed (stack_at rest k)) (apart (int_eq (slice_index_or ts k (pos 0)) (pos 0)) (scope (slice_index_or lanes k d)) ∙ c.each k d l))
+    where
+      apart : (e : Bool) (scope : Scope) → outcome (if e then b else a) left scope ≡ (if e then outcome b left scope else outcome a left scope)
+      apart true scope = refl
+      apart false scope = refl
+
+pub ruleset step_rules = (push_leads, unary_leads, binary_leads, choice_leads)
+
+-- no instruction leaves the stack
+pub none_leads : (room : ℕ) (frame : Frame) (lanes : List Lane) (stack : List (List ℤ)) → Leads (run []) room frame lanes stack stack
+none_leads room frame lanes stack = record { each = λ scope shows k d h. refl }
+
+-- one more instruction
+pub more_leads : (room : ℕ) (frame : Frame) (lanes : List Lane) (code : List Instr) (at : ℕ) (e : Instr) (first before after : List (List ℤ)) → at < length code
+    → Leads (run (take at code)) room frame lanes first before → Leads (deed (get_or code at e)) room frame lanes before after → Leads (run (take (at + 1) code)) room frame lanes first after
+more_leads room frame lanes code at e first before after h p q = record {
+  each = λ scope shows k d l.
+      ap (λ (c : List Instr). run c room (scope (slice_index_or lanes k d)) (stack_at first k)) (take_more code at e h)
+      ∙ run-push (take at code) (get_or code at e) room (scope (slice_index_or lanes k d)) (stack_at first k)
+      ∙ ap (λ (r : Left). onward r (deed (get_or code at e) room (scope (slice_index_or lanes k d)))) (p.each scope shows k d l)
+      ∙ q.each scope shows k d l;
+}
+
+-- the top column is the outcome in each lane
+pub top_gives : (room : ℕ) (frame : Frame) (lanes : List Lane) (code : List Instr) (at : ℕ) (stack rest : List (List ℤ)) (words : List ℤ) → length code ≤ at
+    → Leads (run (take at code)) room frame lanes [] stack → stack ≡ words ∷ rest → length words ≡ length lanes → Words frame (outcome code room) lanes words
+top_gives room frame lanes code at stack rest words e p h long = record {
+  long = long;
+  each = λ scope shows k d l.
+      ap (λ (c : List Instr). top (run c room (scope (slice_index_or lanes k d)) [])) (sym (take_all at code e))
+      ∙ ap top (p.each scope shows k d l) ∙ ap (λ (s : List (List ℤ)). top (let r : Left = Ok (stack_at s k) in r)) h;
+}
+
+pub ruleset run_rules = (none_leads, more_leads, top_gives)
+
+-- the words of code's outcomes are those of its values
+pub code_gives : (code : Code) (frame : Frame) (lanes : List Lane) (words : List ℤ) → Words frame (outcome code.instrs code.depth) lanes words → Gives code frame lanes words
+code_gives code frame lanes words p = record { long = p.long; each = λ scope shows k d l. ap (value_of code.ty) (p.each scope shows k d l) }

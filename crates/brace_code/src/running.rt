@@ -1,0 +1,151 @@
+ghost use Rattle.std.specs.Prelude.{◌≡◌, ◌∷◌, IfOk, OnOk, length};
+ghost use Rattle.brace_code.specs.Lanes.{Gives};
+ghost use Rattle.brace_code.specs.inner.Words.{operand_word};
+ghost use Rattle.brace_code.specs.inner.Runs.{deed, outcome};
+ghost use Rattle.brace_code.specs.inner.Columns.{Numbers, Words, Leads};
+
+use crate::code::{Code, Instr, Operand};
+use crate::columns::Columns;
+use crate::kernels::{binary_each, constant, gather, total_each, unary_each};
+use crate::lane::{Frame, Lane, Redo, row_of};
+use crate::splitting::{Sides, merged, split};
+use brace_num::List;
+use std::alloc::Global;
+
+/// The number that each lane reads of an operand.
+#[tactic(auto, using(crate::proofs::OperandLemmas::shown_numbers))]
+fn shown(
+    alloc: Global,
+    operand: Operand,
+    frame: &Frame,
+    lanes: &List<Lane>,
+) -> Result<List<i64>, Redo>
+    ensures { IfOk result (λ words. Numbers frame.now operand lanes.now words) }
+{
+    let Some(column) = frame.column(operand) else {
+        return Err(Redo);
+    };
+    gather(alloc, column, row_of(operand), lanes)
+}
+
+/// The word of an operand in each lane.
+#[tactic(auto, using(crate::proofs::OperandLemmas::operand_rules))]
+fn operand_column(
+    alloc: Global,
+    operand: Operand,
+    frame: &Frame,
+    lanes: &List<Lane>,
+) -> Result<List<i64>, Redo>
+    ensures { IfOk result (λ words.
+        Words frame.now (λ scope. operand_word scope operand) lanes.now words) }
+{
+    match operand {
+        Operand::Word(word) => constant(alloc, word, lanes),
+        Operand::Field(_, _) => shown(alloc, operand, frame, lanes),
+        Operand::Local(_) => shown(alloc, operand, frame, lanes),
+        Operand::Rand(_) => shown(alloc, operand, frame, lanes),
+        Operand::Total(_, ty, _) => {
+            let totals = shown(alloc, operand, frame, lanes)?;
+            total_each(ty, totals)
+        }
+    }
+}
+
+/// One instruction in each lane, on a stack of columns.
+#[tactic(auto, using(crate::proofs::RunLemmas::step_rules))]
+#[cycle(running_lanes)]
+fn step(
+    alloc: Global,
+    instr: &Instr,
+    room: usize,
+    frame: &Frame,
+    lanes: &List<Lane>,
+    stack: &mut Columns,
+) -> Result<(), Redo>
+    ensures { OnOk result
+        (Leads (deed instr.now) room frame.now lanes.now stack.old stack.new) }
+{
+    match instr {
+        Instr::Push(operand) => {
+            if stack.height() >= room {
+                return Err(Redo);
+            }
+            let words = operand_column(alloc, *operand, frame, lanes)?;
+            stack.push(words)?;
+        }
+        Instr::Unary(op, _) => {
+            let a = taken(stack, lanes)?;
+            let words = unary_each(*op, a)?;
+            stack.push(words)?;
+        }
+        Instr::Binary(op, ty, _) => {
+            let b = taken(stack, lanes)?;
+            let a = taken(stack, lanes)?;
+            let words = binary_each(*op, *ty, a, &b)?;
+            stack.push(words)?;
+        }
+        Instr::Choice(set, unset) => {
+            let test = taken(stack, lanes)?;
+            let below = stack.height();
+            if below > room {
+                return Err(Redo);
+            }
+            let sides = split(alloc, lanes, &test)?;
+            let ys = run_lanes(alloc, set, room - below, frame, &sides.set)?;
+            let ns = run_lanes(alloc, unset, room - below, frame, &sides.unset)?;
+            let words = merged(alloc, &test, &ys, &ns)?;
+            stack.push(words)?;
+        }
+    }
+    Ok(())
+}
+
+/// The column on top, which has a word for each lane.
+fn taken(stack: &mut Columns, lanes: &List<Lane>) -> Result<List<i64>, Redo>
+    ensures top { IfOk result (λ top. stack.old ≡ top ∷ stack.new) }
+    ensures long { IfOk result (λ top. length top ≡ length lanes.now) }
+{
+    let Some(top) = stack.pop() else {
+        return Err(Redo);
+    };
+    if top.as_slice().len() != lanes.as_slice().len() {
+        return Err(Redo);
+    }
+    Ok(top)
+}
+
+/// What code leaves on top in each lane; where a lane faults or memory runs out, `Redo`.
+#[tactic(auto, using(crate::proofs::RunLemmas::run_rules))]
+#[cycle(running_lanes)]
+fn run_lanes(
+    alloc: Global,
+    code: &List<Instr>,
+    room: usize,
+    frame: &Frame,
+    lanes: &List<Lane>,
+) -> Result<List<i64>, Redo>
+    ensures { IfOk result (λ words. Words frame.now (outcome code.now room) lanes.now words) }
+{
+    let mut stack = Columns::new(alloc);
+    for instr in code.as_slice() {
+        step(alloc, instr, room, frame, lanes, &mut stack)?;
+    }
+    taken(&mut stack, lanes)
+}
+
+impl Code {
+    #[tactic(auto, using(crate::proofs::RunLemmas::code_gives))]
+    /// The word of each lane's value, of the code's type: at each lane the code has a value in the
+    /// lane's scope, and its word stands at the lane's place. `Redo` says nothing.
+    pub fn eval_lanes(
+        &self,
+        alloc: Global,
+        frame: &Frame,
+        lanes: &List<Lane>,
+    ) -> Result<List<i64>, Redo>
+        ensures { IfOk result (λ words. Gives self.now frame.now lanes.now words) }
+    {
+        let words = run_lanes(alloc, &self.instrs, self.depth, frame, lanes)?;
+        Ok(words)
+    }
+}

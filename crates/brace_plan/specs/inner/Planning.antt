@@ -1,0 +1,28 @@
+-- Plans of a program. Only the crate's own functions cite this.
+use Rattle.std.specs.Prelude.{◌≡◌, ℕ, List, [], map, sum, true, Some, slice_get, length}
+use Rattle.std.specs.List.{list_all}
+use Rattle.brace_model.specs.declared.program.Class.{Class}
+use Rattle.brace_model.specs.declared.program.Program.{Program}
+use Rattle.brace_model.specs.declared.program.Stmt.{Stmt}
+use Rattle.brace_model.specs.declared.world.Agent.{Agent}
+use Rattle.brace_model.specs.Lawful.{is_lawful_agent}
+use Rattle.brace_model.specs.Query.{block, statement, constants, opening_scope}
+use Rattle.brace_plan.specs.declared.action.Action.{Action}
+use Rattle.brace_plan.specs.declared.plans.Planned.{Planned}
+use Rattle.brace_plan.specs.inner.Acts.{acts}
+
+-- actions do what the query of a class does: for each agent of the class, over lawful agents
+pub record IsPlanOf (program : Program) (number : ℕ) (query : List Stmt) (planned : Planned)
+    : Type 0 where
+  pub constants : planned.constants ≡ sum (map constants query)
+  pub same : (seed tick : ℕ) (world : List Agent) (a : Agent)
+      → list_all (is_lawful_agent program) world ≡ true → is_lawful_agent program a ≡ true
+      → a.class ≡ number
+      → acts program world planned.actions (opening_scope seed tick query [] a)
+      ≡ block (map (statement program world) query) (opening_scope seed tick query [] a)
+
+-- one plan for the query of each class
+pub record ArePlansOf (program : Program) (queries : List Planned) : Type 0 where
+  pub each : (number : ℕ) (class : Class) → slice_get program.classes number ≡ Some class
+      → (planned : Planned) × (slice_get queries number ≡ Some planned)
+      × IsPlanOf program number class.query planned

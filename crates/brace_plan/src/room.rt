@@ -1,0 +1,41 @@
+ghost use Rattle.std.specs.Prelude.{◌≡◌, IfOk};
+
+use brace_code::Stack;
+use brace_draw::Drawer;
+use brace_model::Value;
+use brace_num::NoMemory;
+use std::alloc::Global;
+use std::marker::Model;
+
+/// What queries need while they are asked: their draws, and room that they use again. Contracts see
+/// the seed of the draws.
+#[derive(Debug, Drop)]
+pub struct Room {
+    pub(crate) drawer: Drawer,
+    pub(crate) stack: Stack,
+    pub(crate) locals: Vec<Value>,
+    /// Lists of places that no loop uses now.
+    pub(crate) spare: Vec<Vec<u32>>,
+}
+
+impl Model for Room {
+    ghost use Rattle.std.specs.Prelude.{ℕ};
+
+    ghost Value = { ℕ };
+
+    ghost view = { λ room. room.drawer.seed };
+}
+
+impl Room {
+    /// Room for the queries of a run with that seed.
+    pub fn make(alloc: Global, seed: u64) -> Result<Room, NoMemory>
+        ensures { IfOk result (λ room. room ≡ seed) }
+    {
+        Ok(Room {
+            drawer: Drawer::make(seed),
+            stack: Stack::make(alloc, 0)?,
+            locals: Vec::new(alloc),
+            spare: Vec::new(alloc),
+        })
+    }
+}
