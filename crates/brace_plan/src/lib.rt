@@ -5,10 +5,15 @@
 mod action;
 mod answer;
 mod asking;
+mod constants;
+mod loops;
+mod narrowing;
+mod planning;
 mod plans;
 mod room;
 
 pub use action::{Action, Axis, Bound, Limit, Side};
 pub use answer::{Answer, Said};
+pub use loops::Loop;
 pub use plans::{Plans, plan};
 pub use room::Room;
