@@ -1,0 +1,6 @@
+pub mod Doing
+pub mod Formed
+pub mod Narrowed
+pub mod Senses
+pub mod Steps
+pub mod Suiting

@@ -11,6 +11,7 @@ mod narrowing;
 mod planning;
 mod plans;
 mod room;
+mod scratch;
 
 pub use action::{Action, Axis, Bound, Limit, Side};
 pub use answer::{Answer, Said};
