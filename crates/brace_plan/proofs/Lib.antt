@@ -1,6 +1,7 @@
 pub mod Doing
 pub mod Formed
 pub mod Narrowed
+pub mod Planned
 pub mod Senses
 pub mod Steps
 pub mod Suiting

@@ -11,7 +11,6 @@ mod narrowing;
 mod planning;
 mod plans;
 mod room;
-mod scratch;
 
 pub use action::{Action, Axis, Bound, Limit, Side};
 pub use answer::{Answer, Said};
