@@ -5,3 +5,4 @@ pub mod Planned
 pub mod Senses
 pub mod Steps
 pub mod Suiting
+pub mod Whole

@@ -13,6 +13,7 @@ use Rattle.brace_model.specs.declared.world.Agent.{Agent}
 use Rattle.brace_model.specs.Value.{Scope, agent_of}
 use Rattle.brace_model.specs.Query.{Deed, silent, deed_of, block, bound, closed, chosen, inside, iterated, saying}
 use Rattle.brace_model.proofs.Folds as folds
+use Rattle.brace_model.proofs.ValueEquations.{constants-Const, constants-If, constants-Foreach, constants-Assign}
 use Rattle.brace_code.specs.declared.code.Code.{Code}
 use Rattle.brace_code.specs.Codes.{gives}
 use Rattle.brace_plan.specs.declared.loops.Loop.{Loop}
@@ -73,3 +74,5 @@ loops-Foreach class body at classes variable bounds is =
 pub loops-Assign : (who : Who) (effect : ℕ) (e : Expr) (at : ℕ) (classes : List Class) (variable : Who) → loops_of classes variable (stmt.Assign who effect e at ∷ []) ≡ []
 loops-Assign who effect e at classes variable = ap (λ x. all_loops (x ∷ []) classes variable) (nested-Assign who effect e at)
 pub ruleset loop_rules = (loops-Const, loops-If, loops-Foreach, loops-Assign)
+
+pub ruleset count_rules = (constants-Const, constants-If, constants-Foreach, constants-Assign)

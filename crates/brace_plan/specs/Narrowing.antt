@@ -145,8 +145,8 @@ abbrev pub loops_of : List Class → Who → List Stmt → List Loop
 loops_of classes variable block = all_loops (map nested block) classes variable
 
 -- the loops of a program, in text order
-abbrev pub loops : Program → List Loop
-loops program = flat_map (λ c. loops_of program.classes Outer c.query) program.classes
+abbrev pub loops_in : Program → List Loop
+loops_in program = flat_map (λ c. loops_of program.classes Outer c.query) program.classes
 
 -- how many bounds the first of the loops at a byte offset has; 0 where there is none
 abbrev pub bounds_at : List Loop → ℕ → ℕ

@@ -6,6 +6,7 @@ mod action;
 mod answer;
 mod asking;
 mod constants;
+mod counting;
 mod loops;
 mod narrowing;
 mod planning;
