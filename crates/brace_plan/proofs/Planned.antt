@@ -1,5 +1,5 @@
 -- What planning makes of statements and of blocks.
-use Rattle.std.proofs.Common.{◌≡◌, ◌∙◌, refl, sym, ap, subst, ℕ, ◌+◌, ◌-◌, ◌<◌, ◌≤◌, Bool, true, false, List, [], ◌∷◌, ◌++◌, map, length, take, drop, get_or, Option, Some, None, append_assoc, append-nil}
+use Rattle.std.proofs.Common.{◌≡◌, ◌∙◌, refl, sym, ap, ap₂, subst, ℕ, ◌+◌, ◌-◌, ◌<◌, ◌≤◌, Bool, true, false, List, [], ◌∷◌, ◌++◌, map, length, take, drop, get_or, Option, Some, None, append_assoc, append-nil}
 use Rattle.std.specs.Prelude.{is_some, is_none, slice_get, if◌then◌else◌}
 use Rattle.std.proofs.lemmas.List.{drop_more, take_all, map-append}
 use Rattle.std.proofs.lemmas.List.Concat.{flat_map-append}
@@ -19,11 +19,12 @@ use Rattle.brace_plan.specs.declared.loops.Loop.{Loop}
 use Rattle.brace_plan.specs.declared.action.Bound.{Bound}
 use Rattle.brace_plan.specs.declared.action.Action.{Action}
 use Rattle.brace_plan.specs.declared.action.Action.TheVariants as action
-use Rattle.brace_plan.specs.Narrowing.{nested, bounds_over, all_loops, loops_of}
+use Rattle.brace_plan.specs.Narrowing.{Nested, nested, bounds_over, all_loops, loops_of}
 use Rattle.brace_plan.specs.inner.Doing.{names_with, variable_of, variable_in, DoesOne, Does, DoesAll}
+use Rattle.brace_plan.specs.inner.Planning.{told, told_by}
 use Rattle.brace_plan.proofs.Doing.{does_const, does_assign, does_if, does_loop, does_more}
 use Rattle.brace_plan.proofs.Formed.{IsFormed, After, formed_const, formed_if, formed_loop, formed_assign, first_formed, rest_formed, after_more, cut_back}
-use Rattle.brace_plan.proofs.Steps.{loops-If, loops-Foreach}
+use Rattle.brace_plan.proofs.Steps.{loops-Const, loops-If, loops-Foreach, loops-Assign, told-Const, told-If, told-Foreach, told-Assign}
 
 abbrev Known_at : Type 0
 Known_at = List (ℕ × Ty)
@@ -90,31 +91,33 @@ module _ (known : Known) (constants : Known_at) where
           let same : record names { inner_class = Some class } ≡ within = cc in
           (ap (λ m. variable_of m.outer_class) (sym same) ∙ ap variable_of is, ap (λ m. m.classes) (sym same))
 
-  pub loops_of_loop : (class at count : ℕ) (body : List Stmt) (bounds : List Bound) (inside : Known) (variable : Who) (old mid new : List Loop) → IsTyped known constants (Foreach class body at)
-      → variable ≡ variable_in known → bounds ≡ bounds_over (map nested body) variable (slice_get known.classes.now class) → Enters class inside → count ≡ length bounds
-      → mid ≡ old ++ record { at = at; class = class; bounds = count } ∷ [] → new ≡ mid ++ loops_of inside.classes.now (variable_in inside) body
-      → new ≡ old ++ loops_of known.classes.now (variable_in known) (Foreach class body at ∷ [])
-  loops_of_loop class at count body bounds inside variable old mid new typed is_variable is enters counted pushed grown =
+  pub told_loop : (class at : ℕ) (body : List Stmt) (bounds : List Bound) (x : List Action) (inside : Known) (variable : Who) → IsTyped known constants (Foreach class body at)
+      → variable ≡ variable_in known → bounds ≡ bounds_over (map nested body) variable (slice_get known.classes.now class) → Enters class inside
+      → told_by x ≡ loops_of inside.classes.now (variable_in inside) body → told (action.Foreach class bounds x at) ≡ loops_of known.classes.now (variable_in known) (Foreach class body at ∷ [])
+  told_loop class at body bounds x inside variable typed is_variable is enters tells =
       let f = formed_loop class body at here typed in
       let (inner, classes) = variable_inside here f.inside class known.outer refl f.entered in
       let entered = enters constants f.inside f.entered in
       let inner_is : variable_in inside ≡ Inner = ap (λ k. variable_of k.outer_class) (sym entered) ∙ inner in
       let classes_are : inside.classes.now ≡ known.classes.now = ap (λ k. k.classes) (sym entered) ∙ classes in
       let bounds_are = is ∙ ap (λ v. bounds_over (map nested body) v (slice_get known.classes.now class)) is_variable in
-      grown ∙ ap (λ m. m ++ loops_of inside.classes.now (variable_in inside) body) pushed
-      ∙ append_assoc old (record { at = at; class = class; bounds = count } ∷ []) (loops_of inside.classes.now (variable_in inside) body)
-      ∙ ap (λ n. old ++ record { at = at; class = class; bounds = n } ∷ loops_of inside.classes.now (variable_in inside) body) counted
-      ∙ ap (λ cs. old ++ record { at = at; class = class; bounds = length bounds } ∷ loops_of cs (variable_in inside) body) classes_are
-      ∙ ap (λ v. old ++ record { at = at; class = class; bounds = length bounds } ∷ loops_of known.classes.now v body) inner_is
-      ∙ ap (λ ls. old ++ record { at = at; class = class; bounds = length bounds } ∷ ls) (sym (append-nil (loops_of known.classes.now Inner body)))
-      ∙ ap (λ ls. old ++ ls) (sym (loops-Foreach class body at known.classes.now (variable_in known) bounds bounds_are))
+      told-Foreach class bounds x at
+      ∙ ap (λ ls. let l : Loop = record { at = at; class = class; bounds = length bounds } in l ∷ ls)
+      (tells ∙ ap (λ cs. loops_of cs (variable_in inside) body) classes_are ∙ ap (λ v. loops_of known.classes.now v body) inner_is ∙ sym (append-nil (loops_of known.classes.now Inner body)))
+      ∙ sym (loops-Foreach class body at known.classes.now (variable_in known) bounds bounds_are)
 
-pub loops_of_if : (classes : List Class) (variable : Who) (s : Stmt) (e : Expr) (a b : List Stmt) (old mid new : List Loop) → s ≡ If e a b
-    → mid ≡ old ++ loops_of classes variable a → new ≡ mid ++ loops_of classes variable b → new ≡ old ++ loops_of classes variable (s ∷ [])
-loops_of_if classes variable s e a b old mid new is first second =
-    second ∙ ap (λ m. m ++ loops_of classes variable b) first ∙ append_assoc old (loops_of classes variable a) (loops_of classes variable b)
-    ∙ ap (λ ls. old ++ ls) (sym (append-nil (loops_of classes variable a ++ loops_of classes variable b)) ∙ sym (loops-If e a b classes variable))
-    ∙ ap (λ x. old ++ loops_of classes variable (x ∷ [])) (sym is)
+pub told_if : (classes : List Class) (variable : Who) (s : Stmt) (e : Expr) (a b : List Stmt) (code : Code) (x y : List Action) → s ≡ If e a b
+    → told_by x ≡ loops_of classes variable a → told_by y ≡ loops_of classes variable b → told (action.If code x y) ≡ loops_of classes variable (s ∷ [])
+told_if classes variable s e a b code x y is first second =
+    told-If code x y ∙ ap₂ (λ p q. p ++ q) first second ∙ sym (append-nil (loops_of classes variable a ++ loops_of classes variable b)) ∙ sym (loops-If e a b classes variable)
+    ∙ ap (λ z. loops_of classes variable (z ∷ [])) (sym is)
+
+pub told_const : (classes : List Class) (variable : Who) (s : Stmt) (n : ℕ) (e : Expr) (code : Code) → s ≡ Const n e → told (action.Const n code) ≡ loops_of classes variable (s ∷ [])
+told_const classes variable s n e code is = told-Const n code ∙ sym (loops-Const n e classes variable) ∙ ap (λ z. loops_of classes variable (z ∷ [])) (sym is)
+
+pub told_assign : (classes : List Class) (variable : Who) (s : Stmt) (who : Who) (effect : ℕ) (e : Expr) (at : ℕ) (code : Code) → s ≡ Assign who effect e at
+    → told (action.Assign who effect code) ≡ loops_of classes variable (s ∷ [])
+told_assign classes variable s who effect e at code is = told-Assign who effect code ∙ sym (loops-Assign who effect e at classes variable) ∙ ap (λ z. loops_of classes variable (z ∷ [])) (sym is)
 
 -- ---- blocks
 
@@ -138,12 +141,13 @@ module _ (block : List Stmt) (i : ℕ) (s : Stmt) (low : i < length block) (is :
   does_next names mid last actions new y first second grown =
       subst (λ b. Does names last b new) (sym taken_is) (subst (Does names last (take i block ++ s ∷ [])) (sym grown) (does_more names mid last (take i block) s actions y first second))
 
-  pub loops_next : (classes : List Class) (variable : Who) (old mid new : List Loop) → mid ≡ old ++ loops_of classes variable (take i block) → new ≡ mid ++ loops_of classes variable (s ∷ [])
-      → new ≡ old ++ loops_of classes variable (take (i + 1) block)
-  loops_next classes variable old mid new first second =
-      second ∙ ap (λ m. m ++ loops_of classes variable (s ∷ [])) first ∙ append_assoc old (loops_of classes variable (take i block)) (loops_of classes variable (s ∷ []))
-      ∙ ap (λ ls. old ++ ls) (sym (flat_map-append _ (map nested (take i block)) (map nested (s ∷ []))) ∙ ap (λ ns. all_loops ns classes variable) (sym (map-append nested (take i block) (s ∷ []))))
-      ∙ ap (λ b. old ++ loops_of classes variable b) (sym taken_is)
+  pub told_next : (classes : List Class) (variable : Who) (actions new : List Action) (y : Action) → told_by actions ≡ loops_of classes variable (take i block)
+      → told y ≡ loops_of classes variable (s ∷ []) → new ≡ actions ++ y ∷ [] → told_by new ≡ loops_of classes variable (take (i + 1) block)
+  told_next classes variable actions new y first second grown =
+      ap told_by grown ∙ flat_map-append told actions (y ∷ []) ∙ ap₂ (λ p q. p ++ q) first (append-nil (told y) ∙ second)
+      ∙ sym (flat_map-append (λ (x : Nested). x.loops classes variable) (map nested (take i block)) (map nested (s ∷ [])))
+      ∙ ap (λ ns. all_loops ns classes variable) (sym (map-append nested (take i block) (s ∷ [])))
+      ∙ ap (loops_of classes variable) (sym taken_is)
 
 pub block_cut : (known : Known) (block : List Stmt) (i outside : ℕ) (constants last kept : Known_at) → length block ≤ i → outside ≡ length constants
     → After (take i block) (names_with known constants) (names_with known last) → kept ≡ drop (length last - outside) last → kept ≡ constants

@@ -1,5 +1,5 @@
 -- Plans of the queries of a lawful program.
-use Rattle.std.proofs.Common.{◌≡◌, ◌∙◌, refl, sym, ap, subst, ℕ, zero, suc, ◌+◌, ◌<◌, ◌≤◌, ◌⊎◌, inl, inr, true, List, [], ◌∷◌, ◌++◌, map, flat_map, sum, length, get_or, take, Some, append_assoc, arith}
+use Rattle.std.proofs.Common.{◌≡◌, ◌∙◌, refl, sym, ap, ap₂, subst, ℕ, zero, suc, ◌+◌, ◌<◌, ◌≤◌, ◌⊎◌, inl, inr, true, List, [], ◌∷◌, ◌++◌, map, flat_map, sum, length, get_or, take, Some, append_assoc, arith}
 use Rattle.std.specs.Prelude.{is_some, slice_get, nat_lt}
 use Rattle.std.specs.List.{list_all}
 use Rattle.std.proofs.lemmas.Option.{slice_get_within, slice_get-get_or}
@@ -7,6 +7,7 @@ use Rattle.std.proofs.lemmas.Bool.{cases_lt}
 use Rattle.std.proofs.lemmas.List.{length-replicate, length_push}
 use Rattle.brace_num.proofs.Lists.{at_seam, flat_map_next}
 use Rattle.brace_model.specs.declared.program.Class.{Class}
+use Rattle.brace_model.specs.declared.program.Who.TheVariants.{Outer}
 use Rattle.brace_model.specs.declared.program.Program.{Program}
 use Rattle.brace_model.specs.declared.program.Stmt.{Stmt}
 use Rattle.brace_model.specs.Sites.{constant_numbers}
@@ -18,7 +19,8 @@ use Rattle.brace_plan.specs.declared.action.Action.{Action}
 use Rattle.brace_plan.specs.declared.loops.Loop.{Loop}
 use Rattle.brace_plan.specs.declared.plans.Planned.{Planned}
 use Rattle.brace_plan.specs.inner.Doing.{Suits, DoesAll, has_room}
-use Rattle.brace_plan.specs.inner.Planning.{IsPlanOf, ArePlansOf}
+use Rattle.brace_plan.specs.inner.Planning.{told_by, IsPlanOf, ArePlansOf}
+use Rattle.brace_plan.specs.Narrowing.{loops_of}
 use Rattle.brace_plan.proofs.Suiting.{opening_suits}
 
 -- the queries of the first classes are planned
@@ -32,9 +34,11 @@ none_planned program = record { count = refl; each = λ number class low found. 
 
 -- actions that do what the query does are its plan
 pub is_plan : (program : Program) (number : ℕ) (class : Class) (names : Names) (planned : Planned) → LawfulProgram program → slice_get program.classes number ≡ Some class
-    → names ≡ query_scope program number → planned.constants ≡ sum (map constants class.query) → DoesAll names class.query planned.actions → IsPlanOf program number class.query planned
-is_plan program number class names planned lawful found is counted (last, does) = record {
+    → names ≡ query_scope program number → planned.constants ≡ sum (map constants class.query) → DoesAll names class.query planned.actions
+    → told_by planned.actions ≡ loops_of program.classes Outer class.query → IsPlanOf program number class.query planned
+is_plan program number class names planned lawful found is counted (last, does) tells = record {
   constants = counted;
+  told = tells;
   same = λ seed tick world a all good of.
       let suits = opening_suits program world seed tick class.query a number all good of in
       let room : has_room (opening_scope seed tick class.query [] a) class.query ≡ true =
@@ -78,8 +82,9 @@ module _ (classes xs : List Class) (i : ℕ) (class : Class) (same : xs ≡ clas
   pub class_found : (number : ℕ) → number ≡ i → slice_get classes number ≡ Some class
   class_found number at = ap (slice_get classes) at ∙ ap (λ cs. slice_get cs i) (sym same) ∙ slice_get-get_or xs i class low ∙ ap (λ (c : Class). Some c) (sym is)
 
-  pub loops_told : (f : Class → List Loop) (old mid new : List Loop) → mid ≡ old ++ flat_map f (take i classes) → new ≡ mid ++ f class → new ≡ old ++ flat_map f (take (i + 1) classes)
-  loops_told f old mid new first second =
+  pub loops_told : (f : Class → List Loop) (old mid new : List Loop) (told : List Loop) → mid ≡ old ++ flat_map f (take i classes) → new ≡ mid ++ told → told ≡ f class
+      → new ≡ old ++ flat_map f (take (i + 1) classes)
+  loops_told f old mid new told first second tells =
       let next : flat_map f (take (i + 1) classes) ≡ flat_map f (take i classes) ++ f class =
       subst (λ cs. flat_map f (take (i + 1) cs) ≡ flat_map f (take i cs) ++ f class) same (flat_map_next f xs i class low is) in
-      second ∙ ap (λ m. m ++ f class) first ∙ append_assoc old (flat_map f (take i classes)) (f class) ∙ ap (λ ls. old ++ ls) (sym next)
+      second ∙ ap₂ (λ m t. m ++ t) first tells ∙ append_assoc old (flat_map f (take i classes)) (f class) ∙ ap (λ ls. old ++ ls) (sym next)

@@ -5,10 +5,10 @@ ghost use Rattle.brace_model.specs.Typing.{Names, type_of, within_loop, in_turn,
 ghost use Rattle.brace_code.specs.Codes.{Computes, names_of};
 ghost use Rattle.brace_plan.specs.Narrowing.{loops_of};
 ghost use Rattle.brace_plan.specs.inner.Doing.{names_with, variable_in, DoesOne, DoesAll};
+ghost use Rattle.brace_plan.specs.inner.Planning.{told, told_by};
 
 use crate::action::Action;
 use crate::constants::Constants;
-use crate::loops::Loop;
 use crate::narrowing::bounds_over;
 use brace_code::{Code, Known, compile};
 use brace_model::{Expr, Stmt, Who};
@@ -70,26 +70,17 @@ fn plan_loop(
     body: &List<Stmt>,
     at: u32,
     constants: &mut Constants,
-    loops: &mut List<Loop>,
 ) -> Result<Action, NoMemory>
     requires { IsTrue (is_some
         (scope_after (stmt.Foreach class body.now at) (names_with known.now constants.old))) }
     ensures scope { OnOk result (constants.new ≡ constants.old) }
     ensures action { IfOk result (λ action. DoesOne (names_with known.now constants.old)
         (names_with known.now constants.old) (stmt.Foreach class body.now at) action) }
-    ensures loops { OnOk result (loops.new ≡ loops.old ++ loops_of known.now.classes.now
+    ensures told { IfOk result (λ action. told action ≡ loops_of known.now.classes.now
         (variable_in known.now) (stmt.Foreach class body.now at ∷ [])) }
 {
     let bounds = bounds_over(alloc, variable_in(known), known.classes, class, body)?;
-    let Ok(count) = u32::try_from(bounds.as_slice().len()) else {
-        return Err(NoMemory);
-    };
-    loops.push(Loop {
-        at,
-        class,
-        bounds: count,
-    })?;
-    let body = plan_block(alloc, &within(known, class), body, constants, loops)?;
+    let body = plan_block(alloc, &within(known, class), body, constants)?;
     Ok(Action::Foreach(class, bounds, body, at))
 }
 
@@ -100,15 +91,14 @@ fn plan_statement(
     known: &Known,
     s: &Stmt,
     constants: &mut Constants,
-    loops: &mut List<Loop>,
 ) -> Result<Action, NoMemory>
     requires { IsTrue (is_some (scope_after s.now (names_with known.now constants.old))) }
     ensures scope { OnOk result (scope_after s.now (names_with known.now constants.old)
         ≡ Some (names_with known.now constants.new)) }
     ensures action { IfOk result (λ action. DoesOne (names_with known.now constants.old)
         (names_with known.now constants.new) s.now action) }
-    ensures loops { OnOk result (loops.new ≡ loops.old
-        ++ loops_of known.now.classes.now (variable_in known.now) (s.now ∷ [])) }
+    ensures told { IfOk result (λ action. told action
+        ≡ loops_of known.now.classes.now (variable_in known.now) (s.now ∷ [])) }
 {
     match s {
         Stmt::Const(number, e) => {
@@ -118,12 +108,12 @@ fn plan_statement(
         }
         Stmt::If(condition, a, b) => {
             let condition = compile_with(alloc, known, constants, condition)?;
-            let a = plan_block(alloc, known, a, constants, loops)?;
-            let b = plan_block(alloc, known, b, constants, loops)?;
+            let a = plan_block(alloc, known, a, constants)?;
+            let b = plan_block(alloc, known, b, constants)?;
             Ok(Action::If(condition, a, b))
         }
         Stmt::Foreach(class, body, at) => {
-            plan_loop(alloc, known, *class, body, *at, constants, loops)
+            plan_loop(alloc, known, *class, body, *at, constants)
         }
         Stmt::Assign(who, effect, e, _) => {
             let code = compile_with(alloc, known, constants, e)?;
@@ -132,27 +122,26 @@ fn plan_statement(
     }
 }
 
-/// The actions of a block, whose constants end with it, and its loops.
+/// The actions of a block, whose constants end with it.
 #[cycle(planning)]
 pub fn plan_block(
     alloc: Global,
     known: &Known,
     block: &List<Stmt>,
     constants: &mut Constants,
-    loops: &mut List<Loop>,
 ) -> Result<List<Action>, NoMemory>
     requires { IsTrue (is_some
         (in_turn (map scope_after block.now) (names_with known.now constants.old))) }
     ensures scope { OnOk result (constants.new ≡ constants.old) }
     ensures actions { IfOk result (λ actions.
         DoesAll (names_with known.now constants.old) block.now actions) }
-    ensures loops { OnOk result (loops.new ≡ loops.old
-        ++ loops_of known.now.classes.now (variable_in known.now) block.now) }
+    ensures told { IfOk result (λ actions. told_by actions
+        ≡ loops_of known.now.classes.now (variable_in known.now) block.now) }
 {
     let outside = constants.count();
     let mut actions = List::new(alloc);
     for s in block.as_slice() {
-        let action = plan_statement(alloc, known, s, constants, loops)?;
+        let action = plan_statement(alloc, known, s, constants)?;
         actions.push(action)?;
     }
     constants.keep(outside);

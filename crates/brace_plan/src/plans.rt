@@ -1,13 +1,12 @@
 ghost use Rattle.std.specs.Prelude.{◌≡◌, ◌++◌, Some, slice_get, IfOk, OnOk};
-ghost use Rattle.brace_model.specs.declared.program.Who.TheVariants.{Outer};
 ghost use Rattle.brace_model.specs.Lawful.{LawfulProgram};
-ghost use Rattle.brace_plan.specs.Narrowing.{loops_of, loops_in, bounds_at};
+ghost use Rattle.brace_plan.specs.Narrowing.{loops_in, bounds_at};
 ghost use Rattle.brace_plan.specs.inner.Planning.{IsPlanOf, ArePlansOf};
 
 use crate::action::Action;
 use crate::constants::Constants;
 use crate::counting::constants_in;
-use crate::loops::Loop;
+use crate::loops::{Loop, tell_all};
 use crate::planning::plan_block;
 use brace_code::Known;
 use brace_model::{Class, Program};
@@ -50,20 +49,16 @@ impl Model for Plans {
         × ArePlansOf plans.program plans.queries × (plans.loops ≡ loops_in plans.program) };
 }
 
-/// The plan of the query of a class. The loops of the query are told.
+/// The plan of the query of a class.
 fn plan_query(
     alloc: Global,
     program: &Program,
     number: u32,
     class: &Class,
-    loops: &mut List<Loop>,
 ) -> Result<Planned, NoMemory>
     requires lawful { LawfulProgram program.now }
     requires class { slice_get program.now.classes number ≡ Some class.now }
-    ensures plan { IfOk result (λ planned.
-        IsPlanOf program.now number class.now.query planned) }
-    ensures loops { OnOk result (loops.new ≡ loops.old
-        ++ loops_of program.now.classes Outer class.now.query) }
+    ensures { IfOk result (λ planned. IsPlanOf program.now number class.now.query planned) }
 {
     let known = Known {
         classes: program.classes.as_slice(),
@@ -75,7 +70,7 @@ fn plan_query(
     };
     let count = constants_in(&class.query)?;
     let mut constants = Constants::make(alloc, count)?;
-    let actions = plan_block(alloc, &known, &class.query, &mut constants, loops)?;
+    let actions = plan_block(alloc, &known, &class.query, &mut constants)?;
     Ok(Planned {
         actions,
         constants: count,
@@ -95,7 +90,9 @@ fn plan_queries(
     let mut queries = List::new(alloc);
     let mut number = 0;
     for class in program.classes.as_slice() {
-        queries.push(plan_query(alloc, program, number, class, loops)?)?;
+        let planned = plan_query(alloc, program, number, class)?;
+        tell_all(&planned.actions, loops)?;
+        queries.push(planned)?;
         number += 1;
     }
     Ok(queries)

@@ -11,8 +11,8 @@ loop-class-preserved c =
       number = ap (λ n. n + 1) at.number;
       plans = one_more_planned c.args.program.now c.loop-class.class-index c.loop-class.number _ _ _ _ at.plans at.number
           (class_found _ _ c.loop-class.class-index _ classes (omega (arith, low, c.loop-class.auto.class-index-end)) c.class-item.is c.loop-class.number at.number)
-          c.in_ok-plan_query.ensures.plan c.in_ok-push.ensures.ok;
-      loops = loops_told _ _ c.loop-class.class-index _ classes (omega (arith, low, c.loop-class.auto.class-index-end)) c.class-item.is _ _ _ _ at.loops c.in_ok-plan_query.ensures.loops;
+          c.in_ok-planned.ensures c.in_ok-push.ensures.ok;
+      loops = loops_told _ _ c.loop-class.class-index _ classes (omega (arith, low, c.loop-class.auto.class-index-end)) c.class-item.is _ _ _ _ _ at.loops c.in_ok-tell_all.ensures c.in_ok-planned.ensures.told;
     }
 
 pub returns-clause-plans : goal.returns-clause-plans
