@@ -1,7 +1,7 @@
 -- Actions that do what statements do.
-use Rattle.std.proofs.Common.{◌≡◌, ◌∙◌, refl, sym, ap, ap₂, subst, ℕ, Bool, true, false, List, [], ◌∷◌, ◌++◌, map, filter, flat_map, length, Option, Some, None, Ok, Err, append_assoc, append-nil, arith}
-use Rattle.std.specs.Prelude.{◌&&◌, ◌==◌, if◌then◌else◌, nat_lt, is_none, slice_get, slice_set, IsTrue, is_some}
-use Rattle.std.specs.List.{list_all, Contains, concat}
+use Rattle.std.proofs.Common.{◌≡◌, ◌∙◌, refl, sym, ap, ap₂, subst, ℕ, Bool, true, false, List, [], ◌∷◌, ◌++◌, map, filter, flat_map, length, Some, Ok, Err, append_assoc, append-nil, arith}
+use Rattle.std.specs.Prelude.{◌&&◌, ◌==◌, nat_lt, slice_get}
+use Rattle.std.specs.List.{list_all, concat}
 use Rattle.std.proofs.lemmas.Bool.{and_parts}
 use Rattle.std.proofs.lemmas.Bool.Decides.{nat_tests}
 use Rattle.std.proofs.lemmas.List.{map-append, length-set}
@@ -9,24 +9,20 @@ use Rattle.std.proofs.lemmas.List.Folds.{list_all-append}
 use Rattle.std.proofs.lemmas.List.Concat.{flat_map-append}
 use Rattle.brace_num.proofs.Lists.{filter_twice}
 use Rattle.brace_model.specs.declared.program.Ty.{Ty}
-use Rattle.brace_model.specs.declared.program.Ty.TheVariants as ty
 use Rattle.brace_model.specs.declared.program.Value.{Value}
-use Rattle.brace_model.specs.declared.program.Value.TheVariants.{Int, Fixed, Flag}
 use Rattle.brace_model.specs.declared.program.Who.{Who}
 use Rattle.brace_model.specs.declared.program.Program.{Program}
 use Rattle.brace_model.specs.declared.program.Expr.{Expr}
 use Rattle.brace_model.specs.declared.program.Stmt.{Stmt}
 use Rattle.brace_model.specs.declared.program.Stmt.TheVariants as stmt
-use Rattle.brace_model.specs.declared.fault.Stop.{Stop}
 use Rattle.brace_model.specs.declared.world.Agent.{Agent}
 use Rattle.brace_model.specs.World.{sees}
-use Rattle.brace_model.specs.Lawful.{is_lawful_agent}
 use Rattle.brace_model.specs.Sites.{constant_numbers}
 use Rattle.brace_model.specs.Value.{Scope, Worth, value, agent_of}
 use Rattle.brace_model.specs.Query.{Deed, silent, deed_of, followed_by, block, bound, closed, chosen, inside, iterated, seen_by, saying, statement}
-use Rattle.brace_model.specs.Typing.{Names, within_loop, type_of, type_of_value}
+use Rattle.brace_model.specs.Typing.{Names, within_loop, type_of}
 use Rattle.brace_model.proofs.Deeds.{after, goes_to, stops_at, by_stop, never_both, inside_either}
-use Rattle.brace_model.proofs.Simulation.{Tie, IsTie, Tied, Over, Either, over_tests, tied_loop}
+use Rattle.brace_model.proofs.Simulation.{Tie, IsTie, Over, Either, over_tests, tied_loop}
 use Rattle.brace_model.proofs.TypeLemmas.{sound}
 use Rattle.brace_model.proofs.ValueEquations.{statement-Const, statement-If, statement-Foreach, statement-Assign}
 use Rattle.brace_model.proofs.LawEquations.{constant_numbers-Const, constant_numbers-If, constant_numbers-Foreach}

@@ -1,9 +1,8 @@
 -- A loop's block at an agent that does not meet the loop's bounds says nothing, and faults nowhere.
-use Rattle.std.proofs.Common.{◌≡◌, ◌∙◌, refl, sym, ap, subst, arith, ℕ, suc, ℤ, Bool, true, false, List, [], ◌∷◌, map, length, Option, Some, None, Ok}
+use Rattle.std.proofs.Common.{◌≡◌, ◌∙◌, refl, sym, ap, subst, arith, ℕ, suc, ℤ, Bool, true, false, List, [], ◌∷◌, map, length, Option, Some, None}
 use Rattle.std.specs.Prelude.{◌&&◌, ◌==◌, if◌then◌else◌, is_none, slice_get, option_map, unwrap_or}
 use Rattle.std.specs.List.{list_all}
 use Rattle.std.proofs.lemmas.Bool.Decides.{nat_tests}
-use Rattle.brace_model.specs.declared.program.Value.TheVariants.{Flag}
 use Rattle.brace_model.specs.declared.program.Who.{Who}
 use Rattle.brace_model.specs.declared.program.Class.{Class}
 use Rattle.brace_model.specs.declared.program.Program.{Program}
@@ -12,9 +11,9 @@ use Rattle.brace_model.specs.declared.program.Stmt.{Stmt}
 use Rattle.brace_model.specs.declared.program.Stmt.TheVariants.{If}
 use Rattle.brace_model.specs.declared.world.Agent.{Agent}
 use Rattle.brace_model.specs.World.{number, value_at, class_of, x_of, y_of}
-use Rattle.brace_model.specs.Value.{Scope, Worth, value, agent_of}
+use Rattle.brace_model.specs.Value.{Scope}
 use Rattle.brace_model.specs.Query.{Deed, silent, deed_of, followed_by, block, closed, chosen, inside, statement}
-use Rattle.brace_model.specs.Typing.{Names, scope_after, within_loop}
+use Rattle.brace_model.specs.Typing.{Names}
 use Rattle.brace_model.proofs.Blocks as b
 use Rattle.brace_model.proofs.Blocks.{Plain, plain}
 use Rattle.brace_model.proofs.ValueEquations.{statement-If}

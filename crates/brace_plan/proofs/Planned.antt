@@ -1,5 +1,5 @@
 -- What planning makes of statements and of blocks.
-use Rattle.std.proofs.Common.{◌≡◌, ◌∙◌, refl, sym, ap, ap₂, subst, ℕ, ◌+◌, ◌-◌, ◌<◌, ◌≤◌, Bool, true, false, List, [], ◌∷◌, ◌++◌, map, length, take, drop, get_or, Option, Some, None, append_assoc, append-nil}
+use Rattle.std.proofs.Common.{◌≡◌, ◌∙◌, refl, sym, ap, ap₂, subst, ℕ, ◌+◌, ◌-◌, ◌<◌, ◌≤◌, Bool, true, false, List, [], ◌∷◌, ◌++◌, map, length, take, drop, get_or, Option, Some, None, append-nil}
 use Rattle.std.specs.Prelude.{is_some, is_none, slice_get, if◌then◌else◌}
 use Rattle.std.proofs.lemmas.List.{drop_more, take_all, map-append}
 use Rattle.std.proofs.lemmas.List.Concat.{flat_map-append}
@@ -11,7 +11,7 @@ use Rattle.brace_model.specs.declared.program.Class.{Class}
 use Rattle.brace_model.specs.declared.program.Expr.{Expr}
 use Rattle.brace_model.specs.declared.program.Stmt.{Stmt}
 use Rattle.brace_model.specs.declared.program.Stmt.TheVariants.{Const, If, Foreach, Assign}
-use Rattle.brace_model.specs.Typing.{Names, only, within_loop, type_of, in_turn, scope_after}
+use Rattle.brace_model.specs.Typing.{Names, only, within_loop, type_of, scope_after}
 use Rattle.brace_code.specs.declared.code.Code.{Code}
 use Rattle.brace_code.specs.declared.names.Known.{Known}
 use Rattle.brace_code.specs.Codes.{Computes, type_given}

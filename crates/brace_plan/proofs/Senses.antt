@@ -1,11 +1,9 @@
 -- What an expression in a loop's condition is worth at the loop's agent, by its sense.
-use Rattle.std.proofs.Common.{◌≡◌, ◌∙◌, refl, sym, ap, subst, ℕ, ℤ, Bool, true, false, List, [], ◌∷◌, ◌++◌, Option, Some, None, Ok, Err}
-use Rattle.std.specs.Prelude.{◌&&◌, if◌then◌else◌, is_none, is_some, int_lt, int_le}
+use Rattle.std.proofs.Common.{◌≡◌, ◌∙◌, refl, sym, ap, subst, ℕ, ℤ, Bool, true, false, List, [], ◌++◌, Option, Some, None, Ok}
+use Rattle.std.specs.Prelude.{◌&&◌, if◌then◌else◌, is_none, is_some}
 use Rattle.std.specs.Option.{option_and_then}
 use Rattle.std.specs.List.{list_all}
-use Rattle.std.specs.Ordering.{int_eq}
 use Rattle.std.proofs.lemmas.Bool.{and_parts}
-use Rattle.std.proofs.lemmas.Bool.Decides.{Decides-int_eq}
 use Rattle.std.proofs.lemmas.Cmp.{int_eq_equiv}
 use Rattle.std.proofs.lemmas.List.Folds.{list_all-append}
 use Rattle.brace_model.specs.declared.program.Ty.{Ty}
@@ -22,7 +20,7 @@ use Rattle.brace_model.specs.declared.program.Expr.{Expr, roll-Expr}
 use Rattle.brace_model.specs.declared.program.Expr.TheOpen as expr
 use Rattle.brace_model.specs.declared.program.Expr.TheFolds.{map-Expr, ind-Expr, fold-roll-Expr}
 use Rattle.brace_model.specs.World.{number, value_at}
-use Rattle.brace_model.specs.Value.{Scope, Worth, agent_of, unary, strict, binary, choose, with_value, total_read, value_step, value}
+use Rattle.brace_model.specs.Value.{Scope, Worth, agent_of, unary, binary, choose, with_value, total_read, value_step, value}
 use Rattle.brace_model.specs.Typing.{Names, is_sited, unary_faults, binary_faults, unary_type, binary_type, choice_type, type_step, type_of}
 use Rattle.brace_model.proofs.TypeLemmas.{passed, chosen_some, chosen_true}
 use Rattle.brace_grid.specs.Grids.{Point}
@@ -31,7 +29,6 @@ use Rattle.brace_plan.specs.declared.action.Side.{Side}
 use Rattle.brace_plan.specs.declared.action.Side.TheVariants as side
 use Rattle.brace_plan.specs.declared.action.Limit.{Limit}
 use Rattle.brace_plan.specs.declared.action.Limit.TheVariants as limit
-use Rattle.brace_plan.specs.declared.action.Bound.{Bound}
 use Rattle.brace_plan.specs.declared.narrowing.Sense.{Sense}
 use Rattle.brace_plan.specs.Narrowing.{plain, axis_at, field_sense, side_left, side_right, bound_of, compared, binary_sense, sense_step, sense}
 use Rattle.brace_plan.specs.inner.Acts.{limit_in, stands, coordinate, meets}

@@ -1,5 +1,5 @@
 -- What an action of each kind does, and what a statement of each kind has of bounds, loops and constants.
-use Rattle.std.proofs.Common.{◌≡◌, ◌∙◌, refl, sym, ap, ap₂, append_assoc, ℕ, List, [], ◌∷◌, ◌++◌, map, flat_map, Bool, length, Option}
+use Rattle.std.proofs.Common.{◌≡◌, ◌∙◌, refl, sym, ap, ap₂, append_assoc, ℕ, List, [], ◌∷◌, ◌++◌, map, flat_map, length}
 use Rattle.std.specs.Prelude.{slice_get}
 use Rattle.brace_model.specs.declared.program.Who.{Who}
 use Rattle.brace_model.specs.declared.program.Who.TheVariants.{Inner}
@@ -11,7 +11,7 @@ use Rattle.brace_model.specs.declared.program.Stmt.TheVariants as stmt
 use Rattle.brace_model.specs.declared.program.Stmt.TheOpen as block_layer
 use Rattle.brace_model.specs.declared.world.Agent.{Agent}
 use Rattle.brace_model.specs.Value.{Scope, agent_of}
-use Rattle.brace_model.specs.Query.{Deed, silent, deed_of, block, bound, closed, chosen, inside, iterated, saying}
+use Rattle.brace_model.specs.Query.{Deed, silent, deed_of, bound, closed, chosen, inside, iterated, saying}
 use Rattle.brace_model.proofs.Folds as folds
 use Rattle.brace_model.proofs.ValueEquations.{constants-Const, constants-If, constants-Foreach, constants-Assign}
 use Rattle.brace_code.specs.declared.code.Code.{Code}
@@ -24,7 +24,7 @@ use Rattle.brace_plan.specs.declared.action.Action.TheOpen as layer
 use Rattle.brace_plan.specs.declared.action.Action.TheFolds.{map-Action, fold-roll-Action}
 use Rattle.brace_plan.specs.inner.Acts.{near_by, act_step, act, acts}
 use Rattle.brace_plan.specs.inner.Planning.{told_step, told, told_by}
-use Rattle.brace_plan.specs.Narrowing.{Nested, all_loops, bounds_over, nested_step, nested, loops_of}
+use Rattle.brace_plan.specs.Narrowing.{all_loops, bounds_over, nested_step, nested, loops_of}
 
 joined : {A B : Type 0} (f : A → List B) (xs : List A) → flat_map (λ (ys : List B). ys) (map f xs) ≡ flat_map f xs
 joined f [] = refl

@@ -1,6 +1,6 @@
 -- Scopes that suit: where a query begins, after a constant, and in a loop.
-use Rattle.std.proofs.Common.{◌≡◌, ◌≢◌, ◌∙◌, refl, sym, ap, subst, ℕ, zero, suc, ◌<◌, Bool, true, false, List, [], ◌∷◌, map, length, Option, Some, None, arith}
-use Rattle.std.specs.Prelude.{◌&&◌, ◌==◌, if◌then◌else◌, is_none, is_some, nat_lt, nat_le, slice_get, slice_set, unwrap_or}
+use Rattle.std.proofs.Common.{◌≡◌, ◌∙◌, refl, sym, ap, subst, ℕ, zero, suc, Bool, true, false, List, [], ◌∷◌, map, length, Option, Some, None, arith}
+use Rattle.std.specs.Prelude.{◌==◌, if◌then◌else◌, is_none, nat_lt, slice_get, slice_set, unwrap_or}
 use Rattle.std.specs.Option.{option_and_then}
 use Rattle.std.specs.List.{list_all, Contains}
 use Rattle.std.specs.Cmp.Lexicographic.{pointwise}
@@ -19,11 +19,10 @@ use Rattle.brace_model.specs.declared.program.Class.{Class}
 use Rattle.brace_model.specs.declared.program.Program.{Program}
 use Rattle.brace_model.specs.declared.program.Stmt.{Stmt}
 use Rattle.brace_model.specs.declared.world.Agent.{Agent}
-use Rattle.brace_model.specs.World.{value_at, no_value, class_of}
+use Rattle.brace_model.specs.World.{value_at, no_value}
 use Rattle.brace_model.specs.Value.{Scope, agent_of}
 use Rattle.brace_model.specs.Query.{bound, inside, opening_scope}
 use Rattle.brace_model.specs.Typing.{Names, same_type, type_of_value, may_name, only, class_named, state_type, constant_type, within_loop}
-use Rattle.brace_model.specs.Typed.{Fits}
 use Rattle.brace_model.specs.Lawful.{has_states, is_lawful_agent, query_scope}
 use Rattle.brace_model.proofs.TypeLemmas.{passed, some_is, only_same, one_type}
 use Rattle.brace_plan.specs.inner.Doing.{Suits, variable_of}

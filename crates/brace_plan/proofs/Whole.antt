@@ -1,6 +1,6 @@
 -- Plans of the queries of a lawful program.
 use Rattle.std.proofs.Common.{◌≡◌, ◌∙◌, refl, sym, ap, ap₂, subst, ℕ, zero, suc, ◌+◌, ◌<◌, ◌≤◌, ◌⊎◌, inl, inr, true, List, [], ◌∷◌, ◌++◌, map, flat_map, sum, length, get_or, take, Some, append_assoc, arith}
-use Rattle.std.specs.Prelude.{is_some, slice_get, nat_lt}
+use Rattle.std.specs.Prelude.{slice_get, nat_lt}
 use Rattle.std.specs.List.{list_all}
 use Rattle.std.proofs.lemmas.Option.{slice_get_within, slice_get-get_or}
 use Rattle.std.proofs.lemmas.Bool.{cases_lt}
@@ -9,13 +9,11 @@ use Rattle.brace_num.proofs.Lists.{at_seam, flat_map_next}
 use Rattle.brace_model.specs.declared.program.Class.{Class}
 use Rattle.brace_model.specs.declared.program.Who.TheVariants.{Outer}
 use Rattle.brace_model.specs.declared.program.Program.{Program}
-use Rattle.brace_model.specs.declared.program.Stmt.{Stmt}
 use Rattle.brace_model.specs.Sites.{constant_numbers}
 use Rattle.brace_model.specs.Query.{constants, opening_scope}
 use Rattle.brace_model.specs.World.{no_value}
-use Rattle.brace_model.specs.Typing.{Names, in_turn, scope_after}
-use Rattle.brace_model.specs.Lawful.{LawfulProgram, LawfulClass, query_scope}
-use Rattle.brace_plan.specs.declared.action.Action.{Action}
+use Rattle.brace_model.specs.Typing.{Names}
+use Rattle.brace_model.specs.Lawful.{LawfulProgram, query_scope}
 use Rattle.brace_plan.specs.declared.loops.Loop.{Loop}
 use Rattle.brace_plan.specs.declared.plans.Planned.{Planned}
 use Rattle.brace_plan.specs.inner.Doing.{Suits, DoesAll, has_room}

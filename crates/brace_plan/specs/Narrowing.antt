@@ -12,7 +12,7 @@ use Rattle.brace_model.specs.declared.program.Expr.{Expr}
 use Rattle.brace_model.specs.declared.program.Expr.TheOpen.{Expr-F, Lit, Field, Total, Local, Unary, Binary, Choice, Rand}
 use Rattle.brace_model.specs.declared.program.Expr.TheFolds.{fold-Expr}
 use Rattle.brace_model.specs.declared.program.Stmt.{Stmt}
-use Rattle.brace_model.specs.declared.program.Stmt.TheOpen.{Stmt-F, Const, If, Foreach, Assign}
+use Rattle.brace_model.specs.declared.program.Stmt.TheOpen.{Stmt-F, If, Foreach}
 use Rattle.brace_model.specs.declared.program.Stmt.TheFolds.{fold-Stmt}
 use Rattle.brace_plan.specs.declared.action.Axis.{Axis}
 use Rattle.brace_plan.specs.declared.action.Axis.TheVariants.{X, Y}

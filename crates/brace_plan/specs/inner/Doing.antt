@@ -1,5 +1,5 @@
 -- When actions do what statements do. Only the crate's own functions cite this.
-use Rattle.std.specs.Prelude.{◌≡◌, ℕ, nat_lt, List, [], ◌∷◌, map, flat_map, length, Bool, true, false, Option, None, Some, is_none, if◌then◌else◌}
+use Rattle.std.specs.Prelude.{◌≡◌, ℕ, nat_lt, List, [], ◌∷◌, map, flat_map, length, Bool, true, false, Option, None, Some, is_none}
 use Rattle.std.specs.List.{list_all}
 use Rattle.brace_model.specs.declared.program.Ty.{Ty}
 use Rattle.brace_model.specs.declared.program.Who.{Who}

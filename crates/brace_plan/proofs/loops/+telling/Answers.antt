@@ -1,4 +1,4 @@
-use Rattle.std.proofs.Common.{◌≡◌, ◌++◌, OnOk, subst}
+use Rattle.std.proofs.Common.{◌≡◌, OnOk, subst}
 use Rattle.brace_plan.proofs.Steps.{told_both, told_within}
 use Rattle.brace_plan.proofs.loops.+telling.Goals as goal
 

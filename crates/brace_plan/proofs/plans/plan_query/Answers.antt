@@ -1,4 +1,4 @@
-use Rattle.std.proofs.Common.{◌≡◌, ◌∙◌, ap, ap₂, None, false}
+use Rattle.std.proofs.Common.{◌∙◌, ap, ap₂, None, false}
 use Rattle.brace_model.specs.declared.program.Who.TheVariants.{Outer}
 use Rattle.brace_plan.specs.Narrowing.{loops_of}
 use Rattle.brace_plan.proofs.Whole.{is_plan}
