@@ -5,10 +5,16 @@
 mod action;
 mod answer;
 mod asking;
+mod constants;
+mod counting;
+mod loops;
+mod narrowing;
+mod planning;
 mod plans;
 mod room;
 
 pub use action::{Action, Axis, Bound, Limit, Side};
 pub use answer::{Answer, Said};
+pub use loops::Loop;
 pub use plans::{Plans, plan};
 pub use room::Room;
