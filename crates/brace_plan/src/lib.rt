@@ -5,8 +5,12 @@
 mod action;
 mod answer;
 mod asking;
+mod desk;
+mod near;
 mod plans;
 mod room;
+mod seat;
+mod walk;
 
 pub use action::{Action, Axis, Bound, Limit, Side};
 pub use answer::{Answer, Said};
