@@ -1,0 +1,5 @@
+pub mod ActionEquations
+pub mod AnswerLemmas
+pub mod FormerLemmas
+pub mod NearLemmas
+pub mod WalkLemmas

@@ -1,4 +1,4 @@
-ghost use Rattle.std.specs.Prelude.{◌≡◌, ◌+◌, ◌*◌, ◌<◌, ℕ, ℤ, pos, [], ◌∷◌, ◌≤ℤ◌, ◌-ℤ◌, ◌+ℤ◌, ◌*ℤ◌, true, IfSome, OnOk, length};
+ghost use Rattle.std.specs.Prelude.{◌≡◌, ◌+◌, ◌*◌, ◌<◌, ℕ, ℤ, pos, [], ◌∷◌, ◌≤ℤ◌, ◌-ℤ◌, ◌+ℤ◌, ◌*ℤ◌, true, int_le, IfSome, OnOk, length};
 ghost use Rattle.std.specs.List.{list_all, range_with_len};
 ghost use Rattle.brace_model.specs.declared.world.Agent.{Agent};
 ghost use Rattle.brace_model.specs.World.{sees, is_within};
@@ -103,35 +103,35 @@ pub struct Span {
     high: i64,
 }
 
-/// What is left of a span where a limit cuts it; strict limits at the ends of i64 cut nothing.
-fn cut(span: Span, side: Side, limit: i64) -> Span
-    ensures holds { (v : ℤ) → stands side limit v ≡ true
-        → is_between span.low span.high v ≡ true → is_between result.low result.high v ≡ true }
-    ensures low { span.low ≤ℤ result.low }
-    ensures high { result.high ≤ℤ span.high }
+/// A lower end where a limit cuts it; a strict limit at the end of i64 cuts nothing.
+fn cut_low(low: i64, side: Side, limit: i64) -> i64
+    ensures holds { (v : ℤ) → stands side limit v ≡ true → int_le low v ≡ true
+        → int_le result v ≡ true }
+    ensures part { low ≤ℤ result }
 {
-    let Span { low, high } = span;
     match side {
-        Side::Below => Span {
-            low,
-            high: high.min(limit.checked_sub(1).unwrap_or(high)),
+        Side::Above => match limit.checked_add(1) {
+            Some(least) => low.max(least),
+            None => low,
         },
-        Side::AtMost => Span {
-            low,
-            high: high.min(limit),
+        Side::AtLeast | Side::At => low.max(limit),
+        Side::Below | Side::AtMost => low,
+    }
+}
+
+/// An upper end where a limit cuts it; a strict limit at the end of i64 cuts nothing.
+fn cut_high(high: i64, side: Side, limit: i64) -> i64
+    ensures holds { (v : ℤ) → stands side limit v ≡ true → int_le v high ≡ true
+        → int_le v result ≡ true }
+    ensures part { result ≤ℤ high }
+{
+    match side {
+        Side::Below => match limit.checked_sub(1) {
+            Some(most) => high.min(most),
+            None => high,
         },
-        Side::Above => Span {
-            low: low.max(limit.checked_add(1).unwrap_or(low)),
-            high,
-        },
-        Side::AtLeast => Span {
-            low: low.max(limit),
-            high,
-        },
-        Side::At => Span {
-            low: low.max(limit),
-            high: high.min(limit),
-        },
+        Side::AtMost | Side::At => high.min(limit),
+        Side::Above | Side::AtLeast => high,
     }
 }
 
@@ -156,30 +156,16 @@ fn cut_area(scene: &Scene, seat: &Seat, locals: &[Value], bound: Bound, area: Ar
 {
     let limit = limit_at(scene, seat, locals, bound.limit);
     match bound.axis {
-        Axis::X => {
-            let span = Span {
-                low: area.x0,
-                high: area.x1,
-            };
-            let span = cut(span, bound.side, limit);
-            Area {
-                x0: span.low,
-                x1: span.high,
-                ..area
-            }
-        }
-        Axis::Y => {
-            let span = Span {
-                low: area.y0,
-                high: area.y1,
-            };
-            let span = cut(span, bound.side, limit);
-            Area {
-                y0: span.low,
-                y1: span.high,
-                ..area
-            }
-        }
+        Axis::X => Area {
+            x0: cut_low(area.x0, bound.side, limit),
+            x1: cut_high(area.x1, bound.side, limit),
+            ..area
+        },
+        Axis::Y => Area {
+            y0: cut_low(area.y0, bound.side, limit),
+            y1: cut_high(area.y1, bound.side, limit),
+            ..area
+        },
     }
 }
 

@@ -34,8 +34,8 @@ pub struct Seat<'a> {
 }
 
 /// The agent without its place.
-fn agent_of(placed: Option<Placed>) -> Option<&Agent>
-    ensures { option_copied result ≡ option_map (λ p. p.agent.now) placed }
+fn agent_of<'a>(placed: &Option<Placed<'a>>) -> Option<&'a Agent>
+    ensures { option_copied result ≡ option_map (λ p. p.agent.now) placed.now }
 {
     match placed {
         Some(placed) => Some(placed.agent),
@@ -44,8 +44,8 @@ fn agent_of(placed: Option<Placed>) -> Option<&Agent>
 }
 
 /// The id without the place.
-fn id_of(placed: Option<Placed>) -> Option<u64>
-    ensures { result ≡ option_map (λ p. p.agent.now.id) placed }
+fn id_of(placed: &Option<Placed>) -> Option<u64>
+    ensures { result ≡ option_map (λ a. a.id) (option_map (λ p. p.agent.now) placed.now) }
 {
     match placed {
         Some(placed) => Some(placed.agent.id),
@@ -55,21 +55,21 @@ fn id_of(placed: Option<Placed>) -> Option<u64>
 
 impl<'a> Seat<'a> {
     /// The seat inside a loop, at one of its agents.
-    pub fn inside(&self, scene: &Scene<'a>, other: Placed<'a>) -> Seat<'a>
+    pub fn inside(&self, scene: &Scene<'a>, other: &Placed<'a>) -> Seat<'a>
         requires seat { IsSeat scene.now self.now }
-        requires other { IsPlaced scene.now other }
+        requires other { IsPlaced scene.now other.now }
         ensures seat { IsSeat scene.now result }
         ensures scope { (seed : ℕ) (locals : List Value)
             → scope_at scene.now result seed locals
-            ≡ inside (scope_at scene.now self.now seed locals) other.agent.now }
+            ≡ inside (scope_at scene.now self.now seed locals) other.now.agent.now }
     {
         match self.outer {
             None => Seat {
-                outer: Some(other),
+                outer: Some(*other),
                 ..*self
             },
             Some(_) => Seat {
-                inner: Some(other),
+                inner: Some(*other),
                 ..*self
             },
         }
@@ -99,8 +99,8 @@ impl<'a> Seat<'a> {
             phase: Phase::Query,
             agent: self.this.agent.id,
             site: stop.site,
-            outer: id_of(self.outer),
-            inner: id_of(self.inner),
+            outer: id_of(&self.outer),
+            inner: id_of(&self.inner),
             kind: stop.kind,
         }
     }
@@ -115,8 +115,8 @@ pub fn env_at<'b>(scene: &Scene<'b>, seat: &Seat<'b>, locals: &'b [Value]) -> En
     Env {
         tick: scene.tick,
         this: seat.this.agent,
-        outer: agent_of(seat.outer),
-        inner: agent_of(seat.inner),
+        outer: agent_of(&seat.outer),
+        inner: agent_of(&seat.inner),
         locals,
         totals: &[],
     }

@@ -90,8 +90,11 @@ fn action<'a>(
         },
         Action::If(code, a, b) => match worth(alloc, scene, seat, code, locals, desk, answer)? {
             Some(v) => {
-                let chosen = if is_true(v) { a } else { b };
-                block(alloc, scene, seat, chosen, locals, desk, answer)
+                if is_true(v) {
+                    block(alloc, scene, seat, a, locals, desk, answer)
+                } else {
+                    block(alloc, scene, seat, b, locals, desk, answer)
+                }
             }
             None => Ok(true),
         },
@@ -184,18 +187,18 @@ fn iteration<'a>(
     class: u32,
     bounds: &List<Bound>,
     body: &List<Action>,
-    other: Placed<'a>,
+    other: &Placed<'a>,
     locals: &mut [Value],
     desk: &mut Desk,
     answer: &mut Answer,
 ) -> Result<(), NoMemory>
     requires scene { IsScene scene.now }
     requires seat { IsSeat scene.now seat.now }
-    requires other { IsPlaced scene.now other }
+    requires other { IsPlaced scene.now other.now }
     requires ticks { scene.now.tick ≤ 2 ^ 32 }
     ensures added { OnOk result (Adds scene.now (loop_in scene.now
         (scope_at scene.now seat.now desk.old.drawer.seed locals.old)
-        class bounds.now body.now (other.agent.now ∷ [])) answer.old answer.new) }
+        class bounds.now body.now (other.now.agent.now ∷ [])) answer.old answer.new) }
     ensures locals { OnOk result (locals.new ≡ locals.old) }
     ensures trail { OnOk result (desk.new.trail.items ≡ desk.old.trail.items) }
     ensures seed { desk.new.drawer.seed ≡ desk.old.drawer.seed }
@@ -239,7 +242,7 @@ fn visits<'a>(
             agent: &scene.agents[*place as usize],
         };
         iteration(
-            alloc, scene, seat, class, bounds, body, other, locals, desk, answer,
+            alloc, scene, seat, class, bounds, body, &other, locals, desk, answer,
         )?;
     }
     Ok(())
