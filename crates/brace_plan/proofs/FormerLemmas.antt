@@ -1,6 +1,6 @@
 -- Constants that are set and set back.
-use Rattle.std.proofs.Common.{◌≡◌, ◌∙◌, sym, refl, ap, subst, ℕ, zero, suc, List, [], ◌∷◌, ◌++◌, ◌≤◌, length, take, drop, set, get_or, append_assoc, append-nil, arith}
-use Rattle.std.proofs.lemmas.List.{take_all, drop_all, take-append-le, drop-append-le}
+use Rattle.std.proofs.Common.{◌≡◌, ◌∙◌, sym, refl, ap, subst, ℕ, zero, suc, List, [], ◌∷◌, ◌++◌, ◌≤◌, length, take, drop, set, get_or, append_assoc, append-nil}
+use Rattle.std.proofs.lemmas.List.{set_past, take_all, drop_all, take-append-le, drop-append-le}
 use Rattle.std.proofs.Math.Seq.{take-append_seam, drop-append_seam}
 use Rattle.brace_model.specs.declared.program.Value.{Value}
 use Rattle.brace_plan.specs.declared.desk.Former.{Former}
@@ -61,13 +61,8 @@ back-to mark first last before x y old low same kept long s =
     (sym (take_all mark last low) ∙ kept ∙ front,
     sym (ap (λ (t : List Former). undone t y) (drop_all mark last low)) ∙ same ∙ ap (λ (t : List Former). undone t x) rest ∙ s.back)
 
-set-past : (l : List Value) (i : ℕ) (v : Value) → length l ≤ i → set l i v ≡ l
-set-past [] i v le = refl
-set-past (x ∷ l) zero v le = absurd (omega (arith, le))
-set-past (x ∷ l) (suc i) v le = ap (λ (r : List Value). x ∷ r) (set-past l i v (omega (arith, le)))
-
 -- the last constant of a trail has no place
 pub undone-past : (mark : ℕ) (all left : List Former) (b : Former) (l : List Value) → all ≡ left ++ b ∷ []
     → mark ≤ length left → length l ≤ b.place → undone (drop mark left) l ≡ undone (drop mark all) l
 undone-past mark all left b l is low past =
-    ap (undone (drop mark left)) (sym (set-past l b.place b.before past)) ∙ undone-last mark all left b l is low
+    ap (undone (drop mark left)) (sym (set_past l b.place b.before past)) ∙ undone-last mark all left b l is low

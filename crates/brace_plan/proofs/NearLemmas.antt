@@ -1,13 +1,14 @@
 -- Places of a list among which are those of all agents that a loop takes.
-use Rattle.std.proofs.Common.{◌≡◌, ◌∙◌, sym, refl, ap, subst, ℕ, zero, suc, ◌+◌, ◌<◌, ◌≤◌, ℤ, pos, ◌-ℤ◌, ◌+ℤ◌, ◌*ℤ◌, ◌≤ℤ◌, List, [], ◌∷◌, length, map, filter, get_or, drop, Bool, true, false, ◌&&◌, cond, Option, Some, None, All, arith}
-use Rattle.std.specs.Prelude.{◌==◌, not, int_le, slice_get, nat_abs}
+use Rattle.std.proofs.Common.{◌≡◌, ◌∙◌, sym, refl, ap, ap₂, subst, fold, ℕ, zero, suc, ◌+◌, ◌<◌, ◌≤◌, ℤ, pos, ◌-ℤ◌, ◌+ℤ◌, ◌*ℤ◌, ◌≤ℤ◌, List, [], ◌∷◌, ◌++◌, length, map, filter, get_or, drop, Bool, true, false, ◌&&◌, cond, Option, Some, None, Result, Ok, Err, All, arith}
+use Rattle.std.specs.Prelude.{◌==◌, not, int_le, slice_get, option_map, OnOk}
 use Rattle.std.specs.List.{list_all, range_with_len}
 use Rattle.std.specs.Int.{int_max}
 use Rattle.std.proofs.lemmas.Bool.{and_parts, and_from}
-use Rattle.std.proofs.lemmas.List.{get_or-map, length-map}
+use Rattle.std.proofs.lemmas.List.{get_or-map, length-map, at_drop_more}
 use Rattle.std.proofs.lemmas.List.Elements.{All-filter}
-use Rattle.std.proofs.lemmas.List.FromFn.{get_or-range_with_len, length-range_with_len}
-use Rattle.std.proofs.lemmas.Int.{fold-int_max_bounds}
+use Rattle.std.proofs.lemmas.List.FromFn.{map-range_with_len_more, get_or-range_with_len, length-range_with_len}
+use Rattle.std.proofs.lemmas.List.Folds.{fold-map}
+use Rattle.std.proofs.lemmas.Int.{ints, fold-int_max_bounds}
 use Rattle.brace_num.specs.declared.kinds.Area.{Area}
 use Rattle.brace_num.proofs.Lists.{filter_twice, All-place}
 use Rattle.brace_model.specs.declared.program.Class.{Class}
@@ -15,7 +16,7 @@ use Rattle.brace_model.specs.declared.program.Program.{Program}
 use Rattle.brace_model.specs.declared.world.Agent.{Agent}
 use Rattle.brace_model.specs.World.{class_of, x_of, y_of, is_within, reaches_to, sees}
 use Rattle.brace_model.specs.Value.{Scope}
-use Rattle.brace_grid.specs.Grids.{Point, OnGrid, grid_of, place_of, place_at, is_between, is_inside, origin} 
+use Rattle.brace_grid.specs.Grids.{Point, OnGrid, grid_of, place_of, place_at, is_between, is_inside, origin}
 use Rattle.brace_grid.specs.Grids as grids
 use Rattle.brace_plan.specs.declared.action.Bound.{Bound}
 use Rattle.brace_plan.specs.declared.seat.Scene.{Scene}
@@ -38,14 +39,14 @@ stays_inside large small p x0 x1 y0 y1 h =
 
 -- the whole of an area is part of it
 pub part-whole : (a : Area) → IsPartOf a a
-part-whole a = record { x0 = omega arith; x1 = omega arith; y0 = omega arith; y1 = omega arith }
+part-whole a = record { x0 = omega (arith, ints); x1 = omega (arith, ints); y0 = omega (arith, ints); y1 = omega (arith, ints) }
 
 pub part-part : (a b c : Area) → IsPartOf a b → IsPartOf b c → IsPartOf a c
 part-part a b c h k = record {
-  x0 = omega (arith, h.x0, k.x0);
-  x1 = omega (arith, h.x1, k.x1);
-  y0 = omega (arith, h.y0, k.y0);
-  y1 = omega (arith, h.y1, k.y1);
+  x0 = omega (arith, ints, h.x0, k.x0);
+  x1 = omega (arith, ints, h.x1, k.x1);
+  y0 = omega (arith, ints, h.y0, k.y0);
+  y1 = omega (arith, ints, h.y1, k.y1);
 }
 
 -- where an agent that is seen stands
@@ -66,15 +67,45 @@ seen_inside program a b c area class x y h =
 -- a class sees as far as the farthest at most
 pub visible-most : (program : Program) (number : ℕ) (c : Class) → slice_get program.classes number ≡ Some c
     → c.visible ≤ℤ greatest_visible program
-visible-most program number c is = ?
+visible-most program number c is =
+    let most = fold-map int_max (λ (k : Class). k.visible) (pos 0) program.classes in
+    let all = (fold-int_max_bounds (pos 0) (map (λ (k : Class). k.visible) program.classes) _ refl).1 in
+    subst (λ v. c.visible ≤ℤ v) most
+    (All-place (λ v. v ≤ℤ fold int_max (pos 0) (map (λ (k : Class). k.visible) program.classes)) _ number c.visible all
+    (slice_get-map program.classes number is))
+  where
+    slice_get-map : (cs : List Class) (i : ℕ) → slice_get cs i ≡ Some c → slice_get (map (λ (k : Class). k.visible) cs) i ≡ Some c.visible
+    slice_get-map [] i e = absurd (cc)
+    slice_get-map (k ∷ cs) zero e = ap (option_map (λ (k : Class). k.visible)) e
+    slice_get-map (k ∷ cs) (suc i) e = slice_get-map cs i e
 
 -- ---- places
+
+nought : (i : ℕ) → 0 + i ≡ i
+nought i = omega arith
 
 -- numbers up to a length
 pub range-below : (n : ℕ) → All (λ i. i < n) (range_with_len 0 n)
 range-below n k d low =
     let less : k < n = subst (λ m. k < m) (length-range_with_len 0 n) low in
-    subst (λ i. i < n) (sym (get_or-range_with_len 0 n k d less)) less
+    subst (λ i. i < n) (sym (get_or-range_with_len 0 n k d less ∙ nought k)) less
+
+-- one number more
+pub range-more : (n : ℕ) → range_with_len 0 (n + 1) ≡ range_with_len 0 n ++ n ∷ []
+range-more n =
+    sym (map-id (range_with_len 0 (n + 1))) ∙ map-range_with_len_more (λ i. i) 0 n n (omega arith)
+    ∙ ap (λ (l : List ℕ). l ++ n ∷ []) (map-id (range_with_len 0 n))
+  where
+    map-id : (xs : List ℕ) → map (λ i. i) xs ≡ xs
+    map-id [] = refl
+    map-id (x ∷ xs) = ap (λ ys. x ∷ ys) (map-id xs)
+
+-- a bound and those behind it
+pub next-bound : (p : Bound → Bool) (items xs : List Bound) (i : ℕ) (d : Bound) → items ≡ xs → i < length items
+    → list_all p (drop i xs) ≡ (p (get_or items i d) && list_all p (drop (i + 1) xs))
+next-bound p items xs i d same low =
+    at_drop_more (list_all p) xs i d (subst (λ (l : List Bound). i < length l) same low)
+    ∙ ap (λ (l : List Bound). p (get_or l i d) && list_all p (drop (i + 1) xs)) (sym same)
 
 cond-case : (P : Bool → Type 0) (b : Bool) → (b ≡ true → P true) → (b ≡ false → P false) → P b
 cond-case P true f g = f refl
@@ -99,21 +130,25 @@ kept-enough p f w n holds (i ∷ is) all =
 -- the items at all places of a list
 all-places : (xs : List Agent) (d : Agent) (a : ℕ) (get : ℕ → Agent) → ((i : ℕ) → get (a + i) ≡ get_or xs i d)
     → map get (range_with_len a (length xs)) ≡ xs
-all-places xs d a get same = ?
+all-places [] d a get same = refl
+all-places (x ∷ xs) d a get same =
+    let here : a ≡ a + 0 = omega arith in
+    let next : (i : ℕ) → (a + 1) + i ≡ a + suc i = λ i. omega arith in
+    ap₂ (λ (y : Agent) ys. y ∷ ys) (ap get here ∙ same 0) (all-places xs d (a + 1) get (λ i. ap get (next i) ∙ same (suc i)))
 
 pub places-enough : (p : Agent → Bool) (f : ℕ → Bool) (world : List Agent) (d : Agent)
     → ((i : ℕ) → i < length world → p (get_or world i d) ≡ true → f i ≡ true)
     → filter p (map (λ i. get_or world i d) (filter f (range_with_len 0 (length world)))) ≡ filter p world
 places-enough p f world d holds =
     kept-enough p f (λ i. get_or world i d) (length world) holds (range_with_len 0 (length world)) (range-below (length world))
-    ∙ ap (filter p) (all-places world d 0 (λ i. get_or world i d) (λ i. refl))
+    ∙ ap (filter p) (all-places world d 0 (λ i. get_or world i d) (λ i. ap (λ k. get_or world k d) (nought i)))
 
 module _ (scene : Scene) (scope : Scope) (class : ℕ) (bounds : List Bound) where
   -- all places
   pub all-near : AreNear scene scope class bounds (range_with_len 0 (length scene.agents.now))
   all-near = record {
     within = range-below (length scene.agents.now);
-    taken = λ d. ap (filter (is_taken scene scope class bounds)) (all-places scene.agents.now d 0 (λ i. get_or scene.agents.now i d) (λ i. refl));
+    taken = λ d. ap (filter (is_taken scene scope class bounds)) (all-places scene.agents.now d 0 (λ i. get_or scene.agents.now i d) (λ i. ap (λ k. get_or scene.agents.now k d) (nought i)));
   }
 
   -- the places in an area
@@ -134,3 +169,7 @@ module _ (scene : Scene) (scope : Scope) (class : ℕ) (bounds : List Bound) whe
             subst (λ p. is_inside area p ≡ true) (sym (get_or-map (place_of program) agents i d origin low))
             (holds (get_or agents i d) (and_parts _ _ parts.0).1 parts.1));
       }))
+
+pub on_ok : {T E : Type 0} (r : Result T E) (P Q : Type 0) → (P → Q) → OnOk r P → OnOk r Q
+on_ok (Ok x) P Q f h = f h
+on_ok (Err e) P Q f h = h

@@ -1,4 +1,4 @@
-ghost use Rattle.std.specs.Prelude.{◌≡◌, ◌+◌, ◌*◌, ◌<◌, ℕ, ℤ, pos, [], ◌∷◌, ◌≤ℤ◌, ◌-ℤ◌, ◌+ℤ◌, ◌*ℤ◌, true, int_le, IfSome, OnOk, length};
+ghost use Rattle.std.specs.Prelude.{◌≡◌, ◌+◌, ◌*◌, ◌<◌, ℕ, ℤ, pos, [], ◌∷◌, ◌≤ℤ◌, ◌-ℤ◌, ◌+ℤ◌, ◌*ℤ◌, true, int_le, ◌==◌, ◌&&◌, IfSome, OnOk, length};
 ghost use Rattle.std.specs.List.{list_all, range_with_len};
 ghost use Rattle.brace_model.specs.declared.world.Agent.{Agent};
 ghost use Rattle.brace_model.specs.World.{sees, is_within};
@@ -79,6 +79,14 @@ fn meets_all(
     true
 }
 
+/// Whether an agent is one of a class that `this` sees.
+fn is_seen(scene: &Scene, seat: &Seat, class: u32, b: &Agent) -> bool
+    ensures { result ≡ (b.now.class == class)
+        && sees scene.now.program.now seat.now.this.agent.now b.now }
+{
+    b.class == class && sees(scene.program, seat.this.agent, b)
+}
+
 /// Whether a loop over a class takes an agent.
 pub fn is_taken(
     scene: &Scene,
@@ -91,9 +99,7 @@ pub fn is_taken(
     ensures { (seed : ℕ) → result
         ≡ is_taken scene.now (scope_at scene.now seat.now seed locals.now) class bounds.now b.now }
 {
-    b.class == class
-        && sees(scene.program, seat.this.agent, b)
-        && meets_all(scene, seat, locals, bounds, b)
+    is_seen(scene, seat, class, b) && meets_all(scene, seat, locals, bounds, b)
 }
 
 /// A part of an axis, with both ends.
