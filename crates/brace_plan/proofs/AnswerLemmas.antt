@@ -7,10 +7,11 @@ use Rattle.std.proofs.lemmas.List.Sums.{fold-append}
 use Rattle.brace_model.specs.declared.program.Value.{Value}
 use Rattle.brace_model.specs.declared.program.Value.TheVariants.{Int, Fixed, Flag}
 use Rattle.brace_model.specs.declared.fault.Fault.{Fault}
+use Rattle.brace_model.specs.declared.fault.Stop.{Stop}
 use Rattle.brace_model.specs.declared.world.Agent.{Agent}
 use Rattle.brace_model.specs.FaultOrder.{least, earlier, with_earlier}
 use Rattle.brace_model.specs.Value.{Scope, Worth}
-use Rattle.brace_model.specs.Query.{Saying, Deed, silent, deed_of, chosen, saying}
+use Rattle.brace_model.specs.Query.{Saying, Deed, silent, halted, query_fault, deed_of, chosen, saying}
 use Rattle.brace_model.proofs.Deeds.{after}
 use Rattle.brace_plan.specs.declared.answer.Said.{Said}
 use Rattle.brace_plan.specs.declared.answer.Answer.{Answer}
@@ -53,6 +54,14 @@ module _ (scene : Scene) where
       → Adds scene (deed_of scope w (λ u. silent scope)) a b → Adds scene (deed_of scope w f) a b
   adds-stop scope (Ok u) f a b is first = absurd (cc)
   adds-stop scope (Err stop) f a b is first = first
+
+  -- a fault is noted
+  pub adds-fault : (scope : Scope) (stop : Stop) (a b : Answer) → b.said ≡ a.said
+      → b.fault ≡ Some (with_earlier a.fault (query_fault scope stop)) → Adds scene (halted scope stop) a b
+  adds-fault scope stop a b said fault = record {
+    said = ap (λ v. map (saying_of scene.agents.now) v.items) said ∙ sym (append-nil _);
+    fault = fault;
+  }
 
   -- one value is said
   pub adds-saying : (scope : Scope) (b : Agent) (place field : ℕ) (v : Value) (a c : Answer)

@@ -22,7 +22,7 @@ use Rattle.brace_plan.specs.declared.action.Bound.{Bound}
 use Rattle.brace_plan.specs.declared.seat.Scene.{Scene}
 use Rattle.brace_plan.specs.Answers.{greatest_visible}
 use Rattle.brace_plan.specs.inner.Acts.{meets, near_by}
-use Rattle.brace_plan.specs.inner.Walks.{IsScene, IsPartOf, Narrows, HoldsTaken, AreNear, is_taken, agents_at}
+use Rattle.brace_plan.specs.inner.Walks.{IsScene, IsPartOf, Narrows, HoldsTaken, AreWithin, HaveTaken, is_taken, agents_at}
 
 -- ---- areas
 
@@ -143,32 +143,41 @@ places-enough p f world d holds =
     kept-enough p f (λ i. get_or world i d) (length world) holds (range_with_len 0 (length world)) (range-below (length world))
     ∙ ap (filter p) (all-places world d 0 (λ i. get_or world i d) (λ i. ap (λ k. get_or world k d) (nought i)))
 
-module _ (scene : Scene) (scope : Scope) (class : ℕ) (bounds : List Bound) where
-  -- all places
-  pub all-near : AreNear scene scope class bounds (range_with_len 0 (length scene.agents.now))
-  all-near = record {
-    within = range-below (length scene.agents.now);
-    taken = λ d. ap (filter (is_taken scene scope class bounds)) (all-places scene.agents.now d 0 (λ i. get_or scene.agents.now i d) (λ i. ap (λ k. get_or scene.agents.now k d) (nought i)));
-  }
-
-  -- the places in an area
-  pub inside-near : IsScene scene → (area : Area) → HoldsTaken scene scope bounds area
-      → AreNear scene scope class bounds (grids.inside area scene.grid.now.places)
-  inside-near stands area holds =
+module _ (scene : Scene) where
+  -- the places in an area, by the agents
+  places-inside : IsScene scene → (area : Area) → grids.inside area scene.grid.now.places
+      ≡ filter (λ i. is_inside area (place_at (map (place_of scene.program.now) scene.agents.now) i)) (range_with_len 0 (length scene.agents.now))
+  places-inside stands area =
       let agents = scene.agents.now in
       let program = scene.program.now in
-      let places : scene.grid.now.places ≡ map (place_of program) agents = ap (λ g. g.places) stands.grid in
-      subst (λ ps. AreNear scene scope class bounds (grids.inside area ps)) (sym places)
-      (subst (λ n. AreNear scene scope class bounds (filter (λ i. is_inside area (place_at (map (place_of program) agents) i)) (range_with_len 0 n)))
-      (sym (length-map agents (place_of program)))
-      (record {
-        within = All-filter _ (λ i. i < length agents) (range_with_len 0 (length agents)) (range-below (length agents));
-        taken = λ d. places-enough (is_taken scene scope class bounds) (λ i. is_inside area (place_at (map (place_of program) agents) i)) agents d
-            (λ i low h.
-            let parts = and_parts _ _ h in
-            subst (λ p. is_inside area p ≡ true) (sym (get_or-map (place_of program) agents i d origin low))
-            (holds (get_or agents i d) (and_parts _ _ parts.0).1 parts.1));
-      }))
+      ap (λ (g : OnGrid). grids.inside area g.places) stands.grid
+      ∙ ap (λ n. filter (λ i. is_inside area (place_at (map (place_of program) agents) i)) (range_with_len 0 n)) (length-map agents (place_of program))
+
+  pub inside-within : IsScene scene → (area : Area) → AreWithin scene (grids.inside area scene.grid.now.places)
+  inside-within stands area =
+      let agents = scene.agents.now in
+      subst (AreWithin scene) (sym (places-inside stands area))
+      (All-filter _ (λ i. i < length agents) (range_with_len 0 (length agents)) (range-below (length agents)))
+
+  pub all-within : AreWithin scene (range_with_len 0 (length scene.agents.now))
+  all-within = range-below (length scene.agents.now)
+
+  module _ (scope : Scope) (class : ℕ) (bounds : List Bound) where
+    pub all-taken : HaveTaken scene scope class bounds (range_with_len 0 (length scene.agents.now))
+    all-taken d =
+        ap (filter (is_taken scene scope class bounds)) (all-places scene.agents.now d 0 (λ i. get_or scene.agents.now i d) (λ i. ap (λ k. get_or scene.agents.now k d) (nought i)))
+
+    pub inside-taken : IsScene scene → (area : Area) → HoldsTaken scene scope bounds area
+        → HaveTaken scene scope class bounds (grids.inside area scene.grid.now.places)
+    inside-taken stands area holds d =
+        let agents = scene.agents.now in
+        let program = scene.program.now in
+        ap (λ is. filter (is_taken scene scope class bounds) (agents_at scene d is)) (places-inside stands area)
+        ∙ places-enough (is_taken scene scope class bounds) (λ i. is_inside area (place_at (map (place_of program) agents) i)) agents d
+        (λ i low h.
+        let parts = and_parts _ _ h in
+        subst (λ p. is_inside area p ≡ true) (sym (get_or-map (place_of program) agents i d origin low))
+        (holds (get_or agents i d) (and_parts _ _ parts.0).1 parts.1))
 
 pub on_ok : {T E : Type 0} (r : Result T E) (P Q : Type 0) → (P → Q) → OnOk r P → OnOk r Q
 on_ok (Ok x) P Q f h = f h

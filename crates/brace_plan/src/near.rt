@@ -4,7 +4,7 @@ ghost use Rattle.brace_model.specs.declared.world.Agent.{Agent};
 ghost use Rattle.brace_model.specs.World.{sees, is_within};
 ghost use Rattle.brace_grid.specs.Grids.{place_of, inside, is_between};
 ghost use Rattle.brace_plan.specs.inner.Acts.{limit_in, stands, coordinate, meets};
-ghost use Rattle.brace_plan.specs.inner.Walks.{IsScene, IsPartOf, Narrows, scope_at, is_taken, HoldsTaken, AreNear};
+ghost use Rattle.brace_plan.specs.inner.Walks.{IsScene, IsPartOf, Narrows, scope_at, is_taken, HoldsTaken, AreWithin, HaveTaken};
 
 use crate::action::{Axis, Bound, Limit, Side};
 use crate::seat::{Scene, Seat};
@@ -265,7 +265,8 @@ pub fn find(
     near: &mut Vec<u32>,
 ) -> Result<(), NoMemory>
     requires { IsScene scene.now }
-    ensures { OnOk result ((seed class : ℕ) → AreNear scene.now
+    ensures within { OnOk result (AreWithin scene.now near.new.items) }
+    ensures taken { OnOk result ((seed class : ℕ) → HaveTaken scene.now
         (scope_at scene.now seat.now seed locals.now) class bounds.now near.new.items) }
 {
     match area_of(scene, seat, locals, bounds) {

@@ -1,10 +1,9 @@
-ghost use Rattle.std.specs.Prelude.{◌≡◌, ◌<◌, ◌≤◌, ◌^◌, ◌∷◌, [], false, length, IfOk, OnOk, slice_index_or};
-ghost use Rattle.std.specs.List.{All};
+ghost use Rattle.std.specs.Prelude.{◌≡◌, ◌≤◌, ◌^◌, ◌∷◌, [], false, IfOk, OnOk};
 ghost use Rattle.std.specs.Result.{result_ok};
 ghost use Rattle.brace_code.specs.Codes.{gives};
 ghost use Rattle.brace_model.specs.declared.world.Agent.{Agent};
 ghost use Rattle.brace_model.specs.FaultOrder.{with_earlier};
-ghost use Rattle.brace_plan.specs.inner.Walks.{IsScene, IsSeat, IsPlaced, scope_at, Sets, Adds, worth_in, act_in, block_in, loop_in, agents_at};
+ghost use Rattle.brace_plan.specs.inner.Walks.{IsScene, IsSeat, IsPlaced, scope_at, Sets, Adds, worth_in, act_in, block_in, loop_in, agents_at, AreWithin};
 
 use crate::action::{Action, Bound};
 use crate::answer::{Answer, Said};
@@ -227,7 +226,7 @@ fn visits<'a>(
 ) -> Result<(), NoMemory>
     requires scene { IsScene scene.now }
     requires seat { IsSeat scene.now seat.now }
-    requires near { All (λ i. i < length scene.now.agents.now) near.now }
+    requires near { AreWithin scene.now near.now }
     requires ticks { scene.now.tick ≤ 2 ^ 32 }
     ensures added { OnOk result ((d : Agent) → Adds scene.now (loop_in scene.now
         (scope_at scene.now seat.now desk.old.drawer.seed locals.old)

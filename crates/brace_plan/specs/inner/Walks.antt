@@ -125,10 +125,12 @@ HoldsTaken scene scope bounds area = (b : Agent)
     → list_all (meets scope (place_of scene.program.now b)) bounds ≡ true
     → is_inside area (place_of scene.program.now b) ≡ true
 
--- places, rising, among which are those of all agents that a loop takes
-pub record AreNear (scene : Scene) (scope : Scope) (class : ℕ) (bounds : List Bound)
-    (near : List ℕ) : Type 0 where
-  pub within : All (λ i. i < length scene.agents.now) near
-  pub taken : (d : Agent)
-      → filter (is_taken scene scope class bounds) (agents_at scene d near)
-      ≡ filter (is_taken scene scope class bounds) scene.agents.now
+-- places, all of the list
+abbrev pub AreWithin : Scene → List ℕ → Type 0
+AreWithin scene near = All (λ i. i < length scene.agents.now) near
+
+-- some places have all agents that a loop takes, in order
+abbrev pub HaveTaken : Scene → Scope → ℕ → List Bound → List ℕ → Type 0
+HaveTaken scene scope class bounds near = (d : Agent)
+    → filter (is_taken scene scope class bounds) (agents_at scene d near)
+    ≡ filter (is_taken scene scope class bounds) scene.agents.now
