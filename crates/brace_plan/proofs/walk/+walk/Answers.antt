@@ -1,28 +1,19 @@
-use Rattle.std.proofs.Common.{◌≡◌, ◌∙◌, sym, ap, subst, refl, map, drop, length, ◌≤◌, ◌+◌, ◌∷◌, [], List, Bool, ℕ, true, false, cond}
+use Rattle.std.proofs.Common.{◌≡◌, ◌∙◌, sym, ap, subst, refl, map, drop, length, ◌≤◌, ◌+◌, ◌∷◌, [], List, Bool, ℕ, true, false, cond, get_or, ◌<◌, append-nil, Some}
 use Rattle.std.specs.Prelude.{IfOk, OnOk}
 use Rattle.std.proofs.lemmas.List.{drop_all}
 use Rattle.brace_model.specs.declared.program.Value.{Value}
 use Rattle.brace_model.specs.declared.world.Agent.{Agent}
 use Rattle.brace_model.specs.Value.{agent_of, Scope}
-use Rattle.brace_model.specs.Query.{Deed, silent, bound, deed_of, saying, closed, chosen, iterated, inside}
+use Rattle.brace_model.specs.Query.{Deed, saying, iterated, inside}
 use Rattle.brace_code.specs.Codes.{gives}
 use Rattle.brace_plan.specs.declared.action.Action.{Action}
 use Rattle.brace_plan.specs.declared.answer.Answer.{Answer}
 use Rattle.brace_plan.specs.inner.Walks.{scope_at, Sets, Adds, act_in, block_in, loop_in, agents_at, is_taken}
-use Rattle.brace_plan.proofs.ActionEquations.{does-Const, does-If, does-Foreach, does-Assign}
-use Rattle.brace_plan.proofs.AnswerLemmas.{adds-nothing, adds-alike, adds-then, adds-value, adds-stop, adds-saying, chosen-first, chosen-second}
-use Rattle.brace_plan.proofs.FormerLemmas.{sets-nothing, sets-then}
-use Rattle.brace_plan.proofs.WalkLemmas.{if_ok, halts, goes_on, visit, loop-near, same-visits, any-default}
+use Rattle.brace_plan.proofs.ActionEquations.{does-Foreach, does-Assign}
+use Rattle.brace_plan.proofs.AnswerLemmas.{adds-nothing, adds-alike, adds-then, adds-value, adds-saying}
+use Rattle.brace_plan.proofs.FormerLemmas.{sets-then}
+use Rattle.brace_plan.proofs.WalkLemmas.{halts, goes_on, visit, loop-near, same-visits, any-default}
 use Rattle.brace_plan.proofs.walk.+walk.Goals as goal
-
-pub action-returns-in_ok-set-in-Some-clause-added : goal.action-returns-in_ok-set-in-Some-clause-added
-action-returns-in_ok-set-in-Some-clause-added t c =
-    let here = scope_at c.args.scene.now c.args.seat.now c.args.desk.now.drawer.seed c.args.locals.now in
-    let scene = c.args.scene.now in
-    let f : Value → Deed = λ v. silent (bound here c.in-Const.n v) in
-    let does = does-Const scene.program.now scene.agents.now c.args.action.now here c.in-Const.n c.in-Const.code c.in-Const.is in
-    subst (λ (d : Deed). Adds scene d c.args.answer.now c.worth.new.answer) (sym does)
-    (adds-value scene here (gives c.in-Const.code here) f c.in-Some.v c.args.answer.now c.worth.new.answer c.worth.new.answer ? ? (adds-nothing scene _ c.worth.new.answer))
 
 pub action-returns-in_ok-iterations-in-Foreach-clause-added : goal.action-returns-in_ok-iterations-in-Foreach-clause-added
 action-returns-in_ok-iterations-in-Foreach-clause-added t c =
@@ -38,13 +29,13 @@ action-returns-in_ok-push-in-Some-3-clause-added t c =
     let scene = c.args.scene.now in
     let f : Value → Deed = saying here (agent_of here c.in-Assign.who) c.in-Assign.effect in
     let does = does-Assign scene.program.now scene.agents.now c.args.action.now here c.in-Assign.who c.in-Assign.effect c.in-Assign.code c.in-Assign.is in
-    let value = c.in_ok-value-in-Assign.ensures.value in
-    let added = c.in_ok-value-in-Assign.ensures.added in
-    let some = c.in-Some-3.is in
-    let placed = c.named.ensures.placed in
-    let who = c.named.ensures.agent c.args.desk.now.drawer.seed c.args.locals.now in
-    let pushed = c.in_ok-push-in-Some-3.ensures.items in
-    ?
+    let last : Answer = record { said = c.push.new.self; fault = c.worth-in-Assign.new.answer.fault } in
+    let at = c.named.ensures.placed ∙ ap (λ (a : Agent). Some a) (c.named.ensures.agent c.args.desk.now.drawer.seed c.args.locals.now) in
+    subst (λ (d : Deed). Adds scene d c.args.answer.now last) (sym does)
+    (adds-value scene here (gives c.in-Assign.code here) f c.in-Some-3.value c.args.answer.now c.worth-in-Assign.new.answer last
+    (sym c.in_ok-value-in-Assign.ensures.value ∙ c.in-Some-3.is) c.in_ok-value-in-Assign.ensures.added
+    (adds-saying scene here (agent_of here c.in-Assign.who) c.named.result.place c.in-Assign.effect c.in-Some-3.value c.worth-in-Assign.new.answer last
+    at c.in_ok-push-in-Some-3.ensures.items refl))
 
 pub actions-returns-then-branch-clause-set : goal.actions-returns-then-branch-clause-set
 actions-returns-then-branch-clause-set t c =
@@ -109,7 +100,18 @@ actions-returns-clause-added t c =
     (adds-nothing scene here c.loop-item.answer))
 
 pub iteration-returns-in_ok-block-clause-added : goal.iteration-returns-in_ok-block-clause-added
-iteration-returns-in_ok-block-clause-added t c = let a = c.is_taken.ensures c.args.desk.now.drawer.seed in let b = c.if-is_taken.true in let d = c.inside-inside.ensures.scope c.args.desk.now.drawer.seed c.args.locals.now in let e = c.in_ok-block.ensures.added in ?
+iteration-returns-in_ok-block-clause-added t c =
+    let scene = c.args.scene.now in
+    let here = scope_at scene c.args.seat.now c.args.desk.now.drawer.seed c.args.locals.now in
+    let x = c.args.other.now.agent.now in
+    let deed : Deed = block_in scene c.args.body.now (inside here x) in
+    let some : is_taken scene here c.args.class c.args.bounds.now x ≡ true = sym (c.is_taken.ensures c.args.desk.now.drawer.seed) ∙ c.if-is_taken.true in
+    let added : Adds scene deed c.args.answer.now c.block.new.answer =
+    subst (λ (p : Scope). Adds scene (block_in scene c.args.body.now p) c.args.answer.now c.block.new.answer)
+    (c.inside-inside.ensures.scope c.args.desk.now.drawer.seed c.args.locals.now) c.in_ok-block.ensures.added in
+    subst (λ (b : Bool). Adds scene (iterated here (map (λ y. block_in scene c.args.body.now (inside here y)) (cond b (x ∷ []) []))) c.args.answer.now c.block.new.answer)
+    (sym some)
+    (adds-alike scene deed (iterated here (deed ∷ [])) c.args.answer.now c.block.new.answer (sym (append-nil deed.said)) (sym (append-nil deed.faults)) added)
 
 pub iteration-returns-else-is_taken-clause-added : goal.iteration-returns-else-is_taken-clause-added
 iteration-returns-else-is_taken-clause-added t c =
@@ -120,10 +122,41 @@ iteration-returns-else-is_taken-clause-added t c =
     (sym none) (adds-nothing scene here c.args.answer.now)
 
 pub iterations-returns-clause-added : goal.iterations-returns-clause-added
-iterations-returns-clause-added t c = let a = c.in_ok-visits.ensures.added in let b = c.in_ok-find.ensures.taken in ?
+iterations-returns-clause-added t c =
+    let scene = c.args.scene.now in
+    let seed = c.args.desk.now.drawer.seed in
+    let here = scope_at scene c.args.seat.now seed c.args.locals.now in
+    let d = c.args.seat.now.this.agent.now in
+    same-visits scene here c.args.class c.args.bounds.now c.args.body.now (agents_at scene d c.find.new.near.items) scene.agents.now
+    c.args.answer.now c.visits.new.answer (c.in_ok-find.ensures.taken seed c.args.class d)
+    (subst (λ (l : List ℕ). Adds scene (loop_in scene here c.args.class c.args.bounds.now c.args.body.now (agents_at scene d l)) c.args.answer.now c.visits.new.answer)
+    c.as_slice.ensures.value (c.in_ok-visits.ensures.added d))
 
 pub visits-loop-place-preserved : goal.visits-loop-place-preserved
-visits-loop-place-preserved t c = let a = c.in_ok-iteration.ensures.added in ?
+visits-loop-place-preserved t c =
+    let scene = c.args.scene.now in
+    let seat = c.args.seat.now in
+    let first = c.args.desk.now.drawer.seed in
+    let here = scope_at scene seat first c.args.locals.now in
+    let k = c.loop-place.place-index in
+    let near : List ℕ = c.args.near.now in
+    let i : ℕ = get_or near k 0 in
+    let x : Agent = get_or scene.agents.now i c.index-scene-place.result in
+    let within : i < length scene.agents.now = c.requires.near k 0 c.loop-place-test.true in
+    let same : scope_at scene seat c.loop-place.desk.drawer.seed c.loop-place.locals ≡ here =
+    ap (λ (n : ℕ). scope_at scene seat n c.loop-place.locals) c.loop-place.invariant.seed
+    ∙ ap (λ (l : List Value). scope_at scene seat first l) c.loop-place.invariant.locals in
+    let added : Adds scene (loop_in scene here c.args.class c.args.bounds.now c.args.body.now (x ∷ [])) c.loop-place.answer c.iteration.new.answer =
+    subst (λ (p : Scope). Adds scene (loop_in scene p c.args.class c.args.bounds.now c.args.body.now (x ∷ [])) c.loop-place.answer c.iteration.new.answer)
+    same c.in_ok-iteration.ensures.added in
+    record {
+      rest = λ d z h. c.loop-place.invariant.rest d z
+          (visit scene here c.args.class c.args.bounds.now c.args.body.now near k d x c.loop-place.answer c.iteration.new.answer z
+          c.loop-place-test.true (any-default scene.agents.now i c.index-scene-place.result d within) added h);
+      locals = c.in_ok-iteration.ensures.locals ∙ c.loop-place.invariant.locals;
+      trail = c.in_ok-iteration.ensures.trail ∙ c.loop-place.invariant.trail;
+      seed = c.in_ok-iteration.ensures.seed ∙ c.loop-place.invariant.seed;
+    }
 
 pub visits-returns-clause-added : goal.visits-returns-clause-added
 visits-returns-clause-added t c d =
