@@ -14,5 +14,6 @@ mod walk;
 
 pub use action::{Action, Axis, Bound, Limit, Side};
 pub use answer::{Answer, Said};
+pub use asking::greatest_visible;
 pub use plans::{Plans, plan};
 pub use room::Room;

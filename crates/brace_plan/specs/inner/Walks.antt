@@ -1,14 +1,14 @@
 -- Where the walk over an agent's actions stands, and what it adds to an answer. Only the crate's own
 -- functions cite this.
-use Rattle.std.specs.Prelude.{◌≡◌, ℕ, ◌<◌, ◌≤ℤ◌, List, [], ◌∷◌, ◌++◌, map, fold, filter, Bool, true, false, ◌&&◌, ◌==◌, Option, Some, None, option_map, slice_get, slice_set, slice_index_or, length, IfSome}
+use Rattle.std.specs.Prelude.{◌≡◌, ℕ, ◌<◌, ◌≤ℤ◌, List, [], ◌∷◌, ◌++◌, map, fold, filter, Bool, true, false, ◌&&◌, ◌==◌, Option, Some, None, option_map, slice_get, slice_set, slice_index_or, length, replicate, IfSome}
 use Rattle.std.specs.List.{All, list_all}
 use Rattle.brace_num.specs.declared.kinds.Area.{Area}
 use Rattle.brace_model.specs.declared.program.Value.{Value}
 use Rattle.brace_model.specs.declared.program.Value.TheVariants.{Flag}
 use Rattle.brace_model.specs.declared.fault.Fault.{Fault}
 use Rattle.brace_model.specs.declared.world.Agent.{Agent}
-use Rattle.brace_model.specs.FaultOrder.{with_earlier}
-use Rattle.brace_model.specs.World.{sees}
+use Rattle.brace_model.specs.FaultOrder.{least, with_earlier}
+use Rattle.brace_model.specs.World.{sees, no_value}
 use Rattle.brace_model.specs.Value.{Scope}
 use Rattle.brace_model.specs.Query.{Deed, silent, deed_of, inside, iterated}
 use Rattle.brace_code.specs.declared.code.Code.{Code}
@@ -20,6 +20,7 @@ use Rattle.brace_plan.specs.declared.answer.Answer.{Answer}
 use Rattle.brace_plan.specs.declared.seat.Placed.{Placed}
 use Rattle.brace_plan.specs.declared.seat.Scene.{Scene}
 use Rattle.brace_plan.specs.declared.seat.Seat.{Seat}
+use Rattle.brace_plan.specs.declared.plans.Planned.{Planned}
 use Rattle.brace_plan.specs.declared.desk.Former.{Former}
 use Rattle.brace_plan.specs.Answers.{saying_of, greatest_visible}
 use Rattle.brace_plan.specs.inner.Acts.{act, acts, meets}
@@ -134,3 +135,23 @@ abbrev pub HaveTaken : Scene → Scope → ℕ → List Bound → List ℕ → T
 HaveTaken scene scope class bounds near = (d : Agent)
     → filter (is_taken scene scope class bounds) (agents_at scene d near)
     ≡ filter (is_taken scene scope class bounds) scene.agents.now
+
+-- the scope in which a plan begins: no loop agent, and no constant set
+abbrev pub opening : Scene → Planned → ℕ → Agent → Scope
+opening scene planned seed a = record {
+  tick = scene.tick;
+  seed = seed;
+  this = a;
+  outer = None;
+  inner = None;
+  locals = replicate planned.constants no_value;
+  totals = [];
+}
+
+-- an answer has all that a plan says, and its least fault
+pub record IsAnswerOf (scene : Scene) (planned : Planned) (seed : ℕ) (a : Agent)
+    (answer : Answer) : Type 0 where
+  pub said : map (saying_of scene.agents.now) answer.said.items
+      ≡ (block_in scene planned.actions (opening scene planned seed a)).said
+  pub fault : answer.fault
+      ≡ least (block_in scene planned.actions (opening scene planned seed a)).faults
