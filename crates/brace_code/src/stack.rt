@@ -27,4 +27,11 @@ impl Stack {
         let words = vec![in alloc; 0i64; depth]?;
         Ok(Stack { words })
     }
+
+    /// How many words it has room for. It takes no memory.
+    pub fn room(&self) -> usize
+        ensures { result ≡ self.now }
+    {
+        self.words.len()
+    }
 }

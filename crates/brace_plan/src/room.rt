@@ -1,5 +1,6 @@
 ghost use Rattle.std.specs.Prelude.{◌≡◌, IfOk};
 
+use crate::desk::Desk;
 use brace_code::Stack;
 use brace_draw::Drawer;
 use brace_model::Value;
@@ -11,11 +12,8 @@ use std::marker::Model;
 /// the seed of the draws.
 #[derive(Debug, Drop)]
 pub struct Room {
-    pub(crate) drawer: Drawer,
-    pub(crate) stack: Stack,
+    pub(crate) desk: Desk,
     pub(crate) locals: Vec<Value>,
-    /// Lists of places that no loop uses now.
-    pub(crate) spare: Vec<Vec<u32>>,
 }
 
 impl Model for Room {
@@ -23,7 +21,7 @@ impl Model for Room {
 
     ghost Value = { ℕ };
 
-    ghost view = { λ room. room.drawer.seed };
+    ghost view = { λ room. room.desk.drawer.seed };
 }
 
 impl Room {
@@ -31,11 +29,15 @@ impl Room {
     pub fn make(alloc: Global, seed: u64) -> Result<Room, NoMemory>
         ensures { IfOk result (λ room. room ≡ seed) }
     {
-        Ok(Room {
+        let desk = Desk {
             drawer: Drawer::make(seed),
             stack: Stack::make(alloc, 0)?,
-            locals: Vec::new(alloc),
+            trail: Vec::new(alloc),
             spare: Vec::new(alloc),
+        };
+        Ok(Room {
+            desk,
+            locals: Vec::new(alloc),
         })
     }
 }
