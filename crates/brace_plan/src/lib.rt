@@ -10,5 +10,5 @@ mod room;
 
 pub use action::{Action, Axis, Bound, Limit, Side};
 pub use answer::{Answer, Said};
-pub use plans::{Plans, plan};
+pub use plans::{Plans, greatest_visible, plan};
 pub use room::Room;

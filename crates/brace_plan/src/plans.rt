@@ -1,5 +1,6 @@
 ghost use Rattle.std.specs.Prelude.{◌≡◌, IfOk};
 ghost use Rattle.brace_model.specs.Lawful.{LawfulProgram};
+ghost use Rattle.brace_plan.specs.Answers.{greatest_visible};
 
 use crate::action::Action;
 use brace_model::Program;
@@ -45,4 +46,15 @@ pub fn plan(alloc: Global, program: &Program) -> Result<Plans, NoMemory>
     ensures { IfOk result (λ plans. plans ≡ program.now) }
 {
     Err(NoMemory)
+}
+
+/// How far agents of a program see at most, in millionths.
+pub fn greatest_visible(program: &Program) -> i64
+    ensures { result ≡ greatest_visible program.now }
+{
+    let mut greatest = 0;
+    for class in program.classes.as_slice() {
+        greatest = class.visible.max(greatest);
+    }
+    greatest
 }
