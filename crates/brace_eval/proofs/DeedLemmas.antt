@@ -1,5 +1,5 @@
 -- What a block does, cut at a statement, and ledgers that stand for it.
-use Rattle.std.proofs.Common.{◌≡◌, ◌∙◌, sym, refl, ap, subst, ℕ, ◌+◌, ◌<◌, List, [], ◌∷◌, ◌++◌, true, false, Bool, length, take, drop, get_or, map, Option, Some, None, Result, Ok, Err, add-one, append_assoc, flat_map}
+use Rattle.std.proofs.Common.{◌≡◌, ◌∙◌, sym, refl, ap, subst, ℕ, ◌+◌, ◌<◌, List, [], ◌∷◌, ◌++◌, true, false, Bool, length, take, drop, get_or, map, fold, Option, Some, None, Result, Ok, Err, add-one, append_assoc, flat_map}
 use Rattle.std.specs.List.{filter}
 use Rattle.std.specs.Prelude.{IfOk}
 use Rattle.std.specs.Result.{result_ok}
@@ -7,14 +7,17 @@ use Rattle.std.proofs.lemmas.List.{map-append, append-nil, take-append-drop}
 use Rattle.std.proofs.lemmas.List.Elements.{filter-append}
 use Rattle.std.proofs.lemmas.Grind.{flat_map-append}
 use Rattle.std.proofs.lemmas.List.Sums.{fold-append}
+use Rattle.std.proofs.lemmas.List.Sorted.{IsPermutation-append_comm}
 use Rattle.std.proofs.Math.Seq.{take-suc}
 use Rattle.brace_model.specs.declared.program.Value.{Value}
 use Rattle.brace_model.specs.declared.program.Value.TheVariants.{Int, Fixed, Flag}
+use Rattle.brace_model.specs.declared.program.Program.{Program}
 use Rattle.brace_model.specs.declared.fault.Fault.{Fault}
 use Rattle.brace_model.specs.declared.world.Agent.{Agent}
 use Rattle.brace_model.specs.FaultOrder.{least, earlier, with_earlier}
 use Rattle.brace_model.specs.Value.{Scope, Worth}
 use Rattle.brace_model.specs.declared.program.Stmt.{Stmt}
+use Rattle.brace_model.proofs.FaultLemmas.{least_any_order}
 use Rattle.brace_model.specs.Query.{Saying, Deed, silent, deed_of, followed_by, block, chosen, statement}
 use Rattle.brace_model.proofs.Deeds.{after, goes_to, stops_at}
 use Rattle.brace_eval.specs.declared.heard.Heard.{Heard}
@@ -119,6 +122,32 @@ pub least-snoc : (faults : List Fault) (fault : Fault)
     → least (faults ++ fault ∷ []) ≡ Some (with_earlier (least faults) fault)
 least-snoc [] fault = refl
 least-snoc (f ∷ faults) fault = ap (λ (g : Fault). Some g) (fold-append earlier f faults (fault ∷ []))
+
+-- the least of two lists of faults is the earlier of theirs
+least-both : (faults met : List Fault) (fault : Fault) → Some fault ≡ least met
+    → least (faults ++ met) ≡ Some (with_earlier (least faults) fault)
+least-both [] met fault is = sym is
+least-both (f ∷ faults) met fault is =
+    let first = fold earlier f faults in
+    ap (λ (g : Fault). Some g) (fold-append earlier f faults met)
+    ∙ least_any_order (first ∷ met) (met ++ first ∷ []) (IsPermutation-append_comm (first ∷ []) met)
+    ∙ least-snoc met first
+    ∙ ap (λ (o : Option Fault). Some (with_earlier o first)) (sym is)
+    ∙ least_any_order (fault ∷ first ∷ []) (first ∷ fault ∷ []) (IsPermutation-append_comm (fault ∷ []) (first ∷ []))
+
+-- some faults were met
+pub heard-found : (program : Program) (agents : List Agent) (said : List Saying) (faults met : List Fault) (fault : Fault) (before after : Heard)
+    → Some fault ≡ least met → after ≡ record before { least = Some (with_earlier before.least fault) }
+    → IsHeard program agents said faults before → IsHeard program agents said (faults ++ met) after
+heard-found program agents said faults met fault before after is same k =
+    subst (λ (h : Heard). IsHeard program agents said (faults ++ met) h) (sym same)
+    (record {
+      totals = k.totals;
+      counts = k.counts;
+      least = ap (λ (o : Option Fault). Some (with_earlier o fault)) k.least ∙ sym (least-both faults met fault is);
+      each_starts = k.each_starts;
+      starts = k.starts;
+    })
 
 -- a fault is noted
 pub notes-fault : (scene : Scene) (fault : Fault) (a b : Ledger)

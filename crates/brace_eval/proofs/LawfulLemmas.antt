@@ -226,11 +226,12 @@ module _ (names : Names) (scope : Scope) (fits : Fits names scope) where
 -- ---- what a lawful agent leaves
 
 -- a lawful agent with as many states
-record Heir (program : Program) (a b : Agent) : Type 0 where
+pub record Heir (program : Program) (a b : Agent) : Type 0 where
   pub lawful : is_lawful_agent program b ≡ true
   pub long : length b.states ≡ length a.states
 
-record Leaves (program : Program) (a : Agent) (n : Next) : Type 0 where
+-- what an agent leaves is lawful
+pub record Leaves (program : Program) (a : Agent) (n : Next) : Type 0 where
   pub lives : (b : Agent) → n.agent ≡ Some b → Heir program a b
   pub bears : (b : Agent) → n.child ≡ Some b → Heir program a b
 
@@ -299,7 +300,8 @@ module _ (program : Program) (a : Agent) (class : Class) (is : class_of program 
         let left = same-next (left_by scope class a) n (sym (ap (λ (o : Option Stop). unless_stopped tick a o (left_by scope class a)) e) ∙ came) in
         subst (Leaves program a) left (leaves (none_there _ e))
 
-next_lawful : (program : Program) (seed tick : ℕ) → LawfulProgram program → (o : Option Class) (totals : List ℤ) (a : Agent) (n : Next)
+-- a lawful agent whose update does not fault leaves lawful ones
+pub next_lawful : (program : Program) (seed tick : ℕ) → LawfulProgram program → (o : Option Class) (totals : List ℤ) (a : Agent) (n : Next)
     → class_of program a ≡ o → is_lawful_agent program a ≡ true → next_in seed tick o totals a ≡ ok n → Leaves program a n
 next_lawful program seed tick laws None totals a n is lawful came =
     absurd (let no_way : false ≡ true = sym (ap (λ (o : Option Class). has_states o a) is) ∙ (and_parts (leb a.id greatest_id) _ lawful).1 in cc)
@@ -311,10 +313,11 @@ next_lawful program seed tick laws (Some class) totals a n is lawful came =
 
 -- ---- what lawful agents leave
 
-abbrev AreLawful : Program → List Agent → Type 0
+abbrev pub AreLawful : Program → List Agent → Type 0
 AreLawful program agents = list_all (is_lawful_agent program) agents ≡ true
 
-record AllLeave (program : Program) (agents : List Agent) (left : List Next) : Type 0 where
+-- what agents leave is lawful; those that live on are as few, with as few values
+pub record AllLeave (program : Program) (agents : List Agent) (left : List Next) : Type 0 where
   pub lives : AreLawful program (living left)
   pub bears : AreLawful program (children left)
   pub few : length (living left) ≤ length agents
@@ -335,7 +338,8 @@ values_more None agents k n is le = less (count_values agents) k n le
 values_more (Some b) agents k n is le =
     summed (count_values (b ∷ agents)) (length b.states) (count_values agents) k n (sum_by-cons (λ (a : Agent). length a.states) b agents) (is b refl) le
 
-all_more : (program : Program) (a : Agent) (agents : List Agent) (n : Next) (left : List Next) → Leaves program a n
+-- the same of one agent more
+pub all_more : (program : Program) (a : Agent) (agents : List Agent) (n : Next) (left : List Next) → Leaves program a n
     → AllLeave program agents left → AllLeave program (a ∷ agents) (n ∷ left)
 all_more program a agents n left one all =
     let values = values_more n.agent (living left) (length a.states) (count_values agents) (λ b has. (one.lives b has).long) all.values in

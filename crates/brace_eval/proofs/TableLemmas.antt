@@ -6,7 +6,7 @@ use Rattle.std.specs.Ordering.{nat_cmp}
 use Rattle.std.proofs.lemmas.List.Sorted.{searched}
 use Rattle.std.proofs.Math.Nat.{eq-or-lt_of_le}
 use Rattle.std.specs.Prelude.{eqb, leb}
-use Rattle.std.proofs.lemmas.Option.{slice_get_read, slice_get_past, slice_get_within}
+use Rattle.std.proofs.lemmas.Option.{slice_get_read, slice_get_past, slice_get_within, get_or_from_slice_get}
 use Rattle.std.proofs.lemmas.Bool.{ne_eqb, eq-eqb}
 use Rattle.std.proofs.lemmas.Bool.Decides.{eqb_tells, leb_tells}
 use Rattle.std.proofs.lemmas.List.Kept.{AllPairs-from_increasing}
@@ -277,6 +277,23 @@ module _ (program : Program) (xs : List Saying) (s : Saying) (agents : List Agen
           ∙ get_or-flat_map (row_of program xs) agents i s.field d (pos 0) le room in
           flat-set (row_of program xs) (row_of program (xs ++ s ∷ [])) agents i s.field at d _ le room here set_row others
           ∙ ap (λ (t : ℤ). set (table_of program xs agents) at (joined e.comb t s.value)) (sym read)
+
+-- ---- agents by their places
+
+-- an agent stands at its place, with its id
+pub stands-at : (agents : List Agent) (place : ℕ) (a : Agent) → slice_get agents place ≡ Some a
+    → (place < length agents) × (get_or (ids agents) place 0 ≡ a.id) × (get_or agents place a ≡ a)
+stands-at agents place a is =
+    let le : place < length agents = slice_get_within agents place a is in
+    let here = get_or_from_slice_get agents place a a is in
+    (le, id_at agents place a le ∙ ap (λ (b : Agent). b.id) here, here)
+
+-- where an id stands, an agent has it
+pub stands-one : (agents : List Agent) (place id : ℕ) → place < length agents → get_or (ids agents) place 0 ≡ id
+    → (a : Agent) × (slice_get agents place ≡ Some a) × (a.id ≡ id)
+stands-one [] place id le is = absurd (omega (arith, le))
+stands-one (a ∷ agents) zero id le is = (a, refl, is)
+stands-one (a ∷ agents) (suc place) id le is = stands-one agents place id (omega (arith, le)) is
 
 -- ---- the table of no saying, agent after agent
 

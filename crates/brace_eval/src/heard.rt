@@ -1,12 +1,15 @@
-ghost use Rattle.std.specs.Prelude.{◌≡◌, ◌+◌, ◌-◌, ◌^◌, ℕ, List, [], ◌++◌, length, min, slice_get, slice_set, slice_index_or, pos, ◌+ℤ◌, IfOk, OnOk, Some, map, take, drop};
+ghost use Rattle.std.specs.Prelude.{◌≡◌, ◌+◌, ◌-◌, ◌^◌, ℕ, List, [], ◌∷◌, ◌++◌, length, min, slice_get, slice_set, slice_index_or, pos, ◌+ℤ◌, IfOk, OnOk, Some, map, take, drop};
 ghost use Rattle.brace_model.specs.declared.fault.Fault.{Fault};
+ghost use Rattle.brace_model.specs.declared.program.Program.{Program};
 ghost use Rattle.brace_model.specs.declared.world.Agent.{Agent};
+ghost use Rattle.brace_model.specs.FaultOrder.{least};
 ghost use Rattle.brace_model.specs.World.{RisesById, class_of};
 ghost use Rattle.brace_model.specs.Query.{Saying};
 ghost use Rattle.brace_model.specs.Total.{identity, joined};
 ghost use Rattle.brace_comb.specs.Totals.{merged};
 ghost use Rattle.brace_eval.specs.Heard.{IsHeard, AreTold, counting, effects_in, row_of};
 
+use crate::ledger::with_earlier;
 use brace_comb::{identity, joined, merged};
 use brace_model::{Agent, Comb, Effect, Fault, Program, Value, class_of};
 use brace_num::NoMemory;
@@ -159,6 +162,46 @@ impl Heard {
         put(&mut self.totals, at, total);
         put(&mut self.counts, at, count);
         Ok(())
+    }
+
+    /// Joins a value to an effect of the agent at a place of the list. Ids rise. `NoMemory` where
+    /// 128 bits do not hold the total, with nothing joined.
+    pub fn say(
+        &mut self,
+        program: &Program,
+        agents: &[Agent],
+        place: usize,
+        effect: u32,
+        v: Value,
+    ) -> Result<(), NoMemory>
+        requires rises { RisesById agents.now }
+        ensures said { OnOk result ((a : Agent) (said : List Saying) (faults : List Fault)
+            → slice_get agents.now place ≡ Some a
+            → IsHeard program.now agents.now said faults self.old
+            → IsHeard program.now agents.now
+            (said ++ record { target = a.id; field = effect; value = v } ∷ []) faults self.new) }
+    {
+        let Some(a) = agents.get(place) else {
+            return Ok(());
+        };
+        let Some(target) = effects_of(program, a).get(effect as usize) else {
+            return Ok(());
+        };
+        let at = self.place_of(place, effect);
+        self.add(at, target.comb, v)?;
+        Ok(())
+    }
+
+    /// Notes the least of some faults, if there are any.
+    pub fn found(&mut self, fault: Option<Fault>)
+        ensures { (program : Program) (agents : List Agent) (said : List Saying)
+            (faults met : List Fault) → fault ≡ least met
+            → IsHeard program agents said faults self.old
+            → IsHeard program agents said (faults ++ met) self.new }
+    {
+        if let Some(fault) = fault {
+            self.least = Some(with_earlier(self.least, fault));
+        }
     }
 
     /// Joins what is told of values said to an effect of the agent at a place of the list: the

@@ -5,7 +5,7 @@ ghost use Rattle.brace_model.specs.Query.{Saying};
 ghost use Rattle.brace_eval.specs.Heard.{IsHeard};
 ghost use Rattle.brace_eval.specs.inner.Tables.{IsScene};
 
-use crate::heard::{Heard, effects_of};
+use crate::heard::Heard;
 use brace_model::{Agent, Program, Value};
 use brace_num::NoMemory;
 use std::alloc::Global;
@@ -54,12 +54,7 @@ impl<'a> Scene<'a> {
         let Ok(i) = self.ids.binary_search(&id) else {
             return Ok(());
         };
-        let effects = effects_of(self.program, &self.agents[i]);
-        let Some(target) = effects.get(effect as usize) else {
-            return Ok(());
-        };
-        let at = heard.place_of(i, effect);
-        heard.add(at, target.comb, v)?;
+        heard.say(self.program, self.agents, i, effect, v)?;
         Ok(())
     }
 }

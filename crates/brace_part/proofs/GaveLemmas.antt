@@ -1,5 +1,5 @@
 -- What a part gives to one that it does not meet is nothing; and how much moves, and is handed over.
-use Rattle.std.proofs.Common.{◌≡◌, ◌∙◌, refl, sym, ap, subst, ℕ, ◌+◌, ◌-◌, ◌<◌, ◌≤◌, List, [], ◌∷◌, ◌++◌, map, filter, flat_map, zip, length, Bool, true, false, cond, not, ◌&&◌, ◌==◌, append-nil, true≢false}
+use Rattle.std.proofs.Common.{◌≡◌, ◌∙◌, refl, sym, ap, subst, ℕ, ◌+◌, ◌-◌, ◌<◌, ◌≤◌, List, [], ◌∷◌, ◌++◌, map, filter, flat_map, length, Bool, true, false, cond, not, ◌&&◌, ◌==◌, true≢false}
 use Rattle.std.specs.Prelude.{nat_lt, if◌then◌else◌}
 use Rattle.std.specs.List.{Contains, list_any}
 use Rattle.std.specs.List.Sorted.{IsPermutation}
@@ -8,7 +8,7 @@ use Rattle.brace_model.specs.declared.program.Program.{Program}
 use Rattle.brace_model.specs.declared.world.Agent.{Agent}
 use Rattle.brace_model.specs.World.{World, RisesById, class_of}
 use Rattle.brace_model.specs.Next.{has_births}
-use Rattle.brace_model.specs.Step.{living, children, numbered}
+use Rattle.brace_model.specs.Step.{living}
 use Rattle.brace_cuts.specs.declared.space.Cuts.{Cuts}
 use Rattle.brace_cuts.specs.Space.{area_of}
 use Rattle.brace_invert.specs.Held.{is_near}
@@ -22,19 +22,19 @@ use Rattle.brace_pieces.specs.Steps.{step, met, meet, parts_meet, is_show}
 use Rattle.brace_pieces.specs.Numbers.{NumbersFit}
 use Rattle.brace_pieces.specs.Owned.{owns, owned, held}
 use Rattle.brace_pieces.specs.Together.{AreWhole}
-use Rattle.brace_pieces.specs.Continued.{said, becomes, all_left, fitting, descent, on}
+use Rattle.brace_pieces.specs.Continued.{all_left, on}
 use Rattle.brace_pieces.specs.Right.{border, handed, moved, shares, shares_to, comes_from}
 use Rattle.brace_pieces.specs.Heard.{own, near, said_here}
 use Rattle.brace_pieces.specs.Counts.{changing}
 use Rattle.brace_pieces.proofs.HeldLemmas.{one_owns, held_together, handed_together}
 use Rattle.brace_pieces.proofs.Origins.{of_id}
-use Rattle.brace_pieces.proofs.MoveLemmas.{left_each, owner_by_id, moved_together}
-use Rattle.brace_pieces.proofs.GivenLemmas.{no_children_of}
+use Rattle.brace_pieces.proofs.MoveLemmas.{owner_by_id, moved_together}
 use Rattle.brace_pieces.proofs.OnLemmas.{on_rises, on_whole, on_next}
 use Rattle.brace_pieces.proofs.HeardHere.{StandInside, whole_inside, told_same}
 use Rattle.brace_pieces.proofs.ScheduleLemmas.{parts_either_way}
 use Rattle.brace_part.proofs.SumLemmas.{kept_in, either_first, common, nothing_left}
 use Rattle.brace_part.proofs.OutLemmas.{met_passes}
+use Rattle.brace_part.proofs.LawfulOn.{descent_lives, next_lives}
 use Rattle.brace_num.proofs.Lists.{filter_alike}
 use Rattle.brace_num.proofs.Orders.{rises_by_keys}
 use Rattle.brace_num.proofs.Orders.{filter_rises}
@@ -134,18 +134,6 @@ module _ (s : Setting) (lawful : LawfulSetting s) (numbers : NumbersFit s) (t : 
     abbrev lives : List Agent
     lives = living (all_left s t w)
 
-    no_kids : children (all_left s t w) ≡ []
-    no_kids = ap children (left_each (becomes s t (said s t w)) w) ∙ no_children_of s t w childless w
-
-    descent_is : descent s t world ≡ map (λ a. (a.id, a)) lives
-    descent_is =
-        let entries : List Agent → List (ℕ × Agent) = λ kids. let born = fitting lives world.next kids in map (λ a. (a.id, a)) lives ++ map (λ p. (p.0.id, p.1)) (zip born (numbered world.next born)) in
-        ap entries no_kids ∙ append-nil (map (λ a. (a.id, a)) lives)
-
-    seconds : (xs : List Agent) → map (λ (d : ℕ × Agent). d.1) (map (λ a. (a.id, a)) xs) ≡ xs
-    seconds [] = refl
-    seconds (x ∷ xs) = ap (λ ys. x ∷ ys) (seconds xs)
-
     seconds_from : (mine xs : List Agent) → map (λ d. d.1) (filter (comes_from mine) (map (λ a. (a.id, a)) xs)) ≡ filter (λ b. list_any (λ a. a.id == b.id) mine) xs
     seconds_from mine [] = refl
     seconds_from mine (x ∷ xs) = elim (list_any (λ a. a.id == x.id) mine) as (λ v. map (λ d. d.1) (cond v ((x.id, x) ∷ filter (comes_from mine) (map (λ a. (a.id, a)) xs)) (filter (comes_from mine) (map (λ a. (a.id, a)) xs)))
@@ -155,7 +143,7 @@ module _ (s : Setting) (lawful : LawfulSetting s) (numbers : NumbersFit s) (t : 
         ]
 
     next_is : next ≡ lives
-    next_is = ap (λ (x : World). x.agents) (on_next s t low) ∙ ap (map (λ (d : ℕ × Agent). d.1)) descent_is ∙ seconds lives
+    next_is = ap (λ (x : World). x.agents) (on_next s t low) ∙ next_lives s childless t world
 
     abbrev given : ℕ → ℕ → List Agent
     given p q = moved s t p q world
@@ -166,7 +154,7 @@ module _ (s : Setting) (lawful : LawfulSetting s) (numbers : NumbersFit s) (t : 
     -- of the next world's agents of a part those that are another's in this one
     moved_from : (p q : ℕ) → given p q ≡ filter (of_part p) (owned m now q next)
     moved_from p q =
-        ap (λ d. owned m now q (map (λ e. e.1) (filter (comes_from (owned m now p w)) d))) descent_is
+        ap (λ d. owned m now q (map (λ e. e.1) (filter (comes_from (owned m now p w)) d))) (descent_lives s childless t world)
         ∙ ap (owned m now q) (seconds_from (owned m now p w) lives)
         ∙ either_first (owns m now q) (of_part p) lives
         ∙ ap (λ xs. filter (of_part p) (owned m now q xs)) (sym next_is)

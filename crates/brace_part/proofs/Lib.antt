@@ -5,6 +5,8 @@ pub mod TableOnes
 pub mod TableShares
 pub mod TableTells
 pub mod KindLemmas
+pub mod LawfulOn
+pub mod AskLemmas
 pub mod WorkTaken
 pub mod WorkHeard
 pub mod WorkOwned

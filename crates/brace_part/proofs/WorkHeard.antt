@@ -1,7 +1,7 @@
 -- What a part hears and finds in a step, and what its agents leave.
-use Rattle.std.proofs.Common.{◌≡◌, ◌∙◌, refl, sym, ap, ap₂, subst, ℕ, ◌<◌, ◌≤◌, ◌^◌, List, [], ◌∷◌, ◌++◌, map, filter_map, flat_map, Bool, true, false, Some, None, Result, Ok, Err, arith, IfOk, IfErr}
+use Rattle.std.proofs.Common.{◌≡◌, ◌∙◌, refl, sym, ap, ap₂, subst, ℕ, ◌<◌, ◌≤◌, ◌^◌, List, [], ◌∷◌, ◌++◌, map, filter_map, flat_map, length, Bool, true, false, Some, None, Result, Ok, Err, arith, IfOk, IfErr}
 use Rattle.std.specs.Prelude.{slice_get, if◌then◌else◌}
-use Rattle.std.specs.List.{Contains, cons_option}
+use Rattle.std.specs.List.{Contains, cons_option, list_all}
 use Rattle.std.specs.Result.{result_ok, result_err}
 use Rattle.std.proofs.lemmas.List.Elements.{All-append, All-weaker, All-contains_itself, Contains-append_left}
 use Rattle.brace_model.specs.declared.program.Program.{Program}
@@ -12,6 +12,7 @@ use Rattle.brace_model.specs.FaultOrder.{phase_rank, comes_before, least}
 use Rattle.brace_model.specs.Query.{Saying, said_in}
 use Rattle.brace_model.specs.Next.{Next}
 use Rattle.brace_model.specs.Step.{living}
+use Rattle.brace_model.specs.Lawful.{is_lawful_agent}
 use Rattle.brace_model.proofs.FaultLemmas.{least_is, least_none}
 use Rattle.brace_cuts.specs.Space.{area_of}
 use Rattle.brace_invert.specs.Held.{is_near}
@@ -45,6 +46,7 @@ use Rattle.brace_part.specs.Parts.{found_in_work, IsCauseOf}
 use Rattle.brace_part.specs.inner.Ready.{own_in, left_in, updates_in, HearsAsked, HearsAll}
 use Rattle.brace_part.specs.inner.Sound.{IsWorker}
 use Rattle.brace_part.specs.inner.Tables.{said_over, faults_over, TellBy}
+use Rattle.brace_part.proofs.LawfulOn.{on_lawful, some_pass, some_few}
 use Rattle.brace_num.proofs.Lists.{in_more}
 use Rattle.brace_num.proofs.Orders.{filter_rises}
 use Rattle.brace_num.proofs.Lists.{All-place}
@@ -119,6 +121,16 @@ module _ (worker : Worker) (part : IsWorker worker) (t : ℕ) where
 
   pub near_rises : (agents : List Agent) → agents ≡ near s t p w → RisesById agents
   near_rises agents e = subst RisesById (sym e) (filter_rises (λ (a : Agent). a.id) (is_near m (area_of (cuts_of s t) p) (range s)) w rises)
+
+  pub near_lawful : (agents : List Agent) → agents ≡ near s t p w → list_all (is_lawful_agent m) agents ≡ true
+  near_lawful agents e =
+      subst (λ xs. list_all (is_lawful_agent m) xs ≡ true) (sym e)
+      (some_pass (is_lawful_agent m) (is_near m (area_of (cuts_of s t) p) (range s)) w (on_lawful s part.lawful part.childless t).each_is_lawful)
+
+  pub near_few : (agents : List Agent) → agents ≡ near s t p w → length agents ≤ 2 ^ 20
+  near_few agents e =
+      subst (λ (xs : List Agent). length xs ≤ 2 ^ 20) (sym e)
+      (some_few (is_lawful_agent m) (is_near m (area_of (cuts_of s t) p) (range s)) w (2 ^ 20) (on_lawful s part.lawful part.childless t).few_agents)
 
   -- ---- what it hears
 

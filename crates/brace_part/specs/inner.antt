@@ -1,4 +1,5 @@
 pub mod Pieces
 pub mod Tables
+pub mod Asked
 pub mod Ready
 pub mod Sound

@@ -2,6 +2,7 @@
 //! the queries and the updates of the agents that it owns, and shows these to the publisher.
 #![tactic(auto)]
 
+mod asking;
 mod counts;
 mod gather;
 pub mod laws;

@@ -1,34 +1,42 @@
-ghost use Rattle.std.specs.Prelude.{◌≡◌, ◌≤◌, ◌^◌, IfOk};
+ghost use Rattle.std.specs.Prelude.{◌≡◌, ◌≤◌, ◌^◌, length, IsTrue, IfOk};
+ghost use Rattle.std.specs.List.{list_all, Contains};
+ghost use Rattle.brace_model.specs.declared.world.Agent.{Agent};
 ghost use Rattle.brace_model.specs.World.{RisesById};
-ghost use Rattle.brace_model.specs.Lawful.{LawfulProgram};
+ghost use Rattle.brace_model.specs.Lawful.{LawfulProgram, is_lawful_agent};
 ghost use Rattle.brace_eval.specs.Heard.{IsHeard};
 ghost use Rattle.brace_part.specs.inner.Sound.{AreQueriesOf};
 ghost use Rattle.brace_part.specs.inner.Tables.{said_over, faults_over};
 
+use crate::asking::{Hearing, Scene};
 use brace_eval::Heard;
-use brace_invert::{Forward, Inverse, split};
+use brace_invert::split;
 use brace_model::Agent;
 use brace_num::NoMemory;
 use brace_pieces::Setting;
+use brace_plan::{Answer, Plans, Room, plan};
 use std::alloc::Global;
 
-/// The programs whose queries a part evaluates: the script, or the two programs of its inversion.
+/// The queries that a part asks: those of the script, or those of the forward and of the inverse
+/// program of its inversion.
 #[derive(Debug, Drop)]
 pub enum Queries {
-    Script,
-    Inverted(Forward, Inverse),
+    Script(Plans),
+    Inverted(Plans, Plans),
 }
 
 impl Queries {
-    /// The programs of a run.
+    /// The queries of a run.
     pub fn of(alloc: Global, setting: &Setting) -> Result<Queries, NoMemory>
         requires { LawfulProgram setting.now.job.program }
         ensures { IfOk result (AreQueriesOf setting.now) }
     {
+        let program = &setting.job.program;
         if !setting.invert {
-            return Ok(Queries::Script);
+            return Ok(Queries::Script(plan(alloc, program)?));
         }
-        let (forward, inverse) = split(alloc, &setting.job.program)?;
+        let (forward, inverse) = split(alloc, program)?;
+        let forward = plan(alloc, &forward.program)?;
+        let inverse = plan(alloc, &inverse.program)?;
         Ok(Queries::Inverted(forward, inverse))
     }
 
@@ -44,21 +52,29 @@ impl Queries {
         held: &[Agent],
     ) -> Result<Heard, NoMemory>
         requires queries { AreQueriesOf setting.now self.now }
+        requires lawful { IsTrue (list_all (is_lawful_agent setting.now.job.program) held.now) }
+        requires few { length held.now ≤ 2 ^ 20 }
         requires rises { RisesById held.now }
+        requires own_held { (a : Agent) → Contains own.now a → Contains held.now a }
         requires ticks { tick ≤ 2 ^ 32 }
         ensures heard { IfOk result (IsHeard setting.now.job.program held.now
             (said_over setting.now tick own.now held.now)
             (faults_over setting.now tick own.now held.now)) }
     {
         let job = &setting.job;
-        let mut heard = Heard::nothing(alloc, &job.program, held)?;
+        let scene = Scene::open(alloc, &job.program, tick, held)?;
+        let mut hearing = Hearing {
+            heard: Heard::nothing(alloc, &job.program, held)?,
+            room: Room::make(alloc, job.seed)?,
+            answer: Answer::none(alloc),
+        };
         match self {
-            Queries::Script => heard.hear(alloc, &job.program, job.seed, tick, held, own)?,
+            Queries::Script(plans) => scene.ask_some(plans, own, &mut hearing)?,
             Queries::Inverted(forward, inverse) => {
-                heard.hear(alloc, &forward.program, job.seed, tick, held, own)?;
-                heard.hear(alloc, &inverse.program, job.seed, tick, held, held)?;
+                scene.ask_some(forward, own, &mut hearing)?;
+                scene.ask_all(inverse, &mut hearing)?;
             }
         }
-        Ok(heard)
+        Ok(hearing.heard)
     }
 }

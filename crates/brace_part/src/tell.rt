@@ -1,8 +1,9 @@
-ghost use Rattle.std.specs.Prelude.{◌≡◌, ◌++◌, List, map, IfOk, IfSome, OnOk};
+ghost use Rattle.std.specs.Prelude.{◌≡◌, ◌<◌, ◌^◌, ◌++◌, ℕ, List, map, pos, IfOk, IfSome, IfNone, OnOk};
 ghost use Rattle.brace_model.specs.declared.fault.Fault.{Fault};
 ghost use Rattle.brace_model.specs.World.{RisesById};
 ghost use Rattle.brace_model.specs.Query.{Saying};
 ghost use Rattle.brace_model.specs.Total.{totals_from};
+ghost use Rattle.brace_comb.specs.Totals.{IsNumberOf};
 ghost use Rattle.brace_cuts.specs.Space.{LawfulCuts};
 ghost use Rattle.brace_eval.specs.Heard.{IsHeard, counted};
 ghost use Rattle.brace_pieces.specs.Right.{share_of, shares_from};
@@ -16,10 +17,12 @@ use brace_num::{List, NoMemory};
 use brace_pieces::{Piece, owns};
 use std::alloc::Global;
 
-/// The entry of an effect, by its place, with the number and the count of its total; None where
-/// there is no such entry.
+/// The entry of an effect, by its place, with the number and the count of its total; None exactly
+/// where there is no such entry.
 fn entry_of(target: u64, effect: usize, comb: Comb, number: i128, count: i128) -> Option<Entry>
-    ensures { IfSome result (λ e. share_of e ≡ share_with target effect comb number count) }
+    ensures share { IfSome result (λ e. share_of e ≡ share_with target effect comb number count) }
+    ensures none { IfNone result (effect < 2 ^ 32 → (n : ℕ) → n < 2 ^ 64 → count ≡ pos n
+        → ¬ (IsNumberOf comb number n)) }
 {
     let field = u32::try_from(effect).ok()?;
     let total = Total::make(comb, number, u64::try_from(count).ok()?)?;

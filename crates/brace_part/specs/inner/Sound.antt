@@ -25,15 +25,15 @@ use Rattle.brace_part.specs.Given.{counts_behind, counts_up_to}
 use Rattle.brace_part.specs.inner.Pieces.{AreOut, AreTaken}
 use Rattle.brace_part.specs.inner.Ready.{IsReady, IsReadyFor, IsFaultlessAt, IsFaultlessBefore, AreKept, brings_at}
 
--- the programs whose queries a part evaluates in a run
+-- the queries that a part asks in a run, which stand for their programs
 abbrev pub AreQueriesOf : Setting → Queries → Type 0
-AreQueriesOf s Script = s.invert ≡ false
+AreQueriesOf s (Script script) = (s.invert ≡ false) × (script ≡ s.job.program)
 AreQueriesOf s (Inverted forward inverse) =
     (s.invert ≡ true)
-    × (forward.program ≡ forward_program s.job.program)
-    × (inverse.program ≡ inverse_program s.job.program)
+    × (forward ≡ forward_program s.job.program)
+    × (inverse ≡ inverse_program s.job.program)
 
--- a part of a lawful setting without births, and the programs whose queries it evaluates
+-- a part of a lawful setting without births, and the queries that it asks
 pub record IsPartOf (s : Setting) (p : ℕ) (queries : Queries) : Type 0 where
   pub lawful : LawfulSetting s
   pub numbers : NumbersFit s

@@ -31,7 +31,7 @@ loop-i-preserved c said all numbers =
           ap (map share_of) (w.entries-is ∙ w.in_ok-push.ensures.ok)
           ∙ map-append share_of c.loop-i.entries (w.in_ok-told.told ∷ [])
           ∙ tells c.args.target effects said i e _ _ within is read (map share_of c.args.entries.now) (map share_of c.loop-i.entries) so (share_of w.in_ok-told.told)
-          (of_some w.entry_of.result w.in_ok-told.told _ w.in_ok-told.ensures.ok_part w.entry_of.ensures
+          (of_some w.entry_of.result w.in_ok-told.told _ w.in_ok-told.ensures.ok_part w.entry_of.ensures.share
           ∙ ap (λ (x : Effect). share_with c.args.target i x.comb (to_z w128 (of_z w128 number)) (to_z w128 (of_z w128 count))) (sym is)
           ∙ ap₂ (share_with c.args.target i e.comb) (to_z-of_z w128 number number_fits) (to_z-of_z w128 count count_fits))
           (lt_z_yes (T_from_true _ (ap (lt_z (pos 0)) (sym (to_z-of_z w128 count count_fits)) ∙ w.if-counts-i-gt0.true)))

@@ -1,0 +1,154 @@
+ghost use Rattle.std.specs.Prelude.{◌≡◌, ◌≤◌, ◌<◌, ◌^◌, ◌++◌, [], ◌∷◌, List, length, map, pos, IsTrue, IfOk, Some, slice_get};
+ghost use Rattle.std.specs.List.{list_all, Contains};
+ghost use Rattle.brace_model.specs.declared.fault.Fault.{Fault};
+ghost use Rattle.brace_model.specs.declared.world.Agent.{Agent};
+ghost use Rattle.brace_model.specs.World.{RisesById};
+ghost use Rattle.brace_model.specs.Lawful.{is_lawful_agent};
+ghost use Rattle.brace_model.specs.Query.{Saying};
+ghost use Rattle.brace_plan.specs.Answers.{saying_of};
+ghost use Rattle.brace_eval.specs.Heard.{IsHeard};
+ghost use Rattle.brace_part.specs.inner.Asked.{CanAsk, HearsOf, HearsAllOf};
+
+use brace_eval::Heard;
+use brace_grid::Grid;
+use brace_model::{Agent, Program};
+use brace_num::NoMemory;
+use brace_plan::{Answer, Plans, Room, Said, greatest_visible};
+use std::alloc::Global;
+
+/// The agents that a part holds in a tick, over which queries are asked, and a grid of them.
+#[derive(Debug, Drop)]
+pub struct Scene<'a> {
+    alloc: Global,
+    /// The script, of which are the agents.
+    program: &'a Program,
+    tick: u64,
+    /// By rising id.
+    held: &'a [Agent],
+    grid: Grid,
+}
+
+/// What was heard so far, and what queries need while they are asked.
+#[derive(Debug, Drop)]
+pub struct Hearing {
+    pub heard: Heard,
+    pub room: Room,
+    /// What the query says that was asked last.
+    pub answer: Answer,
+}
+
+/// The least side of a grid's cells: one unit, in millionths.
+const UNIT: i64 = 1_000_000;
+
+impl<'a> Scene<'a> {
+    /// The scene of a program's lawful agents, whose ids rise.
+    pub fn open(
+        alloc: Global,
+        program: &'a Program,
+        tick: u64,
+        held: &'a [Agent],
+    ) -> Result<Scene<'a>, NoMemory>
+        requires lawful { IsTrue (list_all (is_lawful_agent program.now) held.now) }
+        requires few { length held.now ≤ 2 ^ 20 }
+        requires rises { RisesById held.now }
+        requires ticks { tick ≤ 2 ^ 32 }
+        ensures can_ask { IfOk result (CanAsk program.now) }
+        ensures program { IfOk result (λ scene. scene.program.now ≡ program.now) }
+        ensures tick { IfOk result (λ scene. scene.tick ≡ tick) }
+        ensures held { IfOk result (λ scene. scene.held.now ≡ held.now) }
+    {
+        let side = greatest_visible(program).max(UNIT);
+        let grid = Grid::build(alloc, program, held, side)?;
+        Ok(Scene {
+            alloc,
+            program,
+            tick,
+            held,
+            grid,
+        })
+    }
+
+    /// Joins a value said to the agent at a place.
+    fn say(&self, said: Said, heard: &mut Heard) -> Result<(), NoMemory>
+        requires rises { RisesById self.now.held.now }
+        ensures said { IfOk result (λ _. (before : List Saying) (faults : List Fault)
+            → IsHeard self.now.program.now self.now.held.now before faults heard.old
+            → IsHeard self.now.program.now self.now.held.now
+            (before ++ saying_of self.now.held.now said ∷ []) faults heard.new) }
+    {
+        let place = said.place as usize;
+        if place >= self.held.len() {
+            // No answer has such a place.
+            return Err(NoMemory);
+        }
+        heard.say(self.program, self.held, place, said.field, said.value)?;
+        Ok(())
+    }
+
+    /// Joins values said to agents by their places.
+    fn join(&self, said: &[Said], heard: &mut Heard) -> Result<(), NoMemory>
+        requires rises { RisesById self.now.held.now }
+        ensures said { IfOk result (λ _. (before : List Saying) (faults : List Fault)
+            → IsHeard self.now.program.now self.now.held.now before faults heard.old
+            → IsHeard self.now.program.now self.now.held.now
+            (before ++ map (saying_of self.now.held.now) said.now) faults heard.new) }
+    {
+        for one in said {
+            self.say(*one, heard)?;
+        }
+        Ok(())
+    }
+
+    /// Asks the query of the agent at a place, and joins what it says.
+    fn ask(&self, plans: &Plans, place: u32, hearing: &mut Hearing) -> Result<(), NoMemory>
+        requires can_ask { CanAsk plans.now self.now }
+        requires place { place < length self.now.held.now }
+        ensures hears { IfOk result (λ _. (a : Agent)
+            → slice_get self.now.held.now place ≡ Some a
+            → HearsOf self.now plans.now hearing.old.room a hearing.old.heard hearing.new.heard) }
+        ensures seed { hearing.new.room ≡ hearing.old.room }
+    {
+        let (room, answer) = (&mut hearing.room, &mut hearing.answer);
+        plans.ask(
+            self.alloc, self.tick, self.held, &self.grid, place, room, answer,
+        )?;
+        self.join(&hearing.answer.said, &mut hearing.heard)?;
+        hearing.heard.found(hearing.answer.fault);
+        Ok(())
+    }
+
+    /// Asks the queries of all agents that are held.
+    pub fn ask_all(&self, plans: &Plans, hearing: &mut Hearing) -> Result<(), NoMemory>
+        requires can_ask { CanAsk plans.now self.now }
+        ensures hears { IfOk result (λ _. HearsAllOf self.now plans.now hearing.old.room
+            self.now.held.now hearing.old.heard hearing.new.heard) }
+        ensures seed { hearing.new.room ≡ hearing.old.room }
+    {
+        for place in 0..self.held.len() {
+            self.ask(plans, place as u32, hearing)?;
+        }
+        Ok(())
+    }
+
+    /// Asks the queries of some of the agents that are held.
+    pub fn ask_some(
+        &self,
+        plans: &Plans,
+        asking: &[Agent],
+        hearing: &mut Hearing,
+    ) -> Result<(), NoMemory>
+        requires can_ask { CanAsk plans.now self.now }
+        requires held { (a : Agent) → Contains asking.now a → Contains self.now.held.now a }
+        ensures hears { IfOk result (λ _. HearsAllOf self.now plans.now hearing.old.room asking.now
+            hearing.old.heard hearing.new.heard) }
+        ensures seed { hearing.new.room ≡ hearing.old.room }
+    {
+        for a in asking {
+            let Ok(place) = self.held.binary_search_by_key(&a.id, |b| b.id) else {
+                unreachable!()
+            };
+            self.ask(plans, place as u32, hearing)?;
+        }
+        Ok(())
+    }
+}
