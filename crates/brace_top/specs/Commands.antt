@@ -1,5 +1,5 @@
 -- The command that the words of a command line ask for.
-use Rattle.std.specs.Prelude.{ℕ, List, Bool, true, false, if◌then◌else◌, Option, Some, None, option_map, option_and_then, unwrap_or}
+use Rattle.std.specs.Prelude.{ℕ, List, Bool, true, false, ◌&&◌, if◌then◌else◌, Option, Some, None, is_none, option_map, option_and_then, unwrap_or}
 use Rattle.brace_words.specs.declared.line.Line.{Line}
 use Rattle.brace_words.specs.declared.mode.Mode.{Mode}
 use Rattle.brace_words.specs.declared.mode.Mode.TheVariants as mode
@@ -72,11 +72,13 @@ may_save _ = false
 -- the mode is built
 abbrev pub is_built_mode : Mode → Bool
 is_built_mode mode.Plan = false
+is_built_mode mode.Audit = false
+is_built_mode mode.Balance = false
 is_built_mode _ = true
 
--- the line asks for nothing that is not built yet
+-- the line asks for nothing that is not built yet: for no such mode, no link and no watched figures
 abbrev pub built : Line → Bool
-built line = is_built_mode line.mode
+built line = is_built_mode line.mode && (is_none line.link && is_none line.watch)
 
 -- how many workers words ask for: one where they are no line, and where it says nothing
 abbrev pub workers_of : Option Line → ℕ

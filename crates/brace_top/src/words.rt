@@ -1,6 +1,6 @@
 ghost use Rattle.std.specs.Prelude.{◌≡◌, ◌≤◌, option_map, MatchOption, IfErr, IfOk, IfSome, None, Some};
 ghost use Rattle.brace_words.specs.Lines as lines;
-ghost use Rattle.brace_top.specs.Commands.{anew_of, built, command_in, manner_of, resumed_of, run_of, trial_of, workers_of};
+ghost use Rattle.brace_top.specs.Commands.{anew_of, built, is_built_mode, command_in, manner_of, resumed_of, run_of, trial_of, workers_of};
 ghost use Rattle.brace_top.specs.inner.Words.{said, said_manner, said_start, IsInRange, IsMannerInRange};
 
 use brace_num::Text;
@@ -69,11 +69,18 @@ pub enum Command<'a> {
 
 /// Whether a line asks for nothing that is not built yet.
 ///
-/// Not built is the mode `plan`.
+/// Not built are the modes `plan`, `audit` and `balance`, and in `run` and `resume` links and
+/// watched figures.
 pub fn built(line: &Line) -> bool
     ensures { result ≡ built line.now }
 {
-    line.mode != Mode::Plan
+    is_built_mode(line.mode) && line.link.is_none() && line.watch.is_none()
+}
+
+fn is_built_mode(mode: Mode) -> bool
+    ensures { result ≡ is_built_mode mode }
+{
+    !matches!(mode, Mode::Plan | Mode::Audit | Mode::Balance)
 }
 
 /// How many workers words ask for, as they were read: 1 to 16, and 1 where they are no line.
@@ -177,6 +184,6 @@ pub fn command_in(line: &Line) -> Option<Command<'_>>
         Mode::Fmt => Some(Command::Format(line.script.as_ref()?.as_str())),
         Mode::Check => Some(Command::Check(line.script.as_ref()?.as_str())),
         Mode::Trial => trial_of(line),
-        Mode::Plan => None,
+        Mode::Plan | Mode::Audit | Mode::Balance => None,
     }
 }
