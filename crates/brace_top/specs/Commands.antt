@@ -49,12 +49,13 @@ pub record TrialCommand : Type 0 where
   pub seed : ℕ
   pub manner : Manner
 
--- what the words ask for: a run, the canonical text of a script, whether a script is accepted, or a
--- trial
+-- what the words ask for: a run, the canonical text of a script, whether a script is accepted, how
+-- a script is run with inversion or without, or a trial
 pub data Command : Type 0 where
   Run : RunCommand → Command
   Format : List ℕ → Command
   Check : List ℕ → Command
+  Planning : List ℕ → Bool → Command
   Trial : TrialCommand → Command
 
 -- the name of a command's script; a trial has its own
@@ -62,6 +63,7 @@ abbrev pub script_in : Command → Option (List ℕ)
 script_in (Run run) = Some run.script
 script_in (Format name) = Some name
 script_in (Check name) = Some name
+script_in (Planning name invert) = Some name
 script_in (Trial trial) = None
 
 -- the command may save files
@@ -71,7 +73,6 @@ may_save _ = false
 
 -- the mode is built
 abbrev pub is_built_mode : Mode → Bool
-is_built_mode mode.Plan = false
 is_built_mode mode.Audit = false
 is_built_mode mode.Balance = false
 is_built_mode _ = true
@@ -135,6 +136,7 @@ asked line mode.Run = run_of line line.script (anew_of line) line.ticks
 asked line mode.Resume = run_of line line.script (resumed_of line) line.ticks
 asked line mode.Fmt = option_map Format line.script
 asked line mode.Check = option_map Check line.script
+asked line mode.Plan = option_map (λ script. Planning script line.invert) line.script
 asked line mode.Trial = trial_of line line.count line.ticks
 asked line _ = None
 

@@ -63,13 +63,15 @@ pub enum Command<'a> {
     Format(&'a str),
     /// Whether the script of this name is accepted.
     Check(&'a str),
+    /// How the script of this name is run, with inversion where that is said.
+    Plan(&'a str, bool),
     /// A trial.
     Trial(TrialCommand),
 }
 
 /// Whether a line asks for nothing that is not built yet.
 ///
-/// Not built are the modes `plan`, `audit` and `balance`, and in `run` and `resume` links and
+/// Not built are the modes `audit` and `balance`, and in `run` and `resume` links and
 /// watched figures.
 pub fn built(line: &Line) -> bool
     ensures { result ≡ built line.now }
@@ -80,7 +82,7 @@ pub fn built(line: &Line) -> bool
 fn is_built_mode(mode: Mode) -> bool
     ensures { result ≡ is_built_mode mode }
 {
-    !matches!(mode, Mode::Plan | Mode::Audit | Mode::Balance)
+    !matches!(mode, Mode::Audit | Mode::Balance)
 }
 
 /// How many workers words ask for, as they were read: 1 to 16, and 1 where they are no line.
@@ -183,7 +185,8 @@ pub fn command_in(line: &Line) -> Option<Command<'_>>
         Mode::Resume => run_of(line, resumed_of(line)),
         Mode::Fmt => Some(Command::Format(line.script.as_ref()?.as_str())),
         Mode::Check => Some(Command::Check(line.script.as_ref()?.as_str())),
+        Mode::Plan => Some(Command::Plan(line.script.as_ref()?.as_str(), line.invert)),
         Mode::Trial => trial_of(line),
-        Mode::Plan | Mode::Audit | Mode::Balance => None,
+        Mode::Audit | Mode::Balance => None,
     }
 }
