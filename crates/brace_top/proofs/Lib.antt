@@ -2,6 +2,8 @@ pub mod Examples
 pub mod AnswerLemmas
 pub mod OneOutcome
 pub mod FormatLemmas
+pub mod JudgedLemmas
+pub mod ListingLemmas
 pub mod StatusLemmas
 pub mod PlaceLemmas
 pub mod ScriptLemmas

@@ -3,6 +3,7 @@ mod cut_planes;
 mod failures;
 mod faults;
 mod gates;
+mod plans;
 mod refusals;
 mod resumptions;
 mod runs;

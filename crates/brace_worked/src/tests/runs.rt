@@ -225,7 +225,14 @@ const TRIALS: [Case; 7] = [
         "trial agents 1 ticks 0 x 236067972 y 278566908\n",
         "stats border 0 effects 0 moved 0 handed 0\n",
     ),
-    ("plan --script s", STEPS, "", 2, "", "brace: usage\n"),
+    (
+        "balance --script s --agents a --strips 2",
+        STEPS,
+        AGENT,
+        2,
+        "",
+        "brace: usage\n",
+    ),
 ];
 
 #[test]

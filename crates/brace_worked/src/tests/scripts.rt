@@ -31,6 +31,45 @@ pub const COUNTED_PAIRS: &str =
      public effect int c : count; public void run() { foreach (H p : Extent<H>) { foreach (H q : \
      Extent<H>) { p.c <- 1; } } } }";
 
+pub const NARROWED: &str =
+    "class B { #visible[5.0]; public state fixed x; public state fixed y; public state int n : c; \
+     public effect int c : count; public void run() { foreach (B p : Extent<B>) { if (p.x >= x && \
+     p.y < 3.0 && 1 / n > 0 && p.x < 9.0) { c <- 1; } } } }";
+
+pub const PLACED: &str = "class T { public state fixed x; public state fixed y; }";
+
+pub const NARROWINGS: &str =
+    "class N {\n  \
+     #visible[2.5];\n  \
+     public state fixed x;\n  \
+     public state fixed y;\n  \
+     public effect int c : count;\n  \
+     public void run() {\n    \
+     const fixed h = x + 1.0;\n    \
+     foreach (N p : Extent<N>) {\n      \
+     if (p.x < h && y <= p.y && (1.5 == p.x && this.x >= p.x) && !(p.x > 2.0) && p.y > y) { \
+     p.c <- 1; }\n    \
+     }\n    \
+     foreach (M q : Extent<M>) {\n      \
+     foreach (N r : Extent<N>) {\n        \
+     if (r.x < 1.0 && (r.y >= q.y) && r.y < h) { q.c <- 1; } else { }\n      \
+     }\n      \
+     c <- 1;\n    \
+     }\n    \
+     foreach (N p : Extent<N>) {\n      \
+     if (p.x < 1.0) { c <- 1; } else { c <- 2; }\n    \
+     }\n    \
+     foreach (N p : Extent<N>) {\n      \
+     if (p.x < 1.0) { c <- 1; } p.c <- 2;\n    \
+     }\n  \
+     }\n\
+     }\n\
+     class M {\n  \
+     public state fixed x;\n  \
+     public state fixed y;\n  \
+     public effect int c : count;\n\
+     }\n";
+
 pub const SUMMED: &str =
     "class A { #visible[10.0]; public state fixed x; public state fixed y; public state int w; \
      public void run() { foreach (B p : Extent<B>) { p.t <- w; } } } class B { public state fixed \
