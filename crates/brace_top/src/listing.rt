@@ -29,9 +29,15 @@ fn within(around: Around, class: u32) -> Around
     ensures { result ≡ within around class }
 {
     if around.outer.is_none() {
-        Around { outer: Some(class), ..around }
+        Around {
+            outer: Some(class),
+            ..around
+        }
     } else {
-        Around { inner: Some(class), ..around }
+        Around {
+            inner: Some(class),
+            ..around
+        }
     }
 }
 
@@ -47,11 +53,7 @@ fn class_of(around: Around, who: Who) -> Option<u32>
 
 /// Adds the assignments to loops' agents of a block.
 #[cycle(remotes)]
-fn add_remotes(
-    block: &List<Stmt>,
-    around: Around,
-    found: &mut List<Remote>,
-) -> Result<(), NoMemory>
+fn add_remotes(block: &List<Stmt>, around: Around, found: &mut List<Remote>) -> Result<(), NoMemory>
     ensures { OnOk result (found.new ≡ found.old ++ remotes_of around block.now) }
 {
     for s in block.as_slice() {

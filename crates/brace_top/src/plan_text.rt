@@ -153,12 +153,7 @@ fn add_remotes(
     Ok(())
 }
 
-fn add_site(
-    out: &mut Vec<u8>,
-    src: &[u8],
-    sites: &[u32],
-    number: usize,
-) -> Result<(), NoMemory>
+fn add_site(out: &mut Vec<u8>, src: &[u8], sites: &[u32], number: usize) -> Result<(), NoMemory>
     requires { number < length sites.now }
     ensures { OnOk result (out.new.items
         ≡ out.old.items ++ site_line src.now sites.now number) }
