@@ -16,6 +16,7 @@ use Rattle.brace_pieces.specs.declared.setting.Step.{Step}
 use Rattle.brace_pieces.specs.Settings.{parts, range, greatest_reach, cuts_of}
 use Rattle.brace_pieces.specs.Steps.{schedule, steps, pairs_below, meet, parts_meet, may_reach, are_recut, share, is_show}
 use Rattle.brace_pieces.proofs.Pairs.{lawful_where}
+use Rattle.std.proofs.Math.Bool.{or_comm}
 use Rattle.brace_num.proofs.Booleans.{and_swap}
 use Rattle.brace_num.proofs.Numbers.{eq_swap}
 
