@@ -1,7 +1,7 @@
 -- The agents of the next world that a part owns come from its own agents, and from those of the
 -- parts that it meets.
-use Rattle.std.proofs.Common.{◌≡◌, ◌∙◌, refl, sym, ap, ap₂, subst, ℕ, zero, suc, ◌+◌, ◌<◌, ℤ, pos, ◌≤ℤ◌, List, [], ◌∷◌, ◌++◌, map, filter, filter_map, flat_map, zip, Bool, true, false, cond, ◌&&◌, ◌==◌, Option, Some, None, Result, Contains, arith, ⊎_elim}
-use Rattle.std.specs.Prelude.{fold, slice_get}
+use Rattle.std.proofs.Common.{◌≡◌, ◌∙◌, refl, sym, ap, ap₂, subst, ℕ, ◌+◌, ◌<◌, ℤ, pos, ◌≤ℤ◌, List, [], ◌∷◌, ◌++◌, map, filter, filter_map, flat_map, zip, Bool, true, false, cond, ◌&&◌, ◌==◌, Option, Some, None, Result, Contains, arith, ⊎_elim}
+use Rattle.std.specs.Prelude.{slice_get}
 use Rattle.std.specs.Int.{int_max}
 use Rattle.std.specs.List.{list_any}
 use Rattle.std.specs.List.Sorted.{IsPermutation}

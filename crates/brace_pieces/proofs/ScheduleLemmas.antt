@@ -1,5 +1,5 @@
 -- The schedule of a run is lawful.
-use Rattle.std.proofs.Common.{◌≡◌, ◌∙◌, refl, ap, ap₂, ℕ, ◌+◌, ◌-◌, ℤ, pos, Bool, true, false, ◌==◌, ◌&&◌, ◌||◌, not, arith}
+use Rattle.std.proofs.Common.{◌≡◌, ◌∙◌, refl, ap, ap₂, ℕ, ◌+◌, ◌-◌, ℤ, pos, false, ◌==◌, ◌&&◌, not, arith}
 use Rattle.std.specs.Prelude.{if◌then◌else◌, filter, slice_index_or, nat_lt, int_le, ◌-ℤ◌}
 use Rattle.std.specs.Int.{int_max}
 use Rattle.std.proofs.lemmas.Bool.{eq-eqb, and_left}
