@@ -1,5 +1,5 @@
 -- A program whose queries are parts of a lawful one's is lawful.
-use Rattle.std.proofs.Common.{◌≡◌, ◌∙◌, refl, sym, ap, subst, ℕ, ◌≤◌, List, [], ◌∷◌, ◌++◌, map, flat_map, sum, Bool, false, Option, Some, None, arith}
+use Rattle.std.proofs.Common.{◌≡◌, ◌∙◌, refl, sym, ap, subst, ℕ, ◌≤◌, List, [], ◌∷◌, map, flat_map, Bool, false, Option, Some, None, arith}
 use Rattle.std.specs.Prelude.{IsTrue, ◌&&◌, is_some, option_map, slice_get, nat_lt, nat_eq}
 use Rattle.std.specs.List.{IsDistinct, list_all, sum_by}
 use Rattle.std.specs.Str.{bytes_eq}
@@ -16,8 +16,7 @@ use Rattle.brace_model.specs.declared.program.Spawn.{Spawn}
 use Rattle.brace_model.specs.declared.program.Stmt.{Stmt}
 use Rattle.brace_model.specs.declared.program.Class.{Class}
 use Rattle.brace_model.specs.declared.program.Program.{Program}
-use Rattle.brace_model.specs.Query.{constants}
-use Rattle.brace_model.specs.Sites.{rule_sites, die_sites, spawn_sites, class_sites, constant_numbers, loop_offsets, class_assignments}
+use Rattle.brace_model.specs.Sites.{rule_sites, die_sites, spawn_sites, class_sites, loop_offsets, class_assignments}
 use Rattle.brace_model.specs.Typing.{Names, is_of_type, type_of, in_turn, scope_after}
 use Rattle.brace_model.specs.Lawful.{rule_scope, query_scope, is_ruled, is_given, is_spawn, LawfulClass, LawfulProgram}
 use Rattle.brace_invert.specs.Split.{with_query, with_queries, forward_query, inverse_query, forward_program, inverse_program}

@@ -1,5 +1,5 @@
 -- Who sees an agent of an area, or is seen by one, stands near it.
-use Rattle.std.proofs.Common.{◌≡◌, refl, subst, ℕ, zero, suc, ℤ, pos, ◌≤ℤ◌, ◌+ℤ◌, ◌-ℤ◌, List, [], ◌∷◌, true, Option, Some, None, arith}
+use Rattle.std.proofs.Common.{◌≡◌, refl, ap, ℕ, zero, suc, ℤ, pos, ◌≤ℤ◌, ◌+ℤ◌, ◌-ℤ◌, List, [], ◌∷◌, true, Option, Some, None, arith}
 use Rattle.std.specs.Prelude.{not, ◌==◌, fold, slice_get, int_le}
 use Rattle.std.specs.Int.{int_max}
 use Rattle.std.proofs.lemmas.Int.{ints, clamps}
@@ -14,6 +14,7 @@ use Rattle.brace_invert.specs.Range.{greatest_visible}
 use Rattle.brace_invert.proofs.RangeLemmas.{distance_low}
 use Rattle.brace_invert.specs.Held.{stands_near, is_near}
 use Rattle.std.proofs.lemmas.Bool.{and_parts}
+use Rattle.std.proofs.lemmas.Option.{same_Some}
 use Rattle.brace_num.proofs.Numbers.{le_holds, le_told, le_through, max_within, within_max}
 
 -- two numbers within a distance, as an order of each
@@ -57,22 +58,20 @@ reached_near area (Some c) (Some d) a b k most bounds more r h =
     gap_near area (x_of d b) (y_of d b) (x_of c a) (y_of c a) c.visible k most (bounds c refl) more 
     (either_way c.visible (x_of c a) (x_of d b) x) (either_way c.visible (y_of c a) (y_of d b) y) h
 
--- no class sees farther than the greatest visible range
-fold_up : (classes : List Class) (v : ℤ) → v ≤ℤ fold (λ v c. int_max v c.visible) v classes
-fold_up [] v = grind arith
-fold_up (c ∷ classes) v = let rest = fold_up classes (int_max v c.visible) in grind (arith, rest)
+-- of no class a number is above the greatest of all
+module _ (of : Class → ℤ) where
+  fold_up : (classes : List Class) (v : ℤ) → v ≤ℤ fold (λ v c. int_max v (of c)) v classes
+  fold_up [] v = grind arith
+  fold_up (c ∷ classes) v = let rest = fold_up classes (int_max v (of c)) in omega (arith, ints, clamps, rest)
 
-most_visible : (classes : List Class) (v : ℤ) (n : ℕ) (c : Class) → slice_get classes n ≡ Some c → c.visible ≤ℤ fold (λ v c. int_max v c.visible) v classes
-most_visible [] v n c e = absurd (cc)
-most_visible (d ∷ classes) v zero c e =
-    let same : d ≡ c = cc in
-    let rest = fold_up classes (int_max v d.visible) in
-    let there : d.visible ≤ℤ fold (λ v c. int_max v c.visible) (int_max v d.visible) classes = grind (arith, rest) in
-    subst (λ x. x.visible ≤ℤ fold (λ v c. int_max v c.visible) (int_max v d.visible) classes) same there
-most_visible (d ∷ classes) v (suc n) c e = most_visible classes (int_max v d.visible) n c e
+  pub most_of : (classes : List Class) (v : ℤ) (n : ℕ) (c : Class) → slice_get classes n ≡ Some c → of c ≤ℤ fold (λ v c. int_max v (of c)) v classes
+  most_of [] v n c e = absurd (cc)
+  most_of (d ∷ classes) v zero c e =
+      let rest = fold_up classes (int_max v (of d)) in let same : of d ≡ of c = ap of (same_Some d c e) in omega (arith, ints, clamps, rest, same)
+  most_of (d ∷ classes) v (suc n) c e = most_of classes (int_max v (of d)) n c e
 
 visible_bounds : (m : Program) → LawfulProgram m → (a : Agent) (c : Class) → class_of m a ≡ Some c → (pos 0 ≤ℤ c.visible) × (c.visible ≤ℤ greatest_visible m)
-visible_bounds m lawful a c e = (distance_low c.visible (lawful.classes_are_lawful a.class c e).visible_is_distance, most_visible m.classes (pos 0) a.class c e)
+visible_bounds m lawful a c e = (distance_low c.visible (lawful.classes_are_lawful a.class c e).visible_is_distance, most_of (λ c. c.visible) m.classes (pos 0) a.class c e)
 
 pub seer_near : (m : Program) → LawfulProgram m → (area : Area) (a b : Agent) (k : ℤ) → pos 0 ≤ℤ k → sees m a b ≡ true → is_near m area k b ≡ true → is_near m area (k +ℤ greatest_visible m) a ≡ true
 seer_near m lawful area a b k more e h =

@@ -1,5 +1,5 @@
 -- Blocks of an inverse program: values are said to the agents of loops alone.
-use Rattle.std.proofs.Common.{◌≡◌, ◌∙◌, refl, sym, subst, ℕ, List, [], ◌∷◌, ◌++◌, map, flat_map, sum, Bool, true, false, Option, Some, None, ◌==◌}
+use Rattle.std.proofs.Common.{◌≡◌, ◌∙◌, refl, subst, ℕ, List, [], ◌∷◌, ◌++◌, map, flat_map, sum, Bool, true, false, Option, Some, None, ◌==◌}
 use Rattle.std.specs.Prelude.{if◌then◌else◌, is_none, not, ◌||◌}
 use Rattle.std.specs.Option.{option_and_then}
 use Rattle.std.specs.List.{list_any}

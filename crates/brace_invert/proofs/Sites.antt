@@ -94,22 +94,28 @@ two_at : (op : BinOp) (site : Option ℕ) (a d : Worth) (xs ys : List ℕ) → i
 two_at op site a d xs ys e ha hd =
     faults-then a _ xs (ys ++ option_to_list site) ha (λ v. faults-then d (strict op site v) ys (option_to_list site) hd (λ x. strict_at op site v x e))
 
+-- an operator that may leave its second operand, or another one
+pub binary_by : (P : Worth → Type 0) (op : BinOp) (site : Option ℕ) (a d : Worth) → P (with_value a (λ v. choose v d (Ok (Flag false)))) → P (with_value a (λ v. choose v (Ok (Flag true)) d))
+    → P (with_value a (λ v. with_value d (strict op site v))) → P (binary op site a d)
+binary_by P bin.And site a d first second both = first
+binary_by P bin.Or site a d first second both = second
+binary_by P bin.Add site a d first second both = both
+binary_by P bin.Sub site a d first second both = both
+binary_by P bin.Mul site a d first second both = both
+binary_by P bin.Div site a d first second both = both
+binary_by P bin.Rem site a d first second both = both
+binary_by P bin.Lt site a d first second both = both
+binary_by P bin.Le site a d first second both = both
+binary_by P bin.Gt site a d first second both = both
+binary_by P bin.Ge site a d first second both = both
+binary_by P bin.Eq site a d first second both = both
+binary_by P bin.Ne site a d first second both = both
+binary_by P bin.Min site a d first second both = both
+binary_by P bin.Max site a d first second both = both
+
 binary_at : (op : BinOp) (site : Option ℕ) (a d : Worth) (xs ys : List ℕ) → is_sited (binary_faults op) site ≡ true → FaultsAt a xs → FaultsAt d ys → FaultsAt (binary op site a d) (xs ++ (ys ++ option_to_list site))
-binary_at bin.And site a d xs ys e ha hd = either_at a d _ xs ys site ha hd (λ v. choose_at v d (Ok (Flag false)) ys hd (fine _ ys))
-binary_at bin.Or site a d xs ys e ha hd = either_at a d _ xs ys site ha hd (λ v. choose_at v (Ok (Flag true)) d ys (fine _ ys) hd)
-binary_at bin.Add site a d xs ys e ha hd = two_at bin.Add site a d xs ys e ha hd
-binary_at bin.Sub site a d xs ys e ha hd = two_at bin.Sub site a d xs ys e ha hd
-binary_at bin.Mul site a d xs ys e ha hd = two_at bin.Mul site a d xs ys e ha hd
-binary_at bin.Div site a d xs ys e ha hd = two_at bin.Div site a d xs ys e ha hd
-binary_at bin.Rem site a d xs ys e ha hd = two_at bin.Rem site a d xs ys e ha hd
-binary_at bin.Lt site a d xs ys e ha hd = two_at bin.Lt site a d xs ys e ha hd
-binary_at bin.Le site a d xs ys e ha hd = two_at bin.Le site a d xs ys e ha hd
-binary_at bin.Gt site a d xs ys e ha hd = two_at bin.Gt site a d xs ys e ha hd
-binary_at bin.Ge site a d xs ys e ha hd = two_at bin.Ge site a d xs ys e ha hd
-binary_at bin.Eq site a d xs ys e ha hd = two_at bin.Eq site a d xs ys e ha hd
-binary_at bin.Ne site a d xs ys e ha hd = two_at bin.Ne site a d xs ys e ha hd
-binary_at bin.Min site a d xs ys e ha hd = two_at bin.Min site a d xs ys e ha hd
-binary_at bin.Max site a d xs ys e ha hd = two_at bin.Max site a d xs ys e ha hd
+binary_at op site a d xs ys e ha hd = binary_by (λ v. FaultsAt v (xs ++ (ys ++ option_to_list site))) op site a d
+    (either_at a d _ xs ys site ha hd (λ v. choose_at v d (Ok (Flag false)) ys hd (fine _ ys))) (either_at a d _ xs ys site ha hd (λ v. choose_at v (Ok (Flag true)) d ys (fine _ ys) hd)) (two_at op site a d xs ys e ha hd)
 
 total_at : (type : Ty) (site : Option ℕ) (n : ℤ) → FaultsAt (total_read type site n) (option_to_list site)
 total_at type None n = fine _ []

@@ -16,6 +16,7 @@ use Rattle.brace_num.specs.declared.kinds.Kind.{Kind}
 use Rattle.brace_num.specs.declared.kinds.Kind.TheVariants.{Overflow, DivZero, NegRoot}
 use Rattle.brace_num.specs.Exact.{fits, fitting, is_zero, exact_add, exact_sub, exact_neg, exact_abs, exact_sqrt, exact_to_fixed, exact_int_rem, root}
 use Rattle.brace_num.proofs.Roots.{root_is}
+use Rattle.brace_invert.proofs.Sites.{binary_by}
 use Rattle.brace_num.proofs.Options.{ok_same, ok_not_err}
 use Rattle.brace_model.specs.declared.program.Ty.{Ty}
 use Rattle.brace_model.specs.declared.program.Ty.TheVariants as ty
@@ -204,21 +205,8 @@ two_fits : (op : BinOp) (site : Option ℕ) (a b : Worth) → HasFit a → HasFi
 two_fits op site a b f g = with_fit a (λ x. with_value b (strict op site x)) f (λ u h. with_fit b (strict op site u) g (λ x k. strict_fits op site u x h k))
 
 binary_fits : (op : BinOp) (site : Option ℕ) (a b : Worth) → HasFit a → HasFit b → HasFit (binary op site a b)
-binary_fits bin.And site a b f g = with_fit a (λ x. choose x b (Ok (Flag false))) f (λ u h. choose_fits u b (Ok (Flag false)) g (ok_fit _ zero_fits))
-binary_fits bin.Or site a b f g = with_fit a (λ x. choose x (Ok (Flag true)) b) f (λ u h. choose_fits u (Ok (Flag true)) b (ok_fit _ one_fits) g)
-binary_fits bin.Add site a b f g = two_fits bin.Add site a b f g
-binary_fits bin.Sub site a b f g = two_fits bin.Sub site a b f g
-binary_fits bin.Mul site a b f g = two_fits bin.Mul site a b f g
-binary_fits bin.Div site a b f g = two_fits bin.Div site a b f g
-binary_fits bin.Rem site a b f g = two_fits bin.Rem site a b f g
-binary_fits bin.Lt site a b f g = two_fits bin.Lt site a b f g
-binary_fits bin.Le site a b f g = two_fits bin.Le site a b f g
-binary_fits bin.Gt site a b f g = two_fits bin.Gt site a b f g
-binary_fits bin.Ge site a b f g = two_fits bin.Ge site a b f g
-binary_fits bin.Eq site a b f g = two_fits bin.Eq site a b f g
-binary_fits bin.Ne site a b f g = two_fits bin.Ne site a b f g
-binary_fits bin.Min site a b f g = two_fits bin.Min site a b f g
-binary_fits bin.Max site a b f g = two_fits bin.Max site a b f g
+binary_fits op site a b f g = binary_by HasFit op site a b (with_fit a (λ x. choose x b (Ok (Flag false))) f (λ u h. choose_fits u b (Ok (Flag false)) g (ok_fit _ zero_fits)))
+    (with_fit a (λ x. choose x (Ok (Flag true)) b) f (λ u h. choose_fits u (Ok (Flag true)) b (ok_fit _ one_fits) g)) (two_fits op site a b f g)
 
 -- ---- expressions
 

@@ -1,6 +1,6 @@
 -- What an agent leaves to the next world is of its class, has as many values, and stands within the
 -- class's reach of where it stood.
-use Rattle.std.proofs.Common.{◌≡◌, ◌∙◌, refl, sym, ap, subst, ℕ, suc, ◌<◌, ℤ, pos, ◌-ℤ◌, ◌≤ℤ◌, List, [], ◌∷◌, map, filter_map, zip, length, Bool, true, false, if◌then◌else◌, Option, Some, None, Ok, Err, arith, codes, length-set, FitsSigned}
+use Rattle.std.proofs.Common.{◌≡◌, ◌∙◌, refl, sym, ap, subst, ℕ, suc, ◌<◌, ℤ, pos, ◌≤ℤ◌, List, [], ◌∷◌, map, filter_map, zip, length, Bool, true, false, if◌then◌else◌, Option, Some, None, Ok, Err, arith, codes, length-set, FitsSigned}
 use Rattle.std.specs.Prelude.{slice_get, slice_set, slice_index}
 use Rattle.std.specs.List.{reduce, cons_option, list_all}
 use Rattle.std.specs.Result.{result_ok, result_err}

@@ -1,7 +1,7 @@
 -- The agents of the next world that a part owns come from its own agents, and from those of the
 -- parts that it meets.
-use Rattle.std.proofs.Common.{◌≡◌, ◌∙◌, refl, sym, ap, ap₂, subst, ℕ, zero, suc, ◌+◌, ◌<◌, ℤ, pos, ◌≤ℤ◌, List, [], ◌∷◌, ◌++◌, map, filter, filter_map, flat_map, zip, Bool, true, false, cond, ◌&&◌, ◌==◌, Option, Some, None, Result, Contains, arith, ⊎_elim}
-use Rattle.std.specs.Prelude.{fold, slice_get}
+use Rattle.std.proofs.Common.{◌≡◌, ◌∙◌, refl, sym, ap, ap₂, subst, ℕ, ◌+◌, ◌<◌, ℤ, pos, ◌≤ℤ◌, List, [], ◌∷◌, ◌++◌, map, filter, filter_map, flat_map, zip, Bool, true, false, cond, ◌&&◌, ◌==◌, Option, Some, None, Result, Contains, arith, ⊎_elim}
+use Rattle.std.specs.Prelude.{slice_get}
 use Rattle.std.specs.Int.{int_max}
 use Rattle.std.specs.List.{list_any}
 use Rattle.std.specs.List.Sorted.{IsPermutation}
@@ -40,25 +40,10 @@ use Rattle.brace_num.proofs.Options.{some_none}
 use Rattle.brace_num.proofs.Orders.{filter_rises, one_sorted}
 use Rattle.brace_invert.proofs.Sublists.{rising_from}
 use Rattle.brace_invert.proofs.Heard.{one_agent}
+use Rattle.brace_invert.proofs.Nearness.{most_of}
 use Rattle.std.proofs.lemmas.Option.{same_Some, none-some}
 
 -- ---- reach
-
-reach_up : (classes : List Class) (r : ℤ) → r ≤ℤ fold (λ r c. int_max r c.reach) r classes
-reach_up [] r = grind arith
-reach_up (c ∷ classes) r = let rest = reach_up classes (int_max r c.reach) in grind (arith, rest)
-
-reach_of_first : (r d most : ℤ) → int_max r d ≤ℤ most → d ≤ℤ most
-reach_of_first r d most h = grind (arith, h)
-
--- no class moves farther than the greatest reach
-reach_within : (classes : List Class) (r : ℤ) (n : ℕ) (c : Class) → slice_get classes n ≡ Some c → c.reach ≤ℤ fold (λ r c. int_max r c.reach) r classes
-reach_within [] r n c e = absurd (cc)
-reach_within (d ∷ classes) r zero c e =
-    let same : d ≡ c = cc in
-    let most : ℤ = fold (λ r c. int_max r c.reach) (int_max r d.reach) classes in
-    subst (λ x. x.reach ≤ℤ most) same (reach_of_first r d.reach most (reach_up classes (int_max r d.reach)))
-reach_within (d ∷ classes) r (suc n) c e = reach_within classes (int_max r d.reach) n c e
 
 greater_still : (z d a b : ℤ) → z ≤ℤ d → d ≤ℤ b → z ≤ℤ int_max a b
 greater_still z d a b h g = grind (arith, h, g)
@@ -193,7 +178,7 @@ module _ (s : Setting) (lawful : LawfulSetting s) (t : ℕ) where
         (omega (arith, is_part), meets s lawful (step Move t) p owner part other is_part (points_near now p owner (x_of c b) (y_of c b) x y (int_max (range s) (greatest_reach m)) there here near_x near_y)))
 
   pub few_reach : (a : Agent) (c : Class) → class_of m a ≡ Some c → c.reach ≤ℤ greatest_reach m
-  few_reach a c e = reach_within m.classes (pos 0) a.class c e
+  few_reach a c e = most_of (λ c. c.reach) m.classes (pos 0) a.class c e
 
   module _ (w : List Agent) (up : RisesById w) where
     -- whose agents have an id: its owner's

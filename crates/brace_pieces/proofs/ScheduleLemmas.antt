@@ -1,5 +1,5 @@
 -- The schedule of a run is lawful.
-use Rattle.std.proofs.Common.{◌≡◌, ◌∙◌, refl, ap, ap₂, ℕ, ◌+◌, ◌-◌, ℤ, pos, Bool, true, false, ◌==◌, ◌&&◌, ◌||◌, not, arith}
+use Rattle.std.proofs.Common.{◌≡◌, ◌∙◌, refl, ap, ap₂, ℕ, ◌+◌, ◌-◌, ℤ, pos, false, ◌==◌, ◌&&◌, not, arith}
 use Rattle.std.specs.Prelude.{if◌then◌else◌, filter, slice_index_or, nat_lt, int_le, ◌-ℤ◌}
 use Rattle.std.specs.Int.{int_max}
 use Rattle.std.proofs.lemmas.Bool.{eq-eqb, and_left}
@@ -16,6 +16,7 @@ use Rattle.brace_pieces.specs.declared.setting.Step.{Step}
 use Rattle.brace_pieces.specs.Settings.{parts, range, greatest_reach, cuts_of}
 use Rattle.brace_pieces.specs.Steps.{schedule, steps, pairs_below, meet, parts_meet, may_reach, are_recut, share, is_show}
 use Rattle.brace_pieces.proofs.Pairs.{lawful_where}
+use Rattle.std.proofs.Math.Bool.{or_comm}
 use Rattle.brace_num.proofs.Booleans.{and_swap}
 use Rattle.brace_num.proofs.Numbers.{eq_swap}
 
