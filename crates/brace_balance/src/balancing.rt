@@ -46,7 +46,7 @@ pub fn balance(alloc: Global, xs: &[i64], strips: u32) -> Result<Balance, NoMemo
     })
 }
 
-// The first number, if there is one. It has 64 bits.
+/// The first number, if there is one. It has 64 bits.
 fn first_of(xs: &[i64]) -> Option<i64>
     ensures first { result ≡ slice_get xs.now 0 }
     ensures low { IfSome result (λ v. IsTrue (int_le least_number v)) }
@@ -57,7 +57,7 @@ fn first_of(xs: &[i64]) -> Option<i64>
     Some(xs[0])
 }
 
-// The proof of a load: equal numbers where there are so many of them, else posts.
+/// The proof of a load: equal numbers where there are so many of them, else posts.
 fn proof_of(alloc: Global, xs: &[i64], strips: u32, load: usize) -> Result<Proof, NoMemory>
     requires not_empty { 0 < length xs.now }
     requires sorted { IsTrue (never_falls xs.now) }

@@ -29,21 +29,21 @@ pub fn confirms(xs: &[i64], strips: u32, load: u32, proof: &Proof) -> bool
     }
 }
 
-// How many of the numbers are `p`.
+/// How many of the numbers are `p`.
 fn times(xs: &[i64], p: i64) -> usize
     ensures { result ≡ times p xs.now }
 {
     xs.iter().filter(|v| **v == p).count()
 }
 
-// How many of the numbers are from `p` to `q`, with both.
+/// How many of the numbers are from `p` to `q`, with both.
 fn between(xs: &[i64], p: i64, q: i64) -> usize
     ensures { result ≡ between p q xs.now }
 {
     xs.iter().filter(|v| p <= **v && **v <= q).count()
 }
 
-// Whether each number is below the next.
+/// Whether each number is below the next.
 fn rises(posts: &[i64]) -> bool
     ensures { result ≡ rises posts.now }
 {
@@ -55,7 +55,7 @@ fn rises(posts: &[i64]) -> bool
     true
 }
 
-// Whether between each post and the next there are at least `n` of the numbers.
+/// Whether between each post and the next there are at least `n` of the numbers.
 fn posts_hold(xs: &[i64], n: usize, posts: &[i64]) -> bool
     ensures { result ≡ posts_hold n xs.now posts.now }
 {

@@ -6,7 +6,7 @@ ghost use Rattle.brace_balance.specs.Fillings.{not_below, filled, first_of_strip
 use brace_num::{List, NoMemory};
 use std::alloc::Global;
 
-// The numbers that are not below `cut`, found by halving.
+/// The numbers that are not below `cut`, found by halving.
 fn not_below(xs: &[i64], cut: i64) -> &[i64]
     requires { IsTrue (never_falls xs.now) }
     ensures { result.now ≡ not_below cut xs.now }
@@ -15,7 +15,7 @@ fn not_below(xs: &[i64], cut: i64) -> &[i64]
     &xs[start..]
 }
 
-// The number at a place, if there is one.
+/// The number at a place, if there is one.
 fn number_at(xs: &[i64], i: usize) -> Option<i64>
     ensures { result ≡ slice_get xs.now i }
 {

@@ -33,7 +33,7 @@ pub fn print_certificate(load: u32, proof: &Proof, out: &mut Vec<u8>) -> Result<
     printed
 }
 
-// A refused append may leave a part of the text behind `out`.
+/// A refused append may leave a part of the text behind `out`.
 #[tactic(auto, using(brace_num::proofs::Printings::starts_more))]
 fn append_plan(out: &mut Vec<u8>, cuts: &[i64]) -> Result<(), NoMemory>
     ensures printed { OnOk result (out.new.items ≡ out.old.items ++ plan_line cuts.now) }
