@@ -1,11 +1,11 @@
 -- The assignments of a statement of each kind, and lines by number.
-use Rattle.std.proofs.Common.{◌≡◌, ◌∙◌, refl, sym, ap, ℕ, zero, suc, ◌+◌, List, [], ◌∷◌, ◌++◌, map}
+use Rattle.std.proofs.Common.{◌≡◌, ◌∙◌, refl, sym, ap, ℕ, zero, suc, ◌+◌, List, [], ◌∷◌, ◌++◌, map, arith}
 use Rattle.std.specs.Prelude.{flat_map}
 use Rattle.std.specs.List.{range_with_len}
 use Rattle.std.proofs.lemmas.List.Folds.{flat_map-map}
 use Rattle.std.proofs.lemmas.List.Concat.{flat_map-append}
 use Rattle.std.proofs.lemmas.List.FromFn.{map-range_with_len_more}
-use Rattle.std.proofs.lemmas.List.{append-nil}
+use Rattle.std.proofs.lemmas.List.{append-nil, append_assoc}
 use Rattle.brace_model.specs.declared.program.Who.{Who}
 use Rattle.brace_model.specs.declared.program.Expr.{Expr}
 use Rattle.brace_model.specs.declared.program.Stmt.{Stmt}
@@ -36,6 +36,16 @@ pub remotes_in-Assign : (who : Who) (effect : ℕ) (e : Expr) (at_ : ℕ) (aroun
     → remotes_in (Assign who effect e at_) around ≡ remote_to (class_of around who) effect at_
 remotes_in-Assign who effect e at_ around = ap (λ f. f around) (fold-Assign remotes_step who effect e at_)
 
+-- the assignments of an `if` are those of its blocks
+pub remotes_of_if : (s : Stmt) (c : Expr) (a b : List Stmt) (around : Around) (old mid new : List Remote)
+    → s ≡ If c a b → mid ≡ old ++ remotes_of around a → new ≡ mid ++ remotes_of around b
+    → new ≡ old ++ remotes_in s around
+remotes_of_if s c a b around old mid new is first second =
+    second ∙ ap (λ m. m ++ remotes_of around b) first
+    ∙ append_assoc old (remotes_of around a) (remotes_of around b)
+    ∙ ap (λ t. old ++ t) (sym (remotes_in-If c a b around))
+    ∙ ap (λ (x : Stmt). old ++ remotes_in x around) (sym is)
+
 pub ruleset remotes_rules = (remotes_in-Const, remotes_in-If, remotes_in-Foreach, remotes_in-Assign)
 
 -- ---- lines by number
@@ -49,7 +59,10 @@ from_more f a n j e =
     ∙ ap (λ t. t ++ (f j ++ [])) (flat_map-map (λ xs. xs) f (range_with_len a n))
     ∙ ap (λ t. flat_map f (range_with_len a n) ++ t) (append-nil (f j))
 
--- one number more
-pub numbered_more : {A : Type 0} (f : ℕ → List A) (n : ℕ)
-    → flat_map f (range_with_len 0 (n + 1)) ≡ flat_map f (range_with_len 0 n) ++ f n
-numbered_more f n = from_more f 0 n n refl
+-- one number more behind a list
+pub numbered_next : {A : Type 0} (f : ℕ → List A) (n : ℕ) (before all next : List A)
+    → all ≡ before ++ flat_map f (range_with_len 0 n) → next ≡ all ++ f n
+    → next ≡ before ++ flat_map f (range_with_len 0 (n + 1))
+numbered_next f n before all next is more =
+    more ∙ ap (λ t. t ++ f n) is ∙ append_assoc before (flat_map f (range_with_len 0 n)) (f n)
+    ∙ ap (λ t. before ++ t) (sym (from_more f 0 n n (omega arith)))

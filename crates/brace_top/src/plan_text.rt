@@ -1,5 +1,5 @@
 //! The text that tells how a script is run.
-ghost use Rattle.std.specs.Prelude.{◌≡◌, ◌++◌, ◌<◌, flat_map, length, option_map, IfOk, OnOk};
+ghost use Rattle.std.specs.Prelude.{◌≡◌, ◌++◌, ◌<◌, flat_map, length, slice_get, IfOk, OnOk};
 ghost use Rattle.brace_model.specs.Lawful.{LawfulProgram};
 ghost use Rattle.brace_top.specs.PlanText.{class_line, loop_line, name_of_class, name_of_effect, place_text, plan_text, range_line, remote_line, remote_word, site_line, site_lines, target_text};
 
@@ -20,35 +20,43 @@ fn add_place(out: &mut Vec<u8>, src: &[u8], at: u32) -> Result<(), NoMemory>
     print_count(out, column_number(src, at as usize))
 }
 
-fn name_of_class(class: Option<&Class>) -> &[u8]
-    ensures { result.now ≡ name_of_class (option_map (λ c. c.now) class.entry) }
+/// The name of a class of a number behind a text.
+fn add_class_name(out: &mut Vec<u8>, classes: &[Class], class: u32) -> Result<(), NoMemory>
+    ensures { OnOk result (out.new.items
+        ≡ out.old.items ++ name_of_class (slice_get classes.now class)) }
 {
-    match class {
-        Some(class) => class.name.as_bytes(),
-        None => b"",
+    match classes.get(class as usize) {
+        Some(class) => out.extend_from_slice(class.name.as_bytes())?,
+        None => {}
     }
+    Ok(())
 }
 
-fn name_of_effect(effect: Option<&Effect>) -> &[u8]
-    ensures { result.now ≡ name_of_effect (option_map (λ e. e.now) effect.entry) }
+/// The name of an effect by its place behind a text.
+fn add_effect_name(out: &mut Vec<u8>, effects: &[Effect], effect: u32) -> Result<(), NoMemory>
+    ensures { OnOk result (out.new.items
+        ≡ out.old.items ++ name_of_effect (slice_get effects.now effect)) }
 {
-    match effect {
-        Some(effect) => effect.name.as_bytes(),
-        None => b"",
+    match effects.get(effect as usize) {
+        Some(effect) => out.extend_from_slice(effect.name.as_bytes())?,
+        None => {}
     }
+    Ok(())
 }
 
 /// A class and an effect of it behind a text.
-fn add_target(out: &mut Vec<u8>, class: Option<&Class>, effect: u32) -> Result<(), NoMemory>
+fn add_target(out: &mut Vec<u8>, classes: &[Class], class: u32, effect: u32) -> Result<(), NoMemory>
     ensures { OnOk result (out.new.items
-        ≡ out.old.items ++ target_text (option_map (λ c. c.now) class.entry) effect) }
+        ≡ out.old.items ++ target_text (slice_get classes.now class) effect) }
 {
-    if let Some(class) = class {
-        out.extend_from_slice(class.name.as_bytes())?;
-        out.push(b'.')?;
-        out.extend_from_slice(name_of_effect(class.effects.as_slice().get(effect as usize)))?;
+    match classes.get(class as usize) {
+        Some(class) => {
+            out.extend_from_slice(class.name.as_bytes())?;
+            out.push(b'.')?;
+            add_effect_name(out, class.effects.as_slice(), effect)
+        }
+        None => Ok(()),
     }
-    Ok(())
 }
 
 fn add_range(out: &mut Vec<u8>, program: &Program, invert: bool) -> Result<(), NoMemory>
@@ -90,7 +98,7 @@ fn add_loop(out: &mut Vec<u8>, src: &[u8], program: &Program, l: &Loop) -> Resul
     out.extend_from_slice(b"loop ")?;
     add_place(out, src, l.at)?;
     out.push(b' ')?;
-    out.extend_from_slice(name_of_class(program.classes.as_slice().get(l.class as usize)))?;
+    add_class_name(out, program.classes.as_slice(), l.class)?;
     out.extend_from_slice(b" bounds ")?;
     print_count(out, u64::from(l.bounds))?;
     out.push(b'\n')?;
@@ -131,8 +139,7 @@ fn add_remote(
     out.extend_from_slice(remote_word(invert))?;
     add_place(out, src, remote.at)?;
     out.push(b' ')?;
-    let class = program.classes.as_slice().get(remote.class as usize);
-    add_target(out, class, remote.effect)?;
+    add_target(out, program.classes.as_slice(), remote.class, remote.effect)?;
     out.push(b'\n')?;
     Ok(())
 }
@@ -166,7 +173,7 @@ fn add_site(out: &mut Vec<u8>, src: &[u8], sites: &[u32], number: usize) -> Resu
     Ok(())
 }
 
-#[tactic(auto, using(crate::proofs::ListingLemmas::numbered_more))]
+#[tactic(auto, using(crate::proofs::ListingLemmas::numbered_next))]
 fn add_sites(out: &mut Vec<u8>, src: &[u8], sites: &[u32]) -> Result<(), NoMemory>
     ensures { OnOk result (out.new.items ≡ out.old.items ++ site_lines src.now sites.now) }
 {
