@@ -1,11 +1,10 @@
 -- Inversion over whole worlds: what both programs say and find.
-use Rattle.std.proofs.Common.{◌≡◌, ◌∙◌, refl, sym, ap, subst, ℕ, List, [], map, filter, flat_map, Bool, true, false, Option, Some, None, ⊎_elim, inl}
+use Rattle.std.proofs.Common.{◌≡◌, ◌∙◌, refl, sym, ap, subst, ℕ, List, [], map, filter, flat_map, true, false, Option, Some, None, ⊎_elim, inl, inr}
 use Rattle.std.specs.Prelude.{◌↔◌, ◌==◌, ◌&&◌, not, option_map, IsTrue, replicate}
 use Rattle.std.specs.List.{All, Contains}
 use Rattle.std.specs.List.Sorted.{IsPermutation}
-use Rattle.std.specs.declared.cmp.Ordering.{Ordering}
 use Rattle.std.specs.declared.cmp.Ordering.TheVariants.{Less, Equal}
-use Rattle.std.specs.Ordering.{nat_cmp, ordering_then, is_lt}
+use Rattle.std.specs.Ordering.{nat_cmp}
 use Rattle.std.specs.Cmp.{nat_cmp_is}
 use Rattle.std.proofs.lemmas.Cmp.{nat_cmp_total, tied_itself}
 use Rattle.std.proofs.lemmas.Option.{slice_get-map}
@@ -39,6 +38,7 @@ use Rattle.brace_invert.proofs.Typed.{is_there}
 use Rattle.brace_invert.proofs.LawfulParts.{IsPart, forward_is_part, inverse_is_part}
 use Rattle.brace_invert.proofs.Runs.{Joined, Together, together_over, joined_run}
 use Rattle.brace_invert.proofs.Traces.{Foretold, foretold_over, foretold_run}
+use Rattle.std.proofs.lemmas.Bool.{cases_Bool, true≢false}
 use Rattle.brace_num.proofs.Lists.{none_in, filter_all, All-from_contains}
 
 -- agents of a program with other queries see the same
@@ -147,26 +147,18 @@ found_foreseen m seed tick w lawful g h =
     (Contains-append_cases (query_faults (forward_program m) seed tick w) (query_faults (inverse_program m) seed tick w) g h)
 
 -- a fault that comes after another is greater, so it is not less than what the other is not less than
-equal_then : (r rest : Ordering) → r ≡ Equal → ordering_then r rest ≡ rest
-equal_then r rest e = ap (λ x. ordering_then x rest) e
-
-less_then : (r rest : Ordering) → r ≡ Less → ordering_then r rest ≡ Less
-less_then r rest e = ap (λ x. ordering_then x rest) e
-
 tied : (x y : ℕ) → y ≡ x → nat_cmp x y ≡ Equal
 tied x y e = ap (nat_cmp x) e ∙ tied_itself nat_cmp_total x
 
 after_less : (f g : Fault) → ComesAfter f g → IsTrue (comes_before f g)
-after_less f g h = ap is_lt (
-    equal_then _ _ (tied f.tick g.tick h.tick) ∙ equal_then _ _ (tied (phase_rank f.phase) (phase_rank g.phase) (ap phase_rank h.phase)) ∙ equal_then _ _ (tied f.agent g.agent h.agent)
-    ∙ less_then _ _ (sym (nat_cmp_is f.site g.site Less h.site)))
-
-behind_so : (e f g : Fault) → comes_before e f ≡ false → ComesAfter e g → (before : Bool) → comes_before g f ≡ before → before ≡ false
-behind_so e f g low after false is = refl
-behind_so e f g low after true is = let less = before_in_turn e g f (after_less e g after) is in absurd (cc)
+after_less f g h =
+    rw (tied f.tick g.tick h.tick, tied (phase_rank f.phase) (phase_rank g.phase) (ap phase_rank h.phase), tied f.agent g.agent h.agent, sym (nat_cmp_is f.site g.site Less h.site)) refl
 
 behind : (e f g : Fault) → comes_before e f ≡ false → ComesAfter e g → comes_before g f ≡ false
-behind e f g low after = behind_so e f g low after (comes_before g f) refl
+behind e f g low after = elim (cases_Bool (comes_before g f)) [
+  | inl before ↦ absurd (true≢false (sym (before_in_turn e g f (after_less e g after) before) ∙ low))
+  | inr not_before ↦ not_before
+]
 
 -- there is a fault with both exactly where there is one without
 pub found_none : (m : Program) (seed tick : ℕ) (w : List Agent) → LawfulProgram m → found_by_both m seed tick w ≡ [] ↔ query_faults m seed tick w ≡ []

@@ -138,7 +138,7 @@ foretold_over f g h [] = foretold_itself []
 foretold_over f g h (a ∷ agents) = foretold_append (f a).faults _ (g a).faults _ (h a) (foretold_over f g h agents)
 
 module _ (m : Program) (w : List Agent) where
-  -- a deed that stopped is never one that goes on; and where sites rise, what comes behind a statement is at a greater site
+  -- a statement that both have: a deed that stopped is never one that goes on
   foretold_same : (x : Stmt) (s p : List Stmt) (scope : Scope) → ((scope : Scope) → Foretold (run m w s scope).faults (run m w p scope).faults) → Foretold (run m w (x ∷ s) scope).faults (run m w (x ∷ p) scope).faults
   foretold_same x s p scope next =
       let d = statement m w x scope in foretold_then d d (run m w s) (run m w p) (foretold_itself d.faults) (goes_itself d) (λ stopped on. never_both _ d stopped on) next
@@ -147,6 +147,7 @@ module _ (m : Program) (w : List Agent) where
   part_sited : (s p : List Stmt) → Pruned s p → (names last : Names) → After s names last → (scope : Scope) (g : Fault) → Contains (run m w p scope).faults g → IsAt scope (flat_map sites_in p) g
   part_sited s p h names last e scope = sited_run m w p (renamed (λ q. q) names) (renamed (λ q. q) last) (part_formed (λ q. q) s p h names last e) scope
 
+  -- where sites rise, what comes behind a statement is at a greater site
   behind_one : (x : Stmt) (s p : List Stmt) → Pruned s p → (names last : Names) → After (x ∷ s) names last → Rising (flat_map sites_in (x ∷ s)) → (scope : Scope) (d : Deed) → d.scope ≡ scope → Behind (statement m w x scope) d (run m w p)
   behind_one x s p h names last e rising scope d same stopped on g found =
       let (mid, first, rest) = after_split x s names last e in

@@ -3,9 +3,8 @@ use Rattle.std.proofs.Common.{◌≡◌, ◌∙◌, refl, sym, ap, ap₂, subst,
 use Rattle.std.specs.Prelude.{option_map, if◌then◌else◌}
 use Rattle.std.specs.List.{Contains}
 use Rattle.std.specs.Result.{result_ok, result_err}
-use Rattle.std.specs.declared.cmp.Ordering.{Ordering}
-use Rattle.std.specs.declared.cmp.Ordering.TheVariants.{Greater, Equal}
-use Rattle.std.specs.Ordering.{nat_cmp, ordering_then, is_lt}
+use Rattle.std.specs.declared.cmp.Ordering.TheVariants.{Greater}
+use Rattle.std.specs.Ordering.{nat_cmp}
 use Rattle.std.specs.Cmp.{nat_cmp_is}
 use Rattle.std.proofs.lemmas.Cmp.{nat_cmp_total, tied_itself}
 use Rattle.std.proofs.lemmas.List.Elements.{All-contains}
@@ -40,24 +39,17 @@ use Rattle.std.proofs.lemmas.Option.{same_Some}
 
 -- ---- the order of faults
 
-greater_first : (r rest : Ordering) → r ≡ Greater → is_lt (ordering_then r rest) ≡ false
-greater_first r rest e = ap (λ x. is_lt (ordering_then x rest)) e
-
-equal_first : (r rest : Ordering) → r ≡ Equal → is_lt (ordering_then r rest) ≡ is_lt rest
-equal_first r rest e = ap (λ x. is_lt (ordering_then x rest)) e
-
 greater : (x y : ℕ) → y < x → nat_cmp x y ≡ Greater
 greater x y above = sym (nat_cmp_is x y Greater above)
 
 -- a fault of a later tick does not come before one
 pub later_tick : (f g : Fault) → g.tick < f.tick → comes_before f g ≡ false
-later_tick f g above = greater_first _ _ (greater f.tick g.tick above)
+later_tick f g above = rw (greater f.tick g.tick above) refl
 
 -- nor does one of a later phase of the same tick
 pub later_phase : (f g : Fault) → g.tick ≡ f.tick → phase_rank g.phase < phase_rank f.phase → comes_before f g ≡ false
 later_phase f g same above =
-    equal_first _ _ (ap (nat_cmp f.tick) same ∙ tied_itself nat_cmp_total f.tick)
-    ∙ greater_first _ _ (greater (phase_rank f.phase) (phase_rank g.phase) above)
+    rw (ap (nat_cmp f.tick) same ∙ tied_itself nat_cmp_total f.tick, greater (phase_rank f.phase) (phase_rank g.phase) above) refl
 
 -- ---- of which tick and phase faults are
 
@@ -156,6 +148,7 @@ module _ (s : Setting) (t : ℕ) (w : World) (lawful : LawfulProgram s.job.progr
   endings : (g : Fault) → step m s.job.seed t w ≡ Err g → EndsIn (least queries) (least updates) births g
   endings g e = ends_in (least queries) (least updates) births new g e
 
+  -- the fault in which the tick ends, where it is one of the queries, of the updates or of a birth
   step_by : {g : Fault} → least queries ≡ Some g → step m s.job.seed t w ≡ Err g
   step_by e = ap (λ o. unless_faulty o (least updates) births new) e
 
