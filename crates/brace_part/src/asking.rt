@@ -5,7 +5,7 @@ ghost use Rattle.brace_model.specs.declared.world.Agent.{Agent};
 ghost use Rattle.brace_model.specs.World.{RisesById};
 ghost use Rattle.brace_model.specs.Lawful.{is_lawful_agent};
 ghost use Rattle.brace_model.specs.Query.{Saying};
-ghost use Rattle.brace_plan.specs.Answers.{saying_of};
+ghost use Rattle.brace_plan.specs.Answers.{saying_of, ArePlaced};
 ghost use Rattle.brace_eval.specs.Heard.{IsHeard};
 ghost use Rattle.brace_part.specs.inner.Asked.{CanAsk, HearsOf, HearsAllOf};
 
@@ -71,16 +71,13 @@ impl<'a> Scene<'a> {
     /// Joins a value said to the agent at a place.
     fn say(&self, said: Said, heard: &mut Heard) -> Result<(), NoMemory>
         requires rises { RisesById self.now.held.now }
+        requires placed { said.place < length self.now.held.now }
         ensures said { IfOk result (λ _. (before : List Saying) (faults : List Fault)
             → IsHeard self.now.program.now self.now.held.now before faults heard.old
             → IsHeard self.now.program.now self.now.held.now
             (before ++ saying_of self.now.held.now said ∷ []) faults heard.new) }
     {
         let place = said.place as usize;
-        if place >= self.held.len() {
-            // No answer has such a place.
-            return Err(NoMemory);
-        }
         heard.say(self.program, self.held, place, said.field, said.value)?;
         Ok(())
     }
@@ -88,6 +85,7 @@ impl<'a> Scene<'a> {
     /// Joins values said to agents by their places.
     fn join(&self, said: &[Said], heard: &mut Heard) -> Result<(), NoMemory>
         requires rises { RisesById self.now.held.now }
+        requires placed { ArePlaced self.now.held.now said.now }
         ensures said { IfOk result (λ _. (before : List Saying) (faults : List Fault)
             → IsHeard self.now.program.now self.now.held.now before faults heard.old
             → IsHeard self.now.program.now self.now.held.now
