@@ -2,14 +2,14 @@ ghost use Rattle.std.specs.Prelude.{◌≡◌, ◌<◌, ◌≤◌, ◌-◌, ◌^
 ghost use Rattle.brace_model.specs.Scopes.{scope_of};
 ghost use Rattle.brace_model.specs.Value.{agent_of, total_read, typed};
 ghost use Rattle.brace_code.specs.Codes.{depth_of, gives};
-ghost use Rattle.brace_code.specs.inner.Words.{Outcome, word_of, value_of, made_word, choose_word, operand_word};
+ghost use Rattle.brace_code.specs.inner.Words.{Outcome, word_of, value_of, made_word, with_word, binary_word, choose_word, operand_word};
 ghost use Rattle.brace_code.specs.inner.Runs.{Left, deed, outcome, ended, put, pushed, stack_of, Did};
 
 use crate::code::{Code, Instr, Operand};
 use crate::operations::{binary, flag, unary};
 use crate::stack::Stack;
 use brace_draw::Drawer;
-use brace_model::{Agent, Env, Stop, Ty, Value, Who, number, value_at};
+use brace_model::{Agent, BinOp, Env, Stop, Ty, Value, Who, number, value_at};
 use brace_num::{Kind, List};
 
 /// The agent that a name stands for.
@@ -99,6 +99,16 @@ fn made(site: u32, exact: Result<i64, Kind>) -> Result<i64, Stop>
     }
 }
 
+/// An operation on a word and one that was read.
+fn with(site: u32, op: BinOp, ty: Ty, a: i64, read: Result<i64, Stop>) -> Result<i64, Stop>
+    ensures { result ≡ with_word read (λ b. made_word site (binary_word op ty a b)) }
+{
+    match read {
+        Ok(b) => made(site, binary(op, ty, a, b)),
+        Err(stop) => Err(stop),
+    }
+}
+
 /// The code that a word chooses.
 fn chosen<'a>(word: i64, set: &'a List<Instr>, unset: &'a List<Instr>) -> &'a [Instr]
     ensures { result.now ≡ choose_word word set.now unset.now }
@@ -175,6 +185,13 @@ fn step(
             };
             let word = made(*site, binary(*op, *ty, a.word, b.word));
             write(words, a.rest, word)
+        }
+        Instr::With(op, ty, site, operand) => {
+            let Some(a) = pop(words, top) else {
+                return Err(STUCK);
+            };
+            let b = read(*operand, env, drawer);
+            write(words, a.rest, with(*site, *op, *ty, a.word, b))
         }
         Instr::Choice(set, unset) => {
             let Some(test) = pop(words, top) else {

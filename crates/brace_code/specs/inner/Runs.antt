@@ -4,10 +4,10 @@ use Rattle.brace_num.specs.declared.kinds.Kind.TheVariants.{Overflow}
 use Rattle.brace_model.specs.declared.fault.Stop.{Stop}
 use Rattle.brace_model.specs.Value.{Scope}
 use Rattle.brace_code.specs.declared.code.Instr.{Instr}
-use Rattle.brace_code.specs.declared.code.Instr.TheOpen.{Instr-F, Push, Unary, Binary, Choice}
+use Rattle.brace_code.specs.declared.code.Instr.TheOpen.{Instr-F, Push, Unary, Binary, With, Choice}
 use Rattle.brace_code.specs.declared.code.Instr.TheFolds.{fold-Instr}
 use Rattle.brace_code.specs.declared.single.Ended.{Ended}
-use Rattle.brace_code.specs.inner.Words.{Outcome, made_word, unary_word, binary_word, choose_word, operand_word}
+use Rattle.brace_code.specs.inner.Words.{Outcome, made_word, with_word, unary_word, binary_word, choose_word, operand_word}
 
 -- the stack that is left, its top first, or a fault
 abbrev pub Left : Type 0
@@ -56,6 +56,10 @@ deed_step (Binary op type site) room scope [] = Err stuck
 deed_step (Binary op type site) room scope (b ∷ []) = Err stuck
 deed_step (Binary op type site) room scope (b ∷ (a ∷ stack)) =
     pushed stack (made_word site (binary_word op type a b))
+deed_step (With op type site operand) room scope [] = Err stuck
+deed_step (With op type site operand) room scope (a ∷ stack) =
+    pushed stack (with_word (operand_word scope operand)
+    (λ b. made_word site (binary_word op type a b)))
 deed_step (Choice set unset) room scope [] = Err stuck
 deed_step (Choice set unset) room scope (t ∷ stack) =
     pushed stack (choose_word t (top (in_turn set (room - length stack) scope []))
