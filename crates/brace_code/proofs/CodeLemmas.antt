@@ -6,7 +6,7 @@ use Rattle.brace_model.specs.declared.program.BinOp.{BinOp}
 use Rattle.brace_model.specs.Value.{Scope}
 use Rattle.brace_code.specs.declared.code.Operand.{Operand}
 use Rattle.brace_code.specs.declared.code.Instr.{Instr}
-use Rattle.brace_code.specs.declared.code.Instr.TheVariants.{Push, Unary, Binary, Choice, rolls-Push, rolls-Unary, rolls-Binary, rolls-Choice}
+use Rattle.brace_code.specs.declared.code.Instr.TheVariants.{Push, Unary, Binary, With, Choice, rolls-Push, rolls-Unary, rolls-Binary, rolls-With, rolls-Choice}
 use Rattle.brace_code.specs.declared.code.Instr.TheOpen as layer
 use Rattle.brace_code.specs.declared.code.Instr.TheFolds.{fold-roll-Instr}
 use Rattle.brace_code.specs.inner.Runs.{Left, Deed, onward, deed_step, deed, run}
@@ -19,6 +19,9 @@ deed-Unary op site = ap deed (sym (rolls-Unary op site)) ∙ fold-roll-Instr Dee
 
 pub deed-Binary : (op : BinOp) (t : Ty) (site : ℕ) → deed (Binary op t site) ≡ deed_step (layer.Binary op t site)
 deed-Binary op t site = ap deed (sym (rolls-Binary op t site)) ∙ fold-roll-Instr Deed deed_step (layer.Binary op t site)
+
+pub deed-With : (op : BinOp) (t : Ty) (site : ℕ) (o : Operand) → deed (With op t site o) ≡ deed_step (layer.With op t site o)
+deed-With op t site o = ap deed (sym (rolls-With op t site o)) ∙ fold-roll-Instr Deed deed_step (layer.With op t site o)
 
 pub deed-Choice : (a b : List Instr) → deed (Choice a b) ≡ deed_step (layer.Choice (map deed a) (map deed b))
 deed-Choice a b = ap deed (sym (rolls-Choice a b)) ∙ fold-roll-Instr Deed deed_step (layer.Choice a b)

@@ -26,14 +26,15 @@ use Rattle.brace_model.proofs.ValueEquations.{value-Lit, value-Field, value-Tota
 use Rattle.brace_code.specs.declared.code.Operand.{Operand}
 use Rattle.brace_code.specs.declared.code.Operand.TheVariants as operand
 use Rattle.brace_code.specs.declared.code.Instr.{Instr}
-use Rattle.brace_code.specs.declared.code.Instr.TheVariants.{Push, Unary, Binary, Choice}
+use Rattle.brace_code.specs.declared.code.Instr.TheVariants.{Push, Unary, Binary, With, Choice}
+use Rattle.brace_code.specs.declared.compiling.Leaf.{Leaf}
 use Rattle.brace_code.specs.declared.compiling.Part.{Part}
 use Rattle.brace_code.specs.Codes.{Computes}
-use Rattle.brace_code.specs.inner.Words.{Outcome, word_of, value_of, made_word, binary_word, choose_word, operand_word}
+use Rattle.brace_code.specs.inner.Words.{Outcome, word_of, value_of, made_word, with_word, binary_word, choose_word, operand_word}
 use Rattle.brace_code.specs.inner.Runs.{Left, Deed, onward, pushed, put, top, run}
-use Rattle.brace_code.specs.inner.Appended.{Does, Appends}
+use Rattle.brace_code.specs.inner.Appended.{Does, Appends, IsLeaf}
 use Rattle.brace_code.proofs.WordLemmas.{unary_is, strict_is, choose_is, worth_is}
-use Rattle.brace_code.proofs.CodeLemmas.{deed-Push, deed-Unary, deed-Binary, deed-Choice, run-append, run-one}
+use Rattle.brace_code.proofs.CodeLemmas.{deed-Push, deed-Unary, deed-Binary, deed-With, deed-Choice, run-append, run-one}
 
 -- ---- types of expressions
 
@@ -168,6 +169,38 @@ module _ (names : Names) (e : Expr) (part : Part) (before after : List Instr) wh
     );
   }
 
+  pub lit_leaf : (v : Value) → e ≡ expr.Lit v → IsLeaf names e (record { ty = type_of_value v; operand = operand.Word (number v) })
+  lit_leaf v is = record {
+    type = λ s h. some_is (type_of_value v) s (sym (type-Lit v names) ∙ (rw is at h));
+    word = λ scope. ap word_of (sym (ap (λ (x : Expr). value x scope) is ∙ value-Lit v scope));
+  }
+
+  pub field_leaf : (who : Who) (i : ℕ) (t : Ty) → e ≡ expr.Field who i → ((s : Ty) → state_type names who i ≡ Some s → t ≡ s)
+      → IsLeaf names e (record { ty = t; operand = operand.Field who i })
+  field_leaf who i t is types = record {
+    type = λ s h. types s (sym (type-Field who i names) ∙ (rw is at h));
+    word = λ scope. ap word_of (sym (ap (λ (x : Expr). value x scope) is ∙ value-Field who i scope));
+  }
+
+  pub local_leaf : (n : ℕ) (t : Ty) → e ≡ expr.Local n → ((s : Ty) → constant_type names.known n ≡ Some s → t ≡ s)
+      → IsLeaf names e (record { ty = t; operand = operand.Local n })
+  local_leaf n t is types = record {
+    type = λ s h. types s (sym (type-Local n names) ∙ (rw is at h));
+    word = λ scope. ap word_of (sym (ap (λ (x : Expr). value x scope) is ∙ value-Local n scope));
+  }
+
+  pub rand_leaf : (site : ℕ) → e ≡ expr.Rand site → IsLeaf names e (record { ty = ty.Fixed; operand = operand.Rand site })
+  rand_leaf site is = record {
+    type = λ s h. some_is ty.Fixed s (sym (type-Rand site names) ∙ (rw is at h));
+    word = λ scope. ap word_of (sym (ap (λ (x : Expr). value x scope) is ∙ value-Rand site scope));
+  }
+
+  pub total_leaf : (effect : ℕ) (t : Ty) (site : Option ℕ) → e ≡ expr.Total effect t site → IsLeaf names e (record { ty = t; operand = operand.Total effect t site })
+  total_leaf effect t site is = record {
+    type = λ s h. total_type names effect t site s (sym (type-Total effect t site names) ∙ (rw is at h));
+    word = λ scope. ap word_of (sym (ap (λ (x : Expr). value x scope) is ∙ value-Total effect t site scope));
+  }
+
   pub lit_appends : (v : Value) → e ≡ expr.Lit v → part ≡ record { ty = type_of_value v; depth = 1 } → after ≡ before ++ Push (operand.Word (number v)) ∷ []
       → Appends names e part before after
   lit_appends v is p added = operand_appends (operand.Word (number v)) (type_of_value v) p added
@@ -253,6 +286,54 @@ module _ (names : Names) where
           ∙ ap (λ (d : Deed). d room scope (number y ∷ (number x ∷ stack))) (deed-Binary op s (unwrap_or site 0))
           ∙ ap (λ (r : Ty). pushed stack (made_word (unwrap_or site 0) (binary_word op r (number x) (number y)))) (sym (is x refl))
           ∙ ap (pushed stack) (strict_is op site x y t (ap (operation_type op) (is x refl) ∙ gives))
+
+  -- what an operation does whose second operand is a word
+  with_does : (op : BinOp) (site : Option ℕ) (a b : Expr) (o : Operand) (t s : Ty) (depth : ℕ) (first : List Instr) → IsStrict op → type_of a names ≡ Some s
+      → operation_type op s ≡ Some t → Does names a depth first → ((scope : Scope) → operand_word scope o ≡ word_of (value b scope))
+      → Does names (expr.Binary op site a b) depth (first ++ With op s (unwrap_or site 0) o ∷ [])
+  with_does op site a b o t s depth first strictly typed gives p words = record {
+    each = λ scope fits room stack k.
+        run-append first last room scope stack
+        ∙ ap (λ (l : Left). onward l (run last room scope)) (p.each scope fits room stack k)
+        ∙ go room scope stack (value a scope) (value b scope) (sound a names scope fits s typed) (words scope)
+        ∙ ap (λ (w : Worth). pushed stack (word_of w)) (sym (strictly.is site (value a scope) (value b scope)))
+        ∙ ap (λ (w : Worth). pushed stack (word_of w)) (sym (value-Binary op site a b scope));
+  }
+    where
+      last : List Instr
+      last = With op s (unwrap_or site 0) o ∷ []
+
+      here : (room : ℕ) (scope : Scope) (stack : List ℤ) (x : Value) (w : Outcome) → operand_word scope o ≡ w
+          → run last room scope (number x ∷ stack) ≡ pushed stack (with_word w (λ b. made_word (unwrap_or site 0) (binary_word op s (number x) b)))
+      here room scope stack x w e = run-one (With op s (unwrap_or site 0) o) room scope (number x ∷ stack)
+          ∙ ap (λ (d : Deed). d room scope (number x ∷ stack)) (deed-With op s (unwrap_or site 0) o)
+          ∙ ap (λ (w : Outcome). pushed stack (with_word w (λ b. made_word (unwrap_or site 0) (binary_word op s (number x) b)))) e
+
+      go : (room : ℕ) (scope : Scope) (stack : List ℤ) (v w : Worth) → IsOf s v → operand_word scope o ≡ word_of w
+          → onward (pushed stack (word_of v)) (run last room scope) ≡ pushed stack (word_of (with_value v (λ x. with_value w (strict op site x))))
+      go room scope stack (Err stop) w is e = refl
+      go room scope stack (Ok x) (Err stop) is e = here room scope stack x (Err stop) e
+      go room scope stack (Ok x) (Ok y) is e = here room scope stack x (Ok (number y)) e
+          ∙ ap (λ (r : Ty). pushed stack (made_word (unwrap_or site 0) (binary_word op r (number x) (number y)))) (sym (is x refl))
+          ∙ ap (pushed stack) (strict_is op site x y t (ap (operation_type op) (is x refl) ∙ gives))
+
+  pub with_appends : (e a b : Expr) (op : BinOp) (site : Option ℕ) (n : ℕ) (first : Part) (leaf : Leaf) (c0 c1 c2 : List Instr) (t : Ty)
+      → e ≡ expr.Binary op site a b → IsStrict op → Appends names a first c0 c1 → IsLeaf names b leaf → n ≡ unwrap_or site 0
+      → c2 ≡ c1 ++ With op first.ty n leaf.operand ∷ [] → ((s : Ty) → operation_type op first.ty ≡ Some s → t ≡ s)
+      → Appends names e (record { ty = t; depth = first.depth }) c0 c2
+  with_appends e a b op site n first leaf c0 c1 c2 t is strictly p q number added types = record {
+    added = p.added ++ With op first.ty (unwrap_or site 0) leaf.operand ∷ [];
+    is = added ∙ ap (λ (m : ℕ). c1 ++ With op first.ty m leaf.operand ∷ []) number ∙ ap (λ (c : List Instr). c ++ With op first.ty (unwrap_or site 0) leaf.operand ∷ []) p.is
+        ∙ append_assoc c0 p.added _;
+    does = λ s h.
+        let u = binary_typed names a b op site s (rw is at h) in
+        let (same, does) = p.does u.first u.first_is in (
+          types s (ap (operation_type op) same ∙ u.gives),
+          subst (λ (x : Expr). Does names x first.depth (p.added ++ With op first.ty (unwrap_or site 0) leaf.operand ∷ [])) (sym is)
+              (subst (λ (x : Ty). Does names (expr.Binary op site a b) first.depth (p.added ++ With op x (unwrap_or site 0) leaf.operand ∷ [])) (sym same)
+              (with_does op site a b leaf.operand s u.first first.depth p.added strictly u.first_is u.gives does q.word)),
+        );
+  }
 
   pub binary_appends : (e a b : Expr) (op : BinOp) (site : Option ℕ) (n : ℕ) (first second : Part) (c0 c1 c2 c3 : List Instr) (t : Ty) (depth : ℕ)
       → e ≡ expr.Binary op site a b → IsStrict op → Appends names a first c0 c1 → Appends names b second c1 c2 → n ≡ unwrap_or site 0
@@ -394,5 +475,7 @@ module _ (names : Names) where
       top_pushed : (w : Outcome) → top (pushed [] w) ≡ w
       top_pushed (Ok n) = refl
       top_pushed (Err stop) = refl
+
+pub ruleset leaf_rules = (lit_leaf, field_leaf, local_leaf, rand_leaf, total_leaf)
 
 pub ruleset compile_rules = (lit_appends, field_appends, local_appends, rand_appends, total_appends)

@@ -11,17 +11,17 @@ use Rattle.brace_model.specs.Value.{Scope, typed}
 use Rattle.brace_code.specs.declared.code.Code.{Code}
 use Rattle.brace_code.specs.declared.code.Operand.{Operand}
 use Rattle.brace_code.specs.declared.code.Instr.{Instr}
-use Rattle.brace_code.specs.declared.code.Instr.TheVariants.{Push, Unary, Binary, Choice}
+use Rattle.brace_code.specs.declared.code.Instr.TheVariants.{Push, Unary, Binary, With, Choice}
 use Rattle.brace_code.specs.declared.lane.Lane.{Lane}
 use Rattle.brace_code.specs.declared.lane.Frame.{Frame}
 use Rattle.brace_code.specs.Codes.{type_given, gives}
 use Rattle.brace_code.specs.Lanes.{Shows, Gives}
-use Rattle.brace_code.specs.inner.Words.{Outcome, value_of, made_word, unary_word, binary_word, choose_word, operand_word}
+use Rattle.brace_code.specs.inner.Words.{Outcome, value_of, made_word, with_word, unary_word, binary_word, choose_word, operand_word}
 use Rattle.brace_code.specs.inner.Runs.{Left, Deed, onward, pushed, put, top, deed, run, outcome}
 use Rattle.brace_code.specs.inner.Columns.{Words, Maps, Pairs, Leads, stack_at, taking, merged}
 use Rattle.brace_code.proofs.LaneLemmas.{Holds, merged_chosen}
 use Rattle.brace_code.proofs.CodeLemmas.{run-push}
-use Rattle.brace_code.proofs.SingleLemmas.{push_does, unary_does, binary_does, choice_does}
+use Rattle.brace_code.proofs.SingleLemmas.{push_does, unary_does, binary_does, with_does, choice_does}
 
 high : (columns : List (List ℤ)) (k : ℕ) → length (stack_at columns k) ≡ length columns
 high [] k = refl
@@ -53,6 +53,13 @@ module _ (frame : Frame) (lanes : List Lane) (room : ℕ) (before after : List (
       (ap (λ (s : List (List ℤ)). stack_at s k) (s ∙ ap (λ (s : List (List ℤ)). b ∷ s) m))
       ∙ ap (λ (w : Result ℤ Kind). pushed (stack_at rest k) (made_word site w)) (p.each k (rw long l)))
 
+  pub with_leads : (op : BinOp) (t : Ty) (site : ℕ) (o : Operand) (a b : List ℤ) (rest : List (List ℤ)) → i ≡ With op t site o → before ≡ a ∷ rest → length a ≡ length lanes
+      → Words frame (λ scope. operand_word scope o) lanes b → Pairs (binary_word op t) a b words → after ≡ words ∷ rest → Leads (deed i) room frame lanes before after
+  with_leads op t site o a b rest is s long q p h = puts rest h (λ scope shows k d l.
+      with_does i room (scope (slice_index_or lanes k d)) (stack_at before k) op t site o (slice_index_or a k (pos 0)) (stack_at rest k) is (ap (λ (s : List (List ℤ)). stack_at s k) s)
+      ∙ ap (λ (w : Outcome). pushed (stack_at rest k) (with_word w (λ y. made_word site (binary_word op t (slice_index_or a k (pos 0)) y)))) (q.each scope shows k d l)
+      ∙ ap (λ (w : Result ℤ Kind). pushed (stack_at rest k) (made_word site w)) (p.each k (rw long l)))
+
   pub choice_leads : (a b : List Instr) (set unset : List Lane) (ts ys ns : List ℤ) (rest : List (List ℤ)) (left : ℕ) → i ≡ Choice a b → before ≡ ts ∷ rest
       → length ts ≡ length lanes → left ≡ room - length rest → set ≡ taking true lanes ts → unset ≡ taking false lanes ts
       → Words frame (outcome a left) set ys → Words frame (outcome b left) unset ns → words ≡ merged ts ys ns → after ≡ words ∷ rest
@@ -69,7 +76,7 @@ module _ (frame : Frame) (lanes : List Lane) (room : ℕ) (before after : List (
       apart true scope = refl
       apart false scope = refl
 
-pub ruleset step_rules = (push_leads, unary_leads, binary_leads, choice_leads)
+pub ruleset step_rules = (push_leads, unary_leads, binary_leads, with_leads, choice_leads)
 
 -- no instruction leaves the stack
 pub none_leads : (room : ℕ) (frame : Frame) (lanes : List Lane) (stack : List (List ℤ)) → Leads (run []) room frame lanes stack stack

@@ -14,11 +14,11 @@ use Rattle.brace_model.specs.Scopes.{scope_of}
 use Rattle.brace_model.specs.Value.{Scope}
 use Rattle.brace_code.specs.declared.code.Operand.{Operand}
 use Rattle.brace_code.specs.declared.code.Instr.{Instr}
-use Rattle.brace_code.specs.declared.code.Instr.TheVariants.{Push, Unary, Binary, Choice}
+use Rattle.brace_code.specs.declared.code.Instr.TheVariants.{Push, Unary, Binary, With, Choice}
 use Rattle.brace_code.specs.declared.code.Instr.TheOpen as layer
-use Rattle.brace_code.specs.inner.Words.{Outcome, made_word, unary_word, binary_word, choose_word, operand_word}
+use Rattle.brace_code.specs.inner.Words.{Outcome, made_word, with_word, unary_word, binary_word, choose_word, operand_word}
 use Rattle.brace_code.specs.inner.Runs.{Left, Deed, onward, pushed, put, stuck, top, deed, deed_step, run, outcome, stack_of, Did}
-use Rattle.brace_code.proofs.CodeLemmas.{deed-Push, deed-Unary, deed-Binary, deed-Choice}
+use Rattle.brace_code.proofs.CodeLemmas.{deed-Push, deed-Unary, deed-Binary, deed-With, deed-Choice}
 
 -- ---- stacks of the first words
 
@@ -78,6 +78,13 @@ module _ (i : Instr) (room : ℕ) (scope : Scope) (stack : List ℤ) where
   pub binary_lacks_one : (op : BinOp) (t : Ty) (site : ℕ) (b : ℤ) → i ≡ Binary op t site → stack ≡ b ∷ [] → deed i room scope stack ≡ Err stuck
   binary_lacks_one op t site b is s = at (deed_step (layer.Binary op t site)) (ap deed is ∙ deed-Binary op t site) ∙ ap (deed_step (layer.Binary op t site) room scope) s
 
+  pub with_does : (op : BinOp) (t : Ty) (site : ℕ) (o : Operand) (a : ℤ) (rest : List ℤ) → i ≡ With op t site o → stack ≡ a ∷ rest
+      → deed i room scope stack ≡ pushed rest (with_word (operand_word scope o) (λ b. made_word site (binary_word op t a b)))
+  with_does op t site o a rest is s = at (deed_step (layer.With op t site o)) (ap deed is ∙ deed-With op t site o) ∙ ap (deed_step (layer.With op t site o) room scope) s
+
+  pub with_lacks : (op : BinOp) (t : Ty) (site : ℕ) (o : Operand) → i ≡ With op t site o → stack ≡ [] → deed i room scope stack ≡ Err stuck
+  with_lacks op t site o is s = at (deed_step (layer.With op t site o)) (ap deed is ∙ deed-With op t site o) ∙ ap (deed_step (layer.With op t site o) room scope) s
+
   pub choice_does : (a b : List Instr) (t : ℤ) (rest : List ℤ) → i ≡ Choice a b → stack ≡ t ∷ rest
       → deed i room scope stack ≡ pushed rest (outcome (choose_word t a b) (room - length rest) scope)
   choice_does a b t rest is s = at (deed_step (layer.Choice (map deed a) (map deed b))) (ap deed is ∙ deed-Choice a b)
@@ -132,6 +139,13 @@ module _ (i : Instr) (scope : Scope) (words : List ℤ) (height : ℕ) (result :
   binary_did op t site a b middle rest w is s m e d =
       did_same _ _ result after (binary_does i (length words) scope (stack_of words height) op t site a b (stack_of words rest) is (s ∙ ap (λ (x : List ℤ). b ∷ x) m) ∙ ap (pushed (stack_of words rest)) (sym e)) d
 
+  pub with_did : (op : BinOp) (t : Ty) (site : ℕ) (o : Operand) (a : ℤ) (rest : ℕ) (b w : Outcome) → i ≡ With op t site o → stack_of words height ≡ a ∷ stack_of words rest
+      → b ≡ operand_word scope o → w ≡ with_word b (λ x. made_word site (binary_word op t a x)) → Did (pushed (stack_of words rest) w) result after
+      → Did (deed i (length words) scope (stack_of words height)) result after
+  with_did op t site o a rest b w is s r e d =
+      did_same _ _ result after (with_does i (length words) scope (stack_of words height) op t site o a (stack_of words rest) is s
+      ∙ ap (λ (x : Outcome). pushed (stack_of words rest) (with_word x (λ y. made_word site (binary_word op t a y)))) (sym r) ∙ ap (pushed (stack_of words rest)) (sym e)) d
+
   pub choice_did : (a b code : List Instr) (t : ℤ) (rest : ℕ) (between : List ℤ) (w : Outcome) → i ≡ Choice a b → stack_of words height ≡ t ∷ stack_of words rest
       → rest < length words → code ≡ choose_word t a b → w ≡ outcome code (length words - rest) scope → stack_of between rest ≡ stack_of words rest
       → Did (pushed (stack_of between rest) w) result after → Did (deed i (length words) scope (stack_of words height)) result after
@@ -142,7 +156,7 @@ module _ (i : Instr) (scope : Scope) (words : List ℤ) (height : ℕ) (result :
       ∙ ap (λ (c : List Instr). pushed (stack_of words rest) (outcome c (length words - rest) scope)) (sym e)
       ∙ ap (pushed (stack_of words rest)) (sym o) ∙ ap (λ (x : List ℤ). pushed x w) (sym kept)) d
 
-pub ruleset step_rules = (push_did, unary_did, binary_did, choice_did, push_lacks, unary_lacks, binary_lacks_two, binary_lacks_one, choice_lacks)
+pub ruleset step_rules = (push_did, unary_did, binary_did, with_did, choice_did, push_lacks, unary_lacks, binary_lacks_two, binary_lacks_one, with_lacks, choice_lacks)
 
 -- the words below a part that was changed
 pub below_kept : (base : ℕ) (words part : List ℤ) → base ≤ length words → stack_of (take base words ++ part) base ≡ stack_of words base

@@ -28,6 +28,8 @@ pub enum Instr {
     Unary(UnOp, u32),
     /// Replaces the two words on top, of one type, by what an operation gives.
     Binary(BinOp, Ty, u32),
+    /// Replaces the top by what an operation gives of it and of an operand of its type.
+    With(BinOp, Ty, u32, Operand),
     /// Takes the top, and puts on the stack what the first code leaves where it is set, and what
     /// the second leaves where it is 0.
     Choice(List<Instr>, List<Instr>),

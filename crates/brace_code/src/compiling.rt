@@ -1,11 +1,11 @@
-ghost use Rattle.std.specs.Prelude.{◌≡◌, ◌+◌, [], ◌∷◌, ◌++◌, unwrap_or, IfOk, Some};
+ghost use Rattle.std.specs.Prelude.{◌≡◌, ◌+◌, [], ◌∷◌, ◌++◌, unwrap_or, IfOk, IfSome, Some};
 ghost use Rattle.brace_model.specs.declared.program.Ty.{Ty};
 ghost use Rattle.brace_model.specs.declared.program.Expr.TheVariants as expr;
 ghost use Rattle.brace_model.specs.Typing.{type_of, type_of_value};
 ghost use Rattle.brace_code.specs.declared.code.Instr.TheVariants as instr;
 ghost use Rattle.brace_code.specs.declared.code.Operand.TheVariants as operand;
 ghost use Rattle.brace_code.specs.Codes.{Computes, names_of};
-ghost use Rattle.brace_code.specs.inner.Appended.{Appends};
+ghost use Rattle.brace_code.specs.inner.Appended.{Appends, IsLeaf};
 
 use crate::code::{Code, Instr, Operand};
 use crate::names::Known;
@@ -26,6 +26,13 @@ pub struct Part {
 pub struct Branch {
     pub part: Part,
     pub code: List<Instr>,
+}
+
+/// An expression that is an operand.
+#[derive(Debug, Clone, Copy, Drop)]
+pub struct Leaf {
+    pub ty: Ty,
+    pub operand: Operand,
 }
 
 fn type_of_value(value: Value) -> Ty
@@ -70,6 +77,36 @@ fn word(alloc: Global, word: i64) -> Result<List<Instr>, NoMemory>
     let mut code = List::new(alloc);
     code.push(Instr::Push(Operand::Word(word)))?;
     Ok(code)
+}
+
+/// The operand that an expression is, if it is one.
+#[tactic(auto, using(crate::proofs::CompileLemmas::leaf_rules))]
+fn leaf_of(known: &Known, e: &Expr) -> Option<Leaf>
+    ensures { IfSome result (λ leaf. IsLeaf (names_of known.now) e.now leaf) }
+{
+    match e {
+        Expr::Lit(value) => Some(Leaf {
+            ty: type_of_value(*value),
+            operand: Operand::Word(number(*value)),
+        }),
+        Expr::Field(who, place) => Some(Leaf {
+            ty: known.state_type(*who, *place),
+            operand: Operand::Field(*who, *place),
+        }),
+        Expr::Total(effect, ty, site) => Some(Leaf {
+            ty: *ty,
+            operand: Operand::Total(*effect, *ty, *site),
+        }),
+        Expr::Local(n) => Some(Leaf {
+            ty: known.constant_type(*n),
+            operand: Operand::Local(*n),
+        }),
+        Expr::Rand(site) => Some(Leaf {
+            ty: Ty::Fixed,
+            operand: Operand::Rand(*site),
+        }),
+        _ => None,
+    }
 }
 
 /// Appends an expression's code.
@@ -119,6 +156,13 @@ fn append(alloc: Global, known: &Known, e: &Expr, code: &mut List<Instr>) -> Res
                     })
                 }
                 _ => {
+                    if let Some(b) = leaf_of(known, b.get()) {
+                        code.push(Instr::With(*op, a.ty, site_number(*site), b.operand))?;
+                        return Ok(Part {
+                            ty: operation_type(*op, a.ty),
+                            depth: a.depth,
+                        });
+                    }
                     let b = append(alloc, known, b.get(), code)?;
                     let above = one_more(b.depth)?;
                     code.push(Instr::Binary(*op, a.ty, site_number(*site)))?;

@@ -11,9 +11,9 @@ ghost use Rattle.brace_code.specs.inner.Words.{word_of, flag, unary_word, binary
 ghost use Rattle.brace_code.specs.inner.Columns.{row_at, Maps, Pairs};
 
 use crate::lane::{Lane, Redo, Row, row_at};
-use crate::operations::{fixed_product, flag};
+use crate::operations::{fixed_product, fixed_quotient, flag};
 use brace_model::{BinOp, Ty, UnOp};
-use brace_num::{Kind, List, fixed_div, int_div, int_rem, sqrt, to_fixed, trunc};
+use brace_num::{Kind, List, int_div, int_rem, sqrt, to_fixed, trunc};
 use std::alloc::Global;
 
 /// Replaces each word of a column by what an operation gives of it; `Redo` where one failed.
@@ -204,7 +204,7 @@ fn int_quotient(a: i64, b: i64) -> (i64, bool)
 fn quotient(a: i64, b: i64) -> (i64, bool)
     ensures { IsFalse result.1 → exact_fixed_div a b ≡ Ok result.0 }
 {
-    flagged(fixed_div(a, b))
+    flagged(fixed_quotient(a, b))
 }
 
 fn remainder(a: i64, b: i64) -> (i64, bool)

@@ -1,7 +1,7 @@
 ghost use Rattle.std.specs.Prelude.{◌≡◌, Some, Ok, pos, int_div};
 ghost use Rattle.brace_model.specs.declared.program.Ty.{Ty};
 ghost use Rattle.brace_model.specs.Typing.{unary_type, operation_type};
-ghost use Rattle.brace_num.specs.Exact.{fitting, exact_fixed_mul};
+ghost use Rattle.brace_num.specs.Exact.{fitting, exact_fixed_mul, exact_fixed_div};
 ghost use Rattle.brace_code.specs.inner.Words.{unary_word, binary_word, product_word, quotient_word, flag};
 
 use brace_model::{BinOp, Ty, UnOp};
@@ -74,6 +74,16 @@ pub fn fixed_product(a: i64, b: i64) -> Result<i64, Kind>
     }
 }
 
+/// The quotient of two fixed numbers, by a division of 64 bits where that is enough.
+pub fn fixed_quotient(a: i64, b: i64) -> Result<i64, Kind>
+    ensures { result ≡ exact_fixed_div a b }
+{
+    match a.checked_mul(1_000_000) {
+        Some(z) => int_div(z, b),
+        None => fixed_div(a, b),
+    }
+}
+
 fn product(ty: Ty, a: i64, b: i64) -> Result<i64, Kind>
     ensures { result ≡ product_word ty a b }
 {
@@ -88,7 +98,7 @@ fn quotient(ty: Ty, a: i64, b: i64) -> Result<i64, Kind>
 {
     match ty {
         Ty::Int => int_div(a, b),
-        _ => fixed_div(a, b),
+        _ => fixed_quotient(a, b),
     }
 }
 

@@ -84,6 +84,12 @@ fn step(
             let words = binary_each(*op, *ty, a, &b)?;
             stack.push(words)?;
         }
+        Instr::With(op, ty, _, operand) => {
+            let a = taken(stack, lanes)?;
+            let b = operand_column(alloc, *operand, frame, lanes)?;
+            let words = binary_each(*op, *ty, a, &b)?;
+            stack.push(words)?;
+        }
         Instr::Choice(set, unset) => {
             let test = taken(stack, lanes)?;
             let below = stack.height();

@@ -1,15 +1,15 @@
-ghost use Rattle.std.specs.Prelude.{◌≡◌, ◌<◌, ◌≤◌, ◌-◌, ◌^◌, ℕ, Option, MatchOption, [], ◌∷◌, length, Ok};
+ghost use Rattle.std.specs.Prelude.{◌≡◌, ◌<◌, ◌≤◌, ◌-◌, ◌^◌, ℕ, Option, MatchOption, [], ◌∷◌, length, Ok, Err};
 ghost use Rattle.brace_model.specs.Scopes.{scope_of};
 ghost use Rattle.brace_model.specs.Value.{agent_of, total_read, typed};
 ghost use Rattle.brace_code.specs.Codes.{depth_of, gives};
-ghost use Rattle.brace_code.specs.inner.Words.{Outcome, word_of, value_of, made_word, choose_word, operand_word};
-ghost use Rattle.brace_code.specs.inner.Runs.{Left, deed, outcome, put, pushed, stack_of, Did};
+ghost use Rattle.brace_code.specs.inner.Words.{Outcome, word_of, value_of, made_word, with_word, binary_word, choose_word, operand_word};
+ghost use Rattle.brace_code.specs.inner.Runs.{Left, deed, outcome, ended, put, pushed, stack_of, Did};
 
 use crate::code::{Code, Instr, Operand};
 use crate::operations::{binary, flag, unary};
 use crate::stack::Stack;
 use brace_draw::Drawer;
-use brace_model::{Agent, Env, Stop, Ty, Value, Who, number, value_at};
+use brace_model::{Agent, BinOp, Env, Stop, Ty, Value, Who, number, value_at};
 use brace_num::{Kind, List};
 
 /// The agent that a name stands for.
@@ -99,6 +99,16 @@ fn made(site: u32, exact: Result<i64, Kind>) -> Result<i64, Stop>
     }
 }
 
+/// An operation on a word and one that was read.
+fn with(site: u32, op: BinOp, ty: Ty, a: i64, read: Result<i64, Stop>) -> Result<i64, Stop>
+    ensures { result ≡ with_word read (λ b. made_word site (binary_word op ty a b)) }
+{
+    match read {
+        Ok(b) => made(site, binary(op, ty, a, b)),
+        Err(stop) => Err(stop),
+    }
+}
+
 /// The code that a word chooses.
 fn chosen<'a>(word: i64, set: &'a List<Instr>, unset: &'a List<Instr>) -> &'a [Instr]
     ensures { result.now ≡ choose_word word set.now unset.now }
@@ -176,14 +186,47 @@ fn step(
             let word = made(*site, binary(*op, *ty, a.word, b.word));
             write(words, a.rest, word)
         }
+        Instr::With(op, ty, site, operand) => {
+            let Some(a) = pop(words, top) else {
+                return Err(STUCK);
+            };
+            let b = read(*operand, env, drawer);
+            write(words, a.rest, with(*site, *op, *ty, a.word, b))
+        }
         Instr::Choice(set, unset) => {
             let Some(test) = pop(words, top) else {
                 return Err(STUCK);
             };
             let branch = chosen(test.word, set, unset);
-            let word = run_above(branch, env, drawer, words, test.rest);
-            write(words, test.rest, word)
+            let end = run_above(branch, env, drawer, words, test.rest);
+            write(words, test.rest, outcome_of(end))
         }
+    }
+}
+
+/// What code ends with: the word on top, unless it stopped. A `Result` would put both in one place,
+/// from which the word is read late.
+#[derive(Clone, Copy, Drop)]
+pub struct Ended {
+    word: i64,
+    stop: Option<Stop>,
+}
+
+fn stopped(stop: Stop) -> Ended
+    ensures { ended result ≡ Err stop }
+{
+    Ended {
+        word: 0,
+        stop: Some(stop),
+    }
+}
+
+fn outcome_of(end: Ended) -> Result<i64, Stop>
+    ensures { result ≡ ended end }
+{
+    match end.stop {
+        None => Ok(end.word),
+        Some(stop) => Err(stop),
     }
 }
 
@@ -196,10 +239,10 @@ fn run_above(
     drawer: &mut Drawer,
     words: &mut [i64],
     base: usize,
-) -> Result<i64, Stop>
+) -> Ended
     requires tick { env.now.tick ≤ 2 ^ 32 }
     requires base { base ≤ length words.old }
-    ensures word { result ≡ outcome code.now (length words.old - base)
+    ensures word { ended result ≡ outcome code.now (length words.old - base)
         (scope_of env.now drawer.old) }
     ensures kept { stack_of words.new base ≡ stack_of words.old base }
     ensures seed { drawer.new.seed ≡ drawer.old.seed }
@@ -210,21 +253,24 @@ fn run_above(
 /// What code leaves on top of an empty stack with room for these words.
 #[tactic(auto, using(crate::proofs::SingleLemmas::run_rules))]
 #[cycle(running)]
-fn run(code: &[Instr], env: &Env, drawer: &mut Drawer, words: &mut [i64]) -> Result<i64, Stop>
+fn run(code: &[Instr], env: &Env, drawer: &mut Drawer, words: &mut [i64]) -> Ended
     requires { env.now.tick ≤ 2 ^ 32 }
-    ensures word { result ≡ outcome code.now (length words.old) (scope_of env.now drawer.old) }
+    ensures word { ended result ≡ outcome code.now (length words.old) (scope_of env.now drawer.old) }
     ensures seed { drawer.new.seed ≡ drawer.old.seed }
 {
     let mut top = 0;
     for instr in code {
         top = match step(instr, env, drawer, words, top) {
             Ok(top) => top,
-            Err(stop) => return Err(stop),
+            Err(stop) => return stopped(stop),
         };
     }
     match pop(words, top) {
-        Some(popped) => Ok(popped.word),
-        None => Err(STUCK),
+        Some(popped) => Ended {
+            word: popped.word,
+            stop: None,
+        },
+        None => stopped(STUCK),
     }
 }
 
@@ -251,7 +297,7 @@ impl Code {
         ensures room { stack.new ≡ stack.old }
     {
         let words = &mut stack.words[..self.depth];
-        match run(self.instrs.as_slice(), env, drawer, words) {
+        match outcome_of(run(self.instrs.as_slice(), env, drawer, words)) {
             Ok(word) => Ok(typed(self.ty, word)),
             Err(stop) => Err(stop),
         }

@@ -7,8 +7,14 @@ use Rattle.brace_model.specs.Typing.{Names, type_of}
 use Rattle.brace_model.specs.Typed.{Fits}
 use Rattle.brace_code.specs.declared.code.Instr.{Instr}
 use Rattle.brace_code.specs.declared.compiling.Part.{Part}
-use Rattle.brace_code.specs.inner.Words.{word_of}
+use Rattle.brace_code.specs.declared.compiling.Leaf.{Leaf}
+use Rattle.brace_code.specs.inner.Words.{word_of, operand_word}
 use Rattle.brace_code.specs.inner.Runs.{run, pushed}
+
+-- an expression is an operand: of its type, and with its word or its fault in each scope
+pub record IsLeaf (names : Names) (e : Expr) (leaf : Leaf) : Type 0 where
+  pub type : (t : Ty) → type_of e names ≡ Some t → leaf.ty ≡ t
+  pub word : (scope : Scope) → operand_word scope leaf.operand ≡ word_of (value e scope)
 
 -- on any stack with room for so many words more, code leaves the expression's word or its fault
 pub record Does (names : Names) (e : Expr) (depth : ℕ) (code : List Instr) : Type 0 where

@@ -1,12 +1,13 @@
 -- What instructions do in a scope to a stack of words with so much room.
-use Rattle.std.specs.Prelude.{◌≡◌, ◌≤◌, ℕ, ◌-◌, ℤ, nat_lt, if◌then◌else◌, List, [], ◌∷◌, length, map, take, reverse, Result, Ok, Err}
+use Rattle.std.specs.Prelude.{◌≡◌, ◌≤◌, ℕ, ◌-◌, ℤ, nat_lt, if◌then◌else◌, List, [], ◌∷◌, length, map, take, reverse, Option, Some, None, Result, Ok, Err}
 use Rattle.brace_num.specs.declared.kinds.Kind.TheVariants.{Overflow}
 use Rattle.brace_model.specs.declared.fault.Stop.{Stop}
 use Rattle.brace_model.specs.Value.{Scope}
 use Rattle.brace_code.specs.declared.code.Instr.{Instr}
-use Rattle.brace_code.specs.declared.code.Instr.TheOpen.{Instr-F, Push, Unary, Binary, Choice}
+use Rattle.brace_code.specs.declared.code.Instr.TheOpen.{Instr-F, Push, Unary, Binary, With, Choice}
 use Rattle.brace_code.specs.declared.code.Instr.TheFolds.{fold-Instr}
-use Rattle.brace_code.specs.inner.Words.{Outcome, made_word, unary_word, binary_word, choose_word, operand_word}
+use Rattle.brace_code.specs.declared.single.Ended.{Ended}
+use Rattle.brace_code.specs.inner.Words.{Outcome, made_word, with_word, unary_word, binary_word, choose_word, operand_word}
 
 -- the stack that is left, its top first, or a fault
 abbrev pub Left : Type 0
@@ -55,6 +56,10 @@ deed_step (Binary op type site) room scope [] = Err stuck
 deed_step (Binary op type site) room scope (b ∷ []) = Err stuck
 deed_step (Binary op type site) room scope (b ∷ (a ∷ stack)) =
     pushed stack (made_word site (binary_word op type a b))
+deed_step (With op type site operand) room scope [] = Err stuck
+deed_step (With op type site operand) room scope (a ∷ stack) =
+    pushed stack (with_word (operand_word scope operand)
+    (λ b. made_word site (binary_word op type a b)))
 deed_step (Choice set unset) room scope [] = Err stuck
 deed_step (Choice set unset) room scope (t ∷ stack) =
     pushed stack (choose_word t (top (in_turn set (room - length stack) scope []))
@@ -71,6 +76,14 @@ run code = in_turn (map deed code)
 -- what code leaves on top of an empty stack
 abbrev pub outcome : List Instr → ℕ → Scope → Outcome
 outcome code room scope = top (run code room scope [])
+
+-- the outcome of code that ended
+abbrev pub end_of : ℤ → Option Stop → Outcome
+end_of word None = Ok word
+end_of word (Some stop) = Err stop
+
+abbrev pub ended : Ended → Outcome
+ended e = end_of e.word e.stop
 
 -- the stack of the first words, its top first
 abbrev pub stack_of : List ℤ → ℕ → List ℤ

@@ -40,6 +40,11 @@ abbrev pub made_word : ℕ → Result ℤ Kind → Outcome
 made_word site (Ok n) = Ok n
 made_word site (Err kind) = Err (record { site = site; kind = kind })
 
+-- goes on with a word; a fault stays
+abbrev pub with_word : Outcome → (ℤ → Outcome) → Outcome
+with_word (Ok n) next = next n
+with_word (Err stop) next = Err stop
+
 -- an operation on one word
 abbrev pub unary_word : UnOp → ℤ → Result ℤ Kind
 unary_word un.Neg a = exact_neg a

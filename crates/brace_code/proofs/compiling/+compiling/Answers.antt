@@ -1,5 +1,5 @@
 use Rattle.std.proofs.Common.{arith}
-use Rattle.brace_code.proofs.CompileLemmas.{unary_appends, binary_appends, choice_appends, and_appends, or_appends, strictly}
+use Rattle.brace_code.proofs.CompileLemmas.{unary_appends, with_appends, binary_appends, choice_appends, and_appends, or_appends, strictly}
 use Rattle.brace_code.proofs.compiling.+compiling.Goals as goal
 
 pub append-returns-in_ok-push-in-Unary : goal.append-returns-in_ok-push-in-Unary
@@ -14,10 +14,15 @@ pub append-returns-in_ok-push-in-Or : goal.append-returns-in_ok-push-in-Or
 append-returns-in_ok-push-in-Or t c = or_appends _ _ _ _ _ _ _ _ _ _ _ _ _ (rw c.in-Or.is at c.in-Binary.is) (rw c.get-in-Binary.ensures at c.in_ok-a-in-Binary.ensures)
     (rw c.get-in-Or.ensures at c.in_ok-b-in-Or.ensures) c.in_ok-word-in-Or.ensures c.in_ok-push-in-Or.ensures.ok (omega arith) (omega arith) (omega arith)
 
-pub append-returns-in_ok-push-in_default : goal.append-returns-in_ok-push-in_default
-append-returns-in_ok-push-in_default t c = binary_appends _ _ _ _ _ _ _ _ _ _ _ _ _ _ _ c.in-Binary.is (strictly _ c.in_default.not-And c.in_default.not-Or)
-    (rw c.get-in-Binary.ensures at c.in_ok-a-in-Binary.ensures) (rw c.get-in_default.ensures at c.in_ok-b-in_default.ensures) c.site_number-in_default.ensures
-    c.in_ok-push-in_default.ensures.ok c.operation_type.ensures (omega arith) (omega (arith, c.in_ok-above-in_default.ensures))
+pub append-returns-in-Some : goal.append-returns-in-Some
+append-returns-in-Some t c = with_appends _ _ _ _ _ _ _ _ _ _ _ _ _ c.in-Binary.is (strictly _ c.in_default.not-And c.in_default.not-Or)
+    (rw c.get-in-Binary.ensures at c.in_ok-a-in-Binary.ensures) (rw c.get-in_default.ensures at c.in-Some.ensures) c.site_number-in-Some.ensures
+    c.in_ok-push-in_default.ensures.ok c.operation_type.ensures
+
+pub append-returns-in_ok-push-in_default-2 : goal.append-returns-in_ok-push-in_default-2
+append-returns-in_ok-push-in_default-2 t c = binary_appends _ _ _ _ _ _ _ _ _ _ _ _ _ _ _ c.in-Binary.is (strictly _ c.in_default.not-And c.in_default.not-Or)
+    (rw c.get-in-Binary.ensures at c.in_ok-a-in-Binary.ensures) (rw c.get-in_default-2.ensures at c.in_ok-b-in_default.ensures) c.site_number-in_default.ensures
+    c.in_ok-push-in_default-2.ensures.ok c.operation_type-in_default.ensures (omega arith) (omega (arith, c.in_ok-above-in_default.ensures))
 
 pub append-returns-in_ok-push-in-Choice : goal.append-returns-in_ok-push-in-Choice
 append-returns-in_ok-push-in-Choice t c = choice_appends _ _ _ _ _ _ _ _ _ _ _ _ _ _ c.in-Choice.is (rw c.get-in-Choice.ensures at c.in_ok-c-in-Choice.ensures)
