@@ -1,6 +1,14 @@
 pub mod ActionEquations
 pub mod AnswerLemmas
 pub mod AskLemmas
+pub mod Doing
+pub mod Formed
 pub mod FormerLemmas
+pub mod Narrowed
 pub mod NearLemmas
+pub mod Planned
+pub mod Senses
+pub mod Steps
+pub mod Suiting
 pub mod WalkLemmas
+pub mod Whole

@@ -1,17 +1,18 @@
 -- The conditions that narrow a loop. Where an agent fails one of them, the loop's block says nothing
--- at it, and faults nowhere.
-use Rattle.std.specs.Prelude.{ℕ, ◌==◌, List, [], ◌∷◌, ◌++◌, map, Bool, true, false, ◌&&◌, is_none, if◌then◌else◌, length, Option, Some, None}
+-- at it, and faults nowhere. What an expression in a loop's condition is to that loop is its sense.
+use Rattle.std.specs.Prelude.{ℕ, ◌==◌, List, [], ◌∷◌, ◌++◌, map, flat_map, slice_get, Bool, true, false, ◌&&◌, is_none, if◌then◌else◌, length, Option, Some, None}
 use Rattle.brace_model.specs.declared.program.Value.TheVariants.{Fixed}
 use Rattle.brace_model.specs.declared.program.BinOp.{BinOp}
 use Rattle.brace_model.specs.declared.program.BinOp.TheVariants as bin
 use Rattle.brace_model.specs.declared.program.Who.{Who}
 use Rattle.brace_model.specs.declared.program.Who.TheVariants.{This, Outer, Inner}
 use Rattle.brace_model.specs.declared.program.Class.{Class}
+use Rattle.brace_model.specs.declared.program.Program.{Program}
 use Rattle.brace_model.specs.declared.program.Expr.{Expr}
 use Rattle.brace_model.specs.declared.program.Expr.TheOpen.{Expr-F, Lit, Field, Total, Local, Unary, Binary, Choice, Rand}
 use Rattle.brace_model.specs.declared.program.Expr.TheFolds.{fold-Expr}
 use Rattle.brace_model.specs.declared.program.Stmt.{Stmt}
-use Rattle.brace_model.specs.declared.program.Stmt.TheOpen.{Stmt-F, Const, If, Foreach, Assign}
+use Rattle.brace_model.specs.declared.program.Stmt.TheOpen.{Stmt-F, If, Foreach}
 use Rattle.brace_model.specs.declared.program.Stmt.TheFolds.{fold-Stmt}
 use Rattle.brace_plan.specs.declared.action.Axis.{Axis}
 use Rattle.brace_plan.specs.declared.action.Axis.TheVariants.{X, Y}
@@ -20,14 +21,8 @@ use Rattle.brace_plan.specs.declared.action.Side.TheVariants as side
 use Rattle.brace_plan.specs.declared.action.Limit.{Limit}
 use Rattle.brace_plan.specs.declared.action.Limit.TheVariants as limit
 use Rattle.brace_plan.specs.declared.action.Bound.{Bound}
-
--- of an expression in a loop's condition: whether it has no site, so that it can't fault; the
--- coordinate of the loop's agent that it is; the limit that it is; and the bounds that it sets
-pub record Sense : Type 0 where
-  pub clear : Bool
-  pub place : Option Axis
-  pub limit : Option Limit
-  pub bounds : List Bound
+use Rattle.brace_plan.specs.declared.loops.Loop.{Loop}
+use Rattle.brace_plan.specs.declared.narrowing.Sense.{Sense}
 
 -- no coordinate and no limit, and no bound is set
 abbrev pub plain : Bool → Sense
@@ -98,18 +93,62 @@ sense_step loop class (Rand site) = plain false
 abbrev pub sense : Who → Class → Expr → Sense
 sense loop class = fold-Expr Sense (sense_step loop class)
 
--- the bounds of a statement that is the whole block of a loop: those of the condition of an `if`
--- with nothing else
-abbrev pub bounds_step : Who → Class → Stmt-F (List Bound) → List Bound
-bounds_step loop class (If c a b) = if length b == 0 then (sense loop class c).bounds else []
-bounds_step loop class _ = []
+-- of a statement: the bounds that it sets where it is the whole block of a loop of a variable over a
+-- class; and the loops in it, in text order, by the classes of the program and by the variable of a
+-- loop that stands in no other loop of the statement
+pub record Nested : Type 0 where
+  pub sets : Who → Class → List Bound
+  pub loops : List Class → Who → List Loop
 
--- the bounds of a block of one statement
-abbrev pub alone : List (List Bound) → List Bound
-alone (bounds ∷ []) = bounds
-alone _ = []
+-- the bounds of a block: those of its statement, where it is one statement alone
+abbrev pub alone : List Nested → Who → Class → List Bound
+alone (s ∷ []) variable class = s.sets variable class
+alone _ variable class = []
+
+-- the bounds of a block of a loop over a class; none over a class that the program does not have
+abbrev pub bounds_over : List Nested → Who → Option Class → List Bound
+bounds_over block variable None = []
+bounds_over block variable (Some class) = alone block variable class
+
+-- the loops of a block
+abbrev pub all_loops : List Nested → List Class → Who → List Loop
+all_loops block classes variable = flat_map (λ s. s.loops classes variable) block
+
+-- one statement: an `if` with nothing else sets the bounds of its condition
+abbrev pub nested_step : Stmt-F Nested → Nested
+nested_step (If c a b) = record {
+  sets = λ variable class. if length b == 0 then (sense variable class c).bounds else [];
+  loops = λ classes variable. all_loops a classes variable ++ all_loops b classes variable;
+}
+nested_step (Foreach class body at) = record {
+  sets = λ variable class. [];
+  loops = λ classes variable. record {
+    at = at;
+    class = class;
+    bounds = length (bounds_over body variable (slice_get classes class));
+  } ∷ all_loops body classes Inner;
+}
+nested_step _ = record {
+  sets = λ variable class. [];
+  loops = λ classes variable. [];
+}
+
+abbrev pub nested : Stmt → Nested
+nested = fold-Stmt Nested nested_step
 
 -- the bounds of a loop of that variable over a class, by its block
 abbrev pub bounds_of : Who → Class → List Stmt → List Bound
-bounds_of loop class body =
-    alone (map (fold-Stmt (List Bound) (bounds_step loop class)) body)
+bounds_of variable class body = alone (map nested body) variable class
+
+-- the loops of a block
+abbrev pub loops_of : List Class → Who → List Stmt → List Loop
+loops_of classes variable block = all_loops (map nested block) classes variable
+
+-- the loops of a program, in text order
+abbrev pub loops_in : Program → List Loop
+loops_in program = flat_map (λ c. loops_of program.classes Outer c.query) program.classes
+
+-- how many bounds the first of the loops at a byte offset has; 0 where there is none
+abbrev pub bounds_at : List Loop → ℕ → ℕ
+bounds_at [] offset = 0
+bounds_at (l ∷ rest) offset = if l.at == offset then l.bounds else bounds_at rest offset

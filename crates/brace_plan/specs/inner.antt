@@ -1,3 +1,4 @@
 pub mod Acts
+pub mod Doing
 pub mod Planning
 pub mod Walks

@@ -1,8 +1,15 @@
-ghost use Rattle.std.specs.Prelude.{◌≡◌, IfOk};
+ghost use Rattle.std.specs.Prelude.{◌≡◌, ◌++◌, Some, slice_get, IfOk, OnOk};
 ghost use Rattle.brace_model.specs.Lawful.{LawfulProgram};
+ghost use Rattle.brace_plan.specs.Narrowing.{loops_in, bounds_at};
+ghost use Rattle.brace_plan.specs.inner.Planning.{IsPlanOf, ArePlansOf};
 
 use crate::action::Action;
-use brace_model::Program;
+use crate::constants::Constants;
+use crate::counting::constants_in;
+use crate::loops::{Loop, tell_all};
+use crate::planning::plan_block;
+use brace_code::Known;
+use brace_model::{Class, Program};
 use brace_num::{List, NoMemory};
 use std::alloc::Global;
 use std::marker::Model;
@@ -19,14 +26,17 @@ pub struct Planned {
 pub struct Plans {
     pub(crate) program: Program,
     pub(crate) queries: List<Planned>,
+    loops: List<Loop>,
 }
 
 impl Model for Plans {
+    ghost use Rattle.std.specs.Prelude.{◌≡◌};
     ghost use Rattle.std.specs.Coded.{codes};
     ghost use Rattle.brace_model.specs.declared.program.Program.{Program};
     ghost use Rattle.brace_model.specs.contracts.program.Expr as expr;
     ghost use Rattle.brace_model.specs.contracts.program.Stmt as stmt;
     ghost use Rattle.brace_model.specs.Lawful.{LawfulProgram};
+    ghost use Rattle.brace_plan.specs.Narrowing.{loops_in};
     ghost use Rattle.brace_plan.specs.inner.Planning.{ArePlansOf};
 
     ghost Value = { Program };
@@ -36,7 +46,56 @@ impl Model for Plans {
     ghost view = { λ plans. plans.program };
 
     ghost invariant = { λ plans. LawfulProgram plans.program
-        × ArePlansOf plans.program plans.queries };
+        × ArePlansOf plans.program plans.queries × (plans.loops ≡ loops_in plans.program) };
+}
+
+/// The plan of the query of a class.
+fn plan_query(
+    alloc: Global,
+    program: &Program,
+    number: u32,
+    class: &Class,
+) -> Result<Planned, NoMemory>
+    requires lawful { LawfulProgram program.now }
+    requires class { slice_get program.now.classes number ≡ Some class.now }
+    ensures { IfOk result (λ planned. IsPlanOf program.now number class.now.query planned) }
+{
+    let known = Known {
+        classes: program.classes.as_slice(),
+        own: number,
+        outer: None,
+        inner: None,
+        in_rule: false,
+        constants: &[],
+    };
+    let count = constants_in(&class.query)?;
+    let mut constants = Constants::make(alloc, count)?;
+    let actions = plan_block(alloc, &known, &class.query, &mut constants)?;
+    Ok(Planned {
+        actions,
+        constants: count,
+    })
+}
+
+/// The plans of the queries of all classes. The loops of the program are told.
+fn plan_queries(
+    alloc: Global,
+    program: &Program,
+    loops: &mut List<Loop>,
+) -> Result<List<Planned>, NoMemory>
+    requires { LawfulProgram program.now }
+    ensures plans { IfOk result (λ queries. ArePlansOf program.now queries) }
+    ensures loops { OnOk result (loops.new ≡ loops.old ++ loops_in program.now) }
+{
+    let mut queries = List::new(alloc);
+    let mut number = 0;
+    for class in program.classes.as_slice() {
+        let planned = plan_query(alloc, program, number, class)?;
+        tell_all(&planned.actions, loops)?;
+        queries.push(planned)?;
+        number += 1;
+    }
+    Ok(queries)
 }
 
 /// The plans of a lawful program.
@@ -44,5 +103,37 @@ pub fn plan(alloc: Global, program: &Program) -> Result<Plans, NoMemory>
     requires { LawfulProgram program.now }
     ensures { IfOk result (λ plans. plans ≡ program.now) }
 {
-    Err(NoMemory)
+    let program = program.copy(alloc)?;
+    let mut loops = List::new(alloc);
+    let queries = plan_queries(alloc, &program, &mut loops)?;
+    Ok(Plans {
+        program,
+        queries,
+        loops,
+    })
+}
+
+impl Plans {
+    /// The loops, class by class and in text order.
+    pub fn loops(&self, alloc: Global) -> Result<List<Loop>, NoMemory>
+        ensures { IfOk result (λ found. found ≡ loops_in self.now) }
+    {
+        let mut copy = List::new(alloc);
+        for l in self.loops.as_slice() {
+            copy.push(*l)?;
+        }
+        Ok(copy)
+    }
+
+    /// How many conditions narrow the loop at a byte offset; 0 where no loop stands there.
+    pub fn bounds(&self, offset: u32) -> u32
+        ensures { result ≡ bounds_at (loops_in self.now) offset }
+    {
+        for l in self.loops.as_slice() {
+            if l.at == offset {
+                return l.bounds;
+            }
+        }
+        0
+    }
 }

@@ -1,6 +1,7 @@
 -- Plans of a program. Only the crate's own functions cite this.
-use Rattle.std.specs.Prelude.{◌≡◌, ℕ, List, [], map, sum, true, Some, slice_get, length}
+use Rattle.std.specs.Prelude.{◌≡◌, ℕ, List, [], ◌∷◌, ◌++◌, map, flat_map, sum, true, Some, slice_get, length}
 use Rattle.std.specs.List.{list_all}
+use Rattle.brace_model.specs.declared.program.Who.TheVariants.{Outer}
 use Rattle.brace_model.specs.declared.program.Class.{Class}
 use Rattle.brace_model.specs.declared.program.Program.{Program}
 use Rattle.brace_model.specs.declared.program.Stmt.{Stmt}
@@ -8,13 +9,33 @@ use Rattle.brace_model.specs.declared.world.Agent.{Agent}
 use Rattle.brace_model.specs.Lawful.{is_lawful_agent}
 use Rattle.brace_model.specs.Query.{block, statement, constants, opening_scope}
 use Rattle.brace_plan.specs.declared.action.Action.{Action}
+use Rattle.brace_plan.specs.declared.action.Action.TheOpen.{Action-F, Const, If, Foreach, Assign}
+use Rattle.brace_plan.specs.declared.action.Action.TheFolds.{fold-Action}
+use Rattle.brace_plan.specs.declared.loops.Loop.{Loop}
 use Rattle.brace_plan.specs.declared.plans.Planned.{Planned}
+use Rattle.brace_plan.specs.Narrowing.{loops_of}
 use Rattle.brace_plan.specs.inner.Acts.{acts}
 
--- actions do what the query of a class does: for each agent of the class, over lawful agents
+-- the loops of an action, in order, each with the number of its bounds
+abbrev pub told_step : Action-F (List Loop) → List Loop
+told_step (Const n code) = []
+told_step (If code a b) = flat_map (λ loops. loops) a ++ flat_map (λ loops. loops) b
+told_step (Foreach class bounds body at) =
+    record { at = at; class = class; bounds = length bounds } ∷ flat_map (λ loops. loops) body
+told_step (Assign who effect code) = []
+
+abbrev pub told : Action → List Loop
+told = fold-Action (List Loop) told_step
+
+abbrev pub told_by : List Action → List Loop
+told_by actions = flat_map told actions
+
+-- actions do what the query of a class does: for each agent of the class, over lawful agents; and
+-- their loops are as many times narrowed as those of the query
 pub record IsPlanOf (program : Program) (number : ℕ) (query : List Stmt) (planned : Planned)
     : Type 0 where
   pub constants : planned.constants ≡ sum (map constants query)
+  pub told : told_by planned.actions ≡ loops_of program.classes Outer query
   pub same : (seed tick : ℕ) (world : List Agent) (a : Agent)
       → list_all (is_lawful_agent program) world ≡ true → is_lawful_agent program a ≡ true
       → a.class ≡ number

@@ -1,0 +1,88 @@
+-- Plans of the queries of a lawful program.
+use Rattle.std.proofs.Common.{◌≡◌, ◌∙◌, refl, sym, ap, ap₂, subst, ℕ, zero, suc, ◌+◌, ◌<◌, ◌≤◌, ◌⊎◌, inl, inr, true, List, [], ◌∷◌, ◌++◌, map, flat_map, sum, length, get_or, take, Some, append_assoc, arith}
+use Rattle.std.specs.Prelude.{slice_get, nat_lt}
+use Rattle.std.specs.List.{list_all}
+use Rattle.std.proofs.lemmas.Option.{slice_get_within, slice_get-get_or}
+use Rattle.std.proofs.lemmas.Bool.{cases_lt}
+use Rattle.std.proofs.lemmas.List.{length-replicate, length_push}
+use Rattle.brace_num.proofs.Lists.{at_seam, flat_map_next}
+use Rattle.brace_model.specs.declared.program.Class.{Class}
+use Rattle.brace_model.specs.declared.program.Who.TheVariants.{Outer}
+use Rattle.brace_model.specs.declared.program.Program.{Program}
+use Rattle.brace_model.specs.Sites.{constant_numbers}
+use Rattle.brace_model.specs.Query.{constants, opening_scope}
+use Rattle.brace_model.specs.World.{no_value}
+use Rattle.brace_model.specs.Typing.{Names}
+use Rattle.brace_model.specs.Lawful.{LawfulProgram, query_scope}
+use Rattle.brace_plan.specs.declared.loops.Loop.{Loop}
+use Rattle.brace_plan.specs.declared.plans.Planned.{Planned}
+use Rattle.brace_plan.specs.inner.Doing.{Suits, DoesAll, has_room}
+use Rattle.brace_plan.specs.inner.Planning.{told_by, IsPlanOf, ArePlansOf}
+use Rattle.brace_plan.specs.Narrowing.{loops_of}
+use Rattle.brace_plan.proofs.Suiting.{opening_suits}
+
+-- the queries of the first classes are planned
+pub record Planned_so_far (program : Program) (i : ℕ) (queries : List Planned) : Type 0 where
+  pub count : length queries ≡ i
+  pub each : (number : ℕ) (class : Class) → number < i → slice_get program.classes number ≡ Some class
+      → (planned : Planned) × (slice_get queries number ≡ Some planned) × IsPlanOf program number class.query planned
+
+pub none_planned : (program : Program) → Planned_so_far program 0 []
+none_planned program = record { count = refl; each = λ number class low found. absurd (omega (arith, low)) }
+
+-- actions that do what the query does are its plan
+pub is_plan : (program : Program) (number : ℕ) (class : Class) (names : Names) (planned : Planned) → LawfulProgram program → slice_get program.classes number ≡ Some class
+    → names ≡ query_scope program number → planned.constants ≡ sum (map constants class.query) → DoesAll names class.query planned.actions
+    → told_by planned.actions ≡ loops_of program.classes Outer class.query → IsPlanOf program number class.query planned
+is_plan program number class names planned lawful found is counted (last, does) tells = record {
+  constants = counted;
+  told = tells;
+  same = λ seed tick world a all good of.
+      let suits = opening_suits program world seed tick class.query a number all good of in
+      let room : has_room (opening_scope seed tick class.query [] a) class.query ≡ true =
+      ap (λ n. list_all (λ m. nat_lt m n) (flat_map constant_numbers class.query)) (length-replicate (sum (map constants class.query)) no_value)
+      ∙ (lawful.classes_are_lawful number class found).constants_in_range in
+      (does.each program world (opening_scope seed tick class.query [] a) (subst (λ n. Suits program world n (opening_scope seed tick class.query [] a)) (sym is) suits) room).deed;
+}
+
+still_there : {A : Type 0} (xs ys : List A) (k : ℕ) (x : A) → slice_get xs k ≡ Some x → slice_get (xs ++ ys) k ≡ Some x
+still_there [] ys k x e = absurd (cc)
+still_there (y ∷ xs) ys zero x e = e
+still_there (y ∷ xs) ys (suc k) x e = still_there xs ys k x e
+
+same_one : (c d : Class) → Some c ≡ Some d → c ≡ d
+same_one c d e = cc
+
+-- one more query is planned
+pub one_more_planned : (program : Program) (i number : ℕ) (class : Class) (queries new : List Planned) (planned : Planned) → Planned_so_far program i queries → number ≡ i
+    → slice_get program.classes number ≡ Some class → IsPlanOf program number class.query planned → new ≡ queries ++ planned ∷ [] → Planned_so_far program (i + 1) new
+one_more_planned program i number class queries new planned so_far same found is grown = subst (Planned_so_far program (i + 1)) (sym grown) (record {
+  count = length_push queries planned ∙ ap (λ n. n + 1) so_far.count;
+  each = λ k c low there. by_place k c low there (cases_lt k i);
+})
+  where
+    by_place : (k : ℕ) (c : Class) → k < i + 1 → slice_get program.classes k ≡ Some c → (k < i) ⊎ (i ≤ k) → (p : Planned) × (slice_get (queries ++ planned ∷ []) k ≡ Some p) × IsPlanOf program k c.query p
+    by_place k c low there (inl before) = let (p, at, plan) = so_far.each k c before there in (p, still_there queries (planned ∷ []) k p at, plan)
+    by_place k c low there (inr not_before) =
+        let here : number ≡ k = omega (arith, same, low, not_before) in
+        let one : class ≡ c = same_one class c (sym found ∙ ap (slice_get program.classes) here ∙ there) in
+        (planned, ap (slice_get (queries ++ planned ∷ [])) (let long : k ≡ length queries = omega (arith, here, same, so_far.count) in long) ∙ at_seam queries planned [],
+        subst (λ n. IsPlanOf program n c.query planned) here (subst (λ d. IsPlanOf program number d.query planned) one is))
+
+-- the queries of all classes are planned
+pub all_planned : (program : Program) (i : ℕ) (queries : List Planned) → length program.classes ≤ i → Planned_so_far program i queries → ArePlansOf program queries
+all_planned program i queries past so_far = record {
+  each = λ number class found. so_far.each number class (let low = slice_get_within program.classes number class found in omega (arith, low, past)) found;
+}
+
+-- the class that is planned next
+module _ (classes xs : List Class) (i : ℕ) (class : Class) (same : xs ≡ classes) (low : i < length xs) (is : class ≡ get_or xs i class) where
+  pub class_found : (number : ℕ) → number ≡ i → slice_get classes number ≡ Some class
+  class_found number at = ap (slice_get classes) at ∙ ap (λ cs. slice_get cs i) (sym same) ∙ slice_get-get_or xs i class low ∙ ap (λ (c : Class). Some c) (sym is)
+
+  pub loops_told : (f : Class → List Loop) (old mid new : List Loop) (told : List Loop) → mid ≡ old ++ flat_map f (take i classes) → new ≡ mid ++ told → told ≡ f class
+      → new ≡ old ++ flat_map f (take (i + 1) classes)
+  loops_told f old mid new told first second tells =
+      let next : flat_map f (take (i + 1) classes) ≡ flat_map f (take i classes) ++ f class =
+      subst (λ cs. flat_map f (take (i + 1) cs) ≡ flat_map f (take i cs) ++ f class) same (flat_map_next f xs i class low is) in
+      second ∙ ap₂ (λ m t. m ++ t) first tells ∙ append_assoc old (flat_map f (take i classes)) (f class) ∙ ap (λ ls. old ++ ls) (sym next)
