@@ -4,7 +4,7 @@ use Rattle.brace_model.specs.declared.program.Program.{Program}
 use Rattle.brace_model.specs.declared.program.Who.{Who}
 use Rattle.brace_model.specs.declared.world.Agent.{Agent}
 use Rattle.brace_model.specs.Value.{Scope, agent_of}
-use Rattle.brace_model.specs.Query.{Deed, silent, bound, deed_of, saying, closed, chosen, block, inside, iterated}
+use Rattle.brace_model.specs.Query.{silent, bound, deed_of, saying, closed, chosen, inside, iterated}
 use Rattle.brace_code.specs.declared.code.Code.{Code}
 use Rattle.brace_code.specs.Codes.{gives}
 use Rattle.brace_plan.specs.declared.action.Bound.{Bound}

@@ -1,5 +1,5 @@
 -- What a plan answers is what the query of its class does.
-use Rattle.std.proofs.Common.{◌≡◌, ◌∙◌, sym, refl, ap, subst, ℕ, ◌<◌, List, [], ◌++◌, map, length, get_or, replicate, Bool, true, false, Option, Some, None, slice_get}
+use Rattle.std.proofs.Common.{◌≡◌, ◌∙◌, sym, refl, ap, subst, ℕ, ◌<◌, List, [], ◌++◌, map, length, get_or, replicate, true, Option, Some, None, slice_get}
 use Rattle.std.specs.List.{list_all}
 use Rattle.std.proofs.lemmas.Bool.{and_parts}
 use Rattle.std.proofs.lemmas.List.Sums.{AllPass-from_list_all}
@@ -11,7 +11,7 @@ use Rattle.brace_model.specs.World.{class_of, no_value}
 use Rattle.brace_model.specs.Lawful.{is_lawful_agent, has_states}
 use Rattle.brace_model.specs.Value.{Scope}
 use Rattle.brace_model.specs.FaultOrder.{least}
-use Rattle.brace_model.specs.Query.{Saying, Deed, query_of, query_in, opening_scope}
+use Rattle.brace_model.specs.Query.{Deed, query_of, query_in, opening_scope}
 use Rattle.brace_plan.specs.declared.answer.Answer.{Answer}
 use Rattle.brace_plan.specs.declared.plans.Planned.{Planned}
 use Rattle.brace_plan.specs.declared.seat.Scene.{Scene}

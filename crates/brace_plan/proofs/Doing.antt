@@ -160,11 +160,13 @@ same_class b class e = grind (arith, nat_tests, e)
 pub does_loop : (names within : Names) (class at : ℕ) (body : List Stmt) (bounds : List Bound) (actions : List Action) → within_loop names class ≡ Some within → IsFormed body within
     → bounds ≡ bounds_over (map nested body) (variable_of names.outer_class) (slice_get names.classes class) → DoesAll within body actions
     → DoesOne names names (stmt.Foreach class body at) (action.Foreach class bounds actions at)
-does_loop names within class at body bounds actions entered formed is (after_body, does) = record { each = λ program world scope suits room. record {
-  deed = act-Foreach program world class bounds actions at scope ∙ looped program world scope suits room ∙ sym (statement-Foreach program world class body at scope);
-  suits = λ on. subst (λ d. Suits program world names d.scope) (sym (statement-Foreach program world class body at scope)) suits;
-  room = ap (λ d. length d.scope.locals) (statement-Foreach program world class body at scope);
-} }
+does_loop names within class at body bounds actions entered formed is (after_body, does) = record {
+  each = λ program world scope suits room. record {
+    deed = act-Foreach program world class bounds actions at scope ∙ looped program world scope suits room ∙ sym (statement-Foreach program world class body at scope);
+    suits = λ on. subst (λ d. Suits program world names d.scope) (sym (statement-Foreach program world class body at scope)) suits;
+    room = ap (λ d. length d.scope.locals) (statement-Foreach program world class body at scope);
+  };
+}
   where
     looped : (program : Program) (world : List Agent) (scope : Scope) → Suits program world names scope → has_room scope (stmt.Foreach class body at ∷ []) ≡ true
         → iterated scope (map (λ b. acts program world actions (inside scope b)) (near_by program world scope class bounds))
@@ -193,14 +195,16 @@ pub does_none : (names : Names) → Does names names [] []
 does_none names = record { each = λ program world scope suits room. record { deed = refl; suits = λ on. suits; room = refl } }
 
 pub does_more : (names mid last : Names) (s : List Stmt) (x : Stmt) (actions : List Action) (y : Action) → Does names mid s actions → DoesOne mid last x y → Does names last (s ++ x ∷ []) (actions ++ y ∷ [])
-does_more names mid last s x actions y first second = record { each = λ program world scope suits room.
-    let (room_s, room_x) = room_split scope s (x ∷ []) room in
-    let done = first.each program world scope suits room_s in
-    same_as program world last scope _ _ _ _
-    (ap (λ fs. block fs scope) (map-append (act program world) actions (y ∷ [])) ∙ block_more (map (act program world) actions) (act program world y) scope
-    ∙ ap (λ d. followed_by d (act program world y)) done.deed)
-    (ap (λ fs. block fs scope) (map-append (statement program world) s (x ∷ [])) ∙ block_more (map (statement program world) s) (statement program world x) scope)
-    (onto program world scope (block (map (statement program world) s) scope) done.suits done.room room_x) }
+does_more names mid last s x actions y first second = record {
+  each = λ program world scope suits room.
+      let (room_s, room_x) = room_split scope s (x ∷ []) room in
+      let done = first.each program world scope suits room_s in
+      same_as program world last scope _ _ _ _
+      (ap (λ fs. block fs scope) (map-append (act program world) actions (y ∷ [])) ∙ block_more (map (act program world) actions) (act program world y) scope
+      ∙ ap (λ d. followed_by d (act program world y)) done.deed)
+      (ap (λ fs. block fs scope) (map-append (statement program world) s (x ∷ [])) ∙ block_more (map (statement program world) s) (statement program world x) scope)
+      (onto program world scope (block (map (statement program world) s) scope) done.suits done.room room_x);
+}
   where
     onto : (program : Program) (world : List Agent) (scope : Scope) (d : Deed) → (d.stopped ≡ false → Suits program world mid d.scope) → length d.scope.locals ≡ length scope.locals → has_room scope (x ∷ []) ≡ true
         → Same program world last scope (followed_by d (act program world y)) (followed_by d (statement program world x))

@@ -1,5 +1,5 @@
 -- Constants that are set and set back.
-use Rattle.std.proofs.Common.{◌≡◌, ◌∙◌, sym, refl, ap, subst, ℕ, zero, suc, List, [], ◌∷◌, ◌++◌, ◌≤◌, length, take, drop, set, get_or, append_assoc, append-nil}
+use Rattle.std.proofs.Common.{◌≡◌, ◌∙◌, sym, refl, ap, ℕ, zero, suc, List, [], ◌∷◌, ◌++◌, ◌≤◌, length, take, drop, set, get_or, append_assoc, append-nil}
 use Rattle.std.proofs.lemmas.List.{set_past, take_all, drop_all, take-append-le, drop-append-le}
 use Rattle.std.proofs.Math.Seq.{take-append_seam, drop-append_seam}
 use Rattle.brace_model.specs.declared.program.Value.{Value}
@@ -57,9 +57,10 @@ back-to mark first last before x y old low same kept long s =
     let front : take mark first ≡ before =
     ap (λ (n : ℕ). take n first) (sym long) ∙ ap (take (length before)) s.is ∙ take-append_seam before s.more in
     let rest : drop mark first ≡ s.more =
-    ap (λ (n : ℕ). drop n first) (sym long) ∙ ap (drop (length before)) s.is ∙ drop-append_seam before s.more in
-    (sym (take_all mark last low) ∙ kept ∙ front,
-    sym (ap (λ (t : List Former). undone t y) (drop_all mark last low)) ∙ same ∙ ap (λ (t : List Former). undone t x) rest ∙ s.back)
+    ap (λ (n : ℕ). drop n first) (sym long) ∙ ap (drop (length before)) s.is ∙ drop-append_seam before s.more in (
+      sym (take_all mark last low) ∙ kept ∙ front,
+      sym (ap (λ (t : List Former). undone t y) (drop_all mark last low)) ∙ same ∙ ap (λ (t : List Former). undone t x) rest ∙ s.back,
+    )
 
 -- the last constant of a trail has no place
 pub undone-past : (mark : ℕ) (all left : List Former) (b : Former) (l : List Value) → all ≡ left ++ b ∷ []

@@ -78,6 +78,7 @@ loops-Foreach class body at classes variable bounds is =
 
 pub loops-Assign : (who : Who) (effect : ℕ) (e : Expr) (at : ℕ) (classes : List Class) (variable : Who) → loops_of classes variable (stmt.Assign who effect e at ∷ []) ≡ []
 loops-Assign who effect e at classes variable = ap (λ x. all_loops (x ∷ []) classes variable) (nested-Assign who effect e at)
+
 -- ---- the loops of one action
 
 told_fold : (y : layer.Action-F Action) → told (roll-Action y) ≡ told_step (map-Action Action (List Loop) told y)

@@ -65,9 +65,11 @@ one_more_planned program i number class queries new planned so_far same found is
     by_place k c low there (inl before) = let (p, at, plan) = so_far.each k c before there in (p, still_there queries (planned ∷ []) k p at, plan)
     by_place k c low there (inr not_before) =
         let here : number ≡ k = omega (arith, same, low, not_before) in
-        let one : class ≡ c = same_one class c (sym found ∙ ap (slice_get program.classes) here ∙ there) in
-        (planned, ap (slice_get (queries ++ planned ∷ [])) (let long : k ≡ length queries = omega (arith, here, same, so_far.count) in long) ∙ at_seam queries planned [],
-        subst (λ n. IsPlanOf program n c.query planned) here (subst (λ d. IsPlanOf program number d.query planned) one is))
+        let one : class ≡ c = same_one class c (sym found ∙ ap (slice_get program.classes) here ∙ there) in (
+          planned,
+          ap (slice_get (queries ++ planned ∷ [])) (let long : k ≡ length queries = omega (arith, here, same, so_far.count) in long) ∙ at_seam queries planned [],
+          subst (λ n. IsPlanOf program n c.query planned) here (subst (λ d. IsPlanOf program number d.query planned) one is),
+        )
 
 -- the queries of all classes are planned
 pub all_planned : (program : Program) (i : ℕ) (queries : List Planned) → length program.classes ≤ i → Planned_so_far program i queries → ArePlansOf program queries

@@ -60,13 +60,7 @@ fn meets(scene: &Scene, seat: &Seat, locals: &[Value], bound: Bound, b: &Agent) 
 }
 
 /// Whether an agent meets all bounds.
-fn meets_all(
-    scene: &Scene,
-    seat: &Seat,
-    locals: &[Value],
-    bounds: &List<Bound>,
-    b: &Agent,
-) -> bool
+fn meets_all(scene: &Scene, seat: &Seat, locals: &[Value], bounds: &List<Bound>, b: &Agent) -> bool
     ensures { (seed : ℕ) → result
         ≡ list_all (meets (scope_at scene.now seat.now seed locals.now)
         (place_of scene.now.program.now b.now)) bounds.now }
@@ -176,13 +170,7 @@ fn cut_area(scene: &Scene, seat: &Seat, locals: &[Value], bound: Bound, area: Ar
 }
 
 /// What is left of an area where all bounds cut it.
-fn narrowed(
-    scene: &Scene,
-    seat: &Seat,
-    locals: &[Value],
-    bounds: &List<Bound>,
-    area: Area,
-) -> Area
+fn narrowed(scene: &Scene, seat: &Seat, locals: &[Value], bounds: &List<Bound>, area: Area) -> Area
     ensures holds { (seed : ℕ) → Narrows (scope_at scene.now seat.now seed locals.now)
         bounds.now area result }
     ensures part { IsPartOf result area }

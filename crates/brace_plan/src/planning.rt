@@ -112,9 +112,7 @@ fn plan_statement(
             let b = plan_block(alloc, known, b, constants)?;
             Ok(Action::If(condition, a, b))
         }
-        Stmt::Foreach(class, body, at) => {
-            plan_loop(alloc, known, *class, body, *at, constants)
-        }
+        Stmt::Foreach(class, body, at) => { plan_loop(alloc, known, *class, body, *at, constants) }
         Stmt::Assign(who, effect, e, _) => {
             let code = compile_with(alloc, known, constants, e)?;
             Ok(Action::Assign(*who, *effect, code))

@@ -1,5 +1,4 @@
 use Rattle.std.proofs.Common.{◌≡◌, ◌∙◌, sym, ap, subst, refl, map, drop, length, ◌≤◌, ◌+◌, ◌∷◌, [], List, Bool, ℕ, true, false, cond, get_or, ◌<◌, append-nil, Some}
-use Rattle.std.specs.Prelude.{IfOk, OnOk}
 use Rattle.std.proofs.lemmas.List.{drop_all}
 use Rattle.brace_model.specs.declared.program.Value.{Value}
 use Rattle.brace_model.specs.declared.world.Agent.{Agent}
@@ -8,7 +7,7 @@ use Rattle.brace_model.specs.Query.{Deed, saying, iterated, inside}
 use Rattle.brace_code.specs.Codes.{gives}
 use Rattle.brace_plan.specs.declared.action.Action.{Action}
 use Rattle.brace_plan.specs.declared.answer.Answer.{Answer}
-use Rattle.brace_plan.specs.inner.Walks.{scope_at, Sets, Adds, act_in, block_in, loop_in, agents_at, is_taken}
+use Rattle.brace_plan.specs.inner.Walks.{scope_at, Adds, act_in, block_in, loop_in, agents_at, is_taken}
 use Rattle.brace_plan.proofs.ActionEquations.{does-Foreach, does-Assign}
 use Rattle.brace_plan.proofs.AnswerLemmas.{adds-nothing, adds-alike, adds-then, adds-value, adds-saying}
 use Rattle.brace_plan.proofs.FormerLemmas.{sets-then}
