@@ -2,6 +2,7 @@
 use Rattle.std.proofs.Common.{◌≡◌, ◌∙◌, sym, refl, ap, subst, ℕ, ◌<◌, List, [], ◌++◌, map, length, get_or, replicate, true, Option, Some, None, slice_get}
 use Rattle.std.specs.List.{list_all}
 use Rattle.std.proofs.lemmas.Bool.{and_parts}
+use Rattle.std.proofs.lemmas.List.Elements.{All-nil, All-same}
 use Rattle.std.proofs.lemmas.List.Sums.{AllPass-from_list_all}
 use Rattle.brace_model.specs.declared.fault.Fault.{Fault}
 use Rattle.brace_model.specs.declared.program.Class.{Class}
@@ -13,6 +14,7 @@ use Rattle.brace_model.specs.Value.{Scope}
 use Rattle.brace_model.specs.FaultOrder.{least}
 use Rattle.brace_model.specs.Query.{Deed, query_of, query_in, opening_scope}
 use Rattle.brace_plan.specs.declared.answer.Answer.{Answer}
+use Rattle.brace_plan.specs.declared.answer.Said.{Said}
 use Rattle.brace_plan.specs.declared.plans.Planned.{Planned}
 use Rattle.brace_plan.specs.declared.seat.Scene.{Scene}
 use Rattle.brace_plan.specs.Answers.{IsAnswer, saying_of}
@@ -28,9 +30,11 @@ pub answer-of : (scene : Scene) (planned : Planned) (seed : ℕ) (a : Agent) (sc
 answer-of scene planned seed a scope x z at said fault h =
     let deed = block_in scene planned.actions (opening scene planned seed a) in
     let k : Adds scene deed x z = subst (λ p. Adds scene (block_in scene planned.actions p) x z) at h in
+    let here : Said → Type 0 = λ s. s.place < length scene.agents.now in
     record {
       said = k.said ∙ ap (λ l. map (saying_of scene.agents.now) l ++ deed.said) said;
       fault = k.fault ∙ ap (λ (o : Option Fault). with_faults o deed.faults) fault ∙ least-faults deed.faults;
+      placed = k.placed (All-same here x.said.items [] said (All-nil here));
     }
 
 -- a lawful agent has a class
@@ -73,6 +77,7 @@ module _ (program : Program) (queries : List Planned) (plans : ArePlansOf progra
       record {
         said = h.said ∙ ap (λ (d : Deed). d.said) deed;
         fault = h.fault ∙ ap (λ (d : Deed). least d.faults) deed;
+        placed = h.placed;
       }
 
 -- one of lawful agents is lawful
