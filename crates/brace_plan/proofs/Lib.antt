@@ -1,4 +1,3 @@
-pub mod ActionEquations
 pub mod AnswerLemmas
 pub mod AskLemmas
 pub mod Doing
