@@ -46,12 +46,6 @@ module _ (program : Program) (queries : List Planned) (plans : ArePlansOf progra
   class : (class : Class) × (class_of program a ≡ Some class)
   class = lawful-class program a (class_of program a) (and_parts _ _ lawful).1
 
-  -- a lawful agent has a plan
-  pub has-plan : slice_get queries a.class ≡ None → ⊥
-  has-plan none =
-      let (planned, got, is) = plans.each a.class class.0 class.1 in
-      let no : None ≡ Some planned = sym none ∙ got in absurd (cc)
-
   -- the plan of a lawful agent's class
   plan-of : (planned : Planned) → slice_get queries a.class ≡ Some planned → IsPlanOf program a.class class.0.query planned
   plan-of planned is =

@@ -36,10 +36,7 @@ stays_inside large small p x0 x1 y0 y1 h =
     let y = and_parts _ _ both.1 in
     and_from _ _ (and_from _ _ (x0 x.0) (x1 x.1)) (and_from _ _ (y0 y.0) (y1 y.1))
 
--- the whole of an area is part of it
-pub part-whole : (a : Area) → IsPartOf a a
-part-whole a = record { x0 = omega (arith, ints); x1 = omega (arith, ints); y0 = omega (arith, ints); y1 = omega (arith, ints) }
-
+-- a part of a part is a part
 pub part-part : (a b c : Area) → IsPartOf a b → IsPartOf b c → IsPartOf a c
 part-part a b c h k = record {
   x0 = omega (arith, ints, h.x0, k.x0);
