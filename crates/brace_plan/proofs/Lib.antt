@@ -6,6 +6,7 @@ pub mod FormerLemmas
 pub mod Narrowed
 pub mod NearLemmas
 pub mod Planned
+pub mod QueryLemmas
 pub mod Senses
 pub mod Steps
 pub mod Suiting

@@ -8,6 +8,8 @@ use Rattle.brace_model.specs.FaultOrder.{least}
 use Rattle.brace_model.specs.Query.{Saying, query_of}
 use Rattle.brace_plan.specs.declared.answer.Said.{Said}
 use Rattle.brace_plan.specs.declared.answer.Answer.{Answer}
+use Rattle.brace_plan.specs.declared.query.Saying.{Saying as Told}
+use Rattle.brace_plan.specs.declared.query.Query.{Query}
 
 -- how far agents of a program see at most, in millionths
 abbrev pub greatest_visible : Program → ℤ
@@ -33,3 +35,13 @@ pub record IsAnswer (program : Program) (seed tick : ℕ) (agents : List Agent) 
       ≡ (query_of program seed tick agents a).said
   pub fault : answer.fault ≡ least (query_of program seed tick agents a).faults
   pub placed : ArePlaced agents answer.said.items
+
+-- what a query tells, as it is said
+abbrev pub said_by : Told → Saying
+said_by told = record { target = told.target; field = told.field; value = told.value }
+
+-- a query tells all that an agent's query says over a list of agents, and its least fault
+pub record IsQuery (program : Program) (seed tick : ℕ) (agents : List Agent) (a : Agent)
+    (query : Query) : Type 0 where
+  pub said : map said_by query.said ≡ (query_of program seed tick agents a).said
+  pub fault : query.fault ≡ least (query_of program seed tick agents a).faults
