@@ -1,7 +1,8 @@
 -- What a plan answers is what the query of its class does.
-use Rattle.std.proofs.Common.{◌≡◌, ◌∙◌, sym, refl, ap, subst, ℕ, ◌<◌, List, [], ◌++◌, map, length, get_or, replicate, Bool, true, false, Option, Some, None, slice_get}
+use Rattle.std.proofs.Common.{◌≡◌, ◌∙◌, sym, refl, ap, subst, ℕ, ◌<◌, List, [], ◌++◌, map, length, get_or, replicate, true, Option, Some, None, slice_get}
 use Rattle.std.specs.List.{list_all}
 use Rattle.std.proofs.lemmas.Bool.{and_parts}
+use Rattle.std.proofs.lemmas.List.Elements.{All-nil, All-same}
 use Rattle.std.proofs.lemmas.List.Sums.{AllPass-from_list_all}
 use Rattle.brace_model.specs.declared.fault.Fault.{Fault}
 use Rattle.brace_model.specs.declared.program.Class.{Class}
@@ -11,8 +12,9 @@ use Rattle.brace_model.specs.World.{class_of, no_value}
 use Rattle.brace_model.specs.Lawful.{is_lawful_agent, has_states}
 use Rattle.brace_model.specs.Value.{Scope}
 use Rattle.brace_model.specs.FaultOrder.{least}
-use Rattle.brace_model.specs.Query.{Saying, Deed, query_of, query_in, opening_scope}
+use Rattle.brace_model.specs.Query.{Deed, query_of, query_in, opening_scope}
 use Rattle.brace_plan.specs.declared.answer.Answer.{Answer}
+use Rattle.brace_plan.specs.declared.answer.Said.{Said}
 use Rattle.brace_plan.specs.declared.plans.Planned.{Planned}
 use Rattle.brace_plan.specs.declared.seat.Scene.{Scene}
 use Rattle.brace_plan.specs.Answers.{IsAnswer, saying_of}
@@ -28,9 +30,11 @@ pub answer-of : (scene : Scene) (planned : Planned) (seed : ℕ) (a : Agent) (sc
 answer-of scene planned seed a scope x z at said fault h =
     let deed = block_in scene planned.actions (opening scene planned seed a) in
     let k : Adds scene deed x z = subst (λ p. Adds scene (block_in scene planned.actions p) x z) at h in
+    let here : Said → Type 0 = λ s. s.place < length scene.agents.now in
     record {
       said = k.said ∙ ap (λ l. map (saying_of scene.agents.now) l ++ deed.said) said;
       fault = k.fault ∙ ap (λ (o : Option Fault). with_faults o deed.faults) fault ∙ least-faults deed.faults;
+      placed = k.placed (All-same here x.said.items [] said (All-nil here));
     }
 
 -- a lawful agent has a class
@@ -41,12 +45,6 @@ lawful-class program a (Some class) h = (class, refl)
 module _ (program : Program) (queries : List Planned) (plans : ArePlansOf program queries) (a : Agent) (lawful : is_lawful_agent program a ≡ true) where
   class : (class : Class) × (class_of program a ≡ Some class)
   class = lawful-class program a (class_of program a) (and_parts _ _ lawful).1
-
-  -- a lawful agent has a plan
-  pub has-plan : slice_get queries a.class ≡ None → ⊥
-  has-plan none =
-      let (planned, got, is) = plans.each a.class class.0 class.1 in
-      let no : None ≡ Some planned = sym none ∙ got in absurd (cc)
 
   -- the plan of a lawful agent's class
   plan-of : (planned : Planned) → slice_get queries a.class ≡ Some planned → IsPlanOf program a.class class.0.query planned
@@ -73,6 +71,7 @@ module _ (program : Program) (queries : List Planned) (plans : ArePlansOf progra
       record {
         said = h.said ∙ ap (λ (d : Deed). d.said) deed;
         fault = h.fault ∙ ap (λ (d : Deed). least d.faults) deed;
+        placed = h.placed;
       }
 
 -- one of lawful agents is lawful

@@ -191,9 +191,6 @@ does_loop names within class at body bounds actions entered formed is (after_bod
 
 -- ---- blocks
 
-pub does_none : (names : Names) → Does names names [] []
-does_none names = record { each = λ program world scope suits room. record { deed = refl; suits = λ on. suits; room = refl } }
-
 pub does_more : (names mid last : Names) (s : List Stmt) (x : Stmt) (actions : List Action) (y : Action) → Does names mid s actions → DoesOne mid last x y → Does names last (s ++ x ∷ []) (actions ++ y ∷ [])
 does_more names mid last s x actions y first second = record {
   each = λ program world scope suits room.

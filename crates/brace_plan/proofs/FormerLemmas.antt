@@ -1,5 +1,5 @@
 -- Constants that are set and set back.
-use Rattle.std.proofs.Common.{◌≡◌, ◌∙◌, sym, refl, ap, subst, ℕ, zero, suc, List, [], ◌∷◌, ◌++◌, ◌≤◌, length, take, drop, set, get_or, append_assoc, append-nil}
+use Rattle.std.proofs.Common.{◌≡◌, ◌∙◌, sym, refl, ap, ℕ, zero, suc, List, [], ◌∷◌, ◌++◌, ◌≤◌, length, take, drop, set, get_or, append_assoc}
 use Rattle.std.proofs.lemmas.List.{set_past, take_all, drop_all, take-append-le, drop-append-le}
 use Rattle.std.proofs.Math.Seq.{take-append_seam, drop-append_seam}
 use Rattle.brace_model.specs.declared.program.Value.{Value}
@@ -14,10 +14,6 @@ back : (l : List Value) (i : ℕ) (v d : Value) → set (set l i v) i (get_or l 
 back [] i v d = refl
 back (x ∷ l) zero v d = refl
 back (x ∷ l) (suc i) v d = ap (λ (r : List Value). x ∷ r) (back l i v d)
-
--- nothing is set
-pub sets-nothing : (t : List Former) (l : List Value) → Sets t t l l
-sets-nothing t l = record { more = []; is = sym (append-nil t); back = refl }
 
 -- one constant is set
 pub sets-one : (t : List Former) (n : ℕ) (d v : Value) (l : List Value)

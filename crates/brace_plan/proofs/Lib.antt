@@ -1,4 +1,3 @@
-pub mod ActionEquations
 pub mod AnswerLemmas
 pub mod AskLemmas
 pub mod Doing
@@ -7,6 +6,7 @@ pub mod FormerLemmas
 pub mod Narrowed
 pub mod NearLemmas
 pub mod Planned
+pub mod QueryLemmas
 pub mod Senses
 pub mod Steps
 pub mod Suiting

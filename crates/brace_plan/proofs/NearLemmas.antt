@@ -1,6 +1,6 @@
 -- Places of a list among which are those of all agents that a loop takes.
-use Rattle.std.proofs.Common.{◌≡◌, ◌∙◌, sym, refl, ap, ap₂, subst, fold, ℕ, zero, suc, ◌+◌, ◌<◌, ◌≤◌, ℤ, pos, ◌-ℤ◌, ◌+ℤ◌, ◌*ℤ◌, ◌≤ℤ◌, List, [], ◌∷◌, ◌++◌, length, map, filter, get_or, drop, Bool, true, false, ◌&&◌, cond, Option, Some, None, Result, Ok, Err, All, arith}
-use Rattle.std.specs.Prelude.{◌==◌, not, int_le, slice_get, option_map, OnOk}
+use Rattle.std.proofs.Common.{◌≡◌, ◌∙◌, sym, refl, ap, ap₂, subst, fold, ℕ, zero, suc, ◌+◌, ◌<◌, ℤ, pos, ◌≤ℤ◌, List, [], ◌∷◌, ◌++◌, length, map, filter, get_or, drop, Bool, true, false, ◌&&◌, cond, Option, Some, None, Result, Ok, Err, All, arith}
+use Rattle.std.specs.Prelude.{int_le, slice_get, option_map, OnOk}
 use Rattle.std.specs.List.{list_all, range_with_len}
 use Rattle.std.specs.Int.{int_max}
 use Rattle.std.proofs.lemmas.Bool.{and_parts, and_from}
@@ -10,7 +10,7 @@ use Rattle.std.proofs.lemmas.List.FromFn.{map-range_with_len_more, get_or-range_
 use Rattle.std.proofs.lemmas.List.Folds.{fold-map}
 use Rattle.std.proofs.lemmas.Int.{ints, fold-int_max_bounds}
 use Rattle.brace_num.specs.declared.kinds.Area.{Area}
-use Rattle.brace_num.proofs.Lists.{filter_twice, All-place}
+use Rattle.brace_num.proofs.Lists.{All-place}
 use Rattle.brace_model.specs.declared.program.Class.{Class}
 use Rattle.brace_model.specs.declared.program.Program.{Program}
 use Rattle.brace_model.specs.declared.world.Agent.{Agent}
@@ -21,8 +21,7 @@ use Rattle.brace_grid.specs.Grids as grids
 use Rattle.brace_plan.specs.declared.action.Bound.{Bound}
 use Rattle.brace_plan.specs.declared.seat.Scene.{Scene}
 use Rattle.brace_plan.specs.Answers.{greatest_visible}
-use Rattle.brace_plan.specs.inner.Acts.{meets, near_by}
-use Rattle.brace_plan.specs.inner.Walks.{IsScene, IsPartOf, Narrows, HoldsTaken, AreWithin, HaveTaken, is_taken, agents_at}
+use Rattle.brace_plan.specs.inner.Walks.{IsScene, IsPartOf, HoldsTaken, AreWithin, HaveTaken, is_taken, agents_at}
 
 -- ---- areas
 
@@ -37,10 +36,7 @@ stays_inside large small p x0 x1 y0 y1 h =
     let y = and_parts _ _ both.1 in
     and_from _ _ (and_from _ _ (x0 x.0) (x1 x.1)) (and_from _ _ (y0 y.0) (y1 y.1))
 
--- the whole of an area is part of it
-pub part-whole : (a : Area) → IsPartOf a a
-part-whole a = record { x0 = omega (arith, ints); x1 = omega (arith, ints); y0 = omega (arith, ints); y1 = omega (arith, ints) }
-
+-- a part of a part is a part
 pub part-part : (a b c : Area) → IsPartOf a b → IsPartOf b c → IsPartOf a c
 part-part a b c h k = record {
   x0 = omega (arith, ints, h.x0, k.x0);

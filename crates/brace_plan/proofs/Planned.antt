@@ -23,7 +23,7 @@ use Rattle.brace_plan.specs.Narrowing.{Nested, nested, bounds_over, all_loops, l
 use Rattle.brace_plan.specs.inner.Doing.{names_with, variable_of, variable_in, DoesOne, Does, DoesAll}
 use Rattle.brace_plan.specs.inner.Planning.{told, told_by}
 use Rattle.brace_plan.proofs.Doing.{does_const, does_assign, does_if, does_loop, does_more}
-use Rattle.brace_plan.proofs.Formed.{IsFormed, After, formed_const, formed_if, formed_loop, formed_assign, first_formed, rest_formed, after_more, cut_back}
+use Rattle.brace_plan.proofs.Formed.{IsFormed, After, formed_const, formed_if, formed_loop, formed_assign, rest_formed, after_more, cut_back}
 use Rattle.brace_plan.proofs.Steps.{loops-Const, loops-If, loops-Foreach, loops-Assign, told-Const, told-If, told-Foreach, told-Assign}
 
 abbrev Known_at : Type 0
@@ -127,9 +127,6 @@ module _ (block : List Stmt) (i : ℕ) (s : Stmt) (low : i < length block) (is :
 
   taken_is : take (i + 1) block ≡ take i block ++ s ∷ []
   taken_is = take_next block i s low is
-
-  pub next_typed : (names : Names) → IsFormed (drop i block) names → is_some (scope_after s names) ≡ true
-  next_typed names e = first_formed s (drop (i + 1) block) names (subst (λ b. IsFormed b names) next_is e)
 
   pub after_next : (names mid last : Names) → After (take i block) names mid → scope_after s mid ≡ Some last → After (take (i + 1) block) names last
   after_next names mid last e step = subst (λ b. After b names last) (sym taken_is) (after_more (take i block) s names mid last e step)

@@ -1,6 +1,6 @@
 -- Scopes that suit: where a query begins, after a constant, and in a loop.
 use Rattle.std.proofs.Common.{◌≡◌, ◌∙◌, refl, sym, ap, subst, ℕ, zero, suc, Bool, true, false, List, [], ◌∷◌, map, length, Option, Some, None, arith}
-use Rattle.std.specs.Prelude.{◌==◌, if◌then◌else◌, is_none, nat_lt, slice_get, slice_set, unwrap_or}
+use Rattle.std.specs.Prelude.{◌==◌, if◌then◌else◌, is_none, nat_lt, slice_get, slice_set}
 use Rattle.std.specs.Option.{option_and_then}
 use Rattle.std.specs.List.{list_all, Contains}
 use Rattle.std.specs.Cmp.Lexicographic.{pointwise}
@@ -92,9 +92,6 @@ opening_suits program world seed tick query a number all lawful is = record {
     states Inner i t e = no_class (query_scope program number) Inner i t _ refl e
 
 -- ---- after a constant
-
-values_at : (xs : List Value) (i : ℕ) → value_at xs i ≡ unwrap_or (slice_get xs i) no_value
-values_at xs i = refl
 
 set_here : (xs : List Value) (n : ℕ) (v : Value) → nat_lt n (length xs) ≡ true → value_at (slice_set xs n v) n ≡ v
 set_here xs n v low = unwrap_or-slice_get (slice_set xs n v) n no_value ∙ get_or-set_same xs n v no_value (grind (arith, nat_tests, low))

@@ -1,5 +1,5 @@
 -- What is left of a block and of a loop, and what it adds.
-use Rattle.std.proofs.Common.{◌≡◌, ◌∙◌, sym, refl, ap, subst, ℕ, ◌+◌, ◌<◌, List, [], ◌∷◌, ◌++◌, map, filter, flat_map, length, drop, get_or, Bool, true, false, ◌&&◌, cond, append-nil, Result, Ok, Err, zero, suc, arith}
+use Rattle.std.proofs.Common.{◌≡◌, ◌∙◌, sym, refl, ap, subst, ℕ, ◌+◌, ◌<◌, List, [], ◌∷◌, ◌++◌, map, filter, length, drop, get_or, Bool, true, false, ◌&&◌, cond, append-nil, Result, Ok, Err, zero, suc, arith}
 use Rattle.std.specs.Prelude.{◌==◌, IfOk}
 use Rattle.std.specs.List.{list_all}
 use Rattle.std.proofs.lemmas.List.{drop_more}

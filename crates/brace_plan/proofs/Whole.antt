@@ -1,5 +1,5 @@
 -- Plans of the queries of a lawful program.
-use Rattle.std.proofs.Common.{◌≡◌, ◌∙◌, refl, sym, ap, ap₂, subst, ℕ, zero, suc, ◌+◌, ◌<◌, ◌≤◌, ◌⊎◌, inl, inr, true, List, [], ◌∷◌, ◌++◌, map, flat_map, sum, length, get_or, take, Some, append_assoc, arith}
+use Rattle.std.proofs.Common.{◌≡◌, ◌∙◌, sym, ap, ap₂, subst, ℕ, zero, suc, ◌+◌, ◌<◌, ◌≤◌, ◌⊎◌, inl, inr, true, List, [], ◌∷◌, ◌++◌, map, flat_map, sum, length, get_or, take, Some, append_assoc, arith}
 use Rattle.std.specs.Prelude.{slice_get, nat_lt}
 use Rattle.std.specs.List.{list_all}
 use Rattle.std.proofs.lemmas.Option.{slice_get_within, slice_get-get_or}
@@ -26,9 +26,6 @@ pub record Planned_so_far (program : Program) (i : ℕ) (queries : List Planned)
   pub count : length queries ≡ i
   pub each : (number : ℕ) (class : Class) → number < i → slice_get program.classes number ≡ Some class
       → (planned : Planned) × (slice_get queries number ≡ Some planned) × IsPlanOf program number class.query planned
-
-pub none_planned : (program : Program) → Planned_so_far program 0 []
-none_planned program = record { count = refl; each = λ number class low found. absurd (omega (arith, low)) }
 
 -- actions that do what the query does are its plan
 pub is_plan : (program : Program) (number : ℕ) (class : Class) (names : Names) (planned : Planned) → LawfulProgram program → slice_get program.classes number ≡ Some class

@@ -1,5 +1,5 @@
 -- What actions do. Only the crate's own functions cite this.
-use Rattle.std.specs.Prelude.{ℕ, ℤ, int_lt, int_le, List, [], map, filter, Bool, slice_get, Option, Some, None}
+use Rattle.std.specs.Prelude.{ℕ, ℤ, int_lt, int_le, List, map, filter, Bool}
 use Rattle.std.specs.Ordering.{int_eq}
 use Rattle.std.specs.List.{list_all}
 use Rattle.brace_model.specs.declared.program.Program.{Program}

@@ -22,7 +22,7 @@ use Rattle.brace_plan.specs.declared.seat.Scene.{Scene}
 use Rattle.brace_plan.specs.declared.seat.Seat.{Seat}
 use Rattle.brace_plan.specs.declared.plans.Planned.{Planned}
 use Rattle.brace_plan.specs.declared.desk.Former.{Former}
-use Rattle.brace_plan.specs.Answers.{saying_of, greatest_visible}
+use Rattle.brace_plan.specs.Answers.{saying_of, greatest_visible, ArePlaced}
 use Rattle.brace_plan.specs.inner.Acts.{act, acts, meets}
 
 -- a grid of the agents, whose cells are as wide as any visible range
@@ -73,11 +73,13 @@ pub record Sets (before after : List Former) (old new : List Value) : Type 0 whe
 abbrev pub with_faults : Option Fault → List Fault → Option Fault
 with_faults = fold (λ found f. Some (with_earlier found f))
 
--- an answer has, behind what it had before, what a deed says, and its faults
+-- an answer has, behind what it had before, what a deed says, to agents of the list, and its faults
 pub record Adds (scene : Scene) (deed : Deed) (before after : Answer) : Type 0 where
   pub said : map (saying_of scene.agents.now) after.said.items
       ≡ map (saying_of scene.agents.now) before.said.items ++ deed.said
   pub fault : after.fault ≡ with_faults before.fault deed.faults
+  pub placed : ArePlaced scene.agents.now before.said.items
+      → ArePlaced scene.agents.now after.said.items
 
 -- what code comes to in a scope: a value, after which nothing is done, or its fault
 abbrev pub worth_in : Scope → Code → Deed
@@ -155,3 +157,4 @@ pub record IsAnswerOf (scene : Scene) (planned : Planned) (seed : ℕ) (a : Agen
       ≡ (block_in scene planned.actions (opening scene planned seed a)).said
   pub fault : answer.fault
       ≡ least (block_in scene planned.actions (opening scene planned seed a)).faults
+  pub placed : ArePlaced scene.agents.now answer.said.items

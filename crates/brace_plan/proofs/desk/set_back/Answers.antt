@@ -1,4 +1,4 @@
-use Rattle.std.proofs.Common.{◌≡◌, ◌∙◌, ◌≤◌, ap, length, [], ◌∷◌, arith}
+use Rattle.std.proofs.Common.{◌∙◌, ◌≤◌, ap, length, [], ◌∷◌, arith}
 use Rattle.std.proofs.lemmas.List.{length-append}
 use Rattle.brace_plan.proofs.FormerLemmas.{undone-last, undone-past, kept-last}
 use Rattle.brace_plan.proofs.desk.set_back.Goals as goal

@@ -1,4 +1,4 @@
-use Rattle.std.proofs.Common.{rules, ◌≡◌, ◌∙◌, sym, ap, subst, w64, true, ℤ, arith}
+use Rattle.std.proofs.Common.{rules, ◌≡◌, sym, subst, w64, true, ℤ, arith}
 use Rattle.std.specs.Prelude.{FitsSigned}
 use Rattle.std.proofs.lemmas.Int.{ints, to_z-of_z}
 use Rattle.brace_model.specs.World.{is_within, x_of, y_of}

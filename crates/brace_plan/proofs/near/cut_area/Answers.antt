@@ -1,10 +1,10 @@
-use Rattle.std.proofs.Common.{rules, ◌≡◌, ◌∙◌, sym, ap, subst, w64, true}
+use Rattle.std.proofs.Common.{rules, ◌≡◌, sym, subst, w64, true}
 use Rattle.std.specs.Prelude.{FitsSigned}
 use Rattle.std.proofs.lemmas.Int.{to_z-of_z}
 use Rattle.std.proofs.lemmas.Bool.{and_parts}
 use Rattle.brace_num.specs.declared.kinds.Area.{Area}
 use Rattle.brace_plan.specs.inner.Walks.{scope_at}
-use Rattle.brace_plan.specs.inner.Acts.{limit_in, stands, coordinate, meets}
+use Rattle.brace_plan.specs.inner.Acts.{limit_in, stands, coordinate}
 use Rattle.brace_plan.proofs.NearLemmas.{stays_inside}
 use Rattle.brace_plan.proofs.near.cut_area.Goals as goal
 

@@ -1,4 +1,4 @@
-use Rattle.std.proofs.Common.{◌≡◌, ◌∙◌, sym, ap, ◌++◌, ◌∷◌, [], List, ℕ}
+use Rattle.std.proofs.Common.{◌∙◌, sym, ap, ◌++◌, ◌∷◌, [], List, ℕ}
 use Rattle.brace_plan.proofs.NearLemmas.{range-more}
 use Rattle.brace_plan.proofs.near.every.Goals as goal
 

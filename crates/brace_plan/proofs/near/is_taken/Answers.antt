@@ -1,4 +1,4 @@
-use Rattle.std.proofs.Common.{◌≡◌, ◌∙◌, sym, ap, ◌&&◌, Bool}
+use Rattle.std.proofs.Common.{◌∙◌, sym, ap, ◌&&◌, Bool}
 use Rattle.std.specs.List.{list_all}
 use Rattle.brace_grid.specs.Grids.{place_of}
 use Rattle.brace_plan.specs.inner.Acts.{meets}

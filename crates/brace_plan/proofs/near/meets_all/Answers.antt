@@ -1,4 +1,4 @@
-use Rattle.std.proofs.Common.{◌≡◌, ◌∙◌, sym, ap, ◌&&◌, ◌+◌, drop, Bool}
+use Rattle.std.proofs.Common.{◌∙◌, sym, ap, ◌&&◌, ◌+◌, drop, Bool}
 use Rattle.std.proofs.lemmas.Bool.{and_left}
 use Rattle.std.proofs.lemmas.List.{at_drop_all}
 use Rattle.std.specs.List.{list_all}

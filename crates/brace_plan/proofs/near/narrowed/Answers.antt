@@ -1,4 +1,4 @@
-use Rattle.std.proofs.Common.{◌≡◌, ◌∙◌, sym, refl}
+use Rattle.std.proofs.Common.{◌∙◌, sym, refl}
 use Rattle.std.proofs.lemmas.Bool.{and_parts, and_from}
 use Rattle.brace_plan.proofs.NearLemmas.{next-bound, part-part}
 use Rattle.brace_plan.proofs.near.narrowed.Goals as goal

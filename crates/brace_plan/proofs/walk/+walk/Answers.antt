@@ -1,25 +1,60 @@
 use Rattle.std.proofs.Common.{◌≡◌, ◌∙◌, sym, ap, subst, refl, map, drop, length, ◌≤◌, ◌+◌, ◌∷◌, [], List, Bool, ℕ, true, false, cond, get_or, ◌<◌, append-nil, Some}
-use Rattle.std.specs.Prelude.{IfOk, OnOk}
 use Rattle.std.proofs.lemmas.List.{drop_all}
 use Rattle.brace_model.specs.declared.program.Value.{Value}
 use Rattle.brace_model.specs.declared.world.Agent.{Agent}
 use Rattle.brace_model.specs.Value.{agent_of, Scope}
-use Rattle.brace_model.specs.Query.{Deed, saying, iterated, inside}
+use Rattle.brace_model.specs.Query.{Deed, saying, closed, chosen, iterated, inside}
 use Rattle.brace_code.specs.Codes.{gives}
 use Rattle.brace_plan.specs.declared.action.Action.{Action}
 use Rattle.brace_plan.specs.declared.answer.Answer.{Answer}
-use Rattle.brace_plan.specs.inner.Walks.{scope_at, Sets, Adds, act_in, block_in, loop_in, agents_at, is_taken}
-use Rattle.brace_plan.proofs.ActionEquations.{does-Foreach, does-Assign}
-use Rattle.brace_plan.proofs.AnswerLemmas.{adds-nothing, adds-alike, adds-then, adds-value, adds-saying}
+use Rattle.brace_plan.specs.inner.Walks.{scope_at, Adds, act_in, block_in, loop_in, agents_at, is_taken}
+use Rattle.brace_plan.proofs.AnswerLemmas.{adds-nothing, adds-alike, adds-then, adds-value, adds-first, adds-second, adds-saying}
 use Rattle.brace_plan.proofs.FormerLemmas.{sets-then}
-use Rattle.brace_plan.proofs.WalkLemmas.{halts, goes_on, visit, loop-near, same-visits, any-default}
+use Rattle.brace_plan.proofs.Steps.{act-If, act-Foreach, act-Assign}
+use Rattle.brace_plan.proofs.WalkLemmas.{if_ok, halts, goes_on, visit, loop-near, same-visits, any-default}
 use Rattle.brace_plan.proofs.walk.+walk.Goals as goal
+
+pub action-returns-then-is_true-clause-added : goal.action-returns-then-is_true-clause-added
+action-returns-then-is_true-clause-added t c =
+    let scene = c.args.scene.now in
+    let here = scope_at scene c.args.seat.now c.args.desk.now.drawer.seed c.args.locals.now in
+    let code = c.in-If.code in
+    let x : Deed = block_in scene c.in-If.a here in
+    let y : Deed = block_in scene c.in-If.b here in
+    let f : Value → Deed = λ v. closed here (chosen v x y) in
+    let first = c.worth-in-If.new.answer in
+    let last = c.block.new.answer in
+    let does = ap (λ (z : Action). act_in scene z here) c.in-If.is ∙ act-If scene.program.now scene.agents.now code c.in-If.a c.in-If.b here in
+    if_ok c.block.result _ _ (λ s h. subst (λ (d : Deed). Adds scene d c.args.answer.now last) (sym does)
+    (adds-value scene here (gives code here) f c.in-Some-2.v c.args.answer.now first last
+    (sym c.in_ok-v-in-If.ensures.value ∙ c.in-Some-2.is) c.in_ok-v-in-If.ensures.added
+    (adds-first scene here c.in-Some-2.v x y first last (sym c.is_true.ensures ∙ c.if-is_true.true)
+    (subst (λ (n : ℕ). Adds scene (block_in scene c.in-If.a (scope_at scene c.args.seat.now n c.args.locals.now)) first last)
+    c.in_ok-v-in-If.ensures.seed h)))) c.block.ensures.added
+
+pub action-returns-else-is_true-clause-added : goal.action-returns-else-is_true-clause-added
+action-returns-else-is_true-clause-added t c =
+    let scene = c.args.scene.now in
+    let here = scope_at scene c.args.seat.now c.args.desk.now.drawer.seed c.args.locals.now in
+    let code = c.in-If.code in
+    let x : Deed = block_in scene c.in-If.a here in
+    let y : Deed = block_in scene c.in-If.b here in
+    let f : Value → Deed = λ v. closed here (chosen v x y) in
+    let first = c.worth-in-If.new.answer in
+    let last = c.block-else-is_true.new.answer in
+    let does = ap (λ (z : Action). act_in scene z here) c.in-If.is ∙ act-If scene.program.now scene.agents.now code c.in-If.a c.in-If.b here in
+    if_ok c.block-else-is_true.result _ _ (λ s h. subst (λ (d : Deed). Adds scene d c.args.answer.now last) (sym does)
+    (adds-value scene here (gives code here) f c.in-Some-2.v c.args.answer.now first last
+    (sym c.in_ok-v-in-If.ensures.value ∙ c.in-Some-2.is) c.in_ok-v-in-If.ensures.added
+    (adds-second scene here c.in-Some-2.v x y first last (sym c.is_true.ensures ∙ c.if-is_true.false)
+    (subst (λ (n : ℕ). Adds scene (block_in scene c.in-If.b (scope_at scene c.args.seat.now n c.args.locals.now)) first last)
+    c.in_ok-v-in-If.ensures.seed h)))) c.block-else-is_true.ensures.added
 
 pub action-returns-in_ok-iterations-in-Foreach-clause-added : goal.action-returns-in_ok-iterations-in-Foreach-clause-added
 action-returns-in_ok-iterations-in-Foreach-clause-added t c =
     let here = scope_at c.args.scene.now c.args.seat.now c.args.desk.now.drawer.seed c.args.locals.now in
     let scene = c.args.scene.now in
-    let does = does-Foreach scene.program.now scene.agents.now c.args.action.now here c.in-Foreach.class c.in-Foreach.bounds c.in-Foreach.body c.in-Foreach.field-3 c.in-Foreach.is in
+    let does = ap (λ (x : Action). act_in scene x here) c.in-Foreach.is ∙ act-Foreach scene.program.now scene.agents.now c.in-Foreach.class c.in-Foreach.bounds c.in-Foreach.body c.in-Foreach.field-3 here in
     subst (λ (d : Deed). Adds scene d c.args.answer.now c.iterations.new.answer)
     (sym (does ∙ loop-near scene here c.in-Foreach.class c.in-Foreach.bounds c.in-Foreach.body)) c.in_ok-iterations-in-Foreach.ensures.added
 
@@ -28,7 +63,7 @@ action-returns-in_ok-push-in-Some-3-clause-added t c =
     let here = scope_at c.args.scene.now c.args.seat.now c.args.desk.now.drawer.seed c.args.locals.now in
     let scene = c.args.scene.now in
     let f : Value → Deed = saying here (agent_of here c.in-Assign.who) c.in-Assign.effect in
-    let does = does-Assign scene.program.now scene.agents.now c.args.action.now here c.in-Assign.who c.in-Assign.effect c.in-Assign.code c.in-Assign.is in
+    let does = ap (λ (x : Action). act_in scene x here) c.in-Assign.is ∙ act-Assign scene.program.now scene.agents.now c.in-Assign.who c.in-Assign.effect c.in-Assign.code here in
     let last : Answer = record { said = c.push.new.self; fault = c.worth-in-Assign.new.answer.fault } in
     let at = c.named.ensures.placed ∙ ap (λ (a : Agent). Some a) (c.named.ensures.agent c.args.desk.now.drawer.seed c.args.locals.now) in
     subst (λ (d : Deed). Adds scene d c.args.answer.now last) (sym does)

@@ -1,4 +1,4 @@
-use Rattle.std.proofs.Common.{◌≡◌, ℕ, drop}
+use Rattle.std.proofs.Common.{◌≡◌, drop}
 use Rattle.brace_model.specs.declared.world.Agent.{Agent}
 use Rattle.brace_plan.specs.declared.answer.Answer.{Answer}
 use Rattle.brace_plan.specs.inner.Walks.{scope_at, Sets, Adds, block_in, loop_in, agents_at}

@@ -1,4 +1,4 @@
-use Rattle.std.proofs.Common.{◌≡◌, ◌∙◌, sym, refl, ap, subst, Some}
+use Rattle.std.proofs.Common.{◌∙◌, sym, refl, ap, subst, Some}
 use Rattle.std.specs.Result.{result_ok}
 use Rattle.brace_model.specs.FaultOrder.{with_earlier}
 use Rattle.brace_model.specs.Value.{Worth}
