@@ -275,10 +275,14 @@ trees = record { one = one_tree_of; never = λ src a x t m r. has_tree src a x t
 programs : Decides Means Refuses
 programs = record { one = one_program; never = λ src a x t m r. not_refused src a x t m r; alike = one_refusal }
 
+-- a script with its program
+abbrev judged_as : List ℕ → Program → Judged
+judged_as source program = record { source = source; program = program }
+
 one_judged : (src : List ℕ) (a b : Judged) → IsJudged src a → IsJudged src b → a ≡ b
 one_judged src a b m n =
-    ap (λ (s : List ℕ). (record { source = s; program = a.program } : Judged)) (m.source ∙ sym n.source)
-    ∙ ap (λ (p : Program). (record { source = b.source; program = p } : Judged)) (one_program src a.program b.program m.means n.means)
+    ap (λ (s : List ℕ). judged_as s a.program) (m.source ∙ sym n.source)
+    ∙ ap (λ (p : Program). judged_as b.source p) (one_program src a.program b.program m.means n.means)
 
 judgements : Decides IsJudged Refuses
 judgements = record { one = one_judged; never = λ src a x t m r. not_refused src a.program x t m.means r; alike = one_refusal }
