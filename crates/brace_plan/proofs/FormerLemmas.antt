@@ -1,7 +1,6 @@
 -- Constants that are set and set back.
 use Rattle.std.proofs.Common.{◌≡◌, ◌∙◌, sym, refl, ap, ℕ, zero, suc, List, [], ◌∷◌, ◌++◌, ◌≤◌, length, take, drop, set, get_or, append_assoc}
-use Rattle.std.proofs.lemmas.List.{set_past, take_all, drop_all, take-append-le, drop-append-le}
-use Rattle.std.proofs.Math.Seq.{take-append_seam, drop-append_seam}
+use Rattle.std.proofs.lemmas.List.{set_past, take-append-le, drop-append-le}
 use Rattle.brace_model.specs.declared.program.Value.{Value}
 use Rattle.brace_plan.specs.declared.desk.Former.{Former}
 use Rattle.brace_plan.specs.inner.Walks.{Sets, undone}
@@ -44,19 +43,6 @@ pub kept-last : (mark : ℕ) (all left : List Former) (b : Former) → all ≡ l
     → mark ≤ length left → take mark left ≡ take mark all
 kept-last mark all left b is low =
     sym (ap (take mark) is ∙ take-append-le mark left (b ∷ []) low)
-
--- all constants behind a mark are set back
-pub back-to : (mark : ℕ) (first last before : List Former) (x y old : List Value) → length last ≤ mark
-    → undone (drop mark last) y ≡ undone (drop mark first) x → take mark last ≡ take mark first
-    → length before ≡ mark → Sets before first old x → (last ≡ before) × (y ≡ old)
-back-to mark first last before x y old low same kept long s =
-    let front : take mark first ≡ before =
-    ap (λ (n : ℕ). take n first) (sym long) ∙ ap (take (length before)) s.is ∙ take-append_seam before s.more in
-    let rest : drop mark first ≡ s.more =
-    ap (λ (n : ℕ). drop n first) (sym long) ∙ ap (drop (length before)) s.is ∙ drop-append_seam before s.more in (
-      sym (take_all mark last low) ∙ kept ∙ front,
-      sym (ap (λ (t : List Former). undone t y) (drop_all mark last low)) ∙ same ∙ ap (λ (t : List Former). undone t x) rest ∙ s.back,
-    )
 
 -- the last constant of a trail has no place
 pub undone-past : (mark : ℕ) (all left : List Former) (b : Former) (l : List Value) → all ≡ left ++ b ∷ []

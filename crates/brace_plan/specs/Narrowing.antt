@@ -1,5 +1,6 @@
--- The conditions that narrow a loop. Where an agent fails one of them, the loop's block says nothing
--- at it, and faults nowhere. What an expression in a loop's condition is to that loop is its sense.
+-- The conditions that narrow a loop. Where an agent fails one of them, the loop's block says
+-- nothing at it, and faults nowhere. What an expression in a loop's condition is to that loop is
+-- its sense.
 use Rattle.std.specs.Prelude.{ℕ, ◌==◌, List, [], ◌∷◌, ◌++◌, map, flat_map, slice_get, Bool, true, false, ◌&&◌, is_none, if◌then◌else◌, length, Option, Some, None}
 use Rattle.brace_model.specs.declared.program.Value.TheVariants.{Fixed}
 use Rattle.brace_model.specs.declared.program.BinOp.{BinOp}
@@ -66,7 +67,8 @@ bound_of _ _ _ = []
 
 -- the bounds of a comparison
 abbrev pub compared : BinOp → Sense → Sense → List Bound
-compared op a b = bound_of a.place (side_left op) b.limit ++ bound_of b.place (side_right op) a.limit
+compared op a b = bound_of a.place (side_left op) b.limit
+    ++ bound_of b.place (side_right op) a.limit
 
 -- an operation on two operands: of `&&` the bounds of the first, and those of the second where no
 -- fault stands before them
@@ -93,9 +95,9 @@ sense_step loop class (Rand site) = plain false
 abbrev pub sense : Who → Class → Expr → Sense
 sense loop class = fold-Expr Sense (sense_step loop class)
 
--- of a statement: the bounds that it sets where it is the whole block of a loop of a variable over a
--- class; and the loops in it, in text order, by the classes of the program and by the variable of a
--- loop that stands in no other loop of the statement
+-- of a statement: the bounds that it sets where it is the whole block of a loop of a variable over
+-- a class; and the loops in it, in text order, by the classes of the program and by the variable of
+-- a loop that stands in no other loop of the statement
 pub record Nested : Type 0 where
   pub sets : Who → Class → List Bound
   pub loops : List Class → Who → List Loop

@@ -1,5 +1,5 @@
--- Where the walk over an agent's actions stands, and what it adds to an answer. Only the crate's own
--- functions cite this.
+-- Where the walk over an agent's actions stands, and what it adds to an answer. Only the crate's
+-- own functions cite this.
 use Rattle.std.specs.Prelude.{◌≡◌, ℕ, ◌<◌, ◌≤ℤ◌, List, [], ◌∷◌, ◌++◌, map, fold, filter, Bool, true, false, ◌&&◌, ◌==◌, Option, Some, None, option_map, slice_get, slice_set, slice_index_or, length, replicate, IfSome}
 use Rattle.std.specs.List.{All, list_all}
 use Rattle.brace_num.specs.declared.kinds.Area.{Area}
