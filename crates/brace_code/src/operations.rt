@@ -43,6 +43,7 @@ pub fn operation_type(op: BinOp, operand: Ty) -> Ty
 }
 
 /// An operation on one word.
+#[inline(always)]
 pub fn unary(op: UnOp, a: i64) -> Result<i64, Kind>
     ensures { result ≡ unary_word op a }
 {
@@ -103,6 +104,7 @@ fn quotient(ty: Ty, a: i64, b: i64) -> Result<i64, Kind>
 }
 
 /// An operation on two words of a type.
+#[inline(always)]
 pub fn binary(op: BinOp, ty: Ty, a: i64, b: i64) -> Result<i64, Kind>
     ensures { result ≡ binary_word op ty a b }
 {

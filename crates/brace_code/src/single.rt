@@ -34,6 +34,7 @@ fn total_word(ty: Ty, n: i64) -> i64
 }
 
 /// A total as a word; with a site it faults where it does not fit.
+#[inline(always)]
 fn read_total(ty: Ty, site: Option<u32>, total: i128) -> Result<i64, Stop>
     ensures { result ≡ word_of (total_read ty site total) }
 {
@@ -47,7 +48,10 @@ fn read_total(ty: Ty, site: Option<u32>, total: i128) -> Result<i64, Stop>
     }
 }
 
+// A result that is handed from function to function goes through memory, in pieces that the reader
+// waits for: so what makes one stands in the code of who reads it.
 /// The word of an operand.
+#[inline(always)]
 fn read(operand: Operand, env: &Env, drawer: &mut Drawer) -> Result<i64, Stop>
     requires { env.now.tick ≤ 2 ^ 32 }
     ensures word { result ≡ operand_word (scope_of env.now drawer.old) operand }
@@ -76,6 +80,7 @@ const STUCK: Stop = Stop {
 
 #[tactic(auto, using(crate::proofs::SingleLemmas::write_did))]
 /// Writes an outcome over the word at a place, above which the stack ends then.
+#[inline(always)]
 fn write(words: &mut [i64], place: usize, outcome: Result<i64, Stop>) -> Result<usize, Stop>
     requires { place < length words.old }
     ensures { Did (pushed (stack_of words.old place) outcome) result words.new }
@@ -90,6 +95,7 @@ fn write(words: &mut [i64], place: usize, outcome: Result<i64, Stop>) -> Result<
 }
 
 /// An exact result, or its fault at a site.
+#[inline(always)]
 fn made(site: u32, exact: Result<i64, Kind>) -> Result<i64, Stop>
     ensures { result ≡ made_word site exact }
 {
@@ -100,6 +106,7 @@ fn made(site: u32, exact: Result<i64, Kind>) -> Result<i64, Stop>
 }
 
 /// An operation on a word and one that was read.
+#[inline(always)]
 fn with(site: u32, op: BinOp, ty: Ty, a: i64, read: Result<i64, Stop>) -> Result<i64, Stop>
     ensures { result ≡ with_word read (λ b. made_word site (binary_word op ty a b)) }
 {
@@ -129,6 +136,7 @@ struct Popped {
 
 /// Takes the top of the stack of the first `top` words.
 #[tactic(auto, using(crate::proofs::SingleLemmas::popped))]
+#[inline(always)]
 fn pop(words: &[i64], top: usize) -> Option<Popped>
     requires { top ≤ length words.now }
     ensures { MatchOption result (stack_of words.now top ≡ [])
@@ -221,6 +229,7 @@ fn stopped(stop: Stop) -> Ended
     }
 }
 
+#[inline(always)]
 fn outcome_of(end: Ended) -> Result<i64, Stop>
     ensures { result ≡ ended end }
 {
