@@ -15,7 +15,7 @@ if any(off != 0 for r in rounds for off in r[5:]):
     raise SystemExit("lanes, code and tree differ")
 rows = [
     "512 environments, of which a third takes the other branch of `?:`; draws are made before. The",
-    "least of all rounds, of a few milliseconds each, since other work on the machine only adds.",
+    "least of all rounds of 5,120 evaluations, since other work on the machine only adds.",
     "A draw is a new one only where the one before was of another agent, tick or site.",
     "",
     "| expression | nodes | ns in lanes | a node | ns by code | ns by the tree | code / tree |",
