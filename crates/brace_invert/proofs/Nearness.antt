@@ -55,7 +55,7 @@ reached_near area None p a b k most bounds more r h = absurd (cc)
 reached_near area (Some c) None a b k most bounds more r h = absurd (cc)
 reached_near area (Some c) (Some d) a b k most bounds more r h =
     let (x, y) = and_parts (is_within c.visible (x_of c a) (x_of d b)) (is_within c.visible (y_of c a) (y_of d b)) r in
-    gap_near area (x_of d b) (y_of d b) (x_of c a) (y_of c a) c.visible k most (bounds c refl) more 
+    gap_near area (x_of d b) (y_of d b) (x_of c a) (y_of c a) c.visible k most (bounds c refl) more
     (either_way c.visible (x_of c a) (x_of d b) x) (either_way c.visible (y_of c a) (y_of d b) y) h
 
 -- of no class a number is above the greatest of all

@@ -154,12 +154,16 @@ module _ (m : Program) (w : List Agent) where
       let (f, there) = halts_one m w x scope stopped in
       let here = sited_one m w x s names last e scope f there in
       let later = part_sited s p h mid last rest scope g (subst (λ s. Contains (run m w p s).faults g) same found) in
-      inr (f, there, record {
-        tick = later.tick ∙ sym here.tick;
-        phase = later.phase ∙ sym here.phase;
-        agent = later.agent ∙ sym here.agent;
-        site = rising-between (sites_in x) (flat_map sites_in s) f.site g.site rising here.site (sub-Contains _ _ g.site (sites_kept s p h) later.site);
-      })
+      inr (
+        f,
+        there,
+        record {
+          tick = later.tick ∙ sym here.tick;
+          phase = later.phase ∙ sym here.phase;
+          agent = later.agent ∙ sym here.agent;
+          site = rising-between (sites_in x) (flat_map sites_in s) f.site g.site rising here.site (sub-Contains _ _ g.site (sites_kept s p h) later.site);
+        },
+      )
 
   foretold_if : (c : Expr) (a d pa pd : List Stmt) (scope : Scope) → Foretold (run m w a scope).faults (run m w pa scope).faults → Foretold (run m w d scope).faults (run m w pd scope).faults
       → Foretold (statement m w (If c a d) scope).faults (statement m w (If c pa pd) scope).faults

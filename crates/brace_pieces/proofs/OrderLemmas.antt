@@ -207,10 +207,14 @@ module _ (s : Setting) where
       let row = range_with_len s.job.first (s.job.last - s.job.first) in
       let (place, below, at) = Contains-append_right (show s s.job.first) (flat_map (steps_in s) row) a (flat_map_of (steps_in s) row v a (row_has s.job.first (s.job.last - s.job.first) v (omega (arith, is)) (omega (arith, is, short))) (there_in_tick v phase has)) in
       let stands : slice_get (steps s) place ≡ Some a = slice_get-get_or (steps s) place a below ∙ ap Some at in
-      record { place = place; stands_there = stands; none_before = λ i e. elim (cases_lt i place) [
-        | inl less ↦ absurd (not_earlier (cases_lt v f.tick) (step_order i place (found_at s f) a less e stands))
-        | inr high ↦ high
-      ] }
+      record {
+        place = place;
+        stands_there = stands;
+        none_before = λ i e. elim (cases_lt i place) [
+          | inl less ↦ absurd (not_earlier (cases_lt v f.tick) (step_order i place (found_at s f) a less e stands))
+          | inr high ↦ high
+        ];
+      }
     where
       not_earlier : (v < f.tick) ⊎ (f.tick ≤ v) → rank (found_at s f) < rank (step (stage_of s phase) v) → ⊥
       not_earlier (inl less) before = omega (arith, less, before, few_places (stage_of s phase))

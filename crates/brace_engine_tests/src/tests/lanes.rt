@@ -1,7 +1,9 @@
 // Code in lanes, at values worked by hand: that lanes answer where no lane faults, and that each
 // kind of fault is told.
 use brace_code::{Code, Draws, Frame, Known, Lane, compile};
-use brace_model::BinOp::{self, Add, And, Div, Eq, Ge, Gt, Le, Lt, Max, Min, Mul, Ne, Or, Rem, Sub};
+use brace_model::BinOp::{
+    self, Add, And, Div, Eq, Ge, Gt, Le, Lt, Max, Min, Mul, Ne, Or, Rem, Sub,
+};
 use brace_model::UnOp::{self, Abs, Neg, Not, Sqrt, ToFixed, Trunc};
 use brace_model::{Expr, Ty, Value, Who};
 use brace_num::{Boxed, List, NoMemory};
@@ -186,7 +188,9 @@ fn branches_run_on_the_lanes_that_take_them(rt: HostRuntime) {
         draws: &[],
     };
     let lanes = lanes(rt.alloc(), 64).expect(&rt, "memory");
-    let words = code.eval_lanes(rt.alloc(), &frame, &lanes).expect(&rt, "words");
+    let words = code
+        .eval_lanes(rt.alloc(), &frame, &lanes)
+        .expect(&rt, "words");
     assert_eq!(rt; words.as_slice().len(), 64);
     for (k, word) in words.as_slice().iter().enumerate() {
         let n = 31 - k as i64;
@@ -309,6 +313,8 @@ fn draws_at_two_sites(rt: HostRuntime) {
         ],
     };
     let lanes = lanes(rt.alloc(), 3).expect(&rt, "memory");
-    let words = code.eval_lanes(rt.alloc(), &frame, &lanes).expect(&rt, "words");
+    let words = code
+        .eval_lanes(rt.alloc(), &frame, &lanes)
+        .expect(&rt, "words");
     assert!(rt; words.as_slice() == &[57, 48, 39][..]);
 }

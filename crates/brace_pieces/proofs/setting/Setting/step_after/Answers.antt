@@ -24,8 +24,10 @@ returns-in-Border c =
 
 pub returns-in-Border-2 : goal.returns-in-Border-2
 returns-in-Border-2 c =
-    record { next = is_behind c.args.self.now c.args.at _ _ c.in-Border.is (ap (λ stage. Some (step stage c.args.at.tick)) c.behind_effects-stage.ensures
-    ∙ ap (λ invert. Some (step (if invert then behind_effects c.args.self.now else Effects) c.args.at.tick)) (sym c.if-not-self.false)) }
+    record {
+      next = is_behind c.args.self.now c.args.at _ _ c.in-Border.is (ap (λ stage. Some (step stage c.args.at.tick)) c.behind_effects-stage.ensures
+          ∙ ap (λ invert. Some (step (if invert then behind_effects c.args.self.now else Effects) c.args.at.tick)) (sym c.if-not-self.false));
+    }
 
 pub returns-in-Effects : goal.returns-in-Effects
 returns-in-Effects c = record { next = is_behind c.args.self.now c.args.at _ _ c.in-Effects.is (ap (λ stage. Some (step stage c.args.at.tick)) c.behind_effects-stage-in-Effects.ensures) }
