@@ -21,6 +21,16 @@ use Rattle.brace_pieces.specs.contracts.setting.Setting as Setting
 use Rattle.brace_model.specs.contracts.program.Gift as Gift
 use Rattle.brace_num.specs.contracts.list.List as List
 use Rattle.brace_pieces.specs.contracts.course.Course as Course
+use Rattle.brace_code.specs.contracts.code.Instr as Instr
+use Rattle.brace_code.proofs.code.Instr.TheLaws.TheKnot as instr
+use Rattle.brace_plan.specs.contracts.action.Action as Action
+use Rattle.brace_plan.specs.contracts.plans.Planned as Planned
+use Rattle.brace_plan.specs.contracts.plans.Plans as Plans
+use Rattle.brace_plan.specs.contracts.plans.Plans.TheInside as plans
+use Rattle.brace_plan.proofs.action.Action.TheLaws.TheKnot as action
+use Rattle.brace_plan.proofs.action.Bound.TheSendSync as bound
+use Rattle.brace_plan.proofs.loops.Loop.TheSendSync as loop
+use Rattle.brace_part.specs.contracts.query.Queries as Queries
 use Rattle.brace_part.specs.contracts.part.Part as Part
 use Rattle.brace_part.proofs.standing.Standing.TheSendSync as standing
 use denote.Struct.Declared.{shape}
@@ -162,6 +172,30 @@ class_send =
 program_send : IsSend (Program.the_field).row
 program_send = search (list_send, class_send, sendable) depth 60 fits 20000
 
+-- ---- and so may its plans
+
+instr_send : IsSend Instr.the_row
+instr_send = search (list_send, instr.crosses, crosses, sendable) depth 60 fits 20000
+
+action_send : IsSend Action.the_row
+action_send = search (list_send, action.crosses, instr_send, instr.crosses, bound.the_send, crosses, sendable) depth 60 fits 20000
+
+planned_send : IsSend Planned.the_row
+planned_send = search (list_send, action_send, sendable) depth 60 fits 20000
+
+plans_inside : IsSend plans.the_row
+plans_inside =
+    recorded_send _ _ _ plans.the_type.to_one (struct_send (shape plans.the_type) (
+      search (program_send, sendable) depth 30,
+      (search (list_send, planned_send, sendable) depth 30, (search (list_send, loop.the_send, sendable) depth 30, tt)),
+    ))
+
+plans_send : IsSend Plans.the_row
+plans_send = view_send plans.the_row _ _ _ _ plans_inside
+
+queries_send : IsSend (Queries.the_field).row
+queries_send = search (plans_send, sendable) depth 60 fits 20000
+
 -- ---- and so may members
 
 course_send : (κ : NamedLft) → IsSend (Course.the_field κ).row
@@ -171,7 +205,7 @@ standing_send : IsSend (Standing.the_field).row
 standing_send = search (standing.the_field_send, crosses, sendable) depth 60 fits 20000
 
 part_send : (κ : NamedLft) → IsSend (Part.the_field κ).row
-part_send κ = search (course_send, standing_send, program_send, crosses, sendable) depth 60 fits 20000
+part_send κ = search (course_send, standing_send, queries_send, crosses, sendable) depth 60 fits 20000
 
 piece_row : IsSend Piece.the_row
 piece_row = search (piece.the_send, crosses, sendable) depth 60 fits 20000
