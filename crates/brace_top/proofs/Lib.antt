@@ -2,8 +2,6 @@ pub mod Examples
 pub mod AnswerLemmas
 pub mod OneOutcome
 pub mod FormatLemmas
-pub mod JudgedLemmas
-pub mod ListingLemmas
 pub mod StatusLemmas
 pub mod PlaceLemmas
 pub mod ScriptLemmas

@@ -32,12 +32,11 @@ use Rattle.brace_top.specs.declared.script_fault.ScriptKind.TheVariants as kind
 use Rattle.brace_top.specs.declared.script_fault.ScriptFault.{ScriptFault}
 use Rattle.brace_top.specs.declared.trial.TheConstants.{TRIAL_SCRIPT}
 use Rattle.brace_top.specs.declared.script_fault.ScriptFault.TheVariants.{Refused, NoMemory}
-use Rattle.brace_top.specs.Commands.{Command, RunCommand, Run, Format, Check, Planning, Trial}
+use Rattle.brace_top.specs.Commands.{Command, RunCommand, Run, Format, Check, Trial}
 use Rattle.brace_top.proofs.PointLemmas.{equal_by, one_beginning}
 use Rattle.brace_top.proofs.ScriptLemmas.{meant_lawful}
 use Rattle.brace_top.specs.Scripts.{IsTree, Means, resolved, NoTree, in_tokens, in_grammar, Refuses, without_tree, in_names, in_checks, token_fault, grammar_fault, name_fault, check_fault}
-use Rattle.brace_top.specs.Outcome.{Outcome, Refusal, ComesTo, unloaded, refused_at, stands_for, Follows, FollowedBy, RunFrom, RunOutcome, CommandOutcome, SameMessage, source_of, script_message, refused, shown, plan_of, trial_outcome, Judged, IsJudged}
-use Rattle.brace_top.specs.PlanText.{plan_text}
+use Rattle.brace_top.specs.Outcome.{Outcome, Refusal, ComesTo, unloaded, refused_at, stands_for, Follows, FollowedBy, RunFrom, RunOutcome, CommandOutcome, SameMessage, source_of, script_message, refused, shown, plan_of, trial_outcome}
 
 pub record Agree (o p : Outcome) : Type 0 where
   pub status : o.status ≡ p.status
@@ -275,18 +274,6 @@ trees = record { one = one_tree_of; never = λ src a x t m r. has_tree src a x t
 programs : Decides Means Refuses
 programs = record { one = one_program; never = λ src a x t m r. not_refused src a x t m r; alike = one_refusal }
 
--- a script with its program
-abbrev judged_as : List ℕ → Program → Judged
-judged_as source program = record { source = source; program = program }
-
-one_judged : (src : List ℕ) (a b : Judged) → IsJudged src a → IsJudged src b → a ≡ b
-one_judged src a b m n =
-    ap (λ (s : List ℕ). judged_as s a.program) (m.source ∙ sym n.source)
-    ∙ ap (λ (p : Program). judged_as b.source p) (one_program src a.program b.program m.means n.means)
-
-judgements : Decides IsJudged Refuses
-judgements = record { one = one_judged; never = λ src a x t m r. not_refused src a.program x t m.means r; alike = one_refusal }
-
 -- a script that means one program comes to nothing else
 pub one_program_found : (name : List ℕ) (source : Result (List ℕ) Refusal) (program : Program) (found : Result Program Refusal)
     → ComesTo Means Refuses name source (Ok program) → ComesTo Means Refuses name source found → Ok program ≡ found
@@ -321,8 +308,5 @@ commands_agree files (Some (Run run)) o p e f =
     (λ src program o p means x y. runs_agree (has_births program) files run program o p (meant_lawful src program means) x y) o p e f
 commands_agree files (Some (Format name)) o p e f = follows_agree IsTree NoTree trees name (source_of files name) _ (λ src tree o p means. one_follows (λ tree. shown (canonical tree)) tree o p) o p e f
 commands_agree files (Some (Check name)) o p e f = follows_agree Means Refuses programs name (source_of files name) _ (λ src program o p means. one_follows (λ program. shown []) program o p) o p e f
-commands_agree files (Some (Planning name invert)) o p e f =
-    follows_agree IsJudged Refuses judgements name (source_of files name) _
-    (λ src judged o p means. one_follows (λ judged. shown (plan_text judged.source judged.program invert)) judged o p) o p e f
 commands_agree files (Some (Trial trial)) o p e f =
     follows_agree Means Refuses programs (codes "trial") (Ok TRIAL_SCRIPT.now) _ (λ src program o p means. one_follows (trial_outcome trial) program o p) o p e f

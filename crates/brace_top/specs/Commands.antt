@@ -1,5 +1,5 @@
 -- The command that the words of a command line ask for.
-use Rattle.std.specs.Prelude.{ℕ, List, Bool, true, false, ◌&&◌, if◌then◌else◌, Option, Some, None, is_none, option_map, option_and_then, unwrap_or}
+use Rattle.std.specs.Prelude.{ℕ, List, Bool, true, false, if◌then◌else◌, Option, Some, None, option_map, option_and_then, unwrap_or}
 use Rattle.brace_words.specs.declared.line.Line.{Line}
 use Rattle.brace_words.specs.declared.mode.Mode.{Mode}
 use Rattle.brace_words.specs.declared.mode.Mode.TheVariants as mode
@@ -49,13 +49,12 @@ pub record TrialCommand : Type 0 where
   pub seed : ℕ
   pub manner : Manner
 
--- what the words ask for: a run, the canonical text of a script, whether a script is accepted, how
--- a script is run with inversion or without, or a trial
+-- what the words ask for: a run, the canonical text of a script, whether a script is accepted, or a
+-- trial
 pub data Command : Type 0 where
   Run : RunCommand → Command
   Format : List ℕ → Command
   Check : List ℕ → Command
-  Planning : List ℕ → Bool → Command
   Trial : TrialCommand → Command
 
 -- the name of a command's script; a trial has its own
@@ -63,7 +62,6 @@ abbrev pub script_in : Command → Option (List ℕ)
 script_in (Run run) = Some run.script
 script_in (Format name) = Some name
 script_in (Check name) = Some name
-script_in (Planning name invert) = Some name
 script_in (Trial trial) = None
 
 -- the command may save files
@@ -73,13 +71,12 @@ may_save _ = false
 
 -- the mode is built
 abbrev pub is_built_mode : Mode → Bool
-is_built_mode mode.Audit = false
-is_built_mode mode.Balance = false
+is_built_mode mode.Plan = false
 is_built_mode _ = true
 
--- the line asks for nothing that is not built yet: for no such mode, no link and no watched figures
+-- the line asks for nothing that is not built yet
 abbrev pub built : Line → Bool
-built line = is_built_mode line.mode && (is_none line.link && is_none line.watch)
+built line = is_built_mode line.mode
 
 -- how many workers words ask for: one where they are no line, and where it says nothing
 abbrev pub workers_of : Option Line → ℕ
@@ -136,7 +133,6 @@ asked line mode.Run = run_of line line.script (anew_of line) line.ticks
 asked line mode.Resume = run_of line line.script (resumed_of line) line.ticks
 asked line mode.Fmt = option_map Format line.script
 asked line mode.Check = option_map Check line.script
-asked line mode.Plan = option_map (λ script. Planning script line.invert) line.script
 asked line mode.Trial = trial_of line line.count line.ticks
 asked line _ = None
 

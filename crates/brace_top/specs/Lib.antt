@@ -3,7 +3,6 @@ pub mod Commands
 pub mod Messages
 pub mod Outcome
 pub mod Places
-pub mod PlanText
 pub mod Restarts
 pub mod Savings
 pub mod Scripts

@@ -21,14 +21,13 @@ use Rattle.brace_top.specs.declared.status.Status.TheVariants.{Done, Usage, Scri
 use Rattle.brace_top.specs.declared.status.Status.TheVariants as ended_by
 use Rattle.brace_top.specs.declared.limits.TheConstants.{SCRIPT_LIMIT, AGENTS_LIMIT, PLAN_LIMIT, CHECKPOINT_LIMIT}
 use Rattle.brace_top.specs.declared.trial.TheConstants.{TRIAL_SCRIPT}
-use Rattle.brace_top.specs.Commands.{Command, RunCommand, TrialCommand, Start, Anew, Resumed, Run, Format, Check, Planning, Trial, command_of, script_in, start_file, is_anew}
+use Rattle.brace_top.specs.Commands.{Command, RunCommand, TrialCommand, Start, Anew, Resumed, Run, Format, Check, Trial, command_of, script_in, start_file, is_anew}
 use Rattle.brace_top.specs.declared.script_fault.ScriptFault.{ScriptFault}
 use Rattle.brace_top.specs.declared.script_fault.ScriptFault.TheVariants as fault
 use Rattle.brace_top.specs.declared.script_fault.ScriptKind.{ScriptKind}
 use Rattle.brace_top.specs.declared.script_fault.ScriptKind.TheVariants.{NoReading}
 use Rattle.brace_top.specs.Messages.{named_message, placed_message, record_message, line_message, point_message, script_word, usage_message, fault_message, stats_message}
 use Rattle.brace_top.specs.Places.{line_number, column_number}
-use Rattle.brace_top.specs.PlanText.{plan_text}
 use Rattle.brace_top.specs.Scripts.{IsTree, Means, NoTree, Refuses}
 use Rattle.brace_top.specs.Savings.{Saving, savings}
 use Rattle.brace_top.specs.Trials.{trial_plan, trial_line}
@@ -94,20 +93,6 @@ TreeOf files name = ComesTo IsTree NoTree name (source_of files name)
 -- the program of the script of a name
 abbrev pub ProgramOf : Files → List ℕ → Result Program Refusal → Type 0
 ProgramOf files name = ComesTo Means Refuses name (source_of files name)
-
--- a script's text, and the program that it means
-pub record Judged : Type 0 where
-  pub source : List ℕ
-  pub program : Program
-
--- a text and its program
-pub record IsJudged (src : List ℕ) (judged : Judged) : Type 0 where
-  pub source : judged.source ≡ src
-  pub means : Means src judged.program
-
--- the text of the script of a name, and its program
-abbrev pub JudgedOf : Files → List ℕ → Result Judged Refusal → Type 0
-JudgedOf files name = ComesTo IsJudged Refuses name (source_of files name)
 
 -- the program of the script of a trial, which is judged as the script of a file named `trial` is
 abbrev pub TrialProgram : Result Program Refusal → Type 0
@@ -311,9 +296,6 @@ CommandOutcome files (Some (Format name)) o =
     Follows (TreeOf files name) (λ tree o. o ≡ shown (canonical tree)) o
 CommandOutcome files (Some (Check name)) o =
     Follows (ProgramOf files name) (λ program o. o ≡ shown []) o
-CommandOutcome files (Some (Planning name invert)) o =
-    Follows (JudgedOf files name)
-    (λ judged o. o ≡ shown (plan_text judged.source judged.program invert)) o
 CommandOutcome files (Some (Trial trial)) o =
     Follows TrialProgram (λ program o. o ≡ trial_outcome trial program) o
 

@@ -12,8 +12,7 @@ ghost use Rattle.brace_top.specs.inner.Settled.{IsServed, IsWritten, is_plain_wo
 ghost use Rattle.brace_top.specs.inner.Words.{said, said_run, said_start, said_trial, IsInRange, IsRunInRange, IsTrialInRange};
 
 use crate::answer::{Answer, Stopped, refuse_file};
-use crate::load::{load_cuts, load_program, load_script, load_start, load_tree, load_trial};
-use crate::plan_text::plan_text;
+use crate::load::{load_cuts, load_program, load_start, load_tree, load_trial};
 use crate::status::Status;
 use crate::task::{Task, run_none};
 use crate::trial::{has_four_fixed, trial_setting};
@@ -86,25 +85,6 @@ fn check_script<S: Shelf, O: Sink>(
 {
     let _program = load_program(alloc, shelf, name)?;
     write_text(alloc, b"", out)
-}
-
-/// Tells how a script is run, with inversion or without.
-fn plan_script<S: Shelf, O: Sink>(
-    alloc: Global,
-    name: &str,
-    invert: bool,
-    shelf: &mut S,
-    out: &mut O,
-) -> Result<Answer, Stopped>
-    requires stage { writes (S.stage shelf.old) ≡ false }
-    ensures served { IsServed S.Shelf O.Sink (Some (asked.Planning name.now invert))
-        shelf.old shelf.new out.old out.new result }
-    ensures held { S.held shelf.new ≡ S.held shelf.old }
-    ensures not_writing { writes (S.stage shelf.new) ≡ false }
-{
-    let script = load_script(alloc, shelf, name)?;
-    let text = plan_text(alloc, script.source.as_slice(), &script.program, invert)?;
-    write_text(alloc, text.as_slice(), out)
 }
 
 /// A run that can begin at a moment.
@@ -216,9 +196,6 @@ pub fn prepare<'a, S: Shelf, O: Sink>(
         Command::Run(run) => ready_run(alloc, run, shelf, out),
         Command::Format(name) => Ok(Work::Told(format_script(alloc, name, shelf, out)?)),
         Command::Check(name) => Ok(Work::Told(check_script(alloc, name, shelf, out)?)),
-        Command::Plan(name, invert) => {
-            Ok(Work::Told(plan_script(alloc, name, *invert, shelf, out)?))
-        }
         Command::Trial(trial) => Ok(Work::Trial(*trial, ready_trial(alloc, trial, shelf)?)),
     }
 }

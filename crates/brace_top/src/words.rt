@@ -1,6 +1,6 @@
 ghost use Rattle.std.specs.Prelude.{◌≡◌, ◌≤◌, option_map, MatchOption, IfErr, IfOk, IfSome, None, Some};
 ghost use Rattle.brace_words.specs.Lines as lines;
-ghost use Rattle.brace_top.specs.Commands.{anew_of, built, is_built_mode, command_in, manner_of, resumed_of, run_of, trial_of, workers_of};
+ghost use Rattle.brace_top.specs.Commands.{anew_of, built, command_in, manner_of, resumed_of, run_of, trial_of, workers_of};
 ghost use Rattle.brace_top.specs.inner.Words.{said, said_manner, said_start, IsInRange, IsMannerInRange};
 
 use brace_num::Text;
@@ -63,26 +63,17 @@ pub enum Command<'a> {
     Format(&'a str),
     /// Whether the script of this name is accepted.
     Check(&'a str),
-    /// How the script of this name is run, with inversion where that is said.
-    Plan(&'a str, bool),
     /// A trial.
     Trial(TrialCommand),
 }
 
 /// Whether a line asks for nothing that is not built yet.
 ///
-/// Not built are the modes `audit` and `balance`, and in `run` and `resume` links and
-/// watched figures.
+/// Not built is the mode `plan`.
 pub fn built(line: &Line) -> bool
     ensures { result ≡ built line.now }
 {
-    is_built_mode(line.mode) && line.link.is_none() && line.watch.is_none()
-}
-
-fn is_built_mode(mode: Mode) -> bool
-    ensures { result ≡ is_built_mode mode }
-{
-    !matches!(mode, Mode::Audit | Mode::Balance)
+    line.mode != Mode::Plan
 }
 
 /// How many workers words ask for, as they were read: 1 to 16, and 1 where they are no line.
@@ -185,8 +176,7 @@ pub fn command_in(line: &Line) -> Option<Command<'_>>
         Mode::Resume => run_of(line, resumed_of(line)),
         Mode::Fmt => Some(Command::Format(line.script.as_ref()?.as_str())),
         Mode::Check => Some(Command::Check(line.script.as_ref()?.as_str())),
-        Mode::Plan => Some(Command::Plan(line.script.as_ref()?.as_str(), line.invert)),
         Mode::Trial => trial_of(line),
-        Mode::Audit | Mode::Balance => None,
+        Mode::Plan => None,
     }
 }

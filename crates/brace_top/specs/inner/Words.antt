@@ -14,7 +14,7 @@ use Rattle.brace_top.specs.declared.words.RunCommand.{RunCommand as CodeRun}
 use Rattle.brace_top.specs.declared.words.Start.{Start as CodeStart}
 use Rattle.brace_top.specs.declared.words.Start.TheVariants as begun
 use Rattle.brace_top.specs.declared.words.TrialCommand.{TrialCommand as CodeTrial}
-use Rattle.brace_top.specs.Commands.{Command, Manner, RunCommand, TrialCommand, Start, Anew, Resumed, Run, Format, Check, Planning, Trial, command_of}
+use Rattle.brace_top.specs.Commands.{Command, Manner, RunCommand, TrialCommand, Start, Anew, Resumed, Run, Format, Check, Trial, command_of}
 
 -- a line, or why there is none, is what words were read as
 pub record IsReadAs (words : List (List ℕ)) (line : Result Line LineFault) : Type 0 where
@@ -68,7 +68,6 @@ abbrev pub said : CodeCommand → Command
 said (code.Run run) = Run (said_run run)
 said (code.Format script) = Format script.now
 said (code.Check script) = Check script.now
-said (code.Plan script invert) = Planning script.now invert
 said (code.Trial trial) = Trial (said_trial trial)
 
 -- epochs have 1 to 16 ticks
@@ -93,5 +92,4 @@ abbrev pub IsInRange : CodeCommand → Type 0
 IsInRange (code.Run run) = IsRunInRange run
 IsInRange (code.Format script) = ⊤
 IsInRange (code.Check script) = ⊤
-IsInRange (code.Plan script invert) = ⊤
 IsInRange (code.Trial trial) = IsTrialInRange trial
