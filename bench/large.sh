@@ -1,7 +1,7 @@
 #!/usr/bin/env bash
 # Runs bench/fish.brasil, whose fish see 10 units far, over squares of 1,000 to 100,000 fish of two
 # densities, in one part, in eight strips and in 8 x 8 parts, on one worker, and writes the processor
-# seconds of a tick into docs/PERFORMANCE.md. One part is left out where it would take minutes.
+# seconds of a tick into docs/PERFORMANCE.md.
 set -eu
 top=$(cd "$(dirname "$0")/.." && pwd)
 "$top/brace" check --script "$top/bench/fish.brasil"
@@ -12,7 +12,7 @@ PYTHONPATH=$top/bench python3 - "$program" "$top/bench/fish.brasil" <<'P'
 import math, os, random, subprocess, sys, tempfile
 from measure import written
 program, script = sys.argv[1:]
-RUNS, TICKS, LONGEST = 2, 1, 10_000
+RUNS, TICKS = 2, 2
 draw = random.Random(7).random
 
 
@@ -48,7 +48,7 @@ with tempfile.TemporaryDirectory() as work:
             with open(agents, "w") as file:
                 for number in range(count):
                     file.write(f"Fish,{number},{draw() * side:.3f},{draw() * side:.3f},0.5,-0.5\n")
-            cells = ["" if count > LONGEST else f"{tick(agents, None):.3f}"]
+            cells = [f"{tick(agents, None):.3f}"]
             for across, up in ((8, 1), (8, 8)):
                 with open(plan, "w") as file:
                     file.write(f"at 0 x {cuts(side, across)} y {cuts(side, up)}".rstrip() + "\n")
