@@ -5,7 +5,8 @@
     sites.py fish.brasil          all sites, a line each
 
 A site is an operation that can fault, or a draw; docs/LANGUAGE.md, "Sites and faults", says how
-they are numbered. The script has to be one that `brace check` accepts.
+they are numbered. `brace plan` tells the same places; this tells what stands there too, and
+needs no program. The script has to be one that `brace check` accepts.
 """
 import argparse
 import re

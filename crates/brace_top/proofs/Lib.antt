@@ -2,7 +2,10 @@ pub mod Examples
 pub mod AnswerLemmas
 pub mod OneOutcome
 pub mod FormatLemmas
+pub mod JudgedLemmas
+pub mod ListingLemmas
 pub mod StatusLemmas
+pub mod StripLemmas
 pub mod PlaceLemmas
 pub mod ScriptLemmas
 pub mod RestartLemmas

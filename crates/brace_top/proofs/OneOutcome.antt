@@ -1,5 +1,5 @@
 -- A command over files has at most one status, one text, one list of saved files, and one message apart from the place of NoReading.
-use Rattle.std.proofs.Common.{◌≡◌, ◌∙◌, refl, sym, ap, subst, ℕ, ◌+◌, ◌<◌, ◌⊎◌, List, [], Bool, true, false, codes, slice_get, Option, Some, None, Result, Ok, Err, inl, inr, arith}
+use Rattle.std.proofs.Common.{◌≡◌, ◌∙◌, refl, sym, ap, ap₂, subst, ℕ, ◌+◌, ◌<◌, ℤ, ◌⊎◌, List, [], map, Bool, true, false, codes, slice_get, Option, Some, None, Result, Ok, Err, inl, inr, arith}
 use Rattle.std.specs.Prelude.{⊤}
 use Rattle.brace_io.specs.Shelves.{Files}
 use Rattle.brace_tok.specs.declared.kinds.Token.{Token}
@@ -26,17 +26,23 @@ use Rattle.brace_model.specs.declared.program.Program.{Program}
 use Rattle.brace_cuts.specs.declared.plan.CutPlan.{CutPlan}
 use Rattle.brace_model.specs.Lawful.{LawfulProgram}
 use Rattle.brace_model.specs.Next.{has_births}
+use Rattle.brace_model.specs.World.{World, x_of}
+use Rattle.brace_balance.specs.Texts.{plan_line, certificate}
+use Rattle.brace_crew.specs.Sums.{place_along}
 use Rattle.brace_save.specs.Texts.{Moment}
 use Rattle.brace_show.specs.Canonical.{canonical}
 use Rattle.brace_top.specs.declared.script_fault.ScriptKind.TheVariants as kind
 use Rattle.brace_top.specs.declared.script_fault.ScriptFault.{ScriptFault}
 use Rattle.brace_top.specs.declared.trial.TheConstants.{TRIAL_SCRIPT}
 use Rattle.brace_top.specs.declared.script_fault.ScriptFault.TheVariants.{Refused, NoMemory}
-use Rattle.brace_top.specs.Commands.{Command, RunCommand, Run, Format, Check, Trial}
+use Rattle.brace_top.specs.Commands.{Command, RunCommand, Run, Format, Check, Planning, Trial, Balancing}
 use Rattle.brace_top.proofs.PointLemmas.{equal_by, one_beginning}
 use Rattle.brace_top.proofs.ScriptLemmas.{meant_lawful}
+use Rattle.brace_top.proofs.StripLemmas.{one_order, one_plan, one_certificate}
 use Rattle.brace_top.specs.Scripts.{IsTree, Means, resolved, NoTree, in_tokens, in_grammar, Refuses, without_tree, in_names, in_checks, token_fault, grammar_fault, name_fault, check_fault}
-use Rattle.brace_top.specs.Outcome.{Outcome, Refusal, ComesTo, unloaded, refused_at, stands_for, Follows, FollowedBy, RunFrom, RunOutcome, CommandOutcome, SameMessage, source_of, script_message, refused, shown, plan_of, trial_outcome}
+use Rattle.brace_top.specs.Outcome.{Outcome, Refusal, ComesTo, unloaded, refused_at, stands_for, Follows, FollowedBy, RunFrom, RunOutcome, CommandOutcome, SameMessage, source_of, script_message, refused, told, shown, agents_of, plan_of, trial_outcome, IsBalanced, Judged, IsJudged}
+use Rattle.brace_top.specs.Balances.{IsBalance}
+use Rattle.brace_top.specs.PlanText.{plan_text}
 
 pub record Agree (o p : Outcome) : Type 0 where
   pub status : o.status ≡ p.status
@@ -274,6 +280,18 @@ trees = record { one = one_tree_of; never = λ src a x t m r. has_tree src a x t
 programs : Decides Means Refuses
 programs = record { one = one_program; never = λ src a x t m r. not_refused src a x t m r; alike = one_refusal }
 
+-- a script with its program
+abbrev judged_as : List ℕ → Program → Judged
+judged_as source program = record { source = source; program = program }
+
+one_judged : (src : List ℕ) (a b : Judged) → IsJudged src a → IsJudged src b → a ≡ b
+one_judged src a b m n =
+    ap (λ (s : List ℕ). judged_as s a.program) (m.source ∙ sym n.source)
+    ∙ ap (λ (p : Program). judged_as b.source p) (one_program src a.program b.program m.means n.means)
+
+judgements : Decides IsJudged Refuses
+judgements = record { one = one_judged; never = λ src a x t m r. not_refused src a.program x t m.means r; alike = one_refusal }
+
 -- a script that means one program comes to nothing else
 pub one_program_found : (name : List ℕ) (source : Result (List ℕ) Refusal) (program : Program) (found : Result Program Refusal)
     → ComesTo Means Refuses name source (Ok program) → ComesTo Means Refuses name source found → Ok program ≡ found
@@ -301,6 +319,16 @@ runs_agree false files run program o p lawful x y =
     moments_agree files run program x.found o p x.follows
     (subst (λ (found : Result Moment Refusal). FollowedBy (RunFrom files run program) found p) (sym (one_beginning files program run.start x.found y.found lawful x.is y.is)) y.follows)
 
+-- what an agent file comes to is one, and so are its balanced strips
+balances_agree : (strips : ℕ) (program : Program) (found : Result World Refusal) (o p : Outcome)
+    → FollowedBy (IsBalanced strips program) found o → FollowedBy (IsBalanced strips program) found p → Agree o p
+balances_agree strips program (Ok world) o p x y =
+    let one : x.xs ≡ y.xs = one_order (map (place_along x_of program) world.agents) x.xs y.xs x.along.sorted y.along.sorted x.along.all y.along.all in
+    let is = subst (λ (xs : List ℤ). IsBalance xs strips y.balance) (sym one) y.is in
+    same o p (told (plan_line x.balance.cuts) (certificate x.balance.load x.balance.proof)) x.tells
+    (y.tells ∙ ap₂ (λ (a b : List ℕ). told a b) (one_plan x.xs strips y.balance x.balance is x.is) (one_certificate x.xs strips y.balance x.balance is x.is))
+balances_agree strips program (Err r) o p x y = same o p (refused r) x y
+
 pub commands_agree : (files : Files) (command : Option Command) (o p : Outcome) → CommandOutcome files command o → CommandOutcome files command p → Agree o p
 commands_agree files None o p e f = same o p _ e f
 commands_agree files (Some (Run run)) o p e f =
@@ -308,5 +336,11 @@ commands_agree files (Some (Run run)) o p e f =
     (λ src program o p means x y. runs_agree (has_births program) files run program o p (meant_lawful src program means) x y) o p e f
 commands_agree files (Some (Format name)) o p e f = follows_agree IsTree NoTree trees name (source_of files name) _ (λ src tree o p means. one_follows (λ tree. shown (canonical tree)) tree o p) o p e f
 commands_agree files (Some (Check name)) o p e f = follows_agree Means Refuses programs name (source_of files name) _ (λ src program o p means. one_follows (λ program. shown []) program o p) o p e f
+commands_agree files (Some (Planning name invert)) o p e f =
+    follows_agree IsJudged Refuses judgements name (source_of files name) _
+    (λ src judged o p means. one_follows (λ judged. shown (plan_text judged.source judged.program invert)) judged o p) o p e f
 commands_agree files (Some (Trial trial)) o p e f =
     follows_agree Means Refuses programs (codes "trial") (Ok TRIAL_SCRIPT.now) _ (λ src program o p means. one_follows (trial_outcome trial) program o p) o p e f
+commands_agree files (Some (Balancing balance)) o p e f =
+    follows_agree Means Refuses programs balance.script (source_of files balance.script) _
+    (λ src program o p means x y. balances_agree balance.strips program (agents_of files program balance.agents) o p x y) o p e f

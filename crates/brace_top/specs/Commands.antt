@@ -1,5 +1,5 @@
 -- The command that the words of a command line ask for.
-use Rattle.std.specs.Prelude.{ℕ, List, Bool, true, false, if◌then◌else◌, Option, Some, None, option_map, option_and_then, unwrap_or}
+use Rattle.std.specs.Prelude.{ℕ, List, Bool, true, false, ◌&&◌, if◌then◌else◌, Option, Some, None, is_none, option_map, option_and_then, unwrap_or}
 use Rattle.brace_words.specs.declared.line.Line.{Line}
 use Rattle.brace_words.specs.declared.mode.Mode.{Mode}
 use Rattle.brace_words.specs.declared.mode.Mode.TheVariants as mode
@@ -49,20 +49,35 @@ pub record TrialCommand : Type 0 where
   pub seed : ℕ
   pub manner : Manner
 
--- what the words ask for: a run, the canonical text of a script, whether a script is accepted, or a
--- trial
+-- cuts of the plane into at most so many strips, over the agents of a file of a script's classes
+pub record BalanceCommand : Type 0 where
+  pub script : List ℕ
+  pub agents : List ℕ
+  pub strips : ℕ
+
+-- what the words ask for: a run, the canonical text of a script, whether a script is accepted, how
+-- a script is run with inversion or without, a trial, or balanced strips
 pub data Command : Type 0 where
   Run : RunCommand → Command
   Format : List ℕ → Command
   Check : List ℕ → Command
+  Planning : List ℕ → Bool → Command
   Trial : TrialCommand → Command
+  Balancing : BalanceCommand → Command
 
 -- the name of a command's script; a trial has its own
 abbrev pub script_in : Command → Option (List ℕ)
 script_in (Run run) = Some run.script
 script_in (Format name) = Some name
 script_in (Check name) = Some name
+script_in (Planning name invert) = Some name
 script_in (Trial trial) = None
+script_in (Balancing balance) = Some balance.script
+
+-- the name of the agent file of a command that runs no part
+abbrev pub agents_in : Command → Option (List ℕ)
+agents_in (Balancing balance) = Some balance.agents
+agents_in _ = None
 
 -- the command may save files
 abbrev pub may_save : Option Command → Bool
@@ -71,12 +86,12 @@ may_save _ = false
 
 -- the mode is built
 abbrev pub is_built_mode : Mode → Bool
-is_built_mode mode.Plan = false
+is_built_mode mode.Audit = false
 is_built_mode _ = true
 
--- the line asks for nothing that is not built yet
+-- the line asks for nothing that is not built yet: for no such mode, no link and no watched figures
 abbrev pub built : Line → Bool
-built line = is_built_mode line.mode
+built line = is_built_mode line.mode && (is_none line.link && is_none line.watch)
 
 -- how many workers words ask for: one where they are no line, and where it says nothing
 abbrev pub workers_of : Option Line → ℕ
@@ -127,13 +142,22 @@ trial_of line (Some count) (Some ticks) = Some (Trial (record {
 }))
 trial_of line _ _ = None
 
+-- the balanced strips that a line asks for, where it names the script and the agent file and says
+-- how many strips there may be
+abbrev pub balance_of : Option (List ℕ) → Option (List ℕ) → Option ℕ → Option Command
+balance_of (Some script) (Some agents) (Some strips) =
+    Some (Balancing (record { script = script; agents = agents; strips = strips }))
+balance_of _ _ _ = None
+
 -- what a line of a mode asks for
 abbrev pub asked : Line → Mode → Option Command
 asked line mode.Run = run_of line line.script (anew_of line) line.ticks
 asked line mode.Resume = run_of line line.script (resumed_of line) line.ticks
 asked line mode.Fmt = option_map Format line.script
 asked line mode.Check = option_map Check line.script
+asked line mode.Plan = option_map (λ script. Planning script line.invert) line.script
 asked line mode.Trial = trial_of line line.count line.ticks
+asked line mode.Balance = balance_of line.script line.agents line.strips
 asked line _ = None
 
 -- what a line asks for, where it is built

@@ -1,8 +1,10 @@
 pub mod Answer
+pub mod Balances
 pub mod Commands
 pub mod Messages
 pub mod Outcome
 pub mod Places
+pub mod PlanText
 pub mod Restarts
 pub mod Savings
 pub mod Scripts

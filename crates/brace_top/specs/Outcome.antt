@@ -1,12 +1,14 @@
 -- What a command comes to with no fault of the outside and with ample memory: its status, its texts
 -- and the files that it saves.
-use Rattle.std.specs.Prelude.{◌≡◌, ◌⊎◌, ℕ, ◌^◌, List, [], ◌∷◌, length, nat_lt, codes, Bool, true, false, if◌then◌else◌, Option, Some, None, Result, Ok, Err}
+use Rattle.std.specs.Prelude.{◌≡◌, ◌⊎◌, ℕ, ◌^◌, List, [], ◌∷◌, length, nat_lt, codes, ℤ, Bool, true, false, if◌then◌else◌, Option, Some, None, Result, Ok, Err}
 use Rattle.brace_io.specs.Shelves.{Files}
 use Rattle.brace_model.specs.declared.program.Program.{Program}
 use Rattle.brace_model.specs.declared.fault.Fault.{Fault}
 use Rattle.brace_cuts.specs.declared.plan.CutPlan.{CutPlan}
 use Rattle.brace_cuts.specs.declared.kinds.PlanKind.{PlanKind}
 use Rattle.brace_cuts.specs.CutPlans as plan_file
+use Rattle.brace_balance.specs.declared.kinds.Balance.{Balance}
+use Rattle.brace_balance.specs.Texts.{plan_line, certificate}
 use Rattle.brace_model.specs.Next.{has_births}
 use Rattle.brace_model.specs.World.{World, world_of}
 use Rattle.brace_model.specs.Run.{end_of, first_fault}
@@ -21,13 +23,15 @@ use Rattle.brace_top.specs.declared.status.Status.TheVariants.{Done, Usage, Scri
 use Rattle.brace_top.specs.declared.status.Status.TheVariants as ended_by
 use Rattle.brace_top.specs.declared.limits.TheConstants.{SCRIPT_LIMIT, AGENTS_LIMIT, PLAN_LIMIT, CHECKPOINT_LIMIT}
 use Rattle.brace_top.specs.declared.trial.TheConstants.{TRIAL_SCRIPT}
-use Rattle.brace_top.specs.Commands.{Command, RunCommand, TrialCommand, Start, Anew, Resumed, Run, Format, Check, Trial, command_of, script_in, start_file, is_anew}
+use Rattle.brace_top.specs.Balances.{IsAlongX, IsBalance}
+use Rattle.brace_top.specs.Commands.{Command, RunCommand, TrialCommand, BalanceCommand, Start, Anew, Resumed, Run, Format, Check, Planning, Trial, Balancing, command_of, script_in, agents_in, start_file, is_anew}
 use Rattle.brace_top.specs.declared.script_fault.ScriptFault.{ScriptFault}
 use Rattle.brace_top.specs.declared.script_fault.ScriptFault.TheVariants as fault
 use Rattle.brace_top.specs.declared.script_fault.ScriptKind.{ScriptKind}
 use Rattle.brace_top.specs.declared.script_fault.ScriptKind.TheVariants.{NoReading}
 use Rattle.brace_top.specs.Messages.{named_message, placed_message, record_message, line_message, point_message, script_word, usage_message, fault_message, stats_message}
 use Rattle.brace_top.specs.Places.{line_number, column_number}
+use Rattle.brace_top.specs.PlanText.{plan_text}
 use Rattle.brace_top.specs.Scripts.{IsTree, Means, NoTree, Refuses}
 use Rattle.brace_top.specs.Savings.{Saving, savings}
 use Rattle.brace_top.specs.Trials.{trial_plan, trial_line}
@@ -93,6 +97,20 @@ TreeOf files name = ComesTo IsTree NoTree name (source_of files name)
 -- the program of the script of a name
 abbrev pub ProgramOf : Files → List ℕ → Result Program Refusal → Type 0
 ProgramOf files name = ComesTo Means Refuses name (source_of files name)
+
+-- a script's text, and the program that it means
+pub record Judged : Type 0 where
+  pub source : List ℕ
+  pub program : Program
+
+-- a text and its program
+pub record IsJudged (src : List ℕ) (judged : Judged) : Type 0 where
+  pub source : judged.source ≡ src
+  pub means : Means src judged.program
+
+-- the text of the script of a name, and its program
+abbrev pub JudgedOf : Files → List ℕ → Result Judged Refusal → Type 0
+JudgedOf files name = ComesTo IsJudged Refuses name (source_of files name)
 
 -- the program of the script of a trial, which is judged as the script of a file named `trial` is
 abbrev pub TrialProgram : Result Program Refusal → Type 0
@@ -195,9 +213,13 @@ setting_of run program moment plan = record {
 abbrev pub refused : Refusal → Outcome
 refused r = record { status = r.status; out = []; err = r.message; saved = [] }
 
+-- a text that is written whole, with a message
+abbrev pub told : List ℕ → List ℕ → Outcome
+told text message = record { status = Done; out = text; err = message; saved = [] }
+
 -- a text that is written whole
 abbrev pub shown : List ℕ → Outcome
-shown text = record { status = Done; out = text; err = []; saved = [] }
+shown text = told text []
 
 -- an outcome of what follows on a file that is accepted, or its refusal
 abbrev pub FollowedBy : {A : Type 0} → (A → Outcome → Type 0) → Result A Refusal → Outcome → Type 0
@@ -285,6 +307,20 @@ trial_outcome trial program =
     let s = trial_setting trial program in
     trial_end trial s (end_of s.job)
 
+-- an outcome of balanced strips over a world: the line of a cut plan, and the certificate of its
+-- load
+pub record IsBalanced (strips : ℕ) (program : Program) (world : World) (o : Outcome) : Type 0 where
+  pub xs : List ℤ
+  pub along : IsAlongX program world.agents xs
+  pub balance : Balance
+  pub is : IsBalance xs strips balance
+  pub tells : o ≡ told (plan_line balance.cuts) (certificate balance.load balance.proof)
+
+-- an outcome of balanced strips over the agents of a file of a program's classes
+abbrev pub BalanceOutcome : Files → BalanceCommand → Program → Outcome → Type 0
+BalanceOutcome files balance program =
+    FollowedBy (IsBalanced balance.strips program) (agents_of files program balance.agents)
+
 -- an outcome of a command, or of words that are none
 abbrev pub CommandOutcome : Files → Option Command → Outcome → Type 0
 CommandOutcome files None o =
@@ -296,8 +332,13 @@ CommandOutcome files (Some (Format name)) o =
     Follows (TreeOf files name) (λ tree o. o ≡ shown (canonical tree)) o
 CommandOutcome files (Some (Check name)) o =
     Follows (ProgramOf files name) (λ program o. o ≡ shown []) o
+CommandOutcome files (Some (Planning name invert)) o =
+    Follows (JudgedOf files name)
+    (λ judged o. o ≡ shown (plan_text judged.source judged.program invert)) o
 CommandOutcome files (Some (Trial trial)) o =
     Follows TrialProgram (λ program o. o ≡ trial_outcome trial program) o
+CommandOutcome files (Some (Balancing balance)) o =
+    Follows (ProgramOf files balance.script) (BalanceOutcome files balance) o
 
 -- an outcome of words over the files that a shelf holds
 abbrev pub HasOutcome : List (List ℕ) → Files → Outcome → Type 0
@@ -317,12 +358,15 @@ abbrev pub SameMessage : List ℕ → List ℕ → Type 0
 SameMessage a b = (a ≡ b) ⊎ AreNoReadings a b
 
 -- a command reads the file of this name where every file before it is accepted: its script, then
--- the file with which a run begins, and its cut plan
+-- the file with which a run begins, or the agent file, and its cut plan
 pub data Reads (files : Files) : Option Command → List ℕ → Type 0 where
   reads_script : (command : Command) (name : List ℕ) → script_in command ≡ Some name
       → Reads files (Some command) name
   reads_start : (run : RunCommand) (program : Program) → ProgramOf files run.script (Ok program)
       → has_births program ≡ false → Reads files (Some (Run run)) (start_file run.start)
+  reads_agents : (command : Command) (script name : List ℕ) (program : Program)
+      → script_in command ≡ Some script → ProgramOf files script (Ok program)
+      → agents_in command ≡ Some name → Reads files (Some command) name
   reads_plan : (run : RunCommand) (program : Program) (moment : Moment) (name : List ℕ)
       → ProgramOf files run.script (Ok program) → has_births program ≡ false
       → BeginsAt files program run.start (Ok moment) → run.cuts ≡ Some name

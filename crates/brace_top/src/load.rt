@@ -7,9 +7,10 @@ ghost use Rattle.brace_model.specs.World.{IsNumbered};
 ghost use Rattle.brace_save.specs.Lines.{moment_of};
 ghost use Rattle.brace_top.specs.Answer.{ShelfCall, shelf_call};
 ghost use Rattle.brace_top.specs.Commands.{is_anew, start_file};
-ghost use Rattle.brace_top.specs.Outcome.{loaded, source_of, agents_of, plan_of, whole_plane, TreeOf, ProgramOf, TrialProgram, PointOf, BeginsAt, begun_anew};
+ghost use Rattle.brace_top.specs.Outcome.{loaded, source_of, agents_of, plan_of, whole_plane, TreeOf, JudgedOf, ProgramOf, TrialProgram, PointOf, BeginsAt, begun_anew};
 ghost use Rattle.brace_top.specs.declared.limits.TheConstants.{SCRIPT_LIMIT};
 ghost use Rattle.brace_top.specs.inner.Settled.{IsLoaded, IsUnloaded, IsScriptRefused, IsRecordRefused, IsPlanRefused, IsPointRefused, refuses_file, stopped_status};
+ghost use Rattle.brace_top.specs.inner.Prepared.{judged};
 ghost use Rattle.brace_top.specs.inner.Words.{said_start};
 
 use crate::answer::{Stopped, refuse, refuse_file};
@@ -129,6 +130,32 @@ pub fn load_tree<S: Shelf>(alloc: Global, shelf: &mut S, name: &str) -> Result<T
     }
 }
 
+/// A script that is accepted: its text, and the program that it means.
+#[derive(Debug, Drop)]
+pub struct Script {
+    pub source: Vec<u8>,
+    pub program: Program,
+}
+
+/// The script of a name, with its program.
+pub fn load_script<S: Shelf>(alloc: Global, shelf: &mut S, name: &str) -> Result<Script, Stopped>
+    requires { writes (S.stage shelf.old) ≡ false }
+    ensures loads { MatchResult result
+        (λ script. IsLoaded (λ files. JudgedOf files name.now)
+        (shelf_call S.Shelf shelf.old shelf.new) (judged script))
+        (IsUnloaded (λ files. JudgedOf files name.now) name.now
+        (shelf_call S.Shelf shelf.old shelf.new)) }
+    ensures lawful { IfOk result (λ script. LawfulProgram script.program) }
+    ensures held { S.held shelf.new ≡ S.held shelf.old }
+    ensures not_writing { writes (S.stage shelf.new) ≡ false }
+{
+    let source = load_file(alloc, shelf, name, SCRIPT_LIMIT, Status::Script)?;
+    match read_program(alloc, source.as_slice()) {
+        Ok(program) => Ok(Script { source, program }),
+        Err(fault) => Err(refuse_script(alloc, name, source.as_slice(), fault)),
+    }
+}
+
 /// The program of the script of a name.
 pub fn load_program<S: Shelf>(alloc: Global, shelf: &mut S, name: &str) -> Result<Program, Stopped>
     requires { writes (S.stage shelf.old) ≡ false }
@@ -140,11 +167,8 @@ pub fn load_program<S: Shelf>(alloc: Global, shelf: &mut S, name: &str) -> Resul
     ensures held { S.held shelf.new ≡ S.held shelf.old }
     ensures not_writing { writes (S.stage shelf.new) ≡ false }
 {
-    let src = load_file(alloc, shelf, name, SCRIPT_LIMIT, Status::Script)?;
-    match read_program(alloc, src.as_slice()) {
-        Ok(program) => Ok(program),
-        Err(fault) => Err(refuse_script(alloc, name, src.as_slice(), fault)),
-    }
+    let script = load_script(alloc, shelf, name)?;
+    Ok(script.program)
 }
 
 /// The program of the script of a trial.

@@ -5,18 +5,22 @@ ghost use Rattle.brace_save.specs.Lines.{moment_of};
 ghost use Rattle.brace_top.specs.Answer.{CountsWrites, sink_call};
 ghost use Rattle.brace_top.specs.Commands as asked;
 ghost use Rattle.brace_top.specs.Commands.{is_anew};
-ghost use Rattle.brace_top.specs.Outcome.{shown, setting_of, ran};
+ghost use Rattle.brace_top.specs.Outcome.{shown, told, setting_of, ran};
 ghost use Rattle.brace_top.specs.Status.{has_run};
 ghost use Rattle.brace_top.specs.inner.Prepared.{IsPrepared, IsReadyRun, IsReadyTrial, IsStoppedBefore};
 ghost use Rattle.brace_top.specs.inner.Settled.{IsServed, IsWritten, is_plain_work, outcome_of, status_in, message_in};
-ghost use Rattle.brace_top.specs.inner.Words.{said, said_run, said_start, said_trial, IsInRange, IsRunInRange, IsTrialInRange};
+ghost use Rattle.brace_top.specs.inner.Words.{said, said_balance, said_run, said_start, said_trial, IsBalanceInRange, IsInRange, IsRunInRange, IsTrialInRange};
 
 use crate::answer::{Answer, Stopped, refuse_file};
-use crate::load::{load_cuts, load_program, load_start, load_tree, load_trial};
+use crate::load::{
+    load_cuts, load_program, load_script, load_start, load_tree, load_trial, load_world,
+};
+use crate::plan_text::plan_text;
 use crate::status::Status;
+use crate::strips::balanced_strips;
 use crate::task::{Task, run_none};
 use crate::trial::{has_four_fixed, trial_setting};
-use crate::words::{Command, RunCommand, Start, TrialCommand};
+use crate::words::{BalanceCommand, Command, RunCommand, Start, TrialCommand};
 use brace_cuts::CutPlan;
 use brace_io::{Shelf, Sink, write_whole};
 use brace_model::{Job, Program, has_births};
@@ -36,10 +40,10 @@ pub enum Work<'a> {
     Trial(TrialCommand, Setting),
 }
 
-/// Writes a text that is all that a command writes.
-fn write_text<O: Sink>(alloc: Global, text: &[u8], out: &mut O) -> Result<Answer, Stopped>
-    ensures written { IsWritten (λ o. o ≡ shown text.now) (sink_call O.Sink out.old out.new)
-        (message_in result) (status_in result) }
+/// Writes a text that is all that a command writes, and answers it with a message.
+fn write_told<O: Sink>(text: &[u8], message: Vec<u8>, out: &mut O) -> Result<Answer, Stopped>
+    ensures written { IsWritten (λ o. o ≡ told text.now message.items)
+        (sink_call O.Sink out.old out.new) (message_in result) (status_in result) }
     ensures work { is_plain_work (status_in result) ≡ true }
     ensures writes { CountsWrites (sink_call O.Sink out.old out.new) (status_in result) }
     ensures clean { has_run (status_in result) ≡ true → O.clean out.new ≡ true }
@@ -48,8 +52,19 @@ fn write_text<O: Sink>(alloc: Global, text: &[u8], out: &mut O) -> Result<Answer
     out.flush()?;
     Ok(Answer {
         status: Status::Done,
-        message: Vec::new(alloc),
+        message,
     })
+}
+
+/// Writes a text that is all that a command writes.
+fn write_text<O: Sink>(alloc: Global, text: &[u8], out: &mut O) -> Result<Answer, Stopped>
+    ensures written { IsWritten (λ o. o ≡ shown text.now) (sink_call O.Sink out.old out.new)
+        (message_in result) (status_in result) }
+    ensures work { is_plain_work (status_in result) ≡ true }
+    ensures writes { CountsWrites (sink_call O.Sink out.old out.new) (status_in result) }
+    ensures clean { has_run (status_in result) ≡ true → O.clean out.new ≡ true }
+{
+    write_told(text, Vec::new(alloc), out)
 }
 
 /// Writes the canonical text of a script.
@@ -85,6 +100,47 @@ fn check_script<S: Shelf, O: Sink>(
 {
     let _program = load_program(alloc, shelf, name)?;
     write_text(alloc, b"", out)
+}
+
+/// Tells how a script is run, with inversion or without.
+fn plan_script<S: Shelf, O: Sink>(
+    alloc: Global,
+    name: &str,
+    invert: bool,
+    shelf: &mut S,
+    out: &mut O,
+) -> Result<Answer, Stopped>
+    requires stage { writes (S.stage shelf.old) ≡ false }
+    ensures served { IsServed S.Shelf O.Sink (Some (asked.Planning name.now invert))
+        shelf.old shelf.new out.old out.new result }
+    ensures held { S.held shelf.new ≡ S.held shelf.old }
+    ensures not_writing { writes (S.stage shelf.new) ≡ false }
+{
+    let script = load_script(alloc, shelf, name)?;
+    let text = plan_text(alloc, script.source.as_slice(), &script.program, invert)?;
+    write_text(alloc, text.as_slice(), out)
+}
+
+/// Writes the line of a cut plan of balanced strips over the agents of a file, with the certificate
+/// of their load for a message.
+fn balance_agents<S: Shelf, O: Sink>(
+    alloc: Global,
+    balance: &BalanceCommand,
+    shelf: &mut S,
+    out: &mut O,
+) -> Result<Answer, Stopped>
+    requires stage { writes (S.stage shelf.old) ≡ false }
+    requires range { IsBalanceInRange balance.now }
+    ensures served { IsServed S.Shelf O.Sink (Some (asked.Balancing (said_balance balance.now)))
+        shelf.old shelf.new out.old out.new result }
+    ensures held { S.held shelf.new ≡ S.held shelf.old }
+    ensures not_writing { writes (S.stage shelf.new) ≡ false }
+{
+    let program = load_program(alloc, shelf, balance.script)?;
+    let world = load_world(alloc, shelf, &program, balance.agents)?;
+    let strips = balanced_strips(alloc, &program, &world, balance.strips)?;
+    let certificate = strips.certificate;
+    write_told(strips.plan.as_slice(), certificate, out)
 }
 
 /// A run that can begin at a moment.
@@ -196,6 +252,10 @@ pub fn prepare<'a, S: Shelf, O: Sink>(
         Command::Run(run) => ready_run(alloc, run, shelf, out),
         Command::Format(name) => Ok(Work::Told(format_script(alloc, name, shelf, out)?)),
         Command::Check(name) => Ok(Work::Told(check_script(alloc, name, shelf, out)?)),
+        Command::Plan(name, invert) => {
+            Ok(Work::Told(plan_script(alloc, name, *invert, shelf, out)?))
+        }
         Command::Trial(trial) => Ok(Work::Trial(*trial, ready_trial(alloc, trial, shelf)?)),
+        Command::Balance(balance) => Ok(Work::Told(balance_agents(alloc, balance, shelf, out)?)),
     }
 }

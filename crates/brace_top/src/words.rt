@@ -1,6 +1,6 @@
 ghost use Rattle.std.specs.Prelude.{◌≡◌, ◌≤◌, option_map, MatchOption, IfErr, IfOk, IfSome, None, Some};
 ghost use Rattle.brace_words.specs.Lines as lines;
-ghost use Rattle.brace_top.specs.Commands.{anew_of, built, command_in, manner_of, resumed_of, run_of, trial_of, workers_of};
+ghost use Rattle.brace_top.specs.Commands.{anew_of, balance_of, built, is_built_mode, command_in, manner_of, resumed_of, run_of, trial_of, workers_of};
 ghost use Rattle.brace_top.specs.inner.Words.{said, said_manner, said_start, IsInRange, IsMannerInRange};
 
 use brace_num::Text;
@@ -54,6 +54,15 @@ pub struct TrialCommand {
     pub manner: Manner,
 }
 
+/// Cuts of the plane into strips over the agents of a file.
+#[derive(Debug, Clone, Copy)]
+pub struct BalanceCommand<'a> {
+    pub script: &'a str,
+    pub agents: &'a str,
+    /// The most strips, 1 to 64.
+    pub strips: u32,
+}
+
 /// What the words of a command ask for.
 #[derive(Debug, Clone, Copy)]
 pub enum Command<'a> {
@@ -63,17 +72,27 @@ pub enum Command<'a> {
     Format(&'a str),
     /// Whether the script of this name is accepted.
     Check(&'a str),
+    /// How the script of this name is run, with inversion where that is said.
+    Plan(&'a str, bool),
     /// A trial.
     Trial(TrialCommand),
+    /// Balanced strips.
+    Balance(BalanceCommand<'a>),
 }
 
 /// Whether a line asks for nothing that is not built yet.
 ///
-/// Not built is the mode `plan`.
+/// Not built are the mode `audit`, and in `run` and `resume` links and watched figures.
 pub fn built(line: &Line) -> bool
     ensures { result ≡ built line.now }
 {
-    line.mode != Mode::Plan
+    is_built_mode(line.mode) && line.link.is_none() && line.watch.is_none()
+}
+
+fn is_built_mode(mode: Mode) -> bool
+    ensures { result ≡ is_built_mode mode }
+{
+    !matches!(mode, Mode::Audit)
 }
 
 /// How many workers words ask for, as they were read: 1 to 16, and 1 where they are no line.
@@ -161,6 +180,23 @@ fn trial_of(line: &Line) -> Option<Command<'_>>
     }))
 }
 
+/// The balanced strips that a line asks for, where it names the script and the agent file and says
+/// how many strips there may be.
+fn balance_of(line: &Line) -> Option<Command<'_>>
+    requires { lines.IsInRange line.now }
+    ensures command { MatchOption result
+        (balance_of line.now.script line.now.agents line.now.strips ≡ None)
+        (λ command. balance_of line.now.script line.now.agents line.now.strips
+        ≡ Some (said command)) }
+    ensures range { IfSome result IsInRange }
+{
+    Some(Command::Balance(BalanceCommand {
+        script: line.script.as_ref()?.as_str(),
+        agents: line.agents.as_ref()?.as_str(),
+        strips: line.strips?,
+    }))
+}
+
 /// The command that a line asks for, or None where it is not built yet.
 pub fn command_in(line: &Line) -> Option<Command<'_>>
     requires { lines.IsInRange line.now }
@@ -176,7 +212,9 @@ pub fn command_in(line: &Line) -> Option<Command<'_>>
         Mode::Resume => run_of(line, resumed_of(line)),
         Mode::Fmt => Some(Command::Format(line.script.as_ref()?.as_str())),
         Mode::Check => Some(Command::Check(line.script.as_ref()?.as_str())),
+        Mode::Plan => Some(Command::Plan(line.script.as_ref()?.as_str(), line.invert)),
         Mode::Trial => trial_of(line),
-        Mode::Plan => None,
+        Mode::Balance => balance_of(line),
+        Mode::Audit => None,
     }
 }

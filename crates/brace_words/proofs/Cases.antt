@@ -24,6 +24,10 @@ only mode = record {
   invert = false;
   save = None;
   stats = false;
+  link = None;
+  published = None;
+  watch = None;
+  strips = None;
 }
 
 any_order : line_of (codes "--ticks=2" ∷ codes "--agents" ∷ codes "a" ∷ codes "run" ∷ codes "--script=s" ∷ [])

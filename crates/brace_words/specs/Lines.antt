@@ -33,6 +33,10 @@ said_by found mode = record {
   invert = is_set found (codes "invert");
   save = found (codes "save");
   stats = is_set found (codes "stats");
+  link = found (codes "link");
+  published = found (codes "published");
+  watch = found (codes "watch");
+  strips = number_in found (codes "strips");
 }
 
 -- the same, where each text is a value of its option
@@ -65,3 +69,4 @@ pub record IsInRange (line : Line) : Type 0 where
   pub every : IfSome line.every (λ n. (1 ≤ n) × (n ≤ 2 ^ 32))
   pub epoch : IfSome line.epoch (λ n. (1 ≤ n) × (n ≤ 16))
   pub workers : IfSome line.workers (λ n. (1 ≤ n) × (n ≤ 16))
+  pub strips : IfSome line.strips (λ n. (1 ≤ n) × (n ≤ 64))

@@ -12,6 +12,8 @@ modes =
     ∷ (codes "fmt", mode.Fmt)
     ∷ (codes "plan", mode.Plan)
     ∷ (codes "trial", mode.Trial)
+    ∷ (codes "audit", mode.Audit)
+    ∷ (codes "balance", mode.Balance)
     ∷ []
 
 -- the mode of this name, if there is one
@@ -30,11 +32,14 @@ admits needed given = given
 admits may given = true
 admits never given = not given
 
--- a use for `run`, for `resume`, for `check` and `fmt`, for `plan`, and for `trial`
-abbrev pub modes_are : Use → Use → Use → Use → Use → Mode → Use
-modes_are run resume judged plan trial mode.Run = run
-modes_are run resume judged plan trial mode.Resume = resume
-modes_are run resume judged plan trial mode.Check = judged
-modes_are run resume judged plan trial mode.Fmt = judged
-modes_are run resume judged plan trial mode.Plan = plan
-modes_are run resume judged plan trial mode.Trial = trial
+-- a use for `run`, for `resume`, for `check` and `fmt`, for `plan`, for `trial`, for `audit`, and for
+-- `balance`
+abbrev pub modes_are : Use → Use → Use → Use → Use → Use → Use → Mode → Use
+modes_are run resume judged plan trial audit balance mode.Run = run
+modes_are run resume judged plan trial audit balance mode.Resume = resume
+modes_are run resume judged plan trial audit balance mode.Check = judged
+modes_are run resume judged plan trial audit balance mode.Fmt = judged
+modes_are run resume judged plan trial audit balance mode.Plan = plan
+modes_are run resume judged plan trial audit balance mode.Trial = trial
+modes_are run resume judged plan trial audit balance mode.Audit = audit
+modes_are run resume judged plan trial audit balance mode.Balance = balance

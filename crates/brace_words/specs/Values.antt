@@ -1,5 +1,6 @@
 -- Which texts are values of options, and what stands for an option or a flag.
 use Rattle.std.specs.Prelude.{ℕ, Bool, true, false, not, ◌&&◌, ◌==◌, nat_le, length, Option, None, Some, bytes_eq, codes, option_and_then}
+use Rattle.std.specs.List.{list_all, list_any}
 use Rattle.clap.specs.Walk.{Text}
 use Rattle.brace_num.specs.Spelling.{count_of}
 
@@ -15,6 +16,19 @@ is_within least most (Some n) = nat_le least n && nat_le n most
 -- digits alone, of a number from the least to the most
 abbrev pub is_number : ℕ → ℕ → Text → Bool
 is_number least most text = is_within least most (count_of text)
+
+-- what may become of a piece on a link: it is lost, delivered, delivered twice, or delivered late
+abbrev pub is_fate : ℕ → Bool
+is_fate letter = list_any (λ fate. letter == fate) (codes "ldta")
+
+-- the letter `l`
+abbrev pub is_loss : ℕ → Bool
+is_loss letter = letter == 108
+
+-- 1 to 16 letters of fates, not all of them losses
+abbrev pub is_link : Text → Bool
+is_link text =
+    nat_le (length text) 16 && (list_all is_fate text && not (list_all is_loss text))
 
 -- what stands for an option, if anything does, is a value of it
 abbrev pub is_absent_or : (Text → Bool) → Option Text → Bool

@@ -24,6 +24,10 @@ pub(crate) fn command<'a>(alloc: Global) -> Result<Command<'a>, AllocError>
         .arg(option(alloc, "workers"))?
         .arg(option(alloc, "order"))?
         .arg(option(alloc, "save"))?
+        .arg(option(alloc, "link"))?
+        .arg(option(alloc, "published"))?
+        .arg(option(alloc, "watch"))?
+        .arg(option(alloc, "strips"))?
         .arg(flag(alloc, "invert"))?
         .arg(flag(alloc, "stats"))
 }

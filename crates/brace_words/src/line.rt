@@ -34,4 +34,13 @@ pub struct Line {
     pub save: Option<Text>,
     /// Whether the counts of a run are told.
     pub stats: bool,
+    /// What becomes of each piece on a link, in turn: 1 to 16 of the letters `l` (lost), `d`
+    /// (delivered), `t` (twice) and `a` (after the others), not all `l`.
+    pub link: Option<Text>,
+    /// The name of the file that is compared.
+    pub published: Option<Text>,
+    /// The name of the file of figures that are watched.
+    pub watch: Option<Text>,
+    /// The most strips into which the plane is cut: 1 to 64.
+    pub strips: Option<u32>,
 }

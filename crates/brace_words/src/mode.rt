@@ -16,6 +16,10 @@ pub enum Mode {
     Plan,
     /// Runs the program's own script over agents that it makes.
     Trial,
+    /// Tells whether a file is what a run publishes.
+    Audit,
+    /// Cuts the plane into strips with agents alike in number.
+    Balance,
 }
 
 /// The mode of this name, or None where it names none.
@@ -29,6 +33,8 @@ pub(crate) fn mode_named(name: &str) -> Option<Mode>
         "fmt" => Some(Mode::Fmt),
         "plan" => Some(Mode::Plan),
         "trial" => Some(Mode::Trial),
+        "audit" => Some(Mode::Audit),
+        "balance" => Some(Mode::Balance),
         _ => None,
     }
 }

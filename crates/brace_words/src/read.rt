@@ -6,7 +6,7 @@ ghost use Rattle.brace_words.specs.inner.Getters.{found_in};
 use crate::command::command;
 use crate::mode::mode_named;
 use crate::options::takes;
-use crate::values::{is_set, name_of, number_of, small};
+use crate::values::{is_set, link_of, name_of, number_of, small};
 use crate::{Line, LineFault};
 use clap::ArgMatches;
 use clap::error::ErrorKind;
@@ -24,10 +24,14 @@ const EPOCH_LIMIT: u64 = 16;
 /// The most workers.
 const WORKERS_LIMIT: u64 = 16;
 
+/// The most strips.
+const STRIPS_LIMIT: u64 = 64;
+
 /// The line that the words after the program's name are.
 ///
 /// `Usage` exactly where they are none: clap refuses them, they name no mode, lack an option that
-/// the mode needs, have one that it does not take, or give an option what is no value of it.
+/// the mode needs, have one that it does not take, give an option what is no value of it, ask for
+/// links with more than one worker, or name the same for `--save` and for `--watch`.
 pub fn read_line(alloc: Global, words: &[String]) -> Result<Line, LineFault>
     ensures line { IfOk result (λ line. line_of (map string_bytes words.now) ≡ Some line) }
     ensures usage { IfErr result (λ fault. fault ≡ LineFault.Usage
@@ -82,5 +86,9 @@ fn line_found(alloc: Global, matches: &ArgMatches<'_>) -> Result<Line, LineFault
         invert: is_set(matches, "invert"),
         save: name_of(alloc, matches, "save")?,
         stats: is_set(matches, "stats"),
+        link: link_of(alloc, matches, "link")?,
+        published: name_of(alloc, matches, "published")?,
+        watch: name_of(alloc, matches, "watch")?,
+        strips: small(number_of(matches, "strips", 1, STRIPS_LIMIT)?),
     })
 }

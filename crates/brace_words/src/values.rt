@@ -1,5 +1,6 @@
 ghost use Rattle.std.specs.Prelude.{◌≡◌, ◌<◌, ◌≤◌, ◌^◌, IfSome, IfOk, IfErr, true, false};
-ghost use Rattle.brace_words.specs.Values.{is_name, is_number, is_absent_or, is_set, number_in};
+ghost use Rattle.std.specs.List.{list_all};
+ghost use Rattle.brace_words.specs.Values.{is_name, is_number, is_fate, is_loss, is_link, is_absent_or, is_set, number_in};
 ghost use Rattle.brace_words.specs.inner.Getters.{found_in};
 
 use crate::LineFault;
@@ -24,6 +25,51 @@ pub(crate) fn name_of(
         Some("") => Err(LineFault::Usage),
         Some(name) => Ok(Some(text_of(alloc, name)?)),
     }
+}
+
+/// The letters that stand for an option, if any. Usage where they are no link.
+pub(crate) fn link_of(
+    alloc: Global,
+    matches: &ArgMatches<'_>,
+    option: &str,
+) -> Result<Option<Text>, LineFault>
+    ensures letters { IfOk result (λ letters. letters ≡ found_in matches.now option.now) }
+    ensures taken { IfOk result (λ letters.
+        is_absent_or is_link (found_in matches.now option.now) ≡ true) }
+    ensures usage { IfErr result (λ fault. fault ≡ LineFault.Usage
+        → is_absent_or is_link (found_in matches.now option.now) ≡ false) }
+{
+    match matches.get_str(option) {
+        None => Ok(None),
+        Some(letters) if is_link(letters) => Ok(Some(text_of(alloc, letters)?)),
+        Some(_) => Err(LineFault::Usage),
+    }
+}
+
+/// Whether a text is 1 to 16 letters of a link, not all of them losses.
+fn is_link(text: &str) -> bool
+    ensures { result ≡ is_link text.now }
+{
+    let letters = text.as_bytes();
+    letters.len() <= 16 && are_fates(letters) && !are_losses(letters)
+}
+
+fn are_fates(letters: &[u8]) -> bool
+    ensures { result ≡ list_all is_fate letters.now }
+{
+    letters.iter().all(|letter| is_fate(*letter))
+}
+
+fn are_losses(letters: &[u8]) -> bool
+    ensures { result ≡ list_all is_loss letters.now }
+{
+    letters.iter().all(|letter| *letter == b'l')
+}
+
+fn is_fate(letter: u8) -> bool
+    ensures { result ≡ is_fate letter }
+{
+    matches!(letter, b'l' | b'd' | b't' | b'a')
 }
 
 fn text_of(alloc: Global, name: &str) -> Result<Text, NoMemory>

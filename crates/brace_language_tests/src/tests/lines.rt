@@ -4,7 +4,7 @@ use brace_words::{Line, LineFault, read_line};
 use std::alloc::{AllocError, Global};
 
 // A line, and what it says: its mode, its names, its numbers and its flags.
-const LINES: [(&str, &str); 14] = [
+const LINES: [(&str, &str); 20] = [
     (
         "run --script s --agents a --ticks 2",
         "Run script s agents a ticks 2",
@@ -35,6 +35,30 @@ const LINES: [(&str, &str); 14] = [
          20",
         "Trial ticks 20 count 1048576 seed 0 epoch 5 workers 2 order 1 invert stats",
     ),
+    (
+        "run --script s --agents a --ticks 1 --link llld",
+        "Run script s agents a link llld ticks 1",
+    ),
+    (
+        "resume --link=ldtaldtaldtaldta --workers 1 --script s --from c --ticks 1 --watch w --save v",
+        "Resume script s from c save v link ldtaldtaldtaldta watch w ticks 1 workers 1",
+    ),
+    (
+        "audit --script s --agents a --ticks 3 --published p",
+        "Audit script s agents a published p ticks 3",
+    ),
+    (
+        "--every 2 --seed 7 audit --published - --ticks 3 --agents a --script s",
+        "Audit script s agents a published - ticks 3 seed 7 every 2",
+    ),
+    (
+        "balance --script s --agents a --strips 64",
+        "Balance script s agents a strips 64",
+    ),
+    (
+        "balance --strips=1 --agents=a --script=s",
+        "Balance script s agents a strips 1",
+    ),
     ("check --script=-x", "Check script -x"),
     ("check --script=a=b", "Check script a=b"),
     ("check --script check", "Check script check"),
@@ -42,7 +66,7 @@ const LINES: [(&str, &str); 14] = [
 ];
 
 // Words that are no line, each for one reason.
-const REFUSED: [&str; 52] = [
+const REFUSED: [&str; 77] = [
     "",
     "run",
     "walk --script s",
@@ -83,7 +107,32 @@ const REFUSED: [&str; 52] = [
     "run --script s --agents a --ticks 2 --workers 4294967297",
     "run --script s --agents a --ticks 2 --seed 18446744073709551616",
     "run --script s --agents a --ticks 2 --cuts=",
-    "run --script s --agents a --ticks 2 --watch w",
+    "run --script s --agents a --ticks 2 --watch w --save w",
+    "run --script s --agents a --ticks 2 --watch=",
+    "run --script s --agents a --ticks 2 --link=",
+    "run --script s --agents a --ticks 2 --link l",
+    "run --script s --agents a --ticks 2 --link llllllll",
+    "run --script s --agents a --ticks 2 --link dx",
+    "run --script s --agents a --ticks 2 --link ldtaldtaldtaldtal",
+    "run --script s --agents a --ticks 2 --link d --workers 2",
+    "run --script s --agents a --ticks 2 --published p",
+    "run --script s --agents a --ticks 2 --strips 1",
+    "resume --script s --from c --ticks 2 --link d --workers 16",
+    "resume --script s --from c --ticks 2 --save w --watch w",
+    "audit --script s --agents a --ticks 2",
+    "audit --script s --agents a --published p",
+    "audit --script s --ticks 2 --published p",
+    "audit --script s --agents a --ticks 2 --published p --workers 1",
+    "audit --script s --agents a --ticks 2 --published p --link d",
+    "audit --script s --agents a --ticks 2 --published p --watch w",
+    "audit --script s --agents a --ticks 2 --published p --stats",
+    "balance --script s --agents a",
+    "balance --script s --strips 2",
+    "balance --script s --agents a --strips 0",
+    "balance --script s --agents a --strips 65",
+    "balance --script s --agents a --strips 2 --ticks 1",
+    "plan --script s --watch w",
+    "trial --ticks 2 --count 1 --link d",
     "resume --script s --from c --ticks 2 --agents a",
     "resume --script s --from c --ticks 2 --seed 0",
     "resume --script s --ticks 2",
@@ -114,6 +163,9 @@ fn said(alloc: Global, line: &Line) -> Result<String, AllocError> {
     push_name(&mut text, " from ", &line.from)?;
     push_name(&mut text, " cuts ", &line.cuts)?;
     push_name(&mut text, " save ", &line.save)?;
+    push_name(&mut text, " link ", &line.link)?;
+    push_name(&mut text, " published ", &line.published)?;
+    push_name(&mut text, " watch ", &line.watch)?;
     for (name, number) in [
         ("ticks", line.ticks),
         ("count", line.count.map(u64::from)),
@@ -122,6 +174,7 @@ fn said(alloc: Global, line: &Line) -> Result<String, AllocError> {
         ("epoch", line.epoch),
         ("workers", line.workers.map(u64::from)),
         ("order", line.order),
+        ("strips", line.strips.map(u64::from)),
     ] {
         if let Some(number) = number {
             text.push_str(format!(in alloc; " {name} {number}")?.as_str())?;

@@ -10,12 +10,17 @@ use Rattle.brace_pieces.specs.Settings.{LawfulSetting}
 use Rattle.brace_top.specs.declared.answer.Stopped.{Stopped}
 use Rattle.brace_top.specs.declared.prepare.Work.{Work}
 use Rattle.brace_top.specs.declared.prepare.Work.TheVariants as work
+use Rattle.brace_top.specs.declared.load.Script.{Script}
 use Rattle.brace_top.specs.declared.task.Task.{Task}
 use Rattle.brace_top.specs.Answer.{shelf_call, CountsShelf}
 use Rattle.brace_top.specs.Commands.{Command, TrialCommand, may_save}
-use Rattle.brace_top.specs.Outcome.{CommandOutcome, trial_end}
+use Rattle.brace_top.specs.Outcome.{CommandOutcome, Judged, trial_end}
 use Rattle.brace_top.specs.inner.Settled.{stopped_status, stopped_message, is_stop, outcome_of, IsStopped, IsServed}
 use Rattle.brace_top.specs.inner.Words.{said_trial}
+
+-- a script that was loaded
+abbrev pub judged : Script → Judged
+judged script = record { source = script.source.items; program = script.program }
 
 -- a command goes no further than its files: it is answered so, whatever its sink is
 pub record IsStoppedBefore {S : Type 0} (of_shelf : shelf_trait.Ghosts S) (command : Command)

@@ -7,6 +7,7 @@ use Rattle.brace_words.specs.Lines as lines
 use Rattle.brace_words.specs.Lines.{line_of}
 use Rattle.brace_top.specs.declared.answer.Stopped.{Stopped}
 use Rattle.brace_top.specs.declared.answer.Stopped.TheVariants as stopped
+use Rattle.brace_top.specs.declared.words.BalanceCommand.{BalanceCommand as CodeBalance}
 use Rattle.brace_top.specs.declared.words.Command.{Command as CodeCommand}
 use Rattle.brace_top.specs.declared.words.Command.TheVariants as code
 use Rattle.brace_top.specs.declared.words.Manner.{Manner as CodeManner}
@@ -14,7 +15,7 @@ use Rattle.brace_top.specs.declared.words.RunCommand.{RunCommand as CodeRun}
 use Rattle.brace_top.specs.declared.words.Start.{Start as CodeStart}
 use Rattle.brace_top.specs.declared.words.Start.TheVariants as begun
 use Rattle.brace_top.specs.declared.words.TrialCommand.{TrialCommand as CodeTrial}
-use Rattle.brace_top.specs.Commands.{Command, Manner, RunCommand, TrialCommand, Start, Anew, Resumed, Run, Format, Check, Trial, command_of}
+use Rattle.brace_top.specs.Commands.{Command, Manner, RunCommand, TrialCommand, BalanceCommand, Start, Anew, Resumed, Run, Format, Check, Planning, Trial, Balancing, command_of}
 
 -- a line, or why there is none, is what words were read as
 pub record IsReadAs (words : List (List ℕ)) (line : Result Line LineFault) : Type 0 where
@@ -63,12 +64,22 @@ said_trial trial = record {
   manner = said_manner trial.manner;
 }
 
+-- what balanced strips are asked for
+abbrev pub said_balance : CodeBalance → BalanceCommand
+said_balance balance = record {
+  script = balance.script.now;
+  agents = balance.agents.now;
+  strips = balance.strips;
+}
+
 -- what a command asks for
 abbrev pub said : CodeCommand → Command
 said (code.Run run) = Run (said_run run)
 said (code.Format script) = Format script.now
 said (code.Check script) = Check script.now
+said (code.Plan script invert) = Planning script.now invert
 said (code.Trial trial) = Trial (said_trial trial)
+said (code.Balance balance) = Balancing (said_balance balance)
 
 -- epochs have 1 to 16 ticks
 pub record IsMannerInRange (manner : CodeManner) : Type 0 where
@@ -87,9 +98,16 @@ pub record IsTrialInRange (trial : CodeTrial) : Type 0 where
   pub ticks : trial.ticks ≤ 2 ^ 32
   pub manner : IsMannerInRange trial.manner
 
+-- there may be 1 to 64 strips
+pub record IsBalanceInRange (balance : CodeBalance) : Type 0 where
+  pub some_strips : 1 ≤ balance.strips
+  pub few_strips : balance.strips ≤ 64
+
 -- the numbers of a command are in range
 abbrev pub IsInRange : CodeCommand → Type 0
 IsInRange (code.Run run) = IsRunInRange run
 IsInRange (code.Format script) = ⊤
 IsInRange (code.Check script) = ⊤
+IsInRange (code.Plan script invert) = ⊤
 IsInRange (code.Trial trial) = IsTrialInRange trial
+IsInRange (code.Balance balance) = IsBalanceInRange balance

@@ -1,19 +1,18 @@
 use Rattle.std.proofs.lemmas.Result.{err_from_is_err_and}
-use Rattle.brace_top.specs.Outcome.{ProgramOf, source_of, unloaded}
-use Rattle.brace_top.specs.Scripts.{Means, Refuses}
-use Rattle.brace_top.proofs.AnswerLemmas.{unloaded_as, script_loaded, script_unloads}
+use Rattle.brace_top.specs.Outcome.{JudgedOf, ProgramOf}
+use Rattle.brace_top.specs.inner.Prepared.{judged}
+use Rattle.brace_top.proofs.AnswerLemmas.{unloaded_as}
+use Rattle.brace_top.proofs.JudgedLemmas.{program_loaded, program_refused}
 use Rattle.brace_top.proofs.load.load_program.Goals as goal
 
-pub returns-in_err-src-clause-loads : goal.returns-in_err-src-clause-loads
-returns-in_err-src-clause-loads g c =
+pub returns-in_err-script-clause-loads : goal.returns-in_err-script-clause-loads
+returns-in_err-script-clause-loads g c =
+    let name = c.args.name.now in
     let p = err_from_is_err_and c.from_residual.result c.from_residual.ensures.1 in
-    rw (p.1, p.2) (unloaded_as _ (λ files. ProgramOf files c.args.name.now) c.args.name.now _ _ (λ files r e. unloaded r e) c.in_err-src.ensures.loads)
-
-pub returns-in-Ok-clause-loads : goal.returns-in-Ok-clause-loads
-returns-in-Ok-clause-loads g c =
-    script_loaded Means Refuses (λ files. source_of files c.args.name.now) c.args.name.now c.in_ok-src.src.items _ _ c.in_ok-src.ensures.loads (rw c.as_slice.ensures.value at c.in-Ok.ensures.read)
+    rw (p.1, p.2) (unloaded_as (λ files. JudgedOf files name) (λ files. ProgramOf files name) name _ _ (λ files r is. program_refused files name r is) c.in_err-script.ensures.loads)
 
 pub returns-clause-loads : goal.returns-clause-loads
-returns-clause-loads g c =
-    script_unloads Means Refuses (λ files. source_of files c.args.name.now) c.args.name.now c.in_ok-src.src.items _ _ _ c.in_ok-src.ensures.loads.counts c.in_ok-src.ensures.loads.found
-    (rw c.as_slice.ensures.value at c.in-Err.ensures.refused) (rw c.as_slice-in-Err.ensures.value at c.refuse_script.ensures)
+returns-clause-loads g c = record {
+  found = λ files told. program_loaded files c.args.name.now (judged c.in_ok-script.script) (c.in_ok-script.ensures.loads.found files told);
+  counts = c.in_ok-script.ensures.loads.counts;
+}
