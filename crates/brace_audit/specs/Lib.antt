@@ -1,0 +1,3 @@
+pub mod Differs
+pub mod Outcome
+pub mod inner
