@@ -1,7 +1,9 @@
 -- Splits and merges of lanes.
-use Rattle.std.proofs.Common.{◌≡◌, ◌∙◌, refl, sym, ap, arith, ℕ, zero, suc, ◌+◌, ◌<◌, ℤ, pos, Bool, true, false, if◌then◌else◌, List, [], ◌∷◌, ◌++◌, append_assoc, ⊎_elim, length, take, set, drop, get_or, Ok, slice_index_or, drop-cons, add-one, add-zero}
+use Rattle.std.proofs.Common.{◌≡◌, ◌∙◌, refl, sym, ap, arith, ℕ, zero, suc, ◌+◌, ◌<◌, ℤ, pos, Bool, true, false, if◌then◌else◌, List, [], ◌∷◌, ◌++◌, append_assoc, ⊎_elim, length, take, set, drop, get_or, Ok, slice_index_or, drop-cons, add-one, add-zero, Some}
 use Rattle.std.proofs.lemmas.Bool.{cases_Bool}
 use Rattle.std.proofs.lemmas.List.{take_more_set, take-set, append-nil}
+use Rattle.std.proofs.lemmas.Option.{slice_get_within, get_or_from_slice_get}
+use Rattle.std.specs.Prelude.{not, slice_get}
 use Rattle.std.specs.Ordering.{int_eq}
 use Rattle.brace_code.specs.declared.lane.Lane.{Lane}
 use Rattle.brace_code.specs.inner.Words.{Outcome, choose_word}
@@ -21,13 +23,30 @@ pub put_kept : (out : List Lane) (place : ℕ) (lane : Lane) (keeps : Bool) → 
 put_kept out place lane true h = take_more_set out place lane h
 put_kept out place lane false h = rw (add-zero, append-nil) (take-set out place lane)
 
--- the next word of the side that is picked
-pub merged_step : (t w : ℤ) (ts ys ns rest ys' ns' out out' : List ℤ) (b : Bool) → side true t ≡ b → (if b then ys else ns) ≡ w ∷ rest →
-    ys' ≡ (if b then rest else ys) → ns' ≡ (if b then ns else rest) → out' ≡ out ++ w ∷ [] → out' ++ merged ts ys' ns' ≡ out ++ merged (t ∷ ts) ys ns
-merged_step t w ts ys ns rest ys' ns' out out' true s p y n o =
-    rw (o, y, n, s, p) (append_assoc out (w ∷ []) (merged ts rest ns))
-merged_step t w ts ys ns rest ys' ns' out out' false s p y n o =
-    rw (o, y, n, s, p) (append_assoc out (w ∷ []) (merged ts ys rest))
+-- the next word of the side that a test takes
+next_set : (ts ys ns : List ℤ) (k i : ℕ) (w : ℤ) → k < length ts → side true (get_or ts k (pos 0)) ≡ true → slice_get ys i ≡ Some w
+    → merged (drop k ts) (drop i ys) ns ≡ w ∷ merged (drop (k + 1) ts) (drop (i + 1) ys) ns
+next_set ts ys ns k i w h s q =
+    let inside : i < length ys = slice_get_within ys i w q in
+    let word : get_or ys i (pos 0) ≡ w = get_or_from_slice_get ys i w (pos 0) q in
+    rw (add-one, drop-cons ts k (pos 0), s, drop-cons ys i (pos 0), word, add-one) refl
+
+next_unset : (ts ys ns : List ℤ) (k j : ℕ) (w : ℤ) → k < length ts → side true (get_or ts k (pos 0)) ≡ false → slice_get ns j ≡ Some w
+    → merged (drop k ts) ys (drop j ns) ≡ w ∷ merged (drop (k + 1) ts) ys (drop (j + 1) ns)
+next_unset ts ys ns k j w h s q =
+    let inside : j < length ns = slice_get_within ns j w q in
+    let word : get_or ns j (pos 0) ≡ w = get_or_from_slice_get ns j w (pos 0) q in
+    rw (add-one, drop-cons ts k (pos 0), s, drop-cons ns j (pos 0), word, add-one) refl
+
+-- a loop's step of `merged`
+pub merged_more : (ts ys ns out all : List ℤ) (k i j n m : ℕ) (w word : ℤ) (b : Bool) → k < length ts → k < length out → side true (get_or ts k (pos 0)) ≡ b
+    → slice_get (if b then ys else ns) (if b then i else j) ≡ Some w → word ≡ w → n ≡ (if b then 1 else 0) → m ≡ (if not b then 1 else 0)
+    → take k out ++ merged (drop k ts) (drop i ys) (drop j ns) ≡ all
+    → take (k + 1) (set out k word) ++ merged (drop (k + 1) ts) (drop (i + n) ys) (drop (j + m) ns) ≡ all
+merged_more ts ys ns out all k i j n m w word true h l s q e p r a =
+    rw (e, p, r, take_more_set out k w l, add-zero) (moved (take k out) (w ∷ []) _ _ all (next_set ts ys (drop j ns) k i w h s q) a)
+merged_more ts ys ns out all k i j n m w word false h l s q e p r a =
+    rw (e, p, r, take_more_set out k w l, add-zero) (moved (take k out) (w ∷ []) _ _ all (next_unset ts (drop i ys) ns k j w h s q) a)
 
 -- a loop's step of `taking`
 pub taking_more : (set : Bool) (lanes : List Lane) (ts : List ℤ) (out all : List Lane) (k : ℕ) (d : Lane) → k < length lanes → k < length ts →

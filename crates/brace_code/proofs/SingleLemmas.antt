@@ -17,7 +17,7 @@ use Rattle.brace_code.specs.declared.code.Instr.{Instr}
 use Rattle.brace_code.specs.declared.code.Instr.TheVariants.{Push, Unary, Binary, With, Choice}
 use Rattle.brace_code.specs.declared.code.Instr.TheOpen as layer
 use Rattle.brace_code.specs.inner.Words.{Outcome, made_word, with_word, unary_word, binary_word, choose_word, operand_word}
-use Rattle.brace_code.specs.inner.Runs.{Left, Deed, onward, pushed, put, stuck, top, deed, deed_step, run, outcome, stack_of, Did}
+use Rattle.brace_code.specs.inner.Runs.{Left, Deed, onward, pushed, put, stuck, top, deed, deed_step, run, outcome, stack_of}
 use Rattle.brace_code.proofs.CodeLemmas.{deed-Push, deed-Unary, deed-Binary, deed-With, deed-Choice}
 
 -- ---- stacks of the first words
@@ -36,13 +36,6 @@ pub popped : (words : List ℤ) (height : ℕ) (d : ℤ) → 0 < height → heig
     → stack_of words height ≡ get_or words (height - 1) d ∷ stack_of words (height - 1)
 popped words height d some h = let e : height - 1 + 1 ≡ height = omega arith in
     subst (λ (n : ℕ). stack_of words n ≡ get_or words (height - 1) d ∷ stack_of words (height - 1)) e (at_popped words (height - 1) d (omega arith))
-
--- an outcome that was written
-pub write_did : (words : List ℤ) (place : ℕ) (word : ℤ) → place < length words → Did (pushed (stack_of words place) (Ok word)) (Ok (place + 1)) (set words place word)
-write_did words place word h = (ap (λ (s : List ℤ). let l : Left = Ok s in l) (sym (written words place word h)), simp length-set (omega arith))
-
-pub did_same : (l m : Left) (r : Result ℕ Stop) (words : List ℤ) → l ≡ m → Did m r words → Did l r words
-did_same l m r words e d = subst (λ (x : Left). Did x r words) (sym e) d
 
 -- ---- instructions
 
@@ -120,43 +113,56 @@ module _ (code : List Instr) (at : ℕ) (room : ℕ) (scope : Scope) (stack : Li
   pub ends : length code ≤ at → run (drop at code) room scope stack ≡ all → all ≡ Ok stack
   ends h p = sym p ∙ ap (λ (c : List Instr). run c room scope stack) (drop_all at code h)
 
--- ---- what is done on the stack of the first words
+-- ---- what is done to a stack of a top above the first words
 
-module _ (i : Instr) (scope : Scope) (words : List ℤ) (height : ℕ) (result : Result ℕ Stop) (after : List ℤ) where
-  pub push_did : (o : Operand) (w : Outcome) → i ≡ Push o → height < length words → w ≡ operand_word scope o
-      → Did (pushed (stack_of words height) w) result after → Did (deed i (length words) scope (stack_of words height)) result after
-  push_did o w is h e d =
-      did_same _ _ result after (push_does i (length words) scope (stack_of words height) o is (subst (λ (n : ℕ). n < length words) (sym (high words height (omega arith))) h) ∙ ap (pushed (stack_of words height)) (sym e)) d
+pub start_push : (i : Instr) (room : ℕ) (scope : Scope) (o : Operand) (w : Outcome) → i ≡ Push o → 0 < room → w ≡ operand_word scope o → deed i room scope [] ≡ pushed [] w
+start_push i room scope o w is h e = push_does i room scope [] o is h ∙ ap (pushed []) (sym e)
 
-  pub unary_did : (op : UnOp) (site : ℕ) (a : ℤ) (rest : ℕ) (w : Outcome) → i ≡ Unary op site → stack_of words height ≡ a ∷ stack_of words rest
-      → w ≡ made_word site (unary_word op a) → Did (pushed (stack_of words rest) w) result after → Did (deed i (length words) scope (stack_of words height)) result after
-  unary_did op site a rest w is s e d =
-      did_same _ _ result after (unary_does i (length words) scope (stack_of words height) op site a (stack_of words rest) is s ∙ ap (pushed (stack_of words rest)) (sym e)) d
+pub ruleset start_rules = (start_push, push_lacks, unary_lacks, binary_lacks_two, with_lacks, choice_lacks)
 
-  pub binary_did : (op : BinOp) (t : Ty) (site : ℕ) (a b : ℤ) (middle rest : ℕ) (w : Outcome) → i ≡ Binary op t site
-      → stack_of words height ≡ b ∷ stack_of words middle → stack_of words middle ≡ a ∷ stack_of words rest
-      → w ≡ made_word site (binary_word op t a b) → Did (pushed (stack_of words rest) w) result after → Did (deed i (length words) scope (stack_of words height)) result after
-  binary_did op t site a b middle rest w is s m e d =
-      did_same _ _ result after (binary_does i (length words) scope (stack_of words height) op t site a b (stack_of words rest) is (s ∙ ap (λ (x : List ℤ). b ∷ x) m) ∙ ap (pushed (stack_of words rest)) (sym e)) d
+module _ (i : Instr) (scope : Scope) (words : List ℤ) (first : ℤ) (below : ℕ) where
+  pub push_did : (o : Operand) (word : ℤ) (w : Outcome) → i ≡ Push o → below + 1 < length words → word ≡ first → w ≡ operand_word scope o
+      → deed i (length words) scope (first ∷ stack_of words below) ≡ pushed (stack_of (set words below word) (below + 1)) w
+  push_did o word w is h s e =
+      let low : below ≤ length words = omega arith in
+      push_does i (length words) scope (first ∷ stack_of words below) o is (omega (arith, high words below low))
+      ∙ ap (pushed (first ∷ stack_of words below)) (sym e) ∙ ap (λ (x : List ℤ). pushed x w) (sym (written words below first (omega arith)) ∙ ap (λ (x : ℤ). stack_of (set words below x) (below + 1)) (sym s))
 
-  pub with_did : (op : BinOp) (t : Ty) (site : ℕ) (o : Operand) (a : ℤ) (rest : ℕ) (b w : Outcome) → i ≡ With op t site o → stack_of words height ≡ a ∷ stack_of words rest
-      → b ≡ operand_word scope o → w ≡ with_word b (λ x. made_word site (binary_word op t a x)) → Did (pushed (stack_of words rest) w) result after
-      → Did (deed i (length words) scope (stack_of words height)) result after
-  with_did op t site o a rest b w is s r e d =
-      did_same _ _ result after (with_does i (length words) scope (stack_of words height) op t site o a (stack_of words rest) is s
-      ∙ ap (λ (x : Outcome). pushed (stack_of words rest) (with_word x (λ y. made_word site (binary_word op t a y)))) (sym r) ∙ ap (pushed (stack_of words rest)) (sym e)) d
+  pub push_full : (o : Operand) → i ≡ Push o → below < length words → length words - below < 2 → deed i (length words) scope (first ∷ stack_of words below) ≡ Err stuck
+  push_full o is low h =
+      let under : below ≤ length words = omega arith in
+      push_lacks i (length words) scope (first ∷ stack_of words below) o is (omega (arith, high words below under))
 
-  pub choice_did : (a b code : List Instr) (t : ℤ) (rest : ℕ) (between : List ℤ) (w : Outcome) → i ≡ Choice a b → stack_of words height ≡ t ∷ stack_of words rest
-      → rest < length words → code ≡ choose_word t a b → w ≡ outcome code (length words - rest) scope → stack_of between rest ≡ stack_of words rest
-      → Did (pushed (stack_of between rest) w) result after → Did (deed i (length words) scope (stack_of words height)) result after
-  choice_did a b code t rest between w is s h e o kept d =
-      let room : length words - length (stack_of words rest) ≡ length words - rest = ap (λ (n : ℕ). length words - n) (high words rest (omega arith)) in
-      did_same _ _ result after (choice_does i (length words) scope (stack_of words height) a b t (stack_of words rest) is s
-      ∙ ap (λ (n : ℕ). pushed (stack_of words rest) (outcome (choose_word t a b) n scope)) room
-      ∙ ap (λ (c : List Instr). pushed (stack_of words rest) (outcome c (length words - rest) scope)) (sym e)
-      ∙ ap (pushed (stack_of words rest)) (sym o) ∙ ap (λ (x : List ℤ). pushed x w) (sym kept)) d
+  pub unary_did : (op : UnOp) (site : ℕ) (w : Outcome) → i ≡ Unary op site → w ≡ made_word site (unary_word op first)
+      → deed i (length words) scope (first ∷ stack_of words below) ≡ pushed (stack_of words below) w
+  unary_did op site w is e =
+      unary_does i (length words) scope (first ∷ stack_of words below) op site first (stack_of words below) is refl ∙ ap (pushed (stack_of words below)) (sym e)
 
-pub ruleset step_rules = (push_did, unary_did, binary_did, with_did, choice_did, push_lacks, unary_lacks, binary_lacks_two, binary_lacks_one, with_lacks, choice_lacks)
+  pub binary_did : (op : BinOp) (t : Ty) (site : ℕ) (a : ℤ) (w : Outcome) → i ≡ Binary op t site → stack_of words below ≡ a ∷ stack_of words (below - 1)
+      → w ≡ made_word site (binary_word op t a first) → deed i (length words) scope (first ∷ stack_of words below) ≡ pushed (stack_of words (below - 1)) w
+  binary_did op t site a w is s e =
+      binary_does i (length words) scope (first ∷ stack_of words below) op t site a first (stack_of words (below - 1)) is (ap (λ (x : List ℤ). first ∷ x) s)
+      ∙ ap (pushed (stack_of words (below - 1))) (sym e)
+
+  pub binary_one : (op : BinOp) (t : Ty) (site : ℕ) → i ≡ Binary op t site → below ≡ 0 → deed i (length words) scope (first ∷ stack_of words below) ≡ Err stuck
+  binary_one op t site is e = binary_lacks_one i (length words) scope (first ∷ stack_of words below) op t site first is (ap (λ (n : ℕ). first ∷ stack_of words n) e)
+
+  pub with_did : (op : BinOp) (t : Ty) (site : ℕ) (o : Operand) (b w : Outcome) → i ≡ With op t site o → b ≡ operand_word scope o
+      → w ≡ with_word b (λ x. made_word site (binary_word op t first x)) → deed i (length words) scope (first ∷ stack_of words below) ≡ pushed (stack_of words below) w
+  with_did op t site o b w is r e =
+      with_does i (length words) scope (first ∷ stack_of words below) op t site o first (stack_of words below) is refl
+      ∙ ap (λ (x : Outcome). pushed (stack_of words below) (with_word x (λ y. made_word site (binary_word op t first y)))) (sym r) ∙ ap (pushed (stack_of words below)) (sym e)
+
+  pub choice_did : (a b code : List Instr) (between : List ℤ) (w : Outcome) → i ≡ Choice a b → below ≤ length words → code ≡ choose_word first a b
+      → w ≡ outcome code (length words - below) scope → stack_of between below ≡ stack_of words below
+      → deed i (length words) scope (first ∷ stack_of words below) ≡ pushed (stack_of between below) w
+  choice_did a b code between w is low e o kept =
+      choice_does i (length words) scope (first ∷ stack_of words below) a b first (stack_of words below) is refl
+      ∙ ap (λ (n : ℕ). pushed (stack_of words below) (outcome (choose_word first a b) (length words - n) scope)) (high words below low)
+      ∙ ap (λ (c : List Instr). pushed (stack_of words below) (outcome c (length words - below) scope)) (sym e)
+      ∙ ap (pushed (stack_of words below)) (sym o) ∙ ap (λ (x : List ℤ). pushed x w) (sym kept)
+
+pub ruleset step_rules = (push_did, push_full, unary_did, binary_did, binary_one, with_did, choice_did)
 
 -- the words below a part that was changed
 pub below_kept : (base : ℕ) (words part : List ℤ) → base ≤ length words → stack_of (take base words ++ part) base ≡ stack_of words base
@@ -166,21 +172,34 @@ pub ruleset above_rules = (below_kept)
 
 -- ---- what a run answers
 
-module _ (code : List Instr) (at room : ℕ) (env : Env) (d d0 : Drawer) (stack : List ℤ) where
-  pub run_goes_on : (e : Instr) (more : List ℤ) → at < length code → d.seed ≡ d0.seed → deed (get_or code at e) room (scope_of env d) stack ≡ Ok more
-      → run (drop at code) room (scope_of env d0) stack ≡ run code room (scope_of env d0) [] → run (drop (at + 1) code) room (scope_of env d0) more ≡ run code room (scope_of env d0) []
-  run_goes_on e more h s did p = goes_on code at room (scope_of env d0) stack _ e more h (ap (λ (x : Scope). deed (get_or code at e) room x stack) (sym (same_scope env d d0 s)) ∙ did) p
+-- no code, and code whose first instruction stops or leaves a word
+pub run_none : (code : List Instr) (room : ℕ) (scope : Scope) → code ≡ [] → outcome code room scope ≡ Err stuck
+run_none code room scope e = rw e refl
 
-  pub run_stops : (e : Instr) (stop : Stop) → at < length code → d.seed ≡ d0.seed → deed (get_or code at e) room (scope_of env d) stack ≡ Err stop
-      → run (drop at code) room (scope_of env d0) stack ≡ run code room (scope_of env d0) [] → outcome code room (scope_of env d0) ≡ Err stop
-  run_stops e stop h s did p = ap top (stops code at room (scope_of env d0) stack _ e stop h (ap (λ (x : Scope). deed (get_or code at e) room x stack) (sym (same_scope env d d0 s)) ∙ did) p)
+module _ (code rest : List Instr) (first : Instr) (room : ℕ) (scope : Scope) (w : Outcome) where
+  pub run_begins : (word : ℤ) → code ≡ first ∷ rest → deed first room scope [] ≡ pushed [] w → w ≡ Ok word
+      → run (drop 0 rest) room scope (word ∷ []) ≡ run code room scope []
+  run_begins word e d o = sym (ap (λ (c : List Instr). run c room scope []) e ∙ ap (λ (l : Left). onward l (run rest room scope)) (d ∙ ap (pushed []) o))
 
-  pub run_ends : (word : ℤ) (rest : List ℤ) → length code ≤ at → run (drop at code) room (scope_of env d0) stack ≡ run code room (scope_of env d0) []
-      → stack ≡ word ∷ rest → outcome code room (scope_of env d0) ≡ Ok word
-  run_ends word rest h p s = ap top (ends code at room (scope_of env d0) stack _ h p) ∙ ap (λ (x : List ℤ). top (let l : Left = Ok x in l)) s
+  pub run_fails : (stop : Stop) → code ≡ first ∷ rest → deed first room scope [] ≡ pushed [] w → w ≡ Err stop → outcome code room scope ≡ Err stop
+  run_fails stop e d o = ap top (ap (λ (c : List Instr). run c room scope []) e ∙ ap (λ (l : Left). onward l (run rest room scope)) (d ∙ ap (pushed []) o))
 
-  pub run_lacks : length code ≤ at → run (drop at code) room (scope_of env d0) stack ≡ run code room (scope_of env d0) [] → stack ≡ []
-      → outcome code room (scope_of env d0) ≡ Err stuck
-  run_lacks h p s = ap top (ends code at room (scope_of env d0) stack _ h p) ∙ ap (λ (x : List ℤ). top (let l : Left = Ok x in l)) s
+module _ (code rest : List Instr) (at room : ℕ) (env : Env) (d d0 : Drawer) (stack : List ℤ) where
+  module _ (e : Instr) (under : List ℤ) (w : Outcome) where
+    did_so : d.seed ≡ d0.seed → deed (get_or rest at e) room (scope_of env d) stack ≡ pushed under w → deed (get_or rest at e) room (scope_of env d0) stack ≡ pushed under w
+    did_so s did = ap (λ (x : Scope). deed (get_or rest at e) room x stack) (sym (same_scope env d d0 s)) ∙ did
 
-pub ruleset run_rules = (run_goes_on, run_stops, run_ends, run_lacks)
+    pub run_goes_on : (word : ℤ) → at < length rest → d.seed ≡ d0.seed → deed (get_or rest at e) room (scope_of env d) stack ≡ pushed under w → w ≡ Ok word
+        → run (drop at rest) room (scope_of env d0) stack ≡ run code room (scope_of env d0) []
+        → run (drop (at + 1) rest) room (scope_of env d0) (word ∷ under) ≡ run code room (scope_of env d0) []
+    run_goes_on word h s did o p = goes_on rest at room (scope_of env d0) stack _ e (word ∷ under) h (did_so s did ∙ ap (pushed under) o) p
+
+    pub run_stops : (stop : Stop) → at < length rest → d.seed ≡ d0.seed → deed (get_or rest at e) room (scope_of env d) stack ≡ pushed under w → w ≡ Err stop
+        → run (drop at rest) room (scope_of env d0) stack ≡ run code room (scope_of env d0) [] → outcome code room (scope_of env d0) ≡ Err stop
+    run_stops stop h s did o p = ap top (stops rest at room (scope_of env d0) stack _ e stop h (did_so s did ∙ ap (pushed under) o) p)
+
+  pub run_ends : (word : ℤ) (under : List ℤ) → length rest ≤ at → run (drop at rest) room (scope_of env d0) stack ≡ run code room (scope_of env d0) []
+      → stack ≡ word ∷ under → outcome code room (scope_of env d0) ≡ Ok word
+  run_ends word under h p s = ap top (ends rest at room (scope_of env d0) stack _ h p) ∙ ap (λ (x : List ℤ). top (let l : Left = Ok x in l)) s
+
+pub ruleset run_rules = (run_none, run_begins, run_fails, run_goes_on, run_stops, run_ends)

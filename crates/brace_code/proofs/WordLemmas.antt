@@ -1,9 +1,14 @@
 -- Words of values, operation by operation.
-use Rattle.std.proofs.Common.{◌≡◌, ◌∙◌, refl, sym, ap, ℕ, ℤ, Bool, true, false, Option, Some, Result, Ok, Err, arith}
-use Rattle.std.specs.Prelude.{FitsSigned, unwrap_or}
-use Rattle.std.specs.Int.{w64}
+use Rattle.std.proofs.Common.{◌≡◌, ◌∙◌, refl, sym, ap, ℕ, zero, suc, ◌*◌, ◌/◌, ◌<◌, ℤ, pos, negsuc, neg_ℤ, ◌+ℤ◌, ◌*ℤ◌, int_div, unsigned_abs, Bool, true, false, Option, Some, Result, Ok, Err, arith}
+use Rattle.std.proofs.Math.Nat.{zero-div, zero-mul, mul-pos, mul-div-mul_right}
+use Rattle.std.proofs.Math.IntN.{negsuc-*ℤ-pos, +ℤ_idr}
+use Rattle.std.proofs.lemmas.Int.{quot-rem, unsigned_abs-mul}
+use Rattle.std.proofs.lemmas.Bool.Decides.{nat_tests}
+use Rattle.std.specs.Prelude.{FitsSigned, unwrap_or, int_rem, ◌==◌, if◌then◌else◌}
+use Rattle.std.specs.Int.{w32, w64}
 use Rattle.brace_num.specs.declared.kinds.Kind.{Kind}
-use Rattle.brace_num.specs.Exact.{fits}
+use Rattle.brace_num.specs.declared.kinds.Kind.TheVariants.{DivZero}
+use Rattle.brace_num.specs.Exact.{fits, fitting, is_zero, exact_int_div, exact_int_rem, exact_fixed_div, exact_trunc}
 use Rattle.brace_model.specs.declared.program.Ty.{Ty}
 use Rattle.brace_model.specs.declared.program.Ty.TheVariants as ty
 use Rattle.brace_model.specs.declared.program.Value.{Value}
@@ -20,6 +25,58 @@ use Rattle.brace_code.specs.inner.Words.{Outcome, word_of, value_of, made_word, 
 -- the test of a number and the fact that it fits
 pub fits_so : (z : ℤ) → FitsSigned w64 z → fits z ≡ true
 fits_so z f = grind (arith, f)
+
+pub short_fits : (z : ℤ) → FitsSigned w32 z → fits z ≡ true
+short_fits z f = grind (arith, f)
+
+-- ---- quotients by whole numbers
+
+neg_over : (m d : ℕ) → int_div (neg_ℤ (pos m)) (pos d) ≡ neg_ℤ (pos (m / d))
+neg_over zero d = rw (zero-div d) refl
+neg_over (suc m) d = refl
+
+over_neg : (m d : ℕ) → 0 < d → int_div (pos m) (neg_ℤ (pos d)) ≡ neg_ℤ (pos (m / d))
+over_neg m zero h = absurd (omega (arith, h))
+over_neg m (suc d) h = refl
+
+neg_over_neg : (m d : ℕ) → 0 < d → int_div (neg_ℤ (pos m)) (neg_ℤ (pos d)) ≡ pos (m / d)
+neg_over_neg m zero h = absurd (omega (arith, h))
+neg_over_neg zero (suc d) h = rw (zero-div (suc d)) refl
+neg_over_neg (suc m) (suc d) h = refl
+
+-- the quotient of two multiples of a number
+multiples : (a n : ℤ) (k : ℕ) → 0 < k → int_div (a *ℤ pos k) (n *ℤ pos k) ≡ int_div a n
+multiples (pos a) (pos n) k h = ap pos (mul-div-mul_right a n h)
+multiples (pos a) (negsuc n) k h = ap (λ (x : ℤ). int_div (pos (a * k)) x) (negsuc-*ℤ-pos n k)
+    ∙ over_neg (a * k) (suc n * k) (mul-pos (omega arith) h) ∙ ap (λ (x : ℕ). neg_ℤ (pos x)) (mul-div-mul_right a (suc n) h)
+multiples (negsuc a) (pos n) k h = ap (λ (x : ℤ). int_div x (pos (n * k))) (negsuc-*ℤ-pos a k)
+    ∙ neg_over (suc a * k) (n * k) ∙ ap (λ (x : ℕ). neg_ℤ (pos x)) (mul-div-mul_right (suc a) n h)
+multiples (negsuc a) (negsuc n) k h = ap (λ (x : ℤ). int_div x (negsuc n *ℤ pos k)) (negsuc-*ℤ-pos a k)
+    ∙ ap (λ (x : ℤ). int_div (neg_ℤ (pos (suc a * k))) x) (negsuc-*ℤ-pos n k)
+    ∙ neg_over_neg (suc a * k) (suc n * k) (mul-pos (omega arith) h) ∙ ap pos (mul-div-mul_right (suc a) (suc n) h)
+
+above : (m : ℕ) → 0 < m → (m == 0) ≡ false
+above m h = grind (arith, nat_tests, h)
+
+no_more : (m k : ℕ) → 0 < k → (m * k == 0) ≡ (m == 0)
+no_more zero k h = rw (zero-mul k) refl
+no_more (suc m) k h = above (suc m * k) (mul-pos (omega arith) h) ∙ sym (above (suc m) (omega arith))
+
+by_multiple : (a b n : ℤ) (k : ℕ) → 0 < k → b ≡ n *ℤ pos k → exact_int_div a n ≡ (if is_zero b then Err DivZero else fitting (int_div (a *ℤ pos k) b))
+by_multiple a b n k h e = rw (e, unsigned_abs-mul n (pos k), no_more (unsigned_abs n) k h, multiples a n k h) refl
+
+rest_of : Result ℤ Kind → ℤ
+rest_of (Ok n) = n
+rest_of (Err kind) = pos 0
+
+-- a quotient of fixed numbers whose divisor is a whole number is that of an int
+pub whole_quotient : (a b n : ℤ) (q rest : Result ℤ Kind) → rest ≡ exact_int_rem b (pos 1000000) → rest ≡ Ok (pos 0) → n ≡ exact_trunc b → q ≡ exact_int_div a n
+    → q ≡ exact_fixed_div a b
+unfolding rest_of
+whole_quotient a b n q rest r o t e =
+    let none : int_rem b (pos 1000000) ≡ pos 0 = ap rest_of (sym r ∙ o) in
+    e ∙ ap (exact_int_div a) t ∙ by_multiple a b (int_div b (pos 1000000)) 1000000 (omega arith)
+    (sym (quot-rem b (pos 1000000)) ∙ ap (λ (x : ℤ). int_div b (pos 1000000) *ℤ pos 1000000 +ℤ x) none ∙ +ℤ_idr (int_div b (pos 1000000) *ℤ pos 1000000))
 
 -- ---- numbers of values
 

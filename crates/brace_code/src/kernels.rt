@@ -11,9 +11,9 @@ ghost use Rattle.brace_code.specs.inner.Words.{word_of, flag, unary_word, binary
 ghost use Rattle.brace_code.specs.inner.Columns.{row_at, Maps, Pairs};
 
 use crate::lane::{Lane, Redo, Row, row_at};
-use crate::operations::{fixed_product, fixed_quotient, flag};
+use crate::operations::{fixed_product, fixed_quotient, flag, short_quotient};
 use brace_model::{BinOp, Ty, UnOp};
-use brace_num::{Kind, List, int_div, int_rem, sqrt, to_fixed, trunc};
+use brace_num::{Kind, List, int_rem, sqrt, to_fixed, trunc};
 use std::alloc::Global;
 
 /// Replaces each word of a column by what an operation gives of it; `Redo` where one failed.
@@ -198,7 +198,7 @@ fn product(a: i64, b: i64) -> (i64, bool)
 fn int_quotient(a: i64, b: i64) -> (i64, bool)
     ensures { IsFalse result.1 → exact_int_div a b ≡ Ok result.0 }
 {
-    flagged(int_div(a, b))
+    flagged(short_quotient(a, b))
 }
 
 fn quotient(a: i64, b: i64) -> (i64, bool)
@@ -321,12 +321,9 @@ pub fn constant(alloc: Global, word: i64, lanes: &List<Lane>) -> Result<List<i64
 }
 
 /// The words of a column at a row of each lane.
-pub fn gather(
-    alloc: Global,
-    column: &[i64],
-    row: Row,
-    lanes: &List<Lane>,
-) -> Result<List<i64>, Redo>
+// Inlined where the row is known, so that its loop does not ask for it.
+#[inline(always)]
+fn gather_at(alloc: Global, column: &[i64], row: Row, lanes: &List<Lane>) -> Result<List<i64>, Redo>
     ensures long { IfOk result (λ c. length c ≡ length lanes.now) }
     ensures each { IfOk result (λ c. (k : ℕ) (d : Lane) → k < length lanes.now
         → (row_at row (slice_index_or lanes.now k d) < length column.now)
@@ -342,4 +339,25 @@ pub fn gather(
         };
     }
     Ok(List::from_vec(out))
+}
+
+/// The words of a column at a row of each lane.
+pub fn gather(
+    alloc: Global,
+    column: &[i64],
+    row: Row,
+    lanes: &List<Lane>,
+) -> Result<List<i64>, Redo>
+    ensures long { IfOk result (λ c. length c ≡ length lanes.now) }
+    ensures each { IfOk result (λ c. (k : ℕ) (d : Lane) → k < length lanes.now
+        → (row_at row (slice_index_or lanes.now k d) < length column.now)
+        × (slice_index_or column.now (row_at row (slice_index_or lanes.now k d)) (pos 0)
+        ≡ slice_index_or c k (pos 0))) }
+{
+    match row {
+        Row::This => gather_at(alloc, column, Row::This, lanes),
+        Row::Outer => gather_at(alloc, column, Row::Outer, lanes),
+        Row::Inner => gather_at(alloc, column, Row::Inner, lanes),
+        Row::Place => gather_at(alloc, column, Row::Place, lanes),
+    }
 }

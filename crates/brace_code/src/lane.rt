@@ -103,6 +103,7 @@ impl<'a> Frame<'a> {
 }
 
 /// The number of a lane's row.
+#[inline(always)]
 pub fn row_at(row: Row, lane: &Lane) -> u32
     ensures { result ≡ row_at row lane.now }
 {

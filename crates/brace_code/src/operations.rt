@@ -1,7 +1,7 @@
 ghost use Rattle.std.specs.Prelude.{◌≡◌, Some, Ok, pos, int_div};
 ghost use Rattle.brace_model.specs.declared.program.Ty.{Ty};
 ghost use Rattle.brace_model.specs.Typing.{unary_type, operation_type};
-ghost use Rattle.brace_num.specs.Exact.{fitting, exact_fixed_mul, exact_fixed_div};
+ghost use Rattle.brace_num.specs.Exact.{fitting, exact_int_div, exact_fixed_mul, exact_fixed_div};
 ghost use Rattle.brace_code.specs.inner.Words.{unary_word, binary_word, product_word, quotient_word, flag};
 
 use brace_model::{BinOp, Ty, UnOp};
@@ -75,10 +75,25 @@ pub fn fixed_product(a: i64, b: i64) -> Result<i64, Kind>
     }
 }
 
-/// The quotient of two fixed numbers, by a division of 64 bits where that is enough.
+/// The quotient of two ints, by a division of 32 bits where that is enough.
+#[tactic(auto, using(crate::proofs::WordLemmas::short_fits))]
+pub fn short_quotient(a: i64, b: i64) -> Result<i64, Kind>
+    ensures { result ≡ exact_int_div a b }
+{
+    match (i32::try_from(a), i32::try_from(b)) {
+        (Ok(a), Ok(b)) if b > 0 => Ok(i64::from(a / b)),
+        _ => int_div(a, b),
+    }
+}
+
+/// The quotient of two fixed numbers: by a whole number that of ints, else by a division of 64 bits
+/// where that is enough.
 pub fn fixed_quotient(a: i64, b: i64) -> Result<i64, Kind>
     ensures { result ≡ exact_fixed_div a b }
 {
+    if let Ok(0) = int_rem(b, 1_000_000) {
+        return short_quotient(a, trunc(b));
+    }
     match a.checked_mul(1_000_000) {
         Some(z) => int_div(z, b),
         None => fixed_div(a, b),
@@ -98,7 +113,7 @@ fn quotient(ty: Ty, a: i64, b: i64) -> Result<i64, Kind>
     ensures { result ≡ quotient_word ty a b }
 {
     match ty {
-        Ty::Int => int_div(a, b),
+        Ty::Int => short_quotient(a, b),
         _ => fixed_quotient(a, b),
     }
 }

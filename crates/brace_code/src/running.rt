@@ -99,7 +99,7 @@ fn step(
             let sides = split(alloc, lanes, &test)?;
             let ys = run_lanes(alloc, set, room - below, frame, &sides.set)?;
             let ns = run_lanes(alloc, unset, room - below, frame, &sides.unset)?;
-            let words = merged(alloc, &test, &ys, &ns)?;
+            let words = merged(test, &ys, &ns)?;
             stack.push(words)?;
         }
     }

@@ -1,9 +1,9 @@
-ghost use Rattle.std.specs.Prelude.{◌≡◌, ◌<◌, ◌≤◌, ◌-◌, ◌^◌, ℕ, Option, MatchOption, [], ◌∷◌, length, Ok, Err};
+ghost use Rattle.std.specs.Prelude.{◌≡◌, ◌<◌, ◌≤◌, ◌-◌, ◌^◌, ℕ, Option, [], ◌∷◌, length, Ok, Err, OnOk};
 ghost use Rattle.brace_model.specs.Scopes.{scope_of};
 ghost use Rattle.brace_model.specs.Value.{agent_of, total_read, typed};
 ghost use Rattle.brace_code.specs.Codes.{depth_of, gives};
-ghost use Rattle.brace_code.specs.inner.Words.{Outcome, word_of, value_of, made_word, with_word, binary_word, choose_word, operand_word};
-ghost use Rattle.brace_code.specs.inner.Runs.{Left, deed, outcome, ended, put, pushed, stack_of, Did};
+ghost use Rattle.brace_code.specs.inner.Words.{word_of, made_word, with_word, binary_word, choose_word, operand_word};
+ghost use Rattle.brace_code.specs.inner.Runs.{deed, outcome, ended, pushed, stack_of};
 
 use crate::code::{Code, Instr, Operand};
 use crate::operations::{binary, flag, unary};
@@ -78,22 +78,6 @@ const STUCK: Stop = Stop {
     kind: Kind::Overflow,
 };
 
-/// Writes an outcome over the word at a place, above which the stack ends then.
-#[tactic(auto, using(crate::proofs::SingleLemmas::write_did))]
-#[inline(always)]
-fn write(words: &mut [i64], place: usize, outcome: Result<i64, Stop>) -> Result<usize, Stop>
-    requires { place < length words.old }
-    ensures { Did (pushed (stack_of words.old place) outcome) result words.new }
-{
-    match outcome {
-        Ok(word) => {
-            words[place] = word;
-            Ok(place + 1)
-        }
-        Err(stop) => Err(stop),
-    }
-}
-
 /// An exact result, or its fault at a site.
 #[inline(always)]
 fn made(site: u32, exact: Result<i64, Kind>) -> Result<i64, Stop>
@@ -127,87 +111,88 @@ fn chosen<'a>(word: i64, set: &'a List<Instr>, unset: &'a List<Instr>) -> &'a [I
     }
 }
 
-/// The word on top, and how high the stack is without it.
-#[derive(Clone, Copy, Drop)]
-struct Popped {
-    word: i64,
-    rest: usize,
+/// The word that the first instruction puts on an empty stack with room for so many words.
+#[tactic(auto, using(crate::proofs::SingleLemmas::start_rules))]
+#[inline(always)]
+fn start(instr: &Instr, env: &Env, drawer: &mut Drawer, room: usize) -> Result<i64, Stop>
+    requires { env.now.tick ≤ 2 ^ 32 }
+    ensures did { deed instr.now room (scope_of env.now drawer.old) [] ≡ pushed [] result }
+    ensures room { OnOk result (0 < room) }
+    ensures seed { drawer.new.seed ≡ drawer.old.seed }
+{
+    match instr {
+        Instr::Push(operand) => {
+            if room == 0 {
+                return Err(STUCK);
+            }
+            match read(*operand, env, drawer) {
+                Ok(word) => Ok(word),
+                Err(stop) => Err(stop),
+            }
+        }
+        Instr::Unary(_, _) => Err(STUCK),
+        Instr::Binary(_, _, _) => Err(STUCK),
+        Instr::With(_, _, _, _) => Err(STUCK),
+        Instr::Choice(_, _) => Err(STUCK),
+    }
 }
 
-/// Takes the top of the stack of the first `top` words.
+/// The uppermost of the first words.
 #[tactic(auto, using(crate::proofs::SingleLemmas::popped))]
 #[inline(always)]
-fn pop(words: &[i64], top: usize) -> Option<Popped>
-    requires { top ≤ length words.now }
-    ensures { MatchOption result (stack_of words.now top ≡ [])
-        (λ p. (stack_of words.now top ≡ p.word ∷ stack_of words.now p.rest)
-        × (p.rest < length words.now)) }
+fn under(words: &[i64], below: usize) -> i64
+    requires some { 0 < below }
+    requires long { below ≤ length words.now }
+    ensures { stack_of words.now below ≡ result ∷ stack_of words.now (below - 1) }
 {
-    if top == 0 {
-        return None;
-    }
-    let rest = top - 1;
-    Some(Popped {
-        word: words[rest],
-        rest,
-    })
+    words[below - 1]
 }
 
-/// One instruction on a stack of the first `top` words.
+/// One instruction on a stack of `top` above the first `below` words. Answers the new top.
+// The top is no word in memory, since most instructions read and write nothing else.
 #[tactic(auto, using(crate::proofs::SingleLemmas::step_rules))]
 #[cycle(running)]
+#[inline(always)]
 fn step(
     instr: &Instr,
     env: &Env,
     drawer: &mut Drawer,
     words: &mut [i64],
-    top: usize,
-) -> Result<usize, Stop>
+    top: i64,
+    below: &mut usize,
+) -> Result<i64, Stop>
     requires tick { env.now.tick ≤ 2 ^ 32 }
-    requires top { top ≤ length words.old }
-    ensures did { Did (deed instr.now (length words.old) (scope_of env.now drawer.old)
-        (stack_of words.old top)) result words.new }
+    requires below { below.old < length words.old }
+    ensures did { deed instr.now (length words.old) (scope_of env.now drawer.old)
+        (top ∷ stack_of words.old below.old) ≡ pushed (stack_of words.new below.new) result }
+    ensures below { below.new < length words.new }
     ensures seed { drawer.new.seed ≡ drawer.old.seed }
 {
     match instr {
         Instr::Push(operand) => {
-            if top >= words.len() {
+            if words.len() - *below < 2 {
                 return Err(STUCK);
             }
-            let word = read(*operand, env, drawer);
-            write(words, top, word)
+            words[*below] = top;
+            *below += 1;
+            read(*operand, env, drawer)
         }
-        Instr::Unary(op, site) => {
-            let Some(a) = pop(words, top) else {
-                return Err(STUCK);
-            };
-            let word = made(*site, unary(*op, a.word));
-            write(words, a.rest, word)
-        }
+        Instr::Unary(op, site) => made(*site, unary(*op, top)),
         Instr::Binary(op, ty, site) => {
-            let Some(b) = pop(words, top) else {
+            if *below == 0 {
                 return Err(STUCK);
-            };
-            let Some(a) = pop(words, b.rest) else {
-                return Err(STUCK);
-            };
-            let word = made(*site, binary(*op, *ty, a.word, b.word));
-            write(words, a.rest, word)
+            }
+            let a = under(words, *below);
+            *below -= 1;
+            made(*site, binary(*op, *ty, a, top))
         }
         Instr::With(op, ty, site, operand) => {
-            let Some(a) = pop(words, top) else {
-                return Err(STUCK);
-            };
             let b = read(*operand, env, drawer);
-            write(words, a.rest, with(*site, *op, *ty, a.word, b))
+            with(*site, *op, *ty, top, b)
         }
         Instr::Choice(set, unset) => {
-            let Some(test) = pop(words, top) else {
-                return Err(STUCK);
-            };
-            let branch = chosen(test.word, set, unset);
-            let end = run_above(branch, env, drawer, words, test.rest);
-            write(words, test.rest, outcome_of(end))
+            let branch = chosen(top, set, unset);
+            outcome_of(run_above(branch, env, drawer, words, *below))
         }
     }
 }
@@ -264,22 +249,27 @@ fn run_above(
 #[cycle(running)]
 fn run(code: &[Instr], env: &Env, drawer: &mut Drawer, words: &mut [i64]) -> Ended
     requires { env.now.tick ≤ 2 ^ 32 }
-    ensures word { ended result ≡ outcome code.now (length words.old) (scope_of env.now drawer.old) }
+    ensures word { ended result
+        ≡ outcome code.now (length words.old) (scope_of env.now drawer.old) }
     ensures seed { drawer.new.seed ≡ drawer.old.seed }
 {
-    let mut top = 0;
-    for instr in code {
-        top = match step(instr, env, drawer, words, top) {
-            Ok(top) => top,
+    let Some((first, rest)) = code.split_first() else {
+        return stopped(STUCK);
+    };
+    let mut top = match start(first, env, drawer, words.len()) {
+        Ok(word) => word,
+        Err(stop) => return stopped(stop),
+    };
+    let mut below = 0;
+    for instr in rest {
+        top = match step(instr, env, drawer, words, top, &mut below) {
+            Ok(word) => word,
             Err(stop) => return stopped(stop),
         };
     }
-    match pop(words, top) {
-        Some(popped) => Ended {
-            word: popped.word,
-            stop: None,
-        },
-        None => stopped(STUCK),
+    Ended {
+        word: top,
+        stop: None,
     }
 }
 

@@ -1,4 +1,4 @@
-ghost use Rattle.std.specs.Prelude.{◌≡◌, ◌<◌, ◌≤◌, ◌+◌, ◌∷◌, ◌++◌, [], length, take, if◌then◌else◌, IfOk, true, false};
+ghost use Rattle.std.specs.Prelude.{◌≡◌, ◌<◌, ◌≤◌, ◌+◌, ◌∷◌, ◌++◌, [], length, take, if◌then◌else◌, IfOk, slice_get, true, false};
 ghost use Rattle.brace_code.specs.inner.Columns.{side, taking, merged};
 
 use crate::lane::{Lane, Redo};
@@ -62,59 +62,30 @@ pub fn split(alloc: Global, lanes: &List<Lane>, test: &List<i64>) -> Result<Side
     })
 }
 
-fn pick<'a>(first: bool, a: &'a [i64], b: &'a [i64]) -> &'a [i64]
-    ensures { result.now ≡ (if first then a.now else b.now) }
+// The next word of a side: the first side's at `i`, or the second's at `j`.
+fn next_word(first: bool, a: &[i64], i: usize, b: &[i64], j: usize) -> Option<i64>
+    ensures { result ≡ slice_get (if first then a.now else b.now) (if first then i else j) }
 {
-    if first { a } else { b }
+    let (words, place) = if first { (a, i) } else { (b, j) };
+    words.get(place).copied()
 }
 
-/// What is left to merge: the tests, and the words of both sides.
-#[derive(Clone, Copy)]
-struct Left<'a> {
-    test: &'a [i64],
-    ys: &'a [i64],
-    ns: &'a [i64],
-}
-
-#[tactic(auto, using(crate::proofs::LaneLemmas::merged_step))]
-// Moves the next word of the side that the next test takes.
-fn move_word<'a>(out: &mut Vec<i64>, left: Left<'a>) -> Result<Left<'a>, Redo>
-    ensures step { IfOk result (λ r. out.new.items ++ merged r.test.now r.ys.now r.ns.now ≡ out.old.items ++ merged left.entry.test.now left.entry.ys.now left.entry.ns.now) }
-    ensures shorter { IfOk result (λ r. length r.test.now < length left.entry.test.now) }
+/// The words of both sides, back in the order of the tests, in whose places they are put.
+#[tactic(auto, using(crate::proofs::LaneLemmas::merged_more))]
+pub fn merged(test: List<i64>, ys: &List<i64>, ns: &List<i64>) -> Result<List<i64>, Redo>
+    ensures { IfOk result (λ v. v ≡ merged test ys.now ns.now) }
 {
-    let Left { test, ys, ns } = left;
-    let Some((t, test)) = test.split_first() else {
-        return Err(Redo);
-    };
-    let here = on_side(true, *t);
-    let Some((word, rest)) = pick(here, ys, ns).split_first() else {
-        return Err(Redo);
-    };
-    out.push(*word)?;
-    Ok(Left {
-        test,
-        ys: pick(here, rest, ys),
-        ns: pick(here, ns, rest),
-    })
-}
-
-/// The words of both sides, back in the order of the tests.
-pub fn merged(
-    alloc: Global,
-    test: &List<i64>,
-    ys: &List<i64>,
-    ns: &List<i64>,
-) -> Result<List<i64>, Redo>
-    ensures { IfOk result (λ v. v ≡ merged test.now ys.now ns.now) }
-{
-    let mut out = Vec::with_capacity(alloc, test.as_slice().len())?;
-    let mut left = Left {
-        test: test.as_slice(),
-        ys: ys.as_slice(),
-        ns: ns.as_slice(),
-    };
-    while !left.test.is_empty() {
-        left = move_word(&mut out, left)?;
+    let mut out = test.into_vec();
+    let (ys, ns) = (ys.as_slice(), ns.as_slice());
+    let (mut i, mut j) = (0, 0);
+    for x in out.iter_mut() {
+        let set = on_side(true, *x);
+        let Some(word) = next_word(set, ys, i, ns, j) else {
+            return Err(Redo);
+        };
+        *x = word;
+        i += usize::from(set);
+        j += usize::from(!set);
     }
     Ok(List::from_vec(out))
 }

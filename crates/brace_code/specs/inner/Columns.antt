@@ -36,13 +36,15 @@ pub record Numbers (frame : Frame) (operand : Operand) (lanes : List Lane) (colu
 -- an operation on each word of a column
 pub record Maps (op : ℤ → Result ℤ Kind) (a c : List ℤ) : Type 0 where
   pub long : length c ≡ length a
-  pub each : (k : ℕ) → k < length a → op (slice_index_or a k (pos 0)) ≡ Ok (slice_index_or c k (pos 0))
+  pub each : (k : ℕ) → k < length a
+      → op (slice_index_or a k (pos 0)) ≡ Ok (slice_index_or c k (pos 0))
 
 -- an operation on the words of two columns, pairwise
 pub record Pairs (op : ℤ → ℤ → Result ℤ Kind) (a b c : List ℤ) : Type 0 where
   pub long : length c ≡ length a
   pub each : (k : ℕ) → k < length a
-      → op (slice_index_or a k (pos 0)) (slice_index_or b k (pos 0)) ≡ Ok (slice_index_or c k (pos 0))
+      → op (slice_index_or a k (pos 0)) (slice_index_or b k (pos 0))
+      ≡ Ok (slice_index_or c k (pos 0))
 
 -- the lanes whose word is set, or those whose word is 0
 abbrev pub side : Bool → ℤ → Bool

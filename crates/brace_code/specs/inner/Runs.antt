@@ -88,8 +88,3 @@ ended e = end_of e.word e.stop
 -- the stack of the first words, its top first
 abbrev pub stack_of : List ℤ → ℕ → List ℤ
 stack_of words height = reverse (take height words)
-
--- what is answered where code was run: its fault, or how high the stack is that it leaves
-abbrev pub Did : Left → Result ℕ Stop → List ℤ → Type 0
-Did left (Ok height) words = (left ≡ Ok (stack_of words height)) × (height ≤ length words)
-Did left (Err stop) words = left ≡ Err stop
