@@ -1,8 +1,8 @@
-ghost use Rattle.std.specs.Prelude.{◌≡◌, ◌+◌, ◌-◌, ◌*◌, ◌<◌, ◌≤◌, ℕ, Bool, ◌&&◌, ◌++◌, map, take, drop, length, pos, ◌<ℤ◌, ◌≤ℤ◌, ◌+ℤ◌, OnOk, if◌then◌else◌, [], ◌∷◌};
+ghost use Rattle.std.specs.Prelude.{◌≡◌, ◌+◌, ◌-◌, ◌*◌, ◌<◌, ◌≤◌, ℕ, ℤ, Bool, ◌&&◌, ◌++◌, map, take, drop, length, pos, ◌<ℤ◌, ◌≤ℤ◌, ◌+ℤ◌, OnOk, if◌then◌else◌, [], ◌∷◌};
 ghost use Rattle.std.specs.List.{count_by, filter};
 ghost use Rattle.brace_grid.specs.Grids.{digits, is_between};
 ghost use Rattle.brace_grid.specs.inner.Layout.{before, CellsRise, SpotsRise, AreCellsOf};
-ghost use Rattle.brace_grid.specs.inner.Search.{IsRank, IsPlace, is_spot_inside, is_in_rows, is_in_block, is_chosen, block_of};
+ghost use Rattle.brace_grid.specs.inner.Search.{IsRank, IsPlace, is_spot_inside, is_in_rows, is_up_to, is_in_block, is_chosen, block_of};
 
 use crate::cells::{Cell, Layout, Spot};
 use crate::looks::Looks;
@@ -99,23 +99,41 @@ fn take_inside(area: &Area, spot: Spot, out: &mut Vec<u32>) -> Result<(), NoMemo
     Ok(())
 }
 
-/// Appends the indices of those spots from `start` on and before `end` that are in an area.
+/// Whether a spot is in a column, and not behind a row of it.
+fn is_up_to(spot: Spot, column: i64, north: i64) -> bool
+    ensures { result ≡ is_up_to column north spot }
+{
+    spot.column == column && spot.row <= north
+}
+
+/// Appends the indices of those spots from `start` on that are in an area, up to the first that is
+/// in another column or behind the row `north`. From `start` on come all spots of the column that
+/// are in a row from `south` on.
 fn gather<L: Ledger>(
     spots: &Looks<Spot>,
     start: usize,
-    end: usize,
+    column: i64,
+    north: i64,
     area: &Area,
     out: &mut Vec<u32>,
     steps: &mut Steps<L>,
 ) -> Result<(), NoMemory>
-    requires { end ≤ length spots.now }
-    ensures found { OnOk result (out.new.items
+    requires { start ≤ length spots.now }
+    ensures found { (south : ℤ) (end : ℕ) → IsPlace spots.now column south start
+        → IsPlace spots.now column (north +ℤ pos 1) end
+        → OnOk result (out.new.items
         ≡ out.old.items ++ map (λ s. s.index) (filter (is_spot_inside area.now)
         (take (end - start) (drop start spots.now)))) }
-    ensures steps { steps.new ≤ steps.old + (end - start) }
+    ensures steps { (south : ℤ) (end : ℕ) → IsPlace spots.now column south start
+        → IsPlace spots.now column (north +ℤ pos 1) end
+        → steps.new ≤ steps.old + (end - start + 1) }
 {
-    for i in start..end {
-        take_inside(area, spots.look(i, steps), out)?;
+    for i in start..spots.len() {
+        let spot = spots.look(i, steps);
+        if !is_up_to(spot, column, north) {
+            return Ok(());
+        }
+        take_inside(area, spot, out)?;
     }
     Ok(())
 }
@@ -131,7 +149,6 @@ fn gather_column<L: Ledger>(
 ) -> Result<(), NoMemory>
     requires spots { SpotsRise layout.now.spots }
     requires cells { AreCellsOf layout.now.spots layout.now.cells }
-    requires north { block.now.north <ℤ pos 9223372036854775807 }
     ensures found { OnOk result ((q : ℕ → Bool) → count_by q out.new.items
         ≡ count_by q out.old.items + count_by (is_chosen (is_in_rows column block.now.south
         block.now.north) area.now q) layout.now.spots) }
@@ -139,8 +156,7 @@ fn gather_column<L: Ledger>(
         block.now.north) layout.now.spots + 2 * (1 + digits (length layout.now.cells))) }
 {
     let start = place(layout, column, block.south, steps);
-    let end = place(layout, column, block.north + 1, steps);
-    gather(&layout.spots, start, end, area, out, steps)
+    gather(&layout.spots, start, column, block.north, area, out, steps)
 }
 
 /// Appends the indices of the spots in an area that are in a block of at most three columns.

@@ -7,6 +7,7 @@ pub mod TableTells
 pub mod KindLemmas
 pub mod LawfulOn
 pub mod AskLemmas
+pub mod AskedLemmas
 pub mod WorkTaken
 pub mod WorkHeard
 pub mod WorkOwned

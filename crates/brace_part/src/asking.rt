@@ -1,5 +1,5 @@
-ghost use Rattle.std.specs.Prelude.{◌≡◌, ◌≤◌, ◌<◌, ◌^◌, ◌++◌, [], ◌∷◌, List, length, map, pos, IsTrue, IfOk, Some, slice_get};
-ghost use Rattle.std.specs.List.{list_all, Contains};
+ghost use Rattle.std.specs.Prelude.{◌≡◌, ◌≤◌, ◌<◌, ◌^◌, ◌++◌, [], ◌∷◌, List, length, map, pos, ◌≤ℤ◌, IsTrue, IfOk, Some, slice_get};
+ghost use Rattle.std.specs.List.{All, list_all, Contains};
 ghost use Rattle.brace_model.specs.declared.fault.Fault.{Fault};
 ghost use Rattle.brace_model.specs.declared.world.Agent.{Agent};
 ghost use Rattle.brace_model.specs.World.{RisesById};
@@ -7,11 +7,11 @@ ghost use Rattle.brace_model.specs.Lawful.{is_lawful_agent};
 ghost use Rattle.brace_model.specs.Query.{Saying};
 ghost use Rattle.brace_plan.specs.Answers.{saying_of, ArePlaced};
 ghost use Rattle.brace_eval.specs.Heard.{IsHeard};
-ghost use Rattle.brace_part.specs.inner.Asked.{CanAsk, HearsOf, HearsAllOf};
+ghost use Rattle.brace_part.specs.inner.Asked.{CanAsk, AreAsked, HearsOf, HearsAllOf};
 
 use brace_eval::Heard;
 use brace_grid::Grid;
-use brace_model::{Agent, Program};
+use brace_model::{Agent, Program, class_of, x_of, y_of};
 use brace_num::NoMemory;
 use brace_plan::{Answer, Plans, Room, Said, greatest_visible};
 use std::alloc::Global;
@@ -28,6 +28,15 @@ pub struct Scene<'a> {
     grid: Grid,
 }
 
+/// An agent that is to be asked: its place among those that are held, and the numbers of the cell
+/// that it stands in.
+#[derive(Debug, Clone, Copy, Drop)]
+pub struct Asked {
+    column: i64,
+    row: i64,
+    place: u32,
+}
+
 /// What was heard so far, and what queries need while they are asked.
 #[derive(Debug, Drop)]
 pub struct Hearing {
@@ -39,6 +48,19 @@ pub struct Hearing {
 
 /// The least side of a grid's cells: one unit, in millionths.
 const UNIT: i64 = 1_000_000;
+
+/// The place of an agent in a list whose ids rise.
+fn place_in(held: &[Agent], a: &Agent) -> u32
+    requires few { length held.now ≤ 2 ^ 20 }
+    requires rises { RisesById held.now }
+    requires held { Contains held.now a.now }
+    ensures { slice_get held.now result ≡ Some a.now }
+{
+    match held.binary_search_by_key(&a.id, |b| b.id) {
+        Ok(place) => place as u32,
+        Err(_) => unreachable!(),
+    }
+}
 
 impl<'a> Scene<'a> {
     /// The scene of a program's lawful agents, whose ids rise.
@@ -115,20 +137,64 @@ impl<'a> Scene<'a> {
         Ok(())
     }
 
-    /// Asks the queries of all agents that are held.
-    pub fn ask_all(&self, plans: &Plans, hearing: &mut Hearing) -> Result<(), NoMemory>
+    /// The place of an agent that is held, and the cell that it stands in, of a side of at least one
+    /// unit.
+    fn asked(&self, a: &Agent, side: i64) -> Asked
+        requires few { length self.now.held.now ≤ 2 ^ 20 }
+        requires rises { RisesById self.now.held.now }
+        requires held { Contains self.now.held.now a.now }
+        requires side { pos 1000000 ≤ℤ side }
+        ensures { slice_get self.now.held.now result.place ≡ Some a.now }
+    {
+        let (x, y) = match class_of(self.program, a) {
+            Some(class) => (x_of(class, a), y_of(class, a)),
+            None => (0, 0),
+        };
+        Asked {
+            column: x.div_euclid(side),
+            row: y.div_euclid(side),
+            place: place_in(self.held, a),
+        }
+    }
+
+    /// The places of some of the agents that are held.
+    fn all_asked(&self, asking: &[Agent]) -> Result<Vec<Asked>, NoMemory>
+        requires few { length self.now.held.now ≤ 2 ^ 20 }
+        requires rises { RisesById self.now.held.now }
+        requires held { (a : Agent) → Contains asking.now a → Contains self.now.held.now a }
+        ensures { IfOk result (λ asked. AreAsked self.now.held.now asking.now asked.items) }
+    {
+        let side = greatest_visible(self.program).max(UNIT);
+        let mut asked = Vec::with_capacity(self.alloc, asking.len())?;
+        for a in asking {
+            asked.push(self.asked(a, side))?;
+        }
+        Ok(asked)
+    }
+
+    /// Asks the queries of agents by their places, in turn.
+    fn ask_each(
+        &self,
+        plans: &Plans,
+        asked: &[Asked],
+        hearing: &mut Hearing,
+    ) -> Result<(), NoMemory>
         requires can_ask { CanAsk plans.now self.now }
-        ensures hears { IfOk result (λ _. HearsAllOf self.now plans.now hearing.old.room
-            self.now.held.now hearing.old.heard hearing.new.heard) }
+        requires placed { All (λ (one : Asked). one.place < length self.now.held.now) asked.now }
+        ensures hears { IfOk result (λ _. (asking : List Agent)
+            → AreAsked self.now.held.now asking asked.now
+            → HearsAllOf self.now plans.now hearing.old.room asking
+            hearing.old.heard hearing.new.heard) }
         ensures seed { hearing.new.room ≡ hearing.old.room }
     {
-        for place in 0..self.held.len() {
-            self.ask(plans, place as u32, hearing)?;
+        for one in asked {
+            self.ask(plans, one.place, hearing)?;
         }
         Ok(())
     }
 
-    /// Asks the queries of some of the agents that are held.
+    /// Asks the queries of some of the agents that are held. Those that stand near each other are
+    /// asked one after another, as they look at the same agents.
     pub fn ask_some(
         &self,
         plans: &Plans,
@@ -141,12 +207,20 @@ impl<'a> Scene<'a> {
             hearing.old.heard hearing.new.heard) }
         ensures seed { hearing.new.room ≡ hearing.old.room }
     {
-        for a in asking {
-            let Ok(place) = self.held.binary_search_by_key(&a.id, |b| b.id) else {
-                unreachable!()
-            };
-            self.ask(plans, place as u32, hearing)?;
-        }
+        let mut asked = self.all_asked(asking)?;
+        asked.sort_unstable_by_key(|one: &Asked| (one.column, one.row));
+        self.ask_each(plans, asked.as_slice(), hearing)?;
+        Ok(())
+    }
+
+    /// Asks the queries of all agents that are held.
+    pub fn ask_all(&self, plans: &Plans, hearing: &mut Hearing) -> Result<(), NoMemory>
+        requires can_ask { CanAsk plans.now self.now }
+        ensures hears { IfOk result (λ _. HearsAllOf self.now plans.now hearing.old.room
+            self.now.held.now hearing.old.heard hearing.new.heard) }
+        ensures seed { hearing.new.room ≡ hearing.old.room }
+    {
+        self.ask_some(plans, self.held, hearing)?;
         Ok(())
     }
 }

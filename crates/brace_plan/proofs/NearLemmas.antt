@@ -1,11 +1,11 @@
 -- Places of a list among which are those of all agents that a loop takes.
-use Rattle.std.proofs.Common.{◌≡◌, ◌∙◌, sym, refl, ap, ap₂, subst, fold, ℕ, zero, suc, ◌+◌, ◌<◌, ℤ, pos, ◌≤ℤ◌, List, [], ◌∷◌, ◌++◌, length, map, filter, get_or, drop, Bool, true, false, ◌&&◌, cond, Option, Some, None, Result, Ok, Err, All, arith}
-use Rattle.std.specs.Prelude.{int_le, slice_get, option_map, OnOk}
+use Rattle.std.proofs.Common.{◌≡◌, ◌∙◌, sym, refl, ap, ap₂, subst, fold, ℕ, zero, suc, ◌+◌, ◌<◌, ℤ, pos, ◌≤ℤ◌, List, [], ◌∷◌, ◌++◌, length, map, filter, get_or, drop, Bool, true, false, ◌&&◌, cond, Option, Some, None, All, arith}
+use Rattle.std.specs.Prelude.{int_le, slice_get, option_map, unwrap_or, is_some, not, ◌==◌}
 use Rattle.std.specs.List.{list_all, range_with_len}
 use Rattle.std.specs.Int.{int_max}
 use Rattle.std.proofs.lemmas.Bool.{and_parts, and_from}
 use Rattle.std.proofs.lemmas.List.{get_or-map, length-map, at_drop_more}
-use Rattle.std.proofs.lemmas.List.Elements.{All-filter}
+use Rattle.std.proofs.lemmas.List.Elements.{All-filter, filter_passes}
 use Rattle.std.proofs.lemmas.List.FromFn.{map-range_with_len_more, get_or-range_with_len, length-range_with_len}
 use Rattle.std.proofs.lemmas.List.Folds.{fold-map}
 use Rattle.std.proofs.lemmas.Int.{ints, fold-int_max_bounds}
@@ -21,7 +21,7 @@ use Rattle.brace_grid.specs.Grids as grids
 use Rattle.brace_plan.specs.declared.action.Bound.{Bound}
 use Rattle.brace_plan.specs.declared.seat.Scene.{Scene}
 use Rattle.brace_plan.specs.Answers.{greatest_visible}
-use Rattle.brace_plan.specs.inner.Walks.{IsScene, IsPartOf, HoldsTaken, AreWithin, HaveTaken, is_taken, agents_at}
+use Rattle.brace_plan.specs.inner.Walks.{IsScene, IsPartOf, HoldsTaken, AreWithin, HaveTaken, IsInSight, is_taken, agents_at}
 
 -- ---- areas
 
@@ -45,6 +45,18 @@ part-part a b c h k = record {
   y1 = omega (arith, ints, h.y1, k.y1);
 }
 
+-- what is in a part is in the whole
+pub part_inside : (large small : Area) (p : Point) → IsPartOf small large → is_inside small p ≡ true → is_inside large p ≡ true
+part_inside large small p part h =
+    stays_inside small large p (below large.x0 small.x0 p.x part.x0) (above small.x1 large.x1 p.x part.x1)
+    (below large.y0 small.y0 p.y part.y0) (above small.y1 large.y1 p.y part.y1) h
+  where
+    below : (a b v : ℤ) → a ≤ℤ b → int_le b v ≡ true → int_le a v ≡ true
+    below a b v low h = grind (arith, ints, low, h)
+
+    above : (a b v : ℤ) → a ≤ℤ b → int_le v a ≡ true → int_le v b ≡ true
+    above a b v low h = grind (arith, ints, low, h)
+
 -- where an agent that is seen stands
 pub seen_inside : (program : Program) (a b : Agent) (c : Class) (area : Area) → class_of program a ≡ Some c
     → ((v : ℤ) → is_within c.visible (x_of c a) v ≡ true → is_between area.x0 area.x1 v ≡ true)
@@ -59,6 +71,20 @@ seen_inside program a b c area class x y h =
         let reached = and_parts _ _ (subst (λ o. reaches_to (Some c) o a b ≡ true) is r) in
         rw is (and_from _ _ (x _ reached.0) (y _ reached.1))
     at None is r = absurd (let no : false ≡ true = subst (λ o. reaches_to (Some c) o a b ≡ true) is r in cc)
+
+-- an agent that stands in sight along both axes is seen, but for the one that looks
+pub in_sight : (program : Program) (a b : Agent) (c : Class) (area : Area) → class_of program a ≡ Some c
+    → ((v : ℤ) → is_between area.x0 area.x1 v ≡ true → is_within c.visible (x_of c a) v ≡ true)
+    → ((v : ℤ) → is_between area.y0 area.y1 v ≡ true → is_within c.visible (y_of c a) v ≡ true)
+    → is_inside area (place_of program b) ≡ true → sees program a b ≡ (not (a.id == b.id) && is_some (class_of program b))
+in_sight program a b c area class x y h =
+    ap (λ r. not (a.id == b.id) && r) (ap (λ o. reaches_to o (class_of program b) a b) class ∙ at (class_of program b) refl)
+  where
+    at : (o : Option Class) → class_of program b ≡ o → reaches_to (Some c) (class_of program b) a b ≡ is_some (class_of program b)
+    at (Some d) is =
+        let there = and_parts _ _ (subst (λ o. is_inside area (unwrap_or (option_map (λ k. record { x = x_of k b; y = y_of k b }) o) origin) ≡ true) is h) in
+        rw is (and_from _ _ (x _ there.0) (y _ there.1))
+    at None is = rw is refl
 
 -- a class sees as far as the farthest at most
 pub visible-most : (program : Program) (number : ℕ) (c : Class) → slice_get program.classes number ≡ Some c
@@ -155,6 +181,21 @@ module _ (scene : Scene) where
       subst (AreWithin scene) (sym (places-inside stands area))
       (All-filter _ (λ i. i < length agents) (range_with_len 0 (length agents)) (range-below (length agents)))
 
+  pub inside-sight : IsScene scene → (area : Area) (a d : Agent)
+      → ((b : Agent) → is_inside area (place_of scene.program.now b) ≡ true → IsInSight scene a b)
+      → All (λ i. IsInSight scene a (get_or scene.agents.now i d)) (grids.inside area scene.grid.now.places)
+  inside-sight stands area a d holds =
+      let agents = scene.agents.now in
+      let program = scene.program.now in
+      let t : ℕ → Bool = λ i. is_inside area (place_at (map (place_of program) agents) i) in
+      let rows = range_with_len 0 (length agents) in
+      subst (All (λ i. IsInSight scene a (get_or agents i d))) (sym (places-inside stands area))
+      (λ k e low.
+      let i = get_or (filter t rows) k e in
+      let small : i < length agents = All-filter t (λ i. i < length agents) rows (range-below (length agents)) k e low in
+      let there : t i ≡ true = filter_passes t rows k e low in
+      holds (get_or agents i d) (subst (λ p. is_inside area p ≡ true) (get_or-map (place_of program) agents i d origin small) there))
+
   pub all-within : AreWithin scene (range_with_len 0 (length scene.agents.now))
   all-within = range-below (length scene.agents.now)
 
@@ -174,7 +215,3 @@ module _ (scene : Scene) where
         let parts = and_parts _ _ h in
         subst (λ p. is_inside area p ≡ true) (sym (get_or-map (place_of program) agents i d origin low))
         (holds (get_or agents i d) (and_parts _ _ parts.0).1 parts.1))
-
-pub on_ok : {T E : Type 0} (r : Result T E) (P Q : Type 0) → (P → Q) → OnOk r P → OnOk r Q
-on_ok (Ok x) P Q f h = f h
-on_ok (Err e) P Q f h = h

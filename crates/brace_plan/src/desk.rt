@@ -73,6 +73,7 @@ pub fn set_back(locals: &mut [Value], trail: &mut Vec<Former>, mark: usize)
 
 impl Desk {
     /// What code gives.
+    #[inline(always)]
     pub fn eval(
         &mut self,
         alloc: Global,

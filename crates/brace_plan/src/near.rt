@@ -1,10 +1,10 @@
-ghost use Rattle.std.specs.Prelude.{◌≡◌, ◌+◌, ◌*◌, ◌<◌, ℕ, ℤ, pos, [], ◌∷◌, ◌≤ℤ◌, ◌-ℤ◌, ◌+ℤ◌, ◌*ℤ◌, true, int_le, ◌==◌, ◌&&◌, IfSome, OnOk, length};
+ghost use Rattle.std.specs.Prelude.{◌≡◌, ◌+◌, ◌*◌, ◌<◌, IfOk, ℕ, ℤ, pos, [], ◌∷◌, ◌≤ℤ◌, ◌-ℤ◌, ◌+ℤ◌, ◌*ℤ◌, true, int_le, ◌==◌, ◌&&◌, IfSome, OnOk, length};
 ghost use Rattle.std.specs.List.{list_all, range_with_len};
 ghost use Rattle.brace_model.specs.declared.world.Agent.{Agent};
 ghost use Rattle.brace_model.specs.World.{sees, is_within};
-ghost use Rattle.brace_grid.specs.Grids.{place_of, inside, is_between};
+ghost use Rattle.brace_grid.specs.Grids.{place_of, inside, is_between, is_inside};
 ghost use Rattle.brace_plan.specs.inner.Acts.{limit_in, stands, coordinate, meets};
-ghost use Rattle.brace_plan.specs.inner.Walks.{IsScene, IsPartOf, Narrows, scope_at, is_taken, HoldsTaken, AreWithin, HaveTaken};
+ghost use Rattle.brace_plan.specs.inner.Walks.{IsScene, IsPartOf, Narrows, scope_at, is_taken, HoldsTaken, AreWithin, HaveTaken, IsInSight, AreInSight};
 
 use crate::action::{Axis, Bound, Limit, Side};
 use crate::seat::{Scene, Seat};
@@ -73,15 +73,30 @@ fn meets_all(scene: &Scene, seat: &Seat, locals: &[Value], bounds: &List<Bound>,
     true
 }
 
-/// Whether an agent is one of a class that `this` sees.
-fn is_seen(scene: &Scene, seat: &Seat, class: u32, b: &Agent) -> bool
+/// Whether `this` sees an agent, of which may be known that it is in sight along both axes.
+fn this_sees(scene: &Scene, seat: &Seat, b: &Agent, in_sight: bool) -> bool
+    requires { in_sight ≡ true → IsInSight scene.now seat.now.this.agent.now b.now }
+    ensures { result ≡ sees scene.now.program.now seat.now.this.agent.now b.now }
+{
+    let this = seat.this.agent;
+    if in_sight {
+        this.id != b.id && class_of(scene.program, b).is_some()
+    } else {
+        sees(scene.program, this, b)
+    }
+}
+
+/// Whether an agent, of which may be known that it is in sight, is one of a class that `this` sees.
+fn is_seen(scene: &Scene, seat: &Seat, class: u32, b: &Agent, in_sight: bool) -> bool
+    requires { in_sight ≡ true → IsInSight scene.now seat.now.this.agent.now b.now }
     ensures { result ≡ (b.now.class == class)
         && sees scene.now.program.now seat.now.this.agent.now b.now }
 {
-    b.class == class && sees(scene.program, seat.this.agent, b)
+    b.class == class && this_sees(scene, seat, b, in_sight)
 }
 
-/// Whether a loop over a class takes an agent.
+/// Whether a loop over a class takes an agent, of which may be known that it is in sight along both
+/// axes.
 pub fn is_taken(
     scene: &Scene,
     seat: &Seat,
@@ -89,11 +104,13 @@ pub fn is_taken(
     class: u32,
     bounds: &List<Bound>,
     b: &Agent,
+    in_sight: bool,
 ) -> bool
+    requires { in_sight ≡ true → IsInSight scene.now seat.now.this.agent.now b.now }
     ensures { (seed : ℕ) → result
         ≡ is_taken scene.now (scope_at scene.now seat.now seed locals.now) class bounds.now b.now }
 {
-    is_seen(scene, seat, class, b) && meets_all(scene, seat, locals, bounds, b)
+    is_seen(scene, seat, class, b, in_sight) && meets_all(scene, seat, locals, bounds, b)
 }
 
 /// A part of an axis, with both ends.
@@ -137,6 +154,8 @@ fn cut_high(high: i64, side: Side, limit: i64) -> i64
 
 /// The part of an axis within a range of a place, or None where it goes past an end of i64.
 fn around(place: i64, range: i64) -> Option<Span>
+    ensures within { IfSome result (λ span. (v : ℤ)
+        → is_between span.low span.high v ≡ true → is_within range place v ≡ true) }
     ensures holds { IfSome result (λ span. (v : ℤ)
         → is_within range place v ≡ true → is_between span.low span.high v ≡ true) }
     ensures low { IfSome result (λ span. span.low ≡ place -ℤ range) }
@@ -182,11 +201,15 @@ fn narrowed(scene: &Scene, seat: &Seat, locals: &[Value], bounds: &List<Bound>, 
     left
 }
 
-/// An area that holds all agents that a loop takes, or None where it goes past an end of i64.
+/// An area that holds all agents that a loop takes, and none that is not in sight, or None where it
+/// goes past an end of i64.
 fn area_of(scene: &Scene, seat: &Seat, locals: &[Value], bounds: &List<Bound>) -> Option<Area>
     requires { IsScene scene.now }
     ensures holds { IfSome result (λ area. (seed : ℕ) → HoldsTaken scene.now
         (scope_at scene.now seat.now seed locals.now) bounds.now area) }
+    ensures sight { IfSome result (λ area. (b : Agent)
+        → is_inside area (place_of scene.now.program.now b) ≡ true
+        → IsInSight scene.now seat.now.this.agent.now b) }
     ensures wide { IfSome result (λ area.
         (area.x1 -ℤ area.x0) ≤ℤ (pos 2 *ℤ scene.now.grid.now.side)) }
     ensures high { IfSome result (λ area.
@@ -244,21 +267,30 @@ fn every(agents: &[Agent], near: &mut Vec<u32>) -> Result<(), NoMemory>
     Ok(())
 }
 
-/// Replaces `near` by places, rising, among which are those of all agents that a loop takes.
+/// Replaces `near` by places, rising, among which are those of all agents that a loop takes, and
+/// answers whether all are known to be in sight.
 pub fn find(
     scene: &Scene,
     seat: &Seat,
     locals: &[Value],
     bounds: &List<Bound>,
     near: &mut Vec<u32>,
-) -> Result<(), NoMemory>
+) -> Result<bool, NoMemory>
     requires { IsScene scene.now }
-    ensures within { OnOk result (AreWithin scene.now near.new.items) }
-    ensures taken { OnOk result ((seed class : ℕ) → HaveTaken scene.now
+    ensures within { IfOk result (λ _. AreWithin scene.now near.new.items) }
+    ensures taken { IfOk result (λ _. (seed class : ℕ) → HaveTaken scene.now
         (scope_at scene.now seat.now seed locals.now) class bounds.now near.new.items) }
+    ensures sight { IfOk result (λ in_sight. AreInSight scene.now seat.now.this.agent.now
+        in_sight near.new.items) }
 {
     match area_of(scene, seat, locals, bounds) {
-        Some(area) => probed(scene.grid, &area, near),
-        None => every(scene.agents, near),
+        Some(area) => {
+            probed(scene.grid, &area, near)?;
+            Ok(true)
+        }
+        None => {
+            every(scene.agents, near)?;
+            Ok(false)
+        }
     }
 }

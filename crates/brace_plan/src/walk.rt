@@ -1,9 +1,9 @@
-ghost use Rattle.std.specs.Prelude.{◌≡◌, ◌≤◌, ◌^◌, ◌∷◌, [], false, IfOk, OnOk};
+ghost use Rattle.std.specs.Prelude.{◌≡◌, ◌≤◌, ◌^◌, ◌∷◌, [], true, false, IfOk, OnOk};
 ghost use Rattle.std.specs.Result.{result_ok};
 ghost use Rattle.brace_code.specs.Codes.{gives};
 ghost use Rattle.brace_model.specs.declared.world.Agent.{Agent};
 ghost use Rattle.brace_model.specs.FaultOrder.{with_earlier};
-ghost use Rattle.brace_plan.specs.inner.Walks.{IsScene, IsSeat, IsPlaced, scope_at, Sets, Adds, worth_in, act_in, block_in, loop_in, agents_at, AreWithin};
+ghost use Rattle.brace_plan.specs.inner.Walks.{IsScene, IsSeat, IsPlaced, scope_at, Sets, Adds, worth_in, act_in, block_in, loop_in, agents_at, AreWithin, IsInSight, AreInSight};
 
 use crate::action::{Action, Bound};
 use crate::answer::{Answer, Said};
@@ -26,6 +26,9 @@ fn with_earlier(found: Option<Fault>, fault: Fault) -> Fault
 }
 
 /// The value of code, or None where it stops; the fault is noted.
+// A result that is handed on through memory is read late: so what makes one stands in the code of
+// who reads it.
+#[inline(always)]
 fn worth(
     alloc: Global,
     scene: &Scene,
@@ -177,7 +180,8 @@ pub fn block<'a>(
     Ok(stopped)
 }
 
-/// Does a loop's block at the agent of a place, if the loop takes it.
+/// Does a loop's block at the agent of a place, of which may be known that it is in sight, if the
+/// loop takes it.
 #[cycle(walk)]
 fn iteration<'a>(
     alloc: Global,
@@ -187,6 +191,7 @@ fn iteration<'a>(
     bounds: &List<Bound>,
     body: &List<Action>,
     other: &Placed<'a>,
+    in_sight: bool,
     locals: &mut [Value],
     desk: &mut Desk,
     answer: &mut Answer,
@@ -194,6 +199,8 @@ fn iteration<'a>(
     requires scene { IsScene scene.now }
     requires seat { IsSeat scene.now seat.now }
     requires other { IsPlaced scene.now other.now }
+    requires sight { in_sight ≡ true
+        → IsInSight scene.now seat.now.this.agent.now other.now.agent.now }
     requires ticks { scene.now.tick ≤ 2 ^ 32 }
     ensures added { OnOk result (Adds scene.now (loop_in scene.now
         (scope_at scene.now seat.now desk.old.drawer.seed locals.old)
@@ -202,15 +209,15 @@ fn iteration<'a>(
     ensures trail { OnOk result (desk.new.trail.items ≡ desk.old.trail.items) }
     ensures seed { desk.new.drawer.seed ≡ desk.old.drawer.seed }
 {
-    if is_taken(scene, seat, locals, class, bounds, other.agent) {
+    if is_taken(scene, seat, locals, class, bounds, other.agent, in_sight) {
         let inside = seat.inside(scene, other);
         block(alloc, scene, &inside, body, locals, desk, answer)?;
     }
     Ok(())
 }
 
-/// Does a loop's block at each agent that the loop takes among those of some places. A fault ends
-/// its iteration alone.
+/// Does a loop's block at each agent that the loop takes among those of some places, which may be
+/// known to be in sight. A fault ends its iteration alone.
 #[cycle(walk)]
 fn visits<'a>(
     alloc: Global,
@@ -220,6 +227,7 @@ fn visits<'a>(
     bounds: &List<Bound>,
     body: &List<Action>,
     near: &[u32],
+    in_sight: bool,
     locals: &mut [Value],
     desk: &mut Desk,
     answer: &mut Answer,
@@ -227,6 +235,7 @@ fn visits<'a>(
     requires scene { IsScene scene.now }
     requires seat { IsSeat scene.now seat.now }
     requires near { AreWithin scene.now near.now }
+    requires sight { AreInSight scene.now seat.now.this.agent.now in_sight near.now }
     requires ticks { scene.now.tick ≤ 2 ^ 32 }
     ensures added { OnOk result ((d : Agent) → Adds scene.now (loop_in scene.now
         (scope_at scene.now seat.now desk.old.drawer.seed locals.old)
@@ -241,7 +250,7 @@ fn visits<'a>(
             agent: &scene.agents[*place as usize],
         };
         iteration(
-            alloc, scene, seat, class, bounds, body, &other, locals, desk, answer,
+            alloc, scene, seat, class, bounds, body, &other, in_sight, locals, desk, answer,
         )?;
     }
     Ok(())
@@ -274,7 +283,7 @@ fn iterations<'a>(
         Some(near) => near,
         None => Vec::new(alloc),
     };
-    find(scene, seat, locals, bounds, &mut near)?;
+    let in_sight = find(scene, seat, locals, bounds, &mut near)?;
     visits(
         alloc,
         scene,
@@ -283,6 +292,7 @@ fn iterations<'a>(
         bounds,
         body,
         near.as_slice(),
+        in_sight,
         locals,
         desk,
         answer,

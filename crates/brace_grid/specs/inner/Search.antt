@@ -1,5 +1,5 @@
 -- What a halving search finds, and what a walk over spots adds.
-use Rattle.std.specs.Prelude.{◌≡◌, ℕ, ◌<◌, ◌≤◌, ℤ, Bool, true, false, ◌&&◌, List, length, slice_index_or}
+use Rattle.std.specs.Prelude.{◌≡◌, ℕ, ◌<◌, ◌≤◌, ℤ, int_le, Bool, true, false, ◌&&◌, List, length, slice_index_or}
 use Rattle.std.specs.Ordering.{int_eq}
 use Rattle.brace_num.specs.declared.kinds.Area.{Area}
 use Rattle.brace_grid.specs.declared.cells.Spot.{Spot}
@@ -31,6 +31,10 @@ is_spot_inside area s = is_inside area (record { x = s.x; y = s.y })
 -- a spot is in some rows of a column
 abbrev pub is_in_rows : ℤ → ℤ → ℤ → Spot → Bool
 is_in_rows column south north s = int_eq s.column column && is_between south north s.row
+
+-- a spot is in a column, and not behind a row of it
+abbrev pub is_up_to : ℤ → ℤ → Spot → Bool
+is_up_to column north s = int_eq s.column column && int_le s.row north
 
 -- the cells that an area touches
 abbrev pub block_of : ℤ → Area → Block

@@ -1,5 +1,5 @@
 -- What queries are asked over, and what is heard of them. Only the crate's own functions cite this.
-use Rattle.std.specs.Prelude.{◌≡◌, ◌≤◌, ◌≤ℤ◌, ◌^◌, ℕ, List, ◌++◌, length, IsTrue}
+use Rattle.std.specs.Prelude.{◌≡◌, ◌≤◌, ◌≤ℤ◌, ◌^◌, ℕ, List, ◌++◌, map, length, slice_get, Some, IsTrue}
 use Rattle.std.specs.List.{list_all}
 use Rattle.brace_model.specs.declared.program.Program.{Program}
 use Rattle.brace_model.specs.declared.fault.Fault.{Fault}
@@ -11,6 +11,7 @@ use Rattle.brace_grid.specs.Grids.{grid_of}
 use Rattle.brace_plan.specs.Answers.{greatest_visible}
 use Rattle.brace_eval.specs.declared.heard.Heard.{Heard}
 use Rattle.brace_eval.specs.Heard.{IsHeard, said_by, faults_by}
+use Rattle.brace_part.specs.declared.asking.Asked.{Asked}
 use Rattle.brace_part.specs.declared.asking.Scene.{Scene}
 
 -- the queries of a program can be asked over a scene
@@ -21,6 +22,10 @@ pub record CanAsk (program : Program) (scene : Scene) : Type 0 where
   pub ticks : scene.tick ≤ 2 ^ 32
   pub grid : scene.grid ≡ grid_of program scene.held.now scene.grid.side
   pub wide : greatest_visible program ≤ℤ scene.grid.side
+
+-- the places of some of the agents that are held, in turn
+abbrev pub AreAsked : List Agent → List Agent → List Asked → Type 0
+AreAsked held asking asked = map (λ one. slice_get held one.place) asked ≡ map Some asking
 
 -- over a scene these values were said, and these faults were met, behind what was heard before
 abbrev pub Hears : Scene → List Saying → List Fault → Heard → Heard → Type 0

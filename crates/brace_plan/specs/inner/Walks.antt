@@ -1,6 +1,6 @@
 -- Where the walk over an agent's actions stands, and what it adds to an answer. Only the crate's
 -- own functions cite this.
-use Rattle.std.specs.Prelude.{◌≡◌, ℕ, ◌<◌, ◌≤ℤ◌, List, [], ◌∷◌, ◌++◌, map, fold, filter, Bool, true, false, ◌&&◌, ◌==◌, Option, Some, None, option_map, slice_get, slice_set, slice_index_or, length, replicate, IfSome}
+use Rattle.std.specs.Prelude.{◌≡◌, ℕ, ◌<◌, ◌≤ℤ◌, List, [], ◌∷◌, ◌++◌, map, fold, filter, Bool, true, false, ◌&&◌, ◌==◌, Option, Some, None, is_some, not, option_map, slice_get, slice_set, slice_index_or, length, replicate, IfSome}
 use Rattle.std.specs.List.{All, list_all}
 use Rattle.brace_num.specs.declared.kinds.Area.{Area}
 use Rattle.brace_model.specs.declared.program.Value.{Value}
@@ -8,7 +8,7 @@ use Rattle.brace_model.specs.declared.program.Value.TheVariants.{Flag}
 use Rattle.brace_model.specs.declared.fault.Fault.{Fault}
 use Rattle.brace_model.specs.declared.world.Agent.{Agent}
 use Rattle.brace_model.specs.FaultOrder.{least, with_earlier}
-use Rattle.brace_model.specs.World.{sees, no_value}
+use Rattle.brace_model.specs.World.{sees, class_of, no_value}
 use Rattle.brace_model.specs.Value.{Scope}
 use Rattle.brace_model.specs.Query.{Deed, silent, deed_of, inside, iterated}
 use Rattle.brace_code.specs.declared.code.Code.{Code}
@@ -137,6 +137,17 @@ abbrev pub HaveTaken : Scene → Scope → ℕ → List Bound → List ℕ → T
 HaveTaken scene scope class bounds near = (d : Agent)
     → filter (is_taken scene scope class bounds) (agents_at scene d near)
     ≡ filter (is_taken scene scope class bounds) scene.agents.now
+
+-- an agent is in the sight of another along both axes: it is seen if it is not the other itself, and
+-- if it has a class of the program
+abbrev pub IsInSight : Scene → Agent → Agent → Type 0
+IsInSight scene a b = sees scene.program.now a b
+    ≡ (not (a.id == b.id) && is_some (class_of scene.program.now b))
+
+-- where it is told so, the agents at some places are in sight
+abbrev pub AreInSight : Scene → Agent → Bool → List ℕ → Type 0
+AreInSight scene a told near = told ≡ true
+    → (d : Agent) → All (λ i. IsInSight scene a (slice_index_or scene.agents.now i d)) near
 
 -- the scope in which a plan begins: no loop agent, and no constant set
 abbrev pub opening : Scene → Planned → ℕ → Agent → Scope

@@ -1,9 +1,9 @@
-use Rattle.std.proofs.Common.{rules, ◌+ℤ◌, pos, arith, refl}
+use Rattle.std.proofs.Common.{rules, ℤ, pos, ◌+ℤ◌, arith, refl, sym, to_z, of_z}
 use Rattle.std.specs.Int.{w64}
 use Rattle.std.proofs.lemmas.Int.{to_z-of_z, ints}
 use Rattle.std.proofs.lemmas.Result.{on_ok_weaker}
 use Rattle.brace_grid.specs.inner.Search.{IsPlace}
-use Rattle.brace_grid.proofs.Places.{place_at_same}
+use Rattle.brace_grid.proofs.Places.{place_at_same, some_place}
 use Rattle.brace_grid.proofs.Columns.{column_found, column_len}
 use Rattle.brace_grid.proofs.search.gather_column.Goals as goal
 
@@ -12,15 +12,21 @@ returns-clause-found g c =
     let spots = c.args.layout.now.spots in
     let column = c.args.column in
     let block = c.args.block.now in
-    let start : IsPlace spots column block.south c.place-start.result = place_at_same spots column block.south _ _ _ _ (to_z-of_z w64 column c.ranges.column) (search (rules, to_z-of_z)) refl c.place-start.ensures.place in
-    let end : IsPlace spots column (block.north +ℤ pos 1) c.place-end.result = place_at_same spots column (block.north +ℤ pos 1) _ _ _ _ (to_z-of_z w64 column c.ranges.column) (search (rules, to_z-of_z, ints)) refl c.place-end.ensures.place in
-    on_ok_weaker c.gather.result (column_found spots column block.south block.north c.place-start.result c.place-end.result start end c.args.area.now c.args.out.now.items c.gather.new.out.items) c.gather.ensures.found
+    let column_same = to_z-of_z w64 column c.ranges.column in
+    let from = place_at_same spots (to_z w64 (of_z w64 column)) block.south _ _ _ _ refl (search (rules, to_z-of_z)) refl c.place-start.ensures.place in
+    let start : IsPlace spots column block.south c.place-start.result = place_at_same spots column block.south _ _ _ _ column_same refl refl from in
+    let (n, end) = some_place spots c.requires.spots column (block.north +ℤ pos 1) in
+    let to = place_at_same spots (to_z w64 (of_z w64 column)) (to_z w64 (of_z w64 block.north) +ℤ pos 1) _ _ _ _ (sym column_same) (search (rules, to_z-of_z)) refl end in
+    on_ok_weaker c.gather.result (column_found spots column block.south block.north c.place-start.result n start end c.args.area.now c.args.out.now.items c.gather.new.out.items) (c.gather.ensures.found block.south n from to)
 
 pub returns-clause-steps : goal.returns-clause-steps
 returns-clause-steps g c =
     let spots = c.args.layout.now.spots in
     let column = c.args.column in
     let block = c.args.block.now in
-    let start : IsPlace spots column block.south c.place-start.result = place_at_same spots column block.south _ _ _ _ (to_z-of_z w64 column c.ranges.column) (search (rules, to_z-of_z)) refl c.place-start.ensures.place in
-    let end : IsPlace spots column (block.north +ℤ pos 1) c.place-end.result = place_at_same spots column (block.north +ℤ pos 1) _ _ _ _ (to_z-of_z w64 column c.ranges.column) (search (rules, to_z-of_z, ints)) refl c.place-end.ensures.place in
-    omega (arith, column_len spots column block.south block.north c.place-start.result c.place-end.result start end)
+    let column_same = to_z-of_z w64 column c.ranges.column in
+    let from = place_at_same spots (to_z w64 (of_z w64 column)) block.south _ _ _ _ refl (search (rules, to_z-of_z)) refl c.place-start.ensures.place in
+    let start : IsPlace spots column block.south c.place-start.result = place_at_same spots column block.south _ _ _ _ column_same refl refl from in
+    let (n, end) = some_place spots c.requires.spots column (block.north +ℤ pos 1) in
+    let to = place_at_same spots (to_z w64 (of_z w64 column)) (to_z w64 (of_z w64 block.north) +ℤ pos 1) _ _ _ _ (sym column_same) (search (rules, to_z-of_z)) refl end in
+    omega (arith, column_len spots column block.south block.north c.place-start.result n start end, c.gather.ensures.steps block.south n from to)

@@ -163,7 +163,7 @@ iterations-returns-clause-added t c =
     let here = scope_at scene c.args.seat.now seed c.args.locals.now in
     let d = c.args.seat.now.this.agent.now in
     same-visits scene here c.args.class c.args.bounds.now c.args.body.now (agents_at scene d c.find.new.near.items) scene.agents.now
-    c.args.answer.now c.visits.new.answer (c.in_ok-find.ensures.taken seed c.args.class d)
+    c.args.answer.now c.visits.new.answer (c.in_ok-in_sight.ensures.taken seed c.args.class d)
     (subst (λ (l : List ℕ). Adds scene (loop_in scene here c.args.class c.args.bounds.now c.args.body.now (agents_at scene d l)) c.args.answer.now c.visits.new.answer)
     c.as_slice.ensures.value (c.in_ok-visits.ensures.added d))
 

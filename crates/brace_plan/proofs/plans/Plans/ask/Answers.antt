@@ -1,13 +1,13 @@
 use Rattle.std.proofs.Common.{◌≡◌, ◌∙◌, sym, refl, subst, ℕ, List, get_or, true, Some, slice_get}
 use Rattle.std.specs.List.{list_all}
 use Rattle.std.proofs.lemmas.Option.{slice_get_read}
+use Rattle.std.proofs.lemmas.Result.{on_ok_weaker}
 use Rattle.brace_model.specs.declared.program.Program.{Program}
 use Rattle.brace_model.specs.declared.world.Agent.{Agent}
 use Rattle.brace_model.specs.Lawful.{is_lawful_agent}
 use Rattle.brace_plan.specs.declared.plans.Planned.{Planned}
 use Rattle.brace_plan.specs.Answers.{IsAnswer}
 use Rattle.brace_plan.proofs.AskLemmas.{asked, each-lawful}
-use Rattle.brace_plan.proofs.NearLemmas.{on_ok}
 use Rattle.brace_plan.proofs.WalkLemmas.{any-default}
 use Rattle.brace_plan.proofs.plans.Plans.ask.Goals as goal
 
@@ -27,7 +27,7 @@ returns-clause-answer c =
     let got : slice_get queries a.class ≡ Some planned =
     subst (λ (l : List Planned). slice_get l a.class ≡ Some planned) c.as_slice.ensures
     (slice_get_read c.as_slice.result.now _ a.class planned refl c.in-Some.ensures.lookup.3.0 c.in-Some.ensures.lookup.1) in
-    on_ok c.ask_plan.result _ _ (λ h d.
+    on_ok_weaker c.ask_plan.result (λ h d.
     subst (λ (p : Program). IsAnswer p c.args.room.now c.args.tick agents (get_or agents c.args.place d) z) c.self.view_is
     (subst (λ (n : ℕ). IsAnswer program n c.args.tick agents (get_or agents c.args.place d) z) c.room.view_is
     (subst (λ (b : Agent). IsAnswer program seed c.args.tick agents b z) (c.index-agents-place.is ∙ any-default agents c.args.place a d c.requires.place)
