@@ -1,5 +1,5 @@
--- What the queries of a program are asked over serves those of one with other queries too; and what
--- is heard of agents, one after another.
+-- What the queries of a program are asked over serves those of one with other queries too, whose rules
+-- are the same; and what is heard of agents, one after another.
 use Rattle.std.proofs.Common.{◌≡◌, ◌∙◌, refl, sym, ap, subst, ℕ, zero, suc, ◌+◌, ◌<◌, ◌≤◌, ℤ, pos, List, [], ◌∷◌, ◌++◌, map, flat_map, fold, take, length, append_assoc, Option, Some, None, arith}
 use Rattle.std.specs.Prelude.{◌≤ℤ◌, ◌&&◌, nat_le, slice_get, option_map, unwrap_or}
 use Rattle.std.specs.Int.{int_max}
@@ -14,6 +14,7 @@ use Rattle.brace_model.specs.declared.fault.Fault.{Fault}
 use Rattle.brace_model.specs.declared.world.Agent.{Agent}
 use Rattle.brace_model.specs.World.{class_of, x_of, y_of}
 use Rattle.brace_model.specs.Query.{Saying, Deed, query_of}
+use Rattle.brace_model.specs.Next.{next_in}
 use Rattle.brace_model.specs.Step.{greatest_id}
 use Rattle.brace_model.specs.Lawful.{has_states, is_lawful_agent}
 use Rattle.brace_grid.specs.Grids.{Point, origin, place_of, grid_of}
@@ -23,7 +24,10 @@ use Rattle.brace_eval.specs.Heard.{IsHeard, said_by, faults_by}
 use Rattle.brace_invert.specs.Split.{with_query, with_queries}
 use Rattle.brace_invert.proofs.Inverting.{class_same}
 use Rattle.brace_part.specs.declared.asking.Scene.{Scene}
-use Rattle.brace_part.specs.inner.Asked.{CanAsk, HearsOf, HearsAllOf}
+use Rattle.brace_part.specs.inner.Asked.{CanAsk, HearsOf, HearsAllOf, HasRulesOf}
+
+pub own_rules : (m : Program) → HasRulesOf m m
+own_rules m = record { lawful = λ a. refl; next = λ seed tick totals a. refl }
 
 module _ (part : List Stmt → List Stmt) (m : Program) where
   abbrev p : Program
@@ -55,6 +59,17 @@ module _ (part : List Stmt → List Stmt) (m : Program) where
 
   lawful_same : (a : Agent) → is_lawful_agent p a ≡ is_lawful_agent m a
   lawful_same a = ap (λ v. nat_le a.id greatest_id && v) (ap (λ o. has_states o a) (class_same part m a) ∙ states_same (class_of m a) a)
+
+  next_same : (o : Option Class) (seed tick : ℕ) (totals : List ℤ) (a : Agent) → next_in seed tick (option_map (with_query part) o) totals a ≡ next_in seed tick o totals a
+  next_same None seed tick totals a = refl
+  next_same (Some c) seed tick totals a = refl
+
+  -- another query leaves the rules as they are
+  pub rules_same : (q : Program) → q ≡ p → HasRulesOf m q
+  rules_same q is = subst (HasRulesOf m) (sym is) (record {
+    lawful = lawful_same;
+    next = λ seed tick totals a. ap (λ o. next_in seed tick o totals a) (class_same part m a) ∙ next_same (class_of m a) seed tick totals a;
+  })
 
   pub can_ask_too : (q : Program) → q ≡ p → (scene : Scene) → CanAsk m scene → CanAsk q scene
   can_ask_too q is scene can = subst (λ (x : Program). CanAsk x scene) (sym is) (record {

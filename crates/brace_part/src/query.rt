@@ -4,6 +4,8 @@ ghost use Rattle.brace_model.specs.declared.world.Agent.{Agent};
 ghost use Rattle.brace_model.specs.World.{RisesById};
 ghost use Rattle.brace_model.specs.Lawful.{LawfulProgram, is_lawful_agent};
 ghost use Rattle.brace_eval.specs.Heard.{IsHeard};
+ghost use Rattle.brace_pieces.specs.declared.setting.Setting.{Setting};
+ghost use Rattle.brace_part.specs.inner.Asked.{HasRulesOf};
 ghost use Rattle.brace_part.specs.inner.Sound.{AreQueriesOf};
 ghost use Rattle.brace_part.specs.inner.Tables.{said_over, faults_over};
 
@@ -38,6 +40,17 @@ impl Queries {
         let forward = plan(alloc, &forward.program)?;
         let inverse = plan(alloc, &inverse.program)?;
         Ok(Queries::Inverted(forward, inverse))
+    }
+
+    /// Plans that have the rules of the script: with inversion those of the forward program.
+    pub fn rules(&self) -> &Plans
+        ensures { (setting : Setting) → AreQueriesOf setting self.now
+            → HasRulesOf setting.job.program result.now }
+    {
+        match self {
+            Queries::Script(plans) => plans,
+            Queries::Inverted(forward, _) => forward,
+        }
     }
 
     /// What the queries of a part say to the agents that it holds, and their least fault: those of

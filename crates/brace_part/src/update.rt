@@ -1,8 +1,9 @@
-ghost use Rattle.std.specs.Prelude.{◌≡◌, ◌≤◌, ◌^◌, List, map, filter_map, IfOk, IfErr, None};
+ghost use Rattle.std.specs.Prelude.{◌≡◌, ◌≤◌, ◌^◌, List, map, filter_map, IsTrue, IfOk, IfErr, None};
+ghost use Rattle.std.specs.List.{list_all};
 ghost use Rattle.std.specs.Result.{result_ok, result_err};
 ghost use Rattle.brace_model.specs.declared.fault.Fault.{Fault};
 ghost use Rattle.brace_model.specs.FaultOrder.{least};
-ghost use Rattle.brace_model.specs.Lawful.{LawfulProgram};
+ghost use Rattle.brace_model.specs.Lawful.{LawfulProgram, is_lawful_agent};
 ghost use Rattle.brace_model.specs.Query.{Saying};
 ghost use Rattle.brace_model.specs.Step.{living};
 ghost use Rattle.brace_cuts.specs.CutPlans.{IsPlan};
@@ -12,12 +13,13 @@ ghost use Rattle.brace_pieces.specs.Settings.{cuts_of};
 ghost use Rattle.brace_pieces.specs.Continued.{becomes};
 ghost use Rattle.brace_pieces.specs.Owned.{owned};
 ghost use Rattle.brace_part.specs.Parts.{IsCauseOf};
+ghost use Rattle.brace_part.specs.inner.Asked.{HasRulesOf};
 
-use brace_draw::Drawer;
-use brace_eval::{Heard, StepFault, left_by, with_earlier};
+use brace_eval::{Heard, with_earlier};
 use brace_model::{Agent, Fault};
 use brace_num::NoMemory;
 use brace_pieces::{Cause, Setting, owns};
+use brace_plan::{LeaveFault, Plans, Room};
 use std::alloc::Global;
 
 /// Adds an agent, where there is one.
@@ -31,16 +33,19 @@ fn add(agents: &mut Vec<Agent>, agent: Option<Agent>) -> Result<(), NoMemory>
 }
 
 /// What the agents of a part leave, by rising id, or the least fault of their updates. What was
-/// heard is of all that the part holds.
+/// heard is of all that the part holds; the rules of the script are run by plans that have them.
 pub fn updated(
     alloc: Global,
     setting: &Setting,
     tick: u64,
     part: u32,
+    plans: &Plans,
     held: &[Agent],
     heard: &Heard,
 ) -> Result<Vec<Agent>, Cause>
     requires lawful { LawfulProgram setting.now.job.program }
+    requires rules { HasRulesOf setting.now.job.program plans.now }
+    requires agents { IsTrue (list_all (is_lawful_agent setting.now.job.program) held.now) }
     requires plan { IsPlan setting.now.epoch setting.now.cuts }
     requires ticks { tick ≤ 2 ^ 32 }
     ensures left { IfOk result (λ left. (said : List Saying) (faults : List Fault)
@@ -58,17 +63,17 @@ pub fn updated(
 {
     let program = &setting.job.program;
     let cuts = setting.cuts.cuts_at(tick);
-    let mut drawer = Drawer::make(setting.job.seed);
+    let mut room = Room::make(alloc, setting.job.seed)?;
     let mut left = Vec::new(alloc);
     let mut least = None;
     for i in 0..held.len() {
         let a = &held[i];
         if owns(program, cuts, part, a) {
             let (totals, _) = heard.row(program, held, i);
-            match left_by(alloc, program, tick, a, totals, &mut drawer) {
+            match plans.left_by(alloc, tick, a, totals, &mut room) {
                 Ok(next) => add(&mut left, next.agent)?,
-                Err(StepFault::Fault(fault)) => least = Some(with_earlier(least, fault)),
-                Err(StepFault::NoMemory) => return Err(Cause::NoMemory),
+                Err(LeaveFault::Fault(fault)) => least = Some(with_earlier(least, fault)),
+                Err(LeaveFault::NoMemory) => return Err(Cause::NoMemory),
             }
         }
     }

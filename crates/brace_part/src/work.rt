@@ -121,7 +121,16 @@ impl<'a> Worker<'a> {
         ensures faulted { IfErr result (IsCauseOf
             (updates_in self.now.setting.now self.now.part tick)) }
     {
-        updated(self.alloc, self.setting, tick, self.part, held, heard)
+        let plans = self.queries.rules();
+        updated(
+            self.alloc,
+            self.setting,
+            tick,
+            self.part,
+            plans,
+            held,
+            heard,
+        )
     }
 
     /// What its agents leave behind all that is told of what is said to them.

@@ -3,10 +3,12 @@ pub mod AskLemmas
 pub mod Doing
 pub mod Formed
 pub mod FormerLemmas
+pub mod LeaveLemmas
 pub mod Narrowed
 pub mod NearLemmas
 pub mod Planned
 pub mod QueryLemmas
+pub mod RuleLemmas
 pub mod Senses
 pub mod Steps
 pub mod Suiting

@@ -1,5 +1,5 @@
 -- Scopes that suit: where a query begins, after a constant, and in a loop.
-use Rattle.std.proofs.Common.{◌≡◌, ◌∙◌, refl, sym, ap, subst, ℕ, zero, suc, Bool, true, false, List, [], ◌∷◌, map, length, Option, Some, None, arith}
+use Rattle.std.proofs.Common.{◌≡◌, ◌∙◌, refl, sym, ap, subst, ℕ, zero, suc, ℤ, Bool, true, false, List, [], ◌∷◌, map, length, Option, Some, None, arith}
 use Rattle.std.specs.Prelude.{◌==◌, if◌then◌else◌, is_none, nat_lt, slice_get, slice_set}
 use Rattle.std.specs.Option.{option_and_then}
 use Rattle.std.specs.List.{list_all, Contains}
@@ -23,7 +23,8 @@ use Rattle.brace_model.specs.World.{value_at, no_value}
 use Rattle.brace_model.specs.Value.{Scope, agent_of}
 use Rattle.brace_model.specs.Query.{bound, inside, opening_scope}
 use Rattle.brace_model.specs.Typing.{Names, same_type, type_of_value, may_name, only, class_named, state_type, constant_type, within_loop}
-use Rattle.brace_model.specs.Lawful.{has_states, is_lawful_agent, query_scope}
+use Rattle.brace_model.specs.Typed.{Fits}
+use Rattle.brace_model.specs.Lawful.{has_states, is_lawful_agent, rule_scope, query_scope}
 use Rattle.brace_model.proofs.TypeLemmas.{passed, some_is, only_same, one_type}
 use Rattle.brace_plan.specs.inner.Doing.{Suits, variable_of}
 
@@ -70,26 +71,33 @@ named_typed names who n i t a named has e =
     let same : p.from ≡ n = (let k : Some p.from ≡ Some n = sym p.was ∙ named in cc) in
     state_typed names p.from i t a (ap (λ m. has_states (slice_get names.classes m) a) same ∙ has) p.gives
 
--- ---- where a query begins
+-- ---- where a query and a rule begin
 
 no_class : (names : Names) (who : Who) (i : ℕ) (t : Ty) (A : Type 0) → class_named names who ≡ None → state_type names who i ≡ Some t → A
 no_class names who i t A none e =
     let p = passed (class_named names who) _ t e in
     absurd (let k : None ≡ Some p.from = sym none ∙ p.was in cc)
 
+pub opening_fits : (program : Program) (in_rule : Bool) (seed tick : ℕ) (query : List Stmt) (totals : List ℤ) (a : Agent) (number : ℕ) → is_lawful_agent program a ≡ true
+    → a.class ≡ number → Fits (record (rule_scope program number) { in_rule = in_rule }) (opening_scope seed tick query totals a)
+opening_fits program in_rule seed tick query totals a number lawful is = record { states = states; constants = λ n t e. absurd (cc) }
+  where
+    names : Names
+    names = record (rule_scope program number) { in_rule = in_rule }
+
+    states : (who : Who) (i : ℕ) (t : Ty) → state_type names who i ≡ Some t → type_of_value (value_at (agent_of (opening_scope seed tick query totals a) who).states i) ≡ t
+    states This i t e = named_typed names This number i t a refl (lawful_has program names a number refl lawful is) e
+    states Outer i t e = no_class names Outer i t _ refl e
+    states Inner i t e = no_class names Inner i t _ refl e
+
 pub opening_suits : (program : Program) (world : List Agent) (seed tick : ℕ) (query : List Stmt) (a : Agent) (number : ℕ) → list_all (is_lawful_agent program) world ≡ true
     → is_lawful_agent program a ≡ true → a.class ≡ number → Suits program world (query_scope program number) (opening_scope seed tick query [] a)
 opening_suits program world seed tick query a number all lawful is = record {
   classes = refl;
   agents = all;
-  fits = record { states = states; constants = λ n t e. absurd (cc) };
+  fits = opening_fits program false seed tick query [] a number lawful is;
   in_loop = refl;
 }
-  where
-    states : (who : Who) (i : ℕ) (t : Ty) → state_type (query_scope program number) who i ≡ Some t → type_of_value (value_at (agent_of (opening_scope seed tick query [] a) who).states i) ≡ t
-    states This i t e = named_typed (query_scope program number) This number i t a refl (lawful_has program (query_scope program number) a number refl lawful is) e
-    states Outer i t e = no_class (query_scope program number) Outer i t _ refl e
-    states Inner i t e = no_class (query_scope program number) Inner i t _ refl e
 
 -- ---- after a constant
 

@@ -1,4 +1,4 @@
--- Plans of the queries of a lawful program.
+-- One thing for each class of a program; plans of the queries of a lawful one.
 use Rattle.std.proofs.Common.{◌≡◌, ◌∙◌, sym, ap, ap₂, subst, ℕ, zero, suc, ◌+◌, ◌<◌, ◌≤◌, ◌⊎◌, inl, inr, true, List, [], ◌∷◌, ◌++◌, map, flat_map, sum, length, get_or, take, Some, append_assoc, arith}
 use Rattle.std.specs.Prelude.{slice_get, nat_lt}
 use Rattle.std.specs.List.{list_all}
@@ -17,15 +17,52 @@ use Rattle.brace_model.specs.Lawful.{LawfulProgram, query_scope}
 use Rattle.brace_plan.specs.declared.loops.Loop.{Loop}
 use Rattle.brace_plan.specs.declared.plans.Planned.{Planned}
 use Rattle.brace_plan.specs.inner.Doing.{Suits, DoesAll, has_room}
-use Rattle.brace_plan.specs.inner.Planning.{told_by, IsPlanOf, ArePlansOf}
+use Rattle.brace_plan.specs.inner.Planning.{told_by, OneEach, IsPlanOf}
 use Rattle.brace_plan.specs.Narrowing.{loops_of}
 use Rattle.brace_plan.proofs.Suiting.{opening_suits}
 
--- the queries of the first classes are planned
-pub record Planned_so_far (program : Program) (i : ℕ) (queries : List Planned) : Type 0 where
-  pub count : length queries ≡ i
+still_there : {A : Type 0} (xs ys : List A) (k : ℕ) (x : A) → slice_get xs k ≡ Some x → slice_get (xs ++ ys) k ≡ Some x
+still_there [] ys k x e = absurd (cc)
+still_there (y ∷ xs) ys zero x e = e
+still_there (y ∷ xs) ys (suc k) x e = still_there xs ys k x e
+
+same_one : (c d : Class) → Some c ≡ Some d → c ≡ d
+same_one c d e = cc
+
+-- ---- one thing for each class
+
+-- one for each of the first classes
+pub record OneEach_so_far {A : Type 0} (program : Program) (Is : ℕ → Class → A → Type 0) (i : ℕ) (things : List A) : Type 0 where
+  pub count : length things ≡ i
   pub each : (number : ℕ) (class : Class) → number < i → slice_get program.classes number ≡ Some class
-      → (planned : Planned) × (slice_get queries number ≡ Some planned) × IsPlanOf program number class.query planned
+      → (thing : A) × (slice_get things number ≡ Some thing) × Is number class thing
+
+module _ {A : Type 0} (program : Program) (Is : ℕ → Class → A → Type 0) (i : ℕ) where
+  -- one more
+  pub one_more : (number : ℕ) (class : Class) (things new : List A) (thing : A) → OneEach_so_far program Is i things → number ≡ i
+      → slice_get program.classes number ≡ Some class → Is number class thing → new ≡ things ++ thing ∷ [] → OneEach_so_far program Is (i + 1) new
+  one_more number class things new thing so_far same found is grown = subst (OneEach_so_far program Is (i + 1)) (sym grown) (record {
+    count = length_push things thing ∙ ap (λ n. n + 1) so_far.count;
+    each = λ k c low there. by_place k c low there (cases_lt k i);
+  })
+    where
+      by_place : (k : ℕ) (c : Class) → k < i + 1 → slice_get program.classes k ≡ Some c → (k < i) ⊎ (i ≤ k) → (t : A) × (slice_get (things ++ thing ∷ []) k ≡ Some t) × Is k c t
+      by_place k c low there (inl before) = let (t, at, is_one) = so_far.each k c before there in (t, still_there things (thing ∷ []) k t at, is_one)
+      by_place k c low there (inr not_before) =
+          let here : number ≡ k = omega (arith, same, low, not_before) in
+          let one : class ≡ c = same_one class c (sym found ∙ ap (slice_get program.classes) here ∙ there) in (
+            thing,
+            ap (slice_get (things ++ thing ∷ [])) (let long : k ≡ length things = omega (arith, here, same, so_far.count) in long) ∙ at_seam things thing [],
+            subst (λ n. Is n c thing) here (subst (λ d. Is number d thing) one is),
+          )
+
+  -- all
+  pub all_there : (things : List A) → length program.classes ≤ i → OneEach_so_far program Is i things → OneEach program Is things
+  all_there things past so_far = record {
+    each = λ number class found. so_far.each number class (let low = slice_get_within program.classes number class found in omega (arith, low, past)) found;
+  }
+
+-- ---- plans of queries
 
 -- actions that do what the query does are its plan
 pub is_plan : (program : Program) (number : ℕ) (class : Class) (names : Names) (planned : Planned) → LawfulProgram program → slice_get program.classes number ≡ Some class
@@ -40,38 +77,6 @@ is_plan program number class names planned lawful found is counted (last, does) 
       ap (λ n. list_all (λ m. nat_lt m n) (flat_map constant_numbers class.query)) (length-replicate (sum (map constants class.query)) no_value)
       ∙ (lawful.classes_are_lawful number class found).constants_in_range in
       (does.each program world (opening_scope seed tick class.query [] a) (subst (λ n. Suits program world n (opening_scope seed tick class.query [] a)) (sym is) suits) room).deed;
-}
-
-still_there : {A : Type 0} (xs ys : List A) (k : ℕ) (x : A) → slice_get xs k ≡ Some x → slice_get (xs ++ ys) k ≡ Some x
-still_there [] ys k x e = absurd (cc)
-still_there (y ∷ xs) ys zero x e = e
-still_there (y ∷ xs) ys (suc k) x e = still_there xs ys k x e
-
-same_one : (c d : Class) → Some c ≡ Some d → c ≡ d
-same_one c d e = cc
-
--- one more query is planned
-pub one_more_planned : (program : Program) (i number : ℕ) (class : Class) (queries new : List Planned) (planned : Planned) → Planned_so_far program i queries → number ≡ i
-    → slice_get program.classes number ≡ Some class → IsPlanOf program number class.query planned → new ≡ queries ++ planned ∷ [] → Planned_so_far program (i + 1) new
-one_more_planned program i number class queries new planned so_far same found is grown = subst (Planned_so_far program (i + 1)) (sym grown) (record {
-  count = length_push queries planned ∙ ap (λ n. n + 1) so_far.count;
-  each = λ k c low there. by_place k c low there (cases_lt k i);
-})
-  where
-    by_place : (k : ℕ) (c : Class) → k < i + 1 → slice_get program.classes k ≡ Some c → (k < i) ⊎ (i ≤ k) → (p : Planned) × (slice_get (queries ++ planned ∷ []) k ≡ Some p) × IsPlanOf program k c.query p
-    by_place k c low there (inl before) = let (p, at, plan) = so_far.each k c before there in (p, still_there queries (planned ∷ []) k p at, plan)
-    by_place k c low there (inr not_before) =
-        let here : number ≡ k = omega (arith, same, low, not_before) in
-        let one : class ≡ c = same_one class c (sym found ∙ ap (slice_get program.classes) here ∙ there) in (
-          planned,
-          ap (slice_get (queries ++ planned ∷ [])) (let long : k ≡ length queries = omega (arith, here, same, so_far.count) in long) ∙ at_seam queries planned [],
-          subst (λ n. IsPlanOf program n c.query planned) here (subst (λ d. IsPlanOf program number d.query planned) one is),
-        )
-
--- the queries of all classes are planned
-pub all_planned : (program : Program) (i : ℕ) (queries : List Planned) → length program.classes ≤ i → Planned_so_far program i queries → ArePlansOf program queries
-all_planned program i queries past so_far = record {
-  each = λ number class found. so_far.each number class (let low = slice_get_within program.classes number class found in omega (arith, low, past)) found;
 }
 
 -- the class that is planned next

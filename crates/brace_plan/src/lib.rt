@@ -1,5 +1,5 @@
 //! Queries as plans: compiled, with each loop narrowed to the agents that can matter to it, and
-//! asked over a grid of agents.
+//! asked over a grid of agents; and rules, compiled.
 #![tactic(auto)]
 
 mod action;
@@ -8,6 +8,7 @@ mod asking;
 mod constants;
 mod counting;
 mod desk;
+mod leaving;
 mod loops;
 mod narrowing;
 mod near;
@@ -15,12 +16,14 @@ mod planning;
 mod plans;
 mod query;
 mod room;
+mod rules;
 mod seat;
 mod walk;
 
 pub use action::{Action, Axis, Bound, Limit, Side};
 pub use answer::{Answer, Said};
 pub use asking::greatest_visible;
+pub use leaving::{LeaveFault, Left};
 pub use loops::Loop;
 pub use plans::{Plans, plan};
 pub use query::{Query, Saying};

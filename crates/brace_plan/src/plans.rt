@@ -8,6 +8,7 @@ use crate::constants::Constants;
 use crate::counting::constants_in;
 use crate::loops::{Loop, tell_all};
 use crate::planning::plan_block;
+use crate::rules::{Rules, compile_rules};
 use brace_code::Known;
 use brace_model::{Class, Program};
 use brace_num::{List, NoMemory};
@@ -21,12 +22,13 @@ pub struct Planned {
     pub constants: usize,
 }
 
-/// The queries of a program, class by class. Contracts see the program.
+/// The queries and the rules of a program, compiled, class by class. Contracts see the program.
 #[derive(Debug, Drop)]
 pub struct Plans {
     pub(crate) program: Program,
     pub(crate) queries: List<Planned>,
     loops: List<Loop>,
+    pub(crate) rules: List<Rules>,
 }
 
 impl Model for Plans {
@@ -38,6 +40,7 @@ impl Model for Plans {
     ghost use Rattle.brace_model.specs.Lawful.{LawfulProgram};
     ghost use Rattle.brace_plan.specs.Narrowing.{loops_in};
     ghost use Rattle.brace_plan.specs.inner.Planning.{ArePlansOf};
+    ghost use Rattle.brace_plan.specs.inner.Ruling.{AreAllRulesOf};
 
     ghost Value = { Program };
 
@@ -46,7 +49,8 @@ impl Model for Plans {
     ghost view = { λ plans. plans.program };
 
     ghost invariant = { λ plans. LawfulProgram plans.program
-        × ArePlansOf plans.program plans.queries × (plans.loops ≡ loops_in plans.program) };
+        × ArePlansOf plans.program plans.queries × (plans.loops ≡ loops_in plans.program)
+        × AreAllRulesOf plans.program plans.rules };
 }
 
 /// The plan of the query of a class.
@@ -106,10 +110,12 @@ pub fn plan(alloc: Global, program: &Program) -> Result<Plans, NoMemory>
     let program = program.copy(alloc)?;
     let mut loops = List::new(alloc);
     let queries = plan_queries(alloc, &program, &mut loops)?;
+    let rules = compile_rules(alloc, &program)?;
     Ok(Plans {
         program,
         queries,
         loops,
+        rules,
     })
 }
 

@@ -1,9 +1,11 @@
--- What queries are asked over, and what is heard of them. Only the crate's own functions cite this.
-use Rattle.std.specs.Prelude.{◌≡◌, ◌≤◌, ◌≤ℤ◌, ◌^◌, ℕ, List, ◌++◌, map, length, slice_get, Some, IsTrue}
+-- What queries are asked over, what is heard of them, and what rules are those of a script. Only the
+-- crate's own functions cite this.
+use Rattle.std.specs.Prelude.{◌≡◌, ◌≤◌, ◌≤ℤ◌, ◌^◌, ℕ, ℤ, List, ◌++◌, map, length, slice_get, Some, IsTrue}
 use Rattle.std.specs.List.{list_all}
 use Rattle.brace_model.specs.declared.program.Program.{Program}
 use Rattle.brace_model.specs.declared.fault.Fault.{Fault}
-use Rattle.brace_model.specs.World.{RisesById}
+use Rattle.brace_model.specs.World.{RisesById, class_of}
+use Rattle.brace_model.specs.Next.{next_in}
 use Rattle.brace_model.specs.Lawful.{is_lawful_agent}
 use Rattle.brace_model.specs.declared.world.Agent.{Agent}
 use Rattle.brace_model.specs.Query.{Saying, query_of}
@@ -45,3 +47,11 @@ abbrev pub HearsAllOf : Scene → Program → ℕ → List Agent → Heard → H
 HearsAllOf scene program seed asking before after =
     Hears scene (said_by program seed scene.tick scene.held.now asking)
     (faults_by program seed scene.tick scene.held.now asking) before after
+
+-- a program has the agents and the rules of a script: the same agents are lawful, and each leaves
+-- the same
+pub record HasRulesOf (script program : Program) : Type 0 where
+  pub lawful : (a : Agent) → is_lawful_agent program a ≡ is_lawful_agent script a
+  pub next : (seed tick : ℕ) (totals : List ℤ) (a : Agent)
+      → next_in seed tick (class_of program a) totals a
+      ≡ next_in seed tick (class_of script a) totals a

@@ -42,8 +42,13 @@ pub record IsPlanOf (program : Program) (number : ℕ) (query : List Stmt) (plan
       → acts program world planned.actions (opening_scope seed tick query [] a)
       ≡ block (map (statement program world) query) (opening_scope seed tick query [] a)
 
--- one plan for the query of each class
-pub record ArePlansOf (program : Program) (queries : List Planned) : Type 0 where
+-- one thing for each class of a program
+pub record OneEach {A : Type 0} (program : Program) (Is : ℕ → Class → A → Type 0)
+    (things : List A) : Type 0 where
   pub each : (number : ℕ) (class : Class) → slice_get program.classes number ≡ Some class
-      → (planned : Planned) × (slice_get queries number ≡ Some planned)
-      × IsPlanOf program number class.query planned
+      → (thing : A) × (slice_get things number ≡ Some thing) × Is number class thing
+
+-- one plan for the query of each class
+abbrev pub ArePlansOf : Program → List Planned → Type 0
+ArePlansOf program =
+    OneEach program (λ number class planned. IsPlanOf program number class.query planned)

@@ -1,9 +1,13 @@
-use Rattle.std.proofs.Common.{◌≡◌, ◌∙◌, ◌+◌, refl, sym, ap, subst, List, length, Some}
+use Rattle.std.proofs.Common.{◌≡◌, ◌∙◌, ◌+◌, refl, sym, ap, subst, ℤ, List, length, Some}
 use Rattle.std.specs.Prelude.{slice_get}
 use Rattle.std.proofs.lemmas.Option.{slice_get_read}
+use Rattle.std.proofs.lemmas.List.Sums.{AllPass-from_list_all}
+use Rattle.brace_model.specs.Lawful.{is_lawful_agent}
 use Rattle.brace_model.specs.declared.world.Agent.{Agent}
 use Rattle.brace_model.specs.declared.fault.Fault.{Fault}
+use Rattle.brace_model.specs.World.{class_of}
 use Rattle.brace_model.specs.Query.{Saying}
+use Rattle.brace_model.specs.Next.{next_in}
 use Rattle.brace_eval.specs.Heard.{IsHeard}
 use Rattle.brace_cuts.specs.Space.{LawfulCuts}
 use Rattle.brace_cuts.specs.declared.space.Cuts.{Cuts}
@@ -30,35 +34,43 @@ loop-i-preserved c =
     let is = c.index-held-i.is in
     let here : slice_get held i ≡ Some a = slice_get_read held (length held) i a refl lt is in
     let owned_is : c.owns.result ≡ owns s.job.program (cuts_of s tick) c.args.part a = c.owns.ensures ∙ ap (λ (x : Cuts). owns s.job.program x c.args.part a) c.cuts_at-cuts.ensures in
-    let next = next_left s tick (cuts_of s tick) c.args.part held i a lt is c.loop-i.left.items c.loop-i.least c.loop-i.drawer.seed c.loop-i.invariant.seed
+    let next = next_left s tick (cuts_of s tick) c.args.part held i a lt is c.loop-i.left.items c.loop-i.least c.loop-i.room c.loop-i.invariant.seed
     (λ (said : List Saying) (faulty : List Fault). IsHeard s.job.program held said faulty c.args.heard.now) c.loop-i.invariant.so_far in
+    let rules : (row : List ℤ) → next_in c.loop-i.room tick (class_of s.job.program a) row a ≡ next_in c.loop-i.room tick (class_of c.args.plans.now a) row a =
+    λ row. sym (c.requires.rules.next c.loop-i.room tick row a) in
     elim c.if-owns.branch [
       | then-owns+in-Ok+in_ok-add-in-Ok+in-Some-1 w ↦
           record {
-            seed = ap (λ x. x.seed) w.drawer-is ∙ w.left_by.ensures.seed ∙ c.loop-i.invariant.seed;
+            seed = w.room-is ∙ w.left_by.ensures.seed ∙ c.loop-i.invariant.seed;
             so_far = next w.row.result.0.now (sym owned_is ∙ w.if-owns.true) (λ said faulty heard. w.row.ensures.totals a said faulty here heard)
-                (record { agent = w.in-Ok.next.agent; child = w.in-Ok.next.child }) w.in-Ok.ensures.left _ _ (ap (λ x. x.items) w.left-is ∙ w.in_ok-add-in-Ok.ensures) w.least-is;
+                (record { agent = w.in-Ok.next.agent; child = w.in-Ok.next.child }) (rules w.row.result.0.now ∙ w.in-Ok.ensures.left) _ _ (ap (λ x. x.items) w.left-is ∙ w.in_ok-add-in-Ok.ensures) w.least-is;
           }
       | then-owns+in-Ok+in_ok-add-in-Ok+in-None-1 w ↦
           record {
-            seed = ap (λ x. x.seed) w.drawer-is ∙ w.left_by.ensures.seed ∙ c.loop-i.invariant.seed;
+            seed = w.room-is ∙ w.left_by.ensures.seed ∙ c.loop-i.invariant.seed;
             so_far = next w.row.result.0.now (sym owned_is ∙ w.if-owns.true) (λ said faulty heard. w.row.ensures.totals a said faulty here heard)
-                (record { agent = w.in-Ok.next.agent; child = w.in-Ok.next.child }) w.in-Ok.ensures.left _ _ (ap (λ x. x.items) w.left-is ∙ w.in_ok-add-in-Ok.ensures) w.least-is;
+                (record { agent = w.in-Ok.next.agent; child = w.in-Ok.next.child }) (rules w.row.result.0.now ∙ w.in-Ok.ensures.left) _ _ (ap (λ x. x.items) w.left-is ∙ w.in_ok-add-in-Ok.ensures) w.least-is;
           }
       | then-owns+in-Err-Fault w ↦
           record {
-            seed = ap (λ x. x.seed) w.drawer-is ∙ w.left_by.ensures.seed ∙ c.loop-i.invariant.seed;
+            seed = w.room-is ∙ w.left_by.ensures.seed ∙ c.loop-i.invariant.seed;
             so_far = λ said faulty heard.
                 same_left (becoming s tick (cuts_of s tick) c.args.part said held (i + 1)) _ _ _ _ (ap (λ x. x.items) w.left-is) (w.least-is ∙ ap Some w.with_earlier.ensures)
-                (faults s tick (cuts_of s tick) c.args.part said held i a lt is c.loop-i.left.items c.loop-i.least w.row.result.0.now c.loop-i.drawer.seed (sym owned_is ∙ w.if-owns.true)
+                (faults s tick (cuts_of s tick) c.args.part said held i a lt is c.loop-i.left.items c.loop-i.least w.row.result.0.now c.loop-i.room (sym owned_is ∙ w.if-owns.true)
                 (w.row.ensures.totals a said faulty here heard) c.loop-i.invariant.seed (c.loop-i.invariant.so_far said faulty heard) w.in-Err-Fault.fault
-                (w.in-Err-Fault.ensures.fault w.in-Err-Fault.fault w.in-Err-Fault.field-0-is));
+                (rules w.row.result.0.now ∙ w.in-Err-Fault.ensures.fault w.in-Err-Fault.fault w.in-Err-Fault.field-0-is));
           }
       | else-owns w ↦
           record {
-            seed = ap (λ x. x.seed) w.drawer-is ∙ c.loop-i.invariant.seed;
+            seed = w.room-is ∙ c.loop-i.invariant.seed;
             so_far = λ said faults heard.
                 same_left (becoming s tick (cuts_of s tick) c.args.part said held (i + 1)) _ _ _ _ (ap (λ x. x.items) w.left-is) w.least-is
                 (skips s tick (cuts_of s tick) c.args.part said held i a lt is c.loop-i.left.items c.loop-i.least (sym owned_is ∙ w.if-owns.false) (c.loop-i.invariant.so_far said faults heard));
           }
     ]
+
+pub left_by-requires-clause-lawful : goal.left_by-requires-clause-lawful
+left_by-requires-clause-lawful c =
+    let m = c.args.setting.now.job.program in
+    let all = AllPass-from_list_all (is_lawful_agent m) c.args.held.now c.requires.agents in
+    c.requires.rules.lawful c.index-held-i.result ∙ ap (is_lawful_agent m) c.index-held-i.is ∙ all c.loop-i.i c.index-held-i.result c.loop-i-test.true

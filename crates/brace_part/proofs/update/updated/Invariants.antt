@@ -8,7 +8,7 @@ use Rattle.brace_part.proofs.update.updated.Given as goal
 
 abbrev pub invariant-loop-i : goal.invariant-loop-i
 invariant-loop-i l = record {
-  seed : l.drawer.seed ≡ l.setting.job.seed;
+  seed : l.room ≡ l.setting.job.seed;
   so_far : (said : List Saying) (faults : List Fault) → IsHeard l.setting.job.program l.held said faults l.heard
       → AreLeft (becoming l.setting l.tick (cuts_of l.setting l.tick) l.part said l.held l.i) l.left.items l.least;
 }

@@ -5,7 +5,7 @@ use Rattle.brace_model.specs.FaultOrder.{least}
 use Rattle.brace_model.specs.Step.{living}
 use Rattle.brace_part.specs.Parts.{IsCauseOf}
 use Rattle.brace_part.specs.inner.Ready.{left_in, updates_in}
-use Rattle.brace_part.proofs.WorkHeard.{OfResults, both_ok, err_weaker, left_is, none_found, cause_found}
+use Rattle.brace_part.proofs.WorkHeard.{OfResults, both_ok, err_weaker, left_is, none_found, cause_found, near_lawful}
 use Rattle.brace_part.proofs.work.Worker.update.Goals as goal
 
 pub returns-clause-left : goal.returns-clause-left
@@ -32,3 +32,9 @@ returns-clause-faulted c =
     (IsCauseOf (updates_in c.args.self.now.setting.now c.args.self.now.part c.args.tick))
     (λ e each. cause_found c.args.self.now c.requires.worker c.args.tick c.args.held.now c.args.heard.now c.requires.heard e each)
     c.updated.ensures.faulted
+
+pub updated-requires-clause-rules : goal.updated-requires-clause-rules
+updated-requires-clause-rules c = c.rules-plans.ensures c.args.self.now.setting.now c.requires.worker.queries_are
+
+pub updated-requires-clause-agents : goal.updated-requires-clause-agents
+updated-requires-clause-agents c = near_lawful c.args.self.now c.requires.worker c.args.tick c.args.held.now c.requires.heard.holds
