@@ -27,6 +27,7 @@ use Rattle.brace_plan.specs.contracts.action.Action as Action
 use Rattle.brace_plan.specs.contracts.plans.Planned as Planned
 use Rattle.brace_plan.specs.contracts.plans.Plans as Plans
 use Rattle.brace_plan.specs.contracts.plans.Plans.TheInside as plans
+use Rattle.brace_plan.specs.contracts.rules.Rules as Rules
 use Rattle.brace_plan.proofs.action.Action.TheLaws.TheKnot as action
 use Rattle.brace_plan.proofs.action.Bound.TheSendSync as bound
 use Rattle.brace_plan.proofs.loops.Loop.TheSendSync as loop
@@ -183,11 +184,17 @@ action_send = search (list_send, action.crosses, instr_send, instr.crosses, boun
 planned_send : IsSend Planned.the_row
 planned_send = search (list_send, action_send, sendable) depth 60 fits 20000
 
+rules_send : IsSend Rules.the_row
+rules_send = search (list_send, instr_send, sendable) depth 60 fits 20000
+
 plans_inside : IsSend plans.the_row
 plans_inside =
     recorded_send _ _ _ plans.the_type.to_one (struct_send (shape plans.the_type) (
       search (program_send, sendable) depth 30,
-      (search (list_send, planned_send, sendable) depth 30, (search (list_send, loop.the_send, sendable) depth 30, tt)),
+      (
+        search (list_send, planned_send, sendable) depth 30,
+        (search (list_send, loop.the_send, sendable) depth 30, (search (list_send, rules_send, sendable) depth 30, tt)),
+      ),
     ))
 
 plans_send : IsSend Plans.the_row

@@ -8,6 +8,7 @@ mod lanes;
 mod models;
 mod parts;
 mod pieces;
+mod rules;
 mod scripts;
 mod steps;
 mod totals;

@@ -1,5 +1,5 @@
 -- What is heard of agents is the same in whatever order they are asked; and agents by their places.
-use Rattle.std.proofs.Common.{◌≡◌, ◌∙◌, refl, sym, ap, ap₂, subst, ℕ, zero, suc, ◌+◌, ◌<◌, ◌≤◌, List, [], ◌∷◌, ◌++◌, map, filter, take, flat_map, length, get_or, set, Bool, true, false, cond, ◌&&◌, ◌==◌, Option, Some, None, All, Contains, arith}
+use Rattle.std.proofs.Common.{◌≡◌, ◌∙◌, refl, sym, ap, ap₂, subst, ℕ, zero, suc, ◌+◌, ◌<◌, ◌≤◌, List, [], ◌∷◌, ◌++◌, map, filter, take, flat_map, length, get_or, set, Bool, true, false, cond, ◌&&◌, ◌==◌, Option, Some, All, arith}
 use Rattle.std.specs.Prelude.{slice_get, unwrap_or}
 use Rattle.std.specs.List.{swap}
 use Rattle.std.specs.List.Sorted.{IsPermutation}

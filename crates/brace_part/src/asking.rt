@@ -137,8 +137,8 @@ impl<'a> Scene<'a> {
         Ok(())
     }
 
-    /// The place of an agent that is held, and the cell that it stands in, of a side of at least one
-    /// unit.
+    /// The place of an agent that is held, and the cell that it stands in, of a side of at least
+    /// one unit.
     fn asked(&self, a: &Agent, side: i64) -> Asked
         requires few { length self.now.held.now ≤ 2 ^ 20 }
         requires rises { RisesById self.now.held.now }

@@ -1,6 +1,7 @@
-use Rattle.std.proofs.Common.{◌≡◌, ◌++◌, ◌∷◌, [], ◌+◌, refl, sym, subst, take, length, Some}
+use Rattle.std.proofs.Common.{◌≡◌, ◌+◌, List, refl, sym, subst, take, length, Some}
 use Rattle.std.specs.Prelude.{slice_get}
 use Rattle.std.proofs.lemmas.Option.{slice_get_read}
+use Rattle.brace_part.specs.declared.asking.Asked.{Asked}
 use Rattle.brace_part.specs.inner.Asked.{AreAsked}
 use Rattle.brace_part.proofs.AskedLemmas.{asked_more, asked_all}
 use Rattle.brace_part.proofs.asking.Scene.all_asked.Goals as goal
@@ -15,7 +16,7 @@ loop-a-preserved c =
     let a = c.a-item.result in
     let i = c.loop-a.a-index in
     let next : slice_get asking i ≡ Some a = slice_get_read asking (length asking) i a refl c.loop-a-test.true c.a-item.is in
-    subst (AreAsked held (take (i + 1) asking)) (sym c.in_ok-push.ensures.items)
+    subst (AreAsked held (take (i + 1) asking)) (sym {A = List Asked} c.in_ok-push.ensures.items)
     (asked_more held asking c.loop-a.asked.items i c.asked.result a next c.asked.ensures c.loop-a.invariant)
 
 pub returns : goal.returns

@@ -1,4 +1,4 @@
-use Rattle.std.proofs.Common.{◌∙◌, ◌≤◌, ap, subst, length, map, Some, arith}
+use Rattle.std.proofs.Common.{◌∙◌, ◌≤◌, ap, subst, length, Some, arith}
 use Rattle.std.specs.Prelude.{slice_get}
 use Rattle.std.proofs.lemmas.List.{length-map}
 use Rattle.brace_part.specs.inner.Asked.{HearsOf}
