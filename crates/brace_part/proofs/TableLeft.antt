@@ -1,7 +1,7 @@
 -- What the agents of a part leave, one after another.
-use Rattle.std.proofs.Common.{◌≡◌, ◌∙◌, refl, sym, ap, subst, ℕ, ◌+◌, ◌<◌, ℤ, List, [], ◌∷◌, ◌++◌, length, take, get_or, map, filter_map, true, false, Option, Some, None, Result, Ok, Err, inl}
+use Rattle.std.proofs.Common.{◌≡◌, ◌∙◌, refl, sym, ap, subst, ℕ, ◌+◌, ◌<◌, ◌≤◌, ℤ, List, [], ◌∷◌, ◌++◌, length, take, get_or, map, filter_map, true, false, Option, Some, None, Result, Ok, Err, inl}
 use Rattle.std.specs.Result.{result_ok, result_err}
-use Rattle.std.proofs.lemmas.List.{map-append}
+use Rattle.std.proofs.lemmas.List.{map-append, take_all}
 use Rattle.brace_model.specs.declared.program.Class.{Class}
 use Rattle.brace_model.specs.declared.fault.Fault.{Fault}
 use Rattle.brace_model.specs.declared.world.Agent.{Agent}
@@ -86,6 +86,12 @@ module _ (s : Setting) (tick : ℕ) (cuts : Cuts) (part : ℕ) (said : List Sayi
           ∙ subst (λ (k : ℕ). next_in k tick (class_of s.job.program a) row a ≡ Err g) seeded so in
           subst (λ (l : List (Result Next Fault)). AreLeft l stay (Some (with_earlier found g))) (sym (grown test (Err g) by_row))
           (left_err (becoming i) g stay found h)
+
+  -- behind the last agent
+  pub all_left : (i : ℕ) (stay : List Agent) (found : Option Fault) → length agents ≤ i → AreLeft (becoming i) stay found
+      → AreLeft (map (becomes s tick said) (owned s.job.program cuts part agents)) stay found
+  all_left i stay found over h =
+      subst (λ (l : List Agent). AreLeft (map (becomes s tick said) (owned s.job.program cuts part l)) stay found) (take_all i agents over) h
 
 -- the least fault is the cause
 pub caused : (found : List Fault) (f : Fault) → Some f ≡ least found → IsCauseOf found (cause.Fault f)

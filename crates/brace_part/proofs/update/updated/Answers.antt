@@ -14,7 +14,7 @@ use Rattle.brace_cuts.specs.declared.space.Cuts.{Cuts}
 use Rattle.brace_pieces.specs.Settings.{cuts_of}
 use Rattle.brace_pieces.specs.Owned.{owns}
 use Rattle.brace_pieces.proofs.CutLemmas.{cuts_lawful}
-use Rattle.brace_part.proofs.TableLeft.{becoming, skips, faults, next_left, same_left}
+use Rattle.brace_part.proofs.TableLeft.{becoming, skips, faults, next_left, same_left, all_left, caused}
 use Rattle.brace_part.proofs.update.updated.Goals as goal
 use Rattle.brace_part.proofs.update.updated.Goals.{then-owns+in-Ok+in_ok-add-in-Ok+in-Some-1, then-owns+in-Ok+in_ok-add-in-Ok+in-None-1, then-owns+in-Err-Fault, else-owns}
 
@@ -74,3 +74,20 @@ left_by-requires-clause-lawful c =
     let m = c.args.setting.now.job.program in
     let all = AllPass-from_list_all (is_lawful_agent m) c.args.held.now c.requires.agents in
     c.requires.rules.lawful c.index-held-i.result ∙ ap (is_lawful_agent m) c.index-held-i.is ∙ all c.loop-i.i c.index-held-i.result c.loop-i-test.true
+
+pub returns-in-None-clause-left : goal.returns-in-None-clause-left
+returns-in-None-clause-left c said faults heard =
+    let s = c.args.setting.now in
+    (all_left s c.args.tick (cuts_of s c.args.tick) c.args.part said c.args.held.now c.loop-i.i _ _ c.loop-i-test.false (c.loop-i.invariant.so_far said faults heard)).lives
+
+pub returns-in-None-clause-passes : goal.returns-in-None-clause-passes
+returns-in-None-clause-passes c said faults heard =
+    let s = c.args.setting.now in
+    let all = all_left s c.args.tick (cuts_of s c.args.tick) c.args.part said c.args.held.now c.loop-i.i _ _ c.loop-i-test.false (c.loop-i.invariant.so_far said faults heard) in
+    sym all.first ∙ c.in-None.is
+
+pub returns-clause-faulted : goal.returns-clause-faulted
+returns-clause-faulted c said faults heard =
+    let s = c.args.setting.now in
+    let all = all_left s c.args.tick (cuts_of s c.args.tick) c.args.part said c.args.held.now c.loop-i.i _ _ c.loop-i-test.false (c.loop-i.invariant.so_far said faults heard) in
+    caused _ c.in-Some.fault (sym c.in-Some.is ∙ all.first)
