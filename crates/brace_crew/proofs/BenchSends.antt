@@ -21,6 +21,7 @@ use Rattle.brace_pieces.specs.contracts.setting.Setting as Setting
 use Rattle.brace_model.specs.contracts.program.Gift as Gift
 use Rattle.brace_num.specs.contracts.list.List as List
 use Rattle.brace_pieces.specs.contracts.course.Course as Course
+use Rattle.brace_code.specs.contracts.code.Code as Code
 use Rattle.brace_code.specs.contracts.code.Instr as Instr
 use Rattle.brace_code.proofs.code.Instr.TheLaws.TheKnot as instr
 use Rattle.brace_plan.specs.contracts.action.Action as Action
@@ -184,8 +185,15 @@ action_send = search (list_send, action.crosses, instr_send, instr.crosses, boun
 planned_send : IsSend Planned.the_row
 planned_send = search (list_send, action_send, sendable) depth 60 fits 20000
 
+code_send : IsSend Code.the_row
+code_send = search (list_send, instr_send, sendable) depth 60 fits 20000
+
 rules_send : IsSend Rules.the_row
-rules_send = search (list_send, instr_send, sendable) depth 60 fits 20000
+rules_send =
+    recorded_send _ _ _ (Rules.the_type).to_one (struct_send (shape Rules.the_type) (
+      search (list_send, code_send, sendable) depth 30,
+      (search (code_send, sendable) depth 30, (search (code_send, sendable) depth 30, (search (list_send, code_send, sendable) depth 30, tt))),
+    ))
 
 plans_inside : IsSend plans.the_row
 plans_inside =
