@@ -164,8 +164,8 @@ fn audit_job(audit: &AuditCommand, program: Program, start: World) -> Job
 
 /// Writes that a file is what a run publishes that ended in this fault.
 fn agree_in_fault<O: Sink>(alloc: Global, fault: &Fault, out: &mut O) -> Result<Answer, Stopped>
-    ensures written { IsWritten (λ o. o ≡ agreed (Some fault.now)) (sink_call O.Sink out.old out.new)
-        (message_in result) (status_in result) }
+    ensures written { IsWritten (λ o. o ≡ agreed (Some fault.now))
+        (sink_call O.Sink out.old out.new) (message_in result) (status_in result) }
     ensures work { is_plain_work (status_in result) ≡ true }
     ensures writes { CountsWrites (sink_call O.Sink out.old out.new) (status_in result) }
     ensures clean { has_run (status_in result) ≡ true → O.clean out.new ≡ true }
