@@ -1,6 +1,6 @@
 #!/usr/bin/env bash
-# Publishes files of 2, 200 and 2,000 MB in one part, and audits them; writes the seconds of both, and
-# the peak memory of the audit, into docs/PERFORMANCE.md. It needs 2 GB of room in TMPDIR.
+# Publishes files of 2, 200 and 2,000 MB in one part, and audits them; writes the seconds and the peak
+# memory of both into docs/PERFORMANCE.md. It needs 2 GB of room in TMPDIR.
 set -eu
 top=$(cd "$(dirname "$0")/.." && pwd)
 work=$(mktemp -d)
