@@ -1,4 +1,4 @@
-use Rattle.std.proofs.Common.{◌≡◌, sym, subst, Option, Some, None}
+use Rattle.std.proofs.Common.{◌≡◌, sym, subst, Option}
 use Rattle.brace_model.specs.declared.fault.Fault.{Fault}
 use Rattle.brace_top.specs.Answer.{sink_call}
 use Rattle.brace_top.specs.Outcome.{agreed}

@@ -1,10 +1,9 @@
-use Rattle.std.proofs.Common.{◌≡◌, ◌∙◌, refl, sym, ap, subst, Option, Result}
+use Rattle.std.proofs.Common.{◌≡◌, ◌∙◌, refl, subst}
 use Rattle.std.specs.Prelude.{Ok, Err}
 use Rattle.std.proofs.lemmas.Result.{err_from_is_err_and}
-use Rattle.brace_model.specs.declared.fault.Fault.{Fault}
 use Rattle.brace_model.specs.declared.job.Job.{Job}
 use Rattle.brace_top.specs.Commands.{Auditing}
-use Rattle.brace_top.specs.Outcome.{Refusal, ProgramOf, agents_of, audit_job, compared, reads_script, reads_agents, reads_published}
+use Rattle.brace_top.specs.Outcome.{ProgramOf, agents_of, audit_job, compared, reads_script, reads_agents, reads_published}
 use Rattle.brace_top.specs.inner.Words.{said_audit}
 use Rattle.brace_top.proofs.AnswerLemmas.{stopped_before, stopped_serves, unloaded_later, plain_work_serves}
 use Rattle.brace_top.proofs.AuditLemmas.{audited_refused, published_refused, published_agreed}
