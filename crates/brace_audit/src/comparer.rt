@@ -4,6 +4,7 @@ ghost use Rattle.brace_model.specs.declared.fault.Fault.{Fault};
 ghost use Rattle.brace_io.specs.Counts.{Rose};
 ghost use Rattle.brace_io.specs.Shelves.{writes, StoppedAt};
 ghost use Rattle.brace_audit.specs.declared.fault.AuditFault.TheVariants as found;
+ghost use Rattle.brace_audit.specs.inner.Leaving.{Leaves};
 ghost use Rattle.brace_audit.specs.inner.Reading.{Comparing, GoesOn, Departs, Stops, GoesFurther};
 
 use crate::AuditFault;
@@ -99,15 +100,7 @@ impl Comparer {
             → Departs (S.held shelf.old) (S.stage shelf.old) self.old name.now (byte ∷ []) line }
         ensures present { result ≢ Err found.Absent }
         ensures faultless { (f : Fault) → result ≢ Err (found.Fault f) }
-        ensures held_alone { S.held shelf.new ≡ S.held shelf.old }
-        ensures not_writing { writes (S.stage shelf.new) ≡ false }
-        ensures faults_alone { result ≢ Err found.Failed
-            → S.faults shelf.new ≡ S.faults shelf.old }
-        ensures never_falls { S.faults shelf.old ≤ S.faults shelf.new }
-        ensures rose { result ≡ Err found.Failed
-            → Rose (S.faults shelf.old) (S.faults shelf.new) }
-        ensures stopped { result ≡ Err found.Failed
-            → StoppedAt (S.held shelf.old) (S.stage shelf.new) name.now }
+        ensures leaves { Leaves S.Shelf shelf.old shelf.new name.now (result ≡ Err found.Failed) }
     {
         self.fill(shelf, name)?;
         if self.place == self.filled {
@@ -134,15 +127,7 @@ impl Comparer {
             → Departs (S.held shelf.old) (S.stage shelf.old) self.old name.now piece.now line }
         ensures present { result ≢ Err found.Absent }
         ensures faultless { (f : Fault) → result ≢ Err (found.Fault f) }
-        ensures held_alone { S.held shelf.new ≡ S.held shelf.old }
-        ensures not_writing { writes (S.stage shelf.new) ≡ false }
-        ensures faults_alone { result ≢ Err found.Failed
-            → S.faults shelf.new ≡ S.faults shelf.old }
-        ensures never_falls { S.faults shelf.old ≤ S.faults shelf.new }
-        ensures rose { result ≡ Err found.Failed
-            → Rose (S.faults shelf.old) (S.faults shelf.new) }
-        ensures stopped { result ≡ Err found.Failed
-            → StoppedAt (S.held shelf.old) (S.stage shelf.new) name.now }
+        ensures leaves { Leaves S.Shelf shelf.old shelf.new name.now (result ≡ Err found.Failed) }
     {
         let mut done = 0;
         while done < piece.len() {
@@ -165,15 +150,7 @@ impl Comparer {
             → GoesFurther (S.held shelf.old) (S.stage shelf.old) self.old name.now line }
         ensures present { result ≢ Err found.Absent }
         ensures faultless { (f : Fault) → result ≢ Err (found.Fault f) }
-        ensures held_alone { S.held shelf.new ≡ S.held shelf.old }
-        ensures not_writing { writes (S.stage shelf.new) ≡ false }
-        ensures faults_alone { result ≢ Err found.Failed
-            → S.faults shelf.new ≡ S.faults shelf.old }
-        ensures never_falls { S.faults shelf.old ≤ S.faults shelf.new }
-        ensures rose { result ≡ Err found.Failed
-            → Rose (S.faults shelf.old) (S.faults shelf.new) }
-        ensures stopped { result ≡ Err found.Failed
-            → StoppedAt (S.held shelf.old) (S.stage shelf.new) name.now }
+        ensures leaves { Leaves S.Shelf shelf.old shelf.new name.now (result ≡ Err found.Failed) }
     {
         self.fill(shelf, name)?;
         if self.place != self.filled {

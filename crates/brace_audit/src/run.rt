@@ -7,6 +7,7 @@ ghost use Rattle.brace_model.specs.Lawful.{LawfulJob};
 ghost use Rattle.brace_model.specs.Run.{end_of};
 ghost use Rattle.brace_audit.specs.declared.fault.AuditFault.TheVariants as found;
 ghost use Rattle.brace_audit.specs.Outcome.{outcome, IsRight};
+ghost use Rattle.brace_audit.specs.inner.Leaving.{Leaves};
 ghost use Rattle.brace_audit.specs.inner.Reading.{Compares};
 
 use crate::AuditFault;
@@ -79,14 +80,7 @@ fn follow<S: Shelf>(
     ensures present { result ≢ Err found.Absent }
     ensures ends { OnOk result (is_ok (end_of job.now) ≡ true) }
     ensures faulted { (f : Fault) → result ≡ Err (found.Fault f) → end_of job.now ≡ Err f }
-    ensures held_alone { S.held shelf.new ≡ S.held shelf.old }
-    ensures not_writing { writes (S.stage shelf.new) ≡ false }
-    ensures faults_alone { result ≢ Err found.Failed
-        → S.faults shelf.new ≡ S.faults shelf.old }
-    ensures never_falls { S.faults shelf.old ≤ S.faults shelf.new }
-    ensures rose { result ≡ Err found.Failed → Rose (S.faults shelf.old) (S.faults shelf.new) }
-    ensures stopped { result ≡ Err found.Failed
-        → StoppedAt (S.held shelf.old) (S.stage shelf.new) name.now }
+    ensures leaves { Leaves S.Shelf shelf.old shelf.new name.now (result ≡ Err found.Failed) }
 {
     match expect_tick(alloc, job, job.first, &job.start, shelf, name, comparer) {
         Ok(()) => {}

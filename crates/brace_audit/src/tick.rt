@@ -1,12 +1,11 @@
 //! One tick of a run beside the file that is compared with its text.
-ghost use Rattle.std.specs.Prelude.{◌≡◌, ◌≢◌, ◌≤◌, ◌<◌, ◌+◌, ℕ, Ok, Err, IfOk, IfErr, OnOk, true, false};
-ghost use Rattle.brace_io.specs.Counts.{Rose};
-ghost use Rattle.brace_io.specs.Shelves.{writes, StoppedAt};
+ghost use Rattle.std.specs.Prelude.{◌≡◌, ◌≢◌, ◌<◌, ◌+◌, ℕ, Ok, Err, IfOk, IfErr, OnOk, true};
 ghost use Rattle.brace_model.specs.declared.fault.Fault.{Fault};
 ghost use Rattle.brace_model.specs.Lawful.{LawfulJob};
 ghost use Rattle.brace_model.specs.Published.{is_published, tick_text};
 ghost use Rattle.brace_audit.specs.declared.fault.AuditFault.TheVariants as found;
 ghost use Rattle.brace_audit.specs.inner.Following.{Follows, Told};
+ghost use Rattle.brace_audit.specs.inner.Leaving.{Leaves};
 ghost use Rattle.brace_audit.specs.inner.Reading.{Comparing, GoesOn, Departs};
 
 use crate::AuditFault;
@@ -55,14 +54,7 @@ pub(crate) fn expect_tick<S: Shelf>(
         (tick_text job.now true tick (Ok world.now)) line }
     ensures present { result ≢ Err found.Absent }
     ensures faultless { (f : Fault) → result ≢ Err (found.Fault f) }
-    ensures held_alone { S.held shelf.new ≡ S.held shelf.old }
-    ensures not_writing { writes (S.stage shelf.new) ≡ false }
-    ensures faults_alone { result ≢ Err found.Failed
-        → S.faults shelf.new ≡ S.faults shelf.old }
-    ensures never_falls { S.faults shelf.old ≤ S.faults shelf.new }
-    ensures rose { result ≡ Err found.Failed → Rose (S.faults shelf.old) (S.faults shelf.new) }
-    ensures stopped { result ≡ Err found.Failed
-        → StoppedAt (S.held shelf.old) (S.stage shelf.new) name.now }
+    ensures leaves { Leaves S.Shelf shelf.old shelf.new name.now (result ≡ Err found.Failed) }
 {
     let text = tick_rows(alloc, job, tick, world)?;
     comparer.expect(shelf, name, &text)
@@ -80,19 +72,12 @@ pub(crate) fn advance<S: Shelf>(
 ) -> Result<World, AuditFault>
     requires lawful { LawfulJob job.now }
     requires before { tick < job.now.last }
-    requires follows { Follows (S.held shelf.old) (S.stage shelf.old) name.now job.now tick world.now
-        comparer.old }
+    requires follows { Follows (S.held shelf.old) (S.stage shelf.old) name.now
+        job.now tick world.now comparer.old }
     ensures follows { IfOk result (λ next. Follows (S.held shelf.new) (S.stage shelf.new) name.now
         job.now (tick + 1) next comparer.new) }
     ensures told { IfErr result (λ e. Told (S.held shelf.old) name.now job.now e) }
-    ensures held_alone { S.held shelf.new ≡ S.held shelf.old }
-    ensures not_writing { writes (S.stage shelf.new) ≡ false }
-    ensures faults_alone { result ≢ Err found.Failed
-        → S.faults shelf.new ≡ S.faults shelf.old }
-    ensures never_falls { S.faults shelf.old ≤ S.faults shelf.new }
-    ensures rose { result ≡ Err found.Failed → Rose (S.faults shelf.old) (S.faults shelf.new) }
-    ensures stopped { result ≡ Err found.Failed
-        → StoppedAt (S.held shelf.old) (S.stage shelf.new) name.now }
+    ensures leaves { Leaves S.Shelf shelf.old shelf.new name.now (result ≡ Err found.Failed) }
 {
     match plain_step(alloc, job, tick, world) {
         Ok(next) => match expect_tick(alloc, job, tick + 1, &next, shelf, name, comparer) {

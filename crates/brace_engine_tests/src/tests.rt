@@ -1,4 +1,5 @@
 //! What no clause says: answers worked by hand, and that calls answer where memory is ample.
+mod audits;
 mod codes;
 mod crews;
 mod draws;

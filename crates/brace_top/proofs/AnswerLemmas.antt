@@ -32,7 +32,7 @@ use Rattle.brace_top.specs.declared.limits.TheConstants.{AGENTS_LIMIT}
 use Rattle.brace_top.specs.declared.script_fault.ScriptFault.{ScriptFault}
 use Rattle.brace_top.specs.declared.script_fault.ScriptFault.TheVariants as script_fault
 use Rattle.brace_top.specs.declared.status.Status.{Status}
-use Rattle.brace_top.specs.declared.status.Status.TheVariants.{Done, Usage, Script, Agents, Plan, Checkpoint, Fault, ReadFault, WriteFault, SaveFault, NoMemory, Absent}
+use Rattle.brace_top.specs.declared.status.Status.TheVariants.{Done, Usage, Script, Agents, Plan, Checkpoint, Fault, ReadFault, WriteFault, SaveFault, NoMemory, Absent, Differs}
 use Rattle.brace_top.specs.declared.prepare.Work.{Work}
 use Rattle.brace_top.specs.declared.prepare.Work.TheVariants as work
 use Rattle.brace_top.specs.declared.task.Task.{Task}
@@ -67,6 +67,7 @@ nothing_as of_ to_ name shelf message Agents up is = record { stops = refl; foun
 nothing_as of_ to_ name shelf message Plan up is = record { stops = refl; found = λ files told. up files _ (is.found files told) }
 nothing_as of_ to_ name shelf message Checkpoint up is = record { stops = refl; found = λ files told. up files _ (is.found files told) }
 nothing_as of_ to_ name shelf message Absent up is = record { stops = refl; found = λ files told. up files _ (is.found files told) }
+nothing_as of_ to_ name shelf message Differs up is = record { stops = refl; found = λ files told. up files _ (is.found files told) }
 
 -- what is not loaded does not give what may be made of it
 pub unloaded_as : {A B : Type 0} (of_ : Files → Result A Refusal → Type 0) (to_ : Files → Result B Refusal → Type 0) (name : List ℕ) (shelf : ShelfCall) (stopped : Stopped)
@@ -90,6 +91,7 @@ refusing P name shelf message Agents r found = record { stops = refl; found = fo
 refusing P name shelf message Plan r found = record { stops = refl; found = found }
 refusing P name shelf message Checkpoint r found = record { stops = refl; found = found }
 refusing P name shelf message Absent r found = record { stops = refl; found = found }
+refusing P name shelf message Differs r found = record { stops = refl; found = found }
 refusing P name shelf message ReadFault r found = absurd cc
 refusing P name shelf message NoMemory r found = absurd cc
 refusing P name shelf message Done r found = absurd cc
@@ -105,6 +107,7 @@ refusing_counts shelf Agents r same = same
 refusing_counts shelf Plan r same = same
 refusing_counts shelf Checkpoint r same = same
 refusing_counts shelf Absent r same = same
+refusing_counts shelf Differs r same = same
 refusing_counts shelf ReadFault r same = absurd cc
 refusing_counts shelf NoMemory r same = absurd cc
 refusing_counts shelf Done r same = absurd cc
@@ -188,6 +191,7 @@ nothing_stops P name shelf message Fault is = is.stops
 nothing_stops P name shelf message WriteFault is = is.stops
 nothing_stops P name shelf message SaveFault is = is.stops
 nothing_stops P name shelf message Absent is = is.stops
+nothing_stops P name shelf message Differs is = is.stops
 
 -- a refusal that is an outcome of the command
 refusal_answer : (files : Files) (command : Option Command) (shelf : ShelfCall) (out : SinkCall) (message : List ℕ) (status : Status)
@@ -213,6 +217,8 @@ stops P name command shelf message Checkpoint reads up is files out told held sa
     refusal_answer files command shelf out message Checkpoint (up files _ told (is.found files told)) (record { ends = refl; gained = same; holds = held ∙ told; says = refl })
 stops P name command shelf message Absent reads up is files out told held same =
     refusal_answer files command shelf out message Absent (up files _ told (is.found files told)) (record { ends = refl; gained = same; holds = held ∙ told; says = refl })
+stops P name command shelf message Differs reads up is files out told held same =
+    refusal_answer files command shelf out message Differs (up files _ told (is.found files told)) (record { ends = refl; gained = same; holds = held ∙ told; says = refl })
 stops P name command shelf message Done reads up is files out told held same = absurd (let e = is.stops in cc)
 stops P name command shelf message Usage reads up is files out told held same = absurd (let e = is.stops in cc)
 stops P name command shelf message Fault reads up is files out told held same = absurd (let e = is.stops in cc)
@@ -300,6 +306,7 @@ carried_as files these all shelf out message Plan up is = among_as these all _ u
 carried_as files these all shelf out message Checkpoint up is = among_as these all _ up is
 carried_as files these all shelf out message Fault up is = among_as these all _ up is
 carried_as files these all shelf out message Absent up is = among_as these all _ up is
+carried_as files these all shelf out message Differs up is = among_as these all _ up is
 
 -- what was carried out for the outcomes of a command answers it
 carried_answer : (files : Files) (command : Option Command) (shelf : ShelfCall) (out : SinkCall) (message : List ℕ) (status : Status)
@@ -316,6 +323,7 @@ carried_answer files command shelf out message Plan is = is
 carried_answer files command shelf out message Checkpoint is = is
 carried_answer files command shelf out message Fault is = is
 carried_answer files command shelf out message Absent is = is
+carried_answer files command shelf out message Differs is = is
 
 -- what was carried out for outcomes of a command answers it
 answers : (these : Outcome → Type 0) (files : Files) (command : Option Command) (shelf : ShelfCall) (out : SinkCall) (message : List ℕ) (status : Status)

@@ -1,5 +1,6 @@
 pub mod Examples
 pub mod AnswerLemmas
+pub mod AuditLemmas
 pub mod OneOutcome
 pub mod FormatLemmas
 pub mod JudgedLemmas

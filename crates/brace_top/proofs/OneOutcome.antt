@@ -22,6 +22,7 @@ use Rattle.brace_check.specs.declared.fault.CheckFault.{CheckFault}
 use Rattle.brace_check.specs.declared.fault.CheckFault.TheVariants as check
 use Rattle.brace_check.specs.Faults as checks
 use Rattle.brace_check.specs.Programs.{program_of}
+use Rattle.brace_model.specs.declared.fault.Fault.{Fault}
 use Rattle.brace_model.specs.declared.program.Program.{Program}
 use Rattle.brace_cuts.specs.declared.plan.CutPlan.{CutPlan}
 use Rattle.brace_model.specs.Lawful.{LawfulProgram}
@@ -35,12 +36,12 @@ use Rattle.brace_top.specs.declared.script_fault.ScriptKind.TheVariants as kind
 use Rattle.brace_top.specs.declared.script_fault.ScriptFault.{ScriptFault}
 use Rattle.brace_top.specs.declared.trial.TheConstants.{TRIAL_SCRIPT}
 use Rattle.brace_top.specs.declared.script_fault.ScriptFault.TheVariants.{Refused, NoMemory}
-use Rattle.brace_top.specs.Commands.{Command, RunCommand, Run, Format, Check, Planning, Trial, Balancing}
+use Rattle.brace_top.specs.Commands.{Command, RunCommand, AuditCommand, Run, Format, Check, Planning, Trial, Balancing, Auditing}
 use Rattle.brace_top.proofs.PointLemmas.{equal_by, one_beginning}
 use Rattle.brace_top.proofs.ScriptLemmas.{meant_lawful}
 use Rattle.brace_top.proofs.StripLemmas.{one_order, one_plan, one_certificate}
 use Rattle.brace_top.specs.Scripts.{IsTree, Means, resolved, NoTree, in_tokens, in_grammar, Refuses, without_tree, in_names, in_checks, token_fault, grammar_fault, name_fault, check_fault}
-use Rattle.brace_top.specs.Outcome.{Outcome, Refusal, ComesTo, unloaded, refused_at, stands_for, Follows, FollowedBy, RunFrom, RunOutcome, CommandOutcome, SameMessage, source_of, script_message, refused, told, shown, agents_of, plan_of, trial_outcome, IsBalanced, Judged, IsJudged}
+use Rattle.brace_top.specs.Outcome.{Outcome, Refusal, ComesTo, unloaded, refused_at, stands_for, Follows, FollowedBy, RunFrom, RunOutcome, CommandOutcome, SameMessage, source_of, script_message, refused, told, shown, agents_of, plan_of, trial_outcome, audit_job, compared, agreed, AuditFrom, IsBalanced, Judged, IsJudged}
 use Rattle.brace_top.specs.Balances.{IsBalance}
 use Rattle.brace_top.specs.PlanText.{plan_text}
 
@@ -329,6 +330,17 @@ balances_agree strips program (Ok world) o p x y =
     (y.tells ∙ ap₂ (λ (a b : List ℕ). told a b) (one_plan x.xs strips y.balance x.balance is x.is) (one_certificate x.xs strips y.balance x.balance is x.is))
 balances_agree strips program (Err r) o p x y = same o p (refused r) x y
 
+-- what a published file comes to is one, and so is what follows on it
+published_agree : (found : Result (Option Fault) Refusal) (o p : Outcome) → FollowedBy (λ found o. o ≡ agreed found) found o
+    → FollowedBy (λ found o. o ≡ agreed found) found p → Agree o p
+published_agree (Ok found) o p x y = same o p (agreed found) x y
+published_agree (Err r) o p x y = same o p (refused r) x y
+
+audits_agree : (files : Files) (audit : AuditCommand) (program : Program) (found : Result World Refusal) (o p : Outcome)
+    → FollowedBy (AuditFrom files audit program) found o → FollowedBy (AuditFrom files audit program) found p → Agree o p
+audits_agree files audit program (Ok world) o p x y = published_agree (compared audit.published (audit_job audit program world) (files audit.published)) o p x y
+audits_agree files audit program (Err r) o p x y = same o p (refused r) x y
+
 pub commands_agree : (files : Files) (command : Option Command) (o p : Outcome) → CommandOutcome files command o → CommandOutcome files command p → Agree o p
 commands_agree files None o p e f = same o p _ e f
 commands_agree files (Some (Run run)) o p e f =
@@ -344,3 +356,6 @@ commands_agree files (Some (Trial trial)) o p e f =
 commands_agree files (Some (Balancing balance)) o p e f =
     follows_agree Means Refuses programs balance.script (source_of files balance.script) _
     (λ src program o p means x y. balances_agree balance.strips program (agents_of files program balance.agents) o p x y) o p e f
+commands_agree files (Some (Auditing audit)) o p e f =
+    follows_agree Means Refuses programs audit.script (source_of files audit.script) _
+    (λ src program o p means x y. audits_agree files audit program (agents_of files program audit.agents) o p x y) o p e f

@@ -1,7 +1,7 @@
 -- What the kinds of statuses leave out.
 use Rattle.std.proofs.Common.{◌≡◌, subst, true, arith}
 use Rattle.brace_top.specs.declared.status.Status.{Status}
-use Rattle.brace_top.specs.declared.status.Status.TheVariants.{Done, Usage, Script, Agents, Plan, Checkpoint, Fault, ReadFault, WriteFault, SaveFault, NoMemory, Absent}
+use Rattle.brace_top.specs.declared.status.Status.TheVariants.{Done, Usage, Script, Agents, Plan, Checkpoint, Fault, ReadFault, WriteFault, SaveFault, NoMemory, Absent, Differs}
 use Rattle.brace_top.specs.Answer.{ShelfCall, SinkCall, CountsShelf, CountsReads, CountsWrites}
 use Rattle.brace_top.specs.Status.{has_run, is_refusal, saves_nothing}
 use Rattle.brace_top.specs.inner.Settled.{is_stop, is_work, is_plain_work}
@@ -20,6 +20,7 @@ stop_runs P WriteFault s h = absurd cc
 stop_runs P SaveFault s h = absurd cc
 stop_runs P NoMemory s h = absurd cc
 stop_runs P Absent s h = absurd cc
+stop_runs P Differs s h = absurd cc
 
 -- a command that was stopped had words that are one
 pub stop_usage : (status : Status) → is_stop status ≡ true → status ≡ Usage → ⊥
@@ -44,6 +45,7 @@ work_refusal P WriteFault w r = absurd cc
 work_refusal P SaveFault w r = absurd cc
 work_refusal P NoMemory w r = absurd cc
 work_refusal P Absent w r = absurd cc
+work_refusal P Differs w r = absurd cc
 
 -- a command whose work was begun may save files
 pub work_saves : (P : Type 0) (status : Status) → is_work status ≡ true → saves_nothing status ≡ true → P
@@ -59,6 +61,7 @@ work_saves P WriteFault w r = absurd cc
 work_saves P SaveFault w r = absurd cc
 work_saves P NoMemory w r = absurd cc
 work_saves P Absent w r = absurd cc
+work_saves P Differs w r = absurd cc
 
 -- a command whose work was begun had words that are one
 pub work_usage : (status : Status) → is_work status ≡ true → status ≡ Usage → ⊥
@@ -78,6 +81,7 @@ plain_works WriteFault w = w
 plain_works SaveFault w = absurd cc
 plain_works NoMemory w = w
 plain_works Absent w = w
+plain_works Differs w = w
 
 -- no call to the shelf failed in work that saves nothing
 pub plain_counts : (shelf : ShelfCall) (status : Status) → is_plain_work status ≡ true → shelf.faults_after ≡ shelf.faults_before → CountsShelf shelf status
@@ -93,6 +97,7 @@ plain_counts shelf WriteFault w same = omega (arith, same)
 plain_counts shelf SaveFault w same = absurd cc
 plain_counts shelf NoMemory w same = tt
 plain_counts shelf Absent w same = same
+plain_counts shelf Differs w same = same
 
 -- a command that was stopped did nothing to its shelf but read
 pub stop_reads : (shelf : ShelfCall) (status : Status) → is_stop status ≡ true → CountsShelf shelf status → CountsReads shelf status
@@ -108,6 +113,7 @@ stop_reads shelf WriteFault s counts = absurd cc
 stop_reads shelf SaveFault s counts = absurd cc
 stop_reads shelf NoMemory s counts = counts
 stop_reads shelf Absent s counts = counts
+stop_reads shelf Differs s counts = counts
 
 -- work that saves nothing reads nothing
 pub plain_reads : (shelf : ShelfCall) (status : Status) → is_plain_work status ≡ true → shelf.faults_after ≡ shelf.faults_before → CountsReads shelf status
@@ -123,3 +129,4 @@ plain_reads shelf WriteFault w same = same
 plain_reads shelf SaveFault w same = absurd cc
 plain_reads shelf NoMemory w same = tt
 plain_reads shelf Absent w same = same
+plain_reads shelf Differs w same = same

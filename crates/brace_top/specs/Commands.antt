@@ -55,8 +55,18 @@ pub record BalanceCommand : Type 0 where
   pub agents : List ℕ
   pub strips : ℕ
 
+-- whether the file of a name is what a run of a script publishes that begins anew with the agents
+-- of a file
+pub record AuditCommand : Type 0 where
+  pub script : List ℕ
+  pub agents : List ℕ
+  pub published : List ℕ
+  pub ticks : ℕ
+  pub every : ℕ
+  pub seed : ℕ
+
 -- what the words ask for: a run, the canonical text of a script, whether a script is accepted, how
--- a script is run with inversion or without, a trial, or balanced strips
+-- a script is run with inversion or without, a trial, balanced strips, or an audit
 pub data Command : Type 0 where
   Run : RunCommand → Command
   Format : List ℕ → Command
@@ -64,6 +74,7 @@ pub data Command : Type 0 where
   Planning : List ℕ → Bool → Command
   Trial : TrialCommand → Command
   Balancing : BalanceCommand → Command
+  Auditing : AuditCommand → Command
 
 -- the name of a command's script; a trial has its own
 abbrev pub script_in : Command → Option (List ℕ)
@@ -73,10 +84,12 @@ script_in (Check name) = Some name
 script_in (Planning name invert) = Some name
 script_in (Trial trial) = None
 script_in (Balancing balance) = Some balance.script
+script_in (Auditing audit) = Some audit.script
 
 -- the name of the agent file of a command that runs no part
 abbrev pub agents_in : Command → Option (List ℕ)
 agents_in (Balancing balance) = Some balance.agents
+agents_in (Auditing audit) = Some audit.agents
 agents_in _ = None
 
 -- the command may save files
@@ -84,14 +97,9 @@ abbrev pub may_save : Option Command → Bool
 may_save (Some (Run run)) = true
 may_save _ = false
 
--- the mode is built
-abbrev pub is_built_mode : Mode → Bool
-is_built_mode mode.Audit = false
-is_built_mode _ = true
-
--- the line asks for nothing that is not built yet: for no such mode, no link and no watched figures
+-- the line asks for nothing that is not built yet: for no link and no watched figures
 abbrev pub built : Line → Bool
-built line = is_built_mode line.mode && (is_none line.link && is_none line.watch)
+built line = is_none line.link && is_none line.watch
 
 -- how many workers words ask for: one where they are no line, and where it says nothing
 abbrev pub workers_of : Option Line → ℕ
@@ -149,6 +157,20 @@ balance_of (Some script) (Some agents) (Some strips) =
     Some (Balancing (record { script = script; agents = agents; strips = strips }))
 balance_of _ _ _ = None
 
+-- the audit that a line asks for, where it names the script, the agent file and the published one
+-- and says the last tick
+abbrev pub audit_of : Line → Option (List ℕ) → Option (List ℕ) → Option (List ℕ) → Option ℕ
+    → Option Command
+audit_of line (Some script) (Some agents) (Some published) (Some ticks) = Some (Auditing (record {
+  script = script;
+  agents = agents;
+  published = published;
+  ticks = ticks;
+  every = unwrap_or line.every 1;
+  seed = unwrap_or line.seed 0;
+}))
+audit_of line _ _ _ _ = None
+
 -- what a line of a mode asks for
 abbrev pub asked : Line → Mode → Option Command
 asked line mode.Run = run_of line line.script (anew_of line) line.ticks
@@ -158,7 +180,7 @@ asked line mode.Check = option_map Check line.script
 asked line mode.Plan = option_map (λ script. Planning script line.invert) line.script
 asked line mode.Trial = trial_of line line.count line.ticks
 asked line mode.Balance = balance_of line.script line.agents line.strips
-asked line _ = None
+asked line mode.Audit = audit_of line line.script line.agents line.published line.ticks
 
 -- what a line asks for, where it is built
 abbrev pub command_in : Line → Option Command

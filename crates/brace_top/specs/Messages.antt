@@ -102,6 +102,12 @@ point_word point.NoMemory = []
 abbrev pub point_message : List ℕ → PointFault → List ℕ
 point_message name fault = named_message name (codes ": " ++ point_word fault)
 
+-- the message that names the first row of a published file that differs, counted from 1:
+-- `brace: NAME: row N: Differs`
+abbrev pub row_message : List ℕ → ℕ → List ℕ
+row_message name number =
+    named_message name (codes ": row " ++ (canonical_count number ++ codes ": Differs"))
+
 -- the message where a file was not saved
 abbrev pub save_fault_message : List ℕ → List ℕ
 save_fault_message name = named_message name (codes ": save fault")

@@ -4,9 +4,11 @@ use Rattle.std.specs.Prelude.{◌≡◌, ◌⊎◌, ℕ, ◌^◌, List, [], ◌�
 use Rattle.brace_io.specs.Shelves.{Files}
 use Rattle.brace_model.specs.declared.program.Program.{Program}
 use Rattle.brace_model.specs.declared.fault.Fault.{Fault}
+use Rattle.brace_model.specs.declared.job.Job.{Job}
 use Rattle.brace_cuts.specs.declared.plan.CutPlan.{CutPlan}
 use Rattle.brace_cuts.specs.declared.kinds.PlanKind.{PlanKind}
 use Rattle.brace_cuts.specs.CutPlans as plan_file
+use Rattle.brace_audit.specs.Differs.{differs}
 use Rattle.brace_balance.specs.declared.kinds.Balance.{Balance}
 use Rattle.brace_balance.specs.Texts.{plan_line, certificate}
 use Rattle.brace_model.specs.Next.{has_births}
@@ -19,17 +21,17 @@ use Rattle.brace_crew.specs.Sums.{sums_of}
 use Rattle.brace_show.specs.Canonical.{canonical}
 use Rattle.brace_syntax.specs.declared.tree.Tree.{Tree}
 use Rattle.brace_top.specs.declared.status.Status.{Status}
-use Rattle.brace_top.specs.declared.status.Status.TheVariants.{Done, Usage, Script, Agents, Plan, Checkpoint, Absent}
+use Rattle.brace_top.specs.declared.status.Status.TheVariants.{Done, Usage, Script, Agents, Plan, Checkpoint, Absent, Differs}
 use Rattle.brace_top.specs.declared.status.Status.TheVariants as ended_by
 use Rattle.brace_top.specs.declared.limits.TheConstants.{SCRIPT_LIMIT, AGENTS_LIMIT, PLAN_LIMIT, CHECKPOINT_LIMIT}
 use Rattle.brace_top.specs.declared.trial.TheConstants.{TRIAL_SCRIPT}
 use Rattle.brace_top.specs.Balances.{IsAlongX, IsBalance}
-use Rattle.brace_top.specs.Commands.{Command, RunCommand, TrialCommand, BalanceCommand, Start, Anew, Resumed, Run, Format, Check, Planning, Trial, Balancing, command_of, script_in, agents_in, start_file, is_anew}
+use Rattle.brace_top.specs.Commands.{Command, RunCommand, TrialCommand, BalanceCommand, AuditCommand, Start, Anew, Resumed, Run, Format, Check, Planning, Trial, Balancing, Auditing, command_of, script_in, agents_in, start_file, is_anew}
 use Rattle.brace_top.specs.declared.script_fault.ScriptFault.{ScriptFault}
 use Rattle.brace_top.specs.declared.script_fault.ScriptFault.TheVariants as fault
 use Rattle.brace_top.specs.declared.script_fault.ScriptKind.{ScriptKind}
 use Rattle.brace_top.specs.declared.script_fault.ScriptKind.TheVariants.{NoReading}
-use Rattle.brace_top.specs.Messages.{named_message, placed_message, record_message, line_message, point_message, script_word, usage_message, fault_message, stats_message}
+use Rattle.brace_top.specs.Messages.{named_message, placed_message, record_message, line_message, point_message, row_message, script_word, usage_message, fault_message, stats_message}
 use Rattle.brace_top.specs.Places.{line_number, column_number}
 use Rattle.brace_top.specs.PlanText.{plan_text}
 use Rattle.brace_top.specs.Scripts.{IsTree, Means, NoTree, Refuses}
@@ -321,6 +323,55 @@ abbrev pub BalanceOutcome : Files → BalanceCommand → Program → Outcome →
 BalanceOutcome files balance program =
     FollowedBy (IsBalanced balance.strips program) (agents_of files program balance.agents)
 
+-- the job that an audit compares: the run of a program from a world, from tick 0 on
+abbrev pub audit_job : AuditCommand → Program → World → Job
+audit_job audit program world = record {
+  program = program;
+  seed = audit.seed;
+  first = 0;
+  last = audit.ticks;
+  every = audit.every;
+  start = world;
+}
+
+-- the end of a run, unless the file of a name differs from what it publishes: its first row that
+-- does
+abbrev pub unless_differs : List ℕ → Option Fault → Option ℕ → Result (Option Fault) Refusal
+unless_differs name found None = Ok found
+unless_differs name found (Some row) =
+    Err (record { status = Differs; message = row_message name row })
+
+-- what the published file of a name comes to: the first fault of a job's run, if it has one, where
+-- the file is what that run publishes, or why the file is not
+abbrev pub compared : List ℕ → Job → Option (List ℕ) → Result (Option Fault) Refusal
+compared name job None = Err (refusal Absent name (codes ": absent"))
+compared name job (Some file) =
+    unless_differs name (first_fault job) (differs file (published job true))
+
+-- the line of a run's first fault, where it has one
+abbrev pub fault_line : Option Fault → List ℕ
+fault_line None = []
+fault_line (Some f) = fault_message f
+
+-- the outcome of an audit of a file that is what a run publishes, by the run's first fault
+abbrev pub agreed : Option Fault → Outcome
+agreed found = record {
+  status = end_status found;
+  out = codes "audit yes\n";
+  err = fault_line found;
+  saved = [];
+}
+
+-- an outcome of an audit from a world
+abbrev pub AuditFrom : Files → AuditCommand → Program → World → Outcome → Type 0
+AuditFrom files audit program world = FollowedBy (λ found o. o ≡ agreed found)
+    (compared audit.published (audit_job audit program world) (files audit.published))
+
+-- an outcome of an audit of a program
+abbrev pub AuditOutcome : Files → AuditCommand → Program → Outcome → Type 0
+AuditOutcome files audit program =
+    FollowedBy (AuditFrom files audit program) (agents_of files program audit.agents)
+
 -- an outcome of a command, or of words that are none
 abbrev pub CommandOutcome : Files → Option Command → Outcome → Type 0
 CommandOutcome files None o =
@@ -339,6 +390,8 @@ CommandOutcome files (Some (Trial trial)) o =
     Follows TrialProgram (λ program o. o ≡ trial_outcome trial program) o
 CommandOutcome files (Some (Balancing balance)) o =
     Follows (ProgramOf files balance.script) (BalanceOutcome files balance) o
+CommandOutcome files (Some (Auditing audit)) o =
+    Follows (ProgramOf files audit.script) (AuditOutcome files audit) o
 
 -- an outcome of words over the files that a shelf holds
 abbrev pub HasOutcome : List (List ℕ) → Files → Outcome → Type 0
@@ -358,7 +411,7 @@ abbrev pub SameMessage : List ℕ → List ℕ → Type 0
 SameMessage a b = (a ≡ b) ⊎ AreNoReadings a b
 
 -- a command reads the file of this name where every file before it is accepted: its script, then
--- the file with which a run begins, or the agent file, and its cut plan
+-- the file with which a run begins, or the agent file, and its cut plan, or the published file
 pub data Reads (files : Files) : Option Command → List ℕ → Type 0 where
   reads_script : (command : Command) (name : List ℕ) → script_in command ≡ Some name
       → Reads files (Some command) name
@@ -367,6 +420,9 @@ pub data Reads (files : Files) : Option Command → List ℕ → Type 0 where
   reads_agents : (command : Command) (script name : List ℕ) (program : Program)
       → script_in command ≡ Some script → ProgramOf files script (Ok program)
       → agents_in command ≡ Some name → Reads files (Some command) name
+  reads_published : (audit : AuditCommand) (program : Program) (world : World)
+      → ProgramOf files audit.script (Ok program) → agents_of files program audit.agents ≡ Ok world
+      → Reads files (Some (Auditing audit)) audit.published
   reads_plan : (run : RunCommand) (program : Program) (moment : Moment) (name : List ℕ)
       → ProgramOf files run.script (Ok program) → has_births program ≡ false
       → BeginsAt files program run.start (Ok moment) → run.cuts ≡ Some name

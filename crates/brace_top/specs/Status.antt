@@ -1,7 +1,7 @@
 -- How a command ends, and the number of each way.
 use Rattle.std.specs.Prelude.{ℕ, ◌==◌, Bool, true, false, if◌then◌else◌}
 use Rattle.brace_top.specs.declared.status.Status.{Status}
-use Rattle.brace_top.specs.declared.status.Status.TheVariants.{Done, Usage, Script, Agents, Plan, Checkpoint, Fault, ReadFault, WriteFault, SaveFault, NoMemory, Absent}
+use Rattle.brace_top.specs.declared.status.Status.TheVariants.{Done, Usage, Script, Agents, Plan, Checkpoint, Fault, ReadFault, WriteFault, SaveFault, NoMemory, Absent, Differs}
 
 -- the number with which the program ends
 abbrev pub code_of : Status → ℕ
@@ -17,6 +17,7 @@ code_of WriteFault = 9
 code_of SaveFault = 10
 code_of NoMemory = 11
 code_of Absent = 12
+code_of Differs = 13
 
 -- all was written, or a run ended in a fault
 abbrev pub has_run : Status → Bool
@@ -24,7 +25,7 @@ has_run Done = true
 has_run Fault = true
 has_run _ = false
 
--- a named file is refused before a run begins
+-- a named file is refused before a run begins, or differs
 abbrev pub is_refusal : Status → Bool
 is_refusal Script = true
 is_refusal Agents = true
@@ -32,6 +33,7 @@ is_refusal Plan = true
 is_refusal Checkpoint = true
 is_refusal ReadFault = true
 is_refusal Absent = true
+is_refusal Differs = true
 is_refusal _ = false
 
 -- the way that a number stands for
@@ -41,7 +43,7 @@ status_of code =
     else if code == 4 then Agents else if code == 5 then Plan else if code == 6 then Checkpoint
     else if code == 7 then Fault else if code == 8 then ReadFault
     else if code == 9 then WriteFault else if code == 10 then SaveFault
-    else if code == 12 then Absent else NoMemory
+    else if code == 12 then Absent else if code == 13 then Differs else NoMemory
 
 -- nothing is saved: the words are no command, or a named file is refused
 abbrev pub saves_nothing : Status → Bool

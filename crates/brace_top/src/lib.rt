@@ -12,6 +12,7 @@ mod messages;
 mod places;
 mod plan_text;
 mod prepare;
+mod published;
 mod script;
 mod script_fault;
 mod status;

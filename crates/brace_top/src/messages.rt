@@ -1,6 +1,6 @@
 ghost use Rattle.std.specs.Prelude.{◌≡◌, ◌++◌, IfOk, OnOk};
 ghost use Rattle.brace_crew.specs.Shows.{file_name};
-ghost use Rattle.brace_top.specs.Messages.{named_message, placed_message, row_word, record_message, plan_word, line_message, point_word, point_message, save_fault_message, stats_message, phase_word, kind_word, loop_text, agents_text, site_text, fault_message};
+ghost use Rattle.brace_top.specs.Messages.{named_message, placed_message, row_word, row_message, record_message, plan_word, line_message, point_word, point_message, save_fault_message, stats_message, phase_word, kind_word, loop_text, agents_text, site_text, fault_message};
 
 use brace_cuts::PlanKind;
 use brace_model::{Fault, Phase};
@@ -130,6 +130,17 @@ pub fn point_message(alloc: Global, name: &str, fault: PointFault) -> Result<Vec
     let mut rest = Vec::new(alloc);
     rest.extend_from_slice(b": ")?;
     add_point_word(&mut rest, fault)?;
+    named_message(alloc, name, rest.as_slice())
+}
+
+/// The message that names the first row of a published file that differs, counted from 1.
+pub fn row_message(alloc: Global, name: &str, number: u64) -> Result<Vec<u8>, NoMemory>
+    ensures { IfOk result (λ text. text.items ≡ row_message name.now number) }
+{
+    let mut rest = Vec::new(alloc);
+    rest.extend_from_slice(b": row ")?;
+    print_count(&mut rest, number)?;
+    rest.extend_from_slice(b": Differs")?;
     named_message(alloc, name, rest.as_slice())
 }
 

@@ -1,29 +1,32 @@
 //! What is done for a command before its parts are run.
-ghost use Rattle.std.specs.Prelude.{◌≡◌, [], option_map, Some, MatchResult, true, false};
+ghost use Rattle.std.specs.Prelude.{◌≡◌, [], codes, option_map, Some, MatchResult, true, false};
 ghost use Rattle.brace_io.specs.Shelves.{writes};
+ghost use Rattle.brace_model.specs.Lawful.{LawfulProgram, LawfulAgents, LawfulJob};
 ghost use Rattle.brace_save.specs.Lines.{moment_of};
 ghost use Rattle.brace_top.specs.Answer.{CountsWrites, sink_call};
 ghost use Rattle.brace_top.specs.Commands as asked;
 ghost use Rattle.brace_top.specs.Commands.{is_anew};
-ghost use Rattle.brace_top.specs.Outcome.{shown, told, setting_of, ran};
+ghost use Rattle.brace_top.specs.Outcome.{agreed, audit_job, shown, told, setting_of, ran};
 ghost use Rattle.brace_top.specs.Status.{has_run};
 ghost use Rattle.brace_top.specs.inner.Prepared.{IsPrepared, IsReadyRun, IsReadyTrial, IsStoppedBefore};
 ghost use Rattle.brace_top.specs.inner.Settled.{IsServed, IsWritten, is_plain_work, outcome_of, status_in, message_in};
-ghost use Rattle.brace_top.specs.inner.Words.{said, said_balance, said_run, said_start, said_trial, IsBalanceInRange, IsInRange, IsRunInRange, IsTrialInRange};
+ghost use Rattle.brace_top.specs.inner.Words.{said, said_audit, said_balance, said_run, said_start, said_trial, IsAuditInRange, IsBalanceInRange, IsInRange, IsRunInRange, IsTrialInRange};
 
 use crate::answer::{Answer, Stopped, refuse_file};
 use crate::load::{
     load_cuts, load_program, load_script, load_start, load_tree, load_trial, load_world,
 };
+use crate::messages::fault_message;
 use crate::plan_text::plan_text;
+use crate::published::load_published;
 use crate::status::Status;
 use crate::strips::balanced_strips;
 use crate::task::{Task, run_none};
 use crate::trial::{has_four_fixed, trial_setting};
-use crate::words::{BalanceCommand, Command, RunCommand, Start, TrialCommand};
+use crate::words::{AuditCommand, BalanceCommand, Command, RunCommand, Start, TrialCommand};
 use brace_cuts::CutPlan;
 use brace_io::{Shelf, Sink, write_whole};
-use brace_model::{Job, Program, has_births};
+use brace_model::{Fault, Job, Program, World, has_births};
 use brace_pieces::Setting;
 use brace_save::Point;
 use brace_show::show;
@@ -143,6 +146,74 @@ fn balance_agents<S: Shelf, O: Sink>(
     write_told(strips.plan.as_slice(), certificate, out)
 }
 
+/// The job that an audit compares.
+fn audit_job(audit: &AuditCommand, program: Program, start: World) -> Job
+    ensures job { result ≡ audit_job (said_audit audit.now) program start }
+    ensures lawful { IsAuditInRange audit.now → LawfulProgram program
+        → LawfulAgents program start.agents → LawfulJob result }
+{
+    Job {
+        program,
+        seed: audit.seed,
+        first: 0,
+        last: audit.ticks,
+        every: audit.every,
+        start,
+    }
+}
+
+/// Writes that a file is what a run publishes that ended in this fault.
+fn agree_in_fault<O: Sink>(alloc: Global, fault: &Fault, out: &mut O) -> Result<Answer, Stopped>
+    ensures written { IsWritten (λ o. o ≡ agreed (Some fault.now))
+        (sink_call O.Sink out.old out.new) (message_in result) (status_in result) }
+    ensures work { is_plain_work (status_in result) ≡ true }
+    ensures writes { CountsWrites (sink_call O.Sink out.old out.new) (status_in result) }
+    ensures clean { has_run (status_in result) ≡ true → O.clean out.new ≡ true }
+{
+    let message = fault_message(alloc, fault)?;
+    write_whole(out, b"audit yes\n")?;
+    out.flush()?;
+    Ok(Answer {
+        status: Status::Fault,
+        message,
+    })
+}
+
+/// Writes that a file is what a run publishes that ended in this fault, if in any.
+fn agree<O: Sink>(alloc: Global, found: Option<Fault>, out: &mut O) -> Result<Answer, Stopped>
+    ensures written { IsWritten (λ o. o ≡ agreed found) (sink_call O.Sink out.old out.new)
+        (message_in result) (status_in result) }
+    ensures work { is_plain_work (status_in result) ≡ true }
+    ensures writes { CountsWrites (sink_call O.Sink out.old out.new) (status_in result) }
+    ensures clean { has_run (status_in result) ≡ true → O.clean out.new ≡ true }
+{
+    match found {
+        None => write_text(alloc, b"audit yes\n", out),
+        Some(fault) => agree_in_fault(alloc, &fault, out),
+    }
+}
+
+/// Tells whether a file is what a run publishes.
+fn audit_file<S: Shelf, O: Sink>(
+    alloc: Global,
+    audit: &AuditCommand,
+    shelf: &mut S,
+    out: &mut O,
+) -> Result<Answer, Stopped>
+    requires stage { writes (S.stage shelf.old) ≡ false }
+    requires range { IsAuditInRange audit.now }
+    ensures served { IsServed S.Shelf O.Sink (Some (asked.Auditing (said_audit audit.now)))
+        shelf.old shelf.new out.old out.new result }
+    ensures held { S.held shelf.new ≡ S.held shelf.old }
+    ensures not_writing { writes (S.stage shelf.new) ≡ false }
+{
+    let program = load_program(alloc, shelf, audit.script)?;
+    let start = load_world(alloc, shelf, &program, audit.agents)?;
+    let job = audit_job(audit, program, start);
+    let found = load_published(alloc, shelf, &job, audit.published)?;
+    agree(alloc, found, out)
+}
+
 /// A run that can begin at a moment.
 fn task_of<'a>(run: &RunCommand<'a>, program: Program, point: Point, cuts: CutPlan) -> Task<'a>
     ensures setting { result.setting
@@ -257,5 +328,6 @@ pub fn prepare<'a, S: Shelf, O: Sink>(
         }
         Command::Trial(trial) => Ok(Work::Trial(*trial, ready_trial(alloc, trial, shelf)?)),
         Command::Balance(balance) => Ok(Work::Told(balance_agents(alloc, balance, shelf, out)?)),
+        Command::Audit(audit) => Ok(Work::Told(audit_file(alloc, audit, shelf, out)?)),
     }
 }

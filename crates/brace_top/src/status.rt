@@ -28,6 +28,8 @@ pub enum Status {
     NoMemory,
     /// A named file is not held.
     Absent,
+    /// The published file differs from what a run publishes.
+    Differs,
 }
 
 impl Status {
@@ -49,6 +51,7 @@ impl Status {
             Status::SaveFault => 10,
             Status::NoMemory => 11,
             Status::Absent => 12,
+            Status::Differs => 13,
         }
     }
 }

@@ -1,6 +1,6 @@
 ghost use Rattle.std.specs.Prelude.{◌≡◌, ◌≤◌, option_map, MatchOption, IfErr, IfOk, IfSome, None, Some};
 ghost use Rattle.brace_words.specs.Lines as lines;
-ghost use Rattle.brace_top.specs.Commands.{anew_of, balance_of, built, is_built_mode, command_in, manner_of, resumed_of, run_of, trial_of, workers_of};
+ghost use Rattle.brace_top.specs.Commands.{anew_of, audit_of, balance_of, built, command_in, manner_of, resumed_of, run_of, trial_of, workers_of};
 ghost use Rattle.brace_top.specs.inner.Words.{said, said_manner, said_start, IsInRange, IsMannerInRange};
 
 use brace_num::Text;
@@ -63,6 +63,21 @@ pub struct BalanceCommand<'a> {
     pub strips: u32,
 }
 
+/// The question whether a file is what a run publishes that begins anew.
+#[derive(Debug, Clone, Copy)]
+pub struct AuditCommand<'a> {
+    pub script: &'a str,
+    pub agents: &'a str,
+    /// The file that is compared.
+    pub published: &'a str,
+    /// The last tick, at most 2^32.
+    pub ticks: u64,
+    /// Ticks that this number divides are published, and the last one. At least 1.
+    pub every: u64,
+    /// The seed of all draws.
+    pub seed: u64,
+}
+
 /// What the words of a command ask for.
 #[derive(Debug, Clone, Copy)]
 pub enum Command<'a> {
@@ -78,21 +93,17 @@ pub enum Command<'a> {
     Trial(TrialCommand),
     /// Balanced strips.
     Balance(BalanceCommand<'a>),
+    /// An audit.
+    Audit(AuditCommand<'a>),
 }
 
 /// Whether a line asks for nothing that is not built yet.
 ///
-/// Not built are the mode `audit`, and in `run` and `resume` links and watched figures.
+/// Not built are links and watched figures in `run` and `resume`.
 pub fn built(line: &Line) -> bool
     ensures { result ≡ built line.now }
 {
-    is_built_mode(line.mode) && line.link.is_none() && line.watch.is_none()
-}
-
-fn is_built_mode(mode: Mode) -> bool
-    ensures { result ≡ is_built_mode mode }
-{
-    !matches!(mode, Mode::Audit)
+    line.link.is_none() && line.watch.is_none()
 }
 
 /// How many workers words ask for, as they were read: 1 to 16, and 1 where they are no line.
@@ -197,6 +208,26 @@ fn balance_of(line: &Line) -> Option<Command<'_>>
     }))
 }
 
+/// The audit that a line asks for, where it names the script, the agent file and the published one
+/// and says the last tick.
+fn audit_of(line: &Line) -> Option<Command<'_>>
+    requires { lines.IsInRange line.now }
+    ensures command { MatchOption result
+        (audit_of line.now line.now.script line.now.agents line.now.published line.now.ticks ≡ None)
+        (λ command. audit_of line.now line.now.script line.now.agents line.now.published
+        line.now.ticks ≡ Some (said command)) }
+    ensures range { IfSome result IsInRange }
+{
+    Some(Command::Audit(AuditCommand {
+        script: line.script.as_ref()?.as_str(),
+        agents: line.agents.as_ref()?.as_str(),
+        published: line.published.as_ref()?.as_str(),
+        ticks: line.ticks?,
+        every: line.every.unwrap_or(1),
+        seed: line.seed.unwrap_or(0),
+    }))
+}
+
 /// The command that a line asks for, or None where it is not built yet.
 pub fn command_in(line: &Line) -> Option<Command<'_>>
     requires { lines.IsInRange line.now }
@@ -215,6 +246,6 @@ pub fn command_in(line: &Line) -> Option<Command<'_>>
         Mode::Plan => Some(Command::Plan(line.script.as_ref()?.as_str(), line.invert)),
         Mode::Trial => trial_of(line),
         Mode::Balance => balance_of(line),
-        Mode::Audit => None,
+        Mode::Audit => audit_of(line),
     }
 }

@@ -1,4 +1,5 @@
 //! Commands over files in memory, with texts worked by hand: the same with any number of workers.
+mod audits;
 mod cut_planes;
 mod failures;
 mod faults;
@@ -27,7 +28,8 @@ type Case = (
     &'static str,
 );
 
-/// A command over a script, an agent file and a cut plan, and its status, its text and its message.
+/// A command over a script, an agent file and a cut plan or a published file, and its status, its
+/// text and its message.
 type CutCase = (
     &'static str,
     &'static str,

@@ -9,7 +9,7 @@ use Rattle.brace_io.specs.declared.shelf.Shelf as shelf_trait
 use Rattle.brace_io.specs.declared.sink.Sink as sink_trait
 use Rattle.brace_top.specs.declared.task.Task.{Task}
 use Rattle.brace_top.specs.declared.status.Status.{Status}
-use Rattle.brace_top.specs.declared.status.Status.TheVariants.{Done, Usage, Script, Agents, Plan, Checkpoint, Fault, ReadFault, WriteFault, SaveFault, NoMemory, Absent}
+use Rattle.brace_top.specs.declared.status.Status.TheVariants.{Done, Usage, Script, Agents, Plan, Checkpoint, Fault, ReadFault, WriteFault, SaveFault, NoMemory, Absent, Differs}
 use Rattle.brace_top.specs.Answer.{ShelfCall, SinkCall, shelf_call, sink_call, Among, IsUnread, IsUnwritten, IsGivenUp, IsEnd, IsUnsaved, IsAnswer, CountsShelf, CountsReads, CountsWrites}
 use Rattle.brace_top.specs.Status.{has_run, is_refusal, saves_nothing}
 use Rattle.brace_top.specs.Commands.{Command, may_save}
@@ -131,13 +131,14 @@ IsSettled stats None (Err (crew.Publish (refusal.Save k))) r = r ≡ Err stopped
 IsSettled stats save (Err (crew.Publish refusal.NoMemory)) r = r ≡ Err stopped.NoMemory
 IsSettled stats save (Err crew.NoMemory) r = r ≡ Err stopped.NoMemory
 
--- the status refuses a file, with no fault of the outside
+-- the status refuses a file, or tells that it differs, with no fault of the outside
 abbrev pub refuses_file : Status → Bool
 refuses_file Script = true
 refuses_file Agents = true
 refuses_file Plan = true
 refuses_file Checkpoint = true
 refuses_file Absent = true
+refuses_file Differs = true
 refuses_file status = false
 
 -- a command is stopped so before it is carried out
@@ -149,6 +150,7 @@ is_stop Checkpoint = true
 is_stop ReadFault = true
 is_stop NoMemory = true
 is_stop Absent = true
+is_stop Differs = true
 is_stop status = false
 
 -- a file is refused with this message, with no fault of the outside

@@ -7,6 +7,7 @@ use Rattle.brace_words.specs.Lines as lines
 use Rattle.brace_words.specs.Lines.{line_of}
 use Rattle.brace_top.specs.declared.answer.Stopped.{Stopped}
 use Rattle.brace_top.specs.declared.answer.Stopped.TheVariants as stopped
+use Rattle.brace_top.specs.declared.words.AuditCommand.{AuditCommand as CodeAudit}
 use Rattle.brace_top.specs.declared.words.BalanceCommand.{BalanceCommand as CodeBalance}
 use Rattle.brace_top.specs.declared.words.Command.{Command as CodeCommand}
 use Rattle.brace_top.specs.declared.words.Command.TheVariants as code
@@ -15,7 +16,7 @@ use Rattle.brace_top.specs.declared.words.RunCommand.{RunCommand as CodeRun}
 use Rattle.brace_top.specs.declared.words.Start.{Start as CodeStart}
 use Rattle.brace_top.specs.declared.words.Start.TheVariants as begun
 use Rattle.brace_top.specs.declared.words.TrialCommand.{TrialCommand as CodeTrial}
-use Rattle.brace_top.specs.Commands.{Command, Manner, RunCommand, TrialCommand, BalanceCommand, Start, Anew, Resumed, Run, Format, Check, Planning, Trial, Balancing, command_of}
+use Rattle.brace_top.specs.Commands.{Command, Manner, RunCommand, TrialCommand, BalanceCommand, AuditCommand, Start, Anew, Resumed, Run, Format, Check, Planning, Trial, Balancing, Auditing, command_of}
 
 -- a line, or why there is none, is what words were read as
 pub record IsReadAs (words : List (List ℕ)) (line : Result Line LineFault) : Type 0 where
@@ -72,6 +73,17 @@ said_balance balance = record {
   strips = balance.strips;
 }
 
+-- what an audit asks for
+abbrev pub said_audit : CodeAudit → AuditCommand
+said_audit audit = record {
+  script = audit.script.now;
+  agents = audit.agents.now;
+  published = audit.published.now;
+  ticks = audit.ticks;
+  every = audit.every;
+  seed = audit.seed;
+}
+
 -- what a command asks for
 abbrev pub said : CodeCommand → Command
 said (code.Run run) = Run (said_run run)
@@ -80,6 +92,7 @@ said (code.Check script) = Check script.now
 said (code.Plan script invert) = Planning script.now invert
 said (code.Trial trial) = Trial (said_trial trial)
 said (code.Balance balance) = Balancing (said_balance balance)
+said (code.Audit audit) = Auditing (said_audit audit)
 
 -- epochs have 1 to 16 ticks
 pub record IsMannerInRange (manner : CodeManner) : Type 0 where
@@ -103,6 +116,11 @@ pub record IsBalanceInRange (balance : CodeBalance) : Type 0 where
   pub some_strips : 1 ≤ balance.strips
   pub few_strips : balance.strips ≤ 64
 
+-- the last tick of an audit is within the limit, and some tick is published
+pub record IsAuditInRange (audit : CodeAudit) : Type 0 where
+  pub ticks : audit.ticks ≤ 2 ^ 32
+  pub every : 1 ≤ audit.every
+
 -- the numbers of a command are in range
 abbrev pub IsInRange : CodeCommand → Type 0
 IsInRange (code.Run run) = IsRunInRange run
@@ -111,3 +129,4 @@ IsInRange (code.Check script) = ⊤
 IsInRange (code.Plan script invert) = ⊤
 IsInRange (code.Trial trial) = IsTrialInRange trial
 IsInRange (code.Balance balance) = IsBalanceInRange balance
+IsInRange (code.Audit audit) = IsAuditInRange audit

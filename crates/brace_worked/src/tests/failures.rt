@@ -13,6 +13,8 @@ const FORMAT: &str = "fmt --script s";
 
 const CHECK: &str = "check --script s";
 
+const AUDIT: &str = "audit --script s --agents a --ticks 2 --published k";
+
 /// A command, and the files that it reads: `s`, `a` and `k`, which is held where it is not empty.
 type Asked<'a> = (&'a str, &'a [u8], &'a str, &'a str);
 
@@ -260,6 +262,9 @@ fn each_failing_read_names_its_file(rt: HostRuntime) -> Result<(), Fail> {
         (CHECK, 4, 0, "", ""),
         (FORMAT, 3, 8, "", "brace: s: read fault\n"),
         (FORMAT, 4, 0, STEPS_SHOWN, ""),
+        (AUDIT, 7, 8, "", "brace: k: read fault\n"),
+        (AUDIT, 8, 8, "", "brace: k: read fault\n"),
+        (AUDIT, 9, 13, "", "brace: k: row 1: Differs\n"),
     ] {
         let asked = (words, STEPS.as_bytes(), AGENT, "at 0 x 1 y\n");
         let (status, _, out, err) = ended(alloc, asked, vec![in alloc; number]?, Vec::new(alloc))?;
@@ -279,8 +284,10 @@ fn each_failing_write_leaves_a_front(rt: HostRuntime) -> Result<(), Fail> {
         (RUN, 3, ROWS),
         (FORMAT, 1, ""),
         (FORMAT, 2, STEPS_SHOWN),
+        (AUDIT, 1, ""),
+        (AUDIT, 2, "audit yes\n"),
     ] {
-        let asked = (words, STEPS.as_bytes(), AGENT, "");
+        let asked = (words, STEPS.as_bytes(), AGENT, ROWS);
         let (status, _, out, err) = ended(alloc, asked, Vec::new(alloc), vec![in alloc; number]?)?;
         assert_eq!(rt; status, Some(9), "{words} at call {number}");
         assert_eq!(rt; out.bytes(), front.as_bytes(), "{words} at call {number}");

@@ -7,7 +7,7 @@ const FORMAT: &str = "fmt --script s";
 
 const CHECK: &str = "check --script s";
 
-const REFUSALS: [Case; 21] = [
+const REFUSALS: [Case; 22] = [
     (FORMAT, STEPS, "", 0, STEPS_SHOWN, ""),
     (FORMAT, SPREAD, "", 0, STEPS_SHOWN, ""),
     (FORMAT, STEPS_SHOWN, "", 0, STEPS_SHOWN, ""),
@@ -92,6 +92,15 @@ const REFUSALS: [Case; 21] = [
     ),
     (
         "run --script s --agents a --ticks 2 --ticks 3",
+        STEPS,
+        AGENT,
+        2,
+        "",
+        "brace: usage\n",
+    ),
+    // What is not built yet.
+    (
+        "run --script s --agents a --ticks 2 --watch w",
         STEPS,
         AGENT,
         2,

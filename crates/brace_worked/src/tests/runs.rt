@@ -183,7 +183,7 @@ const RUNS: [Case; 23] = [
     ),
 ];
 
-const TRIALS: [Case; 7] = [
+const TRIALS: [Case; 6] = [
     (
         "trial --count 1 --ticks 0",
         "",
@@ -224,14 +224,6 @@ const TRIALS: [Case; 7] = [
         0,
         "trial agents 1 ticks 0 x 236067972 y 278566908\n",
         "stats border 0 effects 0 moved 0 handed 0\n",
-    ),
-    (
-        "audit --script s --agents a --ticks 2 --published p",
-        STEPS,
-        "",
-        2,
-        "",
-        "brace: usage\n",
     ),
 ];
 

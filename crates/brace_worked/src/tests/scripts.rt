@@ -78,6 +78,10 @@ pub const MORTAL_FAULTY: &str =
 pub const BEARING: &str =
     "class B { public state fixed x; public state fixed y; spawn when true { x <- x + 1.0; } }";
 
+pub const DIVIDING: &str =
+    "class B { #reach[1.0]; public state fixed x; public state fixed y; public state int a : a + \
+     1; spawn when a == 0 { x <- x + 5.0; a <- 7; } }";
+
 pub const LEAPING: &str =
     "class W { #reach[100.0]; public state fixed x : x + 50.0; public state fixed y; }";
 

@@ -19,7 +19,7 @@ loop-tick-init g c =
 pub returns-in-Ok-expect_end-clause-right : goal.returns-in-Ok-expect_end-clause-right
 returns-in-Ok-expect_end-clause-right g c = λ file h.
     let i = c.loop-tick.invariant in
-    let held = ap (λ k. held_at k c.args.name.now) (i.same ∙ c.in-Ok.ensures.held_alone) ∙ h in
+    let held = ap (λ k. held_at k c.args.name.now) (i.same ∙ c.in-Ok.ensures.leaves.held_alone) ∙ h in
     told_yes _ _ _ file _ _ _ _ i.follows c.loop-tick-test.false c.in-Ok-expect_end.ensures.stops held
 
 pub returns-clause-right : goal.returns-clause-right
@@ -27,5 +27,5 @@ returns-clause-right g c = λ file h.
     let i = c.loop-tick.invariant in
     let e = c.in-Err-expect_end.ensures in
     let all = c.loop-tick-test.false in
-    let held = ap (λ k. held_at k c.args.name.now) (i.same ∙ c.in-Ok.ensures.held_alone) ∙ h in
+    let held = ap (λ k. held_at k c.args.name.now) (i.same ∙ c.in-Ok.ensures.leaves.held_alone) ∙ h in
     (told_at_end _ _ _ _ _ _ _ _ _ i.follows (text_at_last _ _ _ _ _ _ _ i.follows all) (end_at_last _ _ _ _ _ _ _ i.follows all) e.present e.faultless e.goes_further).right file held

@@ -27,7 +27,7 @@ loop-done-preserved g c =
       within = omega (arith, c.loop-done-test.true);
       comparing = (text ++ byte ∷ [], e.goes_on text j);
       goes_on = λ text j. subst (λ (t : List ℕ). Compares (g.S.Shelf.held c.expect_byte.new.shelf) (g.S.Shelf.stage c.expect_byte.new.shelf) c.args.name.now t c.expect_byte.new.self) (one_more text piece done c.loop-done-test.true) (e.goes_on (text ++ take done piece) (i.goes_on text j));
-      same = e.held_alone ∙ i.same;
+      same = e.leaves.held_alone ∙ i.same;
       faults = search rules;
     }
 
