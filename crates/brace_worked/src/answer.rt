@@ -45,6 +45,9 @@ impl Desk {
         if !case.cuts.is_empty() {
             shelf.hold("k", case.cuts.as_slice())?;
         }
+        if case.is_published {
+            shelf.hold("p", case.published.as_slice())?;
+        }
         shelf.prepare("c.2", 1000)?;
         shelf.prepare("c.4", 200)?;
         shelf.prepare("c.5", 200)?;

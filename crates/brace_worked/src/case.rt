@@ -16,6 +16,8 @@ pub struct Case<'a> {
     pub script: Vec<u8>,
     pub agents: Vec<u8>,
     pub cuts: Vec<u8>,
+    pub published: Vec<u8>,
+    pub is_published: bool,
     pub is_bare: bool,
     pub shelf_fails: Vec<u64>,
     pub sink_fails: Vec<u64>,
@@ -60,6 +62,8 @@ impl<'a> Case<'a> {
             script: Vec::new(alloc),
             agents: Vec::new(alloc),
             cuts: Vec::new(alloc),
+            published: Vec::new(alloc),
+            is_published: false,
             is_bare: false,
             shelf_fails: Vec::new(alloc),
             sink_fails: Vec::new(alloc),
@@ -108,6 +112,10 @@ impl<'a> Case<'a> {
             "script" => line.add_to(&mut self.script),
             "agents" => line.add_to(&mut self.agents),
             "cuts" => line.add_to(&mut self.cuts),
+            "published" => {
+                self.is_published = true;
+                line.add_to(&mut self.published)
+            }
             "out" => line.add_to(&mut self.out),
             "err" => line.add_to(&mut self.err),
             _ => Ok(false),
