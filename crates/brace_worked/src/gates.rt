@@ -1,16 +1,17 @@
 //! Workers that are held at a gate until another one has passed it.
-use super::passed;
-use super::scripts::RESTING;
+use crate::answer::Desk;
+use crate::case::Case;
+use crate::texts::append_line;
+use crate::unfit::Unfit;
 use brace_io::Gate;
 use std::alloc::Global;
 use std::sync::Wait;
 use std::sync::atomic::{AtomicU64, Ordering};
-use std::test::Fail;
 use std::thread;
 use std::thread::Threads;
 
 /// A bench that is held at a tick until the other one has passed the gate so many times.
-type Hold = (usize, u64, u64);
+pub type Hold = (usize, u64, u64);
 
 /// A gate that holds benches 0 and 1, each hold for at most 10,000,000 looks.
 #[derive(Drop)]
@@ -63,31 +64,28 @@ impl Gate for HoldingGate {
     }
 }
 
-const RESTERS: &str = "T,1,0,0\nT,2,100,0\n";
+const RESTING: &str = "class T { public state fixed x; public state fixed y; }";
 
-/// No hold of a gate runs out over two parts that never meet, on two workers.
-fn is_passed<R: Threads + Wait + Sync>(
+const RUN: &str = "run --script s --agents a --ticks 4 --every 4 --cuts k --workers 2";
+
+/// Two agents in two parts that never meet.
+fn resting<'a>(alloc: Global) -> Result<Case<'a>, Unfit> {
+    let mut case = Case::new(alloc, RUN);
+    append_line(&mut case.script, RESTING)?;
+    append_line(&mut case.agents, "T,1,0,0")?;
+    append_line(&mut case.agents, "T,2,100,0")?;
+    append_line(&mut case.cuts, "at 0 x 50 y")?;
+    Ok(case)
+}
+
+/// Whether no hold of a gate runs out over two parts that never meet, on two workers.
+pub fn is_passed<R: Threads + Wait + Sync>(
     rt: &R,
     alloc: Global,
     holds: [Hold; 2],
-) -> Result<bool, Fail> {
+) -> Result<bool, Unfit> {
     let gate = HoldingGate::make(holds);
-    let words = "run --script s --agents a --ticks 4 --every 4 --cuts k --workers 2";
-    let files = (RESTING, RESTERS, "at 0 x 50 y\n");
-    let (status, _, _, _) = passed(rt, alloc, words, files, &gate)?;
+    let mut desk = Desk::of(alloc, &resting(alloc)?)?;
+    let status = desk.give(rt, alloc, RUN, &gate)?;
     Ok(status == 0 && gate.ran_out.load(Ordering::SeqCst) == 0)
-}
-
-#[test]
-fn workers_work_side_by_side(rt: HostRuntime) -> Result<(), Fail> {
-    let alloc = rt.alloc();
-    assert!(rt; is_passed(&rt, alloc, [(0, 0, 1), (1, 1, 2)])?);
-    Ok(())
-}
-
-#[test]
-fn no_worker_waits_at_the_end_of_a_tick(rt: HostRuntime) -> Result<(), Fail> {
-    let alloc = rt.alloc();
-    assert!(rt; is_passed(&rt, alloc, [(0, 0, 4), (1, 0, 0)])?);
-    Ok(())
 }
