@@ -18,13 +18,13 @@ KINDS = ("proof", "tests", "edits", "other")
 
 
 def stat_of(pid):
-    """The parent and the processor seconds of a process, or None once it is gone."""
+    """The parent, the processor seconds and the start of a process, or None once it is gone."""
     try:
         with open(f"/proc/{pid}/stat") as file:
             fields = file.read().rpartition(")")[2].split()
     except OSError:
         return None
-    return int(fields[1]), (int(fields[11]) + int(fields[12])) / TICKS
+    return int(fields[1]), (int(fields[11]) + int(fields[12])) / TICKS, int(fields[19])
 
 
 def work_of(pid):
@@ -45,7 +45,8 @@ def work_of(pid):
 
 
 def below(root):
-    """The processes below one, each with its processor seconds and the work of the nearest at or above it."""
+    """The processes below one, by their starts: their processor seconds, and the work of the nearest
+    at or above each."""
     stats = {}
     for name in os.listdir("/proc"):
         if name.isdigit():
@@ -53,14 +54,15 @@ def below(root):
             if found:
                 stats[int(name)] = found
     children = collections.defaultdict(list)
-    for pid, (parent, _) in stats.items():
+    for pid, (parent, _, _) in stats.items():
         children[parent].append(pid)
     found, left = {}, [(root, ("", "other"))]
     while left:
         pid, work = left.pop()
         work = work_of(pid) or work
         if pid in stats:
-            found[pid] = (stats[pid][1], work)
+            _, spent, start = stats[pid]
+            found[pid, start] = (spent, work)
         left += [(child, work) for child in children[pid]]
     return found
 
@@ -68,14 +70,14 @@ def below(root):
 def main(command):
     begun = time.time()
     process = subprocess.Popen(command)
-    seconds = {}
+    costs = {}
     while process.poll() is None:
-        for pid, (spent, work) in below(process.pid).items():
-            key = (pid, work)
-            seconds[key] = max(spent, seconds.get(key, 0))
+        for one, (spent, work) in below(process.pid).items():
+            # A process that has ended and is not yet waited for no longer tells its work.
+            costs[one] = (spent, max(costs.get(one, (0, work))[1], work))
         time.sleep(0.2)
     table = collections.defaultdict(lambda: dict.fromkeys(KINDS, 0.0))
-    for (_, (crate, kind)), spent in seconds.items():
+    for spent, (crate, kind) in costs.values():
         table[crate or "(all)"][kind] += spent
     rows = sorted(table.items(), key=lambda row: -sum(row[1].values()))
     rows.append(("sum", {kind: sum(row[kind] for row in table.values()) for kind in KINDS}))
