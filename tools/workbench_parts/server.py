@@ -35,7 +35,7 @@ VIEWER = os.path.join(TOOLS, "view.html")
 MOST_BODY = 1 << 27
 MOST_TICKS, MOST_SEED, MOST_CROWD = 1_000_000, 2 ** 53, 1 << 20
 MOST_VALUES, MOST_SEEDS, MOST_RUNS, MOST_AT_ONCE = 50, 20, 200, 8
-MOST_ROWS, MOST_TEXT = 1 << 31, 1 << 26
+MOST_ROWS, MOST_TEXT = 1 << 29, 1 << 26
 # How many processes there are at most, of runs and of all else.
 MOST_JOBS = 24
 # So many ticks an epoch: rows come as epochs end, and no row is changed by it.
@@ -198,8 +198,9 @@ class Bench:
         files = {asked["name"]: asked["script"], "agents.csv": asked["agents"]}
         folder = self.written(files)
         words = ["run", "--script", asked["name"], "--agents", "agents.csv", "--ticks",
-                 str(asked["ticks"]), "--seed", str(asked["seed"]), "--epoch", str(EPOCH),
-                 "--workers", str(asked["workers"]), "--stats"]
+                 str(asked["ticks"]), "--seed", str(asked["seed"]), "--every",
+                 str(asked["every"]), "--epoch", str(EPOCH), "--workers", str(asked["workers"]),
+                 "--stats"]
         if asked["cuts"]:
             words += self.cut(folder, asked)
         return folder, words
@@ -366,7 +367,8 @@ class Handler(http.server.BaseHTTPRequestHandler):
 
 SCRIPT = {"name": named(".brasil"), "script": text(models.MOST_SCRIPT)}
 STRIPS = listed(whole(1, 64), 2, 2)
-WORLD = {"agents": text(models.MOST_AGENTS), "ticks": whole(0, MOST_TICKS), "cuts": maybe(STRIPS)}
+WORLD = {"agents": text(models.MOST_AGENTS), "ticks": whole(0, MOST_TICKS),
+         "every": whole(1, MOST_TICKS), "cuts": maybe(STRIPS)}
 
 
 def here(handler, bench, body):
