@@ -110,7 +110,9 @@ class Trouble:
             row = self.faults.get(kind)
             return {"kind": kind, "what": row[1] if row else "",
                     "slips": [{"wrong": "", "why": "", "write": row[2]}] if row else []}
-        found = {slip.why: slip for slip in reversed(self.similar(failure, kind, script))}
+        found = {}
+        for slip in self.similar(failure, kind, script):
+            found.setdefault(slip.why, slip)
         return {"kind": kind, "what": self.kinds.get(kind, "") if failure.status == 3 else "",
                 "slips": [{"wrong": slip.wrong, "why": slip.why, "write": slip.write}
-                          for slip in list(found.values())[:-MOST_TOLD - 1:-1]]}
+                          for slip in list(found.values())[:MOST_TOLD]]}

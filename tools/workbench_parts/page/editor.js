@@ -125,7 +125,8 @@ export class Editor {
 function piece(text, scope, isFault) {
   if (!scope && !isFault) return text;
   const made = document.createElement('span');
-  made.className = [...scope.split('.'), isFault ? 'fault' : ''].join(' ').trim();
+  made.dataset.scope = scope;
+  if (isFault) made.className = 'fault';
   made.textContent = text;
   return made;
 }
