@@ -13,7 +13,8 @@ import subprocess
 import sys
 
 import cudrenal
-from workbench_parts.server import Bench, Server
+from workbench_parts.bench import Bench
+from workbench_parts.server import Server
 
 
 def can_show():
@@ -59,7 +60,8 @@ def main():
     if asked.folder is not None and not os.path.isdir(asked.folder):
         sys.exit(f"workbench.py: {asked.folder}: no folder")
     if not is_ready(asked.program):
-        sys.exit(f"workbench.py: {asked.program} does not run; README.md, 'Where it runs', says why")
+        sys.exit(f"workbench.py: {asked.program} does not run; README.md, 'Where it runs', says "
+                 "why")
     for number in (signal.SIGTERM, signal.SIGHUP):
         signal.signal(number, end)
     bench = Bench(asked.folder, asked.program, asked.seconds)

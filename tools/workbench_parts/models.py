@@ -36,7 +36,7 @@ def decoded(content, path):
 
 
 class Models:
-    """Lists, reads and saves; `folder` is the user's, or None. Nothing but what is named is read."""
+    """Lists, reads and saves; `folder` is the user's, or None. Only what is named is read."""
 
     def __init__(self, folder):
         self.folder = None if folder is None else os.path.realpath(folder)

@@ -31,7 +31,7 @@ def tables(text):
 
 
 def reasoned(rows):
-    """The rows of a table of slips; where one's reason is that of the row above, it stands there."""
+    """The rows of a table of slips; where a reason is that of the row above, it stands there."""
     last = ""
     for wrong, said, why, right in rows:
         last = last if why.startswith("the same") else why

@@ -75,7 +75,8 @@ export class World {
       class: name,
       count: Number(value(`${name} count`)),
       area: AREA.map(side => Number(value(`${name} ${side}`))),
-      values: Object.fromEntries(lined(states).map(state => [state.name, value(`${name}.${state.name}`)])),
+      values: Object.fromEntries(lined(states).map(state =>
+        [state.name, value(`${name}.${state.name}`)])),
     }));
   }
 

@@ -81,7 +81,7 @@ export class Editor {
   }
 
   paint() {
-    const { text } = this, from = this.fault ? placeOf(text, this.fault.line, this.fault.column) : -1;
+    const { text, fault } = this, from = fault ? placeOf(text, fault.line, fault.column) : -1;
     const to = from < 0 ? -1 : tokenEnd(text, from), fragment = document.createDocumentFragment();
     const spans = text.length > MOST_COLOURED ? [] : this.grammar.spans(text);
     for (const [first, last, scope] of cut(text, spans, from, to)) {

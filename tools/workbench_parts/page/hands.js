@@ -53,7 +53,8 @@ export function quoted(word) {
 export function numberIn(id, what) {
   const field = $(id), number = Number(field.value);
   const most = field.max === '' ? Number.MAX_SAFE_INTEGER : Number(field.max);
-  if (field.value === '' || !Number.isInteger(number) || number < Number(field.min) || number > most) {
+  const isWhole = field.value !== '' && Number.isInteger(number);
+  if (!isWhole || number < Number(field.min) || number > most) {
     throw new Error(`${what} is a whole number from ${field.min} to ${most}`);
   }
   return number;

@@ -1,12 +1,12 @@
 // Sliders: a comment `/*@ name least greatest step */` before a number of the script.
 
 const NUMBER = '-?\\d+(?:\\.\\d{1,6})?';
-const COMMENT = new RegExp(
-  `/\\*@\\s+([A-Za-z_]\\w*)\\s+(${NUMBER})\\s+(${NUMBER})\\s+(${NUMBER})\\s*\\*/\\s*(${NUMBER})`, 'g');
+const COMMENT = new RegExp(`/\\*@\\s+([A-Za-z_]\\w*)\\s+(${NUMBER})\\s+(${NUMBER})\\s+(${NUMBER})`
+  + `\\s*\\*/\\s*(${NUMBER})`, 'g');
 
 const decimals = spelled => (spelled.split('.')[1] ?? '').length;
 
-/** A slider of its comment and number, in whole counts of its last decimal; null where it is none. */
+/** A slider of its comment and number, in whole counts of its last decimal, or null. */
 function made(found) {
   const [all, name, least, greatest, step, value] = found, isFixed = value.includes('.');
   const places = Math.max(isFixed ? 1 : 0, ...[least, greatest, step].map(decimals));
@@ -49,8 +49,8 @@ export class Panel {
 
   /** Shows these sliders; rows stay where they are the same, so that a hand can go on. */
   show(found) {
-    const key = JSON.stringify(
-      found.map(({ name, least, greatest, step, places }) => [name, least, greatest, step, places]));
+    const key = JSON.stringify(found.map(({ name, least, greatest, step, places }) =>
+      [name, least, greatest, step, places]));
     this.found = found;
     if (key !== this.key) this.make(found);
     this.key = key;

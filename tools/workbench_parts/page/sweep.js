@@ -53,7 +53,9 @@ export class Sweep {
   /** What the fields ask for: a script a value, and the seeds. */
   asked() {
     const slider = sliders(this.model.text)[$('swept').value], all = values(slider);
-    if (all.length > MOST_VALUES) throw new Error(`${slider.name} has more than ${MOST_VALUES} values`);
+    if (all.length > MOST_VALUES) {
+      throw new Error(`${slider.name} has more than ${MOST_VALUES} values`);
+    }
     const first = numberIn('seed', 'seed'), count = numberIn('seeds', 'seeds');
     this.labels = all.map(value => `${slider.name} ${spelled(slider, value)}`);
     return {
@@ -80,7 +82,8 @@ export class Sweep {
       for await (const line of lines(answer)) this.take(JSON.parse(line), count);
       this.say(this.summary(count));
     } catch (error) {
-      this.say(error.name === 'AbortError' ? `Stopped after ${this.runs.length} runs.` : error.message);
+      const isStopped = error.name === 'AbortError';
+      this.say(isStopped ? `Stopped after ${this.runs.length} runs.` : error.message);
     }
     this.begin(null);
   }
@@ -158,7 +161,7 @@ export class Sweep {
   /** The legend: what each line is, and where it ends. */
   names(all) {
     return all.map(({ label, colour, points }) => {
-      const row = document.createElement('tr'), name = element('td'), mark = element('span', '', 'swatch');
+      const row = element('tr'), name = element('td'), mark = element('span', '', 'swatch');
       mark.style.background = colour;
       name.append(mark, label);
       row.append(name, element('td', `${brief(points[points.length - 1][1])} at tick `
