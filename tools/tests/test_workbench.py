@@ -93,9 +93,8 @@ class Page:
     def write(self, script):
         """Writes a script, and waits until it is checked."""
         self.do(f"""const area = document.querySelector('textarea');
-            document.getElementById('fault').textContent = '';
             area.value = {json.dumps(script)}; area.dispatchEvent(new Event('input'));""")
-        self.until("document.getElementById('fault').textContent !== ''")
+        self.until("document.getElementById('fault').textContent !== 'Checking.'")
 
     def script(self):
         return self.value("document.querySelector('textarea').value")

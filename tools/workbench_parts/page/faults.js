@@ -28,6 +28,12 @@ export function told({ message, line, column, advice: { kind, what, slips } }) {
   return made;
 }
 
+/** Shows that the script is not checked yet. */
+export function showWaiting() {
+  $('fault').className = '';
+  $('fault').replaceChildren(element('span', 'Checking.', 'hint'));
+}
+
 /** Shows what `check` answered, or that the script is accepted. */
 export function showFault(failure) {
   $('fault').className = failure ? 'is-bad' : '';

@@ -4,7 +4,7 @@ import { World } from './agents.js';
 import { ask, stay } from './ask.js';
 import { Grammar } from './colours.js';
 import { Editor } from './editor.js';
-import { showFault } from './faults.js';
+import { showFault, showWaiting } from './faults.js';
 import { $, keep } from './hands.js';
 import { Runs } from './runs.js';
 import { Panel, sliders, spelled } from './sliders.js';
@@ -82,6 +82,9 @@ function changed() {
   panel.show(sliders(editor.text));
   world.showFields();
   sweep.show();
+  // What is said of an older text comes too late.
+  model.checks++;
+  showWaiting();
   clearTimeout(timer);
   timer = setTimeout(check, QUIET);
 }
