@@ -227,7 +227,7 @@ def check_end(checks, program):
             with served.asking("here"), served.asking("run", **SLOW) as (answer, _):
                 answer.read(10)
                 [child] = served.children()
-            time.sleep(5)
+            time.sleep(8)
             checks.same("it stays while a page is open", served.job.poll(), None)
         checks.same("it ends with its last page", served.job.wait(browsers.PATIENCE), 0)
         checks.same("its process is gone", os.path.exists(f"/proc/{child}"), False)

@@ -364,7 +364,7 @@ def check_many(checks, page):
 def check_ends(checks, page):
     """The server stays while its page is loaded anew, and ends when it is closed."""
     page.load()
-    time.sleep(5)
+    time.sleep(8)
     checks.same("it stays", page.served.job.poll(), None)
     page.browser.visit("about:blank")
     checks.same("it ends", page.served.job.wait(browsers.PATIENCE), 0)

@@ -110,7 +110,7 @@ def start_run(handler, bench, body):
     if asked["cuts"] and asked["cuts"][0] * asked["cuts"][1] > 64:
         raise Refused(400, "cuts: make more than 64 parts")
     folder, words = bench.prepared(asked)
-    name, run = bench.begin(asked["script"])
+    name, run = bench.begin()
 
     def act(job):
         run.job = job

@@ -5,6 +5,7 @@ import secrets
 import shutil
 import tempfile
 import threading
+import time
 
 import cudrenal
 from workbench_parts import models
@@ -19,14 +20,14 @@ MOST_TEXT = 1 << 26
 # So many ticks an epoch: rows come as epochs end, and no row is changed by it.
 EPOCH = 4
 # So many seconds a check may take, and so long the server waits for a page that is loaded anew.
-PATIENCE, GRACE = 60, 3
+PATIENCE, GRACE = 60, 5
 
 
 class Run:
     """A run that is at work or has ended: its job, and what is said of its end."""
 
-    def __init__(self, script):
-        self.script, self.job, self.ending = script, None, None
+    def __init__(self):
+        self.job = self.ending = None
         self.ended = threading.Event()
 
 
@@ -40,7 +41,7 @@ class Bench:
         self.folder = tempfile.mkdtemp(prefix="workbench-")
         self.lock, self.slots = threading.Lock(), threading.BoundedSemaphore(MOST_JOBS)
         self.jobs, self.runs, self.open_pages, self.is_over = set(), {}, 0, False
-        self.when_over = lambda: None
+        self.last_asked, self.when_over = 0.0, lambda: None
 
     # ---- Pages. ----
 
@@ -52,16 +53,25 @@ class Bench:
         """After the last page the server ends, but waits for one that is being loaded anew."""
         with self.lock:
             self.open_pages -= 1
-            is_last = self.open_pages == 0
-        if is_last:
-            timer = threading.Timer(GRACE, self.end_if_alone)
-            timer.daemon = True
-            timer.start()
+        self.end_later(GRACE)
+
+    def asked(self):
+        """Notes that a page asks for something, which may not have said yet that it is open."""
+        with self.lock:
+            self.last_asked = time.monotonic()
+
+    def end_later(self, seconds):
+        timer = threading.Timer(seconds, self.end_if_alone)
+        timer.daemon = True
+        timer.start()
 
     def end_if_alone(self):
+        """Ends the server where no page is open, and none has asked for anything lately."""
         with self.lock:
-            is_alone = self.open_pages == 0
-        if is_alone:
+            is_alone, left = self.open_pages == 0, self.last_asked + GRACE - time.monotonic()
+        if is_alone and left > 0:
+            self.end_later(left)
+        elif is_alone:
             self.when_over()
 
     def close(self):
@@ -170,9 +180,9 @@ class Bench:
             return []
         return ["--cuts", "cuts.plan"]
 
-    def begin(self, script):
+    def begin(self):
         """A new run under a name of its own; runs that have ended long ago are forgotten."""
-        name, run = secrets.token_hex(8), Run(script)
+        name, run = secrets.token_hex(8), Run()
         with self.lock:
             self.runs[name] = run
             for old in list(self.runs)[:-MOST_JOBS]:

@@ -87,7 +87,9 @@ class Handler(http.server.BaseHTTPRequestHandler):
     def guarded(self, answer):
         self.is_streaming = False
         try:
-            answer(self.guard())
+            name = self.guard()
+            self.server.bench.asked()
+            answer(name)
         except Refused as refused:
             # What was not read of the request must not be taken for the next one.
             self.close_connection = True
