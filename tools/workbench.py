@@ -11,6 +11,7 @@ import os
 import signal
 import subprocess
 import sys
+import threading
 
 import cudrenal
 from workbench_parts.bench import Bench
@@ -31,6 +32,11 @@ def open_browser(address):
     except ImportError:
         return False
     return can_show() and webbrowser.open(address)
+
+
+def show(address):
+    if not open_browser(address):
+        print("Open that address in a browser on this machine.", flush=True)
 
 
 def is_ready(program):
@@ -68,8 +74,9 @@ def main():
     try:
         with Server(bench, asked.port) as server:
             print(f"The workbench is at {server.address}", flush=True)
-            if not asked.no_browser and not open_browser(server.address):
-                print("Open that address in a browser on this machine.", flush=True)
+            if not asked.no_browser:
+                # Some browsers come back only when they are closed.
+                threading.Thread(target=show, args=(server.opening,), daemon=True).start()
             server.serve_forever()
     except KeyboardInterrupt:
         pass

@@ -242,6 +242,24 @@ def check_end(checks, program):
     checks.same("its folder is gone", folders() - before, set())
 
 
+def check_opening(checks, program, folder, env):
+    """The browser's words, which others may see, have a key that leads to the page once."""
+    browser, words = os.path.join(folder, "browser"), os.path.join(folder, "words")
+    with open(browser, "w", encoding="utf-8") as file:
+        file.write(f'#!/bin/sh\necho "$1" > {words}\n')
+    os.chmod(browser, 0o700)
+    with Served(program, env={**env, "DISPLAY": ":9", "BROWSER": f"{browser} %s"}) as served:
+        checks.same("the browser is started", is_soon(lambda: os.path.exists(words)
+                                                      and read(words).endswith("\n")), True)
+        opening = read(words).strip()
+        path = opening.replace(f"http://127.0.0.1:{served.port}", "")
+        checks.same("without the key", served.key in opening, False)
+        checks.same("for an act", served.raw("POST", path, b"{}")[0], 403)
+        checks.same("the first time", (served.raw("GET", path)[0], served.last.get("Location")),
+                    (303, served.address))
+        checks.same("the second time", served.raw("GET", path)[0], 403)
+
+
 def check_start(checks, program, folder):
     """It tells its address where no browser can be opened, and says why it does not start."""
     env = {name: value for name, value in os.environ.items() if "DISPLAY" not in name}
@@ -252,6 +270,7 @@ def check_start(checks, program, folder):
         file.write("raise ImportError\n")
     with Served(program, env={**env, "DISPLAY": ":9", "PYTHONPATH": folder}) as served:
         checks.same("without the browser module", served.job.stdout.readline(), hint)
+    check_opening(checks, program, folder, env)
     for words, said in ((["none"], "workbench.py: none: no folder\n"),
                         (["--program", "/bin/false"], "workbench.py: /bin/false does not run; "
                          "README.md, 'Where it runs', says why\n")):

@@ -3,6 +3,7 @@ import hashlib
 import os
 import re
 import shlex
+import shutil
 
 from workbench_parts.refused import NAME, Refused
 
@@ -33,6 +34,20 @@ def decoded(content, path):
         return content.decode("utf-8-sig")
     except UnicodeDecodeError:
         raise Refused(400, f"{os.path.basename(path)} is not in UTF-8") from None
+
+
+def write(path, content):
+    """Writes a file in one step; one that was there keeps its permissions."""
+    draft = f"{path}.{os.getpid()}.part"
+    try:
+        with open(draft, "xb") as file:
+            file.write(content)
+        if os.path.exists(path):
+            shutil.copymode(path, draft)
+        os.replace(draft, path)
+    finally:
+        if os.path.exists(draft):
+            os.remove(draft)
 
 
 class Models:
@@ -121,11 +136,8 @@ class Models:
                 raise Refused(409, f"{name} was changed by another program, or is there already")
         elif was is not None:
             raise Refused(409, f"{name} is gone")
-        draft = f"{path}.{os.getpid()}.part"
         try:
-            with open(draft, "xb") as file:
-                file.write(content)
-            os.replace(draft, path)
+            write(path, content)
         except OSError as error:
             raise Refused(403, f"{name}: {error.strerror}") from None
         return {"was": digest(content), "scriptPath": path}

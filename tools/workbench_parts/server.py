@@ -9,6 +9,7 @@ import http.server
 import json
 import os
 import re
+import secrets
 import select
 import socket
 import sys
@@ -57,7 +58,19 @@ class Server(http.server.ThreadingHTTPServer):
         self.host = f"127.0.0.1:{self.server_address[1]}"
         self.origin = f"http://{self.host}"
         self.address = f"{self.origin}/{bench.key}/"
+        # The words of a process can be read by others: the browser is started with a key that
+        # leads to the page once.
+        self.once = secrets.token_urlsafe(24)
+        self.opening = f"{self.origin}/{self.once}/"
         bench.when_over = self.shutdown
+
+    def takes(self, key):
+        """Whether this is the key that is good for once; then it is so no more."""
+        with self.bench.lock:
+            is_it = hmac.compare_digest(key.encode(), self.once.encode())
+            if is_it:
+                self.once = secrets.token_urlsafe(24)
+        return is_it
 
     def handle_error(self, request, client_address):
         """A page that went away within an answer is no error; all else is shown."""
@@ -97,7 +110,7 @@ class Handler(http.server.BaseHTTPRequestHandler):
                 self.tell({"error": str(refused)}, refused.status)
 
     def guard(self):
-        """The name that is asked for, of a request that may ask."""
+        """The name that is asked for, of a request that may ask; None of the browser's first."""
         origin = self.headers.get_all("Origin", [])
         if self.headers.get_all("Host") != [self.server.host]:
             raise Refused(403, "another Host")
@@ -106,9 +119,11 @@ class Handler(http.server.BaseHTTPRequestHandler):
         if self.headers.get("Sec-Fetch-Site", "none") not in ("same-origin", "none"):
             raise Refused(403, "another site")
         key, slash, name = self.path[1:].partition("/")
-        if not slash or not hmac.compare_digest(key.encode(), self.server.bench.key.encode()):
-            raise Refused(403, "another key")
-        return name
+        if slash and hmac.compare_digest(key.encode(), self.server.bench.key.encode()):
+            return name
+        if slash and not name and self.command == "GET" and self.server.takes(key):
+            return None
+        raise Refused(403, "another key")
 
     def body(self):
         """The object of JSON that the request brings."""
@@ -163,6 +178,9 @@ class Handler(http.server.BaseHTTPRequestHandler):
             return False
 
     def give(self, name):
+        if name is None:
+            self.head(303, "text/plain", Location=self.server.address, **{"Content-Length": "0"})
+            return
         if name not in self.server.pieces:
             raise Refused(404, "there is no such piece")
         path, kind, policy = self.server.pieces[name]
