@@ -52,8 +52,9 @@ class Page:
         self.load()
 
     def load(self):
+        self.value("window.isOld = true")
         self.browser.visit(self.served.address)
-        browsers.wait(lambda: self.value("document.body.dataset.ready") == "yes")
+        self.until("!window.isOld && document.body?.dataset.ready === 'yes'")
         # Dialogs answer at once, and what is copied or kept is looked at here.
         self.do("""window.asked = []; window.copied = ''; window.kept = [];
             window.confirm = what => (asked.push(what), true);

@@ -51,6 +51,7 @@ export class Runs {
         ...asked, name: this.model.name, script: this.model.text, agents: this.world.text,
       });
       this.run = answer.headers.get('Run');
+      $('stop').disabled = false;
       await this.take(answer);
       this.end(await ask('end', { run: this.run }));
     } catch (error) {
@@ -65,7 +66,6 @@ export class Runs {
     $('stats').textContent = '';
     $('bar').value = 0;
     $('barText').textContent = '';
-    $('stop').disabled = false;
     $('run').disabled = true;
     this.viewer().begin(this.model.name, this.model.text);
   }
