@@ -16,7 +16,7 @@ from served import SLOW, TOP, WALK, WORKBENCH, Served, folders, prepared, read
 
 sys.path.insert(0, os.path.join(TOP, "tools"))
 import cudrenal  # noqa: E402 (beside this folder)
-from workbench_parts import agents, means, trouble  # noqa: E402
+from workbench_parts import agents, bench, means, trouble  # noqa: E402
 
 # ---- What is refused. ----
 
@@ -227,7 +227,7 @@ def check_end(checks, program):
             with served.asking("here"), served.asking("run", **SLOW) as (answer, _):
                 answer.read(10)
                 [child] = served.children()
-            time.sleep(8)
+            time.sleep(bench.GRACE + 2)
             checks.same("it stays while a page is open", served.job.poll(), None)
         checks.same("it ends with its last page", served.job.wait(browsers.PATIENCE), 0)
         checks.same("its process is gone", os.path.exists(f"/proc/{child}"), False)

@@ -25,7 +25,7 @@ from served import TOP, WALK, Checks, Served, prepared, read
 
 sys.path.insert(0, os.path.join(TOP, "tools"))
 import cudrenal  # noqa: E402 (beside this folder)
-from workbench_parts import trouble  # noqa: E402
+from workbench_parts import bench, trouble  # noqa: E402
 
 WIDTH, HEIGHT = 1280, 800
 
@@ -365,7 +365,7 @@ def check_many(checks, page):
 def check_ends(checks, page):
     """The server stays while its page is loaded anew, and ends when it is closed."""
     page.load()
-    time.sleep(8)
+    time.sleep(bench.GRACE + 2)
     checks.same("it stays", page.served.job.poll(), None)
     page.browser.visit("about:blank")
     checks.same("it ends", page.served.job.wait(browsers.PATIENCE), 0)

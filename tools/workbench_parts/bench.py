@@ -20,7 +20,7 @@ MOST_TEXT = 1 << 26
 # So many ticks an epoch: rows come as epochs end, and no row is changed by it.
 EPOCH = 4
 # So many seconds a check may take, and so long the server waits for a page that is loaded anew.
-PATIENCE, GRACE = 60, 5
+PATIENCE, GRACE = 60, 10
 
 
 class Run:
