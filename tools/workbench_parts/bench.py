@@ -176,7 +176,7 @@ class Bench:
             cudrenal.write_cuts(os.path.join(folder, "cuts.plan"),
                                 os.path.join(folder, "agents.csv"), *asked["cuts"],
                                 script=os.path.join(folder, asked["name"]))
-        except (ValueError, ArithmeticError):
+        except (ValueError, LookupError, ArithmeticError):
             return []
         return ["--cuts", "cuts.plan"]
 

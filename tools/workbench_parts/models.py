@@ -65,7 +65,7 @@ class Models:
 
     @staticmethod
     def title(name):
-        """The heading of an example's page, in small letters as README has it."""
+        """The heading of an example's page."""
         page = decoded(read(os.path.join(EXAMPLES, name, "README.md"), MOST_SCRIPT), name)
         return page.split("\n", 1)[0].lstrip("# ")
 
