@@ -385,7 +385,8 @@ def take_picture(page, path):
         set('colour', 'ill', 'change');
         set('charted', '0 3', 'change');
         set('size', 4, 'input');
-        page.getElementById('play').click();
+        const play = page.getElementById('play');
+        if (play.textContent === 'Pause') play.click();
         set('slider', 20, 'input');
     })()""")
     time.sleep(1)
