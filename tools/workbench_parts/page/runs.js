@@ -73,10 +73,13 @@ export class Runs {
   /** Hands the rows over to the viewer, and moves the bar. */
   async take(answer) {
     for await (const piece of pieces(answer)) {
-      const tick = this.viewer().push(piece);
-      $('bar').value = this.ticks > 0 ? tick / this.ticks : 1;
-      $('barText').textContent = `tick ${tick} of ${this.ticks}`;
+      this.reach(this.viewer().push(piece));
     }
+  }
+
+  reach(tick) {
+    $('bar').value = this.ticks > 0 ? tick / this.ticks : 1;
+    $('barText').textContent = `tick ${tick} of ${this.ticks}`;
   }
 
   end(ending) {
@@ -94,6 +97,8 @@ export class Runs {
 
   wrote(message) {
     const [, ...counts] = message.split(' ');
+    // The last ticks have no rows where nobody is left.
+    this.reach(this.ticks);
     this.say('Status 0: all was written.');
     $('stats').textContent = counts.length > 0 ? `stats: ${counts.join(' ')}` : '';
   }
