@@ -87,9 +87,10 @@ class Page:
         browsers.wait(lambda: self.value(source))
 
     def open(self, kind, name):
+        self.do("document.getElementById('modelState').textContent = ''")
         self.set("models", f"{kind} {name}")
-        self.until(f"document.getElementById('modelState').textContent.startsWith("
-                   f"{json.dumps(name.replace('.brasil', '') + '.brasil')})")
+        self.until("document.getElementById('modelState').textContent === "
+                   f"{json.dumps(name.replace('.brasil', '') + '.brasil')}")
 
     def write(self, script):
         """Writes a script, and waits until it is checked."""
@@ -218,7 +219,7 @@ def check_colours(checks, page):
     checks.same("the text in colours", page.value(
         "document.querySelector('#editor pre').textContent"), page.script())
     found = page.value("""Object.fromEntries([...document.querySelectorAll('#editor pre span')]
-        .map(span => [span.textContent, span.dataset.scope]))""")
+        .reverse().map(span => [span.textContent, span.dataset.scope]))""")
     for token, scope in (("#visible", "keyword.other.range"), ("foreach", "keyword.control"),
                          ("Person", "entity.name.type"), ("0.333333", "constant.numeric.fixed"),
                          ("rand", "support.function"), ("// Days of illness that are left.",
