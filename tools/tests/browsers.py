@@ -72,10 +72,13 @@ class Chromium:
         return text
 
     def open(self, path):
+        self.visit("file://" + os.path.abspath(path))
+
+    def visit(self, address):
         self.call("Page.enable")
-        self.call("Page.navigate", url="file://" + os.path.abspath(path))
+        self.call("Page.navigate", url=address)
         wait(lambda: self.value("document.readyState") == "complete"
-             and self.value("location.protocol") == "file:")
+             and self.value("location.href").startswith(address))
 
     def value(self, source):
         """What an expression of JavaScript comes to in the page."""

@@ -1,0 +1,1 @@
+"""The parts of tools/workbench.py; docs/WORKBENCH.md is its page."""
