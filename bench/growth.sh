@@ -20,7 +20,7 @@ import time
 from measure import written
 
 program, script = sys.argv[1:]
-ROUNDS, TICKS = 3, 5
+ROUNDS, TICKS = 9, 5
 draw = random.Random(7).random
 
 
