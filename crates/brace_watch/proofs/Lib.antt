@@ -1,0 +1,5 @@
+pub mod FirstFault
+pub mod Asked
+pub mod Counting
+pub mod Boxes
+pub mod Lines

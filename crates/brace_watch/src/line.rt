@@ -52,7 +52,7 @@ fn line_in<'a>(parts: &[&'a [u8]]) -> Option<Line<'a>>
 }
 
 fn has_empty(parts: &[&[u8]]) -> bool
-    ensures { result ≡ list_any (λ part. length part == 0) (map (λ p. p.now) parts.now) }
+    ensures { result ≡ list_any (λ part. length part.now == 0) parts.now }
 {
     parts.iter().any(|part| part.is_empty())
 }

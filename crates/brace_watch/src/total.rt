@@ -1,6 +1,7 @@
 //! Totals that grow value by value.
-ghost use Rattle.std.specs.Prelude.{◌≡◌, ◌<◌, [], ◌∷◌, ◌++◌, List, length, map, replicate, slice_get, slice_set, IfOk, IfSome, OnOk, Some};
+ghost use Rattle.std.specs.Prelude.{◌≡◌, ◌<◌, [], ◌∷◌, ◌++◌, List, length, map, replicate, slice_index_or, slice_set, IfOk, IfSome, OnOk};
 ghost use Rattle.brace_model.specs.declared.program.Value.{Value};
+ghost use Rattle.brace_comb.specs.declared.total.Total.{Total};
 ghost use Rattle.brace_comb.specs.Totals.{tally, tally_of};
 
 use crate::Figures;
@@ -51,8 +52,8 @@ impl Figures {
         ensures whole { OnOk result ((values : List Value)
             → tally self.old.whole ≡ tally_of kind values
             → tally self.new.whole ≡ tally_of kind (values ++ v ∷ [])) }
-        ensures boxes { OnOk result ((values : List Value)
-            → slice_get (map tally self.old.boxes.items) place ≡ Some (tally_of kind values)
+        ensures boxes { OnOk result ((values : List Value) (d : Total)
+            → tally (slice_index_or self.old.boxes.items place d) ≡ tally_of kind values
             → map tally self.new.boxes.items ≡ slice_set (map tally self.old.boxes.items) place
             (tally_of kind (values ++ v ∷ []))) }
     {
