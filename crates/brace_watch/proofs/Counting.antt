@@ -1,8 +1,8 @@
 -- Figures, agent by agent: what one more agent adds to the figure of all and to those of boxes.
-use Rattle.std.proofs.Common.{◌≡◌, ◌≢◌, ◌∙◌, refl, sym, ap, ap₂, subst, ℕ, ◌+◌, ◌<◌, List, [], ◌∷◌, ◌++◌, length, map, filter, fold, get_or, set, take, replicate, Bool, true, false, cond, Option, Some, None, ⊎_elim, arith, append-nil, length-append}
+use Rattle.std.proofs.Common.{◌≡◌, ◌≢◌, ◌∙◌, refl, sym, ap, ap₂, ℕ, zero, suc, ◌+◌, ◌<◌, List, [], ◌∷◌, ◌++◌, length, map, filter, fold, get_or, set, take, replicate, Bool, true, false, cond, Option, Some, None, ⊎_elim, arith, append-nil, length-append}
 use Rattle.std.specs.Prelude.{◌==◌, ◌&&◌, slice_get}
 use Rattle.std.specs.List.{range_with_len}
-use Rattle.std.proofs.lemmas.Bool.{cases_eq, ne_eqb, eq-eqb}
+use Rattle.std.proofs.lemmas.Bool.{cases_eq, eqb-true, ne_eqb, eq-eqb, and_parts}
 use Rattle.std.proofs.lemmas.List.{map-append, get_or-map, map-set, length-set, get_or-set_same, get_or-set_other, length-map, length-replicate, get_or-replicate, get_or_read}
 use Rattle.std.proofs.lemmas.List.Elements.{filter-append}
 use Rattle.std.proofs.lemmas.List.FromFn.{fill_by_all, length-map-range_with_len, get_or-map-range_with_len}
@@ -21,15 +21,20 @@ use Rattle.brace_comb.specs.declared.total.Total.{Total}
 use Rattle.brace_comb.specs.Totals.{Tally, tally, tally_of}
 use Rattle.brace_pieces.specs.Owned.{owns_at, owns, owned}
 use Rattle.brace_watch.specs.declared.kinds.Watch.{Watch}
-use Rattle.brace_watch.specs.Figures.{is_watched, value_for, values_of, figure, box_figures}
+use Rattle.brace_watch.specs.Figures.{meets, is_watched, value_for, values_of, figure, box_figures}
 
--- the total of values and one more
-pub tally_more : (kind : Comb) (values : List Value) (v : Value)
-    → tally_of kind (values ++ v ∷ []) ≡ record { comb = kind; number = joined kind (total_of kind values) v; count = length values + 1 }
-tally_more kind values v =
-    let number = fold-append (joined kind) (identity kind) values (v ∷ []) in
-    let count = length-append values (v ∷ []) in
-    cc
+-- the element at a place that is read
+get_or_there : {X : Type 0} (xs : List X) (i : ℕ) (x : X) → i < length xs → x ≡ get_or xs i x → slice_get xs i ≡ Some x
+get_or_there [] i x low is = absurd (omega (arith, low))
+get_or_there (y ∷ ys) zero x low is = ap Some (sym is)
+get_or_there (y ∷ ys) (suc i) x low is = get_or_there ys i x (omega (arith, low)) is
+
+-- the class of an agent that is watched
+pub class_read : (program : Program) (watch : Watch) (a : Agent) (class : Class) → is_watched watch a ≡ true → watch.class < length program.classes
+    → class ≡ get_or program.classes watch.class class → class_of program a ≡ Some class
+class_read program watch a class in_it low is =
+    ap (slice_get program.classes) (eqb-true a.class watch.class (and_parts (a.class == watch.class) (meets watch.test a) in_it).0)
+    ∙ get_or_there program.classes watch.class class low is
 
 module _ (watch : Watch) where
   values_of-append : (xs ys : List Agent) → values_of watch (xs ++ ys) ≡ values_of watch xs ++ values_of watch ys
@@ -87,6 +92,18 @@ module _ (watch : Watch) where
           (λ k low. get_or-replicate (parts_of cuts) k (tally_of watch.kind []) (tally_of watch.kind []) low);
     }
 
+    -- so many figures are there as boxes
+    pub boxes_counted : (xs : List Agent) (whole : Tally) (totals : List Total) → Counted xs whole (map tally totals) → length totals ≡ parts_of cuts
+    boxes_counted xs whole totals so_far = sym (length-map totals tally) ∙ ap length so_far.each ∙ length-map-range_with_len (λ p. figure watch (own p xs)) 0 (parts_of cuts)
+
+    -- the figure of a box
+    pub box_counted : (xs : List Agent) (whole : Tally) (totals : List Total) (p : ℕ) (d : Total) → Counted xs whole (map tally totals) → p < parts_of cuts
+        → tally (get_or totals p d) ≡ figure watch (own p xs)
+    box_counted xs whole totals p d so_far part =
+        let low : p < length totals = omega (arith, part, boxes_counted xs whole totals so_far) in
+        sym (get_or-map tally totals p d (tally d) low) ∙ ap (λ l. get_or l p (tally d)) so_far.each
+        ∙ get_or-map-range_with_len (λ q. figure watch (own q xs)) 0 (parts_of cuts) p p (tally d) part (omega arith)
+
     -- one more agent that is not watched
     pub none_more : (xs : List Agent) (a : Agent) (whole : Tally) (boxes : List Tally) → is_watched watch a ≡ false → Counted xs whole boxes → Counted (xs ++ a ∷ []) whole boxes
     none_more xs a whole boxes out so_far = record {
@@ -109,13 +126,13 @@ module _ (watch : Watch) where
       each = fill_by_all now boxes' parts after long there;
     }
       where
-        abbrev parts : ℕ
+        parts : ℕ
         parts = parts_of cuts
 
-        abbrev before : ℕ → Tally
+        before : ℕ → Tally
         before q = figure watch (own q xs)
 
-        abbrev now : ℕ → Tally
+        now : ℕ → Tally
         now q = figure watch (own q (xs ++ a ∷ []))
 
         mine : owns program cuts p a ≡ true

@@ -3,3 +3,4 @@ pub mod Asked
 pub mod Counting
 pub mod Boxes
 pub mod Lines
+pub mod Printed

@@ -1,6 +1,6 @@
 -- What a watch file asks for in the runs of a program: its watches, or its first faulty line with
 -- that line's first fault. Lines are counted from 1.
-use Rattle.std.specs.Prelude.{◌≡◌, ℕ, ◌-◌, ◌≤◌, nat_lt, Bool, true, not, ◌||◌, if◌then◌else◌, List, [], length, filter_map, slice_get, slice_index_or, position, Option, Some, None, is_some, is_none, option_map, unwrap_or, Result, Ok, Err}
+use Rattle.std.specs.Prelude.{◌≡◌, ℕ, ◌-◌, ◌≤◌, nat_lt, Bool, true, false, not, ◌&&◌, ◌||◌, if◌then◌else◌, List, [], length, filter_map, slice_get, slice_index_or, position, Option, Some, None, is_some, is_none, option_map, unwrap_or, Result, Ok, Err}
 use Rattle.std.specs.List.{range_with_len}
 use Rattle.std.specs.Option.{option_and_then}
 use Rattle.std.specs.Result.{result_ok}

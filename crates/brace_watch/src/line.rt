@@ -88,7 +88,7 @@ fn line_with<'a>(
     rest: &[&'a [u8]],
 ) -> Option<Line<'a>>
     ensures { option_map seen result ≡ line_with kind class.now
-        (option_map (λ name. name.now) field) (map (λ p. p.now) rest.now) }
+        (option_map (λ name. name.now) field.entry) (map (λ p. p.now) rest.now) }
 {
     let test = match rest {
         [] => None,
