@@ -1,5 +1,5 @@
 -- What is known of a watch that a line asks for.
-use Rattle.std.proofs.Common.{◌≡◌, ◌∙◌, refl, sym, ap, ℕ, ◌<◌, List, [], ◌∷◌, length, Bool, true, false, Option, Some, None, Result, Ok, Err, All}
+use Rattle.std.proofs.Common.{◌≡◌, refl, ap, ℕ, ◌<◌, List, [], ◌∷◌, length, Bool, true, false, Option, Some, None, Result, Ok, Err, All}
 use Rattle.std.specs.Prelude.{if◌then◌else◌, position}
 use Rattle.std.specs.List.{AllByRecursion, cons_option}
 use Rattle.std.specs.Result.{result_ok}
@@ -8,13 +8,12 @@ use Rattle.std.proofs.lemmas.List.Elements.{All-from_recursion}
 use Rattle.std.proofs.lemmas.List.Quantifiers.{position-Some}
 use Rattle.brace_model.specs.declared.program.Class.{Class}
 use Rattle.brace_model.specs.declared.program.Program.{Program}
-use Rattle.brace_model.specs.declared.program.State.{State}
-use Rattle.brace_rows.specs.AgentFile.{class_named, states_in}
+use Rattle.brace_rows.specs.AgentFile.{class_named}
 use Rattle.brace_watch.specs.declared.kinds.Watch.{Watch}
 use Rattle.brace_watch.specs.declared.kinds.WatchKind.{WatchKind}
 use Rattle.brace_watch.specs.declared.kinds.WatchKind.TheVariants.{UnknownField, WrongType}
 use Rattle.brace_watch.specs.Lines as lines
-use Rattle.brace_watch.specs.Watches.{watch_of_class, watch_in, watch_with, watch_of, watches_in, IsWatch}
+use Rattle.brace_watch.specs.Watches.{watch_in, watch_with, watch_of, watches_in, IsWatch}
 
 -- the place of an element is in its list
 position-within : {X : Type 0} (p : X → Bool) (xs : List X) (i : ℕ) → position p xs ≡ Some i → i < length xs

@@ -1,10 +1,8 @@
 -- The figures of all boxes, joined, are the figure of all agents.
-use Rattle.std.proofs.Common.{◌≡◌, ◌∙◌, ◌⊎◌, inl, inr, refl, sym, ap, ap₂, subst, ℕ, zero, suc, ◌+◌, ◌<◌, List, [], ◌∷◌, ◌++◌, length, map, flat_map, filter, fold, Bool, true, false, cond, Option, Some, None, arith, append-nil, append_assoc}
-use Rattle.std.specs.Prelude.{◌==◌, ◌&&◌, slice_get}
+use Rattle.std.proofs.Common.{◌≡◌, ◌∙◌, ◌⊎◌, inl, inr, refl, sym, ap, ap₂, subst, ℕ, zero, suc, ◌<◌, List, [], ◌∷◌, ◌++◌, length, map, flat_map, filter, fold, Bool, true, false, cond, Option, Some, arith, append-nil, append_assoc}
+use Rattle.std.specs.Prelude.{◌==◌, slice_get}
 use Rattle.std.specs.List.{list_any, range_with_len}
-use Rattle.std.specs.List.Sorted.{IsPermutation}
 use Rattle.std.proofs.lemmas.Bool.{eqb-true, eq-eqb, and_parts}
-use Rattle.std.proofs.lemmas.List.Sorted.{IsPermutation-sym}
 use Rattle.brace_num.proofs.Lists.{filter_all}
 use Rattle.brace_model.specs.declared.program.Class.{Class}
 use Rattle.brace_model.specs.declared.program.Comb.{Comb}
@@ -14,7 +12,7 @@ use Rattle.brace_model.specs.declared.world.Agent.{Agent}
 use Rattle.brace_model.specs.World.{class_of, x_of, y_of}
 use Rattle.brace_cuts.specs.declared.space.Cuts.{Cuts}
 use Rattle.brace_cuts.specs.Space.{owner_of, parts_of}
-use Rattle.brace_comb.specs.Totals.{Tally, tally_of, join}
+use Rattle.brace_comb.specs.Totals.{tally_of, join}
 use Rattle.brace_comb.proofs.Joins.{join-append, tally_of-IsPermutation}
 use Rattle.brace_pieces.specs.Owned.{owns_at, owns, owned}
 use Rattle.brace_pieces.proofs.Merges.{Apart, apart_in_row, any_in_row}

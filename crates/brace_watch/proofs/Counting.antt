@@ -1,20 +1,16 @@
 -- Figures, agent by agent: what one more agent adds to the figure of all and to those of boxes.
-use Rattle.std.proofs.Common.{◌≡◌, ◌≢◌, ◌∙◌, refl, sym, ap, ap₂, ℕ, zero, suc, ◌+◌, ◌<◌, List, [], ◌∷◌, ◌++◌, length, map, filter, fold, get_or, set, take, replicate, Bool, true, false, cond, Option, Some, None, ⊎_elim, arith, append-nil, length-append}
-use Rattle.std.specs.Prelude.{◌==◌, ◌&&◌, slice_get}
+use Rattle.std.proofs.Common.{◌≡◌, ◌≢◌, ◌∙◌, refl, sym, ap, ap₂, ℕ, zero, suc, ◌<◌, List, [], ◌∷◌, ◌++◌, length, map, filter, get_or, set, replicate, Bool, true, false, cond, Some, ⊎_elim, arith, append-nil}
+use Rattle.std.specs.Prelude.{◌==◌, slice_get}
 use Rattle.std.specs.List.{range_with_len}
 use Rattle.std.proofs.lemmas.Bool.{cases_eq, eqb-true, ne_eqb, eq-eqb, and_parts}
-use Rattle.std.proofs.lemmas.List.{map-append, get_or-map, map-set, length-set, get_or-set_same, get_or-set_other, length-map, length-replicate, get_or-replicate, get_or_read}
+use Rattle.std.proofs.lemmas.List.{map-append, get_or-map, length-set, get_or-set_same, get_or-set_other, length-map, length-replicate, get_or-replicate}
 use Rattle.std.proofs.lemmas.List.Elements.{filter-append}
 use Rattle.std.proofs.lemmas.List.FromFn.{fill_by_all, length-map-range_with_len, get_or-map-range_with_len}
-use Rattle.std.proofs.lemmas.List.Sums.{fold-append}
-use Rattle.brace_num.proofs.Lists.{take_next}
 use Rattle.brace_model.specs.declared.program.Class.{Class}
-use Rattle.brace_model.specs.declared.program.Comb.{Comb}
 use Rattle.brace_model.specs.declared.program.Program.{Program}
 use Rattle.brace_model.specs.declared.program.Value.{Value}
 use Rattle.brace_model.specs.declared.world.Agent.{Agent}
 use Rattle.brace_model.specs.World.{class_of, x_of, y_of}
-use Rattle.brace_model.specs.Total.{joined, identity, total_of}
 use Rattle.brace_cuts.specs.declared.space.Cuts.{Cuts}
 use Rattle.brace_cuts.specs.Space.{owner_of, parts_of}
 use Rattle.brace_comb.specs.declared.total.Total.{Total}

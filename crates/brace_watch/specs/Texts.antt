@@ -1,6 +1,6 @@
 -- The text of figures: for each watch of a tick, in their order, a line `tick,n,V,V0,..` with its
 -- number from 1, the figure of the world and those of the boxes. Byte 44 is the comma.
-use Rattle.std.specs.Prelude.{ℕ, ◌==◌, ◌+◌, ℤ, Bool, true, false, ◌&&◌, if◌then◌else◌, List, [], ◌∷◌, ◌++◌, map, flat_map, codes, Option, Some, None}
+use Rattle.std.specs.Prelude.{ℕ, ◌==◌, ◌+◌, ℤ, Bool, true, false, ◌&&◌, if◌then◌else◌, List, [], ◌∷◌, ◌++◌, flat_map, codes, Option, Some, None}
 use Rattle.std.specs.List.{enumerate_from}
 use Rattle.brace_num.specs.Spelling.{canonical_count, canonical_int, canonical_fixed}
 use Rattle.brace_model.specs.declared.program.Comb.{Comb}

@@ -1,6 +1,6 @@
 -- What a watch file asks for in the runs of a program: its watches, or its first faulty line with
 -- that line's first fault. Lines are counted from 1.
-use Rattle.std.specs.Prelude.{◌≡◌, ℕ, ◌-◌, ◌≤◌, nat_lt, Bool, true, false, not, ◌&&◌, ◌||◌, if◌then◌else◌, List, [], length, filter_map, slice_get, slice_index_or, position, Option, Some, None, is_some, is_none, option_map, unwrap_or, Result, Ok, Err}
+use Rattle.std.specs.Prelude.{◌≡◌, ℕ, ◌-◌, nat_lt, Bool, true, false, not, ◌&&◌, ◌||◌, if◌then◌else◌, List, [], length, filter_map, slice_get, slice_index_or, position, Option, Some, None, is_some, is_none, option_map, unwrap_or, Result, Ok, Err}
 use Rattle.std.specs.List.{range_with_len}
 use Rattle.std.specs.Option.{option_and_then}
 use Rattle.std.specs.Result.{result_ok}
@@ -12,7 +12,7 @@ use Rattle.brace_model.specs.declared.program.BinOp.TheVariants as bin
 use Rattle.brace_model.specs.declared.program.Value.{Value}
 use Rattle.brace_model.specs.declared.program.State.{State}
 use Rattle.brace_model.specs.declared.program.Program.{Program}
-use Rattle.brace_model.specs.Typing.{is_number, only}
+use Rattle.brace_model.specs.Typing.{is_number}
 use Rattle.brace_rows.specs.AgentFile.{class_named, states_in, value_of}
 use Rattle.brace_watch.specs.declared.kinds.Watch.{Watch}
 use Rattle.brace_watch.specs.declared.kinds.WatchKind.{WatchKind}

@@ -1,6 +1,6 @@
-use Rattle.std.proofs.Common.{◌≡◌, ◌∙◌, ◌+◌, ◌++◌, ◌∷◌, [], Bor, List, ℕ, None, Some, length, map, drop, get_or, ap, sym, subst, arith, rules}
+use Rattle.std.proofs.Common.{◌≡◌, ◌∙◌, ◌+◌, ◌++◌, ◌∷◌, [], Bor, List, ℕ, None, Some, length, map, drop, ap, sym, subst, arith, rules}
 use Rattle.std.proofs.lemmas.List.{length_push}
-use Rattle.brace_watch.specs.Watches.{watch_of, watch_with, fault_of}
+use Rattle.brace_watch.specs.Watches.{watch_with, fault_of}
 use Rattle.brace_watch.proofs.FirstFault.{ReadTo, good_line, bad_line, no_line, same_fault}
 use Rattle.brace_watch.proofs.file.read_lines.Goals as goal
 

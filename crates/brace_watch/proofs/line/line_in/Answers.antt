@@ -1,6 +1,5 @@
-use Rattle.std.proofs.Common.{◌≡◌, ◌∙◌, Bor, List, ℕ, map, sym, ap, length, None, true, false}
+use Rattle.std.proofs.Common.{◌∙◌, Bor, List, ℕ, map, sym, ap, length, None}
 use Rattle.std.specs.Prelude.{◌==◌, if◌then◌else◌}
-use Rattle.std.specs.List.{list_any}
 use Rattle.brace_watch.specs.Lines.{line_of_parts}
 use Rattle.brace_watch.proofs.Lines.{list_any-map}
 use Rattle.brace_watch.proofs.line.line_in.Goals as goal

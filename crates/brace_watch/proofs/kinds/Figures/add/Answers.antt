@@ -1,4 +1,4 @@
-use Rattle.std.proofs.Common.{◌≡◌, ◌∙◌, ◌++◌, ◌∷◌, [], map, get_or, set, ap, rules}
+use Rattle.std.proofs.Common.{◌≡◌, ◌∙◌, ◌++◌, ◌∷◌, [], map, set, ap, rules}
 use Rattle.std.proofs.lemmas.List.{get_or_read, map-set}
 use Rattle.brace_comb.specs.Totals.{tally, tally_of}
 use Rattle.brace_watch.proofs.kinds.Figures.add.Goals as goal
