@@ -1,0 +1,187 @@
+//! The lines that tell figures.
+ghost use Rattle.std.specs.Prelude.{◌≡◌, ◌++◌, ◌∷◌, [], ◌<◌, ◌&&◌, ◌==◌, length, map, flat_map, take, OnOk, OnErr};
+ghost use Rattle.std.specs.List.{All};
+ghost use Rattle.brace_num.specs.Spelling.{canonical_int, canonical_fixed, sign_of, six_digits};
+ghost use Rattle.brace_cuts.specs.Space.{LawfulCuts};
+ghost use Rattle.brace_comb.specs.Totals.{tally};
+ghost use Rattle.brace_watch.specs.Watches.{IsWatch};
+ghost use Rattle.brace_watch.specs.Texts.{type_of, is_extreme, number_text, figure_text, line_text, watched_text};
+
+use crate::name::{states_in, type_at};
+use crate::{Figures, Watch, figures};
+use brace_comb::{Combine, Total};
+use brace_cuts::Cuts;
+use brace_model::{Agent, Program, Ty};
+use brace_num::{NoMemory, print_count};
+use itoa::Buffer;
+use std::alloc::Global;
+
+/// Appends the lines of a tick: for each watch `tick,n,V,V0,..` with its number from 1, the figure
+/// of all agents, and those of the boxes that cuts make. The least and the greatest value of no
+/// agent are `none`. A refused print leaves `out` as it was.
+pub fn print_watched(
+    alloc: Global,
+    out: &mut Vec<u8>,
+    program: &Program,
+    watches: &[Watch],
+    cuts: &Cuts,
+    tick: u64,
+    agents: &[Agent],
+) -> Result<(), NoMemory>
+    requires watches { All (IsWatch program.now) watches.now }
+    requires cuts { LawfulCuts cuts.now }
+    ensures printed { OnOk result (out.new.items ≡ out.old.items
+        ++ watched_text program.now watches.now cuts.now tick agents.now) }
+    ensures kept { OnErr result (out.new.items ≡ out.old.items) }
+{
+    let before = out.len();
+    let printed = append_watched(alloc, out, program, watches, cuts, tick, agents);
+    if printed.is_err() {
+        out.truncate(before);
+    }
+    printed
+}
+
+// A refused append may leave a part of the lines behind `out`.
+#[tactic(auto, using(brace_num::proofs::Printings::starts_more, brace_rows::proofs::Texts::starts_here))]
+fn append_watched(
+    alloc: Global,
+    out: &mut Vec<u8>,
+    program: &Program,
+    watches: &[Watch],
+    cuts: &Cuts,
+    tick: u64,
+    agents: &[Agent],
+) -> Result<(), NoMemory>
+    requires watches { All (IsWatch program.now) watches.now }
+    requires cuts { LawfulCuts cuts.now }
+    ensures printed { OnOk result (out.new.items ≡ out.old.items
+        ++ watched_text program.now watches.now cuts.now tick agents.now) }
+    ensures only_appends { take (length out.old.items) out.new.items ≡ out.old.items }
+{
+    for (place, watch) in watches.iter().enumerate() {
+        let found = figures(alloc, program, watch, cuts, agents)?;
+        append_line(out, type_of(program, watch), tick, place as u64 + 1, &found)?;
+    }
+    Ok(())
+}
+
+/// The type of what is watched: that of the state, and int where agents are counted.
+fn type_of(program: &Program, watch: &Watch) -> Ty
+    ensures { result ≡ type_of program.now watch.now }
+{
+    match watch.field {
+        None => Ty::Int,
+        Some(place) => type_at(states_in(program, watch.class), place),
+    }
+}
+
+#[tactic(auto, using(brace_num::proofs::Printings::starts_more, brace_rows::proofs::Texts::starts_here))]
+fn append_line(
+    out: &mut Vec<u8>,
+    ty: Ty,
+    tick: u64,
+    number: u64,
+    found: &Figures,
+) -> Result<(), NoMemory>
+    ensures printed { OnOk result (out.new.items ≡ out.old.items
+        ++ line_text ty tick number (tally found.now.whole) (map tally found.now.boxes.items)) }
+    ensures only_appends { take (length out.old.items) out.new.items ≡ out.old.items }
+{
+    print_count(out, tick)?;
+    out.extend_from_slice(b",")?;
+    print_count(out, number)?;
+    append_figure(out, ty, &found.whole)?;
+    append_figures(out, ty, found.boxes.as_slice())?;
+    out.extend_from_slice(b"\n")?;
+    Ok(())
+}
+
+#[tactic(auto, using(brace_num::proofs::Printings::starts_more, brace_rows::proofs::Texts::starts_here))]
+fn append_figures(out: &mut Vec<u8>, ty: Ty, totals: &[Total]) -> Result<(), NoMemory>
+    ensures printed { OnOk result (out.new.items
+        ≡ out.old.items ++ flat_map (λ f. 44 ∷ figure_text ty f) (map tally totals.now)) }
+    ensures only_appends { take (length out.old.items) out.new.items ≡ out.old.items }
+{
+    for total in totals {
+        append_figure(out, ty, total)?;
+    }
+    Ok(())
+}
+
+// A comma and a figure.
+#[tactic(auto, using(brace_num::proofs::Printings::starts_more, brace_rows::proofs::Texts::starts_here))]
+fn append_figure(out: &mut Vec<u8>, ty: Ty, total: &Total) -> Result<(), NoMemory>
+    ensures printed { OnOk result (out.new.items
+        ≡ out.old.items ++ 44 ∷ figure_text ty (tally total.now)) }
+    ensures only_appends { take (length out.old.items) out.new.items ≡ out.old.items }
+{
+    out.extend_from_slice(b",")?;
+    if is_of_none(total) {
+        out.extend_from_slice(b"none")?;
+        Ok(())
+    } else {
+        append_number(out, ty, total.number())
+    }
+}
+
+// Whether it is the least or the greatest value of no agent.
+fn is_of_none(total: &Total) -> bool
+    ensures { result ≡ (is_extreme (tally total.now).comb && (tally total.now).count == 0) }
+{
+    match total {
+        Total::Least(_, count) | Total::Greatest(_, count) => *count == 0,
+        _ => false,
+    }
+}
+
+fn append_number(out: &mut Vec<u8>, ty: Ty, n: i128) -> Result<(), NoMemory>
+    ensures printed { OnOk result (out.new.items ≡ out.old.items ++ number_text ty n) }
+    ensures only_appends { take (length out.old.items) out.new.items ≡ out.old.items }
+{
+    match ty {
+        Ty::Fixed => append_fixed(out, n),
+        Ty::Int | Ty::Bool => append_int(out, n),
+    }
+}
+
+fn append_int(out: &mut Vec<u8>, n: i128) -> Result<(), NoMemory>
+    ensures printed { OnOk result (out.new.items ≡ out.old.items ++ canonical_int n) }
+    ensures only_appends { take (length out.old.items) out.new.items ≡ out.old.items }
+{
+    out.extend_from_slice(Buffer::new().format(n).as_bytes())?;
+    Ok(())
+}
+
+// A sum of millionths may be past 64 bits.
+#[tactic(auto, using(brace_num::proofs::Printings::starts_more))]
+fn append_fixed(out: &mut Vec<u8>, n: i128) -> Result<(), NoMemory>
+    ensures printed { OnOk result (out.new.items ≡ out.old.items ++ canonical_fixed n) }
+    ensures only_appends { take (length out.old.items) out.new.items ≡ out.old.items }
+{
+    let magnitude = n.unsigned_abs();
+    out.extend_from_slice(sign(n))?;
+    out.extend_from_slice(Buffer::new().format(magnitude / 1_000_000).as_bytes())?;
+    out.extend_from_slice(b".")?;
+    append_six_digits(out, magnitude % 1_000_000)
+}
+
+fn sign(n: i128) -> &'static [u8]
+    ensures { result.now ≡ sign_of n }
+{
+    if n < 0 { b"-" } else { b"" }
+}
+
+#[tactic(auto, using(brace_num::proofs::Printings::starts_more))]
+fn append_six_digits(out: &mut Vec<u8>, n: u128) -> Result<(), NoMemory>
+    requires { n < 1000000 }
+    ensures printed { OnOk result (out.new.items ≡ out.old.items ++ six_digits n) }
+    ensures only_appends { take (length out.old.items) out.new.items ≡ out.old.items }
+{
+    let mut buffer = Buffer::new();
+    let digits = buffer.format(n).as_bytes();
+    let zeros = [b'0'; 6];
+    out.extend_from_slice(&zeros[digits.len()..])?;
+    out.extend_from_slice(digits)?;
+    Ok(())
+}

@@ -1,0 +1,216 @@
+// What no clause says: files and texts worked by hand, and that calls answer where memory is ample.
+use crate::{WatchFault, WatchKind, print_watched, read_watch};
+use brace_cuts::Cuts;
+use brace_model::{Agent, Class, Program, State, Ty, Value};
+use brace_num::{List, Text};
+use std::alloc::Global;
+use std::test::Fail;
+
+fn text(alloc: Global, name: &str) -> Result<Text, Fail> {
+    let mut string = String::new(alloc);
+    string.push_str(name)?;
+    Ok(Text::from_string(string))
+}
+
+fn state(alloc: Global, name: &str, ty: Ty) -> Result<State, Fail> {
+    Ok(State {
+        name: text(alloc, name)?,
+        ty,
+        shared: true,
+        rule: None,
+    })
+}
+
+// A class `F` with the states x, y, n and b.
+fn program(alloc: Global) -> Result<Program, Fail> {
+    let mut states = List::new(alloc);
+    states.push(state(alloc, "x", Ty::Fixed)?)?;
+    states.push(state(alloc, "y", Ty::Fixed)?)?;
+    states.push(state(alloc, "n", Ty::Int)?)?;
+    states.push(state(alloc, "b", Ty::Bool)?)?;
+    let mut classes = List::new(alloc);
+    classes.push(Class {
+        name: text(alloc, "F")?,
+        visible: 0,
+        reach: 0,
+        x: 0,
+        y: 1,
+        states,
+        effects: List::new(alloc),
+        query: List::new(alloc),
+        die: None,
+        spawn: None,
+    })?;
+    Ok(Program {
+        classes,
+        sites: List::new(alloc),
+    })
+}
+
+// An agent on the line y = 0.
+fn agent(alloc: Global, id: u64, x: i64, n: i64, b: bool) -> Result<Agent, Fail> {
+    let mut states = List::new(alloc);
+    states.push(Value::Fixed(x))?;
+    states.push(Value::Fixed(0))?;
+    states.push(Value::Int(n))?;
+    states.push(Value::Flag(b))?;
+    Ok(Agent {
+        class: 0,
+        id,
+        states,
+    })
+}
+
+// The plane cut at x = 2.
+fn cuts(alloc: Global) -> Result<Cuts, Fail> {
+    let mut xs = List::new(alloc);
+    xs.push(2_000_000)?;
+    Ok(Cuts {
+        xs,
+        ys: List::new(alloc),
+    })
+}
+
+// The text of what a file watches, at a tick, over some agents.
+fn told(alloc: Global, file: &[u8], tick: u64, agents: &[Agent]) -> Result<Vec<u8>, Fail> {
+    let program = program(alloc)?;
+    let Ok(watches) = read_watch(alloc, &program, file) else {
+        return Err("a watch file is refused".into());
+    };
+    let cuts = cuts(alloc)?;
+    if !cuts.are_lawful() {
+        return Err("cuts are not lawful".into());
+    }
+    let mut out = Vec::new(alloc);
+    print_watched(
+        alloc,
+        &mut out,
+        &program,
+        watches.as_slice(),
+        &cuts,
+        tick,
+        agents,
+    )?;
+    Ok(out)
+}
+
+// Files and the texts that they ask for.
+const TOLD: [(&[u8], &[u8]); 8] = [
+    (
+        b"count F\nsum F x\nmax F n where n < 2\n",
+        b"1,1,3,1,2\n1,2,4.000001,0.000000,4.000001\n1,3,1,1,1\n",
+    ),
+    (b"", b""),
+    (b"min F x where n >= 3", b"1,1,none,none,none\n"),
+    (b"count F where b == true", b"1,1,2,1,1\n"),
+    (b"count F where x == 2", b"1,1,1,0,1\n"),
+    (
+        b"min F x where x > 2\nmax F x where x <= 2.0",
+        b"1,1,2.000001,none,2.000001\n1,2,2.000000,0.000000,2.000000\n",
+    ),
+    (b"sum F n where n > 5\n", b"1,1,0,0,0\n"),
+    (b"sum F n\n", b"1,1,4,1,3\n"),
+];
+
+#[test]
+fn figures_are_told_by_box(rt: HostRuntime) -> Result<(), Fail> {
+    let alloc = rt.alloc();
+    let mut agents = Vec::new(alloc);
+    agents.push(agent(alloc, 1, 0, 1, true)?)?;
+    agents.push(agent(alloc, 2, 2_000_000, 2, false)?)?;
+    agents.push(agent(alloc, 3, 2_000_001, 1, true)?)?;
+    for (file, text) in TOLD {
+        let out = told(alloc, file, 1, agents.as_slice())?;
+        assert_eq!(rt; out.as_slice(), text);
+    }
+    Ok(())
+}
+
+#[test]
+fn sums_go_past_64_bits(rt: HostRuntime) -> Result<(), Fail> {
+    let alloc = rt.alloc();
+    let mut agents = Vec::new(alloc);
+    agents.push(agent(alloc, 1, i64::MAX, i64::MIN, true)?)?;
+    agents.push(agent(alloc, 2, i64::MAX, i64::MIN, true)?)?;
+    let out = told(alloc, b"sum F x\nsum F n\nmin F n\n", 0, agents.as_slice())?;
+    let text: &[u8] = b"0,1,18446744073709.551614,0.000000,18446744073709.551614
+0,2,-18446744073709551616,0,-18446744073709551616
+0,3,-9223372036854775808,none,-9223372036854775808
+";
+    assert_eq!(rt; out.as_slice(), text);
+    Ok(())
+}
+
+// Files and their first faults.
+const REFUSED: [(&[u8], u64, WatchKind); 28] = [
+    (b"\n", 1, WatchKind::BadLine),
+    (b"count F\n\ncount F", 2, WatchKind::BadLine),
+    (b"count", 1, WatchKind::BadLine),
+    (b"count  F", 1, WatchKind::BadLine),
+    (b"count F ", 1, WatchKind::BadLine),
+    (b" count F", 1, WatchKind::BadLine),
+    (b"count F n", 1, WatchKind::BadLine),
+    (b"sum F", 1, WatchKind::BadLine),
+    (b"or F b", 1, WatchKind::BadLine),
+    (b"Sum F x", 1, WatchKind::BadLine),
+    (b"sum G x y", 1, WatchKind::BadLine),
+    (b"count F where n != 3", 1, WatchKind::BadLine),
+    (b"count F where n < 3 ", 1, WatchKind::BadLine),
+    (b"count F where n <", 1, WatchKind::BadLine),
+    (b"count F if n < 3", 1, WatchKind::BadLine),
+    (b"sum F where n < 3", 1, WatchKind::BadLine),
+    (b"count G where q < z", 1, WatchKind::UnknownClass),
+    (b"count F\r\n", 1, WatchKind::UnknownClass),
+    (b"count F\nsum F q", 2, WatchKind::UnknownField),
+    (b"sum F b where q < 3", 1, WatchKind::UnknownField),
+    (b"sum F q where b < 3", 1, WatchKind::UnknownField),
+    (b"sum F b", 1, WatchKind::WrongType),
+    (b"min F b where b == true", 1, WatchKind::WrongType),
+    (b"count F where b < true", 1, WatchKind::WrongType),
+    (b"count F where b == 1", 1, WatchKind::WrongType),
+    (b"count F where n < 3.0", 1, WatchKind::WrongType),
+    (b"count F where x == 1.0000000", 1, WatchKind::WrongType),
+    (b"sum F x where where < 3", 1, WatchKind::UnknownField),
+];
+
+#[test]
+fn files_are_refused_at_their_first_fault(rt: HostRuntime) -> Result<(), Fail> {
+    let alloc = rt.alloc();
+    let program = program(alloc)?;
+    for (file, line, kind) in REFUSED {
+        let found = read_watch(alloc, &program, file);
+        assert_eq!(rt; found.err(), Some(WatchFault::Bad(line, kind)));
+    }
+    Ok(())
+}
+
+// A file of so many good lines, and another one behind them.
+fn lines(alloc: Global, many: u32, last: &[u8]) -> Result<Vec<u8>, Fail> {
+    let mut file = Vec::new(alloc);
+    for _line in 0..many {
+        file.extend_from_slice(b"count F\n")?;
+    }
+    file.extend_from_slice(last)?;
+    Ok(file)
+}
+
+#[test]
+fn a_file_has_at_most_64_lines(rt: HostRuntime) -> Result<(), Fail> {
+    let alloc = rt.alloc();
+    let program = program(alloc)?;
+    let full = lines(alloc, 64, b"")?;
+    let Ok(watches) = read_watch(alloc, &program, full.as_slice()) else {
+        return Err("64 lines are refused".into());
+    };
+    assert_eq!(rt; watches.len(), 64);
+    let more = lines(alloc, 64, b"count F")?;
+    let found = read_watch(alloc, &program, more.as_slice());
+    assert_eq!(rt; found.err(), Some(WatchFault::Bad(65, WatchKind::TooMany)));
+    let bad = lines(alloc, 64, b"count G")?;
+    let found = read_watch(alloc, &program, bad.as_slice());
+    assert_eq!(rt;
+        found.err(),
+        Some(WatchFault::Bad(65, WatchKind::UnknownClass))
+    );
+    Ok(())
+}
