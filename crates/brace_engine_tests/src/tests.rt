@@ -3,6 +3,7 @@ mod codes;
 mod crews;
 mod draws;
 mod grids;
+mod herd;
 mod inversion;
 mod lanes;
 mod models;

@@ -1,0 +1,7 @@
+use Rattle.std.proofs.Common.{sym, subst}
+use Rattle.brace_herd.specs.Cells.{CellsRise}
+use Rattle.brace_herd.proofs.FieldLemmas.{read_around}
+use Rattle.brace_herd.proofs.field.Field.turn.Goals as goal
+
+pub runs_around-requires-clause-rise : goal.runs_around-requires-clause-rise
+runs_around-requires-clause-rise c = subst CellsRise (sym c.as_slice.ensures.value) c.self.invariant.rise

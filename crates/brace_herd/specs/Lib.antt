@@ -1,0 +1,6 @@
+pub mod Cells
+pub mod Fields
+pub mod Herds
+pub mod Regions
+pub mod Sight
+pub mod inner
