@@ -1,16 +1,16 @@
 -- Agents by rising id, as tables have them.
-use Rattle.std.proofs.Common.{◌≡◌, ◌∙◌, ◌<◌, ℕ, ℤ, pos, Bool, not, nat_eq, List, [], ◌++◌, map, filter, length, get_or, sym, refl, ap, ap₂, subst, arith}
+use Rattle.std.proofs.Common.{◌≡◌, ◌∙◌, ◌<◌, ℕ, ℤ, pos, Bool, not, nat_eq, List, [], ◌++◌, map, filter, length, get_or, sym, refl, ap, ap₂, subst}
 use Rattle.std.specs.List.{All, IsDistinct}
 use Rattle.std.specs.List.Sorted.{IsPermutation, IsStrictlyIncreasing}
 use Rattle.std.proofs.lemmas.List.{get_or-map, length-map}
-use Rattle.std.proofs.lemmas.List.Sorted.{IsPermutation-refl, IsPermutation-sym, IsPermutation-trans, IsPermutation-map, IsPermutation-append_left, IsPermutation-filter_both, length_permutation, All-permutation}
+use Rattle.std.proofs.lemmas.List.Sorted.{IsPermutation-sym, IsPermutation-map, IsPermutation-append_left, IsPermutation-filter_both, length_permutation, All-permutation}
 use Rattle.brace_num.specs.Orders.{by_key}
 use Rattle.brace_num.proofs.Orders.{by_key_keeps, by_key_rises, by_key_sorted, distinct_moved, filter_distinct}
 use Rattle.brace_model.specs.declared.world.Agent.{Agent}
 use Rattle.brace_model.specs.World.{ids, RisesById}
 use Rattle.brace_herd.specs.declared.schema.Schema.{Schema}
 use Rattle.brace_herd.specs.declared.region.Region.{Region}
-use Rattle.brace_herd.specs.Herds.{OnHerd, AreApart, AreOf, herd_with, by_id, kept_of, word_at, places, no_agent, at_places, IsSorted}
+use Rattle.brace_herd.specs.Herds.{OnHerd, AreApart, IsOf, AreOf, herd_with, by_id, kept_of, word_at, places, no_agent, at_places, IsSorted}
 use Rattle.brace_herd.specs.Regions.{lies_in, lies_at, stands_in}
 use Rattle.brace_herd.specs.Fields.{xs_of, ys_of}
 use Rattle.brace_herd.proofs.KeyLemmas.{apart_of_rising, by_key_of_rising, by_key_moved, by_key_filter}
@@ -31,6 +31,20 @@ herd_keeps : (t : OnHerd) → IsPermutation t.agents (by_id t).agents
 unfolding by_id
 herd_keeps t = by_key_keeps id_of t.agents
 
+herd_rises_itself : (t : OnHerd) → AreApart t.agents → RisesById (by_id t).agents
+unfolding by_id
+herd_rises_itself t ok = by_key_rises id_of t.agents ok.distinct
+
+herd_fits_itself : (t : OnHerd) → AreOf t.schema t.agents → AreOf (by_id t).schema (by_id t).agents
+unfolding by_id
+herd_fits_itself t fit =
+    All-permutation (IsOf t.schema) t.agents (by_key id_of t.agents) (by_key_keeps id_of t.agents) fit
+
+sorted_itself : (t : OnHerd) (ys : List Agent) → AreApart t.agents → IsSorted t.agents ys
+    → ys ≡ (by_id t).agents
+unfolding by_id
+sorted_itself t ys ok s = sym (by_key_sorted id_of t.agents ys ok.distinct s.same s.in_order)
+
 module _ (t h : OnHerd) (view : by_id t ≡ h) where
   pub counted : length h.agents ≡ length t.agents
   counted = ap (λ (h : OnHerd). length h.agents) (sym view) ∙ herd_counted t
@@ -39,27 +53,15 @@ module _ (t h : OnHerd) (view : by_id t ≡ h) where
   schemas = ap (λ (h : OnHerd). h.schema) (sym view) ∙ herd_schema t
 
   pub herd_rises : AreApart t.agents → RisesById h.agents
-  herd_rises ok = subst (λ (h : OnHerd). RisesById h.agents) view (rises ok)
-    where
-      rises : AreApart t.agents → RisesById (by_id t).agents
-      unfolding by_id
-      rises ok = by_key_rises id_of t.agents ok.distinct
+  herd_rises ok = subst (λ (h : OnHerd). RisesById h.agents) view (herd_rises_itself t ok)
 
   -- what is of the schema by place is so by id
   pub herd_fits : AreOf t.schema t.agents → AreOf h.schema h.agents
-  herd_fits fit = subst (λ (h : OnHerd). AreOf h.schema h.agents) view (fits fit)
-    where
-      fits : AreOf t.schema t.agents → AreOf (by_id t).schema (by_id t).agents
-      unfolding by_id
-      fits fit = All-permutation _ t.agents (by_key id_of t.agents) (by_key_keeps id_of t.agents) fit
+  herd_fits fit = subst (λ (h : OnHerd). AreOf h.schema h.agents) view (herd_fits_itself t fit)
 
   -- agents by place in an order in which ids do not fall
   pub sorted_agents : (ys : List Agent) → AreApart t.agents → IsSorted t.agents ys → ys ≡ h.agents
-  sorted_agents ys ok s = here ys ok s ∙ ap (λ (h : OnHerd). h.agents) view
-    where
-      here : (ys : List Agent) → AreApart t.agents → IsSorted t.agents ys → ys ≡ (by_id t).agents
-      unfolding by_id
-      here ys ok s = sym (by_key_sorted id_of t.agents ys ok.distinct s.same s.in_order)
+  sorted_agents ys ok s = sorted_itself t ys ok s ∙ ap (λ (h : OnHerd). h.agents) view
 
   -- ---- in another order
 

@@ -1,8 +1,8 @@
 -- Lawful agents are of their class's schema.
-use Rattle.std.proofs.Common.{◌≡◌, ◌∙◌, ◌<◌, ℕ, Bool, true, false, ◌&&◌, List, [], ◌∷◌, map, length, Option, Some, None, slice_get, sym, refl, ap, ap₂, subst}
+use Rattle.std.proofs.Common.{◌≡◌, ◌∙◌, ◌<◌, ℕ, true, false, List, [], ◌∷◌, map, length, Option, Some, None, slice_get, sym, refl, ap, ap₂, subst}
 use Rattle.std.specs.Prelude.{nat_le}
 use Rattle.std.specs.Cmp.Lexicographic.{pointwise}
-use Rattle.std.proofs.lemmas.Bool.{true≢false}
+use Rattle.std.proofs.lemmas.Bool.{true≢false, and_parts}
 use Rattle.std.proofs.lemmas.Option.{slice_get_within}
 use Rattle.brace_model.specs.declared.program.Ty.{Ty}
 use Rattle.brace_model.specs.declared.program.State.{State}
@@ -14,14 +14,13 @@ use Rattle.brace_model.specs.Step.{greatest_id}
 use Rattle.brace_model.specs.Lawful.{is_position, has_states, is_lawful_agent}
 use Rattle.brace_model.proofs.TypeLemmas.{one_type}
 use Rattle.brace_herd.specs.Herds.{IsOf, schema_of}
-use Rattle.brace_herd.proofs.SightLemmas.{both}
 
 same_types : (ts us : List Ty) → pointwise same_type ts us ≡ true → us ≡ ts
 same_types [] [] h = refl
 same_types [] (u ∷ us) h = absurd (true≢false (sym h))
 same_types (t ∷ ts) [] h = absurd (true≢false (sym h))
 same_types (t ∷ ts) (u ∷ us) h =
-    let (one, rest) = both (same_type t u) (pointwise same_type ts us) h in
+    let (one, rest) = and_parts (same_type t u) (pointwise same_type ts us) h in
     ap₂ (λ (t : Ty) (l : List Ty). t ∷ l) (sym (one_type t u one)) (same_types ts us rest)
 
 -- a lawful agent of a class of a program
@@ -32,7 +31,7 @@ lawful_is_of program number class a there is lawful = record {
   class = is;
   types = same_types (map (λ (s : State). s.ty) class.states) (map type_of_value a.states)
       (subst (λ o. has_states o a ≡ true) (ap (slice_get program.classes) is ∙ there)
-      (both (nat_le a.id greatest_id) (has_states (slice_get program.classes a.class) a) lawful).1);
+      (and_parts (nat_le a.id greatest_id) (has_states (slice_get program.classes a.class) a) lawful).1);
 }
 
 -- a state that a position stands in is one of the states

@@ -1,27 +1,16 @@
 -- Coordinates and the numbers of their cells.
-use Rattle.std.proofs.Common.{◌≡◌, ◌∙◌, ◌<◌, ◌≤◌, ◌+◌, ◌*◌, ◌/◌, ℕ, ℤ, pos, negsuc, ◌+ℤ◌, ◌-ℤ◌, ◌≤ℤ◌, ◌<ℤ◌, ◌⊎◌, FitsSigned, w64, of_z, to_z, true, ◌&&◌, sym, ap₂, subst, arith, inl, inr, ⊎_elim}
+use Rattle.std.proofs.Common.{◌≡◌, ◌∙◌, ◌<◌, ◌≤◌, ◌+◌, ◌*◌, ◌/◌, ℕ, ℤ, pos, negsuc, ◌+ℤ◌, ◌-ℤ◌, ◌≤ℤ◌, ◌<ℤ◌, ◌⊎◌, FitsSigned, w64, of_z, to_z, true, int_le, sym, ap, subst, arith, inl, inr, ⊎_elim}
 use Rattle.std.specs.Int.{int_div_euclid}
-use Rattle.std.proofs.lemmas.Bool.{cases_lt}
-use Rattle.std.proofs.lemmas.Int.{ints, to_z-of_z}
+use Rattle.std.proofs.lemmas.Bool.{cases_lt, and_parts, and_from}
+use Rattle.std.proofs.lemmas.Int.{ints, by_lt_z, to_z-of_z}
 use Rattle.std.proofs.lemmas.Nat.{div_below, le-div}
 use Rattle.std.proofs.Math.Nat.{div-mul-le_self, mul-le-mul_right, add-mul}
-use Rattle.brace_herd.specs.declared.cells.Cell.{Cell}
+use Rattle.brace_num.proofs.Numbers.{le_holds, le_told}
 use Rattle.brace_herd.specs.Cells.{is_small_number, is_small}
 
 -- one number is below another one, or not
 pub int_cases : (x y : ℤ) → (x <ℤ y) ⊎ (y ≤ℤ x)
-int_cases (pos a) (pos b) = by_place (cases_lt a b)
-  where
-    by_place : (a < b) ⊎ (b ≤ a) → (pos a <ℤ pos b) ⊎ (pos b ≤ℤ pos a)
-    by_place (inl lt) = inl (omega (arith, ints, lt))
-    by_place (inr le) = inr (omega (arith, ints, le))
-int_cases (pos a) (negsuc b) = inr (omega (arith, ints))
-int_cases (negsuc a) (pos b) = inl (omega (arith, ints))
-int_cases (negsuc a) (negsuc b) = by_place (cases_lt b a)
-  where
-    by_place : (b < a) ⊎ (a ≤ b) → (negsuc a <ℤ negsuc b) ⊎ (negsuc b ≤ℤ negsuc a)
-    by_place (inl lt) = inl (omega (arith, ints, lt))
-    by_place (inr le) = inr (omega (arith, ints, le))
+int_cases x y = by_lt_z x y (λ lt. inl lt) (λ le. inr le)
 
 div_mono : (a b n : ℕ) → 0 < n → a ≤ b → a / n ≤ b / n
 div_mono a b n some h = le-div (a / n) b n some (omega (arith, div-mul-le_self a n, h))
@@ -84,18 +73,28 @@ number_near = pos_side (λ side. (v w : ℤ) → (w -ℤ v) ≤ℤ side
     near n some (pos a) (negsuc b) h = omega (arith, ints)
 
 -- cells of a unit or more have small numbers
+small_there : (v : ℤ) → negsuc 9223372036854 ≤ℤ v → v ≤ℤ pos 9223372036854
+    → is_small_number v ≡ true
+small_there v low high = and_from (int_le (negsuc 9223372036854) v) (int_le v (pos 9223372036854))
+    (le_holds (negsuc 9223372036854) v low) (le_holds v (pos 9223372036854) high)
+
 number_small : (side : ℤ) → pos 1000000 ≤ℤ side → (v : ℤ) → FitsSigned w64 v
     → is_small_number (int_div_euclid v side) ≡ true
 number_small (pos n) big (pos a) fits =
     let low = div_below a n 9223372036855 (omega (arith, ints, big)) (omega (arith, ints, big, fits)) in
-    grind (arith, ints, low)
+    small_there (pos (a / n)) (omega (arith, ints, low)) (omega (arith, ints, low))
 number_small (pos n) big (negsuc a) fits =
     let low = div_below a n 9223372036855 (omega (arith, ints, big)) (omega (arith, ints, big, fits)) in
-    grind (arith, ints, low)
+    small_there (negsuc (a / n)) (omega (arith, ints, low)) (omega (arith, ints, low))
 number_small (negsuc n) big v fits = absurd (omega (arith, ints, big))
 
 number_kept : (v : ℤ) → is_small_number v ≡ true → to_z w64 (of_z w64 v) ≡ v
-number_kept v small = let fits : FitsSigned w64 v = grind (arith, ints, small) in to_z-of_z w64 v fits
+number_kept v small =
+    let (low, high) = and_parts (int_le (negsuc 9223372036854) v) (int_le v (pos 9223372036854)) small in
+    let under = le_told (negsuc 9223372036854) v low in
+    let over = le_told v (pos 9223372036854) high in
+    let fits : FitsSigned w64 v = omega (arith, ints, under, over) in
+    to_z-of_z w64 v fits
 
 -- the cell of a point, as it is computed
 pub cell_small : (side x y a b : ℤ) → pos 1000000 ≤ℤ side → FitsSigned w64 x → FitsSigned w64 y
@@ -104,5 +103,5 @@ pub cell_small : (side x y a b : ℤ) → pos 1000000 ≤ℤ side → FitsSigned
 cell_small side x y a b big f g column row =
     let here = subst (λ z. is_small_number z ≡ true) (sym column) (number_small side big x f) in
     let there = subst (λ z. is_small_number z ≡ true) (sym row) (number_small side big y g) in
-    ap₂ (λ c r. is_small_number c && is_small_number r) (number_kept a here) (number_kept b there)
-    ∙ ap₂ (λ c r. c && r) here there
+    and_from (is_small_number (to_z w64 (of_z w64 a))) (is_small_number (to_z w64 (of_z w64 b)))
+    (ap is_small_number (number_kept a here) ∙ here) (ap is_small_number (number_kept b there) ∙ there)

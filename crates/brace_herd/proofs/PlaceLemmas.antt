@@ -70,7 +70,9 @@ module _ (t : ℕ → Bool) where
   pub places_next : (n : ℕ) → filter t (places (n + 1)) ≡ filter t (places n) ++ cond (t n) (n ∷ []) []
   places_next n =
       let e : n + 1 ≡ suc n = omega arith in
+      let f : 0 + n ≡ n = omega arith in
       ap (λ k. filter t (places k)) e ∙ ap (filter t) (row_more 0 n)
+      ∙ ap (λ j. filter t (places n ++ j ∷ [])) f
       ∙ filter-append t (places n) (n ∷ [])
 
   -- a row of places of which none passes

@@ -1,11 +1,12 @@
 -- What stands in an area stands in the cells that the area touches, and three runs hold those.
-use Rattle.std.proofs.Common.{◌≡◌, ◌∙◌, ◌<◌, ◌≤◌, ◌+◌, ◌-◌, ◌⊎◌, ℕ, ℤ, pos, ◌+ℤ◌, ◌-ℤ◌, ◌≤ℤ◌, Bool, true, false, ◌&&◌, List, [], ◌++◌, map, filter, length, get_or, append-nil, sym, refl, ap, ap₂, subst, arith, inl, inr, ⊎_elim}
+use Rattle.std.proofs.Common.{◌≡◌, ◌∙◌, ◌<◌, ◌≤◌, ◌+◌, ◌-◌, ◌⊎◌, ℕ, ℤ, pos, ◌≤ℤ◌, int_le, Bool, true, false, List, [], ◌++◌, filter, length, append-nil, sym, ap, ap₂, arith, inl, inr, ⊎_elim}
 use Rattle.std.specs.List.{range_with_len}
 use Rattle.std.specs.Int.{int_div_euclid}
-use Rattle.std.proofs.lemmas.Bool.{true≢false, cases_Bool}
+use Rattle.std.proofs.lemmas.Bool.{cases_Bool, and_parts}
 use Rattle.std.proofs.lemmas.Int.{ints}
 use Rattle.std.proofs.lemmas.List.{append_assoc}
 use Rattle.brace_num.specs.declared.kinds.Area.{Area}
+use Rattle.brace_num.proofs.Numbers.{le_told}
 use Rattle.brace_herd.specs.declared.cells.Cell.{Cell}
 use Rattle.brace_herd.specs.declared.cells.Run.{Run}
 use Rattle.brace_herd.specs.declared.cells.Around.{Around}
@@ -18,19 +19,16 @@ use Rattle.brace_herd.proofs.PlaceLemmas.{from_keeps, from_skips}
 
 -- ---- points in an area
 
-pub both : (p q : Bool) → (p && q) ≡ true → (p ≡ true) × (q ≡ true)
-both true true h = (refl, refl)
-both true false h = absurd (true≢false (sym h))
-both false q h = absurd (true≢false (sym h))
-
 between_both : (low high v : ℤ) → is_between low high v ≡ true → (low ≤ℤ v) × (v ≤ℤ high)
-between_both low high v h = (grind (arith, ints, h), grind (arith, ints, h))
+between_both low high v h =
+    let (left, right) = and_parts (int_le low v) (int_le v high) h in
+    (le_told low v left, le_told v high right)
 
 -- a point in an area that touches no cell but those beside a cell is in one of these
 inside_beside : (side : ℤ) (c : Cell) (area : Area) (x y : ℤ) → pos 1 ≤ℤ side
     → TouchesBeside side c area → is_inside area x y ≡ true → IsBeside c (cell_of side x y)
 inside_beside side c area x y some near h =
-    let (across, along) = both (is_between area.x0 area.x1 x) (is_between area.y0 area.y1 y) h in
+    let (across, along) = and_parts (is_between area.x0 area.x1 x) (is_between area.y0 area.y1 y) h in
     let (left, right) = between_both area.x0 area.x1 x across in
     let (low, high) = between_both area.y0 area.y1 y along in
     let x0 = number_rises side some area.x0 x left in

@@ -1,10 +1,10 @@
 -- Agents by place, as columns have them.
-use Rattle.std.proofs.Common.{◌≡◌, ◌∙◌, ◌<◌, ◌≤◌, ◌+◌, ◌-◌, ◌⊎◌, ℕ, ℤ, pos, zero, suc, List, [], ◌∷◌, ◌++◌, map, length, get_or, set, take, drop, add-one, true, false, sym, refl, ap, ap₂, subst, arith, inl, inr}
+use Rattle.std.proofs.Common.{◌≡◌, ◌∙◌, ◌<◌, ◌≤◌, ◌+◌, ◌-◌, ◌⊎◌, ℕ, ℤ, pos, List, [], ◌∷◌, ◌++◌, map, length, get_or, set, drop, true, false, sym, refl, ap, ap₂, subst, arith, inl, inr}
 use Rattle.std.specs.List.{All, range_with_len}
 use Rattle.std.proofs.lemmas.Bool.{cases_lt}
 use Rattle.std.proofs.lemmas.List.{get_or-map, length-map, length-append, get_or_default, get_or_append_left, get_or-append_right, append_assoc, append-nil, length-drop, drop_more, drop_all}
 use Rattle.std.proofs.Math.Seq.{set-append_seam}
-use Rattle.std.proofs.lemmas.List.FromFn.{length-range_with_len, length-map-range_with_len, get_or-map-range_with_len, map-range_with_len_more, fill_by_all}
+use Rattle.std.proofs.lemmas.List.FromFn.{length-map-range_with_len, get_or-map-range_with_len, map-range_with_len_more, fill_by_all}
 use Rattle.std.proofs.lemmas.Option.{unwrap_or-slice_get}
 use Rattle.brace_num.proofs.Lists.{map_alike}
 use Rattle.brace_model.specs.declared.program.Ty.{Ty}
@@ -12,7 +12,7 @@ use Rattle.brace_model.specs.declared.program.Ty.TheVariants as ty
 use Rattle.brace_model.specs.declared.program.Value.{Value}
 use Rattle.brace_model.specs.declared.program.Value.TheVariants as val
 use Rattle.brace_model.specs.declared.world.Agent.{Agent}
-use Rattle.brace_model.specs.World.{ids, number, value_at, no_value}
+use Rattle.brace_model.specs.World.{ids, number, no_value}
 use Rattle.brace_model.specs.Value.{typed}
 use Rattle.brace_model.specs.Typing.{type_of_value}
 use Rattle.brace_herd.specs.declared.schema.Schema.{Schema}
@@ -56,7 +56,7 @@ value_in types cs p state = typed (type_at types state) (word_in cs state p)
 
 -- ---- the agent at a place
 
-make : ℕ → ℕ → List Value → Agent
+abbrev make : ℕ → ℕ → List Value → Agent
 make class id states = record { class = class; id = id; states = states }
 
 pub length-agents_of : (s : Schema) (is : List ℕ) (cs : List (List ℤ))
@@ -233,7 +233,7 @@ module _ (agents : List Agent) (cs : List (List ℤ)) where
       now = new ∙ ap (λ l. l ++ map (word_at i) agents) here
 
   pub extended_all : extended_to agents cs (length cs) ≡ extended agents cs
-  extended_all = ap (λ l. map longer (places (length cs)) ++ l) (drop_all cs) ∙ append-nil (map longer (places (length cs)))
+  extended_all = ap (λ l. map longer (places (length cs)) ++ l) (drop_all (length cs) cs (omega arith)) ∙ append-nil (map longer (places (length cs)))
 
 -- the states of an agent of the schema
 states_back : (s : Schema) (a : Agent) → IsOf s a
@@ -351,8 +351,8 @@ module _ (s : Schema) (is : List ℕ) (cs : List (List ℤ)) (n : ℕ) (empty : 
   pub none_columns : IsSchema s → AreColumns s is cs
   none_columns placed = subst (λ is. AreColumns s is cs) (sym empty) (subst (AreColumns s []) (sym are) record {
     placed = placed;
-    count = length-map-range_with_len (λ i. []) 0 n ∙ wide;
-    long = λ i d low. ap length (get_or-map-range_with_len (λ i. []) 0 n i i d
+    count = length-map-range_with_len {X = List ℤ} (λ i. []) 0 n ∙ wide;
+    long = λ i d low. ap length (get_or-map-range_with_len {X = List ℤ} (λ i. []) 0 n i i d
         (omega (arith, low, length-map-range_with_len {X = List ℤ} (λ i. []) 0 n)) (omega arith));
     flags = λ i p there low bool. absurd (omega (arith, low));
   })
