@@ -6,7 +6,6 @@ use Rattle.std.proofs.lemmas.Int.{ints}
 use Rattle.std.proofs.lemmas.List.{get_or-map, length-map}
 use Rattle.std.proofs.lemmas.List.FromFn.{length-map-range_with_len, get_or-map-range_with_len, fill_by_all, length-range_with_len}
 use Rattle.std.proofs.lemmas.List.Sorted.{length_permutation}
-use Rattle.brace_model.specs.declared.world.Agent.{Agent}
 use Rattle.brace_herd.specs.declared.cells.Cell.{Cell}
 use Rattle.brace_herd.specs.Herds.{OnHerd, AreApart, at_places, by_id, places, no_agent, word_at}
 use Rattle.brace_herd.specs.declared.cells.Around.{Around}
@@ -27,23 +26,20 @@ cells_counted side t =
     ∙ length-map t.agents (word_at t.schema.x)
 
 module _ (side : ℤ) (t : OnHerd) (order : List ℕ) (low : All (λ p. p < length t.agents) order) where
-  abbrev u : OnHerd
-  u = at_places order t
-
-  word_moved : (s k : ℕ) → k < length order → get_or (map (word_at s) u.agents) k (pos 0)
+  word_moved : (s k : ℕ) → k < length order → get_or (map (word_at s) (at_places order t).agents) k (pos 0)
       ≡ get_or (map (word_at s) t.agents) (get_or order k 0) (pos 0)
   word_moved s k here =
-      get_or-map (word_at s) u.agents k no_agent (pos 0)
+      get_or-map (word_at s) (at_places order t).agents k no_agent (pos 0)
       (omega (arith, here, length-map order (λ p. get_or t.agents p no_agent)))
       ∙ ap (word_at s) (get_or-map (λ p. get_or t.agents p no_agent) order k 0 no_agent here)
       ∙ sym (get_or-map (word_at s) t.agents (get_or order k 0) no_agent (pos 0) (low k 0 here))
 
   -- the cells of moved agents are the moved cells
   pub cells_moved : cells_at order (cells_of side (xs_of t) (ys_of t))
-      ≡ cells_of side (xs_of u) (ys_of u)
+      ≡ cells_of side (xs_of (at_places order t)) (ys_of (at_places order t))
   cells_moved =
-      fill_by_all (cell_in side (xs_of u) (ys_of u)) (cells_at order (cells_of side (xs_of t) (ys_of t)))
-      (length (xs_of u)) no_cell
+      fill_by_all (cell_in side (xs_of (at_places order t)) (ys_of (at_places order t))) (cells_at order (cells_of side (xs_of t) (ys_of t)))
+      (length (xs_of (at_places order t))) no_cell
       (length-map order (λ p. get_or (cells_of side (xs_of t) (ys_of t)) p no_cell) ∙ sym long)
       (λ k lt. let here : k < length order = omega (arith, lt, long) in
       let p = get_or order k 0 in
@@ -52,8 +48,8 @@ module _ (side : ℤ) (t : OnHerd) (order : List ℕ) (low : All (λ p. p < leng
       (omega (arith, low k 0 here, length-map t.agents (word_at t.schema.x))) (omega arith)
       ∙ ap₂ (cell_of side) (sym (word_moved t.schema.x k here)) (sym (word_moved t.schema.y k here)))
     where
-      long : length (xs_of u) ≡ length order
-      long = length-map u.agents (word_at t.schema.x)
+      long : length (xs_of (at_places order t)) ≡ length order
+      long = length-map (at_places order t).agents (word_at t.schema.x)
           ∙ length-map order (λ p. get_or t.agents p no_agent)
 
 -- a herd, its cells by place, and the order in which they rise

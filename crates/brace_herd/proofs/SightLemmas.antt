@@ -1,11 +1,12 @@
 -- What stands in an area stands in the cells that the area touches, and three runs hold those.
-use Rattle.std.proofs.Common.{◌≡◌, ◌∙◌, ◌<◌, ◌≤◌, ◌+◌, ◌-◌, ◌⊎◌, ℕ, ℤ, pos, ◌≤ℤ◌, int_le, Bool, true, false, List, [], ◌++◌, filter, length, append-nil, sym, ap, ap₂, arith, inl, inr, ⊎_elim}
+use Rattle.std.proofs.Common.{◌≡◌, ◌∙◌, ◌<◌, ◌≤◌, ◌+◌, ◌-◌, ◌⊎◌, ℕ, ℤ, pos, ◌≤ℤ◌, ◌<ℤ◌, int_le, Bool, true, false, List, [], ◌++◌, filter, length, get_or, append-nil, sym, ap, ap₂, arith, inl, inr, ⊎_elim}
 use Rattle.std.specs.List.{range_with_len}
 use Rattle.std.specs.Int.{int_div_euclid}
 use Rattle.std.proofs.lemmas.Bool.{cases_Bool, and_parts}
 use Rattle.std.proofs.lemmas.Int.{ints}
 use Rattle.std.proofs.lemmas.List.{append_assoc}
 use Rattle.brace_num.specs.declared.kinds.Area.{Area}
+use Rattle.brace_num.proofs.Lists.{filter_alike, filter_none}
 use Rattle.brace_num.proofs.Numbers.{le_told}
 use Rattle.brace_herd.specs.declared.cells.Cell.{Cell}
 use Rattle.brace_herd.specs.declared.cells.Run.{Run}
@@ -41,6 +42,26 @@ inside_beside side c area x y some near h =
       south = omega (arith, ints, near.south, y0);
       north = omega (arith, ints, near.north, y1);
     }
+
+-- nothing stands in an area that has no point
+pub empty_area : (area : Area) (x y : ℤ) → (area.x1 <ℤ area.x0) ⊎ (area.y1 <ℤ area.y0)
+    → is_inside area x y ≡ false
+empty_area area x y none = ⊎_elim
+    (λ (here : is_inside area x y ≡ true).
+    let (across, along) = and_parts (is_between area.x0 area.x1 x) (is_between area.y0 area.y1 y) here in
+    let (left, right) = between_both area.x0 area.x1 x across in
+    let (low, high) = between_both area.y0 area.y1 y along in
+    absurd (⊎_elim
+    (λ (h : area.x1 <ℤ area.x0). omega (arith, ints, h, left, right))
+    (λ (h : area.y1 <ℤ area.y0). omega (arith, ints, h, low, high)) none))
+    (λ (none : is_inside area x y ≡ false). none)
+    (cases_Bool (is_inside area x y))
+
+pub nothing_seen : (area : Area) (xs ys : List ℤ) (ps start : List ℕ)
+    → ((x y : ℤ) → is_inside area x y ≡ false)
+    → start ≡ start ++ filter (is_inside_at area xs ys) ps
+nothing_seen area xs ys ps start none = sym (append-nil start) ∙ ap (λ l. start ++ l)
+    (sym (filter_alike (is_inside_at area xs ys) (λ p. false) ps (λ p has. none _ _) ∙ filter_none ps))
 
 -- ---- three runs that hold all that passes a test
 
@@ -108,7 +129,8 @@ module _ (f : OnField) (r : Around) (area : Area) (some : pos 1 ≤ℤ f.side) (
   seen_covered : (p : ℕ) → p < length f.table.agents → is_seen area f.table p ≡ true
       → IsCovered r p
   seen_covered p low h = around.covers p low
-      (inside_beside f.side r.cell area _ _ some near h)
+      (inside_beside f.side r.cell area (get_or (xs_of f.table) p (pos 0))
+      (get_or (ys_of f.table) p (pos 0)) some near h)
 
   pub seen_found : (xs ys : List ℤ) → xs ≡ xs_of f.table → ys ≡ ys_of f.table → (found : List ℕ)
       → found ≡ filter (is_inside_at area xs ys) (run_places r.west)

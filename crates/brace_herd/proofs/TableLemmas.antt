@@ -17,7 +17,8 @@ use Rattle.brace_model.specs.Value.{typed}
 use Rattle.brace_model.specs.Typing.{type_of_value}
 use Rattle.brace_herd.specs.declared.schema.Schema.{Schema}
 use Rattle.brace_herd.specs.Herds.{OnHerd, herd_with, IsSchema, IsOf, AreOf, word_at, places, no_agent, at_places}
-use Rattle.brace_herd.specs.inner.Columns.{word_in, type_at, states_at, agent_at, agents_of, table_of, IsFlag, AreColumns, words_at, ids_at, extended}
+use Rattle.brace_herd.specs.Columns.{word_in, type_at, states_at, agent_at, agents_of, table_of, IsFlag, AreColumns}
+use Rattle.brace_herd.specs.inner.Moved.{words_at, ids_at, extended}
 use Rattle.brace_herd.proofs.PlaceLemmas.{at_all_places, place_low}
 
 -- ---- words and values

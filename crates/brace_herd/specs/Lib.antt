@@ -1,4 +1,5 @@
 pub mod Cells
+pub mod Columns
 pub mod Fields
 pub mod Herds
 pub mod Regions

@@ -1,4 +1,4 @@
-pub mod Columns
+pub mod Moved
 pub mod Orders
 pub mod Ranks
 pub mod Windows

@@ -1,7 +1,7 @@
 ghost use Rattle.std.specs.Prelude.{◌≡◌, ◌<◌, ◌++◌, [], length, map, IfOk, OnOk};
 ghost use Rattle.std.specs.List.{All};
 ghost use Rattle.brace_herd.specs.Herds.{word_at};
-ghost use Rattle.brace_herd.specs.inner.Columns.{words_at};
+ghost use Rattle.brace_herd.specs.inner.Moved.{words_at};
 
 use crate::words::word_at;
 use brace_model::Agent;
@@ -31,6 +31,13 @@ impl Column {
         Column {
             words: Vec::new(alloc),
         }
+    }
+
+    /// These words.
+    pub fn of_words(words: Vec<i64>) -> Column
+        ensures { result ≡ words.items }
+    {
+        Column { words }
     }
 
     /// The words.

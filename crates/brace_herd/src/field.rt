@@ -93,9 +93,10 @@ impl Field {
         ensures cell { around.new.cell ≡ cell.now }
         ensures around { IsAround self.now around.new }
     {
-        if around.cell != *cell {
-            *around = runs_around(self.cells.as_slice(), cell, around);
+        if around.cell == *cell {
+            return;
         }
+        *around = runs_around(self.cells.as_slice(), cell, around);
     }
 
     /// Writes the places of the agents that stand in an area, rising, and gives how many they are.

@@ -1,5 +1,5 @@
 ghost use Rattle.std.specs.Prelude.{◌≡◌, ◌<◌, ◌↔◌, length, map, IfOk, IsTrue};
-ghost use Rattle.brace_model.specs.Typing.{type_of_value};
+ghost use Rattle.brace_model.specs.Typing.{same_type, type_of_value};
 ghost use Rattle.brace_herd.specs.Herds.{IsSchema, IsOf, AreOf, schema_of};
 
 use brace_model::{Agent, Class, Ty, Value};
@@ -70,20 +70,20 @@ fn have_types(values: &[Value], types: &[Ty]) -> bool
         return false;
     }
     for i in 0..values.len() {
-        if type_of(values[i]) != types[i] {
+        if !is_of(values[i], types[i]) {
             return false;
         }
     }
     true
 }
 
-/// The type of a value.
-fn type_of(value: Value) -> Ty
-    ensures { result ≡ type_of_value value }
+/// Whether a value is of a type.
+fn is_of(value: Value, ty: Ty) -> bool
+    ensures { result ≡ same_type ty (type_of_value value) }
 {
-    match value {
-        Value::Int(_) => Ty::Int,
-        Value::Fixed(_) => Ty::Fixed,
-        Value::Flag(_) => Ty::Bool,
+    match (ty, value) {
+        (Ty::Int, Value::Int(_)) | (Ty::Fixed, Value::Fixed(_)) | (Ty::Bool, Value::Flag(_)) =>
+            true,
+        _ => false,
     }
 }

@@ -2,7 +2,8 @@ ghost use Rattle.std.specs.Prelude.{◌≡◌, ◌<◌, ◌++◌, [], length, ma
 ghost use Rattle.std.specs.List.{All};
 ghost use Rattle.brace_model.specs.World.{ids};
 ghost use Rattle.brace_herd.specs.Herds.{IsSchema, AreOf, herd_with, word_at, places, at_places};
-ghost use Rattle.brace_herd.specs.inner.Columns.{words_at, ids_at, states_at, agent_at, agents_of, extended};
+ghost use Rattle.brace_herd.specs.Columns.{table_of, AreColumns, states_at, agent_at, agents_of};
+ghost use Rattle.brace_herd.specs.inner.Moved.{words_at, ids_at, extended};
 
 use crate::column::Column;
 use crate::schema::Schema;
@@ -22,7 +23,7 @@ pub struct Table {
 
 impl Model for Table {
     ghost use Rattle.brace_herd.specs.Herds.{OnHerd};
-    ghost use Rattle.brace_herd.specs.inner.Columns.{table_of, AreColumns};
+    ghost use Rattle.brace_herd.specs.Columns.{table_of, AreColumns};
 
     ghost Value = { OnHerd };
 
@@ -43,6 +44,31 @@ impl Table {
             ids: Vec::new(alloc),
             columns,
         })
+    }
+
+    /// The agents of columns of words, one for each state.
+    pub fn of_columns(schema: Schema, ids: Vec<u64>, columns: Vec<Column>) -> Table
+        requires { AreColumns schema ids.items columns.items }
+        ensures { result ≡ table_of schema ids.items columns.items }
+    {
+        Table {
+            schema,
+            ids,
+            columns,
+        }
+    }
+
+    /// The columns. It takes no memory.
+    pub fn into_columns(self) -> (Schema, Vec<u64>, Vec<Column>)
+        ensures same { table_of result.0 result.1.items result.2.items ≡ self }
+        ensures are { AreColumns result.0 result.1.items result.2.items }
+    {
+        let Table {
+            schema,
+            ids,
+            columns,
+        } = self;
+        (schema, ids, columns)
     }
 
     /// The agents with others behind them.

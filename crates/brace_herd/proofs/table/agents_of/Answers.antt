@@ -1,4 +1,4 @@
-use Rattle.brace_herd.specs.inner.Columns.{agent_at}
+use Rattle.brace_herd.specs.Columns.{agent_at}
 use Rattle.brace_herd.proofs.PlaceLemmas.{pushed_at}
 use Rattle.brace_herd.proofs.table.agents_of.Goals as goal
 

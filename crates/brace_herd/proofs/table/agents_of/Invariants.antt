@@ -1,6 +1,6 @@
 use Rattle.std.proofs.Common.{◌≡◌, map}
 use Rattle.brace_herd.specs.Herds.{places}
-use Rattle.brace_herd.specs.inner.Columns.{agent_at}
+use Rattle.brace_herd.specs.Columns.{agent_at}
 use Rattle.brace_herd.proofs.table.agents_of.Given as goal
 
 abbrev pub invariant-loop-place : goal.invariant-loop-place

@@ -1,5 +1,5 @@
 use Rattle.std.proofs.Common.{◌≡◌, map, take}
-use Rattle.brace_herd.specs.inner.Columns.{words_at}
+use Rattle.brace_herd.specs.inner.Moved.{words_at}
 use Rattle.brace_herd.proofs.table.parts_at.Given as goal
 
 abbrev pub invariant-loop-column : goal.invariant-loop-column

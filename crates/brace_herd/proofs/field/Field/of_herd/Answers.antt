@@ -7,30 +7,30 @@ cells_of-requires-clause-long c = columns_alike _ _ _ c.xs.ensures c.ys.ensures
 
 pub cell_order-requires : goal.cell_order-requires
 cell_order-requires c =
-    omega (arith, c.requires.few, all_counted c.args.side _ _ c.into_table-table.ensures.same _ _ c.xs.ensures c.ys.ensures _ _ c.as_slice.ensures.value c.in_ok-found.ensures)
+    omega (arith, c.requires.few, all_counted c.args.side _ _ c.into_table-table.ensures.same _ _ c.xs.ensures c.ys.ensures _ _ c.as_slice-found.ensures.value c.in_ok-found.ensures)
 
 pub cells_at-requires : goal.cells_at-requires
 cells_at-requires c =
-    low_cells c.args.side _ _ c.into_table-table.ensures.same _ _ c.xs.ensures c.ys.ensures _ _ c.as_slice.ensures.value c.in_ok-found.ensures
-    _ _ c.as_slice-2.ensures.value c.in_ok-order.ensures.order
+    low_cells c.args.side _ _ c.into_table-table.ensures.same _ _ c.xs.ensures c.ys.ensures _ _ c.as_slice-found.ensures.value c.in_ok-found.ensures
+    _ _ c.as_slice-order.ensures.value c.in_ok-order.ensures.order
 
 pub picked-requires : goal.picked-requires
 picked-requires c =
-    low_here c.args.side _ _ c.into_table-table.ensures.same _ _ c.xs.ensures c.ys.ensures _ _ c.as_slice.ensures.value c.in_ok-found.ensures
-    _ _ c.as_slice-2.ensures.value c.in_ok-order.ensures.order
+    low_here c.args.side _ _ c.into_table-table.ensures.same _ _ c.xs.ensures c.ys.ensures _ _ c.as_slice-found.ensures.value c.in_ok-found.ensures
+    _ _ c.as_slice-order.ensures.value c.in_ok-order.ensures.order
 
 pub invariant_of-result : goal.invariant_of-result
 invariant_of-result c =
-    arranged c.args.side _ _ c.into_table-table.ensures.same _ _ c.xs.ensures c.ys.ensures _ _ c.as_slice.ensures.value c.in_ok-found.ensures
-    _ _ c.as_slice-2.ensures.value c.in_ok-order.ensures.order _ c.in_ok-table.ensures _ c.in_ok-cells.ensures c.into_table-table.ensures.apart
+    arranged c.args.side _ _ c.into_table-table.ensures.same _ _ c.xs.ensures c.ys.ensures _ _ c.as_slice-found.ensures.value c.in_ok-found.ensures
+    _ _ c.as_slice-order.ensures.value c.in_ok-order.ensures.order _ c.in_ok-table.ensures _ c.in_ok-cells.ensures c.into_table-table.ensures.apart
     c.requires.few c.requires.side c.in_ok-order.ensures.rise
 
 pub returns-clause-same : goal.returns-clause-same
 returns-clause-same c =
-    arranged_herd c.args.side _ _ c.into_table-table.ensures.same _ _ c.xs.ensures c.ys.ensures _ _ c.as_slice.ensures.value c.in_ok-found.ensures
-    _ _ c.as_slice-2.ensures.value c.in_ok-order.ensures.order _ c.in_ok-table.ensures c.into_table-table.ensures.apart
+    arranged_herd c.args.side _ _ c.into_table-table.ensures.same _ _ c.xs.ensures c.ys.ensures _ _ c.as_slice-found.ensures.value c.in_ok-found.ensures
+    _ _ c.as_slice-order.ensures.value c.in_ok-order.ensures.order _ c.in_ok-table.ensures c.into_table-table.ensures.apart
 
 pub returns-clause-apart : goal.returns-clause-apart
 returns-clause-apart c =
-    arranged_apart c.args.side _ _ c.into_table-table.ensures.same _ _ c.xs.ensures c.ys.ensures _ _ c.as_slice.ensures.value c.in_ok-found.ensures
-    _ _ c.as_slice-2.ensures.value c.in_ok-order.ensures.order _ c.in_ok-table.ensures c.into_table-table.ensures.apart
+    arranged_apart c.args.side _ _ c.into_table-table.ensures.same _ _ c.xs.ensures c.ys.ensures _ _ c.as_slice-found.ensures.value c.in_ok-found.ensures
+    _ _ c.as_slice-order.ensures.value c.in_ok-order.ensures.order _ c.in_ok-table.ensures c.into_table-table.ensures.apart

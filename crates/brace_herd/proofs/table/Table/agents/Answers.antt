@@ -1,5 +1,5 @@
 use Rattle.std.proofs.Common.{◌∙◌, ap₂}
-use Rattle.brace_herd.specs.inner.Columns.{agents_of}
+use Rattle.brace_herd.specs.Columns.{agents_of}
 use Rattle.brace_herd.proofs.TableLemmas.{agents_are}
 use Rattle.brace_herd.proofs.table.Table.agents.Goals as goal
 

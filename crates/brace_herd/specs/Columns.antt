@@ -1,5 +1,5 @@
 -- Agents by place, as columns of words have them.
-use Rattle.std.specs.Prelude.{◌≡◌, ℕ, ◌<◌, ◌⊎◌, ℤ, pos, List, [], ◌++◌, map, length, slice_index_or}
+use Rattle.std.specs.Prelude.{◌≡◌, ℕ, ◌<◌, ◌⊎◌, ℤ, pos, List, [], map, length, slice_index_or}
 use Rattle.std.specs.List.{All}
 use Rattle.brace_model.specs.declared.program.Ty.{Ty}
 use Rattle.brace_model.specs.declared.program.Ty.TheVariants as ty
@@ -7,7 +7,7 @@ use Rattle.brace_model.specs.declared.program.Value.{Value}
 use Rattle.brace_model.specs.declared.world.Agent.{Agent}
 use Rattle.brace_model.specs.Value.{typed}
 use Rattle.brace_herd.specs.declared.schema.Schema.{Schema}
-use Rattle.brace_herd.specs.Herds.{OnHerd, herd_with, IsSchema, word_at, places}
+use Rattle.brace_herd.specs.Herds.{OnHerd, herd_with, IsSchema, places}
 
 -- the word of a column at a place
 abbrev pub word_in : List (List ℤ) → ℕ → ℕ → ℤ
@@ -49,17 +49,3 @@ pub record AreColumns (schema : Schema) (ids : List ℕ) (columns : List (List �
   pub long : All (λ c. length c ≡ length ids) columns
   pub flags : (state p : ℕ) → state < length schema.types → p < length ids
       → type_at schema.types state ≡ ty.Bool → IsFlag (word_in columns state p)
-
--- the words of a column at some places
-abbrev pub words_at : List ℕ → List ℤ → List ℤ
-words_at places column = map (λ p. slice_index_or column p (pos 0)) places
-
--- the ids at some places
-abbrev pub ids_at : List ℕ → List ℕ → List ℕ
-ids_at places ids = map (λ p. slice_index_or ids p 0) places
-
--- columns with the words of agents behind them
-abbrev pub extended : List Agent → List (List ℤ) → List (List ℤ)
-extended agents columns =
-    map (λ state. slice_index_or columns state [] ++ map (word_at state) agents)
-    (places (length columns))
