@@ -4,7 +4,7 @@ ghost use Rattle.brace_cuts.specs.Space.{LawfulCuts};
 
 use super::scripts::{agent, program};
 use brace_cuts::Cuts;
-use brace_herd::{Field, Herd, Region, Schema, box_around, cell_of};
+use brace_herd::{Field, Herd, Region, Schema, Table, box_around, cell_of};
 use brace_model::{Agent, Area, Value, World, number, value_at};
 use brace_num::List;
 use std::alloc::Global;
@@ -132,7 +132,8 @@ fn fields_show_what_is_close(rt: HostRuntime) -> Result<(), Fail> {
         let close = close_to(alloc, placed.as_slice(), a)?;
         assert!(rt; &out[..count] == close.as_slice());
     }
-    let herd = field.into_herd();
+    let (schema, ids, columns) = field.into_herd().into_table().into_columns();
+    let herd = Herd::of_table(Table::of_columns(schema, ids, columns));
     assert!(rt; same_agents(herd.agents(alloc)?.as_slice(), agents(alloc)?.as_slice()));
     Ok(())
 }
