@@ -88,11 +88,6 @@ module _ (s : Schema) (is : List ℕ) (cs : List (List ℤ)) where
   unfolding table_of
   table_schema = refl
 
-  pub table_agent : (k : ℕ) (d : Agent) → k < length is
-      → get_or (table_of s is cs).agents k d ≡ agent_at s is cs k
-  unfolding table_of
-  table_agent k d low = agent_there s is cs k d low
-
   pub table_ids : ids (table_of s is cs).agents ≡ is
   unfolding table_of
   table_ids = sym (fill_by_all (λ k. get_or is k 0) is (length is) 0 refl (λ k low. refl)
