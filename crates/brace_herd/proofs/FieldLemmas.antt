@@ -1,21 +1,22 @@
 -- Herds in the order of their cells.
-use Rattle.std.proofs.Common.{◌≡◌, ◌∙◌, ◌<◌, ◌^◌, ℕ, ℤ, pos, ◌≤ℤ◌, List, map, length, get_or, sym, ap, ap₂, subst, arith}
+use Rattle.std.proofs.Common.{◌≡◌, ◌∙◌, ◌<◌, ◌^◌, ℕ, ℤ, pos, ◌≤ℤ◌, true, List, map, length, get_or, sym, ap, ap₂, subst, arith}
 use Rattle.std.specs.List.{All}
 use Rattle.std.specs.List.Sorted.{IsPermutation}
 use Rattle.std.proofs.lemmas.Int.{ints}
 use Rattle.std.proofs.lemmas.List.{get_or-map, length-map}
+use Rattle.std.proofs.lemmas.List.Elements.{All-map}
 use Rattle.std.proofs.lemmas.List.FromFn.{length-map-range_with_len, get_or-map-range_with_len, fill_by_all, length-range_with_len}
 use Rattle.std.proofs.lemmas.List.Sorted.{length_permutation}
 use Rattle.brace_herd.specs.declared.cells.Cell.{Cell}
 use Rattle.brace_herd.specs.Herds.{OnHerd, AreApart, at_places, by_id, places, no_agent, word_at}
 use Rattle.brace_herd.specs.declared.cells.Around.{Around}
-use Rattle.brace_herd.specs.Cells.{no_cell, cell_of, cells_of, CellsRise, IsBeside, AreInOrder, IsCovered}
+use Rattle.brace_herd.specs.Cells.{no_cell, cell_of, cells_of, CellsRise, is_small, IsBeside, AreInOrder, IsCovered}
 use Rattle.brace_herd.specs.Fields.{OnField, field_with, xs_of, ys_of, field_cells, cell_at, IsArranged, IsAround}
 use Rattle.brace_herd.specs.inner.Orders.{cells_at}
 use Rattle.brace_herd.proofs.HerdLemmas.{counted, order_within, moved_apart, moved_herd}
 
 -- the cell of a point at a place
-abbrev cell_in : ℤ → List ℤ → List ℤ → ℕ → Cell
+abbrev pub cell_in : ℤ → List ℤ → List ℤ → ℕ → Cell
 cell_in side xs ys p = cell_of side (get_or xs p (pos 0)) (get_or ys p (pos 0))
 
 -- there are as many cells as agents
@@ -88,14 +89,18 @@ module _ (side : ℤ) (t h : OnHerd) (view : by_id t ≡ h) (xs ys : List ℤ) (
 
       pub arranged : (moved : List Cell) → moved ≡ cells_at order cells → AreApart t.agents
           → length h.agents < 2 ^ 32 → pos 1000000 ≤ℤ side → CellsRise (cells_at kept cells)
-          → IsArranged (field_with u side) moved
-      arranged moved are apart few some rise = record {
+          → All (λ c. is_small c ≡ true) made → IsArranged (field_with u side) moved
+      arranged moved are apart few some rise small = record {
         apart = arranged_apart apart;
         few = omega (arith, few, agents_kept);
         side = some;
         are = are ∙ ap (cells_at order) first ∙ cells_moved side t order low_here
             ∙ ap (λ (u : OnHerd). cells_of side (xs_of u) (ys_of u)) (sym is);
         rise = subst CellsRise (sym (are ∙ ap (λ l. cells_at l cells) same)) rise;
+        small = subst (All (λ c. is_small c ≡ true)) (sym are)
+            (All-map (λ c. is_small c ≡ true) (λ p. get_or cells p no_cell) order (λ k d lt.
+            subst (All (λ c. is_small c ≡ true)) (sym read) small (get_or order k d) no_cell
+            (low_cells k d lt)));
       }
 
 -- ---- the calls

@@ -1,5 +1,5 @@
 -- What stands in an area stands in the cells that the area touches, and three runs hold those.
-use Rattle.std.proofs.Common.{◌≡◌, ◌∙◌, ◌<◌, ◌≤◌, ◌+◌, ◌-◌, ◌⊎◌, ℕ, ℤ, pos, ◌≤ℤ◌, ◌<ℤ◌, int_le, Bool, true, false, List, [], ◌++◌, filter, length, get_or, append-nil, sym, ap, ap₂, arith, inl, inr, ⊎_elim}
+use Rattle.std.proofs.Common.{◌≡◌, ◌∙◌, ◌<◌, ◌≤◌, ◌+◌, ◌-◌, ◌⊎◌, ℕ, ℤ, pos, ◌≤ℤ◌, int_le, Bool, true, false, List, [], ◌++◌, filter, length, get_or, append-nil, sym, ap, ap₂, arith, inl, inr, ⊎_elim}
 use Rattle.std.specs.List.{range_with_len}
 use Rattle.std.specs.Int.{int_div_euclid}
 use Rattle.std.proofs.lemmas.Bool.{cases_Bool, and_parts}
@@ -44,19 +44,6 @@ inside_beside side c area x y some near h =
     }
 
 -- nothing stands in an area that has no point
-pub empty_area : (area : Area) (x y : ℤ) → (area.x1 <ℤ area.x0) ⊎ (area.y1 <ℤ area.y0)
-    → is_inside area x y ≡ false
-empty_area area x y none = ⊎_elim
-    (λ (here : is_inside area x y ≡ true).
-    let (across, along) = and_parts (is_between area.x0 area.x1 x) (is_between area.y0 area.y1 y) here in
-    let (left, right) = between_both area.x0 area.x1 x across in
-    let (low, high) = between_both area.y0 area.y1 y along in
-    absurd (⊎_elim
-    (λ (h : area.x1 <ℤ area.x0). omega (arith, ints, h, left, right))
-    (λ (h : area.y1 <ℤ area.y0). omega (arith, ints, h, low, high)) none))
-    (λ (none : is_inside area x y ≡ false). none)
-    (cases_Bool (is_inside area x y))
-
 pub nothing_seen : (area : Area) (xs ys : List ℤ) (ps start : List ℕ)
     → ((x y : ℤ) → is_inside area x y ≡ false)
     → start ≡ start ++ filter (is_inside_at area xs ys) ps

@@ -1,10 +1,11 @@
 -- Agents that stand in memory in the order of their cells.
-use Rattle.std.specs.Prelude.{◌≡◌, ℕ, ◌<◌, ◌^◌, ℤ, pos, ◌≤ℤ◌, Bool, List, map, length, slice_index_or}
+use Rattle.std.specs.Prelude.{◌≡◌, ℕ, ◌<◌, ◌^◌, ℤ, pos, ◌≤ℤ◌, Bool, true, List, map, length, slice_index_or}
+use Rattle.std.specs.List.{All}
 use Rattle.brace_num.specs.declared.kinds.Area.{Area}
 use Rattle.brace_herd.specs.declared.cells.Cell.{Cell}
 use Rattle.brace_herd.specs.declared.cells.Around.{Around}
 use Rattle.brace_herd.specs.Herds.{OnHerd, AreApart, word_at}
-use Rattle.brace_herd.specs.Cells.{cell_of, cells_of, CellsRise, IsBeside, AreInOrder, IsCovered}
+use Rattle.brace_herd.specs.Cells.{cell_of, cells_of, CellsRise, is_small, IsBeside, AreInOrder, IsCovered}
 use Rattle.brace_herd.specs.Sight.{is_inside_at}
 
 -- a field, as clauses see it: its agents by place, and the side of its cells
@@ -36,13 +37,14 @@ cell_at field p = cell_of field.side
 abbrev pub is_seen : Area → OnHerd → ℕ → Bool
 is_seen area table p = is_inside_at area (xs_of table) (ys_of table) p
 
--- agents, no two with one id, whose cells are these and rise
+-- agents, no two with one id, whose cells are these, rise, and are far from the ends of 64 bits
 pub record IsArranged (field : OnField) (cells : List Cell) : Type 0 where
   pub apart : AreApart field.table.agents
   pub few : length field.table.agents < 2 ^ 32
   pub side : pos 1000000 ≤ℤ field.side
   pub are : cells ≡ field_cells field
   pub rise : CellsRise cells
+  pub small : All (λ c. is_small c ≡ true) cells
 
 -- three runs of a field's places, one behind the other, that hold all in cells beside a cell
 pub record IsAround (field : OnField) (around : Around) : Type 0 where

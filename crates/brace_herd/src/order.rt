@@ -1,8 +1,8 @@
-ghost use Rattle.std.specs.Prelude.{◌≡◌, ◌<◌, ◌^◌, length, map, pos, ◌≤ℤ◌, IfOk, IsTrue};
+ghost use Rattle.std.specs.Prelude.{◌≡◌, ◌<◌, ◌^◌, length, map, true, pos, ◌≤ℤ◌, IfOk, IsTrue};
 ghost use Rattle.std.specs.List.{All};
 ghost use Rattle.std.specs.List.Sorted.{IsPermutation};
 ghost use Rattle.brace_herd.specs.Herds.{places};
-ghost use Rattle.brace_herd.specs.Cells.{CellsRise, cells_of};
+ghost use Rattle.brace_herd.specs.Cells.{CellsRise, is_small, cells_of};
 ghost use Rattle.brace_herd.specs.inner.Orders.{cells_at, spots_of, spot_of, SpotsRise, IsNext, AreNext};
 
 use crate::cells::{Cell, Side, cell_of, is_before};
@@ -22,7 +22,8 @@ struct Spot {
 pub fn cells_of(alloc: Global, xs: &[i64], ys: &[i64], side: &Side) -> Result<Vec<Cell>, NoMemory>
     requires long { length ys.now ≡ length xs.now }
     requires side { pos 1000000 ≤ℤ side.now.length }
-    ensures { IfOk result (λ cells. cells.items ≡ cells_of side.now.length xs.now ys.now) }
+    ensures cells { IfOk result (λ cells. cells.items ≡ cells_of side.now.length xs.now ys.now) }
+    ensures small { IfOk result (λ cells. All (λ c. is_small c ≡ true) cells.items) }
 {
     let mut cells = Vec::with_capacity(alloc, xs.len())?;
     for place in 0..xs.len() {
@@ -59,7 +60,10 @@ fn are_in_order(cells: &[Cell], order: &[u32]) -> bool
     ensures order { IsTrue result → IsPermutation (places (length cells.now)) order.now }
     ensures rise { IsTrue result → CellsRise (cells_at order.now cells.now) }
 {
-    order.len() == cells.len() && are_within(cells, order) && are_next(cells, order)
+    if order.len() != cells.len() {
+        return false;
+    }
+    are_within(cells, order) && are_next(cells, order)
 }
 
 /// Whether places are places of cells.

@@ -1,5 +1,5 @@
-use Rattle.std.proofs.Common.{◌∙◌, arith, ap}
-use Rattle.brace_herd.proofs.TableLemmas.{extended_next, extended_all}
+use Rattle.std.proofs.Common.{◌≡◌, ◌∙◌, arith, ap, length}
+use Rattle.brace_herd.proofs.TableLemmas.{extended_to, extended_next, extended_all}
 use Rattle.brace_herd.proofs.table.more_words.Goals as goal
 
 pub loop-state-preserved : goal.loop-state-preserved
@@ -8,4 +8,7 @@ loop-state-preserved c =
     c.index_mut.result.now c.extend.new.self (omega arith) c.loop-state.invariant c.index_mut.ensures.value c.in_ok-extend.ensures
 
 pub returns : goal.returns
-returns c = c.loop-state.invariant ∙ extended_all c.args.agents.now c.args.columns.items
+returns c =
+    let all : c.loop-state.state ≡ length c.args.columns.items = omega arith in
+    c.loop-state.invariant ∙ ap (extended_to c.args.agents.now c.args.columns.items) all
+    ∙ extended_all c.args.agents.now c.args.columns.items

@@ -25,6 +25,6 @@ returns-clause-within c =
 
 pub returns-clause-found : goal.returns-clause-found
 returns-clause-found c =
-    seen_found c.self.now c.args.around.now c.args.area.now (side_there _ _ _ c.self.view_is c.self.invariant) c.requires.around c.requires.beside
+    seen_found c.args.self.now c.args.around.now c.args.area.now (side_there _ _ _ c.self.view_is c.self.invariant) c.requires.around c.requires.beside
     _ _ (c.xs.ensures ∙ ap (λ (f : OnField). xs_of f.table) c.self.view_is) (c.ys.ensures ∙ ap (λ (f : OnField). ys_of f.table) c.self.view_is)
     _ c.around_into.ensures.found

@@ -1,4 +1,4 @@
-use Rattle.std.proofs.Common.{sym, subst}
+use Rattle.std.proofs.Common.{subst}
 use Rattle.brace_herd.specs.declared.schema.Schema.{Schema}
 use Rattle.brace_herd.specs.Herds.{AreOf}
 use Rattle.brace_herd.proofs.HerdLemmas.{schemas, both_apart, both_herd}

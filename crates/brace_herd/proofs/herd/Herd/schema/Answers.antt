@@ -1,5 +1,4 @@
 use Rattle.std.proofs.Common.{◌∙◌, sym, subst}
-use Rattle.brace_herd.specs.declared.schema.Schema.{Schema}
 use Rattle.brace_herd.specs.Herds.{IsSchema}
 use Rattle.brace_herd.proofs.HerdLemmas.{schemas, herd_fits, herd_rises}
 use Rattle.brace_herd.proofs.herd.Herd.schema.Goals as goal

@@ -9,4 +9,4 @@ column-requires c =
     omega (arith, c.self.invariant.placed.y, ap (λ (s : Schema). length s.types) (schema_is _ _ _ _ c.self.view_is))
 
 pub returns : goal.returns
-returns c = c.column.ensures ∙ ap (λ (s : Schema). map (word_at s.y) c.self.now.agents) (schema_is _ _ _ _ c.self.view_is)
+returns c = c.column.ensures ∙ ap (λ (s : Schema). map (word_at s.y) c.args.self.now.agents) (schema_is _ _ _ _ c.self.view_is)
