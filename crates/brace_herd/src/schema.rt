@@ -2,7 +2,7 @@ ghost use Rattle.std.specs.Prelude.{◌≡◌, ◌<◌, ◌↔◌, length, map, 
 ghost use Rattle.brace_model.specs.Typing.{same_type, type_of_value};
 ghost use Rattle.brace_herd.specs.Herds.{IsSchema, IsOf, AreOf, schema_of};
 
-use brace_model::{Agent, Class, Ty, Value};
+use brace_model::{Agent, Class, State, Ty, Value};
 use brace_num::{List, NoMemory};
 use std::alloc::Global;
 
@@ -24,8 +24,7 @@ impl Schema {
         ensures schema { IfOk result (λ schema. schema ≡ schema_of number class.now) }
         ensures placed { IfOk result IsSchema }
     {
-        let states = class.states.as_slice();
-        let types = states.iter().map(|state| state.ty).collect(alloc)?;
+        let types = types_of(alloc, class.states.as_slice())?;
         Ok(Schema {
             class: number,
             types: List::from_vec(types),
@@ -60,6 +59,17 @@ impl Schema {
     {
         a.class == self.class && have_types(a.states.as_slice(), self.types.as_slice())
     }
+}
+
+/// The types of states.
+fn types_of(alloc: Global, states: &[State]) -> Result<Vec<Ty>, NoMemory>
+    ensures { IfOk result (λ types. types.items ≡ map (λ s. s.ty) states.now) }
+{
+    let mut types = Vec::with_capacity(alloc, states.len())?;
+    for state in states {
+        types.push(state.ty)?;
+    }
+    Ok(types)
 }
 
 /// Whether values are of types.

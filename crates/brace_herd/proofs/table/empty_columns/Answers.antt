@@ -4,4 +4,4 @@ use Rattle.brace_herd.proofs.table.empty_columns.Goals as goal
 
 pub loop-state-preserved : goal.loop-state-preserved
 loop-state-preserved c =
-    pushed_at (λ i. []) c.loop-state.state c.none.result _ _ c.in_ok-push.ensures.items c.loop-state.invariant c.none.ensures
+    pushed_at (λ i. []) c.loop-state._state c.none.result _ _ c.in_ok-push.ensures.items c.loop-state.invariant c.none.ensures
