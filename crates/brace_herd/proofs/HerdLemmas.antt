@@ -1,7 +1,7 @@
 -- Agents by rising id, as tables have them.
 use Rattle.std.proofs.Common.{◌≡◌, ◌∙◌, ◌<◌, ℕ, ℤ, pos, Bool, not, nat_eq, List, [], ◌++◌, map, filter, length, get_or, sym, refl, ap, ap₂, subst}
 use Rattle.std.specs.List.{All, IsDistinct}
-use Rattle.std.specs.List.Sorted.{IsPermutation, IsStrictlyIncreasing}
+use Rattle.std.specs.List.Sorted.{IsPermutation}
 use Rattle.std.proofs.lemmas.List.{get_or-map, length-map}
 use Rattle.std.proofs.lemmas.List.Sorted.{IsPermutation-sym, IsPermutation-map, IsPermutation-append_left, IsPermutation-filter_both, length_permutation, All-permutation}
 use Rattle.brace_num.specs.Orders.{by_key}

@@ -1,7 +1,6 @@
 -- What stands in an area stands in the cells that the area touches, and three runs hold those.
-use Rattle.std.proofs.Common.{◌≡◌, ◌∙◌, ◌<◌, ◌≤◌, ◌+◌, ◌-◌, ◌⊎◌, ℕ, ℤ, pos, ◌≤ℤ◌, int_le, Bool, true, false, List, [], ◌++◌, filter, length, get_or, append-nil, sym, ap, ap₂, arith, inl, inr, ⊎_elim}
+use Rattle.std.proofs.Common.{◌≡◌, ◌∙◌, ◌<◌, ◌≤◌, ◌-◌, ◌⊎◌, ℕ, ℤ, pos, ◌≤ℤ◌, int_le, Bool, true, false, List, [], ◌++◌, filter, length, get_or, append-nil, sym, ap, ap₂, arith, inl, inr, ⊎_elim}
 use Rattle.std.specs.List.{range_with_len}
-use Rattle.std.specs.Int.{int_div_euclid}
 use Rattle.std.proofs.lemmas.Bool.{cases_Bool, and_parts}
 use Rattle.std.proofs.lemmas.Int.{ints}
 use Rattle.std.proofs.lemmas.List.{append_assoc}

@@ -1,6 +1,6 @@
 -- Agents by place, as columns have them.
 use Rattle.std.proofs.Common.{◌≡◌, ◌∙◌, ◌<◌, ◌≤◌, ◌+◌, ◌-◌, ◌⊎◌, ℕ, ℤ, pos, List, [], ◌∷◌, ◌++◌, map, length, get_or, set, drop, true, false, sym, refl, ap, ap₂, subst, arith, inl, inr}
-use Rattle.std.specs.List.{All, range_with_len}
+use Rattle.std.specs.List.{All}
 use Rattle.std.proofs.lemmas.Bool.{cases_lt}
 use Rattle.std.proofs.lemmas.List.{get_or-map, length-map, length-append, get_or_default, get_or_append_left, get_or-append_right, append_assoc, append-nil, length-drop, drop_more, drop_all}
 use Rattle.std.proofs.Math.Seq.{set-append_seam}

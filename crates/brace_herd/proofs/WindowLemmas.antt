@@ -1,5 +1,5 @@
 -- A range test by one subtraction and one comparison.
-use Rattle.std.proofs.Common.{◌≡◌, ◌∙◌, ◌<◌, ◌≤◌, ◌+◌, ◌-◌, ◌%◌, ◌^◌, ◌⊎◌, ℕ, suc, ℤ, pos, negsuc, ◌+ℤ◌, ◌-ℤ◌, ◌≤ℤ◌, ◌<ℤ◌, nat_abs, FitsSigned, w64, of_z, to_z, leb, int_le, Bool, true, false, ◌&&◌, refl, sym, ap, ap₂, subst, arith, inl, inr}
+use Rattle.std.proofs.Common.{◌≡◌, ◌∙◌, ◌<◌, ◌+◌, ◌-◌, ◌%◌, ◌^◌, ◌⊎◌, ℕ, suc, ℤ, pos, negsuc, ◌+ℤ◌, ◌-ℤ◌, ◌≤ℤ◌, ◌<ℤ◌, nat_abs, FitsSigned, w64, of_z, to_z, leb, int_le, Bool, true, false, ◌&&◌, refl, sym, ap, ap₂, subst, arith, inl, inr}
 use Rattle.std.specs.Int.{int_div_euclid, saturate_signed}
 use Rattle.std.proofs.lemmas.Bool.{and_parts, and_from, leb-true, le-leb, lt-leb}
 use Rattle.std.proofs.lemmas.Int.{ints, to_z-of_z}
