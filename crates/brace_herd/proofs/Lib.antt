@@ -1,0 +1,13 @@
+pub mod CellLemmas
+pub mod FieldLemmas
+pub mod HerdLemmas
+pub mod KeyLemmas
+pub mod LawfulLemmas
+pub mod NumberLemmas
+pub mod OrderLemmas
+pub mod PlaceLemmas
+pub mod SchemaLemmas
+pub mod SightLemmas
+pub mod SpotLemmas
+pub mod TableLemmas
+pub mod WindowLemmas

@@ -1,0 +1,4 @@
+pub mod Moved
+pub mod Orders
+pub mod Ranks
+pub mod Windows
