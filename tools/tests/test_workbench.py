@@ -7,6 +7,7 @@ The rows that the page gets are those of `brace run`. With --picture the page is
 while an example runs. Run by hand; where Chromium is not installed the page's tests are left out.
 """
 import argparse
+import contextlib
 import hashlib
 import json
 import os
@@ -100,6 +101,19 @@ class Page:
 
     def script(self):
         return self.value("document.querySelector('textarea').value")
+
+    @contextlib.contextmanager
+    def late(self, act):
+        """The answer of an act comes at the end of this."""
+        self.do(f"""window.fetched = window.fetch;
+            window.fetch = async (asked, ...more) => {{
+                const answer = await fetched(asked, ...more);
+                if (asked === '{act}') await new Promise(done => {{ window.free = done; }});
+                return answer;
+            }};""")
+        yield
+        self.until("Boolean(window.free)")
+        self.do("window.fetch = fetched; free(); window.free = null;")
 
     def run(self):
         """Runs to the end; answers what is said of it."""
@@ -231,10 +245,12 @@ def check_format(checks, page, program):
     """Format writes the canonical text, and warns where there are comments."""
     page.open("example", "epidemic")
     command = "./brace fmt --script examples/epidemic/epidemic.brasil"
-    for warnings in (1, 0):
+    for more, warnings in (("", 1), ("\n\n", 0)):
+        script = page.script() + more
+        page.write(script)
         page.do("asked = []")
         page.click("fmt")
-        page.until("!document.querySelector('textarea').value.includes('//')")
+        page.until(f"document.querySelector('textarea').value !== {json.dumps(script)}")
         checks.same("canonical text", page.script(), said(program, command).decode())
         checks.same("warned", page.value("asked.length"), warnings)
 
@@ -287,6 +303,25 @@ def check_fault(checks, page):
         }
         return count > 60;
     })()"""), True)
+
+
+def check_late(checks, page):
+    """What is written while Format or a run is at work stays, and gets no mark of another text."""
+    page.write(FAULTY)
+    with page.late("fmt"):
+        page.click("fmt")
+        page.write(WALK)
+    time.sleep(0.5)
+    checks.same("written while Format is at work", page.script(), WALK)
+    page.write(FAULTY)
+    with page.late("end"):
+        page.click("run")
+        page.until("Boolean(window.free)")
+        page.write(WALK)
+    page.until("!document.getElementById('run').disabled")
+    checks.same("the run's end is told", page.text("status").startswith("Status 7: "), True)
+    checks.same("written while a run is at work", page.value(
+        "document.querySelector('#editor .fault')"), None)
 
 
 def check_sweep(checks, page):
@@ -413,6 +448,7 @@ def check_page(checks, program, chromium, picture):
                 check_faulty(checks, page)
                 check_stop(checks, page)
                 check_fault(checks, page)
+                check_late(checks, page)
                 check_sweep(checks, page)
                 check_folder(checks, page, folder)
                 check_many(checks, page)

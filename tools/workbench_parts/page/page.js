@@ -34,16 +34,18 @@ function open({ name, script, scriptPath = null, was = null }, isMine) {
 }
 
 async function openChosen() {
-  const [kind, name] = $('models').value.split(' ');
+  const option = $('models').value, [kind, name] = option.split(' ');
   if (!kind) return;
-  if (!mayLeave()) {
-    $('models').value = model.option ?? '';
-    return;
-  }
   try {
     const found = await ask('open', { kind, name });
+    // Meanwhile another one may have been chosen.
+    if ($('models').value !== option) return;
+    if (!mayLeave()) {
+      $('models').value = model.option ?? '';
+      return;
+    }
     open(found, kind === 'script');
-    model.option = $('models').value;
+    model.option = option;
     if (found.agents !== undefined) world.take(found.agents, found.agentsName, found.agentsPath);
     if (found.ticks !== undefined) $('ticks').value = found.ticks;
     showState();
@@ -60,9 +62,11 @@ function mayLeave() {
 async function openFile(input) {
   const [file] = input.files;
   input.value = '';  // so that the same file can be chosen again
-  if (!file || !mayLeave()) return;
+  if (!file) return;
   const name = file.name.replace(/\.\w+$/, '').replace(/[^\w.+-]/g, '_');
-  open({ name: `${name || 'model'}.brasil`, script: await file.text() }, false);
+  const script = await file.text();
+  if (!mayLeave()) return;
+  open({ name: `${name || 'model'}.brasil`, script }, false);
   $('models').value = model.option = '';
   showState();
 }
@@ -102,11 +106,17 @@ async function check() {
 }
 
 async function fmt() {
-  const comments = /\/\/|\/\*/.test(editor.text);
-  if (comments && !confirm('Format drops all comments, sliders too. Go on?')) return;
-  const found = await ask('fmt', { name: model.name, script: editor.text });
-  if (found.status === 0) editor.replace(0, editor.text.length, found.text);
-  else check();
+  const { text } = editor, hasComments = /\/\/|\/\*/.test(text);
+  if (hasComments && !confirm('Format drops all comments, sliders too. Go on?')) return;
+  try {
+    const found = await ask('fmt', { name: model.name, script: text });
+    // What was written meanwhile stays.
+    if (editor.text !== text) return;
+    if (found.status === 0) editor.replace(0, text.length, found.text);
+    else check();
+  } catch (error) {
+    say(error.message);
+  }
 }
 
 /** Saves into the folder given: over the file that was opened, or under a new name. */

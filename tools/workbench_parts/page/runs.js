@@ -21,7 +21,7 @@ function settings() {
 export class Runs {
   /** `faulted` is told the place of a fault, or null where a run begins. */
   constructor(model, world, viewer, faulted) {
-    Object.assign(this, { model, world, viewer, faulted, run: null, ticks: 0 });
+    Object.assign(this, { model, world, viewer, faulted, run: null, ticks: 0, script: '' });
     $('cuts').replaceChildren(...CUTS.map(cut => new Option(cut, cut)));
     $('settings').addEventListener('submit', event => {
       event.preventDefault();
@@ -48,7 +48,7 @@ export class Runs {
     this.begin(asked.ticks);
     try {
       const answer = await post('run', {
-        ...asked, name: this.model.name, script: this.model.text, agents: this.world.text,
+        ...asked, name: this.model.name, script: this.script, agents: this.world.text,
       });
       this.run = answer.headers.get('Run');
       $('stop').disabled = false;
@@ -60,14 +60,14 @@ export class Runs {
   }
 
   begin(ticks) {
-    this.ticks = ticks;
+    Object.assign(this, { ticks, script: this.model.text });
     this.faulted(null);
     this.say('Running.');
     $('stats').textContent = '';
     $('bar').value = 0;
     $('barText').textContent = '';
     $('run').disabled = true;
-    this.viewer().begin(this.model.name, this.model.text);
+    this.viewer().begin(this.model.name, this.script);
   }
 
   /** Hands the rows over to the viewer, and moves the bar. */
@@ -108,7 +108,8 @@ export class Runs {
     const { status, message, agent, outer, inner } = ending;
     $('status').replaceChildren(element('span', `Status ${status}: ${message}`, 'bad'));
     $('stats').replaceChildren(told(ending));
-    this.faulted(ending);
+    // The place is one of the script that ran.
+    if (this.model.text === this.script) this.faulted(ending);
     if (status === 7) this.viewer().mark([agent, outer, inner].filter(id => id !== null));
   }
 
