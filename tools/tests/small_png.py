@@ -4,6 +4,8 @@ import struct
 import zlib
 
 SIGNATURE = b"\x89PNG\r\n\x1a\n"
+# So many colours there are at most, and so many of them, the most frequent, stay as they are.
+MOST, OWN = 256, 64
 
 
 def chunks(png):
@@ -57,12 +59,16 @@ def spread(colours):
 
 
 def palette(lines):
-    """To each colour the number of its box, and the most frequent colour of each box, at most 256.
+    """To each colour its number, and the colours: the most frequent, and one a box of others.
 
     The box that reaches farthest is parted until there are enough, so that rare colours stay."""
     counts = collections.Counter(colour for line in lines for colour in line)
-    boxes = [(*spread(counts), list(counts))]
-    while len(boxes) < 256 and max(boxes)[0] > 0:
+    own = [colour for colour, _ in counts.most_common(OWN)]
+    boxes = [(*spread([colour]), [colour]) for colour in own]
+    others = [colour for colour in counts if colour not in own]
+    if others:
+        boxes.append((*spread(others), others))
+    while len(boxes) < MOST and max(boxes)[0] > 0:
         widest = max(boxes)
         _, part, middle, colours = widest
         boxes.remove(widest)
