@@ -394,23 +394,24 @@ plain_serves {O = O} of_shelf of_sink asked s m o n p w r task kept is prepared 
     (none_serves of_shelf of_sink asked s m n p r task ready (run.written bare) (run.plain bare) run.writes run.clean)
 
 -- a task that saves files, and that was carried out on the shelf, serves its command
-pub saving_serves : {S O : Type 0} (of_shelf : shelf_trait.Ghosts S) (of_sink : sink_trait.Ghosts O) (asked : Option Command) (s m t : S) (o n p : O) (w : Result Work Stopped) (r : Result Answer Stopped)
-    (task : Task) → w ≡ Ok (work.Saving task) → IsPrepared of_shelf of_sink asked s m o n w → IsRunOf of_sink task (shelf_call of_shelf m t) n p r → IsServed of_shelf of_sink asked s t o p r
-saving_serves {O = O} of_shelf of_sink asked s m t o n p w r task is prepared run =
+pub saving_serves : {S O : Type 0} (of_shelf : shelf_trait.Ghosts S) (of_sink : sink_trait.Ghosts O) (asked : Option Command) (s m u t : S) (o n p : O) (w : Result Work Stopped) (r : Result Answer Stopped)
+    (task : Task) → w ≡ Ok (work.Saving task) → IsPrepared of_shelf of_sink asked s m o n w → IsRunOf of_sink task (shelf_call of_shelf m u) n p r → u ≡ t → IsServed of_shelf of_sink asked s t o p r
+saving_serves {S = S} {O = O} of_shelf of_sink asked s m u t o n p w r task is prepared run left =
     let (ready, begins, same, saves) = subst (IsPrepared of_shelf of_sink asked s m o n) is prepared in
-    let earlier : shelf_call of_shelf m t ≡ shelf_call of_shelf s t = ap (λ (h : Option Files). begun_with h (of_shelf.faults m)) ready.unsaved ∙ ap (begun_with (of_shelf.held s)) ready.counts in
-    let later : IsRunOf of_sink task (shelf_call of_shelf s t) n p r = subst (λ (c : ShelfCall). IsRunOf of_sink task c n p r) earlier run in
-    subst (λ (x : O). IsServed of_shelf of_sink asked s t x p r) same
-    (work_serves of_shelf of_sink asked s t n p r (λ x. x ≡ outcome_of task) ready.is_command (is_of ready) later.carried_out
-    later.work later.counts (λ never. let e : true ≡ false = sym saves ∙ never in absurd cc) later.stops later.writes later.clean)
+    let earlier : shelf_call of_shelf m u ≡ shelf_call of_shelf s u = ap (λ (h : Option Files). begun_with h (of_shelf.faults m)) ready.unsaved ∙ ap (begun_with (of_shelf.held s)) ready.counts in
+    let later : IsRunOf of_sink task (shelf_call of_shelf s u) n p r = subst (λ (c : ShelfCall). IsRunOf of_sink task c n p r) earlier run in
+    subst (λ (x : S). IsServed of_shelf of_sink asked s x o p r) left
+    (subst (λ (x : O). IsServed of_shelf of_sink asked s u x p r) same
+    (work_serves of_shelf of_sink asked s u n p r (λ x. x ≡ outcome_of task) ready.is_command (is_of ready) later.carried_out
+    later.work later.counts (λ never. let e : true ≡ false = sym saves ∙ never in absurd cc) later.stops later.writes later.clean))
   where
     begun_with : Option Files → ℕ → ShelfCall
     begun_with held faults = record {
       held = held;
-      held_after = of_shelf.held t;
-      stage = of_shelf.stage t;
+      held_after = of_shelf.held u;
+      stage = of_shelf.stage u;
       faults_before = faults;
-      faults_after = of_shelf.faults t;
+      faults_after = of_shelf.faults u;
     }
 
 -- ---- what the parts carry out that save nothing
