@@ -14,7 +14,6 @@ use Rattle.brace_model.specs.declared.program.Program.{Program}
 use Rattle.brace_model.specs.Lawful.{LawfulProgram, LawfulAgents}
 use Rattle.brace_model.specs.Next.{has_births}
 use Rattle.brace_model.specs.World.{World, IsNumbered, world_of}
-use Rattle.brace_pieces.specs.declared.setting.Setting.{Setting}
 use Rattle.brace_pieces.specs.Settings.{LawfulSetting}
 use Rattle.brace_rows.specs.declared.kinds.RowFault.{RowFault}
 use Rattle.brace_rows.specs.declared.kinds.RowFault.TheVariants as row_fault

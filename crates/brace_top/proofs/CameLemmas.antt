@@ -32,7 +32,7 @@ use Rattle.brace_top.specs.declared.answer.Answer.{Answer}
 use Rattle.brace_top.specs.declared.answer.Stopped.{Stopped}
 use Rattle.brace_top.specs.declared.answer.Stopped.TheVariants as stopped
 use Rattle.brace_top.specs.declared.status.Status.{Status}
-use Rattle.brace_top.specs.declared.status.Status.TheVariants.{Done, Fault, ReadFault, WriteFault, SaveFault, NoMemory}
+use Rattle.brace_top.specs.declared.status.Status.TheVariants.{Done, Fault, WriteFault, SaveFault, NoMemory}
 use Rattle.brace_top.specs.declared.task.Task.{Task}
 use Rattle.brace_top.specs.declared.command.TrialCommand.{TrialCommand as CodeTrial}
 use Rattle.brace_top.specs.Answer.{ShelfCall, SinkCall, sink_call, IsBehind, HasSaved, IsHalfSaved, LeavesFront, IsHalted, CountsShelf, CountsWrites}

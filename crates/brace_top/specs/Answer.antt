@@ -73,7 +73,7 @@ pub record IsHalted (shelf : ShelfCall) : Type 0 where
   pub name : List ℕ
   pub at_name : StoppedAt shelf.held_after shelf.stage name
 
--- the shelf stopped where a read fault or a save fault is answered, whether it tells its files or not
+-- the shelf stopped where a read fault or a save fault is answered, also one that tells no files
 pub record StopsShelf (shelf : ShelfCall) (status : Status) : Type 0 where
   pub read : status ≡ ReadFault → IsHalted shelf
   pub saved : status ≡ SaveFault → IsHalted shelf
