@@ -6,7 +6,7 @@ use Rattle.std.proofs.lemmas.List.{take_all}
 use Rattle.brace_io.specs.declared.shelf.Shelf as shelf_trait
 use Rattle.brace_io.specs.declared.sink.Sink as sink_trait
 use Rattle.brace_io.specs.Counts.{Rose}
-use Rattle.brace_io.specs.Shelves.{Files, Holds}
+use Rattle.brace_io.specs.Shelves.{Files, Holds, StoppedAt}
 use Rattle.brace_io.specs.Sinks.{with_piece, Gains, GainsFront}
 use Rattle.brace_cuts.specs.declared.plan.CutPlan.{CutPlan}
 use Rattle.brace_cuts.specs.CutPlans.{IsPlan}
@@ -14,8 +14,6 @@ use Rattle.brace_model.specs.declared.program.Program.{Program}
 use Rattle.brace_model.specs.Lawful.{LawfulProgram, LawfulAgents}
 use Rattle.brace_model.specs.Next.{has_births}
 use Rattle.brace_model.specs.World.{World, IsNumbered, world_of}
-use Rattle.brace_model.specs.Run.{end_of}
-use Rattle.brace_pieces.specs.declared.setting.Setting.{Setting}
 use Rattle.brace_pieces.specs.Settings.{LawfulSetting}
 use Rattle.brace_rows.specs.declared.kinds.RowFault.{RowFault}
 use Rattle.brace_rows.specs.declared.kinds.RowFault.TheVariants as row_fault
@@ -28,7 +26,7 @@ use Rattle.brace_words.specs.declared.fault.LineFault.TheVariants as line_fault
 use Rattle.brace_top.specs.declared.answer.Answer.{Answer}
 use Rattle.brace_top.specs.declared.answer.Stopped.{Stopped}
 use Rattle.brace_top.specs.declared.answer.Stopped.TheVariants as stopped_is
-use Rattle.brace_top.specs.declared.limits.TheConstants.{AGENTS_LIMIT}
+use Rattle.brace_top.specs.Limits.{agents_limit}
 use Rattle.brace_top.specs.declared.script_fault.ScriptFault.{ScriptFault}
 use Rattle.brace_top.specs.declared.script_fault.ScriptFault.TheVariants as script_fault
 use Rattle.brace_top.specs.declared.status.Status.{Status}
@@ -36,18 +34,17 @@ use Rattle.brace_top.specs.declared.status.Status.TheVariants.{Done, Usage, Scri
 use Rattle.brace_top.specs.declared.prepare.Work.{Work}
 use Rattle.brace_top.specs.declared.prepare.Work.TheVariants as work
 use Rattle.brace_top.specs.declared.task.Task.{Task}
-use Rattle.brace_top.specs.declared.words.RunCommand.{RunCommand as CodeRun}
-use Rattle.brace_top.specs.declared.words.TrialCommand.{TrialCommand as CodeTrial}
-use Rattle.brace_top.specs.Answer.{ShelfCall, SinkCall, shelf_call, sink_call, Among, HasSaved, LeavesAll, LeavesFront, IsEnd, IsAnswer, CountsShelf, CountsReads, CountsWrites}
+use Rattle.brace_top.specs.declared.command.RunCommand.{RunCommand as CodeRun}
+use Rattle.brace_top.specs.Answer.{ShelfCall, SinkCall, shelf_call, sink_call, Among, HasSaved, LeavesAll, LeavesFront, IsEnd, IsAnswer, StopsShelf, CountsShelf, CountsReads, CountsWrites}
 use Rattle.brace_top.specs.Commands.{Command, RunCommand, TrialCommand, Run, Trial, is_anew, command_of, may_save, workers_of, workers_asked}
 use Rattle.brace_top.specs.Messages.{usage_message, write_fault_message, no_memory_message}
-use Rattle.brace_top.specs.Outcome.{Outcome, Refusal, TrialProgram, ProgramOf, refusal, refused, loaded, ComesTo, refused_at, stands_for, unless_faulty, world_from, agents_of, BeginsAt, plan_of, setting_of, ran, RunFrom, FollowedBy, RunOutcome, CommandOutcome, Reads, reads_plan, trial_end}
+use Rattle.brace_top.specs.Outcome.{Outcome, Refusal, TrialProgram, ProgramOf, refusal, refused, loaded, ComesTo, refused_at, stands_for, unless_faulty, world_from, agents_of, BeginsAt, plan_of, setting_of, ran, RunFrom, FollowedBy, RunOutcome, CommandOutcome, Reads, reads_plan}
 use Rattle.brace_top.specs.Savings.{Saving, with_saved}
 use Rattle.brace_top.specs.Status.{has_run}
-use Rattle.brace_top.specs.inner.Settled.{is_work, is_plain_work, stopped_status, status_in, message_in, IsOf, IsRefusedAs, IsScriptRefused, IsRecordRefused, refuses_file, is_stop, GivesNothing, IsLoaded, IsUnloaded, IsStopped, IsCarriedOut, IsWritten, IsRunOf, IsServed, outcome_of}
-use Rattle.brace_top.specs.inner.Prepared.{IsStoppedBefore, IsReadyRun, IsReadyTrial, IsPrepared}
-use Rattle.brace_top.specs.inner.Words.{said_run, said_trial, IsReadAs, IsUnasked, IsRunInRange}
-use Rattle.brace_top.proofs.StatusLemmas.{stop_runs, stop_usage, stop_writes, work_refusal, work_saves, work_usage, plain_works, plain_counts, stop_reads, plain_reads}
+use Rattle.brace_top.specs.inner.Settled.{is_work, is_plain_work, stopped_status, stopped_message, status_in, message_in, IsOf, IsRefusedAs, IsScriptRefused, IsRecordRefused, refuses_file, is_stop, GivesNothing, IsLoaded, IsUnloaded, IsStopped, IsCarriedOut, IsWritten, IsRunOf, IsServed, outcome_of}
+use Rattle.brace_top.specs.inner.Prepared.{IsStoppedBefore, IsReady, IsPrepared}
+use Rattle.brace_top.specs.inner.Words.{said_run, IsReadAs, IsUnasked, IsRunInRange}
+use Rattle.brace_top.proofs.StatusLemmas.{stop_runs, stop_usage, stop_writes, work_refusal, work_saves, work_usage, plain_works, plain_stops, plain_counts, stop_reads, plain_reads}
 
 -- ---- what is not loaded
 
@@ -165,7 +162,7 @@ script_unloads means refuses source name src shelf script_fault.NoMemory stopped
 
 -- an agent file that is refused for a record
 pub record_unloads : (program : Program) (name bytes : List ℕ) (shelf : ShelfCall) (fault : RowFault) (stopped : Stopped)
-    → shelf.faults_after ≡ shelf.faults_before → ((files : Files) → shelf.held ≡ Some files → loaded Agents AGENTS_LIMIT name (files name) ≡ Ok bytes)
+    → shelf.faults_after ≡ shelf.faults_before → ((files : Files) → shelf.held ≡ Some files → loaded Agents agents_limit name (files name) ≡ Ok bytes)
     → ((number : ℕ) (kind : RowKind) → fault ≡ row_fault.Bad number kind → file.first_fault program (file.records_of bytes) ≡ Some (number, kind))
     → IsRecordRefused name fault stopped → IsUnloaded (λ files found. agents_of files program name ≡ found) name shelf stopped
 record_unloads program name bytes shelf (row_fault.Bad number kind) stopped same source first is =
@@ -237,6 +234,14 @@ stop_before of_shelf command s t comes_to name e reads up held is =
       stopped = stops P name (Some command) (shelf_call of_shelf s t) _ _ reads up is.nothing;
       stops = nothing_stops P name (shelf_call of_shelf s t) _ _ is.nothing;
       counts = is.counts;
+      halts = record {
+        read = λ failed.
+            let unread = subst (GivesNothing P name (shelf_call of_shelf s t) (stopped_message e)) failed is.nothing in
+            record { name = name; at_name = subst (λ (h : Option Files). StoppedAt h (of_shelf.stage t) name) (sym held) unread.stopped };
+        saved = λ f.
+            let g : is_stop SaveFault ≡ true = subst (λ (x : Status). is_stop x ≡ true) f (nothing_stops P name (shelf_call of_shelf s t) _ _ is.nothing) in
+            absurd cc;
+      };
       unsaved = held;
     }
 
@@ -266,6 +271,7 @@ stopped_serves of_shelf of_sink command s t o e is = record {
   no_command = λ none. absurd cc;
   counts = is.counts;
   reads = λ never. stop_reads (shelf_call of_shelf s t) _ is.stops is.counts;
+  stops = is.halts;
   writes = stop_writes (sink_call of_sink o o) _ is.stops;
   untouched = λ r. refl;
   untouched_by_usage = λ e. refl;
@@ -332,18 +338,20 @@ answers these files command shelf out message status up is =
     carried_answer files command shelf out message status (carried_as files these (CommandOutcome files command) shelf out message status up is)
 
 -- a command whose work was carried out is served
-work_serves : {S O : Type 0} (of_shelf : shelf_trait.Ghosts S) (of_sink : sink_trait.Ghosts O) (command : Command) (s t : S) (o p : O) (r : Result Answer Stopped)
-    (these : Outcome → Type 0) → ((files : Files) (x : Outcome) → of_shelf.held s ≡ Some files → these x → CommandOutcome files (Some command) x)
+work_serves : {S O : Type 0} (of_shelf : shelf_trait.Ghosts S) (of_sink : sink_trait.Ghosts O) (asked : Option Command) (s t : S) (o p : O) (r : Result Answer Stopped)
+    (these : Outcome → Type 0) → (asked ≡ None → ⊥) → ((files : Files) (x : Outcome) → of_shelf.held s ≡ Some files → these x → CommandOutcome files asked x)
     → ((files : Files) → of_shelf.held s ≡ Some files → IsCarriedOut files these (shelf_call of_shelf s t) (sink_call of_sink o p) (message_in r) (status_in r))
-    → is_work (status_in r) ≡ true → CountsShelf (shelf_call of_shelf s t) (status_in r) → CountsWrites (sink_call of_sink o p) (status_in r)
-    → (may_save (Some command) ≡ false → CountsReads (shelf_call of_shelf s t) (status_in r))
-    → (has_run (status_in r) ≡ true → of_sink.clean p ≡ true) → IsServed of_shelf of_sink (Some command) s t o p r
-work_serves of_shelf of_sink command s t o p r these up is work counts writes reads clean = record {
-  answered = λ files told. answers these files (Some command) (shelf_call of_shelf s t) (sink_call of_sink o p) _ _ (λ x of_these. up files x told of_these) (is files told);
+    → is_work (status_in r) ≡ true → CountsShelf (shelf_call of_shelf s t) (status_in r)
+    → (may_save asked ≡ false → CountsReads (shelf_call of_shelf s t) (status_in r)) → StopsShelf (shelf_call of_shelf s t) (status_in r)
+    → CountsWrites (sink_call of_sink o p) (status_in r)
+    → (has_run (status_in r) ≡ true → of_sink.clean p ≡ true) → IsServed of_shelf of_sink asked s t o p r
+work_serves of_shelf of_sink asked s t o p r these is_command up is work counts reads stops writes clean = record {
+  answered = λ files told. answers these files asked (shelf_call of_shelf s t) (sink_call of_sink o p) _ _ (λ x of_these. up files x told of_these) (is files told);
   usage = λ e. absurd (work_usage _ work e);
-  no_command = λ none. absurd cc;
+  no_command = λ none. absurd (is_command none);
   counts = counts;
   reads = reads;
+  stops = stops;
   writes = writes;
   untouched = work_refusal _ _ work;
   untouched_by_usage = λ e. absurd (work_usage _ work e);
@@ -351,77 +359,59 @@ work_serves of_shelf of_sink command s t o p r these up is work counts writes re
   clean = clean;
 }
 
--- a command whose work was carried out on the files of a shelf that was only read before is served
-pub later_work_serves : {S O : Type 0} (of_shelf : shelf_trait.Ghosts S) (of_sink : sink_trait.Ghosts O) (command : Command) (s m t : S) (o p : O) (r : Result Answer Stopped)
-    (these : Outcome → Type 0) → may_save (Some command) ≡ true → of_shelf.held m ≡ of_shelf.held s → of_shelf.faults m ≡ of_shelf.faults s
-    → ((files : Files) (x : Outcome) → of_shelf.held s ≡ Some files → these x → CommandOutcome files (Some command) x)
-    → ((files : Files) → of_shelf.held m ≡ Some files → IsCarriedOut files these (shelf_call of_shelf m t) (sink_call of_sink o p) (message_in r) (status_in r))
-    → is_work (status_in r) ≡ true → CountsShelf (shelf_call of_shelf m t) (status_in r) → CountsWrites (sink_call of_sink o p) (status_in r)
-    → (has_run (status_in r) ≡ true → of_sink.clean p ≡ true) → IsServed of_shelf of_sink (Some command) s t o p r
-later_work_serves of_shelf of_sink command s m t o p r these saves held faults up is work counts writes clean =
-    let same : shelf_call of_shelf m t ≡ shelf_call of_shelf s t = ap (λ (h : Option Files). begun_with h (of_shelf.faults m)) held ∙ ap (begun_with (of_shelf.held s)) faults in
-    work_serves of_shelf of_sink command s t o p r these up
-    (λ files told. subst (λ (c : ShelfCall). IsCarriedOut files these c (sink_call of_sink o p) (message_in r) (status_in r)) same (is files (held ∙ told)))
-    work (subst (λ (c : ShelfCall). CountsShelf c (status_in r)) same counts) writes (λ never. let e : true ≡ false = sym saves ∙ never in absurd cc) clean
+-- a command that saves nothing, and whose work was carried out, is served
+pub plain_work_serves : {S O : Type 0} (of_shelf : shelf_trait.Ghosts S) (of_sink : sink_trait.Ghosts O) (asked : Option Command) (s t : S) (o p : O) (r : Result Answer Stopped)
+    (these : Outcome → Type 0) → (asked ≡ None → ⊥) → of_shelf.held t ≡ of_shelf.held s → of_shelf.faults t ≡ of_shelf.faults s
+    → ((files : Files) (x : Outcome) → of_shelf.held s ≡ Some files → these x → CommandOutcome files asked x)
+    → IsWritten these (sink_call of_sink o p) (message_in r) (status_in r)
+    → is_plain_work (status_in r) ≡ true → CountsWrites (sink_call of_sink o p) (status_in r)
+    → (has_run (status_in r) ≡ true → of_sink.clean p ≡ true) → IsServed of_shelf of_sink asked s t o p r
+plain_work_serves of_shelf of_sink asked s t o p r these is_command held faults up is work writes clean =
+    work_serves of_shelf of_sink asked s t o p r these is_command up (λ files told. is files (shelf_call of_shelf s t) told held)
+    (plain_works _ work) (plain_counts (shelf_call of_shelf s t) _ work faults) (λ never. plain_reads (shelf_call of_shelf s t) _ work faults)
+    (plain_stops (shelf_call of_shelf s t) _ work) writes clean
+
+-- what a task comes to that can begin is the command's
+abbrev is_of : {S : Type 0} {of_shelf : shelf_trait.Ghosts S} {asked : Option Command} {s m : S} {task : Task} → IsReady of_shelf asked s m task
+    → (files : Files) (x : Outcome) → of_shelf.held s ≡ Some files → x ≡ outcome_of task → CommandOutcome files asked x
+is_of {asked = asked} ready files x told e = subst (CommandOutcome files asked) (sym e) (ready.outcome files told)
+
+-- a task that begins behind its last tick, and that was answered, serves its command
+pub none_serves : {S O : Type 0} (of_shelf : shelf_trait.Ghosts S) (of_sink : sink_trait.Ghosts O) (asked : Option Command) (s m : S) (o p : O) (r : Result Answer Stopped) (task : Task)
+    → IsReady of_shelf asked s m task → IsWritten (λ x. x ≡ outcome_of task) (sink_call of_sink o p) (message_in r) (status_in r)
+    → is_plain_work (status_in r) ≡ true → CountsWrites (sink_call of_sink o p) (status_in r)
+    → (has_run (status_in r) ≡ true → of_sink.clean p ≡ true) → IsServed of_shelf of_sink asked s m o p r
+none_serves of_shelf of_sink asked s m o p r task ready is work writes clean =
+    plain_work_serves of_shelf of_sink asked s m o p r (λ x. x ≡ outcome_of task) ready.is_command ready.unsaved ready.counts (is_of ready) is work writes clean
+
+-- a task that saves nothing, and that was carried out apart from the shelf, serves its command
+pub plain_serves : {S O : Type 0} (of_shelf : shelf_trait.Ghosts S) (of_sink : sink_trait.Ghosts O) (asked : Option Command) (s m : S) (o n p : O) (w : Result Work Stopped) (r : Result Answer Stopped)
+    (task : Task) (kept : ShelfCall) → w ≡ Ok (work.Plain task) → IsPrepared of_shelf of_sink asked s m o n w → IsRunOf of_sink task kept n p r → IsServed of_shelf of_sink asked s m o p r
+plain_serves {O = O} of_shelf of_sink asked s m o n p w r task kept is prepared run =
+    let (ready, begins, same, bare) = subst (IsPrepared of_shelf of_sink asked s m o n) is prepared in
+    subst (λ (x : O). IsServed of_shelf of_sink asked s m x p r) same
+    (none_serves of_shelf of_sink asked s m n p r task ready (run.written bare) (run.plain bare) run.writes run.clean)
+
+-- a task that saves files, and that was carried out on the shelf, serves its command
+pub saving_serves : {S O : Type 0} (of_shelf : shelf_trait.Ghosts S) (of_sink : sink_trait.Ghosts O) (asked : Option Command) (s m u t : S) (o n p : O) (w : Result Work Stopped) (r : Result Answer Stopped)
+    (task : Task) → w ≡ Ok (work.Saving task) → IsPrepared of_shelf of_sink asked s m o n w → IsRunOf of_sink task (shelf_call of_shelf m u) n p r → u ≡ t → IsServed of_shelf of_sink asked s t o p r
+saving_serves {S = S} {O = O} of_shelf of_sink asked s m u t o n p w r task is prepared run left =
+    let (ready, begins, same, saves) = subst (IsPrepared of_shelf of_sink asked s m o n) is prepared in
+    let earlier : shelf_call of_shelf m u ≡ shelf_call of_shelf s u = ap (λ (h : Option Files). begun_with h (of_shelf.faults m)) ready.unsaved ∙ ap (begun_with (of_shelf.held s)) ready.counts in
+    let later : IsRunOf of_sink task (shelf_call of_shelf s u) n p r = subst (λ (c : ShelfCall). IsRunOf of_sink task c n p r) earlier run in
+    subst (λ (x : S). IsServed of_shelf of_sink asked s x o p r) left
+    (subst (λ (x : O). IsServed of_shelf of_sink asked s u x p r) same
+    (work_serves of_shelf of_sink asked s u n p r (λ x. x ≡ outcome_of task) ready.is_command (is_of ready) later.carried_out
+    later.work later.counts (λ never. let e : true ≡ false = sym saves ∙ never in absurd cc) later.stops later.writes later.clean))
   where
     begun_with : Option Files → ℕ → ShelfCall
     begun_with held faults = record {
       held = held;
-      held_after = of_shelf.held t;
-      stage = of_shelf.stage t;
+      held_after = of_shelf.held u;
+      stage = of_shelf.stage u;
       faults_before = faults;
-      faults_after = of_shelf.faults t;
+      faults_after = of_shelf.faults u;
     }
-
--- a command that saves nothing, and whose work was carried out, is served
-pub plain_work_serves : {S O : Type 0} (of_shelf : shelf_trait.Ghosts S) (of_sink : sink_trait.Ghosts O) (command : Command) (s t : S) (o p : O) (r : Result Answer Stopped)
-    (these : Outcome → Type 0) → of_shelf.held t ≡ of_shelf.held s → of_shelf.faults t ≡ of_shelf.faults s
-    → ((files : Files) (x : Outcome) → of_shelf.held s ≡ Some files → these x → CommandOutcome files (Some command) x)
-    → IsWritten these (sink_call of_sink o p) (message_in r) (status_in r)
-    → is_plain_work (status_in r) ≡ true → CountsWrites (sink_call of_sink o p) (status_in r)
-    → (has_run (status_in r) ≡ true → of_sink.clean p ≡ true) → IsServed of_shelf of_sink (Some command) s t o p r
-plain_work_serves of_shelf of_sink command s t o p r these held faults up is work writes clean =
-    work_serves of_shelf of_sink command s t o p r these up (λ files told. is files (shelf_call of_shelf s t) told held)
-    (plain_works _ work) (plain_counts (shelf_call of_shelf s t) _ work faults) writes (λ never. plain_reads (shelf_call of_shelf s t) _ work faults) clean
-
--- what was prepared is a run that can begin, or a trial
-pub prepared_run : {S O : Type 0} (of_shelf : shelf_trait.Ghosts S) (of_sink : sink_trait.Ghosts O) (command : Command) (s m : S) (o n : O) (w : Result Work Stopped) (task : Task)
-    → w ≡ Ok (work.Run task) → IsPrepared of_shelf of_sink command s m o n w
-    → IsReadyRun of_shelf command s m task × (task.setting.job.first ≤ task.setting.job.last) × (n ≡ o)
-prepared_run of_shelf of_sink command s m o n w task is prepared = subst (IsPrepared of_shelf of_sink command s m o n) is prepared
-
-pub prepared_trial : {S O : Type 0} (of_shelf : shelf_trait.Ghosts S) (of_sink : sink_trait.Ghosts O) (command : Command) (s m : S) (o n : O) (w : Result Work Stopped) (trial : CodeTrial) (setting : Setting)
-    → w ≡ Ok (work.Trial trial setting) → IsPrepared of_shelf of_sink command s m o n w → IsReadyTrial command (said_trial trial) setting × (m ≡ s) × (n ≡ o)
-prepared_trial of_shelf of_sink command s m o n w trial setting is prepared = subst (IsPrepared of_shelf of_sink command s m o n) is prepared
-
--- a run that can begin, and whose work is carried out, serves its command
-pub run_serves : {S O : Type 0} (of_shelf : shelf_trait.Ghosts S) (of_sink : sink_trait.Ghosts O) (command : Command) (s m t : S) (o n p : O) (r : Result Answer Stopped) (task : Task)
-    → IsReadyRun of_shelf command s m task × (task.setting.job.first ≤ task.setting.job.last) × (n ≡ o)
-    → IsRunOf of_sink task (shelf_call of_shelf m t) n p r → IsServed of_shelf of_sink (Some command) s t o p r
-run_serves {O = O} of_shelf of_sink command s m t o n p r task (ready, begins, same) run =
-    subst (λ (x : O). IsServed of_shelf of_sink (Some command) s t x p r) same
-    (later_work_serves of_shelf of_sink command s m t n p r (λ x. x ≡ outcome_of task) ready.saves ready.unsaved ready.counts
-    (λ files x told e. subst (CommandOutcome files (Some command)) (sym e) (ready.outcome files told)) run.carried_out run.work run.counts run.writes run.clean)
-
--- a run that begins behind its last tick, and that was answered, serves its command
-pub none_serves : {S O : Type 0} (of_shelf : shelf_trait.Ghosts S) (of_sink : sink_trait.Ghosts O) (command : Command) (s m : S) (o p : O) (r : Result Answer Stopped) (task : Task)
-    → IsReadyRun of_shelf command s m task → IsWritten (λ x. x ≡ outcome_of task) (sink_call of_sink o p) (message_in r) (status_in r)
-    → is_plain_work (status_in r) ≡ true → CountsWrites (sink_call of_sink o p) (status_in r)
-    → (has_run (status_in r) ≡ true → of_sink.clean p ≡ true) → IsServed of_shelf of_sink (Some command) s m o p r
-none_serves of_shelf of_sink command s m o p r task ready is work writes clean =
-    plain_work_serves of_shelf of_sink command s m o p r (λ x. x ≡ outcome_of task) ready.unsaved ready.counts
-    (λ files x told e. subst (CommandOutcome files (Some command)) (sym e) (ready.outcome files told)) is work writes clean
-
--- a trial that can begin, and whose work is carried out, serves its command
-pub trial_serves : {S O : Type 0} (of_shelf : shelf_trait.Ghosts S) (of_sink : sink_trait.Ghosts O) (command : Command) (s m : S) (o n p : O) (r : Result Answer Stopped) (trial : TrialCommand) (setting : Setting)
-    → IsReadyTrial command trial setting × (m ≡ s) × (n ≡ o)
-    → IsWritten (λ x. x ≡ trial_end trial setting (end_of setting.job)) (sink_call of_sink n p) (message_in r) (status_in r)
-    → is_plain_work (status_in r) ≡ true → CountsWrites (sink_call of_sink n p) (status_in r)
-    → (has_run (status_in r) ≡ true → of_sink.clean p ≡ true) → IsServed of_shelf of_sink (Some command) s m o p r
-trial_serves {O = O} of_shelf of_sink command s m o n p r trial setting (ready, same_shelf, same) is work writes clean =
-    subst (λ (x : O). IsServed of_shelf of_sink (Some command) s m x p r) same
-    (plain_work_serves of_shelf of_sink command s m n p r (λ x. x ≡ trial_end trial setting (end_of setting.job)) (ap of_shelf.held same_shelf) (ap of_shelf.faults same_shelf)
-    (λ files x told e. subst (CommandOutcome files (Some command)) (sym e) (ready.outcome files)) is work writes clean)
 
 -- ---- what the parts carry out that save nothing
 
@@ -528,7 +518,7 @@ run_is_lawful run program moment plan range lawful agents numbered first fits = 
 }
 
 -- the world of an agent file
-pub world_read : (program : Program) (files : Files) (name bytes : List ℕ) (world : World) → loaded Agents AGENTS_LIMIT name (files name) ≡ Ok bytes
+pub world_read : (program : Program) (files : Files) (name bytes : List ℕ) (world : World) → loaded Agents agents_limit name (files name) ≡ Ok bytes
     → file.first_fault program (file.records_of bytes) ≡ None → world ≡ world_of (file.by_id (file.agents_in program (file.records_of bytes))) → agents_of files program name ≡ Ok world
 world_read program files name bytes world e none is = ap (world_from program name) e ∙ ap (unless_faulty name _) none ∙ ap (λ (w : World). Ok w) (sym is)
 
@@ -557,10 +547,10 @@ usage_answer found files shelf out e told held same =
     subst (λ (c : Option Command). Among (CommandOutcome files c) (IsEnd files Usage shelf out usage_message)) (sym e)
     (record { one = _; is = refl; holds = record { ends = refl; gained = same; holds = held ∙ told; says = refl } })
 
--- what serves a command serves words that ask for it
-pub asked_serves : {S O : Type 0} (of_shelf : shelf_trait.Ghosts S) (of_sink : sink_trait.Ghosts O) (found : Option Command) (command : Command) (s t : S) (o p : O) (r : Result Answer Stopped)
-    → found ≡ Some command → IsServed of_shelf of_sink (Some command) s t o p r → IsServed of_shelf of_sink found s t o p r
-asked_serves of_shelf of_sink found command s t o p r e is = subst (λ (c : Option Command). IsServed of_shelf of_sink c s t o p r) (sym e) is
+-- what is prepared for a command is prepared for words that ask for it
+pub asked_prepared : {S O : Type 0} (of_shelf : shelf_trait.Ghosts S) (of_sink : sink_trait.Ghosts O) (found : Option Command) (command : Command) (s t : S) (o p : O) (r : Result Work Stopped)
+    → found ≡ Some command → IsPrepared of_shelf of_sink (Some command) s t o p r → IsPrepared of_shelf of_sink found s t o p r
+asked_prepared of_shelf of_sink found command s t o p r e is = subst (λ (c : Option Command). IsPrepared of_shelf of_sink c s t o p r) (sym e) is
 
 -- words of which no command was read are served where nothing was touched
 pub unasked_serves : {S O : Type 0} (of_shelf : shelf_trait.Ghosts S) (of_sink : sink_trait.Ghosts O) (words : List (List ℕ)) (s : S) (o : O) (e : Stopped)
@@ -571,6 +561,7 @@ unasked_serves of_shelf of_sink words s o stopped_is.Usage none = record {
   no_command = λ e. inl refl;
   counts = refl;
   reads = λ never. refl;
+  stops = record { read = λ e. absurd cc; saved = λ e. absurd cc };
   writes = λ e. absurd cc;
   untouched = λ r. refl;
   untouched_by_usage = λ e. refl;
@@ -583,6 +574,7 @@ unasked_serves of_shelf of_sink words s o stopped_is.NoMemory none = record {
   no_command = λ e. inr refl;
   counts = tt;
   reads = λ never. tt;
+  stops = record { read = λ e. absurd cc; saved = λ e. absurd cc };
   writes = λ e. absurd cc;
   untouched = λ r. refl;
   untouched_by_usage = λ e. refl;

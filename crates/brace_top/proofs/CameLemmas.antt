@@ -8,7 +8,7 @@ use Rattle.std.proofs.lemmas.List.Elements.{All-weaker}
 use Rattle.std.proofs.lemmas.List.Sums.{fold-append}
 use Rattle.brace_io.specs.declared.sink.Sink as sink_trait
 use Rattle.brace_io.specs.Counts.{Rose}
-use Rattle.brace_io.specs.Shelves.{Files}
+use Rattle.brace_io.specs.Shelves.{Files, Stage, StoppedAt}
 use Rattle.brace_io.specs.Sinks.{with_piece, Gains, GainsFront}
 use Rattle.brace_model.specs.declared.fault.Fault.{Fault as RunFault}
 use Rattle.brace_model.specs.World.{World}
@@ -23,7 +23,7 @@ use Rattle.brace_crew.specs.declared.publisher.Publisher as publisher
 use Rattle.brace_crew.specs.declared.publisher.PubFault.TheVariants as refusal
 use Rattle.brace_crew.specs.declared.file_publisher.FilePublisher.{FilePublisher}
 use Rattle.brace_crew.specs.declared.keeper.Keeper as keeper_trait
-use Rattle.brace_crew.specs.Calls.{Call, calls, CameBy, CameTo, Rises}
+use Rattle.brace_crew.specs.Calls.{Call, calls, behind, CameBy, CameTo, Rises}
 use Rattle.brace_crew.specs.Filed.{Filed, with_file, held_after, StopsAt, StopsAtAny, WroteFront, StoppedSaving, after_epoch, IsCut}
 use Rattle.brace_crew.specs.Shows.{Named, shown_text, file_name, checkpoint_file, saved_file, saved_world}
 use Rattle.brace_crew.proofs.RiseLemmas.{rose_from}
@@ -32,15 +32,17 @@ use Rattle.brace_top.specs.declared.answer.Answer.{Answer}
 use Rattle.brace_top.specs.declared.answer.Stopped.{Stopped}
 use Rattle.brace_top.specs.declared.answer.Stopped.TheVariants as stopped
 use Rattle.brace_top.specs.declared.status.Status.{Status}
-use Rattle.brace_top.specs.declared.status.Status.TheVariants.{Done, Fault, SaveFault, NoMemory}
+use Rattle.brace_top.specs.declared.status.Status.TheVariants.{Done, Fault, WriteFault, SaveFault, NoMemory}
 use Rattle.brace_top.specs.declared.task.Task.{Task}
-use Rattle.brace_top.specs.Answer.{ShelfCall, SinkCall, sink_call, IsBehind, HasSaved, IsHalfSaved, LeavesFront, CountsShelf, CountsWrites}
-use Rattle.brace_top.specs.Messages.{stats_message, fault_message, save_fault_message, no_memory_message}
+use Rattle.brace_top.specs.declared.command.TrialCommand.{TrialCommand as CodeTrial}
+use Rattle.brace_top.specs.Answer.{ShelfCall, SinkCall, sink_call, IsBehind, HasSaved, IsHalfSaved, LeavesFront, IsHalted, CountsShelf, CountsWrites}
+use Rattle.brace_top.specs.Messages.{stats_message, fault_message, write_fault_message, save_fault_message, no_memory_message}
 use Rattle.brace_top.specs.Outcome.{Outcome, stats_of, end_status, end_message, ran}
 use Rattle.brace_top.specs.Savings.{Saving, with_saved}
 use Rattle.brace_top.specs.Status.{has_run}
-use Rattle.brace_top.specs.inner.Settled.{stopped_status, stopped_message, status_in, message_in, IsRefusedAs, IsToldAs, told_counts, keeper_call, outcome_of, IsErrOf, IsSettled, IsCarriedOut, IsRunOf, is_work}
-use Rattle.brace_top.proofs.SavedLemmas.{text_of, file_of, saving_in, saved_by, saved_by-append, StandsIn, stand_in, calls_save}
+use Rattle.brace_top.specs.inner.Settled.{stopped_status, stopped_message, status_in, message_in, IsRefusedAs, IsToldAs, told_counts, keeper_call, outcome_of, outcome_by, IsErrOf, IsSettled, IsCarriedOut, IsRunOf, is_work, is_plain_work}
+use Rattle.brace_top.proofs.SavedLemmas.{text_of, file_of, saving_in, saved_by, saved_by-append, saves_none, StandsIn, stand_in, calls_save}
+use Rattle.brace_top.proofs.StatusLemmas.{work_reads}
 
 -- ---- what a publisher is behind some calls
 
@@ -142,22 +144,35 @@ refused_gives P status message (Err stopped.NoMemory) h told none = none
 stopped_gives : (P : List ℕ → Status → Type 0) (stop : Stopped) (r : Result Answer Stopped) → r ≡ Err stop → P (stopped_message stop) (stopped_status stop) → P (message_in r) (status_in r)
 stopped_gives P stop r is given = subst (λ (x : Result Answer Stopped). P (message_in x) (status_in x)) (sym is) given
 
-abbrev Works : List ℕ → Status → Type 0
-Works message status = is_work status ≡ true
+-- what holds of each way in which a run may be answered holds of its answer
+pub settled_gives : (P : List ℕ → Status → Type 0) (stats : Bool) (save : Option (List ℕ)) (came : Result Counts CrewFault) (r : Result Answer Stopped) → IsSettled stats save came r
+    → ((c : Counts) → came ≡ Ok c → P (told_counts stats c) Done) → ((f : RunFault) → came ≡ Err (crew.Fault f) → P (fault_message f) Fault)
+    → (came ≡ Err (crew.Publish refusal.Write) → P write_fault_message WriteFault)
+    → ((name : List ℕ) (k : ℕ) → save ≡ Some name → came ≡ Err (crew.Publish (refusal.Save k)) → P (save_fault_message (file_name name k)) SaveFault)
+    → P no_memory_message NoMemory → P (message_in r) (status_in r)
+settled_gives P stats save (Ok c) r settled done fault write unsaved none = told_gives P Done (told_counts stats c) r settled (done c refl) none
+settled_gives P stats save (Err (crew.Fault f)) r settled done fault write unsaved none = told_gives P Fault (fault_message f) r settled (fault f refl) none
+settled_gives P stats save (Err (crew.Publish refusal.Write)) r settled done fault write unsaved none = stopped_gives P stopped.WriteFault r settled (write refl)
+settled_gives P stats (Some name) (Err (crew.Publish (refusal.Save k))) r settled done fault write unsaved none =
+    refused_gives P SaveFault (save_fault_message (file_name name k)) r settled (unsaved name k refl refl) none
+settled_gives P stats None (Err (crew.Publish (refusal.Save k))) r settled done fault write unsaved none = stopped_gives P stopped.NoMemory r settled none
+settled_gives P stats save (Err (crew.Publish refusal.NoMemory)) r settled done fault write unsaved none = stopped_gives P stopped.NoMemory r settled none
+settled_gives P stats save (Err crew.NoMemory) r settled done fault write unsaved none = stopped_gives P stopped.NoMemory r settled none
 
 -- a run that is answered by what its crew came to did its work
 settled_work : (stats : Bool) (save : Option (List ℕ)) (came : Result Counts CrewFault) (r : Result Answer Stopped) → IsSettled stats save came r → is_work (status_in r) ≡ true
-settled_work stats save (Ok c) r settled = told_gives Works Done (told_counts stats c) r settled refl refl
-settled_work stats save (Err (crew.Fault f)) r settled = told_gives Works Fault (fault_message f) r settled refl refl
-settled_work stats save (Err (crew.Publish refusal.Write)) r settled = stopped_gives Works stopped.WriteFault r settled refl
-settled_work stats (Some name) (Err (crew.Publish (refusal.Save k))) r settled = refused_gives Works SaveFault (save_fault_message (file_name name k)) r settled refl refl
-settled_work stats None (Err (crew.Publish (refusal.Save k))) r settled = stopped_gives Works stopped.NoMemory r settled refl
-settled_work stats save (Err (crew.Publish refusal.NoMemory)) r settled = stopped_gives Works stopped.NoMemory r settled refl
-settled_work stats save (Err crew.NoMemory) r settled = stopped_gives Works stopped.NoMemory r settled refl
+settled_work stats save came r settled =
+    settled_gives (λ m status. is_work status ≡ true) stats save came r settled (λ c is. refl) (λ f is. refl) (λ is. refl) (λ name k named is. refl) refl
+
+-- one that saves nothing did no more
+settled_plain : (stats : Bool) (save : Option (List ℕ)) (came : Result Counts CrewFault) (r : Result Answer Stopped) → save ≡ None → IsSettled stats save came r → is_plain_work (status_in r) ≡ true
+settled_plain stats save came r bare settled =
+    settled_gives (λ m status. is_plain_work status ≡ true) stats save came r settled (λ c is. refl) (λ f is. refl) (λ is. refl)
+    (λ name k named is. let e : None ≡ Some name = sym bare ∙ named in absurd cc) refl
 
 -- ---- what stands on the sink and on the shelf
 
-module _ (s : Setting) (lawful : LawfulSetting s) (up : s.job.first ≤ s.job.last) (stats : Bool) (x : Filed) (files : Files) (held_before : x.held ≡ Some files) where
+module _ (s : Setting) (lawful : LawfulSetting s) (up : s.job.first ≤ s.job.last) (stats : Bool) (x : Filed) (files : Files) where
   abbrev its : Outcome
   its = ran stats x.save x.fresh s
 
@@ -190,9 +205,6 @@ module _ (s : Setting) (lawful : LawfulSetting s) (up : s.job.first ≤ s.job.la
   is_later : (n : ℕ) → IsAfter s x (after n) (take n (calls s))
   is_later n = is_after s x (take n (calls s))
 
-  held_later : (n : ℕ) → (after n).held ≡ Some (with_saved files (saved n))
-  held_later n = let h = is_later n in h.held [] files held_before
-
   -- the files of the first calls are saved, and all text before them is written
   has_saved : (n : ℕ) (shelf : ShelfCall) (out : SinkCall) (more : List ℕ) → Gains out.before out.after (text n ++ more) → shelf.held_after ≡ Some (with_saved files (saved n)) → HasSaved files shelf out its
   has_saved n shelf out more gained held = record {
@@ -205,22 +217,49 @@ module _ (s : Setting) (lawful : LawfulSetting s) (up : s.job.first ≤ s.job.la
         (saved n) (stand_in s x.save x.fresh [] (take n (calls s))));
   }
 
-  -- the sink and the shelf of a publisher before and after
+  -- the sink of a publisher before and after, and the shelf: it holds the files that were saved, and stopped at one that was not
   pub record Stands (shelf : ShelfCall) (out : SinkCall) (y : Filed) : Type 0 where
-    pub before : out.before ≡ x.written
-    pub after : out.after ≡ y.written
-    pub held : shelf.held_after ≡ y.held
-    pub stage : shelf.stage ≡ y.stage
+    pub held : (n : ℕ) → y.held ≡ (after n).held → shelf.held_after ≡ Some (with_saved files (saved n))
+    pub stops : (n : ℕ) (c : Call) (file : Named) → file_of s x.save c ≡ Some file → StopsAt (after n).held y.held y.stage file
+        → StopsAt (Some (with_saved files (saved n))) shelf.held_after shelf.stage file
+    pub sink_before : out.before ≡ x.written
+    pub sink_after : out.after ≡ y.written
+
+  -- the shelf is the publisher's
+  pub kept_stands : (shelf : ShelfCall) (out : SinkCall) (y : Filed) → x.held ≡ Some files → shelf.held_after ≡ y.held → shelf.stage ≡ y.stage
+      → out.before ≡ x.written → out.after ≡ y.written → Stands shelf out y
+  kept_stands shelf out y told held stage before now = record {
+    held = λ n is. held ∙ is ∙ later n;
+    stops = λ n c file of stops.
+        subst (λ (b : Option Files). StopsAt b shelf.held_after shelf.stage file) (later n)
+        (subst (λ (a : Option Files). StopsAt (after n).held a shelf.stage file) (sym held)
+        (subst (λ stage. StopsAt (after n).held y.held stage file) (sym stage) stops));
+    sink_before = before;
+    sink_after = now;
+  }
+    where
+      later : (n : ℕ) → (after n).held ≡ Some (with_saved files (saved n))
+      later n = let made = is_later n in made.held [] files told
+
+  -- the publisher saves nothing, and the shelf is as it was
+  pub bare_stands : (shelf : ShelfCall) (out : SinkCall) (y : Filed) → x.save ≡ None → shelf.held_after ≡ Some files
+      → out.before ≡ x.written → out.after ≡ y.written → Stands shelf out y
+  bare_stands shelf out y bare held before now = record {
+    held = λ n is. held ∙ ap (λ (l : List Saving). Some (with_saved files l)) (sym (ap (λ v. saved_by s v x.fresh [] (take n (calls s))) bare ∙ saves_none s x.fresh [] (take n (calls s))));
+    stops = λ n c file of stops. let e : None ≡ Some file = sym (ap (λ v. file_of s v c) bare) ∙ of in absurd cc;
+    sink_before = before;
+    sink_after = now;
+  }
 
   module _ (shelf : ShelfCall) (out : SinkCall) (y : Filed) (h : Stands shelf out y) where
     -- the publisher made the first calls
     leaves : (n : ℕ) → y ≡ after n → LeavesFront files shelf out its
     leaves n is =
         let made = is_later n in
-        let gained : Gains out.before out.after (text n) = h.after ∙ ap (λ (z : Filed). z.written) is ∙ made.written ∙ ap (λ w. with_piece w (text n)) (sym h.before) in
+        let gained : Gains out.before out.after (text n) = h.sink_after ∙ ap (λ (z : Filed). z.written) is ∙ made.written ∙ ap (λ w. with_piece w (text n)) (sym h.sink_before) in
         record {
           front = front_of out.before out.after (text n) (flat_map piece (drop n (calls s))) its.out (out_is n) gained;
-          saved = inl (has_saved n shelf out [] (gained ∙ ap (with_piece out.before) (sym (append-nil (text n)))) (h.held ∙ ap (λ (z : Filed). z.held) is ∙ held_later n));
+          saved = inl (has_saved n shelf out [] (gained ∙ ap (with_piece out.before) (sym (append-nil (text n)))) (h.held n (ap (λ (z : Filed). z.held) is)));
         }
 
     -- the publisher made all calls
@@ -230,12 +269,13 @@ module _ (s : Setting) (lawful : LawfulSetting s) (up : s.job.first ≤ s.job.la
     whole_text : y ≡ fold (after_call s) x (calls s) → Gains out.before out.after its.out
     whole_text is =
         let made = is_after s x (calls s) in
-        h.after ∙ ap (λ (z : Filed). z.written) is ∙ made.written ∙ ap₂ with_piece (sym h.before) (all_told s x.fresh lawful up)
+        h.sink_after ∙ ap (λ (z : Filed). z.written) is ∙ made.written ∙ ap₂ with_piece (sym h.sink_before) (all_told s x.fresh lawful up)
 
     whole_files : y ≡ fold (after_call s) x (calls s) → shelf.held_after ≡ Some (with_saved files its.saved)
     whole_files is =
-        let made = is_after s x (calls s) in
-        h.held ∙ ap (λ (z : Filed). z.held) is ∙ made.held [] files held_before ∙ ap (λ (l : List Saving). Some (with_saved files l)) (calls_save s x.save x.fresh lawful up)
+        h.held (length (calls s)) (ap (λ (z : Filed). z.held) (all_made is))
+        ∙ ap (λ cs. Some (with_saved files (saved_by s x.save x.fresh [] cs))) (take_all (length (calls s)) (calls s) (omega arith))
+        ∙ ap (λ (l : List Saving). Some (with_saved files l)) (calls_save s x.save x.fresh lawful up)
 
     -- a front of the rows of the next call was written
     module _ (n : ℕ) (c : Call) (is_next : slice_get (calls s) n ≡ Some c) where
@@ -257,14 +297,14 @@ module _ (s : Setting) (lawful : LawfulSetting s) (up : s.job.first ≤ s.job.la
           let (k, (low, was)) = w.front in
           let more : List ℕ = flat_map piece rest in
           let gained : Gains out.before out.after (text n ++ take k rows) =
-          h.after ∙ was ∙ ap₂ (λ (l : Option (List ℕ)) (b : Bool). with_piece l (take k (shown_text s.job b c.worlds))) made.written made.fresh
-          ∙ piece_twice x.written (text n) (take k rows) ∙ ap (λ l. with_piece l (text n ++ take k rows)) (sym h.before) in
+          h.sink_after ∙ was ∙ ap₂ (λ (l : Option (List ℕ)) (b : Bool). with_piece l (take k (shown_text s.job b c.worlds))) made.written made.fresh
+          ∙ piece_twice x.written (text n) (take k rows) ∙ ap (λ l. with_piece l (text n ++ take k rows)) (sym h.sink_before) in
           let is : its.out ≡ (text n ++ take k rows) ++ (drop k rows ++ more) =
           out_at rest dropped ∙ ap (λ l. text n ++ (l ++ more)) (sym (take-append-drop k rows)) ∙ ap (λ l. text n ++ l) (append_assoc (take k rows) (drop k rows) more)
           ∙ sym (append_assoc (text n) (take k rows) (drop k rows ++ more)) in
           record {
             front = front_of out.before out.after (text n ++ take k rows) (drop k rows ++ more) its.out is gained;
-            saved = has_saved n shelf out (take k rows) gained (h.held ∙ ap (λ (z : Filed). z.held) w.rest ∙ held_later n);
+            saved = has_saved n shelf out (take k rows) gained (h.held n (ap (λ (z : Filed). z.held) w.rest));
           }
 
       -- the next call's file was not saved
@@ -281,7 +321,6 @@ module _ (s : Setting) (lawful : LawfulSetting s) (up : s.job.first ≤ s.job.la
           let saving : Saving = record { file = file; behind = text n ++ rows } in
           let is : its.saved ≡ saved n ++ saving ∷ behind =
           saved_is n ∙ ap (λ cs. saved n ++ saved_by s x.save x.fresh (text n) cs) dropped ∙ ap (λ f. saved n ++ (saving_in (text n ++ rows) f ++ behind)) of in
-          let held : (after n).held ≡ Some (with_saved files (take (length (saved n)) its.saved)) = held_later n ∙ ap (λ (l : List Saving). Some (with_saved files l)) (sym (taken n)) in
           record {
             front = front_of out.before out.after (text n ++ rows) (flat_map piece rest) its.out (out_at rest dropped ∙ sym (append_assoc (text n) rows (flat_map piece rest))) gained;
             half = record {
@@ -289,10 +328,7 @@ module _ (s : Setting) (lawful : LawfulSetting s) (up : s.job.first ≤ s.job.la
               saving = saving;
               is_next = ap (λ (l : List Saving). slice_get l (length (saved n))) is ∙ seam (saved n) saving behind;
               gained = gained;
-              stops =
-                  subst (λ (b : Option Files). StopsAt b shelf.held_after shelf.stage file) held
-                  (subst (λ (a : Option Files). StopsAt (after n).held a shelf.stage file) (sym h.held)
-                  (subst (λ stage. StopsAt (after n).held y.held stage file) (sym h.stage) stops));
+              stops = subst (λ (l : List Saving). StopsAt (Some (with_saved files l)) shelf.held_after shelf.stage file) (sym (taken n)) (h.stops n c file of stops);
             };
             named = λ name is. file_named s x.save name c file is of;
           }
@@ -301,8 +337,8 @@ module _ (s : Setting) (lawful : LawfulSetting s) (up : s.job.first ≤ s.job.la
       unsaved w =
           let made = is_later n in
           let gained : Gains out.before out.after (text n ++ rows) =
-          h.after ∙ ap (λ (z : Filed). z.written) w.rest ∙ ap₂ (λ (l : Option (List ℕ)) (b : Bool). with_piece l (shown_text s.job b c.worlds)) made.written made.fresh
-          ∙ piece_twice x.written (text n) rows ∙ ap (λ l. with_piece l (text n ++ rows)) (sym h.before) in
+          h.sink_after ∙ ap (λ (z : Filed). z.written) w.rest ∙ ap₂ (λ (l : Option (List ℕ)) (b : Bool). with_piece l (shown_text s.job b c.worlds)) made.written made.fresh
+          ∙ piece_twice x.written (text n) rows ∙ ap (λ l. with_piece l (text n ++ rows)) (sym h.sink_before) in
           stopped_at (file_of s x.save c) refl gained (subst (λ (v : Option (List ℕ)). StopsAtAny (after n).held y.held y.stage (saved_file v s c.tick c.worlds)) made.save w.stops)
 
 -- ---- what a run came to
@@ -311,65 +347,82 @@ module _ (s : Setting) (lawful : LawfulSetting s) (up : s.job.first ≤ s.job.la
 abbrev pub filed : {P : Type 0} → (P → Filed) → (P → ℕ) → (P → ℕ) → (P → List ℕ) → publisher.Ghosts P
 filed state writes saves loans = record { State = Filed; state = state; after = after_epoch; cut = IsCut; writes = writes; saves = saves; loans = loans }
 
--- a publisher over a call: what it was and is, and its failures
-pub record Publishes {P : Type 0} (of : publisher.Ghosts P) (shelf : ShelfCall) (out : SinkCall) (opening now : P) : Type 0 where
+-- a publisher over a call: what it was and is, and the failures of its sink
+pub record Publishes {P : Type 0} (of : publisher.Ghosts P) (out : SinkCall) (opening now : P) : Type 0 where
   pub writes_before : out.faults_before ≤ of.writes opening
   pub writes_after : out.faults_after ≡ of.writes now
-  pub saves_before : shelf.faults_before ≡ of.saves opening
-  pub saves_after : shelf.faults_after ≡ of.saves now
+
+-- the file that is saved was not, and the shelf stopped at it
+halted_at : (before after : Option Files) (stage : Stage) (file : Option Named) → StopsAtAny before after stage file → (name : List ℕ) × StoppedAt after stage name
+halted_at before after stage None stops = absurd stops
+halted_at before after stage (Some file) stops = (file.0, stops.stops)
 
 module _ {P : Type 0} (state : P → Filed) (writes saves : P → ℕ) (loans : P → List ℕ) (s : Setting) (stats : Bool) (shelf : ShelfCall) (out : SinkCall) (opening now : P)
-    (counts : Publishes (filed state writes saves loans) shelf out opening now) where
+    (counts : Publishes (filed state writes saves loans) out opening now) where
   abbrev of_it : publisher.Ghosts P
   of_it = filed state writes saves loans
+
+  -- the shelf is the publisher's, with its failures
+  pub record Keeps : Type 0 where
+    pub saves_before : shelf.faults_before ≡ saves opening
+    pub saves_after : shelf.faults_after ≡ saves now
+    pub held_after : shelf.held_after ≡ (state now).held
+    pub stage_after : shelf.stage ≡ (state now).stage
 
   writes_rose : Rose (writes opening) (writes now) → Rose out.faults_before out.faults_after
   writes_rose rose = rose_from out.faults_before (writes opening) out.faults_after counts.writes_before (subst (Rose (writes opening)) (sym counts.writes_after) rose)
 
-  saves_rose : Rose (saves opening) (saves now) → Rose shelf.faults_before shelf.faults_after
-  saves_rose rose = subst (λ n. Rose n shelf.faults_after) (sym counts.saves_before) (subst (Rose (saves opening)) (sym counts.saves_after) rose)
+  saves_rose : Keeps → Rose (saves opening) (saves now) → Rose shelf.faults_before shelf.faults_after
+  saves_rose keeps rose = subst (λ n. Rose n shelf.faults_after) (sym keeps.saves_before) (subst (Rose (saves opening)) (sym keeps.saves_after) rose)
 
-  saves_rise : Rises of_it opening now → shelf.faults_before ≤ shelf.faults_after
-  saves_rise rises = subst (λ n. n ≤ shelf.faults_after) (sym counts.saves_before) (subst (λ n. saves opening ≤ n) (sym counts.saves_after) rises.saves_rise)
+  saves_rise : Keeps → Rises of_it opening now → shelf.faults_before ≤ shelf.faults_after
+  saves_rise keeps rises = subst (λ n. n ≤ shelf.faults_after) (sym keeps.saves_before) (subst (λ n. saves opening ≤ n) (sym keeps.saves_after) rises.saves_rise)
 
-  -- the shelf's failures are counted as the answer says
-  pub counted : (save : Option (List ℕ)) (came : Result Counts CrewFault) (r : Result Answer Stopped) → CameBy of_it s opening now came → Rises of_it opening now → IsSettled stats save came r → CountsShelf shelf (status_in r)
-  counted save (Ok c) r h rises settled = told_gives (λ m status. CountsShelf shelf status) Done (told_counts stats c) r settled (saves_rise rises) tt
-  counted save (Err (crew.Fault f)) r h rises settled = told_gives (λ m status. CountsShelf shelf status) Fault (fault_message f) r settled (saves_rise rises) tt
-  counted save (Err (crew.Publish refusal.Write)) r h rises settled = stopped_gives (λ m status. CountsShelf shelf status) stopped.WriteFault r settled (saves_rise rises)
-  counted (Some name) (Err (crew.Publish (refusal.Save k))) r h rises settled =
-      refused_gives (λ m status. CountsShelf shelf status) SaveFault (save_fault_message (file_name name k)) r settled (saves_rose (h.saved k refl)) tt
-  counted None (Err (crew.Publish (refusal.Save k))) r h rises settled = stopped_gives (λ m status. CountsShelf shelf status) stopped.NoMemory r settled tt
-  counted save (Err (crew.Publish refusal.NoMemory)) r h rises settled = stopped_gives (λ m status. CountsShelf shelf status) stopped.NoMemory r settled tt
-  counted save (Err crew.NoMemory) r h rises settled = stopped_gives (λ m status. CountsShelf shelf status) stopped.NoMemory r settled tt
+  module _ (save : Option (List ℕ)) (came : Result Counts CrewFault) (r : Result Answer Stopped) (h : CameBy of_it s opening now came) (settled : IsSettled stats save came r) where
+    by_answer : (answer : Result Counts CrewFault) → came ≡ answer → CameBy of_it s opening now answer
+    by_answer answer is = subst (CameBy of_it s opening now) is h
 
-  -- the sink's failures are counted as the answer says
-  pub write_counted : (save : Option (List ℕ)) (came : Result Counts CrewFault) (r : Result Answer Stopped) → CameBy of_it s opening now came → IsSettled stats save came r → CountsWrites out (status_in r)
-  write_counted save (Ok c) r h settled = told_gives (λ m status. CountsWrites out status) Done (told_counts stats c) r settled (λ e. absurd (cc)) (λ e. absurd (cc))
-  write_counted save (Err (crew.Fault f)) r h settled = told_gives (λ m status. CountsWrites out status) Fault (fault_message f) r settled (λ e. absurd (cc)) (λ e. absurd (cc))
-  write_counted save (Err (crew.Publish refusal.Write)) r h settled = stopped_gives (λ m status. CountsWrites out status) stopped.WriteFault r settled (λ e. writes_rose (h.written refl))
-  write_counted (Some name) (Err (crew.Publish (refusal.Save k))) r h settled =
-      refused_gives (λ m status. CountsWrites out status) SaveFault (save_fault_message (file_name name k)) r settled (λ e. absurd (cc)) (λ e. absurd (cc))
-  write_counted None (Err (crew.Publish (refusal.Save k))) r h settled = stopped_gives (λ m status. CountsWrites out status) stopped.NoMemory r settled (λ e. absurd (cc))
-  write_counted save (Err (crew.Publish refusal.NoMemory)) r h settled = stopped_gives (λ m status. CountsWrites out status) stopped.NoMemory r settled (λ e. absurd (cc))
-  write_counted save (Err crew.NoMemory) r h settled = stopped_gives (λ m status. CountsWrites out status) stopped.NoMemory r settled (λ e. absurd (cc))
+    -- the shelf's failures are counted as the answer says
+    pub counted : Keeps → Rises of_it opening now → CountsShelf shelf (status_in r)
+    counted keeps rises =
+        settled_gives (λ m status. CountsShelf shelf status) stats save came r settled (λ c is. saves_rise keeps rises) (λ f is. saves_rise keeps rises) (λ is. saves_rise keeps rises)
+        (λ name k named is. let cut = by_answer (Err (crew.Publish (refusal.Save k))) is in saves_rose keeps (cut.saved k refl)) tt
 
-  -- a run that was carried out leaves its sink clean, where that was clean when it began
-  pub cleaned : (save : Option (List ℕ)) (came : Result Counts CrewFault) (r : Result Answer Stopped) → (state opening).clean ≡ true → CameBy of_it s opening now came → IsSettled stats save came r
-      → has_run (status_in r) ≡ true → (state now).clean ≡ true
-  cleaned save (Ok c) r clean h settled = λ _. ap (λ (z : Filed). z.clean) h.is_behind ∙ (let made = is_after s (state opening) (calls s) in made.clean clean)
-  cleaned save (Err (crew.Fault f)) r clean h settled = λ _. ap (λ (z : Filed). z.clean) h.is_behind ∙ (let made = is_after s (state opening) (calls s) in made.clean clean)
-  cleaned save (Err (crew.Publish refusal.Write)) r clean h settled = stopped_gives (λ m status. has_run status ≡ true → (state now).clean ≡ true) stopped.WriteFault r settled (λ e. absurd (cc))
-  cleaned (Some name) (Err (crew.Publish (refusal.Save k))) r clean h settled =
-      refused_gives (λ m status. has_run status ≡ true → (state now).clean ≡ true) SaveFault (save_fault_message (file_name name k)) r settled (λ e. absurd (cc)) (λ e. absurd (cc))
-  cleaned None (Err (crew.Publish (refusal.Save k))) r clean h settled = stopped_gives (λ m status. has_run status ≡ true → (state now).clean ≡ true) stopped.NoMemory r settled (λ e. absurd (cc))
-  cleaned save (Err (crew.Publish refusal.NoMemory)) r clean h settled = stopped_gives (λ m status. has_run status ≡ true → (state now).clean ≡ true) stopped.NoMemory r settled (λ e. absurd (cc))
-  cleaned save (Err crew.NoMemory) r clean h settled = stopped_gives (λ m status. has_run status ≡ true → (state now).clean ≡ true) stopped.NoMemory r settled (λ e. absurd (cc))
+    -- the sink's failures are counted as the answer says
+    pub write_counted : CountsWrites out (status_in r)
+    write_counted =
+        settled_gives (λ m status. CountsWrites out status) stats save came r settled (λ c is e. absurd (cc)) (λ f is e. absurd (cc))
+        (λ is e. let cut = by_answer (Err (crew.Publish refusal.Write)) is in writes_rose (cut.written refl)) (λ name k named is e. absurd (cc)) (λ e. absurd (cc))
+
+    -- a run that was carried out leaves its sink clean, where that was clean when it began
+    pub cleaned : (state opening).clean ≡ true → has_run (status_in r) ≡ true → (state now).clean ≡ true
+    cleaned clean =
+        let made = is_after s (state opening) (calls s) in
+        settled_gives (λ m status. has_run status ≡ true → (state now).clean ≡ true) stats save came r settled
+        (λ c is e. let run = by_answer (Ok c) is in ap (λ (z : Filed). z.clean) run.is_behind ∙ made.clean clean)
+        (λ f is e. let run = by_answer (Err (crew.Fault f)) is in ap (λ (z : Filed). z.clean) run.is_behind ∙ made.clean clean)
+        (λ is e. absurd (cc)) (λ name k named is e. absurd (cc)) (λ e. absurd (cc))
+
+    -- the shelf stopped where a file was not saved
+    pub halted : Keeps → status_in r ≡ SaveFault → IsHalted shelf
+    halted keeps =
+        settled_gives (λ m status. status ≡ SaveFault → IsHalted shelf) stats save came r settled (λ c is e. absurd (cc)) (λ f is e. absurd (cc)) (λ is e. absurd (cc))
+        (λ name k named is e.
+        let cut = by_answer (Err (crew.Publish (refusal.Save k))) is in
+        let x : Filed = behind of_it s opening (take cut.made (calls s)) in
+        let (name, stopped) = halted_at x.held (state now).held (state now).stage (saved_file x.save s cut.call.tick cut.call.worlds) cut.is_cut.stops in
+        record {
+          name = name;
+          at_name =
+              subst (λ (a : Option Files). StoppedAt a shelf.stage name) (sym keeps.held_after)
+              (subst (λ (stage : Stage). StoppedAt (state now).held stage name) (sym keeps.stage_after) stopped);
+        })
+        (λ e. absurd (cc))
 
   -- ---- it is carried out
 
-  module _ (lawful : LawfulSetting s) (up : s.job.first ≤ s.job.last) (files : Files) (held_before : (state opening).held ≡ Some files)
-      (stands : Stands s lawful up stats (state opening) files held_before shelf out (state now)) where
+  module _ (lawful : LawfulSetting s) (up : s.job.first ≤ s.job.last) (files : Files)
+      (stands : Stands s lawful up stats (state opening) files shelf out (state now)) where
     abbrev of_run : Outcome
     of_run = ran stats (state opening).save (state opening).fresh s
 
@@ -381,23 +434,23 @@ module _ {P : Type 0} (state : P → Filed) (writes saves : P → ℕ) (loans : 
     given_up front = record { leaves = inr (record { one = of_run; is = refl; holds = front }); says = refl }
 
     left_at : (n : ℕ) → state now ≡ fold (after_call s) (state opening) (take n (calls s)) → LeavesFront files shelf out of_run
-    left_at n is = leaves s lawful up stats (state opening) files held_before shelf out (state now) stands n is
+    left_at n is = leaves s lawful up stats (state opening) files shelf out (state now) stands n is
 
     left_all : state now ≡ fold (after_call s) (state opening) (calls s) → LeavesFront files shelf out of_run
-    left_all is = left_at (length (calls s)) (all_made s lawful up stats (state opening) files held_before shelf out (state now) stands is)
+    left_all is = left_at (length (calls s)) (all_made s lawful up stats (state opening) files shelf out (state now) stands is)
 
     gained_all : state now ≡ fold (after_call s) (state opening) (calls s) → Gains out.before out.after of_run.out
-    gained_all is = whole_text s lawful up stats (state opening) files held_before shelf out (state now) stands is
+    gained_all is = whole_text s lawful up stats (state opening) files shelf out (state now) stands is
 
     files_all : state now ≡ fold (after_call s) (state opening) (calls s) → shelf.held_after ≡ Some (with_saved files of_run.saved)
-    files_all is = whole_files s lawful up stats (state opening) files held_before shelf out (state now) stands is
+    files_all is = whole_files s lawful up stats (state opening) files shelf out (state now) stands is
 
-    half_given : (n : ℕ) (c : Call) (is_next : slice_get (calls s) n ≡ Some c) → HasStopped s lawful up stats (state opening) files held_before shelf out (state now) stands n c is_next → LeavesFront files shelf out of_run
+    half_given : (n : ℕ) (c : Call) (is_next : slice_get (calls s) n ≡ Some c) → HasStopped s lawful up stats (state opening) files shelf out (state now) stands n c is_next → LeavesFront files shelf out of_run
     half_given n c is_next h = record { front = h.front; saved = inr h.half }
 
     -- a file that was not saved, by whether its message could be made
     half_told : (save : Option (List ℕ)) (r : Result Answer Stopped) (k n : ℕ) (c : Call) (is_next : slice_get (calls s) n ≡ Some c) → (state opening).save ≡ save → k ≡ c.tick
-        → Rose shelf.faults_before shelf.faults_after → HasStopped s lawful up stats (state opening) files held_before shelf out (state now) stands n c is_next
+        → ((name : List ℕ) → save ≡ Some name → Rose shelf.faults_before shelf.faults_after) → HasStopped s lawful up stats (state opening) files shelf out (state now) stands n c is_next
         → IsSettled stats save (Err (crew.Publish (refusal.Save k))) r → Carries (message_in r) (status_in r)
     half_told None r k n c is_next name at rose h settled = stopped_gives Carries stopped.NoMemory r settled (given_up (half_given n c is_next h))
     half_told (Some name) r k n c is_next named at rose h settled =
@@ -407,7 +460,7 @@ module _ {P : Type 0} (state : P → Filed) (writes saves : P → ℕ) (loans : 
           is = refl;
           holds = record {
             runs = runs (first_fault s.job);
-            failed = rose;
+            failed = rose name refl;
             front = h.front;
             half = h.half;
             says = ap save_fault_message (ap (file_name name) at ∙ sym (h.named name named));
@@ -415,9 +468,9 @@ module _ {P : Type 0} (state : P → Filed) (writes saves : P → ℕ) (loans : 
         })
         (given_up (half_given n c is_next h))
 
-    -- what a run came to is answered as its outcome's
-    pub carried : (came : Result Counts CrewFault) (r : Result Answer Stopped) → CameBy of_it s opening now came → IsSettled stats (state opening).save came r → Carries (message_in r) (status_in r)
-    carried (Ok c) r h settled =
+    -- what a run came to is answered as its outcome's, where the shelf is the publisher's if it saves
+    pub carried : ((name : List ℕ) → (state opening).save ≡ Some name → Keeps) → (came : Result Counts CrewFault) (r : Result Answer Stopped) → CameBy of_it s opening now came → IsSettled stats (state opening).save came r → Carries (message_in r) (status_in r)
+    carried keeps (Ok c) r h settled =
         told_gives Carries Done (told_counts stats c) r settled
         (record {
           one = of_run;
@@ -430,7 +483,7 @@ module _ {P : Type 0} (state : P → Filed) (writes saves : P → ℕ) (loans : 
           };
         })
         (given_up (left_all h.is_behind))
-    carried (Err (crew.Fault f)) r h settled =
+    carried keeps (Err (crew.Fault f)) r h settled =
         told_gives Carries Fault (fault_message f) r settled
         (record {
           one = of_run;
@@ -443,8 +496,8 @@ module _ {P : Type 0} (state : P → Filed) (writes saves : P → ℕ) (loans : 
           };
         })
         (given_up (left_all h.is_behind))
-    carried (Err (crew.Publish refusal.Write)) r h settled =
-        let front = wrote s lawful up stats (state opening) files held_before shelf out (state now) stands h.made h.call h.is_next h.is_cut in
+    carried keeps (Err (crew.Publish refusal.Write)) r h settled =
+        let front = wrote s lawful up stats (state opening) files shelf out (state now) stands h.made h.call h.is_next h.is_cut in
         stopped_gives Carries stopped.WriteFault r settled
         (record {
           one = of_run;
@@ -457,11 +510,11 @@ module _ {P : Type 0} (state : P → Filed) (writes saves : P → ℕ) (loans : 
             says = refl;
           };
         })
-    carried (Err (crew.Publish (refusal.Save k))) r h settled =
-        half_told (state opening).save r k h.made h.call h.is_next refl (h.is_named k refl) (saves_rose (h.saved k refl))
-        (unsaved s lawful up stats (state opening) files held_before shelf out (state now) stands h.made h.call h.is_next h.is_cut) settled
-    carried (Err (crew.Publish refusal.NoMemory)) r h settled = stopped_gives Carries stopped.NoMemory r settled (given_up (left_at h.made h.is_cut))
-    carried (Err crew.NoMemory) r h settled = stopped_gives Carries stopped.NoMemory r settled (given_up (left_at h.made h.is_behind))
+    carried keeps (Err (crew.Publish (refusal.Save k))) r h settled =
+        half_told (state opening).save r k h.made h.call h.is_next refl (h.is_named k refl) (λ name named. saves_rose (keeps name named) (h.saved k refl))
+        (unsaved s lawful up stats (state opening) files shelf out (state now) stands h.made h.call h.is_next h.is_cut) settled
+    carried keeps (Err (crew.Publish refusal.NoMemory)) r h settled = stopped_gives Carries stopped.NoMemory r settled (given_up (left_at h.made h.is_cut))
+    carried keeps (Err crew.NoMemory) r h settled = stopped_gives Carries stopped.NoMemory r settled (given_up (left_at h.made h.is_behind))
 
 -- ---- a task
 
@@ -498,58 +551,73 @@ module _ {K O : Type 0} (of_keeper : keeper_trait.Ghosts K) (of_sink : sink_trai
 
   module _ (task : Task) (shelf shelf_after : K) (out out_after : O) (p q : Files_of) (came : Result Counts CrewFault) (r : Result Answer Stopped)
       (h : HasCome task shelf shelf_after out out_after p q came r) where
-    its_counts : Publishes of_files (keeper_call of_keeper shelf shelf_after) (sink_call of_sink out out_after) p q
-    its_counts = record {
-      writes_before = h.faults_before;
-      writes_after = ap of_sink.faults (sym h.out_left);
+    abbrev on_shelf : ShelfCall
+    on_shelf = keeper_call of_keeper shelf shelf_after
+
+    abbrev on_sink : SinkCall
+    on_sink = sink_call of_sink out out_after
+
+    abbrev its_save : Option (List ℕ)
+    its_save = option_map (λ name. name.now) task.save
+
+    abbrev write_faults : Files_of → ℕ
+    write_faults p = of_sink.faults p.out.now
+
+    abbrev save_faults : Files_of → ℕ
+    save_faults p = of_keeper.faults p.keeper.now
+
+    abbrev names : Files_of → List ℕ
+    names p = p.out.ghost_name ∷ p.keeper.ghost_name ∷ of_keeper.loans p.keeper.now
+
+    its_counts : Publishes of_files on_sink p q
+    its_counts = record { writes_before = h.faults_before; writes_after = ap of_sink.faults (sym h.out_left) }
+
+    its_shelf : Keeps file_state write_faults save_faults names task.setting task.stats on_shelf on_sink p q its_counts
+    its_shelf = record {
       saves_before = ap of_keeper.faults (sym h.shelf_before);
       saves_after = ap of_keeper.faults (sym h.shelf_left);
+      held_after = ap of_keeper.held (sym h.shelf_left);
+      stage_after = ap of_keeper.stage (sym h.shelf_left);
     }
 
-    its_name : (file_state p).save ≡ option_map (λ name. name.now) task.save
+    its_name : (file_state p).save ≡ its_save
     its_name = ap (option_map (λ name. name.now)) h.save
 
-    task_counted : CountsShelf (keeper_call of_keeper shelf shelf_after) (status_in r)
-    task_counted =
-        counted file_state (λ p. of_sink.faults p.out.now) (λ p. of_keeper.faults p.keeper.now) (λ p. p.out.ghost_name ∷ p.keeper.ghost_name ∷ of_keeper.loans p.keeper.now) task.setting task.stats
-        (keeper_call of_keeper shelf shelf_after) (sink_call of_sink out out_after) p q its_counts (option_map (λ name. name.now) task.save) came r h.run.came h.run.rises h.settled
-
-    task_writes : CountsWrites (sink_call of_sink out out_after) (status_in r)
-    task_writes =
-        write_counted file_state (λ p. of_sink.faults p.out.now) (λ p. of_keeper.faults p.keeper.now) (λ p. p.out.ghost_name ∷ p.keeper.ghost_name ∷ of_keeper.loans p.keeper.now) task.setting task.stats
-        (keeper_call of_keeper shelf shelf_after) (sink_call of_sink out out_after) p q its_counts (option_map (λ name. name.now) task.save) came r h.run.came h.settled
-
-    task_clean : of_sink.clean p.out.now ≡ true → has_run (status_in r) ≡ true → of_sink.clean out_after ≡ true
-    task_clean clean ran =
-        sym (ap of_sink.clean h.out_left)
-        ∙ cleaned file_state (λ p. of_sink.faults p.out.now) (λ p. of_keeper.faults p.keeper.now) (λ p. p.out.ghost_name ∷ p.keeper.ghost_name ∷ of_keeper.loans p.keeper.now) task.setting task.stats
-        (keeper_call of_keeper shelf shelf_after) (sink_call of_sink out out_after) p q its_counts (option_map (λ name. name.now) task.save) came r clean h.run.came h.settled ran
-
-    task_carried : LawfulSetting task.setting → task.setting.job.first ≤ task.setting.job.last → (files : Files) → of_keeper.held shelf ≡ Some files
-        → IsCarriedOut files (λ o. o ≡ outcome_of task) (keeper_call of_keeper shelf shelf_after) (sink_call of_sink out out_after) (message_in r) (status_in r)
-    task_carried lawful up files told =
-        let sc : ShelfCall = keeper_call of_keeper shelf shelf_after in
-        let oc : SinkCall = sink_call of_sink out out_after in
-        let held : (file_state p).held ≡ Some files = ap of_keeper.held h.shelf_before ∙ told in
-        let stands : Stands task.setting lawful up task.stats (file_state p) files held sc oc (file_state q) = record {
-          before = sym h.written_before;
-          after = ap of_sink.written (sym h.out_left);
-          held = ap of_keeper.held (sym h.shelf_left);
-          stage = ap of_keeper.stage (sym h.shelf_left);
-        } in
-        subst (λ (b : Bool). IsCarriedOut files (λ o. o ≡ ran task.stats (option_map (λ name. name.now) task.save) b task.setting) sc oc (message_in r) (status_in r)) h.fresh
-        (subst (λ (v : Option (List ℕ)). IsCarriedOut files (λ o. o ≡ ran task.stats v p.fresh task.setting) sc oc (message_in r) (status_in r)) its_name
-        (carried file_state (λ p. of_sink.faults p.out.now) (λ p. of_keeper.faults p.keeper.now) (λ p. p.out.ghost_name ∷ p.keeper.ghost_name ∷ of_keeper.loans p.keeper.now) task.setting task.stats
-        sc oc p q its_counts lawful up files held stands came r h.run.came
-        (subst (λ (v : Option (List ℕ)). IsSettled task.stats v came r) (sym its_name) h.settled)))
+    -- it was carried out on a shelf that is its keeper's if it saves
+    module _ (files : Files) (on : ShelfCall) (lawful : LawfulSetting task.setting) (up : task.setting.job.first ≤ task.setting.job.last)
+        (stands : Stands task.setting lawful up task.stats (file_state p) files on on_sink (file_state q)) where
+      task_carried : ((name : List ℕ) → (file_state p).save ≡ Some name → Keeps file_state write_faults save_faults names task.setting task.stats on on_sink p q its_counts)
+          → task.trial ≡ None → IsCarriedOut files (λ o. o ≡ outcome_of task) on on_sink (message_in r) (status_in r)
+      task_carried keeps is_run =
+          subst (λ (trial : Option CodeTrial). IsCarriedOut files (λ o. o ≡ outcome_by trial task) on on_sink (message_in r) (status_in r)) (sym is_run)
+          (subst (λ (b : Bool). IsCarriedOut files (λ o. o ≡ ran task.stats its_save b task.setting) on on_sink (message_in r) (status_in r)) h.fresh
+          (subst (λ (v : Option (List ℕ)). IsCarriedOut files (λ o. o ≡ ran task.stats v p.fresh task.setting) on on_sink (message_in r) (status_in r)) its_name
+          (carried file_state write_faults save_faults names task.setting task.stats on on_sink p q its_counts lawful up files stands keeps came r h.run.came
+          (subst (λ (v : Option (List ℕ)). IsSettled task.stats v came r) (sym its_name) h.settled))))
 
     -- so it was carried out for its outcome
-    pub task_run : LawfulSetting task.setting → task.setting.job.first ≤ task.setting.job.last → of_sink.clean p.out.now ≡ true
-        → IsRunOf of_sink task (keeper_call of_keeper shelf shelf_after) out out_after r
-    task_run lawful up clean = record {
-      carried_out = task_carried lawful up;
-      work = settled_work task.stats (option_map (λ name. name.now) task.save) came r h.settled;
-      counts = task_counted;
-      writes = task_writes;
-      clean = task_clean clean;
+    pub task_run : LawfulSetting task.setting → task.setting.job.first ≤ task.setting.job.last → task.trial ≡ None → of_sink.clean p.out.now ≡ true
+        → IsRunOf of_sink task on_shelf out out_after r
+    task_run lawful up is_run clean = record {
+      carried_out = λ files told.
+          task_carried files on_shelf lawful up
+          (kept_stands task.setting lawful up task.stats (file_state p) files on_shelf on_sink (file_state q) (ap of_keeper.held h.shelf_before ∙ told)
+          its_shelf.held_after its_shelf.stage_after (sym h.written_before) (ap of_sink.written (sym h.out_left)))
+          (λ name named. its_shelf) is_run;
+      written = λ bare files on told same.
+          let none : (file_state p).save ≡ None = its_name ∙ ap (option_map (λ name. name.now)) bare in
+          task_carried files on lawful up
+          (bare_stands task.setting lawful up task.stats (file_state p) files on on_sink (file_state q) none (same ∙ told) (sym h.written_before) (ap of_sink.written (sym h.out_left)))
+          (λ name named. let e : None ≡ Some name = sym none ∙ named in absurd cc) is_run;
+      plain = λ bare. settled_plain task.stats its_save came r (ap (option_map (λ name. name.now)) bare) h.settled;
+      work = settled_work task.stats its_save came r h.settled;
+      counts = counted file_state write_faults save_faults names task.setting task.stats on_shelf on_sink p q its_counts its_save came r h.run.came h.settled its_shelf h.run.rises;
+      stops = record {
+        read = λ e. absurd (work_reads _ (settled_work task.stats its_save came r h.settled) e);
+        saved = halted file_state write_faults save_faults names task.setting task.stats on_shelf on_sink p q its_counts its_save came r h.run.came h.settled its_shelf;
+      };
+      writes = write_counted file_state write_faults save_faults names task.setting task.stats on_shelf on_sink p q its_counts its_save came r h.run.came h.settled;
+      clean = λ ran.
+          sym (ap of_sink.clean h.out_left)
+          ∙ cleaned file_state write_faults save_faults names task.setting task.stats on_shelf on_sink p q its_counts its_save came r h.run.came h.settled clean ran;
     }

@@ -8,7 +8,7 @@ use Rattle.brace_show.specs.Canonical.{canonical}
 use Rattle.brace_show.proofs.ReadBack.{canonical_reads_back}
 use Rattle.brace_show.proofs.ScriptDepth.{canonical_is_shallow}
 use Rattle.brace_show.proofs.Unplaced.{one_text}
-use Rattle.brace_top.specs.declared.limits.TheConstants.{SCRIPT_LIMIT}
+use Rattle.brace_top.specs.Limits.{script_limit}
 use Rattle.brace_top.specs.declared.status.Status.TheVariants.{Done, Script}
 use Rattle.brace_top.specs.Commands.{Format}
 use Rattle.brace_top.specs.Outcome.{Outcome, Refusal, refusal, refused, shown, loaded, script_refusal, unloaded, refused_at, stands_for, TreeOf, FollowedBy, CommandOutcome}
@@ -47,7 +47,7 @@ no_text r o other follows done = absurd (other (sym (ap (λ (x : Outcome). x.sta
 written_by : (files : Files) (name : List ℕ) (o : Outcome) (found : Result Tree Refusal) → TreeOf files name found
     → FollowedBy (λ tree o. o ≡ shown (canonical tree)) found o → o.status ≡ Done → Writes o
 written_by files name o _ (unloaded r e) follows done =
-    no_text r o (subst NotDone e (not_done SCRIPT_LIMIT name (files name))) follows done
+    no_text r o (subst NotDone e (not_done script_limit name (files name))) follows done
 written_by files name o _ (refused_at src kind at_ e why) follows done =
     no_text (script_refusal name src kind at_) o refusal_not_done follows done
 written_by files name o _ (stands_for src tree e is) follows done =
@@ -74,24 +74,24 @@ read_again src tree is =
     }
 
 shown_again : (others : Files) (other src : List ℕ) (tree : Tree) → IsTree src tree
-    → others other ≡ Some (canonical tree) → length (canonical tree) ≤ SCRIPT_LIMIT
+    → others other ≡ Some (canonical tree) → length (canonical tree) ≤ script_limit
     → CommandOutcome others (Some (Format other)) (shown (canonical tree))
 shown_again others other src tree is held within =
     let again = read_again src tree is in
     record {
       found = Ok again.back;
-      is = stands_for (canonical tree) again.back (file_loaded (Some others) others Script SCRIPT_LIMIT other (canonical tree) refl (λ told. held) within) again.is;
+      is = stands_for (canonical tree) again.back (file_loaded (Some others) others Script script_limit other (canonical tree) refl (λ told. held) within) again.is;
       follows = ap shown again.text;
     }
 
 -- an outcome of `fmt` is one of `fmt` of the text that it writes
 pub written_again : (files others : Files) (name other : List ℕ) (o : Outcome) → CommandOutcome files (Some (Format name)) o → o.status ≡ Done
-    → others other ≡ Some o.out → length o.out ≤ SCRIPT_LIMIT → CommandOutcome others (Some (Format other)) o
+    → others other ≡ Some o.out → length o.out ≤ script_limit → CommandOutcome others (Some (Format other)) o
 written_again files others name other o f done held within =
     let w = written files name o f done in
     let text : o.out ≡ canonical w.tree = ap (λ (x : Outcome). x.out) w.wrote in
     subst (CommandOutcome others (Some (Format other))) (sym w.wrote)
-    (shown_again others other w.src w.tree w.is (held ∙ ap (λ (t : List ℕ). Some t) text) (subst (λ (t : List ℕ). length t ≤ SCRIPT_LIMIT) text within))
+    (shown_again others other w.src w.tree w.is (held ∙ ap (λ (t : List ℕ). Some t) text) (subst (λ (t : List ℕ). length t ≤ script_limit) text within))
 
 -- a text that is written whole is the only outcome of its script
 pub only_written : (files : Files) (name : List ℕ) (o p : Outcome) → CommandOutcome files (Some (Format name)) o → o.status ≡ Done

@@ -8,7 +8,7 @@ use Rattle.brace_cuts.specs.declared.kinds.PlanFault.TheVariants as plan_fault
 use Rattle.brace_cuts.specs.declared.kinds.PlanKind.{PlanKind}
 use Rattle.brace_cuts.specs.CutPlans as plan_file
 use Rattle.brace_top.specs.declared.answer.Stopped.{Stopped}
-use Rattle.brace_top.specs.declared.limits.TheConstants.{PLAN_LIMIT}
+use Rattle.brace_top.specs.Limits.{plan_limit}
 use Rattle.brace_top.specs.declared.status.Status.TheVariants.{Plan}
 use Rattle.brace_top.specs.Answer.{ShelfCall}
 use Rattle.brace_top.specs.Outcome.{loaded, unless_bad, plan_from, plan_of}
@@ -16,14 +16,14 @@ use Rattle.brace_top.specs.inner.Settled.{IsPlanRefused, IsUnloaded}
 use Rattle.brace_top.proofs.AnswerLemmas.{refusal_unloads, memory_unloads}
 
 -- the plan of a cut plan
-pub plan_read : (epoch : ℕ) (files : Files) (name bytes : List ℕ) (plan : CutPlan) → loaded Plan PLAN_LIMIT name (files name) ≡ Ok bytes
+pub plan_read : (epoch : ℕ) (files : Files) (name bytes : List ℕ) (plan : CutPlan) → loaded Plan plan_limit name (files name) ≡ Ok bytes
     → plan_file.first_fault epoch (plan_file.lines_of bytes) ≡ None → plan.lines ≡ plan_file.lines_in (plan_file.lines_of bytes) → plan_of files epoch (Some name) ≡ Ok plan
 plan_read epoch files name bytes plan e none is =
     ap (plan_from epoch name) e ∙ ap (unless_bad name _) none ∙ ap (λ (lines : List CutLine). Ok (record { lines = lines })) (sym is)
 
 -- a cut plan that is refused for a line
 pub line_unloads : (epoch : ℕ) (name bytes : List ℕ) (shelf : ShelfCall) (fault : PlanFault) (stopped : Stopped)
-    → shelf.faults_after ≡ shelf.faults_before → ((files : Files) → shelf.held ≡ Some files → loaded Plan PLAN_LIMIT name (files name) ≡ Ok bytes)
+    → shelf.faults_after ≡ shelf.faults_before → ((files : Files) → shelf.held ≡ Some files → loaded Plan plan_limit name (files name) ≡ Ok bytes)
     → ((number : ℕ) (kind : PlanKind) → fault ≡ plan_fault.Bad number kind → plan_file.first_fault epoch (plan_file.lines_of bytes) ≡ Some (number, kind))
     → IsPlanRefused name fault stopped → IsUnloaded (λ files found. plan_of files epoch (Some name) ≡ found) name shelf stopped
 line_unloads epoch name bytes shelf (plan_fault.Bad number kind) stopped same source first is =

@@ -34,13 +34,13 @@ use Rattle.brace_save.specs.Texts.{Moment}
 use Rattle.brace_show.specs.Canonical.{canonical}
 use Rattle.brace_top.specs.declared.script_fault.ScriptKind.TheVariants as kind
 use Rattle.brace_top.specs.declared.script_fault.ScriptFault.{ScriptFault}
-use Rattle.brace_top.specs.declared.trial.TheConstants.{TRIAL_SCRIPT}
 use Rattle.brace_top.specs.declared.script_fault.ScriptFault.TheVariants.{Refused, NoMemory}
 use Rattle.brace_top.specs.Commands.{Command, RunCommand, AuditCommand, Run, Format, Check, Planning, Trial, Balancing, Auditing}
 use Rattle.brace_top.proofs.PointLemmas.{equal_by, one_beginning}
 use Rattle.brace_top.proofs.ScriptLemmas.{meant_lawful}
 use Rattle.brace_top.proofs.StripLemmas.{one_order, one_plan, one_certificate}
 use Rattle.brace_top.specs.Scripts.{IsTree, Means, resolved, NoTree, in_tokens, in_grammar, Refuses, without_tree, in_names, in_checks, token_fault, grammar_fault, name_fault, check_fault}
+use Rattle.brace_top.specs.Trials.{trial_script}
 use Rattle.brace_top.specs.Outcome.{Outcome, Refusal, ComesTo, unloaded, refused_at, stands_for, Follows, FollowedBy, RunFrom, RunOutcome, CommandOutcome, SameMessage, source_of, script_message, refused, told, shown, agents_of, plan_of, trial_outcome, audit_job, compared, agreed, AuditFrom, IsBalanced, Judged, IsJudged}
 use Rattle.brace_top.specs.Balances.{IsBalance}
 use Rattle.brace_top.specs.PlanText.{plan_text}
@@ -352,7 +352,7 @@ commands_agree files (Some (Planning name invert)) o p e f =
     follows_agree IsJudged Refuses judgements name (source_of files name) _
     (λ src judged o p means. one_follows (λ judged. shown (plan_text judged.source judged.program invert)) judged o p) o p e f
 commands_agree files (Some (Trial trial)) o p e f =
-    follows_agree Means Refuses programs (codes "trial") (Ok TRIAL_SCRIPT.now) _ (λ src program o p means. one_follows (trial_outcome trial) program o p) o p e f
+    follows_agree Means Refuses programs (codes "trial") (Ok trial_script) _ (λ src program o p means. one_follows (trial_outcome trial) program o p) o p e f
 commands_agree files (Some (Balancing balance)) o p e f =
     follows_agree Means Refuses programs balance.script (source_of files balance.script) _
     (λ src program o p means x y. balances_agree balance.strips program (agents_of files program balance.agents) o p x y) o p e f

@@ -12,7 +12,7 @@ use Rattle.brace_save.specs.Texts.{Moment}
 use Rattle.brace_save.proofs.Begins.{front_begins}
 use Rattle.brace_save.proofs.Laws.{text_read, read_text}
 use Rattle.brace_top.specs.declared.answer.Stopped.{Stopped}
-use Rattle.brace_top.specs.declared.limits.TheConstants.{CHECKPOINT_LIMIT}
+use Rattle.brace_top.specs.Limits.{checkpoint_limit}
 use Rattle.brace_top.specs.declared.status.Status.TheVariants.{Checkpoint}
 use Rattle.brace_top.specs.Answer.{ShelfCall}
 use Rattle.brace_top.specs.Commands.{Start, Anew, Resumed}
@@ -73,14 +73,14 @@ one_from program name (Ok bytes) a b lawful x y = x.is ∙ ap (unless_other name
 pub one_beginning : (files : Files) (program : Program) (start : Start) (a b : Result Moment Refusal) → LawfulProgram program
     → BeginsAt files program start a → BeginsAt files program start b → a ≡ b
 one_beginning files program (Anew name seed) a b lawful x y = sym x ∙ y
-one_beginning files program (Resumed name) a b lawful x y = one_from program name (loaded Checkpoint CHECKPOINT_LIMIT name (files name)) a b lawful x y
+one_beginning files program (Resumed name) a b lawful x y = one_from program name (loaded Checkpoint checkpoint_limit name (files name)) a b lawful x y
 
 -- a file that was not loaded is no checkpoint
-pub unloaded_point : (program : Program) (files : Files) (name : List ℕ) (r : Refusal) → loaded Checkpoint CHECKPOINT_LIMIT name (files name) ≡ Err r → PointOf files program name (Err r)
+pub unloaded_point : (program : Program) (files : Files) (name : List ℕ) (r : Refusal) → loaded Checkpoint checkpoint_limit name (files name) ≡ Err r → PointOf files program name (Err r)
 unloaded_point program files name r e = subst (λ (source : Result (List ℕ) Refusal). PointFrom program name source (Err r)) (sym e) refl
 
 -- a file that is read as a checkpoint
-pub point_read : (program : Program) (files : Files) (name bytes : List ℕ) (moment : Moment) → loaded Checkpoint CHECKPOINT_LIMIT name (files name) ≡ Ok bytes
+pub point_read : (program : Program) (files : Files) (name bytes : List ℕ) (moment : Moment) → loaded Checkpoint checkpoint_limit name (files name) ≡ Ok bytes
     → IsRead program (whole_lines bytes) (unfinished bytes) (Ok moment) → PointOf files program name (Ok moment)
 point_read program files name bytes moment e is =
     subst (λ (source : Result (List ℕ) Refusal). PointFrom program name source (Ok moment)) (sym e) (record { judged = Ok moment; reads = is; is = refl })
@@ -95,7 +95,7 @@ refused_point name point_fault.OtherClasses stopped never is = is
 refused_point name point_fault.BadVersion stopped never is = is
 
 told : (program : Program) (name bytes : List ℕ) (shelf : ShelfCall) (fault : PointFault) (stopped : Stopped)
-    → shelf.faults_after ≡ shelf.faults_before → ((files : Files) → shelf.held ≡ Some files → loaded Checkpoint CHECKPOINT_LIMIT name (files name) ≡ Ok bytes)
+    → shelf.faults_after ≡ shelf.faults_before → ((files : Files) → shelf.held ≡ Some files → loaded Checkpoint checkpoint_limit name (files name) ≡ Ok bytes)
     → IsRead program (whole_lines bytes) (unfinished bytes) (Err fault)
     → IsRefusedAs Checkpoint (point_message name fault) stopped → IsUnloaded (λ files. PointOf files program name) name shelf stopped
 told program name bytes shelf fault stopped same source reads is =
@@ -105,7 +105,7 @@ told program name bytes shelf fault stopped same source reads is =
 
 -- a file that is no checkpoint
 pub point_unloads : (program : Program) (name bytes : List ℕ) (shelf : ShelfCall) (fault : PointFault) (stopped : Stopped)
-    → shelf.faults_after ≡ shelf.faults_before → ((files : Files) → shelf.held ≡ Some files → loaded Checkpoint CHECKPOINT_LIMIT name (files name) ≡ Ok bytes)
+    → shelf.faults_after ≡ shelf.faults_before → ((files : Files) → shelf.held ≡ Some files → loaded Checkpoint checkpoint_limit name (files name) ≡ Ok bytes)
     → ((fault ≡ point_fault.NoMemory → ⊥) → IsRead program (whole_lines bytes) (unfinished bytes) (Err fault))
     → IsPointRefused name fault stopped → IsUnloaded (λ files. PointOf files program name) name shelf stopped
 point_unloads program name bytes shelf point_fault.NoMemory stopped same source judged is =

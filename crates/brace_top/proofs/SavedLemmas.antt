@@ -57,7 +57,7 @@ saved_by-append s save fresh text (c ∷ xs) ys =
     ∙ sym (append_assoc (saving_in more (file_of s save c)) (saved_by s save fresh more xs) (saved_by s save fresh (text ++ (text_of s fresh c ++ all)) ys))
 
 -- with no name nothing is saved
-saves_none : (s : Setting) (fresh : Bool) (text : List ℕ) (cs : List Call) → saved_by s None fresh text cs ≡ []
+pub saves_none : (s : Setting) (fresh : Bool) (text : List ℕ) (cs : List Call) → saved_by s None fresh text cs ≡ []
 saves_none s fresh text [] = refl
 saves_none s fresh text (c ∷ cs) = saves_none s fresh (text ++ text_of s fresh c) cs
 

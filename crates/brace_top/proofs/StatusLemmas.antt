@@ -2,7 +2,7 @@
 use Rattle.std.proofs.Common.{◌≡◌, subst, true, arith}
 use Rattle.brace_top.specs.declared.status.Status.{Status}
 use Rattle.brace_top.specs.declared.status.Status.TheVariants.{Done, Usage, Script, Agents, Plan, Checkpoint, Fault, ReadFault, WriteFault, SaveFault, NoMemory, Absent, Differs}
-use Rattle.brace_top.specs.Answer.{ShelfCall, SinkCall, CountsShelf, CountsReads, CountsWrites}
+use Rattle.brace_top.specs.Answer.{ShelfCall, SinkCall, StopsShelf, CountsShelf, CountsReads, CountsWrites}
 use Rattle.brace_top.specs.Status.{has_run, is_refusal, saves_nothing}
 use Rattle.brace_top.specs.inner.Settled.{is_stop, is_work, is_plain_work}
 
@@ -67,6 +67,10 @@ work_saves P Differs w r = absurd cc
 pub work_usage : (status : Status) → is_work status ≡ true → status ≡ Usage → ⊥
 work_usage status w e = let f : is_work Usage ≡ true = subst (λ (x : Status). is_work x ≡ true) e w in absurd cc
 
+-- no read of a command whose work was begun failed
+pub work_reads : (status : Status) → is_work status ≡ true → status ≡ ReadFault → ⊥
+work_reads status w e = let f : is_work ReadFault ≡ true = subst (λ (x : Status). is_work x ≡ true) e w in absurd cc
+
 -- work that saves nothing is work
 pub plain_works : (status : Status) → is_plain_work status ≡ true → is_work status ≡ true
 plain_works Done w = w
@@ -82,6 +86,13 @@ plain_works SaveFault w = absurd cc
 plain_works NoMemory w = w
 plain_works Absent w = w
 plain_works Differs w = w
+
+-- work that saves nothing stops no shelf
+pub plain_stops : (shelf : ShelfCall) (status : Status) → is_plain_work status ≡ true → StopsShelf shelf status
+plain_stops shelf status w = record {
+  read = λ e. absurd (work_reads status (plain_works status w) e);
+  saved = λ e. let f : is_plain_work SaveFault ≡ true = subst (λ (x : Status). is_plain_work x ≡ true) e w in absurd cc;
+}
 
 -- no call to the shelf failed in work that saves nothing
 pub plain_counts : (shelf : ShelfCall) (status : Status) → is_plain_work status ≡ true → shelf.faults_after ≡ shelf.faults_before → CountsShelf shelf status

@@ -9,6 +9,7 @@ use Rattle.std.proofs.lemmas.Bool.Decides.{nat_tests}
 use Rattle.std.proofs.lemmas.List.Elements.{filter-append}
 use Rattle.std.proofs.lemmas.List.{map-append}
 use Rattle.std.proofs.lemmas.List.Sums.{fold-append}
+use Rattle.brace_io.specs.declared.sink.Sink as sink_trait
 use Rattle.brace_cuts.specs.CutPlans.{IsPlan, IsPlanLine, are_alike}
 use Rattle.brace_cuts.specs.Space.{LawfulCuts}
 use Rattle.brace_cuts.specs.declared.plan.CutLine.{CutLine}
@@ -28,14 +29,21 @@ use Rattle.brace_crew.specs.Sums.{sums_of, sums_after}
 use Rattle.brace_crew.proofs.TextLemmas.{all_saved}
 use Rattle.brace_pieces.specs.Counts.{count_border, count_effects, count_moved, count_handed}
 use Rattle.brace_part.specs.declared.counts.Counts.{Counts}
+use Rattle.brace_top.specs.declared.answer.Answer.{Answer}
+use Rattle.brace_top.specs.declared.answer.Stopped.{Stopped}
+use Rattle.brace_top.specs.declared.command.TrialCommand.{TrialCommand as CodeTrial}
+use Rattle.brace_top.specs.declared.task.Task.{Task}
 use Rattle.brace_top.specs.declared.status.Status.{Status}
 use Rattle.brace_top.specs.declared.status.Status.TheVariants.{Done}
-use Rattle.brace_top.specs.Answer.{SinkCall}
+use Rattle.brace_top.specs.Answer.{ShelfCall, SinkCall, sink_call, CountsWrites}
 use Rattle.brace_top.specs.Commands.{TrialCommand}
 use Rattle.brace_top.specs.Outcome.{Outcome, stats_of, trial_end}
 use Rattle.brace_top.specs.Trials.{strips, along_x, trial_plan, trial_line}
-use Rattle.brace_top.specs.inner.Settled.{told_counts, IsWritten}
+use Rattle.brace_top.specs.Status.{has_run}
+use Rattle.brace_top.specs.inner.Settled.{told_counts, status_in, message_in, is_plain_work, outcome_of, outcome_by, IsWritten, IsRunOf}
+use Rattle.brace_top.specs.inner.Words.{said_trial}
 use Rattle.brace_top.proofs.CameLemmas.{counts_told}
+use Rattle.brace_top.proofs.StatusLemmas.{plain_works, plain_counts, plain_stops}
 
 -- ---- the cut plan
 
@@ -229,3 +237,23 @@ written_for o p out message status e is = subst (λ (q : Outcome). IsWritten (λ
 -- what a run came to, by another name of its publisher
 pub came_as : {P : Type 0} (of : publisher.Ghosts P) (s : Setting) (opening now then : P) (came : Result Counts CrewFault) → then ≡ now → CameTo of s opening now came → CameTo of s opening then came
 came_as of s opening now then came is run = subst (λ p. CameTo of s opening p came) (sym is) run
+
+-- a trial that was carried out for its outcome, beside a shelf that was left as it was, is a task that was
+pub trial_run : {O : Type 0} (of_sink : sink_trait.Ghosts O) (task : Task) (trial : CodeTrial) (shelf : ShelfCall) (out out_after : O) (r : Result Answer Stopped)
+    → task.trial ≡ Some trial → shelf.held_after ≡ shelf.held → shelf.faults_after ≡ shelf.faults_before
+    → IsWritten (λ x. x ≡ trial_end (said_trial trial) task.setting (end_of task.setting.job)) (sink_call of_sink out out_after) (message_in r) (status_in r)
+    → is_plain_work (status_in r) ≡ true → CountsWrites (sink_call of_sink out out_after) (status_in r)
+    → (has_run (status_in r) ≡ true → of_sink.clean out_after ≡ true) → IsRunOf of_sink task shelf out out_after r
+trial_run of_sink task trial shelf out out_after r is held faults written plain writes clean =
+    let all : IsWritten (λ x. x ≡ outcome_of task) (sink_call of_sink out out_after) (message_in r) (status_in r) =
+    subst (λ (t : Option CodeTrial). IsWritten (λ x. x ≡ outcome_by t task) (sink_call of_sink out out_after) (message_in r) (status_in r)) (sym is) written in
+    record {
+      carried_out = λ files told. all files shelf told held;
+      written = λ bare. all;
+      plain = λ bare. plain;
+      work = plain_works _ plain;
+      counts = plain_counts shelf _ plain faults;
+      stops = plain_stops shelf _ plain;
+      writes = writes;
+      clean = clean;
+    }

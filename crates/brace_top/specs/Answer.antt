@@ -68,6 +68,16 @@ CountsReads shelf ReadFault = Rose shelf.faults_before shelf.faults_after
 CountsReads shelf NoMemory = ⊤
 CountsReads shelf status = shelf.faults_after ≡ shelf.faults_before
 
+-- the shelf stopped at some name
+pub record IsHalted (shelf : ShelfCall) : Type 0 where
+  pub name : List ℕ
+  pub at_name : StoppedAt shelf.held_after shelf.stage name
+
+-- the shelf stopped where a read fault or a save fault is answered, also one that tells no files
+pub record StopsShelf (shelf : ShelfCall) (status : Status) : Type 0 where
+  pub read : status ≡ ReadFault → IsHalted shelf
+  pub saved : status ≡ SaveFault → IsHalted shelf
+
 -- the count of the sink's failures rose where a write fault is answered
 abbrev pub CountsWrites : SinkCall → Status → Type 0
 CountsWrites sink status = status ≡ WriteFault → Rose sink.faults_before sink.faults_after

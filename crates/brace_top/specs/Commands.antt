@@ -1,5 +1,5 @@
 -- The command that the words of a command line ask for.
-use Rattle.std.specs.Prelude.{ℕ, List, Bool, true, false, ◌&&◌, if◌then◌else◌, Option, Some, None, is_none, option_map, option_and_then, unwrap_or}
+use Rattle.std.specs.Prelude.{ℕ, List, Bool, true, false, ◌&&◌, if◌then◌else◌, Option, Some, None, is_none, is_some, option_map, option_and_then, unwrap_or}
 use Rattle.brace_words.specs.declared.line.Line.{Line}
 use Rattle.brace_words.specs.declared.mode.Mode.{Mode}
 use Rattle.brace_words.specs.declared.mode.Mode.TheVariants as mode
@@ -92,9 +92,9 @@ agents_in (Balancing balance) = Some balance.agents
 agents_in (Auditing audit) = Some audit.agents
 agents_in _ = None
 
--- the command may save files
+-- the command may save files: it is a run that is given a name for them
 abbrev pub may_save : Option Command → Bool
-may_save (Some (Run run)) = true
+may_save (Some (Run run)) = is_some run.save
 may_save _ = false
 
 -- the line asks for nothing that is not built yet: for no link and no watched figures

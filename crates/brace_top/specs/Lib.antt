@@ -1,6 +1,7 @@
 pub mod Answer
 pub mod Balances
 pub mod Commands
+pub mod Limits
 pub mod Messages
 pub mod Outcome
 pub mod Places

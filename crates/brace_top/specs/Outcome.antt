@@ -23,8 +23,7 @@ use Rattle.brace_syntax.specs.declared.tree.Tree.{Tree}
 use Rattle.brace_top.specs.declared.status.Status.{Status}
 use Rattle.brace_top.specs.declared.status.Status.TheVariants.{Done, Usage, Script, Agents, Plan, Checkpoint, Absent, Differs}
 use Rattle.brace_top.specs.declared.status.Status.TheVariants as ended_by
-use Rattle.brace_top.specs.declared.limits.TheConstants.{SCRIPT_LIMIT, AGENTS_LIMIT, PLAN_LIMIT, CHECKPOINT_LIMIT}
-use Rattle.brace_top.specs.declared.trial.TheConstants.{TRIAL_SCRIPT}
+use Rattle.brace_top.specs.Limits.{script_limit, agents_limit, plan_limit, checkpoint_limit}
 use Rattle.brace_top.specs.Balances.{IsAlongX, IsBalance}
 use Rattle.brace_top.specs.Commands.{Command, RunCommand, TrialCommand, BalanceCommand, AuditCommand, Start, Anew, Resumed, Run, Format, Check, Planning, Trial, Balancing, Auditing, command_of, script_in, agents_in, start_file, is_anew}
 use Rattle.brace_top.specs.declared.script_fault.ScriptFault.{ScriptFault}
@@ -36,7 +35,7 @@ use Rattle.brace_top.specs.Places.{line_number, column_number}
 use Rattle.brace_top.specs.PlanText.{plan_text}
 use Rattle.brace_top.specs.Scripts.{IsTree, Means, NoTree, Refuses}
 use Rattle.brace_top.specs.Savings.{Saving, savings}
-use Rattle.brace_top.specs.Trials.{trial_plan, trial_line}
+use Rattle.brace_top.specs.Trials.{trial_script, trial_plan, trial_line}
 use Rattle.brace_save.specs.declared.kinds.PointFault.{PointFault}
 use Rattle.brace_save.specs.Lines.{IsRead, whole_lines, unfinished}
 use Rattle.brace_save.specs.Texts.{Moment}
@@ -69,7 +68,7 @@ loaded status limit name (Some bytes) =
 
 -- the bytes of a script within its limit
 abbrev pub source_of : Files → List ℕ → Result (List ℕ) Refusal
-source_of files name = loaded Script SCRIPT_LIMIT name (files name)
+source_of files name = loaded Script script_limit name (files name)
 
 -- the message that refuses a script at a place
 abbrev pub script_message : List ℕ → List ℕ → ScriptKind → ℕ → List ℕ
@@ -116,7 +115,7 @@ JudgedOf files name = ComesTo IsJudged Refuses name (source_of files name)
 
 -- the program of the script of a trial, which is judged as the script of a file named `trial` is
 abbrev pub TrialProgram : Result Program Refusal → Type 0
-TrialProgram = ComesTo Means Refuses (codes "trial") (Ok TRIAL_SCRIPT.now)
+TrialProgram = ComesTo Means Refuses (codes "trial") (Ok trial_script)
 
 -- a world, unless a record of its file is faulty: the number of the first one, and its kind
 abbrev pub unless_faulty : List ℕ → World → Option (ℕ × RowKind) → Result World Refusal
@@ -135,7 +134,7 @@ world_from program name (Ok bytes) =
 -- the world of an agent file within its limit
 abbrev pub agents_of : Files → Program → List ℕ → Result World Refusal
 agents_of files program name =
-    world_from program name (loaded Agents AGENTS_LIMIT name (files name))
+    world_from program name (loaded Agents agents_limit name (files name))
 
 -- the moment at which a run of a seed begins anew
 abbrev pub begun_anew : ℕ → Result World Refusal → Result Moment Refusal
@@ -163,7 +162,7 @@ PointFrom program name (Ok bytes) found = IsPoint program name bytes found
 -- what the checkpoint of a name comes to
 abbrev pub PointOf : Files → Program → List ℕ → Result Moment Refusal → Type 0
 PointOf files program name =
-    PointFrom program name (loaded Checkpoint CHECKPOINT_LIMIT name (files name))
+    PointFrom program name (loaded Checkpoint checkpoint_limit name (files name))
 
 -- what the file with which a run begins comes to: the moment at which it begins, or why it is
 -- refused
@@ -193,7 +192,7 @@ whole_plane = record { lines = record { tick = 0; cuts = record { xs = []; ys = 
 -- the plan of a cut plan within its limit, or the whole plane where none is named
 abbrev pub plan_of : Files → ℕ → Option (List ℕ) → Result CutPlan Refusal
 plan_of files epoch None = Ok whole_plane
-plan_of files epoch (Some name) = plan_from epoch name (loaded Plan PLAN_LIMIT name (files name))
+plan_of files epoch (Some name) = plan_from epoch name (loaded Plan plan_limit name (files name))
 
 -- the setting of a run from a moment on
 abbrev pub setting_of : RunCommand → Program → Moment → CutPlan → Setting

@@ -6,7 +6,7 @@ use Rattle.brace_model.specs.declared.job.Job.{Job}
 use Rattle.brace_model.specs.Next.{has_births}
 use Rattle.brace_model.specs.World.{World}
 use Rattle.brace_save.specs.Lines.{IsText}
-use Rattle.brace_top.specs.declared.limits.TheConstants.{CHECKPOINT_LIMIT}
+use Rattle.brace_top.specs.Limits.{checkpoint_limit}
 use Rattle.brace_top.specs.declared.status.Status.TheVariants.{Checkpoint}
 use Rattle.brace_top.specs.Commands.{RunCommand, Resumed}
 use Rattle.brace_top.specs.Outcome.{ProgramOf, loaded, plan_of}
@@ -23,7 +23,7 @@ pub record GoesOn (files : Files) (job : Job) (tick : ℕ) (world : World) (run 
     pub name : List ℕ
     pub begins : run.start ≡ Resumed name
     pub bytes : List ℕ
-    pub held : loaded Checkpoint CHECKPOINT_LIMIT name (files name) ≡ Ok bytes
+    pub held : loaded Checkpoint checkpoint_limit name (files name) ≡ Ok bytes
     pub tells : IsText job.program (record { tick = tick; seed = job.seed; world = world }) bytes
     pub means : ProgramOf files run.script (Ok job.program)
     pub childless : has_births job.program ≡ false

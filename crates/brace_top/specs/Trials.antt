@@ -1,8 +1,40 @@
--- A trial: the cut plan of the program's own script, and the line that tells its last world.
+-- A trial: the program's own script and its cut plan, and the line that tells its last world.
 use Rattle.std.specs.Prelude.{ℕ, ◌*◌, List, [], ◌∷◌, ◌++◌, codes, map, ℤ, pos, ◌+ℤ◌}
 use Rattle.brace_num.specs.Spelling.{canonical_count, canonical_int}
 use Rattle.brace_cuts.specs.declared.plan.CutLine.{CutLine}
 use Rattle.brace_cuts.specs.declared.plan.CutPlan.{CutPlan}
+
+-- the script: fish that turn with those around them, and keep apart
+abbrev pub trial_script : List ℕ
+trial_script =
+    codes "class Fish {\n"
+    ++ codes "  #visible[10.0];\n"
+    ++ codes "  #reach[2.0];\n"
+    ++ codes "  public state fixed x : x + vx + px;\n"
+    ++ codes "  public state fixed y : y + vy + py;\n"
+    ++ codes "  public state fixed vx : max(-1.0, min(1.0, "
+    ++ codes "(n > 0 ? sx / fixed(n) : vx) + rand() - 0.5));\n"
+    ++ codes "  public state fixed vy : max(-1.0, min(1.0, "
+    ++ codes "(n > 0 ? sy / fixed(n) : vy) + rand() - 0.5));\n"
+    ++ codes "  public effect fixed sx : sum;\n"
+    ++ codes "  public effect fixed sy : sum;\n"
+    ++ codes "  public effect fixed px : sum;\n"
+    ++ codes "  public effect fixed py : sum;\n"
+    ++ codes "  public effect int n : count;\n"
+    ++ codes "  public void run() {\n"
+    ++ codes "    foreach (Fish p : Extent<Fish>) {\n"
+    ++ codes "      sx <- p.vx;\n"
+    ++ codes "      sy <- p.vy;\n"
+    ++ codes "      n <- true;\n"
+    ++ codes "      const fixed dx = p.x - x;\n"
+    ++ codes "      const fixed dy = p.y - y;\n"
+    ++ codes "      if (abs(dx) < 1.0 && abs(dy) < 1.0) {\n"
+    ++ codes "        p.px <- dx / 4.0;\n"
+    ++ codes "        p.py <- dy / 4.0;\n"
+    ++ codes "      }\n"
+    ++ codes "    }\n"
+    ++ codes "  }\n"
+    ++ codes "}\n"
 
 -- eight strips of the same breadth: the cuts along x at 125, 250 up to 875 units, in millionths
 abbrev pub strips : List ℤ

@@ -1,187 +1,251 @@
-ghost use Rattle.std.specs.Prelude.{◌≡◌, ◌⊎◌, ◌<◌, ◌≤◌, map, string_bytes, IfSome, IfOk, IfErr, Some, None, Err, true, false};
-ghost use Rattle.brace_words.specs.declared.fault.LineFault.TheVariants as fault;
-ghost use Rattle.brace_io.specs.Shelves.{Idle, writes};
-ghost use Rattle.brace_top.specs.declared.answer.Stopped.TheVariants as stopped;
-ghost use Rattle.brace_top.specs.Answer.{IsAnswered, call_of, CountsShelf, CountsReads, CountsWrites, shelf_call, sink_call};
-ghost use Rattle.brace_top.specs.Commands.{command_of, may_save, workers_asked};
-ghost use Rattle.brace_top.specs.Status.{has_run, is_refusal, saves_nothing, status_of, code_of};
-ghost use Rattle.brace_top.specs.inner.Settled.{IsServed};
-ghost use Rattle.brace_top.specs.inner.Words.{said, IsInRange, IsReadAs, IsUnasked};
+ghost use Rattle.std.specs.Prelude.{◌≡◌, ◌≤◌, option_map, MatchOption, IfErr, IfOk, IfSome, None, Some};
+ghost use Rattle.brace_words.specs.Lines as lines;
+ghost use Rattle.brace_top.specs.Commands.{anew_of, audit_of, balance_of, built, command_in, manner_of, resumed_of, run_of, trial_of, workers_of};
+ghost use Rattle.brace_top.specs.inner.Words.{said, said_manner, said_start, IsInRange, IsMannerInRange};
 
-use crate::answer::{Answer, Stopped, say};
-use crate::flow::{answer_command, answer_command_on};
-use crate::team::Team;
-use crate::words::{Command, command_in, workers_of};
-use brace_io::{Gate, Shelf, Sink};
-use brace_words::{Line, LineFault, read_line};
-use std::alloc::Global;
-use std::sync::Wait;
-use std::thread::Threads;
+use brace_num::Text;
+use brace_words::{Line, LineFault, Mode};
 
-/// The command that words ask for, as they were read.
-fn asked_command<'a>(
-    words: &[String],
-    line: &'a Result<Line, LineFault>,
-) -> Result<Command<'a>, Stopped>
-    requires { IsReadAs (map string_bytes words.now) line.now }
-    ensures command { IfOk result
-        (λ command. command_of (map string_bytes words.now) ≡ Some (said command)) }
-    ensures range { IfOk result IsInRange }
-    ensures none { IfErr result (IsUnasked (map string_bytes words.now)) }
-    ensures no_memory { line.now ≡ Err fault.NoMemory → result ≡ Err stopped.NoMemory }
+/// How a run is worked. Only the counts depend on it: no row and no checkpoint does.
+#[derive(Debug, Clone, Copy)]
+pub struct Manner {
+    /// How many ticks an epoch has, 1 to 16.
+    pub epoch: u64,
+    /// The number that draws the order of the parts' work.
+    pub order: u64,
+    /// Whether values are said by the owners of those to whom they are said.
+    pub invert: bool,
+    /// Whether counts are told at the end.
+    pub stats: bool,
+}
+
+/// Where a run begins.
+#[derive(Debug, Clone, Copy)]
+pub enum Start<'a> {
+    /// At tick 0, with the agents of the file of this name and this seed of all draws.
+    Anew(&'a str, u64),
+    /// At the tick, with the world and with the seed that the checkpoint of this name tells.
+    Resumed(&'a str),
+}
+
+/// A run up to a last tick, at most 2^32.
+#[derive(Debug, Clone, Copy)]
+pub struct RunCommand<'a> {
+    pub script: &'a str,
+    pub start: Start<'a>,
+    /// The cut plan; without one the plane is one part.
+    pub cuts: Option<&'a str>,
+    /// The world of the end k of an epoch is saved as `NAME.k`, where this is NAME.
+    pub save: Option<&'a str>,
+    pub ticks: u64,
+    /// Ticks that this number divides are published, and the last one. At least 1.
+    pub every: u64,
+    pub manner: Manner,
+}
+
+/// A run of the program's own script up to a last tick, at most 2^32.
+#[derive(Debug, Clone, Copy)]
+pub struct TrialCommand {
+    /// How many agents are made, at most 2^20.
+    pub count: u32,
+    pub ticks: u64,
+    /// The seed of the agents and of all draws.
+    pub seed: u64,
+    pub manner: Manner,
+}
+
+/// Cuts of the plane into strips over the agents of a file.
+#[derive(Debug, Clone, Copy)]
+pub struct BalanceCommand<'a> {
+    pub script: &'a str,
+    pub agents: &'a str,
+    /// The most strips, 1 to 64.
+    pub strips: u32,
+}
+
+/// The question whether a file is what a run publishes that begins anew.
+#[derive(Debug, Clone, Copy)]
+pub struct AuditCommand<'a> {
+    pub script: &'a str,
+    pub agents: &'a str,
+    /// The file that is compared.
+    pub published: &'a str,
+    /// The last tick, at most 2^32.
+    pub ticks: u64,
+    /// Ticks that this number divides are published, and the last one. At least 1.
+    pub every: u64,
+    /// The seed of all draws.
+    pub seed: u64,
+}
+
+/// What the words of a command ask for.
+#[derive(Debug, Clone, Copy)]
+pub enum Command<'a> {
+    /// A run.
+    Run(RunCommand<'a>),
+    /// The canonical text of the script of this name.
+    Format(&'a str),
+    /// Whether the script of this name is accepted.
+    Check(&'a str),
+    /// How the script of this name is run, with inversion where that is said.
+    Plan(&'a str, bool),
+    /// A trial.
+    Trial(TrialCommand),
+    /// Balanced strips.
+    Balance(BalanceCommand<'a>),
+    /// An audit.
+    Audit(AuditCommand<'a>),
+}
+
+/// Whether a line asks for nothing that is not built yet.
+///
+/// Not built are links and watched figures in `run` and `resume`.
+pub fn built(line: &Line) -> bool
+    ensures { result ≡ built line.now }
+{
+    line.link.is_none() && line.watch.is_none()
+}
+
+/// How many workers words ask for, as they were read: 1 to 16, and 1 where they are no line.
+pub fn workers_of(line: &Result<Line, LineFault>) -> u32
+    requires range { IfOk line.now lines.IsInRange }
+    ensures some { 1 ≤ result }
+    ensures few { result ≤ 16 }
+    ensures asked { IfOk line.now (λ l. result ≡ workers_of (Some l)) }
+    ensures none { IfErr line.now (λ fault. result ≡ 1) }
 {
     match line {
-        Ok(line) => command_in(line).ok_or(Stopped::Usage),
-        Err(LineFault::Usage) => Err(Stopped::Usage),
-        Err(LineFault::NoMemory) => Err(Stopped::NoMemory),
+        Ok(line) => line.workers.unwrap_or(1),
+        Err(_) => 1,
     }
 }
 
-/// Answers words on one worker, as they were read.
-fn answer_words<S: Shelf, O: Sink>(
-    alloc: Global,
-    words: &[String],
-    line: &Result<Line, LineFault>,
-    shelf: &mut S,
-    out: &mut O,
-) -> Result<Answer, Stopped>
-    requires stage { S.stage shelf.old ≡ Idle }
-    requires line { IsReadAs (map string_bytes words.now) line.now }
-    ensures served { IsServed S.Shelf O.Sink (command_of (map string_bytes words.now))
-        shelf.old shelf.new out.old out.new result }
-    ensures no_memory { line.now ≡ Err fault.NoMemory → result ≡ Err stopped.NoMemory }
-    ensures not_writing { writes (S.stage shelf.new) ≡ false }
+/// How a line's run is worked.
+fn manner_of(line: &Line) -> Manner
+    requires { lines.IsInRange line.now }
+    ensures manner { said_manner result ≡ manner_of line.now }
+    ensures range { IsMannerInRange result }
 {
-    let command = asked_command(words, line)?;
-    answer_command(alloc, &command, shelf, out)
+    Manner {
+        epoch: line.epoch.unwrap_or(16),
+        order: line.order.unwrap_or(0),
+        invert: line.invert,
+        stats: line.stats,
+    }
 }
 
-/// Answers words on a team, as [`answer_words`] does on one worker.
-fn answer_words_on<R: Threads + Wait + Sync, G: Gate + Sync, S: Shelf + Send, O: Sink + Send>(
-    team: &Team<R, G>,
-    alloc: Global,
-    words: &[String],
-    line: &Result<Line, LineFault>,
-    shelf: &mut S,
-    out: &mut O,
-) -> Result<Answer, Stopped>
-    requires some { 1 ≤ team.now.workers }
-    requires few { team.now.workers ≤ 16 }
-    requires stage { S.stage shelf.old ≡ Idle }
-    requires line { IsReadAs (map string_bytes words.now) line.now }
-    ensures served { IsServed S.Shelf O.Sink (command_of (map string_bytes words.now))
-        shelf.old shelf.new out.old out.new result }
-    ensures not_writing { writes (S.stage shelf.new) ≡ false }
+/// A name that may be given.
+fn name_of(name: &Option<Text>) -> Option<&str>
+    ensures { option_map (λ n. n.now) result ≡ name.now }
 {
-    let command = asked_command(words, line)?;
-    answer_command_on(team, alloc, &command, shelf, out)
+    name.as_ref().map(|name| name.as_str())
 }
 
-/// Carries a command out without a thread, and answers its status: a number of the table below. It
-/// answers None, and nothing is touched, where the words ask for more workers than one.
-///
-/// | Status | When it comes |
-/// |---|---|
-/// | 0 | all was written |
-/// | 2 | the words are no line, or ask for what is not [`built`](crate::built) yet |
-/// | 3, 4, 5, 6 | the script, the agent file, the cut plan, the checkpoint is refused |
-/// | 7 | the run ended in a fault before its last tick |
-/// | 8 | a read failed |
-/// | 9 | a write to `out` failed |
-/// | 10 | a file was not saved |
-/// | 11 | the allocator refused memory |
-/// | 12 | a named file is not held |
-/// | 13 | the published file differs from what a run publishes |
-///
-/// `words` are those after the program's name. Files are read from `shelf` and saved there, rows or
-/// the canonical text go to `out`, and one line for each status other than 0 goes to `err`, whose
-/// faults change no status; with 0 it is the line of the counts, where they are asked for.
-pub fn run_alone<S: Shelf, O: Sink, E: Sink>(
-    alloc: Global,
-    words: &[String],
-    shelf: &mut S,
-    out: &mut O,
-    err: &mut E,
-) -> Option<u8>
-    requires { S.stage shelf.old ≡ Idle }
-    ensures several { result ≡ None → 1 < workers_asked (map string_bytes words.now) }
-    ensures not_several { 1 < workers_asked (map string_bytes words.now)
-        → IfSome result (λ code. code ≡ 11) }
-    ensures same_shelf { result ≡ None → shelf.new ≡ shelf.old }
-    ensures same_out { result ≡ None → out.new ≡ out.old }
-    ensures same_err { result ≡ None → err.new ≡ err.old }
-    ensures known { IfSome result (λ code. code_of (status_of code) ≡ code) }
-    ensures answered { IfSome result (λ code. IsAnswered (call_of (map string_bytes words.now)
-        (status_of code) (shelf_call S.Shelf shelf.old shelf.new)
-        (sink_call O.Sink out.old out.new) (sink_call E.Sink err.old err.new))) }
-    ensures usage { IfSome result
-        (λ code. code ≡ 2 → command_of (map string_bytes words.now) ≡ None) }
-    ensures no_command { command_of (map string_bytes words.now) ≡ None
-        → IfSome result (λ code. (code ≡ 2) ⊎ (code ≡ 11)) }
-    ensures counts { IfSome result
-        (λ code. CountsShelf (shelf_call S.Shelf shelf.old shelf.new) (status_of code)) }
-    ensures reads { may_save (command_of (map string_bytes words.now)) ≡ false
-        → IfSome result
-        (λ code. CountsReads (shelf_call S.Shelf shelf.old shelf.new) (status_of code)) }
-    ensures writes { IfSome result
-        (λ code. CountsWrites (sink_call O.Sink out.old out.new) (status_of code)) }
-    ensures untouched { IfSome result
-        (λ code. is_refusal (status_of code) ≡ true → out.new ≡ out.old) }
-    ensures untouched_by_usage { IfSome result (λ code. code ≡ 2 → out.new ≡ out.old) }
-    ensures clean { IfSome result
-        (λ code. has_run (status_of code) ≡ true → O.clean out.new ≡ true) }
-    ensures unsaved { IfSome result (λ code. saves_nothing (status_of code) ≡ true
-        → S.held shelf.new ≡ S.held shelf.old) }
-    ensures not_writing { writes (S.stage shelf.new) ≡ false }
+/// A run that begins anew, where the line names the agent file.
+fn anew_of(line: &Line) -> Option<Start<'_>>
+    ensures { option_map said_start result ≡ anew_of line.now }
 {
-    let line = read_line(alloc, words);
-    if workers_of(&line) > 1 {
+    Some(Start::Anew(line.agents.as_ref()?.as_str(), line.seed.unwrap_or(0)))
+}
+
+/// A run that is resumed, where the line names the checkpoint.
+fn resumed_of(line: &Line) -> Option<Start<'_>>
+    ensures { option_map said_start result ≡ resumed_of line.now }
+{
+    Some(Start::Resumed(line.from.as_ref()?.as_str()))
+}
+
+/// The run that a line asks for, where it names the script and the last tick and says where the run
+/// begins.
+fn run_of<'a>(line: &'a Line, start: Option<Start<'a>>) -> Option<Command<'a>>
+    requires { lines.IsInRange line.now }
+    ensures command { MatchOption result
+        (run_of line.now line.now.script (option_map said_start start.entry) line.now.ticks ≡ None)
+        (λ command. run_of line.now line.now.script (option_map said_start start.entry)
+        line.now.ticks ≡ Some (said command)) }
+    ensures range { IfSome result IsInRange }
+{
+    Some(Command::Run(RunCommand {
+        script: line.script.as_ref()?.as_str(),
+        start: start?,
+        cuts: name_of(&line.cuts),
+        save: name_of(&line.save),
+        ticks: line.ticks?,
+        every: line.every.unwrap_or(1),
+        manner: manner_of(line),
+    }))
+}
+
+/// The trial that a line asks for, where it says how many agents are made, and the last tick.
+fn trial_of(line: &Line) -> Option<Command<'_>>
+    requires { lines.IsInRange line.now }
+    ensures command { MatchOption result (trial_of line.now line.now.count line.now.ticks ≡ None)
+        (λ command. trial_of line.now line.now.count line.now.ticks ≡ Some (said command)) }
+    ensures range { IfSome result IsInRange }
+{
+    Some(Command::Trial(TrialCommand {
+        count: line.count?,
+        ticks: line.ticks?,
+        seed: line.seed.unwrap_or(0),
+        manner: manner_of(line),
+    }))
+}
+
+/// The balanced strips that a line asks for, where it names the script and the agent file and says
+/// how many strips there may be.
+fn balance_of(line: &Line) -> Option<Command<'_>>
+    requires { lines.IsInRange line.now }
+    ensures command { MatchOption result
+        (balance_of line.now.script line.now.agents line.now.strips ≡ None)
+        (λ command. balance_of line.now.script line.now.agents line.now.strips
+        ≡ Some (said command)) }
+    ensures range { IfSome result IsInRange }
+{
+    Some(Command::Balance(BalanceCommand {
+        script: line.script.as_ref()?.as_str(),
+        agents: line.agents.as_ref()?.as_str(),
+        strips: line.strips?,
+    }))
+}
+
+/// The audit that a line asks for, where it names the script, the agent file and the published one
+/// and says the last tick.
+fn audit_of(line: &Line) -> Option<Command<'_>>
+    requires { lines.IsInRange line.now }
+    ensures command { MatchOption result
+        (audit_of line.now line.now.script line.now.agents line.now.published line.now.ticks ≡ None)
+        (λ command. audit_of line.now line.now.script line.now.agents line.now.published
+        line.now.ticks ≡ Some (said command)) }
+    ensures range { IfSome result IsInRange }
+{
+    Some(Command::Audit(AuditCommand {
+        script: line.script.as_ref()?.as_str(),
+        agents: line.agents.as_ref()?.as_str(),
+        published: line.published.as_ref()?.as_str(),
+        ticks: line.ticks?,
+        every: line.every.unwrap_or(1),
+        seed: line.seed.unwrap_or(0),
+    }))
+}
+
+/// The command that a line asks for, or None where it is not built yet.
+pub fn command_in(line: &Line) -> Option<Command<'_>>
+    requires { lines.IsInRange line.now }
+    ensures command { MatchOption result (command_in line.now ≡ None)
+        (λ command. command_in line.now ≡ Some (said command)) }
+    ensures range { IfSome result IsInRange }
+{
+    if !built(line) {
         return None;
     }
-    let answer = answer_words(alloc, words, &line, shelf, out);
-    Some(say(err, answer).code())
-}
-
-/// Carries a command out, and answers its status, as [`run_alone`] does. Where the words ask for
-/// more workers than one, `rt` starts and joins their threads, and the call may wait; what is said
-/// here holds where it returns. A worker passes `gate`, with its number from 0, before a part of
-/// the plane evaluates its query of a tick.
-pub fn run<R: Threads + Wait + Sync, S: Shelf + Send, O: Sink + Send, E: Sink, G: Gate + Sync>(
-    rt: &R,
-    alloc: Global,
-    words: &[String],
-    shelf: &mut S,
-    out: &mut O,
-    err: &mut E,
-    gate: &G,
-) -> u8
-    requires { S.stage shelf.old ≡ Idle }
-    ensures known { code_of (status_of result) ≡ result }
-    ensures answered { IsAnswered (call_of (map string_bytes words.now) (status_of result)
-        (shelf_call S.Shelf shelf.old shelf.new) (sink_call O.Sink out.old out.new)
-        (sink_call E.Sink err.old err.new)) }
-    ensures usage { result ≡ 2 → command_of (map string_bytes words.now) ≡ None }
-    ensures no_command { command_of (map string_bytes words.now) ≡ None
-        → (result ≡ 2) ⊎ (result ≡ 11) }
-    ensures counts { CountsShelf (shelf_call S.Shelf shelf.old shelf.new) (status_of result) }
-    ensures reads { may_save (command_of (map string_bytes words.now)) ≡ false
-        → CountsReads (shelf_call S.Shelf shelf.old shelf.new) (status_of result) }
-    ensures writes { CountsWrites (sink_call O.Sink out.old out.new) (status_of result) }
-    ensures untouched { is_refusal (status_of result) ≡ true → out.new ≡ out.old }
-    ensures untouched_by_usage { result ≡ 2 → out.new ≡ out.old }
-    ensures clean { has_run (status_of result) ≡ true → O.clean out.new ≡ true }
-    ensures unsaved { saves_nothing (status_of result) ≡ true
-        → S.held shelf.new ≡ S.held shelf.old }
-    ensures not_writing { writes (S.stage shelf.new) ≡ false }
-{
-    match run_alone(alloc, words, shelf, out, err) {
-        Some(code) => code,
-        None => {
-            let line = read_line(alloc, words);
-            let workers = workers_of(&line);
-            let team = Team { rt, gate, workers };
-            let answer = answer_words_on(&team, alloc, words, &line, shelf, out);
-            say(err, answer).code()
-        }
+    match line.mode {
+        Mode::Run => run_of(line, anew_of(line)),
+        Mode::Resume => run_of(line, resumed_of(line)),
+        Mode::Fmt => Some(Command::Format(line.script.as_ref()?.as_str())),
+        Mode::Check => Some(Command::Check(line.script.as_ref()?.as_str())),
+        Mode::Plan => Some(Command::Plan(line.script.as_ref()?.as_str(), line.invert)),
+        Mode::Trial => trial_of(line),
+        Mode::Balance => balance_of(line),
+        Mode::Audit => audit_of(line),
     }
 }

@@ -1,8 +1,9 @@
-//! How each command is carried out.
-ghost use Rattle.std.specs.Prelude.{◌≡◌, ◌≤◌, ℤ, [], Some, Err, true, false};
-ghost use Rattle.brace_io.specs.Shelves.{writes};
+//! How a task is carried out, on one worker or on several.
+ghost use Rattle.std.specs.Prelude.{◌≡◌, ◌≤◌, ℤ, [], None, Err, true, false};
+ghost use Rattle.brace_model.specs.Next.{has_births};
 ghost use Rattle.brace_model.specs.Run.{end_of};
 ghost use Rattle.brace_pieces.specs.declared.setting.Setting.{Setting};
+ghost use Rattle.brace_pieces.specs.Settings.{LawfulSetting};
 ghost use Rattle.brace_crew.specs.Calls.{CameTo};
 ghost use Rattle.brace_top.specs.Answer.{CountsWrites, sink_call};
 ghost use Rattle.brace_top.specs.Commands as asked;
@@ -10,17 +11,18 @@ ghost use Rattle.brace_top.specs.Outcome.{trial_end};
 ghost use Rattle.brace_top.specs.declared.status.Status.TheVariants.{Done};
 ghost use Rattle.brace_top.specs.Status.{has_run};
 ghost use Rattle.brace_top.specs.Trials.{trial_line};
-ghost use Rattle.brace_top.specs.inner.Settled.{IsServed, IsWritten, told_counts, is_plain_work, status_in, message_in};
-ghost use Rattle.brace_top.specs.inner.Words.{said, said_trial, IsInRange};
+ghost use Rattle.brace_top.specs.inner.Settled.{IsRunOf, IsWritten, keeper_call, told_counts, is_plain_work, status_in, message_in};
+ghost use Rattle.brace_top.specs.inner.Words.{said_trial};
 
 use crate::answer::{Answer, Stopped};
-use crate::prepare::{Work, prepare};
-use crate::task::{done, faulted, run_task, run_task_on};
+use crate::command::TrialCommand;
+use crate::task::{Task, done, faulted, settle};
 use crate::team::{Team, crew_run_on};
 use crate::trial::trial_line;
-use crate::words::{Command, TrialCommand};
-use brace_crew::{CrewFault, Publisher, SumPublisher, crew_run_on_one};
-use brace_io::{Gate, Shelf, Sink, write_whole};
+use brace_crew::{
+    CrewFault, File, FilePublisher, Keeper, Publisher, SumPublisher, crew_run_on_one,
+};
+use brace_io::{Failed, Gate, Sink, write_whole};
 use brace_model::Fault;
 use brace_part::Counts;
 use std::alloc::Global;
@@ -89,53 +91,97 @@ fn settle_trial<O: Sink>(
     }
 }
 
-/// Carries a command out on one worker.
-pub fn answer_command<S: Shelf, O: Sink>(
-    alloc: Global,
-    command: &Command,
-    shelf: &mut S,
-    out: &mut O,
-) -> Result<Answer, Stopped>
-    requires stage { writes (S.stage shelf.old) ≡ false }
-    requires range { IsInRange command.now }
-    ensures served { IsServed S.Shelf O.Sink (Some (said command.now))
-        shelf.old shelf.new out.old out.new result }
-    ensures not_writing { writes (S.stage shelf.new) ≡ false }
-{
-    match prepare(alloc, command, shelf, out)? {
-        Work::Told(answer) => Ok(answer),
-        Work::Run(task) => run_task(alloc, &task, shelf, out),
-        Work::Trial(trial, setting) => {
-            let order = trial.manner.order;
-            let (publisher, came) = crew_run_on_one(alloc, &setting, order, SumPublisher::make());
-            settle_trial(alloc, &trial, publisher.sums(), came, out)
-        }
+/// A keeper of no files, for a task that saves none: it has no shelf.
+#[derive(Drop)]
+pub struct NoKeeper;
+
+impl Keeper for NoKeeper {
+    ghost use Rattle.std.specs.Prelude.{[]};
+    ghost use Rattle.brace_io.specs.Shelves.{Idle};
+
+    ghost held = { λ _. None };
+
+    ghost stage = { λ _. Idle };
+
+    ghost faults = { λ _. 0 };
+
+    ghost loans = { λ _. [] };
+
+    fn save(&mut self, _: &File) -> Result<(), Failed> {
+        Ok(())
     }
 }
 
-/// Carries a command out on a team, as [`answer_command`] does on one worker.
-pub fn answer_command_on<R: Threads + Wait + Sync, G: Gate + Sync, S: Shelf + Send, O: Sink + Send>(
+/// Carries a task out by its parts on one worker: writes the rows of published ticks, and has the
+/// worlds of its ends saved where a name is given, or writes the line of a trial. What stood on the
+/// sink before is flushed first.
+pub fn crew_alone<K: Keeper, O: Sink>(
+    alloc: Global,
+    task: &Task,
+    keeper: &mut K,
+    out: &mut O,
+) -> Result<Answer, Stopped>
+    requires lawful { LawfulSetting task.now.setting }
+    requires childless { has_births task.now.setting.job.program ≡ false }
+    requires begins { task.now.setting.job.first ≤ task.now.setting.job.last }
+    ensures run { IsRunOf O.Sink task.now (keeper_call K.Keeper keeper.old keeper.new)
+        out.old out.new result }
+    ensures same_loans { K.loans keeper.new ≡ K.loans keeper.old }
+{
+    if let Some(trial) = task.trial {
+        let (publisher, came) = crew_run_on_one(
+            alloc,
+            &task.setting,
+            task.order,
+            SumPublisher::make(),
+        );
+        return settle_trial(alloc, &trial, publisher.sums(), came, out);
+    }
+    out.flush()?;
+    let publisher = FilePublisher {
+        out,
+        keeper,
+        save: &task.save,
+        fresh: task.fresh,
+    };
+    let both = crew_run_on_one(alloc, &task.setting, task.order, publisher);
+    settle(alloc, task, both.1)
+}
+
+/// Carries a task out on a team, as [`crew_alone`] does on one worker.
+pub fn crew_on<R: Threads + Wait + Sync, G: Gate + Sync, K: Keeper + Send, O: Sink + Send>(
     team: &Team<R, G>,
     alloc: Global,
-    command: &Command,
-    shelf: &mut S,
+    task: &Task,
+    keeper: &mut K,
     out: &mut O,
 ) -> Result<Answer, Stopped>
     requires some { 1 ≤ team.now.workers }
     requires few { team.now.workers ≤ 16 }
-    requires stage { writes (S.stage shelf.old) ≡ false }
-    requires range { IsInRange command.now }
-    ensures served { IsServed S.Shelf O.Sink (Some (said command.now))
-        shelf.old shelf.new out.old out.new result }
-    ensures not_writing { writes (S.stage shelf.new) ≡ false }
+    requires lawful { LawfulSetting task.now.setting }
+    requires childless { has_births task.now.setting.job.program ≡ false }
+    requires begins { task.now.setting.job.first ≤ task.now.setting.job.last }
+    ensures run { IsRunOf O.Sink task.now (keeper_call K.Keeper keeper.old keeper.new)
+        out.old out.new result }
+    ensures same_loans { K.loans keeper.new ≡ K.loans keeper.old }
 {
-    match prepare(alloc, command, shelf, out)? {
-        Work::Told(answer) => Ok(answer),
-        Work::Run(task) => run_task_on(team, alloc, &task, shelf, out),
-        Work::Trial(trial, setting) => {
-            let order = trial.manner.order;
-            let (publisher, came) = crew_run_on(team, alloc, &setting, order, SumPublisher::make());
-            settle_trial(alloc, &trial, publisher.sums(), came, out)
-        }
+    if let Some(trial) = task.trial {
+        let (publisher, came) = crew_run_on(
+            team,
+            alloc,
+            &task.setting,
+            task.order,
+            SumPublisher::make(),
+        );
+        return settle_trial(alloc, &trial, publisher.sums(), came, out);
     }
+    out.flush()?;
+    let publisher = FilePublisher {
+        out,
+        keeper,
+        save: &task.save,
+        fresh: task.fresh,
+    };
+    let both = crew_run_on(team, alloc, &task.setting, task.order, publisher);
+    settle(alloc, task, both.1)
 }

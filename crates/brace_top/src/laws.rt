@@ -16,7 +16,7 @@ ghost use Rattle.brace_top.specs.Commands.{Format, Run, RunCommand};
 ghost use Rattle.brace_top.specs.Messages.{fault_message};
 ghost use Rattle.brace_top.specs.Outcome.{Outcome, CommandOutcome, HasOutcome, SameMessage, end_status};
 ghost use Rattle.brace_top.specs.Restarts.{from_tick, GoesOn};
-ghost use Rattle.brace_top.specs.declared.limits.TheConstants.{SCRIPT_LIMIT};
+ghost use Rattle.brace_top.specs.Limits.{script_limit};
 ghost use Rattle.brace_top.specs.declared.status.Status.TheVariants.{Done};
 
 /// A command over files has at most one status, one text and one list of saved files, and one
@@ -37,11 +37,11 @@ pub fn outcomes_agree()
 pub fn formatted_scripts_stay()
     ensures again { (files others : Files) (name other : List ℕ) (o : Outcome)
         → CommandOutcome files (Some (Format name)) o → o.status ≡ Done
-        → others other ≡ Some o.out → length o.out ≤ SCRIPT_LIMIT
+        → others other ≡ Some o.out → length o.out ≤ script_limit
         → CommandOutcome others (Some (Format other)) o }
     ensures only { (files others : Files) (name other : List ℕ) (o : Outcome)
         → CommandOutcome files (Some (Format name)) o → o.status ≡ Done
-        → others other ≡ Some o.out → length o.out ≤ SCRIPT_LIMIT
+        → others other ≡ Some o.out → length o.out ≤ script_limit
         → (p : Outcome) → CommandOutcome others (Some (Format other)) p → p ≡ o }
 {}
 

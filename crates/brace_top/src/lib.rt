@@ -3,6 +3,7 @@
 
 mod answer;
 mod command;
+mod entry;
 mod flow;
 pub mod laws;
 mod limits;
@@ -20,7 +21,6 @@ mod strips;
 mod task;
 mod team;
 mod trial;
-mod words;
 
-pub use command::{run, run_alone};
-pub use words::built;
+pub use command::built;
+pub use entry::{run, run_alone};

@@ -1,18 +1,19 @@
 //! What is done for a command before its parts are run.
-ghost use Rattle.std.specs.Prelude.{◌≡◌, [], codes, option_map, Some, MatchResult, true, false};
+ghost use Rattle.std.specs.Prelude.{◌≡◌, ◌≤◌, [], codes, is_some, option_map, None, Some, IfOk, MatchResult, true, false};
 ghost use Rattle.brace_io.specs.Shelves.{writes};
 ghost use Rattle.brace_model.specs.Lawful.{LawfulProgram, LawfulAgents, LawfulJob};
 ghost use Rattle.brace_save.specs.Lines.{moment_of};
 ghost use Rattle.brace_top.specs.Answer.{CountsWrites, sink_call};
 ghost use Rattle.brace_top.specs.Commands as asked;
-ghost use Rattle.brace_top.specs.Commands.{is_anew};
+ghost use Rattle.brace_top.specs.Commands.{is_anew, may_save};
 ghost use Rattle.brace_top.specs.Outcome.{agreed, audit_job, shown, told, setting_of, ran};
 ghost use Rattle.brace_top.specs.Status.{has_run};
-ghost use Rattle.brace_top.specs.inner.Prepared.{IsPrepared, IsReadyRun, IsReadyTrial, IsStoppedBefore};
+ghost use Rattle.brace_top.specs.inner.Prepared.{IsPrepared, IsReady, IsStoppedBefore};
 ghost use Rattle.brace_top.specs.inner.Settled.{IsServed, IsWritten, is_plain_work, outcome_of, status_in, message_in};
 ghost use Rattle.brace_top.specs.inner.Words.{said, said_audit, said_balance, said_run, said_start, said_trial, IsAuditInRange, IsBalanceInRange, IsInRange, IsRunInRange, IsTrialInRange};
 
 use crate::answer::{Answer, Stopped, refuse_file};
+use crate::command::{AuditCommand, BalanceCommand, Command, RunCommand, Start, TrialCommand};
 use crate::load::{
     load_cuts, load_program, load_script, load_start, load_tree, load_trial, load_world,
 };
@@ -23,7 +24,6 @@ use crate::status::Status;
 use crate::strips::balanced_strips;
 use crate::task::{Task, run_none};
 use crate::trial::{has_four_fixed, trial_setting};
-use crate::words::{AuditCommand, BalanceCommand, Command, RunCommand, Start, TrialCommand};
 use brace_cuts::CutPlan;
 use brace_io::{Shelf, Sink, write_whole};
 use brace_model::{Fault, Job, Program, World, has_births};
@@ -37,10 +37,10 @@ use std::alloc::Global;
 pub enum Work<'a> {
     /// Nothing: its text is written.
     Told(Answer),
-    /// A run of at least its first tick.
-    Run(Task<'a>),
-    /// A trial, in its setting.
-    Trial(TrialCommand, Setting),
+    /// A task that saves nothing, of at least its first tick.
+    Plain(Task<'a>),
+    /// A task that saves files, of at least its first tick.
+    Saving(Task<'a>),
 }
 
 /// Writes a text that is all that a command writes, and answers it with a message.
@@ -222,6 +222,9 @@ fn task_of<'a>(run: &RunCommand<'a>, program: Program, point: Point, cuts: CutPl
         (option_map (λ name. name.now) run.now.save) (is_anew (said_start run.now.start))
         result.setting }
     ensures fresh { result.fresh ≡ is_anew (said_start run.now.start) }
+    ensures saves { may_save (Some (asked.Run (said_run run.now)))
+        ≡ is_some (option_map (λ name. name.now) result.save) }
+    ensures no_trial { result.trial ≡ None }
 {
     let job = Job {
         program,
@@ -242,6 +245,7 @@ fn task_of<'a>(run: &RunCommand<'a>, program: Program, point: Point, cuts: CutPl
         fresh: matches!(run.start, Start::Anew(..)),
         save: run.save,
         stats: run.manner.stats,
+        trial: None,
     }
 }
 
@@ -254,8 +258,11 @@ fn load_task<'a, S: Shelf>(
     requires stage { writes (S.stage shelf.old) ≡ false }
     requires range { IsRunInRange run.now }
     ensures ready { MatchResult result
-        (IsReadyRun S.Shelf (asked.Run (said_run run.now)) shelf.old shelf.new)
+        (IsReady S.Shelf (Some (asked.Run (said_run run.now))) shelf.old shelf.new)
         (IsStoppedBefore S.Shelf (asked.Run (said_run run.now)) shelf.old shelf.new) }
+    ensures begins { IfOk result (λ task. task.fresh ≡ true
+        → task.setting.job.first ≤ task.setting.job.last) }
+    ensures no_trial { IfOk result (λ task. task.trial ≡ None) }
     ensures not_writing { writes (S.stage shelf.new) ≡ false }
 {
     let program = load_program(alloc, shelf, run.script)?;
@@ -276,7 +283,7 @@ fn ready_run<'a, S: Shelf, O: Sink>(
 ) -> Result<Work<'a>, Stopped>
     requires stage { writes (S.stage shelf.old) ≡ false }
     requires range { IsRunInRange run.now }
-    ensures prepared { IsPrepared S.Shelf O.Sink (asked.Run (said_run run.now))
+    ensures prepared { IsPrepared S.Shelf O.Sink (Some (asked.Run (said_run run.now)))
         shelf.old shelf.new out.old out.new result }
     ensures not_writing { writes (S.stage shelf.new) ≡ false }
 {
@@ -286,24 +293,39 @@ fn ready_run<'a, S: Shelf, O: Sink>(
         let answer = run_none(alloc, &task, out)?;
         return Ok(Work::Told(answer));
     }
-    Ok(Work::Run(task))
+    match task.save {
+        None => Ok(Work::Plain(task)),
+        Some(_) => Ok(Work::Saving(task)),
+    }
 }
 
-/// The setting of a trial of the program's own script over made agents; no file is read. That
-/// script has a class of four fixed states and no `spawn`; want of memory is answered for any
-/// other.
-fn ready_trial<S: Shelf>(alloc: Global, trial: &TrialCommand, shelf: &S) -> Result<Setting, Stopped>
+/// The trial of the program's own script over made agents; no file is read. That script has a class
+/// of four fixed states and no `spawn`; want of memory is answered for any other.
+fn ready_trial<'a, S: Shelf>(
+    alloc: Global,
+    trial: &TrialCommand,
+    shelf: &S,
+) -> Result<Task<'a>, Stopped>
     requires { IsTrialInRange trial.now }
-    ensures { MatchResult result
-        (IsReadyTrial (asked.Trial (said_trial trial.now)) (said_trial trial.now))
+    ensures ready { MatchResult result
+        (IsReady S.Shelf (Some (asked.Trial (said_trial trial.now))) shelf.now shelf.now)
         (IsStoppedBefore S.Shelf (asked.Trial (said_trial trial.now)) shelf.now shelf.now) }
+    ensures begins { IfOk result (λ task. task.setting.job.first ≤ task.setting.job.last) }
+    ensures plain { IfOk result (λ task. task.save ≡ None) }
 {
     let program = load_trial(alloc)?;
     if !has_four_fixed(&program) || has_births(&program) {
         return Err(Stopped::NoMemory);
     }
     let setting = trial_setting(alloc, trial, program)?;
-    Ok(setting)
+    Ok(Task {
+        setting,
+        order: trial.manner.order,
+        fresh: true,
+        save: None,
+        stats: trial.manner.stats,
+        trial: Some(*trial),
+    })
 }
 
 /// Reads the files of a command, and carries it out where it runs no part.
@@ -315,7 +337,7 @@ pub fn prepare<'a, S: Shelf, O: Sink>(
 ) -> Result<Work<'a>, Stopped>
     requires stage { writes (S.stage shelf.old) ≡ false }
     requires range { IsInRange command.now }
-    ensures prepared { IsPrepared S.Shelf O.Sink (said command.now)
+    ensures prepared { IsPrepared S.Shelf O.Sink (Some (said command.now))
         shelf.old shelf.new out.old out.new result }
     ensures not_writing { writes (S.stage shelf.new) ≡ false }
 {
@@ -326,7 +348,7 @@ pub fn prepare<'a, S: Shelf, O: Sink>(
         Command::Plan(name, invert) => {
             Ok(Work::Told(plan_script(alloc, name, *invert, shelf, out)?))
         }
-        Command::Trial(trial) => Ok(Work::Trial(*trial, ready_trial(alloc, trial, shelf)?)),
+        Command::Trial(trial) => Ok(Work::Plain(ready_trial(alloc, trial, shelf)?)),
         Command::Balance(balance) => Ok(Work::Told(balance_agents(alloc, balance, shelf, out)?)),
         Command::Audit(audit) => Ok(Work::Told(audit_file(alloc, audit, shelf, out)?)),
     }

@@ -2,7 +2,7 @@
 ghost use Rattle.std.specs.Prelude.{◌≤◌, length, IfOk, IfErr};
 ghost use Rattle.brace_model.specs.Lawful.{LawfulProgram};
 ghost use Rattle.brace_top.specs.Scripts.{IsTree, Means, NoTree, Refuses};
-ghost use Rattle.brace_top.specs.declared.limits.TheConstants.{SCRIPT_LIMIT};
+ghost use Rattle.brace_top.specs.Limits.{script_limit};
 
 use crate::script_fault::ScriptFault;
 use brace_check::check;
@@ -14,7 +14,7 @@ use std::alloc::Global;
 
 /// The tree of a script.
 pub fn read_tree(alloc: Global, src: &[u8]) -> Result<Tree, ScriptFault>
-    requires { length src.now ≤ SCRIPT_LIMIT }
+    requires { length src.now ≤ script_limit }
     ensures read { IfOk result (IsTree src.now) }
     ensures refused { IfErr result (NoTree src.now) }
 {
@@ -25,7 +25,7 @@ pub fn read_tree(alloc: Global, src: &[u8]) -> Result<Tree, ScriptFault>
 
 /// The program of a script.
 pub fn read_program(alloc: Global, src: &[u8]) -> Result<Program, ScriptFault>
-    requires { length src.now ≤ SCRIPT_LIMIT }
+    requires { length src.now ≤ script_limit }
     ensures read { IfOk result (Means src.now) }
     ensures lawful { IfOk result LawfulProgram }
     ensures refused { IfErr result (Refuses src.now) }

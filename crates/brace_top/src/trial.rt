@@ -8,7 +8,7 @@ ghost use Rattle.brace_top.specs.Outcome.{trial_setting};
 ghost use Rattle.brace_top.specs.Trials.{strips, along_x, trial_plan, trial_line};
 ghost use Rattle.brace_top.specs.inner.Words.{said_trial, IsTrialInRange};
 
-use crate::words::TrialCommand;
+use crate::command::TrialCommand;
 use brace_cuts::{CutLine, CutPlan, Cuts};
 use brace_model::{Job, Program, Ty};
 use brace_num::{List, NoMemory, print_count};

@@ -1,22 +1,19 @@
 -- What a command comes to before its parts are run. Only the crate's own functions cite this.
-use Rattle.std.specs.Prelude.{◌≡◌, ◌≤◌, true, false, Some, Result, Ok, Err}
+use Rattle.std.specs.Prelude.{◌≡◌, ◌≤◌, true, false, Option, Some, None, is_some, option_map, Result, Ok, Err}
 use Rattle.brace_io.specs.declared.shelf.Shelf as shelf_trait
 use Rattle.brace_io.specs.declared.sink.Sink as sink_trait
 use Rattle.brace_io.specs.Shelves.{Files}
 use Rattle.brace_model.specs.Next.{has_births}
-use Rattle.brace_model.specs.Run.{end_of}
-use Rattle.brace_pieces.specs.declared.setting.Setting.{Setting}
 use Rattle.brace_pieces.specs.Settings.{LawfulSetting}
 use Rattle.brace_top.specs.declared.answer.Stopped.{Stopped}
 use Rattle.brace_top.specs.declared.prepare.Work.{Work}
 use Rattle.brace_top.specs.declared.prepare.Work.TheVariants as work
 use Rattle.brace_top.specs.declared.load.Script.{Script}
 use Rattle.brace_top.specs.declared.task.Task.{Task}
-use Rattle.brace_top.specs.Answer.{shelf_call, CountsShelf}
-use Rattle.brace_top.specs.Commands.{Command, TrialCommand, may_save}
-use Rattle.brace_top.specs.Outcome.{CommandOutcome, Judged, trial_end}
+use Rattle.brace_top.specs.Answer.{shelf_call, StopsShelf, CountsShelf}
+use Rattle.brace_top.specs.Commands.{Command, may_save}
+use Rattle.brace_top.specs.Outcome.{CommandOutcome, Judged}
 use Rattle.brace_top.specs.inner.Settled.{stopped_status, stopped_message, is_stop, outcome_of, IsStopped, IsServed}
-use Rattle.brace_top.specs.inner.Words.{said_trial}
 
 -- a script that was loaded
 abbrev pub judged : Script → Judged
@@ -29,37 +26,32 @@ pub record IsStoppedBefore {S : Type 0} (of_shelf : shelf_trait.Ghosts S) (comma
       (stopped_message stop) (stopped_status stop)
   pub stops : is_stop (stopped_status stop) ≡ true
   pub counts : CountsShelf (shelf_call of_shelf shelf shelf_after) (stopped_status stop)
+  pub halts : StopsShelf (shelf_call of_shelf shelf shelf_after) (stopped_status stop)
   pub unsaved : of_shelf.held shelf_after ≡ of_shelf.held shelf
 
--- a run can begin, and its outcome is the command's; only reads were made
-pub record IsReadyRun {S : Type 0} (of_shelf : shelf_trait.Ghosts S) (command : Command)
+-- a task can begin, and its outcome is the command's; only reads were made
+pub record IsReady {S : Type 0} (of_shelf : shelf_trait.Ghosts S) (asked : Option Command)
     (shelf shelf_after : S) (task : Task) : Type 0 where
   pub lawful : LawfulSetting task.setting
   pub childless : has_births task.setting.job.program ≡ false
-  pub begins : task.fresh ≡ true → task.setting.job.first ≤ task.setting.job.last
+  pub is_command : asked ≡ None → ⊥
   pub outcome : (files : Files) → of_shelf.held shelf ≡ Some files
-      → CommandOutcome files (Some command) (outcome_of task)
-  pub saves : may_save (Some command) ≡ true
+      → CommandOutcome files asked (outcome_of task)
+  pub saves : may_save asked ≡ is_some (option_map (λ name. name.now) task.save)
   pub unsaved : of_shelf.held shelf_after ≡ of_shelf.held shelf
   pub counts : of_shelf.faults shelf_after ≡ of_shelf.faults shelf
 
--- a trial can begin in a setting, and its outcome is the command's
-pub record IsReadyTrial (command : Command) (trial : TrialCommand) (s : Setting) : Type 0 where
-  pub lawful : LawfulSetting s
-  pub childless : has_births s.job.program ≡ false
-  pub begins : s.job.first ≤ s.job.last
-  pub outcome : (files : Files)
-      → CommandOutcome files (Some command) (trial_end trial s (end_of s.job))
-
--- what a command came to before its parts are run
-abbrev pub IsPrepared : {S O : Type 0} → shelf_trait.Ghosts S → sink_trait.Ghosts O → Command
-    → S → S → O → O → Result Work Stopped → Type 0
-IsPrepared of_shelf of_sink command shelf shelf_after out out_after (Err stop) =
-    IsServed of_shelf of_sink (Some command) shelf shelf_after out out_after (Err stop)
-IsPrepared of_shelf of_sink command shelf shelf_after out out_after (Ok (work.Told answer)) =
-    IsServed of_shelf of_sink (Some command) shelf shelf_after out out_after (Ok answer)
-IsPrepared of_shelf of_sink command shelf shelf_after out out_after (Ok (work.Run task)) =
-    IsReadyRun of_shelf command shelf shelf_after task
+-- what a command, or words that ask for none, came to before its parts are run
+abbrev pub IsPrepared : {S O : Type 0} → shelf_trait.Ghosts S → sink_trait.Ghosts O
+    → Option Command → S → S → O → O → Result Work Stopped → Type 0
+IsPrepared of_shelf of_sink asked shelf shelf_after out out_after (Err stop) =
+    IsServed of_shelf of_sink asked shelf shelf_after out out_after (Err stop)
+IsPrepared of_shelf of_sink asked shelf shelf_after out out_after (Ok (work.Told answer)) =
+    IsServed of_shelf of_sink asked shelf shelf_after out out_after (Ok answer)
+IsPrepared of_shelf of_sink asked shelf shelf_after out out_after (Ok (work.Plain task)) =
+    IsReady of_shelf asked shelf shelf_after task
+    × (task.setting.job.first ≤ task.setting.job.last) × (out_after ≡ out) × (task.save ≡ None)
+IsPrepared of_shelf of_sink asked shelf shelf_after out out_after (Ok (work.Saving task)) =
+    IsReady of_shelf asked shelf shelf_after task
     × (task.setting.job.first ≤ task.setting.job.last) × (out_after ≡ out)
-IsPrepared of_shelf of_sink command shelf shelf_after out out_after (Ok (work.Trial trial s)) =
-    IsReadyTrial command (said_trial trial) s × (shelf_after ≡ shelf) × (out_after ≡ out)
+    × (may_save asked ≡ true)

@@ -7,14 +7,17 @@ use Rattle.brace_top.specs.declared.answer.Stopped.{Stopped}
 use Rattle.brace_top.specs.declared.answer.Stopped.TheVariants as stopped
 use Rattle.brace_io.specs.declared.shelf.Shelf as shelf_trait
 use Rattle.brace_io.specs.declared.sink.Sink as sink_trait
+use Rattle.brace_model.specs.Run.{end_of}
+use Rattle.brace_top.specs.declared.command.TrialCommand.{TrialCommand as CodeTrial}
 use Rattle.brace_top.specs.declared.task.Task.{Task}
 use Rattle.brace_top.specs.declared.status.Status.{Status}
 use Rattle.brace_top.specs.declared.status.Status.TheVariants.{Done, Usage, Script, Agents, Plan, Checkpoint, Fault, ReadFault, WriteFault, SaveFault, NoMemory, Absent, Differs}
-use Rattle.brace_top.specs.Answer.{ShelfCall, SinkCall, shelf_call, sink_call, Among, IsUnread, IsUnwritten, IsGivenUp, IsEnd, IsUnsaved, IsAnswer, CountsShelf, CountsReads, CountsWrites}
+use Rattle.brace_top.specs.Answer.{ShelfCall, SinkCall, shelf_call, sink_call, Among, IsUnread, IsUnwritten, IsGivenUp, IsEnd, IsUnsaved, IsAnswer, StopsShelf, CountsShelf, CountsReads, CountsWrites}
 use Rattle.brace_top.specs.Status.{has_run, is_refusal, saves_nothing}
 use Rattle.brace_top.specs.Commands.{Command, may_save}
 use Rattle.brace_top.specs.Messages.{usage_message, record_message, line_message, point_message, stats_message, fault_message, write_fault_message, save_fault_message, no_memory_message}
-use Rattle.brace_top.specs.Outcome.{Outcome, Refusal, script_message, ran}
+use Rattle.brace_top.specs.Outcome.{Outcome, Refusal, script_message, ran, trial_end}
+use Rattle.brace_top.specs.inner.Words.{said_trial}
 use Rattle.brace_cuts.specs.declared.kinds.PlanFault.{PlanFault}
 use Rattle.brace_cuts.specs.declared.kinds.PlanFault.TheVariants as plan_fault
 use Rattle.brace_part.specs.declared.counts.Counts.{Counts}
@@ -109,10 +112,15 @@ keeper_call of before after = record {
   faults_after = of.faults after;
 }
 
--- the outcome of a run that can begin
-abbrev pub outcome_of : Task → Outcome
-outcome_of task =
+-- the outcome of a task: of a run, or of the trial that it is
+abbrev pub outcome_by : Option CodeTrial → Task → Outcome
+outcome_by None task =
     ran task.stats (option_map (λ name. name.now) task.save) task.fresh task.setting
+outcome_by (Some trial) task =
+    trial_end (said_trial trial) task.setting (end_of task.setting.job)
+
+abbrev pub outcome_of : Task → Outcome
+outcome_of task = outcome_by task.trial task
 
 -- the command goes no further, and so
 abbrev pub IsErrOf : (Stopped → Type 0) → Result Answer Stopped → Type 0
@@ -219,14 +227,19 @@ abbrev pub is_plain_work : Status → Bool
 is_plain_work SaveFault = false
 is_plain_work status = is_work status
 
--- a run was carried out for its outcome, on what is kept and on the sink of its rows
+-- a task was carried out for its outcome, on what is kept and on the sink of its text; one that
+-- saves nothing, on any shelf that is left as it was
 pub record IsRunOf {O : Type 0} (of_sink : sink_trait.Ghosts O) (task : Task) (shelf : ShelfCall)
     (out out_after : O) (r : Result Answer Stopped) : Type 0 where
   pub carried_out : (files : Files) → shelf.held ≡ Some files
       → IsCarriedOut files (λ o. o ≡ outcome_of task) shelf (sink_call of_sink out out_after)
       (message_in r) (status_in r)
+  pub written : task.save ≡ None → IsWritten (λ o. o ≡ outcome_of task)
+      (sink_call of_sink out out_after) (message_in r) (status_in r)
+  pub plain : task.save ≡ None → is_plain_work (status_in r) ≡ true
   pub work : is_work (status_in r) ≡ true
   pub counts : CountsShelf shelf (status_in r)
+  pub stops : StopsShelf shelf (status_in r)
   pub writes : CountsWrites (sink_call of_sink out out_after) (status_in r)
   pub clean : has_run (status_in r) ≡ true → of_sink.clean out_after ≡ true
 
@@ -243,6 +256,7 @@ pub record IsServed {S O : Type 0} (of_shelf : shelf_trait.Ghosts S) (of_sink : 
   pub counts : CountsShelf (shelf_call of_shelf shelf shelf_after) (status_in r)
   pub reads : may_save command ≡ false
       → CountsReads (shelf_call of_shelf shelf shelf_after) (status_in r)
+  pub stops : StopsShelf (shelf_call of_shelf shelf shelf_after) (status_in r)
   pub writes : CountsWrites (sink_call of_sink out out_after) (status_in r)
   pub untouched : is_refusal (status_in r) ≡ true → out_after ≡ out
   pub untouched_by_usage : status_in r ≡ Usage → out_after ≡ out

@@ -7,15 +7,15 @@ use Rattle.brace_words.specs.Lines as lines
 use Rattle.brace_words.specs.Lines.{line_of}
 use Rattle.brace_top.specs.declared.answer.Stopped.{Stopped}
 use Rattle.brace_top.specs.declared.answer.Stopped.TheVariants as stopped
-use Rattle.brace_top.specs.declared.words.AuditCommand.{AuditCommand as CodeAudit}
-use Rattle.brace_top.specs.declared.words.BalanceCommand.{BalanceCommand as CodeBalance}
-use Rattle.brace_top.specs.declared.words.Command.{Command as CodeCommand}
-use Rattle.brace_top.specs.declared.words.Command.TheVariants as code
-use Rattle.brace_top.specs.declared.words.Manner.{Manner as CodeManner}
-use Rattle.brace_top.specs.declared.words.RunCommand.{RunCommand as CodeRun}
-use Rattle.brace_top.specs.declared.words.Start.{Start as CodeStart}
-use Rattle.brace_top.specs.declared.words.Start.TheVariants as begun
-use Rattle.brace_top.specs.declared.words.TrialCommand.{TrialCommand as CodeTrial}
+use Rattle.brace_top.specs.declared.command.AuditCommand.{AuditCommand as CodeAudit}
+use Rattle.brace_top.specs.declared.command.BalanceCommand.{BalanceCommand as CodeBalance}
+use Rattle.brace_top.specs.declared.command.Command.{Command as CodeCommand}
+use Rattle.brace_top.specs.declared.command.Command.TheVariants as code
+use Rattle.brace_top.specs.declared.command.Manner.{Manner as CodeManner}
+use Rattle.brace_top.specs.declared.command.RunCommand.{RunCommand as CodeRun}
+use Rattle.brace_top.specs.declared.command.Start.{Start as CodeStart}
+use Rattle.brace_top.specs.declared.command.Start.TheVariants as begun
+use Rattle.brace_top.specs.declared.command.TrialCommand.{TrialCommand as CodeTrial}
 use Rattle.brace_top.specs.Commands.{Command, Manner, RunCommand, TrialCommand, BalanceCommand, AuditCommand, Start, Anew, Resumed, Run, Format, Check, Planning, Trial, Balancing, Auditing, command_of}
 
 -- a line, or why there is none, is what words were read as

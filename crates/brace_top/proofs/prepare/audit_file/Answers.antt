@@ -1,5 +1,5 @@
 use Rattle.std.proofs.Common.{◌≡◌, ◌∙◌, refl, subst}
-use Rattle.std.specs.Prelude.{Ok, Err}
+use Rattle.std.specs.Prelude.{Some, Ok, Err}
 use Rattle.std.proofs.lemmas.Result.{err_from_is_err_and}
 use Rattle.brace_model.specs.declared.job.Job.{Job}
 use Rattle.brace_top.specs.Commands.{Auditing}
@@ -55,7 +55,7 @@ returns-clause-served g c =
     let world = c.in_ok-start.start in
     let found = c.in_ok-found.found in
     let held = c.in_ok-start.ensures.held ∙ c.in_ok-program.ensures.held in
-    plain_work_serves g.S.Shelf g.O.Sink (Auditing audit) _ _ _ _ _ _ (c.in_ok-found.ensures.held ∙ held)
+    plain_work_serves g.S.Shelf g.O.Sink (Some (Auditing audit)) _ _ _ _ _ _ (λ none. absurd cc) (c.in_ok-found.ensures.held ∙ held)
     (c.in_ok-found.ensures.loads.counts ∙ c.in_ok-start.ensures.loads.counts ∙ c.in_ok-program.ensures.loads.counts)
     (λ files x told e. record {
       found = Ok program;

@@ -1,5 +1,5 @@
 use Rattle.std.proofs.Common.{◌≡◌, ◌∙◌, refl, sym, ap, subst, List, ℕ}
-use Rattle.std.specs.Prelude.{Ok, Err}
+use Rattle.std.specs.Prelude.{Some, Ok, Err}
 use Rattle.std.proofs.lemmas.Result.{err_from_is_err_and}
 use Rattle.brace_top.specs.Commands.{Balancing}
 use Rattle.brace_top.specs.Outcome.{ProgramOf, IsBalanced, agents_of, told, reads_script, reads_agents}
@@ -41,7 +41,7 @@ returns-clause-served g c =
     let program = c.in_ok-program.program in
     let world = c.in_ok-world.world in
     let strips = c.in_ok-strips.strips in
-    plain_work_serves g.S.Shelf g.O.Sink (Balancing balance) _ _ _ _ _ _ (c.in_ok-world.ensures.held ∙ c.in_ok-program.ensures.held)
+    plain_work_serves g.S.Shelf g.O.Sink (Some (Balancing balance)) _ _ _ _ _ _ (λ none. absurd cc) (c.in_ok-world.ensures.held ∙ c.in_ok-program.ensures.held)
     (c.in_ok-world.ensures.loads.counts ∙ c.in_ok-program.ensures.loads.counts)
     (λ files x held e. record {
       found = Ok program;

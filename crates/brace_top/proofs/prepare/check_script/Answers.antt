@@ -1,5 +1,5 @@
 use Rattle.std.proofs.Common.{refl}
-use Rattle.std.specs.Prelude.{Ok, Err}
+use Rattle.std.specs.Prelude.{Some, Ok, Err}
 use Rattle.std.proofs.lemmas.Result.{err_from_is_err_and}
 use Rattle.brace_top.specs.Commands.{Check}
 use Rattle.brace_top.specs.Outcome.{ProgramOf, reads_script}
@@ -15,6 +15,6 @@ returns-in_err-_program-clause-served g c =
 
 pub returns-clause-served : goal.returns-clause-served
 returns-clause-served g c =
-    plain_work_serves g.S.Shelf g.O.Sink (Check c.args.name.now) _ _ _ _ _ _ c.in_ok-_program.ensures.held c.in_ok-_program.ensures.loads.counts
+    plain_work_serves g.S.Shelf g.O.Sink (Some (Check c.args.name.now)) _ _ _ _ _ _ (λ none. absurd cc) c.in_ok-_program.ensures.held c.in_ok-_program.ensures.loads.counts
     (λ files x told e. record { found = Ok c.in_ok-_program._program; is = c.in_ok-_program.ensures.loads.found files told; follows = e })
     c.write_text.ensures.written c.write_text.ensures.work c.write_text.ensures.writes c.write_text.ensures.clean

@@ -1,5 +1,5 @@
 use Rattle.std.proofs.Common.{◌∙◌, refl, ap}
-use Rattle.std.specs.Prelude.{Ok, Err}
+use Rattle.std.specs.Prelude.{Some, Ok, Err}
 use Rattle.std.proofs.lemmas.Result.{err_from_is_err_and}
 use Rattle.brace_top.specs.Commands.{Format}
 use Rattle.brace_top.specs.Outcome.{TreeOf, shown, reads_script}
@@ -22,6 +22,6 @@ returns-in_err-text-clause-served g c =
 
 pub returns-clause-served : goal.returns-clause-served
 returns-clause-served g c =
-    plain_work_serves g.S.Shelf g.O.Sink (Format c.args.name.now) _ _ _ _ _ _ c.in_ok-tree.ensures.held c.in_ok-tree.ensures.loads.counts
+    plain_work_serves g.S.Shelf g.O.Sink (Some (Format c.args.name.now)) _ _ _ _ _ _ (λ none. absurd cc) c.in_ok-tree.ensures.held c.in_ok-tree.ensures.loads.counts
     (λ files x told e. record { found = Ok c.in_ok-tree.tree; is = c.in_ok-tree.ensures.loads.found files told; follows = e ∙ ap shown (c.as_slice.ensures.value ∙ c.in_ok-text.ensures.text) })
     c.write_text.ensures.written c.write_text.ensures.work c.write_text.ensures.writes c.write_text.ensures.clean

@@ -76,16 +76,13 @@ returns-clause-ready g c =
     let program = c.in_ok-program.program in
     let moment = moment_of c.in_ok-point.point in
     let without = sym c.has_births.ensures ∙ c.if-has_births.false in
-    let first = c.in_ok-point.ensures.first in
     record {
       lawful =
           subst LawfulSetting (sym c.task_of.ensures.setting)
           (run_is_lawful c.args.run.now program moment c.in_ok-cuts.cuts c.requires.range c.in_ok-program.ensures.lawful
           c.in_ok-point.ensures.lawful c.in_ok-point.ensures.numbered c.in_ok-point.ensures.range c.in_ok-cuts.ensures.lawful);
       childless = ap (λ (s : Setting). has_births s.job.program) c.task_of.ensures.setting ∙ without;
-      begins = λ fresh.
-          let zero = first (sym c.task_of.ensures.fresh ∙ fresh) in
-          subst (λ (s : Setting). s.job.first ≤ s.job.last) (sym c.task_of.ensures.setting) (omega (arith, zero));
+      is_command = λ none. absurd cc;
       outcome = λ files told. record {
         found = Ok program;
         is = c.in_ok-program.ensures.loads.found files told;
@@ -93,7 +90,12 @@ returns-clause-ready g c =
             (c.in_ok-cuts.ensures.loads.found files (c.in_ok-point.ensures.held ∙ c.in_ok-program.ensures.held ∙ told))
             (c.task_of.ensures.outcome ∙ ap (ran run.manner.stats run.save (is_anew run.start)) c.task_of.ensures.setting);
       };
-      saves = refl;
+      saves = c.task_of.ensures.saves;
       unsaved = c.in_ok-cuts.ensures.held ∙ c.in_ok-point.ensures.held ∙ c.in_ok-program.ensures.held;
       counts = c.in_ok-cuts.ensures.loads.counts ∙ c.in_ok-point.ensures.loads.counts ∙ c.in_ok-program.ensures.loads.counts;
     }
+
+pub returns-clause-begins : goal.returns-clause-begins
+returns-clause-begins g c fresh =
+    let zero = c.in_ok-point.ensures.first (sym c.task_of.ensures.fresh ∙ fresh) in
+    subst (λ (s : Setting). s.job.first ≤ s.job.last) (sym c.task_of.ensures.setting) (omega (arith, zero))

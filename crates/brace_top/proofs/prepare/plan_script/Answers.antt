@@ -1,5 +1,5 @@
 use Rattle.std.proofs.Common.{◌∙◌, refl, ap}
-use Rattle.std.specs.Prelude.{Ok, Err, List, ℕ}
+use Rattle.std.specs.Prelude.{Some, Ok, Err, List, ℕ}
 use Rattle.std.proofs.lemmas.Result.{err_from_is_err_and}
 use Rattle.brace_top.specs.Commands.{Planning}
 use Rattle.brace_top.specs.Outcome.{JudgedOf, shown, reads_script}
@@ -27,7 +27,7 @@ returns-in_err-text-clause-served g c =
 pub returns-clause-served : goal.returns-clause-served
 returns-clause-served g c =
     let script = c.in_ok-script.script in
-    plain_work_serves g.S.Shelf g.O.Sink (Planning c.args.name.now c.args.invert) _ _ _ _ _ _ c.in_ok-script.ensures.held c.in_ok-script.ensures.loads.counts
+    plain_work_serves g.S.Shelf g.O.Sink (Some (Planning c.args.name.now c.args.invert)) _ _ _ _ _ _ (λ none. absurd cc) c.in_ok-script.ensures.held c.in_ok-script.ensures.loads.counts
     (λ files x told e. record {
       found = Ok (judged script);
       is = c.in_ok-script.ensures.loads.found files told;

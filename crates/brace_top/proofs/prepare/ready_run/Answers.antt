@@ -1,3 +1,4 @@
+use Rattle.std.specs.Prelude.{Some}
 use Rattle.std.proofs.lemmas.Result.{err_from_is_err_and}
 use Rattle.brace_top.specs.Commands.{Run}
 use Rattle.brace_top.specs.inner.Words.{said_run}
@@ -12,10 +13,10 @@ returns-in_err-task-clause-prepared g c =
 pub returns-in_err-answer-clause-prepared : goal.returns-in_err-answer-clause-prepared
 returns-in_err-answer-clause-prepared g c =
     let p = err_from_is_err_and c.from_residual-in_err-answer.result c.from_residual-in_err-answer.ensures.1 in
-    rw (p.1, p.2) (none_serves g.S.Shelf g.O.Sink (Run (said_run c.args.run.now)) _ _ _ _ _ c.in_ok-task.task c.in_ok-task.ensures.ready
+    rw (p.1, p.2) (none_serves g.S.Shelf g.O.Sink (Some (Run (said_run c.args.run.now))) _ _ _ _ _ c.in_ok-task.task c.in_ok-task.ensures.ready
     c.in_err-answer.ensures.written c.in_err-answer.ensures.work c.in_err-answer.ensures.writes c.in_err-answer.ensures.clean)
 
 pub returns-then-job-clause-prepared : goal.returns-then-job-clause-prepared
 returns-then-job-clause-prepared g c =
-    none_serves g.S.Shelf g.O.Sink (Run (said_run c.args.run.now)) _ _ _ _ _ c.in_ok-task.task c.in_ok-task.ensures.ready
+    none_serves g.S.Shelf g.O.Sink (Some (Run (said_run c.args.run.now))) _ _ _ _ _ c.in_ok-task.task c.in_ok-task.ensures.ready
     c.in_ok-answer.ensures.written c.in_ok-answer.ensures.work c.in_ok-answer.ensures.writes c.in_ok-answer.ensures.clean

@@ -3,7 +3,7 @@ use Rattle.brace_part.specs.declared.counts.Counts.{Counts}
 use Rattle.brace_top.specs.declared.status.Status.TheVariants.{Done}
 use Rattle.brace_top.specs.Answer.{sink_call}
 use Rattle.brace_top.specs.Outcome.{ran}
-use Rattle.brace_top.specs.inner.Settled.{IsToldAs, IsWritten, outcome_of, told_counts}
+use Rattle.brace_top.specs.inner.Settled.{IsToldAs, IsWritten, outcome_of, outcome_by, told_counts}
 use Rattle.std.specs.Prelude.{option_map}
 use Rattle.brace_top.proofs.AnswerLemmas.{done_written}
 use Rattle.brace_top.proofs.CameLemmas.{piece_none, told_gives}
@@ -20,6 +20,6 @@ returns-clause-written g c =
     let gains = c.in_ok-flush.ensures.same ∙ piece_none (g.O.Sink.written c.args.out.now) in
     let told = subst (λ (counts : Counts). IsToldAs Done (told_counts task.stats counts) c.done.result) c.none.ensures c.done.ensures in
     written_for o (outcome_of task) out _ _
-    (ran_none task.setting c.requires.behind task.stats save ∙ ap (λ fresh. ran task.stats save fresh task.setting) (sym c.requires.resumed))
+    (ran_none task.setting c.requires.behind task.stats save ∙ ap (λ fresh. ran task.stats save fresh task.setting) (sym c.requires.resumed) ∙ ap (λ trial. outcome_by trial task) (sym c.requires.no_trial))
     (told_gives (λ message status. IsWritten (λ x. x ≡ o) out message status) Done _ c.done.result told (done_written o out _ refl refl gains refl)
     (λ files shelf held same. record { leaves = inl (record { unwritten = c.in_ok-flush.ensures.same; unsaved = same }); says = refl }))
