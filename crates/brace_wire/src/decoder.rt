@@ -164,8 +164,21 @@ fn read_more(
     let Some(place) = place.checked_add(used as u64) else {
         return Err(NoMemory);
     };
-    rest.drain(..used);
+    keep_from(rest, used);
     Ok((place, is_broken))
+}
+
+/// Keeps what stands from a place on.
+fn keep_from(bytes: &mut Vec<u8>, start: usize)
+    requires { start ≤ length bytes.old.items }
+    ensures { bytes.new.items ≡ drop start bytes.old.items }
+{
+    if start == 0 {
+        return;
+    }
+    let left = bytes.len() - start;
+    bytes.copy_within(start.., 0);
+    bytes.truncate(left);
 }
 
 /// Appends the frames in front: how many bytes they have, and whether a whole frame that is none

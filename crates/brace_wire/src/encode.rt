@@ -34,7 +34,7 @@ pub fn encode(out: &mut Vec<u8>, program: &Program, f: &Frame) -> Result<(), NoM
 #[tactic(auto, using(crate::proofs::Starts::starts), unfolding(crate::specs::Frames::frame))]
 fn append_frame(out: &mut Vec<u8>, f: &Frame) -> Result<(), NoMemory>
     ensures written { OnOk result (out.new.items ≡ out.old.items ++ frame f.now) }
-    ensures fits { OnOk result (BodyFits f.now) }
+    ensures fits { OnOk result (BodyFits AgentFits f.now) }
     ensures short { OnOk result (length (body f.now) < 2 ^ 32) }
     ensures only_appends { take (length out.old.items) out.new.items ≡ out.old.items }
 {
@@ -64,7 +64,7 @@ fn set_length(out: &mut Vec<u8>, start: usize) -> Result<(), NoMemory>
 #[tactic(auto, using(crate::proofs::Starts::starts), unfolding(crate::specs::Frames::body))]
 fn append_body(out: &mut Vec<u8>, f: &Frame) -> Result<(), NoMemory>
     ensures written { OnOk result (out.new.items ≡ out.old.items ++ body f.now) }
-    ensures fits { OnOk result (BodyFits f.now) }
+    ensures fits { OnOk result (BodyFits AgentFits f.now) }
     ensures only_appends { take (length out.old.items) out.new.items ≡ out.old.items }
 {
     append_four(out, f.from)?;
