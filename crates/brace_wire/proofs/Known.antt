@@ -133,7 +133,7 @@ module _ {A B : Type 0} (m : A → B) (s : A → List ℕ) (f : A → Type 0) (a
   made_again u same fit back y rest fits =
       ap (λ (x : List ℕ). made_at m a (x ++ rest)) (same y fits)
       ∙ (ap (λ (r : Option (A × List ℕ)). r >>= λ x. Some (m x.0, x.1)) (k.again (u y) rest (fit y fits))
-        ∙ ap (λ (z : B). Some (z, rest)) (back y fits))
+      ∙ ap (λ (z : B). Some (z, rest)) (back y fits))
 
   pub made_known : (u : B → A) → ((x : A) → f x → t (m x) ≡ s x) → ((x : A) → f x → g (m x)) → ((y : B) → g y → t y ≡ s (u y)) → ((y : B) → g y → f (u y))
       → ((y : B) → g y → m (u y) ≡ y) → Known t g (made_at m a)
@@ -179,7 +179,7 @@ module _ {A : Type 0} (s : A → List ℕ) (f : A → Type 0) (a : Reading A) (k
   list_again xs rest fits =
       ap (list_at a) (append_assoc (four (length xs)) (flat_map s xs) rest)
       ∙ (ap (λ (r : Option (ℕ × List ℕ)). r >>= λ count. many_at a count.0 count.1) (four_known.again (length xs) (flat_map s xs ++ rest) fits.0)
-        ∙ many_again xs rest fits.1)
+      ∙ many_again xs rest fits.1)
 
   pub list_known : Known (listed s) (ListFits f) (list_at a)
   list_known = record { takes = list_takes; again = list_again }

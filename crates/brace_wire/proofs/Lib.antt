@@ -1,7 +1,7 @@
 pub mod Known
 pub mod Loops
-pub mod Parts
-pub mod Pieces
+pub mod PartFormats
+pub mod PieceFormats
 pub mod Starts
 pub mod StreamLemmas
 pub mod WriteLemmas

@@ -14,7 +14,7 @@ use Rattle.brace_wire.specs.Fitting.{IsFrame}
 use Rattle.brace_wire.specs.Streams.{is_whole, length_in_front, IsPartial, IsBroken, BeginsNoFrame, Reads, Waiting, waits, GoesOn, Advances, ReadsInTurn}
 use Rattle.brace_wire.specs.inner.Reading.{four_at, body_at}
 use Rattle.brace_wire.proofs.Known.{some_is, four_known}
-use Rattle.brace_wire.proofs.Pieces.{body_known, body_of}
+use Rattle.brace_wire.proofs.PieceFormats.{body_known, body_of}
 
 -- ---- one spelling
 
@@ -99,10 +99,10 @@ all_append P (x ∷ xs) ys h g = (h.0, all_append P xs ys h.1 g)
 pub reads_on : (types : List (List Ty)) (bytes more left end : List ℕ) (fs gs : List Frame) → Reads types bytes fs left → Reads types (left ++ more) gs end → Reads types (bytes ++ more) (fs ++ gs) end
 reads_on types bytes more left end fs gs a b = record {
   same =
-    ap (λ (x : List ℕ). x ++ more) a.same
-    ∙ (append_assoc (flat_map frame fs) left more
+      ap (λ (x : List ℕ). x ++ more) a.same
+      ∙ (append_assoc (flat_map frame fs) left more
       ∙ (ap (λ (x : List ℕ). flat_map frame fs ++ x) b.same
-        ∙ (sym (append_assoc (flat_map frame fs) (flat_map frame gs) end) ∙ ap (λ (x : List ℕ). x ++ end) (sym (flat_map-append frame fs gs)))));
+      ∙ (sym (append_assoc (flat_map frame fs) (flat_map frame gs) end) ∙ ap (λ (x : List ℕ). x ++ end) (sym (flat_map-append frame fs gs)))));
   each = all_append (IsFrame types) fs gs a.each b.each;
 }
 
@@ -113,7 +113,7 @@ pub in_turn : (types : List (List Ty)) (rest : List ℕ) (pieces : List (List �
 in_turn types rest pieces frames end (ReadsInTurn.none r) = record { same = append-nil r; each = tt }
 in_turn types rest pieces frames end (ReadsInTurn.more r piece left last others fs gs first then) =
     subst (λ (x : List ℕ). Reads types x (fs ++ gs) last) (append_assoc r piece (whole_of others) ∙ ap (λ (x : List ℕ). r ++ x) (sym (flat_map-cons (λ p. p) piece others)))
-      (reads_on types (r ++ piece) (whole_of others) left last fs gs first (in_turn types left others gs last then))
+    (reads_on types (r ++ piece) (whole_of others) left last fs gs first (in_turn types left others gs last then))
 
 -- ---- a decoder's loop
 
@@ -137,7 +137,7 @@ one_more types bytes rest text behind fs f a parts same fits =
     let here : rest ≡ frame f ++ behind = parts ∙ (ap (λ (t : List ℕ). four (length t) ++ (t ++ behind)) (sym same) ∙ sym (frame_parts f behind)) in
     let one : rest ≡ flat_map frame (f ∷ []) ++ behind = here ∙ ap (λ (x : List ℕ). x ++ behind) (sym (append-nil (frame f))) in
     subst (λ (x : List ℕ). Reads types x (fs ++ f ∷ []) behind) (append-nil bytes)
-      (reads_on types bytes [] rest behind fs (f ∷ []) a (record { same = append-nil rest ∙ one; each = (fits, tt) }))
+    (reads_on types bytes [] rest behind fs (f ∷ []) a (record { same = append-nil rest ∙ one; each = (fits, tt) }))
 
 -- a whole frame whose body is none of a frame
 pub breaks : (types : List (List Ty)) (rest text behind : List ℕ) → is_whole rest ≡ true → length text < 2 ^ 32 → rest ≡ four (length text) ++ (text ++ behind)
@@ -145,9 +145,9 @@ pub breaks : (types : List (List Ty)) (rest text behind : List ℕ) → is_whole
 breaks types rest text behind whole short parts none = record {
   whole = whole;
   none = λ f more fits e.
-    let both = same_front (length text) (length (body f)) (text ++ behind) (body f ++ more) short fits.short (sym parts ∙ (e ∙ frame_parts f more)) in
-    let same : text ≡ body f = sym (take_at text behind (length text) refl) ∙ (ap (take (length text)) both.1 ∙ take_at (body f) more (length text) (sym both.0)) in
-    none f fits (sym same);
+      let both = same_front (length text) (length (body f)) (text ++ behind) (body f ++ more) short fits.short (sym parts ∙ (e ∙ frame_parts f more)) in
+      let same : text ≡ body f = sym (take_at text behind (length text) refl) ∙ (ap (take (length text)) both.1 ∙ take_at (body f) more (length text) (sym both.0)) in
+      none f fits (sym same);
 }
 
 -- the rest stands behind what was read

@@ -7,7 +7,7 @@ ghost use Rattle.brace_wire.specs.Streams.{IsPartial, IsBroken, Reads, Advances,
 ghost use Rattle.brace_wire.specs.inner.Written.{LeavesOff};
 
 use crate::fault::Unread;
-use crate::pieces::{frame, split_frame};
+use crate::pieces::{read_frame, split_frame};
 use crate::{Frame, WireFault};
 use brace_model::{Class, Program, Ty};
 use brace_num::{List, NoMemory};
@@ -198,7 +198,7 @@ fn read_frames(
 {
     let mut rest = bytes;
     while let Some((body, behind)) = split_frame(rest) {
-        match frame(alloc, types, body) {
+        match read_frame(alloc, types, body) {
             Ok(f) => out.push(f)?,
             Err(Unread::Bad) => return Ok((bytes.len() - rest.len(), true)),
             Err(Unread::NoMemory) => return Err(NoMemory),

@@ -2,7 +2,7 @@
 #![tactic(auto)]
 
 mod decoder;
-mod encode;
+mod encoding;
 mod fault;
 mod frame;
 pub mod laws;
@@ -12,7 +12,7 @@ mod pieces;
 mod write;
 
 pub use decoder::Decoder;
-pub use encode::encode;
+pub use encoding::encode;
 pub use fault::WireFault;
 pub use frame::Frame;
 

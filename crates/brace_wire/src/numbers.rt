@@ -8,7 +8,7 @@ use brace_num::Kind;
 
 /// A number of 4 bytes, and the bytes behind it.
 #[tactic(auto, unfolding(crate::specs::inner::Reading::four_at))]
-pub(crate) fn four(bytes: &[u8]) -> Result<(u32, &[u8]), Unread>
+pub(crate) fn read_four(bytes: &[u8]) -> Result<(u32, &[u8]), Unread>
     ensures { Gives (λ x. (x.0, x.1.now)) result (four_at bytes.now) }
 {
     if bytes.len() < 4 {
@@ -21,7 +21,7 @@ pub(crate) fn four(bytes: &[u8]) -> Result<(u32, &[u8]), Unread>
 
 /// A number of 8 bytes, and the bytes behind it.
 #[tactic(auto, unfolding(crate::specs::inner::Reading::eight_at))]
-pub(crate) fn eight(bytes: &[u8]) -> Result<(u64, &[u8]), Unread>
+pub(crate) fn read_eight(bytes: &[u8]) -> Result<(u64, &[u8]), Unread>
     ensures { Gives (λ x. (x.0, x.1.now)) result (eight_at bytes.now) }
 {
     if bytes.len() < 8 {
@@ -36,20 +36,20 @@ pub(crate) fn eight(bytes: &[u8]) -> Result<(u64, &[u8]), Unread>
 
 /// A signed number of 8 bytes, and the bytes behind it.
 #[tactic(auto, unfolding(crate::specs::inner::Reading::signed_at))]
-pub(crate) fn signed(bytes: &[u8]) -> Result<(i64, &[u8]), Unread>
+pub(crate) fn read_signed(bytes: &[u8]) -> Result<(i64, &[u8]), Unread>
     ensures { Gives (λ x. (x.0, x.1.now)) result (signed_at bytes.now) }
 {
-    let (n, rest) = eight(bytes)?;
+    let (n, rest) = read_eight(bytes)?;
     Ok((n.cast_signed(), rest))
 }
 
 /// A signed number of 16 bytes, and the bytes behind it.
 #[tactic(auto, unfolding(crate::specs::inner::Reading::sixteen_at))]
-pub(crate) fn sixteen(bytes: &[u8]) -> Result<(i128, &[u8]), Unread>
+pub(crate) fn read_sixteen(bytes: &[u8]) -> Result<(i128, &[u8]), Unread>
     ensures { Gives (λ x. (x.0, x.1.now)) result (sixteen_at bytes.now) }
 {
-    let (high, rest) = eight(bytes)?;
-    let (low, rest) = eight(rest)?;
+    let (high, rest) = read_eight(bytes)?;
+    let (low, rest) = read_eight(rest)?;
     Ok((of_halves(high, low).cast_signed(), rest))
 }
 
@@ -61,7 +61,7 @@ fn of_halves(high: u64, low: u64) -> u128
 
 /// A flag, and the bytes behind it.
 #[tactic(auto, unfolding(crate::specs::inner::Reading::flag_at))]
-pub(crate) fn flag(bytes: &[u8]) -> Result<(bool, &[u8]), Unread>
+pub(crate) fn read_flag(bytes: &[u8]) -> Result<(bool, &[u8]), Unread>
     ensures { Gives (λ x. (x.0, x.1.now)) result (flag_at bytes.now) }
 {
     match bytes {
@@ -73,13 +73,13 @@ pub(crate) fn flag(bytes: &[u8]) -> Result<(bool, &[u8]), Unread>
 
 /// A number of 8 bytes or none, and the bytes behind it.
 #[tactic(auto, unfolding(crate::specs::inner::Reading::optional_at))]
-pub(crate) fn optional(bytes: &[u8]) -> Result<(Option<u64>, &[u8]), Unread>
+pub(crate) fn read_optional(bytes: &[u8]) -> Result<(Option<u64>, &[u8]), Unread>
     ensures { Gives (λ x. (x.0, x.1.now)) result (optional_at bytes.now) }
 {
     match bytes {
         [0, rest @ ..] => Ok((None, rest)),
         [1, rest @ ..] => {
-            let (n, rest) = eight(rest)?;
+            let (n, rest) = read_eight(rest)?;
             Ok((Some(n), rest))
         }
         _ => Err(Unread::Bad),
@@ -88,7 +88,7 @@ pub(crate) fn optional(bytes: &[u8]) -> Result<(Option<u64>, &[u8]), Unread>
 
 /// A part of a tick, and the bytes behind it.
 #[tactic(auto, unfolding(crate::specs::inner::Reading::phase_at))]
-pub(crate) fn phase(bytes: &[u8]) -> Result<(Phase, &[u8]), Unread>
+pub(crate) fn read_phase(bytes: &[u8]) -> Result<(Phase, &[u8]), Unread>
     ensures { Gives (λ x. (x.0, x.1.now)) result (phase_at bytes.now) }
 {
     match bytes {
@@ -101,7 +101,7 @@ pub(crate) fn phase(bytes: &[u8]) -> Result<(Phase, &[u8]), Unread>
 
 /// A kind of fault, and the bytes behind it.
 #[tactic(auto, unfolding(crate::specs::inner::Reading::kind_at))]
-pub(crate) fn kind(bytes: &[u8]) -> Result<(Kind, &[u8]), Unread>
+pub(crate) fn read_kind(bytes: &[u8]) -> Result<(Kind, &[u8]), Unread>
     ensures { Gives (λ x. (x.0, x.1.now)) result (kind_at bytes.now) }
 {
     match bytes {

@@ -3,7 +3,10 @@ ghost use Rattle.std.specs.Prelude.{◌≡◌, slice_get};
 ghost use Rattle.brace_wire.specs.inner.Reading.{Gives, many_at, list_at, value_at, values_at, states_at, agent_at, total_at, entry_at, parent_at, census_at, shown_at, fault_at, cause_at};
 
 use crate::fault::Unread;
-use crate::numbers::{eight, flag, four, kind, optional, phase, signed, sixteen};
+use crate::numbers::{
+    read_eight, read_flag, read_four, read_kind, read_optional, read_phase, read_signed,
+    read_sixteen,
+};
 use brace_comb::{Entry, Total};
 use brace_model::{Agent, Census, Fault, Parent, Ty, Value};
 use brace_num::List;
@@ -11,26 +14,26 @@ use brace_pieces::{Cause, Shown};
 use std::alloc::Global;
 
 #[tactic(auto, unfolding(crate::specs::inner::Reading::value_at))]
-fn value(ty: Ty, bytes: &[u8]) -> Result<(Value, &[u8]), Unread>
+fn read_value(ty: Ty, bytes: &[u8]) -> Result<(Value, &[u8]), Unread>
     ensures { Gives (λ x. (x.0, x.1.now)) result (value_at ty bytes.now) }
 {
     match ty {
         Ty::Int => {
-            let (n, rest) = signed(bytes)?;
+            let (n, rest) = read_signed(bytes)?;
             Ok((Value::Int(n), rest))
         }
         Ty::Fixed => {
-            let (n, rest) = signed(bytes)?;
+            let (n, rest) = read_signed(bytes)?;
             Ok((Value::Fixed(n), rest))
         }
         Ty::Bool => {
-            let (b, rest) = flag(bytes)?;
+            let (b, rest) = read_flag(bytes)?;
             Ok((Value::Flag(b), rest))
         }
     }
 }
 
-fn values<'a>(
+fn read_values<'a>(
     alloc: Global,
     types: &[Ty],
     bytes: &'a [u8],
@@ -40,7 +43,7 @@ fn values<'a>(
     let mut values = Vec::with_capacity(alloc, types.len())?;
     let mut rest = bytes;
     for ty in types {
-        let (v, after) = value(*ty, rest)?;
+        let (v, after) = read_value(*ty, rest)?;
         values.push(v)?;
         rest = after;
     }
@@ -48,7 +51,7 @@ fn values<'a>(
 }
 
 #[tactic(auto, unfolding(crate::specs::inner::Reading::states_at))]
-fn states<'a>(
+fn read_states<'a>(
     alloc: Global,
     types: &[List<Ty>],
     class: u32,
@@ -58,26 +61,26 @@ fn states<'a>(
         (states_at (slice_get types.now class) bytes.now) }
 {
     match types.get(class as usize) {
-        Some(types) => values(alloc, types.as_slice(), bytes),
+        Some(types) => read_values(alloc, types.as_slice(), bytes),
         None => Err(Unread::Bad),
     }
 }
 
 #[tactic(auto, unfolding(crate::specs::inner::Reading::agent_at))]
-fn agent<'a>(
+fn read_agent<'a>(
     alloc: Global,
     types: &[List<Ty>],
     bytes: &'a [u8],
 ) -> Result<(Agent, &'a [u8]), Unread>
     ensures { Gives (λ x. (x.0, x.1.now)) result (agent_at types.now bytes.now) }
 {
-    let (class, rest) = four(bytes)?;
-    let (id, rest) = eight(rest)?;
-    let (states, rest) = states(alloc, types, class, rest)?;
+    let (class, rest) = read_four(bytes)?;
+    let (id, rest) = read_eight(rest)?;
+    let (states, rest) = read_states(alloc, types, class, rest)?;
     Ok((Agent { class, id, states }, rest))
 }
 
-fn many_agents<'a>(
+fn read_many_agents<'a>(
     alloc: Global,
     types: &[List<Ty>],
     count: u32,
@@ -88,7 +91,7 @@ fn many_agents<'a>(
     let mut agents = Vec::new(alloc);
     let mut rest = bytes;
     for _ in 0..count {
-        let (a, after) = agent(alloc, types, rest)?;
+        let (a, after) = read_agent(alloc, types, rest)?;
         agents.push(a)?;
         rest = after;
     }
@@ -97,44 +100,44 @@ fn many_agents<'a>(
 
 /// Agents of these classes, and the bytes behind them.
 #[tactic(auto, unfolding(crate::specs::inner::Reading::list_at))]
-pub(crate) fn agents<'a>(
+pub(crate) fn read_agents<'a>(
     alloc: Global,
     types: &[List<Ty>],
     bytes: &'a [u8],
 ) -> Result<(List<Agent>, &'a [u8]), Unread>
     ensures { Gives (λ x. (x.0, x.1.now)) result (list_at (agent_at types.now) bytes.now) }
 {
-    let (count, rest) = four(bytes)?;
-    many_agents(alloc, types, count, rest)
+    let (count, rest) = read_four(bytes)?;
+    read_many_agents(alloc, types, count, rest)
 }
 
 #[tactic(auto, unfolding(crate::specs::inner::Reading::total_at))]
-fn total(bytes: &[u8]) -> Result<(Total, &[u8]), Unread>
+fn read_total(bytes: &[u8]) -> Result<(Total, &[u8]), Unread>
     ensures { Gives (λ x. (x.0, x.1.now)) result (total_at bytes.now) }
 {
     match bytes {
         [0, rest @ ..] => {
-            let (n, rest) = sixteen(rest)?;
-            let (count, rest) = eight(rest)?;
+            let (n, rest) = read_sixteen(rest)?;
+            let (count, rest) = read_eight(rest)?;
             Ok((Total::Sum(n, count), rest))
         }
         [1, rest @ ..] => {
-            let (n, rest) = signed(rest)?;
-            let (count, rest) = eight(rest)?;
+            let (n, rest) = read_signed(rest)?;
+            let (count, rest) = read_eight(rest)?;
             Ok((Total::Least(n, count), rest))
         }
         [2, rest @ ..] => {
-            let (n, rest) = signed(rest)?;
-            let (count, rest) = eight(rest)?;
+            let (n, rest) = read_signed(rest)?;
+            let (count, rest) = read_eight(rest)?;
             Ok((Total::Greatest(n, count), rest))
         }
         [3, rest @ ..] => {
-            let (count, rest) = eight(rest)?;
+            let (count, rest) = read_eight(rest)?;
             Ok((Total::Count(count), rest))
         }
         [4, rest @ ..] => {
-            let (b, rest) = flag(rest)?;
-            let (count, rest) = eight(rest)?;
+            let (b, rest) = read_flag(rest)?;
+            let (count, rest) = read_eight(rest)?;
             Ok((Total::Any(b, count), rest))
         }
         _ => Err(Unread::Bad),
@@ -142,12 +145,12 @@ fn total(bytes: &[u8]) -> Result<(Total, &[u8]), Unread>
 }
 
 #[tactic(auto, unfolding(crate::specs::inner::Reading::entry_at))]
-fn entry(bytes: &[u8]) -> Result<(Entry, &[u8]), Unread>
+fn read_entry(bytes: &[u8]) -> Result<(Entry, &[u8]), Unread>
     ensures { Gives (λ x. (x.0, x.1.now)) result (entry_at bytes.now) }
 {
-    let (target, rest) = eight(bytes)?;
-    let (field, rest) = four(rest)?;
-    let (total, rest) = total(rest)?;
+    let (target, rest) = read_eight(bytes)?;
+    let (field, rest) = read_four(rest)?;
+    let (total, rest) = read_total(rest)?;
     Ok((
         Entry {
             target,
@@ -158,7 +161,7 @@ fn entry(bytes: &[u8]) -> Result<(Entry, &[u8]), Unread>
     ))
 }
 
-fn many_entries(
+fn read_many_entries(
     alloc: Global,
     count: u32,
     bytes: &[u8],
@@ -168,7 +171,7 @@ fn many_entries(
     let mut entries = Vec::new(alloc);
     let mut rest = bytes;
     for _ in 0..count {
-        let (e, after) = entry(rest)?;
+        let (e, after) = read_entry(rest)?;
         entries.push(e)?;
         rest = after;
     }
@@ -177,23 +180,23 @@ fn many_entries(
 
 /// Entries, and the bytes behind them.
 #[tactic(auto, unfolding(crate::specs::inner::Reading::list_at))]
-pub(crate) fn entries(alloc: Global, bytes: &[u8]) -> Result<(List<Entry>, &[u8]), Unread>
+pub(crate) fn read_entries(alloc: Global, bytes: &[u8]) -> Result<(List<Entry>, &[u8]), Unread>
     ensures { Gives (λ x. (x.0, x.1.now)) result (list_at entry_at bytes.now) }
 {
-    let (count, rest) = four(bytes)?;
-    many_entries(alloc, count, rest)
+    let (count, rest) = read_four(bytes)?;
+    read_many_entries(alloc, count, rest)
 }
 
 #[tactic(auto, unfolding(crate::specs::inner::Reading::parent_at))]
-fn parent(bytes: &[u8]) -> Result<(Parent, &[u8]), Unread>
+fn read_parent(bytes: &[u8]) -> Result<(Parent, &[u8]), Unread>
     ensures { Gives (λ x. (x.0, x.1.now)) result (parent_at bytes.now) }
 {
-    let (id, rest) = eight(bytes)?;
-    let (class, rest) = four(rest)?;
+    let (id, rest) = read_eight(bytes)?;
+    let (class, rest) = read_four(rest)?;
     Ok((Parent { id, class }, rest))
 }
 
-fn many_parents(
+fn read_many_parents(
     alloc: Global,
     count: u32,
     bytes: &[u8],
@@ -203,7 +206,7 @@ fn many_parents(
     let mut parents = Vec::new(alloc);
     let mut rest = bytes;
     for _ in 0..count {
-        let (p, after) = parent(rest)?;
+        let (p, after) = read_parent(rest)?;
         parents.push(p)?;
         rest = after;
     }
@@ -211,21 +214,21 @@ fn many_parents(
 }
 
 #[tactic(auto, unfolding(crate::specs::inner::Reading::list_at))]
-fn parents(alloc: Global, bytes: &[u8]) -> Result<(List<Parent>, &[u8]), Unread>
+fn read_parents(alloc: Global, bytes: &[u8]) -> Result<(List<Parent>, &[u8]), Unread>
     ensures { Gives (λ x. (x.0, x.1.now)) result (list_at parent_at bytes.now) }
 {
-    let (count, rest) = four(bytes)?;
-    many_parents(alloc, count, rest)
+    let (count, rest) = read_four(bytes)?;
+    read_many_parents(alloc, count, rest)
 }
 
 /// A census, and the bytes behind it.
 #[tactic(auto, unfolding(crate::specs::inner::Reading::census_at))]
-pub(crate) fn census(alloc: Global, bytes: &[u8]) -> Result<(Census, &[u8]), Unread>
+pub(crate) fn read_census(alloc: Global, bytes: &[u8]) -> Result<(Census, &[u8]), Unread>
     ensures { Gives (λ x. (x.0, x.1.now)) result (census_at bytes.now) }
 {
-    let (living, rest) = eight(bytes)?;
-    let (values, rest) = eight(rest)?;
-    let (parents, rest) = parents(alloc, rest)?;
+    let (living, rest) = read_eight(bytes)?;
+    let (values, rest) = read_eight(rest)?;
+    let (parents, rest) = read_parents(alloc, rest)?;
     Ok((
         Census {
             living,
@@ -237,20 +240,20 @@ pub(crate) fn census(alloc: Global, bytes: &[u8]) -> Result<(Census, &[u8]), Unr
 }
 
 #[tactic(auto, unfolding(crate::specs::inner::Reading::shown_at))]
-fn shown<'a>(
+fn read_shown<'a>(
     alloc: Global,
     types: &[List<Ty>],
     bytes: &'a [u8],
 ) -> Result<(Shown, &'a [u8]), Unread>
     ensures { Gives (λ x. (x.0, x.1.now)) result (shown_at types.now bytes.now) }
 {
-    let (tick, rest) = eight(bytes)?;
-    let (next, rest) = eight(rest)?;
-    let (agents, rest) = agents(alloc, types, rest)?;
+    let (tick, rest) = read_eight(bytes)?;
+    let (next, rest) = read_eight(rest)?;
+    let (agents, rest) = read_agents(alloc, types, rest)?;
     Ok((Shown { tick, agents, next }, rest))
 }
 
-fn many_shows<'a>(
+fn read_many_shows<'a>(
     alloc: Global,
     types: &[List<Ty>],
     count: u32,
@@ -261,7 +264,7 @@ fn many_shows<'a>(
     let mut shows = Vec::new(alloc);
     let mut rest = bytes;
     for _ in 0..count {
-        let (s, after) = shown(alloc, types, rest)?;
+        let (s, after) = read_shown(alloc, types, rest)?;
         shows.push(s)?;
         rest = after;
     }
@@ -270,28 +273,28 @@ fn many_shows<'a>(
 
 /// Agents of some ticks, and the bytes behind them.
 #[tactic(auto, unfolding(crate::specs::inner::Reading::list_at))]
-pub(crate) fn shows<'a>(
+pub(crate) fn read_shows<'a>(
     alloc: Global,
     types: &[List<Ty>],
     bytes: &'a [u8],
 ) -> Result<(List<Shown>, &'a [u8]), Unread>
     ensures { Gives (λ x. (x.0, x.1.now)) result (list_at (shown_at types.now) bytes.now) }
 {
-    let (count, rest) = four(bytes)?;
-    many_shows(alloc, types, count, rest)
+    let (count, rest) = read_four(bytes)?;
+    read_many_shows(alloc, types, count, rest)
 }
 
 #[tactic(auto, unfolding(crate::specs::inner::Reading::fault_at))]
-fn fault(bytes: &[u8]) -> Result<(Fault, &[u8]), Unread>
+fn read_fault(bytes: &[u8]) -> Result<(Fault, &[u8]), Unread>
     ensures { Gives (λ x. (x.0, x.1.now)) result (fault_at bytes.now) }
 {
-    let (tick, rest) = eight(bytes)?;
-    let (phase, rest) = phase(rest)?;
-    let (agent, rest) = eight(rest)?;
-    let (site, rest) = four(rest)?;
-    let (outer, rest) = optional(rest)?;
-    let (inner, rest) = optional(rest)?;
-    let (kind, rest) = kind(rest)?;
+    let (tick, rest) = read_eight(bytes)?;
+    let (phase, rest) = read_phase(rest)?;
+    let (agent, rest) = read_eight(rest)?;
+    let (site, rest) = read_four(rest)?;
+    let (outer, rest) = read_optional(rest)?;
+    let (inner, rest) = read_optional(rest)?;
+    let (kind, rest) = read_kind(rest)?;
     Ok((
         Fault {
             tick,
@@ -308,12 +311,12 @@ fn fault(bytes: &[u8]) -> Result<(Fault, &[u8]), Unread>
 
 /// Why a part does not go on, and the bytes behind it.
 #[tactic(auto, unfolding(crate::specs::inner::Reading::cause_at))]
-pub(crate) fn cause(bytes: &[u8]) -> Result<(Cause, &[u8]), Unread>
+pub(crate) fn read_cause(bytes: &[u8]) -> Result<(Cause, &[u8]), Unread>
     ensures { Gives (λ x. (x.0, x.1.now)) result (cause_at bytes.now) }
 {
     match bytes {
         [0, rest @ ..] => {
-            let (f, rest) = fault(rest)?;
+            let (f, rest) = read_fault(rest)?;
             Ok((Cause::Fault(f), rest))
         }
         [1, rest @ ..] => Ok((Cause::NoMemory, rest)),

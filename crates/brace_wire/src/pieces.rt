@@ -9,15 +9,15 @@ ghost use Rattle.brace_wire.specs.inner.Reading.{Gives, piece_at, body_at, frame
 
 use crate::Frame;
 use crate::fault::Unread;
-use crate::numbers::{eight, four};
-use crate::parts::{agents, cause, census, entries, shows};
+use crate::numbers::{read_eight, read_four};
+use crate::parts::{read_agents, read_cause, read_census, read_entries, read_shows};
 use brace_model::Ty;
 use brace_num::List;
 use brace_pieces::Piece;
 use std::alloc::Global;
 
 #[tactic(auto, unfolding(crate::specs::inner::Reading::piece_at))]
-fn piece<'a>(
+fn read_piece<'a>(
     alloc: Global,
     types: &[List<Ty>],
     bytes: &'a [u8],
@@ -26,32 +26,32 @@ fn piece<'a>(
 {
     match bytes {
         [0, rest @ ..] => {
-            let (agents, rest) = agents(alloc, types, rest)?;
+            let (agents, rest) = read_agents(alloc, types, rest)?;
             Ok((Piece::Border(agents), rest))
         }
         [1, rest @ ..] => {
-            let (entries, rest) = entries(alloc, rest)?;
+            let (entries, rest) = read_entries(alloc, rest)?;
             Ok((Piece::Effects(entries), rest))
         }
         [2, rest @ ..] => {
-            let (agents, rest) = agents(alloc, types, rest)?;
+            let (agents, rest) = read_agents(alloc, types, rest)?;
             Ok((Piece::Move(agents), rest))
         }
         [3, rest @ ..] => {
-            let (agents, rest) = agents(alloc, types, rest)?;
+            let (agents, rest) = read_agents(alloc, types, rest)?;
             Ok((Piece::Hand(agents), rest))
         }
         [4, rest @ ..] => {
-            let (shows, rest) = shows(alloc, types, rest)?;
+            let (shows, rest) = read_shows(alloc, types, rest)?;
             Ok((Piece::Show(shows), rest))
         }
         [5, rest @ ..] => Ok((Piece::Ack, rest)),
         [6, rest @ ..] => {
-            let (cause, rest) = cause(rest)?;
+            let (cause, rest) = read_cause(rest)?;
             Ok((Piece::Halt(cause), rest))
         }
         [7, rest @ ..] => {
-            let (census, rest) = census(alloc, rest)?;
+            let (census, rest) = read_census(alloc, rest)?;
             Ok((Piece::Census(census), rest))
         }
         _ => Err(Unread::Bad),
@@ -59,17 +59,17 @@ fn piece<'a>(
 }
 
 #[tactic(auto, unfolding(crate::specs::inner::Reading::body_at))]
-fn body<'a>(
+fn read_body<'a>(
     alloc: Global,
     types: &[List<Ty>],
     bytes: &'a [u8],
 ) -> Result<(Frame, &'a [u8]), Unread>
     ensures { Gives (λ x. (x.0, x.1.now)) result (body_at types.now bytes.now) }
 {
-    let (from, rest) = four(bytes)?;
-    let (to, rest) = four(rest)?;
-    let (ordinal, rest) = eight(rest)?;
-    let (piece, rest) = piece(alloc, types, rest)?;
+    let (from, rest) = read_four(bytes)?;
+    let (to, rest) = read_four(rest)?;
+    let (ordinal, rest) = read_eight(rest)?;
+    let (piece, rest) = read_piece(alloc, types, rest)?;
     Ok((
         Frame {
             from,
@@ -82,10 +82,10 @@ fn body<'a>(
 }
 
 #[tactic(auto, unfolding(crate::specs::inner::Reading::frame_of))]
-fn whole_body(alloc: Global, types: &[List<Ty>], bytes: &[u8]) -> Result<Frame, Unread>
+fn read_whole_body(alloc: Global, types: &[List<Ty>], bytes: &[u8]) -> Result<Frame, Unread>
     ensures { Gives (λ f. f) result (frame_of types.now bytes.now) }
 {
-    let (f, rest) = body(alloc, types, bytes)?;
+    let (f, rest) = read_body(alloc, types, bytes)?;
     if rest.is_empty() {
         Ok(f)
     } else {
@@ -94,13 +94,13 @@ fn whole_body(alloc: Global, types: &[List<Ty>], bytes: &[u8]) -> Result<Frame, 
 }
 
 /// The frame of these classes that has the bytes behind its length.
-pub(crate) fn frame(alloc: Global, types: &[List<Ty>], bytes: &[u8]) -> Result<Frame, Unread>
+pub(crate) fn read_frame(alloc: Global, types: &[List<Ty>], bytes: &[u8]) -> Result<Frame, Unread>
     ensures found { IfOk result (λ f. length bytes.now < 2 ^ 32 → IsFrame types.now f) }
     ensures same { IfOk result (λ f. body f ≡ bytes.now) }
     ensures none { result ≡ Err unread.Bad
         → (f : Frame) → IsFrame types.now f → body f ≡ bytes.now → ⊥ }
 {
-    whole_body(alloc, types, bytes)
+    read_whole_body(alloc, types, bytes)
 }
 
 /// The bytes behind the length in front, as many as it says, and the bytes behind these; None where
@@ -113,7 +113,7 @@ pub(crate) fn split_frame(bytes: &[u8]) -> Option<(&[u8], &[u8])>
         (λ x. bytes.now ≡ four (length x.0.now) ++ x.0.now ++ x.1.now) }
     ensures none { IfNone result (is_whole bytes.now ≡ false) }
 {
-    let Ok((length, rest)) = four(bytes) else {
+    let Ok((length, rest)) = read_four(bytes) else {
         return None;
     };
     rest.split_at_checked(length as usize)

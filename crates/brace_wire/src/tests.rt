@@ -193,11 +193,7 @@ fn cuts_do_not_matter(rt: HostRuntime) -> Result<(), Fail> {
         for second in first..stream.len() + 1 {
             let mut decoder = Decoder::make(alloc, &program)?;
             let mut frames = Vec::new(alloc);
-            for piece in [
-                &stream[..first],
-                &stream[first..second],
-                &stream[second..],
-            ] {
+            for piece in [&stream[..first], &stream[first..second], &stream[second..]] {
                 let fed = decoder.feed(piece, &mut frames);
                 assert_eq!(rt; fed, Ok(()));
             }

@@ -176,7 +176,7 @@ fault_at = made_at
       kind = p.1.1.1.1.1.1;
     })
     (then_at eight_at (then_at phase_at (then_at eight_at (then_at four_at
-      (then_at optional_at (then_at optional_at kind_at))))))
+    (then_at optional_at (then_at optional_at kind_at))))))
 
 unfoldable pub cause_at : Reading Cause
 cause_at [] = None

@@ -2,7 +2,7 @@ use Rattle.std.proofs.Common.{◌≡◌, ◌++◌, ◌∷◌, []}
 use Rattle.std.proofs.lemmas.Result.{err_from_is_err_and}
 use Rattle.brace_wire.specs.inner.Reading.{many_at, shown_at}
 use Rattle.brace_wire.proofs.Loops.{goes_on, ends, is_done}
-use Rattle.brace_wire.proofs.parts.many_shows.Goals as goal
+use Rattle.brace_wire.proofs.parts.read_many_shows.Goals as goal
 
 pub returns-in_err-s : goal.returns-in_err-s
 returns-in_err-s c =

@@ -15,7 +15,7 @@ use Rattle.brace_wire.specs.Fitting.{IsAgent, EntryFits, ShownFits, CensusFits, 
 use Rattle.brace_wire.specs.inner.Written.{BodyFits}
 use Rattle.brace_wire.specs.inner.Reading.{◌>>=◌, Gives, then_at, made_at, list_at, four_at, eight_at, agent_at, entry_at, shown_at, census_at, cause_at, piece_at, body_at, frame_of, ended}
 use Rattle.brace_wire.proofs.Known.{IsBytes, IsBytes-rest, bind_some, some_is, Takes, Known, four_known, eight_known, both_known, made_takes, made_known, list_known}
-use Rattle.brace_wire.proofs.Parts.{four_fits, eight_fits, agent_known, entry_known, shown_known, census_known, cause_known}
+use Rattle.brace_wire.proofs.PartFormats.{four_fits, eight_fits, agent_known, entry_known, shown_known, census_known, cause_known}
 
 module _ (types : List (List Ty)) where
   abbrev Fit : Piece → Type 0
@@ -75,9 +75,9 @@ module _ (types : List (List Ty)) where
       let k2 = both_known four four_fits four_at (λ p. eight p.0 ++ piece_bytes p.1) (λ p. eight_fits p.0 × Fit p.1) (then_at eight_at (piece_at types)) four_known k3 in
       let k1 = both_known four four_fits four_at (λ p. four p.0 ++ (eight p.1.0 ++ piece_bytes p.1.1)) (λ p. four_fits p.0 × (eight_fits p.1.0 × Fit p.1.1)) (then_at four_at (then_at eight_at (piece_at types))) four_known k2 in
       made_known (λ p. record { from = p.0; to = p.1.0; ordinal = p.1.1.0; piece = p.1.1.1 })
-        (λ p. four p.0 ++ (four p.1.0 ++ (eight p.1.1.0 ++ piece_bytes p.1.1.1))) (λ p. four_fits p.0 × (four_fits p.1.0 × (eight_fits p.1.1.0 × Fit p.1.1.1)))
-        (then_at four_at (then_at four_at (then_at eight_at (piece_at types)))) body IsBody k1 (λ f. (f.from, (f.to, (f.ordinal, f.piece))))
-        (λ p h. refl) (λ p h. record { from = h.0; to = h.1.0; ordinal = h.1.1.0; piece = h.1.1.1 }) (λ f h. refl) (λ f h. (h.from, (h.to, (h.ordinal, h.piece)))) (λ f h. refl)
+      (λ p. four p.0 ++ (four p.1.0 ++ (eight p.1.1.0 ++ piece_bytes p.1.1.1))) (λ p. four_fits p.0 × (four_fits p.1.0 × (eight_fits p.1.1.0 × Fit p.1.1.1)))
+      (then_at four_at (then_at four_at (then_at eight_at (piece_at types)))) body IsBody k1 (λ f. (f.from, (f.to, (f.ordinal, f.piece))))
+      (λ p h. refl) (λ p h. record { from = h.0; to = h.1.0; ordinal = h.1.1.0; piece = h.1.1.1 }) (λ f h. refl) (λ f h. (h.from, (h.to, (h.ordinal, h.piece)))) (λ f h. refl)
 
   pub body_of : (f : Frame) → IsFrame types f → IsBody f
   body_of f fits = record { from = fits.from; to = fits.to; ordinal = fits.ordinal; piece = fits.piece }

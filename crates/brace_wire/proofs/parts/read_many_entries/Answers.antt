@@ -2,7 +2,7 @@ use Rattle.std.proofs.Common.{◌≡◌, ◌++◌, ◌∷◌, []}
 use Rattle.std.proofs.lemmas.Result.{err_from_is_err_and}
 use Rattle.brace_wire.specs.inner.Reading.{many_at, entry_at}
 use Rattle.brace_wire.proofs.Loops.{goes_on, ends, is_done}
-use Rattle.brace_wire.proofs.parts.many_entries.Goals as goal
+use Rattle.brace_wire.proofs.parts.read_many_entries.Goals as goal
 
 pub returns-in_err-e : goal.returns-in_err-e
 returns-in_err-e c =

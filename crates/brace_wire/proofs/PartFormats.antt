@@ -249,18 +249,18 @@ unfolding total_at total
 total_takes [] t rest fits e = absurd cc
 total_takes (zero ∷ bytes) t rest fits e =
     made_takes (λ p. Sum p.0 p.1) (λ p. sixteen p.0 ++ eight p.1) SumParts (then_at sixteen_at eight_at) total TotalFits
-      (both_known sixteen (FitsSigned w128) sixteen_at eight (λ n. n < 2 ^ 64) eight_at sixteen_known eight_known) (0 ∷ []) (λ p h. refl) (λ p h. h) bytes t rest (IsBytes-rest 0 bytes fits) e
+    (both_known sixteen (FitsSigned w128) sixteen_at eight (λ n. n < 2 ^ 64) eight_at sixteen_known eight_known) (0 ∷ []) (λ p h. refl) (λ p h. h) bytes t rest (IsBytes-rest 0 bytes fits) e
 total_takes (suc zero ∷ bytes) t rest fits e =
     made_takes (λ p. Least p.0 p.1) (λ p. signed p.0 ++ eight p.1) ExtremeParts (then_at signed_at eight_at) total TotalFits
-      (both_known signed (FitsSigned w64) signed_at eight (λ n. n < 2 ^ 64) eight_at signed_known eight_known) (1 ∷ []) (λ p h. refl) (λ p h. h) bytes t rest (IsBytes-rest 1 bytes fits) e
+    (both_known signed (FitsSigned w64) signed_at eight (λ n. n < 2 ^ 64) eight_at signed_known eight_known) (1 ∷ []) (λ p h. refl) (λ p h. h) bytes t rest (IsBytes-rest 1 bytes fits) e
 total_takes (suc (suc zero) ∷ bytes) t rest fits e =
     made_takes (λ p. Greatest p.0 p.1) (λ p. signed p.0 ++ eight p.1) ExtremeParts (then_at signed_at eight_at) total TotalFits
-      (both_known signed (FitsSigned w64) signed_at eight (λ n. n < 2 ^ 64) eight_at signed_known eight_known) (2 ∷ []) (λ p h. refl) (λ p h. h) bytes t rest (IsBytes-rest 2 bytes fits) e
+    (both_known signed (FitsSigned w64) signed_at eight (λ n. n < 2 ^ 64) eight_at signed_known eight_known) (2 ∷ []) (λ p h. refl) (λ p h. h) bytes t rest (IsBytes-rest 2 bytes fits) e
 total_takes (suc (suc (suc zero)) ∷ bytes) t rest fits e =
     made_takes Count eight (λ n. n < 2 ^ 64) eight_at total TotalFits eight_known (3 ∷ []) (λ n h. refl) (λ n h. h) bytes t rest (IsBytes-rest 3 bytes fits) e
 total_takes (suc (suc (suc (suc zero))) ∷ bytes) t rest fits e =
     made_takes (λ p. Any p.0 p.1) (λ p. flag p.0 ++ eight p.1) AnyParts (then_at flag_at eight_at) total TotalFits
-      (both_known flag NoRange flag_at eight (λ n. n < 2 ^ 64) eight_at flag_known eight_known) (4 ∷ []) (λ p h. refl) (λ p h. h.1) bytes t rest (IsBytes-rest 4 bytes fits) e
+    (both_known flag NoRange flag_at eight (λ n. n < 2 ^ 64) eight_at flag_known eight_known) (4 ∷ []) (λ p h. refl) (λ p h. h.1) bytes t rest (IsBytes-rest 4 bytes fits) e
 total_takes (suc (suc (suc (suc (suc n)))) ∷ bytes) t rest fits e = absurd cc
 
 total_again : (t : Total) (rest : List ℕ) → TotalFits t → total_at (total t ++ rest) ≡ Some (t, rest)
@@ -294,15 +294,15 @@ entry_known =
     let inner = both_known four four_fits four_at total TotalFits total_at four_known total_known in
     let whole = both_known eight eight_fits eight_at (λ p. four p.0 ++ total p.1) (λ p. four_fits p.0 × TotalFits p.1) (then_at four_at total_at) eight_known inner in
     made_known (λ p. record { target = p.0; field = p.1.0; total = p.1.1 }) (λ p. eight p.0 ++ (four p.1.0 ++ total p.1.1)) (λ p. eight_fits p.0 × (four_fits p.1.0 × TotalFits p.1.1))
-      (then_at eight_at (then_at four_at total_at)) entry EntryFits whole (λ e. (e.target, (e.field, e.total)))
-      (λ p h. refl) (λ p h. record { target = h.0; field = h.1.0; total = h.1.1 }) (λ e h. refl) (λ e h. (h.target, (h.field, h.total))) (λ e h. refl)
+    (then_at eight_at (then_at four_at total_at)) entry EntryFits whole (λ e. (e.target, (e.field, e.total)))
+    (λ p h. refl) (λ p h. record { target = h.0; field = h.1.0; total = h.1.1 }) (λ e h. refl) (λ e h. (h.target, (h.field, h.total))) (λ e h. refl)
 
 pub parent_known : Known parent ParentFits parent_at
 unfolding parent parent_at
 parent_known =
     made_known (λ p. record { id = p.0; class = p.1 }) (λ p. eight p.0 ++ four p.1) (λ p. eight_fits p.0 × four_fits p.1) (then_at eight_at four_at) parent ParentFits
-      (both_known eight eight_fits eight_at four four_fits four_at eight_known four_known) (λ e. (e.id, e.class))
-      (λ p h. refl) (λ p h. record { id = h.0; class = h.1 }) (λ e h. refl) (λ e h. (h.id, h.class)) (λ e h. refl)
+    (both_known eight eight_fits eight_at four four_fits four_at eight_known four_known) (λ e. (e.id, e.class))
+    (λ p h. refl) (λ p h. record { id = h.0; class = h.1 }) (λ e h. refl) (λ e h. (h.id, h.class)) (λ e h. refl)
 
 pub census_known : Known census CensusFits census_at
 unfolding census census_at
@@ -311,8 +311,8 @@ census_known =
     let inner = both_known eight eight_fits eight_at (listed parent) (ListFits ParentFits) (list_at parent_at) eight_known list in
     let whole = both_known eight eight_fits eight_at (λ p. eight p.0 ++ listed parent p.1) (λ p. eight_fits p.0 × ListFits ParentFits p.1) (then_at eight_at (list_at parent_at)) eight_known inner in
     made_known (λ p. record { living = p.0; values = p.1.0; parents = p.1.1 }) (λ p. eight p.0 ++ (eight p.1.0 ++ listed parent p.1.1)) (λ p. eight_fits p.0 × (eight_fits p.1.0 × ListFits ParentFits p.1.1))
-      (then_at eight_at (then_at eight_at (list_at parent_at))) census CensusFits whole (λ c. (c.living, (c.values, c.parents)))
-      (λ p h. refl) (λ p h. record { living = h.0; values = h.1.0; parents = h.1.1 }) (λ c h. refl) (λ c h. (h.living, (h.values, h.parents))) (λ c h. refl)
+    (then_at eight_at (then_at eight_at (list_at parent_at))) census CensusFits whole (λ c. (c.living, (c.values, c.parents)))
+    (λ p h. refl) (λ p h. record { living = h.0; values = h.1.0; parents = h.1.1 }) (λ c h. refl) (λ c h. (h.living, (h.values, h.parents))) (λ c h. refl)
 
 pub shown_known : (types : List (List Ty)) → Known shown (ShownFits (IsAgent types)) (shown_at types)
 unfolding shown shown_at
@@ -321,8 +321,8 @@ shown_known types =
     let inner = both_known eight eight_fits eight_at (listed agent) (ListFits (IsAgent types)) (list_at (agent_at types)) eight_known list in
     let whole = both_known eight eight_fits eight_at (λ p. eight p.0 ++ listed agent p.1) (λ p. eight_fits p.0 × ListFits (IsAgent types) p.1) (then_at eight_at (list_at (agent_at types))) eight_known inner in
     made_known (λ p. record { tick = p.0; next = p.1.0; agents = p.1.1 }) (λ p. eight p.0 ++ (eight p.1.0 ++ listed agent p.1.1)) (λ p. eight_fits p.0 × (eight_fits p.1.0 × ListFits (IsAgent types) p.1.1))
-      (then_at eight_at (then_at eight_at (list_at (agent_at types)))) shown (ShownFits (IsAgent types)) whole (λ s. (s.tick, (s.next, s.agents)))
-      (λ p h. refl) (λ p h. record { tick = h.0; next = h.1.0; agents = h.1.1 }) (λ s h. refl) (λ s h. (h.tick, (h.next, h.agents))) (λ s h. refl)
+    (then_at eight_at (then_at eight_at (list_at (agent_at types)))) shown (ShownFits (IsAgent types)) whole (λ s. (s.tick, (s.next, s.agents)))
+    (λ p h. refl) (λ p h. record { tick = h.0; next = h.1.0; agents = h.1.1 }) (λ s h. refl) (λ s h. (h.tick, (h.next, h.agents))) (λ s h. refl)
 
 -- ---- faults
 
@@ -331,7 +331,7 @@ constant : {A : Type 0} (c : A) (s : A → List ℕ) (form : ℕ) (bytes : List 
     → Takes (form ∷ bytes) (s x) rest
 constant {A} c s form bytes x rest same fits e =
     subst (λ (z : A × List ℕ). Takes (form ∷ bytes) (s z.0) z.1) (some_is (c, bytes) (x, rest) e)
-      (record { parts = ap (λ (y : List ℕ). y ++ bytes) (sym same); rest_fits = IsBytes-rest form bytes fits })
+    (record { parts = ap (λ (y : List ℕ). y ++ bytes) (sym same); rest_fits = IsBytes-rest form bytes fits })
 
 phase_takes : (bytes : List ℕ) (p : Phase) (rest : List ℕ) → IsBytes bytes → phase_at bytes ≡ Some (p, rest) → Takes bytes (phase p) rest × Unit {0}
 unfolding phase_at phase
@@ -384,17 +384,17 @@ fault_known =
     (λ p. NoRange p.0 × (eight_fits p.1.0 × (four_fits p.1.1.0 × (OptionFits p.1.1.1.0 × (OptionFits p.1.1.1.1.0 × NoRange p.1.1.1.1.1)))))
     (then_at phase_at (then_at eight_at (then_at four_at (then_at optional_at (then_at optional_at kind_at))))) eight_known k2 in
     made_known
-      (λ p. record { tick = p.0; phase = p.1.0; agent = p.1.1.0; site = p.1.1.1.0; outer = p.1.1.1.1.0; inner = p.1.1.1.1.1.0; kind = p.1.1.1.1.1.1 })
-      (λ p. eight p.0 ++ (phase p.1.0 ++ (eight p.1.1.0 ++ (four p.1.1.1.0 ++ (optional p.1.1.1.1.0 ++ (optional p.1.1.1.1.1.0 ++ kind p.1.1.1.1.1.1))))))
-      (λ p. eight_fits p.0 × (NoRange p.1.0 × (eight_fits p.1.1.0 × (four_fits p.1.1.1.0 × (OptionFits p.1.1.1.1.0 × (OptionFits p.1.1.1.1.1.0 × NoRange p.1.1.1.1.1.1))))))
-      (then_at eight_at (then_at phase_at (then_at eight_at (then_at four_at (then_at optional_at (then_at optional_at kind_at))))))
-      fault FaultFits k1
-      (λ f. (f.tick, (f.phase, (f.agent, (f.site, (f.outer, (f.inner, f.kind)))))))
-      (λ p h. refl)
-      (λ p h. record { tick = h.0; agent = h.1.1.0; site = h.1.1.1.0; outer = h.1.1.1.1.0; inner = h.1.1.1.1.1.0 })
-      (λ f h. refl)
-      (λ f h. (h.tick, (tt, (h.agent, (h.site, (h.outer, (h.inner, tt)))))))
-      (λ f h. refl)
+    (λ p. record { tick = p.0; phase = p.1.0; agent = p.1.1.0; site = p.1.1.1.0; outer = p.1.1.1.1.0; inner = p.1.1.1.1.1.0; kind = p.1.1.1.1.1.1 })
+    (λ p. eight p.0 ++ (phase p.1.0 ++ (eight p.1.1.0 ++ (four p.1.1.1.0 ++ (optional p.1.1.1.1.0 ++ (optional p.1.1.1.1.1.0 ++ kind p.1.1.1.1.1.1))))))
+    (λ p. eight_fits p.0 × (NoRange p.1.0 × (eight_fits p.1.1.0 × (four_fits p.1.1.1.0 × (OptionFits p.1.1.1.1.0 × (OptionFits p.1.1.1.1.1.0 × NoRange p.1.1.1.1.1.1))))))
+    (then_at eight_at (then_at phase_at (then_at eight_at (then_at four_at (then_at optional_at (then_at optional_at kind_at))))))
+    fault FaultFits k1
+    (λ f. (f.tick, (f.phase, (f.agent, (f.site, (f.outer, (f.inner, f.kind)))))))
+    (λ p h. refl)
+    (λ p h. record { tick = h.0; agent = h.1.1.0; site = h.1.1.1.0; outer = h.1.1.1.1.0; inner = h.1.1.1.1.1.0 })
+    (λ f h. refl)
+    (λ f h. (h.tick, (tt, (h.agent, (h.site, (h.outer, (h.inner, tt)))))))
+    (λ f h. refl)
 
 cause_takes : (bytes : List ℕ) (c : Cause) (rest : List ℕ) → IsBytes bytes → cause_at bytes ≡ Some (c, rest) → Takes bytes (cause_bytes c) rest × CauseFits c
 unfolding cause_at cause_bytes

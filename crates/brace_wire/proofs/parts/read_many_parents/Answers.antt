@@ -2,7 +2,7 @@ use Rattle.std.proofs.Common.{◌≡◌, ◌++◌, ◌∷◌, []}
 use Rattle.std.proofs.lemmas.Result.{err_from_is_err_and}
 use Rattle.brace_wire.specs.inner.Reading.{many_at, parent_at}
 use Rattle.brace_wire.proofs.Loops.{goes_on, ends, is_done}
-use Rattle.brace_wire.proofs.parts.many_parents.Goals as goal
+use Rattle.brace_wire.proofs.parts.read_many_parents.Goals as goal
 
 pub returns-in_err-p : goal.returns-in_err-p
 returns-in_err-p c =
