@@ -209,7 +209,7 @@ states_again (Some types) vs rest typed fits = values_again types vs rest typed 
 -- ---- agents
 
 agent_takes : (types : List (List Ty)) (bytes : List ℕ) (a : Agent) (rest : List ℕ) → IsBytes bytes → agent_at types bytes ≡ Some (a, rest) → Takes bytes (agent a) rest × IsAgent types a
-unfolding agent_at agent
+unfolding agent_at agent four eight
 agent_takes types bytes a rest fits e =
     let p = bind_some (four_at bytes) (λ class. eight_at class.1 >>= λ id. states_at (slice_get types class.0) id.1 >>= λ states. Some (record { class = class.0; id = id.0; states = states.0 }, states.1)) (a, rest) e in
     let q = bind_some (eight_at p.0.1) (λ id. states_at (slice_get types p.0.0) id.1 >>= λ states. Some (record { class = p.0.0; id = id.0; states = states.0 }, states.1)) (a, rest) p.2 in
@@ -223,7 +223,7 @@ agent_takes types bytes a rest fits e =
     subst (λ (y : Agent × List ℕ). Takes bytes (agent y.0) y.1 × IsAgent types y.0) (some_is made (a, rest) r.2) (e02, (record { class = t0.1; id = t1.1; states = t2.1.1 }, t2.1.0))
 
 agent_again : (types : List (List Ty)) (a : Agent) (rest : List ℕ) → IsAgent types a → agent_at types (agent a ++ rest) ≡ Some (a, rest)
-unfolding agent_at agent
+unfolding agent_at agent four eight
 agent_again types a rest fits =
     let regrouped : agent a ++ rest ≡ four a.class ++ (eight a.id ++ (flat_map value a.states ++ rest)) =
     append_assoc (four a.class) (eight a.id ++ flat_map value a.states) rest ∙ ap (λ (x : List ℕ). four a.class ++ x) (append_assoc (eight a.id) (flat_map value a.states) rest) in
@@ -289,7 +289,7 @@ abbrev pub eight_fits : ℕ → Type 0
 eight_fits n = n < 2 ^ 64
 
 pub entry_known : Known entry EntryFits entry_at
-unfolding entry entry_at
+unfolding entry entry_at eight four total
 entry_known =
     let inner = both_known four four_fits four_at total TotalFits total_at four_known total_known in
     let whole = both_known eight eight_fits eight_at (λ p. four p.0 ++ total p.1) (λ p. four_fits p.0 × TotalFits p.1) (then_at four_at total_at) eight_known inner in
@@ -305,7 +305,7 @@ parent_known =
     (λ p h. refl) (λ p h. record { id = h.0; class = h.1 }) (λ e h. refl) (λ e h. (h.id, h.class)) (λ e h. refl)
 
 pub census_known : Known census CensusFits census_at
-unfolding census census_at
+unfolding census census_at eight four
 census_known =
     let list = list_known parent ParentFits parent_at parent_known in
     let inner = both_known eight eight_fits eight_at (listed parent) (ListFits ParentFits) (list_at parent_at) eight_known list in
@@ -315,7 +315,7 @@ census_known =
     (λ p h. refl) (λ p h. record { living = h.0; values = h.1.0; parents = h.1.1 }) (λ c h. refl) (λ c h. (h.living, (h.values, h.parents))) (λ c h. refl)
 
 pub shown_known : (types : List (List Ty)) → Known shown (ShownFits (IsAgent types)) (shown_at types)
-unfolding shown shown_at
+unfolding shown shown_at eight four
 shown_known types =
     let list = list_known agent (IsAgent types) (agent_at types) (agent_known types) in
     let inner = both_known eight eight_fits eight_at (listed agent) (ListFits (IsAgent types)) (list_at (agent_at types)) eight_known list in
@@ -327,7 +327,7 @@ shown_known types =
 -- ---- faults
 
 -- what stands for itself
-constant : {A : Type 0} (c : A) (s : A → List ℕ) (form : ℕ) (bytes : List ℕ) (x : A) (rest : List ℕ) → s c ≡ form ∷ [] → IsBytes (form ∷ bytes) → some (c, bytes) ≡ Some (x, rest)
+constant : {A : Type 0} (c : A) (s : A → List ℕ) (form : ℕ) (bytes : List ℕ) (x : A) (rest : List ℕ) → s c ≡ form ∷ [] → IsBytes (form ∷ bytes) → some {A = A × List ℕ} (c, bytes) ≡ Some (x, rest)
     → Takes (form ∷ bytes) (s x) rest
 constant {A} c s form bytes x rest same fits e =
     subst (λ (z : A × List ℕ). Takes (form ∷ bytes) (s z.0) z.1) (some_is (c, bytes) (x, rest) e)
@@ -370,6 +370,9 @@ kind_again TooMany rest fits = refl
 kind_known : Known kind NoRange kind_at
 kind_known = record { takes = kind_takes; again = kind_again }
 
+seven : (a b c d e f g : List ℕ) → a ++ b ++ c ++ d ++ e ++ f ++ g ≡ a ++ (b ++ (c ++ (d ++ (e ++ (f ++ g)))))
+seven a b c d e f g = simp append_assoc
+
 fault_known : Known fault FaultFits fault_at
 unfolding fault fault_at
 fault_known =
@@ -390,9 +393,9 @@ fault_known =
     (then_at eight_at (then_at phase_at (then_at eight_at (then_at four_at (then_at optional_at (then_at optional_at kind_at))))))
     fault FaultFits k1
     (λ f. (f.tick, (f.phase, (f.agent, (f.site, (f.outer, (f.inner, f.kind)))))))
-    (λ p h. refl)
+    (λ p h. seven (eight p.0) (phase p.1.0) (eight p.1.1.0) (four p.1.1.1.0) (optional p.1.1.1.1.0) (optional p.1.1.1.1.1.0) (kind p.1.1.1.1.1.1))
     (λ p h. record { tick = h.0; agent = h.1.1.0; site = h.1.1.1.0; outer = h.1.1.1.1.0; inner = h.1.1.1.1.1.0 })
-    (λ f h. refl)
+    (λ f h. seven (eight f.tick) (phase f.phase) (eight f.agent) (four f.site) (optional f.outer) (optional f.inner) (kind f.kind))
     (λ f h. (h.tick, (tt, (h.agent, (h.site, (h.outer, (h.inner, tt)))))))
     (λ f h. refl)
 

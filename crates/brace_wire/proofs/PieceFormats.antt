@@ -69,7 +69,7 @@ module _ (types : List (List Ty)) where
   IsBody = BodyFits (IsAgent types)
 
   pub body_known : Known body IsBody (body_at types)
-  unfolding body body_at
+  unfolding body body_at four eight
   body_known =
       let k3 = both_known eight eight_fits eight_at piece_bytes Fit (piece_at types) eight_known piece_known in
       let k2 = both_known four four_fits four_at (λ p. eight p.0 ++ piece_bytes p.1) (λ p. eight_fits p.0 × Fit p.1) (then_at eight_at (piece_at types)) four_known k3 in

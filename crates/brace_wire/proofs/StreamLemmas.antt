@@ -2,10 +2,10 @@
 use Rattle.std.proofs.Common.{◌≡◌, ℕ, zero, suc, ◌+◌, ◌-◌, ◌<◌, ◌≤◌, ◌^◌, Bool, true, false, List, [], ◌∷◌, ◌++◌, length, take, drop, Option, Some, None, refl, sym, ap, subst, ◌∙◌, append_assoc, arith, inl, inr}
 use Rattle.std.specs.Prelude.{◌⊎◌, nat_le, ◌&&◌, IsTrue}
 use Rattle.std.specs.Int.{w32, from_be_bytes, to_be_bytes}
-use Rattle.std.specs.List.{flat_map, AllByRecursion}
+use Rattle.std.specs.List.{flat_map, AllByRecursion, copy_within}
 use Rattle.std.proofs.lemmas.Nat.{from_be_bytes-to_be_bytes_4}
 use Rattle.std.proofs.lemmas.List.{append-nil, take_at, drop_at, length-append, length-drop, take-append-drop}
-use Rattle.std.proofs.lemmas.List.Edits.{paste, paste_all}
+use Rattle.std.proofs.lemmas.List.Edits.{paste_all}
 use Rattle.std.proofs.lemmas.List.Concat.{flat_map-cons, flat_map-append}
 use Rattle.brace_model.specs.declared.program.Ty.{Ty}
 use Rattle.brace_wire.specs.declared.frame.Frame.{Frame}
@@ -162,12 +162,10 @@ read_length types bytes rest fs a = omega (arith, ap length a.same ∙ length-ap
 -- how many bytes the frames have
 pub used : (types : List (List Ty)) (bytes : List ℕ) (n : ℕ) (fs : List Frame) → n ≤ length bytes → Reads types bytes fs (drop n bytes) → length (flat_map frame fs) ≡ n
 used types bytes n fs h a =
-    let long = ap length a.same ∙ length-append (flat_map frame fs) (drop n bytes) in
-    let whole = ap length (take-append-drop n bytes) in
-    omega (arith, long, length-append (take n bytes) (drop n bytes), whole)
+    omega (arith, ap length a.same ∙ length-append (flat_map frame fs) (drop n bytes), length-drop n bytes)
 
 -- what stands from a place on, moved to the front
-pub moved : (bytes : List ℕ) (start : ℕ) → start ≤ length bytes → take (length bytes - start) (paste bytes 0 (drop start bytes) (length bytes - start)) ≡ drop start bytes
+pub moved : (bytes : List ℕ) (start : ℕ) → start ≤ length bytes → take (length bytes - start) (copy_within bytes start (length bytes) 0) ≡ drop start bytes
 moved bytes start h =
     let long : length (drop start bytes) ≡ length bytes - start = length-drop start bytes in
     ap (take (length bytes - start)) (paste_all bytes 0 (drop start bytes) (length bytes - start) (sym long))
