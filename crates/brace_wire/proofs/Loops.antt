@@ -1,6 +1,6 @@
 -- Reading things one after another, as a loop does.
 use Rattle.std.proofs.Common.{◌≡◌, ℕ, suc, ◌-◌, ◌+◌, ◌≤◌, ◌<◌, List, [], ◌∷◌, ◌++◌, length, drop, Option, Some, None, refl, sym, ap, ◌∙◌, append_assoc, arith}
-use Rattle.std.proofs.lemmas.List.{append-nil}
+use Rattle.std.proofs.lemmas.List.{append-nil, nil_from_length, length-drop}
 use Rattle.brace_model.specs.declared.program.Ty.{Ty}
 use Rattle.brace_model.specs.declared.program.Value.{Value}
 use Rattle.brace_wire.specs.declared.fault.Unread.{Unread}
@@ -41,6 +41,10 @@ module _ {A : Type 0} where
       sym so_far ∙ one
 
 -- ---- values of these types
+
+-- nothing stands behind the end
+pub at_drop_end : {X Y : Type 0} (F : List X → Y) (xs : List X) (i : ℕ) → length xs ≤ i → F (drop i xs) ≡ F []
+at_drop_end F xs i h = ap F (nil_from_length (drop i xs) (omega (arith, length-drop i xs)))
 
 pub value_goes_on : (front : List Value) (t : Ty) (types : List Ty) (bytes : List ℕ) (v : Value) (after : List ℕ) (total : Option (List Value × List ℕ)) → value_at t bytes ≡ Some (v, after)
     → with_front front (values_at (t ∷ types) bytes) ≡ total → with_front (front ++ v ∷ []) (values_at types after) ≡ total

@@ -1,10 +1,10 @@
 -- Streams of frames are read in one way, however they are cut.
-use Rattle.std.proofs.Common.{◌≡◌, ℕ, zero, suc, ◌+◌, ◌-◌, ◌<◌, ◌≤◌, ◌^◌, Bool, true, false, List, [], ◌∷◌, ◌++◌, length, take, drop, Option, Some, None, refl, sym, ap, subst, ◌∙◌, append_assoc, arith, inl, inr}
+use Rattle.std.proofs.Common.{◌≡◌, ℕ, zero, suc, ◌+◌, ◌-◌, ◌<◌, ◌≤◌, ◌^◌, Bool, true, false, cond, ltb, List, [], ◌∷◌, ◌++◌, length, take, drop, Option, Some, None, refl, sym, ap, subst, ◌∙◌, append_assoc, arith, inl, inr}
 use Rattle.std.specs.Prelude.{◌⊎◌, nat_le, ◌&&◌, IsTrue}
 use Rattle.std.specs.Int.{w32, from_be_bytes, to_be_bytes}
 use Rattle.std.specs.List.{flat_map, AllByRecursion, copy_within}
 use Rattle.std.proofs.lemmas.Nat.{from_be_bytes-to_be_bytes_4}
-use Rattle.std.proofs.lemmas.List.{append-nil, take_at, drop_at, length-append, length-drop, take-append-drop}
+use Rattle.std.proofs.lemmas.List.{append-nil, take_at, drop_at, length-append, length-drop, length-take, take-append-drop}
 use Rattle.std.proofs.lemmas.List.Edits.{paste_all}
 use Rattle.std.proofs.lemmas.List.Concat.{flat_map-cons, flat_map-append}
 use Rattle.brace_model.specs.declared.program.Ty.{Ty}
@@ -13,7 +13,7 @@ use Rattle.brace_wire.specs.Frames.{four, body, frame}
 use Rattle.brace_wire.specs.Fitting.{IsFrame}
 use Rattle.brace_wire.specs.Streams.{is_whole, length_in_front, IsPartial, IsBroken, BeginsNoFrame, Reads, Waiting, waits, GoesOn, Advances, ReadsInTurn}
 use Rattle.brace_wire.specs.inner.Reading.{four_at, body_at}
-use Rattle.brace_wire.proofs.Known.{some_is, four_known}
+use Rattle.brace_wire.proofs.Known.{IsBytes, some, some_is, four_known}
 use Rattle.brace_wire.proofs.PieceFormats.{body_known, body_of}
 
 -- ---- one spelling
@@ -36,6 +36,9 @@ one_spelling types a b x y h g e =
     (ap (λ (p : Frame × List ℕ). p.0) both, ap (λ (p : Frame × List ℕ). p.1) both)
 
 -- ---- whole frames
+
+pub took : (n : ℕ) (x : List ℕ) → n ≤ length x → length (take n x) ≡ n
+took n x h = omega (arith, length-take n x)
 
 length_four : (n : ℕ) → length (four n) ≡ 4
 unfolding four
@@ -60,6 +63,43 @@ whole_when n x h le =
 pub frame_is_whole : (types : List (List Ty)) (f : Frame) (x : List ℕ) → IsFrame types f → is_whole (frame f ++ x) ≡ true
 frame_is_whole types f x h =
     ap is_whole (frame_parts f x) ∙ whole_when (length (body f)) (body f ++ x) h.short (omega (arith, length-append (body f) x))
+
+le_false : (m n : ℕ) → n < m → nat_le m n ≡ false
+le_false m n h = search (arith, h)
+
+lt_is : (m n : ℕ) → ltb m n ≡ true → m < n
+lt_is m n h = search (arith, h)
+
+given_none : (b : Bool) (x : ℕ × List ℕ) → cond b None (some x) ≡ None → b ≡ true
+given_none true x e = refl
+given_none false x e = absurd cc
+
+-- fewer bytes than a length has
+pub no_length : (bytes : List ℕ) → four_at bytes ≡ None → is_whole bytes ≡ false
+unfolding four_at is_whole
+no_length bytes e =
+    let few : length bytes < 4 = lt_is (length bytes) 4 (given_none (ltb (length bytes) 4) (from_be_bytes w32 (take 4 bytes), drop 4 bytes) e) in
+    rw (le_false 4 (length bytes) few) refl
+
+-- fewer bytes than the length says
+pub too_few : (n : ℕ) (x : List ℕ) → n < 2 ^ 32 → length x < n → is_whole (four n ++ x) ≡ false
+unfolding is_whole
+too_few n x h lt =
+    let long : length (four n ++ x) ≡ 4 + length x = length-append (four n) x ∙ ap (λ (k : ℕ). k + length x) (length_four n) in
+    let a : nat_le 4 (length (four n ++ x)) ≡ true = le_true 4 (length (four n ++ x)) (omega (arith, long)) in
+    let b : nat_le (4 + length_in_front (four n ++ x)) (length (four n ++ x)) ≡ false = le_false (4 + length_in_front (four n ++ x)) (length (four n ++ x)) (omega (arith, long, front_length n x h)) in
+    rw (a, b) refl
+
+-- the length in front, and what stands behind it
+pub length_and_rest : (bytes : List ℕ) (n : ℕ) (rest : List ℕ) → IsBytes bytes → four_at bytes ≡ Some (n, rest) → (bytes ≡ four n ++ rest) × (n < 2 ^ 32)
+length_and_rest bytes n rest fits e =
+    let t = four_known.takes bytes n rest fits e in
+    (t.0.parts, t.1)
+
+-- as many bytes as the length says, and the bytes behind these
+pub body_and_rest : (bytes rest : List ℕ) (n : ℕ) → bytes ≡ four n ++ rest → n ≤ length rest → bytes ≡ four (length (take n rest)) ++ (take n rest ++ drop n rest)
+body_and_rest bytes rest n e le =
+    e ∙ (ap (λ (k : ℕ). four k ++ rest) (sym (took n rest le)) ∙ ap (λ (x : List ℕ). four (length (take n rest)) ++ x) (sym (take-append-drop n rest)))
 
 not_both : (b : Bool) → b ≡ true → b ≡ false → ⊥
 not_both true h g = absurd cc

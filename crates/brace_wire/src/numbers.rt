@@ -1,5 +1,6 @@
 //! Numbers and what is as simple, read from the front of bytes.
-ghost use Rattle.std.specs.Prelude.{◌≡◌, ◌*◌, ◌^◌, ◌+◌};
+ghost use Rattle.std.specs.Prelude.{◌≡◌, ◌*◌, ◌^◌, ◌+◌, IfErr};
+ghost use Rattle.brace_wire.specs.declared.fault.Unread.TheVariants as unread;
 ghost use Rattle.brace_wire.specs.inner.Reading.{Gives, four_at, eight_at, signed_at, sixteen_at, flag_at, optional_at, phase_at, kind_at};
 
 use crate::fault::Unread;
@@ -9,7 +10,8 @@ use brace_num::Kind;
 /// A number of 4 bytes, and the bytes behind it.
 #[tactic(auto, unfolding(crate::specs::inner::Reading::four_at))]
 pub(crate) fn read_four(bytes: &[u8]) -> Result<(u32, &[u8]), Unread>
-    ensures { Gives (λ x. (x.0, x.1.now)) result (four_at bytes.now) }
+    ensures read { Gives (λ x. (x.0, x.1.now)) result (four_at bytes.now) }
+    ensures bad { IfErr result (λ e. e ≡ unread.Bad) }
 {
     if bytes.len() < 4 {
         return Err(Unread::Bad);

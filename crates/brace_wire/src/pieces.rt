@@ -105,16 +105,19 @@ pub(crate) fn read_frame(alloc: Global, types: &[List<Ty>], bytes: &[u8]) -> Res
 
 /// The bytes behind the length in front, as many as it says, and the bytes behind these; None where
 /// they are not all there.
-#[tactic(auto, unfolding(crate::specs::Streams::is_whole))]
 pub(crate) fn split_frame(bytes: &[u8]) -> Option<(&[u8], &[u8])>
     ensures whole { IfSome result (λ x. is_whole bytes.now ≡ true) }
     ensures short { IfSome result (λ x. length x.0.now < 2 ^ 32) }
     ensures parts { IfSome result
-        (λ x. bytes.now ≡ four (length x.0.now) ++ x.0.now ++ x.1.now) }
+        (λ x. bytes.now ≡ four (length x.0.now) ++ (x.0.now ++ x.1.now)) }
     ensures none { IfNone result (is_whole bytes.now ≡ false) }
 {
     let Ok((length, rest)) = read_four(bytes) else {
         return None;
     };
-    rest.split_at_checked(length as usize)
+    let length = length as usize;
+    if rest.len() < length {
+        return None;
+    }
+    Some(rest.split_at(length))
 }

@@ -1,5 +1,6 @@
-use Rattle.std.proofs.Common.{◌≡◌, ◌++◌, ◌∷◌, []}
+use Rattle.std.proofs.Common.{◌≡◌, ◌∙◌, ◌++◌, ◌∷◌, [], List, Some, ap, sym}
 use Rattle.std.proofs.lemmas.Result.{err_from_is_err_and}
+use Rattle.brace_comb.specs.declared.entry.Entry.{Entry}
 use Rattle.brace_wire.specs.inner.Reading.{many_at, entry_at}
 use Rattle.brace_wire.proofs.Loops.{goes_on, ends, is_done}
 use Rattle.brace_wire.proofs.parts.read_many_entries.Goals as goal
@@ -16,4 +17,6 @@ loop-preserved c =
     rw e (goes_on entry_at c.loop.entries.items c.args.count c.loop.counter c.loop.rest.now x c.in_ok-e.after.now (many_at entry_at c.args.count c.args.bytes.now) c.loop-test.true c.in_ok-e.ensures c.loop.invariant)
 
 pub returns : goal.returns
-returns c = is_done entry_at c.loop.entries.items c.args.count c.loop.counter c.loop.rest.now (many_at entry_at c.args.count c.args.bytes.now) c.loop-test.false c.loop.invariant
+returns c =
+    is_done entry_at c.loop.entries.items c.args.count c.loop.counter c.loop.rest.now (many_at entry_at c.args.count c.args.bytes.now) c.loop-test.false c.loop.invariant
+    ∙ ap (λ (l : List Entry). Some (l, c.loop.rest.now)) (sym c.from_vec.ensures)
