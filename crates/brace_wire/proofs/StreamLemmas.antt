@@ -157,6 +157,19 @@ in_turn types rest pieces frames end (ReadsInTurn.more r piece left last others 
 
 -- ---- a decoder's loop
 
+-- nothing came
+none_is_partial : is_whole [] ≡ false
+unfolding is_whole
+none_is_partial = refl
+
+pub empty_is_partial : (bytes : List ℕ) → bytes ≡ [] → is_whole bytes ≡ false
+empty_is_partial bytes e = ap is_whole e ∙ none_is_partial
+
+-- what stands behind a frame is shorter
+pub behind_is_shorter : (rest text behind : List ℕ) → rest ≡ four (length text) ++ (text ++ behind) → length behind < length rest
+behind_is_shorter rest text behind e =
+    omega (arith, ap length e ∙ length-append (four (length text)) (text ++ behind), length-append text behind, length_four (length text))
+
 -- the bytes are the frames that were appended, and then a rest
 pub record ReadSoFar (types : List (List Ty)) (bytes : List ℕ) (before out : List Frame) (rest : List ℕ) : Type 0 where
   pub frames : List Frame
@@ -210,3 +223,18 @@ moved bytes start h =
     let long : length (drop start bytes) ≡ length bytes - start = length-drop start bytes in
     ap (take (length bytes - start)) (paste_all bytes 0 (drop start bytes) (length bytes - start) (sym long))
     ∙ take_at (drop start bytes) (drop (0 + (length bytes - start)) bytes) (length bytes - start) long
+
+-- one more frame was appended
+pub read_more : (types : List (List Ty)) (bytes rest text behind : List ℕ) (before out new : List Frame) (f : Frame) → ReadSoFar types bytes before out rest → new ≡ out ++ f ∷ []
+    → rest ≡ four (length text) ++ (text ++ behind) → body f ≡ text → IsFrame types f → ReadSoFar types bytes before new behind
+read_more types bytes rest text behind before out new f h pushed parts same fits = record {
+  frames = h.frames ++ f ∷ [];
+  appended = pushed ∙ (ap (λ (l : List Frame). l ++ f ∷ []) h.appended ∙ append_assoc before h.frames (f ∷ []));
+  reads = one_more types bytes rest text behind h.frames f h.reads parts same fits;
+}
+
+-- no frame goes on where the reading stops
+pub stops_broken : (types : List (List Ty)) (bytes rest text behind : List ℕ) (before out : List Frame) → ReadSoFar types bytes before out rest → is_whole rest ≡ true → length text < 2 ^ 32
+    → rest ≡ four (length text) ++ (text ++ behind) → ((f : Frame) → IsFrame types f → body f ≡ text → ⊥) → IsBroken types (drop (length bytes - length rest) bytes)
+stops_broken types bytes rest text behind before out h whole short parts none =
+    subst (λ (x : List ℕ). IsBroken types x) (sym (stands_behind bytes (flat_map frame h.frames) rest h.reads.same)) (breaks types rest text behind whole short parts none)
