@@ -6,7 +6,7 @@ use Rattle.brace_wire.proofs.write.append_agents.Given as goal
 
 abbrev pub invariant-loop-a : goal.invariant-loop-a
 invariant-loop-a l = record {
-  written : l.out.items ≡ (l.initial.out.items ++ four (length l.agents)) ++ flat_map agent (take l.a-index l.agents);
+  written : l.out.items ≡ (l.fn.out.items ++ four (length l.agents)) ++ flat_map agent (take l.a-index l.agents);
   fits : AllByRecursion AgentFits (take l.a-index l.agents);
   few : length l.agents < 2 ^ 32;
 }

@@ -6,7 +6,7 @@ use Rattle.brace_wire.proofs.write.append_parents.Given as goal
 
 abbrev pub invariant-loop-p : goal.invariant-loop-p
 invariant-loop-p l = record {
-  written : l.out.items ≡ (l.initial.out.items ++ four (length l.parents)) ++ flat_map parent (take l.p-index l.parents);
+  written : l.out.items ≡ (l.fn.out.items ++ four (length l.parents)) ++ flat_map parent (take l.p-index l.parents);
   fits : AllByRecursion ParentFits (take l.p-index l.parents);
   few : length l.parents < 2 ^ 32;
 }
