@@ -1,9 +1,8 @@
 -- The formats of numbers, agents, entries and faults are known.
-use Rattle.std.proofs.Common.{◌≡◌, ℕ, zero, suc, ◌+◌, ◌*◌, ◌/◌, ◌%◌, ◌<◌, ◌^◌, ℤ, pos, Bool, true, false, List, [], ◌∷◌, ◌++◌, length, map, Option, Some, None, refl, sym, ap, subst, ◌∙◌, append_assoc, arith}
-use Rattle.std.specs.Prelude.{IfSome, IsTrue, FitsSigned, ◌&&◌, slice_get}
+use Rattle.std.proofs.Common.{◌≡◌, ℕ, zero, suc, ◌+◌, ◌*◌, ◌/◌, ◌%◌, ◌<◌, ◌^◌, ℤ, Bool, true, false, List, [], ◌∷◌, ◌++◌, Option, Some, None, refl, sym, ap, subst, ◌∙◌, append_assoc, arith}
+use Rattle.std.specs.Prelude.{IfSome, FitsSigned, ◌&&◌, slice_get}
 use Rattle.std.specs.Int.{w64, w128, cast_signed, cast_unsigned}
 use Rattle.std.specs.List.{flat_map, AllByRecursion}
-use Rattle.std.specs.Cmp.Lexicographic.{pointwise}
 use Rattle.std.proofs.lemmas.Int.{to_z-of_z, of_z-to_z}
 use Rattle.std.proofs.lemmas.List.Concat.{flat_map-cons}
 use mir.ValLaws.{to_z-Fits, of_z_fits}
@@ -13,23 +12,18 @@ use Rattle.brace_model.specs.declared.program.Ty.{Ty}
 use Rattle.brace_model.specs.declared.program.Ty.TheVariants as ty
 use Rattle.brace_model.specs.declared.program.Value.{Value}
 use Rattle.brace_model.specs.declared.program.Value.TheVariants.{Int, Fixed, Flag}
-use Rattle.brace_model.specs.declared.fault.Fault.{Fault}
 use Rattle.brace_model.specs.declared.fault.Phase.{Phase}
 use Rattle.brace_model.specs.declared.fault.Phase.TheVariants.{Query, Update, Birth}
 use Rattle.brace_model.specs.declared.world.Agent.{Agent}
-use Rattle.brace_model.specs.declared.world.Parent.{Parent}
-use Rattle.brace_model.specs.declared.world.Census.{Census}
 use Rattle.brace_model.specs.Typing.{same_type, type_of_value}
 use Rattle.brace_comb.specs.declared.total.Total.{Total}
 use Rattle.brace_comb.specs.declared.total.Total.TheVariants.{Sum, Least, Greatest, Count, Any}
-use Rattle.brace_comb.specs.declared.entry.Entry.{Entry}
-use Rattle.brace_pieces.specs.declared.piece.Shown.{Shown}
 use Rattle.brace_pieces.specs.declared.piece.Cause.{Cause}
 use Rattle.brace_pieces.specs.declared.piece.Cause.TheVariants as cause
 use Rattle.brace_wire.specs.Frames.{four, eight, signed, sixteen, flag, optional, listed, value, agent, total, entry, parent, census, shown, phase, kind, fault, cause_bytes}
-use Rattle.brace_wire.specs.Fitting.{ValueFits, AgentFits, IsAgent, is_of, are_of, TotalFits, EntryFits, ParentFits, CensusFits, ShownFits, FaultFits, CauseFits, ListFits}
+use Rattle.brace_wire.specs.Fitting.{ValueFits, IsAgent, are_of, TotalFits, EntryFits, ParentFits, CensusFits, ShownFits, FaultFits, CauseFits, ListFits}
 use Rattle.brace_wire.specs.inner.Reading.{◌>>=◌, then_at, made_at, list_at, four_at, eight_at, signed_at, sixteen_at, flag_at, optional_at, value_at, values_at, states_at, agent_at, total_at, entry_at, parent_at, census_at, shown_at, phase_at, kind_at, fault_at, cause_at}
-use Rattle.brace_wire.proofs.Known.{IsBytes, IsBytes-rest, bind_some, some, some_is, Takes, Takes-then, Known, four_known, eight_known, both_known, both_spelled, both_fit, made_takes, made_known, list_known}
+use Rattle.brace_wire.proofs.Known.{IsBytes, IsBytes-rest, bind_some, some, some_is, Takes, Takes-then, Known, four_known, eight_known, both_known, made_takes, made_known, list_known}
 
 -- ---- signed numbers
 

@@ -1,10 +1,9 @@
 -- The formats of pieces and frames are known.
-use Rattle.std.proofs.Common.{◌≡◌, ℕ, zero, suc, ◌<◌, ◌^◌, Bool, true, false, cond, eqb, List, [], ◌∷◌, ◌++◌, length, Option, Some, None, Result, Ok, Err, refl, sym, ap, subst, ◌∙◌}
+use Rattle.std.proofs.Common.{◌≡◌, ℕ, zero, suc, ◌<◌, ◌^◌, Bool, true, false, cond, eqb, List, [], ◌∷◌, ◌++◌, length, Some, None, Result, Ok, Err, refl, sym, ap, subst, ◌∙◌}
 use Rattle.std.specs.Prelude.{IfOk}
 use Rattle.std.proofs.lemmas.Bool.{eqb-true}
 use Rattle.std.proofs.lemmas.List.{append-nil, nil_from_length}
 use Rattle.brace_model.specs.declared.program.Ty.{Ty}
-use Rattle.brace_model.specs.declared.world.Agent.{Agent}
 use Rattle.brace_pieces.specs.declared.piece.Piece.{Piece}
 use Rattle.brace_pieces.specs.declared.piece.Piece.TheVariants as piece
 use Rattle.brace_wire.specs.declared.fault.Unread.{Unread}
@@ -13,7 +12,7 @@ use Rattle.brace_wire.specs.declared.frame.Frame.{Frame}
 use Rattle.brace_wire.specs.Frames.{four, eight, listed, agent, entry, shown, census, cause_bytes, piece_bytes, body}
 use Rattle.brace_wire.specs.Fitting.{IsAgent, EntryFits, ShownFits, CensusFits, CauseFits, ListFits, PieceFits, IsFrame}
 use Rattle.brace_wire.specs.inner.Written.{BodyFits}
-use Rattle.brace_wire.specs.inner.Reading.{◌>>=◌, Gives, then_at, made_at, list_at, four_at, eight_at, agent_at, entry_at, shown_at, census_at, cause_at, piece_at, body_at, frame_of, ended}
+use Rattle.brace_wire.specs.inner.Reading.{Gives, then_at, list_at, four_at, eight_at, agent_at, entry_at, shown_at, census_at, cause_at, piece_at, body_at, frame_of}
 use Rattle.brace_wire.proofs.Known.{IsBytes, IsBytes-rest, bind_some, some_is, Takes, Known, four_known, eight_known, both_known, made_takes, made_known, list_known}
 use Rattle.brace_wire.proofs.PartFormats.{four_fits, eight_fits, agent_known, entry_known, shown_known, census_known, cause_known}
 

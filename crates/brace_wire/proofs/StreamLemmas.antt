@@ -1,6 +1,6 @@
 -- Streams of frames are read in one way, however they are cut.
-use Rattle.std.proofs.Common.{◌≡◌, ℕ, zero, suc, ◌+◌, ◌-◌, ◌<◌, ◌≤◌, ◌^◌, Bool, true, false, cond, ltb, List, [], ◌∷◌, ◌++◌, length, take, drop, Option, Some, None, refl, sym, ap, subst, ◌∙◌, append_assoc, arith, inl, inr}
-use Rattle.std.specs.Prelude.{◌⊎◌, nat_le, ◌&&◌, IsTrue}
+use Rattle.std.proofs.Common.{◌≡◌, ℕ, ◌+◌, ◌-◌, ◌<◌, ◌≤◌, ◌^◌, Bool, true, false, cond, ltb, List, [], ◌∷◌, ◌++◌, length, take, drop, Some, None, refl, sym, ap, subst, ◌∙◌, append_assoc, arith, inl, inr}
+use Rattle.std.specs.Prelude.{◌⊎◌, nat_le}
 use Rattle.std.specs.Int.{w32, from_be_bytes, to_be_bytes}
 use Rattle.std.specs.List.{flat_map, AllByRecursion, copy_within}
 use Rattle.std.proofs.lemmas.Nat.{from_be_bytes-to_be_bytes_4}
@@ -11,7 +11,7 @@ use Rattle.brace_model.specs.declared.program.Ty.{Ty}
 use Rattle.brace_wire.specs.declared.frame.Frame.{Frame}
 use Rattle.brace_wire.specs.Frames.{four, body, frame}
 use Rattle.brace_wire.specs.Fitting.{IsFrame}
-use Rattle.brace_wire.specs.Streams.{is_whole, length_in_front, IsPartial, IsBroken, BeginsNoFrame, Reads, Waiting, waits, GoesOn, Advances, ReadsInTurn}
+use Rattle.brace_wire.specs.Streams.{is_whole, length_in_front, IsPartial, IsBroken, Reads, ReadsInTurn}
 use Rattle.brace_wire.specs.inner.Reading.{four_at, body_at}
 use Rattle.brace_wire.proofs.Known.{IsBytes, some, some_is, four_known}
 use Rattle.brace_wire.proofs.PieceFormats.{body_known, body_of}

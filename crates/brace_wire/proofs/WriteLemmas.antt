@@ -1,6 +1,6 @@
 -- What is known of items written one after another.
 use borrow.Rule.Slice.PartMut.{put_mid}
-use Rattle.std.proofs.Common.{◌≡◌, ℕ, ◌+◌, ◌-◌, ◌<◌, ◌≤◌, ◌^◌, List, [], ◌∷◌, ◌++◌, length, take, drop, Result, Ok, Err, refl, sym, ap, subst, ◌∙◌, append_assoc, arith}
+use Rattle.std.proofs.Common.{◌≡◌, ℕ, ◌+◌, ◌-◌, ◌<◌, ◌≤◌, ◌^◌, List, [], ◌∷◌, ◌++◌, length, take, drop, Result, Ok, Err, refl, sym, ap, ◌∙◌, append_assoc, arith}
 use Rattle.std.specs.Prelude.{IsTrue, OnOk}
 use Rattle.std.specs.List.{flat_map, AllByRecursion}
 use Rattle.brace_model.specs.declared.program.Ty.{Ty}
@@ -13,7 +13,7 @@ use Rattle.std.proofs.lemmas.List.{take_all, take_at, drop_at, length-append, le
 use Rattle.std.proofs.lemmas.List.Edits.{paste_all}
 use Rattle.std.proofs.lemmas.Slice.{put_mid-paste}
 use Rattle.brace_wire.specs.Frames.{four, listed, body, frame}
-use Rattle.brace_wire.specs.Fitting.{AgentFits, IsAgent, is_of, ShownFits, ListFits, PieceFits, IsOf, agents_of, IsFrame}
+use Rattle.brace_wire.specs.Fitting.{AgentFits, IsAgent, is_of, ShownFits, PieceFits, IsOf, IsFrame}
 use Rattle.brace_wire.specs.inner.Written.{BodyFits}
 
 -- one more item fits
@@ -129,5 +129,5 @@ framed old with_room whole out f start at first second e =
     let count : length whole - (start + 4) ≡ length (body f) = omega (arith, lengths old with_room whole f start at first second) in
     e
     ∙ (ap (λ (x : List ℕ). x ++ four (length whole - (start + 4)) ++ drop (start + 4) whole) front
-      ∙ (ap (λ (n : ℕ). old ++ four n ++ drop (start + 4) whole) count
-        ∙ (ap (λ (x : List ℕ). old ++ four (length (body f)) ++ x) behind ∙ append_assoc old (four (length (body f))) (body f))))
+    ∙ (ap (λ (n : ℕ). old ++ four n ++ drop (start + 4) whole) count
+    ∙ (ap (λ (x : List ℕ). old ++ four (length (body f)) ++ x) behind ∙ append_assoc old (four (length (body f))) (body f))))

@@ -1,6 +1,6 @@
 -- Which frames have bytes: each number is in the range of its bytes, each agent is of a class, and
 -- the whole is not too long for its length.
-use Rattle.std.specs.Prelude.{ℕ, ◌<◌, ◌^◌, List, [], ◌++◌, length, map, flat_map, slice_get, Bool, false, IsTrue, Option, Some, None, IfSome, FitsSigned}
+use Rattle.std.specs.Prelude.{◌<◌, ◌^◌, List, [], length, map, flat_map, slice_get, Bool, false, IsTrue, Option, Some, None, IfSome, FitsSigned}
 use Rattle.std.specs.Int.{w64, w128}
 use Rattle.std.specs.List.{AllByRecursion}
 use Rattle.std.specs.Cmp.Lexicographic.{pointwise}

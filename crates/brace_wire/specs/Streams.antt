@@ -1,5 +1,5 @@
 -- Frames one behind another, as they come over a stream in pieces.
-use Rattle.std.specs.Prelude.{◌≡◌, ℕ, ◌+◌, ◌<◌, nat_le, ◌&&◌, Bool, false, IsTrue, List, [], ◌∷◌, ◌++◌, length, take, flat_map}
+use Rattle.std.specs.Prelude.{◌≡◌, ℕ, ◌+◌, nat_le, ◌&&◌, Bool, false, IsTrue, List, [], ◌∷◌, ◌++◌, length, take, flat_map}
 use Rattle.std.specs.Int.{w32, from_be_bytes}
 use Rattle.std.specs.List.{AllByRecursion}
 use Rattle.brace_model.specs.declared.program.Ty.{Ty}

@@ -1,4 +1,4 @@
-use Rattle.std.proofs.Common.{◌≡◌, rules}
+use Rattle.std.proofs.Common.{rules}
 use Rattle.brace_wire.proofs.StreamLemmas.{behind_is_shorter, read_more, stops_broken}
 use Rattle.brace_wire.proofs.decoder.read_frames.Goals as goal
 

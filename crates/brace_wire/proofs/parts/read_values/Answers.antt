@@ -1,7 +1,6 @@
 use Rattle.std.proofs.Common.{◌≡◌, ◌∙◌, ◌+◌, ◌++◌, ◌∷◌, [], List, Some, ap, sym, drop}
 use Rattle.std.proofs.lemmas.List.{at_drop_more}
 use Rattle.std.proofs.lemmas.Result.{err_from_is_err_and}
-use Rattle.brace_model.specs.declared.program.Ty.{Ty}
 use Rattle.brace_model.specs.declared.program.Value.{Value}
 use Rattle.brace_wire.specs.inner.Reading.{values_at}
 use Rattle.brace_wire.proofs.Loops.{with_front, at_drop_end, value_goes_on, value_ends, values_done}

@@ -1,4 +1,4 @@
-use Rattle.std.proofs.Common.{◌≡◌, ◌∙◌, ◌++◌, List, ℕ, length, drop, sym, ap, arith, rules}
+use Rattle.std.proofs.Common.{◌∙◌, ◌++◌, List, ℕ, length, drop, sym, ap, arith, rules}
 use Rattle.brace_wire.specs.Frames.{four}
 use Rattle.brace_wire.specs.Streams.{is_whole}
 use Rattle.brace_wire.proofs.StreamLemmas.{no_length, too_few, whole_when, length_and_rest, body_and_rest}
