@@ -1,5 +1,6 @@
 pub mod Known
 pub mod Loops
+pub mod NetLemmas
 pub mod PartFormats
 pub mod PieceFormats
 pub mod Starts

@@ -40,12 +40,13 @@ pub data IsAllowed {F : Type 0} (lane : Lane F) : Event F → Type 0 where
   take_next : lane.taken < length lane.received → IsAllowed lane Event.take_next
 
 -- the frame of the piece at a place, where there is one
-abbrev pub carried_at : {F : Type 0} → Lane F → ℕ → List (Carried F)
-carried_at {F} lane i = carried (slice_get lane.puts i)
-  where
-    carried : Option F → List (Carried F)
-    carried None = []
-    carried (Some f) = record { ordinal = i; piece = f } ∷ []
+abbrev pub carried : {F : Type 0} → ℕ → Option F → List (Carried F)
+carried i None = []
+carried i (Some f) = record { ordinal = i; piece = f } ∷ []
+
+-- the place of the newest piece, or of one before it
+abbrev pub place_back : {F : Type 0} → Lane F → ℕ → ℕ
+place_back lane back = length lane.puts - 1 - back
 
 -- a lane after a frame was handed over, where there is one
 abbrev pub after_hand : {F : Type 0} → Lane F → Option (Carried F) → Lane F
@@ -56,7 +57,7 @@ after_hand lane (Some c) = handed lane c
 abbrev pub after : {F : Type 0} → Lane F → Event F → Lane F
 after lane (Event.put f) = record lane { puts = lane.puts ++ f ∷ [] }
 after lane (Event.send back) =
-    record lane { sent = lane.sent ++ carried_at lane (length lane.puts - 1 - back) }
+    record lane { sent = lane.sent ++ carried (place_back lane back) (slice_get lane.puts (place_back lane back)) }
 after lane (Event.hand i) = after_hand lane (slice_get lane.sent i)
 after lane Event.take_next = record lane { taken = lane.taken + 1 }
 
