@@ -1,0 +1,12 @@
+use Rattle.std.proofs.Common.{◌≡◌, ◌<◌, ◌^◌, ◌++◌, length, take}
+use Rattle.std.specs.List.{flat_map, AllByRecursion}
+use Rattle.brace_wire.specs.Frames.{four, agent}
+use Rattle.brace_wire.specs.Fitting.{AgentFits}
+use Rattle.brace_wire.proofs.write.append_agents.Given as goal
+
+abbrev pub invariant-loop-a : goal.invariant-loop-a
+invariant-loop-a l = record {
+  written : l.out.items ≡ (l.fn.out.items ++ four (length l.agents)) ++ flat_map agent (take l.a-index l.agents);
+  fits : AllByRecursion AgentFits (take l.a-index l.agents);
+  few : length l.agents < 2 ^ 32;
+}
