@@ -57,8 +57,10 @@ after_hand lane (Some c) = handed lane c
 abbrev pub after : {F : Type 0} → Lane F → Event F → Lane F
 after lane (Event.put f) = record lane { puts = lane.puts ++ f ∷ [] }
 after lane (Event.send back) =
-    record lane { sent = lane.sent
-        ++ carried (place_back lane back) (slice_get lane.puts (place_back lane back)) }
+    record lane {
+      sent = lane.sent
+          ++ carried (place_back lane back) (slice_get lane.puts (place_back lane back));
+    }
 after lane (Event.hand i) = after_hand lane (slice_get lane.sent i)
 after lane Event.take_next = record lane { taken = lane.taken + 1 }
 
