@@ -1,7 +1,7 @@
 #!/usr/bin/env python3
 """Asks the server of tools/workbench.py what it must refuse, and drives its page in Chromium.
 
-    tools/tests/test_workbench.py [--program PROGRAM] [--picture FILE.png] [--no-browser]
+    tools/tests/test_workbench.py [--program PROGRAM] [--picture FILE.png] [--no-browser | --page]
 
 The rows that the page gets are those of `brace run`. With --picture the page is kept as it looks
 while an example runs. Run by hand; where Chromium is not installed the page's tests are left out.
@@ -373,6 +373,12 @@ def check_folder(checks, page, folder):
     page.click("save")
     page.until("document.getElementById('modelState').textContent === 'mine.brasil, saved'")
     checks.same("saved", read(os.path.join(folder, "mine.brasil")), WALK + "// more\n")
+    with page.late("save"):
+        page.click("save")
+        page.open("example", "flock")
+    time.sleep(0.5)
+    checks.same("opened while another one is saved", (page.text("modelState"), page.value(
+        "document.getElementById('models').value")), ("flock.brasil", "example flock"))
 
 
 def check_many(checks, page):

@@ -127,16 +127,21 @@ async function save() {
     was = null;
   }
   if (!name) return;
-  const script = editor.text;
+  const script = editor.text, { option } = model;
   try {
     const saved = await ask('save', { name, script, was });
-    Object.assign(model, {
-      name, opened: script, openedPath: saved.scriptPath, was: saved.was, isMine: true,
-      option: `script ${name}`,
-    });
+    // Meanwhile another one may have been opened, or this one changed.
+    const isOpen = model.option === option;
+    if (isOpen) {
+      Object.assign(model, {
+        name, opened: script, openedPath: saved.scriptPath, was: saved.was, isMine: true,
+        option: `script ${name}`,
+      });
+    }
     await list();
     $('models').value = model.option;
-    say(`${name}, saved`);
+    if (isOpen && !model.isChanged) say(`${name}, saved`);
+    else showState();
   } catch (error) {
     say(error.message);
   }
