@@ -159,12 +159,10 @@ fn reads_what_it_wrote(rt: HostRuntime) -> Result<(), Fail> {
     let program = program(alloc)?;
     let mut written = Vec::new(alloc);
     let mut stream = Vec::new(alloc);
-    let mut ordinal = 0;
     for piece in pieces(alloc)? {
-        let f = between(1, 2, ordinal, piece);
+        let f = between(1, 2, written.len() as u64, piece);
         encode(&mut stream, &program, &f)?;
         written.push(f)?;
-        ordinal += 1;
     }
     let mut decoder = Decoder::make(alloc, &program)?;
     let mut frames = Vec::new(alloc);
