@@ -211,7 +211,9 @@ def check_stops(checks, served):
 
 def check_limits(checks, program):
     with Served(program, "--no-browser", "--seconds", "2") as served:
-        with served.asking("run", **SLOW) as (answer, _):
+        # A hundred agents: alone, one comes to its last tick in about as many seconds.
+        crowd = "".join(f"A,{number},0,0\n" for number in range(100))
+        with served.asking("run", **{**SLOW, "agents": crowd}) as (answer, _):
             answer.read()
             ending = served.ask("end", run=answer.getheader("Run"))[1]
             checks.same("a run at its last second", ending,
