@@ -7,7 +7,7 @@ use Rattle.std.specs.Prelude.{not, slice_get}
 use Rattle.std.specs.Ordering.{int_eq}
 use Rattle.brace_code.specs.declared.lane.Lane.{Lane}
 use Rattle.brace_code.specs.inner.Words.{Outcome, choose_word}
-use Rattle.brace_code.specs.inner.Columns.{Chosen, side, taking, merged}
+use Rattle.brace_code.specs.Columns.{Chosen, side, taking, merged}
 
 -- each lane has an outcome that is the column's word there
 pub record Holds (f : Lane → Outcome) (lanes : List Lane) (column : List ℤ) : Type 0 where

@@ -13,7 +13,7 @@ use Rattle.brace_code.specs.declared.lane.Redo.{Redo}
 use Rattle.brace_code.specs.declared.lane.Draws.{Draws}
 use Rattle.brace_code.specs.Lanes.{Shows, column_of, row_of, number_in, draws_at}
 use Rattle.brace_code.specs.inner.Words.{Outcome, word_of, operand_word}
-use Rattle.brace_code.specs.inner.Columns.{Numbers, Words, row_at}
+use Rattle.brace_code.specs.Columns.{Numbers, Words, row_at}
 
 pub draws_more : (draws : List Draws) (k site : ℕ) (d : Draws) → k < length draws
     → draws_at (drop k draws) site ≡ (if (get_or draws k d).site == site then Some (get_or draws k d).words.now else draws_at (drop (k + 1) draws) site)

@@ -18,7 +18,7 @@ use Rattle.brace_code.specs.Codes.{type_given, gives}
 use Rattle.brace_code.specs.Lanes.{Shows, Gives}
 use Rattle.brace_code.specs.inner.Words.{Outcome, value_of, made_word, with_word, unary_word, binary_word, choose_word, operand_word}
 use Rattle.brace_code.specs.inner.Runs.{Left, Deed, onward, pushed, put, top, deed, run, outcome}
-use Rattle.brace_code.specs.inner.Columns.{Words, Maps, Pairs, Leads, stack_at, taking, merged}
+use Rattle.brace_code.specs.Columns.{Words, Maps, Pairs, Leads, stack_at, taking, merged}
 use Rattle.brace_code.proofs.LaneLemmas.{Holds, merged_chosen}
 use Rattle.brace_code.proofs.CodeLemmas.{run-push}
 use Rattle.brace_code.proofs.SingleLemmas.{push_does, unary_does, binary_does, with_does, choice_does}

@@ -8,7 +8,7 @@ ghost use Rattle.brace_model.specs.declared.program.Ty.TheVariants as ty;
 ghost use Rattle.brace_model.specs.Typing.{same_type};
 ghost use Rattle.brace_model.specs.Value.{total_read};
 ghost use Rattle.brace_code.specs.inner.Words.{word_of, flag, unary_word, binary_word, product_word, quotient_word};
-ghost use Rattle.brace_code.specs.inner.Columns.{row_at, Maps, Pairs};
+ghost use Rattle.brace_code.specs.Columns.{row_at, Maps, Pairs};
 
 use crate::lane::{Lane, Redo, Row, row_at};
 use crate::operations::{fixed_product, fixed_quotient, flag, short_quotient};

@@ -1,7 +1,7 @@
 ghost use Rattle.std.specs.Prelude.{◌≡◌, IfSome, Some};
 ghost use Rattle.brace_code.specs.declared.lane.Lane.{Lane};
 ghost use Rattle.brace_code.specs.Lanes.{column_of, draws_at, row_of};
-ghost use Rattle.brace_code.specs.inner.Columns.{row_at};
+ghost use Rattle.brace_code.specs.Columns.{row_at};
 
 use crate::code::Operand;
 use brace_model::Who;

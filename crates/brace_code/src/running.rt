@@ -2,7 +2,7 @@ ghost use Rattle.std.specs.Prelude.{◌≡◌, ◌∷◌, IfOk, OnOk, length};
 ghost use Rattle.brace_code.specs.Lanes.{Gives};
 ghost use Rattle.brace_code.specs.inner.Words.{operand_word};
 ghost use Rattle.brace_code.specs.inner.Runs.{deed, outcome};
-ghost use Rattle.brace_code.specs.inner.Columns.{Numbers, Words, Leads};
+ghost use Rattle.brace_code.specs.Columns.{Numbers, Words, Leads};
 
 use crate::code::{Code, Instr, Operand};
 use crate::columns::Columns;

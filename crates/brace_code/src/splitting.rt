@@ -1,5 +1,5 @@
 ghost use Rattle.std.specs.Prelude.{◌≡◌, ◌<◌, ◌≤◌, ◌+◌, ◌∷◌, ◌++◌, [], length, take, if◌then◌else◌, IfOk, slice_get, true, false};
-ghost use Rattle.brace_code.specs.inner.Columns.{side, taking, merged};
+ghost use Rattle.brace_code.specs.Columns.{side, taking, merged};
 
 use crate::lane::{Lane, Redo};
 use brace_num::List;

@@ -3,6 +3,7 @@ mod audits;
 mod codes;
 mod crews;
 mod draws;
+mod folds;
 mod grids;
 mod inversion;
 mod lanes;

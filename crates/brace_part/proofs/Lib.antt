@@ -8,6 +8,7 @@ pub mod KindLemmas
 pub mod LawfulOn
 pub mod AskLemmas
 pub mod AskedLemmas
+pub mod LaneLemmas
 pub mod WorkTaken
 pub mod WorkHeard
 pub mod WorkOwned

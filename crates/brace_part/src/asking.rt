@@ -9,6 +9,7 @@ ghost use Rattle.brace_plan.specs.Answers.{saying_of, ArePlaced};
 ghost use Rattle.brace_eval.specs.Heard.{IsHeard};
 ghost use Rattle.brace_part.specs.inner.Asked.{CanAsk, AreAsked, HearsOf, HearsAllOf};
 
+use crate::places::place_in;
 use brace_eval::Heard;
 use brace_grid::Grid;
 use brace_model::{Agent, Program, class_of, x_of, y_of};
@@ -48,19 +49,6 @@ pub struct Hearing {
 
 /// The least side of a grid's cells: one unit, in millionths.
 const UNIT: i64 = 1_000_000;
-
-/// The place of an agent in a list whose ids rise.
-fn place_in(held: &[Agent], a: &Agent) -> u32
-    requires few { length held.now ≤ 2 ^ 20 }
-    requires rises { RisesById held.now }
-    requires held { Contains held.now a.now }
-    ensures { slice_get held.now result ≡ Some a.now }
-{
-    match held.binary_search_by_key(&a.id, |b| b.id) {
-        Ok(place) => place as u32,
-        Err(_) => unreachable!(),
-    }
-}
 
 impl<'a> Scene<'a> {
     /// The scene of a program's lawful agents, whose ids rise.

@@ -7,6 +7,7 @@ mod counts;
 mod gather;
 pub mod laws;
 mod part;
+mod places;
 mod prepare;
 mod query;
 mod standing;

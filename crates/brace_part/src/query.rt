@@ -10,7 +10,9 @@ ghost use Rattle.brace_part.specs.inner.Sound.{AreQueriesOf};
 ghost use Rattle.brace_part.specs.inner.Tables.{said_over, faults_over};
 
 use crate::asking::{Hearing, Scene};
+use crate::places::{all_places, places_of};
 use brace_eval::Heard;
+use brace_fold::{Redo, fold};
 use brace_invert::split;
 use brace_model::Agent;
 use brace_num::NoMemory;
@@ -57,6 +59,65 @@ impl Queries {
     /// its own agents; with inversion those of the forward program of its own agents, and of the
     /// inverse program of all that it holds.
     pub fn heard(
+        &self,
+        alloc: Global,
+        setting: &Setting,
+        tick: u64,
+        own: &[Agent],
+        held: &[Agent],
+    ) -> Result<Heard, NoMemory>
+        requires queries { AreQueriesOf setting.now self.now }
+        requires lawful { IsTrue (list_all (is_lawful_agent setting.now.job.program) held.now) }
+        requires few { length held.now ≤ 2 ^ 20 }
+        requires rises { RisesById held.now }
+        requires own_held { (a : Agent) → Contains own.now a → Contains held.now a }
+        requires ticks { tick ≤ 2 ^ 32 }
+        ensures heard { IfOk result (IsHeard setting.now.job.program held.now
+            (said_over setting.now tick own.now held.now)
+            (faults_over setting.now tick own.now held.now)) }
+    {
+        match self.heard_in_lanes(alloc, setting, tick, own, held) {
+            Ok(heard) => Ok(heard),
+            Err(Redo) => self.heard_in_turn(alloc, setting, tick, own, held),
+        }
+    }
+
+    /// What the queries of a part say, asked in lanes; `Redo` where they are to be asked in turn.
+    fn heard_in_lanes(
+        &self,
+        alloc: Global,
+        setting: &Setting,
+        tick: u64,
+        own: &[Agent],
+        held: &[Agent],
+    ) -> Result<Heard, Redo>
+        requires queries { AreQueriesOf setting.now self.now }
+        requires lawful { IsTrue (list_all (is_lawful_agent setting.now.job.program) held.now) }
+        requires few { length held.now ≤ 2 ^ 20 }
+        requires rises { RisesById held.now }
+        requires own_held { (a : Agent) → Contains own.now a → Contains held.now a }
+        requires ticks { tick ≤ 2 ^ 32 }
+        ensures heard { IfOk result (IsHeard setting.now.job.program held.now
+            (said_over setting.now tick own.now held.now)
+            (faults_over setting.now tick own.now held.now)) }
+    {
+        let program = &setting.job.program;
+        let seed = setting.job.seed;
+        let asking = places_of(alloc, own, held)?;
+        let mut heard = Heard::nothing(alloc, program, held)?;
+        match self {
+            Queries::Script(plans) => fold(alloc, plans, seed, tick, held, &asking, &mut heard)?,
+            Queries::Inverted(forward, inverse) => {
+                let all = all_places(alloc, held)?;
+                fold(alloc, forward, seed, tick, held, &asking, &mut heard)?;
+                fold(alloc, inverse, seed, tick, held, &all, &mut heard)?;
+            }
+        }
+        Ok(heard)
+    }
+
+    /// What the queries of a part say, and their least fault, asked agent by agent.
+    fn heard_in_turn(
         &self,
         alloc: Global,
         setting: &Setting,

@@ -18,8 +18,8 @@ use Rattle.brace_plan.specs.declared.answer.Said.{Said}
 use Rattle.brace_plan.specs.declared.plans.Planned.{Planned}
 use Rattle.brace_plan.specs.declared.seat.Scene.{Scene}
 use Rattle.brace_plan.specs.Answers.{IsAnswer, saying_of}
-use Rattle.brace_plan.specs.inner.Acts.{acts}
-use Rattle.brace_plan.specs.inner.Planning.{IsPlanOf, ArePlansOf}
+use Rattle.brace_plan.specs.Acts.{acts}
+use Rattle.brace_plan.specs.Planning.{IsPlanOf, ArePlansOf}
 use Rattle.brace_plan.specs.inner.Walks.{Adds, IsAnswerOf, block_in, opening, with_faults}
 use Rattle.brace_plan.proofs.AnswerLemmas.{least-faults}
 
@@ -43,11 +43,11 @@ lawful-class program a None h = absurd (cc)
 lawful-class program a (Some class) h = (class, refl)
 
 module _ (program : Program) (queries : List Planned) (plans : ArePlansOf program queries) (a : Agent) (lawful : is_lawful_agent program a ≡ true) where
-  class : (class : Class) × (class_of program a ≡ Some class)
+  pub class : (class : Class) × (class_of program a ≡ Some class)
   class = lawful-class program a (class_of program a) (and_parts _ _ lawful).1
 
   -- the plan of a lawful agent's class
-  plan-of : (planned : Planned) → slice_get queries a.class ≡ Some planned → IsPlanOf program a.class class.0.query planned
+  pub plan-of : (planned : Planned) → slice_get queries a.class ≡ Some planned → IsPlanOf program a.class class.0.query planned
   plan-of planned is =
       let (other, got, of) = plans.each a.class class.0 class.1 in
       let both : Some other ≡ Some planned = sym got ∙ is in

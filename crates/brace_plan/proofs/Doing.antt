@@ -33,7 +33,7 @@ use Rattle.brace_plan.specs.declared.action.Bound.{Bound}
 use Rattle.brace_plan.specs.declared.action.Action.{Action}
 use Rattle.brace_plan.specs.declared.action.Action.TheVariants as action
 use Rattle.brace_plan.specs.Narrowing.{nested, bounds_over}
-use Rattle.brace_plan.specs.inner.Acts.{meets, near_by, act, acts}
+use Rattle.brace_plan.specs.Acts.{meets, near_by, act, acts}
 use Rattle.brace_plan.specs.inner.Doing.{Suits, has_room, variable_of, Same, DoesOne, Does, DoesAll}
 use Rattle.brace_plan.proofs.Formed.{IsFormed}
 use Rattle.brace_plan.proofs.Narrowed.{Quiet, quiet}

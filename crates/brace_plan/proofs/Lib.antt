@@ -12,5 +12,6 @@ pub mod RuleLemmas
 pub mod Senses
 pub mod Steps
 pub mod Suiting
+pub mod ToldLemmas
 pub mod WalkLemmas
 pub mod Whole

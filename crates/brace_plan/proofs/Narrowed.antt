@@ -24,7 +24,7 @@ use Rattle.brace_plan.specs.declared.action.Limit.{Limit}
 use Rattle.brace_plan.specs.declared.action.Limit.TheVariants as limit
 use Rattle.brace_plan.specs.declared.action.Bound.{Bound}
 use Rattle.brace_plan.specs.Narrowing.{axis_at, sense, nested, alone, bounds_over}
-use Rattle.brace_plan.specs.inner.Acts.{limit_in, stands, coordinate, meets}
+use Rattle.brace_plan.specs.Acts.{limit_in, stands, coordinate, meets}
 use Rattle.brace_plan.specs.inner.Doing.{Suits, variable_of}
 use Rattle.brace_plan.proofs.Formed.{IsFormed, formed_if, first_formed}
 use Rattle.brace_plan.proofs.Senses.{StandsHere, sensed}

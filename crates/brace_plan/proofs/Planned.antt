@@ -21,7 +21,7 @@ use Rattle.brace_plan.specs.declared.action.Action.{Action}
 use Rattle.brace_plan.specs.declared.action.Action.TheVariants as action
 use Rattle.brace_plan.specs.Narrowing.{Nested, nested, bounds_over, all_loops, loops_of}
 use Rattle.brace_plan.specs.inner.Doing.{names_with, variable_of, variable_in, DoesOne, Does, DoesAll}
-use Rattle.brace_plan.specs.inner.Planning.{told, told_by}
+use Rattle.brace_plan.specs.Planning.{told, told_by}
 use Rattle.brace_plan.proofs.Doing.{does_const, does_assign, does_if, does_loop, does_more}
 use Rattle.brace_plan.proofs.Formed.{IsFormed, After, formed_const, formed_if, formed_loop, formed_assign, rest_formed, after_more, cut_back}
 use Rattle.brace_plan.proofs.Steps.{loops-Const, loops-If, loops-Foreach, loops-Assign, told-Const, told-If, told-Foreach, told-Assign}

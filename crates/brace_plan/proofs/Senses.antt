@@ -31,7 +31,7 @@ use Rattle.brace_plan.specs.declared.action.Limit.{Limit}
 use Rattle.brace_plan.specs.declared.action.Limit.TheVariants as limit
 use Rattle.brace_plan.specs.declared.narrowing.Sense.{Sense}
 use Rattle.brace_plan.specs.Narrowing.{plain, axis_at, field_sense, side_left, side_right, bound_of, compared, binary_sense, sense_step, sense}
-use Rattle.brace_plan.specs.inner.Acts.{limit_in, stands, coordinate, meets}
+use Rattle.brace_plan.specs.Acts.{limit_in, stands, coordinate, meets}
 
 -- an outcome that is a value
 abbrev pub IsValue : Worth → Type 0

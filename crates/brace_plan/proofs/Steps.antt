@@ -22,8 +22,8 @@ use Rattle.brace_plan.specs.declared.action.Action.{Action, roll-Action}
 use Rattle.brace_plan.specs.declared.action.Action.TheVariants.{Const, If, Foreach, Assign, rolls-Const, rolls-If, rolls-Foreach, rolls-Assign}
 use Rattle.brace_plan.specs.declared.action.Action.TheOpen as layer
 use Rattle.brace_plan.specs.declared.action.Action.TheFolds.{map-Action, fold-roll-Action}
-use Rattle.brace_plan.specs.inner.Acts.{near_by, act_step, act, acts}
-use Rattle.brace_plan.specs.inner.Planning.{told_step, told, told_by}
+use Rattle.brace_plan.specs.Acts.{near_by, act_step, act, acts}
+use Rattle.brace_plan.specs.Planning.{told_step, told, told_by}
 use Rattle.brace_plan.specs.Narrowing.{all_loops, bounds_over, nested_step, nested, loops_of}
 
 joined : {A B : Type 0} (f : A → List B) (xs : List A) → flat_map (λ (ys : List B). ys) (map f xs) ≡ flat_map f xs

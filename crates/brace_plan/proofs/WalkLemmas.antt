@@ -15,7 +15,7 @@ use Rattle.brace_plan.specs.declared.action.Action.{Action}
 use Rattle.brace_plan.specs.declared.action.Bound.{Bound}
 use Rattle.brace_plan.specs.declared.answer.Answer.{Answer}
 use Rattle.brace_plan.specs.declared.seat.Scene.{Scene}
-use Rattle.brace_plan.specs.inner.Acts.{meets, near_by}
+use Rattle.brace_plan.specs.Acts.{meets, near_by}
 use Rattle.brace_plan.specs.inner.Walks.{Adds, act_in, block_in, is_taken, loop_in, agents_at}
 use Rattle.brace_plan.proofs.AnswerLemmas.{adds-alike, adds-then}
 

@@ -17,7 +17,7 @@ use Rattle.brace_model.specs.Lawful.{LawfulProgram, query_scope}
 use Rattle.brace_plan.specs.declared.loops.Loop.{Loop}
 use Rattle.brace_plan.specs.declared.plans.Planned.{Planned}
 use Rattle.brace_plan.specs.inner.Doing.{Suits, DoesAll, has_room}
-use Rattle.brace_plan.specs.inner.Planning.{told_by, OneEach, IsPlanOf}
+use Rattle.brace_plan.specs.Planning.{told_by, OneEach, IsPlanOf}
 use Rattle.brace_plan.specs.Narrowing.{loops_of}
 use Rattle.brace_plan.proofs.Suiting.{opening_suits}
 

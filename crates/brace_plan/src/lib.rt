@@ -18,6 +18,7 @@ mod query;
 mod room;
 mod rules;
 mod seat;
+mod told;
 mod walk;
 
 pub use action::{Action, Axis, Bound, Limit, Side};
@@ -28,3 +29,4 @@ pub use loops::Loop;
 pub use plans::{Plans, plan};
 pub use query::{Query, Saying};
 pub use room::Room;
+pub use told::Told;

@@ -1,5 +1,5 @@
 ghost use Rattle.std.specs.Prelude.{◌≡◌, ◌++◌, length, IfOk, OnOk};
-ghost use Rattle.brace_plan.specs.inner.Planning.{told, told_by};
+ghost use Rattle.brace_plan.specs.Planning.{told, told_by};
 
 use crate::action::Action;
 use brace_num::{List, NoMemory};

@@ -3,7 +3,7 @@ ghost use Rattle.std.specs.List.{list_all, range_with_len};
 ghost use Rattle.brace_model.specs.declared.world.Agent.{Agent};
 ghost use Rattle.brace_model.specs.World.{sees, is_within};
 ghost use Rattle.brace_grid.specs.Grids.{place_of, inside, is_between, is_inside};
-ghost use Rattle.brace_plan.specs.inner.Acts.{limit_in, stands, coordinate, meets};
+ghost use Rattle.brace_plan.specs.Acts.{limit_in, stands, coordinate, meets};
 ghost use Rattle.brace_plan.specs.inner.Walks.{IsScene, IsPartOf, Narrows, scope_at, is_taken, HoldsTaken, AreWithin, HaveTaken, IsInSight, AreInSight};
 
 use crate::action::{Axis, Bound, Limit, Side};

@@ -5,7 +5,7 @@ ghost use Rattle.brace_model.specs.Typing.{Names, type_of, within_loop, in_turn,
 ghost use Rattle.brace_code.specs.Codes.{Computes, names_of};
 ghost use Rattle.brace_plan.specs.Narrowing.{loops_of};
 ghost use Rattle.brace_plan.specs.inner.Doing.{names_with, variable_in, DoesOne, DoesAll};
-ghost use Rattle.brace_plan.specs.inner.Planning.{told, told_by};
+ghost use Rattle.brace_plan.specs.Planning.{told, told_by};
 
 use crate::action::Action;
 use crate::constants::Constants;

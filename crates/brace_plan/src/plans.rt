@@ -1,7 +1,7 @@
 ghost use Rattle.std.specs.Prelude.{◌≡◌, ◌++◌, Some, slice_get, IfOk, OnOk};
 ghost use Rattle.brace_model.specs.Lawful.{LawfulProgram};
 ghost use Rattle.brace_plan.specs.Narrowing.{loops_in, bounds_at};
-ghost use Rattle.brace_plan.specs.inner.Planning.{IsPlanOf, ArePlansOf};
+ghost use Rattle.brace_plan.specs.Planning.{IsPlanOf, ArePlansOf};
 
 use crate::action::Action;
 use crate::constants::Constants;
@@ -39,7 +39,7 @@ impl Model for Plans {
     ghost use Rattle.brace_model.specs.contracts.program.Stmt as stmt;
     ghost use Rattle.brace_model.specs.Lawful.{LawfulProgram};
     ghost use Rattle.brace_plan.specs.Narrowing.{loops_in};
-    ghost use Rattle.brace_plan.specs.inner.Planning.{ArePlansOf};
+    ghost use Rattle.brace_plan.specs.Planning.{ArePlansOf};
     ghost use Rattle.brace_plan.specs.inner.Ruling.{AreAllRulesOf};
 
     ghost Value = { Program };

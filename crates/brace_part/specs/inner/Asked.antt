@@ -26,6 +26,9 @@ pub record CanAsk (program : Program) (scene : Scene) : Type 0 where
   pub wide : greatest_visible program ≤ℤ scene.grid.side
 
 -- the places of some of the agents that are held, in turn
+abbrev pub ArePlaces : List Agent → List Agent → List ℕ → Type 0
+ArePlaces held asking places = map (λ place. slice_get held place) places ≡ map Some asking
+
 abbrev pub AreAsked : List Agent → List Agent → List Asked → Type 0
 AreAsked held asking asked = map (λ one. slice_get held one.place) asked ≡ map Some asking
 

@@ -16,7 +16,7 @@ use Rattle.brace_model.specs.Typed.{Fits}
 use Rattle.brace_code.specs.declared.names.Known.{Known}
 use Rattle.brace_code.specs.Codes.{names_of}
 use Rattle.brace_plan.specs.declared.action.Action.{Action}
-use Rattle.brace_plan.specs.inner.Acts.{act, acts}
+use Rattle.brace_plan.specs.Acts.{act, acts}
 
 -- what is known, with these constants in scope
 abbrev pub names_with : Known → List (ℕ × Ty) → Names

@@ -16,7 +16,7 @@ use Rattle.brace_model.specs.Next.{earlier_stop, ruled}
 use Rattle.brace_code.specs.declared.code.Code.{Code}
 use Rattle.brace_code.specs.Codes.{gives}
 use Rattle.brace_plan.specs.declared.rules.Rules.{Rules}
-use Rattle.brace_plan.specs.inner.Planning.{OneEach}
+use Rattle.brace_plan.specs.Planning.{OneEach}
 
 -- what a compiled rule comes to; a state without a rule keeps its value
 abbrev pub ruled_by : Scope → Option Code → Value → Worth

@@ -23,7 +23,7 @@ use Rattle.brace_plan.specs.declared.seat.Seat.{Seat}
 use Rattle.brace_plan.specs.declared.plans.Planned.{Planned}
 use Rattle.brace_plan.specs.declared.desk.Former.{Former}
 use Rattle.brace_plan.specs.Answers.{saying_of, greatest_visible, ArePlaced}
-use Rattle.brace_plan.specs.inner.Acts.{act, acts, meets}
+use Rattle.brace_plan.specs.Acts.{act, acts, meets}
 
 -- a grid of the agents, whose cells are as wide as any visible range
 pub record IsScene (scene : Scene) : Type 0 where

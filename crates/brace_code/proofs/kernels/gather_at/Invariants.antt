@@ -1,6 +1,6 @@
 use Rattle.std.proofs.Common.{◌≡◌, ◌<◌, ℕ, pos, length, slice_index_or}
 use Rattle.brace_code.specs.declared.lane.Lane.{Lane}
-use Rattle.brace_code.specs.inner.Columns.{row_at}
+use Rattle.brace_code.specs.Columns.{row_at}
 use Rattle.brace_code.proofs.kernels.gather_at.Given as goal
 
 abbrev pub invariant-loop-k : goal.invariant-loop-k

@@ -1,5 +1,5 @@
 use Rattle.std.proofs.Common.{[], take}
-use Rattle.brace_code.specs.inner.Columns.{Leads}
+use Rattle.brace_code.specs.Columns.{Leads}
 use Rattle.brace_code.specs.inner.Runs.{run}
 use Rattle.brace_code.proofs.running.+running_lanes.Given as goal
 

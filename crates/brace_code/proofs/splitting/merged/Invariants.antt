@@ -1,5 +1,5 @@
 use Rattle.std.proofs.Common.{◌≡◌, ◌≤◌, ◌++◌, ℕ, pos, take, drop, slice_index_or}
-use Rattle.brace_code.specs.inner.Columns.{merged}
+use Rattle.brace_code.specs.Columns.{merged}
 use Rattle.brace_code.proofs.splitting.merged.Given as goal
 
 abbrev pub invariant-loop-x : goal.invariant-loop-x

@@ -1,5 +1,5 @@
 use Rattle.std.proofs.Common.{◌≡◌, ◌≤◌, ◌++◌, true, false, length, take, drop}
-use Rattle.brace_code.specs.inner.Columns.{taking}
+use Rattle.brace_code.specs.Columns.{taking}
 use Rattle.brace_code.proofs.splitting.split.Given as goal
 
 abbrev pub invariant-loop-k : goal.invariant-loop-k

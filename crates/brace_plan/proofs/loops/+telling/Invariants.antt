@@ -1,5 +1,5 @@
 use Rattle.std.proofs.Common.{◌≡◌, ◌++◌, take}
-use Rattle.brace_plan.specs.inner.Planning.{told_by}
+use Rattle.brace_plan.specs.Planning.{told_by}
 use Rattle.brace_plan.proofs.loops.+telling.Given as goal
 
 abbrev pub invariant-tell_all-loop-action : goal.invariant-tell_all-loop-action

@@ -4,7 +4,7 @@ use Rattle.std.proofs.lemmas.Int.{to_z-of_z}
 use Rattle.std.proofs.lemmas.Bool.{and_parts}
 use Rattle.brace_num.specs.declared.kinds.Area.{Area}
 use Rattle.brace_plan.specs.inner.Walks.{scope_at}
-use Rattle.brace_plan.specs.inner.Acts.{limit_in, stands, coordinate}
+use Rattle.brace_plan.specs.Acts.{limit_in, stands, coordinate}
 use Rattle.brace_plan.proofs.NearLemmas.{stays_inside}
 use Rattle.brace_plan.proofs.near.cut_area.Goals as goal
 

@@ -4,7 +4,7 @@ use Rattle.std.proofs.lemmas.List.{at_drop_all}
 use Rattle.std.specs.List.{list_all}
 use Rattle.brace_grid.specs.Grids.{place_of}
 use Rattle.brace_plan.specs.declared.action.Bound.{Bound}
-use Rattle.brace_plan.specs.inner.Acts.{meets}
+use Rattle.brace_plan.specs.Acts.{meets}
 use Rattle.brace_plan.specs.inner.Walks.{scope_at}
 use Rattle.brace_plan.proofs.NearLemmas.{next-bound}
 use Rattle.brace_plan.proofs.near.meets_all.Goals as goal

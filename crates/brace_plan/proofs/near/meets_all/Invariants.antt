@@ -1,7 +1,7 @@
 use Rattle.std.proofs.Common.{◌≡◌, ℕ, drop}
 use Rattle.std.specs.List.{list_all}
 use Rattle.brace_grid.specs.Grids.{place_of}
-use Rattle.brace_plan.specs.inner.Acts.{meets}
+use Rattle.brace_plan.specs.Acts.{meets}
 use Rattle.brace_plan.specs.inner.Walks.{scope_at}
 use Rattle.brace_plan.proofs.near.meets_all.Given as goal
 

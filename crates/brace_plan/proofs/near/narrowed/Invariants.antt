@@ -1,7 +1,7 @@
 use Rattle.std.proofs.Common.{◌≡◌, ℕ, drop, true}
 use Rattle.std.specs.List.{list_all}
 use Rattle.brace_grid.specs.Grids.{Point, is_inside}
-use Rattle.brace_plan.specs.inner.Acts.{meets}
+use Rattle.brace_plan.specs.Acts.{meets}
 use Rattle.brace_plan.specs.inner.Walks.{scope_at, IsPartOf}
 use Rattle.brace_plan.proofs.near.narrowed.Given as goal
 

@@ -3,7 +3,7 @@ use Rattle.std.specs.Prelude.{is_some}
 use Rattle.brace_model.specs.Typing.{in_turn, scope_after}
 use Rattle.brace_plan.specs.Narrowing.{loops_of}
 use Rattle.brace_plan.specs.inner.Doing.{names_with, variable_in, Does}
-use Rattle.brace_plan.specs.inner.Planning.{told_by}
+use Rattle.brace_plan.specs.Planning.{told_by}
 use Rattle.brace_plan.proofs.planning.+planning.Given as goal
 
 abbrev pub invariant-plan_block-loop-s : goal.invariant-plan_block-loop-s

@@ -1,5 +1,5 @@
 use Rattle.std.proofs.Common.{◌≡◌, ◌≤◌, ◌+◌, ap, length, arith}
-use Rattle.brace_plan.specs.inner.Planning.{IsPlanOf}
+use Rattle.brace_plan.specs.Planning.{IsPlanOf}
 use Rattle.brace_plan.proofs.Whole.{one_more, all_there, class_found, loops_told}
 use Rattle.brace_plan.proofs.plans.plan_queries.Goals as goal
 

@@ -1,7 +1,7 @@
 use Rattle.std.proofs.Common.{◌≡◌, ◌++◌, flat_map, take}
 use Rattle.brace_model.specs.declared.program.Who.TheVariants.{Outer}
 use Rattle.brace_plan.specs.Narrowing.{loops_of}
-use Rattle.brace_plan.specs.inner.Planning.{IsPlanOf}
+use Rattle.brace_plan.specs.Planning.{IsPlanOf}
 use Rattle.brace_plan.proofs.Whole.{OneEach_so_far}
 use Rattle.brace_plan.proofs.plans.plan_queries.Given as goal
 

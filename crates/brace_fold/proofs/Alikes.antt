@@ -1,0 +1,167 @@
+-- Sayings that come to the same totals, whatever their order.
+use Rattle.std.proofs.Common.{◌≡◌, ◌∙◌, refl, sym, ap, ap₂, subst, ℕ, suc, ℤ, List, [], ◌∷◌, ◌++◌, fold, flat_map, append-nil, append_assoc}
+use Rattle.std.specs.List.Sorted.{IsPermutation}
+use Rattle.std.proofs.lemmas.List.Sums.{fold-append}
+use Rattle.brace_model.specs.declared.program.Comb.{Comb}
+use Rattle.brace_model.specs.declared.program.Effect.{Effect}
+use Rattle.brace_model.specs.declared.program.Program.{Program}
+use Rattle.brace_model.specs.declared.program.Value.{Value}
+use Rattle.brace_model.specs.declared.fault.Fault.{Fault}
+use Rattle.brace_model.specs.declared.world.Agent.{Agent}
+use Rattle.brace_model.specs.World.{class_of}
+use Rattle.brace_model.specs.Query.{Saying}
+use Rattle.brace_model.specs.Total.{identity, joined, said_to, totals_from}
+use Rattle.brace_model.specs.declared.program.Comb.TheVariants.{Sum, Min, Max, Count, Or}
+use Rattle.brace_comb.specs.Totals.{Tally, brought, merged}
+use Rattle.brace_comb.proofs.Joins.{join-turn}
+use Rattle.brace_comb.proofs.Permutations.{fold-IsPermutation}
+use Rattle.brace_comb.proofs.Said.{said_to-append}
+use Rattle.brace_eval.specs.declared.heard.Heard.{Heard}
+use Rattle.brace_eval.specs.Heard.{IsHeard, table_of, effects_in, counting}
+use Rattle.brace_fold.specs.inner.Hears.{Alike, Hears}
+
+pub alike-refl : (xs : List Saying) → Alike xs xs
+alike-refl xs = record { each = λ comb start id field. refl }
+
+pub alike-sym : (xs ys : List Saying) → Alike xs ys → Alike ys xs
+alike-sym xs ys h = record { each = λ comb start id field. sym (h.each comb start id field) }
+
+pub alike-trans : (xs ys zs : List Saying) → Alike xs ys → Alike ys zs → Alike xs zs
+alike-trans xs ys zs h k = record { each = λ comb start id field. h.each comb start id field ∙ k.each comb start id field }
+
+-- the total of lists one behind the other
+both : (comb : Comb) (start : ℤ) (id field : ℕ) (xs ys : List Saying)
+    → fold (joined comb) start (said_to id field (xs ++ ys)) ≡ fold (joined comb) (fold (joined comb) start (said_to id field xs)) (said_to id field ys)
+both comb start id field xs ys =
+    ap (fold (joined comb) start) (said_to-append id field xs ys)
+    ∙ fold-append (joined comb) start (said_to id field xs) (said_to id field ys)
+
+pub alike-append : (xs ys us vs : List Saying) → Alike xs ys → Alike us vs → Alike (xs ++ us) (ys ++ vs)
+alike-append xs ys us vs h k = record {
+  each = λ comb start id field.
+      both comb start id field xs us
+      ∙ ap (λ t. fold (joined comb) t (said_to id field us)) (h.each comb start id field)
+      ∙ k.each comb (fold (joined comb) start (said_to id field ys)) id field
+      ∙ sym (both comb start id field ys vs);
+}
+
+joined-merged : (comb : Comb) (t : ℤ) (v : Value) → joined comb t v ≡ merged comb t (brought comb v)
+joined-merged Sum t v = refl
+joined-merged Min t v = refl
+joined-merged Max t v = refl
+joined-merged Count t v = refl
+joined-merged Or t v = refl
+
+merged-turn : (comb : Comb) (a b c : ℤ) → merged comb (merged comb a b) c ≡ merged comb (merged comb a c) b
+merged-turn comb a b c =
+    let x : Tally = record { comb = comb; number = a; count = 0 } in
+    let y : Tally = record { comb = comb; number = b; count = 0 } in
+    let z : Tally = record { comb = comb; number = c; count = 0 } in
+    ap (λ (t : Tally). t.number) (join-turn x y z)
+
+-- two values may change places
+turn : (comb : Comb) (t : ℤ) (x y : Value) → joined comb (joined comb t x) y ≡ joined comb (joined comb t y) x
+turn comb t x y =
+    let a = joined-merged comb t x in
+    let b = joined-merged comb t y in
+    let c = joined-merged comb (joined comb t x) y in
+    let d = joined-merged comb (joined comb t y) x in
+    let e = merged-turn comb t (brought comb x) (brought comb y) in
+    cc
+
+-- a value may change places with values behind it
+past : (comb : Comb) (t : ℤ) (x : Value) (vs : List Value) → fold (joined comb) (joined comb t x) vs ≡ joined comb (fold (joined comb) t vs) x
+past comb t x [] = refl
+past comb t x (v ∷ vs) =
+    ap (λ s. fold (joined comb) s vs) (turn comb t x v) ∙ past comb (joined comb t v) x vs
+
+over : (comb : Comb) (t : ℤ) (us vs : List Value) → fold (joined comb) (fold (joined comb) t us) vs ≡ fold (joined comb) (fold (joined comb) t vs) us
+over comb t [] vs = refl
+over comb t (u ∷ us) vs =
+    over comb (joined comb t u) us vs ∙ ap (λ s. fold (joined comb) s us) (past comb t u vs)
+
+pub alike-turned : (xs ys : List Saying) → Alike (xs ++ ys) (ys ++ xs)
+alike-turned xs ys = record {
+  each = λ comb start id field.
+      both comb start id field xs ys
+      ∙ over comb start (said_to id field xs) (said_to id field ys)
+      ∙ sym (both comb start id field ys xs);
+}
+
+-- (a ++ b) ++ (c ++ d) as (a ++ c) ++ (b ++ d)
+pub alike-crossed : (a b c d : List Saying) → Alike ((a ++ b) ++ (c ++ d)) ((a ++ c) ++ (b ++ d))
+alike-crossed a b c d =
+    subst (λ l. Alike l ((a ++ c) ++ (b ++ d))) (sym (append_assoc a b (c ++ d)))
+    (subst (Alike (a ++ (b ++ (c ++ d)))) (sym (append_assoc a c (b ++ d)))
+    (alike-append a a (b ++ (c ++ d)) (c ++ (b ++ d)) (alike-refl a)
+    (subst (λ l. Alike l (c ++ (b ++ d))) (append_assoc b c d)
+    (subst (Alike ((b ++ c) ++ d)) (append_assoc c b d)
+    (alike-append (b ++ c) (c ++ b) d d (alike-turned b c) (alike-refl d))))))
+
+module _ {A : Type 0} (f g : A → List Saying) where
+  -- what is said in two turns, one after the other or element by element
+  pub alike-woven : (xs : List A) → Alike (flat_map f xs ++ flat_map g xs) (flat_map (λ x. f x ++ g x) xs)
+  alike-woven [] = alike-refl []
+  alike-woven (x ∷ xs) =
+      alike-trans _ _ _ (alike-crossed (f x) (flat_map f xs) (g x) (flat_map g xs))
+      (alike-append (f x ++ g x) (f x ++ g x) _ _ (alike-refl (f x ++ g x)) (alike-woven xs))
+
+module _ {A : Type 0} (f : A → List Saying) where
+  abbrev joined_all : Comb → ℕ → ℕ → ℤ → A → ℤ
+  joined_all comb id field t x = fold (joined comb) t (said_to id field (f x))
+
+  along : (comb : Comb) (start : ℤ) (id field : ℕ) (xs : List A)
+      → fold (joined_all comb id field) start xs ≡ fold (joined comb) start (said_to id field (flat_map f xs))
+  along comb start id field [] = refl
+  along comb start id field (x ∷ xs) =
+      along comb (fold (joined comb) start (said_to id field (f x))) id field xs ∙ sym (both comb start id field (f x) (flat_map f xs))
+
+  -- what is said at the elements of a list, in any order of these
+  pub alike-permuted : (xs ys : List A) → IsPermutation xs ys → Alike (flat_map f xs) (flat_map f ys)
+  alike-permuted xs ys perm = record {
+    each = λ comb start id field.
+        sym (along comb start id field xs)
+        ∙ fold-IsPermutation (joined_all comb id field) (λ x. Unit {0})
+        (λ t x y p q. over comb t (said_to id field (f x)) (said_to id field (f y))) start xs ys (λ k d low. tt) perm
+        ∙ along comb start id field ys;
+  }
+
+-- ---- totals of sayings that are alike
+
+row-alike : (n id : ℕ) (effects : List Effect) (xs ys : List Saying) → Alike xs ys → totals_from n id effects xs ≡ totals_from n id effects ys
+row-alike n id [] xs ys h = refl
+row-alike n id (e ∷ effects) xs ys h =
+    ap₂ (λ t l. t ∷ l) (h.each e.comb (identity e.comb) id n) (row-alike (suc n) id effects xs ys h)
+
+table-alike : (program : Program) (agents : List Agent) (xs ys : List Saying) → Alike xs ys → table_of program xs agents ≡ table_of program ys agents
+table-alike program [] xs ys h = refl
+table-alike program (a ∷ agents) xs ys h =
+    ap₂ (λ r l. r ++ l) (row-alike 0 a.id (effects_in (class_of program a)) xs ys h) (table-alike program agents xs ys h)
+
+pub heard-alike : (program : Program) (agents : List Agent) (xs ys : List Saying) (faults : List Fault) (heard : Heard) → Alike xs ys
+    → IsHeard program agents xs faults heard → IsHeard program agents ys faults heard
+heard-alike program agents xs ys faults heard h k = record {
+  totals = k.totals ∙ table-alike program agents xs ys h;
+  counts = k.counts ∙ table-alike (counting program) agents xs ys h;
+  least = k.least;
+  each_starts = k.each_starts;
+  starts = k.starts;
+}
+
+module _ (program : Program) (agents : List Agent) where
+  pub hears-none : (heard : Heard) → Hears program agents [] heard heard
+  hears-none heard = record {
+    each = λ said faults k. subst (λ l. IsHeard program agents l faults heard) (sym (append-nil said)) k;
+  }
+
+  pub hears-more : (xs ys : List Saying) (a b c : Heard) → Hears program agents xs a b → Hears program agents ys b c → Hears program agents (xs ++ ys) a c
+  hears-more xs ys a b c h k = record {
+    each = λ said faults is. subst (λ l. IsHeard program agents l faults c) (append_assoc said xs ys)
+        (k.each (said ++ xs) faults (h.each said faults is));
+  }
+
+  pub hears-alike : (xs ys : List Saying) (a b : Heard) → Alike xs ys → Hears program agents xs a b → Hears program agents ys a b
+  hears-alike xs ys a b same h = record {
+    each = λ said faults is. heard-alike program agents (said ++ xs) (said ++ ys) faults b
+        (alike-append said said xs ys (alike-refl said) same) (h.each said faults is);
+  }

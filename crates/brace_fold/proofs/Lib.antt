@@ -1,0 +1,16 @@
+pub mod Alikes
+pub mod Doings
+pub mod ColumnLemmas
+pub mod Evals
+pub mod Crowdings
+pub mod Sayings
+pub mod Enterings
+pub mod Actions
+pub mod Walks
+pub mod CellNumbers
+pub mod CellOrder
+pub mod Counting
+pub mod Taking
+pub mod Readings
+pub mod Askings
+pub mod Drawings

@@ -1,0 +1,28 @@
+use Rattle.std.proofs.Common.{◌∙◌, List, subst}
+use Rattle.std.specs.List.Sorted.{IsPermutation}
+use Rattle.brace_fold.specs.declared.seeing.Cut.{Cut}
+use Rattle.brace_fold.specs.inner.Sights.{found_around}
+use Rattle.brace_fold.proofs.Taking.{eye_cell, near_is}
+use Rattle.brace_fold.proofs.scene.Scene.find.Goals as goal
+
+pub returns-clause-near : goal.returns-clause-near
+returns-clause-near c scope stands =
+    let scene = c.args.self.now in
+    let place = c.args.lane.now.this in
+    let program = scene.program.now in
+    let class = c.args.class in
+    let bounds = c.args.bounds.now in
+    let eye = c.in_ok-eye.eye in
+    let runs = c.lead.new.runs in
+    let near = c.look_around.new.near.items in
+    let this = stands.stands.this in
+    let looks = c.in_ok-eye.ensures scope.this this in
+    let cell = eye_cell program scope class place bounds eye looks scene.agents.now
+    scene.cells.now c.requires.scene.cells c.requires.scene.rises this in
+    let cuts = c.deref.ensures.value ∙ c.in_ok-cut.ensures scope stands in
+    near_is program scope class place bounds eye looks scene.agents.now scene.cells.now
+    c.requires.scene.cells c.requires.scene.rises this runs near
+    (c.in_ok-lead.ensures.around _ cell)
+    (subst (λ (l : List Cut). IsPermutation
+    (found_around eye l scene.cells.now.spots.items runs) near) cuts
+    c.in_ok-look_around.ensures.found) c.in_ok-look_around.ensures.rising

@@ -1,0 +1,46 @@
+-- What agents that ask say, all together. Only the crate's own functions cite this.
+use Rattle.std.specs.Prelude.{◌≡◌, ℕ, ℤ, pos, List, [], map, flat_map, slice_index_or}
+use Rattle.std.specs.List.{All}
+use Rattle.brace_draw.specs.Draw.{draw_value}
+use Rattle.brace_model.specs.declared.world.Agent.{Agent}
+use Rattle.brace_model.specs.Query.{Deed, query_of}
+use Rattle.brace_model.specs.Value.{Scope}
+use Rattle.brace_code.specs.declared.lane.Draws.{Draws}
+use Rattle.brace_plan.specs.Planning.{opening_of}
+use Rattle.brace_eval.specs.declared.heard.Heard.{Heard}
+use Rattle.brace_fold.specs.declared.askers.Asker.{Asker}
+use Rattle.brace_fold.specs.declared.drawn.Drawn.{Drawn}
+use Rattle.brace_fold.specs.declared.scene.Scene.{Scene}
+use Rattle.brace_fold.specs.inner.Hears.{Hears}
+
+-- what the query of the agent at a place does
+abbrev pub asked : Scene → Agent → ℕ → Deed
+asked scene d place = query_of scene.program.now scene.seed scene.tick scene.agents.now
+    (slice_index_or scene.agents.now place d)
+
+-- the queries of the agents at some places fault nowhere, and what they say is heard
+pub record Asks (scene : Scene) (d : Agent) (places : List ℕ) (old new : Heard) : Type 0 where
+  pub quiet : All (λ place. (asked scene d place).faults ≡ []) places
+  pub hears : Hears scene.program.now scene.agents.now
+      (flat_map (λ place. (asked scene d place).said) places) old new
+
+-- the scopes in which the queries of the agents at some places begin
+abbrev pub openings : Scene → ℕ → Agent → List ℕ → List Scope
+openings scene constants d places = map (λ place. opening_of constants scene.seed scene.tick
+    (slice_index_or scene.agents.now place d)) places
+
+-- the places of those who ask
+abbrev pub places_of : List Asker → List ℕ
+places_of asking = map (λ one. one.place) asking
+
+-- the draws of a site are those of agents
+abbrev pub AreDrawn : ℕ → ℕ → List Agent → Drawn → Type 0
+AreDrawn seed tick agents drawn =
+    drawn.words ≡ map (λ a. pos (draw_value seed tick a.id drawn.site)) agents
+
+-- draws and their site, as they were made, and as lanes read them
+abbrev pub made : Drawn → ℕ × List ℤ
+made drawn = (drawn.site, drawn.words)
+
+abbrev pub lent : Draws → ℕ × List ℤ
+lent draws = (draws.site, draws.words.now)

@@ -1,0 +1,148 @@
+-- Crowds: the scopes that lanes stand for. Only the crate's own functions cite this.
+use Rattle.std.specs.Prelude.{◌≡◌, ℕ, ◌<◌, ◌≤◌, ℤ, pos, Bool, false, true, Option, None, Some, List, map, [], ◌∷◌, ◌++◌, if◌then◌else◌, ⊤, length, slice_get, slice_index_or, option_copied}
+use Rattle.brace_draw.specs.Draw.{draw_value}
+use Rattle.brace_model.specs.declared.world.Agent.{Agent}
+use Rattle.brace_model.specs.World.{RisesById, number, value_at}
+use Rattle.brace_model.specs.declared.program.Ty.{Ty}
+use Rattle.brace_model.specs.Value.{Scope, typed}
+use Rattle.brace_model.specs.Query.{bound}
+use Rattle.brace_code.specs.declared.lane.Lane.{Lane}
+use Rattle.brace_code.specs.Lanes.{draws_at}
+use Rattle.brace_code.specs.Columns.{side}
+use Rattle.brace_fold.specs.declared.crowd.Crowd.{Crowd}
+use Rattle.brace_fold.specs.declared.crowd.Depth.{Depth}
+use Rattle.brace_fold.specs.declared.crowd.Depth.TheVariants.{Outside, Once, Twice}
+use Rattle.brace_fold.specs.declared.scene.Scene.{Scene}
+use Rattle.brace_fold.specs.inner.Sights.{AreCells}
+
+-- the columns of a scene are those of its agents, whose ids rise, and its cells are theirs
+pub record IsScene (scene : Scene) : Type 0 where
+  pub rises : RisesById scene.agents.now
+  pub states : (i : ℕ) (column : List ℤ)
+      → option_copied (slice_get scene.states.now i) ≡ Some column
+      → column ≡ map (λ a. number (value_at a.states i)) scene.agents.now
+  pub classes : scene.classes.now ≡ map (λ a. a.class) scene.agents.now
+  pub draws : (site : ℕ) (column : List ℤ) → draws_at scene.draws.now site ≡ Some column
+      → column ≡ map (λ a. pos (draw_value scene.seed scene.tick a.id site)) scene.agents.now
+  pub cells : AreCells scene.program.now scene.agents.now scene.cells.now
+
+-- lanes of a depth have an agent of the outer loop, or of the inner one
+abbrev pub has_outer : Depth → Bool
+has_outer Outside = false
+has_outer _ = true
+
+abbrev pub has_inner : Depth → Bool
+has_inner Twice = true
+has_inner _ = false
+
+-- where there is an agent, it stands at a place of the list
+abbrev pub IsFound : Bool → List Agent → ℕ → Option Agent → Type 0
+IsFound false agents place found = found ≡ None
+IsFound true agents place found =
+    (b : Agent) × (found ≡ Some b) × (slice_get agents place ≡ Some b)
+
+-- a lane stands for a scope with these constants
+pub record IsLane (scene : Scene) (depth : Depth) (lane : Lane) (scope : Scope) : Type 0 where
+  pub tick : scope.tick ≡ scene.tick
+  pub seed : scope.seed ≡ scene.seed
+  pub this : slice_get scene.agents.now lane.this ≡ Some scope.this
+  pub outer : IsFound (has_outer depth) scene.agents.now lane.outer scope.outer
+  pub inner : IsFound (has_inner depth) scene.agents.now lane.inner scope.inner
+  pub totals : scope.totals ≡ []
+
+-- a column has the number of a constant in each scope, as far as it reaches
+pub record IsLocal (n : ℕ) (scopes : List Scope) (column : List ℤ) : Type 0 where
+  pub short : length column ≤ length scopes
+  pub each : (k : ℕ) (s : Scope) → k < length column
+      → slice_index_or column k (pos 0) ≡ number (value_at (slice_index_or scopes k s).locals n)
+
+-- the lanes of a crowd stand for scopes, one for each
+pub record Stands (scene : Scene) (crowd : Crowd) (scopes : List Scope) : Type 0 where
+  pub long : length crowd.lanes ≡ length scopes
+  pub numbered : (k : ℕ) (l : Lane) → k < length scopes
+      → (slice_index_or crowd.lanes k l).place ≡ k
+  pub lanes : (k : ℕ) (l : Lane) (s : Scope) → k < length scopes
+      → IsLane scene crowd.depth (slice_index_or crowd.lanes k l) (slice_index_or scopes k s)
+  pub locals : (n : ℕ) (column : List ℤ) → slice_get crowd.locals.items n ≡ Some column
+      → IsLocal n scopes column
+  pub room : (k : ℕ) (s : Scope) → k < length scopes
+      → length (slice_index_or scopes k s).locals ≡ length crowd.locals.items
+
+-- a lane of a crowd stands for a scope, of which it finds the constants at its place
+pub record IsIn (scene : Scene) (crowd : Crowd) (lane : Lane) (scope : Scope) : Type 0 where
+  pub stands : IsLane scene crowd.depth lane scope
+  pub locals : (n : ℕ) (column : List ℤ) → slice_get crowd.locals.items n ≡ Some column
+      → lane.place < length column
+      → slice_index_or column lane.place (pos 0) ≡ number (value_at scope.locals n)
+
+-- a lane of a part of a crowd stands for a scope that has the constants of the crowd's scope at
+-- the lane's place
+pub record IsOf (scene : Scene) (depth : Depth) (scopes : List Scope) (lane : Lane) (scope : Scope)
+    : Type 0 where
+  pub stands : IsLane scene depth lane scope
+  pub within : lane.place < length scopes
+  pub locals : scope.locals ≡ (slice_index_or scopes lane.place scope).locals
+
+-- lanes of a part of a crowd stand for scopes, one for each
+abbrev pub AreOf : Scene → Depth → List Scope → List Lane → List Scope → Type 0
+AreOf scene depth scopes [] [] = ⊤
+AreOf scene depth scopes (l ∷ lanes) (s ∷ kids) =
+    IsOf scene depth scopes l s × AreOf scene depth scopes lanes kids
+AreOf scene depth scopes _ _ = false ≡ true
+
+-- a column has, as far as it reaches, what another one has at the places of lanes
+pub record IsGathered (lanes : List Lane) (column out : List ℤ) : Type 0 where
+  pub short : length out ≤ length lanes
+  pub each : (k : ℕ) (l : Lane) → k < length out
+      → ((slice_index_or lanes k l).place < length column)
+      × (slice_index_or out k (pos 0)
+      ≡ slice_index_or column (slice_index_or lanes k l).place (pos 0))
+
+-- each of some columns, gathered
+pub record AreGathered (lanes : List Lane) (columns outs : List (List ℤ)) : Type 0 where
+  pub long : length outs ≡ length columns
+  pub each : (n : ℕ) (out : List ℤ) → slice_get outs n ≡ Some out
+      → (column : List ℤ) × (slice_get columns n ≡ Some column) × IsGathered lanes column out
+
+-- a lane whose constants stand at a place
+abbrev pub placed_at : ℕ → Lane → Lane
+placed_at k lane = record lane { place = k }
+
+-- lanes with their numbers in the list as their places
+pub record AreNumbered (lanes out : List Lane) : Type 0 where
+  pub long : length out ≡ length lanes
+  pub each : (k : ℕ) (l : Lane) → k < length lanes
+      → slice_index_or out k l ≡ placed_at k (slice_index_or lanes k l)
+
+-- the agent at a place is one of a class
+abbrev pub IsOfClass : List Agent → ℕ → ℕ → Type 0
+IsOfClass agents class place =
+    (a : Agent) × (slice_get agents place ≡ Some a) × (a.class ≡ class)
+
+-- the lane of an agent that asks
+abbrev pub asking_at : ℕ → Lane
+asking_at place = record { this = place; outer = 0; inner = 0; place = 0 }
+
+-- the depth inside a loop
+abbrev pub deeper : Depth → Depth
+deeper Outside = Once
+deeper _ = Twice
+
+-- a lane inside a loop, at the agent of a place
+abbrev pub entered : Depth → Lane → ℕ → Lane
+entered Outside lane place = record lane { outer = place }
+entered _ lane place = record lane { inner = place }
+
+-- the scopes whose word is set, or those whose word is 0
+abbrev pub chosen : Bool → List Scope → List ℤ → List Scope
+chosen set [] words = []
+chosen set (s ∷ scopes) [] = []
+chosen set (s ∷ scopes) (w ∷ words) =
+    (if side set w then s ∷ [] else []) ++ chosen set scopes words
+
+-- the scopes in which a constant got the words as its values
+abbrev pub bound_to : ℕ → Ty → List Scope → List ℤ → List Scope
+bound_to n type [] words = []
+bound_to n type (s ∷ scopes) [] = []
+bound_to n type (s ∷ scopes) (w ∷ words) =
+    bound s n (typed type w) ∷ bound_to n type scopes words

@@ -1,0 +1,46 @@
+-- To whom lanes say values. Only the crate's own functions cite this.
+use Rattle.std.specs.Prelude.{◌≡◌, ℕ, ℤ, Bool, true, List, [], ◌∷◌, Some, slice_get}
+use Rattle.brace_model.specs.declared.program.Class.{Class}
+use Rattle.brace_model.specs.declared.program.Effect.{Effect}
+use Rattle.brace_model.specs.declared.program.Ty.{Ty}
+use Rattle.brace_model.specs.declared.program.Who.{Who}
+use Rattle.brace_model.specs.declared.program.Who.TheVariants.{This, Outer, Inner}
+use Rattle.brace_model.specs.Value.{Scope, agent_of, typed}
+use Rattle.brace_model.specs.Query.{Saying}
+use Rattle.brace_code.specs.declared.lane.Lane.{Lane}
+use Rattle.brace_fold.specs.declared.crowd.Depth.{Depth}
+use Rattle.brace_fold.specs.declared.saying.Ear.{Ear}
+use Rattle.brace_fold.specs.declared.scene.Scene.{Scene}
+use Rattle.brace_fold.specs.inner.Crowds.{has_outer, has_inner}
+
+-- the place of the agent that a name stands for in a lane
+abbrev pub place_of : Who → Lane → ℕ
+place_of This lane = lane.this
+place_of Outer lane = lane.outer
+place_of Inner lane = lane.inner
+
+-- a name stands for an agent in the lanes of a depth
+abbrev pub is_there : Depth → Who → Bool
+is_there depth This = true
+is_there depth Outer = has_outer depth
+is_there depth Inner = has_inner depth
+
+-- an ear has the combinator of an effect of its class
+pub record IsEar (scene : Scene) (ear : Ear) : Type 0 where
+  pub class : Class
+  pub has : slice_get scene.program.now.classes ear.class ≡ Some class
+  pub effect : Effect
+  pub there : slice_get class.effects ear.effect ≡ Some effect
+  pub comb : ear.comb ≡ effect.comb
+
+-- what a scope says with a word
+abbrev pub told : Who → ℕ → Ty → Scope → ℤ → Saying
+told who effect type s word =
+    record { target = (agent_of s who).id; field = effect; value = typed type word }
+
+-- what scopes say with words, one each
+abbrev pub told_by : Who → ℕ → Ty → List Scope → List ℤ → List Saying
+told_by who effect type [] words = []
+told_by who effect type (s ∷ scopes) [] = []
+told_by who effect type (s ∷ scopes) (w ∷ words) =
+    told who effect type s w ∷ told_by who effect type scopes words

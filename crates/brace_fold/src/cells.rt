@@ -1,0 +1,241 @@
+ghost use Rattle.std.specs.Prelude.{◌≡◌, ◌<◌, ◌≤◌, ℕ, ℤ, pos, ◌<ℤ◌, ◌≤ℤ◌, true, is_some, length, map, slice_get, slice_index_or, Some, IfOk, IfSome, OnOk};
+ghost use Rattle.std.specs.List.Sorted.{IsPermutation};
+ghost use Rattle.brace_model.specs.World.{class_of};
+ghost use Rattle.brace_plan.specs.Answers.{greatest_visible};
+ghost use Rattle.brace_fold.specs.declared.cells.Cells.{Cells};
+ghost use Rattle.brace_fold.specs.inner.Sights.{AreCells, AreLed, AreSpots, CellsRise, IsAround, IsRank, IsRun, cell_number, spot_of};
+
+use brace_code::Redo;
+use brace_model::{Agent, Program, class_of, x_of, y_of};
+use std::alloc::Global;
+
+/// How far apart the numbers of cells are that lie side by side along x.
+const HEIGHT: i64 = 524_288;
+
+/// Where an agent stands, the number of the cell that it is in, its class, and its place in the
+/// list.
+#[derive(Debug, Clone, Copy, Drop)]
+pub struct Spot {
+    pub x: i64,
+    pub y: i64,
+    pub cell: i64,
+    pub class: u32,
+    pub place: u32,
+}
+
+/// Agents in the order of square cells, column by column. Cells far apart may share a number.
+#[derive(Debug, Drop)]
+pub struct Cells {
+    /// The cell of each agent, by place.
+    pub cells: Vec<i64>,
+    /// Where the agents stand, by rising cell.
+    pub spots: Vec<Spot>,
+}
+
+/// The number of the cell that a point is in: of its column, times `HEIGHT`, and its row.
+fn cell_number(x: i64, y: i64, side: i64) -> Option<i64>
+    requires { pos 0 <ℤ side }
+    ensures { IfSome result (λ cell. cell ≡ cell_number side x y) }
+{
+    let first = x.div_euclid(side).checked_mul(HEIGHT)?;
+    first.checked_add(y.div_euclid(side))
+}
+
+/// Where the agent at a place stands, if it has a class of the program.
+fn spot_of(program: &Program, a: &Agent, place: u32, side: i64) -> Result<Spot, Redo>
+    requires { pos 0 <ℤ side }
+    ensures known { IfOk result (λ _. is_some (class_of program.now a.now) ≡ true) }
+    ensures spot { IfOk result (λ spot. spot ≡ spot_of program.now side place a.now) }
+{
+    let Some(class) = class_of(program, a) else {
+        return Err(Redo);
+    };
+    let (x, y) = (x_of(class, a), y_of(class, a));
+    let Some(cell) = cell_number(x, y, side) else {
+        return Err(Redo);
+    };
+    Ok(Spot {
+        x,
+        y,
+        cell,
+        class: a.class,
+        place,
+    })
+}
+
+/// Where agents stand, by place.
+fn spots_of(
+    alloc: Global,
+    program: &Program,
+    agents: &[Agent],
+    side: i64,
+) -> Result<Vec<Spot>, Redo>
+    requires { pos 0 <ℤ side }
+    ensures { IfOk result (λ spots. AreSpots program.now side agents.now spots.items) }
+{
+    let mut spots = Vec::with_capacity(alloc, agents.len())?;
+    for i in 0..agents.len() {
+        let Ok(place) = u32::try_from(i) else {
+            return Err(Redo);
+        };
+        spots.push(spot_of(program, &agents[i], place, side)?)?;
+    }
+    Ok(spots)
+}
+
+/// The cells that spots are in.
+fn cells_of(alloc: Global, spots: &[Spot]) -> Result<Vec<i64>, Redo>
+    ensures { IfOk result (λ cells. cells.items ≡ map (λ s. s.cell) spots.now) }
+{
+    let mut cells = Vec::with_capacity(alloc, spots.len())?;
+    for spot in spots {
+        cells.push(spot.cell)?;
+    }
+    Ok(cells)
+}
+
+/// Puts spots in the order of their cells.
+fn sort_by_cell(spots: &mut Vec<Spot>)
+    ensures moved { IsPermutation spots.old.items spots.new.items }
+    ensures rise { CellsRise spots.new.items }
+{
+    spots.sort_unstable_by_key(|spot: &Spot| spot.cell);
+}
+
+impl Cells {
+    /// The agents of a list in the order of cells of some side, which is above 0 and no less than
+    /// any of them sees.
+    pub fn of(alloc: Global, program: &Program, agents: &[Agent], side: i64) -> Result<Cells, Redo>
+        requires side { pos 0 <ℤ side }
+        requires wide { greatest_visible program.now ≤ℤ side }
+        ensures { IfOk result (λ cells. AreCells program.now agents.now cells) }
+    {
+        let mut spots = spots_of(alloc, program, agents, side)?;
+        let cells = cells_of(alloc, &spots)?;
+        sort_by_cell(&mut spots);
+        Ok(Cells { cells, spots })
+    }
+}
+
+/// Whether a place may be looked on from: all spots before it come before a cell, and some do.
+fn is_hint(spots: &[Spot], hint: usize, cell: i64) -> bool
+    requires { CellsRise spots.now }
+    ensures within { result ≡ true → hint ≤ length spots.now }
+    ensures front { (k : ℕ) (d : Spot) → result ≡ true → k < hint
+        → (slice_index_or spots.now k d).cell <ℤ cell }
+{
+    let Some(last) = hint.checked_sub(1) else {
+        return false;
+    };
+    last < spots.len() && spots[last].cell < cell
+}
+
+/// How many spots come before a cell, if need be found by halving.
+fn start_of(spots: &[Spot], hint: usize, cell: i64) -> usize
+    requires { CellsRise spots.now }
+    ensures within { result ≤ length spots.now }
+    ensures front { (k : ℕ) (d : Spot) → k < result
+        → (slice_index_or spots.now k d).cell <ℤ cell }
+{
+    if is_hint(spots, hint, cell) {
+        hint
+    } else {
+        spots.partition_point(|spot: &Spot| spot.cell < cell)
+    }
+}
+
+/// How many spots come before a cell, looked for from a place on that may be near.
+fn rank(spots: &[Spot], hint: usize, cell: i64) -> usize
+    requires { CellsRise spots.now }
+    ensures { IsRank spots.now cell result }
+{
+    for at in start_of(spots, hint, cell)..spots.len() {
+        if cell <= spots[at].cell {
+            return at;
+        }
+    }
+    spots.len()
+}
+
+/// A run of spots by rising cell.
+#[derive(Debug, Clone, Copy, Drop)]
+pub struct Run {
+    pub start: usize,
+    pub end: usize,
+}
+
+/// The runs of the spots in and around a cell.
+#[derive(Debug, Clone, Copy, Drop)]
+pub struct Runs {
+    pub cell: Option<i64>,
+    pub west: Run,
+    pub middle: Run,
+    pub east: Run,
+}
+
+impl Runs {
+    /// Runs around no cell.
+    pub fn none() -> Runs
+        ensures { (cells : Cells) → AreLed cells result }
+    {
+        let run = Run { start: 0, end: 0 };
+        Runs {
+            cell: None,
+            west: run,
+            middle: run,
+            east: run,
+        }
+    }
+}
+
+/// The run of a cell and of those below and above it, looked for from another run on.
+fn run_from(spots: &[Spot], near: &Run, cell: i64) -> Result<Run, Redo>
+    requires { CellsRise spots.now }
+    ensures { IfOk result (IsRun spots.now cell) }
+{
+    let (Some(first), Some(past)) = (cell.checked_sub(1), cell.checked_add(2)) else {
+        return Err(Redo);
+    };
+    Ok(Run {
+        start: rank(spots, near.start, first),
+        end: rank(spots, near.end, past),
+    })
+}
+
+impl Cells {
+    /// The runs around a cell, looked for from others on.
+    fn runs_from(&self, near: &Runs, cell: i64) -> Result<Runs, Redo>
+        requires { CellsRise self.now.spots.items }
+        ensures cell { IfOk result (λ runs. runs.cell ≡ Some cell) }
+        ensures around { IfOk result (IsAround self.now cell) }
+    {
+        let spots = self.spots.as_slice();
+        let (Some(west), Some(east)) = (cell.checked_sub(HEIGHT), cell.checked_add(HEIGHT)) else {
+            return Err(Redo);
+        };
+        Ok(Runs {
+            cell: Some(cell),
+            west: run_from(spots, &near.west, west)?,
+            middle: run_from(spots, &near.middle, cell)?,
+            east: run_from(spots, &near.east, east)?,
+        })
+    }
+
+    /// Leads runs on to those around the agent at a place.
+    pub fn lead(&self, runs: &mut Runs, place: u32) -> Result<(), Redo>
+        requires rise { CellsRise self.now.spots.items }
+        requires led { AreLed self.now runs.old }
+        ensures led { OnOk result (AreLed self.now runs.new) }
+        ensures around { OnOk result ((cell : ℤ)
+            → slice_get self.now.cells.items place ≡ Some cell → IsAround self.now cell runs.new) }
+    {
+        let Some(cell) = self.cells.get(place as usize) else {
+            return Err(Redo);
+        };
+        if runs.cell == Some(*cell) {
+            return Ok(());
+        }
+        *runs = self.runs_from(runs, *cell)?;
+        Ok(())
+    }
+}

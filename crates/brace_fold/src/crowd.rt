@@ -1,0 +1,233 @@
+ghost use Rattle.std.specs.Prelude.{◌≡◌, List, [], length, map, replicate, IfOk, OnOk};
+ghost use Rattle.std.specs.List.{All};
+ghost use Rattle.brace_model.specs.declared.program.Ty.TheVariants as ty;
+ghost use Rattle.brace_model.specs.declared.world.Agent.{Agent};
+ghost use Rattle.brace_model.specs.World.{number};
+ghost use Rattle.brace_model.specs.Value.{Scope, typed};
+ghost use Rattle.brace_code.specs.Columns.{taking, side};
+ghost use Rattle.brace_fold.specs.declared.scene.Scene.{Scene};
+ghost use Rattle.brace_fold.specs.inner.Asks.{places_of, openings};
+ghost use Rattle.brace_fold.specs.inner.Crowds.{Stands, AreOf, AreGathered, AreNumbered, IsGathered, IsOfClass, asking_at, bound_to, chosen, has_outer, has_inner, IsScene};
+
+use crate::askers::Asker;
+use crate::scene::Scene;
+use brace_code::{Lane, Redo};
+use brace_model::Ty;
+use brace_num::List;
+use std::alloc::Global;
+
+/// In how many loops lanes stand.
+#[derive(Debug, Clone, Copy, PartialEq, Eq, Drop)]
+pub enum Depth {
+    Outside,
+    Once,
+    Twice,
+}
+
+/// Whether lanes of a depth have an agent of the outer loop.
+pub fn has_outer(depth: Depth) -> bool
+    ensures { result ≡ has_outer depth }
+{
+    match depth {
+        Depth::Outside => false,
+        Depth::Once | Depth::Twice => true,
+    }
+}
+
+/// Whether lanes of a depth have an agent of the inner loop.
+pub fn has_inner(depth: Depth) -> bool
+    ensures { result ≡ has_inner depth }
+{
+    match depth {
+        Depth::Outside | Depth::Once => false,
+        Depth::Twice => true,
+    }
+}
+
+/// Lanes that do a block together. They are numbered: the place of each is its own in the list.
+#[derive(Debug, Drop)]
+pub struct Crowd {
+    pub depth: Depth,
+    pub lanes: List<Lane>,
+    /// A column for each constant of the class, by place; empty where it is not set.
+    pub locals: Vec<List<i64>>,
+}
+
+/// Words that are 0 or 1.
+fn flags(alloc: Global, words: &[i64]) -> Result<List<i64>, Redo>
+    ensures { IfOk result (λ column. column ≡ map (λ w. number (typed ty.Bool w)) words.now) }
+{
+    let mut column = Vec::with_capacity(alloc, words.len())?;
+    for word in words {
+        column.push(i64::from(*word != 0))?;
+    }
+    Ok(List::from_vec(column))
+}
+
+/// The column of a constant of a type that has the words as its values.
+pub fn constant(alloc: Global, ty: Ty, words: List<i64>) -> Result<List<i64>, Redo>
+    ensures { IfOk result (λ column. column ≡ map (λ w. number (typed ty w)) words) }
+{
+    match ty {
+        Ty::Bool => flags(alloc, words.as_slice()),
+        _ => Ok(words),
+    }
+}
+
+/// The words of a column at the places of lanes; none of a column that is empty.
+fn gather(alloc: Global, column: &[i64], lanes: &[Lane]) -> Result<List<i64>, Redo>
+    ensures { IfOk result (λ out. IsGathered lanes.now column.now out) }
+{
+    if column.is_empty() {
+        return Ok(List::new(alloc));
+    }
+    let mut out = vec![in alloc; 0i64; lanes.len()]?;
+    for (k, x) in out.iter_mut().enumerate() {
+        *x = match column.get(lanes[k].place as usize) {
+            Some(word) => *word,
+            None => return Err(Redo),
+        };
+    }
+    Ok(List::from_vec(out))
+}
+
+/// The words of each column at the places of lanes.
+fn gather_all(alloc: Global, columns: &[List<i64>], lanes: &[Lane]) -> Result<Vec<List<i64>>, Redo>
+    ensures { IfOk result (λ outs. AreGathered lanes.now columns.now outs.items) }
+{
+    let mut outs = Vec::with_capacity(alloc, columns.len())?;
+    for column in columns {
+        let out = gather(alloc, column.as_slice(), lanes)?;
+        outs.push(out)?;
+    }
+    Ok(outs)
+}
+
+/// Lanes with their numbers in the list.
+fn numbered(alloc: Global, lanes: &[Lane]) -> Result<List<Lane>, Redo>
+    ensures { IfOk result (λ out. AreNumbered lanes.now out) }
+{
+    let mut out = Vec::with_capacity(alloc, lanes.len())?;
+    for k in 0..lanes.len() {
+        let Ok(place) = u32::try_from(k) else {
+            return Err(Redo);
+        };
+        out.push(Lane { place, ..lanes[k] })?;
+    }
+    Ok(List::from_vec(out))
+}
+
+/// No column for each of some constants.
+pub fn unset(alloc: Global, constants: usize) -> Result<Vec<List<i64>>, Redo>
+    ensures { IfOk result (λ locals. locals.items ≡ replicate constants []) }
+{
+    let mut locals = Vec::with_capacity(alloc, constants)?;
+    for _ in 0..constants {
+        locals.push(List::new(alloc))?;
+    }
+    Ok(locals)
+}
+
+/// Whether a word is set, or whether it is 0.
+fn is_on_side(set: bool, word: i64) -> bool
+    ensures { result ≡ side set word }
+{
+    (word != 0) == set
+}
+
+/// The lanes whose word is set, or those whose word is 0.
+fn taken(alloc: Global, set: bool, lanes: &[Lane], words: &[i64]) -> Result<Vec<Lane>, Redo>
+    requires { length words.now ≡ length lanes.now }
+    ensures { IfOk result (λ out. out.items ≡ taking set lanes.now words.now) }
+{
+    let mut out = Vec::with_capacity(alloc, lanes.len())?;
+    for k in 0..lanes.len() {
+        if is_on_side(set, words[k]) {
+            out.push(lanes[k])?;
+        }
+    }
+    Ok(out)
+}
+
+impl Crowd {
+    /// Lanes whose places are those of lanes of this crowd, with the constants of these.
+    pub fn part(&self, alloc: Global, depth: Depth, lanes: &[Lane]) -> Result<Crowd, Redo>
+        ensures { IfOk result (λ part. (scene : Scene) (scopes kids : List Scope)
+            → Stands scene self.now scopes → AreOf scene depth scopes lanes.now kids
+            → Stands scene part kids) }
+    {
+        let locals = gather_all(alloc, &self.locals, lanes)?;
+        let lanes = numbered(alloc, lanes)?;
+        Ok(Crowd {
+            depth,
+            lanes,
+            locals,
+        })
+    }
+
+    /// The lanes whose word is set, or those whose word is 0.
+    pub fn side(&self, alloc: Global, set: bool, words: &[i64]) -> Result<Crowd, Redo>
+        ensures { IfOk result (λ part. (scene : Scene) (scopes : List Scope)
+            → Stands scene self.now scopes → Stands scene part (chosen set scopes words.now)) }
+    {
+        let lanes = self.lanes.as_slice();
+        if words.len() != lanes.len() {
+            return Err(Redo);
+        }
+        let lanes = taken(alloc, set, lanes, words)?;
+        self.part(alloc, self.depth, &lanes)
+    }
+
+    /// Sets a constant to words.
+    pub fn bind(&mut self, alloc: Global, n: u32, ty: Ty, words: List<i64>) -> Result<(), Redo>
+        ensures { OnOk result ((scene : Scene) (scopes : List Scope)
+            → length words ≡ length scopes → Stands scene self.old scopes
+            → Stands scene self.new (bound_to n ty scopes words)) }
+    {
+        let place = n as usize;
+        if place >= self.locals.len() {
+            return Err(Redo);
+        }
+        let column = constant(alloc, ty, words)?;
+        self.locals[place] = column;
+        Ok(())
+    }
+}
+
+/// A lane for each agent that asks, all of which are of one class.
+fn asking_lanes(scene: &Scene, class: u32, asking: &[Asker]) -> Result<Vec<Lane>, Redo>
+    requires { IsScene scene.now }
+    ensures lanes { IfOk result (λ lanes. lanes.items ≡ map asking_at (places_of asking.now)) }
+    ensures of_class { IfOk result (λ _.
+        All (IsOfClass scene.now.agents.now class) (places_of asking.now)) }
+{
+    let mut lanes = Vec::with_capacity(scene.alloc, asking.len())?;
+    for one in asking {
+        scene.expect_class(one.place, class)?;
+        lanes.push(Lane {
+            this: one.place,
+            outer: 0,
+            inner: 0,
+            place: 0,
+        })?;
+    }
+    Ok(lanes)
+}
+
+/// The crowd of agents of a class that ask, none of whose constants is set.
+pub fn opening(scene: &Scene, class: u32, asking: &[Asker], constants: usize) -> Result<Crowd, Redo>
+    requires { IsScene scene.now }
+    ensures of_class { IfOk result (λ _.
+        All (IsOfClass scene.now.agents.now class) (places_of asking.now)) }
+    ensures stands { IfOk result (λ crowd. (d : Agent) → Stands scene.now crowd
+        (openings scene.now constants d (places_of asking.now))) }
+{
+    let lanes = asking_lanes(scene, class, asking)?;
+    let lanes = numbered(scene.alloc, &lanes)?;
+    let locals = unset(scene.alloc, constants)?;
+    Ok(Crowd {
+        depth: Depth::Outside,
+        lanes,
+        locals,
+    })
+}

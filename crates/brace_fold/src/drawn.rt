@@ -1,0 +1,76 @@
+ghost use Rattle.std.specs.Prelude.{◌≡◌, ◌≤◌, ◌^◌, pos, map, IfOk};
+ghost use Rattle.std.specs.List.{All};
+ghost use Rattle.brace_draw.specs.Draw.{draw_value};
+ghost use Rattle.brace_fold.specs.inner.Asks.{AreDrawn, lent, made};
+
+use crate::columns::id_column;
+use crate::sites::query_sites;
+use brace_code::{Draws, Redo};
+use brace_draw::Drawer;
+use brace_model::{Agent, Program};
+use brace_num::List;
+use std::alloc::Global;
+
+/// The draws of a site.
+#[derive(Debug, Drop)]
+pub struct Drawn {
+    pub site: u32,
+    pub words: List<i64>,
+}
+
+/// The draws of agents at a site.
+fn drawn_at(
+    alloc: Global,
+    drawer: &Drawer,
+    tick: u64,
+    site: u32,
+    ids: &[u64],
+) -> Result<Drawn, Redo>
+    requires { tick ≤ 2 ^ 32 }
+    ensures site { IfOk result (λ drawn. drawn.site ≡ site) }
+    ensures words { IfOk result (λ drawn. drawn.words
+        ≡ map (λ id. pos (draw_value drawer.now.seed tick id site)) ids.now) }
+{
+    let mut words = vec![in alloc; 0i64; ids.len()]?;
+    drawer.column(tick, site, ids, &mut words);
+    Ok(Drawn {
+        site,
+        words: List::from_vec(words),
+    })
+}
+
+/// The draws of agents at the sites of the queries of a program.
+pub fn all_drawn(
+    alloc: Global,
+    program: &Program,
+    seed: u64,
+    tick: u64,
+    agents: &[Agent],
+) -> Result<Vec<Drawn>, Redo>
+    requires { tick ≤ 2 ^ 32 }
+    ensures { IfOk result (λ all. All (AreDrawn seed tick agents.now) all.items) }
+{
+    let mut sites = Vec::new(alloc);
+    query_sites(program, &mut sites)?;
+    let ids = id_column(alloc, agents)?;
+    let drawer = Drawer::make(seed);
+    let mut all = Vec::new(alloc);
+    for site in &sites {
+        all.push(drawn_at(alloc, &drawer, tick, *site, &ids)?)?;
+    }
+    Ok(all)
+}
+
+/// Draws as columns that lanes read.
+pub fn lent<'a>(alloc: Global, all: &'a [Drawn]) -> Result<Vec<Draws<'a>>, Redo>
+    ensures { IfOk result (λ draws. map lent draws.items ≡ map made all.now) }
+{
+    let mut draws = Vec::with_capacity(alloc, all.len())?;
+    for one in all {
+        draws.push(Draws {
+            site: one.site,
+            words: one.words.as_slice(),
+        })?;
+    }
+    Ok(draws)
+}

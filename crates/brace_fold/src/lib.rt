@@ -1,0 +1,19 @@
+//! The queries of many agents at once, in lanes: what they all say, joined as it is said.
+#![tactic(auto)]
+
+mod askers;
+mod cells;
+mod columns;
+mod crowd;
+mod drawn;
+mod finding;
+mod folding;
+mod gathering;
+mod saying;
+mod scene;
+mod seeing;
+mod sites;
+mod walk;
+
+pub use brace_code::Redo;
+pub use folding::fold;
