@@ -1,12 +1,13 @@
 -- A program without `spawn` has no births, and no faults of births.
-use Rattle.std.proofs.Common.{◌≡◌, ◌∙◌, ap, ℕ, ◌+◌, List, [], length, arith, false}
+use Rattle.std.proofs.Common.{◌≡◌, ◌∙◌, ap, ℕ, ◌+◌, List, [], filter_map, length, arith, false}
 use Rattle.std.specs.Prelude.{option_map}
 use Rattle.brace_model.specs.declared.world.Agent.{Agent}
-use Rattle.brace_model.specs.World.{World}
+use Rattle.brace_model.specs.World.{World, ids}
 use Rattle.brace_model.specs.Next.{has_births}
 use Rattle.brace_model.specs.Step.{living, children, first_too_far, birth_fault}
 use Rattle.brace_pieces.specs.declared.setting.Setting.{Setting}
 use Rattle.brace_pieces.specs.Continued.{said, becomes, all_left, fitting, continued, birth_faults, listed}
+use Rattle.brace_pieces.specs.Together.{children_of, all_born, with_number, born_of}
 use Rattle.brace_pieces.proofs.MoveLemmas.{left_each}
 use Rattle.brace_pieces.proofs.GivenLemmas.{no_children_of}
 
@@ -26,3 +27,10 @@ module _ (s : Setting) (none : has_births s.job.program ≡ false) (t : ℕ) whe
     where
       none_more : world.next + 0 ≡ world.next
       none_more = omega arith
+
+  -- no agents have children, and none are born to them
+  pub none_have : (w own : List Agent) → children_of s t w own ≡ []
+  none_have w own = no_children_of s t w none own
+
+  pub none_born : (world : World) (own : List Agent) → born_of s t world own ≡ []
+  none_born world own = ap (filter_map (with_number world.next (ids (all_born s t world)))) (none_have world.agents own)

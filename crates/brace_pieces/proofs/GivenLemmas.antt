@@ -107,13 +107,13 @@ module _ (s : Setting) (t : ℕ) where
     child_keeps_id : (a b : Agent) → (leaves w a).child ≡ Some b → b.id ≡ a.id
     child_keeps_id a b e = child_id_stays s.job.seed t (class_of m a) (totals_of (said s t w) a (class_of m a)) a b e
 
-    own_living : filter is_own (living (all_left s t w)) ≡ left_of s t w own
+    pub own_living : filter is_own (living (all_left s t w)) ≡ left_of s t w own
     own_living = ap (λ ns. filter is_own (living ns)) (left_each (becomes s t (said s t w)) w) ∙ own_left (λ n. n.agent) keeps_id w (λ a has. has)
 
-    own_children : filter is_own (children (all_left s t w)) ≡ children_of s t w own
+    pub own_children : filter is_own (children (all_left s t w)) ≡ children_of s t w own
     own_children = ap (λ ns. filter is_own (children ns)) (left_each (becomes s t (said s t w)) w) ∙ own_left (λ n. n.child) (λ a b has e. child_keeps_id a b e) w (λ a has. has)
 
-    children_rise : Rises (children (all_left s t w))
+    pub children_rise : Rises (children (all_left s t w))
     children_rise =
         subst Rises (sym (ap children (left_each (becomes s t (said s t w)) w) ∙ children_each (leaves w) w))
         (kept_rise (λ a. (leaves w a).child) child_keeps_id w (rises_by_keys (λ (a : Agent). a.id) w up))

@@ -14,8 +14,11 @@ pub mod HeirLemmas
 pub mod Origins
 pub mod MoveLemmas
 pub mod GivenLemmas
+pub mod CensusLemmas
 pub mod Childless
 pub mod OnLemmas
+pub mod LimitLemmas
+pub mod LivedLemmas
 pub mod Targets
 pub mod Partings
 pub mod QueryHeld

@@ -3,11 +3,12 @@
 use Rattle.std.proofs.Common.{◌≡◌, ◌∙◌, refl, sym, ap, ap₂, subst, ℕ, ◌+◌, ◌<◌, ℤ, pos, ◌≤ℤ◌, List, [], ◌∷◌, ◌++◌, map, filter, filter_map, flat_map, zip, Bool, true, false, cond, ◌&&◌, ◌==◌, Option, Some, None, Result, Contains, arith, ⊎_elim}
 use Rattle.std.specs.Prelude.{slice_get}
 use Rattle.std.specs.Int.{int_max}
-use Rattle.std.specs.List.{list_any}
+use Rattle.std.specs.List.{list_any, range_with_len}
 use Rattle.std.specs.List.Sorted.{IsPermutation}
 use Rattle.std.proofs.lemmas.Bool.{eqb-true, and_parts, true≢false}
 use Rattle.std.proofs.lemmas.List.{map-append, get_or-map, length-map}
 use Rattle.std.proofs.lemmas.List.Elements.{Contains-append_cases}
+use Rattle.std.proofs.lemmas.List.Folds.{Any-from_list_any}
 use Rattle.std.proofs.lemmas.List.Sorted.{IsPermutation-sym, IsPermutation-trans, IsPermutation-map}
 use Rattle.brace_model.specs.declared.program.Class.{Class}
 use Rattle.brace_model.specs.declared.program.Program.{Program}
@@ -35,11 +36,11 @@ use Rattle.brace_pieces.proofs.ScheduleLemmas.{meets_no_self}
 use Rattle.brace_pieces.proofs.HeldLemmas.{one_owns}
 use Rattle.brace_pieces.proofs.HeirLemmas.{has_place, IsNear, IsHeir, agent_is_heir, child_is_heir}
 use Rattle.brace_pieces.proofs.Origins.{of_filter_map, of_map, of_take, of_numbered, of_id, id_of}
-use Rattle.brace_num.proofs.Lists.{filter_twice, flat_map_alike}
+use Rattle.brace_num.proofs.Lists.{filter_twice, flat_map_alike, none_in, first_or_later}
 use Rattle.brace_num.proofs.Options.{some_none}
 use Rattle.brace_num.proofs.Orders.{filter_rises, one_sorted}
 use Rattle.brace_invert.proofs.Sublists.{rising_from}
-use Rattle.brace_invert.proofs.Heard.{one_agent}
+use Rattle.brace_invert.proofs.Heard.{one_agent, seen_in}
 use Rattle.brace_invert.proofs.Nearness.{most_of}
 use Rattle.std.proofs.lemmas.Option.{same_Some, none-some}
 
@@ -124,7 +125,7 @@ module _ (s : Setting) (lawful : LawfulSetting s) (t : ℕ) where
     all_left_each = left_each (becomes s t (said s t w)) w
 
     -- what all agents leave, themselves or children
-    left_after : (h : Next → Option Agent) → ((a b : Agent) → Contains w a → h (leaves a) ≡ Some b → Leaves a b) → (b : Agent) → Contains (filter_map h (all_left s t w)) b → ComesAfter m w (b.id, b)
+    pub left_after : (h : Next → Option Agent) → ((a b : Agent) → Contains w a → h (leaves a) ≡ Some b → Leaves a b) → (b : Agent) → Contains (filter_map h (all_left s t w)) b → ComesAfter m w (b.id, b)
     left_after h each b has =
         let one = of_filter_map h (map leaves w) b (subst (λ ns. Contains (filter_map h ns) b) all_left_each has) in
         let two = of_map leaves w one.from one.there in
@@ -257,3 +258,17 @@ module _ (s : Setting) (lawful : LawfulSetting s) (t : ℕ) where
     pub moved_is : (xs : List Agent) → RisesById (continued s t world).agents → IsSorted (right.moved s t p p world ++ flat_map (λ q. right.moved s t q p world) (met s (step Move t) p)) xs → xs ≡ owned m now p (continued s t world).agents
     moved_is xs rises sorted =
         one_sorted (λ (a : Agent). a.id) xs (owned m now p (continued s t world).agents) (IsPermutation-trans _ _ _ (IsPermutation-sym _ _ moved_together) sorted.same) sorted.in_order (filter_rises (λ (a : Agent). a.id) (owns m now p) (continued s t world).agents rises)
+
+    -- a part gives nothing to one that it does not meet
+    pub none_moved : (q : ℕ) → (q ≡ p → ⊥) → meet s (step Move t) p q ≡ false → right.moved s t q p world ≡ []
+    none_moved q other apart = none_in (right.moved s t q p world) (λ b has.
+        let made = of_map (λ (d : ℕ × Agent). d.1) (filter (gives q) entries) b (subst (λ xs. Contains xs b) (moved_parts q) has) in
+        let (there, passes) = seen_in (gives q) entries made.from made.there in
+        let given = all_given made.from there ∙ (and_parts (comes_from (owned m now q w) made.from) (owns m now p made.from.1) passes).1 in
+        let (k, r, low, is, gives_too) = Any-from_list_any (λ r. gives r made.from) (p ∷ met s (step Move t) p) given in
+        ⊎_elim
+        (λ (here : p ≡ r). other (given_once q r made.from passes gives_too ∙ sym here))
+        (λ (behind : Contains (met s (step Move t) p) r).
+        let meets_r = (seen_in (meet s (step Move t) p) (range_with_len 0 (parts s + 1)) r behind).1 in
+        true≢false (sym meets_r ∙ ap (meet s (step Move t) p) (sym (given_once q r made.from passes gives_too)) ∙ apart))
+        (first_or_later p (met s (step Move t) p) r (k, low, is)))

@@ -44,7 +44,7 @@ id_by_stop : (tick : ℕ) (scope : Scope) (c : Class) (a b : Agent) (o : Option 
 id_by_stop tick scope c a b (Some stop) e = ap (λ (x : Agent). x.id) (sym (same_Some a b e))
 id_by_stop tick scope c a b None e = if_living (holds (condition_in scope c.die)) a (changed c a (values_of (rules_in scope c a))) b refl e
 
-id_stays : (seed tick : ℕ) (o : Option Class) (totals : List ℤ) (a b : Agent) → (left_or_kept a (next_in seed tick o totals a)).agent ≡ Some b → b.id ≡ a.id
+pub id_stays : (seed tick : ℕ) (o : Option Class) (totals : List ℤ) (a b : Agent) → (left_or_kept a (next_in seed tick o totals a)).agent ≡ Some b → b.id ≡ a.id
 id_stays seed tick None totals a b e = ap (λ (x : Agent). x.id) (sym (same_Some a b e))
 id_stays seed tick (Some c) totals a b e = id_by_stop tick (opening_scope seed tick [] totals a) c a b (first_stop (update_in (opening_scope seed tick [] totals a) c a)) e
 
@@ -67,7 +67,7 @@ child_id_stays seed tick None totals a b e = absurd (none-some b e)
 child_id_stays seed tick (Some c) totals a b e = child_id_by_stop tick (opening_scope seed tick [] totals a) c a b (first_stop (update_in (opening_scope seed tick [] totals a) c a)) e
 
 -- rising ids, all below the next free one
-record IsOrdered (world : World) : Type 0 where
+pub record IsOrdered (world : World) : Type 0 where
   pub rises : Rises world.agents
   pub below : All (λ a. a.id < world.next) world.agents
 
@@ -77,7 +77,7 @@ module _ (h : Agent → Option Agent) (keeps : (a b : Agent) → h a ≡ Some b 
       let made = of_filter_map h xs (get_or (filter_map h xs) k d) (Contains-get_or (filter_map h xs) k d within) in
       subst (λ n. x < n) (sym (keeps made.from _ made.made)) (All-contains (λ (a : Agent). x < a.id) xs made.from above made.there)
 
-  kept_below : (n : ℕ) (xs : List Agent) → All (λ (a : Agent). a.id < n) xs → All (λ (b : Agent). b.id < n) (filter_map h xs)
+  pub kept_below : (n : ℕ) (xs : List Agent) → All (λ (a : Agent). a.id < n) xs → All (λ (b : Agent). b.id < n) (filter_map h xs)
   kept_below n xs low k d within =
       let made = of_filter_map h xs (get_or (filter_map h xs) k d) (Contains-get_or (filter_map h xs) k d within) in
       subst (λ id. id < n) (sym (keeps made.from _ made.made)) (All-contains (λ (a : Agent). a.id < n) xs made.from low made.there)
@@ -94,7 +94,7 @@ module _ (h : Agent → Option Agent) (keeps : (a b : Agent) → h a ≡ Some b 
       one_kept (Some b) is rest above =
           AllPairs-cons (λ (a c : Agent). a.id < c.id) b (filter_map h xs) (λ k d within. subst (λ n. n < (get_or (filter_map h xs) k d).id) (sym (keeps x b is)) (above k d within)) rest
 
-numbered_from : (n m : ℕ) (born : List Agent) → m ≤ n → All (λ (b : Agent). m ≤ b.id) (numbered n born)
+pub numbered_from : (n m : ℕ) (born : List Agent) → m ≤ n → All (λ (b : Agent). m ≤ b.id) (numbered n born)
 numbered_from n m [] low k d within = absurd (omega (arith, within))
 numbered_from n m (c ∷ born) low zero d within = low
 numbered_from n m (c ∷ born) low (suc k) d within = numbered_from (suc n) m born (omega (arith, low)) k d (omega (arith, within))
@@ -122,7 +122,7 @@ pub children_each : (f : Agent → Next) (xs : List Agent) → children (map f x
 children_each f [] = refl
 children_each f (x ∷ xs) = ap (cons_option (f x).child) (children_each f xs)
 
-living_each : (f : Agent → Next) (xs : List Agent) → living (map f xs) ≡ filter_map (λ a. (f a).agent) xs
+pub living_each : (f : Agent → Next) (xs : List Agent) → living (map f xs) ≡ filter_map (λ a. (f a).agent) xs
 living_each f [] = refl
 living_each f (x ∷ xs) = ap (cons_option (f x).agent) (living_each f xs)
 
@@ -145,7 +145,7 @@ module _ (s : Setting) where
             (λ k d within. omega (arith, low k d within)) (numbered_to world.next (world.next + length born) born (omega arith)));
       }
 
-  ordered_after : (lawful : LawfulSetting s) (n : ℕ) → IsOrdered (continued_after s n)
+  pub ordered_after : (lawful : LawfulSetting s) (n : ℕ) → IsOrdered (continued_after s n)
   unfolding continued_after
   ordered_after lawful zero = record { rises = rises_by_keys (λ (a : Agent). a.id) s.job.start.agents lawful.start_is_numbered.rises; below = lawful.start_is_numbered.below }
   ordered_after lawful (suc n) = ordered_step (s.job.first + n) (continued_after s n) (ordered_after lawful n)

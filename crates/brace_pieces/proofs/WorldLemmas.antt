@@ -62,7 +62,7 @@ left_next f (a ∷ agents) none = (elim (f a) as (λ r. cons_option (result_err 
     ]) none
 
 -- a rank that is found is one of those that are looked at
-found_below : (p : ℕ → Bool) (a n r : ℕ) → find p (range_with_len a n) ≡ Some r → r < a + n
+pub found_below : (p : ℕ → Bool) (a n r : ℕ) → find p (range_with_len a n) ≡ Some r → r < a + n
 found_below p a zero r e = absurd (cc)
 found_below p a (suc n) r e = (elim (p a) as (λ v. cond v (Some a) (find p (range_with_len (a + 1) n)) ≡ Some r → r < a + suc n) [
   | true ↦ λ e. let same : a ≡ r = cc in omega (arith, same)
@@ -74,7 +74,8 @@ child_there [] r low e = absurd (omega arith)
 child_there (x ∷ xs) zero low e = absurd (cc)
 child_there (x ∷ xs) (suc r) low e = child_there xs r (omega arith) e
 
-all_fit : (born : List Agent) (o : Option ℕ) → ((r : ℕ) → o ≡ Some r → r < length born) → option_and_then (slice_get born) o ≡ None → take (unwrap_or o (length born)) born ≡ born
+-- where nothing is at a rank that is found, none is found, and all items stand before it
+pub all_fit : {A : Type 0} (born : List A) (o : Option ℕ) → ((r : ℕ) → o ≡ Some r → r < length born) → option_and_then (slice_get born) o ≡ None → take (unwrap_or o (length born)) born ≡ born
 all_fit born None low none = take_all (length born) born (omega arith)
 all_fit born (Some r) low none = absurd (child_there born r (low r refl) none)
 

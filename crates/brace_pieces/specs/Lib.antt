@@ -6,6 +6,7 @@ pub mod Numbers
 pub mod Together
 pub mod Finds
 pub mod Right
+pub mod Censuses
 pub mod Heard
 pub mod Counts
 pub mod Halts

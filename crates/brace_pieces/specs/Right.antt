@@ -1,5 +1,5 @@
 -- The right piece for a name: each is its part of the continued worlds.
-use Rattle.std.specs.Prelude.{◌≡◌, ℕ, ◌+◌, ◌-◌, ◌<◌, ◌≤◌, ◌==◌, List, [], ◌∷◌, ◌++◌, map, filter, flat_map, length, zip, Bool, Option, Some, None, slice_get}
+use Rattle.std.specs.Prelude.{◌≡◌, ℕ, ◌+◌, ◌-◌, ◌<◌, ◌≤◌, ◌==◌, List, [], ◌∷◌, ◌++◌, map, filter, flat_map, length, Bool, Option, Some, None, slice_get}
 use Rattle.std.specs.List.{Contains, list_any}
 use Rattle.brace_core.specs.declared.name.Name.{Name}
 use Rattle.brace_model.specs.declared.program.Class.{Class}
@@ -11,8 +11,7 @@ use Rattle.brace_model.specs.declared.world.Census.{Census}
 use Rattle.brace_model.specs.World.{World, class_of}
 use Rattle.brace_model.specs.Query.{Saying, query_of}
 use Rattle.brace_model.specs.Total.{said_to}
-use Rattle.brace_model.specs.Next.{Next}
-use Rattle.brace_model.specs.Step.{living, children, count_values}
+use Rattle.brace_model.specs.Step.{count_values}
 use Rattle.brace_comb.specs.declared.entry.Entry.{Entry}
 use Rattle.brace_comb.specs.Totals.{Tally, tally, tally_of}
 use Rattle.brace_pieces.specs.declared.setting.Setting.{Setting}
@@ -26,7 +25,8 @@ use Rattle.brace_pieces.specs.declared.piece.Piece.{Piece}
 use Rattle.brace_pieces.specs.declared.piece.Piece.TheVariants as piece
 use Rattle.brace_pieces.specs.Settings.{range, cuts_of, parts, shown_ticks, cuts_shown}
 use Rattle.brace_pieces.specs.Steps.{steps}
-use Rattle.brace_pieces.specs.Continued.{descent, on, all_left}
+use Rattle.brace_pieces.specs.Continued.{descent, on}
+use Rattle.brace_pieces.specs.Together.{left_of, children_of}
 use Rattle.brace_pieces.specs.Owned.{owned, held}
 use Rattle.brace_pieces.specs.Finds.{finds, found_in, found_at}
 
@@ -97,20 +97,19 @@ shares s tick from to world =
     flat_map (λ a. shares_to (said_by s tick from world) a (class_of program a))
     (owned program (cuts_of s tick) to world)
 
--- what the agents of a part leave to the next world
+-- a census: how many agents live on, how many values these have, and who has a child
+abbrev pub census_of : List Agent → List Agent → Census
+census_of lives kids = record {
+  living = length lives;
+  values = count_values lives;
+  parents = map (λ a. record { id = a.id; class = a.class }) kids;
+}
+
+-- the census of what the agents of a part leave to the next world
 abbrev pub census : Setting → ℕ → ℕ → List Agent → Census
 census s tick p world =
     let own = owned s.job.program (cuts_of s tick) p world in
-    let left = filter_left own (zip world (all_left s tick world)) in
-    let lives = living left in
-    record {
-      living = length lives;
-      values = count_values lives;
-      parents = map (λ a. record { id = a.id; class = a.class }) (children left);
-    }
-  where
-    filter_left : List Agent → List (Agent × Next) → List Next
-    filter_left own all = map (λ p. p.1) (filter (λ p. list_any (λ b. b.id == p.0.id) own) all)
+    census_of (left_of s tick world own) (children_of s tick world own)
 
 -- the agents of a part in the world of a tick that is shown at an end
 abbrev pub shown : Setting → ℕ → ℕ → ℕ → Shown

@@ -1,6 +1,6 @@
 //! Facts on runs over cut planes that hold always. The functions do nothing; their clauses are the
 //! laws.
-ghost use Rattle.std.specs.Prelude.{◌≡◌, ℕ, ◌+◌, ◌-◌, ◌<◌, ◌≤◌, ◌++◌, List, map, filter, flat_map, false, Some, Ok, slice_get, IsTrue};
+ghost use Rattle.std.specs.Prelude.{◌≡◌, ℕ, ◌+◌, ◌-◌, ◌<◌, ◌≤◌, nat_lt, ◌++◌, List, [], map, filter, filter_map, flat_map, length, false, Some, None, Ok, slice_get, IsTrue};
 ghost use Rattle.std.specs.List.{Contains, range_with_len};
 ghost use Rattle.std.specs.List.Sorted.{IsPermutation};
 ghost use Rattle.brace_core.specs.Schedule.{IsLawful, turn_at};
@@ -10,10 +10,12 @@ ghost use Rattle.brace_model.specs.declared.fault.Fault.{Fault};
 ghost use Rattle.brace_model.specs.declared.fault.Phase.{Phase};
 ghost use Rattle.brace_model.specs.declared.fault.Phase.TheVariants.{Query, Update, Birth};
 ghost use Rattle.brace_model.specs.declared.world.Agent.{Agent};
-ghost use Rattle.brace_model.specs.World.{World, RisesById, class_of};
+ghost use Rattle.brace_model.specs.declared.world.Census.{Census};
+ghost use Rattle.brace_model.specs.World.{World, RisesById, IsNumbered, class_of};
 ghost use Rattle.brace_model.specs.Query.{query_of};
 ghost use Rattle.brace_model.specs.Total.{said_to};
 ghost use Rattle.brace_model.specs.Next.{has_births};
+ghost use Rattle.brace_model.specs.Step.{living, children};
 ghost use Rattle.brace_model.specs.Run.{world_after, first_fault};
 ghost use Rattle.brace_pieces.specs.declared.setting.Setting.{Setting};
 ghost use Rattle.brace_pieces.specs.declared.piece.Cause.{Cause};
@@ -22,13 +24,14 @@ ghost use Rattle.brace_pieces.specs.declared.piece.Piece.TheVariants as piece;
 ghost use Rattle.brace_pieces.specs.declared.setting.Stage.TheVariants.{Hand, Border, Move, Show};
 ghost use Rattle.brace_pieces.specs.declared.setting.Step.{Step};
 ghost use Rattle.brace_pieces.specs.Settings.{LawfulSetting, range, cuts_of, cuts_shown, parts, is_end, ends, shown_ticks};
-ghost use Rattle.brace_pieces.specs.Steps.{schedule, step, steps, is_show, met};
+ghost use Rattle.brace_pieces.specs.Steps.{schedule, step, steps, is_show, meet, met};
 ghost use Rattle.brace_pieces.specs.Owned.{owned, held};
 ghost use Rattle.brace_pieces.specs.Numbers.{NumbersFit};
-ghost use Rattle.brace_pieces.specs.Together.{AreWhole, IsSorted, left_of, born_of, HaveClasses};
-ghost use Rattle.brace_pieces.specs.Continued.{continued, continued_after, said, becomes, on, birth_faults};
+ghost use Rattle.brace_pieces.specs.Together.{AreWhole, IsSorted, left_of, children_of, born_of, with_number, HaveClasses};
+ghost use Rattle.brace_pieces.specs.Continued.{continued, continued_after, said, becomes, all_left, on, listed, birth_faults};
 ghost use Rattle.brace_pieces.specs.Finds.{queries_found, updates_found, found_in, stage_of, IsFoundBy};
-ghost use Rattle.brace_pieces.specs.Right.{IsRight, IsRightCause, IsTold, StandsBefore, IsFaultless, Share, said_by, shares, shares_to, border, handed, moved};
+ghost use Rattle.brace_pieces.specs.Right.{IsRight, IsRightCause, IsTold, StandsBefore, IsFaultless, Share, said_by, shares, shares_to, border, handed, moved, census_of};
+ghost use Rattle.brace_pieces.specs.Censuses.{IsCounted, fault_told, bearing};
 ghost use Rattle.brace_pieces.specs.Heard.{own, near, said_here, heard, joined, found_here, IsShareOf, IsPartOver};
 ghost use Rattle.brace_pieces.specs.Halts.{FollowsFirst};
 ghost use Rattle.brace_pieces.specs.Courses.{OnCourse, IsCourse, at_start, turn_of, past_of, gone_on};
@@ -57,9 +60,9 @@ pub fn halt_law()
 /// meets, put in order by id; so `held`, `recut` and `moved` say. What a part gives then is what
 /// its agents are in the next world and the children that they have (`given`), and without births
 /// the living alone. All parts together have each agent of a class once (`all`). In each continued
-/// world ids rise, each agent is of a class, and where the numbers of a setting fit 64 bits so do
-/// those of its agents (`rises`, `classed`, `whole`); the world behind one is the next tick's
-/// (`next`).
+/// world ids rise, below its next free id; each agent is of a class, and where the numbers of a
+/// setting fit 64 bits so do those of its agents (`rises`, `numbered`, `classed`, `whole`); the world
+/// behind one is the next tick's (`next`).
 pub fn parts_make_the_world()
     ensures held { (s : Setting) (t p : ℕ) (world agents : List Agent) → LawfulSetting s
         → p < parts s → RisesById world → AreWhole s.job.program world
@@ -97,12 +100,53 @@ pub fn parts_make_the_world()
         (range_with_len 0 (parts s))) agents
         → agents ≡ world }
     ensures rises { (s : Setting) (t : ℕ) → LawfulSetting s → RisesById (on s t).agents }
+    ensures numbered { (s : Setting) (t : ℕ) → LawfulSetting s → IsNumbered (on s t) }
     ensures whole { (s : Setting) (t : ℕ) → LawfulSetting s → NumbersFit s
         → AreWhole s.job.program (on s t).agents }
     ensures classed { (s : Setting) (t : ℕ) → LawfulSetting s → NumbersFit s
         → HaveClasses s.job.program (on s t).agents }
     ensures next { (s : Setting) (t : ℕ) → s.job.first ≤ t
         → on s (t + 1) ≡ continued s t (on s t) }
+{}
+
+/// What no part knows of births by itself its own census and those of all whom it meets tell it: in
+/// one they are the census of the world (`all`). They tell the fault of the first parent that goes
+/// too far, if one does (`faults`), and else all bear (`none`). The children of any of its agents
+/// get ids by rank (`born`), and the next free id is larger by as many as bear (`next`).
+pub fn censuses_decide()
+    ensures all { (s : Setting) (t p : ℕ) (world : World) (all : Census)
+        → IsCounted s t p world all
+        → let left = all_left s t world.agents in all ≡ census_of (living left) (children left) }
+    ensures faults { (s : Setting) (t p : ℕ) (world : World) (all : Census)
+        → IsCounted s t p world all
+        → birth_faults s t world ≡ listed (fault_told s.job.program world.next t all) }
+    ensures none { (s : Setting) (t : ℕ) (world : World) (all : Census)
+        → fault_told s.job.program world.next t all ≡ None
+        → bearing s.job.program world.next all ≡ all.parents }
+    ensures born { (s : Setting) (t p : ℕ) (world : World) (all : Census) (own : List Agent)
+        → IsCounted s t p world all
+        → let bear = bearing s.job.program world.next all in
+        born_of s t world own ≡ filter_map (with_number world.next (map (λ p. p.id) bear))
+        (children_of s t world.agents own) }
+    ensures next { (s : Setting) (t p : ℕ) (world : World) (all : Census)
+        → IsCounted s t p world all
+        → (continued s t world).next
+        ≡ world.next + length (bearing s.job.program world.next all) }
+{}
+
+/// What goes from part to part in a move. A part gives nothing to one that it does not meet
+/// (`apart`). Of what it gives to another, those that lived before are its own agents that live on
+/// there (`lived`): a child is not moved.
+pub fn moves_are_of_the_living()
+    ensures apart { (s : Setting) (t p q : ℕ) (world : World) → LawfulSetting s → p < parts s
+        → RisesById world.agents → AreWhole s.job.program world.agents
+        → AreWhole s.job.program (continued s t world).agents
+        → (q ≡ p → ⊥) → meet s (step Move t) p q ≡ false → moved s t q p world ≡ [] }
+    ensures lived { (s : Setting) (t p q : ℕ) (world : World) → LawfulSetting s
+        → IsNumbered world → AreWhole s.job.program world.agents
+        → let own = owned s.job.program (cuts_of s t) p world.agents in
+        filter (λ a. nat_lt a.id world.next) (moved s t p q world)
+        ≡ owned s.job.program (cuts_of s t) q (left_of s t world.agents own) }
 {}
 
 /// What a part does over the agents that it holds, and what it is told, is what is done over all.

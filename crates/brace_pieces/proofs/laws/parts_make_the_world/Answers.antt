@@ -3,6 +3,7 @@ use Rattle.brace_pieces.proofs.MoveLemmas.{moved_is}
 use Rattle.brace_pieces.proofs.GivenLemmas.{given_with_births, given_is}
 use Rattle.brace_pieces.proofs.AllLemmas.{all_is}
 use Rattle.brace_pieces.proofs.OnLemmas.{on_rises, on_whole, on_classed, on_next}
+use Rattle.brace_pieces.proofs.LimitLemmas.{on_numbered}
 use Rattle.brace_pieces.proofs.laws.parts_make_the_world.Goals as goal
 
 pub returns-clause-held : goal.returns-clause-held
@@ -34,3 +35,6 @@ returns-clause-all c s t world agents lawful up classed sorted = all_is s lawful
 
 pub returns-clause-classed : goal.returns-clause-classed
 returns-clause-classed c s t lawful numbers = on_classed s lawful numbers t
+
+pub returns-clause-numbered : goal.returns-clause-numbered
+returns-clause-numbered c s t lawful = on_numbered s lawful t
