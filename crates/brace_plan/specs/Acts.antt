@@ -1,4 +1,4 @@
--- What actions do. Only the crate's own functions cite this.
+-- What actions do.
 use Rattle.std.specs.Prelude.{ℕ, ℤ, int_lt, int_le, List, map, filter, Bool}
 use Rattle.std.specs.Ordering.{int_eq}
 use Rattle.std.specs.List.{list_all}

@@ -1,4 +1,4 @@
--- Plans of a program. Only the crate's own functions cite this.
+-- Plans of a program: what their actions are to do.
 use Rattle.std.specs.Prelude.{◌≡◌, ℕ, List, [], ◌∷◌, ◌++◌, map, flat_map, sum, true, None, Some, slice_get, length, replicate}
 use Rattle.std.specs.List.{list_all}
 use Rattle.brace_model.specs.declared.program.Who.TheVariants.{Outer}
