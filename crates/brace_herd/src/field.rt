@@ -29,7 +29,8 @@ impl Model for Field {
 
     ghost view = { λ field. field_with field.table field.side.length };
 
-    ghost invariant = { λ field. IsArranged (field_with field.table field.side.length) field.cells.items };
+    ghost invariant = { λ field. IsArranged (field_with field.table field.side.length)
+        field.cells.items };
 }
 
 impl Field {

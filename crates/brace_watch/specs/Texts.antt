@@ -38,7 +38,9 @@ number_text _ n = canonical_int n
 -- a figure; the least and the greatest value of no agent are `none`
 abbrev pub figure_text : Ty → Tally → List ℕ
 figure_text t figure =
-    if is_extreme figure.comb && figure.count == 0 then codes "none" else number_text t figure.number
+    if is_extreme figure.comb && figure.count == 0
+    then codes "none"
+    else number_text t figure.number
 
 -- a line of a tick, a number, and the figures of the world and of the boxes
 abbrev pub line_text : Ty → ℕ → ℕ → Tally → List Tally → List ℕ

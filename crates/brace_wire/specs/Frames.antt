@@ -1,5 +1,5 @@
--- The bytes of a frame: its length, then from whom to whom it goes, its ordinal in its lane, and its
--- piece. Numbers have their highest byte first, signed ones as two's complement; a list has its
+-- The bytes of a frame: its length, then from whom to whom it goes, its ordinal in its lane, and
+-- its piece. Numbers have their highest byte first, signed ones as two's complement; a list has its
 -- count before its items, and what comes in several forms has the number of its form before it.
 use Rattle.std.specs.Prelude.{ℕ, ℤ, ◌^◌, ◌/◌, ◌%◌, Bool, if◌then◌else◌, List, [], ◌∷◌, ◌++◌, length, flat_map, Option, Some, None}
 use Rattle.std.specs.Int.{w32, w64, w128, to_be_bytes, cast_unsigned}

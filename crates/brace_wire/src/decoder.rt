@@ -117,9 +117,9 @@ fn types_of(alloc: Global, class: &Class) -> Result<List<Ty>, NoMemory>
     Ok(List::from_vec(types))
 }
 
-/// Takes a piece of the stream behind the rest, and reads what is whole: how many bytes of the stream
-/// are read now, and whether a whole frame that is none stands there. A refused call leaves both
-/// lists as they were.
+/// Takes a piece of the stream behind the rest, and reads what is whole: how many bytes of the
+/// stream are read now, and whether a whole frame that is none stands there. A refused call leaves
+/// both lists as they were.
 fn go_on(
     alloc: Global,
     types: &[List<Ty>],
@@ -156,7 +156,8 @@ fn read_more(
     ensures read { IfOk result (λ x. Advances (waits types.now place rest.old.items) piece.now
         (waits types.now x.0 rest.new.items) out.old.items out.new.items) }
     ensures leaves_off { IfOk result (λ x. LeavesOff x.1 types.now rest.new.items) }
-    ensures rest_kept { OnErr result (take (length rest.old.items) rest.new.items ≡ rest.old.items) }
+    ensures rest_kept { OnErr result
+        (take (length rest.old.items) rest.new.items ≡ rest.old.items) }
     ensures out_kept { OnErr result (take (length out.old.items) out.new.items ≡ out.old.items) }
 {
     rest.extend_from_slice(piece)?;

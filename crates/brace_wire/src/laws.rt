@@ -1,4 +1,5 @@
-//! Facts on frames and links that hold always. The functions do nothing; their clauses are the laws.
+//! Facts on frames and links that hold always. The functions do nothing; their clauses are the
+//! laws.
 ghost use Rattle.std.specs.Prelude.{◌≡◌, ◌≤◌, ◌++◌, ◌⊎◌, [], ℕ, List, length, flat_map};
 ghost use Rattle.brace_model.specs.declared.program.Ty.{Ty};
 ghost use Rattle.brace_pieces.specs.declared.piece.Piece.{Piece};
@@ -32,9 +33,9 @@ pub fn cuts_do_not_matter()
         → Reads types (flat_map (λ piece. piece) pieces) frames end }
 {}
 
-/// Whatever a link loses, repeats and reorders: what a lane received are the first of the pieces put,
-/// in their order, each as it was put; what was taken was received; and the next piece to be received
-/// is one that the sender keeps.
+/// Whatever a link loses, repeats and reorders: what a lane received are the first of the pieces
+/// put, in their order, each as it was put; what was taken was received; and the next piece to be
+/// received is one that the sender keeps.
 pub fn net_law()
     ensures in_order { (lane : Lane Piece) → Happens lane → IsInOrder lane }
     ensures taken { (lane : Lane Piece) → Happens lane → lane.taken ≤ length lane.received }

@@ -32,8 +32,8 @@ admits needed given = given
 admits may given = true
 admits never given = not given
 
--- a use for `run`, for `resume`, for `check` and `fmt`, for `plan`, for `trial`, for `audit`, and for
--- `balance`
+-- a use for `run`, for `resume`, for `check` and `fmt`, for `plan`, for `trial`, for `audit`, and
+-- for `balance`
 abbrev pub modes_are : Use → Use → Use → Use → Use → Use → Use → Mode → Use
 modes_are run resume judged plan trial audit balance mode.Run = run
 modes_are run resume judged plan trial audit balance mode.Resume = resume

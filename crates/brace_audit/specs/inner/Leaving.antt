@@ -4,8 +4,8 @@ use Rattle.brace_io.specs.declared.shelf.Shelf as shelf_trait
 use Rattle.brace_io.specs.Counts.{Rose}
 use Rattle.brace_io.specs.Shelves.{writes, StoppedAt}
 
--- the shelf holds what it held and does not write; where the call failed, the count of failures rose
--- and the shelf stopped at the name, else the count is as it was
+-- the shelf holds what it held and does not write; where the call failed, the count of failures
+-- rose and the shelf stopped at the name, else the count is as it was
 pub record Leaves {S : Type 0} (of_shelf : shelf_trait.Ghosts S) (before after : S)
     (name : List ℕ) (failed : Type 0) : Type 0
   where

@@ -16,8 +16,9 @@ ahead c = c.filled - c.place
 abbrev pub unread : Comparer → List ℕ
 unread c = take (ahead c) (drop c.place c.chunk.items)
 
--- the file begins with the text, and what was read behind that is what the comparer has not compared
-pub record Compares (held : Option Files) (stage : Stage) (name : List ℕ) (text : List ℕ) (c : Comparer) : Type 0
+-- the file begins with the text, and what was read behind that is what is not yet compared
+pub record Compares (held : Option Files) (stage : Stage) (name text : List ℕ) (c : Comparer)
+    : Type 0
   where
     pub in_chunk : c.place ≤ c.filled
     pub in_room : c.filled ≤ length c.chunk.items
@@ -32,7 +33,8 @@ abbrev pub Comparing : Option Files → Stage → List ℕ → Comparer → Type
 Comparing held stage name c = (text : List ℕ) × Compares held stage name text c
 
 -- the text goes on in the file by the piece
-abbrev pub GoesOn : Option Files → Stage → Comparer → Option Files → Stage → Comparer → List ℕ → List ℕ → Type 0
+abbrev pub GoesOn : Option Files → Stage → Comparer → Option Files → Stage → Comparer → List ℕ
+    → List ℕ → Type 0
 GoesOn held stage c held_then stage_then c_then name piece =
     (text : List ℕ) → Compares held stage name text c
     → Compares held_then stage_then name (text ++ piece) c_then

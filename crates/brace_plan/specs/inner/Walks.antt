@@ -138,8 +138,8 @@ HaveTaken scene scope class bounds near = (d : Agent)
     → filter (is_taken scene scope class bounds) (agents_at scene d near)
     ≡ filter (is_taken scene scope class bounds) scene.agents.now
 
--- an agent is in the sight of another along both axes: it is seen if it is not the other itself, and
--- if it has a class of the program
+-- an agent is in the sight of another along both axes: it is seen if it is not the other itself,
+-- and if it has a class of the program
 abbrev pub IsInSight : Scene → Agent → Agent → Type 0
 IsInSight scene a b = sees scene.program.now a b
     ≡ (not (a.id == b.id) && is_some (class_of scene.program.now b))
