@@ -1,5 +1,5 @@
-//! The engine worked by hand, layer by layer: worlds, totals, expressions and ticks, inversion,
-//! grids, pieces, parts and crews.
+//! The engine below parts worked by hand, layer by layer: worlds, totals, expressions and ticks,
+//! inversion, grids, queries in lanes, pieces and audits.
 #![tactic(auto)]
 
 #[cfg(test)]

@@ -1,11 +1,11 @@
 // Files beside the published text of a run.
 ghost use Rattle.brace_model.specs.Lawful.{LawfulJob};
 
-use super::scripts::{Run, setting};
 use brace_audit::{AuditFault, audit};
 use brace_io::MemShelf;
 use brace_model::{Fault, Job, Phase};
 use brace_num::Kind;
+use brace_test_runs::{Run, setting};
 use std::alloc::Global;
 use std::test::Fail;
 

@@ -1,9 +1,9 @@
 // Many agents asked at once.
-use super::scripts::program;
 use brace_eval::Heard;
 use brace_fold::fold;
 use brace_plan::plan;
 use brace_rows::read_agents;
+use brace_test_runs::program;
 use std::test::Fail;
 
 /// Constants and a draw, a loop in a loop, a condition, and what is said to each.

@@ -1,10 +1,10 @@
 // The agents of areas, on bounds and borders of cells.
 ghost use Rattle.std.specs.Prelude.{◌≡◌, ◌<◌, pos, IfOk};
 
-use super::scripts::{agent, program};
 use brace_grid::Grid;
 use brace_model::Value;
 use brace_num::{Area, Steps};
+use brace_test_runs::{agent, program};
 use std::alloc::Global;
 use std::marker::Brand;
 use std::sync::ledger::{Blank, Ledger};

@@ -1,10 +1,10 @@
 // What is left of queries in the forward and in the inverse program, and how far agents look.
 ghost use Rattle.brace_model.specs.Lawful.{LawfulProgram};
 
-use super::scripts::program;
 use brace_invert::{range, split};
 use brace_model::Program;
 use brace_num::NoMemory;
+use brace_test_runs::program;
 use std::alloc::Global;
 use std::test::Fail;
 

@@ -1,7 +1,7 @@
 // Worlds, sight and the order of faults.
-use super::scripts::{agent, program};
 use brace_model::{Agent, Fault, Phase, Value, World, earlier, fault_less, sees};
 use brace_num::{Kind, NoMemory};
+use brace_test_runs::{agent, program};
 use std::alloc::Global;
 use std::test::Fail;
 

@@ -2,11 +2,11 @@
 ghost use Rattle.std.specs.Prelude.{◌+◌, ◌<◌, IfOk};
 ghost use Rattle.brace_pieces.specs.Settings.{LawfulSetting, parts};
 
-use super::scripts::{Run, agent, setting};
 use brace_core::Turn;
 use brace_model::{Agent, Value};
 use brace_num::{List, NoMemory};
 use brace_pieces::{Course, Setting, border_of, hand_of, moves_of};
+use brace_test_runs::{Run, agent, setting};
 use std::alloc::Global;
 use std::test::Fail;
 

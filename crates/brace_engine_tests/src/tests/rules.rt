@@ -3,13 +3,13 @@ ghost use Rattle.std.specs.Prelude.{IsTrue};
 ghost use Rattle.std.specs.List.{list_all};
 ghost use Rattle.brace_model.specs.Lawful.{LawfulProgram, is_lawful_agent};
 
-use super::scripts::program;
 use brace_draw::Drawer;
 use brace_eval::left_by;
 use brace_model::{Agent, Program};
 use brace_num::NoMemory;
 use brace_plan::{Plans, Room, plan};
 use brace_rows::read_agents;
+use brace_test_runs::program;
 use std::alloc::Global;
 use std::test::Fail;
 

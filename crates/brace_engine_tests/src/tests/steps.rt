@@ -1,11 +1,11 @@
 // Expressions, what agents hear, and ticks with deaths and births.
 ghost use Rattle.brace_model.specs.Lawful.{LawfulProgram};
 
-use super::scripts::{agent, program};
 use brace_draw::Drawer;
 use brace_eval::{Heard, eval, plain_step};
 use brace_model::{Agent, BinOp, Env, Expr, Job, Program, Stop, Value, Who, World};
 use brace_num::{Boxed, Kind, NoMemory};
+use brace_test_runs::{agent, program};
 use std::alloc::Global;
 use std::test::Fail;
 

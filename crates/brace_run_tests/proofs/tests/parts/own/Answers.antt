@@ -2,7 +2,7 @@ use Rattle.std.proofs.Common.{◌∙◌, ap}
 use Rattle.brace_pieces.specs.Settings.{cuts_of}
 use Rattle.brace_pieces.specs.Owned.{owned}
 use Rattle.brace_part.proofs.StartLemmas.{own_of}
-use Rattle.brace_engine_tests.proofs.tests.parts.own.Goals as goal
+use Rattle.brace_run_tests.proofs.tests.parts.own.Goals as goal
 
 pub returns : goal.returns
 returns c =

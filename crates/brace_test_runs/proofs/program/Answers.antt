@@ -4,7 +4,7 @@ use Rattle.brace_tok.specs.Spells.{Spells}
 use Rattle.brace_syntax.specs.declared.tree.Tree.{Tree}
 use Rattle.brace_syntax.specs.Reads.{Reads}
 use Rattle.brace_names.specs.Faults.{faults, bindings}
-use Rattle.brace_engine_tests.proofs.tests.scripts.program.Goals as goal
+use Rattle.brace_test_runs.proofs.program.Goals as goal
 
 pub returns : goal.returns
 returns c =

@@ -4,7 +4,6 @@ ghost use Rattle.brace_lanes.specs.Seats.{new_seats};
 ghost use Rattle.brace_model.specs.Next.{has_births};
 ghost use Rattle.brace_pieces.specs.Settings.{LawfulSetting, parts};
 
-use super::scripts::{Run, agent, setting};
 use brace_crew::{
     Bench, CrewFault, Drive, FilePublisher, Keeper, PubFault, Publisher, ShelfKeeper, SumPublisher,
     benches, crew_run,
@@ -15,6 +14,7 @@ use brace_model::Value;
 use brace_num::{List, NoMemory};
 use brace_part::Counts;
 use brace_pieces::{Piece, Setting, Shown};
+use brace_test_runs::{Run, agent, setting};
 use std::alloc::Global;
 use std::sync::Wait;
 use std::test::Fail;

@@ -2,7 +2,7 @@ use Rattle.std.proofs.Common.{sym, subst, ◌+◌, arith}
 use Rattle.brace_core.specs.Lanes.{AreBelow}
 use Rattle.brace_pieces.specs.Steps.{schedule}
 use Rattle.brace_pieces.proofs.LanesFor.{few_actors, parts_below, schedule_short}
-use Rattle.brace_engine_tests.proofs.tests.crews.driven.Goals as goal
+use Rattle.brace_run_tests.proofs.tests.crews.driven.Goals as goal
 
 pub overflow_add-parts : goal.overflow_add-parts
 overflow_add-parts c = omega (arith, few_actors c.args.setting.now c.requires.lawful, c.parts.ensures)

@@ -1,4 +1,6 @@
-// What the tests work on: programs, agents, worlds and runs, of texts.
+//! What tests of the engine work on: programs, agents and runs, of texts.
+#![tactic(auto)]
+
 ghost use Rattle.std.specs.Prelude.{◌≡◌, IfOk, false};
 ghost use Rattle.brace_model.specs.Lawful.{LawfulProgram};
 ghost use Rattle.brace_model.specs.Next.{has_births};
@@ -14,27 +16,26 @@ use brace_rows::read_agents;
 use brace_syntax::parse;
 use brace_tok::tokens;
 use std::alloc::Global;
-use std::test::Fail;
 
-/// The program of a script.
-pub fn program(alloc: Global, script: &str) -> Result<Program, Fail>
+/// The program of a script; or what it has none of.
+pub fn program(alloc: Global, script: &str) -> Result<Program, &'static str>
     ensures { IfOk result LawfulProgram }
 {
     let src = script.as_bytes();
     if src.len() > 1_048_576 {
-        return Err("a long script".into());
+        return Err("a long script");
     }
     let Ok(toks) = tokens(alloc, src) else {
-        return Err("no tokens".into());
+        return Err("no tokens");
     };
     let Ok(tree) = parse(alloc, src, toks.as_slice()) else {
-        return Err("no tree".into());
+        return Err("no tree");
     };
     let Ok(resolved) = resolve(alloc, tree) else {
-        return Err("no names".into());
+        return Err("no names");
     };
     let Ok(program) = check(alloc, resolved) else {
-        return Err("no program".into());
+        return Err("no program");
     };
     Ok(program)
 }
@@ -65,24 +66,24 @@ pub struct Run<'a> {
     pub invert: bool,
 }
 
-/// The setting of a run of seed 5.
-pub fn setting(alloc: Global, run: &Run) -> Result<Setting, Fail>
+/// The setting of a run of seed 5; or what it has none of.
+pub fn setting(alloc: Global, run: &Run) -> Result<Setting, &'static str>
     ensures lawful { IfOk result LawfulSetting }
     ensures childless { IfOk result (λ s. has_births s.job.program ≡ false) }
 {
     let (first, last) = run.ticks;
     if run.epoch < 1 || run.epoch > 16 || run.every < 1 {
-        return Err("no epochs".into());
+        return Err("no epochs");
     }
     let program = program(alloc, run.script)?;
     if has_births(&program) {
-        return Err("births".into());
+        return Err("births");
     }
     let Ok(start) = read_agents(alloc, &program, run.agents.as_bytes()) else {
-        return Err("no agents".into());
+        return Err("no agents");
     };
     let Ok(cuts) = read_plan(alloc, run.plan.as_bytes(), run.epoch) else {
-        return Err("no plan".into());
+        return Err("no plan");
     };
     let job = Job {
         program,

@@ -5,7 +5,6 @@ ghost use Rattle.brace_model.specs.Next.{has_births};
 ghost use Rattle.brace_pieces.specs.Settings.{LawfulSetting, cuts_of};
 ghost use Rattle.brace_part.specs.Parts.{own_under};
 
-use super::scripts::{Run, setting};
 use brace_core::{Actor, Turn};
 use brace_crew::{FilePublisher, ShelfKeeper, crew_run_on_one};
 use brace_eval::plain_step;
@@ -15,6 +14,7 @@ use brace_num::NoMemory;
 use brace_part::Part;
 use brace_pieces::{Setting, moves_of};
 use brace_rows::print_tick;
+use brace_test_runs::{Run, setting};
 use std::alloc::Global;
 use std::test::Fail;
 
