@@ -18,7 +18,7 @@ use Rattle.brace_top.specs.declared.listing.Around.{Around}
 use Rattle.brace_top.specs.declared.listing.Remote.{Remote}
 use Rattle.brace_top.specs.Places.{line_number, column_number}
 
--- what stands around a statement in a loop over a class: an inner loop, where there was an outer one
+-- what stands around a statement in a loop over a class: an inner one, if there was an outer one
 abbrev pub within : Around → ℕ → Around
 within around class =
     if is_none around.outer then record around { outer = Some class }
