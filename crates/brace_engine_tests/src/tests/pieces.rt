@@ -21,7 +21,7 @@ fn agents_at(alloc: Global, xs: &[i64]) -> Result<Vec<Agent>, NoMemory> {
 
 /// A run from tick 1 to tick 3 over a plane that is cut by a plan, in epochs of two ticks; agents
 /// see 2.0 far, and rest.
-fn cut_by(alloc: Global, plan: &str) -> Result<Setting, Fail>
+fn cut_by(alloc: Global, plan: &str) -> Result<Setting, &'static str>
     ensures { IfOk result LawfulSetting }
 {
     let run = Run {

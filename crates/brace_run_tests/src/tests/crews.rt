@@ -25,7 +25,7 @@ const RESTING: &str = "class A{public state fixed x;public state fixed y;}";
 
 /// A run of agents that rest, from tick 0 to tick 4 in epochs of three ticks, of which every
 /// second tick is published.
-fn resting_run(alloc: Global) -> Result<Setting, Fail> {
+fn resting_run(alloc: Global) -> Result<Setting, &'static str> {
     let run = Run {
         script: RESTING,
         agents: "",
@@ -190,7 +190,7 @@ fn sums_up_the_last_world(rt: HostRuntime) -> Result<(), Fail> {
 }
 
 /// A run of four ticks without agents, over a plane in two parts.
-fn empty_run(alloc: Global) -> Result<Setting, Fail>
+fn empty_run(alloc: Global) -> Result<Setting, &'static str>
     ensures lawful { IfOk result LawfulSetting }
     ensures childless { IfOk result (λ s. has_births s.job.program ≡ false) }
 {

@@ -27,7 +27,7 @@ const WALKERS: &str = "F,1,0,0,0\nF,2,1.5,0,0\nF,3,1.999999,-1,0\nF,5,3,0.5,0\nF
  0.9,0.01,0\n";
 
 /// A run of five ticks over a plane that is cut by a plan, in epochs of two ticks.
-fn walk(alloc: Global, plan: &str, invert: bool) -> Result<Setting, Fail>
+fn walk(alloc: Global, plan: &str, invert: bool) -> Result<Setting, &'static str>
     ensures lawful { IfOk result LawfulSetting }
     ensures childless { IfOk result (λ s. has_births s.job.program ≡ false) }
 {
