@@ -10,6 +10,7 @@ top=$(cd "$(dirname "$0")/.." && pwd)
 program=$top/out/brace-$("$top/tools/sum.sh")
 [ -x "$program" ] || program=$top/dist/brace
 PYTHONPATH=$top/bench python3 - "$program" "$top/bench/fish.brasil" <<'P'
+import collections
 import math
 import os
 import random
@@ -20,7 +21,8 @@ import time
 from measure import written
 
 program, script = sys.argv[1:]
-ROUNDS, TICKS = 9, 5
+ROUNDS, TICKS = 15, 5
+COUNTS = 5_000, 10_000, 20_000, 40_000, 80_000
 draw = random.Random(7).random
 
 
@@ -30,28 +32,38 @@ def seconds(words):
     return time.monotonic() - start
 
 
-def tick(agents, more):
-    """Seconds a tick: the least of several runs, without what a run of no tick takes."""
-    words = [program, "run", "--script", script, "--agents", agents, "--every", "1000", *more]
-    least = lambda ticks: min(seconds([*words, "--ticks", str(ticks)]) for _ in range(ROUNDS))
-    return (least(TICKS) - least(0)) / TICKS
-
-
-lines = ["| agents | one part | x | four strips, four workers | x |", "|---|---|---|---|---|"]
-before = None
-with tempfile.TemporaryDirectory() as work:
-    agents, plan = os.path.join(work, "a"), os.path.join(work, "k")
-    for count in (5_000, 10_000, 20_000, 40_000, 80_000):
+def worlds(folder):
+    """The words of a run for each world: in one part on one worker, and in four strips on four."""
+    for count in COUNTS:
         side = 1000 * math.sqrt(count / 20_000)
+        agents, plan = (os.path.join(folder, f"{kind}{count}") for kind in "ak")
         with open(agents, "w") as file:
             for number in range(count):
                 file.write(f"Fish,{number},{draw() * side:.6f},{draw() * side:.6f},0,0\n")
         with open(plan, "w") as file:
             file.write("at 0 x " + " ".join(f"{side * k / 4:.3f}" for k in (1, 2, 3)) + " y\n")
-        now = tick(agents, []), tick(agents, ["--cuts", plan, "--workers", "4"])
-        times = [f"{b / a:.2f}" for a, b in zip(before, now)] if before else ["", ""]
-        lines.append(f"| {count:,} | {now[0]:.4f} | {times[0]} | {now[1]:.4f} | {times[1]} |")
-        print(lines[-1], flush=True)
-        before = now
-written("Growth at one density", lines, f"least of {ROUNDS} runs of {TICKS} ticks")
+        run = [program, "run", "--script", script, "--agents", agents, "--every", "1000"]
+        yield count, (run, [*run, "--cuts", plan, "--workers", "4"])
+
+
+# The least seconds of each run, with no tick and with some. The worlds take turns, so that a slower
+# minute of the machine slows all of them.
+least = collections.defaultdict(lambda: math.inf)
+with tempfile.TemporaryDirectory() as folder:
+    runs = list(worlds(folder))
+    for _ in range(ROUNDS):
+        for count, pair in runs:
+            for way, words in enumerate(pair):
+                for ticks in (0, TICKS):
+                    key = count, way, ticks
+                    least[key] = min(least[key], seconds([*words, "--ticks", str(ticks)]))
+
+lines = ["| agents | one part | x | four strips, four workers | x |", "|---|---|---|---|---|"]
+before = None
+for count in COUNTS:
+    now = [(least[count, way, TICKS] - least[count, way, 0]) / TICKS for way in (0, 1)]
+    times = [f"{b / a:.2f}" for a, b in zip(before, now)] if before else ["", ""]
+    lines.append(f"| {count:,} | {now[0]:.4f} | {times[0]} | {now[1]:.4f} | {times[1]} |")
+    before = now
+written("Growth at one density", lines, f"least of {ROUNDS} runs of {TICKS} ticks, the worlds in turn")
 P
