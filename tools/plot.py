@@ -4,6 +4,7 @@
     plot.py rows.csv --script fish.brasil --tick 100 --out school.svg
     plot.py rows.csv --script fish.brasil --series vx --out speed.svg
     plot.py rows.csv --script ill.brasil --counts status --out cases.svg
+    plot.py rows.csv --script foxes.brasil --counts class --out waves.svg
 
 A column is named as in the script, or by CLASS.NAME; without a script by its number, from 1.
 """
@@ -417,11 +418,32 @@ def draw_counts(path, columns, column):
     if len(total) > len(told):
         lines.append(("#9aa3af", "others", {tick: sum(found.values()) - sum(map(
             found.__getitem__, told)) for tick, found in counts.items()}))
-    axes = Axes((min(counts), max(counts)), (0, max(max(line.values()) for *_, line in lines)))
+    return draw_lines(name, counts, lines)
+
+
+def draw_classes(path, columns):
+    """How many agents each class has, over all ticks."""
+    rows, counts = Rows(path, columns.types), {}
+
+    def wanted(kind):
+        columns.known(kind)
+        return [0]
+
+    for tick, kind, texts in rows.pieces(wanted):
+        counts.setdefault(tick, collections.Counter())[kind] += len(texts[0])
+    kinds = [kind for kind in columns.types if any(found[kind] for found in counts.values())]
+    lines = [(COLOURS[i % len(COLOURS)], kind, {tick: found[kind] for tick, found in counts.items()})
+             for i, kind in enumerate(kinds)]
+    return draw_lines("class", counts, lines)
+
+
+def draw_lines(name, ticks, lines):
+    """Numbers of agents over ticks; a line has a colour, a word and a number at each tick."""
+    axes = Axes((min(ticks), max(ticks)), (0, max(max(line.values()) for *_, line in lines)))
     parts = axes.drawn()
     parts += [f'<polyline points="{" ".join(points(axes, line))}" fill="none" stroke="{colour}" '
               f'stroke-width="2"/>' for colour, _, line in lines]
-    key = [(colour, value) for colour, value, _ in lines]
+    key = [(colour, word) for colour, word, _ in lines]
     return picture(f"agents by {name}", key, "tick", parts)
 
 
@@ -453,7 +475,8 @@ def main():
     what.add_argument("--tick", type=whole, help="draw the agents of this tick")
     what.add_argument("--series", metavar="COLUMN", help="draw a column over all ticks")
     what.add_argument("--counts", metavar="COLUMN",
-                      help="draw how many agents have each value of a column, over all ticks")
+                      help="draw how many agents have each value of a column, or are of each "
+                      "class (class), over all ticks")
     words.add_argument("--colour", metavar="COLUMN", help="colour the agents by a column")
     words.add_argument("--out", required=True, metavar="PICTURE.svg")
     asked = words.parse_args()
@@ -465,6 +488,8 @@ def main():
         columns = Columns(asked.script)
         if asked.series:
             text = draw_series(asked.rows, columns, asked.series)
+        elif asked.counts == "class":
+            text = draw_classes(asked.rows, columns)
         elif asked.counts:
             text = draw_counts(asked.rows, columns, asked.counts)
         else:

@@ -300,8 +300,8 @@ def check_advice(checks):
     checks.same("a semicolon that is missing is told first", advice["slips"][0]["why"],
                 "a `;` is missing; that is noticed at the next token, the first of the next line")
     for status, message in ((4, "brace: a.csv: record 1: BadValue 7"),
-                            (3, "brace: a.brasil: NotThin"),
                             (5, "brace: cuts.plan: line 1: NotRising"),
+                            (7, "brace: tick 0 birth agent 1 site 0: TooMany"),
                             (7, "brace: tick 0 query agent 1 site 0: Overflow")):
         advice = told.told(cudrenal.failure(status, message, None), text)
         checks.same(f"advice on {message}", len(advice["slips"]) > 0, True)

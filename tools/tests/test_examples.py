@@ -85,6 +85,12 @@ def orbit(agents, _):
             "farthest": f"{max(far):.1f}"}
 
 
+def predators(agents, _):
+    return {"hares": sum(a.kind == "Hare" for a in agents),
+            "foxes": sum(a.kind == "Fox" for a in agents),
+            "the last id": max(a.id for a in agents)}
+
+
 def road(agents, _):
     found = {}
     for radius in sorted({a.radius for a in agents}):
@@ -107,6 +113,7 @@ FIGURES = {
     "epidemic": (epidemic, (0, 10, 20, 40, 200)),
     "flock": (flock, (0, 20, 40, 100, 200)),
     "orbit": (orbit, (0, 60, 200)),
+    "predators": (predators, (0, 32, 47, 75, 115, 150, 166, 194, 229, 258, 280, 300)),
     "road": (road, (0, 50, 100, 150, 200)),
     "rumour": (rumour, (0, 40, 80, 120, 160, 200)),
 }

@@ -25,6 +25,8 @@ DRAWN = [
     ("--series A.3", ("polyline", 3)),
     ("--script s --counts n", ("polyline", 3)),
     ("--script s --counts B.b", ("polyline", 3)),
+    ("--script s --counts class", ("polyline", 3)),
+    ("--counts class", ("polyline", 3)),
 ]
 
 # Words, what the rows are, and the line of the refusal.
@@ -35,6 +37,7 @@ REFUSED = [
     ("--script s --series x", ROWS, "x is a column of A and of B; say A.x"),
     ("--script s --tick 0 --colour z", ROWS, "no class at tick 0 has a column z"),
     ("--script s --counts A.x", ROWS, "A.x is fixed; --counts takes an int or a bool"),
+    ("--script s --counts class", "0,C,1,2\n", "the script has no class C, and the rows have"),
     ("--script s --counts z", ROWS, "rows: no class has a column z"),
     ("--script absent --tick 0", ROWS, "absent: No such file or directory"),
     ("--script rows --tick 0", ROWS, "rows: has no class"),
@@ -89,8 +92,8 @@ def drawn(folder, words, form):
 def check_many(same, folder):
     """Rows in pieces come to what they come to one by one; the first wrong one is told."""
     write(folder, "rows", "".join(MANY))
-    for words in ("--series A.x", "--series b", "--counts n", "--counts b", "--tick 2 --colour n",
-                  "--tick 3"):
+    for words in ("--series A.x", "--series b", "--counts n", "--counts b", "--counts class",
+                  "--tick 2 --colour n", "--tick 3"):
         plot(folder, f"--script s {words}")
         with open(os.path.join(folder, "out.svg"), encoding="utf-8") as file:
             pieces = file.read()

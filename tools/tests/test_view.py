@@ -54,6 +54,7 @@ SCENES = {
     "drift": (24, "$('trail').value = 24; $('charted').value = '0 2'"),
     "flock": (100, "$('colour').value = 'wx'; $('trail').value = 12; $('charted').value = '0 6'"),
     "epidemic": (10, "$('colour').value = 'ill'; $('charted').value = '0 3'"),
+    "predators": (130, ""),
     "road": (150, "$('colour').value = 'v'; $('charted').value = '0 4'"),
     "rumour": (120, "$('colour').value = 'news'; $('charted').value = '0 2'"),
     "orbit": (60, "$('trail').value = 20; $('charted').value = '0 4'; shown.followed = 20"),

@@ -205,10 +205,10 @@ module _ {P : Type 0} (of : publisher.Ghosts P) (s : Setting) (d : OnDesk P) (de
         record {
           no_fault = no_fault of s run none;
           is_behind = all_shown of s run none d.opening d.publisher shown;
-          border = ap (λ c. c.border) are ∙ border_counted s run.lawful run.numbers run.childless worlds;
-          effects = ap (λ c. c.effects) are ∙ effects_counted s run.lawful run.numbers run.childless worlds;
-          moved = ap (λ c. c.moved) are ∙ moved_counted s run.lawful run.numbers run.childless worlds;
-          handed = ap (λ c. c.handed) are ∙ handed_counted s run.lawful run.numbers run.childless worlds;
+          border = ap (λ c. c.border) are ∙ border_counted s run.lawful run.numbers worlds;
+          effects = ap (λ c. c.effects) are ∙ effects_counted s run.lawful run.numbers worlds;
+          moved = ap (λ c. c.moved) are ∙ moved_counted s run.lawful run.numbers worlds;
+          handed = ap (λ c. c.handed) are ∙ handed_counted s run.lawful run.numbers worlds;
         }
 
     pub shown_front : HasShown of d (length (ends d.course.setting)) → IsFront of s d.opening d.publisher (calls s)

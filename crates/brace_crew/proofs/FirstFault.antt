@@ -8,7 +8,6 @@ use Rattle.brace_model.specs.declared.fault.Fault.{Fault}
 use Rattle.brace_model.specs.declared.fault.Phase.{Phase}
 use Rattle.brace_model.specs.declared.fault.Phase.TheVariants.{Query, Update, Birth}
 use Rattle.brace_model.specs.FaultOrder.{comes_before, least}
-use Rattle.brace_model.specs.Next.{has_births}
 use Rattle.brace_model.specs.Run.{first_fault}
 use Rattle.brace_model.proofs.FaultLemmas.{one_before, least_is, least_none}
 use Rattle.brace_invert.proofs.Sites.{none_within, only_one}
@@ -24,7 +23,6 @@ use Rattle.brace_pieces.specs.Finds.{queries_found, updates_found, found_at, sta
 use Rattle.brace_pieces.specs.Right.{IsTold, IsRightCause}
 use Rattle.brace_pieces.specs.Halts.{StandsFirst, FollowsFirst}
 use Rattle.brace_pieces.specs.Courses.{OnCourse}
-use Rattle.brace_pieces.proofs.Childless.{no_birth_faults}
 use Rattle.brace_pieces.proofs.HaltLemmas.{halt_found}
 use Rattle.brace_pieces.proofs.Origins.{of_map, of_flat_map, flat_map_of}
 use Rattle.brace_pieces.proofs.OrderLemmas.{stands_once}
@@ -38,11 +36,10 @@ use Rattle.brace_crew.specs.inner.Crews.{AreParts, fault_in, told_by, TellsAll, 
 use Rattle.brace_crew.proofs.DeskCourses.{last_behind}
 use Rattle.brace_num.proofs.Rows.{row_has}
 
--- a lawful run without births
+-- a lawful run
 pub record IsRun (s : Setting) : Type 0 where
   pub lawful : LawfulSetting s
   pub numbers : NumbersFit s
-  pub childless : has_births s.job.program ≡ false
 
 -- a run that ends in a fault
 pub record EndsIn (s : Setting) (g : Fault) : Type 0 where
@@ -52,16 +49,16 @@ pub record EndsIn (s : Setting) (g : Fault) : Type 0 where
 -- ---- faults that are told
 
 -- what a part finds in a phase it finds in the work of the phase's step
-in_work : (s : Setting) → has_births s.job.program ≡ false → (t p : ℕ) (phase : Phase) (f : Fault) → Contains (found_by s t p phase) f → Contains (found_in_work s p (stage_of s phase) t) f
-in_work s none t p Query f has = Contains-append_left (queries_found s t p (on s t).agents) (if s.invert then updates_found s t p (on s t).agents else []) f has
-in_work s none t p Update f has = by_test s.invert refl
+in_work : (s : Setting) (t p : ℕ) (phase : Phase) (f : Fault) → Contains (found_by s t p phase) f → Contains (found_in_work s p (stage_of s phase) t) f
+in_work s t p Query f has = Contains-append_left (queries_found s t p (on s t).agents) (if s.invert then updates_found s t p (on s t).agents else []) f has
+in_work s t p Update f has = by_test s.invert refl
   where
     by_test : (b : Bool) → s.invert ≡ b → Contains (found_in_work s p (if b then stage.Border else stage.Effects) t) f
     by_test true is =
         let told = updates_found s t p (on s t).agents in
         Contains-append_right (queries_found s t p (on s t).agents) (if s.invert then told else []) f (subst (λ b. Contains (if b then told else []) f) (sym is) has)
     by_test false is = has
-in_work s none t p Birth f has = none_within (Contains [] f) f (subst (λ faults. Contains faults f) (no_birth_faults s none t (on s t)) has)
+in_work s t p Birth f has = has
 
 some_least : (faults : List Fault) (f : Fault) → Contains faults f → (g : Fault) × (least faults ≡ Some g)
 some_least faults f has = (elim (least faults) as (λ o. least faults ≡ o → (g : Fault) × (o ≡ Some g)) [
@@ -102,7 +99,7 @@ module _ (c : OnCourse) (o : Option Cause) (tells : TellsAll c o) (behind : leng
   pub tells_first : EndsIn c.setting g → (k : ℕ) → slice_get (steps c.setting) k ≡ Some (found_at c.setting g) → Contains (found_by c.setting g.tick c.actor g.phase) g → o ≡ Some (cause.Fault g)
   tells_first e k stands finds =
       let work = found_in_work c.setting c.actor (stage_of c.setting g.phase) g.tick in
-      let has : Contains work g = in_work c.setting e.run.childless g.tick c.actor g.phase g finds in
+      let has : Contains work g = in_work c.setting g.tick c.actor g.phase g finds in
       let (f, is) = some_least work g has in
       let (among, low) = (least_is work f).0 is in
       let within = slice_get_within (steps c.setting) k (found_at c.setting g) stands in

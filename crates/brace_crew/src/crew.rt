@@ -1,4 +1,4 @@
-ghost use Rattle.std.specs.Prelude.{◌≡◌, ◌⊎◌, ℕ, ◌+◌, ◌<◌, ◌≤◌, ◌^◌, ◌==◌, List, [], map, flat_map, replicate, length, IfOk, IfErr, IfSome, Ok, Err, Some, None, false, IsTrue};
+ghost use Rattle.std.specs.Prelude.{◌≡◌, ◌⊎◌, ℕ, ◌+◌, ◌<◌, ◌≤◌, ◌^◌, ◌==◌, List, [], map, flat_map, replicate, length, IfOk, IfErr, IfSome, Ok, Err, Some, None, IsTrue};
 ghost use Rattle.std.specs.List.{All, Contains, find, range_with_len};
 ghost use Rattle.std.specs.Option.{option_copied};
 ghost use Rattle.std.specs.Vec.{vec_len, vec_capacity};
@@ -8,7 +8,6 @@ ghost use Rattle.brace_core.specs.Schedule.{lane};
 ghost use Rattle.brace_core.specs.declared.name.Turn.TheVariants as turn;
 ghost use Rattle.brace_model.specs.declared.fault.Fault.{Fault};
 ghost use Rattle.brace_model.specs.FaultOrder.{least};
-ghost use Rattle.brace_model.specs.Next.{has_births};
 ghost use Rattle.brace_model.specs.Run.{first_fault};
 ghost use Rattle.brace_pieces.specs.declared.setting.Setting.{Setting};
 ghost use Rattle.brace_pieces.specs.declared.piece.Cause.TheVariants as cause;
@@ -59,7 +58,6 @@ impl From<NoMemory> for CrewFault {
 /// A part of a run before its first turn.
 fn part_of<'a>(alloc: Global, setting: &'a Setting, number: u32) -> Result<Part<'a>, NoMemory>
     requires lawful { LawfulSetting setting.now }
-    requires childless { has_births setting.now.job.program ≡ false }
     requires below { number < parts setting.now }
     ensures { IfOk result (λ part. part.course ≡ at_start setting.now number) }
 {
@@ -77,7 +75,6 @@ pub(crate) fn parts<'a, P: Publisher>(
     workers: u32,
 ) -> Result<Vec<Member<'a, P>>, NoMemory>
     requires lawful { LawfulSetting setting.now }
-    requires childless { has_births setting.now.job.program ≡ false }
     requires some_worker { 0 < workers }
     ensures parts { (publisher : P) → IfOk result (λ all. AreMembers setting.now publisher
         (served workers worker (part_numbers setting.now)) all.items) }
@@ -102,7 +99,6 @@ fn members<'a, P: Publisher>(
     publisher: P,
 ) -> Result<Vec<Member<'a, P>>, P>
     requires lawful { LawfulSetting setting.now }
-    requires childless { has_births setting.now.job.program ≡ false }
     ensures members { IfOk result (λ all.
         AreMembers setting.now publisher (all_numbers setting.now) all.items) }
     ensures first_turns { IfOk result (λ all. AreNew all.items) }
@@ -302,7 +298,6 @@ fn ended<P: Publisher>(
     members: &[Member<P>],
 ) -> (P, CrewFault)
     requires lawful { LawfulSetting setting.now }
-    requires childless { has_births setting.now.job.program ≡ false }
     requires parts { AreParts setting.now members.now }
     requires desk { desk.course.setting ≡ setting.now }
     requires halted { (f : Fault) × HasHalted P.Publisher desk (cause.Fault f) }
@@ -335,7 +330,6 @@ fn settled<P: Publisher>(
     desk: Desk<P>,
 ) -> (P, Result<Counts, CrewFault>)
     requires lawful { LawfulSetting setting.now }
-    requires childless { has_births setting.now.job.program ≡ false }
     requires parts { AreParts setting.now members.now }
     requires desk { IsDeskOf setting.now desk }
     ensures came { CameTo P.Publisher setting.now desk.entry.opening result.0 result.1 }
@@ -366,7 +360,6 @@ pub(crate) fn concluded<P: Publisher>(
     mut members: Vec<Member<P>>,
 ) -> (P, Result<Counts, CrewFault>)
     requires lawful { LawfulSetting setting.now }
-    requires childless { has_births setting.now.job.program ≡ false }
     requires members { (publisher : P)
         × AreMembers setting.now publisher (all_numbers setting.now) members.items }
     requires done { All IsDone members.items }
@@ -384,8 +377,8 @@ pub(crate) fn concluded<P: Publisher>(
 /// Runs the parts of a setting and its publisher over plain lanes, in the order that a number
 /// draws, and gives the publisher back with what all parts gave, or why not all was published.
 ///
-/// The setting is lawful and its program has no `spawn`. The lanes are made for it, with one actor
-/// more than it has parts, and nothing was put on them.
+/// The setting is lawful. The lanes are made for it, with one actor more than it has parts, and
+/// nothing was put on them.
 pub fn crew_run_alone<P: Publisher>(
     alloc: Global,
     setting: &Setting,
@@ -394,7 +387,6 @@ pub fn crew_run_alone<P: Publisher>(
     publisher: P,
 ) -> (P, Result<Counts, CrewFault>)
     requires lawful { LawfulSetting setting.now }
-    requires childless { has_births setting.now.job.program ≡ false }
     requires lanes_setting { lanes.old.setting ≡ setting.now }
     requires lanes_for { lanes.old.actors ≡ parts setting.now + 1 }
     requires nothing_put { (p q : ℕ) → puts_of lanes.old p q ≡ 0 }

@@ -1,9 +1,8 @@
 //! The members of a run on several workers, before their first turns.
-ghost use Rattle.std.specs.Prelude.{◌≡◌, ◌+◌, ◌<◌, false, map, IfOk, IfErr};
+ghost use Rattle.std.specs.Prelude.{◌≡◌, ◌+◌, ◌<◌, map, IfOk, IfErr};
 ghost use Rattle.std.specs.List.{All};
 ghost use Rattle.std.specs.Vec.{vec_len, vec_capacity};
 ghost use Rattle.brace_lanes.specs.Seats.{new_seats};
-ghost use Rattle.brace_model.specs.Next.{has_births};
 ghost use Rattle.brace_pieces.specs.Settings.{LawfulSetting, parts};
 ghost use Rattle.brace_crew.specs.inner.Crews.{AreNew, all_numbers, part_numbers};
 ghost use Rattle.brace_crew.specs.inner.Teams.{AreRosters, IsTeam};
@@ -22,7 +21,6 @@ fn part_rosters<'a, P: Publisher>(
     workers: u32,
 ) -> Result<Vec<Vec<Member<'a, P>>>, NoMemory>
     requires lawful { LawfulSetting setting.now }
-    requires childless { has_births setting.now.job.program ≡ false }
     requires some_worker { 0 < workers }
     ensures rosters { (publisher : P) → IfOk result (λ all. AreRosters setting.now publisher workers
         (part_numbers setting.now) (map (λ l. l.items) all.items)) }
@@ -45,7 +43,6 @@ fn rosters<'a, P: Publisher>(
     publisher: P,
 ) -> Result<Vec<Vec<Member<'a, P>>>, P>
     requires lawful { LawfulSetting setting.now }
-    requires childless { has_births setting.now.job.program ≡ false }
     requires some_worker { 0 < workers }
     ensures rosters { IfOk result (λ all. AreRosters setting.now publisher workers
         (all_numbers setting.now) (map (λ l. l.items) all.items)) }
@@ -73,7 +70,6 @@ pub fn benches<'a, P: Publisher>(
     publisher: P,
 ) -> Result<Vec<Bench<'a, P>>, P>
     requires lawful { LawfulSetting setting.now }
-    requires childless { has_births setting.now.job.program ≡ false }
     requires some_worker { 0 < workers }
     requires seats { seats.items
         ≡ new_seats lanes.now setting.now (parts setting.now + 1) workers workers }

@@ -1,11 +1,10 @@
 //! A run on several workers.
-ghost use Rattle.std.specs.Prelude.{◌≡◌, ◌≤◌, ◌<◌, ◌+◌, [], true, false, length, map, IfOk, Err};
+ghost use Rattle.std.specs.Prelude.{◌≡◌, ◌≤◌, ◌<◌, ◌+◌, [], true, length, map, IfOk, Err};
 ghost use Rattle.std.specs.List.{All};
 ghost use Rattle.std.specs.Vec.{vec_capacity};
 ghost use Rattle.std.specs.Vec.Iter.{into_iter_items};
 ghost use Rattle.brace_pieces.specs.declared.setting.Setting.{Setting};
 ghost use Rattle.brace_lanes.specs.Seats.{new_seats};
-ghost use Rattle.brace_model.specs.Next.{has_births};
 ghost use Rattle.brace_pieces.specs.Settings.{LawfulSetting, parts};
 ghost use Rattle.brace_crew.specs.declared.crew.CrewFault.TheVariants as fault;
 ghost use Rattle.brace_crew.specs.Calls.{CameTo};
@@ -160,7 +159,6 @@ fn run_on<'a, R: Threads + Wait + Sync, P: Publisher + Send, G: Gate + Sync>(
     gate: &G,
 ) -> (P, Vec<LaneSeat<Piece>>, Result<Counts, CrewFault>)
     requires lawful { LawfulSetting setting.now }
-    requires childless { has_births setting.now.job.program ≡ false }
     requires some_worker { 0 < workers }
     requires seats { seats.items
         ≡ new_seats lanes.now setting.now (parts setting.now + 1) workers workers }
@@ -190,7 +188,7 @@ fn run_on<'a, R: Threads + Wait + Sync, P: Publisher + Send, G: Gate + Sync>(
 
 /// A run on one worker, over plain lanes, as [`crew_run_alone`] makes it.
 ///
-/// The setting is lawful and its program has no `spawn`.
+/// The setting is lawful.
 pub fn crew_run_on_one<P: Publisher>(
     alloc: Global,
     setting: &Setting,
@@ -198,7 +196,6 @@ pub fn crew_run_on_one<P: Publisher>(
     publisher: P,
 ) -> (P, Result<Counts, CrewFault>)
     requires lawful { LawfulSetting setting.now }
-    requires childless { has_births setting.now.job.program ≡ false }
     ensures came { CameTo P.Publisher setting.now publisher result.0 result.1 }
 {
     match PlainLanes::make(alloc, setting, setting.parts() + 1) {
@@ -213,8 +210,8 @@ pub fn crew_run_on_one<P: Publisher>(
 /// number is the number of parts. One worker runs over plain lanes in the order that a number
 /// draws, as [`crew_run_alone`] does, and has no seat.
 ///
-/// The setting is lawful and its program has no `spawn`. With two or more workers the call may
-/// wait; what is said here holds where it returns.
+/// The setting is lawful. With two or more workers the call may wait; what is said here holds where
+/// it returns.
 pub fn crew_run<R: Threads + Wait + Sync, P: Publisher + Send, G: Gate + Sync>(
     rt: &R,
     alloc: Global,
@@ -225,7 +222,6 @@ pub fn crew_run<R: Threads + Wait + Sync, P: Publisher + Send, G: Gate + Sync>(
     gate: &G,
 ) -> (P, Vec<LaneSeat<Piece>>, Result<Counts, CrewFault>)
     requires lawful { LawfulSetting setting.now }
-    requires childless { has_births setting.now.job.program ≡ false }
     requires some_worker { 1 ≤ workers }
     requires few_workers { workers ≤ 16 }
     ensures came { CameTo P.Publisher setting.now publisher result.0 result.2 }

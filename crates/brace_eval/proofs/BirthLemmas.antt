@@ -13,7 +13,7 @@ use Rattle.brace_model.specs.declared.world.Agent.{Agent}
 use Rattle.brace_model.specs.Step.{goes_too_far, first_too_far, count_values, most_agents, most_values, greatest_id}
 
 -- the first of some numbers at which a test is true
-found_at : (p : ℕ → Bool) (a n i : ℕ) → i < n → ((r : ℕ) → a ≤ r → r < a + i → p r ≡ false) → p (a + i) ≡ true
+pub found_at : (p : ℕ → Bool) (a n i : ℕ) → i < n → ((r : ℕ) → a ≤ r → r < a + i → p r ≡ false) → p (a + i) ≡ true
     → find p (range_with_len a n) ≡ Some (a + i)
 found_at p a zero i le before here = absurd (omega (arith, le))
 found_at p a (suc n) zero le before here =
@@ -26,7 +26,7 @@ found_at p a (suc n) (suc i) le before here =
     let rest = found_at p (a + 1) n i (omega (arith, le)) (λ r low high. before r (omega (arith, low)) (omega (arith, high))) (ap p same ∙ here) in
     rw not_here (rest ∙ ap Some same)
 
-found_none : (p : ℕ → Bool) (a n : ℕ) → ((r : ℕ) → a ≤ r → r < a + n → p r ≡ false) → find p (range_with_len a n) ≡ None
+pub found_none : (p : ℕ → Bool) (a n : ℕ) → ((r : ℕ) → a ≤ r → r < a + n → p r ≡ false) → find p (range_with_len a n) ≡ None
 found_none p a zero before = refl
 found_none p a (suc n) before =
     let not_here : p a ≡ false = before a (omega arith) (omega arith) in

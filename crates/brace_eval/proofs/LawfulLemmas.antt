@@ -403,7 +403,7 @@ numbered_values next (c ∷ born) =
     ∙ sym (sum_by-cons (λ (a : Agent). length a.states) c born)
 
 -- the agents of the grown world, where they are few
-grown_lawful : (program : Program) (next : ℕ) (ls bs : List Agent) → AreLawful program ls → AreLawful program bs
+pub grown_lawful : (program : Program) (next : ℕ) (ls bs : List Agent) → AreLawful program ls → AreLawful program bs
     → next + length bs ≤ suc greatest_id → length ls + length bs ≤ most_agents → count_values ls + count_values bs ≤ most_values
     → LawfulAgents program (ls ++ numbered next bs)
 grown_lawful program next ls bs lives bears fits few values =

@@ -1,8 +1,8 @@
-ghost use Rattle.std.specs.Prelude.{◌≡◌, ◌+◌, ◌-◌, ◌^◌, ◌≤◌, length, min, nat_lt, ◌||◌, option_copied, IfNone, IfOk};
+ghost use Rattle.std.specs.Prelude.{◌≡◌, ◌+◌, ◌-◌, ◌^◌, ◌≤◌, length, min, [], nat_lt, ◌||◌, option_copied, IfNone, IfOk};
 ghost use Rattle.brace_model.specs.World.{world_with};
 ghost use Rattle.brace_model.specs.Step.{most_agents, most_values, greatest_id, count_values, first_too_far, spawn_site, birth_fault, grown};
 
-use brace_model::{Agent, Fault, Phase, Program, class_of};
+use brace_model::{Agent, Fault, Parent, Phase, Program};
 use brace_num::{Kind, NoMemory};
 
 /// The most agents of a world, the most values of their states, and the greatest id.
@@ -24,7 +24,7 @@ fn count_values(agents: &[Agent]) -> usize
 }
 
 /// Whether these are too many agents, or values of their states, or an id is too great.
-fn is_too_far(agents: usize, values: usize, id: u64) -> bool
+pub fn is_too_far(agents: usize, values: usize, id: u64) -> bool
     ensures { result ≡ (nat_lt most_agents agents
         || (nat_lt most_values values || nat_lt greatest_id id)) }
 {
@@ -52,26 +52,27 @@ pub fn first_too_far<'a>(living: &[Agent], next: u64, born: &'a [Agent]) -> Opti
     None
 }
 
-/// The fault of a birth.
-pub fn birth_fault(program: &Program, tick: u64, child: &Agent) -> Fault
-    ensures { result ≡ birth_fault program.now tick child.now }
+/// The fault of the birth of a parent's child.
+pub fn birth_fault(program: &Program, tick: u64, parent: Parent) -> Fault
+    ensures { result ≡ birth_fault program.now tick
+        (record { class = parent.class; id = parent.id; states = [] }) }
 {
     Fault {
         tick,
         phase: Phase::Birth,
-        agent: child.id,
-        site: spawn_site(program, child),
+        agent: parent.id,
+        site: spawn_site(program, parent.class),
         outer: None,
         inner: None,
         kind: Kind::TooMany,
     }
 }
 
-/// The site of the `spawn` of an agent's class.
-fn spawn_site(program: &Program, a: &Agent) -> u32
-    ensures { result ≡ spawn_site program.now a.now }
+/// The site of the `spawn` of a class.
+fn spawn_site(program: &Program, class: u32) -> u32
+    ensures { result ≡ spawn_site program.now (record { class = class; id = 0; states = [] }) }
 {
-    match class_of(program, a) {
+    match program.classes.as_slice().get(class as usize) {
         Some(class) => match &class.spawn {
             Some(spawn) => spawn.site,
             None => 0,

@@ -15,6 +15,7 @@ mod seat;
 mod step;
 mod update;
 
+pub use births::{birth_fault, is_too_far};
 pub use expression::eval;
 pub use fault::StepFault;
 pub use heard::{Heard, effects_of};

@@ -14,7 +14,7 @@ use crate::heard::{Heard, effects_of};
 use crate::ledger::with_earlier;
 use crate::update::{Left, left_by};
 use brace_draw::Drawer;
-use brace_model::{Agent, Fault, Job, Program, World};
+use brace_model::{Agent, Fault, Job, Parent, Program, World};
 use brace_num::NoMemory;
 use std::alloc::Global;
 
@@ -141,7 +141,11 @@ pub fn plain_step(alloc: Global, job: &Job, tick: u64, world: &World) -> Result<
         &mut drawer,
     )?;
     if let Some(child) = first_too_far(&nexts.living, world.next(), &nexts.born) {
-        return Err(StepFault::Fault(birth_fault(&job.program, tick, child)));
+        let parent = Parent {
+            id: child.id,
+            class: child.class,
+        };
+        return Err(StepFault::Fault(birth_fault(&job.program, tick, parent)));
     }
     let (agents, next) = grown(nexts.living, world.next(), nexts.born)?;
     match World::with_next(agents, next) {

@@ -19,7 +19,7 @@ use Rattle.brace_pieces.specs.Right.{border, handed, moved, shares}
 use Rattle.brace_pieces.specs.Counts.{agents_at, over_pairs, over_ticks, changing, count_border, count_effects, count_moved, count_handed}
 use Rattle.brace_pieces.proofs.CourseLemmas.{kept_more}
 use Rattle.brace_pieces.proofs.PlaceLemmas.{shape}
-use Rattle.brace_part.specs.Given.{given_in, all_given}
+use Rattle.brace_part.specs.Given.{lived, given_in, all_given}
 use Rattle.brace_part.proofs.SumLemmas.{sum_none, sum_same, sum_swap, sum_flat, sum_kept}
 use Rattle.brace_part.proofs.PartLemmas.{not_below}
 use Rattle.brace_part.proofs.GaveLemmas.{meet_is, handed_changing, no_handed, no_border, no_shares, moved_changing, no_moved}
@@ -76,7 +76,11 @@ module _ (s : Setting) where
 
   -- ---- over all steps
 
-  module _ (f : Step → ℕ) (nothing_shown : (t : ℕ) → f (step Show t) ≡ 0) (childless : has_births s.job.program ≡ false) where
+  none_if : (c : Bool) (n : ℕ) → n ≡ 0 → cond c n 0 ≡ 0
+  none_if true n none = none
+  none_if false n none = refl
+
+  module _ (f : Step → ℕ) (nothing_shown : (t : ℕ) → f (step Show t) ≡ 0) (nothing_told : (t : ℕ) → f (step Census t) ≡ 0) where
     made : (c : Bool) (at : Step) → sum_by f (made_if c at) ≡ cond c (f at) 0
     made true at = omega (arith, sum_by-cons f at [])
     made false at = refl
@@ -97,7 +101,7 @@ module _ (s : Setting) where
         let effects : List Step = made_if (not s.invert) (step Effects t) in
         let census : List Step = made_if (has_births s.job.program) (step Census t) in
         let ending : List Step = step Move t ∷ show s (t + 1) in
-        let born : sum_by f census ≡ 0 = made (has_births s.job.program) (step Census t) ∙ ap (λ c. cond c (f (step Census t)) 0) childless in
+        let born : sum_by f census ≡ 0 = made (has_births s.job.program) (step Census t) ∙ none_if (has_births s.job.program) (f (step Census t)) (nothing_told t) in
         let one = sum_by-append f hand (step Border t ∷ (effects ++ (census ++ ending))) in
         let two = sum_by-cons f (step Border t) (effects ++ (census ++ ending)) in
         let three = sum_by-append f effects (census ++ ending) in
@@ -127,13 +131,9 @@ module _ (s : Setting) where
   none_given : (at : Step) → sum_by (λ p. sum_by (λ q. 0) (met s at p)) numbers ≡ 0
   none_given at = sum_same (λ p. sum_by (λ q. 0) (met s at p)) (λ p. 0) numbers (λ p has. sum_none (met s at p)) ∙ sum_none numbers
 
-  none_if : (c : Bool) (n : ℕ) → n ≡ 0 → cond c n 0 ≡ 0
-  none_if true n none = none
-  none_if false n none = refl
-
   -- ---- kind by kind
 
-  module _ (lawful : LawfulSetting s) (fit : NumbersFit s) (childless : has_births s.job.program ≡ false)
+  module _ (lawful : LawfulSetting s) (fit : NumbersFit s)
       (runs : (t : ℕ) → s.job.first ≤ t → t ≤ s.job.last → world_after s.job (t - s.job.first) ≡ Ok (on s t)) where
     agents_are : (t : ℕ) → s.job.first ≤ t → t ≤ s.job.last → agents_at s t ≡ (on s t).agents
     agents_are t low high = rw (runs t low high) refl
@@ -151,7 +151,7 @@ module _ (s : Setting) where
     pub border_counted : (all_given s).border ≡ count_border s
     border_counted =
         of_parts (λ p at. (given_in s p at).border)
-        ∙ of_steps borders (λ t. none_given (step Show t)) childless (λ t. over_pairs s (λ p q. length (border s t p q (agents_at s t)))) (λ t low high.
+        ∙ of_steps borders (λ t. none_given (step Show t)) (λ t. none_given (step Census t)) (λ t. over_pairs s (λ p q. length (border s t p q (agents_at s t)))) (λ t low high.
         let pairs = over_all (step Border t) refl (λ p q. length (border s t p q (on s t).agents)) (λ p q other part apart meets. ap length (no_border s lawful fit t p q other part apart meets)) in
         let here = ap (λ l. over_pairs s (λ p q. length (border s t p q l))) (sym (now_are t low high)) in
         let hand = none_if (is_recut s t) (borders (step Hand t)) (none_given (step Hand t)) in
@@ -167,7 +167,7 @@ module _ (s : Setting) where
 
     told_by : (b : Bool) → s.invert ≡ b → sum_by told (steps s) ≡ (if b then 0 else all_told)
     told_by true is =
-        of_steps told (λ t. none_given (step Show t)) childless (λ t. 0) (λ t low high.
+        of_steps told (λ t. none_given (step Show t)) (λ t. none_given (step Census t)) (λ t. 0) (λ t low high.
         let hand = none_if (is_recut s t) (told (step Hand t)) (none_given (step Hand t)) in
         let effects = ap (λ v. cond (not v) (told (step Effects t)) 0) is in
         let border = none_given (step Border t) in
@@ -175,7 +175,7 @@ module _ (s : Setting) where
         omega (arith, hand, border, effects, move))
         ∙ sum-map (λ t. 0) ticks ∙ sum_none ticks
     told_by false is =
-        of_steps told (λ t. none_given (step Show t)) childless (λ t. over_pairs s (λ p q. length (shares s t p q (agents_at s t)))) (λ t low high.
+        of_steps told (λ t. none_given (step Show t)) (λ t. none_given (step Census t)) (λ t. over_pairs s (λ p q. length (shares s t p q (agents_at s t)))) (λ t low high.
         let pairs = over_all (step Effects t) refl (λ p q. length (shares s t p q (on s t).agents)) (λ p q other part apart meets. ap length (no_shares s lawful fit t p q other part apart is meets)) in
         let here = ap (λ l. over_pairs s (λ p q. length (shares s t p q l))) (sym (now_are t low high)) in
         let hand = none_if (is_recut s t) (told (step Hand t)) (none_given (step Hand t)) in
@@ -193,10 +193,10 @@ module _ (s : Setting) where
     pub moved_counted : (all_given s).moved ≡ count_moved s
     moved_counted =
         of_parts (λ p at. (given_in s p at).moved)
-        ∙ of_steps moves (λ t. none_given (step Show t)) childless (λ t. over_pairs s (λ p q. changing s.job.program (cuts_of s t) p (agents_at s t) (cuts_of s t) q (agents_at s (t + 1)))) (λ t low high.
-        let pairs = over_all (step Move t) refl (λ p q. length (moved s t p q (on s t))) (λ p q other part apart meets. ap length (no_moved s lawful fit t childless low p q other part apart meets)) in
-        let each : (p q : ℕ) → length (moved s t p q (on s t)) ≡ changing s.job.program (cuts_of s t) p (agents_at s t) (cuts_of s t) q (agents_at s (t + 1)) = λ p q.
-        moved_changing s lawful fit t childless low p q
+        ∙ of_steps moves (λ t. none_given (step Show t)) (λ t. none_given (step Census t)) (λ t. over_pairs s (λ p q. changing s.job.program (cuts_of s t) p (agents_at s t) (cuts_of s t) q (agents_at s (t + 1)))) (λ t low high.
+        let pairs = over_all (step Move t) refl (λ p q. length (lived (on s t).next (moved s t p q (on s t)))) (λ p q other part apart meets. ap (λ l. length (lived (on s t).next l)) (no_moved s lawful fit t low p q other part apart meets)) in
+        let each : (p q : ℕ) → length (lived (on s t).next (moved s t p q (on s t))) ≡ changing s.job.program (cuts_of s t) p (agents_at s t) (cuts_of s t) q (agents_at s (t + 1)) = λ p q.
+        moved_changing s lawful fit t low p q
         ∙ ap₂ (λ a b. changing s.job.program (cuts_of s t) p a (cuts_of s t) q b) (sym (now_are t low high)) (sym (next_are t low high)) in
         let here = ap (over_pairs s) (λ i p q. each p q i) in
         let hand = none_if (is_recut s t) (moves (step Hand t)) (none_given (step Hand t)) in
@@ -213,7 +213,7 @@ module _ (s : Setting) where
     pub handed_counted : (all_given s).handed ≡ count_handed s
     handed_counted =
         of_parts (λ p at. (given_in s p at).handed)
-        ∙ of_steps hands (λ t. none_given (step Show t)) childless (λ t. if is_recut s t then recut_in t else 0) (λ t low high.
+        ∙ of_steps hands (λ t. none_given (step Show t)) (λ t. none_given (step Census t)) (λ t. if is_recut s t then recut_in t else 0) (λ t low high.
         let pairs = over_all (step Hand t) refl (λ p q. length (handed s t p q (on s t).agents)) (λ p q other part apart meets. ap length (no_handed s lawful fit t p q other part apart meets)) in
         let each : (p q : ℕ) → length (handed s t p q (on s t).agents) ≡ changing s.job.program (cuts_of s (t - 1)) p (agents_at s t) (cuts_of s t) q (agents_at s t) = λ p q.
         handed_changing s lawful fit t p q ∙ ap (λ l. changing s.job.program (cuts_of s (t - 1)) p l (cuts_of s t) q l) (sym (now_are t low high)) in

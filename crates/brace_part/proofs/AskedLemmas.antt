@@ -1,13 +1,11 @@
 -- What is heard of agents is the same in whatever order they are asked; and agents by their places.
-use Rattle.std.proofs.Common.{◌≡◌, ◌∙◌, refl, sym, ap, ap₂, subst, ℕ, zero, suc, ◌+◌, ◌<◌, ◌≤◌, List, [], ◌∷◌, ◌++◌, map, filter, take, flat_map, length, get_or, set, Bool, true, false, cond, ◌&&◌, ◌==◌, Option, Some, All, arith}
+use Rattle.std.proofs.Common.{◌≡◌, ◌∙◌, refl, sym, ap, ap₂, subst, ℕ, zero, suc, ◌<◌, List, [], ◌∷◌, ◌++◌, map, filter, flat_map, length, get_or, set, Bool, true, false, cond, ◌&&◌, ◌==◌, Option, Some, All, arith}
 use Rattle.std.specs.Prelude.{slice_get, unwrap_or}
 use Rattle.std.specs.List.{swap}
 use Rattle.std.specs.List.Sorted.{IsPermutation}
-use Rattle.std.proofs.lemmas.Option.{slice_get_within, get_or_from_slice_get}
-use Rattle.std.proofs.lemmas.List.{map-append, take_all}
 use Rattle.std.proofs.lemmas.List.Elements.{All-nil, All-cons, All-head, All-tail}
 use Rattle.std.proofs.lemmas.List.Sorted.{IsPermutation-refl, IsPermutation-sym, IsPermutation-trans, IsPermutation-map, IsPermutation-append_right, IsPermutation-keeps, All-permutation}
-use Rattle.brace_num.proofs.Lists.{flat_map_alike, same_parts, take_next}
+use Rattle.brace_num.proofs.Lists.{flat_map_alike, same_parts}
 use Rattle.brace_model.specs.declared.program.Program.{Program}
 use Rattle.brace_model.specs.declared.fault.Fault.{Fault}
 use Rattle.brace_model.specs.declared.world.Agent.{Agent}
@@ -21,7 +19,7 @@ use Rattle.brace_invert.proofs.Runs.{turned}
 use Rattle.brace_pieces.proofs.WorldLemmas.{totals_same}
 use Rattle.brace_part.specs.declared.asking.Asked.{Asked}
 use Rattle.brace_part.specs.declared.asking.Scene.{Scene}
-use Rattle.brace_part.specs.inner.Asked.{AreAsked, HearsAllOf}
+use Rattle.brace_part.specs.inner.Asked.{ArePlaces, AreAsked, HearsAllOf}
 
 -- ---- in any order
 
@@ -103,12 +101,30 @@ module _ (held : List Agent) where
   abbrev at : Asked → Option Agent
   at one = slice_get held one.place
 
-  pub asked_within : (asking : List Agent) (asked : List Asked) → AreAsked held asking asked → All (λ (one : Asked). one.place < length held) asked
-  asked_within asking [] are = All-nil (λ (one : Asked). one.place < length held)
-  asked_within [] (one ∷ asked) are = absurd (let long = ap length are in omega (arith, long))
-  asked_within (a ∷ asking) (one ∷ asked) are =
-      let (here, rest) = same_parts (at one) (Some a) (map at asked) (map Some asking) are in
-      All-cons (λ (one : Asked). one.place < length held) one asked (slice_get_within held one.place a here) (asked_within asking asked rest)
+  places_in : (asked : List Asked) → map (λ place. slice_get held place) (map (λ (one : Asked). one.place) asked) ≡ map at asked
+  places_in [] = refl
+  places_in (one ∷ asked) = ap (λ l. at one ∷ l) (places_in asked)
+
+  -- those at some places are the agents there
+  pub asked_at : (asking : List Agent) (places : List ℕ) (asked : List Asked) → map (λ (one : Asked). one.place) asked ≡ places
+      → ArePlaces held asking places → AreAsked held asking asked
+  asked_at asking places asked same are = sym (places_in asked) ∙ ap (map (λ place. slice_get held place)) same ∙ are
+
+  abbrev IsWithin : Asked → Type 0
+  IsWithin one = one.place < length held
+
+  each_within : (asked : List Asked) → All (λ (place : ℕ). place < length held) (map (λ (one : Asked). one.place) asked) → All IsWithin asked
+  each_within [] all = All-nil IsWithin
+  each_within (one ∷ asked) all =
+      let IsLow : ℕ → Type 0 = λ place. place < length held in
+      All-cons IsWithin one asked (All-head IsLow one.place (map (λ (one : Asked). one.place) asked) all)
+      (each_within asked (All-tail IsLow one.place (map (λ (one : Asked). one.place) asked) all))
+
+  -- places of the list stay so where they change places
+  pub within_moved : (places : List ℕ) (asked others : List Asked) → map (λ (one : Asked). one.place) asked ≡ places
+      → All (λ (place : ℕ). place < length held) places → IsPermutation asked others → All IsWithin others
+  within_moved places asked others same all moved =
+      All-permutation IsWithin asked others moved (each_within asked (subst (All (λ (place : ℕ). place < length held)) (sym same) all))
 
   -- the agent of a place among them
   pub asked_here : (asking : List Agent) (asked : List Asked) (i : ℕ) → AreAsked held asking asked → i < length asked
@@ -151,13 +167,3 @@ module _ (held : List Agent) where
       let some = map known (map at others) in
       let same : IsPermutation asking some = subst (λ l. IsPermutation l some) (all_known asking) (IsPermutation-map known (map Some asking) (map at others) there) in
       (some, IsPermutation-sym asking some same, each_known (map at others) (All-permutation IsKnown (map Some asking) (map at others) there (some_known asking)))
-
-  -- one more place
-  pub asked_more : (asking : List Agent) (asked : List Asked) (i : ℕ) (one : Asked) (a : Agent) → slice_get asking i ≡ Some a → slice_get held one.place ≡ Some a
-      → AreAsked held (take i asking) asked → AreAsked held (take (i + 1) asking) (asked ++ one ∷ [])
-  asked_more asking asked i one a is there are =
-      map-append at asked (one ∷ []) ∙ ap₂ (λ xs x. xs ++ x ∷ []) are there
-      ∙ sym (map-append Some (take i asking) (a ∷ [])) ∙ ap (map Some) (sym (take_next asking i a (slice_get_within asking i a is) (sym (get_or_from_slice_get asking i a a is))))
-
-  pub asked_all : (asking : List Agent) (asked : List Asked) (i : ℕ) → length asking ≤ i → AreAsked held (take i asking) asked → AreAsked held asking asked
-  asked_all asking asked i over are = subst (λ xs. AreAsked held xs asked) (take_all i asking over) are

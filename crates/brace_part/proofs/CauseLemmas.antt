@@ -20,7 +20,7 @@ use Rattle.brace_pieces.specs.Steps.{step, steps}
 use Rattle.brace_pieces.specs.Continued.{on}
 use Rattle.brace_pieces.specs.Finds.{queries_found, updates_found, stage_of}
 use Rattle.brace_pieces.specs.Right.{StandsBefore, IsTold, IsRightCause, IsRight, IsRightIn, IsRightAt}
-use Rattle.brace_pieces.proofs.ToldLemmas.{query_told, update_told}
+use Rattle.brace_pieces.proofs.ToldLemmas.{query_told, update_told, birth_told}
 use Rattle.brace_part.specs.Parts.{found_in_work, cause_of, IsCauseOf, IsCauseBehind, IsCauseOfAll}
 use Rattle.brace_part.specs.inner.Sound.{IsHalted}
 use Rattle.brace_part.proofs.StepLemmas.{OfRun, of_run}
@@ -54,7 +54,7 @@ module _ (s : Setting) (lawful : LawfulSetting s) (p k : ℕ) where
       by_choice true is has = updates_told stage.Border t stands (sym (ap (λ c. if c then stage.Border else stage.Effects) is)) f has
       by_choice false is has = absurd (none_in f has)
   found_told stage.Effects t stands run f has = updates_told stage.Effects t stands (sym (ap (λ c. if c then stage.Border else stage.Effects) (run.apart refl))) f has
-  found_told stage.Census t stands run f has = absurd (none_in f has)
+  found_told stage.Census t stands run f has = birth_told s t (k + 1) f has (before stage.Census t stands)
   found_told stage.Move t stands run f has = absurd (none_in f has)
   found_told stage.Show t stands run f has = absurd (none_in f has)
 

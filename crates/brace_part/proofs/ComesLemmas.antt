@@ -1,40 +1,40 @@
 -- A part comes from its work to the next step.
-use Rattle.std.proofs.Common.{◌≡◌, ◌∙◌, refl, sym, ap, ap₂, subst, ℕ, ◌+◌, ◌≤◌, List, [], ◌∷◌, ◌++◌, Bool, true, false, None, arith}
+use Rattle.std.proofs.Common.{◌≡◌, ◌∙◌, refl, sym, ap, ap₂, subst, ℕ, ◌+◌, ◌≤◌, List, [], ◌∷◌, ◌++◌, Bool, true, false, None}
 use Rattle.std.specs.Prelude.{slice_get, if◌then◌else◌}
 use Rattle.std.proofs.lemmas.List.Elements.{All-nil, All-cons, All-append}
 use Rattle.brace_model.specs.FaultOrder.{least}
-use Rattle.brace_model.specs.Next.{has_births}
 use Rattle.brace_pieces.specs.declared.setting.Setting.{Setting}
 use Rattle.brace_pieces.specs.declared.setting.Stage.{Stage}
 use Rattle.brace_pieces.specs.declared.setting.Stage.TheVariants as stage
 use Rattle.brace_pieces.specs.declared.setting.Step.{Step}
 use Rattle.brace_pieces.specs.declared.piece.Shown.{Shown}
 use Rattle.brace_pieces.specs.Steps.{steps}
+use Rattle.brace_pieces.specs.Continued.{on}
 use Rattle.brace_part.specs.declared.query.Queries.{Queries}
 use Rattle.brace_part.specs.declared.standing.Stance.{Stance}
 use Rattle.brace_part.specs.declared.standing.Stance.TheVariants.{Owns, Hears, Leaves}
 use Rattle.brace_part.specs.declared.standing.Standing.{Standing}
 use Rattle.brace_part.specs.Parts.{own_under, kept_at, found_in_work, keeps_before}
-use Rattle.brace_part.specs.inner.Ready.{IsReadyBehind, AreKept}
+use Rattle.brace_part.specs.inner.Ready.{IsReadyFor, IsReadyBehind, IsNextAt, next_behind, AreKept}
 use Rattle.brace_part.specs.inner.Sound.{IsPartOf, IsAtWork, ComesTo, owns_in}
 use Rattle.brace_part.proofs.StepLemmas.{of_run}
 use Rattle.brace_pieces.proofs.EpochLemmas.{shown_behind}
-use Rattle.brace_part.proofs.NextLemmas.{ready_next, faultless_next}
-use Rattle.brace_part.proofs.ShownLemmas.{is_noted, next_stays, one_noted, brings_next}
+use Rattle.brace_part.proofs.NextLemmas.{ready_next, faultless_next, numbered_next, numbered_moved}
+use Rattle.brace_part.proofs.ShownLemmas.{is_noted, one_noted, brings_next}
 
 -- what a part notes of a tick
-abbrev pub note_of : Setting → ℕ → Stance → Shown
-note_of s t stance = record { tick = t; agents = owns_in stance; next = s.job.start.next }
+abbrev pub note_of : ℕ → Stance → ℕ → Shown
+note_of t stance next = record { tick = t; agents = owns_in stance; next = next }
 
-module _ (s : Setting) (p : ℕ) (childless : has_births s.job.program ≡ false) (t : ℕ) (low : s.job.first ≤ t) where
+module _ (s : Setting) (p : ℕ) (t : ℕ) (low : s.job.first ≤ t) (next : ℕ) (next_is : next ≡ (on s (t + 1)).next) where
   -- behind a move it is its part of that world
-  pub note_right : (stance : Stance) → IsReadyBehind s p stage.Move t stance → note_of s (t + 1) stance ≡ kept_at s p (t + 1)
+  pub note_right : (stance : Stance) → IsReadyBehind s p stage.Move t stance → note_of (t + 1) stance next ≡ kept_at s p (t + 1)
   note_right (Owns own) has =
       ap₂ (λ agents n. record { tick = t + 1; agents = agents; next = n })
       (has ∙ sym (ap (λ cuts. own_under s p cuts (t + 1)) (shown_behind s (t + 1) t refl low)))
-      (sym (next_stays s childless (t + 1) (omega (arith, low))))
+      next_is
   note_right (Hears agents heard) has = absurd has
-  note_right (Leaves left) has = absurd has
+  note_right (Leaves left born behind) has = absurd has
 
 -- worlds that it keeps stay so where it notes one more
 pub kept_more : (s : Setting) (p : ℕ) (old : List Shown) (x : Shown) (c : Bool) → AreKept s p old → x ≡ kept_at s p x.tick → AreKept s p (old ++ (if c then x ∷ [] else []))
@@ -42,23 +42,33 @@ kept_more s p old x true kept is = All-append (λ w. w ≡ kept_at s p w.tick) o
 kept_more s p old x false kept is = All-append (λ w. w ≡ kept_at s p w.tick) old [] kept (All-nil (λ w. w ≡ kept_at s p w.tick))
 
 module _ (s : Setting) (p : ℕ) (queries : Queries) (part : IsPartOf s p queries) (k : ℕ) (at : Step) (old : Standing) (h : IsAtWork s p k at old) where
-  abbrev noted_more : Stance → List Shown
-  noted_more stance = old.shown ++ (if is_noted s (at.tick + 1) then note_of s (at.tick + 1) stance ∷ [] else [])
+  -- the next free id behind its work
+  abbrev next : ℕ
+  next = next_behind at.stage old.stance old.next
 
-  note_at : (stance : Stance) → at.stage ≡ stage.Move → IsReadyBehind s p at.stage at.tick stance → note_of s (at.tick + 1) stance ≡ kept_at s p (at.tick + 1)
-  note_at stance move has = note_right s p part.childless at.tick (of_run s k at h.stands).low stance (subst (λ st. IsReadyBehind s p st at.tick stance) move has)
+  abbrev noted_more : Stance → List Shown
+  noted_more stance = old.shown ++ (if is_noted s (at.tick + 1) then note_of (at.tick + 1) stance next ∷ [] else [])
+
+  next_moved : at.stage ≡ stage.Move → next ≡ (on s (at.tick + 1)).next
+  next_moved move =
+      ap (λ st. next_behind st old.stance old.next) move
+      ∙ numbered_moved s p at.tick old.stance old.next (subst (λ st. IsReadyFor s p st at.tick old.stance) move h.ready)
+
+  note_at : (stance : Stance) → at.stage ≡ stage.Move → IsReadyBehind s p at.stage at.tick stance → note_of (at.tick + 1) stance next ≡ kept_at s p (at.tick + 1)
+  note_at stance move has = note_right s p at.tick (of_run s k at h.stands).low next (next_moved move) stance (subst (λ st. IsReadyBehind s p st at.tick stance) move has)
 
   pub kept_behind : (stance : Stance) → at.stage ≡ stage.Move → IsReadyBehind s p at.stage at.tick stance → AreKept s p old.shown → AreKept s p (noted_more stance)
-  kept_behind stance move has kept = kept_more s p old.shown (note_of s (at.tick + 1) stance) (is_noted s (at.tick + 1)) kept (note_at stance move has)
+  kept_behind stance move has kept = kept_more s p old.shown (note_of (at.tick + 1) stance next) (is_noted s (at.tick + 1)) kept (note_at stance move has)
 
   -- it comes to the next step with what that needs
-  pub comes_next : (new : Standing) → IsReadyBehind s p at.stage at.tick new.stance → least (found_in_work s p at.stage at.tick) ≡ None
+  pub comes_next : (new : Standing) → new.next ≡ next → IsReadyBehind s p at.stage at.tick new.stance → least (found_in_work s p at.stage at.tick) ≡ None
       → (at.stage ≡ stage.Move → new.shown ≡ noted_more new.stance) → ((at.stage ≡ stage.Move → ⊥) → new.shown ≡ old.shown) → new.counts ≡ old.counts → ComesTo s p (k + 1) (slice_get (steps s) (k + 1)) new
-  comes_next new behind none moved stays counts = record {
-    ready = ready_next s p part.childless k at h.stands new.stance behind;
-    faultless = faultless_next s p part.childless k at h.stands h.faultless none;
-    brings = brings_next s part.childless p k at h.stands old.shown new.shown h.keeps
-        (λ move. moved move ∙ one_noted s part.childless p at.tick (at.tick + 1) old.shown (note_of s (at.tick + 1) new.stance) refl (of_run s k at h.stands).low (note_at new.stance move behind)
+  comes_next new number behind none moved stays counts = record {
+    ready = ready_next s p k at h.stands new.stance behind;
+    next_is = subst (IsNextAt s (slice_get (steps s) (k + 1))) (sym number) (numbered_next s p k at h.stands old.stance old.next h.ready h.next_is);
+    faultless = faultless_next s p k at h.stands h.faultless none;
+    brings = brings_next s p k at h.stands old.shown new.shown h.keeps
+        (λ move. moved move ∙ one_noted s p at.tick (at.tick + 1) old.shown (note_of (at.tick + 1) new.stance next) refl (of_run s k at h.stands).low (note_at new.stance move behind)
         (subst (λ st. old.shown ≡ keeps_before s p st at.tick) move h.keeps)) stays;
     counted = counts ∙ h.counted;
   }
@@ -97,8 +107,8 @@ module _ (s : Setting) (p : ℕ) (queries : Queries) (part : IsPartOf s p querie
 -- the same where the setting and the part are known by other names
 pub kept_there : (s : Setting) (p : ℕ) (queries : Queries) → IsPartOf s p queries → (k : ℕ) (at : Step) (old : Standing) → IsAtWork s p k at old → AreKept s p old.shown
     → (r u : Setting) (q : ℕ) (stance : Stance) (new : List Shown) → r ≡ s → u ≡ s → q ≡ p → IsReadyBehind r q at.stage at.tick stance
-    → (at.stage ≡ stage.Move → new ≡ old.shown ++ (if is_noted u (at.tick + 1) then note_of u (at.tick + 1) stance ∷ [] else [])) → ((at.stage ≡ stage.Move → ⊥) → new ≡ old.shown) → AreKept s p new
+    → (at.stage ≡ stage.Move → new ≡ old.shown ++ (if is_noted u (at.tick + 1) then note_of (at.tick + 1) stance (next_behind at.stage old.stance old.next) ∷ [] else [])) → ((at.stage ≡ stage.Move → ⊥) → new ≡ old.shown) → AreKept s p new
 kept_there s p queries part k at old h kept r u q stance new first second third has moved stays =
     kept_next s p queries part k at old h stance new
     (subst (λ r. IsReadyBehind r p at.stage at.tick stance) first (subst (λ q. IsReadyBehind r q at.stage at.tick stance) third has)) kept
-    (λ m. subst (λ (r : Setting). new ≡ old.shown ++ (if is_noted r (at.tick + 1) then note_of r (at.tick + 1) stance ∷ [] else [])) second (moved m)) stays
+    (λ m. subst (λ (r : Setting). new ≡ old.shown ++ (if is_noted r (at.tick + 1) then note_of (at.tick + 1) stance (next_behind at.stage old.stance old.next) ∷ [] else [])) second (moved m)) stays

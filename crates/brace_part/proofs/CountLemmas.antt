@@ -14,7 +14,7 @@ use Rattle.brace_pieces.specs.Steps.{steps, met, is_show}
 use Rattle.brace_pieces.specs.Continued.{on}
 use Rattle.brace_pieces.specs.Right.{share_of, IsRightIn, IsRightAt, shares}
 use Rattle.brace_part.specs.declared.counts.Counts.{Counts}
-use Rattle.brace_part.specs.Given.{no_counts, summed, given_to, given_in, counts_behind, counts_up_to}
+use Rattle.brace_part.specs.Given.{no_counts, lived, summed, given_to, given_in, counts_behind, counts_up_to}
 use Rattle.brace_part.specs.inner.Pieces.{counted, GoesOn, AreOut}
 use Rattle.brace_part.specs.inner.Pieces.AreOut.{none_out, more_out}
 use Rattle.brace_part.proofs.KindLemmas.{border_alone, hand_alone, move_alone, effects_alone, census_alone}
@@ -32,17 +32,17 @@ plus_none c = same_counts c (plus c no_counts) (omega arith) (omega arith) (omeg
 -- ---- the pieces of a step
 
 -- what a right piece adds
-counted_is : (s : Setting) (k t p q : ℕ) (c : Counts) (at : Stage) → is_show at ≡ false → (x : Piece) → IsRightAt s k at t p q x → GoesOn x → counted c x ≡ plus c (given_to s p at t q)
-counted_is s k t p q c stage.Hand other = hand_alone s k t p q (λ x. counted c x ≡ plus c (given_to s p stage.Hand t q))
+counted_is : (s : Setting) (k t p q : ℕ) (c : Counts) (at : Stage) → is_show at ≡ false → (x : Piece) → IsRightAt s k at t p q x → GoesOn x → counted (on s t).next c x ≡ plus c (given_to s p at t q)
+counted_is s k t p q c stage.Hand other = hand_alone s k t p q (λ x. counted (on s t).next c x ≡ plus c (given_to s p stage.Hand t q))
     (λ agents is. same_counts _ _ (omega arith) (omega arith) (omega arith) (ap (λ l. c.handed + length l) is))
-counted_is s k t p q c stage.Border other = border_alone s k t p q (λ x. counted c x ≡ plus c (given_to s p stage.Border t q))
+counted_is s k t p q c stage.Border other = border_alone s k t p q (λ x. counted (on s t).next c x ≡ plus c (given_to s p stage.Border t q))
     (λ agents is. same_counts _ _ (ap (λ l. c.border + length l) is) (omega arith) (omega arith) (omega arith))
-counted_is s k t p q c stage.Effects other = effects_alone s k t p q (λ x. counted c x ≡ plus c (given_to s p stage.Effects t q))
+counted_is s k t p q c stage.Effects other = effects_alone s k t p q (λ x. counted (on s t).next c x ≡ plus c (given_to s p stage.Effects t q))
     (λ entries is. let long : length entries ≡ length (shares s t p q (on s t).agents) = sym (length-map entries share_of) ∙ ap length is in same_counts _ _ (omega arith) (ap (λ n. c.effects + n) long) (omega arith) (omega arith))
-counted_is s k t p q c stage.Census other = census_alone s k t p q (λ x. counted c x ≡ plus c (given_to s p stage.Census t q))
+counted_is s k t p q c stage.Census other = census_alone s k t p q (λ x. counted (on s t).next c x ≡ plus c (given_to s p stage.Census t q))
     (λ census is. plus_none c)
-counted_is s k t p q c stage.Move other = move_alone s k t p q (λ x. counted c x ≡ plus c (given_to s p stage.Move t q))
-    (λ agents is. same_counts _ _ (omega arith) (omega arith) (ap (λ l. c.moved + length l) is) (omega arith))
+counted_is s k t p q c stage.Move other = move_alone s k t p q (λ x. counted (on s t).next c x ≡ plus c (given_to s p stage.Move t q))
+    (λ agents is. same_counts _ _ (omega arith) (omega arith) (ap (λ l. c.moved + length (lived (on s t).next l)) is) (omega arith))
 counted_is s k t p q c stage.Show other = absurd (true≢false other)
 
 module _ (s : Setting) (p k : ℕ) where
@@ -56,11 +56,11 @@ module _ (s : Setting) (p k : ℕ) where
 
   -- all pieces that it puts in a step
   pub out_counted : (at : Step) → slice_get (steps s) k ≡ Some at → is_show at.stage ≡ false → (c : Counts) (others : List ℕ) (pieces : List Piece) → AreOut s k p others pieces
-      → fold counted c pieces ≡ plus c (summed (given_to s p at.stage at.tick) others)
+      → fold (counted (on s at.tick).next) c pieces ≡ plus c (summed (given_to s p at.stage at.tick) others)
   out_counted at stands other c _ _ none_out = plus_none c
   out_counted at stands other c _ _ (more_out q others x pieces right goes rest) =
-      fold-append counted c pieces (x ∷ [])
-      ∙ ap (λ n. counted n x) (out_counted at stands other c others pieces rest)
+      fold-append (counted (on s at.tick).next) c pieces (x ∷ [])
+      ∙ ap (λ n. counted (on s at.tick).next n x) (out_counted at stands other c others pieces rest)
       ∙ counted_is s k at.tick p q (plus c (summed (given_to s p at.stage at.tick) others)) at.stage other x (subst (IsRightIn s (name k p q) x) stands right) goes
       ∙ one_met (given_to s p at.stage at.tick) c q others
 
@@ -98,5 +98,5 @@ module _ (s : Setting) (p k : ℕ) where
       none (q ∷ qs) = none qs
 
   -- elsewhere what its pieces bring
-  pub counts_exchanging : (at : Step) → slice_get (steps s) k ≡ Some at → is_show at.stage ≡ false → (pieces : List Piece) → AreOut s k p (met s at p) pieces → fold counted (counts_behind s p k) pieces ≡ counts_up_to s p k
+  pub counts_exchanging : (at : Step) → slice_get (steps s) k ≡ Some at → is_show at.stage ≡ false → (pieces : List Piece) → AreOut s k p (met s at p) pieces → fold (counted (on s at.tick).next) (counts_behind s p k) pieces ≡ counts_up_to s p k
   counts_exchanging at stands other pieces out = out_counted at stands other (counts_behind s p k) (met s at p) pieces out ∙ counts_more at stands

@@ -1,14 +1,11 @@
 -- What a part gives to one that it does not meet is nothing; and how much moves, and is handed over.
-use Rattle.std.proofs.Common.{◌≡◌, ◌∙◌, refl, sym, ap, subst, ℕ, ◌+◌, ◌-◌, ◌<◌, ◌≤◌, List, [], ◌∷◌, ◌++◌, map, filter, flat_map, length, Bool, true, false, cond, not, ◌&&◌, ◌==◌, true≢false}
+use Rattle.std.proofs.Common.{◌≡◌, ◌∙◌, refl, sym, ap, subst, ℕ, ◌+◌, ◌-◌, ◌<◌, ◌≤◌, List, [], filter, flat_map, length, Bool, true, false, not, ◌&&◌, ◌==◌, true≢false}
 use Rattle.std.specs.Prelude.{nat_lt, if◌then◌else◌}
 use Rattle.std.specs.List.{Contains, list_any}
-use Rattle.std.specs.List.Sorted.{IsPermutation}
 use Rattle.std.proofs.lemmas.Bool.{and_right, lt-ltb}
 use Rattle.brace_model.specs.declared.program.Program.{Program}
 use Rattle.brace_model.specs.declared.world.Agent.{Agent}
 use Rattle.brace_model.specs.World.{World, RisesById, class_of}
-use Rattle.brace_model.specs.Next.{has_births}
-use Rattle.brace_model.specs.Step.{living}
 use Rattle.brace_cuts.specs.declared.space.Cuts.{Cuts}
 use Rattle.brace_cuts.specs.Space.{area_of}
 use Rattle.brace_invert.specs.Held.{is_near}
@@ -22,19 +19,20 @@ use Rattle.brace_pieces.specs.Steps.{step, met, meet, parts_meet, is_show}
 use Rattle.brace_pieces.specs.Numbers.{NumbersFit}
 use Rattle.brace_pieces.specs.Owned.{owns, owned, held}
 use Rattle.brace_pieces.specs.Together.{AreWhole}
-use Rattle.brace_pieces.specs.Continued.{all_left, on}
-use Rattle.brace_pieces.specs.Right.{border, handed, moved, shares, shares_to, comes_from}
+use Rattle.brace_pieces.specs.Continued.{continued, on}
+use Rattle.brace_pieces.specs.Right.{border, handed, moved, shares, shares_to}
 use Rattle.brace_pieces.specs.Heard.{own, near, said_here}
 use Rattle.brace_pieces.specs.Counts.{changing}
 use Rattle.brace_pieces.proofs.HeldLemmas.{one_owns, held_together, handed_together}
-use Rattle.brace_pieces.proofs.Origins.{of_id}
-use Rattle.brace_pieces.proofs.MoveLemmas.{owner_by_id, moved_together}
+use Rattle.brace_pieces.proofs.MoveLemmas.{owner_by_id, none_moved}
 use Rattle.brace_pieces.proofs.OnLemmas.{on_rises, on_whole, on_next}
 use Rattle.brace_pieces.proofs.HeardHere.{StandInside, whole_inside, told_same}
 use Rattle.brace_pieces.proofs.ScheduleLemmas.{parts_either_way}
 use Rattle.brace_part.proofs.SumLemmas.{kept_in, either_first, common, nothing_left}
 use Rattle.brace_part.proofs.OutLemmas.{met_passes}
-use Rattle.brace_part.proofs.LawfulOn.{descent_lives, next_lives}
+use Rattle.brace_pieces.proofs.LimitLemmas.{on_numbered}
+use Rattle.brace_pieces.proofs.LivedLemmas.{lived_is}
+use Rattle.brace_part.specs.Given.{lived}
 use Rattle.brace_num.proofs.Lists.{filter_alike}
 use Rattle.brace_num.proofs.Orders.{rises_by_keys}
 use Rattle.brace_num.proofs.Orders.{filter_rises}
@@ -124,61 +122,30 @@ module _ (s : Setting) (lawful : LawfulSetting s) (numbers : NumbersFit s) (t : 
 
   -- ---- what moves
 
-  module _ (childless : has_births m ≡ false) (low : s.job.first ≤ t) where
+  module _ (low : s.job.first ≤ t) where
     abbrev world : World
     world = on s t
 
     abbrev next : List Agent
     next = (on s (t + 1)).agents
 
-    abbrev lives : List Agent
-    lives = living (all_left s t w)
-
-    seconds_from : (mine xs : List Agent) → map (λ d. d.1) (filter (comes_from mine) (map (λ a. (a.id, a)) xs)) ≡ filter (λ b. list_any (λ a. a.id == b.id) mine) xs
-    seconds_from mine [] = refl
-    seconds_from mine (x ∷ xs) = elim (list_any (λ a. a.id == x.id) mine) as (λ v. map (λ d. d.1) (cond v ((x.id, x) ∷ filter (comes_from mine) (map (λ a. (a.id, a)) xs)) (filter (comes_from mine) (map (λ a. (a.id, a)) xs)))
-        ≡ cond v (x ∷ filter (λ b. list_any (λ a. a.id == b.id) mine) xs) (filter (λ b. list_any (λ a. a.id == b.id) mine) xs)) [
-          | true ↦ ap (λ ys. x ∷ ys) (seconds_from mine xs)
-          | false ↦ seconds_from mine xs
-        ]
-
-    next_is : next ≡ lives
-    next_is = ap (λ (x : World). x.agents) (on_next s t low) ∙ next_lives s childless t world
-
     abbrev given : ℕ → ℕ → List Agent
     given p q = moved s t p q world
 
-    abbrev of_part : ℕ → Agent → Bool
-    of_part p b = list_any (λ a. a.id == b.id) (owned m now p w)
+    next_is : on s (t + 1) ≡ continued s t world
+    next_is = on_next s t low
 
-    -- of the next world's agents of a part those that are another's in this one
-    moved_from : (p q : ℕ) → given p q ≡ filter (of_part p) (owned m now q next)
-    moved_from p q =
-        ap (λ d. owned m now q (map (λ e. e.1) (filter (comes_from (owned m now p w)) d))) (descent_lives s childless t world)
-        ∙ ap (owned m now q) (seconds_from (owned m now p w) lives)
-        ∙ either_first (owns m now q) (of_part p) lives
-        ∙ ap (λ xs. filter (of_part p) (owned m now q xs)) (sym next_is)
-
-    -- those whose owner changes
-    pub moved_changing : (p q : ℕ) → length (given p q) ≡ changing m now p w now q next
+    -- those whose owner changes are those that lived before
+    pub moved_changing : (p q : ℕ) → length (lived world.next (given p q)) ≡ changing m now p w now q next
     moved_changing p q =
-        ap length (moved_from p q)
+        ap length (sym (ap (λ (x : World). filter (λ b. list_any (λ a. a.id == b.id) (owned m now p w)) (owned m now q x.agents)) next_is
+        ∙ lived_is s lawful t world (on_numbered s lawful t) whole p q))
         ∙ sym (common (λ (a : Agent). a.id) (owned m now p w) (owned m now q next) (rises_by_keys (λ (a : Agent). a.id) (owned m now p w) (filter_rises (λ (a : Agent). a.id) (owns m now p) w up))
         (rises_by_keys (λ (a : Agent). a.id) (owned m now q next) (filter_rises (λ (a : Agent). a.id) (owns m now q) next (on_rises s lawful (t + 1)))))
-
-    one_origin : (p r id : ℕ) → list_any (λ a. a.id == id) (owned m now p w) ≡ true → list_any (λ a. a.id == id) (owned m now r w) ≡ true → p ≡ r
-    one_origin p r id first second =
-        let one = of_id (owns m now p) w id first in
-        let too = ap (λ n. list_any (λ a. a.id == n) (owned m now r w)) one.same_id ∙ second in
-        one_owns m now p r one.agent one.passes (sym (owner_by_id s lawful t w up r one.agent one.there) ∙ too)
 
     module _ (p q : ℕ) (other : p < parts s) (part : q < parts s) (apart : p ≡ q → ⊥) where
       pub no_moved : parts_meet s (step Move t) p q ≡ false → given p q ≡ []
       no_moved none =
-          let from : (r : ℕ) (x : Agent) → Contains (given r q) x → of_part r x ≡ true = λ r x has. (seen_in (of_part r) (owned m now q next) x (subst (λ xs. Contains xs x) (moved_from r q) has)).1 in
-          let after = subst (λ (x : World). AreWhole m x.agents) (on_next s t low) (on_whole s lawful numbers (t + 1)) in
-          nothing_left (λ r. given r q) (given q q) (owned m now q next) (met s (step Move t) q) p
-          (subst (λ (x : World). IsPermutation (given q q ++ flat_map (λ r. given r q) (met s (step Move t) q)) (owned m now q x.agents)) (sym (on_next s t low)) (moved_together s lawful t q part world up whole after))
-          (λ x has. (seen_in (of_part p) (owned m now q next) x (subst (λ xs. Contains xs x) (moved_from p q) has)).0)
-          (λ x has too. apart (one_origin p q x.id (from p x has) (from q x too)))
-          (λ r x there has too. not_met s Move t p q other part none r there (one_origin p r x.id (from p x has) (from r x too)))
+          let after = subst (λ (x : World). AreWhole m x.agents) next_is (on_whole s lawful numbers (t + 1)) in
+          let nobody : meet s (step Move t) q p ≡ false = meet_is s (step Move t) q p part other ∙ ap (λ v. not (q == p) && v) (sym (parts_either_way s Move t p q) ∙ none) ∙ and_right (not (q == p)) false refl in
+          none_moved s lawful t q part world up whole after p apart nobody

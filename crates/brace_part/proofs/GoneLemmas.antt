@@ -24,7 +24,7 @@ use Rattle.brace_part.specs.Parts.{OnPart, keeps_at, IsCauseOfAll}
 use Rattle.brace_part.specs.inner.Pieces.{AreOut, AreTaken}
 use Rattle.brace_part.specs.inner.Pieces as pieces
 use Rattle.brace_part.specs.inner.Pieces.AreOut.{none_out, more_out}
-use Rattle.brace_part.specs.inner.Ready.{IsReady, IsFaultlessAt, AreKept}
+use Rattle.brace_part.specs.inner.Ready.{IsReady, IsNextAt, IsFaultlessAt, AreKept}
 use Rattle.brace_part.specs.inner.Sound.{GoesOn, IsAtWork, IsHalted, IsSound}
 use Rattle.brace_part.proofs.CauseLemmas.{halt_right, right_halt}
 use Rattle.brace_part.proofs.TurnLemmas.{PutsNext, TakesNext, WorksNext, take_of, take_named}
@@ -83,6 +83,7 @@ module _ (c : OnCourse) (turn : WorksNext c) where
       record {
         stands = turn.stands;
         ready = subst (λ o. IsReady c.setting c.actor o standing.stance) turn.stands h.ready;
+        next_is = subst (λ o. IsNextAt c.setting o standing.next) turn.stands h.next_is;
         faultless = subst (IsFaultlessAt c.setting c.actor) turn.stands h.faultless;
         took = subst (λ qs. AreTaken c.setting c.number c.actor qs standing.taken.items) (all ∙ ap (λ o. met_in c.setting o c.actor) turn.stands) h.took;
         keeps = h.keeps ∙ ap (keeps_at c.setting c.actor) turn.stands;

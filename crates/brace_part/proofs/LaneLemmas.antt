@@ -1,10 +1,11 @@
 -- What is heard of queries asked in lanes, by the places of agents: what a program with other queries
 -- hears of the same agents is the same.
-use Rattle.std.proofs.Common.{◌≡◌, ◌∙◌, refl, sym, ap, ap₂, subst, ℕ, ◌+◌, ◌≤◌, List, [], ◌∷◌, ◌++◌, map, take, length, Option, Some, None, arith}
+use Rattle.std.proofs.Common.{◌≡◌, ◌∙◌, refl, sym, ap, ap₂, subst, ℕ, ◌<◌, List, [], ◌∷◌, ◌++◌, map, take, length, All, Option, Some, None, arith}
 use Rattle.std.specs.Prelude.{slice_get, option_map}
-use Rattle.std.proofs.lemmas.List.{map-append, take_all}
+use Rattle.std.proofs.lemmas.List.{map-append}
+use Rattle.std.proofs.lemmas.List.Elements.{All-nil, All-cons}
 use Rattle.std.proofs.lemmas.Option.{slice_get_within, slice_get-map, get_or_from_slice_get}
-use Rattle.brace_num.proofs.Lists.{flat_map_alike, same_parts, take_next}
+use Rattle.brace_num.proofs.Lists.{flat_map_alike, same_parts}
 use Rattle.brace_model.specs.declared.program.Class.{Class}
 use Rattle.brace_model.specs.declared.program.Program.{Program}
 use Rattle.brace_model.specs.declared.program.Stmt.{Stmt}
@@ -24,14 +25,18 @@ use Rattle.brace_part.specs.inner.Asked.{ArePlaces}
 
 module _ (held : List Agent) where
   -- one more place
-  pub places_more : (asking : List Agent) (places : List ℕ) (i place : ℕ) (a : Agent) → slice_get asking i ≡ Some a → slice_get held place ≡ Some a
-      → ArePlaces held (take i asking) places → ArePlaces held (take (i + 1) asking) (places ++ place ∷ [])
-  places_more asking places i place a is there are =
-      map-append (λ place. slice_get held place) places (place ∷ []) ∙ ap₂ (λ xs x. xs ++ x ∷ []) are there
-      ∙ sym (map-append Some (take i asking) (a ∷ [])) ∙ ap (map Some) (sym (take_next asking i a (slice_get_within asking i a is) (sym (get_or_from_slice_get asking i a a is))))
+  pub place_more : (asking : List Agent) (places : List ℕ) (place : ℕ) (a : Agent) → slice_get held place ≡ Some a
+      → ArePlaces held asking places → ArePlaces held (asking ++ a ∷ []) (places ++ place ∷ [])
+  place_more asking places place a there are =
+      map-append (λ place. slice_get held place) places (place ∷ []) ∙ ap₂ (λ xs x. xs ++ x ∷ []) are there ∙ sym (map-append Some asking (a ∷ []))
 
-  pub places_all : (asking : List Agent) (places : List ℕ) (i : ℕ) → length asking ≤ i → ArePlaces held (take i asking) places → ArePlaces held asking places
-  places_all asking places i over are = subst (λ xs. ArePlaces held xs places) (take_all i asking over) are
+  -- each place is one of the list
+  pub places_within : (asking : List Agent) (places : List ℕ) → ArePlaces held asking places → All (λ (place : ℕ). place < length held) places
+  places_within asking [] are = All-nil (λ (place : ℕ). place < length held)
+  places_within [] (place ∷ places) are = absurd (let long = ap length are in omega (arith, long))
+  places_within (a ∷ asking) (place ∷ places) are =
+      let (here, rest) = same_parts (slice_get held place) (Some a) (map (λ place. slice_get held place) places) (map Some asking) are in
+      All-cons (λ (place : ℕ). place < length held) place places (slice_get_within held place a here) (places_within asking places rest)
 
   -- the agents at their places are those agents
   pub agents_there : (d : Agent) (asking : List Agent) (places : List ℕ) → ArePlaces held asking places → agents_at held d places ≡ asking

@@ -1,47 +1,27 @@
--- Without births the agents of the continued worlds of a lawful run are those that live on, which
--- are lawful and few.
-use Rattle.std.proofs.Common.{◌≡◌, ◌∙◌, refl, sym, ap, subst, ℕ, zero, suc, ◌+◌, ◌-◌, ◌≤◌, ℤ, List, [], ◌∷◌, ◌++◌, map, filter, zip, length, append-nil, Bool, true, false, Some, None, Result, Ok, Err, arith}
-use Rattle.std.specs.List.{list_all}
+-- The agents of the continued worlds of a lawful run are lawful and few.
+use Rattle.std.proofs.Common.{◌≡◌, refl, sym, ap, subst, ℕ, zero, suc, ◌+◌, ◌-◌, ◌≤◌, ◌^◌, ℤ, List, [], ◌∷◌, map, filter, take, length, Bool, true, Some, None, Result, Ok, Err, arith}
+use Rattle.std.specs.Prelude.{unwrap_or}
+use Rattle.std.specs.List.{list_all, find, range_with_len}
 use Rattle.std.proofs.lemmas.Bool.{and_parts}
 use Rattle.std.proofs.lemmas.Option.{same_Some}
-use Rattle.std.proofs.lemmas.List.Elements.{All-filter}
+use Rattle.std.proofs.lemmas.List.Elements.{All-filter, All-contains}
 use Rattle.std.proofs.lemmas.List.Sums.{AllPass-from_list_all, list_all-from_AllPass, length-filter, count_by-le-length}
 use Rattle.brace_model.specs.declared.program.Program.{Program}
 use Rattle.brace_model.specs.declared.fault.Fault.{Fault}
 use Rattle.brace_model.specs.declared.world.Agent.{Agent}
 use Rattle.brace_model.specs.World.{World, class_of}
-use Rattle.brace_model.specs.Next.{Next, next_in, has_births}
-use Rattle.brace_model.specs.Step.{living, children, numbered}
+use Rattle.brace_model.specs.Next.{Next, next_in}
+use Rattle.brace_model.specs.Step.{living, children, goes_too_far}
 use Rattle.brace_model.specs.Lawful.{LawfulAgents, is_lawful_agent}
-use Rattle.brace_eval.proofs.LawfulLemmas.{Leaves, AreLawful, AllLeave, all_more, next_lawful}
+use Rattle.brace_eval.proofs.LawfulLemmas.{Leaves, AreLawful, AllLeave, all_more, next_lawful, grown_lawful}
 use Rattle.brace_pieces.specs.declared.setting.Setting.{Setting}
 use Rattle.brace_pieces.specs.Settings.{LawfulSetting}
-use Rattle.brace_pieces.specs.Continued.{said, totals_of, becomes, left_or_kept, all_left, fitting, descent, continued, continued_after, on}
+use Rattle.brace_pieces.specs.Continued.{said, totals_of, becomes, left_or_kept, all_left, fitting, continued, continued_after, on}
 use Rattle.brace_pieces.proofs.MoveLemmas.{left_each}
-use Rattle.brace_pieces.proofs.GivenLemmas.{no_children_of}
-
--- ---- those that live on
-
-agents_of : (xs : List Agent) → map (λ (d : ℕ × Agent). d.1) (map (λ a. (a.id, a)) xs) ≡ xs
-agents_of [] = refl
-agents_of (x ∷ xs) = ap (λ ys. x ∷ ys) (agents_of xs)
-
-module _ (s : Setting) (childless : has_births s.job.program ≡ false) (t : ℕ) (world : World) where
-  abbrev lives : List Agent
-  lives = living (all_left s t world.agents)
-
-  no_kids : children (all_left s t world.agents) ≡ []
-  no_kids = ap children (left_each (becomes s t (said s t world.agents)) world.agents) ∙ no_children_of s t world.agents childless world.agents
-
-  -- each of the next world descends from itself
-  pub descent_lives : descent s t world ≡ map (λ a. (a.id, a)) lives
-  descent_lives =
-      let entries : List Agent → List (ℕ × Agent) = λ kids. let born = fitting lives world.next kids in map (λ a. (a.id, a)) lives ++ map (λ p. (p.0.id, p.1)) (zip born (numbered world.next born)) in
-      ap entries no_kids ∙ append-nil (map (λ a. (a.id, a)) lives)
-
-  -- the agents of the next world are those that live on
-  pub next_lives : (continued s t world).agents ≡ lives
-  next_lives = ap (map (λ (d : ℕ × Agent). d.1)) descent_lives ∙ agents_of lives
+use Rattle.brace_pieces.proofs.Origins.{of_take}
+use Rattle.brace_pieces.proofs.WorldLemmas.{seconds_both}
+use Rattle.brace_pieces.proofs.LimitLemmas.{fitting_few, on_numbered}
+use Rattle.brace_num.proofs.Lists.{All-from_contains}
 
 -- ---- lawful agents
 
@@ -62,7 +42,13 @@ stays program a lawful = record {
   bears = λ b has. absurd (cc);
 }
 
-module _ (s : Setting) (lawful : LawfulSetting s) (childless : has_births s.job.program ≡ false) where
+-- some of the first that pass
+first_pass : (test : Agent → Bool) (n : ℕ) (xs : List Agent) → list_all test xs ≡ true → list_all test (take n xs) ≡ true
+first_pass test n xs all =
+    list_all-from_AllPass test (take n xs) (All-from_contains (λ a. test a ≡ true) (take n xs)
+    (λ a has. All-contains (λ a. test a ≡ true) xs a (AllPass-from_list_all test xs all) (of_take n xs a has)))
+
+module _ (s : Setting) (lawful : LawfulSetting s) where
   abbrev m : Program
   m = s.job.program
 
@@ -71,22 +57,31 @@ module _ (s : Setting) (lawful : LawfulSetting s) (childless : has_births s.job.
   kept_lawful t totals a (Ok n) good is = next_lawful m s.job.seed t lawful.job_is_lawful.program_is_lawful (class_of m a) totals a n refl good is
   kept_lawful t totals a (Err e) good is = stays m a good
 
-  lawful_step : (t : ℕ) (world : World) → LawfulAgents m world.agents → LawfulAgents m (continued s t world).agents
-  lawful_step t world before =
+  lawful_step : (t : ℕ) (world : World) → world.next ≤ 2 ^ 63 → LawfulAgents m world.agents → LawfulAgents m (continued s t world).agents
+  lawful_step t world low before =
       let w : List Agent = world.agents in
       let f : Agent → Next = λ a. left_or_kept a (becomes s t (said s t w) a) in
-      let all = all_leave m f (λ a good. kept_lawful t (totals_of (said s t w) a (class_of m a)) a _ good refl) w before.each_is_lawful in
-      let same : living (map f w) ≡ (continued s t world).agents = sym (next_lives s childless t world ∙ ap living (left_each (becomes s t (said s t w)) w)) in
-      subst (LawfulAgents m) same (record {
-        each_is_lawful = all.lives;
-        few_agents = omega (arith, all.few, before.few_agents);
-        few_values = omega (arith, all.values, before.few_values);
-      })
+      let all = subst (AllLeave m w) (sym (left_each (becomes s t (said s t w)) w))
+      (all_leave m f (λ a good. kept_lawful t (totals_of (said s t w) a (class_of m a)) a _ good refl) w before.each_is_lawful) in
+      let lives : List Agent = living (all_left s t w) in
+      let kids : List Agent = children (all_left s t w) in
+      let born : List Agent = fitting lives world.next kids in
+      let few = fitting_few lives world.next kids low (omega (arith, all.few, before.few_agents)) (omega (arith, all.values, before.few_values)) in
+      let ranks : List ℕ = range_with_len 0 (length kids) in
+      let bear : AreLawful m born = first_pass (is_lawful_agent m) (unwrap_or (find (goes_too_far lives world.next kids) ranks) (length kids)) kids all.bears in
+      let low_ids = few.low_ids in
+      subst (LawfulAgents m) (sym (seconds_both lives born world.next))
+      (grown_lawful m world.next lives born all.lives bear (omega (arith, low_ids)) few.few_agents few.few_values)
+
+  low_after : (n : ℕ) → (continued_after s n).next ≤ 2 ^ 63
+  low_after n =
+      let same : s.job.first + n - s.job.first ≡ n = omega arith in
+      subst (λ k. (continued_after s k).next ≤ 2 ^ 63) same (on_numbered s lawful (s.job.first + n)).in_range
 
   lawful_after : (n : ℕ) → LawfulAgents m (continued_after s n).agents
   unfolding continued_after
   lawful_after zero = lawful.job_is_lawful.start_is_lawful
-  lawful_after (suc n) = lawful_step (s.job.first + n) (continued_after s n) (lawful_after n)
+  lawful_after (suc n) = lawful_step (s.job.first + n) (continued_after s n) (low_after n) (lawful_after n)
 
   pub on_lawful : (t : ℕ) → LawfulAgents m (on s t).agents
   on_lawful t = lawful_after (t - s.job.first)

@@ -11,6 +11,8 @@ pub mod AskedLemmas
 pub mod LaneLemmas
 pub mod WorkTaken
 pub mod WorkHeard
+pub mod CensusWork
+pub mod CensusJoins
 pub mod WorkOwned
 pub mod StepLemmas
 pub mod NextLemmas

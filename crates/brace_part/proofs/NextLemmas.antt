@@ -6,6 +6,7 @@ use Rattle.std.proofs.lemmas.Bool.{cases_lt, true≢false}
 use Rattle.std.proofs.lemmas.Bool.Decides.{nat_tests}
 use Rattle.brace_model.specs.declared.fault.Fault.{Fault}
 use Rattle.brace_model.specs.FaultOrder.{least}
+use Rattle.brace_model.specs.World.{World}
 use Rattle.brace_model.specs.Next.{has_births}
 use Rattle.brace_model.proofs.FaultLemmas.{least_none}
 use Rattle.brace_pieces.specs.declared.setting.Setting.{Setting}
@@ -23,9 +24,10 @@ use Rattle.brace_pieces.proofs.WalkLemmas.{next_in, next_is, is_low, no_tick, fi
 use Rattle.brace_part.specs.declared.standing.Stance.{Stance}
 use Rattle.brace_part.specs.declared.standing.Stance.TheVariants.{Owns, Hears, Leaves}
 use Rattle.brace_part.specs.Parts.{own_under, own_before, found_in_work}
-use Rattle.brace_part.specs.inner.Ready.{IsReadyFor, IsReady, IsReadyBehind, IsFaultlessBefore, IsFaultlessAt}
+use Rattle.brace_part.specs.inner.Ready.{own_in, IsReadyFor, IsReady, IsReadyBehind, IsNextAt, next_behind, IsFaultlessBefore, IsFaultlessAt}
 use Rattle.brace_part.proofs.StepLemmas.{OfRun, of_run}
-use Rattle.brace_pieces.proofs.Childless.{no_birth_faults}
+use Rattle.brace_pieces.proofs.Childless.{no_birth_faults, same_next, none_have, none_born}
+use Rattle.brace_pieces.proofs.OnLemmas.{on_next}
 
 -- ---- cuts of a tick at which no line begins
 
@@ -81,9 +83,27 @@ behind_low s t low = sym (ap (λ c. if c then slice_get (steps_from s (t + 1)) 0
 
 -- ---- what a part has
 
-module _ (s : Setting) (p : ℕ) (childless : has_births s.job.program ≡ false) where
-  pub said_then_moved : behind_effects s ≡ stage.Move
-  said_then_moved = ap (λ c. if c then stage.Census else stage.Move) childless
+module _ (s : Setting) (p : ℕ) where
+  -- by whether the program has births
+  pub by_births : (Q : Stage → Type 0) → Q stage.Census → (has_births s.job.program ≡ false → Q stage.Move) → Q (behind_effects s)
+  by_births Q bears none = by_test (has_births s.job.program) refl
+    where
+      by_test : (b : Bool) → has_births s.job.program ≡ b → Q (if b then stage.Census else stage.Move)
+      by_test true is = bears
+      by_test false is = none is
+
+  -- what a part has behind its updates is, without births, what it has behind a census
+  no_births : (t : ℕ) → s.job.first ≤ t → has_births s.job.program ≡ false → (stance : Stance) → IsReadyFor s p stage.Census t stance → IsReadyFor s p stage.Move t stance
+  no_births t low none (Leaves left born next) has = record {
+    lives = has.lives;
+    born_so = has.bears ∙ none_have s none t (on s t).agents (own_in s p t) ∙ sym (none_born s none t (on s t) (own_in s p t));
+    next_is = has.same_next ∙ sym (same_next s none t (on s t)) ∙ sym (ap (λ (w : World). w.next) (on_next s t low));
+  }
+  no_births t low none (Owns own) has = absurd has
+  no_births t low none (Hears agents heard) has = absurd has
+
+  updated_ready : (t : ℕ) → s.job.first ≤ t → (stance : Stance) → IsReadyFor s p stage.Census t stance → IsReadyFor s p (behind_effects s) t stance
+  updated_ready t low stance has = by_births (λ at. IsReadyFor s p at t stance) has (λ none. no_births t low none stance has)
 
   moved_ready : (u : ℕ) → s.job.first ≤ u → u < s.job.last → (stance : Stance) → IsReadyBehind s p stage.Move u stance → IsReady s p (behind_move s u) stance
   moved_ready u low high (Owns own) has =
@@ -94,7 +114,7 @@ module _ (s : Setting) (p : ℕ) (childless : has_births s.job.program ≡ false
       (λ other recut. has ∙ ap (λ c. own_under s p (cuts_of s c) (u + 1)) back)
       (λ other none. has ∙ sym (ap (λ cuts. own_under s p cuts (u + 1)) (not_recut s (u + 1) u refl low none))))
   moved_ready u low high (Hears agents heard) has = absurd has
-  moved_ready u low high (Leaves left) has = absurd has
+  moved_ready u low high (Leaves left born next) has = absurd has
 
   shown_ready : (t : ℕ) → s.job.first ≤ t → t ≤ s.job.last → (stance : Stance) → IsReadyFor s p stage.Show t stance → IsReady s p (slice_get (ticks_from s t) 0) stance
   shown_ready t low high (Owns own) has =
@@ -109,19 +129,51 @@ module _ (s : Setting) (p : ℕ) (childless : has_births s.job.program ≡ false
         | inr other ↦ shown_first s t (omega (arith, other, low))
       ]
   shown_ready t low high (Hears agents heard) has = absurd has
-  shown_ready t low high (Leaves left) has = absurd has
+  shown_ready t low high (Leaves left born next) has = absurd has
 
   next_ready : (st : Stage) (t : ℕ) → OfRun s st t → (stance : Stance) → IsReadyBehind s p st t stance → IsReady s p (next_in s st t) stance
   next_ready stage.Hand t run stance has = has
-  next_ready stage.Border t run stance has = subst (λ st. IsReadyFor s p (if s.invert then st else stage.Effects) t stance) (sym said_then_moved) has
-  next_ready stage.Effects t run stance has = subst (λ st. IsReadyFor s p st t stance) (sym said_then_moved) has
-  next_ready stage.Census t run stance has = absurd has
+  next_ready stage.Border t run stance has = by_invert s.invert has
+    where
+      by_invert : (b : Bool) → IsReadyFor s p (if b then stage.Census else stage.Effects) t stance → IsReadyFor s p (if b then behind_effects s else stage.Effects) t stance
+      by_invert true has = updated_ready t run.low stance has
+      by_invert false has = has
+  next_ready stage.Effects t run stance has = updated_ready t run.low stance has
+  next_ready stage.Census t run stance has = has
   next_ready stage.Move t run stance has = moved_ready t run.low (run.below (λ e. absurd (cc))) stance has
   next_ready stage.Show t run stance has = shown_ready t run.low run.high stance has
 
   -- what a part has behind its work in a step is what the next one needs
   pub ready_next : (k : ℕ) (at : Step) → slice_get (steps s) k ≡ Some at → (stance : Stance) → IsReadyBehind s p at.stage at.tick stance → IsReady s p (slice_get (steps s) (k + 1)) stance
   ready_next k at is stance has = subst (λ o. IsReady s p o stance) (next_is s k at is) (next_ready at.stage at.tick (of_run s k at is) stance has)
+
+  -- ---- the next free id
+
+  moved_next : (u : ℕ) → s.job.first ≤ u → u < s.job.last → (stance : Stance) (old : ℕ) → IsReadyFor s p stage.Move u stance → IsNextAt s (behind_move s u) (next_behind stage.Move stance old)
+  moved_next u low high (Leaves left born next) old has =
+      subst (λ o. IsNextAt s o next) (behind_low s u high)
+      (reaches s (u + 1) (λ o. IsNextAt s o next) (omega (arith, high)) (λ e. has.next_is) (λ e r. has.next_is) (λ e r. has.next_is))
+  moved_next u low high (Owns own) old has = absurd has
+  moved_next u low high (Hears agents heard) old has = absurd has
+
+  next_next : (st : Stage) (t : ℕ) → OfRun s st t → (stance : Stance) (old : ℕ) → IsReadyFor s p st t stance → old ≡ (on s t).next → IsNextAt s (next_in s st t) (next_behind st stance old)
+  next_next stage.Hand t run stance old has is = is
+  next_next stage.Border t run stance old has is = is
+  next_next stage.Effects t run stance old has is = is
+  next_next stage.Census t run stance old has is = is
+  next_next stage.Move t run stance old has is = moved_next t run.low (run.below (λ e. absurd (cc))) stance old has
+  next_next stage.Show t run stance old has is = begins s t (λ o. IsNextAt s o old) run.high (λ low r. is) (λ low r. is) (λ last. tt)
+
+  -- the next free id behind a step is that of the next one's tick
+  pub numbered_next : (k : ℕ) (at : Step) → slice_get (steps s) k ≡ Some at → (stance : Stance) (old : ℕ) → IsReadyFor s p at.stage at.tick stance → old ≡ (on s at.tick).next
+      → IsNextAt s (slice_get (steps s) (k + 1)) (next_behind at.stage stance old)
+  numbered_next k at is stance old has next = subst (λ o. IsNextAt s o (next_behind at.stage stance old)) (next_is s k at is) (next_next at.stage at.tick (of_run s k at is) stance old has next)
+
+  -- behind a move it is that of the next tick
+  pub numbered_moved : (t : ℕ) (stance : Stance) (old : ℕ) → IsReadyFor s p stage.Move t stance → next_behind stage.Move stance old ≡ (on s (t + 1)).next
+  numbered_moved t (Leaves left born next) old has = has.next_is
+  numbered_moved t (Owns own) old has = absurd has
+  numbered_moved t (Hears agents heard) old has = absurd has
 
   -- ---- which faults it found
 
@@ -138,11 +190,12 @@ module _ (s : Setting) (p : ℕ) (childless : has_births s.job.program ≡ false
   abbrev updates : ℕ → List Fault
   updates t = updates_found s t p (on s t).agents
 
-  finds_none : (t : ℕ) → queries t ≡ [] → updates t ≡ [] → finds s t p ≡ []
-  finds_none t asked told =
-      ap (λ xs. xs ++ updates t ++ birth_faults s t (on s t)) asked
-      ∙ ap (λ xs. [] ++ xs ++ birth_faults s t (on s t)) told
-      ∙ ap (λ xs. [] ++ [] ++ xs) (no_birth_faults s childless t (on s t))
+  abbrev births : ℕ → List Fault
+  births t = birth_faults s t (on s t)
+
+  finds_none : (t : ℕ) → queries t ≡ [] → updates t ≡ [] → births t ≡ [] → finds s t p ≡ []
+  finds_none t asked told born =
+      ap (λ xs. xs ++ updates t ++ births t) asked ∙ ap (λ xs. [] ++ xs ++ births t) told ∙ ap (λ xs. [] ++ [] ++ xs) born
 
   one_more : (t : ℕ) → IsFaultless s t p → finds s t p ≡ [] → IsFaultless s (t + 1) p
   one_more t before here u low high = elim (cases_lt u t) [
@@ -150,20 +203,22 @@ module _ (s : Setting) (p : ℕ) (childless : has_births s.job.program ≡ false
     | inr up ↦ let same : t ≡ u = omega (arith, up, high) in subst (λ v. finds s v p ≡ []) same here
   ]
 
-  behind_queries : (t : ℕ) (b : Bool) → IsFaultless s t p → least (queries t ++ (if b then updates t else [])) ≡ None → IsFaultlessBefore s p (if b then stage.Move else stage.Effects) t
+  behind_updates : (t : ℕ) → IsFaultless s t p → queries t ≡ [] → updates t ≡ [] → IsFaultlessBefore s p (behind_effects s) t
+  behind_updates t before asked told =
+      by_births (λ at. IsFaultlessBefore s p at t) (before, (asked, told)) (λ none. one_more t before (finds_none t asked told (no_birth_faults s none t (on s t))))
+
+  behind_queries : (t : ℕ) (b : Bool) → IsFaultless s t p → least (queries t ++ (if b then updates t else [])) ≡ None → IsFaultlessBefore s p (if b then behind_effects s else stage.Effects) t
   behind_queries t true before none =
       let (asked, told) = both_none (queries t) (updates t) (found_none (queries t ++ updates t) none) in
-      one_more t before (finds_none t asked told)
+      behind_updates t before asked told
   behind_queries t false before none =
       let (asked, told) = both_none (queries t) [] (found_none (queries t ++ []) none) in (before, asked)
 
   next_faultless : (st : Stage) (t : ℕ) → OfRun s st t → IsFaultlessBefore s p st t → least (found_in_work s p st t) ≡ None → IsFaultlessAt s p (next_in s st t)
   next_faultless stage.Hand t run before none = before
-  next_faultless stage.Border t run before none =
-      subst (λ st. IsFaultlessBefore s p (if s.invert then st else stage.Effects) t) (sym said_then_moved) (behind_queries t s.invert before none)
-  next_faultless stage.Effects t run before none =
-      subst (λ st. IsFaultlessBefore s p st t) (sym said_then_moved) (one_more t before.0 (finds_none t before.1 (found_none (updates t) none)))
-  next_faultless stage.Census t run before none = absurd (true≢false (sym (run.bears refl) ∙ childless))
+  next_faultless stage.Border t run before none = behind_queries t s.invert before none
+  next_faultless stage.Effects t run before none = behind_updates t before.0 before.1 (found_none (updates t) none)
+  next_faultless stage.Census t run before none = one_more t before.0 (finds_none t before.1.0 before.1.1 (found_none (births t) none))
   next_faultless stage.Move t run before none =
       let high = run.below (λ e. absurd (cc)) in
       subst (IsFaultlessAt s p) (behind_low s t high)

@@ -14,6 +14,7 @@ use Rattle.brace_pieces.specs.declared.piece.Piece.TheVariants as piece
 use Rattle.brace_pieces.specs.declared.piece.Shown.{Shown}
 use Rattle.brace_pieces.specs.Settings.{LawfulSetting, parts}
 use Rattle.brace_pieces.specs.Steps.{steps, met, meet, is_show}
+use Rattle.brace_pieces.specs.Continued.{on}
 use Rattle.brace_pieces.specs.Right.{IsRightAt}
 use Rattle.brace_pieces.specs.Courses.{OnCourse, met_in, step_of, others_of}
 use Rattle.brace_pieces.proofs.CourseLemmas.{kept_more}
@@ -24,7 +25,7 @@ use Rattle.brace_part.specs.Given.{counts_behind, counts_up_to}
 use Rattle.brace_part.specs.inner.Pieces.{counted, AreOut, AreTaken}
 use Rattle.brace_part.specs.inner.Pieces.AreOut.{none_out, more_out}
 use Rattle.brace_part.specs.inner.Pieces.AreTaken.{none_taken}
-use Rattle.brace_part.specs.inner.Ready.{IsReady, IsFaultlessAt, IsFaultlessBefore, brings_to, brings_at, AreKept}
+use Rattle.brace_part.specs.inner.Ready.{IsReady, IsNextAt, IsFaultlessAt, IsFaultlessBefore, brings_to, brings_at, AreKept}
 use Rattle.brace_part.specs.inner.Sound.{GoesOn}
 use Rattle.brace_part.proofs.StepLemmas.{of_run}
 use Rattle.brace_part.proofs.OutLemmas.{right_in}
@@ -32,12 +33,13 @@ use Rattle.brace_part.proofs.ShownLemmas.{kept_is_shown}
 use Rattle.brace_part.proofs.CountLemmas.{counts_end, counts_showing, counts_exchanging}
 
 -- a part that made no turn in a step goes on where it has what it needs, and what it puts
-pub goes_on : (c : OnCourse) (standing : Standing) → c.made ≡ 0 → IsReady c.setting c.actor (step_of c) standing.stance → IsFaultlessAt c.setting c.actor (step_of c)
+pub goes_on : (c : OnCourse) (standing : Standing) → c.made ≡ 0 → IsReady c.setting c.actor (step_of c) standing.stance → IsNextAt c.setting (step_of c) standing.next → IsFaultlessAt c.setting c.actor (step_of c)
     → AreOut c.setting c.number c.actor (others_of c) standing.out.items → standing.taken.items ≡ [] → standing.shown ≡ keeps_at c.setting c.actor (step_of c) → standing.counts ≡ counts_up_to c.setting c.actor c.number → GoesOn c standing
-goes_on c standing start ready faultless out nothing keeps counted =
+goes_on c standing start ready number faultless out nothing keeps counted =
     let none : 0 ≡ c.made - length (others_of c) = omega (arith, start) in
     record {
       ready = ready;
+      next_is = number;
       faultless = faultless;
       puts = subst (λ n. AreOut c.setting c.number c.actor (drop n (others_of c)) standing.out.items) (sym start) out;
       took = subst (λ n. AreTaken c.setting c.number c.actor (take n (others_of c)) standing.taken.items) none (subst (AreTaken c.setting c.number c.actor []) (sym nothing) none_taken);
@@ -100,23 +102,23 @@ shows_right s k p at list lawful part stands show brings faultless =
 out_none : (s : Setting) (k p : ℕ) (qs : List ℕ) (out : List Piece) → qs ≡ [] → out ≡ [] → AreOut s k p qs out
 out_none s k p qs out none empty = subst (λ rs. AreOut s k p rs out) (sym none) (subst (AreOut s k p []) (sym empty) none_out)
 
-pub goes_nowhere : (c : OnCourse) (standing : Standing) → step_of c ≡ None → c.made ≡ 0 → IsReady c.setting c.actor (step_of c) standing.stance → IsFaultlessAt c.setting c.actor (step_of c)
+pub goes_nowhere : (c : OnCourse) (standing : Standing) → step_of c ≡ None → c.made ≡ 0 → IsReady c.setting c.actor (step_of c) standing.stance → IsNextAt c.setting (step_of c) standing.next → IsFaultlessAt c.setting c.actor (step_of c)
     → standing.shown ≡ brings_at c.setting c.actor (step_of c) → standing.out.items ≡ [] → standing.taken.items ≡ [] → standing.counts ≡ counts_behind c.setting c.actor c.number → GoesOn c standing
-goes_nowhere c standing none start ready faultless brings empty nothing counted =
-    goes_on c standing start ready faultless
+goes_nowhere c standing none start ready number faultless brings empty nothing counted =
+    goes_on c standing start ready number faultless
     (out_none c.setting c.number c.actor (others_of c) standing.out.items (ap (λ o. met_in c.setting o c.actor) none) empty) nothing
     (brings ∙ ap (brings_at c.setting c.actor) none ∙ sym (ap (keeps_at c.setting c.actor) none))
     (counted ∙ counts_end c.setting c.actor c.number none)
 
 pub goes_showing : (c : OnCourse) (standing : Standing) (at : Step) (list : List Shown) → LawfulSetting c.setting → c.actor < parts c.setting → step_of c ≡ Some at → at.stage ≡ stage.Show → c.made ≡ 0
-    → IsReady c.setting c.actor (step_of c) standing.stance → IsFaultlessAt c.setting c.actor (step_of c) → list ≡ brings_at c.setting c.actor (step_of c)
+    → IsReady c.setting c.actor (step_of c) standing.stance → IsNextAt c.setting (step_of c) standing.next → IsFaultlessAt c.setting c.actor (step_of c) → list ≡ brings_at c.setting c.actor (step_of c)
     → standing.out.items ≡ piece.Show list ∷ [] → standing.taken.items ≡ [] → standing.shown ≡ [] → standing.counts ≡ counts_behind c.setting c.actor c.number → GoesOn c standing
-goes_showing c standing at list lawful part is show start ready faultless brings puts nothing gone counted =
+goes_showing c standing at list lawful part is show start ready number faultless brings puts nothing gone counted =
     let s : Setting = c.setting in
     let p : ℕ = c.actor in
     let out : AreOut s c.number p (met s at p) (piece.Show list ∷ []) =
     shows_right s c.number p at list lawful part is show (brings ∙ ap (brings_at s p) is) (subst (IsFaultlessAt s p) is faultless) in
-    goes_on c standing start ready faultless
+    goes_on c standing start ready number faultless
     (subst (λ qs. AreOut s c.number p qs standing.out.items) (sym (ap (λ o. met_in s o p) is)) (subst (AreOut s c.number p (met s at p)) (sym puts) out)) nothing
     (gone ∙ sym (ap (keeps_at s p) is ∙ ap (λ st. keeps_before s p st at.tick) show))
     (counted ∙ counts_showing s p c.number at is show)
@@ -130,13 +132,14 @@ brings_keeps s p stage.Move t is = refl
 brings_keeps s p stage.Show t is = absurd (true≢false is)
 
 pub goes_exchanging : (c : OnCourse) (standing : Standing) (at : Step) → step_of c ≡ Some at → is_show at.stage ≡ false → c.made ≡ 0
-    → IsReady c.setting c.actor (step_of c) standing.stance → IsFaultlessAt c.setting c.actor (step_of c) → standing.shown ≡ brings_at c.setting c.actor (step_of c)
+    → IsReady c.setting c.actor (step_of c) standing.stance → IsNextAt c.setting (step_of c) standing.next → IsFaultlessAt c.setting c.actor (step_of c) → standing.shown ≡ brings_at c.setting c.actor (step_of c)
     → AreOut c.setting c.number c.actor (others_of c) standing.out.items → standing.taken.items ≡ [] → (before : Counts) → before ≡ counts_behind c.setting c.actor c.number
-    → standing.counts ≡ fold counted before standing.out.items → GoesOn c standing
-goes_exchanging c standing at is nothing_shown start ready faultless brings out nothing before gave counts =
-    goes_on c standing start ready faultless out nothing
+    → (next : ℕ) → next ≡ standing.next → standing.counts ≡ fold (counted next) before standing.out.items → GoesOn c standing
+goes_exchanging c standing at is nothing_shown start ready number faultless brings out nothing before gave next same counts =
+    goes_on c standing start ready number faultless out nothing
     (brings ∙ ap (brings_at c.setting c.actor) is ∙ brings_keeps c.setting c.actor at.stage at.tick nothing_shown ∙ sym (ap (keeps_at c.setting c.actor) is))
-    (counts ∙ ap (λ n. fold counted n standing.out.items) gave
+    (counts ∙ ap (λ n. fold (counted n) before standing.out.items) (same ∙ subst (λ o. IsNextAt c.setting o standing.next) is number)
+    ∙ ap (λ n. fold (counted (on c.setting at.tick).next) n standing.out.items) gave
     ∙ counts_exchanging c.setting c.actor c.number at is nothing_shown standing.out.items (subst (λ qs. AreOut c.setting c.number c.actor qs standing.out.items) (ap (λ o. met_in c.setting o c.actor) is) out))
 
 pub out_same : (s r : Setting) (k j p q : ℕ) (qs rs : List ℕ) (out : List Piece) → r ≡ s → j ≡ k → q ≡ p → rs ≡ qs → AreOut r j q rs out → AreOut s k p qs out

@@ -1,12 +1,11 @@
 -- The piece that a part makes for another is right.
-use Rattle.std.proofs.Common.{◌≡◌, ◌∙◌, sym, ap, ℕ, ◌<◌, List, ◌++◌, map, false}
+use Rattle.std.proofs.Common.{◌≡◌, ◌∙◌, sym, ap, ap₂, ℕ, ◌<◌, List, ◌++◌, map, false}
 use Rattle.std.specs.Prelude.{if◌then◌else◌}
 use Rattle.brace_model.specs.declared.program.Program.{Program}
 use Rattle.brace_model.specs.declared.fault.Fault.{Fault}
 use Rattle.brace_model.specs.declared.world.Agent.{Agent}
 use Rattle.brace_model.specs.World.{World}
 use Rattle.brace_model.specs.Query.{Saying}
-use Rattle.brace_model.specs.Next.{has_births}
 use Rattle.brace_comb.specs.declared.entry.Entry.{Entry}
 use Rattle.brace_eval.specs.declared.heard.Heard.{Heard}
 use Rattle.brace_eval.specs.Heard.{IsHeard, said_by}
@@ -19,20 +18,20 @@ use Rattle.brace_pieces.specs.Continued.{on}
 use Rattle.brace_pieces.specs.Right.{share_of, shares, moved}
 use Rattle.brace_pieces.specs.Heard.{near}
 use Rattle.brace_pieces.proofs.HeardHere.{StandInside, whole_inside, told_same}
-use Rattle.brace_pieces.proofs.GivenLemmas.{given_is}
+use Rattle.brace_pieces.proofs.GivenLemmas.{given_with_births}
 use Rattle.brace_pieces.proofs.OnLemmas.{on_rises, on_whole}
 use Rattle.brace_part.specs.inner.Tables.{said_over, faults_over, shares_in}
-use Rattle.brace_part.specs.inner.Ready.{HearsAsked, own_in, left_in}
+use Rattle.brace_part.specs.inner.Ready.{HearsAsked, own_in, left_in, born_in}
 
 module _ (s : Setting) (lawful : LawfulSetting s) (numbers : NumbersFit s) (t p : ℕ) where
   abbrev world : World
   world = on s t
 
   -- what its agents leave for another
-  pub moved_right : (childless : has_births s.job.program ≡ false) (q : ℕ) (left found : List Agent) → left ≡ left_in s p t → found ≡ owned s.job.program (cuts_of s t) q left → found ≡ moved s t p q world
-  moved_right childless q left found is given =
-      given ∙ ap (owned s.job.program (cuts_of s t) q) is
-      ∙ sym (given_is s t lawful world.agents (on_rises s lawful t) (on_whole s lawful numbers t) p childless q world.next)
+  pub moved_right : (q : ℕ) (left born found : List Agent) → left ≡ left_in s p t → born ≡ born_in s p t → found ≡ owned s.job.program (cuts_of s t) q (left ++ born) → found ≡ moved s t p q world
+  moved_right q left born found lives bears given =
+      given ∙ ap₂ (λ xs ys. owned s.job.program (cuts_of s t) q (xs ++ ys)) lives bears
+      ∙ sym (given_with_births s t lawful world.agents (on_rises s lawful t) (on_whole s lawful numbers t) p q world.next)
 
   pub inside : StandInside s t world.agents
   inside = whole_inside s lawful t world.agents (on_whole s lawful numbers t)

@@ -2,11 +2,10 @@
 use Rattle.std.proofs.Common.{◌≡◌, ◌∙◌, refl, sym, ap, ap₂, subst, ℕ, zero, suc, ◌+◌, ◌-◌, ◌<◌, ◌≤◌, List, [], ◌∷◌, ◌++◌, map, filter, Bool, true, false, cond, Some, ◌==◌, ◌||◌, arith, inl, inr}
 use Rattle.std.specs.Prelude.{slice_get, ◌%◌, if◌then◌else◌}
 use Rattle.std.specs.List.{range_with_len}
-use Rattle.std.proofs.lemmas.Bool.{cases_eq, eq-eqb, ne_eqb, true≢false}
+use Rattle.std.proofs.lemmas.Bool.{cases_eq, eq-eqb, ne_eqb}
 use Rattle.std.proofs.lemmas.List.{map-append}
 use Rattle.std.proofs.lemmas.List.Elements.{filter-append}
 use Rattle.brace_cuts.specs.CutPlans.{IsPlan}
-use Rattle.brace_model.specs.Next.{has_births}
 use Rattle.brace_pieces.specs.declared.setting.Setting.{Setting}
 use Rattle.brace_pieces.specs.declared.setting.Stage.{Stage}
 use Rattle.brace_pieces.specs.declared.setting.Stage.TheVariants as stage
@@ -14,17 +13,15 @@ use Rattle.brace_pieces.specs.declared.setting.Step.{Step}
 use Rattle.brace_pieces.specs.declared.piece.Shown.{Shown}
 use Rattle.brace_pieces.specs.Settings.{is_end, shown_from, shown_ticks}
 use Rattle.brace_pieces.specs.Steps.{steps}
-use Rattle.brace_pieces.specs.Continued.{on, continued_after}
+use Rattle.brace_pieces.specs.Continued.{on}
 use Rattle.brace_pieces.specs.Right as right
-use Rattle.brace_pieces.specs.inner.Walks.{steps_from}
-use Rattle.brace_pieces.proofs.OnLemmas.{on_next}
+use Rattle.brace_pieces.specs.inner.Walks.{steps_from, behind_effects}
 use Rattle.brace_pieces.proofs.EpochLemmas.{row_one, from_one, from_first, since, same_from}
 use Rattle.brace_pieces.proofs.WalkLemmas.{next_in, next_is}
 use Rattle.brace_part.specs.Parts.{own_under, noted, kept_at, keeps_before}
 use Rattle.brace_part.specs.inner.Ready.{brings_to, brings_at}
-use Rattle.brace_pieces.proofs.Childless.{same_next}
 use Rattle.brace_part.proofs.StepLemmas.{OfRun, of_run}
-use Rattle.brace_part.proofs.NextLemmas.{begins, reaches, behind_low, said_then_moved}
+use Rattle.brace_part.proofs.NextLemmas.{begins, reaches, behind_low, by_births}
 
 -- tests that agree on numbers in a row keep the same ones
 kept_same : (f g : ℕ → Bool) (n a : ℕ) → ((v : ℕ) → a ≤ v → v < a + n → f v ≡ g v) → filter f (range_with_len a n) ≡ filter g (range_with_len a n)
@@ -101,83 +98,70 @@ module _ (s : Setting) where
         mapped_same (kept_at s p) (right.shown s end p) (λ v. (v == end) || (v % s.job.every == 0)) (end + 1 - from) from
         (λ v up down. ap (λ cuts. record { tick = v; agents = own_under s p cuts v; next = (on s v).next }) (same_from s plan (end - v) v end (omega (arith, down, below)) (omega (arith, above, up)) up h))
 
-  -- ---- the next free id
+  -- ---- what a part brings to the next step
 
-  module _ (childless : has_births s.job.program ≡ false) where
-    next_after : (n t : ℕ) → t ≡ s.job.first + n → (on s t).next ≡ s.job.start.next
-    unfolding continued_after
-    next_after zero t is = let none : t - s.job.first ≡ 0 = omega (arith, is) in ap (λ m. (continued_after s m).next) none
-    next_after (suc n) t is =
-        let before : ℕ = s.job.first + n in
-        let at : t ≡ before + 1 = omega (arith, is) in
-        ap (λ u. (on s u).next) at ∙ ap (λ w. w.next) (on_next s before (omega arith)) ∙ same_next s childless before (on s before) ∙ next_after n before refl
+  module _ (p : ℕ) where
+    abbrev keeps : ℕ → List Shown
+    keeps t = if is_end s t then [] else map (kept_at s p) (noted s t)
 
-    pub next_stays : (t : ℕ) → s.job.first ≤ t → (on s t).next ≡ s.job.start.next
-    next_stays t low = next_after (t - s.job.first) t (omega (arith, low))
+    -- one more tick that is noted
+    pub one_noted : (t u : ℕ) (old : List Shown) (x : Shown) → u ≡ t + 1 → s.job.first ≤ t → x ≡ kept_at s p u → old ≡ keeps t
+        → old ++ (if is_noted u then x ∷ [] else []) ≡ map (kept_at s p) (noted s u)
+    one_noted t u old x is low same had =
+        ap₂ (λ xs ys. xs ++ ys) had (by_test (is_noted u) same) ∙ by_end (is_end s t) refl
+      where
+        by_test : (c : Bool) → x ≡ kept_at s p u → (if c then x ∷ [] else []) ≡ map (kept_at s p) (cond c (u ∷ []) [])
+        by_test true e = ap (λ y. y ∷ []) e
+        by_test false e = refl
 
-    -- ---- what a part brings to the next step
+        by_end : (c : Bool) → is_end s t ≡ c → (if c then [] else map (kept_at s p) (noted s t)) ++ map (kept_at s p) (cond (is_noted u) (u ∷ []) []) ≡ map (kept_at s p) (noted s u)
+        by_end true ends = ap (map (kept_at s p)) (sym (noted_first t u is low ends))
+        by_end false ends = sym (map-append (kept_at s p) (noted s t) (cond (is_noted u) (u ∷ []) [])) ∙ ap (map (kept_at s p)) (sym (noted_more t u is low ends))
 
-    module _ (p : ℕ) where
-      abbrev keeps : ℕ → List Shown
-      keeps t = if is_end s t then [] else map (kept_at s p) (noted s t)
+    pub first_noted : (x : Shown) → x ≡ kept_at s p s.job.first → (if is_noted s.job.first then x ∷ [] else []) ≡ map (kept_at s p) (noted s s.job.first)
+    first_noted x same = by_test (is_noted s.job.first) ∙ ap (map (kept_at s p)) (sym noted_at_first)
+      where
+        by_test : (c : Bool) → (if c then x ∷ [] else []) ≡ map (kept_at s p) (cond c (s.job.first ∷ []) [])
+        by_test true = ap (λ y. y ∷ []) same
+        by_test false = refl
 
-      -- one more tick that is noted
-      pub one_noted : (t u : ℕ) (old : List Shown) (x : Shown) → u ≡ t + 1 → s.job.first ≤ t → x ≡ kept_at s p u → old ≡ keeps t
-          → old ++ (if is_noted u then x ∷ [] else []) ≡ map (kept_at s p) (noted s u)
-      one_noted t u old x is low same had =
-          ap₂ (λ xs ys. xs ++ ys) had (by_test (is_noted u) same) ∙ by_end (is_end s t) refl
-        where
-          by_test : (c : Bool) → x ≡ kept_at s p u → (if c then x ∷ [] else []) ≡ map (kept_at s p) (cond c (u ∷ []) [])
-          by_test true e = ap (λ y. y ∷ []) e
-          by_test false e = refl
+    -- what was noted up to a tick is what a part brings to its first step
+    reached_brings : (u : ℕ) (new : List Shown) → s.job.first ≤ u → u ≤ s.job.last → new ≡ map (kept_at s p) (noted s u) → new ≡ brings_at s p (slice_get (steps_from s u) 0)
+    reached_brings u new low high is =
+        reaches s u (λ o. new ≡ brings_at s p o) high
+        (λ ends. is ∙ ap (map (kept_at s p)) (shown_as_noted u low ends))
+        (λ other recut. is ∙ sym (ap (λ c. if c then [] else map (kept_at s p) (noted s u)) other))
+        (λ other none. is ∙ sym (ap (λ c. if c then [] else map (kept_at s p) (noted s u)) other))
 
-          by_end : (c : Bool) → is_end s t ≡ c → (if c then [] else map (kept_at s p) (noted s t)) ++ map (kept_at s p) (cond (is_noted u) (u ∷ []) []) ≡ map (kept_at s p) (noted s u)
-          by_end true ends = ap (map (kept_at s p)) (sym (noted_first t u is low ends))
-          by_end false ends = sym (map-append (kept_at s p) (noted s t) (cond (is_noted u) (u ∷ []) [])) ∙ ap (map (kept_at s p)) (sym (noted_more t u is low ends))
+    behind_updates : (t : ℕ) (new : List Shown) → new ≡ keeps t → new ≡ brings_to s p (behind_effects s) t
+    behind_updates t new is = by_births s p (λ at. new ≡ brings_to s p at t) is (λ none. is)
 
-      pub first_noted : (x : Shown) → x ≡ kept_at s p s.job.first → (if is_noted s.job.first then x ∷ [] else []) ≡ map (kept_at s p) (noted s s.job.first)
-      first_noted x same = by_test (is_noted s.job.first) ∙ ap (map (kept_at s p)) (sym noted_at_first)
-        where
-          by_test : (c : Bool) → (if c then x ∷ [] else []) ≡ map (kept_at s p) (cond c (s.job.first ∷ []) [])
-          by_test true = ap (λ y. y ∷ []) same
-          by_test false = refl
+    by_choice : (c : Bool) (t : ℕ) (new : List Shown) → new ≡ keeps t → new ≡ brings_to s p (if c then behind_effects s else stage.Effects) t
+    by_choice true t new is = behind_updates t new is
+    by_choice false t new is = is
 
-      -- what was noted up to a tick is what a part brings to its first step
-      reached_brings : (u : ℕ) (new : List Shown) → s.job.first ≤ u → u ≤ s.job.last → new ≡ map (kept_at s p) (noted s u) → new ≡ brings_at s p (slice_get (steps_from s u) 0)
-      reached_brings u new low high is =
-          reaches s u (λ o. new ≡ brings_at s p o) high
-          (λ ends. is ∙ ap (map (kept_at s p)) (shown_as_noted u low ends))
-          (λ other recut. is ∙ sym (ap (λ c. if c then [] else map (kept_at s p) (noted s u)) other))
-          (λ other none. is ∙ sym (ap (λ c. if c then [] else map (kept_at s p) (noted s u)) other))
+    next_brings : (st : Stage) (t : ℕ) → OfRun s st t → (old new : List Shown) → old ≡ keeps_before s p st t
+        → (st ≡ stage.Move → new ≡ map (kept_at s p) (noted s (t + 1))) → ((st ≡ stage.Move → ⊥) → new ≡ old) → new ≡ brings_at s p (next_in s st t)
+    next_brings stage.Hand t run old new had moved stays = stays (λ e. absurd (cc)) ∙ had
+    next_brings stage.Border t run old new had moved stays = by_choice s.invert t new (stays (λ e. absurd (cc)) ∙ had)
+    next_brings stage.Effects t run old new had moved stays = behind_updates t new (stays (λ e. absurd (cc)) ∙ had)
+    next_brings stage.Census t run old new had moved stays = stays (λ e. absurd (cc)) ∙ had
+    next_brings stage.Move t run old new had moved stays =
+        let low = run.low in
+        let high = run.below (λ e. absurd (cc)) in
+        subst (λ o. new ≡ brings_at s p o) (behind_low s t high) (reached_brings (t + 1) new (omega (arith, low)) (omega (arith, high)) (moved refl))
+    next_brings stage.Show t run old new had moved stays =
+        let is : new ≡ [] = stays (λ e. absurd (cc)) ∙ had in
+        begins s t (λ o. new ≡ brings_at s p o) run.high
+        (λ low r. is ∙ sym (ap (λ c. if c then [] else map (kept_at s p) (noted s t)) (run.ends refl)))
+        (λ low r. is ∙ sym (ap (λ c. if c then [] else map (kept_at s p) (noted s t)) (run.ends refl)))
+        (λ last. is)
 
-      by_choice : (c : Bool) (t : ℕ) (new : List Shown) → new ≡ keeps t → new ≡ brings_to s p (if c then stage.Move else stage.Effects) t
-      by_choice true t new is = is
-      by_choice false t new is = is
+    -- what a part keeps behind a step is what it brings to the next one
+    pub brings_next : (k : ℕ) (at : Step) → slice_get (steps s) k ≡ Some at → (old new : List Shown) → old ≡ keeps_before s p at.stage at.tick
+        → (at.stage ≡ stage.Move → new ≡ map (kept_at s p) (noted s (at.tick + 1))) → ((at.stage ≡ stage.Move → ⊥) → new ≡ old) → new ≡ brings_at s p (slice_get (steps s) (k + 1))
+    brings_next k at is old new had moved stays = subst (λ o. new ≡ brings_at s p o) (next_is s k at is) (next_brings at.stage at.tick (of_run s k at is) old new had moved stays)
 
-      next_brings : (st : Stage) (t : ℕ) → OfRun s st t → (old new : List Shown) → old ≡ keeps_before s p st t
-          → (st ≡ stage.Move → new ≡ map (kept_at s p) (noted s (t + 1))) → ((st ≡ stage.Move → ⊥) → new ≡ old) → new ≡ brings_at s p (next_in s st t)
-      next_brings stage.Hand t run old new had moved stays = stays (λ e. absurd (cc)) ∙ had
-      next_brings stage.Border t run old new had moved stays =
-          subst (λ st. new ≡ brings_to s p (if s.invert then st else stage.Effects) t) (sym (said_then_moved s p childless)) (by_choice s.invert t new (stays (λ e. absurd (cc)) ∙ had))
-      next_brings stage.Effects t run old new had moved stays =
-          subst (λ st. new ≡ brings_to s p st t) (sym (said_then_moved s p childless)) (stays (λ e. absurd (cc)) ∙ had)
-      next_brings stage.Census t run old new had moved stays = absurd (true≢false (sym (run.bears refl) ∙ childless))
-      next_brings stage.Move t run old new had moved stays =
-          let low = run.low in
-          let high = run.below (λ e. absurd (cc)) in
-          subst (λ o. new ≡ brings_at s p o) (behind_low s t high) (reached_brings (t + 1) new (omega (arith, low)) (omega (arith, high)) (moved refl))
-      next_brings stage.Show t run old new had moved stays =
-          let is : new ≡ [] = stays (λ e. absurd (cc)) ∙ had in
-          begins s t (λ o. new ≡ brings_at s p o) run.high
-          (λ low r. is ∙ sym (ap (λ c. if c then [] else map (kept_at s p) (noted s t)) (run.ends refl)))
-          (λ low r. is ∙ sym (ap (λ c. if c then [] else map (kept_at s p) (noted s t)) (run.ends refl)))
-          (λ last. is)
-
-      -- what a part keeps behind a step is what it brings to the next one
-      pub brings_next : (k : ℕ) (at : Step) → slice_get (steps s) k ≡ Some at → (old new : List Shown) → old ≡ keeps_before s p at.stage at.tick
-          → (at.stage ≡ stage.Move → new ≡ map (kept_at s p) (noted s (at.tick + 1))) → ((at.stage ≡ stage.Move → ⊥) → new ≡ old) → new ≡ brings_at s p (slice_get (steps s) (k + 1))
-      brings_next k at is old new had moved stays = subst (λ o. new ≡ brings_at s p o) (next_is s k at is) (next_brings at.stage at.tick (of_run s k at is) old new had moved stays)
-
-      -- and what it noted at its start is what it brings to the first one
-      pub brings_first : (new : List Shown) → new ≡ map (kept_at s p) (noted s s.job.first) → s.job.first ≤ s.job.last → new ≡ brings_at s p (slice_get (steps s) 0)
-      brings_first new is high = reached_brings s.job.first new (omega arith) high is
+    -- and what it noted at its start is what it brings to the first one
+    pub brings_first : (new : List Shown) → new ≡ map (kept_at s p) (noted s s.job.first) → s.job.first ≤ s.job.last → new ≡ brings_at s p (slice_get (steps s) 0)
+    brings_first new is high = reached_brings s.job.first new (omega arith) high is

@@ -22,7 +22,7 @@ use Rattle.brace_part.specs.Parts.{IsCauseOfAll}
 use Rattle.brace_part.specs.inner.Pieces.{AreOut, AreTaken}
 use Rattle.brace_part.specs.inner.Pieces as pieces
 use Rattle.brace_part.specs.inner.Pieces.AreTaken.{none_taken, more_taken}
-use Rattle.brace_part.specs.inner.Ready.{IsReady, AreKept}
+use Rattle.brace_part.specs.inner.Ready.{IsReady, IsNextAt, AreKept}
 use Rattle.brace_part.specs.inner.Sound.{GoesOn, IsHalted, IsSound}
 use Rattle.brace_part.proofs.OutLemmas.{puts_last, one_taken}
 use Rattle.brace_part.proofs.TurnLemmas.{PutsNext, TakesNext}
@@ -50,8 +50,8 @@ past_all zero (x ∷ xs) high = absurd (omega (arith, high))
 past_all (suc n) (x ∷ xs) high = past_all n xs (omega (arith, high))
 
 -- what no exchange changes
-abbrev pub kept_of : Standing → List Shown × Counts
-kept_of standing = (standing.shown, standing.counts)
+abbrev pub kept_of : Standing → List Shown × Counts × ℕ
+kept_of standing = (standing.shown, standing.counts, standing.next)
 
 module _ (c : OnCourse) (old new : Standing) (h : GoesOn c old) (stance : new.stance ≡ old.stance) (kept : kept_of new ≡ kept_of old) where
   abbrev others : List ℕ
@@ -67,6 +67,7 @@ module _ (c : OnCourse) (old new : Standing) (h : GoesOn c old) (stance : new.st
         subst (λ m. IsRight c.setting m piece) (sym turn.same) right,
         record {
           ready = subst (IsReady c.setting c.actor (step_of c)) (sym stance) h.ready;
+          next_is = subst (IsNextAt c.setting (step_of c)) (sym (ap (λ x. x.2) kept)) h.next_is;
           faultless = h.faultless;
           puts = left;
           took = subst (λ m. AreTaken c.setting c.number c.actor (take m others) new.taken.items) none (subst (AreTaken c.setting c.number c.actor (take (c.made - length others) others)) (sym taken) h.took);
@@ -84,6 +85,7 @@ module _ (c : OnCourse) (old new : Standing) (h : GoesOn c old) (stance : new.st
       let still : drop c.made others ≡ drop (c.made + 1) others = past_all c.made others high ∙ sym (past_all (c.made + 1) others (omega (arith, high))) in
       record {
         ready = subst (IsReady c.setting c.actor (step_of c)) (sym stance) h.ready;
+        next_is = subst (IsNextAt c.setting (step_of c)) (sym (ap (λ x. x.2) kept)) h.next_is;
         faultless = h.faultless;
         puts = subst (λ qs. AreOut c.setting c.number c.actor qs new.out.items) still (subst (AreOut c.setting c.number c.actor (drop c.made others)) (sym out) h.puts);
         took = subst (λ m. AreTaken c.setting c.number c.actor (take m others) new.taken.items) more

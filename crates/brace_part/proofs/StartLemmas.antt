@@ -5,13 +5,12 @@ use Rattle.std.proofs.lemmas.Bool.{cases_lt}
 use Rattle.std.proofs.lemmas.Bool.Decides.{nat_tests}
 use Rattle.std.proofs.lemmas.List.Elements.{All-nil}
 use Rattle.brace_model.specs.declared.world.Agent.{Agent}
-use Rattle.brace_model.specs.Next.{has_births}
 use Rattle.brace_pieces.specs.declared.setting.Setting.{Setting}
 use Rattle.brace_pieces.specs.declared.setting.Stage.TheVariants as stage
 use Rattle.brace_pieces.specs.declared.piece.Shown.{Shown}
 use Rattle.brace_pieces.specs.Settings.{cuts_of, is_end}
 use Rattle.brace_pieces.specs.Steps.{step, steps}
-use Rattle.brace_pieces.specs.Continued.{continued_after}
+use Rattle.brace_pieces.specs.Continued.{continued_after, on}
 use Rattle.brace_pieces.specs.Owned.{owned}
 use Rattle.brace_pieces.specs.inner.Walks.{ticks_from}
 use Rattle.brace_pieces.proofs.WalkLemmas.{no_tick, first_behind_tick}
@@ -20,11 +19,11 @@ use Rattle.brace_part.specs.declared.standing.Stance.TheVariants.{Owns, Hears, L
 use Rattle.brace_part.specs.declared.standing.Standing.{Standing}
 use Rattle.brace_part.specs.Parts.{own_under, kept_at}
 use Rattle.brace_part.specs.Given.{no_counts}
-use Rattle.brace_part.specs.inner.Ready.{IsReady, IsReadyFor, IsFaultlessAt, AreKept}
+use Rattle.brace_part.specs.inner.Ready.{IsReady, IsReadyFor, IsNextAt, IsFaultlessAt, AreKept}
 use Rattle.brace_part.specs.inner.Sound.{ComesTo}
 use Rattle.brace_pieces.proofs.EpochLemmas.{shown_first}
 use Rattle.brace_part.proofs.NextLemmas.{recut_behind, reaches}
-use Rattle.brace_part.proofs.ShownLemmas.{is_noted, next_stays, first_noted, brings_first}
+use Rattle.brace_part.proofs.ShownLemmas.{is_noted, first_noted, brings_first}
 use Rattle.brace_part.proofs.ComesLemmas.{note_of, kept_more}
 
 -- what a part owns of the first world
@@ -63,7 +62,7 @@ module _ (s : Setting) (p : ℕ) where
       (λ e. has ∙ sym (ap (λ cuts. own_under s p cuts first) (shown_first s first refl)))
       (λ e r. no_recut (recut_behind s first r)) (λ e r. has)
   ready_first up (Hears agents heard) has = absurd has
-  ready_first up (Leaves left) has = absurd has
+  ready_first up (Leaves left born next) has = absurd has
 
   ready_last : s.job.last < first → (stance : Stance) → IsReadyFor s p stage.Border first stance → IsReadyFor s p stage.Show s.job.last stance
   ready_last down (Owns own) has =
@@ -72,48 +71,68 @@ module _ (s : Setting) (p : ℕ) where
       has ∙ ap (λ n. owned s.job.program (cuts_of s first) p (continued_after s n).agents) same
       ∙ sym (ap (λ c. own_under s p (cuts_of s (if c then s.job.last - 1 else first)) s.job.last) none)
   ready_last down (Hears agents heard) has = absurd has
-  ready_last down (Leaves left) has = absurd has
+  ready_last down (Leaves left born next) has = absurd has
 
   faultless_first : first ≤ s.job.last → IsFaultlessAt s p (slice_get (steps s) 0)
   faultless_first up =
       reaches s first (IsFaultlessAt s p) up (λ e t low high. absurd (omega (arith, low, high)))
       (λ e r. no_recut (recut_behind s first r)) (λ e r t low high. absurd (omega (arith, low, high)))
 
-  module _ (childless : has_births s.job.program ≡ false) where
-    note_first : (stance : Stance) → IsReadyFor s p stage.Border first stance → note_of s first stance ≡ kept_at s p first
-    note_first (Owns own) has =
-        ap₂ (λ agents n. record { tick = first; agents = agents; next = n })
-        (has ∙ sym (ap (λ cuts. own_under s p cuts first) (shown_first s first refl)))
-        (sym (next_stays s childless first (omega arith)))
-    note_first (Hears agents heard) has = absurd has
-    note_first (Leaves left) has = absurd has
+  next_first : s.job.start.next ≡ (on s first).next
+  unfolding continued_after
+  next_first =
+      let none : 0 ≡ first - first = omega arith in
+      ap (λ n. (continued_after s n).next) none
 
-    -- a part that owns its agents of the first tick, and noted them where a step is there
-    pub comes_first : (standing : Standing) → IsReadyFor s p stage.Border first standing.stance
-        → (is_some (slice_get (steps s) 0) ≡ true → standing.shown ≡ (if is_noted s first then note_of s first standing.stance ∷ [] else []))
-        → (is_some (slice_get (steps s) 0) ≡ false → standing.shown ≡ []) → standing.counts ≡ no_counts → ComesTo s p 0 (slice_get (steps s) 0) standing
-    comes_first standing has noted none counts = elim (cases_lt s.job.last first) [
-      | inl down ↦ subst (λ o. ComesTo s p 0 o standing) (no_step down) (record {
-        ready = ready_last down standing.stance has;
-        faultless = tt;
-        brings = none (ap is_some (sym (no_step down)));
-        counted = counts;
-      })
-      | inr up ↦ record {
-        ready = ready_first up standing.stance has;
-        faultless = faultless_first up;
-        brings = brings_first s childless p standing.shown
-            (noted (some_step up) ∙ first_noted s childless p (note_of s first standing.stance) (note_first standing.stance has)) up;
-        counted = counts;
-      }
-    ]
+  -- what it notes of the first tick
+  abbrev pub first_note : Stance → Shown
+  first_note stance = note_of first stance s.job.start.next
 
-    -- and all that it keeps is its part of that world
-    pub kept_first : (stance : Stance) (shown : List Shown) → IsReadyFor s p stage.Border first stance
-        → shown ≡ (if is_noted s first then note_of s first stance ∷ [] else []) → AreKept s p shown
-    kept_first stance shown has noted =
-        subst (AreKept s p) (sym noted)
-        (kept_more s p [] (note_of s first stance) (is_noted s first) (All-nil (λ w. w ≡ kept_at s p w.tick)) (note_first stance has))
+  note_first : (stance : Stance) → IsReadyFor s p stage.Border first stance → first_note stance ≡ kept_at s p first
+  note_first (Owns own) has =
+      ap₂ (λ agents n. record { tick = first; agents = agents; next = n })
+      (has ∙ sym (ap (λ cuts. own_under s p cuts first) (shown_first s first refl)))
+      next_first
+  note_first (Hears agents heard) has = absurd has
+  note_first (Leaves left born next) has = absurd has
+
+  next_at_first : first ≤ s.job.last → (next : ℕ) → next ≡ s.job.start.next → IsNextAt s (slice_get (steps s) 0) next
+  next_at_first up next is =
+      reaches s first (λ o. IsNextAt s o next) up (λ e. is ∙ next_first) (λ e r. is ∙ next_first) (λ e r. is ∙ next_first)
+
+  -- a part that owns its agents of the first tick, and noted them where a step is there
+  pub comes_first : (standing : Standing) → standing.next ≡ s.job.start.next → IsReadyFor s p stage.Border first standing.stance
+      → (is_some (slice_get (steps s) 0) ≡ true → standing.shown ≡ (if is_noted s first then first_note standing.stance ∷ [] else []))
+      → (is_some (slice_get (steps s) 0) ≡ false → standing.shown ≡ []) → standing.counts ≡ no_counts → ComesTo s p 0 (slice_get (steps s) 0) standing
+  comes_first standing number has noted none counts = elim (cases_lt s.job.last first) [
+    | inl down ↦ subst (λ o. ComesTo s p 0 o standing) (no_step down) (record {
+      ready = ready_last down standing.stance has;
+      next_is = tt;
+      faultless = tt;
+      brings = none (ap is_some (sym (no_step down)));
+      counted = counts;
+    })
+    | inr up ↦ record {
+      ready = ready_first up standing.stance has;
+      next_is = next_at_first up standing.next number;
+      faultless = faultless_first up;
+      brings = brings_first s p standing.shown
+          (noted (some_step up) ∙ first_noted s p (first_note standing.stance) (note_first standing.stance has)) up;
+      counted = counts;
+    }
+  ]
+
+  -- and all that it keeps is its part of that world
+  pub kept_first : (stance : Stance) (shown : List Shown) → IsReadyFor s p stage.Border first stance
+      → shown ≡ (if is_noted s first then first_note stance ∷ [] else []) → AreKept s p shown
+  kept_first stance shown has noted =
+      subst (AreKept s p) (sym noted)
+      (kept_more s p [] (first_note stance) (is_noted s first) (All-nil (λ w. w ≡ kept_at s p w.tick)) (note_first stance has))
+
+-- what is noted of the first tick, by another name of the next free id
+pub noted_first : (s : Setting) (stance : Stance) (shown : List Shown) (next : ℕ) → next ≡ s.job.start.next
+    → shown ≡ (if is_noted s s.job.first then note_of s.job.first stance next ∷ [] else []) → shown ≡ (if is_noted s s.job.first then note_of s.job.first stance s.job.start.next ∷ [] else [])
+noted_first s stance shown next same is = subst (λ n. shown ≡ (if is_noted s s.job.first then note_of s.job.first stance n ∷ [] else [])) same is
 
 -- what is added to nothing is all
 pub from_none : {A : Type 0} (old new more : List A) → old ≡ [] → new ≡ old ++ more → new ≡ more

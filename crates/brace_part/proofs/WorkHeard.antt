@@ -1,5 +1,5 @@
 -- What a part hears and finds in a step, and what its agents leave.
-use Rattle.std.proofs.Common.{◌≡◌, ◌∙◌, refl, sym, ap, ap₂, subst, ℕ, ◌<◌, ◌≤◌, ◌^◌, List, [], ◌∷◌, ◌++◌, map, filter_map, flat_map, length, Bool, true, false, Some, None, Result, Ok, Err, arith, IfOk, IfErr}
+use Rattle.std.proofs.Common.{◌≡◌, ◌∙◌, refl, sym, ap, ap₂, subst, ℕ, ◌<◌, ◌≤◌, ◌^◌, List, [], ◌∷◌, ◌++◌, map, filter_map, flat_map, length, Bool, true, false, Some, None, Result, Ok, Err, arith, IfErr}
 use Rattle.std.specs.Prelude.{slice_get, if◌then◌else◌}
 use Rattle.std.specs.List.{Contains, cons_option, list_all}
 use Rattle.std.specs.Result.{result_ok, result_err}
@@ -11,10 +11,11 @@ use Rattle.brace_model.specs.World.{RisesById}
 use Rattle.brace_model.specs.FaultOrder.{phase_rank, comes_before, least}
 use Rattle.brace_model.specs.Query.{Saying, said_in}
 use Rattle.brace_model.specs.Next.{Next}
-use Rattle.brace_model.specs.Step.{living}
+use Rattle.brace_model.specs.Step.{living, children}
 use Rattle.brace_model.specs.Lawful.{is_lawful_agent}
 use Rattle.brace_model.proofs.FaultLemmas.{least_is, least_none}
 use Rattle.brace_cuts.specs.Space.{area_of}
+use Rattle.brace_cuts.specs.declared.space.Cuts.{Cuts}
 use Rattle.brace_invert.specs.Held.{is_near}
 use Rattle.brace_invert.specs.Split.{forward_program, inverse_program}
 use Rattle.brace_invert.proofs.Heard.{seen_in}
@@ -43,7 +44,8 @@ use Rattle.brace_pieces.proofs.FaultLemmas.{later_phase}
 use Rattle.brace_pieces.proofs.ToldLemmas.{Ticks, steps_tick, query_found, update_found}
 use Rattle.brace_part.specs.declared.work.Worker.{Worker}
 use Rattle.brace_part.specs.Parts.{found_in_work, IsCauseOf}
-use Rattle.brace_part.specs.inner.Ready.{own_in, left_in, updates_in, HearsAsked, HearsAll}
+use Rattle.brace_part.specs.inner.Asked.{ArePlaces}
+use Rattle.brace_part.specs.inner.Ready.{own_in, left_in, children_in, updates_in, HearsAsked, HearsAll}
 use Rattle.brace_part.specs.inner.Sound.{IsWorker}
 use Rattle.brace_part.specs.inner.Tables.{said_over, faults_over, TellBy}
 use Rattle.brace_part.proofs.LawfulOn.{on_lawful, some_pass, some_few}
@@ -74,10 +76,6 @@ least_first xs ys f e later =
     (least_is (xs ++ ys) f).1 (Contains-append_left xs ys f there, All-append P xs ys low (All-weaker (Contains ys) P (λ g h. later g h) ys (All-contains_itself ys)))
 
 -- ---- results
-
-pub both_ok : {X Y : Type 0} (r : Result X Y) (P Q R : X → Type 0) → ((x : X) → P x → Q x → R x) → IfOk r P → IfOk r Q → IfOk r R
-both_ok (Ok x) P Q R f p q = f x p q
-both_ok (Err e) P Q R f p q = p
 
 pub err_weaker : {X Y : Type 0} (r : Result X Y) (P Q : Y → Type 0) → ((y : Y) → P y → Q y) → IfErr r P → IfErr r Q
 err_weaker (Ok x) P Q f p = p
@@ -119,18 +117,24 @@ module _ (worker : Worker) (part : IsWorker worker) (t : ℕ) where
   pub own_is_near : (a : Agent) → Contains (own s t p w) a → Contains (near s t p w) a
   own_is_near a there = (seen_in (owns m (cuts_of s t) p) (near s t p w) a (subst (λ xs. Contains xs a) (sym own_of_near) there)).0
 
+  -- the places of what it owns of what it holds are those of what it owns
+  pub own_at_places : (agents : List Agent) (cuts : Cuts) (places : List ℕ) → agents ≡ near s t p w → cuts ≡ cuts_of s t
+      → ArePlaces agents (owned m cuts p agents) places → ArePlaces agents (own_in s p t) places
+  own_at_places agents cuts places e same are =
+      subst (λ xs. ArePlaces agents xs places) (ap (λ (c : Cuts). owned m c p agents) same ∙ ap (own s t p) e ∙ own_of_near) are
+
   pub near_rises : (agents : List Agent) → agents ≡ near s t p w → RisesById agents
   near_rises agents e = subst RisesById (sym e) (filter_rises (λ (a : Agent). a.id) (is_near m (area_of (cuts_of s t) p) (range s)) w rises)
 
   pub near_lawful : (agents : List Agent) → agents ≡ near s t p w → list_all (is_lawful_agent m) agents ≡ true
   near_lawful agents e =
       subst (λ xs. list_all (is_lawful_agent m) xs ≡ true) (sym e)
-      (some_pass (is_lawful_agent m) (is_near m (area_of (cuts_of s t) p) (range s)) w (on_lawful s part.lawful part.childless t).each_is_lawful)
+      (some_pass (is_lawful_agent m) (is_near m (area_of (cuts_of s t) p) (range s)) w (on_lawful s part.lawful t).each_is_lawful)
 
   pub near_few : (agents : List Agent) → agents ≡ near s t p w → length agents ≤ 2 ^ 20
   near_few agents e =
       subst (λ (xs : List Agent). length xs ≤ 2 ^ 20) (sym e)
-      (some_few (is_lawful_agent m) (is_near m (area_of (cuts_of s t) p) (range s)) w (2 ^ 20) (on_lawful s part.lawful part.childless t).few_agents)
+      (some_few (is_lawful_agent m) (is_near m (area_of (cuts_of s t) p) (range s)) w (2 ^ 20) (on_lawful s part.lawful t).few_agents)
 
   -- ---- what it hears
 
@@ -198,6 +202,12 @@ module _ (worker : Worker) (part : IsWorker worker) (t : ℕ) where
   left_is agents it h left each passes =
       of_results agents it h (λ rs. left ≡ living (filter_map result_ok rs)) each
       ∙ ap living (all_leave (becomes s t (said s t w)) (own_in s p t) ((least_none (updates_in s p t)).0 (none_found agents it h passes)))
+
+  pub born_is : (agents : List Agent) (it : Heard) → HearsAll s p t agents it → (born : List Agent) → OfResults agents it (λ rs. born ≡ children (filter_map result_ok rs))
+      → OfResults agents it (λ rs. least (filter_map result_err rs) ≡ None) → born ≡ children_in s p t
+  born_is agents it h born each passes =
+      of_results agents it h (λ rs. born ≡ children (filter_map result_ok rs)) each
+      ∙ ap children (all_leave (becomes s t (said s t w)) (own_in s p t) ((least_none (updates_in s p t)).0 (none_found agents it h passes)))
 
   -- ---- what it finds
 

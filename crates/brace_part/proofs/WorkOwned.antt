@@ -14,11 +14,11 @@ use Rattle.brace_pieces.specs.Together.{AreWhole, IsSorted}
 use Rattle.brace_pieces.specs.Heard.{near}
 use Rattle.brace_pieces.proofs.HeldLemmas.{held_is, handed_is}
 use Rattle.brace_pieces.proofs.MoveLemmas.{moved_is}
-use Rattle.brace_pieces.proofs.GivenLemmas.{given_is}
+use Rattle.brace_pieces.proofs.GivenLemmas.{given_with_births}
 use Rattle.brace_pieces.proofs.OnLemmas.{on_next}
 use Rattle.brace_part.specs.declared.work.Worker.{Worker}
 use Rattle.brace_part.specs.inner.Pieces.{brought}
-use Rattle.brace_part.specs.inner.Ready.{own_in, left_in}
+use Rattle.brace_part.specs.inner.Ready.{own_in, left_in, born_in}
 use Rattle.brace_part.specs.inner.Sound.{IsWorker, IsWork}
 use Rattle.brace_part.proofs.WorkTaken.{borders_bring, hands_bring, moves_bring}
 use Rattle.brace_part.proofs.WorkHeard.{step_ticks, rises, whole}
@@ -44,13 +44,13 @@ module _ (worker : Worker) (part : IsWorker worker) (t : ℕ) (pieces : List Pie
       let brings = hands_bring s worker.number worker.part t work.stands (met s (step stage.Hand t) worker.part) pieces work.took in
       handed_is s part.lawful worker.part part.is_part t (on s t).agents all (rises worker part t) (whole worker part t) (renamed _ _ (kept ∙ ap (owned s.job.program now worker.part) same) brings)
 
-  pub owns_next : IsWork worker stage.Move t pieces → (left : List Agent) → mine ≡ owned s.job.program now worker.part left → left ≡ left_in s worker.part t → all ≡ owned s.job.program now worker.part (on s (t + 1)).agents
-  owns_next work left kept same =
+  pub owns_next : IsWork worker stage.Move t pieces → (left born : List Agent) → mine ≡ owned s.job.program now worker.part (left ++ born) → left ≡ left_in s worker.part t → born ≡ born_in s worker.part t → all ≡ owned s.job.program now worker.part (on s (t + 1)).agents
+  owns_next work left born kept lives bears =
       let world : World = on s t in
       let up = rises worker part t in
       let on_all = whole worker part t in
       let next : on s (t + 1) ≡ continued s t world = on_next s t (step_ticks s worker.number t stage.Move (λ e. absurd (cc)) work.stands).0 in
-      let given = kept ∙ ap (owned s.job.program now worker.part) same ∙ sym (given_is s t part.lawful world.agents up on_all worker.part part.childless worker.part world.next) in
+      let given = kept ∙ ap₂ (λ xs ys. owned s.job.program now worker.part (xs ++ ys)) lives bears ∙ sym (given_with_births s t part.lawful world.agents up on_all worker.part worker.part world.next) in
       let brings = moves_bring s worker.number worker.part t work.stands (met s (step stage.Move t) worker.part) pieces work.took in
       moved_is s part.lawful t worker.part part.is_part world up on_all
       (subst (λ w. AreWhole s.job.program w.agents) next (whole worker part (t + 1))) all

@@ -3,12 +3,13 @@ use Rattle.std.proofs.Common.{◌≡◌, ◌∙◌, refl, sym, ap, ap₂, subst,
 use Rattle.std.specs.Prelude.{slice_get}
 use Rattle.std.specs.List.{All, Contains}
 use Rattle.std.proofs.lemmas.Bool.{eqb-true, and_parts}
-use Rattle.std.proofs.lemmas.List.{length-map}
+use Rattle.std.proofs.lemmas.List.{length-map, map-append}
 use Rattle.std.proofs.lemmas.List.Elements.{All-nil, All-cons}
 use Rattle.std.proofs.lemmas.Grind.{flat_map-append}
 use Rattle.brace_core.specs.Schedule.{name}
 use Rattle.brace_model.specs.declared.program.Program.{Program}
 use Rattle.brace_model.specs.declared.world.Agent.{Agent}
+use Rattle.brace_model.specs.declared.world.Census.{Census}
 use Rattle.brace_model.specs.Query.{Saying}
 use Rattle.brace_comb.specs.declared.entry.Entry.{Entry}
 use Rattle.brace_eval.specs.Heard.{effects_in}
@@ -19,11 +20,11 @@ use Rattle.brace_pieces.specs.declared.piece.Piece.{Piece}
 use Rattle.brace_pieces.specs.declared.piece.Piece.TheVariants as piece
 use Rattle.brace_pieces.specs.Steps.{step, steps}
 use Rattle.brace_pieces.specs.Continued.{on}
-use Rattle.brace_pieces.specs.Right.{Share, share_of, IsRight, IsRightIn, IsRightAt, border, handed, moved, said_by, shares}
+use Rattle.brace_pieces.specs.Right.{Share, share_of, IsRight, IsRightIn, IsRightAt, border, handed, moved, census, said_by, shares}
 use Rattle.brace_pieces.specs.Heard.{own, near, sayings_of, told, IsShareOf}
-use Rattle.brace_part.specs.inner.Pieces.{brought, GoesOn, AreTaken, none_taken, more_taken}
+use Rattle.brace_part.specs.inner.Pieces.{brought, counts_brought, GoesOn, AreTaken, none_taken, more_taken}
 use Rattle.brace_part.specs.inner.Tables.{TellsOf, TellsBy, no_entry, one_entry, TellBy, no_piece, one_piece}
-use Rattle.brace_part.proofs.KindLemmas.{border_alone, hand_alone, move_alone, effects_alone}
+use Rattle.brace_part.proofs.KindLemmas.{border_alone, hand_alone, move_alone, effects_alone, census_alone}
 use Rattle.brace_num.proofs.Lists.{in_more}
 
 -- ---- what a piece brings
@@ -36,6 +37,9 @@ hand_brings s k t q p = hand_alone s k t q p (λ x. brought x ≡ handed s t q p
 
 move_brings : (s : Setting) (k t q p : ℕ) (x : Piece) → IsRightAt s k stage.Move t q p x → GoesOn x → brought x ≡ moved s t q p (on s t)
 move_brings s k t q p = move_alone s k t q p (λ x. brought x ≡ moved s t q p (on s t)) (λ agents right. right)
+
+census_brings : (s : Setting) (k t q p : ℕ) (x : Piece) → IsRightAt s k stage.Census t q p x → GoesOn x → counts_brought x ≡ census s t q (on s t).agents ∷ []
+census_brings s k t q p = census_alone s k t q p (λ x. counts_brought x ≡ census s t q (on s t).agents ∷ []) (λ c right. ap (λ d. d ∷ []) right)
 
 -- ---- what an entry and a piece tell
 
@@ -110,6 +114,14 @@ module _ (s : Setting) (k p : ℕ) where
       ∙ ap₂ (λ ys zs. ys ++ (zs ++ [])) (taken_bring f each others pieces rest) (each q x right goes)
       ∙ sym (flat_map-append f others (q ∷ []))
 
+  taken_count : (f : ℕ → Census) → ((q : ℕ) (x : Piece) → IsRight s (name k q p) x → GoesOn x → counts_brought x ≡ f q ∷ [])
+      → (others : List ℕ) (pieces : List Piece) → AreTaken s k p others pieces → flat_map counts_brought pieces ≡ map f others
+  taken_count f each _ _ none_taken = refl
+  taken_count f each _ _ (more_taken others pieces q x rest right goes) =
+      flat_map-append counts_brought pieces (x ∷ [])
+      ∙ ap₂ (λ ys zs. ys ++ (zs ++ [])) (taken_count f each others pieces rest) (each q x right goes)
+      ∙ sym (map-append f others (q ∷ []))
+
   taken_tell : (m : Program) (held : List Agent) (f : ℕ → List Saying) → ((q : ℕ) (x : Piece) → IsRight s (name k q p) x → GoesOn x → Tells m held x (f q))
       → (others : List ℕ) (pieces : List Piece) → AreTaken s k p others pieces → TellBy m held pieces (flat_map f others)
   taken_tell m held f each _ _ none_taken = no_piece
@@ -134,6 +146,10 @@ module _ (s : Setting) (k p : ℕ) where
     pub moves_bring : slice_get (steps s) k ≡ Some (step stage.Move t) → (others : List ℕ) (pieces : List Piece) → AreTaken s k p others pieces
         → flat_map brought pieces ≡ flat_map (λ q. moved s t q p (on s t)) others
     moves_bring stands = taken_bring (λ q. moved s t q p (on s t)) (λ q x right goes. move_brings s k t q p x (right_at stage.Move stands q x right) goes)
+
+    pub censuses_bring : slice_get (steps s) k ≡ Some (step stage.Census t) → (others : List ℕ) (pieces : List Piece) → AreTaken s k p others pieces
+        → flat_map counts_brought pieces ≡ map (λ q. census s t q (on s t).agents) others
+    censuses_bring stands = taken_count (λ q. census s t q (on s t).agents) (λ q x right goes. census_brings s k t q p x (right_at stage.Census stands q x right) goes)
 
     pub effects_told : ((a : Agent) → Contains (own s t p (on s t).agents) a → Contains (near s t p (on s t).agents) a)
         → ((q : ℕ) (g : Share) → Contains (shares s t q p (on s t).agents) g → IsShareOf s.job.program (own s t p (on s t).agents) (said_by s t q (on s t).agents) g)

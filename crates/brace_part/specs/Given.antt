@@ -1,6 +1,7 @@
 -- How much a part gives to others, step by step, and how much all parts give in a run.
-use Rattle.std.specs.Prelude.{ℕ, ◌+◌, List, length, take, sum_by}
+use Rattle.std.specs.Prelude.{ℕ, ◌+◌, nat_lt, List, filter, length, take, sum_by}
 use Rattle.std.specs.List.{range_with_len}
+use Rattle.brace_model.specs.declared.world.Agent.{Agent}
 use Rattle.brace_pieces.specs.declared.setting.Setting.{Setting}
 use Rattle.brace_pieces.specs.declared.setting.Stage.{Stage}
 use Rattle.brace_pieces.specs.declared.setting.Stage.TheVariants.{Hand, Border, Effects, Move}
@@ -33,6 +34,10 @@ summed counts list = record {
   handed = sum_by (λ x. (counts x).handed) list;
 }
 
+-- of agents that go to another part in a move those that lived before: a child is not moved
+abbrev pub lived : ℕ → List Agent → List Agent
+lived next agents = filter (λ a. nat_lt a.id next) agents
+
 -- how much a part gives to another in a step of a stage and tick
 abbrev pub given_to : Setting → ℕ → Stage → ℕ → ℕ → Counts
 given_to s p Hand tick q =
@@ -41,7 +46,9 @@ given_to s p Border tick q =
     record no_counts { border = length (border s tick p q (on s tick).agents) }
 given_to s p Effects tick q =
     record no_counts { effects = length (shares s tick p q (on s tick).agents) }
-given_to s p Move tick q = record no_counts { moved = length (moved s tick p q (on s tick)) }
+given_to s p Move tick q =
+    let world = on s tick in
+    record no_counts { moved = length (lived world.next (moved s tick p q world)) }
 given_to s p _ tick q = no_counts
 
 -- how much it gives in a step to all whom it meets

@@ -19,7 +19,7 @@ use Rattle.brace_pieces.specs.declared.piece.Piece.TheVariants.{Halt}
 use Rattle.brace_pieces.specs.declared.piece.Shown.{Shown}
 use Rattle.brace_pieces.specs.Settings.{cuts_of, cuts_shown, is_end, shown_from}
 use Rattle.brace_pieces.specs.Steps.{steps}
-use Rattle.brace_pieces.specs.Continued.{on}
+use Rattle.brace_pieces.specs.Continued.{on, birth_faults}
 use Rattle.brace_pieces.specs.Owned.{owned}
 use Rattle.brace_pieces.specs.Finds.{queries_found, updates_found}
 use Rattle.brace_pieces.specs.Right.{IsRightCause}
@@ -103,6 +103,7 @@ found_in_work s p Border tick =
     queries_found s tick p (on s tick).agents
     ++ (if s.invert then updates_found s tick p (on s tick).agents else [])
 found_in_work s p Effects tick = updates_found s tick p (on s tick).agents
+found_in_work s p Census tick = birth_faults s tick (on s tick)
 found_in_work s p _ tick = []
 
 -- the cause that a work gives to a part that went on: the least of the faults that it finds

@@ -1,5 +1,5 @@
-ghost use Rattle.std.specs.Prelude.{◌≡◌, ◌≤◌, ◌<◌, ◌^◌, ◌++◌, [], ◌∷◌, List, length, map, pos, ◌≤ℤ◌, IsTrue, IfOk, Some, slice_get};
-ghost use Rattle.std.specs.List.{All, list_all, Contains};
+ghost use Rattle.std.specs.Prelude.{◌≡◌, ◌≤◌, ◌<◌, ◌^◌, ◌++◌, [], ◌∷◌, ℕ, List, length, map, pos, ◌≤ℤ◌, IsTrue, IfOk, Some, slice_get};
+ghost use Rattle.std.specs.List.{All, list_all};
 ghost use Rattle.brace_model.specs.declared.fault.Fault.{Fault};
 ghost use Rattle.brace_model.specs.declared.world.Agent.{Agent};
 ghost use Rattle.brace_model.specs.World.{RisesById};
@@ -7,9 +7,8 @@ ghost use Rattle.brace_model.specs.Lawful.{is_lawful_agent};
 ghost use Rattle.brace_model.specs.Query.{Saying};
 ghost use Rattle.brace_plan.specs.Answers.{saying_of, ArePlaced};
 ghost use Rattle.brace_eval.specs.Heard.{IsHeard};
-ghost use Rattle.brace_part.specs.inner.Asked.{CanAsk, AreAsked, HearsOf, HearsAllOf};
+ghost use Rattle.brace_part.specs.inner.Asked.{CanAsk, ArePlaces, AreAsked, HearsOf, HearsAllOf};
 
-use crate::places::place_in;
 use brace_eval::Heard;
 use brace_grid::Grid;
 use brace_model::{Agent, Program, class_of, x_of, y_of};
@@ -125,15 +124,14 @@ impl<'a> Scene<'a> {
         Ok(())
     }
 
-    /// The place of an agent that is held, and the cell that it stands in, of a side of at least
-    /// one unit.
-    fn asked(&self, a: &Agent, side: i64) -> Asked
-        requires few { length self.now.held.now ≤ 2 ^ 20 }
-        requires rises { RisesById self.now.held.now }
-        requires held { Contains self.now.held.now a.now }
+    /// An agent that is to be asked, by its place, and the cell that it stands in, of a side of at
+    /// least one unit.
+    fn asked(&self, place: u32, side: i64) -> Asked
+        requires placed { place < length self.now.held.now }
         requires side { pos 1000000 ≤ℤ side }
-        ensures { slice_get self.now.held.now result.place ≡ Some a.now }
+        ensures { result.place ≡ place }
     {
+        let a = &self.held[place as usize];
         let (x, y) = match class_of(self.program, a) {
             Some(class) => (x_of(class, a), y_of(class, a)),
             None => (0, 0),
@@ -141,21 +139,20 @@ impl<'a> Scene<'a> {
         Asked {
             column: x.div_euclid(side),
             row: y.div_euclid(side),
-            place: place_in(self.held, a),
+            place,
         }
     }
 
-    /// The places of some of the agents that are held.
-    fn all_asked(&self, asking: &[Agent]) -> Result<Vec<Asked>, NoMemory>
-        requires few { length self.now.held.now ≤ 2 ^ 20 }
-        requires rises { RisesById self.now.held.now }
-        requires held { (a : Agent) → Contains asking.now a → Contains self.now.held.now a }
-        ensures { IfOk result (λ asked. AreAsked self.now.held.now asking.now asked.items) }
+    /// The agents at some places, to be asked.
+    fn all_asked(&self, places: &[u32]) -> Result<Vec<Asked>, NoMemory>
+        requires placed { All (λ (place : ℕ). place < length self.now.held.now) places.now }
+        ensures { IfOk result (λ asked. map (λ (one : Asked). one.place) asked.items
+            ≡ places.now) }
     {
         let side = greatest_visible(self.program).max(UNIT);
-        let mut asked = Vec::with_capacity(self.alloc, asking.len())?;
-        for a in asking {
-            asked.push(self.asked(a, side))?;
+        let mut asked = Vec::with_capacity(self.alloc, places.len())?;
+        for place in places {
+            asked.push(self.asked(*place, side))?;
         }
         Ok(asked)
     }
@@ -181,34 +178,25 @@ impl<'a> Scene<'a> {
         Ok(())
     }
 
-    /// Asks the queries of some of the agents that are held. Those that stand near each other are
-    /// asked one after another, as they look at the same agents.
+    /// Asks the queries of the agents at some places. Those that stand near each other are asked one
+    /// after another, as they look at the same agents.
     pub fn ask_some(
         &self,
         plans: &Plans,
-        asking: &[Agent],
+        places: &[u32],
         hearing: &mut Hearing,
     ) -> Result<(), NoMemory>
         requires can_ask { CanAsk plans.now self.now }
-        requires held { (a : Agent) → Contains asking.now a → Contains self.now.held.now a }
-        ensures hears { IfOk result (λ _. HearsAllOf self.now plans.now hearing.old.room asking.now
+        requires placed { All (λ (place : ℕ). place < length self.now.held.now) places.now }
+        ensures hears { IfOk result (λ _. (asking : List Agent)
+            → ArePlaces self.now.held.now asking places.now
+            → HearsAllOf self.now plans.now hearing.old.room asking
             hearing.old.heard hearing.new.heard) }
         ensures seed { hearing.new.room ≡ hearing.old.room }
     {
-        let mut asked = self.all_asked(asking)?;
+        let mut asked = self.all_asked(places)?;
         asked.sort_unstable_by_key(|one: &Asked| (one.column, one.row));
         self.ask_each(plans, asked.as_slice(), hearing)?;
-        Ok(())
-    }
-
-    /// Asks the queries of all agents that are held.
-    pub fn ask_all(&self, plans: &Plans, hearing: &mut Hearing) -> Result<(), NoMemory>
-        requires can_ask { CanAsk plans.now self.now }
-        ensures hears { IfOk result (λ _. HearsAllOf self.now plans.now hearing.old.room
-            self.now.held.now hearing.old.heard hearing.new.heard) }
-        ensures seed { hearing.new.room ≡ hearing.old.room }
-    {
-        self.ask_some(plans, self.held, hearing)?;
         Ok(())
     }
 }

@@ -1,7 +1,8 @@
-ghost use Rattle.std.specs.Prelude.{◌≡◌, ◌+◌, IfOk};
-ghost use Rattle.brace_part.specs.Given.{together};
+ghost use Rattle.std.specs.Prelude.{◌≡◌, ◌+◌, length, IfOk};
+ghost use Rattle.brace_part.specs.Given.{lived, together};
 ghost use Rattle.brace_part.specs.inner.Pieces.{counted};
 
+use brace_model::Agent;
 use brace_num::NoMemory;
 use brace_pieces::Piece;
 
@@ -31,6 +32,13 @@ fn raise(count: &mut u128, by: u128) -> Result<(), NoMemory>
     }
 }
 
+/// How many agents have ids below a next free id.
+fn count_lived(next: u64, agents: &[Agent]) -> usize
+    ensures { result ≡ length (lived next agents.now) }
+{
+    agents.iter().filter(|a| a.id < next).count()
+}
+
 impl Counts {
     /// Nothing was given yet.
     pub fn none() -> Counts
@@ -44,18 +52,23 @@ impl Counts {
         }
     }
 
-    /// Counts a piece; `NoMemory` where 128 bits do not hold a count.
-    pub fn add(&mut self, piece: &Piece) -> Result<(), NoMemory>
-        ensures { IfOk result (λ _. self.new ≡ counted self.old piece.now) }
+    /// Counts a piece, where this is the next free id: of those that move, children do not count.
+    /// `NoMemory` where 128 bits do not hold a count.
+    pub fn add(&mut self, next: u64, piece: &Piece) -> Result<(), NoMemory>
+        ensures { IfOk result (λ _. self.new ≡ counted next self.old piece.now) }
     {
         match piece {
             Piece::Border(agents) => raise(&mut self.border, agents.as_slice().len() as u128),
             Piece::Effects(entries) => raise(&mut self.effects, entries.as_slice().len() as u128),
-            Piece::Move(agents) => raise(&mut self.moved, agents.as_slice().len() as u128),
+            Piece::Move(agents) => raise(
+                &mut self.moved,
+                count_lived(next, agents.as_slice()) as u128,
+            ),
             Piece::Hand(agents) => raise(&mut self.handed, agents.as_slice().len() as u128),
             Piece::Census(_) | Piece::Show(_) | Piece::Ack | Piece::Halt(_) => Ok(()),
         }
     }
+
     /// Adds what another part gave; `NoMemory` where 128 bits do not hold a count.
     pub fn join(&mut self, given: Counts) -> Result<(), NoMemory>
         ensures { IfOk result (λ _. self.new ≡ together self.old given) }

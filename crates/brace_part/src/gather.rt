@@ -1,11 +1,14 @@
 ghost use Rattle.std.specs.Prelude.{◌≡◌, ◌++◌, [], flat_map, IfOk, IfSome, IfNone};
 ghost use Rattle.std.specs.Vec.{vec_capacity};
+ghost use Rattle.brace_cuts.specs.Space.{LawfulCuts};
+ghost use Rattle.brace_pieces.specs.Owned.{owned};
 ghost use Rattle.brace_pieces.specs.Together.{IsSorted};
 ghost use Rattle.brace_part.specs.inner.Pieces.{brought};
 
-use brace_model::Agent;
+use brace_cuts::Cuts;
+use brace_model::{Agent, Program};
 use brace_num::{List, NoMemory};
-use brace_pieces::Piece;
+use brace_pieces::{Piece, owns};
 
 /// The agents that a piece brings, if it brings some.
 fn list_in(piece: Piece) -> Option<List<Agent>>
@@ -37,4 +40,13 @@ pub fn gathered(mut agents: Vec<Agent>, pieces: &mut Vec<Piece>) -> Result<Vec<A
     }
     agents.sort_by_key(|a| a.id)?;
     Ok(agents)
+}
+
+/// Those of some agents that a part owns under some cuts.
+pub fn kept(program: &Program, cuts: &Cuts, part: u32, mut agents: Vec<Agent>) -> Vec<Agent>
+    requires { LawfulCuts cuts.now }
+    ensures { result.items ≡ owned program.now cuts.now part agents.items }
+{
+    agents.retain(|a| owns(program, cuts, part, a));
+    agents
 }

@@ -4,7 +4,6 @@ ghost use Rattle.brace_core.specs.declared.name.Name.{Name};
 ghost use Rattle.brace_core.specs.declared.name.Turn.TheVariants as turn;
 ghost use Rattle.brace_core.specs.Exchanges.{due, IsPut, IsTake};
 ghost use Rattle.brace_model.specs.FaultOrder.{least};
-ghost use Rattle.brace_model.specs.Next.{has_births};
 ghost use Rattle.brace_pieces.specs.declared.setting.Stage.TheVariants as stage;
 ghost use Rattle.brace_pieces.specs.declared.setting.Step.{Step};
 ghost use Rattle.brace_pieces.specs.declared.piece.Cause.{Cause};
@@ -16,7 +15,7 @@ ghost use Rattle.brace_pieces.specs.Right.{IsRight, IsRightCause};
 ghost use Rattle.brace_pieces.specs.Courses.{OnCourse, IsCourse, at_start, step_of, gone_on, past_of};
 ghost use Rattle.brace_part.specs.Parts.{own_under, own_at, IsSettled, keeps_at, found_in_work, IsCauseOf, IsCauseOfAll, cause_of, cause_behind, asks_next};
 ghost use Rattle.brace_part.specs.Given.{counts_up_to};
-ghost use Rattle.brace_part.specs.inner.Ready.{AreKept};
+ghost use Rattle.brace_part.specs.inner.Ready.{AreKept, next_behind};
 ghost use Rattle.brace_part.specs.inner.Sound.{IsPartOf, IsAtWork, ComesTo, GoesOn, owns_in};
 
 use crate::counts::Counts;
@@ -74,6 +73,7 @@ fn note(
     setting: &Setting,
     tick: u64,
     stance: &Stance,
+    next: u64,
     shown: &mut List<Shown>,
 ) -> Result<(), NoMemory>
     ensures noted { IfOk result (λ _. shown.new ≡ shown.old
@@ -81,7 +81,7 @@ fn note(
         then record {
           tick = tick;
           agents = owns_in stance.now;
-          next = setting.now.job.start.next;
+          next = next;
         } ∷ []
         else [])) }
     ensures kept { IfErr result (λ _. shown.new ≡ shown.old) }
@@ -91,7 +91,7 @@ fn note(
         shown.push(Shown {
             tick,
             agents: List::from_vec(agents),
-            next: setting.job.start.next(),
+            next,
         })?;
     }
     Ok(())
@@ -103,6 +103,7 @@ fn note_next(
     setting: &Setting,
     at: Step,
     stance: &Stance,
+    next: u64,
     shown: &mut List<Shown>,
 ) -> Result<(), NoMemory>
     requires tick { at.tick ≤ 2 ^ 32 }
@@ -111,16 +112,26 @@ fn note_next(
         then record {
           tick = at.tick + 1;
           agents = owns_in stance.now;
-          next = setting.now.job.start.next;
+          next = next;
         } ∷ []
         else [])) }
     ensures stays { (at.stage ≡ stage.Move → ⊥) → shown.new ≡ shown.old }
     ensures kept { IfErr result (λ _. shown.new ≡ shown.old) }
 {
     if at.stage == Stage::Move {
-        note(alloc, setting, at.tick + 1, stance, shown)?;
+        note(alloc, setting, at.tick + 1, stance, next, shown)?;
     }
     Ok(())
+}
+
+/// The next free id of the tick of a part's next step, by what it has before its work.
+fn next_behind(at: Step, stance: &Stance, old: u64) -> u64
+    ensures { result ≡ next_behind at.stage stance.now old }
+{
+    match (at.stage, stance) {
+        (Stage::Move, Stance::Leaves(_, _, next)) => *next,
+        _ => old,
+    }
 }
 
 /// The agents that a part owns; none between the query of a tick and the move.
@@ -129,7 +140,7 @@ fn owned_in(stance: &Stance) -> &[Agent]
 {
     match stance {
         Stance::Owns(own) => own.as_slice(),
-        Stance::Hears(_, _) | Stance::Leaves(_) => &[],
+        Stance::Hears(_, _) | Stance::Leaves(_, _, _) => &[],
     }
 }
 
@@ -164,6 +175,7 @@ fn prepare(
         part: course.actor(),
         queries,
         number: course.number(),
+        next: standing.next,
     };
     let counts = &mut standing.counts;
     standing.out = prepared(&worker, at, &standing.stance, course.others(), counts)?;
@@ -198,20 +210,22 @@ fn advance(
         part: course.actor(),
         queries,
         number,
+        next: standing.next,
     };
+    standing.next = next_behind(at, &standing.stance, standing.next);
     let stance = mem::replace(&mut standing.stance, Stance::Owns(Vec::new(alloc)));
     standing.stance = worker.worked(at, stance, &mut standing.taken)?;
     let (stance, shown) = (&standing.stance, &mut standing.shown);
-    note_next(alloc, course.setting(), at, stance, shown)?;
+    note_next(alloc, course.setting(), at, stance, standing.next, shown)?;
     standing.taken.clear();
     prepare(alloc, course, queries, standing)?;
     Ok(())
 }
 
 impl<'a> Part<'a> {
-    /// The part of a number in a lawful setting whose program has no `spawn`, before its first
-    /// turn. `owned` are its agents of the start world, by rising id. Behind this call nothing but
-    /// its works takes memory; where one of them finds none, the part goes no further.
+    /// The part of a number in a lawful setting, before its first turn. `owned` are its agents of
+    /// the start world, by rising id. Behind this call nothing but its works takes memory; where
+    /// one of them finds none, the part goes no further.
     pub fn make(
         alloc: Global,
         setting: &'a Setting,
@@ -219,7 +233,6 @@ impl<'a> Part<'a> {
         owned: Vec<Agent>,
     ) -> Result<Part<'a>, NoMemory>
         requires lawful { LawfulSetting setting.now }
-        requires childless { has_births setting.now.job.program ≡ false }
         requires is_part { p < parts setting.now }
         requires owns { owned.items ≡ own_under setting.now p
             (cuts_of setting.now setting.now.job.first) setting.now.job.first }
@@ -231,6 +244,7 @@ impl<'a> Part<'a> {
         let queries = Queries::of(alloc, setting)?;
         let mut standing = Standing {
             stance: Stance::Owns(owned),
+            next: setting.job.start.next(),
             out: Vec::new(alloc),
             taken: Vec::with_capacity(alloc, setting.parts() as usize)?,
             shown: List::new(alloc),
@@ -238,7 +252,14 @@ impl<'a> Part<'a> {
         };
         if course.step().is_some() {
             let (stance, shown) = (&standing.stance, &mut standing.shown);
-            note(alloc, setting, setting.job.first, stance, shown)?;
+            note(
+                alloc,
+                setting,
+                setting.job.first,
+                stance,
+                standing.next,
+                shown,
+            )?;
         }
         prepare(alloc, &course, &queries, &mut standing)?;
         Ok(Part {

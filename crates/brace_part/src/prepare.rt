@@ -6,12 +6,13 @@ ghost use Rattle.brace_part.specs.inner.Pieces.{counted, AreOut, GoesOn};
 ghost use Rattle.brace_part.specs.inner.Ready.{IsReadyFor};
 ghost use Rattle.brace_part.specs.inner.Sound.{IsWorker, IsNext, AreMet};
 
+use crate::census::{census_of, moves_to};
 use crate::counts::Counts;
 use crate::standing::Stance;
 use crate::tell::told_to;
 use crate::work::Worker;
 use brace_num::{List, NoMemory};
-use brace_pieces::{Piece, Shown, Stage, Step, border_of, hand_of, moves_of};
+use brace_pieces::{Piece, Shown, Stage, Step, border_of, hand_of};
 use std::alloc::Global;
 
 /// What a part puts to another in a step that shows nothing to the publisher.
@@ -37,8 +38,11 @@ fn piece_for(worker: &Worker, at: Step, stance: &Stance, to: u32) -> Result<Piec
             let entries = told_to(alloc, &setting.job.program, cuts, to, held, heard)?;
             Ok(Piece::Effects(entries))
         }
-        (Stage::Move, Stance::Leaves(left)) => {
-            Ok(Piece::Move(moves_of(alloc, setting, tick, left, to)?))
+        (Stage::Census, Stance::Leaves(left, born, _)) => {
+            Ok(Piece::Census(census_of(alloc, left, born)?))
+        }
+        (Stage::Move, Stance::Leaves(left, born, _)) => {
+            Ok(Piece::Move(moves_to(alloc, setting, tick, left, born, to)?))
         }
         _ => unreachable!(),
     }
@@ -59,12 +63,13 @@ pub fn prepared(
     requires others { AreMet worker.now at others.now }
     ensures out { IfOk result (λ pieces. AreOut worker.now.setting.now worker.now.number
         worker.now.part others.now pieces.items) }
-    ensures counts { IfOk result (λ pieces. counts.new ≡ fold counted counts.old pieces.items) }
+    ensures counts { IfOk result (λ pieces. counts.new
+        ≡ fold (counted worker.now.next) counts.old pieces.items) }
 {
     let mut pieces = Vec::with_capacity(worker.alloc, others.len())?;
     for i in 0..others.len() {
         let piece = piece_for(worker, at, stance, others[others.len() - 1 - i])?;
-        counts.add(&piece)?;
+        counts.add(worker.next, &piece)?;
         pieces.push(piece)?;
     }
     Ok(pieces)

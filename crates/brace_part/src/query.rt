@@ -1,16 +1,16 @@
-ghost use Rattle.std.specs.Prelude.{◌≡◌, ◌≤◌, ◌^◌, length, IsTrue, IfOk};
-ghost use Rattle.std.specs.List.{list_all, Contains};
+ghost use Rattle.std.specs.Prelude.{◌≡◌, ◌≤◌, ◌<◌, ◌^◌, ℕ, List, length, IsTrue, IfOk};
+ghost use Rattle.std.specs.List.{All, list_all};
 ghost use Rattle.brace_model.specs.declared.world.Agent.{Agent};
 ghost use Rattle.brace_model.specs.World.{RisesById};
 ghost use Rattle.brace_model.specs.Lawful.{LawfulProgram, is_lawful_agent};
 ghost use Rattle.brace_eval.specs.Heard.{IsHeard};
 ghost use Rattle.brace_pieces.specs.declared.setting.Setting.{Setting};
-ghost use Rattle.brace_part.specs.inner.Asked.{HasRulesOf};
+ghost use Rattle.brace_part.specs.inner.Asked.{ArePlaces, HasRulesOf};
 ghost use Rattle.brace_part.specs.inner.Sound.{AreQueriesOf};
 ghost use Rattle.brace_part.specs.inner.Tables.{said_over, faults_over};
 
 use crate::asking::{Hearing, Scene};
-use crate::places::{all_places, places_of};
+use crate::places::all_places;
 use brace_eval::Heard;
 use brace_fold::{Redo, fold};
 use brace_invert::split;
@@ -56,29 +56,30 @@ impl Queries {
     }
 
     /// What the queries of a part say to the agents that it holds, and their least fault: those of
-    /// its own agents; with inversion those of the forward program of its own agents, and of the
-    /// inverse program of all that it holds.
+    /// its own agents, which stand at some places; with inversion those of the forward program of its
+    /// own agents, and of the inverse program of all that it holds.
     pub fn heard(
         &self,
         alloc: Global,
         setting: &Setting,
         tick: u64,
-        own: &[Agent],
+        places: &[u32],
         held: &[Agent],
     ) -> Result<Heard, NoMemory>
         requires queries { AreQueriesOf setting.now self.now }
         requires lawful { IsTrue (list_all (is_lawful_agent setting.now.job.program) held.now) }
         requires few { length held.now ≤ 2 ^ 20 }
         requires rises { RisesById held.now }
-        requires own_held { (a : Agent) → Contains own.now a → Contains held.now a }
+        requires placed { All (λ (place : ℕ). place < length held.now) places.now }
         requires ticks { tick ≤ 2 ^ 32 }
-        ensures heard { IfOk result (IsHeard setting.now.job.program held.now
-            (said_over setting.now tick own.now held.now)
-            (faults_over setting.now tick own.now held.now)) }
+        ensures heard { IfOk result (λ heard. (own : List Agent)
+            → ArePlaces held.now own places.now
+            → IsHeard setting.now.job.program held.now (said_over setting.now tick own held.now)
+            (faults_over setting.now tick own held.now) heard) }
     {
-        match self.heard_in_lanes(alloc, setting, tick, own, held) {
+        match self.heard_in_lanes(alloc, setting, tick, places, held) {
             Ok(heard) => Ok(heard),
-            Err(Redo) => self.heard_in_turn(alloc, setting, tick, own, held),
+            Err(Redo) => self.heard_in_turn(alloc, setting, tick, places, held),
         }
     }
 
@@ -88,28 +89,28 @@ impl Queries {
         alloc: Global,
         setting: &Setting,
         tick: u64,
-        own: &[Agent],
+        places: &[u32],
         held: &[Agent],
     ) -> Result<Heard, Redo>
         requires queries { AreQueriesOf setting.now self.now }
         requires lawful { IsTrue (list_all (is_lawful_agent setting.now.job.program) held.now) }
         requires few { length held.now ≤ 2 ^ 20 }
         requires rises { RisesById held.now }
-        requires own_held { (a : Agent) → Contains own.now a → Contains held.now a }
+        requires placed { All (λ (place : ℕ). place < length held.now) places.now }
         requires ticks { tick ≤ 2 ^ 32 }
-        ensures heard { IfOk result (IsHeard setting.now.job.program held.now
-            (said_over setting.now tick own.now held.now)
-            (faults_over setting.now tick own.now held.now)) }
+        ensures heard { IfOk result (λ heard. (own : List Agent)
+            → ArePlaces held.now own places.now
+            → IsHeard setting.now.job.program held.now (said_over setting.now tick own held.now)
+            (faults_over setting.now tick own held.now) heard) }
     {
         let program = &setting.job.program;
         let seed = setting.job.seed;
-        let asking = places_of(alloc, own, held)?;
         let mut heard = Heard::nothing(alloc, program, held)?;
         match self {
-            Queries::Script(plans) => fold(alloc, plans, seed, tick, held, &asking, &mut heard)?,
+            Queries::Script(plans) => fold(alloc, plans, seed, tick, held, places, &mut heard)?,
             Queries::Inverted(forward, inverse) => {
                 let all = all_places(alloc, held)?;
-                fold(alloc, forward, seed, tick, held, &asking, &mut heard)?;
+                fold(alloc, forward, seed, tick, held, places, &mut heard)?;
                 fold(alloc, inverse, seed, tick, held, &all, &mut heard)?;
             }
         }
@@ -122,18 +123,19 @@ impl Queries {
         alloc: Global,
         setting: &Setting,
         tick: u64,
-        own: &[Agent],
+        places: &[u32],
         held: &[Agent],
     ) -> Result<Heard, NoMemory>
         requires queries { AreQueriesOf setting.now self.now }
         requires lawful { IsTrue (list_all (is_lawful_agent setting.now.job.program) held.now) }
         requires few { length held.now ≤ 2 ^ 20 }
         requires rises { RisesById held.now }
-        requires own_held { (a : Agent) → Contains own.now a → Contains held.now a }
+        requires placed { All (λ (place : ℕ). place < length held.now) places.now }
         requires ticks { tick ≤ 2 ^ 32 }
-        ensures heard { IfOk result (IsHeard setting.now.job.program held.now
-            (said_over setting.now tick own.now held.now)
-            (faults_over setting.now tick own.now held.now)) }
+        ensures heard { IfOk result (λ heard. (own : List Agent)
+            → ArePlaces held.now own places.now
+            → IsHeard setting.now.job.program held.now (said_over setting.now tick own held.now)
+            (faults_over setting.now tick own held.now) heard) }
     {
         let job = &setting.job;
         let scene = Scene::open(alloc, &job.program, tick, held)?;
@@ -143,10 +145,11 @@ impl Queries {
             answer: Answer::none(alloc),
         };
         match self {
-            Queries::Script(plans) => scene.ask_some(plans, own, &mut hearing)?,
+            Queries::Script(plans) => scene.ask_some(plans, places, &mut hearing)?,
             Queries::Inverted(forward, inverse) => {
-                scene.ask_some(forward, own, &mut hearing)?;
-                scene.ask_all(inverse, &mut hearing)?;
+                let all = all_places(alloc, held)?;
+                scene.ask_some(forward, places, &mut hearing)?;
+                scene.ask_some(inverse, &all, &mut hearing)?;
             }
         }
         Ok(hearing.heard)

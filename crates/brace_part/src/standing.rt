@@ -11,14 +11,17 @@ pub enum Stance {
     Owns(Vec<Agent>),
     /// All agents that it holds, by rising id, and what its own said to them.
     Hears(Vec<Agent>, Heard),
-    /// What its own agents leave, by rising id.
-    Leaves(Vec<Agent>),
+    /// What its own agents leave, by rising id: those that live on, and the children; and the next
+    /// free id. Children bear their parents' ids before the census, and ids of their own behind it.
+    Leaves(Vec<Agent>, Vec<Agent>, u64),
 }
 
 /// What a part has, and what it exchanges in its step.
 #[derive(Debug, Drop)]
 pub struct Standing {
     pub stance: Stance,
+    /// The next free id of the world of its tick.
+    pub next: u64,
     /// What it puts, the last first.
     pub out: Vec<Piece>,
     /// What it took.

@@ -5,7 +5,7 @@ ghost use Rattle.brace_model.specs.declared.fault.Fault.{Fault};
 ghost use Rattle.brace_model.specs.FaultOrder.{least};
 ghost use Rattle.brace_model.specs.Lawful.{LawfulProgram, is_lawful_agent};
 ghost use Rattle.brace_model.specs.Query.{Saying};
-ghost use Rattle.brace_model.specs.Step.{living};
+ghost use Rattle.brace_model.specs.Step.{living, children};
 ghost use Rattle.brace_cuts.specs.CutPlans.{IsPlan};
 ghost use Rattle.brace_eval.specs.Heard.{IsHeard};
 ghost use Rattle.brace_eval.specs.inner.Updates.{with_one};
@@ -19,7 +19,7 @@ use brace_eval::{Heard, with_earlier};
 use brace_model::{Agent, Fault};
 use brace_num::NoMemory;
 use brace_pieces::{Cause, Setting, owns};
-use brace_plan::{LeaveFault, Plans, Room};
+use brace_plan::{LeaveFault, Left, Plans, Room};
 use std::alloc::Global;
 
 /// Adds an agent, where there is one.
@@ -32,8 +32,19 @@ fn add(agents: &mut Vec<Agent>, agent: Option<Agent>) -> Result<(), NoMemory>
     Ok(())
 }
 
-/// What the agents of a part leave, by rising id, or the least fault of their updates. What was
-/// heard is of all that the part holds; the rules of the script are run by plans that have them.
+/// Adds what one more agent leaves.
+fn keep(left: &mut Vec<Agent>, born: &mut Vec<Agent>, next: Left) -> Result<(), NoMemory>
+    ensures left { IfOk result (λ _. left.new.items ≡ with_one left.old.items next.agent) }
+    ensures born { IfOk result (λ _. born.new.items ≡ with_one born.old.items next.child) }
+{
+    let Left { agent, child } = next;
+    add(left, agent)?;
+    add(born, child)
+}
+
+/// What the agents of a part leave, by rising id, those that live on and the children, or the least
+/// fault of their updates. What was heard is of all that the part holds; the rules of the script are
+/// run by plans that have them.
 pub fn updated(
     alloc: Global,
     setting: &Setting,
@@ -42,7 +53,7 @@ pub fn updated(
     plans: &Plans,
     held: &[Agent],
     heard: &Heard,
-) -> Result<Vec<Agent>, Cause>
+) -> Result<(Vec<Agent>, Vec<Agent>), Cause>
     requires lawful { LawfulProgram setting.now.job.program }
     requires rules { HasRulesOf setting.now.job.program plans.now }
     requires agents { IsTrue (list_all (is_lawful_agent setting.now.job.program) held.now) }
@@ -50,7 +61,11 @@ pub fn updated(
     requires ticks { tick ≤ 2 ^ 32 }
     ensures left { IfOk result (λ left. (said : List Saying) (faults : List Fault)
         → IsHeard setting.now.job.program held.now said faults heard.now
-        → left.items ≡ living (filter_map result_ok (map (becomes setting.now tick said)
+        → left.0.items ≡ living (filter_map result_ok (map (becomes setting.now tick said)
+        (owned setting.now.job.program (cuts_of setting.now tick) part held.now)))) }
+    ensures born { IfOk result (λ left. (said : List Saying) (faults : List Fault)
+        → IsHeard setting.now.job.program held.now said faults heard.now
+        → left.1.items ≡ children (filter_map result_ok (map (becomes setting.now tick said)
         (owned setting.now.job.program (cuts_of setting.now tick) part held.now)))) }
     ensures passes { IfOk result (λ left. (said : List Saying) (faults : List Fault)
         → IsHeard setting.now.job.program held.now said faults heard.now
@@ -65,20 +80,21 @@ pub fn updated(
     let cuts = setting.cuts.cuts_at(tick);
     let mut room = Room::make(alloc, setting.job.seed)?;
     let mut left = Vec::new(alloc);
+    let mut born = Vec::new(alloc);
     let mut least = None;
     for i in 0..held.len() {
         let a = &held[i];
         if owns(program, cuts, part, a) {
             let (totals, _) = heard.row(program, held, i);
             match plans.left_by(alloc, tick, a, totals, &mut room) {
-                Ok(next) => add(&mut left, next.agent)?,
+                Ok(next) => keep(&mut left, &mut born, next)?,
                 Err(LeaveFault::Fault(fault)) => least = Some(with_earlier(least, fault)),
                 Err(LeaveFault::NoMemory) => return Err(Cause::NoMemory),
             }
         }
     }
     match least {
-        None => Ok(left),
+        None => Ok((left, born)),
         Some(fault) => Err(Cause::Fault(fault)),
     }
 }

@@ -3,19 +3,23 @@ ghost use Rattle.std.specs.Vec.{vec_capacity};
 ghost use Rattle.brace_model.specs.FaultOrder.{least};
 ghost use Rattle.brace_pieces.specs.declared.setting.Stage.TheVariants as stage;
 ghost use Rattle.brace_pieces.specs.Settings.{cuts_of};
+ghost use Rattle.brace_pieces.specs.Owned.{owned};
+ghost use Rattle.brace_pieces.specs.Continued.{on};
 ghost use Rattle.brace_part.specs.Parts.{own_under, own_before, found_in_work, IsCauseOf};
-ghost use Rattle.brace_part.specs.inner.Ready.{HearsAll, HearsAsked, IsReadyFor, IsReadyBehind, left_in, updates_in};
+ghost use Rattle.brace_part.specs.inner.Ready.{HearsAll, HearsAsked, IsReadyFor, IsReadyBehind, HasLeft, left_in, born_in, updates_in};
 ghost use Rattle.brace_part.specs.inner.Sound.{IsWorker, IsWork};
 
-use crate::gather::gathered;
+use crate::census::{census_of, first_too_far, joined, numbered};
+use crate::gather::{gathered, kept};
+use crate::places::own_places;
 use crate::query::Queries;
 use crate::standing::Stance;
 use crate::tell::join_told;
 use crate::update::updated;
-use brace_eval::Heard;
+use brace_eval::{Heard, birth_fault};
 use brace_model::Agent;
 use brace_num::NoMemory;
-use brace_pieces::{Cause, Piece, Setting, Stage, Step, hand_of, moves_of};
+use brace_pieces::{Cause, Piece, Setting, Stage, Step};
 use std::alloc::Global;
 
 /// Agents equal to these.
@@ -37,47 +41,58 @@ pub struct Worker<'a> {
     pub part: u32,
     pub queries: &'a Queries,
     pub number: u64,
+    /// The next free id of the world of its tick.
+    pub next: u64,
 }
 
 impl<'a> Worker<'a> {
+    /// Those of some agents that it owns under the cuts of a tick.
+    fn kept(&self, tick: u64, agents: Vec<Agent>) -> Vec<Agent>
+        requires { IsWorker self.now }
+        ensures { result.items ≡ owned self.now.setting.now.job.program
+            (cuts_of self.now.setting.now tick) self.now.part agents.items }
+    {
+        let cuts = self.setting.cuts.cuts_at(tick);
+        kept(&self.setting.job.program, cuts, self.part, agents)
+    }
+
     /// The agents that it owns under the cuts that hold from a tick on.
     fn recut(
         &self,
         tick: u64,
-        own: &[Agent],
+        own: Vec<Agent>,
         taken: &mut Vec<Piece>,
     ) -> Result<Vec<Agent>, NoMemory>
         requires worker { IsWorker self.now }
         requires work { IsWork self.now stage.Hand tick taken.old.items }
-        requires own { own.now ≡ own_before self.now.setting.now self.now.part stage.Hand tick }
+        requires own { own.items ≡ own_before self.now.setting.now self.now.part stage.Hand tick }
         ensures owns { IfOk result (λ r. r.items
             ≡ own_before self.now.setting.now self.now.part stage.Border tick) }
         ensures places { vec_capacity taken.new ≡ vec_capacity taken.old }
     {
-        let kept = hand_of(self.alloc, self.setting, tick, own, self.part)?;
-        gathered(kept.into_vec(), taken)
+        gathered(self.kept(tick, own), taken)
     }
 
     /// All that it holds, what its agents and those that it holds say, and the least fault of their
     /// queries.
     fn query(
         &self,
-        own: &[Agent],
+        own: Vec<Agent>,
         tick: u64,
         taken: &mut Vec<Piece>,
     ) -> Result<(Vec<Agent>, Heard), NoMemory>
-        requires own { own.now ≡ own_before self.now.setting.now self.now.part stage.Border tick }
+        requires own { own.items ≡ own_before self.now.setting.now self.now.part stage.Border tick }
         requires worker { IsWorker self.now }
         requires work { IsWork self.now stage.Border tick taken.old.items }
         ensures heard { IfOk result (λ r.
             HearsAsked self.now.setting.now self.now.part tick r.0.items r.1) }
         ensures places { vec_capacity taken.new ≡ vec_capacity taken.old }
     {
-        let mine = copied(self.alloc, own)?;
-        let held = gathered(mine, taken)?;
-        let heard = self
-            .queries
-            .heard(self.alloc, self.setting, tick, own, &held)?;
+        let (alloc, setting) = (self.alloc, self.setting);
+        let held = gathered(own, taken)?;
+        let cuts = setting.cuts.cuts_at(tick);
+        let places = own_places(alloc, &setting.job.program, cuts, self.part, &held)?;
+        let heard = self.queries.heard(alloc, setting, tick, &places, &held)?;
         Ok((held, heard))
     }
 
@@ -85,12 +100,12 @@ impl<'a> Worker<'a> {
     fn behind_queries(
         &self,
         tick: u64,
-        own: &[Agent],
+        own: Vec<Agent>,
         taken: &mut Vec<Piece>,
     ) -> Result<Stance, Cause>
         requires worker { IsWorker self.now }
         requires work { IsWork self.now stage.Border tick taken.old.items }
-        requires own { own.now ≡ own_before self.now.setting.now self.now.part stage.Border tick }
+        requires own { own.items ≡ own_before self.now.setting.now self.now.part stage.Border tick }
         ensures ready { IfOk result
             (IsReadyBehind self.now.setting.now self.now.part stage.Border tick) }
         ensures passes { IfOk result (λ _. least
@@ -104,25 +119,26 @@ impl<'a> Worker<'a> {
             return Err(Cause::Fault(fault));
         }
         if self.setting.invert {
-            return Ok(Stance::Leaves(self.update(tick, &held, &heard)?));
+            return self.update(tick, &held, &heard);
         }
         Ok(Stance::Hears(held, heard))
     }
 
     /// What its agents leave, where all is heard that is said to them.
-    fn update(&self, tick: u64, held: &[Agent], heard: &Heard) -> Result<Vec<Agent>, Cause>
+    fn update(&self, tick: u64, held: &[Agent], heard: &Heard) -> Result<Stance, Cause>
         requires worker { IsWorker self.now }
         requires heard { HearsAll self.now.setting.now self.now.part tick held.now heard.now }
         requires ticks { tick ≤ 2 ^ 32 }
-        ensures left { IfOk result (λ left. left.items
-            ≡ left_in self.now.setting.now self.now.part tick) }
+        requires next { self.now.next ≡ (on self.now.setting.now tick).next }
+        ensures ready { IfOk result
+            (IsReadyFor self.now.setting.now self.now.part stage.Census tick) }
         ensures passes { IfOk result (λ _. least
             (updates_in self.now.setting.now self.now.part tick) ≡ None) }
         ensures faulted { IfErr result (IsCauseOf
             (updates_in self.now.setting.now self.now.part tick)) }
     {
         let plans = self.queries.rules();
-        updated(
+        let (left, born) = updated(
             self.alloc,
             self.setting,
             tick,
@@ -130,7 +146,8 @@ impl<'a> Worker<'a> {
             plans,
             held,
             heard,
-        )
+        )?;
+        Ok(Stance::Leaves(left, born, self.next))
     }
 
     /// What its agents leave behind all that is told of what is said to them.
@@ -140,13 +157,13 @@ impl<'a> Worker<'a> {
         held: &[Agent],
         mut heard: Heard,
         taken: &[Piece],
-    ) -> Result<Vec<Agent>, Cause>
+    ) -> Result<Stance, Cause>
         requires worker { IsWorker self.now }
         requires work { IsWork self.now stage.Effects tick taken.now }
         requires plain { self.now.setting.now.invert ≡ false }
         requires heard { HearsAsked self.now.setting.now self.now.part tick held.now heard }
-        ensures left { IfOk result (λ left. left.items
-            ≡ left_in self.now.setting.now self.now.part tick) }
+        ensures ready { IfOk result
+            (IsReadyFor self.now.setting.now self.now.part stage.Census tick) }
         ensures passes { IfOk result (λ _. least
             (found_in_work self.now.setting.now self.now.part stage.Effects tick) ≡ None) }
         ensures faulted { IfErr result (IsCauseOf
@@ -156,22 +173,55 @@ impl<'a> Worker<'a> {
         self.update(tick, held, &heard)
     }
 
+    /// What its agents leave behind the censuses of all: each child gets the id of its rank, unless
+    /// a parent goes too far.
+    fn behind_censuses(
+        &self,
+        tick: u64,
+        left: Vec<Agent>,
+        born: Vec<Agent>,
+        taken: &mut Vec<Piece>,
+    ) -> Result<Stance, Cause>
+        requires worker { IsWorker self.now }
+        requires work { IsWork self.now stage.Census tick taken.old.items }
+        requires left { HasLeft self.now.setting.now self.now.part tick left.items born.items
+            self.now.next }
+        ensures ready { IfOk result
+            (IsReadyFor self.now.setting.now self.now.part stage.Move tick) }
+        ensures passes { IfOk result (λ _. least
+            (found_in_work self.now.setting.now self.now.part stage.Census tick) ≡ None) }
+        ensures faulted { IfErr result (IsCauseOf
+            (found_in_work self.now.setting.now self.now.part stage.Census tick)) }
+        ensures places { vec_capacity taken.new ≡ vec_capacity taken.old }
+    {
+        let all = joined(census_of(self.alloc, &left, &born)?, taken)?;
+        let program = &self.setting.job.program;
+        if let Some(parent) = first_too_far(program, self.next, &all) {
+            return Err(Cause::Fault(birth_fault(program, tick, parent)));
+        }
+        let parents = all.parents.as_slice();
+        let born = numbered(self.alloc, self.next, parents, born)?;
+        Ok(Stance::Leaves(left, born, self.next + parents.len() as u64))
+    }
+
     /// The agents that it owns in the next world.
     fn arrived(
         &self,
         tick: u64,
-        left: &[Agent],
+        mut left: Vec<Agent>,
+        mut born: Vec<Agent>,
         taken: &mut Vec<Piece>,
     ) -> Result<Vec<Agent>, NoMemory>
         requires worker { IsWorker self.now }
         requires work { IsWork self.now stage.Move tick taken.old.items }
-        requires left { left.now ≡ left_in self.now.setting.now self.now.part tick }
+        requires left { left.items ≡ left_in self.now.setting.now self.now.part tick }
+        requires born { born.items ≡ born_in self.now.setting.now self.now.part tick }
         ensures owns { IfOk result (λ r. r.items ≡ own_under self.now.setting.now
             self.now.part (cuts_of self.now.setting.now tick) (tick + 1)) }
         ensures places { vec_capacity taken.new ≡ vec_capacity taken.old }
     {
-        let kept = moves_of(self.alloc, self.setting, tick, left, self.part)?;
-        gathered(kept.into_vec(), taken)
+        left.append(&mut born)?;
+        gathered(self.kept(tick, left), taken)
     }
 
     /// What it has behind its work in a step, by what it had and what it took; or the least fault
@@ -190,13 +240,16 @@ impl<'a> Worker<'a> {
     {
         let tick = at.tick;
         match (at.stage, stance) {
-            (Stage::Hand, Stance::Owns(own)) => Ok(Stance::Owns(self.recut(tick, &own, taken)?)),
-            (Stage::Border, Stance::Owns(own)) => self.behind_queries(tick, &own, taken),
+            (Stage::Hand, Stance::Owns(own)) => Ok(Stance::Owns(self.recut(tick, own, taken)?)),
+            (Stage::Border, Stance::Owns(own)) => self.behind_queries(tick, own, taken),
             (Stage::Effects, Stance::Hears(held, heard)) => {
-                Ok(Stance::Leaves(self.behind_told(tick, &held, heard, taken)?))
+                self.behind_told(tick, &held, heard, taken)
             }
-            (Stage::Move, Stance::Leaves(left)) => {
-                Ok(Stance::Owns(self.arrived(tick, &left, taken)?))
+            (Stage::Census, Stance::Leaves(left, born, _)) => {
+                self.behind_censuses(tick, left, born, taken)
+            }
+            (Stage::Move, Stance::Leaves(left, born, _)) => {
+                Ok(Stance::Owns(self.arrived(tick, left, born, taken)?))
             }
             (_, stance) => Ok(stance),
         }

@@ -61,8 +61,8 @@ pub fn halt_law()
 /// its agents are in the next world and the children that they have (`given`), and without births
 /// the living alone. All parts together have each agent of a class once (`all`). In each continued
 /// world ids rise, below its next free id; each agent is of a class, and where the numbers of a
-/// setting fit 64 bits so do those of its agents (`rises`, `numbered`, `classed`, `whole`); the world
-/// behind one is the next tick's (`next`).
+/// setting fit 64 bits so do those of its agents (`rises`, `numbered`, `classed`, `whole`); the
+/// world behind one is the next tick's (`next`).
 pub fn parts_make_the_world()
     ensures held { (s : Setting) (t p : ℕ) (world agents : List Agent) → LawfulSetting s
         → p < parts s → RisesById world → AreWhole s.job.program world

@@ -152,7 +152,7 @@ gift_starts : (src : List ℕ) (wanted : Mark) (a rest : List Token) (x : GiftTr
     → sees wanted (at src (a ++ rest)) ≡ false
 gift_starts src wanted _ rest _ (g.gift a name arrow semicolon x e e1 e2 r) = sees_no_mark wanted src name _ (ap mark_of e)
 
-some_gift : (src : List ℕ) (a : List Token) (x : GiftTree) → ReadsGift src a x → 0 < length a
+pub some_gift : (src : List ℕ) (a : List Token) (x : GiftTree) → ReadsGift src a x → 0 < length a
 some_gift src _ _ (g.gift a name arrow semicolon x e e1 e2 r) = omega arith
 
 gifts_from-found : (src : List ℕ) (n : ℕ) (found : List GiftTree) (b rest : List Token) (closing : Token) (xs : List GiftTree)
@@ -215,7 +215,7 @@ starts src wanted _ rest _ (g.run a word void run opening closing xs e e1 e2 e3 
 starts src wanted _ rest _ (g.die a word when semicolon x e e1 e2 r) = sees_no_mark wanted src word _ (ap mark_of e)
 starts src wanted _ rest _ (g.spawn a b word when opening closing x xs e e1 e2 e3 r rs) = sees_no_mark wanted src word _ (ap mark_of e)
 
-some_tokens : (src : List ℕ) (a : List Token) (x : MemberTree) → ReadsMember src a x → 0 < length a
+pub some_tokens : (src : List ℕ) (a : List Token) (x : MemberTree) → ReadsMember src a x → 0 < length a
 some_tokens src _ _ (g.visible word opening range closing semicolon n e e1 e2 e3 e4) = omega arith
 some_tokens src _ _ (g.reach word opening range closing semicolon n e e1 e2 e3 e4) = omega arith
 some_tokens src _ _ (g.public a word x e r) = omega arith
@@ -254,7 +254,7 @@ class-found src _ rest _ (g.class a word name opening closing members e e1 e2 e3
     (then_ _ _ _ _ _ (expects m.OpenBrace src opening left e2)
     (then_ _ _ _ _ _ (members-found src a rest closing members e3 r) refl)))
 
-some_class : (src : List ℕ) (a : List Token) (x : ClassTree) → ReadsClass src a x → 0 < length a
+pub some_class : (src : List ℕ) (a : List Token) (x : ClassTree) → ReadsClass src a x → 0 < length a
 some_class src _ _ (g.class a word name opening closing members e e1 e2 e3 r) = omega arith
 
 some_classes : (src : List ℕ) (a : List Token) (xs : List ClassTree) → ReadsClasses src a xs → 0 < length a

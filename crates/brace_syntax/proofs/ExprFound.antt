@@ -20,9 +20,13 @@ use Rattle.brace_syntax.specs.Reads.{Row, ReadsExpr, operands, repeats}
 use Rattle.brace_syntax.specs.inner.Descent as d
 use Rattle.brace_syntax.specs.inner.Descent.{climb, where_some}
 use Rattle.brace_syntax.proofs.Inversions.{not_eaten}
-use Rattle.brace_syntax.proofs.ExprRows.{row_at}
 use Rattle.brace_syntax.proofs.Forward.{at, then_, if_true, if_false, where_found, where_none, sees_it, after_it, expects, names, numbers}
 use Rattle.brace_syntax.proofs.Levels.{level, begins, height, not_next, none_next, ends_row, joins_row, lower, no_compares, some_comparison}
+
+-- the row that a start begins
+abbrev pub row_at : Start → Row
+row_at Whole = g.choices
+row_at Operand = g.prefixed
 
 abbrev pub Finds : List ℕ → ℕ → Parser ExprTree → Row → Type 0
 Finds src bound p row = (a rest : List Token) (x : ExprTree) → length a ≤ bound → height row < level rest → ReadsExpr src row a x → p (at src (a ++ rest)) ≡ Ok (x, at src rest)

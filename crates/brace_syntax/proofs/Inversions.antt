@@ -1,6 +1,6 @@
--- What a step that succeeded took from the front of the tokens.
-use Rattle.std.proofs.Common.{◌≡◌, refl, sym, ap, ◌∙◌, ℕ, List, [], ◌∷◌, Bool, true, false, rules}
-use Rattle.std.specs.Prelude.{Option, Some, None, Ok, Err, option_and_then, if◌then◌else◌}
+-- What follows from a step that succeeded, and from a mark that is seen.
+use Rattle.std.proofs.Common.{◌≡◌, refl, sym, ap, ℕ, List, [], ◌∷◌, true, false, rules}
+use Rattle.std.specs.Prelude.{Option, Some, None, Ok, Err}
 use Rattle.std.proofs.lemmas.Option.{same_Some, none-some}
 use denote.Enum.Bare.{same_true}
 use Rattle.brace_tok.specs.declared.kinds.Token.{Token}
@@ -10,20 +10,8 @@ use Rattle.brace_syntax.specs.declared.mark.Mark.{Mark}
 use Rattle.brace_syntax.specs.declared.mark.Mark.TheVariants as m
 use Rattle.brace_syntax.specs.contracts.mark.Mark.{the_type}
 use Rattle.brace_syntax.specs.declared.tree.Ident.{Ident}
-use Rattle.brace_syntax.specs.declared.tree.Number.{Number}
-use Rattle.brace_syntax.specs.declared.tree.TyName.{TyName}
-use Rattle.brace_syntax.specs.declared.tree.CombName.{CombName}
 use Rattle.brace_syntax.specs.declared.fault.Stop.{Stop}
-use Rattle.brace_syntax.specs.Tables.{ident, combines}
-use Rattle.brace_syntax.specs.Tables as tables
-use Rattle.brace_syntax.specs.inner.Cursor.{Input, Outcome, Parser, and_then, first, kind, place, next, refusal, mark_of, same_mark, marked, sees, after, expect, said, name_at, name_of, name, number, type_name, combinator}
-
--- one token, of which P holds
-pub record One (P : Token → Type 0) (i j : Input) : Type 0 where
-  pub token : Token
-  pub cut : i.rest ≡ token ∷ j.rest
-  pub src : j.src ≡ i.src
-  pub says : P token
+use Rattle.brace_syntax.specs.inner.Cursor.{Input, Outcome, Parser, and_then, first, kind, mark_of, same_mark, marked, sees, after, name_at}
 
 pub record Bound {A B : Type 0} (o : Outcome A) (f : A → Parser B) (r : B × Input) : Type 0 where
   pub value : A
@@ -105,16 +93,6 @@ marked_is : (wanted : Mark) (o : Option Mark) → marked wanted o ≡ true → o
 marked_is wanted None e = absurd (cc)
 marked_is wanted (Some found) e = ap Some (same_mark_is found wanted e)
 
-passed_at : (src : List ℕ) (rest : List Token) (wanted : TokKind) → kind (record { src = src; rest = rest }) ≡ Some wanted
-    → One (λ tok. (tok.kind ≡ wanted) × (place (record { src = src; rest = rest }) ≡ tok.from)) (record { src = src; rest = rest }) (next (record { src = src; rest = rest }))
-unfolding kind first place next
-passed_at src [] wanted e = absurd (none-some wanted e)
-passed_at src (tok ∷ rest) wanted e = record { token = tok; cut = refl; src = refl; says = (same_Some _ _ e, refl) }
-
--- the next token, whose kind is known
-pub passed : (i : Input) (wanted : TokKind) → kind i ≡ Some wanted → One (λ tok. (tok.kind ≡ wanted) × (place i ≡ tok.from)) i (next i)
-passed i wanted e = passed_at i.src i.rest wanted e
-
 seen_at : (src : List ℕ) (rest : List Token) (wanted : Mark) → sees wanted (record { src = src; rest = rest }) ≡ true
     → kind (record { src = src; rest = rest }) ≡ Some (kind_of wanted)
 unfolding sees kind first
@@ -124,70 +102,10 @@ seen_at src (tok ∷ rest) wanted e = ap Some (is_kind_of tok.kind wanted (marke
 pub seen : (i : Input) (wanted : Mark) → sees wanted i ≡ true → kind i ≡ Some (kind_of wanted)
 seen i wanted e = seen_at i.src i.rest wanted e
 
-abbrev expect_if : Bool → Input → Outcome ℕ
-expect_if b i = if b then Ok (place i, next i) else Err (refusal i)
-
-expected_by : (b : Bool) (i j : Input) (wanted : Mark) (at : ℕ) → sees wanted i ≡ b
-    → expect_if b i ≡ Ok (at, j) → One (λ tok. (tok.kind ≡ kind_of wanted) × (at ≡ tok.from)) i j
-expected_by true i j wanted at s e =
-    let p = passed i (kind_of wanted) (seen i wanted s) in
-    let h : next i ≡ j = same_input _ _ _ _ e in
-    let a : place i ≡ at = same_value _ _ _ _ e in
-    record { token = p.token; cut = p.cut ∙ ap (λ (z : Input). p.token ∷ z.rest) h; src = sym (ap (λ (z : Input). z.src) h) ∙ p.src; says = (p.says.0, sym a ∙ p.says.1) }
-expected_by false i j wanted at s e = absurd (no_fault _ _ e)
-
-pub expected : (wanted : Mark) (i j : Input) (at : ℕ) → expect wanted i ≡ Ok (at, j) → One (λ tok. (tok.kind ≡ kind_of wanted) × (at ≡ tok.from)) i j
-unfolding expect
-expected wanted i j at e = expected_by (sees wanted i) i j wanted at refl e
-
-pub eaten : (wanted : Mark) (i : Input) → sees wanted i ≡ true → One (λ tok. tok.kind ≡ kind_of wanted) i (after wanted i)
-unfolding after
-eaten wanted i s = let p = passed i (kind_of wanted) (seen i wanted s) in
-    rw s (record { token = p.token; cut = p.cut; src = p.src; says = p.says.0 })
-
 pub not_eaten : (wanted : Mark) (i : Input) → sees wanted i ≡ false → after wanted i ≡ i
 unfolding after
 not_eaten wanted i s = rw s refl
 
-said_of : {A : Type 0} (says : Token → Option A) (src : List ℕ) (rest : List Token) (tok : Token) (o : Option A) (x : A) (j : Input)
-    → says tok ≡ o → said o (record { src = src; rest = tok ∷ rest }) ≡ Ok (x, j) → One (λ tok. says tok ≡ Some x) (record { src = src; rest = tok ∷ rest }) j
-unfolding next
-said_of says src rest tok None x j s e = absurd (no_fault _ _ e)
-said_of says src rest tok (Some y) x j s e =
-    let left : Input = record { src = src; rest = rest } in
-    let h : left ≡ j = same_input _ _ _ _ e in
-    let v : y ≡ x = same_value _ _ _ _ e in
-    record { token = tok; cut = ap (λ (z : Input). tok ∷ z.rest) h; src = sym (ap (λ (z : Input). z.src) h); says = s ∙ ap Some v }
-
-said_by : {A : Type 0} (says : Token → Option A) (src : List ℕ) (rest : List Token) (x : A) (j : Input)
-    → said (option_and_then says (first (record { src = src; rest = rest }))) (record { src = src; rest = rest }) ≡ Ok (x, j)
-    → One (λ tok. says tok ≡ Some x) (record { src = src; rest = rest }) j
-unfolding first
-said_by says src [] x j e = absurd (no_fault _ _ e)
-said_by says src (tok ∷ rest) x j e = said_of says src rest tok (says tok) x j refl e
-
-name_is : (known : Ident) (kind : TokKind) (x : Ident) → name_at known kind ≡ Some x → (kind ≡ k.Word) × (x ≡ known)
+pub name_is : (known : Ident) (kind : TokKind) (x : Ident) → name_at known kind ≡ Some x → (kind ≡ k.Word) × (x ≡ known)
 name_is known k.Word x e = (refl, sym (same_Some _ _ e))
 name_is known kind x e = absurd (none-some x e)
-
-pub named_one : (i j : Input) (x : Ident) → name i ≡ Ok (x, j) → One (λ tok. (tok.kind ≡ k.Word) × (x ≡ ident i.src tok)) i j
-unfolding name
-named_one i j x e = let o = said_by (name_of i.src) i.src i.rest x j e in
-    record { token = o.token; cut = o.cut; src = o.src; says = name_is (ident i.src o.token) o.token.kind x o.says }
-
-pub number_one : (i j : Input) (x : Number) → number i ≡ Ok (x, j) → One (λ tok. tables.number tok ≡ Some x) i j
-unfolding number
-number_one i j x e = said_by tables.number i.src i.rest x j e
-
-pub type_one : (i j : Input) (x : TyName) → type_name i ≡ Ok (x, j) → One (λ tok. tables.type_name i.src tok ≡ Some x) i j
-unfolding type_name
-type_one i j x e = said_by (tables.type_name i.src) i.src i.rest x j e
-
-combined_at : (src : List ℕ) (rest : List Token) (j : Input) (x : CombName) → combinator (record { src = src; rest = rest }) ≡ Ok (x, j)
-    → One (λ tok. combines tok.kind ≡ Some x) (record { src = src; rest = rest }) j
-unfolding combinator kind first
-combined_at src [] j x e = absurd (no_fault _ _ e)
-combined_at src (tok ∷ rest) j x e = said_of (λ t. combines t.kind) src rest tok (combines tok.kind) x j refl e
-
-pub combined_one : (i j : Input) (x : CombName) → combinator i ≡ Ok (x, j) → One (λ tok. combines tok.kind ≡ Some x) i j
-combined_one i j x e = combined_at i.src i.rest j x e

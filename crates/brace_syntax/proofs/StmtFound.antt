@@ -107,7 +107,7 @@ starts src wanted _ rest _ (g.assign_this a this dot name arrow semicolon x e _ 
 starts src wanted _ rest _ (g.assign a name arrow semicolon x e _ _ _) = sees_no_mark wanted src name _ (ap mark_of e)
 starts src wanted _ rest _ (g.assign_loop a loop dot name arrow semicolon x e _ _ _ _ _) = sees_no_mark wanted src loop _ (ap mark_of e)
 
-some_tokens : (src : List ℕ) (a : List Token) (x : StmtTree) → ReadsStmt src a x → 0 < length a
+pub some_tokens : (src : List ℕ) (a : List Token) (x : StmtTree) → ReadsStmt src a x → 0 < length a
 some_tokens src _ _ (g.const a word type name equals semicolon t x _ _ _ _ _ _) = omega arith
 some_tokens src _ _ (g.when a b word opening closing x block _ _ _ _ _) = omega arith
 some_tokens src _ _ (g.either_way a b c word opening closing otherwise x block other _ _ _ _ _ _ _) = omega arith

@@ -1,5 +1,5 @@
 -- What a refusal of the parser tells of the tokens.
-use Rattle.std.specs.Prelude.{◌≡◌, ◌⊎◌, List, ℕ, length, Contains, ⊤}
+use Rattle.std.specs.Prelude.{◌≡◌, ◌⊎◌, ◌+◌, ◌≤◌, List, ◌++◌, ℕ, length, take, slice_get, Some, ⊤}
 use Rattle.brace_tok.specs.declared.kinds.Token.{Token}
 use Rattle.brace_syntax.specs.Depth.{NowhereDeep, FirstDeepAt}
 use Rattle.brace_syntax.specs.Reads.{Reads}
@@ -23,11 +23,28 @@ IsUnread NoMemory = ⊤
 IsUnread (TooDeep at) = ⊥
 IsUnread (NoReading at) = ⊤
 
--- at the place begins one of the tokens, or the source ends
-abbrev pub IsPlace : List ℕ → List Token → ℕ → Type 0
-IsPlace src toks at = ((tok : Token) × Contains toks tok × (tok.from ≡ at)) ⊎ (at ≡ length src)
+-- some script begins with these tokens
+pub record Begins (src : List ℕ) (toks : List Token) : Type 0 where
+  pub more : List Token
+  pub tree : Tree
+  pub reads : Reads src (toks ++ more) tree
 
--- a fault of tokens that are no script stands at a token, or at the end of the source
+-- at this place stands the first token up to and including which no script begins with the tokens
+pub record FirstUnfitAt (src : List ℕ) (toks : List Token) (at : ℕ) : Type 0 where
+  pub number : ℕ
+  pub token : Token
+  pub stands : slice_get toks number ≡ Some token
+  pub place : token.from ≡ at
+  pub unfit : Begins src (take (number + 1) toks) → ⊥
+  pub first : (n : ℕ) → n ≤ number → Begins src (take n toks)
+
+-- at the place stands the first token that no script has there, or the source ends and some script
+-- begins with all of it
+abbrev pub IsPlace : List ℕ → List Token → ℕ → Type 0
+IsPlace src toks at = FirstUnfitAt src toks at ⊎ (Begins src toks × (at ≡ length src))
+
+-- a fault of tokens that are no script stands at the first of them that no script has there, or at
+-- the end of the source
 abbrev pub StandsIn : List ℕ → List Token → SynFault → Type 0
 StandsIn src toks NoMemory = ⊤
 StandsIn src toks (TooDeep at) = ⊤

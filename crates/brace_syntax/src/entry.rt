@@ -17,8 +17,8 @@ use std::alloc::Global;
 /// The script that the tokens of a source of at most 1,048,576 bytes are. Gives `TooDeep` exactly
 /// where the tokens are too deep somewhere, at the first token up to which they are. Where they are
 /// nowhere too deep, it gives the script where they are one, `NoReading` where they are none, or in
-/// place of either `NoMemory`. `NoReading` stands at one of the tokens or at the end of the source;
-/// at which of them, no clause says.
+/// place of either `NoMemory`. `NoReading` stands at the first token up to and including which no
+/// script begins with the tokens, or at the end of the source where some script begins with all.
 pub fn parse(alloc: Global, src: &[u8], toks: &[Token]) -> Result<Tree, SynFault>
     requires sized { length src.now ≤ 1048576 }
     requires spelled { Spells src.now toks.now }

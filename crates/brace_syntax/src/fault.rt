@@ -3,8 +3,8 @@ use brace_num::NoMemory;
 /// Why tokens have no tree.
 #[derive(Debug, Clone, Copy, PartialEq, Eq, Drop)]
 pub enum SynFault {
-    /// The tokens are no script. The offset is that of one of them, or the length of the source:
-    /// it need not be that of the first token that does not fit.
+    /// The tokens are no script. The offset is that of the first token that no script has there, or
+    /// the length of the source where some script goes on behind it.
     NoReading(u32),
     /// At the token at this offset more than 64 brackets are open, or more than 256 operators stand
     /// in one statement.

@@ -1,14 +1,13 @@
 //! What tests of the engine work on: programs, agents and runs, of texts.
 #![tactic(auto)]
 
-ghost use Rattle.std.specs.Prelude.{◌≡◌, IfOk, false};
+ghost use Rattle.std.specs.Prelude.{IfOk};
 ghost use Rattle.brace_model.specs.Lawful.{LawfulProgram};
-ghost use Rattle.brace_model.specs.Next.{has_births};
 ghost use Rattle.brace_pieces.specs.Settings.{LawfulSetting};
 
 use brace_check::check;
 use brace_cuts::read_plan;
-use brace_model::{Agent, Job, Program, Value, has_births};
+use brace_model::{Agent, Job, Program, Value};
 use brace_names::resolve;
 use brace_num::{List, NoMemory};
 use brace_pieces::Setting;
@@ -69,16 +68,12 @@ pub struct Run<'a> {
 /// The setting of a run of seed 5; or what it has none of.
 pub fn setting(alloc: Global, run: &Run) -> Result<Setting, &'static str>
     ensures lawful { IfOk result LawfulSetting }
-    ensures childless { IfOk result (λ s. has_births s.job.program ≡ false) }
 {
     let (first, last) = run.ticks;
     if run.epoch < 1 || run.epoch > 16 || run.every < 1 {
         return Err("no epochs");
     }
     let program = program(alloc, run.script)?;
-    if has_births(&program) {
-        return Err("births");
-    }
     let Ok(start) = read_agents(alloc, &program, run.agents.as_bytes()) else {
         return Err("no agents");
     };

@@ -12,7 +12,6 @@ use Rattle.brace_cuts.specs.declared.plan.CutPlan.{CutPlan}
 use Rattle.brace_cuts.specs.CutPlans.{IsPlan}
 use Rattle.brace_model.specs.declared.program.Program.{Program}
 use Rattle.brace_model.specs.Lawful.{LawfulProgram, LawfulAgents}
-use Rattle.brace_model.specs.Next.{has_births}
 use Rattle.brace_model.specs.World.{World, IsNumbered, world_of}
 use Rattle.brace_pieces.specs.Settings.{LawfulSetting}
 use Rattle.brace_rows.specs.declared.kinds.RowFault.{RowFault}
@@ -454,41 +453,33 @@ front_all a b p h = (length p, (omega arith, h ∙ ap (with_piece a) (sym (take_
 
 -- ---- the outcomes of a run
 
--- a program with births
-pub births_refused : (files : Files) (run : RunCommand) (program : Program) → has_births program ≡ true
-    → RunOutcome (has_births program) files run program (refused (refusal Script run.script (codes ": NotThin")))
-births_refused files run program e = subst (λ (b : Bool). RunOutcome b files run program (refused (refusal Script run.script (codes ": NotThin")))) (sym e) refl
-
--- a program without births is run from what the file comes to with which the run begins
-run_begun : (files : Files) (run : RunCommand) (program : Program) (found : Result Moment Refusal) (o : Outcome) → has_births program ≡ false
-    → BeginsAt files program run.start found → FollowedBy (RunFrom files run program) found o → RunOutcome (has_births program) files run program o
-run_begun files run program found o e is follows =
-    subst (λ (b : Bool). RunOutcome b files run program o) (sym e) (record { found = found; is = is; follows = follows })
-
 -- a file that is refused with which a run begins
-pub start_refused : (files : Files) (run : RunCommand) (program : Program) (r : Refusal) → has_births program ≡ false
-    → BeginsAt files program run.start (Err r) → RunOutcome (has_births program) files run program (refused r)
-start_refused files run program r e is = run_begun files run program (Err r) (refused r) e is refl
+pub start_refused : (files : Files) (run : RunCommand) (program : Program) (r : Refusal) → BeginsAt files program run.start (Err r) → RunOutcome files run program (refused r)
+start_refused files run program r is = record { found = Err r; is = is; follows = refl }
+
+-- what the plan of a run comes to follows on the moment at which it begins
+plan_follows : (files : Files) (run : RunCommand) (program : Program) (moment : Moment) (found : Result CutPlan Refusal) (o : Outcome) → BeginsAt files program run.start (Ok moment)
+    → plan_of files run.manner.epoch run.cuts ≡ found → FollowedBy (λ plan o. o ≡ ran run.manner.stats run.save (is_anew run.start) (setting_of run program moment plan)) found o → RunOutcome files run program o
+plan_follows files run program moment found o is f follows = record {
+  found = Ok moment;
+  is = is;
+  follows = subst (λ (found : Result CutPlan Refusal). FollowedBy (λ plan o. o ≡ ran run.manner.stats run.save (is_anew run.start) (setting_of run program moment plan)) found o) (sym f) follows;
+}
 
 -- a refused cut plan
-pub plan_refused : (files : Files) (run : RunCommand) (program : Program) (moment : Moment) (r : Refusal) → has_births program ≡ false
-    → BeginsAt files program run.start (Ok moment) → plan_of files run.manner.epoch run.cuts ≡ Err r → RunOutcome (has_births program) files run program (refused r)
-plan_refused files run program moment r e is f =
-    run_begun files run program (Ok moment) (refused r) e is
-    (subst (λ (found : Result CutPlan Refusal). FollowedBy (λ plan o. o ≡ ran run.manner.stats run.save (is_anew run.start) (setting_of run program moment plan)) found (refused r)) (sym f) refl)
+pub plan_refused : (files : Files) (run : RunCommand) (program : Program) (moment : Moment) (r : Refusal) → BeginsAt files program run.start (Ok moment)
+    → plan_of files run.manner.epoch run.cuts ≡ Err r → RunOutcome files run program (refused r)
+plan_refused files run program moment r is f = plan_follows files run program moment (Err r) (refused r) is f refl
 
 -- a run over a plan
-pub run_ended : (files : Files) (run : RunCommand) (program : Program) (moment : Moment) (plan : CutPlan) (o : Outcome) → has_births program ≡ false
-    → BeginsAt files program run.start (Ok moment) → plan_of files run.manner.epoch run.cuts ≡ Ok plan
-    → o ≡ ran run.manner.stats run.save (is_anew run.start) (setting_of run program moment plan) → RunOutcome (has_births program) files run program o
-run_ended files run program moment plan o e is f ends =
-    run_begun files run program (Ok moment) o e is
-    (subst (λ (found : Result CutPlan Refusal). FollowedBy (λ plan o. o ≡ ran run.manner.stats run.save (is_anew run.start) (setting_of run program moment plan)) found o) (sym f) ends)
+pub run_ended : (files : Files) (run : RunCommand) (program : Program) (moment : Moment) (plan : CutPlan) (o : Outcome) → BeginsAt files program run.start (Ok moment)
+    → plan_of files run.manner.epoch run.cuts ≡ Ok plan → o ≡ ran run.manner.stats run.save (is_anew run.start) (setting_of run program moment plan) → RunOutcome files run program o
+run_ended files run program moment plan o is f ends = plan_follows files run program moment (Ok plan) o is f ends
 
 -- a cut plan is read where one is named
-pub plan_read : (files : Files) (run : RunCommand) (program : Program) (moment : Moment) → ProgramOf files run.script (Ok program) → has_births program ≡ false
+pub plan_read : (files : Files) (run : RunCommand) (program : Program) (moment : Moment) → ProgramOf files run.script (Ok program)
     → BeginsAt files program run.start (Ok moment) → (run.cuts ≡ None → ⊥) → Reads files (Some (Run run)) (unwrap_or run.cuts [])
-plan_read files run program moment is e f named = reads_plan run program moment (unwrap_or run.cuts []) is e f (is_named run.cuts named)
+plan_read files run program moment is f named = reads_plan run program moment (unwrap_or run.cuts []) is f (is_named run.cuts named)
   where
     is_named : (name : Option (List ℕ)) → (name ≡ None → ⊥) → name ≡ Some (unwrap_or name [])
     is_named None named = absurd (named refl)

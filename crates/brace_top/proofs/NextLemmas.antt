@@ -1,5 +1,6 @@
--- Where no class bears children, what a run comes to depends on the agents of its first world alone.
-use Rattle.std.proofs.Common.{◌≡◌, ◌∙◌, refl, sym, ap, true≢false, ℕ, ℤ, zero, suc, ◌+◌, ◌-◌, List, [], ◌∷◌, ◌++◌, map, filter_map, is_some, Bool, false, if◌then◌else◌, Option, Some, None, option_map, slice_get, Result, Ok, Err, add-one}
+-- Where no class bears children, what a run comes to depends on the agents of its first world alone; so a
+-- run from what a checkpoint tells of a world comes to the same as one from that world.
+use Rattle.std.proofs.Common.{◌≡◌, ◌∙◌, refl, sym, ap, true≢false, ℕ, ℤ, zero, suc, ◌+◌, ◌-◌, List, [], ◌∷◌, ◌++◌, map, filter_map, is_some, Bool, true, false, if◌then◌else◌, Option, Some, None, option_map, slice_get, Result, Ok, Err, add-one}
 use Rattle.std.specs.List.{cons_option, list_any}
 use Rattle.std.specs.Result.{result_ok, result_err}
 use Rattle.std.proofs.lemmas.Map.Keys.{any_passes_from_place}
@@ -16,8 +17,9 @@ use Rattle.brace_model.specs.Published.{is_published, published, rows, text_of_t
 use Rattle.brace_model.specs.Query.{opening_scope, query_faults}
 use Rattle.brace_model.specs.Run.{first_fault, stepped, world_after}
 use Rattle.brace_model.specs.Step.{all_next, birth_fault, children, first_too_far, grown, living, step, unless_faulty}
-use Rattle.brace_model.specs.World.{World, class_of, world_with}
+use Rattle.brace_model.specs.World.{World, class_of, world_of, world_with}
 use Rattle.brace_model.proofs.RunLemmas.{text-next}
+use Rattle.brace_top.specs.Restarts.{told_world}
 
 -- the agents of a world, or the fault in its place
 abbrev pub bare : Result World Fault → Result (List Agent) Fault
@@ -129,9 +131,27 @@ module _ (job : Job) (w v : World) (none : has_births job.program ≡ false) (sa
   fault_bare (Err f) (Ok y) e = absurd cc
 
   -- both publish the same rows
-  pub published_bare : (fresh : Bool) → published (started job w) fresh ≡ published (started job v) fresh
+  published_bare : (fresh : Bool) → published (started job w) fresh ≡ published (started job v) fresh
   published_bare fresh = texts_bare fresh (1 + (job.last - job.first))
 
   -- and end in the same fault or in none
-  pub first_fault_bare : first_fault (started job w) ≡ first_fault (started job v)
+  first_fault_bare : first_fault (started job w) ≡ first_fault (started job v)
   first_fault_bare = fault_bare (world_after (started job w) (job.last - job.first)) (world_after (started job v) (job.last - job.first)) (after_bare (job.last - job.first))
+
+-- ---- a run from what a checkpoint tells
+
+-- its rows are those of a run from the world
+pub published_told : (job : Job) (world : World) (fresh : Bool) → published (started job (told_world job.program world)) fresh ≡ published (started job world) fresh
+published_told job world fresh = by_births (has_births job.program) refl
+  where
+    by_births : (b : Bool) → has_births job.program ≡ b → published (started job (if b then world else world_of world.agents)) fresh ≡ published (started job world) fresh
+    by_births true is = refl
+    by_births false is = published_bare job (world_of world.agents) world is refl fresh
+
+-- and so is its fault, if it has one
+pub first_fault_told : (job : Job) (world : World) → first_fault (started job (told_world job.program world)) ≡ first_fault (started job world)
+first_fault_told job world = by_births (has_births job.program) refl
+  where
+    by_births : (b : Bool) → has_births job.program ≡ b → first_fault (started job (if b then world else world_of world.agents)) ≡ first_fault (started job world)
+    by_births true is = refl
+    by_births false is = first_fault_bare job (world_of world.agents) world is refl

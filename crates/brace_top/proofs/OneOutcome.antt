@@ -26,7 +26,6 @@ use Rattle.brace_model.specs.declared.fault.Fault.{Fault}
 use Rattle.brace_model.specs.declared.program.Program.{Program}
 use Rattle.brace_cuts.specs.declared.plan.CutPlan.{CutPlan}
 use Rattle.brace_model.specs.Lawful.{LawfulProgram}
-use Rattle.brace_model.specs.Next.{has_births}
 use Rattle.brace_model.specs.World.{World, x_of}
 use Rattle.brace_balance.specs.Texts.{plan_line, certificate}
 use Rattle.brace_crew.specs.Sums.{place_along}
@@ -313,10 +312,8 @@ moments_agree : (files : Files) (run : RunCommand) (program : Program) (found : 
 moments_agree files run program (Ok moment) o p x y = plans_agree (plan_of files run.manner.epoch run.cuts) _ o p x y
 moments_agree files run program (Err r) o p x y = same o p (refused r) x y
 
-runs_agree : (b : Bool) (files : Files) (run : RunCommand) (program : Program) (o p : Outcome) → LawfulProgram program
-    → RunOutcome b files run program o → RunOutcome b files run program p → Agree o p
-runs_agree true files run program o p lawful x y = same o p _ x y
-runs_agree false files run program o p lawful x y =
+runs_agree : (files : Files) (run : RunCommand) (program : Program) (o p : Outcome) → LawfulProgram program → RunOutcome files run program o → RunOutcome files run program p → Agree o p
+runs_agree files run program o p lawful x y =
     moments_agree files run program x.found o p x.follows
     (subst (λ (found : Result Moment Refusal). FollowedBy (RunFrom files run program) found p) (sym (one_beginning files program run.start x.found y.found lawful x.is y.is)) y.follows)
 
@@ -345,7 +342,7 @@ pub commands_agree : (files : Files) (command : Option Command) (o p : Outcome) 
 commands_agree files None o p e f = same o p _ e f
 commands_agree files (Some (Run run)) o p e f =
     follows_agree Means Refuses programs run.script (source_of files run.script) _
-    (λ src program o p means x y. runs_agree (has_births program) files run program o p (meant_lawful src program means) x y) o p e f
+    (λ src program o p means x y. runs_agree files run program o p (meant_lawful src program means) x y) o p e f
 commands_agree files (Some (Format name)) o p e f = follows_agree IsTree NoTree trees name (source_of files name) _ (λ src tree o p means. one_follows (λ tree. shown (canonical tree)) tree o p) o p e f
 commands_agree files (Some (Check name)) o p e f = follows_agree Means Refuses programs name (source_of files name) _ (λ src program o p means. one_follows (λ program. shown []) program o p) o p e f
 commands_agree files (Some (Planning name invert)) o p e f =

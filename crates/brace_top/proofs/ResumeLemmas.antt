@@ -6,19 +6,18 @@ use Rattle.brace_model.specs.declared.fault.Fault.{Fault}
 use Rattle.brace_model.specs.declared.job.Job.{Job}
 use Rattle.brace_model.specs.declared.program.Program.{Program}
 use Rattle.brace_model.specs.Lawful.{LawfulProgram}
-use Rattle.brace_model.specs.Next.{has_births}
 use Rattle.brace_model.specs.Published.{published, text_of_ticks}
 use Rattle.brace_model.specs.Run.{first_fault, world_after}
-use Rattle.brace_model.specs.World.{World, world_of}
+use Rattle.brace_model.specs.World.{World}
 use Rattle.brace_save.specs.Lines.{IsRead, IsText, read, unfinished, whole_lines}
 use Rattle.brace_save.specs.Texts.{Moment, lines}
 use Rattle.brace_save.proofs.Feeds.{lines_one, none_unfinished, whole_text}
 use Rattle.brace_top.specs.Commands.{Run, RunCommand, Start, is_anew}
 use Rattle.brace_top.specs.Messages.{fault_message}
 use Rattle.brace_top.specs.Outcome.{BeginsAt, CommandOutcome, ComesTo, FollowedBy, Follows, Outcome, ProgramOf, Refusal, RunFrom, RunOutcome, end_message, end_status, plan_of, ran, setting_of, source_of, stands_for}
-use Rattle.brace_top.specs.Restarts.{GoesOn, from_tick}
+use Rattle.brace_top.specs.Restarts.{GoesOn, from_tick, told_world}
 use Rattle.brace_top.specs.Scripts.{Means, Refuses}
-use Rattle.brace_top.proofs.NextLemmas.{first_fault_bare, published_bare, started}
+use Rattle.brace_top.proofs.NextLemmas.{first_fault_told, published_told, started}
 use Rattle.brace_top.proofs.OneOutcome.{one_program_found}
 use Rattle.brace_top.proofs.PointLemmas.{one_beginning, point_read}
 use Rattle.brace_top.proofs.RestartLemmas.{fault-anew, rows-anew}
@@ -36,7 +35,7 @@ lawful_of : (name : List ℕ) (source : Result (List ℕ) Refusal) (program : Pr
 lawful_of name source _ (stands_for src program e m) = meant_lawful src program m
 
 -- the outcome of a run whose files are accepted is that of its setting
-module _ (files : Files) (run : RunCommand) (program : Program) (moment : Moment) (plan : CutPlan) (means : ProgramOf files run.script (Ok program)) (childless : has_births program ≡ false)
+module _ (files : Files) (run : RunCommand) (program : Program) (moment : Moment) (plan : CutPlan) (means : ProgramOf files run.script (Ok program))
     (begins : BeginsAt files program run.start (Ok moment)) (cut : plan_of files run.manner.epoch run.cuts ≡ Ok plan) where
   lawful : LawfulProgram program
   lawful = lawful_of run.script (source_of files run.script) program means
@@ -51,20 +50,22 @@ module _ (files : Files) (run : RunCommand) (program : Program) (moment : Moment
 
   pub run_is : (o : Outcome) → CommandOutcome files (Some (Run run)) o → o ≡ ran run.manner.stats run.save (is_anew run.start) (setting_of run program moment plan)
   run_is o f =
-      let of_program = subst (λ (found : Result Program Refusal). FollowedBy (λ program. RunOutcome (has_births program) files run program) found o)
-      (sym (one_program_found run.script (source_of files run.script) program f.found means f.is)) f.follows in
-      over_plan o (from_moment o (subst (λ (b : Bool). RunOutcome b files run program o) childless of_program))
+      over_plan o (from_moment o (subst (λ (found : Result Program Refusal). FollowedBy (RunOutcome files run) found o)
+      (sym (one_program_found run.script (source_of files run.script) program f.found means f.is)) f.follows))
 
 module _ (files : Files) (job : Job) (tick : ℕ) (world : World) (run : RunCommand) (o : Outcome) (from : job.first ≤ tick) (to_ : tick ≤ job.last)
-    (reached : world_after job (tick - job.first) ≡ Ok world) (goes_on : GoesOn files job tick (world_of world.agents) run) (is : CommandOutcome files (Some (Run run)) o) where
+    (reached : world_after job (tick - job.first) ≡ Ok world) (goes_on : GoesOn files job tick world run) (is : CommandOutcome files (Some (Run run)) o) where
+  abbrev told : World
+  told = told_world job.program world
+
   abbrev moment_ : Moment
-  moment_ = record { tick = tick; seed = job.seed; world = world_of world.agents }
+  moment_ = record { tick = tick; seed = job.seed; world = told }
 
   abbrev later : Job
   later = from_tick job tick world
 
   abbrev resumed : Job
-  resumed = started later (world_of world.agents)
+  resumed = started later told
 
   begins : BeginsAt files job.program run.start (Ok moment_)
   begins =
@@ -74,26 +75,26 @@ module _ (files : Files) (job : Job) (tick : ℕ) (world : World) (run : RunComm
 
   job_is : (setting_of run job.program moment_ goes_on.plan).job ≡ resumed
   job_is =
-      ap (λ (last : ℕ). record { program = job.program; seed = job.seed; first = tick; last = last; every = run.every; start = world_of world.agents }) goes_on.last
-      ∙ ap (λ (every : ℕ). record { program = job.program; seed = job.seed; first = tick; last = job.last; every = every; start = world_of world.agents }) goes_on.every
+      ap (λ (last : ℕ). record { program = job.program; seed = job.seed; first = tick; last = last; every = run.every; start = told }) goes_on.last
+      ∙ ap (λ (every : ℕ). record { program = job.program; seed = job.seed; first = tick; last = job.last; every = every; start = told }) goes_on.every
 
   not_anew : is_anew run.start ≡ false
   not_anew = ap is_anew goes_on.begins
 
   outcome : o ≡ ran run.manner.stats run.save false (setting_of run job.program moment_ goes_on.plan)
   outcome =
-      run_is files run job.program moment_ goes_on.plan goes_on.means goes_on.childless begins goes_on.cut o is
+      run_is files run job.program moment_ goes_on.plan goes_on.means begins goes_on.cut o is
       ∙ ap (λ (fresh : Bool). ran run.manner.stats run.save fresh (setting_of run job.program moment_ goes_on.plan)) not_anew
 
   fault_is : first_fault (setting_of run job.program moment_ goes_on.plan).job ≡ first_fault job
-  fault_is = ap first_fault job_is ∙ first_fault_bare later (world_of world.agents) world goes_on.childless refl ∙ fault-anew job tick world from to_ reached
+  fault_is = ap first_fault job_is ∙ first_fault_told later world ∙ fault-anew job tick world from to_ reached
 
   -- its rows stand behind those up to its first tick
   pub rows_go_on : published job true ≡ text_of_ticks job true (1 + (tick - job.first)) ++ o.out
   rows_go_on =
       rows-anew job tick world from to_ reached
       ∙ ap (λ (text : List ℕ). text_of_ticks job true (1 + (tick - job.first)) ++ text)
-      (sym (ap (λ (x : Outcome). x.out) outcome ∙ ap (λ (j : Job). published j false) job_is ∙ published_bare later (world_of world.agents) world goes_on.childless refl false))
+      (sym (ap (λ (x : Outcome). x.out) outcome ∙ ap (λ (j : Job). published j false) job_is ∙ published_told later world false))
 
   -- it ends as the first run does
   pub ends_alike : o.status ≡ end_status (first_fault job)

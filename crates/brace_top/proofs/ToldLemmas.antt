@@ -1,5 +1,6 @@
--- What a run saves is a checkpoint that tells the agents of its world.
-use Rattle.std.proofs.Common.{◌≡◌, refl, ap, ap₂, subst, ℕ, ℤ, zero, suc, ◌+◌, ◌-◌, ◌^◌, ◌≤◌, ◌<◌, nat_le, List, [], ◌∷◌, Contains, Bool, true, false, ◌&&◌, Result, Ok, Err, w64, arith}
+-- What a run saves is a checkpoint that tells its world, or its agents alone where no class bears
+-- children.
+use Rattle.std.proofs.Common.{◌≡◌, refl, ap₂, subst, ℕ, ℤ, zero, suc, ◌+◌, ◌-◌, ◌^◌, ◌≤◌, ◌<◌, nat_le, List, [], ◌∷◌, Contains, Bool, true, false, true≢false, if◌then◌else◌, ◌&&◌, Result, Ok, Err, w64, arith}
 use Rattle.std.specs.Prelude.{FitsSigned}
 use Rattle.std.specs.List.{list_all}
 use Rattle.std.proofs.lemmas.Bool.{and_parts}
@@ -14,19 +15,21 @@ use Rattle.brace_model.specs.Lawful.{LawfulAgents, LawfulJob, has_states, is_law
 use Rattle.brace_model.specs.Next.{has_births}
 use Rattle.brace_model.specs.Run.{stepped, world_after}
 use Rattle.brace_model.specs.Step.{greatest_id}
-use Rattle.brace_model.specs.World.{RisesById, World, class_of, number, value_at, world_of}
+use Rattle.brace_model.specs.World.{IsNumbered, RisesById, World, class_of, least_next, number, value_at, world_of, world_with}
 use Rattle.brace_eval.proofs.LawfulLemmas.{steps-lawful}
 use Rattle.brace_pieces.specs.declared.setting.Setting.{Setting}
 use Rattle.brace_pieces.specs.Continued.{on}
 use Rattle.brace_pieces.specs.Numbers.{NumbersFit}
 use Rattle.brace_pieces.specs.Settings.{LawfulSetting}
 use Rattle.brace_pieces.specs.Together.{AreWhole, HaveClasses}
+use Rattle.brace_pieces.proofs.LimitLemmas.{on_numbered}
 use Rattle.brace_pieces.proofs.OnLemmas.{on_classed, on_rises, on_whole}
 use Rattle.brace_pieces.proofs.WorldLemmas.{continued_is}
 use Rattle.brace_rows.proofs.Order.{rising_are_numbered}
 use Rattle.brace_save.specs.Lines.{IsText}
 use Rattle.brace_save.specs.Texts.{IsMoment, Moment, lines, text, value_fits}
 use Rattle.brace_crew.specs.Shows.{checkpoint_file}
+use Rattle.brace_top.specs.Restarts.{told_world}
 use Rattle.brace_num.proofs.Lists.{in_more}
 
 -- ---- worlds stay lawful
@@ -74,7 +77,7 @@ few_ids program (a ∷ rest) lawful =
 
 -- ---- what is saved
 
-module _ (s : Setting) (lawful : LawfulSetting s) (numbers : NumbersFit s) (childless : has_births s.job.program ≡ false) (short : s.job.seed < 2 ^ 64) (tick : ℕ) (world : World)
+module _ (s : Setting) (lawful : LawfulSetting s) (numbers : NumbersFit s) (short : s.job.seed < 2 ^ 64) (tick : ℕ) (world : World)
     (from : s.job.first ≤ tick) (to_ : tick ≤ s.job.last) (reached : world_after s.job (tick - s.job.first) ≡ Ok world) where
   is_on : on s tick ≡ world
   is_on = continued_is s (tick - s.job.first) world reached
@@ -91,23 +94,34 @@ module _ (s : Setting) (lawful : LawfulSetting s) (numbers : NumbersFit s) (chil
   rising : RisesById world.agents
   rising = subst (λ (w : World). RisesById w.agents) is_on (on_rises s lawful tick)
 
-  abbrev told : Moment
-  told = record { tick = tick; seed = s.job.seed; world = world_of world.agents }
+  -- the moment of the tick, with some world
+  abbrev at_tick : World → Moment
+  at_tick w = record { tick = tick; seed = s.job.seed; world = w }
 
-  moment_is : IsMoment s.job.program false told
-  moment_is = record {
+  -- the agents of the tick's world, with a next free id
+  moment_is : (tells_next : Bool) (next : ℕ) → IsNumbered (world_with world.agents next) → (tells_next ≡ false → world_with world.agents next ≡ world_of world.agents)
+      → IsMoment s.job.program tells_next (at_tick (world_with world.agents next))
+  moment_is tells_next next numbered least = record {
     tick_in_range = let last = lawful.job_is_lawful.last_in_range in omega (arith, to_, last);
     seed_in_range = short;
-    numbered = rising_are_numbered world.agents rising (few_ids s.job.program world.agents lawful_agents.each_is_lawful);
+    numbered = numbered;
     lawful = lawful_agents;
     values_fit = agents_fit s.job.program world.agents whole classed;
-    least = λ e. refl;
+    least = least;
+  }
+
+  in_version : (b : Bool) → IsText s.job.program (at_tick (if b then world else world_of world.agents)) (text (lines s.job.program b (at_tick world)))
+  in_version true = record {
+    tells_next = true;
+    moment_is = moment_is true world.next (subst IsNumbered is_on (on_numbered s lawful tick)) (λ e. absurd (true≢false e));
+    same = refl;
+  }
+  in_version false = record {
+    tells_next = false;
+    moment_is = moment_is false (least_next world.agents) (rising_are_numbered world.agents rising (few_ids s.job.program world.agents lawful_agents.each_is_lawful)) (λ e. refl);
+    same = refl;
   }
 
   -- the file of an end is a text of the moment that the end comes to
-  pub saved_tells : (name : List ℕ) → IsText s.job.program told (checkpoint_file name s tick world).1
-  saved_tells name = record {
-    tells_next = false;
-    moment_is = moment_is;
-    same = ap (λ (b : Bool). text (lines s.job.program b (record { tick = tick; seed = s.job.seed; world = world }))) childless;
-  }
+  pub saved_tells : (name : List ℕ) → IsText s.job.program (at_tick (told_world s.job.program world)) (checkpoint_file name s tick world).1
+  saved_tells name = in_version (has_births s.job.program)

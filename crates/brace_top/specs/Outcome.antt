@@ -11,7 +11,6 @@ use Rattle.brace_cuts.specs.CutPlans as plan_file
 use Rattle.brace_audit.specs.Differs.{differs}
 use Rattle.brace_balance.specs.declared.kinds.Balance.{Balance}
 use Rattle.brace_balance.specs.Texts.{plan_line, certificate}
-use Rattle.brace_model.specs.Next.{has_births}
 use Rattle.brace_model.specs.World.{World, world_of}
 use Rattle.brace_model.specs.Run.{end_of, first_fault}
 use Rattle.brace_model.specs.Published.{published}
@@ -267,12 +266,10 @@ RunFrom files run program moment = FollowedBy (λ plan o. o ≡ ran run.manner.s
     (is_anew run.start) (setting_of run program moment plan))
     (plan_of files run.manner.epoch run.cuts)
 
--- an outcome of a run of a program, by whether it bears children: one that does is refused, as none
--- is run yet
-abbrev pub RunOutcome : Bool → Files → RunCommand → Program → Outcome → Type 0
-RunOutcome true files run program o = o ≡ refused (refusal Script run.script (codes ": NotThin"))
-RunOutcome false files run program o =
-    Follows (BeginsAt files program run.start) (RunFrom files run program) o
+-- an outcome of a run of a program
+abbrev pub RunOutcome : Files → RunCommand → Program → Outcome → Type 0
+RunOutcome files run program =
+    Follows (BeginsAt files program run.start) (RunFrom files run program)
 
 -- the setting of a trial from tick 0, over made agents; of the ticks before its last one only those
 -- at which epochs end, and some that 2^32 divides, are shown
@@ -376,8 +373,7 @@ abbrev pub CommandOutcome : Files → Option Command → Outcome → Type 0
 CommandOutcome files None o =
     o ≡ record { status = Usage; out = []; err = usage_message; saved = [] }
 CommandOutcome files (Some (Run run)) o =
-    Follows (ProgramOf files run.script)
-    (λ program. RunOutcome (has_births program) files run program) o
+    Follows (ProgramOf files run.script) (RunOutcome files run) o
 CommandOutcome files (Some (Format name)) o =
     Follows (TreeOf files name) (λ tree o. o ≡ shown (canonical tree)) o
 CommandOutcome files (Some (Check name)) o =
@@ -415,7 +411,7 @@ pub data Reads (files : Files) : Option Command → List ℕ → Type 0 where
   reads_script : (command : Command) (name : List ℕ) → script_in command ≡ Some name
       → Reads files (Some command) name
   reads_start : (run : RunCommand) (program : Program) → ProgramOf files run.script (Ok program)
-      → has_births program ≡ false → Reads files (Some (Run run)) (start_file run.start)
+      → Reads files (Some (Run run)) (start_file run.start)
   reads_agents : (command : Command) (script name : List ℕ) (program : Program)
       → script_in command ≡ Some script → ProgramOf files script (Ok program)
       → agents_in command ≡ Some name → Reads files (Some command) name
@@ -423,6 +419,6 @@ pub data Reads (files : Files) : Option Command → List ℕ → Type 0 where
       → ProgramOf files audit.script (Ok program) → agents_of files program audit.agents ≡ Ok world
       → Reads files (Some (Auditing audit)) audit.published
   reads_plan : (run : RunCommand) (program : Program) (moment : Moment) (name : List ℕ)
-      → ProgramOf files run.script (Ok program) → has_births program ≡ false
-      → BeginsAt files program run.start (Ok moment) → run.cuts ≡ Some name
+      → ProgramOf files run.script (Ok program) → BeginsAt files program run.start (Ok moment)
+      → run.cuts ≡ Some name
       → Reads files (Some (Run run)) name

@@ -1,6 +1,5 @@
 //! How a task is carried out, on one worker or on several.
-ghost use Rattle.std.specs.Prelude.{◌≡◌, ◌≤◌, ℤ, [], None, Err, true, false};
-ghost use Rattle.brace_model.specs.Next.{has_births};
+ghost use Rattle.std.specs.Prelude.{◌≡◌, ◌≤◌, ℤ, [], None, Err, true};
 ghost use Rattle.brace_model.specs.Run.{end_of};
 ghost use Rattle.brace_pieces.specs.declared.setting.Setting.{Setting};
 ghost use Rattle.brace_pieces.specs.Settings.{LawfulSetting};
@@ -122,7 +121,6 @@ pub fn crew_alone<K: Keeper, O: Sink>(
     out: &mut O,
 ) -> Result<Answer, Stopped>
     requires lawful { LawfulSetting task.now.setting }
-    requires childless { has_births task.now.setting.job.program ≡ false }
     requires begins { task.now.setting.job.first ≤ task.now.setting.job.last }
     ensures run { IsRunOf O.Sink task.now (keeper_call K.Keeper keeper.old keeper.new)
         out.old out.new result }
@@ -159,7 +157,6 @@ pub fn crew_on<R: Threads + Wait + Sync, G: Gate + Sync, K: Keeper + Send, O: Si
     requires some { 1 ≤ team.now.workers }
     requires few { team.now.workers ≤ 16 }
     requires lawful { LawfulSetting task.now.setting }
-    requires childless { has_births task.now.setting.job.program ≡ false }
     requires begins { task.now.setting.job.first ≤ task.now.setting.job.last }
     ensures run { IsRunOf O.Sink task.now (keeper_call K.Keeper keeper.old keeper.new)
         out.old out.new result }

@@ -2,8 +2,7 @@
 ghost use Rattle.std.specs.Prelude.{◌≡◌, ◌≤◌, ◌<◌, ℕ, ◌+◌, ◌-◌, ◌^◌, List, ◌++◌, length, Some, Ok, true, false};
 ghost use Rattle.brace_io.specs.Shelves.{Files};
 ghost use Rattle.brace_model.specs.declared.job.Job.{Job};
-ghost use Rattle.brace_model.specs.World.{World, world_of};
-ghost use Rattle.brace_model.specs.Next.{has_births};
+ghost use Rattle.brace_model.specs.World.{World};
 ghost use Rattle.brace_model.specs.Run.{world_after, first_fault};
 ghost use Rattle.brace_model.specs.Published.{text_of_ticks, published};
 ghost use Rattle.brace_model.specs.declared.fault.Fault.{Fault};
@@ -15,7 +14,7 @@ ghost use Rattle.brace_crew.specs.Shows.{checkpoint_file};
 ghost use Rattle.brace_top.specs.Commands.{Format, Run, RunCommand};
 ghost use Rattle.brace_top.specs.Messages.{fault_message};
 ghost use Rattle.brace_top.specs.Outcome.{Outcome, CommandOutcome, HasOutcome, SameMessage, end_status};
-ghost use Rattle.brace_top.specs.Restarts.{from_tick, GoesOn};
+ghost use Rattle.brace_top.specs.Restarts.{from_tick, told_world, GoesOn};
 ghost use Rattle.brace_top.specs.Limits.{script_limit};
 ghost use Rattle.brace_top.specs.declared.status.Status.TheVariants.{Done};
 
@@ -59,40 +58,40 @@ pub fn runs_may_be_begun_anew()
         → first_fault (from_tick job tick world) ≡ first_fault job }
 {}
 
-/// The file that a run without children saves at a tick is a checkpoint: it tells the tick, the
-/// seed and the agents of the tick's world.
+/// The file that a run saves at a tick is a checkpoint: it tells the tick, the seed and the tick's
+/// world; where no class bears children, the agents of that world alone.
 pub fn saved_files_tell_their_worlds()
     ensures { (s : Setting) (name : List ℕ) (tick : ℕ) (world : World) → LawfulSetting s
-        → NumbersFit s → has_births s.job.program ≡ false → s.job.seed < 2 ^ 64
-        → s.job.first ≤ tick → tick ≤ s.job.last
+        → NumbersFit s → s.job.seed < 2 ^ 64 → s.job.first ≤ tick → tick ≤ s.job.last
         → world_after s.job (tick - s.job.first) ≡ Ok world
         → IsText s.job.program (record {
           tick = tick;
           seed = s.job.seed;
-          world = world_of world.agents;
+          world = told_world s.job.program world;
         }) (checkpoint_file name s tick world).1 }
 {}
 
 /// A run that is resumed from a checkpoint goes on as the first one does, from the tick that the
 /// checkpoint tells: the rows up to that tick and its own are all rows of the first run, it ends in
 /// the same status, and it names the same fault. The two may be cut, and worked, each in its way. A
-/// checkpoint tells the agents of a world; without children the next free id plays no part.
+/// checkpoint tells a world with its next free id; where no class bears children that plays no part,
+/// and is not told.
 pub fn resumed_runs_go_on()
     ensures rows { (files : Files) (job : Job) (tick : ℕ) (world : World) (run : RunCommand)
         (o : Outcome) → job.first ≤ tick → tick ≤ job.last
         → world_after job (tick - job.first) ≡ Ok world
-        → GoesOn files job tick (world_of world.agents) run
+        → GoesOn files job tick world run
         → CommandOutcome files (Some (Run run)) o
         → published job true ≡ text_of_ticks job true (1 + (tick - job.first)) ++ o.out }
     ensures status { (files : Files) (job : Job) (tick : ℕ) (world : World) (run : RunCommand)
         (o : Outcome) → job.first ≤ tick → tick ≤ job.last
         → world_after job (tick - job.first) ≡ Ok world
-        → GoesOn files job tick (world_of world.agents) run
+        → GoesOn files job tick world run
         → CommandOutcome files (Some (Run run)) o → o.status ≡ end_status (first_fault job) }
     ensures fault { (files : Files) (job : Job) (tick : ℕ) (world : World) (run : RunCommand)
         (o : Outcome) → job.first ≤ tick → tick ≤ job.last
         → world_after job (tick - job.first) ≡ Ok world
-        → GoesOn files job tick (world_of world.agents) run
+        → GoesOn files job tick world run
         → CommandOutcome files (Some (Run run)) o → (f : Fault) → first_fault job ≡ Some f
         → o.err ≡ fault_message f }
 {}

@@ -12,7 +12,7 @@ ghost use Rattle.brace_top.specs.inner.Prepared.{IsPrepared, IsReady, IsStoppedB
 ghost use Rattle.brace_top.specs.inner.Settled.{IsServed, IsWritten, is_plain_work, outcome_of, status_in, message_in};
 ghost use Rattle.brace_top.specs.inner.Words.{said, said_audit, said_balance, said_run, said_start, said_trial, IsAuditInRange, IsBalanceInRange, IsInRange, IsRunInRange, IsTrialInRange};
 
-use crate::answer::{Answer, Stopped, refuse_file};
+use crate::answer::{Answer, Stopped};
 use crate::command::{AuditCommand, BalanceCommand, Command, RunCommand, Start, TrialCommand};
 use crate::load::{
     load_cuts, load_program, load_script, load_start, load_tree, load_trial, load_world,
@@ -26,7 +26,7 @@ use crate::task::{Task, run_none};
 use crate::trial::{has_four_fixed, trial_setting};
 use brace_cuts::CutPlan;
 use brace_io::{Shelf, Sink, write_whole};
-use brace_model::{Fault, Job, Program, World, has_births};
+use brace_model::{Fault, Job, Program, World};
 use brace_pieces::Setting;
 use brace_save::Point;
 use brace_show::show;
@@ -266,9 +266,6 @@ fn load_task<'a, S: Shelf>(
     ensures not_writing { writes (S.stage shelf.new) ≡ false }
 {
     let program = load_program(alloc, shelf, run.script)?;
-    if has_births(&program) {
-        return Err(refuse_file(alloc, run.script, Status::Script, b": NotThin"));
-    }
     let point = load_start(alloc, shelf, &program, &run.start)?;
     let cuts = load_cuts(alloc, shelf, run.cuts, run.manner.epoch)?;
     Ok(task_of(run, program, point, cuts))
@@ -300,7 +297,7 @@ fn ready_run<'a, S: Shelf, O: Sink>(
 }
 
 /// The trial of the program's own script over made agents; no file is read. That script has a class
-/// of four fixed states and no `spawn`; want of memory is answered for any other.
+/// of four fixed states; want of memory is answered for any other.
 fn ready_trial<'a, S: Shelf>(
     alloc: Global,
     trial: &TrialCommand,
@@ -314,7 +311,7 @@ fn ready_trial<'a, S: Shelf>(
     ensures plain { IfOk result (λ task. task.save ≡ None) }
 {
     let program = load_trial(alloc)?;
-    if !has_four_fixed(&program) || has_births(&program) {
+    if !has_four_fixed(&program) {
         return Err(Stopped::NoMemory);
     }
     let setting = trial_setting(alloc, trial, program)?;

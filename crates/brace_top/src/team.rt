@@ -1,5 +1,4 @@
-ghost use Rattle.std.specs.Prelude.{◌≡◌, ◌≤◌, false};
-ghost use Rattle.brace_model.specs.Next.{has_births};
+ghost use Rattle.std.specs.Prelude.{◌≤◌};
 ghost use Rattle.brace_pieces.specs.Settings.{LawfulSetting};
 ghost use Rattle.brace_crew.specs.Calls.{CameTo};
 
@@ -32,7 +31,6 @@ pub fn crew_run_on<R: Threads + Wait + Sync, G: Gate + Sync, P: Publisher + Send
     requires some { 1 ≤ team.now.workers }
     requires few { team.now.workers ≤ 16 }
     requires lawful { LawfulSetting setting.now }
-    requires childless { has_births setting.now.job.program ≡ false }
     ensures came { CameTo P.Publisher setting.now publisher result.0 result.1 }
 {
     let Team { rt, gate, workers } = *team;

@@ -48,6 +48,7 @@ impl Desk {
         if case.is_published {
             shelf.hold("p", case.published.as_slice())?;
         }
+        shelf.prepare("c.1", 1000)?;
         shelf.prepare("c.2", 1000)?;
         shelf.prepare("c.4", 200)?;
         shelf.prepare("c.5", 200)?;

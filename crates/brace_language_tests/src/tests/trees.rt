@@ -200,6 +200,9 @@ fn refuses_what_is_no_script(rt: HostRuntime) {
         ("class C{spawn when true{n<-1}}", 28),
         ("class C{spawn when true{n<-1;}", 30),
         ("class spawn{}", 6),
+        ("class P { public state }", 23),
+        ("class P {", 9),
+        ("class P { public void run() { if (1 < 2 < 3) { } } }", 40),
     ] {
         assert_eq!(rt;
             fault_of(rt.alloc(), text),

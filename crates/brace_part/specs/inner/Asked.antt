@@ -1,5 +1,5 @@
--- What queries are asked over, what is heard of them, and what rules are those of a script. Only the
--- crate's own functions cite this.
+-- What queries are asked over, what is heard of them, and what rules are those of a script. Only
+-- the crate's own functions cite this.
 use Rattle.std.specs.Prelude.{◌≡◌, ◌≤◌, ◌≤ℤ◌, ◌^◌, ℕ, ℤ, List, ◌++◌, map, length, slice_get, Some, IsTrue}
 use Rattle.std.specs.List.{list_all}
 use Rattle.brace_model.specs.declared.program.Program.{Program}

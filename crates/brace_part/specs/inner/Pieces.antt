@@ -3,11 +3,13 @@
 use Rattle.std.specs.Prelude.{ℕ, ◌+◌, List, [], ◌∷◌, ◌++◌, length}
 use Rattle.brace_core.specs.Schedule.{name}
 use Rattle.brace_model.specs.declared.world.Agent.{Agent}
+use Rattle.brace_model.specs.declared.world.Census as census
 use Rattle.brace_pieces.specs.declared.setting.Setting.{Setting}
 use Rattle.brace_pieces.specs.declared.piece.Piece.{Piece}
-use Rattle.brace_pieces.specs.declared.piece.Piece.TheVariants.{Border, Effects, Move, Hand, Halt}
+use Rattle.brace_pieces.specs.declared.piece.Piece.TheVariants.{Border, Effects, Census, Move, Hand, Halt}
 use Rattle.brace_pieces.specs.Right.{IsRight}
 use Rattle.brace_part.specs.declared.counts.Counts.{Counts}
+use Rattle.brace_part.specs.Given.{lived}
 
 -- the agents that a piece brings
 abbrev pub brought : Piece → List Agent
@@ -16,13 +18,18 @@ brought (Move agents) = agents
 brought (Hand agents) = agents
 brought _ = []
 
--- counts behind a piece that was given
-abbrev pub counted : Counts → Piece → Counts
-counted c (Border agents) = record c { border = c.border + length agents }
-counted c (Effects entries) = record c { effects = c.effects + length entries }
-counted c (Move agents) = record c { moved = c.moved + length agents }
-counted c (Hand agents) = record c { handed = c.handed + length agents }
-counted c _ = c
+-- the censuses that a piece brings
+abbrev pub counts_brought : Piece → List census.Census
+counts_brought (Census c) = c ∷ []
+counts_brought _ = []
+
+-- counts behind a piece that was given, where this is the next free id: children do not count
+abbrev pub counted : ℕ → Counts → Piece → Counts
+counted next c (Border agents) = record c { border = c.border + length agents }
+counted next c (Effects entries) = record c { effects = c.effects + length entries }
+counted next c (Move agents) = record c { moved = c.moved + length (lived next agents) }
+counted next c (Hand agents) = record c { handed = c.handed + length agents }
+counted next c _ = c
 
 -- a piece is no Halt
 abbrev pub GoesOn : Piece → Type 0

@@ -8,12 +8,12 @@ use Rattle.brace_eval.specs.declared.heard.Heard.{Heard}
 use Rattle.brace_eval.specs.Heard.{IsHeard}
 use Rattle.brace_pieces.specs.declared.setting.Setting.{Setting}
 use Rattle.brace_pieces.specs.declared.setting.Stage.{Stage}
-use Rattle.brace_pieces.specs.declared.setting.Stage.TheVariants.{Hand, Border, Effects, Move, Show}
+use Rattle.brace_pieces.specs.declared.setting.Stage.TheVariants.{Hand, Border, Effects, Census, Move, Show}
 use Rattle.brace_pieces.specs.declared.setting.Step.{Step}
 use Rattle.brace_pieces.specs.declared.piece.Shown.{Shown}
 use Rattle.brace_pieces.specs.Settings.{cuts_of, shown_ticks}
 use Rattle.brace_pieces.specs.Continued.{said, becomes, on}
-use Rattle.brace_pieces.specs.Together.{left_of}
+use Rattle.brace_pieces.specs.Together.{left_of, children_of, born_of}
 use Rattle.brace_pieces.specs.Heard.{own, near}
 use Rattle.brace_pieces.specs.Finds.{queries_found, updates_found}
 use Rattle.brace_pieces.specs.Right.{IsFaultless}
@@ -29,6 +29,14 @@ own_in s p tick = own s tick p (on s tick).agents
 -- what the agents of a part leave in a tick
 abbrev pub left_in : Setting → ℕ → ℕ → List Agent
 left_in s p tick = left_of s tick (on s tick).agents (own_in s p tick)
+
+-- the children that they have, which bear their parents' ids
+abbrev pub children_in : Setting → ℕ → ℕ → List Agent
+children_in s p tick = children_of s tick (on s tick).agents (own_in s p tick)
+
+-- the children that are born to them, with ids of their own
+abbrev pub born_in : Setting → ℕ → ℕ → List Agent
+born_in s p tick = born_of s tick (on s tick) (own_in s p tick)
 
 -- the faults of the updates of a part's own agents in a tick
 abbrev pub updates_in : Setting → ℕ → ℕ → List Fault
@@ -51,6 +59,18 @@ pub record HearsAll (s : Setting) (p tick : ℕ) (agents : List Agent) (heard : 
   pub becomes_so : (a : Agent) → Contains (own_in s p tick) a
       → becomes s tick (said s tick (on s tick).agents) a ≡ becomes s tick told a
 
+-- behind its updates a part has what its agents leave, where children bear their parents' ids
+pub record HasLeft (s : Setting) (p tick : ℕ) (left born : List Agent) (next : ℕ) : Type 0 where
+  pub lives : left ≡ left_in s p tick
+  pub bears : born ≡ children_in s p tick
+  pub same_next : next ≡ (on s tick).next
+
+-- behind the census these have ids of their own, and the next free id is that of the next world
+pub record HasBorn (s : Setting) (p tick : ℕ) (left born : List Agent) (next : ℕ) : Type 0 where
+  pub lives : left ≡ left_in s p tick
+  pub born_so : born ≡ born_in s p tick
+  pub next_is : next ≡ (on s (tick + 1)).next
+
 -- what a part has is what a step of a stage and tick needs
 abbrev pub IsReadyFor : Setting → ℕ → Stage → ℕ → Stance → Type 0
 IsReadyFor s p Hand tick (Owns own) = own.items ≡ own_before s p Hand tick
@@ -58,7 +78,9 @@ IsReadyFor s p Border tick (Owns own) = own.items ≡ own_before s p Border tick
 IsReadyFor s p Show tick (Owns own) = own.items ≡ own_before s p Show tick
 IsReadyFor s p Effects tick (Hears agents heard) =
     (s.invert ≡ false) × HearsAsked s p tick agents.items heard
-IsReadyFor s p Move tick (Leaves left) = left.items ≡ left_in s p tick
+IsReadyFor s p Census tick (Leaves left born next) =
+    HasLeft s p tick left.items born.items next
+IsReadyFor s p Move tick (Leaves left born next) = HasBorn s p tick left.items born.items next
 IsReadyFor s p at tick stance = ⊥
 
 abbrev pub IsReady : Setting → ℕ → Option Step → Stance → Type 0
@@ -69,8 +91,9 @@ IsReady s p None stance = IsReadyFor s p Show s.job.last stance
 abbrev pub IsReadyBehind : Setting → ℕ → Stage → ℕ → Stance → Type 0
 IsReadyBehind s p Hand tick stance = IsReadyFor s p Border tick stance
 IsReadyBehind s p Border tick stance =
-    IsReadyFor s p (if s.invert then Move else Effects) tick stance
-IsReadyBehind s p Effects tick stance = IsReadyFor s p Move tick stance
+    IsReadyFor s p (if s.invert then Census else Effects) tick stance
+IsReadyBehind s p Effects tick stance = IsReadyFor s p Census tick stance
+IsReadyBehind s p Census tick stance = IsReadyFor s p Move tick stance
 IsReadyBehind s p Move tick (Owns own) =
     own.items ≡ own_under s p (cuts_of s tick) (tick + 1)
 IsReadyBehind s p Show tick stance = IsReadyFor s p Show tick stance
@@ -80,12 +103,26 @@ IsReadyBehind s p at tick stance = ⊥
 abbrev pub IsFaultlessBefore : Setting → ℕ → Stage → ℕ → Type 0
 IsFaultlessBefore s p Effects tick =
     IsFaultless s tick p × (queries_found s tick p (on s tick).agents ≡ [])
+IsFaultlessBefore s p Census tick =
+    IsFaultless s tick p
+    × ((queries_found s tick p (on s tick).agents ≡ [])
+    × (updates_found s tick p (on s tick).agents ≡ []))
 IsFaultlessBefore s p Move tick = IsFaultless s (tick + 1) p
 IsFaultlessBefore s p _ tick = IsFaultless s tick p
 
 abbrev pub IsFaultlessAt : Setting → ℕ → Option Step → Type 0
 IsFaultlessAt s p (Some at) = IsFaultlessBefore s p at.stage at.tick
 IsFaultlessAt s p None = Unit {0}
+
+-- the next free id of a part that comes to a step is that of the world of the step's tick
+abbrev pub IsNextAt : Setting → Option Step → ℕ → Type 0
+IsNextAt s (Some at) next = next ≡ (on s at.tick).next
+IsNextAt s None next = Unit {0}
+
+-- the next free id behind a work: behind a move that of what it had
+abbrev pub next_behind : Stage → Stance → ℕ → ℕ
+next_behind Move (Leaves left born next) old = next
+next_behind at stance old = old
 
 -- what a part keeps to be shown before it prepares a step: where all is shown all that it shows
 abbrev pub brings_to : Setting → ℕ → Stage → ℕ → List Shown

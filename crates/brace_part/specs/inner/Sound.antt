@@ -3,13 +3,13 @@ use Rattle.std.specs.Prelude.{◌≡◌, ℕ, ◌-◌, ◌<◌, ◌≤◌, List,
 use Rattle.std.specs.List.{All, Contains}
 use Rattle.brace_invert.specs.Split.{forward_program, inverse_program}
 use Rattle.brace_model.specs.declared.world.Agent.{Agent}
-use Rattle.brace_model.specs.Next.{has_births}
 use Rattle.brace_pieces.specs.declared.setting.Setting.{Setting}
 use Rattle.brace_pieces.specs.declared.setting.Stage.{Stage}
 use Rattle.brace_pieces.specs.declared.setting.Step.{Step}
 use Rattle.brace_pieces.specs.declared.piece.Cause.{Cause}
 use Rattle.brace_pieces.specs.declared.piece.Piece.{Piece}
 use Rattle.brace_pieces.specs.Settings.{LawfulSetting, parts}
+use Rattle.brace_pieces.specs.Continued.{on}
 use Rattle.brace_pieces.specs.Numbers.{NumbersFit}
 use Rattle.brace_pieces.specs.Steps.{step, steps, met, is_show}
 use Rattle.brace_pieces.specs.Right.{IsRightCause}
@@ -23,7 +23,7 @@ use Rattle.brace_part.specs.declared.work.Worker.{Worker}
 use Rattle.brace_part.specs.Parts.{keeps_at, IsCauseOfAll}
 use Rattle.brace_part.specs.Given.{counts_behind, counts_up_to}
 use Rattle.brace_part.specs.inner.Pieces.{AreOut, AreTaken}
-use Rattle.brace_part.specs.inner.Ready.{IsReady, IsReadyFor, IsFaultlessAt, IsFaultlessBefore, AreKept, brings_at}
+use Rattle.brace_part.specs.inner.Ready.{IsReady, IsReadyFor, IsNextAt, IsFaultlessAt, IsFaultlessBefore, AreKept, brings_at}
 
 -- the queries that a part asks in a run, which stand for their programs
 abbrev pub AreQueriesOf : Setting → Queries → Type 0
@@ -33,11 +33,10 @@ AreQueriesOf s (Inverted forward inverse) =
     × (forward ≡ forward_program s.job.program)
     × (inverse ≡ inverse_program s.job.program)
 
--- a part of a lawful setting without births, and the queries that it asks
+-- a part of a lawful setting, and the queries that it asks
 pub record IsPartOf (s : Setting) (p : ℕ) (queries : Queries) : Type 0 where
   pub lawful : LawfulSetting s
   pub numbers : NumbersFit s
-  pub childless : has_births s.job.program ≡ false
   pub is_part : p < parts s
   pub queries_are : AreQueriesOf s queries
 
@@ -49,11 +48,13 @@ IsWorker w = IsPartOf w.setting.now w.part w.queries.now
 pub record IsWork (w : Worker) (at : Stage) (tick : ℕ) (taken : List Piece) : Type 0 where
   pub stands : slice_get (steps w.setting.now) w.number ≡ Some (step at tick)
   pub took : AreTaken w.setting.now w.number w.part (met w.setting.now (step at tick) w.part) taken
+  pub next_is : w.next ≡ (on w.setting.now tick).next
 
 -- a step of the run that shows nothing to the publisher is the one of the worker's number
 pub record IsNext (w : Worker) (at : Step) : Type 0 where
   pub stands : slice_get (steps w.setting.now) w.number ≡ Some at
   pub shows_nothing : is_show at.stage ≡ false
+  pub next_is : w.next ≡ (on w.setting.now at.tick).next
 
 -- a worker meets all of these in a step
 abbrev pub AreMet : Worker → Step → List ℕ → Type 0
@@ -63,6 +64,7 @@ AreMet w at others = All (λ q. Contains (met w.setting.now at w.part) q) others
 pub record ComesTo (s : Setting) (p number : ℕ) (at : Option Step) (standing : Standing)
     : Type 0 where
   pub ready : IsReady s p at standing.stance
+  pub next_is : IsNextAt s at standing.next
   pub faultless : IsFaultlessAt s p at
   pub brings : standing.shown ≡ brings_at s p at
   pub counted : standing.counts ≡ counts_behind s p number
@@ -71,6 +73,7 @@ pub record ComesTo (s : Setting) (p number : ℕ) (at : Option Step) (standing :
 -- step, what it keeps, and what it gave up to that step
 pub record GoesOn (c : OnCourse) (standing : Standing) : Type 0 where
   pub ready : IsReady c.setting c.actor (step_of c) standing.stance
+  pub next_is : IsNextAt c.setting (step_of c) standing.next
   pub faultless : IsFaultlessAt c.setting c.actor (step_of c)
   pub puts : AreOut c.setting c.number c.actor (drop c.made (others_of c)) standing.out.items
   pub took : AreTaken c.setting c.number c.actor
@@ -82,6 +85,7 @@ pub record GoesOn (c : OnCourse) (standing : Standing) : Type 0 where
 pub record IsAtWork (s : Setting) (p number : ℕ) (at : Step) (standing : Standing) : Type 0 where
   pub stands : slice_get (steps s) number ≡ Some at
   pub ready : IsReadyFor s p at.stage at.tick standing.stance
+  pub next_is : standing.next ≡ (on s at.tick).next
   pub faultless : IsFaultlessBefore s p at.stage at.tick
   pub took : AreTaken s number p (met s at p) standing.taken.items
   pub keeps : standing.shown ≡ keeps_at s p (Some at)
@@ -106,4 +110,4 @@ pub record IsSound (c : OnCourse) (queries : Queries) (standing : Standing)
 abbrev pub owns_in : Stance → List Agent
 owns_in (Owns own) = own.items
 owns_in (Hears agents heard) = []
-owns_in (Leaves left) = []
+owns_in (Leaves left born next) = []

@@ -1,7 +1,6 @@
 // What publishers make of what they are shown, and runs of small crews to their end.
-ghost use Rattle.std.specs.Prelude.{◌≡◌, ◌≤◌, ◌+◌, IfOk, false};
+ghost use Rattle.std.specs.Prelude.{◌≡◌, ◌≤◌, ◌+◌, IfOk};
 ghost use Rattle.brace_lanes.specs.Seats.{new_seats};
-ghost use Rattle.brace_model.specs.Next.{has_births};
 ghost use Rattle.brace_pieces.specs.Settings.{LawfulSetting, parts};
 
 use brace_crew::{
@@ -192,7 +191,6 @@ fn sums_up_the_last_world(rt: HostRuntime) -> Result<(), Fail> {
 /// A run of four ticks without agents, over a plane in two parts.
 fn empty_run(alloc: Global) -> Result<Setting, &'static str>
     ensures lawful { IfOk result LawfulSetting }
-    ensures childless { IfOk result (λ s. has_births s.job.program ≡ false) }
 {
     let run = Run {
         script: RESTING,
@@ -216,7 +214,6 @@ fn run<R: Threads + Wait + Sync, P: Publisher + Send>(
     publisher: P,
 ) -> (P, usize, Result<Counts, CrewFault>)
     requires lawful { LawfulSetting setting.now }
-    requires childless { has_births setting.now.job.program ≡ false }
     requires some { 1 ≤ workers }
     requires few { workers ≤ 4 }
 {
@@ -263,7 +260,6 @@ fn two_benches<'a>(
     seats: Vec<LaneSeat<Piece>>,
 ) -> Result<(Bench<'a, SumPublisher>, Bench<'a, SumPublisher>), Fail>
     requires lawful { LawfulSetting setting.now }
-    requires childless { has_births setting.now.job.program ≡ false }
     requires seats { seats.items ≡ new_seats lanes.now setting.now (parts setting.now + 1) 2 2 }
 {
     let Ok(mut both) = benches(alloc, setting, lanes, seats, 2, SumPublisher::make()) else {
@@ -278,7 +274,6 @@ fn two_benches<'a>(
 /// What driving the first of two benches comes to, and whether both end that are driven by turns.
 fn driven(alloc: Global, setting: &Setting) -> Result<(Drive, bool), Fail>
     requires lawful { LawfulSetting setting.now }
-    requires childless { has_births setting.now.job.program ≡ false }
 {
     let (lanes, seats) = Lanes::make(alloc, setting, setting.parts() + 1, 2)?;
     let (mut first, mut second) = two_benches(alloc, setting, &lanes, seats)?;

@@ -1,15 +1,14 @@
 // What parts own and show, and that those which exchange pieces come to the worlds of the plain
 // step.
-ghost use Rattle.std.specs.Prelude.{◌≡◌, ◌≤◌, ◌^◌, IfOk, false};
-ghost use Rattle.brace_model.specs.Next.{has_births};
+ghost use Rattle.std.specs.Prelude.{◌≡◌, IfOk};
 ghost use Rattle.brace_pieces.specs.Settings.{LawfulSetting, cuts_of};
 ghost use Rattle.brace_part.specs.Parts.{own_under};
 
 use brace_core::{Actor, Turn};
-use brace_crew::{FilePublisher, ShelfKeeper, crew_run_on_one};
-use brace_eval::plain_step;
+use brace_crew::{CrewFault, FilePublisher, ShelfKeeper, crew_run_on_one};
+use brace_eval::{StepFault, plain_step};
 use brace_io::{MemShelf, MemSink};
-use brace_model::{Agent, World};
+use brace_model::{Agent, Fault};
 use brace_num::NoMemory;
 use brace_part::Part;
 use brace_pieces::{Setting, moves_of};
@@ -23,17 +22,32 @@ const WALKING: &str = "class F{#visible[2];#reach[1];public state fixed x:x+0.75
  fixed y;public state int n:c;public effect int c:count;public void run(){foreach(F p:Extent<F>){\
  p.c<-true;}}}";
 
+/// Agents that walk so count their ticks instead. In its second tick, and where two see it, one has
+/// a child behind it; in its fifth, and where five see it, one dies.
+const BEARING: &str = "class F{#visible[2];#reach[1];public state fixed x:x+0.75;public state \
+ fixed y;public state int n:n+1;public effect int c:count;public void run(){foreach(F p:Extent<F>){\
+ p.c<-true;}}die when n>3||c>4;spawn when n==1||c==2{x<-x-1.0;n<-0;}}";
+
 const WALKERS: &str = "F,1,0,0,0\nF,2,1.5,0,0\nF,3,1.999999,-1,0\nF,5,3,0.5,0\nF,8,-1,-2,0\nF,9,\
  0.9,0.01,0\n";
 
+/// The same behind one whose id is the greatest but six.
+const LATE_WALKERS: &str = "F,1,0,0,0\nF,2,1.5,0,0\nF,3,1.999999,-1,0\nF,5,3,0.5,0\nF,8,-1,-2,\
+ 0\nF,9223372036854775801,0.9,0.01,0\n";
+
 /// A run of five ticks over a plane that is cut by a plan, in epochs of two ticks.
-fn walk(alloc: Global, plan: &str, invert: bool) -> Result<Setting, &'static str>
+fn walk(
+    alloc: Global,
+    script: &str,
+    agents: &str,
+    plan: &str,
+    invert: bool,
+) -> Result<Setting, &'static str>
     ensures lawful { IfOk result LawfulSetting }
-    ensures childless { IfOk result (λ s. has_births s.job.program ≡ false) }
 {
     let run = Run {
-        script: WALKING,
-        agents: WALKERS,
+        script,
+        agents,
         plan,
         ticks: (0, 5),
         epoch: 2,
@@ -84,7 +98,7 @@ fn parts_own_their_agents_and_show_them_to_others(rt: HostRuntime) -> Result<(),
     let alloc = rt.alloc();
     for invert in [false, true] {
         for (plan, p, want) in CASES {
-            let setting = walk(alloc, plan, invert)?;
+            let setting = walk(alloc, WALKING, WALKERS, plan, invert)?;
             if p >= setting.parts() {
                 return Err("no part".into());
             }
@@ -98,29 +112,49 @@ fn parts_own_their_agents_and_show_them_to_others(rt: HostRuntime) -> Result<(),
     Ok(())
 }
 
-/// The world of the next tick.
-fn next_world(alloc: Global, setting: &Setting, tick: u64, world: &World) -> Result<World, Fail>
-    requires lawful { LawfulSetting setting.now }
-    requires ticks { tick ≤ 2 ^ 32 }
-{
-    match plain_step(alloc, &setting.job, tick, world) {
-        Ok(next) => Ok(next),
-        Err(_) => Err("no step".into()),
-    }
-}
-
-/// The rows of all worlds of a walk, by the plain step.
-fn plain_rows(alloc: Global, setting: &Setting) -> Result<Vec<u8>, Fail>
+/// The rows of the worlds of a walk by the plain step, up to the tick of a fault, and that fault.
+fn plain_walk(alloc: Global, setting: &Setting) -> Result<(Vec<u8>, Option<Fault>), Fail>
     requires { LawfulSetting setting.now }
 {
     let mut rows = Vec::new(alloc);
     let mut now = setting.job.start.copy(alloc)?;
     for tick in 0..5 {
         print_tick(&mut rows, &setting.job.program, tick, &now)?;
-        now = next_world(alloc, setting, tick, &now)?;
+        match plain_step(alloc, &setting.job, tick, &now) {
+            Ok(next) => now = next,
+            Err(StepFault::Fault(fault)) => return Ok((rows, Some(fault))),
+            Err(StepFault::NoMemory) => return Err("no memory".into()),
+        }
     }
     print_tick(&mut rows, &setting.job.program, 5, &now)?;
-    Ok(rows)
+    Ok((rows, None))
+}
+
+/// The rows of a walk by its parts, whose turns are in the order of a number, and its fault.
+fn walk_in_parts(
+    alloc: Global,
+    setting: &Setting,
+    order: u64,
+) -> Result<(Vec<u8>, Option<Fault>), Fail>
+    requires { LawfulSetting setting.now }
+{
+    let mut out = MemSink::make(alloc, 9999, Vec::new(alloc))?;
+    let mut shelf = MemShelf::make(alloc, Vec::new(alloc));
+    let mut keeper = ShelfKeeper { shelf: &mut shelf };
+    let publisher = FilePublisher {
+        out: &mut out,
+        keeper: &mut keeper,
+        save: &None,
+        fresh: true,
+    };
+    let (_, came) = crew_run_on_one(alloc, setting, order, publisher);
+    let mut rows = Vec::new(alloc);
+    rows.extend_from_slice(out.bytes())?;
+    match came {
+        Ok(_) => Ok((rows, None)),
+        Err(CrewFault::Fault(fault)) => Ok((rows, Some(fault))),
+        Err(_) => Err("no run".into()),
+    }
 }
 
 /// Two parts and four, each cut anew at tick 2.
@@ -129,25 +163,28 @@ const PLANS: [&str; 2] = [
     "at 0 x 1 y 0\nat 2 x 2.25 y -1\n",
 ];
 
+/// Scripts, their agents, and whether a birth is at fault: the last agent has an id so great that
+/// those of its children end.
+const WALKS: [(&str, &str, bool); 3] = [
+    (WALKING, WALKERS, false),
+    (BEARING, WALKERS, false),
+    (BEARING, LATE_WALKERS, true),
+];
+
 #[test]
 fn parts_come_to_the_worlds_of_the_plain_step(rt: HostRuntime) -> Result<(), Fail> {
     let alloc = rt.alloc();
-    for plan in PLANS {
-        for invert in [false, true] {
-            for order in [0, 1, 7] {
-                let setting = walk(alloc, plan, invert)?;
-                let mut out = MemSink::make(alloc, 9999, Vec::new(alloc))?;
-                let mut shelf = MemShelf::make(alloc, Vec::new(alloc));
-                let mut keeper = ShelfKeeper { shelf: &mut shelf };
-                let publisher = FilePublisher {
-                    out: &mut out,
-                    keeper: &mut keeper,
-                    save: &None,
-                    fresh: true,
-                };
-                let (_, came) = crew_run_on_one(alloc, &setting, order, publisher);
-                assert!(rt; came.is_ok());
-                assert_eq!(rt; out.bytes(), plain_rows(alloc, &setting)?.as_slice());
+    for (script, agents, ends) in WALKS {
+        for plan in PLANS {
+            for invert in [false, true] {
+                for order in [0, 1, 7] {
+                    let setting = walk(alloc, script, agents, plan, invert)?;
+                    let (rows, fault) = walk_in_parts(alloc, &setting, order)?;
+                    let (wanted, first) = plain_walk(alloc, &setting)?;
+                    assert_eq!(rt; rows.as_slice(), wanted.as_slice());
+                    assert!(rt; fault == first);
+                    assert!(rt; fault.is_some() == ends);
+                }
             }
         }
     }

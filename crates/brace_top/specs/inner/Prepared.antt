@@ -1,9 +1,8 @@
 -- What a command comes to before its parts are run. Only the crate's own functions cite this.
-use Rattle.std.specs.Prelude.{◌≡◌, ◌≤◌, true, false, Option, Some, None, is_some, option_map, Result, Ok, Err}
+use Rattle.std.specs.Prelude.{◌≡◌, ◌≤◌, true, Option, Some, None, is_some, option_map, Result, Ok, Err}
 use Rattle.brace_io.specs.declared.shelf.Shelf as shelf_trait
 use Rattle.brace_io.specs.declared.sink.Sink as sink_trait
 use Rattle.brace_io.specs.Shelves.{Files}
-use Rattle.brace_model.specs.Next.{has_births}
 use Rattle.brace_pieces.specs.Settings.{LawfulSetting}
 use Rattle.brace_top.specs.declared.answer.Stopped.{Stopped}
 use Rattle.brace_top.specs.declared.prepare.Work.{Work}
@@ -33,7 +32,6 @@ pub record IsStoppedBefore {S : Type 0} (of_shelf : shelf_trait.Ghosts S) (comma
 pub record IsReady {S : Type 0} (of_shelf : shelf_trait.Ghosts S) (asked : Option Command)
     (shelf shelf_after : S) (task : Task) : Type 0 where
   pub lawful : LawfulSetting task.setting
-  pub childless : has_births task.setting.job.program ≡ false
   pub is_command : asked ≡ None → ⊥
   pub outcome : (files : Files) → of_shelf.held shelf ≡ Some files
       → CommandOutcome files asked (outcome_of task)

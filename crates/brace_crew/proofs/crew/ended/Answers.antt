@@ -11,20 +11,20 @@ use Rattle.brace_crew.proofs.crew.ended.Goals.{then-not-is_empty+in_default-epoc
 
 pub returns-in_default : goal.returns-in_default
 returns-in_default g c =
-    let run : IsRun c.args.setting.now = record { lawful = c.requires.lawful; numbers = c.numbers_fit.ensures; childless = c.requires.childless } in
+    let run : IsRun c.args.setting.now = record { lawful = c.requires.lawful; numbers = c.numbers_fit.ensures } in
     record { came = gave_up g.P.Publisher c.args.setting.now run c.args.desk c.requires.desk c.requires.halted c.requires.rises c.into_publisher.result c.into_publisher.ensures }
 
 pub worlds_left-left-requires-clause-not_before : goal.worlds_left-left-requires-clause-not_before
 worlds_left-left-requires-clause-not_before g c =
     let s = c.args.setting.now in
-    let run : IsRun s = record { lawful = c.requires.lawful; numbers = c.numbers_fit.ensures; childless = c.requires.childless } in
+    let run : IsRun s = record { lawful = c.requires.lawful; numbers = c.numbers_fit.ensures } in
     let e = first_told s c.args.members.now c.requires.parts c.in-Some.ensures.telling run c.in-Some.fault c.in-Some.ensures.least in
     first_not_before s c.requires.lawful c.in-Some.fault e.first
 
 pub worlds_left-left-requires-clause-ticks : goal.worlds_left-left-requires-clause-ticks
 worlds_left-left-requires-clause-ticks g c =
     let s = c.args.setting.now in
-    let run : IsRun s = record { lawful = c.requires.lawful; numbers = c.numbers_fit.ensures; childless = c.requires.childless } in
+    let run : IsRun s = record { lawful = c.requires.lawful; numbers = c.numbers_fit.ensures } in
     let e = first_told s c.args.members.now c.requires.parts c.in-Some.ensures.telling run c.in-Some.fault c.in-Some.ensures.least in
     let within = first_within s c.requires.lawful c.in-Some.fault e.first in
     let high = c.requires.lawful.job_is_lawful.last_in_range in
@@ -32,13 +32,13 @@ worlds_left-left-requires-clause-ticks g c =
 
 pub returns-in-Ok-None : goal.returns-in-Ok-None
 returns-in-Ok-None g c =
-    let run : IsRun c.args.setting.now = record { lawful = c.requires.lawful; numbers = c.numbers_fit.ensures; childless = c.requires.childless } in
+    let run : IsRun c.args.setting.now = record { lawful = c.requires.lawful; numbers = c.numbers_fit.ensures } in
     record { came = gave_up g.P.Publisher c.args.setting.now run c.args.desk c.requires.desk c.requires.halted c.requires.rises c.into_publisher-publisher.result c.into_publisher-publisher.ensures }
 
 pub returns-in-Err : goal.returns-in-Err
 returns-in-Err g c =
     let s = c.args.setting.now in
-    let run : IsRun s = record { lawful = c.requires.lawful; numbers = c.numbers_fit.ensures; childless = c.requires.childless } in
+    let run : IsRun s = record { lawful = c.requires.lawful; numbers = c.numbers_fit.ensures } in
     let f = c.in-Some.fault in
     let e = first_told s c.args.members.now c.requires.parts c.in-Some.ensures.telling run f c.in-Some.ensures.least in
     let worlds = c.in-Ok-Some.worlds in
@@ -58,7 +58,7 @@ returns-in-Err g c =
 pub returns : goal.returns
 returns g c =
     let s = c.args.setting.now in
-    let run : IsRun s = record { lawful = c.requires.lawful; numbers = c.numbers_fit.ensures; childless = c.requires.childless } in
+    let run : IsRun s = record { lawful = c.requires.lawful; numbers = c.numbers_fit.ensures } in
     let worlds = c.in-Ok-Some.worlds in
     let long : vec_len worlds ≡ length worlds.items = search rules in
     let v = c.into_publisher-publisher.result in

@@ -17,7 +17,7 @@ pub returns-in-Ok : goal.returns-in-Ok
 returns-in-Ok g c =
     let s = c.args.setting.now in
     let d = c.args.desk in
-    let run : IsRun s = record { lawful = c.requires.lawful; numbers = c.numbers_fit.ensures; childless = c.requires.childless } in
+    let run : IsRun s = record { lawful = c.requires.lawful; numbers = c.numbers_fit.ensures } in
     let none : d.stop ≡ None = sym c.stop.ensures.same ∙ c.in-None.is in
     record {
       came = subst (λ v. CameTo g.P.Publisher s d.opening v (Ok c.in-Ok.counts)) (sym c.into_publisher.ensures) (record {
@@ -30,7 +30,7 @@ pub returns-in-Err : goal.returns-in-Err
 returns-in-Err g c =
     let s = c.args.setting.now in
     let d = c.args.desk in
-    let run : IsRun s = record { lawful = c.requires.lawful; numbers = c.numbers_fit.ensures; childless = c.requires.childless } in
+    let run : IsRun s = record { lawful = c.requires.lawful; numbers = c.numbers_fit.ensures } in
     let none : d.stop ≡ None = sym c.stop.ensures.same ∙ c.in-None.is in
     record {
       came = subst (λ v. CameTo g.P.Publisher s d.opening v (Err fault.NoMemory)) (sym c.into_publisher-in-Err.ensures) (record {
@@ -43,7 +43,7 @@ pub returns-in-Some-Halt-NoMemory : goal.returns-in-Some-Halt-NoMemory
 returns-in-Some-Halt-NoMemory g c =
     let s = c.args.setting.now in
     let d = c.args.desk in
-    let run : IsRun s = record { lawful = c.requires.lawful; numbers = c.numbers_fit.ensures; childless = c.requires.childless } in
+    let run : IsRun s = record { lawful = c.requires.lawful; numbers = c.numbers_fit.ensures } in
     let x = c.in-Some-Halt-NoMemory.field-0-0 in
     let is : d.stop ≡ Some (stop.Halt x) = sym c.stop.ensures.same ∙ c.in-Some-Halt-NoMemory.is ∙ ap Some c.in-Some-Halt-NoMemory.field-0-is in
     record {
@@ -57,7 +57,7 @@ pub returns-in-Some-Refusal : goal.returns-in-Some-Refusal
 returns-in-Some-Refusal g c =
     let s = c.args.setting.now in
     let d = c.args.desk in
-    let run : IsRun s = record { lawful = c.requires.lawful; numbers = c.numbers_fit.ensures; childless = c.requires.childless } in
+    let run : IsRun s = record { lawful = c.requires.lawful; numbers = c.numbers_fit.ensures } in
     let x = c.in-Some-Refusal.refusal in
     let is : d.stop ≡ Some (stop.Refusal x) = search rules in
     record {

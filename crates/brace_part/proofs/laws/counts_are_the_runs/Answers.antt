@@ -3,5 +3,5 @@ use Rattle.brace_part.proofs.AllGave.{border_counted, effects_counted, moved_cou
 use Rattle.brace_part.proofs.laws.counts_are_the_runs.Goals as goal
 
 pub returns : goal.returns
-returns c s lawful fit childless runs =
-    same_counts _ _ (border_counted s lawful fit childless runs) (effects_counted s lawful fit childless runs) (moved_counted s lawful fit childless runs) (handed_counted s lawful fit childless runs)
+returns c s lawful fit runs =
+    same_counts _ _ (border_counted s lawful fit runs) (effects_counted s lawful fit runs) (moved_counted s lawful fit runs) (handed_counted s lawful fit runs)

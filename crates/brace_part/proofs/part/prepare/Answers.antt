@@ -1,4 +1,4 @@
-use Rattle.std.proofs.Common.{rules, ◌≡◌, ◌∙◌, sym, ap, ap₂, subst, [], Some, None, false, All, Contains}
+use Rattle.std.proofs.Common.{rules, refl, ◌≡◌, ◌∙◌, sym, ap, ap₂, subst, [], Some, None, false, All, Contains}
 use Rattle.std.proofs.lemmas.List.Elements.{All-contains_itself}
 use Rattle.brace_pieces.specs.declared.setting.Stage.TheVariants as stage
 use Rattle.brace_pieces.specs.Steps.{met, is_show}
@@ -11,7 +11,7 @@ returns-in_default-clause-goes_on c =
     let none : step_of c.args.course.now ≡ None = search rules in
     let empty : c.clear.new.self.items ≡ [] = search rules in
     let comes = c.requires.comes in
-    goes_nowhere c.args.course.now _ none c.requires.start comes.ready comes.faultless comes.brings empty c.requires.nothing_taken comes.counted
+    goes_nowhere c.args.course.now _ none c.requires.start comes.ready comes.next_is comes.faultless comes.brings empty c.requires.nothing_taken comes.counted
 
 pub returns-in_err-standing-clause-kept : goal.returns-in_err-standing-clause-kept
 returns-in_err-standing-clause-kept c =
@@ -22,7 +22,7 @@ returns-then-eq-clause-goes_on c =
     let is : step_of c.args.course.now ≡ Some c.in-Some.at = search rules in
     let show : c.in-Some.at.stage ≡ stage.Show = search rules in
     let comes = c.requires.comes in
-    goes_showing c.args.course.now _ c.in-Some.at c.args.standing.now.shown c.requires.part.lawful c.requires.part.is_part is show c.requires.start comes.ready comes.faultless comes.brings
+    goes_showing c.args.course.now _ c.in-Some.at c.args.standing.now.shown c.requires.part.lawful c.requires.part.is_part is show c.requires.start comes.ready comes.next_is comes.faultless comes.brings
     c.in_ok-standing.ensures.out c.requires.nothing_taken c.in_ok-standing.ensures.shown comes.counted
 
 pub prepared-requires-clause-others : goal.prepared-requires-clause-others
@@ -40,7 +40,7 @@ returns-clause-goes_on c =
     let is : step_of cs ≡ Some c.in-Some.at = search rules in
     let other : is_show c.in-Some.at.stage ≡ false = search rules in
     let comes = c.requires.comes in
-    goes_exchanging cs _ c.in-Some.at is other c.requires.start comes.ready comes.faultless comes.brings
+    goes_exchanging cs _ c.in-Some.at is other c.requires.start comes.ready comes.next_is comes.faultless comes.brings
     (out_same cs.setting c.setting.result.now cs.number c.number.result cs.actor c.actor.result (others_of cs) c.others.result.now c.in_ok-standing-2.field-0.items
     c.setting.ensures.setting c.number.ensures c.actor.ensures.actor c.others.ensures c.in_ok-standing-2.ensures.out) c.requires.nothing_taken
-    c.args.standing.now.counts comes.counted c.in_ok-standing-2.ensures.counts
+    c.args.standing.now.counts comes.counted c.args.standing.now.next refl c.in_ok-standing-2.ensures.counts

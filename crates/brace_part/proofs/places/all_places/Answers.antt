@@ -1,7 +1,10 @@
-use Rattle.std.proofs.Common.{◌+◌, ℕ, List, sym, subst, take}
+use Rattle.std.proofs.Common.{ℕ, List, sym, subst}
+use Rattle.std.proofs.lemmas.Option.{get_or_from_slice_get}
+use Rattle.std.proofs.lemmas.List.{take_all}
+use Rattle.brace_num.proofs.Lists.{take_next}
 use Rattle.brace_part.specs.inner.Asked.{ArePlaces}
 use Rattle.brace_part.proofs.AskLemmas.{held_at}
-use Rattle.brace_part.proofs.LaneLemmas.{places_more, places_all}
+use Rattle.brace_part.proofs.LaneLemmas.{place_more}
 use Rattle.brace_part.proofs.places.all_places.Goals as goal
 
 pub loop-place-preserved : goal.loop-place-preserved
@@ -9,8 +12,8 @@ loop-place-preserved c =
     let held = c.args.held.now in
     let i = c.loop-place.place in
     let (a, there, named) = held_at held i c.loop-place-test.true in
-    subst (ArePlaces held (take (i + 1) held)) (sym {A = List ℕ} c.in_ok-push.ensures.items)
-    (places_more held held c.loop-place.places.items i i a there there c.loop-place.invariant)
+    subst (λ xs. ArePlaces held xs c.push.new.self.items) (sym (take_next held i a c.loop-place-test.true (sym (get_or_from_slice_get held i a a there))))
+    (subst (ArePlaces held _) (sym {A = List ℕ} c.in_ok-push.ensures.items) (place_more held _ c.loop-place.places.items i a there c.loop-place.invariant))
 
 pub returns : goal.returns
-returns c = places_all c.args.held.now c.args.held.now c.loop-place.places.items c.loop-place.place c.loop-place-test.false c.loop-place.invariant
+returns c = subst (λ xs. ArePlaces c.args.held.now xs c.loop-place.places.items) (take_all c.loop-place.place c.args.held.now c.loop-place-test.false) c.loop-place.invariant

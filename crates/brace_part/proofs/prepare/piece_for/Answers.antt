@@ -1,4 +1,4 @@
-use Rattle.std.proofs.Common.{◌∙◌, sym, ap, subst, [], Contains}
+use Rattle.std.proofs.Common.{◌∙◌, sym, ap, ap₂, subst, [], ◌++◌, Contains}
 use Rattle.std.proofs.lemmas.List.Elements.{All-head}
 use Rattle.brace_cuts.specs.Space.{LawfulCuts}
 use Rattle.brace_pieces.specs.declared.piece.Piece.TheVariants as piece
@@ -6,7 +6,7 @@ use Rattle.brace_pieces.specs.declared.setting.Stage.TheVariants as stage
 use Rattle.brace_pieces.specs.Settings.{cuts_of}
 use Rattle.brace_pieces.specs.Steps.{met}
 use Rattle.brace_pieces.specs.Owned.{owned}
-use Rattle.brace_pieces.specs.Right.{IsRightAt}
+use Rattle.brace_pieces.specs.Right.{IsRightAt, census_of}
 use Rattle.brace_pieces.proofs.CutLemmas.{cuts_lawful}
 use Rattle.brace_part.specs.inner.Ready.{IsReadyFor}
 use Rattle.brace_part.specs.inner.Tables.{shares_in}
@@ -25,18 +25,32 @@ told_to-requires c =
     let s = c.args.worker.now.setting.now in
     record { cuts = subst LawfulCuts (sym c.cuts_at-cuts.ensures) (cuts_lawful s.epoch s.cuts c.args.at.tick c.requires.worker.lawful.plan_is_lawful) }
 
-pub returns-in_ok-moves_of-in-Move-Leaves : goal.returns-in_ok-moves_of-in-Move-Leaves
-returns-in_ok-moves_of-in-Move-Leaves c =
+pub returns-in_ok-moves_to-in-Move-Leaves : goal.returns-in_ok-moves_to-in-Move-Leaves
+returns-in_ok-moves_to-in-Move-Leaves c =
     let w = c.args.worker.now in
     let s = w.setting.now in
     let t = c.args.at.tick in
-    let found = c.in_ok-moves_of-in-Move-Leaves.field-0 in
+    let found = c.in_ok-moves_to-in-Move-Leaves.field-0 in
     let ready = subst (λ st. IsReadyFor s w.part stage.Move t st) c.in-Move-Leaves.is-1 (subst (λ a. IsReadyFor s w.part a t c.args.stance.now) c.in-Move-Leaves.is-0 c.requires.ready) in
-    let given = c.in_ok-moves_of-in-Move-Leaves.ensures.theirs ∙ ap (owned s.job.program (cuts_of s t) c.args.to) c.deref-in-Move-Leaves.ensures.value in
+    let given = c.in_ok-moves_to-in-Move-Leaves.ensures.theirs ∙ ap₂ (λ xs ys. owned s.job.program (cuts_of s t) c.args.to (xs ++ ys)) c.deref-in-Move-Leaves.ensures.value c.deref-in-Move-Leaves-2.ensures.value in
     record {
       right = right_in s w.number w.part c.args.to c.args.at (piece.Move found) c.requires.next.stands
           (subst (λ a. IsRightAt s w.number a t w.part c.args.to (piece.Move found)) (sym c.in-Move-Leaves.is-0)
-          (moved_right s c.requires.worker.lawful c.requires.worker.numbers t w.part c.requires.worker.childless c.args.to c.in-Move-Leaves.left.items found ready given));
+          (moved_right s c.requires.worker.lawful c.requires.worker.numbers t w.part c.args.to c.in-Move-Leaves.left.items c.in-Move-Leaves.born.items found ready.lives ready.born_so given));
+      goes_on = tt;
+    }
+
+pub returns-in_ok-census_of-in-Census-Leaves : goal.returns-in_ok-census_of-in-Census-Leaves
+returns-in_ok-census_of-in-Census-Leaves c =
+    let w = c.args.worker.now in
+    let s = w.setting.now in
+    let t = c.args.at.tick in
+    let found = c.in_ok-census_of-in-Census-Leaves.field-0 in
+    let ready = subst (λ st. IsReadyFor s w.part stage.Census t st) c.in-Census-Leaves.is-1 (subst (λ a. IsReadyFor s w.part a t c.args.stance.now) c.in-Census-Leaves.is-0 c.requires.ready) in
+    let given = c.in_ok-census_of-in-Census-Leaves.ensures ∙ ap₂ census_of (c.deref-in-Census-Leaves.ensures.value ∙ ready.lives) (c.deref-in-Census-Leaves-2.ensures.value ∙ ready.bears) in
+    record {
+      right = right_in s w.number w.part c.args.to c.args.at (piece.Census found) c.requires.next.stands
+          (subst (λ a. IsRightAt s w.number a t w.part c.args.to (piece.Census found)) (sym c.in-Census-Leaves.is-0) given);
       goes_on = tt;
     }
 

@@ -12,7 +12,7 @@ loop-i-init c =
     let none : c.in_ok-pieces.pieces.items ≡ [] = search rules in
     record {
       out = subst (AreOut w.setting.now w.number w.part (drop (length c.args.others.now - 0) c.args.others.now)) (sym none) (none_prepared w.setting.now w.number w.part c.args.others.now);
-      sums = ap (fold counted c.args.counts.now) (sym none);
+      sums = ap (fold (counted w.next) c.args.counts.now) (sym none);
     }
 
 pub piece_for-requires-clause-to : goal.piece_for-requires-clause-to
@@ -33,7 +33,7 @@ loop-i-preserved c =
     record {
       out = subst (AreOut w.setting.now w.number w.part (drop (length others - (c.loop-i.i + 1)) others)) (sym c.in_ok-push.ensures.items)
           (one_prepared w.setting.now w.number w.part others c.loop-i.i (get_or others (length others - 1 - c.loop-i.i) 0) items piece c.loop-i-test.true refl c.in_ok-piece.ensures.right c.in_ok-piece.ensures.goes_on c.loop-i.invariant.out);
-      sums = c.in_ok-add.ensures ∙ ap (λ n. counted n piece) c.loop-i.invariant.sums ∙ sym (fold-append counted first items (piece ∷ [])) ∙ ap (fold counted first) (sym c.in_ok-push.ensures.items);
+      sums = c.in_ok-add.ensures ∙ ap (λ n. counted w.next n piece) c.loop-i.invariant.sums ∙ sym (fold-append (counted w.next) first items (piece ∷ [])) ∙ ap (fold (counted w.next) first) (sym c.in_ok-push.ensures.items);
     }
 
 pub returns-clause-out : goal.returns-clause-out

@@ -1,9 +1,9 @@
 use Rattle.std.proofs.Common.{List, subst}
 use Rattle.brace_tok.specs.declared.kinds.Token.{Token}
 use Rattle.brace_syntax.specs.Reads.{Reads}
-use Rattle.brace_syntax.proofs.ClassRows.{script-sound}
+use Rattle.brace_syntax.proofs.GoesClass.{script-sound}
 use Rattle.brace_syntax.proofs.ClassFound.{one_tree, no_script}
-use Rattle.brace_syntax.proofs.Places.{place_of_stop}
+use Rattle.brace_syntax.proofs.Unfit.{place_of_stop}
 use Rattle.brace_syntax.proofs.Spelled.{spelled_of}
 use Rattle.brace_syntax.proofs.entry.parse.Goals as goal
 
@@ -35,4 +35,4 @@ returns-in-Err-NoReading-clause-read c tree r shallow =
 
 pub returns-in-Err-NoReading-clause-place : goal.returns-in-Err-NoReading-clause-place
 returns-in-Err-NoReading-clause-place c =
-    place_of_stop _ _ _ c.in-Err-NoReading.field-0 c.in-Err-NoReading.at c.in-Err-NoReading.field-0-is c.new-tokens.ensures.src c.new-tokens.ensures.rest c.in-Err-NoReading.ensures
+    place_of_stop _ _ _ c.in-Err-NoReading.field-0 c.in-Err-NoReading.at c.requires.spelled c.in-Err-NoReading.field-0-is c.new-tokens.ensures.src c.new-tokens.ensures.rest c.in-Err-NoReading.ensures

@@ -1,23 +1,14 @@
 use Rattle.std.proofs.Common.{◌∙◌, ◌≡◌, ◌≤◌, refl, sym, ap, subst, arith}
-use Rattle.std.specs.Prelude.{[], unwrap_or, codes, Ok, Err, Result, Some}
+use Rattle.std.specs.Prelude.{[], unwrap_or, Ok, Err}
 use Rattle.std.proofs.lemmas.Result.{err_from_is_err_and}
-use Rattle.brace_io.specs.Shelves.{Files}
-use Rattle.brace_model.specs.declared.program.Program.{Program}
-use Rattle.brace_model.specs.Next.{has_births}
 use Rattle.brace_pieces.specs.declared.setting.Setting.{Setting}
 use Rattle.brace_pieces.specs.Settings.{LawfulSetting}
 use Rattle.brace_save.specs.Lines.{moment_of}
-use Rattle.brace_top.specs.declared.status.Status.TheVariants.{Script}
 use Rattle.brace_top.specs.Commands.{Run, is_anew, start_file}
-use Rattle.brace_top.specs.Outcome.{Outcome, Refusal, ProgramOf, BeginsAt, CommandOutcome, refusal, refused, plan_of, ran, reads_script, reads_start}
+use Rattle.brace_top.specs.Outcome.{ProgramOf, BeginsAt, plan_of, ran, reads_script, reads_start}
 use Rattle.brace_top.specs.inner.Words.{said_run}
-use Rattle.brace_top.proofs.AnswerLemmas.{stop_before, stopped_before, refusal_unloads, unloaded_later, births_refused, start_refused, plan_refused, plan_read, none_of, run_ended, run_is_lawful}
+use Rattle.brace_top.proofs.AnswerLemmas.{stop_before, stopped_before, unloaded_later, start_refused, plan_refused, plan_read, none_of, run_ended, run_is_lawful}
 use Rattle.brace_top.proofs.prepare.load_task.Goals as goal
-
--- the outcome of a refusal, whatever else was found
-abbrev refused_as : {A : Type 0} → Outcome → Result A Refusal → Outcome
-refused_as other (Ok a) = other
-refused_as other (Err r) = refused r
 
 pub returns-in_err-program-clause-ready : goal.returns-in_err-program-clause-ready
 returns-in_err-program-clause-ready g c =
@@ -27,26 +18,14 @@ returns-in_err-program-clause-ready g c =
     (λ files told. reads_script _ _ refl) (λ files r told is. record { found = Err r; is = is; follows = refl })
     c.in_err-program.ensures.held c.in_err-program.ensures.loads)
 
-pub returns-then-has_births-clause-ready : goal.returns-then-has_births-clause-ready
-returns-then-has_births-clause-ready g c =
-    let run = said_run c.args.run.now in
-    let program = c.in_ok-program.program in
-    let o = refused (refusal Script run.script (codes ": NotThin")) in
-    let turned_down : Files → Result Program Refusal → Type 0 = λ files found. CommandOutcome files (Some (Run run)) (refused_as o found) in
-    stopped_before g.S.Shelf (Run run) _ _ turned_down run.script _
-    (λ files told. reads_script _ _ refl) (λ files r told is. is) c.in_ok-program.ensures.held
-    (refusal_unloads turned_down run.script _ Script _ _ refl c.in_ok-program.ensures.loads.counts c.refuse_file.ensures
-    (λ files told. record { found = Ok program; is = c.in_ok-program.ensures.loads.found files told; follows = births_refused files run program (sym c.has_births.ensures ∙ c.if-has_births.true) }))
-
 pub returns-in_err-point-clause-ready : goal.returns-in_err-point-clause-ready
 returns-in_err-point-clause-ready g c =
     let run = said_run c.args.run.now in
     let program = c.in_ok-program.program in
-    let without = sym c.has_births.ensures ∙ c.if-has_births.false in
     let p = err_from_is_err_and c.from_residual-in_err-point.result c.from_residual-in_err-point.ensures.1 in
     rw (p.1, p.2) (stopped_before g.S.Shelf (Run run) _ _ (λ files. BeginsAt files program run.start) (start_file run.start) _
-    (λ files told. reads_start run program (c.in_ok-program.ensures.loads.found files told) without)
-    (λ files r told is. record { found = Ok program; is = c.in_ok-program.ensures.loads.found files told; follows = start_refused files run program r without is })
+    (λ files told. reads_start run program (c.in_ok-program.ensures.loads.found files told))
+    (λ files r told is. record { found = Ok program; is = c.in_ok-program.ensures.loads.found files told; follows = start_refused files run program r is })
     (c.in_err-point.ensures.held ∙ c.in_ok-program.ensures.held)
     (unloaded_later g.S.Shelf _ (start_file run.start) _ _ _ _ c.in_ok-program.ensures.held c.in_ok-program.ensures.loads.counts c.in_err-point.ensures.loads))
 
@@ -55,17 +34,16 @@ returns-in_err-cuts-clause-ready g c =
     let run = said_run c.args.run.now in
     let program = c.in_ok-program.program in
     let moment = moment_of c.in_ok-point.point in
-    let without = sym c.has_births.ensures ∙ c.if-has_births.false in
     let held = c.in_ok-point.ensures.held ∙ c.in_ok-program.ensures.held in
     let faults = c.in_ok-point.ensures.loads.counts ∙ c.in_ok-program.ensures.loads.counts in
     let p = err_from_is_err_and c.from_residual-in_err-cuts.result c.from_residual-in_err-cuts.ensures.1 in
     rw (p.1, p.2) (stop_before g.S.Shelf (Run run) _ _ (λ files found. plan_of files run.manner.epoch run.cuts ≡ found) (unwrap_or run.cuts []) _
-    (λ files told failed. plan_read files run program moment (c.in_ok-program.ensures.loads.found files told) without
+    (λ files told failed. plan_read files run program moment (c.in_ok-program.ensures.loads.found files told)
     (c.in_ok-point.ensures.loads.found files (c.in_ok-program.ensures.held ∙ told)) (λ none. c.in_err-cuts.ensures.unread (none_of _ _ none) failed))
     (λ files r told is. record {
       found = Ok program;
       is = c.in_ok-program.ensures.loads.found files told;
-      follows = plan_refused files run program moment r without (c.in_ok-point.ensures.loads.found files (c.in_ok-program.ensures.held ∙ told)) is;
+      follows = plan_refused files run program moment r (c.in_ok-point.ensures.loads.found files (c.in_ok-program.ensures.held ∙ told)) is;
     })
     (c.in_err-cuts.ensures.held ∙ held)
     (unloaded_later g.S.Shelf _ (unwrap_or run.cuts []) _ _ _ _ held faults c.in_err-cuts.ensures.loads))
@@ -75,18 +53,16 @@ returns-clause-ready g c =
     let run = said_run c.args.run.now in
     let program = c.in_ok-program.program in
     let moment = moment_of c.in_ok-point.point in
-    let without = sym c.has_births.ensures ∙ c.if-has_births.false in
     record {
       lawful =
           subst LawfulSetting (sym c.task_of.ensures.setting)
           (run_is_lawful c.args.run.now program moment c.in_ok-cuts.cuts c.requires.range c.in_ok-program.ensures.lawful
           c.in_ok-point.ensures.lawful c.in_ok-point.ensures.numbered c.in_ok-point.ensures.range c.in_ok-cuts.ensures.lawful);
-      childless = ap (λ (s : Setting). has_births s.job.program) c.task_of.ensures.setting ∙ without;
       is_command = λ none. absurd cc;
       outcome = λ files told. record {
         found = Ok program;
         is = c.in_ok-program.ensures.loads.found files told;
-        follows = run_ended files run program moment c.in_ok-cuts.cuts _ without (c.in_ok-point.ensures.loads.found files (c.in_ok-program.ensures.held ∙ told))
+        follows = run_ended files run program moment c.in_ok-cuts.cuts _ (c.in_ok-point.ensures.loads.found files (c.in_ok-program.ensures.held ∙ told))
             (c.in_ok-cuts.ensures.loads.found files (c.in_ok-point.ensures.held ∙ c.in_ok-program.ensures.held ∙ told))
             (c.task_of.ensures.outcome ∙ ap (ran run.manner.stats run.save (is_anew run.start)) c.task_of.ensures.setting);
       };

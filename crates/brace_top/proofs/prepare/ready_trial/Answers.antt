@@ -1,7 +1,6 @@
-use Rattle.std.proofs.Common.{◌∙◌, ◌≤◌, refl, sym, ap, subst, arith}
+use Rattle.std.proofs.Common.{◌≤◌, refl, sym, ap, subst, arith}
 use Rattle.std.specs.Prelude.{codes, Some, Ok}
 use Rattle.std.proofs.lemmas.Result.{err_from_is_err_and}
-use Rattle.brace_model.specs.Next.{has_births}
 use Rattle.brace_model.specs.Run.{end_of}
 use Rattle.brace_pieces.specs.declared.setting.Setting.{Setting}
 use Rattle.brace_top.specs.Answer.{shelf_call}
@@ -27,7 +26,6 @@ returns-clause-ready g c =
     let setting = c.in_ok-setting.ensures.setting in
     record {
       lawful = c.in_ok-setting.ensures.lawful;
-      childless = ap (λ (s : Setting). has_births s.job.program) setting ∙ sym c.has_births.ensures ∙ c.if-has_births.false;
       is_command = λ none. absurd cc;
       outcome = λ files told. record {
         found = Ok c.in_ok-program.program;

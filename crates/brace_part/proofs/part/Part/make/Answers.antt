@@ -12,7 +12,7 @@ use Rattle.brace_part.specs.Parts.{kept_at, IsCauseOfAll}
 use Rattle.brace_part.specs.inner.Ready.{AreKept}
 use Rattle.brace_part.specs.inner.Sound.{IsPartOf, ComesTo}
 use Rattle.brace_part.proofs.CauseLemmas.{found_first}
-use Rattle.brace_part.proofs.StartLemmas.{comes_first, kept_first, from_none}
+use Rattle.brace_part.proofs.StartLemmas.{comes_first, kept_first, noted_first, from_none}
 use Rattle.brace_part.proofs.part.Part.make.Goals as goal
 use Rattle.brace_part.proofs.part.Part.make.Goals.{then-is_some+in_ok-note, else-is_some}
 
@@ -24,10 +24,10 @@ prepare-requires-clause-comes c =
     subst (λ (d : OnCourse). ComesTo d.setting d.actor d.number (step_of d) c.if-is_some.standing) (sym start)
     (elim c.if-is_some.branch [
       | then-is_some+in_ok-note w ↦ subst (ComesTo s c.args.p 0 (slice_get (steps s) 0)) (sym w.standing-is)
-          (comes_first s c.args.p c.requires.childless _ c.requires.owns (λ some. from_none _ _ _ c.new-2.ensures w.in_ok-note.ensures.noted)
+          (comes_first s c.args.p _ c.next.ensures.same c.requires.owns (λ some. noted_first s (Owns c.args.owned) _ _ c.next.ensures.same (from_none _ _ _ c.new-2.ensures w.in_ok-note.ensures.noted))
           (λ none. absurd (true≢false (sym w.if-is_some.true ∙ some_is ∙ none))) c.none.ensures)
       | else-is_some w ↦ subst (ComesTo s c.args.p 0 (slice_get (steps s) 0)) (sym w.standing-is)
-          (comes_first s c.args.p c.requires.childless _ c.requires.owns (λ some. absurd (true≢false (sym some ∙ sym some_is ∙ w.if-is_some.false)))
+          (comes_first s c.args.p _ c.next.ensures.same c.requires.owns (λ some. absurd (true≢false (sym some ∙ sym some_is ∙ w.if-is_some.false)))
           (λ none. c.new-2.ensures) c.none.ensures)
     ])
 
@@ -38,7 +38,7 @@ invariant_of-result c =
     let start = c.in_ok-course.ensures.start in
     let kept : AreKept s p c.if-is_some.standing.shown = elim c.if-is_some.branch [
       | then-is_some+in_ok-note w ↦ subst (λ (x : Standing). AreKept s p x.shown) (sym w.standing-is)
-          (kept_first s p c.requires.childless (Owns c.args.owned) w.note.new.shown c.requires.owns (from_none _ _ _ c.new-2.ensures w.in_ok-note.ensures.noted))
+          (kept_first s p (Owns c.args.owned) w.note.new.shown c.requires.owns (noted_first s (Owns c.args.owned) _ _ c.next.ensures.same (from_none _ _ _ c.new-2.ensures w.in_ok-note.ensures.noted)))
       | else-is_some w ↦ subst (λ (x : Standing). AreKept s p x.shown) (sym w.standing-is) (subst (AreKept s p) (sym c.new-2.ensures) (All-nil (λ w. w ≡ kept_at s p w.tick)))
     ] in
     let taken : c.if-is_some.standing.taken ≡ c.in_ok-with_capacity.field-0 = elim c.if-is_some.branch [
@@ -50,7 +50,6 @@ invariant_of-result c =
       is_part = subst (λ (d : OnCourse). IsPartOf d.setting d.actor c.in_ok-queries.queries) (sym start) (record {
         lawful = c.requires.lawful;
         numbers = c.numbers_fit.ensures;
-        childless = c.requires.childless;
         is_part = c.requires.is_part;
         queries_are = c.in_ok-queries.ensures;
       });

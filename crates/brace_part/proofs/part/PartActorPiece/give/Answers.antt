@@ -61,7 +61,7 @@ invariant_of-self-in_default c =
     let low = took.1.0.low in
     let high = took.1.0.high in
     let old = vec_capacity i.standing.taken in
-    let new : Standing = record { stance = i.standing.stance; out = i.standing.out; taken = c.push_reserved.new.self; shown = i.standing.shown; counts = i.standing.counts } in
+    let new : Standing = record { stance = i.standing.stance; next = i.standing.next; out = i.standing.out; taken = c.push_reserved.new.self; shown = i.standing.shown; counts = i.standing.counts } in
     subst (λ (d : OnCourse). IsSound d i.queries new i.cause (vec_capacity c.push_reserved.new.self)) (sym c.go_on.ensures.place)
     (sound_within cs i.queries i.standing new i.cause i.cause old (vec_capacity c.push_reserved.new.self) c.self.invariant (omega (arith, low, high))
     (λ none. take_goes cs i.standing new (c.self.invariant.goes_on none) refl refl took.0 took.1.0 c.args.piece refl c.push_reserved.ensures.items took.1.1 (goes_unless c.args.piece (λ x e. c.in_default.not-Halt x e))) c.self.invariant.halted c.self.invariant.found refl c.push_reserved.ensures.capacity)

@@ -47,7 +47,7 @@ invariant_of-self-in-None c =
     let next = some_put i.course c.self.invariant.course put in
     let low = next.1.low in
     let room = vec_capacity i.standing.taken in
-    let new : Standing = record { stance = i.standing.stance; out = c.pop.new.self; taken = i.standing.taken; shown = i.standing.shown; counts = i.standing.counts } in
+    let new : Standing = record { stance = i.standing.stance; next = i.standing.next; out = c.pop.new.self; taken = i.standing.taken; shown = i.standing.shown; counts = i.standing.counts } in
     subst (λ (d : OnCourse). IsSound d i.queries new i.cause room) (sym c.go_on.ensures.place)
     (sound_within i.course i.queries i.standing new i.cause i.cause room room c.self.invariant (omega (arith, low))
     (λ none. (put_goes i.course i.standing new (c.self.invariant.goes_on none) refl refl next.0 next.1 c.in-Some-pop.piece c.in-Some-pop.ensures.items refl).1) c.self.invariant.halted c.self.invariant.found refl refl)
@@ -61,6 +61,6 @@ returns-in-Some-clause-right c =
 pub returns-in-Some-pop-clause-right : goal.returns-in-Some-pop-clause-right
 returns-in-Some-pop-clause-right c =
     let i = c.self.inside in
-    let new : Standing = record { stance = i.standing.stance; out = c.pop.new.self; taken = i.standing.taken; shown = i.standing.shown; counts = i.standing.counts } in
+    let new : Standing = record { stance = i.standing.stance; next = i.standing.next; out = c.pop.new.self; taken = i.standing.taken; shown = i.standing.shown; counts = i.standing.counts } in
     subst (λ (v : OnPart). (m : Name) → turn_at (schedule v.course.setting) v.course.actor (past_of v.course) ≡ turn.Put m → IsRight v.course.setting m c.in-Some-pop.piece) c.self.view_is
     (λ m e. (put_goes i.course i.standing new (c.self.invariant.goes_on c.in-None.is) refl refl m (put_named i.course c.self.invariant.course m e) c.in-Some-pop.piece c.in-Some-pop.ensures.items refl).0)

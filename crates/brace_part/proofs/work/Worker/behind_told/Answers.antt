@@ -22,3 +22,6 @@ update-requires-clause-heard c =
     c.requires.work.stands (met s (step stage.Effects c.args.tick) c.args.self.now.part) c.args.taken.now c.requires.work.took in
     told_all c.args.self.now c.requires.worker c.args.tick c.requires.plain c.args.held.now c.args.heard c.join_told.new.heard c.args.taken.now c.requires.heard tells
     (λ some more faults hears told. c.in_ok-join_told.ensures.told some more faults hears told)
+
+pub update-requires-clause-next : goal.update-requires-clause-next
+update-requires-clause-next c = c.requires.work.next_is

@@ -1,45 +1,65 @@
-use Rattle.std.proofs.Common.{◌∙◌, sym, subst}
-use Rattle.std.specs.List.{Contains}
+use Rattle.std.proofs.Common.{◌∙◌, ◌<◌, ℕ, List, length, All, sym, subst}
 use Rattle.brace_eval.specs.Heard.{IsHeard}
 use Rattle.brace_pieces.specs.declared.setting.Stage.TheVariants as stage
+use Rattle.brace_cuts.specs.Space.{LawfulCuts}
+use Rattle.brace_pieces.specs.Owned.{owned}
+use Rattle.brace_pieces.proofs.CutLemmas.{cuts_lawful}
+use Rattle.brace_part.specs.inner.Asked.{ArePlaces}
 use Rattle.brace_part.specs.inner.Ready.{own_in}
 use Rattle.brace_part.specs.inner.Tables.{said_over, faults_over}
-use Rattle.brace_part.proofs.WorkHeard.{near_lawful, near_few, near_rises, own_is_near, tick_fits}
+use Rattle.brace_part.proofs.WorkHeard.{near_lawful, near_few, near_rises, own_at_places, tick_fits}
+use Rattle.brace_part.proofs.LaneLemmas.{places_within}
 use Rattle.brace_part.proofs.WorkOwned.{holds_near}
 use Rattle.brace_part.proofs.work.Worker.query.Goals as goal
 
 pub heard-requires-clause-lawful : goal.heard-requires-clause-lawful
 heard-requires-clause-lawful c =
-    near_lawful c.args.self.now c.requires.worker c.args.tick c.deref.result.now (c.deref.ensures.value
-    ∙ holds_near c.args.self.now c.requires.worker c.args.tick c.args.taken.now.items c.in_ok-mine.mine.items c.in_ok-held.held.items c.in_ok-held.ensures.sorted c.requires.work (c.in_ok-mine.ensures ∙ c.requires.own))
+    near_lawful c.args.self.now c.requires.worker c.args.tick c.deref-3.result.now (c.deref-3.ensures.value
+    ∙ holds_near c.args.self.now c.requires.worker c.args.tick c.args.taken.now.items c.args.own.items c.in_ok-held.held.items c.in_ok-held.ensures.sorted c.requires.work c.requires.own)
 
 pub heard-requires-clause-few : goal.heard-requires-clause-few
 heard-requires-clause-few c =
-    near_few c.args.self.now c.requires.worker c.args.tick c.deref.result.now (c.deref.ensures.value
-    ∙ holds_near c.args.self.now c.requires.worker c.args.tick c.args.taken.now.items c.in_ok-mine.mine.items c.in_ok-held.held.items c.in_ok-held.ensures.sorted c.requires.work (c.in_ok-mine.ensures ∙ c.requires.own))
+    near_few c.args.self.now c.requires.worker c.args.tick c.deref-3.result.now (c.deref-3.ensures.value
+    ∙ holds_near c.args.self.now c.requires.worker c.args.tick c.args.taken.now.items c.args.own.items c.in_ok-held.held.items c.in_ok-held.ensures.sorted c.requires.work c.requires.own)
 
 pub heard-requires-clause-rises : goal.heard-requires-clause-rises
 heard-requires-clause-rises c =
-    near_rises c.args.self.now c.requires.worker c.args.tick c.deref.result.now (c.deref.ensures.value
-    ∙ holds_near c.args.self.now c.requires.worker c.args.tick c.args.taken.now.items c.in_ok-mine.mine.items c.in_ok-held.held.items c.in_ok-held.ensures.sorted c.requires.work (c.in_ok-mine.ensures ∙ c.requires.own))
+    near_rises c.args.self.now c.requires.worker c.args.tick c.deref-3.result.now (c.deref-3.ensures.value
+    ∙ holds_near c.args.self.now c.requires.worker c.args.tick c.args.taken.now.items c.args.own.items c.in_ok-held.held.items c.in_ok-held.ensures.sorted c.requires.work c.requires.own)
 
-pub heard-requires-clause-own_held : goal.heard-requires-clause-own_held
-heard-requires-clause-own_held c a has =
-    subst (λ xs. Contains xs a) (sym (c.deref.ensures.value
-    ∙ holds_near c.args.self.now c.requires.worker c.args.tick c.args.taken.now.items c.in_ok-mine.mine.items c.in_ok-held.held.items c.in_ok-held.ensures.sorted c.requires.work (c.in_ok-mine.ensures ∙ c.requires.own)))
-    (own_is_near c.args.self.now c.requires.worker c.args.tick a (subst (λ xs. Contains xs a) c.requires.own has))
+pub heard-requires-clause-placed : goal.heard-requires-clause-placed
+heard-requires-clause-placed c =
+    let held = c.in_ok-held.held.items in
+    subst (λ xs. All (λ (place : ℕ). place < length xs) c.deref-2.result.now) (sym c.deref-3.ensures.value)
+    (places_within held _ c.deref-2.result.now (subst (ArePlaces held _) (sym {A = List ℕ} c.deref-2.ensures.value)
+    (subst (λ xs. ArePlaces xs (owned c.args.self.now.setting.now.job.program c.cuts_at-cuts.result.now c.args.self.now.part xs) c.in_ok-places.places.items) c.deref.ensures.value c.in_ok-places.ensures)))
+
+pub own_places-requires-clause-cuts : goal.own_places-requires-clause-cuts
+own_places-requires-clause-cuts c =
+    let s = c.args.self.now.setting.now in
+    subst LawfulCuts (sym c.cuts_at-cuts.ensures) (cuts_lawful s.epoch s.cuts c.args.tick c.requires.worker.lawful.plan_is_lawful)
+
+pub own_places-requires-clause-few : goal.own_places-requires-clause-few
+own_places-requires-clause-few c =
+    near_few c.args.self.now c.requires.worker c.args.tick c.deref.result.now (c.deref.ensures.value
+    ∙ holds_near c.args.self.now c.requires.worker c.args.tick c.args.taken.now.items c.args.own.items c.in_ok-held.held.items c.in_ok-held.ensures.sorted c.requires.work c.requires.own)
 
 pub heard-requires-clause-ticks : goal.heard-requires-clause-ticks
 heard-requires-clause-ticks c = tick_fits c.args.self.now c.requires.worker c.args.tick stage.Border (λ e. absurd (cc)) c.requires.work.stands
 
 pub returns-clause-heard : goal.returns-clause-heard
 returns-clause-heard c =
-    let s = c.args.self.now.setting.now in
+    let w = c.args.self.now in
+    let s = w.setting.now in
     let m = s.job.program in
     let t = c.args.tick in
+    let held = c.in_ok-held.held.items in
+    let holds = holds_near c.args.self.now c.requires.worker c.args.tick c.args.taken.now.items c.args.own.items c.in_ok-held.held.items c.in_ok-held.ensures.sorted c.requires.work c.requires.own in
+    let at = own_at_places w c.requires.worker t held c.cuts_at-cuts.result.now c.deref-2.result.now holds c.cuts_at-cuts.ensures
+    (subst (ArePlaces held _) (sym {A = List ℕ} c.deref-2.ensures.value)
+    (subst (λ xs. ArePlaces xs (owned m c.cuts_at-cuts.result.now w.part xs) c.in_ok-places.places.items) c.deref.ensures.value c.in_ok-places.ensures)) in
     record {
-      holds = holds_near c.args.self.now c.requires.worker c.args.tick c.args.taken.now.items c.in_ok-mine.mine.items c.in_ok-held.held.items c.in_ok-held.ensures.sorted c.requires.work (c.in_ok-mine.ensures ∙ c.requires.own);
-      hears =
-          subst (λ xs. IsHeard m xs (said_over s t (own_in s c.args.self.now.part t) xs) (faults_over s t (own_in s c.args.self.now.part t) xs) c.in_ok-heard.heard) c.deref.ensures.value
-          (subst (λ ys. IsHeard m c.deref.result.now (said_over s t ys c.deref.result.now) (faults_over s t ys c.deref.result.now) c.in_ok-heard.heard) c.requires.own c.in_ok-heard.ensures.heard);
+      holds = holds;
+      hears = subst (λ xs. IsHeard m xs (said_over s t (own_in s w.part t) xs) (faults_over s t (own_in s w.part t) xs) c.in_ok-heard.heard) c.deref-3.ensures.value
+          (c.in_ok-heard.ensures.heard (own_in s w.part t) (subst (λ xs. ArePlaces xs (own_in s w.part t) c.deref-2.result.now) (sym c.deref-3.ensures.value) at));
     }

@@ -1,4 +1,4 @@
-use Rattle.std.proofs.Common.{◌≡◌, ◌∙◌, ◌++◌, flat_map}
+use Rattle.std.proofs.Common.{◌≡◌, ◌++◌, flat_map}
 use Rattle.std.proofs.lemmas.Result.{IfOk-weaker}
 use Rattle.brace_pieces.specs.Settings.{cuts_of}
 use Rattle.brace_pieces.specs.Together.{IsSorted}
@@ -9,7 +9,7 @@ use Rattle.brace_part.proofs.work.Worker.recut.Goals as goal
 
 pub returns-clause-owns : goal.returns-clause-owns
 returns-clause-owns c =
-    IfOk-weaker c.gathered.result (λ r. IsSorted (c.into_vec.result.items ++ flat_map brought c.args.taken.now.items) r.items)
+    IfOk-weaker c.gathered.result (λ r. IsSorted (c.kept.result.items ++ flat_map brought c.args.taken.now.items) r.items)
     (λ r. r.items ≡ own_under c.args.self.now.setting.now c.args.self.now.part (cuts_of c.args.self.now.setting.now c.args.tick) c.args.tick)
-    (λ r sorted. owns_recut c.args.self.now c.requires.worker c.args.tick c.args.taken.now.items c.into_vec.result.items r.items sorted c.requires.work c.args.own.now (c.into_vec.ensures ∙ c.in_ok-kept.ensures.theirs) c.requires.own)
+    (λ r sorted. owns_recut c.args.self.now c.requires.worker c.args.tick c.args.taken.now.items c.kept.result.items r.items sorted c.requires.work c.args.own.items c.kept.ensures c.requires.own)
     c.gathered.ensures.sorted
