@@ -1,5 +1,5 @@
--- A command over files has at most one status, one text, one list of saved files, and one message apart from the place of NoReading.
-use Rattle.std.proofs.Common.{◌≡◌, ◌∙◌, refl, sym, ap, ap₂, subst, ℕ, ◌+◌, ◌<◌, ℤ, ◌⊎◌, List, [], map, Bool, true, false, codes, slice_get, Option, Some, None, Result, Ok, Err, inl, inr, arith}
+-- A command over files has at most one status, one text, one list of saved files, and one message.
+use Rattle.std.proofs.Common.{◌≡◌, ◌∙◌, refl, sym, ap, ap₂, subst, ℕ, ◌+◌, ◌<◌, ℤ, List, [], map, Bool, true, false, codes, slice_get, Option, Some, None, Result, Ok, Err, arith}
 use Rattle.std.specs.Prelude.{⊤}
 use Rattle.brace_io.specs.Shelves.{Files}
 use Rattle.brace_tok.specs.declared.kinds.Token.{Token}
@@ -15,6 +15,7 @@ use Rattle.brace_syntax.specs.Depth.{NowhereDeep, FirstDeepAt}
 use Rattle.brace_syntax.specs.Reads.{Reads}
 use Rattle.brace_syntax.specs.Refusals as grammar
 use Rattle.brace_syntax.proofs.ClassFound.{one_tree}
+use Rattle.brace_syntax.proofs.Unfit.{one_place}
 use Rattle.brace_names.specs.declared.fault.NameFault.{NameFault}
 use Rattle.brace_names.specs.declared.fault.NameFault.TheVariants as name
 use Rattle.brace_names.specs.Faults as names
@@ -40,18 +41,18 @@ use Rattle.brace_top.proofs.ScriptLemmas.{meant_lawful}
 use Rattle.brace_top.proofs.StripLemmas.{one_order, one_plan, one_certificate}
 use Rattle.brace_top.specs.Scripts.{IsTree, Means, resolved, NoTree, in_tokens, in_grammar, Refuses, without_tree, in_names, in_checks, token_fault, grammar_fault, name_fault, check_fault}
 use Rattle.brace_top.specs.Trials.{trial_script}
-use Rattle.brace_top.specs.Outcome.{Outcome, Refusal, ComesTo, unloaded, refused_at, stands_for, Follows, FollowedBy, RunFrom, RunOutcome, CommandOutcome, SameMessage, source_of, script_message, refused, told, shown, agents_of, plan_of, trial_outcome, audit_job, compared, agreed, AuditFrom, IsBalanced, Judged, IsJudged}
+use Rattle.brace_top.specs.Outcome.{Outcome, Refusal, ComesTo, unloaded, refused_at, stands_for, Follows, FollowedBy, RunFrom, RunOutcome, CommandOutcome, source_of, script_message, refused, told, shown, agents_of, plan_of, trial_outcome, audit_job, compared, agreed, AuditFrom, IsBalanced, Judged, IsJudged}
 use Rattle.brace_top.specs.Balances.{IsBalance}
 use Rattle.brace_top.specs.PlanText.{plan_text}
 
 pub record Agree (o p : Outcome) : Type 0 where
   pub status : o.status ≡ p.status
   pub out : o.out ≡ p.out
-  pub err : SameMessage o.err p.err
+  pub err : o.err ≡ p.err
   pub saved : o.saved ≡ p.saved
 
 same : (o p q : Outcome) → o ≡ q → p ≡ q → Agree o p
-same o p q e f = let g : o ≡ p = e ∙ sym f in record { status = ap (λ (x : Outcome). x.status) g; out = ap (λ (x : Outcome). x.out) g; err = inl (ap (λ (x : Outcome). x.err) g); saved = ap (λ (x : Outcome). x.saved) g }
+same o p q e f = let g : o ≡ p = e ∙ sym f in record { status = ap (λ (x : Outcome). x.status) g; out = ap (λ (x : Outcome). x.out) g; err = ap (λ (x : Outcome). x.err) g; saved = ap (λ (x : Outcome). x.saved) g }
 
 -- tokens that are nowhere too deep have no first place at which they are
 not_deep : (toks : List Token) (at_ : ℕ) → NowhereDeep toks → FirstDeepAt toks at_ → ⊥
@@ -82,16 +83,6 @@ abbrev message_of : List ℕ → List ℕ → ScriptFault → List ℕ
 message_of name src (Refused kind at) = script_message name src kind at
 message_of name src NoMemory = []
 
--- both are NoReading, each at some place
-record BothUnread (x y : ScriptFault) : Type 0 where
-  place_x : ℕ
-  place_y : ℕ
-  is_x : x ≡ Refused kind.NoReading place_x
-  is_y : y ≡ Refused kind.NoReading place_y
-
-abbrev Same : ScriptFault → ScriptFault → Type 0
-Same x y = (x ≡ y) ⊎ BothUnread x y
-
 -- ---- tokens, depth and grammar
 
 first_of_tokens : (src : List ℕ) (f : TokFault) → IsTold (token_fault f) → IsFault src f → FirstFault src f
@@ -102,22 +93,23 @@ first_of_tokens src (tok.LongWord at) t r = r
 first_of_tokens src tok.NoMemory t r = absurd t
 
 one_of_grammar : (src : List ℕ) (toks : List Token) (f g : SynFault) → IsTold (grammar_fault f) → IsTold (grammar_fault g)
-    → grammar.Refuses src toks f → grammar.Refuses src toks g → Same (grammar_fault f) (grammar_fault g)
-one_of_grammar src toks (syn.TooDeep a) (syn.TooDeep b) t u r s = inl (ap (λ (n : ℕ). Refused kind.TooDeep n) (one_deep toks a b r s))
-one_of_grammar src toks (syn.TooDeep a) (syn.NoReading b) t u r s = absurd (not_deep toks a s.0 r)
-one_of_grammar src toks (syn.NoReading a) (syn.TooDeep b) t u r s = absurd (not_deep toks b r.0 s)
-one_of_grammar src toks (syn.NoReading a) (syn.NoReading b) t u r s = inr (record { place_x = a; place_y = b; is_x = refl; is_y = refl })
-one_of_grammar src toks syn.NoMemory g t u r s = absurd t
-one_of_grammar src toks (syn.TooDeep a) syn.NoMemory t u r s = absurd u
-one_of_grammar src toks (syn.NoReading a) syn.NoMemory t u r s = absurd u
+    → grammar.Refuses src toks f → grammar.Refuses src toks g → grammar.StandsIn src toks f → grammar.StandsIn src toks g → grammar_fault f ≡ grammar_fault g
+one_of_grammar src toks (syn.TooDeep a) (syn.TooDeep b) t u r s p q = ap (λ (n : ℕ). Refused kind.TooDeep n) (one_deep toks a b r s)
+one_of_grammar src toks (syn.TooDeep a) (syn.NoReading b) t u r s p q = absurd (not_deep toks a s.0 r)
+one_of_grammar src toks (syn.NoReading a) (syn.TooDeep b) t u r s p q = absurd (not_deep toks b r.0 s)
+one_of_grammar src toks (syn.NoReading a) (syn.NoReading b) t u r s p q = ap (λ (n : ℕ). Refused kind.NoReading n) (one_place src toks a b p q)
+one_of_grammar src toks syn.NoMemory g t u r s p q = absurd t
+one_of_grammar src toks (syn.TooDeep a) syn.NoMemory t u r s p q = absurd u
+one_of_grammar src toks (syn.NoReading a) syn.NoMemory t u r s p q = absurd u
 
-one_without_tree : (src : List ℕ) (x y : ScriptFault) → IsTold x → IsTold y → NoTree src x → NoTree src y → Same x y
+one_without_tree : (src : List ℕ) (x y : ScriptFault) → IsTold x → IsTold y → NoTree src x → NoTree src y → x ≡ y
 one_without_tree src _ _ t u (in_tokens f r) (in_tokens g s) =
-    inl (ap (λ (z : TokFault). token_fault z) (one_fault src f g (first_of_tokens src f t r) (first_of_tokens src g u s)))
+    ap (λ (z : TokFault). token_fault z) (one_fault src f g (first_of_tokens src f t r) (first_of_tokens src g u s))
 one_without_tree src _ _ t u (in_tokens f r) (in_grammar toks g spells s at_) = absurd (no_list src toks f spells (first_of_tokens src f t r))
 one_without_tree src _ _ t u (in_grammar toks g spells s at_) (in_tokens f r) = absurd (no_list src toks f spells (first_of_tokens src f u r))
 one_without_tree src _ _ t u (in_grammar toks f spells r at_) (in_grammar others g spelled s to_) =
-    one_of_grammar src toks f g t u r (subst (λ (l : List Token). grammar.Refuses src l g) (one_list src others toks spelled spells) s)
+    let one = one_list src others toks spelled spells in
+    one_of_grammar src toks f g t u r (subst (λ (l : List Token). grammar.Refuses src l g) one s) at_ (subst (λ (l : List Token). grammar.StandsIn src l g) one to_)
 
 -- a script that has a tree is not refused by its tokens or the grammar
 read_by_grammar : (src : List ℕ) (toks : List Token) (tree : Tree) (f : SynFault) → IsTold (grammar_fault f) → NowhereDeep toks → Reads src toks tree → grammar.Refuses src toks f → ⊥
@@ -175,7 +167,7 @@ from_some other (Some a) = a
 one_first : {A : Type 0} (a b : A) (x : Option A) → x ≡ Some a → x ≡ Some b → a ≡ b
 one_first a b x e f = ap (from_some a) (sym e ∙ f)
 
-one_refusal : (src : List ℕ) (x y : ScriptFault) → IsTold x → IsTold y → Refuses src x → Refuses src y → Same x y
+one_refusal : (src : List ℕ) (x y : ScriptFault) → IsTold x → IsTold y → Refuses src x → Refuses src y → x ≡ y
 one_refusal src _ _ t u (without_tree x r) (without_tree y s) = one_without_tree src x y t u r s
 one_refusal src _ _ t u (without_tree x r) (in_names tree g is s) = absurd (has_tree src tree x t is r)
 one_refusal src _ _ t u (without_tree x r) (in_checks tree g is named s) = absurd (has_tree src tree x t is r)
@@ -183,8 +175,8 @@ one_refusal src _ _ t u (in_names tree f is r) (without_tree y s) = absurd (has_
 one_refusal src _ _ t u (in_checks tree f is named r) (without_tree y s) = absurd (has_tree src tree y u is s)
 one_refusal src _ _ t u (in_names tree f is r) (in_names other g it s) =
     let moved = one_tree_of src other tree it is in
-    inl (ap (λ (z : NameFault). name_fault z)
-    (one_first f g _ (first_of_names tree f t r) (subst (λ (w : Tree). names.first (names.faults w) ≡ Some g) moved (first_of_names other g u s))))
+    ap (λ (z : NameFault). name_fault z)
+    (one_first f g _ (first_of_names tree f t r) (subst (λ (w : Tree). names.first (names.faults w) ≡ Some g) moved (first_of_names other g u s)))
 one_refusal src _ _ t u (in_names tree f is r) (in_checks other g it named s) =
     let moved = one_tree_of src other tree it is in
     absurd (faultless_names _ f (subst (λ (w : Tree). names.faults w ≡ []) moved named) (first_of_names tree f t r))
@@ -193,8 +185,8 @@ one_refusal src _ _ t u (in_checks other g it named s) (in_names tree f is r) =
     absurd (faultless_names _ f (subst (λ (w : Tree). names.faults w ≡ []) moved named) (first_of_names tree f u r))
 one_refusal src _ _ t u (in_checks tree f is named r) (in_checks other g it faultless s) =
     let moved = one_tree_of src other tree it is in
-    inl (ap (λ (z : CheckFault). check_fault z)
-    (one_first f g _ (first_of_checks tree f t r) (subst (λ (w : Tree). checks.first (checks.faults (resolved w)) ≡ Some g) moved (first_of_checks other g u s))))
+    ap (λ (z : CheckFault). check_fault z)
+    (one_first f g _ (first_of_checks tree f t r) (subst (λ (w : Tree). checks.first (checks.faults (resolved w)) ≡ Some g) moved (first_of_checks other g u s)))
 
 -- a script that has a program is not refused
 not_refused : (src : List ℕ) (program : Program) (x : ScriptFault) → IsTold x → Means src program → Refuses src x → ⊥
@@ -209,16 +201,11 @@ one_program src a b m n = m.stands_for ∙ ap (λ (t : Tree). program_of (resolv
 
 -- ---- one outcome
 
-same_message : (name src : List ℕ) (x y : ScriptFault) → Same x y → SameMessage (message_of name src x) (message_of name src y)
-same_message name src x y (inl e) = inl (ap (message_of name src) e)
-same_message name src x y (inr b) =
-    inr (record { name = name; source = src; place_a = b.place_x; place_b = b.place_y; is_a = ap (message_of name src) b.is_x; is_b = ap (message_of name src) b.is_y })
-
 -- what one script means, and why it is refused, exclude one another, and each is one
 record Decides {A : Type 0} (means : List ℕ → A → Type 0) (refuses : List ℕ → ScriptFault → Type 0) : Type 0 where
   one : (src : List ℕ) (a b : A) → means src a → means src b → a ≡ b
   never : (src : List ℕ) (a : A) (x : ScriptFault) → IsTold x → means src a → refuses src x → ⊥
-  alike : (src : List ℕ) (x y : ScriptFault) → IsTold x → IsTold y → refuses src x → refuses src y → Same x y
+  alike : (src : List ℕ) (x y : ScriptFault) → IsTold x → IsTold y → refuses src x → refuses src y → x ≡ y
 
 -- the bytes of a script that was loaded twice
 abbrev bytes_of : Result (List ℕ) Refusal → List ℕ
@@ -259,8 +246,7 @@ module _ {A : Type 0} (means : List ℕ → A → Type 0) (refuses : List ℕ �
       rw (x, y) (record {
         status = refl;
         out = refl;
-        err = subst (λ (m : List ℕ). SameMessage (script_message name src k at_) m) from_
-            (same_message name src (Refused k at_) (Refused l at'_) (decides.alike src (Refused k at_) (Refused l at'_) tt tt n moved));
+        err = ap (message_of name src) (decides.alike src (Refused k at_) (Refused l at'_) tt tt n moved) ∙ from_;
         saved = refl;
       })
   found_agree _ _ o p (refused_at src k at_ e n) (stands_for to_ a f m) x y =

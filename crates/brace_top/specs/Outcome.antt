@@ -28,7 +28,6 @@ use Rattle.brace_top.specs.Commands.{Command, RunCommand, TrialCommand, BalanceC
 use Rattle.brace_top.specs.declared.script_fault.ScriptFault.{ScriptFault}
 use Rattle.brace_top.specs.declared.script_fault.ScriptFault.TheVariants as fault
 use Rattle.brace_top.specs.declared.script_fault.ScriptKind.{ScriptKind}
-use Rattle.brace_top.specs.declared.script_fault.ScriptKind.TheVariants.{NoReading}
 use Rattle.brace_top.specs.Messages.{named_message, placed_message, record_message, line_message, point_message, row_message, script_word, usage_message, fault_message, stats_message}
 use Rattle.brace_top.specs.Places.{line_number, column_number}
 use Rattle.brace_top.specs.PlanText.{plan_text}
@@ -391,19 +390,6 @@ CommandOutcome files (Some (Auditing audit)) o =
 -- an outcome of words over the files that a shelf holds
 abbrev pub HasOutcome : List (List ℕ) → Files → Outcome → Type 0
 HasOutcome words files o = CommandOutcome files (command_of words) o
-
--- both messages say NoReading of one script, each at some place
-pub record AreNoReadings (a b : List ℕ) : Type 0 where
-  pub name : List ℕ
-  pub source : List ℕ
-  pub place_a : ℕ
-  pub place_b : ℕ
-  pub is_a : a ≡ script_message name source NoReading place_a
-  pub is_b : b ≡ script_message name source NoReading place_b
-
--- the messages are the same, apart from the place of NoReading
-abbrev pub SameMessage : List ℕ → List ℕ → Type 0
-SameMessage a b = (a ≡ b) ⊎ AreNoReadings a b
 
 -- a command reads the file of this name where every file before it is accepted: its script, then
 -- the file with which a run begins, or the agent file, and its cut plan, or the published file

@@ -13,13 +13,13 @@ ghost use Rattle.brace_save.specs.Lines.{IsText};
 ghost use Rattle.brace_crew.specs.Shows.{checkpoint_file};
 ghost use Rattle.brace_top.specs.Commands.{Format, Run, RunCommand};
 ghost use Rattle.brace_top.specs.Messages.{fault_message};
-ghost use Rattle.brace_top.specs.Outcome.{Outcome, CommandOutcome, HasOutcome, SameMessage, end_status};
+ghost use Rattle.brace_top.specs.Outcome.{Outcome, CommandOutcome, HasOutcome, end_status};
 ghost use Rattle.brace_top.specs.Restarts.{from_tick, told_world, GoesOn};
 ghost use Rattle.brace_top.specs.Limits.{script_limit};
 ghost use Rattle.brace_top.specs.declared.status.Status.TheVariants.{Done};
 
-/// A command over files has at most one status, one text and one list of saved files, and one
-/// message apart from the place of NoReading.
+/// A command over files has at most one outcome: one status, one text, one message and one list of
+/// saved files.
 pub fn outcomes_agree()
     ensures status { (words : List (List ℕ)) (files : Files) (o p : Outcome)
         → HasOutcome words files o → HasOutcome words files p → o.status ≡ p.status }
@@ -28,7 +28,7 @@ pub fn outcomes_agree()
     ensures saved { (words : List (List ℕ)) (files : Files) (o p : Outcome)
         → HasOutcome words files o → HasOutcome words files p → o.saved ≡ p.saved }
     ensures err { (words : List (List ℕ)) (files : Files) (o p : Outcome)
-        → HasOutcome words files o → HasOutcome words files p → SameMessage o.err p.err }
+        → HasOutcome words files o → HasOutcome words files p → o.err ≡ p.err }
 {}
 
 /// `fmt` of what `fmt` wrote, within the limit of scripts, writes the same: the first outcome is an
