@@ -3,12 +3,15 @@ use Rattle.std.proofs.Common.{◌≡◌, ◌∙◌, refl, sym, ap, ap₂, subst,
 use Rattle.std.specs.Prelude.{not}
 use Rattle.std.specs.Ordering.{int_eq}
 use Rattle.std.specs.List.{All}
+use Rattle.std.specs.List.Sorted.{IsPermutation}
 use Rattle.std.proofs.lemmas.List.Elements.{All-nil, All-cons, All-head, All-tail}
+use Rattle.brace_model.specs.declared.fault.Fault.{Fault}
 use Rattle.brace_model.specs.declared.program.Ty.{Ty}
 use Rattle.brace_model.specs.declared.program.Ty.TheVariants as ty
 use Rattle.brace_model.specs.declared.program.Value.{Value}
 use Rattle.brace_model.specs.declared.program.Value.TheVariants.{Flag}
 use Rattle.brace_model.specs.declared.program.Who.{Who}
+use Rattle.brace_model.specs.declared.world.Agent.{Agent}
 use Rattle.brace_model.specs.Value.{Scope, Worth, agent_of, typed}
 use Rattle.brace_model.specs.Query.{Deed, Saying, deed_of, silent, bound, closed, chosen, iterated, inside, saying}
 use Rattle.brace_code.specs.declared.code.Code.{Code}
@@ -21,12 +24,14 @@ use Rattle.brace_plan.proofs.Steps.{act-Const, act-If, act-Foreach, act-Assign}
 use Rattle.brace_eval.specs.declared.heard.Heard.{Heard}
 use Rattle.brace_fold.specs.declared.scene.Scene.{Scene}
 use Rattle.brace_fold.specs.inner.Crowds as crowds
-use Rattle.brace_fold.specs.inner.Crowds.{bound_to}
+use Rattle.brace_fold.specs.inner.Crowds.{bound_to, rows}
 use Rattle.brace_fold.specs.inner.Deeds.{IsQuiet, Does, Worths, done_by, into}
 use Rattle.brace_fold.specs.inner.Ears.{told_by}
 use Rattle.brace_fold.specs.inner.Hears.{Alike, Hears}
 use Rattle.brace_fold.proofs.Alikes.{alike-refl, alike-trans, alike-append, alike-turned, hears-none, hears-more, hears-alike}
-use Rattle.brace_fold.proofs.Doings.{does-alike, does-loop}
+use Rattle.brace_fold.proofs.Doings.{does-loop, mapped-said}
+use Rattle.brace_fold.proofs.Drawings.{mapped}
+use Rattle.brace_fold.proofs.Movings.{alike-each, near-alike, near-none}
 
 worth-first : (code : Code) (s : Scope) (scopes : List Scope) (w : ℤ) (words : List ℤ) → Worths code (s ∷ scopes) (w ∷ words) → gives code s ≡ Ok (typed (type_given code) w)
 worth-first code s scopes w words h = h.each 0 s (omega arith)
@@ -227,21 +232,58 @@ module _ (scene : Scene) where
     abbrev enters : Scope → List Scope
     enters = into scene class bounds
 
-    loop-is : (s : Scope) → iterated s (map (done_by scene body) (enters s)) ≡ in_scene (Foreach class bounds body offset) s
-    loop-is s =
-        ap (iterated s) (map-map (inside s) (done_by scene body) (near_by scene.program.now scene.agents.now s class bounds))
-        ∙ sym (act-Foreach scene.program.now scene.agents.now class bounds body offset s)
-      where
-        map-map : {A B C : Type 0} (f : A → B) (g : B → C) (xs : List A) → map g (map f xs) ≡ map (λ z. g (f z)) xs
-        map-map f g [] = refl
-        map-map f g (z ∷ xs) = ap (λ l. g (f z) ∷ l) (map-map f g xs)
+    -- what the loop does at an agent
+    abbrev at_agent : Scope → Agent → Deed
+    at_agent s b = done_by scene body (inside s b)
 
-    pub loop-does : (scopes : List Scope) (a b : Heard) → Does scene (done_by scene body) (flat_map enters scopes) a b
-        → Does scene (in_scene (Foreach class bounds body offset)) scopes a b
-    loop-does scopes a b h =
-        does-alike scene (λ s. iterated s (map (done_by scene body) (enters s))) (in_scene (Foreach class bounds body offset)) scopes a b
-        (λ k d low. loop-is (get_or scopes k d)) (does-loop scene (done_by scene body) enters scopes a b h)
+    -- what the loop does in the order of the rows
+    abbrev looped : Scope → Deed
+    looped s = iterated s (map (done_by scene body) (enters s))
+
+    loop-is : (s : Scope) → in_scene (Foreach class bounds body offset) s
+        ≡ iterated s (map (at_agent s) (near_by scene.program.now scene.agents.now s class bounds))
+    loop-is s = act-Foreach scene.program.now scene.agents.now class bounds body offset s
+
+    looped-is : (s : Scope) → looped s ≡ iterated s (map (at_agent s) (near_by scene.program.now (rows scene) s class bounds))
+    looped-is s = ap (iterated s) (mapped (inside s) (done_by scene body) (near_by scene.program.now (rows scene) s class bounds))
+
+    module _ (moved : IsPermutation (rows scene) scene.agents.now) where
+      loop-quiet : (s : Scope) → IsQuiet (looped s) → IsQuiet (in_scene (Foreach class bounds body offset) s)
+      loop-quiet s h =
+          let near = near_by scene.program.now (rows scene) s class bounds in
+          let all = near_by scene.program.now scene.agents.now s class bounds in
+          let faults : Deed → List Fault = λ d. d.faults in
+          let none : flat_map (λ b. (at_agent s b).faults) near ≡ [] =
+          sym (mapped-said (at_agent s) faults near) ∙ ap faults (sym (looped-is s)) ∙ h.faults in
+          subst IsQuiet (sym (loop-is s)) (record {
+            faults = mapped-said (at_agent s) faults all
+                ∙ near-none scene.program.now (rows scene) scene.agents.now moved s class bounds (λ b. (at_agent s b).faults) none;
+            goes_on = refl;
+          })
+
+      loop-alike : (s : Scope) → Alike (looped s).said (in_scene (Foreach class bounds body offset) s).said
+      loop-alike s =
+          let near = near_by scene.program.now (rows scene) s class bounds in
+          let all = near_by scene.program.now scene.agents.now s class bounds in
+          let said : Deed → List Saying = λ d. d.said in
+          let first : flat_map (λ b. (at_agent s b).said) near ≡ (looped s).said =
+          sym (mapped-said (at_agent s) said near) ∙ ap said (sym (looped-is s)) in
+          let second : flat_map (λ b. (at_agent s b).said) all ≡ (in_scene (Foreach class bounds body offset) s).said =
+          sym (mapped-said (at_agent s) said all) ∙ ap said (sym (loop-is s)) in
+          subst (λ l. Alike l (in_scene (Foreach class bounds body offset) s).said) first
+          (subst (Alike (flat_map (λ b. (at_agent s b).said) near)) second
+          (near-alike scene.program.now (rows scene) scene.agents.now moved s class bounds (λ b. (at_agent s b).said)))
+
+      pub loop-does : (scopes : List Scope) (a b : Heard) → Does scene (done_by scene body) (flat_map enters scopes) a b
+          → Does scene (in_scene (Foreach class bounds body offset)) scopes a b
+      loop-does scopes a b h =
+          let each = does-loop scene (done_by scene body) enters scopes a b h in
+          record {
+            quiet = λ k d low. loop-quiet (get_or scopes k d) (each.quiet k d low);
+            hears = hears-alike scene.program.now scene.agents.now _ _ a b
+                (alike-each (λ s. (looped s).said) (λ s. (in_scene (Foreach class bounds body offset) s).said) loop-alike scopes) each.hears;
+          }
 
     pub loop-scopes : (scopes : List Scope) → map (λ s. (in_scene (Foreach class bounds body offset) s).scope) scopes ≡ scopes
     loop-scopes [] = refl
-    loop-scopes (s ∷ scopes) = ap₂ (λ t l. t ∷ l) (ap (λ (d : Deed). d.scope) (sym (loop-is s))) (loop-scopes scopes)
+    loop-scopes (s ∷ scopes) = ap₂ (λ t l. t ∷ l) (ap (λ (d : Deed). d.scope) (loop-is s)) (loop-scopes scopes)

@@ -1,9 +1,10 @@
 -- Columns, one for each state, and columns of draws.
-use Rattle.std.proofs.Common.{◌≡◌, ◌∙◌, refl, sym, subst, ℕ, zero, suc, ℤ, List, [], ◌∷◌, ◌++◌, map, length, Some, slice_get}
+use Rattle.std.proofs.Common.{◌≡◌, ◌∙◌, refl, sym, ap, subst, ℕ, zero, suc, ℤ, List, [], ◌∷◌, ◌++◌, map, length, Some, slice_get}
 use Rattle.std.specs.Prelude.{option_copied}
 use Rattle.std.proofs.lemmas.Option.{none-some, same_Some, slice_get-map}
 use Rattle.brace_model.specs.declared.world.Agent.{Agent}
 use Rattle.brace_fold.specs.inner.Crowds.{IsOfClass}
+use Rattle.brace_fold.proofs.Drawings.{mapped}
 use denote.Ref.{Bor}
 
 -- each of some columns is the one of its place, also with one more behind
@@ -28,3 +29,8 @@ pub class-of : (agents : List Agent) (place class number : ℕ) → slice_get (m
 class-of [] place class number e same = absurd (none-some number e)
 class-of (a ∷ agents) zero class number e same = (a, refl, same_Some a.class number e ∙ same)
 class-of (a ∷ agents) (suc place) class number e same = class-of agents place class number e same
+
+-- what the agents behind references have
+pub by-rows : {B : Type 0} (f : Agent → B) (refs : List (Bor Agent)) (agents : List Agent) → map (λ r. r.now) refs ≡ agents
+    → map (λ r. f r.now) refs ≡ map f agents
+by-rows f refs agents are = sym (mapped (λ (r : Bor Agent). r.now) f refs) ∙ ap (map f) are

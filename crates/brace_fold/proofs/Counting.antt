@@ -84,11 +84,11 @@ module _ (program : Program) (agents : List Agent) (cells : Cells)
     (are : AreCells program agents cells) where
   module _ (eye : Eye) (cuts : List Cut) (wide : pos eye.range ≤ℤ are.side) where
     -- what is found is in one run around the eye's cell
-    found_once : (k : ℕ) (d : Spot) → k < length are.spots
-        → is_found eye cuts (get_or are.spots k d) ≡ true
-        → runs_of (cell_number are.side eye.x eye.y) (get_or are.spots k d).cell ≡ 1
+    found_once : (k : ℕ) (d : Spot) → k < length cells.spots.items
+        → is_found eye cuts (get_or cells.spots.items k d) ≡ true
+        → runs_of (cell_number are.side eye.x eye.y) (get_or cells.spots.items k d).cell ≡ 1
     found_once k d low found =
-        let s = get_or are.spots k d in
+        let s = get_or cells.spots.items k d in
         let seen = and_parts (is_seen eye s) _ found in
         let along = and_parts _ (is_within (pos eye.range) eye.y s.y) seen.0 in
         let across = and_parts _ (is_within (pos eye.range) eye.x s.x) along.0 in
@@ -105,13 +105,11 @@ module _ (program : Program) (agents : List Agent) (cells : Cells)
 
     module _ (runs : Runs) (around : IsAround cells (cell_number are.side eye.x eye.y) runs) where
       count_around : (q : ℕ → Bool) → count_by q (found_around eye cuts cells.spots.items runs)
-          ≡ count_by q (found_in eye cuts are.spots)
+          ≡ count_by q (found_in eye cuts cells.spots.items)
       count_around q =
           let cell = cell_number are.side eye.x eye.y in
           let spots = cells.spots.items in
           let t : Spot → Bool = λ s. is_found eye cuts s && q s.place in
-          let same : (u : Spot → Bool) → count_by u spots ≡ count_by u are.spots =
-          λ u. sum_by-IsPermutation (λ s. cond (u s) 1 0) are.spots spots are.moved in
           omega (
             arith,
             sum_by-append (λ n. cond (q n) 1 0) (found_in eye cuts (spots_along runs.west spots))
@@ -122,17 +120,14 @@ module _ (program : Program) (agents : List Agent) (cells : Cells)
             count_along eye cuts spots (cell -ℤ height) runs.west around.west q,
             count_along eye cuts spots cell runs.middle around.middle q,
             count_along eye cuts spots (cell +ℤ height) runs.east around.east q,
-            same (λ s. t s && is_along (cell -ℤ height) s.cell),
-            same (λ s. t s && is_along cell s.cell),
-            same (λ s. t s && is_along (cell +ℤ height) s.cell),
             count_three t (λ s. is_along (cell -ℤ height) s.cell) (λ s. is_along cell s.cell)
-                (λ s. is_along (cell +ℤ height) s.cell) are.spots
+                (λ s. is_along (cell +ℤ height) s.cell) spots
                 (λ k d low passes. found_once k d low
-                (and_parts (is_found eye cuts (get_or are.spots k d)) _ passes).0),
-            count_found eye cuts q are.spots,
+                (and_parts (is_found eye cuts (get_or spots k d)) _ passes).0),
+            count_found eye cuts q spots,
           )
 
-      places_rise : IsNonDecreasingBy (λ (s : Spot). s.place) are.spots
+      places_rise : IsNonDecreasingBy (λ (s : Spot). s.place) cells.spots.items
       places_rise i j d le low =
           let a = some_item agents j (omega (arith, low, are.theirs.long)) in
           let first = ap (λ (s : Spot). s.place)
@@ -157,11 +152,11 @@ module _ (program : Program) (agents : List Agent) (cells : Cells)
       -- places in order that are those found in the runs are all that are found
       pub all_found : (near : List ℕ)
           → IsPermutation (found_around eye cuts cells.spots.items runs) near → IsNonDecreasing near
-          → near ≡ found_in eye cuts are.spots
+          → near ≡ found_in eye cuts cells.spots.items
       all_found near moved up =
-          same_sorted near (found_in eye cuts are.spots) up
-          (mapped_rise (filter (is_found eye cuts) are.spots)
-          (IsNonDecreasingBy-filter (λ (s : Spot). s.place) (is_found eye cuts) are.spots
+          same_sorted near (found_in eye cuts cells.spots.items) up
+          (mapped_rise (filter (is_found eye cuts) cells.spots.items)
+          (IsNonDecreasingBy-filter (λ (s : Spot). s.place) (is_found eye cuts) cells.spots.items
           places_rise))
           (λ q. sum_by-IsPermutation (λ n. cond (q n) 1 0)
           (found_around eye cuts cells.spots.items runs) near moved

@@ -21,8 +21,8 @@ use Rattle.brace_fold.specs.declared.crowd.Crowd.{Crowd}
 use Rattle.brace_fold.specs.declared.crowd.Depth.{Depth}
 use Rattle.brace_fold.specs.declared.crowd.Depth.TheVariants.{Outside}
 use Rattle.brace_fold.specs.declared.scene.Scene.{Scene}
-use Rattle.brace_fold.specs.inner.Asks.{openings, places_of}
-use Rattle.brace_fold.specs.inner.Crowds.{Stands, IsLane, IsLocal, IsOf, AreOf, IsGathered, AreGathered, AreNumbered, IsOfClass, asking_at, placed_at, bound_to, chosen}
+use Rattle.brace_fold.specs.inner.Asks.{openings, rows_of}
+use Rattle.brace_fold.specs.inner.Crowds.{Stands, IsLane, IsLocal, IsOf, AreOf, IsGathered, AreGathered, AreNumbered, IsOfClass, asking_at, placed_at, bound_to, chosen, rows}
 use Rattle.brace_fold.proofs.Evals.{at-mapped}
 
 module _ (scene : Scene) (depth : Depth) (scopes : List Scope) where
@@ -294,33 +294,33 @@ got-mapped f [] p d e low = absurd (omega (arith, low))
 got-mapped f (x ∷ xs) zero d e low = refl
 got-mapped f (x ∷ xs) (suc p) d e low = got-mapped f xs p d e (omega (arith, low))
 
-places-more : (asking : List Asker) (i : ℕ) (d : Asker) → i < length asking
-    → places_of (take i asking) ++ (get_or asking i d).place ∷ [] ≡ places_of (take (i + 1) asking)
-places-more asking i d low =
-    sym (map-append (λ (one : Asker). one.place) (take i asking) (get_or asking i d ∷ [])) ∙ ap places_of (sym (take_more asking i d low))
+rows-more : (asking : List Asker) (i : ℕ) (d : Asker) → i < length asking
+    → rows_of (take i asking) ++ (get_or asking i d).row ∷ [] ≡ rows_of (take (i + 1) asking)
+rows-more asking i d low =
+    sym (map-append (λ (one : Asker). one.row) (take i asking) (get_or asking i d ∷ [])) ∙ ap rows_of (sym (take_more asking i d low))
 
 -- one more who asks
-pub asking-more : (asking : List Asker) (i : ℕ) (d : Asker) (lanes : List Lane) → i < length asking → lanes ≡ map asking_at (places_of (take i asking))
-    → lanes ++ asking_at (get_or asking i d).place ∷ [] ≡ map asking_at (places_of (take (i + 1) asking))
+pub asking-more : (asking : List Asker) (i : ℕ) (d : Asker) (lanes : List Lane) → i < length asking → lanes ≡ map asking_at (rows_of (take i asking))
+    → lanes ++ asking_at (get_or asking i d).row ∷ [] ≡ map asking_at (rows_of (take (i + 1) asking))
 asking-more asking i d lanes low before =
     let x = get_or asking i d in
-    ap (λ l. l ++ asking_at x.place ∷ []) before
-    ∙ sym (map-append asking_at (places_of (take i asking)) (x.place ∷ []))
-    ∙ ap (map asking_at) (places-more asking i d low)
+    ap (λ l. l ++ asking_at x.row ∷ []) before
+    ∙ sym (map-append asking_at (rows_of (take i asking)) (x.row ∷ []))
+    ∙ ap (map asking_at) (rows-more asking i d low)
 
 pub of-class-more : (agents : List Agent) (class : ℕ) (asking : List Asker) (i : ℕ) (d : Asker) → i < length asking
-    → IsOfClass agents class (get_or asking i d).place → All (IsOfClass agents class) (places_of (take i asking))
-    → All (IsOfClass agents class) (places_of (take (i + 1) asking))
+    → IsOfClass agents class (get_or asking i d).row → All (IsOfClass agents class) (rows_of (take i asking))
+    → All (IsOfClass agents class) (rows_of (take (i + 1) asking))
 of-class-more agents class asking i d low here before =
     let P : ℕ → Type 0 = IsOfClass agents class in
-    subst (All P) (places-more asking i d low)
-    (All-append P (places_of (take i asking)) ((get_or asking i d).place ∷ []) before (All-cons P (get_or asking i d).place [] here (All-nil P)))
+    subst (All P) (rows-more asking i d low)
+    (All-append P (rows_of (take i asking)) ((get_or asking i d).row ∷ []) before (All-cons P (get_or asking i d).row [] here (All-nil P)))
 
 pub opening-stands : (scene : Scene) (crowd : Crowd) (class constants : ℕ) (places : List ℕ) (lanes : List Lane) (d : Agent)
     → crowd.depth ≡ Outside → AreNumbered lanes crowd.lanes → lanes ≡ map asking_at places → crowd.locals.items ≡ replicate constants []
-    → All (IsOfClass scene.agents.now class) places → Stands scene crowd (openings scene constants d places)
+    → All (IsOfClass (rows scene) class) places → Stands scene crowd (openings scene constants d places)
 opening-stands scene crowd class constants places lanes d depth numbered is locals all =
-    let opens : ℕ → Scope = λ place. opening_of constants scene.seed scene.tick (get_or scene.agents.now place d) in
+    let opens : ℕ → Scope = λ place. opening_of constants scene.seed scene.tick (get_or (rows scene) place d) in
     let many : length lanes ≡ length places = ap length is ∙ length-map places asking_at in
     let scopes_many : length (map opens places) ≡ length places = length-map places opens in
     record {
@@ -333,7 +333,7 @@ opening-stands scene crowd class constants places lanes d depth numbered is loca
           let here : IsLane scene Outside (placed_at k (asking_at place)) (opens place) = record {
             tick = refl;
             seed = refl;
-            this = got ∙ ap (λ (x : Agent). Some x) (sym (get_or_from_slice_get scene.agents.now place a d got));
+            this = got ∙ ap (λ (x : Agent). Some x) (sym (get_or_from_slice_get (rows scene) place a d got));
             outer = refl;
             inner = refl;
             totals = refl;

@@ -79,14 +79,6 @@ module _ (scene : Scene) where
         (hears-more scene.program.now scene.agents.now (flat_map (λ s. (f s).said) xs) (flat_map (λ s. (f s).said) ys) a b c h.hears k.hears);
   }
 
-  -- a deed that is the same in each scope
-  pub does-alike : (f g : Scope → Deed) (xs : List Scope) (a b : Heard) → All (λ s. f s ≡ g s) xs → Does scene f xs a b → Does scene g xs a b
-  does-alike f g xs a b same h = record {
-    quiet = All-both (λ s. f s ≡ g s) (λ s. IsQuiet (f s)) (λ s. IsQuiet (g s)) (λ s e q. subst IsQuiet e q) xs same h.quiet;
-    hears = subst (λ l. Hears scene.program.now scene.agents.now l a b)
-        (same-said (λ s. (f s).said) (λ s. (g s).said) xs (λ k d low. ap (λ (x : Deed). x.said) (same k d low))) h.hears;
-  }
-
   -- one deed, and then another in the scopes that it leaves
   pub does-then : (f g : Scope → Deed) (xs : List Scope) (a b c : Heard) → Does scene f xs a b → Does scene g (map (λ s. (f s).scope) xs) b c
       → Does scene (λ s. followed_by (f s) g) xs a c

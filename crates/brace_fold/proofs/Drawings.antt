@@ -13,7 +13,7 @@ use Rattle.brace_code.specs.Lanes.{draws_at}
 use Rattle.brace_fold.specs.declared.drawn.Drawn.{Drawn}
 use Rattle.brace_fold.specs.inner.Asks.{AreDrawn, lent, made}
 
-mapped : {A B C : Type 0} (f : A → B) (g : B → C) (xs : List A) → map g (map f xs) ≡ map (λ x. g (f x)) xs
+pub mapped : {A B C : Type 0} (f : A → B) (g : B → C) (xs : List A) → map g (map f xs) ≡ map (λ x. g (f x)) xs
 mapped f g [] = refl
 mapped f g (x ∷ xs) = ap (λ l. g (f x) ∷ l) (mapped f g xs)
 

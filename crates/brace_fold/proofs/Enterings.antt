@@ -14,7 +14,7 @@ use Rattle.brace_fold.specs.declared.crowd.Crowd.{Crowd}
 use Rattle.brace_fold.specs.declared.crowd.Depth.{Depth}
 use Rattle.brace_fold.specs.declared.crowd.Depth.TheVariants.{Outside, Once, Twice}
 use Rattle.brace_fold.specs.declared.scene.Scene.{Scene}
-use Rattle.brace_fold.specs.inner.Crowds.{AreOf, IsIn, IsLane, IsOf, Stands, deeper, entered}
+use Rattle.brace_fold.specs.inner.Crowds.{AreOf, IsIn, IsLane, IsOf, Stands, deeper, entered, rows}
 use Rattle.brace_fold.specs.inner.Deeds.{between, into}
 use Rattle.brace_fold.proofs.Crowdings.{of-append}
 use Rattle.brace_fold.proofs.Sayings.{nowhere}
@@ -33,7 +33,7 @@ stands-in scene crowd scopes k lane s stands low is =
 
 -- a lane inside a loop stands for a scope inside it
 entered-lane : (scene : Scene) (depth : Depth) (lane : Lane) (place : ℕ) (s : Scope) (b : Agent) → IsLane scene depth lane s
-    → slice_get scene.agents.now place ≡ Some b → IsLane scene (deeper depth) (entered depth lane place) (inside s b)
+    → slice_get (rows scene) place ≡ Some b → IsLane scene (deeper depth) (entered depth lane place) (inside s b)
 entered-lane scene Outside lane place s b h got =
     let empty : s.outer ≡ None = h.outer in
     subst (λ (t : Scope). IsLane scene Once (record lane { outer = place }) t)
@@ -65,7 +65,7 @@ inside-locals s b = either-inside s b (is_none s.outer)
 
 module _ (scene : Scene) (depth : Depth) (scopes : List Scope) (lane : Lane) (k : ℕ) (s : Scope) (h : IsLane scene depth lane (get_or scopes k s))
     (at : lane.place ≡ k) (low : k < length scopes) where
-  entered-of : (place : ℕ) (b : Agent) → slice_get scene.agents.now place ≡ Some b
+  entered-of : (place : ℕ) (b : Agent) → slice_get (rows scene) place ≡ Some b
       → IsOf scene (deeper depth) scopes (entered depth lane place) (inside (get_or scopes k s) b)
   entered-of place b got =
       let here = get_or scopes k s in
@@ -78,15 +78,15 @@ module _ (scene : Scene) (depth : Depth) (scopes : List Scope) (lane : Lane) (k 
             ∙ ap (λ n. (get_or scopes n (inside here b)).locals) (sym there);
       }
 
-  pub entered-all : (near : List ℕ) (found : List Agent) → map (slice_get scene.agents.now) near ≡ map Some found
+  pub entered-all : (near : List ℕ) (found : List Agent) → map (slice_get (rows scene)) near ≡ map Some found
       → AreOf scene (deeper depth) scopes (map (entered depth lane) near) (map (inside (get_or scopes k s)) found)
   entered-all [] [] e = tt
   entered-all [] (b ∷ found) e = absurd (let none : [] ≡ Some b ∷ map Some found = e in cc)
-  entered-all (p ∷ near) [] e = absurd (let none : slice_get scene.agents.now p ∷ map (slice_get scene.agents.now) near ≡ [] = e in cc)
+  entered-all (p ∷ near) [] e = absurd (let none : slice_get (rows scene) p ∷ map (slice_get (rows scene)) near ≡ [] = e in cc)
   entered-all (p ∷ near) (b ∷ found) e =
-      let both : slice_get scene.agents.now p ∷ map (slice_get scene.agents.now) near ≡ Some b ∷ map Some found = e in
-      let here : slice_get scene.agents.now p ≡ Some b = cc in
-      let rest : map (slice_get scene.agents.now) near ≡ map Some found = cc in
+      let both : slice_get (rows scene) p ∷ map (slice_get (rows scene)) near ≡ Some b ∷ map Some found = e in
+      let here : slice_get (rows scene) p ≡ Some b = cc in
+      let rest : map (slice_get (rows scene)) near ≡ map Some found = cc in
       (entered-of p b here, entered-all near found rest)
 
 -- one more of the elements from a place on
@@ -113,7 +113,7 @@ between-none {A = A} from xs = ap (λ n. take n (drop from xs)) (let e : from - 
 pub enters-more : (scene : Scene) (crowd : Crowd) (scopes : List Scope) (class : ℕ) (bounds : List Bound) (from next : ℕ) (all : List Lane) (d : Lane)
     (lanes new : List Lane) (near passed : List ℕ) → Stands scene crowd scopes → from ≤ next → all ≡ crowd.lanes → next < length all
     → ((s : Scope) → IsIn scene crowd (get_or all next d) s
-    → map (slice_get scene.agents.now) near ≡ map Some (near_by scene.program.now scene.agents.now s class bounds))
+    → map (slice_get (rows scene)) near ≡ map Some (near_by scene.program.now (rows scene) s class bounds))
     → passed ≡ near → new ≡ lanes ++ map (entered crowd.depth (get_or all next d)) passed
     → AreOf scene (deeper crowd.depth) scopes lanes (flat_map (into scene class bounds) (between from next scopes))
     → AreOf scene (deeper crowd.depth) scopes new (flat_map (into scene class bounds) (between from (next + 1) scopes))
@@ -128,7 +128,7 @@ enters-more scene crowd scopes class bounds from next all d lanes new near passe
     let at : lane.place ≡ next = ap (λ (l : Lane). l.place) is ∙ stands.numbered next lane within in
     let h : IsLane scene crowd.depth lane s = subst (λ (l : Lane). IsLane scene crowd.depth l s) (sym is) (stands.lanes next lane nowhere within) in
     let found = finds s (stands-in scene crowd scopes next lane nowhere stands within is) in
-    let here = entered-all scene crowd.depth scopes lane next nowhere h at within near (near_by scene.program.now scene.agents.now s class bounds) found in
+    let here = entered-all scene crowd.depth scopes lane next nowhere h at within near (near_by scene.program.now (rows scene) s class bounds) found in
     let kids : flat_map enters (between from (next + 1) scopes) ≡ flat_map enters (between from next scopes) ++ enters s =
     ap (flat_map enters) (between-more from next scopes nowhere le within)
     ∙ flat_map-append enters (between from next scopes) (s ∷ [])

@@ -17,7 +17,7 @@ use Rattle.brace_code.specs.Codes.{gives, type_given}
 use Rattle.brace_code.specs.Lanes.{Gives, column_of, row_of, number_in, draws_at}
 use Rattle.brace_fold.specs.declared.crowd.Crowd.{Crowd}
 use Rattle.brace_fold.specs.declared.scene.Scene.{Scene}
-use Rattle.brace_fold.specs.inner.Crowds.{IsScene, IsLane, IsFound, Stands, has_outer, has_inner}
+use Rattle.brace_fold.specs.inner.Crowds.{IsScene, IsLane, IsFound, Stands, has_outer, has_inner, rows}
 use Rattle.brace_fold.specs.inner.Deeds.{Worths}
 use Rattle.brace_fold.proofs.ColumnLemmas.{copied-view}
 
@@ -43,35 +43,35 @@ same-scope s tick seed this outer inner locals totals a b c d e f g =
 module _ (scene : Scene) (crowd : Crowd) (scopes : List Scope) (is : IsScene scene) (stands : Stands scene crowd scopes) (d : Agent) (s0 : Scope) where
   abbrev found_at : Bool → ℕ → Option Agent
   found_at false p = None
-  found_at true p = Some (get_or scene.agents.now p d)
+  found_at true p = Some (get_or (rows scene) p d)
 
   -- the scope of any lane
   abbrev at : Lane → Scope
   at lane = record {
     tick = scene.tick;
     seed = scene.seed;
-    this = get_or scene.agents.now lane.this d;
+    this = get_or (rows scene) lane.this d;
     outer = found_at (has_outer crowd.depth) lane.outer;
     inner = found_at (has_inner crowd.depth) lane.inner;
     locals = (get_or scopes lane.place s0).locals;
     totals = [];
   }
 
-  found-is : (there : Bool) (place : ℕ) (found : Option Agent) → IsFound there scene.agents.now place found → found_at there place ≡ found
+  found-is : (there : Bool) (place : ℕ) (found : Option Agent) → IsFound there (rows scene) place found → found_at there place ≡ found
   found-is false place found h = sym h
   found-is true place found (b, same, got) =
-      ap (λ (x : Agent). Some x) (get_or_from_slice_get scene.agents.now place b d got) ∙ sym same
+      ap (λ (x : Agent). Some x) (get_or_from_slice_get (rows scene) place b d got) ∙ sym same
 
   at-lane : (k : ℕ) (l : Lane) → k < length scopes → at (get_or crowd.lanes k l) ≡ get_or scopes k s0
   at-lane k l low =
       let lane = get_or crowd.lanes k l in
       let s = get_or scopes k s0 in
       let h : IsLane scene crowd.depth lane s = stands.lanes k l s0 low in
-      let this : get_or scene.agents.now lane.this d ≡ s.this = get_or_from_slice_get scene.agents.now lane.this s.this d h.this in
+      let this : get_or (rows scene) lane.this d ≡ s.this = get_or_from_slice_get (rows scene) lane.this s.this d h.this in
       let outer = found-is (has_outer crowd.depth) lane.outer s.outer h.outer in
       let inner = found-is (has_inner crowd.depth) lane.inner s.inner h.inner in
       let locals : (get_or scopes lane.place s0).locals ≡ s.locals = ap (λ n. (get_or scopes n s0).locals) (stands.numbered k l low) in
-      same-scope s scene.tick scene.seed (get_or scene.agents.now lane.this d) (found_at (has_outer crowd.depth) lane.outer)
+      same-scope s scene.tick scene.seed (get_or (rows scene) lane.this d) (found_at (has_outer crowd.depth) lane.outer)
       (found_at (has_inner crowd.depth) lane.inner) (get_or scopes lane.place s0).locals []
       (sym h.tick) (sym h.seed) this outer inner locals (sym h.totals)
 
@@ -81,11 +81,11 @@ module _ (scene : Scene) (crowd : Crowd) (scopes : List Scope) (is : IsScene sce
       (locals : (n : ℕ) (column : List ℤ) → option_copied (slice_get frame.locals.now n) ≡ Some column → slice_get crowd.locals.items n ≡ Some column)
       (totals : frame.totals.now ≡ []) (draws : frame.draws.now ≡ scene.draws.now) where
     state-there : (i p : ℕ) (column : List ℤ) → option_copied (slice_get scene.states.now i) ≡ Some column → p < length column
-        → get_or column p (pos 0) ≡ number (value_at (get_or scene.agents.now p d).states i)
+        → get_or column p (pos 0) ≡ number (value_at (get_or (rows scene) p d).states i)
     state-there i p column e low =
         let f : Agent → ℤ = λ a. number (value_at a.states i) in
         let so = is.states i column e in
-        ap (λ c. get_or c p (pos 0)) so ∙ at-mapped f scene.agents.now p d (subst (λ c. p < length c) so low)
+        ap (λ c. get_or c p (pos 0)) so ∙ at-mapped f (rows scene) p d (subst (λ c. p < length c) so low)
 
     by-outer : (there : Bool) → frame.outer.now ≡ (if there then scene.states.now else []) → (i p : ℕ) (column : List ℤ) (t : Agent)
         → option_copied (slice_get frame.outer.now i) ≡ Some column → p < length column
@@ -104,16 +104,16 @@ module _ (scene : Scene) (crowd : Crowd) (scopes : List Scope) (is : IsScene sce
     shows-each (Word n) column lane e low = absurd (none-some column e)
     shows-each (Field This i) column lane e low = state-there i lane.this column (ap (λ l. option_copied (slice_get l i)) (sym this) ∙ e) low
     shows-each (Field Outer i) column lane e low =
-        by-outer (has_outer crowd.depth) outer i lane.outer column (get_or scene.agents.now lane.this d) e low
+        by-outer (has_outer crowd.depth) outer i lane.outer column (get_or (rows scene) lane.this d) e low
     shows-each (Field Inner i) column lane e low =
-        by-inner (has_inner crowd.depth) inner i lane.inner column (get_or scene.agents.now lane.this d) e low
+        by-inner (has_inner crowd.depth) inner i lane.inner column (get_or (rows scene) lane.this d) e low
     shows-each (Total effect type site) column lane e low =
         absurd (none-some column (ap (λ l. option_copied (slice_get l effect)) (sym totals) ∙ e))
     shows-each (Local n) column lane e low = (stands.locals n column (locals n column e)).each lane.place s0 low
     shows-each (Rand site) column lane e low =
         let f : Agent → ℤ = λ a. pos (draw_value scene.seed scene.tick a.id site) in
         let so = is.draws site column (ap (λ l. draws_at l site) (sym draws) ∙ e) in
-        ap (λ c. get_or c lane.this (pos 0)) so ∙ at-mapped f scene.agents.now lane.this d (subst (λ c. lane.this < length c) so low)
+        ap (λ c. get_or c lane.this (pos 0)) so ∙ at-mapped f (rows scene) lane.this d (subst (λ c. lane.this < length c) so low)
 
     -- code gives its value in each scope
     gives-here : (code : Code) (words : List ℤ) → Gives code frame crowd.lanes words → (k : ℕ) → k < length scopes

@@ -1,4 +1,5 @@
 pub mod Alikes
+pub mod Movings
 pub mod Doings
 pub mod ColumnLemmas
 pub mod Evals
@@ -9,6 +10,7 @@ pub mod Actions
 pub mod Walks
 pub mod CellNumbers
 pub mod CellOrder
+pub mod Sortings
 pub mod Counting
 pub mod Taking
 pub mod Readings

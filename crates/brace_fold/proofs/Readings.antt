@@ -10,7 +10,7 @@ use Rattle.brace_model.specs.Value.{Scope}
 use Rattle.brace_code.specs.declared.lane.Lane.{Lane}
 use Rattle.brace_fold.specs.declared.crowd.Crowd.{Crowd}
 use Rattle.brace_fold.specs.declared.scene.Scene.{Scene}
-use Rattle.brace_fold.specs.inner.Crowds.{IsIn, IsScene}
+use Rattle.brace_fold.specs.inner.Crowds.{IsIn, IsScene, rows}
 
 -- what follows of a value that there is
 pub if_ok : {T E : Type 0} (r : Result T E) (P Q : T → Type 0) → ((x : T) → P x → Q x) → IfOk r P
@@ -28,18 +28,18 @@ module _ (scene : Scene) (is : IsScene scene) where
   pub state_there : (state : ℕ) (column : List ℤ)
       → option_copied (slice_get scene.states.now state) ≡ Some column → (place : ℕ) (word : ℤ)
       → slice_get column place ≡ Some word → (a : Agent)
-      → slice_get scene.agents.now place ≡ Some a → word ≡ number (value_at a.states state)
+      → slice_get (rows scene) place ≡ Some a → word ≡ number (value_at a.states state)
   state_there state column there place word read a this =
       same_Some _ _ (sym read ∙ ap (λ l. slice_get l place) (is.states state column there)
-      ∙ slice_get-map (λ (b : Agent). number (value_at b.states state)) scene.agents.now place
+      ∙ slice_get-map (λ (b : Agent). number (value_at b.states state)) (rows scene) place
       ∙ ap (option_map (λ (b : Agent). number (value_at b.states state))) this)
 
   -- a number of the classes' column is the class of the agent at the place
   pub class_there : (place n : ℕ) → slice_get scene.classes.now place ≡ Some n → (a : Agent)
-      → slice_get scene.agents.now place ≡ Some a → n ≡ a.class
+      → slice_get (rows scene) place ≡ Some a → n ≡ a.class
   class_there place n read a this =
       same_Some _ _ (sym read ∙ ap (λ l. slice_get l place) is.classes
-      ∙ slice_get-map (λ (b : Agent). b.class) scene.agents.now place
+      ∙ slice_get-map (λ (b : Agent). b.class) (rows scene) place
       ∙ ap (option_map (λ (b : Agent). b.class)) this)
 
 -- a word of a constant's column is the constant in the scope of the lane

@@ -1,125 +1,195 @@
--- What lanes say, joined one by one.
-use Rattle.std.proofs.Common.{◌≡◌, ◌∙◌, refl, sym, ap, ap₂, subst, ℕ, zero, suc, ◌+◌, ◌-◌, ◌^◌, ◌<◌, ◌≤◌, ℤ, pos, ◌+ℤ◌, List, [], ◌∷◌, ◌++◌, length, take, get_or, set, true, false, Some, None, arith, add-one, slice_get, Bool, Option}
-use Rattle.std.specs.Prelude.{min, unwrap_or}
-use Rattle.std.proofs.lemmas.List.{get_or_default, take_all}
-use Rattle.std.proofs.lemmas.Option.{get_or_from_slice_get, same_Some, slice_get_within}
+-- What lanes say, joined run by run of lanes that say to one agent.
+use Rattle.std.proofs.Common.{◌≡◌, ◌∙◌, refl, sym, ap, ap₂, subst, ℕ, suc, ◌+◌, ◌-◌, ◌<◌, ◌≤◌, ℤ, pos, List, [], ◌∷◌, ◌++◌, map, length, take, drop, get_or, true, false, Some, None, arith, slice_get, Bool, Option, ⊎_elim}
+use Rattle.std.specs.Prelude.{min, option_map, unwrap_or}
+use Rattle.std.proofs.lemmas.Bool.{cases_lt}
+use Rattle.std.proofs.lemmas.List.Elements.{All-map}
+use Rattle.std.proofs.lemmas.List.{get_or_default, take_all, length-map, length-take, length-drop, get_or-take, get_or-drop, map-append, take_more}
+use Rattle.std.proofs.lemmas.List.Sums.{fold-append}
+use Rattle.std.proofs.lemmas.Option.{get_or_from_slice_get, same_Some, slice_get-get_or, slice_get-map, slice_get_within}
 use Rattle.brace_model.specs.declared.program.Comb.{Comb}
 use Rattle.brace_model.specs.declared.program.Ty.{Ty}
+use Rattle.brace_model.specs.declared.program.Value.{Value}
 use Rattle.brace_model.specs.declared.program.Who.{Who}
 use Rattle.brace_model.specs.declared.program.Who.TheVariants.{This, Outer, Inner}
+use Rattle.brace_model.specs.declared.fault.Fault.{Fault}
 use Rattle.brace_model.specs.declared.world.Agent.{Agent}
-use Rattle.brace_model.specs.World.{class_of, ids}
+use Rattle.brace_model.specs.World.{class_of}
 use Rattle.brace_model.specs.Value.{Scope, agent_of, typed}
 use Rattle.brace_model.specs.Query.{Saying}
-use Rattle.brace_model.specs.Total.{joined}
+use Rattle.brace_model.specs.Total.{identity, joined, total_of}
 use Rattle.brace_code.specs.declared.lane.Lane.{Lane}
 use Rattle.brace_eval.specs.declared.heard.Heard.{Heard}
-use Rattle.brace_eval.specs.Heard.{effects_in}
-use Rattle.brace_eval.proofs.HeardLemmas.{heard-hit}
+use Rattle.brace_eval.specs.Heard.{AreTold, IsHeard, effects_in}
 use Rattle.brace_fold.specs.declared.crowd.Crowd.{Crowd}
 use Rattle.brace_fold.specs.declared.crowd.Depth.{Depth}
 use Rattle.brace_fold.specs.declared.saying.Ear.{Ear}
 use Rattle.brace_fold.specs.declared.scene.Scene.{Scene}
-use Rattle.brace_fold.specs.inner.Crowds.{IsScene, IsLane, IsFound, IsOfClass, Stands, has_outer, has_inner}
-use Rattle.brace_fold.specs.inner.Ears.{IsEar, place_of, is_there, told, told_by}
+use Rattle.brace_fold.specs.inner.Crowds.{IsLane, IsFound, IsOfClass, IsScene, Stands, has_outer, has_inner, rows}
+use Rattle.brace_fold.specs.inner.Deeds.{between}
+use Rattle.brace_fold.specs.inner.Ears.{IsEar, row_of, is_there, told, told_at, told_by}
 use Rattle.brace_fold.specs.inner.Hears.{Hears}
+use Rattle.brace_fold.specs.inner.Sights.{no_agent}
 use Rattle.brace_fold.proofs.Alikes.{hears-more}
-use Rattle.brace_fold.proofs.Crowdings.{got-mapped}
+use Rattle.brace_fold.proofs.Drawings.{mapped}
+use Rattle.brace_fold.proofs.Walks.{front}
 
--- one word was joined to the total of an effect of the agent at a place
-pub hears-one : (scene : Scene) (ear : Ear) (place at : ℕ) (word : ℤ) (before after : Heard) (a : Agent) → IsScene scene → IsEar scene ear
-    → IsOfClass scene.agents.now ear.class place → slice_get scene.agents.now place ≡ Some a
-    → at ≡ min (get_or before.starts.items place 0 + ear.effect) (2 ^ 64 - 1)
-    → after.totals.items ≡ set before.totals.items at (joined ear.comb (get_or before.totals.items at (pos 0)) (typed ear.ty word))
-    → after.counts.items ≡ set before.counts.items at (get_or before.counts.items at (pos 0) +ℤ pos 1)
-    → after.starts ≡ before.starts → after.least ≡ before.least
-    → Hears scene.program.now scene.agents.now (record { target = a.id; field = ear.effect; value = typed ear.ty word } ∷ []) before after
-hears-one scene ear place at word before after a is hears (b, had, of) found at_is totals counts starts least =
-    let program = scene.program.now in
+-- the total of one word more
+pub total-more : (comb : Comb) (type : Ty) (words : List ℤ) (i : ℕ) (total next : ℤ) (v : Value) → i < length words
+    → v ≡ typed type (get_or words i (pos 0)) → total ≡ total_of comb (map (typed type) (take i words)) → next ≡ joined comb total v
+    → next ≡ total_of comb (map (typed type) (take (i + 1) words))
+total-more comb type words i total next v low value before is =
+    let word = get_or words i (pos 0) in
+    is
+    ∙ ap₂ (joined comb) before value
+    ∙ sym (fold-append (joined comb) (identity comb) (map (typed type) (take i words)) (typed type word ∷ []))
+    ∙ ap (total_of comb) (sym (map-append (typed type) (take i words) (word ∷ [])))
+    ∙ ap (λ l. total_of comb (map (typed type) l)) (sym (take_more words i (pos 0) low))
+
+-- the agent of a row stands at the row's place of the list
+row-there : (scene : Scene) (row place : ℕ) (a : Agent) → IsScene scene → slice_get scene.cells.now.order.items row ≡ Some place
+    → slice_get (rows scene) row ≡ Some a → slice_get scene.agents.now place ≡ Some a
+row-there scene row place a is read found =
+    let order = scene.cells.now.order.items in
     let agents = scene.agents.now in
-    let s : Saying = record { target = a.id; field = ear.effect; value = typed ear.ty word } in
-    let le : place < length agents = slice_get_within agents place a found in
-    let here : get_or agents place a ≡ a = get_or_from_slice_get agents place a a found in
-    let id : get_or (ids agents) place 0 ≡ a.id =
-    got-mapped (λ (x : Agent). x.id) agents place a 0 le ∙ ap (λ (x : Agent). x.id) here in
-    let own : a.class ≡ ear.class = ap (λ (x : Agent). x.class) (same_Some a b (sym found ∙ had)) ∙ of in
-    let has : slice_get (effects_in (class_of program (get_or agents place a))) ear.effect ≡ Some hears.effect =
-    ap (λ (x : Agent). slice_get (effects_in (class_of program x)) ear.effect) here
-    ∙ ap (λ n. slice_get (effects_in (slice_get program.classes n)) ear.effect) own
-    ∙ ap (λ o. slice_get (effects_in o) ear.effect) hears.has ∙ hears.there in
-    record {
-      each = λ said faults k.
-          heard-hit program agents said faults before after s place a hears.effect at is.rises le id has at_is
-          (totals ∙ ap (λ (c : Comb). set before.totals.items at (joined c (get_or before.totals.items at (pos 0)) (typed ear.ty word))) hears.comb)
-          counts starts least k;
-    }
+    let low : row < length order = slice_get_within order row place read in
+    let at : get_or order row place ≡ place = get_or_from_slice_get order row place place read in
+    let within : place < length agents = subst (λ p. p < length agents) at (is.sorted.within row place low) in
+    let same : get_or agents place no_agent ≡ a =
+    same_Some _ a (sym (slice_get-map (λ p. get_or agents p no_agent) order row ∙ ap (option_map (λ p. get_or agents p no_agent)) read) ∙ found) in
+    slice_get-get_or agents place no_agent within ∙ ap (λ (x : Agent). Some x) same
 
--- the agent that a name stands for stands at its place
+-- words were joined to the total of an effect of the agent of a row
+pub hears-words : (scene : Scene) (ear : Ear) (row place count : ℕ) (words : List ℤ) (number : ℤ) (before after : Heard) (a : Agent) → IsScene scene → IsEar scene ear
+    → IsOfClass (rows scene) ear.class row → slice_get (rows scene) row ≡ Some a → slice_get scene.cells.now.order.items row ≡ Some place
+    → number ≡ total_of ear.comb (map (typed ear.ty) words) → count ≡ length words
+    → ((x : Agent) (said told : List Saying) (faults : List Fault) → slice_get scene.agents.now place ≡ Some x
+    → IsHeard scene.program.now scene.agents.now said faults before → AreTold scene.program.now x ear.effect number count told
+    → IsHeard scene.program.now scene.agents.now (said ++ told) faults after)
+    → Hears scene.program.now scene.agents.now (told_at a ear.effect ear.ty words) before after
+hears-words scene ear row place count words number before after a scene_is hears (b, had, of) found read is many joins =
+    let program = scene.program.now in
+    let one : ℤ → Saying = λ w. record { target = a.id; field = ear.effect; value = typed ear.ty w } in
+    let own : a.class ≡ ear.class = ap (λ (x : Agent). x.class) (same_Some a b (sym found ∙ had)) ∙ of in
+    let has : slice_get (effects_in (class_of program a)) ear.effect ≡ Some hears.effect =
+    ap (λ n. slice_get (effects_in (slice_get program.classes n)) ear.effect) own
+    ∙ ap (λ o. slice_get (effects_in o) ear.effect) hears.has ∙ hears.there in
+    let values : map (typed ear.ty) words ≡ map (λ (s : Saying). s.value) (map one words) = sym (mapped one (λ (s : Saying). s.value) words) in
+    let told : AreTold program a ear.effect number count (map one words) = record {
+      effect = hears.effect;
+      has = has;
+      alone = All-map (λ (s : Saying). (s.target ≡ a.id) × (s.field ≡ ear.effect)) one words (λ k d low. (refl, refl));
+      total = is ∙ ap (λ (c : Comb). total_of c (map (typed ear.ty) words)) hears.comb ∙ ap (total_of hears.effect.comb) values;
+      many = many ∙ sym (length-map words one);
+    } in
+    record { each = λ said faults k. joins a said (map one words) faults (row-there scene row place a scene_is read found) k told }
+
+-- the part of a list from a place to another
+between-long : {A : Type 0} (from next : ℕ) (xs : List A) → next ≤ length xs → length (between from next xs) ≡ next - from
+between-long from next xs le =
+    let behind = length-drop from xs in
+    let so = length-take (next - from) (drop from xs) in
+    so ∙ omega (arith, behind, le)
+
+between-at : {A : Type 0} (from next : ℕ) (xs : List A) (k : ℕ) (d : A) → from + k < next → get_or (between from next xs) k d ≡ get_or xs (from + k) d
+between-at from next xs k d low = get_or-take (next - from) (drop from xs) k d (omega (arith, low)) ∙ get_or-drop from xs k d
+
+-- the agent that a name stands for stands in its row
 pub agent-there : (scene : Scene) (depth : Depth) (who : Who) (lane : Lane) (s : Scope) → IsLane scene depth lane s → is_there depth who ≡ true
-    → slice_get scene.agents.now (place_of who lane) ≡ Some (agent_of s who)
+    → slice_get (rows scene) (row_of who lane) ≡ Some (agent_of s who)
 agent-there scene depth This lane s h there = h.this
 agent-there scene depth Outer lane s h there = by (has_outer depth) there h.outer
   where
-    by : (there : Bool) → there ≡ true → IsFound there scene.agents.now lane.outer s.outer → slice_get scene.agents.now lane.outer ≡ Some (agent_of s Outer)
+    by : (there : Bool) → there ≡ true → IsFound there (rows scene) lane.outer s.outer → slice_get (rows scene) lane.outer ≡ Some (agent_of s Outer)
     by true e (b, same, got) = got ∙ ap (λ (o : Option Agent). let x : Option Agent = Some (unwrap_or o s.this) in x) (sym same)
     by false e h = absurd (cc)
 agent-there scene depth Inner lane s h there = by (has_inner depth) there h.inner
   where
-    by : (there : Bool) → there ≡ true → IsFound there scene.agents.now lane.inner s.inner → slice_get scene.agents.now lane.inner ≡ Some (agent_of s Inner)
+    by : (there : Bool) → there ≡ true → IsFound there (rows scene) lane.inner s.inner → slice_get (rows scene) lane.inner ≡ Some (agent_of s Inner)
     by true e (b, same, got) = got ∙ ap (λ (o : Option Agent). let x : Option Agent = Some (unwrap_or o s.this) in x) (sym same)
     by false e h = absurd (cc)
 
--- one scope more
-pub told-more : (who : Who) (effect : ℕ) (type : Ty) (scopes : List Scope) (words : List ℤ) (k : ℕ) (s : Scope) → k < length scopes → length words ≡ length scopes
-    → told_by who effect type (take (k + 1) scopes) (take (k + 1) words)
-    ≡ told_by who effect type (take k scopes) (take k words) ++ told who effect type (get_or scopes k s) (get_or words k (pos 0)) ∷ []
-told-more who effect type scopes words k s low long =
-    ap (λ n. told_by who effect type (take n scopes) (take n words)) (add-one k) ∙ by scopes words k low long
-  where
-    by : (xs : List Scope) (ws : List ℤ) (i : ℕ) → i < length xs → length ws ≡ length xs
-        → told_by who effect type (take (suc i) xs) (take (suc i) ws)
-        ≡ told_by who effect type (take i xs) (take i ws) ++ told who effect type (get_or xs i s) (get_or ws i (pos 0)) ∷ []
-    by [] ws i low long = absurd (omega (arith, low))
-    by (x ∷ xs) [] i low long = absurd (omega (arith, long))
-    by (x ∷ xs) (w ∷ ws) zero low long = refl
-    by (x ∷ xs) (w ∷ ws) (suc i) low long = ap (λ l. told who effect type x w ∷ l) (by xs ws i (omega (arith, low)) (omega (arith, long)))
-
-pub nobody : Agent
-nobody = record { class = 0; id = 0; states = [] }
-
 pub nowhere : Scope
-nowhere = record { tick = 0; seed = 0; this = nobody; outer = None; inner = None; locals = []; totals = [] }
+nowhere = record { tick = 0; seed = 0; this = no_agent; outer = None; inner = None; locals = []; totals = [] }
 
--- what one lane more says
-pub says-more : (scene : Scene) (crowd : Crowd) (who : Who) (effect : ℕ) (type : Ty) (scopes : List Scope) (words : List ℤ) (ear : Ear)
-    (k : ℕ) (all : List Lane) (d : Lane) (place : ℕ) (word : ℤ) (a b c : Heard) → Stands scene crowd scopes → length words ≡ length scopes
-    → all ≡ crowd.lanes → k < length all → is_there crowd.depth who ≡ true → place ≡ place_of who (get_or all k d) → word ≡ get_or words k (pos 0)
-    → ear.effect ≡ effect → ear.ty ≡ type
-    → ((x : Agent) → slice_get scene.agents.now place ≡ Some x
-    → Hears scene.program.now scene.agents.now (record { target = x.id; field = ear.effect; value = typed ear.ty word } ∷ []) b c)
-    → Hears scene.program.now scene.agents.now (told_by who effect type (take k scopes) (take k words)) a b
-    → Hears scene.program.now scene.agents.now (told_by who effect type (take (k + 1) scopes) (take (k + 1) words)) a c
-says-more scene crowd who effect type scopes words ear k all d place word a b c stands long same less there place_is word_is same_effect same_type one before =
-    let s = get_or scopes k nowhere in
-    let lane = get_or all k d in
-    let inside_all : k < length crowd.lanes = subst (λ (l : List Lane). k < length l) same less in
-    let low : k < length scopes = subst (λ n. k < n) stands.long inside_all in
-    let lane_is : lane ≡ get_or crowd.lanes k lane =
-    ap (λ (l : List Lane). get_or l k d) same ∙ get_or_default crowd.lanes k d lane inside_all in
-    let h : IsLane scene crowd.depth lane s =
-    subst (λ (l : Lane). IsLane scene crowd.depth l s) (sym lane_is) (stands.lanes k lane nowhere low) in
-    let x = agent_of s who in
-    let got : slice_get scene.agents.now place ≡ Some x =
-    ap (slice_get scene.agents.now) place_is ∙ agent-there scene crowd.depth who lane s h there in
-    let said : List Saying = record { target = x.id; field = ear.effect; value = typed ear.ty word } ∷ [] in
-    let as_told : said ≡ told who effect type s (get_or words k (pos 0)) ∷ [] =
-    ap (λ n. let y : Saying = record { target = x.id; field = n; value = typed ear.ty word } in y ∷ []) same_effect
-    ∙ ap (λ (t : Ty). let y : Saying = record { target = x.id; field = effect; value = typed t word } in y ∷ []) same_type
-    ∙ ap (λ w. told who effect type s w ∷ []) word_is in
-    let now : Hears scene.program.now scene.agents.now (told who effect type s (get_or words k (pos 0)) ∷ []) b c =
-    subst (λ l. Hears scene.program.now scene.agents.now l b c) as_told (one x got) in
-    subst (λ l. Hears scene.program.now scene.agents.now l a c) (sym (told-more who effect type scopes words k nowhere low long))
+module _ (who : Who) (effect : ℕ) (type : Ty) where
+  told-append : (xs ys : List Scope) (ws vs : List ℤ) → length ws ≡ length xs
+      → told_by who effect type (xs ++ ys) (ws ++ vs) ≡ told_by who effect type xs ws ++ told_by who effect type ys vs
+  told-append [] ys [] vs e = refl
+  told-append [] ys (w ∷ ws) vs e = absurd (omega (arith, e))
+  told-append (x ∷ xs) ys [] vs e = absurd (omega (arith, e))
+  told-append (x ∷ xs) ys (w ∷ ws) vs e =
+      ap (λ l. told who effect type x w ∷ l) (told-append xs ys ws vs (omega (arith, e)))
+
+  -- what scopes say to one agent
+  told-one : (a : Agent) (xs : List Scope) (ws : List ℤ) → length ws ≡ length xs
+      → ((k : ℕ) → k < length xs → agent_of (get_or xs k nowhere) who ≡ a)
+      → told_at a effect type ws ≡ told_by who effect type xs ws
+  told-one a [] [] e same = refl
+  told-one a [] (w ∷ ws) e same = absurd (omega (arith, e))
+  told-one a (x ∷ xs) [] e same = absurd (omega (arith, e))
+  told-one a (x ∷ xs) (w ∷ ws) e same =
+      ap₂ (λ (b : Agent) l. let s : Saying = record { target = b.id; field = effect; value = typed type w } in s ∷ l) (sym (same 0 (omega arith)))
+      (told-one a xs ws (omega (arith, e)) (λ k low. same (suc k) (omega (arith, low))))
+
+  -- some scopes more
+  told-between : (scopes : List Scope) (words : List ℤ) (from next : ℕ) → from ≤ next → length words ≡ length scopes
+      → told_by who effect type (take from scopes) (take from words) ++ told_by who effect type (between from next scopes) (between from next words)
+      ≡ told_by who effect type (take next scopes) (take next words)
+  told-between scopes words from next le long =
+      sym (told-append (take from scopes) (between from next scopes) (take from words) (between from next words)
+      (length-take from words ∙ ap (λ n. min from n) long ∙ sym (length-take from scopes)))
+      ∙ ap₂ (told_by who effect type) (front from next scopes le) (front from next words le)
+
+-- what the lanes up to another place say to one agent
+pub says-more : (scene : Scene) (crowd : Crowd) (who : Who) (effect : ℕ) (type : Ty) (scopes : List Scope) (words these : List ℤ) (ear : Ear)
+    (from next : ℕ) (all : List Lane) (d : Lane) (place : ℕ) (a b c : Heard) → Stands scene crowd scopes → length words ≡ length scopes
+    → all ≡ crowd.lanes → from < next → next ≤ length all → is_there crowd.depth who ≡ true → place ≡ row_of who (get_or all from d)
+    → ((k : ℕ) (l : Lane) → from + 1 ≤ k → k < next → row_of who (get_or all k l) ≡ place)
+    → these ≡ between from next words → ear.effect ≡ effect → ear.ty ≡ type
+    → ((x : Agent) → slice_get (rows scene) place ≡ Some x
+    → Hears scene.program.now scene.agents.now (told_at x ear.effect ear.ty these) b c)
+    → Hears scene.program.now scene.agents.now (told_by who effect type (take from scopes) (take from words)) a b
+    → Hears scene.program.now scene.agents.now (told_by who effect type (take next scopes) (take next words)) a c
+says-more scene crowd who effect type scopes words these ear from next all d place a b c stands long same less most there place_is run these_are same_effect same_type one before =
+    subst (λ l. Hears scene.program.now scene.agents.now l a c) (told-between who effect type scopes words from next (omega (arith, less)) long)
     (hears-more scene.program.now scene.agents.now _ _ a b c before now)
+  where
+    last : next ≤ length scopes
+    last = subst (λ n. next ≤ n) (ap length same ∙ stands.long) most
+
+    at_place : (k : ℕ) → from ≤ k → k < next → row_of who (get_or all k d) ≡ place
+    at_place k le low = ⊎_elim (λ (l : from < k). run k d (omega (arith, l)) low)
+        (λ (l : k ≤ from). let e : k ≡ from = omega (arith, le, l) in ap (λ n. row_of who (get_or all n d)) e ∙ sym place_is)
+        (cases_lt from k)
+
+    agent_at : (k : ℕ) → from ≤ k → k < next → slice_get (rows scene) place ≡ Some (agent_of (get_or scopes k nowhere) who)
+    agent_at k le low =
+        let s = get_or scopes k nowhere in
+        let lane = get_or all k d in
+        let within : k < length scopes = omega (arith, low, last) in
+        let inside_all : k < length crowd.lanes = subst (λ n. k < n) (sym stands.long) within in
+        let lane_is : lane ≡ get_or crowd.lanes k lane =
+        ap (λ (l : List Lane). get_or l k d) same ∙ get_or_default crowd.lanes k d lane inside_all in
+        let h : IsLane scene crowd.depth lane s =
+        subst (λ (l : Lane). IsLane scene crowd.depth l s) (sym lane_is) (stands.lanes k lane nowhere within) in
+        ap (slice_get (rows scene)) (sym (at_place k le low)) ∙ agent-there scene crowd.depth who lane s h there
+
+    x : Agent
+    x = agent_of (get_or scopes from nowhere) who
+
+    alone : (k : ℕ) → k < length (between from next scopes) → agent_of (get_or (between from next scopes) k nowhere) who ≡ x
+    alone k low =
+        let within : from + k < next = omega (arith, low, between-long from next scopes last) in
+        ap (λ (s : Scope). agent_of s who) (between-at from next scopes k nowhere within)
+        ∙ same_Some _ x (sym (agent_at (from + k) (omega arith) within) ∙ agent_at from (omega arith) less)
+
+    now : Hears scene.program.now scene.agents.now (told_by who effect type (between from next scopes) (between from next words)) b c
+    now = subst (λ l. Hears scene.program.now scene.agents.now l b c)
+        (ap₂ (λ (n : ℕ) (t : Ty). told_at x n t these) same_effect same_type
+        ∙ ap (told_at x effect type) these_are
+        ∙ told-one who effect type x (between from next scopes) (between from next words)
+        (between-long from next words (subst (λ n. next ≤ n) (sym long) last) ∙ sym (between-long from next scopes last)) alone)
+        (one x (agent_at from (omega arith) less))
 
 -- what all lanes say
 pub says-all : (who : Who) (effect : ℕ) (type : Ty) (scopes : List Scope) (words : List ℤ) (n : ℕ) → length scopes ≤ n → length words ≡ length scopes

@@ -1,13 +1,14 @@
 -- What an eye finds are the agents that a loop takes.
 use Rattle.std.proofs.Common.{◌≡◌, ◌∙◌, ℕ, suc, ◌<◌, ℤ, pos, ◌≤ℤ◌, Bool, true, false, cond, not, ◌&&◌, List, [], ◌∷◌, length, map, filter, get_or, slice_get, Option, Some, None, refl, sym, ap, ap₂, arith, ⊎_elim}
-use Rattle.std.specs.Prelude.{◌==◌, is_some, option_map, unwrap_or}
-use Rattle.std.specs.List.{list_all}
+use Rattle.std.specs.Prelude.{◌==◌, nat_eq, is_some, option_map, unwrap_or}
+use Rattle.std.specs.List.{AllPairs, list_all}
 use Rattle.std.specs.List.Sorted.{IsNonDecreasing, IsPermutation}
 use Rattle.std.proofs.lemmas.Bool.{cases_order, eq-eqb, ne_eqb}
 use Rattle.std.proofs.lemmas.Int.{ints}
-use Rattle.std.proofs.lemmas.Option.{get_or_from_slice_get, slice_get-get_or, slice_get-map, slice_get_within}
+use Rattle.std.proofs.lemmas.Option.{get_or_from_slice_get, slice_get-get_or, slice_get_within}
 use Rattle.brace_num.proofs.Lists.{filter_twice}
-use Rattle.brace_num.proofs.Orders.{rises_by_keys}
+use Rattle.brace_num.proofs.Numbers.{eq_swap}
+use Rattle.brace_num.proofs.Orders.{distinct_moved, pairs_differ, rises_by_keys, rising_differ}
 use Rattle.brace_model.specs.declared.program.Class.{Class}
 use Rattle.brace_model.specs.declared.program.Program.{Program}
 use Rattle.brace_model.specs.declared.world.Agent.{Agent}
@@ -86,20 +87,29 @@ picks all (b ∷ agents) (s ∷ spots) t u long there same =
     step true false e here rest = absurd (cc)
     step false true e here rest = absurd (cc)
 
+-- the ids of agents differ
+abbrev pub AreApart : List Agent → Type 0
+AreApart agents = AllPairs (λ (a b : Agent). nat_eq a.id b.id ≡ false) agents
+
+-- agents whose ids rise have different ids in any order
+pub apart_moved : (agents rows : List Agent) → RisesById agents → IsPermutation agents rows
+    → AreApart rows
+apart_moved agents rows rises moved =
+    let id : Agent → ℕ = λ a. a.id in
+    pairs_differ id rows (distinct_moved id agents rows moved
+    (rising_differ id agents (rises_by_keys id agents rises)))
+
 -- agents have one id where they have one place
-same_place : (agents : List Agent) (i j : ℕ) (d : Agent) → RisesById agents → i < length agents
+same_place : (agents : List Agent) (i j : ℕ) (d : Agent) → AreApart agents → i < length agents
     → j < length agents → (i == j) ≡ ((get_or agents j d).id == (get_or agents i d).id)
-same_place agents i j d rises low high =
+same_place agents i j d apart low high =
     ⊎_elim
     (λ (e : i ≡ j). eq-eqb i j e
     ∙ sym (eq-eqb _ _ (ap (λ k. (get_or agents k d).id) (sym e))))
     (λ other. ⊎_elim
-    (λ (less : i < j).
-    let rise = rises_by_keys (λ (a : Agent). a.id) agents rises i j d less high in
-    ne_eqb i j (λ e. omega (arith, e, less)) ∙ sym (ne_eqb _ _ (λ e. omega (arith, e, rise))))
-    (λ (more : j < i).
-    let rise = rises_by_keys (λ (a : Agent). a.id) agents rises j i d more low in
-    ne_eqb i j (λ e. omega (arith, e, more)) ∙ sym (ne_eqb _ _ (λ e. omega (arith, e, rise))))
+    (λ (less : i < j). ne_eqb i j (λ e. omega (arith, e, less))
+    ∙ sym (eq_swap (get_or agents j d).id (get_or agents i d).id ∙ apart i j d less high))
+    (λ (more : j < i). ne_eqb i j (λ e. omega (arith, e, more)) ∙ sym (apart j i d more low))
     other)
     (cases_order i j)
 
@@ -142,16 +152,16 @@ module _ (program : Program) (scope : Scope) (class place : ℕ) (bounds : List 
       (ap₂ (λ v w. v && w) other reaches)) cuts
 
   module _ (agents : List Agent) (cells : Cells) (are : AreCells program agents cells)
-      (rises : RisesById agents) (this : slice_get agents place ≡ Some scope.this) where
+      (apart : AreApart agents) (this : slice_get agents place ≡ Some scope.this) where
     here : place < length agents
     here = slice_get_within agents place scope.this this
 
     spot_there : (i : ℕ) (s : Spot) (b : Agent) → i < length agents
-        → get_or are.spots i s ≡ spot_of program are.side i (get_or agents i b)
+        → get_or cells.spots.items i s ≡ spot_of program are.side i (get_or agents i b)
     spot_there = are.theirs.each
 
     finds_there : (i : ℕ) (s : Spot) (b : Agent) → i < length agents
-        → is_found eye (map (cut_in scope) bounds) (get_or are.spots i s)
+        → is_found eye (map (cut_in scope) bounds) (get_or cells.spots.items i s)
         ≡ is_taken (get_or agents i b)
     finds_there i s b low =
         let a : get_or agents place b ≡ scope.this =
@@ -159,32 +169,32 @@ module _ (program : Program) (scope : Scope) (class place : ℕ) (bounds : List 
         ap (is_found eye (map (cut_in scope) bounds)) (spot_there i s b low)
         ∙ by_some (class_of program (get_or agents i b)) (are.theirs.known i b low)
         (λ d has. finds are.side i (get_or agents i b) d has
-        (same_place agents i place b rises low here
+        (same_place agents i place b apart low here
         ∙ ap (λ (c : Agent). c.id == (get_or agents i b).id) a))
 
     agent_there : (i : ℕ) (s : Spot) (b : Agent) → i < length agents
-        → slice_get agents (get_or are.spots i s).place ≡ Some (get_or agents i b)
+        → slice_get agents (get_or cells.spots.items i s).place ≡ Some (get_or agents i b)
     agent_there i s b low =
         ap (λ (r : Spot). slice_get agents r.place) (spot_there i s b low)
         ∙ slice_get-get_or agents i b low
 
-    -- the number of the eye's cell
-    pub eye_cell : slice_get cells.cells.items place ≡ Some (cell_number are.side eye.x eye.y)
-    eye_cell =
-        let d = spot_of program are.side place scope.this in
+    -- the eye's spot
+    abbrev pub eye_spot : Spot
+    eye_spot = spot_of program are.side place scope.this
+
+    pub eye_stands : slice_get cells.spots.items place ≡ Some eye_spot
+    eye_stands =
         let a : get_or agents place scope.this ≡ scope.this =
         get_or_from_slice_get agents place scope.this scope.this this in
-        let spot : get_or are.spots place d ≡ spot_of program are.side place scope.this =
-        spot_there place d scope.this here ∙ ap (spot_of program are.side place) a in
-        let cell : (get_or are.spots place d).cell ≡ cell_number are.side eye.x eye.y =
-        ap (λ (s : Spot). s.cell) spot
-        ∙ ap (λ (z : Point). cell_number are.side z.x z.y) (place_is program scope.this looks.own looks.has)
-        ∙ sym (ap₂ (cell_number are.side) looks.x looks.y) in
-        ap (λ l. slice_get l place) are.numbers
-        ∙ slice_get-map (λ (s : Spot). s.cell) are.spots place
-        ∙ ap (option_map (λ (s : Spot). s.cell))
-        (slice_get-get_or are.spots place d (omega (arith, here, are.theirs.long)))
-        ∙ ap (λ (n : ℤ). Some n) cell
+        slice_get-get_or cells.spots.items place eye_spot (omega (arith, here, are.theirs.long))
+        ∙ ap (λ (s : Spot). Some s)
+        (spot_there place eye_spot scope.this here ∙ ap (spot_of program are.side place) a)
+
+    -- the number of the eye's cell
+    pub eye_cell : eye_spot.cell ≡ cell_number are.side eye.x eye.y
+    eye_cell =
+        ap (λ (z : Point). cell_number are.side z.x z.y) (place_is program scope.this looks.own looks.has)
+        ∙ sym (ap₂ (cell_number are.side) looks.x looks.y)
 
     -- places in order of what is found around the eye are those of all that the loop takes
     pub near_is : (runs : Runs) (near : List ℕ)
@@ -206,7 +216,7 @@ module _ (program : Program) (scope : Scope) (class place : ℕ) (bounds : List 
         ap (map (slice_get agents))
         (all_found program agents cells are eye (map (cut_in scope) bounds) wide runs around
         near moved up)
-        ∙ picks agents agents are.spots (is_found eye (map (cut_in scope) bounds)) is_taken
+        ∙ picks agents agents cells.spots.items (is_found eye (map (cut_in scope) bounds)) is_taken
         are.theirs.long agent_there finds_there
         ∙ ap (map (λ b. Some b))
         (sym (filter_twice (λ b. list_all (meets scope (place_of program b)) bounds)

@@ -4,6 +4,7 @@ use Rattle.std.specs.Prelude.{OnOk}
 use Rattle.std.proofs.lemmas.Grind.{flat_map-append}
 use Rattle.std.proofs.lemmas.List.{drop-take, take-take}
 use Rattle.brace_model.specs.Value.{Scope}
+use Rattle.brace_plan.specs.declared.action.Action.{Action}
 use Rattle.brace_fold.specs.declared.crowd.Crowd.{Crowd}
 use Rattle.brace_fold.specs.declared.scene.Scene.{Scene}
 use Rattle.brace_fold.specs.inner.Crowds.{Stands}
@@ -21,8 +22,13 @@ no-scopes scene crowd scopes h none = by scopes (sym h.long ∙ none)
     by [] e = refl
     by (x ∷ xs) e = absurd (omega (arith, e))
 
+-- a block of no actions
+pub no-actions : (actions : List Action) → length actions ≡ 0 → actions ≡ []
+no-actions [] e = refl
+no-actions (x ∷ actions) e = absurd (omega (arith, e))
+
 -- the first elements of a list, up to a place and then to another
-front : {A : Type 0} (from next : ℕ) (xs : List A) → from ≤ next → take from xs ++ between from next xs ≡ take next xs
+pub front : {A : Type 0} (from next : ℕ) (xs : List A) → from ≤ next → take from xs ++ between from next xs ≡ take next xs
 front {A = A} from next xs le =
     let e : from + (next - from) ≡ next = omega (arith, le) in
     ap₂ (λ a b. a ++ b) (sym (take-take from next xs le)) (sym (drop-take from (next - from) xs) ∙ ap (λ (n : ℕ). drop from (take n xs)) e)

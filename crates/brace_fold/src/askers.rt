@@ -1,6 +1,6 @@
-ghost use Rattle.std.specs.Prelude.{◌≡◌, ◌≤◌, length, IfOk};
+ghost use Rattle.std.specs.Prelude.{◌≡◌, ◌≤◌, Some, length, map, slice_get, IfOk};
 ghost use Rattle.std.specs.List.Sorted.{IsPermutation};
-ghost use Rattle.brace_fold.specs.inner.Asks.{places_of};
+ghost use Rattle.brace_fold.specs.inner.Asks.{rows_of};
 
 use crate::cells::Cells;
 use brace_code::Redo;
@@ -9,12 +9,44 @@ use std::alloc::Global;
 /// How many agents ask at once.
 const MANY: usize = 512;
 
-/// The place of an agent that asks, its class and its cell.
+/// The row of an agent that asks, and its class.
 #[derive(Debug, Clone, Copy, Drop)]
 pub struct Asker {
     pub class: u32,
-    pub cell: i64,
-    pub place: u32,
+    pub row: u32,
+}
+
+/// The row of each place, as far as an order of places has it.
+fn rows_by_place(alloc: Global, order: &[u32]) -> Result<Vec<u32>, Redo> {
+    let mut rows = vec![in alloc; 0u32; order.len()]?;
+    for k in 0..order.len() {
+        let Ok(row) = u32::try_from(k) else {
+            return Err(Redo);
+        };
+        let place = order[k] as usize;
+        if place >= rows.len() {
+            return Err(Redo);
+        }
+        rows[place] = row;
+    }
+    Ok(rows)
+}
+
+/// The one at a place who asks, where its row is told.
+fn asker_at(classes: &[u32], cells: &Cells, rows: &[u32], place: u32) -> Result<Asker, Redo>
+    ensures { IfOk result (λ one. slice_get cells.now.order.items one.row ≡ Some place) }
+{
+    let Some(row) = rows.get(place as usize).copied() else {
+        return Err(Redo);
+    };
+    let (Some(class), Some(there)) = (classes.get(row as usize).copied(), cells.place_at(row))
+    else {
+        return Err(Redo);
+    };
+    if there != place {
+        return Err(Redo);
+    }
+    Ok(Asker { class, row })
 }
 
 /// Those who ask.
@@ -24,30 +56,22 @@ pub fn askers(
     cells: &Cells,
     asking: &[u32],
 ) -> Result<Vec<Asker>, Redo>
-    ensures { IfOk result (λ all. places_of all.items ≡ asking.now) }
+    ensures { IfOk result (λ all. map (slice_get cells.now.order.items) (rows_of all.items)
+        ≡ map Some asking.now) }
 {
+    let rows = rows_by_place(alloc, &cells.order)?;
     let mut all = Vec::with_capacity(alloc, asking.len())?;
     for place in asking {
-        let (Some(class), Some(cell)) = (
-            classes.get(*place as usize).copied(),
-            cells.cells.get(*place as usize).copied(),
-        ) else {
-            return Err(Redo);
-        };
-        all.push(Asker {
-            class,
-            cell,
-            place: *place,
-        })?;
+        all.push(asker_at(classes, cells, &rows, *place)?)?;
     }
     Ok(all)
 }
 
-/// Puts those who ask in the order of their classes, and of their cells.
+/// Puts those who ask in the order of their classes, and of their rows.
 pub fn sort_by_class(all: &mut Vec<Asker>)
     ensures { IsPermutation all.old.items all.new.items }
 {
-    all.sort_unstable_by_key(|one: &Asker| (one.class, one.cell));
+    all.sort_unstable_by_key(|one: &Asker| (one.class, one.row));
 }
 
 /// How many of the first are of one class; no more than ask at once.

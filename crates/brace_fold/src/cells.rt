@@ -3,7 +3,7 @@ ghost use Rattle.std.specs.List.Sorted.{IsPermutation};
 ghost use Rattle.brace_model.specs.World.{class_of};
 ghost use Rattle.brace_plan.specs.Answers.{greatest_visible};
 ghost use Rattle.brace_fold.specs.declared.cells.Cells.{Cells};
-ghost use Rattle.brace_fold.specs.inner.Sights.{AreCells, AreLed, AreSpots, CellsRise, IsAround, IsRank, IsRun, cell_number, spot_of};
+ghost use Rattle.brace_fold.specs.inner.Sights.{AreLed, AreSorted, AreSpots, CellsRise, IsAround, IsRank, IsRun, cell_number, in_row, spot_of};
 
 use brace_code::Redo;
 use brace_model::{Agent, Program, class_of, x_of, y_of};
@@ -12,8 +12,8 @@ use std::alloc::Global;
 /// How far apart the numbers of cells are that lie side by side along x.
 const HEIGHT: i64 = 524_288;
 
-/// Where an agent stands, the number of the cell that it is in, its class, and its place in the
-/// list.
+/// Where an agent stands, the number of the cell that it is in, its class, and its place: first in
+/// the list, and then among the spots, its row.
 #[derive(Debug, Clone, Copy, Drop)]
 pub struct Spot {
     pub x: i64,
@@ -23,11 +23,12 @@ pub struct Spot {
     pub place: u32,
 }
 
-/// Agents in the order of square cells, column by column. Cells far apart may share a number.
+/// Agents in the order of square cells, column by column, one in each row. Cells far apart may
+/// share a number.
 #[derive(Debug, Drop)]
 pub struct Cells {
-    /// The cell of each agent, by place.
-    pub cells: Vec<i64>,
+    /// The place in the list of the agent of each row.
+    pub order: Vec<u32>,
     /// Where the agents stand, by rising cell.
     pub spots: Vec<Spot>,
 }
@@ -83,15 +84,30 @@ fn spots_of(
     Ok(spots)
 }
 
-/// The cells that spots are in.
-fn cells_of(alloc: Global, spots: &[Spot]) -> Result<Vec<i64>, Redo>
-    ensures { IfOk result (λ cells. cells.items ≡ map (λ s. s.cell) spots.now) }
+/// The places of spots.
+fn order_of(alloc: Global, spots: &[Spot]) -> Result<Vec<u32>, Redo>
+    ensures { IfOk result (λ order. order.items ≡ map (λ s. s.place) spots.now) }
 {
-    let mut cells = Vec::with_capacity(alloc, spots.len())?;
+    let mut order = Vec::with_capacity(alloc, spots.len())?;
     for spot in spots {
-        cells.push(spot.cell)?;
+        order.push(spot.place)?;
     }
-    Ok(cells)
+    Ok(order)
+}
+
+/// Gives spots their rows as places.
+fn number_rows(spots: &mut [Spot]) -> Result<(), Redo>
+    ensures long { length spots.new ≡ length spots.old }
+    ensures each { OnOk result ((k : ℕ) (s : Spot) → k < length spots.old
+        → slice_index_or spots.new k s ≡ in_row k (slice_index_or spots.old k s)) }
+{
+    for (k, spot) in spots.iter_mut().enumerate() {
+        let Ok(row) = u32::try_from(k) else {
+            return Err(Redo);
+        };
+        spot.place = row;
+    }
+    Ok(())
 }
 
 /// Puts spots in the order of their cells.
@@ -108,12 +124,13 @@ impl Cells {
     pub fn of(alloc: Global, program: &Program, agents: &[Agent], side: i64) -> Result<Cells, Redo>
         requires side { pos 0 <ℤ side }
         requires wide { greatest_visible program.now ≤ℤ side }
-        ensures { IfOk result (λ cells. AreCells program.now agents.now cells) }
+        ensures { IfOk result (λ cells. AreSorted program.now agents.now cells) }
     {
         let mut spots = spots_of(alloc, program, agents, side)?;
-        let cells = cells_of(alloc, &spots)?;
         sort_by_cell(&mut spots);
-        Ok(Cells { cells, spots })
+        let order = order_of(alloc, &spots)?;
+        number_rows(&mut spots)?;
+        Ok(Cells { order, spots })
     }
 }
 
@@ -221,21 +238,29 @@ impl Cells {
         })
     }
 
-    /// Leads runs on to those around the agent at a place.
-    pub fn lead(&self, runs: &mut Runs, place: u32) -> Result<(), Redo>
+    /// The place in the list of the agent of a row.
+    pub fn place_at(&self, row: u32) -> Option<u32>
+        ensures { IfSome result (λ place. slice_get self.now.order.items row ≡ Some place) }
+    {
+        self.order.get(row as usize).copied()
+    }
+
+    /// Leads runs on to those around the agent of a row.
+    pub fn lead(&self, runs: &mut Runs, row: u32) -> Result<(), Redo>
         requires rise { CellsRise self.now.spots.items }
         requires led { AreLed self.now runs.old }
         ensures led { OnOk result (AreLed self.now runs.new) }
-        ensures around { OnOk result ((cell : ℤ)
-            → slice_get self.now.cells.items place ≡ Some cell → IsAround self.now cell runs.new) }
+        ensures around { OnOk result ((spot : Spot)
+            → slice_get self.now.spots.items row ≡ Some spot
+            → IsAround self.now spot.cell runs.new) }
     {
-        let Some(cell) = self.cells.get(place as usize) else {
+        let Some(spot) = self.spots.get(row as usize) else {
             return Err(Redo);
         };
-        if runs.cell == Some(*cell) {
+        if runs.cell == Some(spot.cell) {
             return Ok(());
         }
-        *runs = self.runs_from(runs, *cell)?;
+        *runs = self.runs_from(runs, spot.cell)?;
         Ok(())
     }
 }

@@ -1,5 +1,7 @@
 ghost use Rattle.std.specs.Prelude.{◌≡◌, ℕ, ℤ, List, Some, map, slice_get, IfOk};
 ghost use Rattle.brace_model.specs.World.{number, value_at};
+ghost use Rattle.brace_fold.specs.Asked.{agents_at};
+ghost use Rattle.brace_fold.specs.inner.Sights.{no_agent};
 
 use brace_code::Redo;
 use brace_model::{Agent, Program, number, value_at};
@@ -16,49 +18,64 @@ pub fn most_states(program: &Program) -> u32 {
     most
 }
 
-/// A state of each agent.
-fn state_column(alloc: Global, agents: &[Agent], place: u32) -> Result<List<i64>, Redo>
-    ensures { IfOk result (λ words.
-        words ≡ map (λ a. number (value_at a.states place)) agents.now) }
+/// The agents at places of a list, in the order of these.
+pub fn by_row<'a>(alloc: Global, agents: &'a [Agent], order: &[u32]) -> Result<Vec<&'a Agent>, Redo>
+    ensures { IfOk result (λ rows. map (λ r. r.now) rows.items
+        ≡ agents_at agents.now no_agent order.now) }
 {
-    let mut words = Vec::with_capacity(alloc, agents.len())?;
-    for agent in agents {
+    let mut rows = Vec::with_capacity(alloc, order.len())?;
+    for place in order {
+        let Some(agent) = agents.get(*place as usize) else {
+            return Err(Redo);
+        };
+        rows.push(agent)?;
+    }
+    Ok(rows)
+}
+
+/// A state of each agent.
+fn state_column(alloc: Global, rows: &[&Agent], place: u32) -> Result<List<i64>, Redo>
+    ensures { IfOk result (λ words.
+        words ≡ map (λ r. number (value_at r.now.states place)) rows.now) }
+{
+    let mut words = Vec::with_capacity(alloc, rows.len())?;
+    for agent in rows {
         words.push(number(value_at(agent.states.as_slice(), place)))?;
     }
     Ok(List::from_vec(words))
 }
 
 /// The first states of each agent, so many.
-pub fn state_columns(alloc: Global, agents: &[Agent], count: u32) -> Result<Vec<List<i64>>, Redo>
+pub fn state_columns(alloc: Global, rows: &[&Agent], count: u32) -> Result<Vec<List<i64>>, Redo>
     ensures { IfOk result (λ columns. (i : ℕ) (column : List ℤ)
         → slice_get columns.items i ≡ Some column
-        → column ≡ map (λ a. number (value_at a.states i)) agents.now) }
+        → column ≡ map (λ r. number (value_at r.now.states i)) rows.now) }
 {
     let mut columns = Vec::with_capacity(alloc, count as usize)?;
     for place in 0..count {
-        let column = state_column(alloc, agents, place)?;
+        let column = state_column(alloc, rows, place)?;
         columns.push(column)?;
     }
     Ok(columns)
 }
 
 /// The id of each agent.
-pub fn id_column(alloc: Global, agents: &[Agent]) -> Result<Vec<u64>, Redo>
-    ensures { IfOk result (λ ids. ids.items ≡ map (λ a. a.id) agents.now) }
+pub fn id_column(alloc: Global, rows: &[&Agent]) -> Result<Vec<u64>, Redo>
+    ensures { IfOk result (λ ids. ids.items ≡ map (λ r. r.now.id) rows.now) }
 {
-    let mut ids = Vec::with_capacity(alloc, agents.len())?;
-    for agent in agents {
+    let mut ids = Vec::with_capacity(alloc, rows.len())?;
+    for agent in rows {
         ids.push(agent.id)?;
     }
     Ok(ids)
 }
 
 /// The class of each agent, by number.
-pub fn class_column(alloc: Global, agents: &[Agent]) -> Result<Vec<u32>, Redo>
-    ensures { IfOk result (λ classes. classes.items ≡ map (λ a. a.class) agents.now) }
+pub fn class_column(alloc: Global, rows: &[&Agent]) -> Result<Vec<u32>, Redo>
+    ensures { IfOk result (λ classes. classes.items ≡ map (λ r. r.now.class) rows.now) }
 {
-    let mut classes = Vec::with_capacity(alloc, agents.len())?;
-    for agent in agents {
+    let mut classes = Vec::with_capacity(alloc, rows.len())?;
+    for agent in rows {
         classes.push(agent.class)?;
     }
     Ok(classes)

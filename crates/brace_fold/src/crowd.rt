@@ -1,13 +1,14 @@
-ghost use Rattle.std.specs.Prelude.{◌≡◌, List, [], length, map, replicate, IfOk, OnOk};
+ghost use Rattle.std.specs.Prelude.{◌≡◌, ◌<◌, ℕ, List, [], length, map, replicate, slice_index_or, IfOk, OnOk};
 ghost use Rattle.std.specs.List.{All};
 ghost use Rattle.brace_model.specs.declared.program.Ty.TheVariants as ty;
 ghost use Rattle.brace_model.specs.declared.world.Agent.{Agent};
 ghost use Rattle.brace_model.specs.World.{number};
 ghost use Rattle.brace_model.specs.Value.{Scope, typed};
+ghost use Rattle.brace_code.specs.declared.lane.Lane.{Lane};
 ghost use Rattle.brace_code.specs.Columns.{taking, side};
 ghost use Rattle.brace_fold.specs.declared.scene.Scene.{Scene};
-ghost use Rattle.brace_fold.specs.inner.Asks.{places_of, openings};
-ghost use Rattle.brace_fold.specs.inner.Crowds.{Stands, AreOf, AreGathered, AreNumbered, IsGathered, IsOfClass, asking_at, bound_to, chosen, has_outer, has_inner, IsScene};
+ghost use Rattle.brace_fold.specs.inner.Asks.{rows_of, openings};
+ghost use Rattle.brace_fold.specs.inner.Crowds.{Stands, AreOf, AreGathered, AreNumbered, IsGathered, IsOfClass, asking_at, bound_to, chosen, has_outer, has_inner, IsScene, placed_at, rows};
 
 use crate::askers::Asker;
 use crate::scene::Scene;
@@ -103,18 +104,28 @@ fn gather_all(alloc: Global, columns: &[List<i64>], lanes: &[Lane]) -> Result<Ve
     Ok(outs)
 }
 
-/// Lanes with their numbers in the list.
-fn numbered(alloc: Global, lanes: &[Lane]) -> Result<List<Lane>, Redo>
-    ensures { IfOk result (λ out. AreNumbered lanes.now out) }
+/// Gives lanes their numbers in the list.
+fn number_all(lanes: &mut [Lane]) -> Result<(), Redo>
+    ensures long { length lanes.new ≡ length lanes.old }
+    ensures each { OnOk result ((k : ℕ) (l : Lane) → k < length lanes.old
+        → slice_index_or lanes.new k l ≡ placed_at k (slice_index_or lanes.old k l)) }
 {
-    let mut out = Vec::with_capacity(alloc, lanes.len())?;
-    for k in 0..lanes.len() {
+    for (k, lane) in lanes.iter_mut().enumerate() {
         let Ok(place) = u32::try_from(k) else {
             return Err(Redo);
         };
-        out.push(Lane { place, ..lanes[k] })?;
+        lane.place = place;
     }
-    Ok(List::from_vec(out))
+    Ok(())
+}
+
+/// Lanes with their numbers in the list.
+fn numbered(lanes: Vec<Lane>) -> Result<List<Lane>, Redo>
+    ensures { IfOk result (λ out. AreNumbered lanes.items out) }
+{
+    let mut lanes = lanes;
+    number_all(&mut lanes)?;
+    Ok(List::from_vec(lanes))
 }
 
 /// No column for each of some constants.
@@ -151,13 +162,13 @@ fn taken(alloc: Global, set: bool, lanes: &[Lane], words: &[i64]) -> Result<Vec<
 
 impl Crowd {
     /// Lanes whose places are those of lanes of this crowd, with the constants of these.
-    pub fn part(&self, alloc: Global, depth: Depth, lanes: &[Lane]) -> Result<Crowd, Redo>
+    pub fn part(&self, alloc: Global, depth: Depth, lanes: Vec<Lane>) -> Result<Crowd, Redo>
         ensures { IfOk result (λ part. (scene : Scene) (scopes kids : List Scope)
-            → Stands scene self.now scopes → AreOf scene depth scopes lanes.now kids
+            → Stands scene self.now scopes → AreOf scene depth scopes lanes.items kids
             → Stands scene part kids) }
     {
-        let locals = gather_all(alloc, &self.locals, lanes)?;
-        let lanes = numbered(alloc, lanes)?;
+        let locals = gather_all(alloc, &self.locals, &lanes)?;
+        let lanes = numbered(lanes)?;
         Ok(Crowd {
             depth,
             lanes,
@@ -175,7 +186,7 @@ impl Crowd {
             return Err(Redo);
         }
         let lanes = taken(alloc, set, lanes, words)?;
-        self.part(alloc, self.depth, &lanes)
+        self.part(alloc, self.depth, lanes)
     }
 
     /// Sets a constant to words.
@@ -197,15 +208,15 @@ impl Crowd {
 /// A lane for each agent that asks, all of which are of one class.
 fn asking_lanes(scene: &Scene, class: u32, asking: &[Asker]) -> Result<Vec<Lane>, Redo>
     requires { IsScene scene.now }
-    ensures lanes { IfOk result (λ lanes. lanes.items ≡ map asking_at (places_of asking.now)) }
+    ensures lanes { IfOk result (λ lanes. lanes.items ≡ map asking_at (rows_of asking.now)) }
     ensures of_class { IfOk result (λ _.
-        All (IsOfClass scene.now.agents.now class) (places_of asking.now)) }
+        All (IsOfClass (rows scene.now) class) (rows_of asking.now)) }
 {
     let mut lanes = Vec::with_capacity(scene.alloc, asking.len())?;
     for one in asking {
-        scene.expect_class(one.place, class)?;
+        scene.expect_class(one.row, class)?;
         lanes.push(Lane {
-            this: one.place,
+            this: one.row,
             outer: 0,
             inner: 0,
             place: 0,
@@ -218,12 +229,12 @@ fn asking_lanes(scene: &Scene, class: u32, asking: &[Asker]) -> Result<Vec<Lane>
 pub fn opening(scene: &Scene, class: u32, asking: &[Asker], constants: usize) -> Result<Crowd, Redo>
     requires { IsScene scene.now }
     ensures of_class { IfOk result (λ _.
-        All (IsOfClass scene.now.agents.now class) (places_of asking.now)) }
+        All (IsOfClass (rows scene.now) class) (rows_of asking.now)) }
     ensures stands { IfOk result (λ crowd. (d : Agent) → Stands scene.now crowd
-        (openings scene.now constants d (places_of asking.now))) }
+        (openings scene.now constants d (rows_of asking.now))) }
 {
     let lanes = asking_lanes(scene, class, asking)?;
-    let lanes = numbered(scene.alloc, &lanes)?;
+    let lanes = numbered(lanes)?;
     let locals = unset(scene.alloc, constants)?;
     Ok(Crowd {
         depth: Depth::Outside,

@@ -45,14 +45,15 @@ pub fn all_drawn(
     program: &Program,
     seed: u64,
     tick: u64,
-    agents: &[Agent],
+    rows: &[&Agent],
 ) -> Result<Vec<Drawn>, Redo>
     requires { tick ≤ 2 ^ 32 }
-    ensures { IfOk result (λ all. All (AreDrawn seed tick agents.now) all.items) }
+    ensures { IfOk result (λ all.
+        All (AreDrawn seed tick (map (λ r. r.now) rows.now)) all.items) }
 {
     let mut sites = Vec::new(alloc);
     query_sites(program, &mut sites)?;
-    let ids = id_column(alloc, agents)?;
+    let ids = id_column(alloc, rows)?;
     let drawer = Drawer::make(seed);
     let mut all = Vec::new(alloc);
     for site in &sites {

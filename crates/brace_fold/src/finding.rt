@@ -4,7 +4,7 @@ ghost use Rattle.brace_model.specs.World.{number, value_at};
 ghost use Rattle.brace_model.specs.Value.{Scope};
 ghost use Rattle.brace_plan.specs.Acts.{limit_in, near_by};
 ghost use Rattle.brace_fold.specs.declared.cells.Cells.{Cells};
-ghost use Rattle.brace_fold.specs.inner.Crowds.{IsScene, IsIn};
+ghost use Rattle.brace_fold.specs.inner.Crowds.{IsScene, IsIn, rows};
 ghost use Rattle.brace_fold.specs.inner.Sights.{AreLed, IsEye, cut_in};
 
 use crate::cells::Runs;
@@ -37,7 +37,7 @@ impl Room {
     }
 }
 
-/// The word of a column at a place.
+/// The word of a column in a row.
 fn read(column: &[i64], at: u32) -> Result<i64, Redo>
     ensures { IfOk result (λ word. slice_get column.now at ≡ Some word) }
 {
@@ -48,15 +48,15 @@ fn read(column: &[i64], at: u32) -> Result<i64, Redo>
 }
 
 impl<'a> Scene<'a> {
-    /// The word of a state of the agent at a place.
-    fn state(&self, state: u32, place: u32) -> Result<i64, Redo>
+    /// The word of a state of the agent of a row.
+    fn state(&self, state: u32, row: u32) -> Result<i64, Redo>
         requires { IsScene self.now }
         ensures { IfOk result (λ word. (a : Agent)
-            → slice_get self.now.agents.now place ≡ Some a
+            → slice_get (rows self.now) row ≡ Some a
             → word ≡ number (value_at a.states state)) }
     {
         match self.states.get(state as usize) {
-            Some(column) => read(column, place),
+            Some(column) => read(column, row),
             None => Err(Redo),
         }
     }
@@ -101,13 +101,13 @@ impl<'a> Scene<'a> {
     }
 
     /// What an agent looks for.
-    fn eye(&self, place: u32, class: u32) -> Result<Eye, Redo>
+    fn eye(&self, row: u32, class: u32) -> Result<Eye, Redo>
         requires { IsScene self.now }
         ensures { IfOk result (λ eye. (a : Agent)
-            → slice_get self.now.agents.now place ≡ Some a
-            → IsEye self.now.program.now place a class eye) }
+            → slice_get (rows self.now) row ≡ Some a
+            → IsEye self.now.program.now row a class eye) }
     {
-        let Some(number) = self.classes.get(place as usize) else {
+        let Some(number) = self.classes.get(row as usize) else {
             return Err(Redo);
         };
         let Some(own) = self.program.classes.as_slice().get(*number as usize) else {
@@ -117,15 +117,15 @@ impl<'a> Scene<'a> {
             return Err(Redo);
         };
         Ok(Eye {
-            x: self.state(own.x, place)?,
-            y: self.state(own.y, place)?,
+            x: self.state(own.x, row)?,
+            y: self.state(own.y, row)?,
             range,
             class,
-            place,
+            place: row,
         })
     }
 
-    /// Finds the places, rising, of the agents that a loop takes in a lane.
+    /// Finds the rows, rising, of the agents that a loop takes in a lane.
     pub fn find(
         &self,
         crowd: &Crowd,
@@ -138,8 +138,8 @@ impl<'a> Scene<'a> {
         requires led { AreLed self.now.cells.now room.old.runs }
         ensures led { OnOk result (AreLed self.now.cells.now room.new.runs) }
         ensures near { OnOk result ((scope : Scope) → IsIn self.now crowd.now lane.now scope
-            → map (slice_get self.now.agents.now) room.new.near.items
-            ≡ map Some (near_by self.now.program.now self.now.agents.now scope class bounds.now)) }
+            → map (slice_get (rows self.now)) room.new.near.items
+            ≡ map Some (near_by self.now.program.now (rows self.now) scope class bounds.now)) }
     {
         let eye = self.eye(lane.this, class)?;
         self.cells.lead(&mut room.runs, lane.this)?;

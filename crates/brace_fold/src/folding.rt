@@ -7,12 +7,12 @@ ghost use Rattle.brace_model.specs.Query.{Saying};
 ghost use Rattle.brace_model.specs.World.{RisesById};
 ghost use Rattle.brace_eval.specs.Heard.{IsHeard, said_by, faults_by};
 ghost use Rattle.brace_fold.specs.Asked.{agents_at};
-ghost use Rattle.brace_fold.specs.inner.Asks.{Asks, places_of};
+ghost use Rattle.brace_fold.specs.inner.Asks.{Asks, rows_of};
 ghost use Rattle.brace_fold.specs.inner.Crowds.{IsScene};
 
 use crate::askers::{Asker, askers, of_class, sort_by_class};
 use crate::cells::Cells;
-use crate::columns::{class_column, most_states, state_columns, views};
+use crate::columns::{by_row, class_column, most_states, state_columns, views};
 use crate::crowd::opening;
 use crate::drawn::{all_drawn, lent};
 use crate::scene::Scene;
@@ -37,7 +37,7 @@ fn ask(
     requires scene { IsScene scene.now }
     requires program { scene.now.program.now ≡ plans.now }
     requires lawful { IsTrue (list_all (is_lawful_agent plans.now) scene.now.agents.now) }
-    ensures { OnOk result ((d : Agent) → Asks scene.now d (places_of asking.now)
+    ensures { OnOk result ((d : Agent) → Asks scene.now d (rows_of asking.now)
         heard.old heard.new) }
 {
     let Some(told) = plans.told(class) else {
@@ -53,7 +53,7 @@ fn ask_all(scene: &Scene, plans: &Plans, asking: &[Asker], heard: &mut Heard) ->
     requires scene { IsScene scene.now }
     requires program { scene.now.program.now ≡ plans.now }
     requires lawful { IsTrue (list_all (is_lawful_agent plans.now) scene.now.agents.now) }
-    ensures { OnOk result ((d : Agent) → Asks scene.now d (places_of asking.now)
+    ensures { OnOk result ((d : Agent) → Asks scene.now d (rows_of asking.now)
         heard.old heard.new) }
 {
     let mut left = asking;
@@ -97,13 +97,14 @@ pub fn fold(
         → faults_by plans.now seed tick agents.now (agents_at agents.now d asking.now) ≡ []) }
 {
     let program = plans.program();
-    let columns = state_columns(alloc, agents, most_states(program))?;
-    let states = views(alloc, &columns)?;
-    let classes = class_column(alloc, agents)?;
-    let drawn = all_drawn(alloc, program, seed, tick, agents)?;
-    let draws = lent(alloc, &drawn)?;
     let side = greatest_visible(program).max(UNIT);
     let cells = Cells::of(alloc, program, agents, side)?;
+    let rows = by_row(alloc, agents, &cells.order)?;
+    let columns = state_columns(alloc, &rows, most_states(program))?;
+    let states = views(alloc, &columns)?;
+    let classes = class_column(alloc, &rows)?;
+    let drawn = all_drawn(alloc, program, seed, tick, &rows)?;
+    let draws = lent(alloc, &drawn)?;
     let scene = Scene {
         alloc,
         program,

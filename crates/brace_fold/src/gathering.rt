@@ -12,7 +12,7 @@ use brace_num::List;
 use brace_plan::Bound;
 
 /// A crowd takes no more agents once it has so many lanes.
-const MANY: usize = 1024;
+const MANY: usize = 512;
 
 /// A part of a loop's lanes, and the place of the first lane whose agents are not yet in it.
 #[derive(Debug, Drop)]
@@ -31,29 +31,23 @@ fn deeper(depth: Depth) -> Depth
     }
 }
 
-/// A lane inside a loop, at the agent of a place.
-fn entered(depth: Depth, lane: Lane, place: u32) -> Lane
-    ensures { result ≡ entered depth lane place }
+/// A lane inside a loop, at the agent of a row.
+fn entered(depth: Depth, lane: Lane, row: u32) -> Lane
+    ensures { result ≡ entered depth lane row }
 {
     match depth {
-        Depth::Outside => Lane {
-            outer: place,
-            ..lane
-        },
-        Depth::Once | Depth::Twice => Lane {
-            inner: place,
-            ..lane
-        },
+        Depth::Outside => Lane { outer: row, ..lane },
+        Depth::Once | Depth::Twice => Lane { inner: row, ..lane },
     }
 }
 
-/// Appends the lanes of a loop at agents of some places.
+/// Appends the lanes of a loop at agents of some rows.
 fn enter(depth: Depth, lane: Lane, near: &[u32], lanes: &mut Vec<Lane>) -> Result<(), Redo>
     ensures { OnOk result (lanes.new.items
         ≡ lanes.old.items ++ map (entered depth lane) near.now) }
 {
-    for place in near {
-        lanes.push(entered(depth, lane, *place))?;
+    for row in near {
+        lanes.push(entered(depth, lane, *row))?;
     }
     Ok(())
 }
@@ -78,7 +72,7 @@ impl<'a> Scene<'a> {
             → Stands self.now crowd.now scopes → Stands self.now part.inside
             (flat_map (into self.now class bounds.now) (between from part.next scopes))) }
     {
-        let mut lanes = Vec::with_capacity(self.alloc, MANY)?;
+        let mut lanes = Vec::with_capacity(self.alloc, 2 * MANY)?;
         let all = crowd.lanes.as_slice();
         let mut next = from;
         while next < all.len() && lanes.len() < MANY {
@@ -90,7 +84,7 @@ impl<'a> Scene<'a> {
         if next == from {
             return Err(Redo);
         }
-        let inside = crowd.part(self.alloc, deeper(crowd.depth), &lanes)?;
+        let inside = crowd.part(self.alloc, deeper(crowd.depth), lanes)?;
         Ok(Part { inside, next })
     }
 }

@@ -1,13 +1,16 @@
-ghost use Rattle.std.specs.Prelude.{◌≡◌, List, [], ◌∷◌, IfOk, OnOk, length, slice_get, Some, true};
+ghost use Rattle.std.specs.Prelude.{◌≡◌, ◌<◌, ◌≤◌, ℕ, List, IfOk, IfSome, OnOk, length, map, slice_get, slice_index_or, Some, true};
+ghost use Rattle.brace_code.specs.declared.lane.Lane.{Lane};
 ghost use Rattle.brace_model.specs.declared.world.Agent.{Agent};
 ghost use Rattle.brace_model.specs.Value.{Scope, typed};
-ghost use Rattle.brace_fold.specs.inner.Crowds.{IsScene, Stands};
-ghost use Rattle.brace_fold.specs.inner.Ears.{IsEar, place_of, is_there, told_by};
+ghost use Rattle.brace_fold.specs.inner.Crowds.{IsScene, Stands, rows};
+ghost use Rattle.brace_model.specs.Total.{total_of};
+ghost use Rattle.brace_fold.specs.inner.Ears.{IsEar, row_of, is_there, told_at, told_by};
 ghost use Rattle.brace_fold.specs.inner.Hears.{Hears};
 
 use crate::crowd::{Crowd, Depth, has_inner, has_outer};
 use crate::scene::Scene;
 use brace_code::{Lane, Redo};
+use brace_comb::{identity, joined};
 use brace_eval::Heard;
 use brace_model::{Comb, Ty, Value, Who};
 
@@ -22,9 +25,9 @@ fn typed(ty: Ty, word: i64) -> Value
     }
 }
 
-/// The place of the agent that a name stands for in a lane.
-fn place_of(who: Who, lane: &Lane) -> u32
-    ensures { result ≡ place_of who lane.now }
+/// The row of the agent that a name stands for in a lane.
+fn row_of(who: Who, lane: &Lane) -> u32
+    ensures { result ≡ row_of who lane.now }
 {
     match who {
         Who::This => lane.this,
@@ -54,6 +57,46 @@ fn expect_there(depth: Depth, who: Who) -> Result<(), Redo>
     }
 }
 
+/// Behind the lanes from a place on in which a name stands for the agent of one row.
+fn run_end(who: Who, row: u32, lanes: &[Lane], from: usize) -> usize
+    requires { from ≤ length lanes.now }
+    ensures within { (from ≤ result) × (result ≤ length lanes.now) }
+    ensures same { (k : ℕ) (l : Lane) → from ≤ k → k < result
+        → row_of who (slice_index_or lanes.now k l) ≡ row }
+{
+    let mut next = from;
+    while next < lanes.len() && row_of(who, &lanes[next]) == row {
+        next += 1;
+    }
+    next
+}
+
+/// The total of words of a type; None where 128 bits do not hold it.
+// Inlined where the combinator is known, so that its loop does not ask for it.
+#[inline(always)]
+fn total_of(comb: Comb, ty: Ty, words: &[i64]) -> Option<i128>
+    ensures { IfSome result (λ n. n ≡ total_of comb (map (typed ty) words.now)) }
+{
+    let mut total = identity(comb);
+    for word in words {
+        total = joined(comb, total, typed(ty, *word))?;
+    }
+    Some(total)
+}
+
+/// The total of words of a type; None where 128 bits do not hold it.
+fn total(comb: Comb, ty: Ty, words: &[i64]) -> Option<i128>
+    ensures { IfSome result (λ n. n ≡ total_of comb (map (typed ty) words.now)) }
+{
+    match comb {
+        Comb::Sum => total_of(Comb::Sum, ty, words),
+        Comb::Min => total_of(Comb::Min, ty, words),
+        Comb::Max => total_of(Comb::Max, ty, words),
+        Comb::Count => total_of(Comb::Count, ty, words),
+        Comb::Or => total_of(Comb::Or, ty, words),
+    }
+}
+
 /// An effect of a class, to which words of a type are said.
 #[derive(Debug, Clone, Copy)]
 pub struct Ear {
@@ -64,13 +107,13 @@ pub struct Ear {
 }
 
 impl<'a> Scene<'a> {
-    /// The ear of the agent at a place.
-    fn ear(&self, place: u32, effect: u32, ty: Ty) -> Result<Ear, Redo>
+    /// The ear of the agent of a row.
+    fn ear(&self, row: u32, effect: u32, ty: Ty) -> Result<Ear, Redo>
         ensures ear { IfOk result (λ ear. IsEar self.now ear) }
         ensures effect { IfOk result (λ ear. ear.effect ≡ effect) }
         ensures of_type { IfOk result (λ ear. ear.ty ≡ ty) }
     {
-        let Some(number) = self.class_at(place) else {
+        let Some(number) = self.class_at(row) else {
             return Err(Redo);
         };
         let Some(class) = self.program.classes.as_slice().get(number as usize) else {
@@ -87,18 +130,30 @@ impl<'a> Scene<'a> {
         })
     }
 
-    /// Joins a word said to the agent at a place.
-    fn say_to(&self, ear: &Ear, place: u32, word: i64, heard: &mut Heard) -> Result<(), Redo>
+    /// Joins words said to the agent of a row.
+    fn say_to(&self, ear: &Ear, row: u32, words: &[i64], heard: &mut Heard) -> Result<(), Redo>
         requires scene { IsScene self.now }
         requires ear { IsEar self.now ear.now }
-        ensures { OnOk result ((a : Agent) → slice_get self.now.agents.now place ≡ Some a
+        ensures { OnOk result ((a : Agent) → slice_get (rows self.now) row ≡ Some a
             → Hears self.now.program.now self.now.agents.now
-            (record { target = a.id; field = ear.now.effect; value = typed ear.now.ty word } ∷ [])
-            heard.old heard.new) }
+            (told_at a ear.now.effect ear.now.ty words.now) heard.old heard.new) }
     {
-        self.expect_class(place, ear.class)?;
-        let at = heard.place_of(place as usize, ear.effect);
-        heard.add(at, ear.comb, typed(ear.ty, word))?;
+        self.expect_class(row, ear.class)?;
+        let Some(number) = total(ear.comb, ear.ty, words) else {
+            return Err(Redo);
+        };
+        let Some(place) = self.cells.place_at(row) else {
+            return Err(Redo);
+        };
+        let count = words.len() as u64;
+        heard.join(
+            self.program,
+            self.agents,
+            place as usize,
+            ear.effect,
+            number,
+            count,
+        )?;
         Ok(())
     }
 
@@ -126,10 +181,13 @@ impl<'a> Scene<'a> {
         let Some(first) = lanes.first() else {
             return Ok(());
         };
-        let ear = self.ear(place_of(who, first), effect, ty)?;
-        for k in 0..lanes.len() {
-            let place = place_of(who, &lanes[k]);
-            self.say_to(&ear, place, words[k], heard)?;
+        let ear = self.ear(row_of(who, first), effect, ty)?;
+        let mut at = 0;
+        while at < lanes.len() {
+            let row = row_of(who, &lanes[at]);
+            let next = run_end(who, row, lanes, at + 1);
+            self.say_to(&ear, row, &words[at..next], heard)?;
+            at = next;
         }
         Ok(())
     }

@@ -1,6 +1,6 @@
 ghost use Rattle.std.specs.Prelude.{◌≡◌, List, [], if◌then◌else◌, slice_get, Some, IfOk, IfSome, OnOk};
 ghost use Rattle.brace_model.specs.Value.{Scope};
-ghost use Rattle.brace_fold.specs.inner.Crowds.{IsScene, IsOfClass, Stands, has_outer, has_inner};
+ghost use Rattle.brace_fold.specs.inner.Crowds.{IsScene, IsOfClass, Stands, has_outer, has_inner, rows};
 ghost use Rattle.brace_fold.specs.inner.Deeds.{Worths};
 
 use crate::cells::Cells;
@@ -11,11 +11,12 @@ use brace_model::{Agent, Program};
 use brace_num::List;
 use std::alloc::Global;
 
-/// What queries are asked over, in columns by the places of the agents.
+/// What queries are asked over, in columns by the rows of the agents.
 #[derive(Debug, Clone, Copy)]
 pub struct Scene<'a> {
     pub alloc: Global,
     pub program: &'a Program,
+    /// The agents, by rising id.
     pub agents: &'a [Agent],
     pub seed: u64,
     pub tick: u64,
@@ -37,19 +38,19 @@ impl<'a> Scene<'a> {
         }
     }
 
-    /// The number of the class of the agent at a place.
-    pub fn class_at(&self, place: u32) -> Option<u32>
-        ensures { IfSome result (λ number. slice_get self.now.classes.now place ≡ Some number) }
+    /// The number of the class of the agent of a row.
+    pub fn class_at(&self, row: u32) -> Option<u32>
+        ensures { IfSome result (λ number. slice_get self.now.classes.now row ≡ Some number) }
     {
-        self.classes.get(place as usize).copied()
+        self.classes.get(row as usize).copied()
     }
 
-    /// Tells Redo where the agent at a place is not one of a class.
-    pub fn expect_class(&self, place: u32, class: u32) -> Result<(), Redo>
+    /// Tells Redo where the agent of a row is not one of a class.
+    pub fn expect_class(&self, row: u32, class: u32) -> Result<(), Redo>
         requires { IsScene self.now }
-        ensures { OnOk result (IsOfClass self.now.agents.now class place) }
+        ensures { OnOk result (IsOfClass (rows self.now) class row) }
     {
-        let Some(number) = self.class_at(place) else {
+        let Some(number) = self.class_at(row) else {
             return Err(Redo);
         };
         if number != class {

@@ -2,8 +2,10 @@ ghost use Rattle.std.specs.Prelude.{◌≡◌, ℕ, List, IfOk, OnOk};
 ghost use Rattle.brace_model.specs.Value.{Scope};
 ghost use Rattle.brace_plan.specs.declared.action.Action.TheVariants as action;
 ghost use Rattle.brace_eval.specs.declared.heard.Heard.{Heard};
-ghost use Rattle.brace_fold.specs.inner.Crowds.{IsScene, Stands};
-ghost use Rattle.brace_fold.specs.inner.Deeds.{AreSides, Does, Leads, done_once, done_by};
+ghost use Rattle.brace_model.specs.declared.program.Ty.TheVariants as ty;
+ghost use Rattle.brace_code.specs.Codes.{type_given};
+ghost use Rattle.brace_fold.specs.inner.Crowds.{IsScene, Stands, chosen};
+ghost use Rattle.brace_fold.specs.inner.Deeds.{Does, Leads, Worths, done_once, done_by};
 
 use crate::crowd::Crowd;
 use crate::finding::Room;
@@ -46,27 +48,39 @@ fn tell(
     Ok(())
 }
 
-/// The lanes of a crowd in which code gives true, and the others.
-#[derive(Debug, Drop)]
-struct Sides {
-    set: Crowd,
-    unset: Crowd,
-}
-
-/// Parts a crowd by what code gives.
-fn parted(scene: &Scene, code: &Code, crowd: &Crowd) -> Result<Sides, Redo>
+/// What code gives in each lane, a flag.
+fn flags(scene: &Scene, code: &Code, crowd: &Crowd) -> Result<List<i64>, Redo>
     requires { IsScene scene.now }
-    ensures { IfOk result (λ sides. (scopes : List Scope) → Stands scene.now crowd.now scopes
-        → AreSides scene.now code.now scopes sides.set sides.unset) }
+    ensures flag { IfOk result (λ _. type_given code.now ≡ ty.Bool) }
+    ensures worths { IfOk result (λ words. (scopes : List Scope)
+        → Stands scene.now crowd.now scopes → Worths code.now scopes words) }
 {
     if code.ty() != Ty::Bool {
         return Err(Redo);
     }
-    let words = scene.eval(code, crowd)?;
-    let flags = words.as_slice();
-    let set = crowd.side(scene.alloc, true, flags)?;
-    let unset = crowd.side(scene.alloc, false, flags)?;
-    Ok(Sides { set, unset })
+    scene.eval(code, crowd)
+}
+
+/// Does a block in the lanes of a crowd whose flag is set, or in those whose flag is 0.
+#[cycle(walk)]
+fn side(
+    scene: &Scene,
+    set: bool,
+    flags: &[i64],
+    actions: &List<Action>,
+    crowd: &Crowd,
+    heard: &mut Heard,
+) -> Result<(), Redo>
+    requires { IsScene scene.now }
+    ensures { OnOk result ((scopes : List Scope) → Stands scene.now crowd.now scopes
+        → Does scene.now (done_by scene.now actions.now) (chosen set scopes flags.now)
+        heard.old heard.new) }
+{
+    if actions.as_slice().is_empty() {
+        return Ok(());
+    }
+    let part = crowd.side(scene.alloc, set, flags)?;
+    block(scene, actions, part, heard)
 }
 
 /// Does an action in all lanes of a crowd.
@@ -80,9 +94,9 @@ fn action(scene: &Scene, action: &Action, crowd: &mut Crowd, heard: &mut Heard) 
     match action {
         Action::Const(n, code) => set(scene, *n, code, crowd),
         Action::If(code, a, b) => {
-            let sides = parted(scene, code, crowd)?;
-            block(scene, a, sides.set, heard)?;
-            block(scene, b, sides.unset, heard)
+            let flags = flags(scene, code, crowd)?;
+            side(scene, true, flags.as_slice(), a, crowd, heard)?;
+            side(scene, false, flags.as_slice(), b, crowd, heard)
         }
         Action::Foreach(class, bounds, body, _) => {
             iterations(scene, *class, bounds, body, crowd, heard)

@@ -11,27 +11,28 @@ use Rattle.brace_eval.specs.declared.heard.Heard.{Heard}
 use Rattle.brace_fold.specs.declared.askers.Asker.{Asker}
 use Rattle.brace_fold.specs.declared.drawn.Drawn.{Drawn}
 use Rattle.brace_fold.specs.declared.scene.Scene.{Scene}
+use Rattle.brace_fold.specs.inner.Crowds.{rows}
 use Rattle.brace_fold.specs.inner.Hears.{Hears}
 
--- what the query of the agent at a place does
+-- what the query of the agent of a row does
 abbrev pub asked : Scene → Agent → ℕ → Deed
-asked scene d place = query_of scene.program.now scene.seed scene.tick scene.agents.now
-    (slice_index_or scene.agents.now place d)
+asked scene d row = query_of scene.program.now scene.seed scene.tick scene.agents.now
+    (slice_index_or (rows scene) row d)
 
--- the queries of the agents at some places fault nowhere, and what they say is heard
-pub record Asks (scene : Scene) (d : Agent) (places : List ℕ) (old new : Heard) : Type 0 where
-  pub quiet : All (λ place. (asked scene d place).faults ≡ []) places
+-- the queries of the agents of some rows fault nowhere, and what they say is heard
+pub record Asks (scene : Scene) (d : Agent) (asking : List ℕ) (old new : Heard) : Type 0 where
+  pub quiet : All (λ row. (asked scene d row).faults ≡ []) asking
   pub hears : Hears scene.program.now scene.agents.now
-      (flat_map (λ place. (asked scene d place).said) places) old new
+      (flat_map (λ row. (asked scene d row).said) asking) old new
 
--- the scopes in which the queries of the agents at some places begin
+-- the scopes in which the queries of the agents of some rows begin
 abbrev pub openings : Scene → ℕ → Agent → List ℕ → List Scope
-openings scene constants d places = map (λ place. opening_of constants scene.seed scene.tick
-    (slice_index_or scene.agents.now place d)) places
+openings scene constants d asking = map (λ row. opening_of constants scene.seed scene.tick
+    (slice_index_or (rows scene) row d)) asking
 
--- the places of those who ask
-abbrev pub places_of : List Asker → List ℕ
-places_of asking = map (λ one. one.place) asking
+-- the rows of those who ask
+abbrev pub rows_of : List Asker → List ℕ
+rows_of asking = map (λ one. one.row) asking
 
 -- the draws of a site are those of agents
 abbrev pub AreDrawn : ℕ → ℕ → List Agent → Drawn → Type 0

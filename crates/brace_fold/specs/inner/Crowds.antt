@@ -13,18 +13,22 @@ use Rattle.brace_fold.specs.declared.crowd.Crowd.{Crowd}
 use Rattle.brace_fold.specs.declared.crowd.Depth.{Depth}
 use Rattle.brace_fold.specs.declared.crowd.Depth.TheVariants.{Outside, Once, Twice}
 use Rattle.brace_fold.specs.declared.scene.Scene.{Scene}
-use Rattle.brace_fold.specs.inner.Sights.{AreCells}
+use Rattle.brace_fold.specs.inner.Sights.{AreSorted, by_row}
 
--- the columns of a scene are those of its agents, whose ids rise, and its cells are theirs
+-- the agents of a scene, row by row
+abbrev pub rows : Scene → List Agent
+rows scene = by_row scene.agents.now scene.cells.now
+
+-- the ids of a scene's agents rise, its cells are theirs, and its columns are those of its rows
 pub record IsScene (scene : Scene) : Type 0 where
   pub rises : RisesById scene.agents.now
+  pub sorted : AreSorted scene.program.now scene.agents.now scene.cells.now
   pub states : (i : ℕ) (column : List ℤ)
       → option_copied (slice_get scene.states.now i) ≡ Some column
-      → column ≡ map (λ a. number (value_at a.states i)) scene.agents.now
-  pub classes : scene.classes.now ≡ map (λ a. a.class) scene.agents.now
+      → column ≡ map (λ a. number (value_at a.states i)) (rows scene)
+  pub classes : scene.classes.now ≡ map (λ a. a.class) (rows scene)
   pub draws : (site : ℕ) (column : List ℤ) → draws_at scene.draws.now site ≡ Some column
-      → column ≡ map (λ a. pos (draw_value scene.seed scene.tick a.id site)) scene.agents.now
-  pub cells : AreCells scene.program.now scene.agents.now scene.cells.now
+      → column ≡ map (λ a. pos (draw_value scene.seed scene.tick a.id site)) (rows scene)
 
 -- lanes of a depth have an agent of the outer loop, or of the inner one
 abbrev pub has_outer : Depth → Bool
@@ -35,19 +39,19 @@ abbrev pub has_inner : Depth → Bool
 has_inner Twice = true
 has_inner _ = false
 
--- where there is an agent, it stands at a place of the list
+-- where there is an agent, it stands in a row
 abbrev pub IsFound : Bool → List Agent → ℕ → Option Agent → Type 0
-IsFound false agents place found = found ≡ None
-IsFound true agents place found =
-    (b : Agent) × (found ≡ Some b) × (slice_get agents place ≡ Some b)
+IsFound false agents row found = found ≡ None
+IsFound true agents row found =
+    (b : Agent) × (found ≡ Some b) × (slice_get agents row ≡ Some b)
 
 -- a lane stands for a scope with these constants
 pub record IsLane (scene : Scene) (depth : Depth) (lane : Lane) (scope : Scope) : Type 0 where
   pub tick : scope.tick ≡ scene.tick
   pub seed : scope.seed ≡ scene.seed
-  pub this : slice_get scene.agents.now lane.this ≡ Some scope.this
-  pub outer : IsFound (has_outer depth) scene.agents.now lane.outer scope.outer
-  pub inner : IsFound (has_inner depth) scene.agents.now lane.inner scope.inner
+  pub this : slice_get (rows scene) lane.this ≡ Some scope.this
+  pub outer : IsFound (has_outer depth) (rows scene) lane.outer scope.outer
+  pub inner : IsFound (has_inner depth) (rows scene) lane.inner scope.inner
   pub totals : scope.totals ≡ []
 
 -- a column has the number of a constant in each scope, as far as it reaches
@@ -114,24 +118,24 @@ pub record AreNumbered (lanes out : List Lane) : Type 0 where
   pub each : (k : ℕ) (l : Lane) → k < length lanes
       → slice_index_or out k l ≡ placed_at k (slice_index_or lanes k l)
 
--- the agent at a place is one of a class
+-- the agent of a row is one of a class
 abbrev pub IsOfClass : List Agent → ℕ → ℕ → Type 0
-IsOfClass agents class place =
-    (a : Agent) × (slice_get agents place ≡ Some a) × (a.class ≡ class)
+IsOfClass agents class row =
+    (a : Agent) × (slice_get agents row ≡ Some a) × (a.class ≡ class)
 
 -- the lane of an agent that asks
 abbrev pub asking_at : ℕ → Lane
-asking_at place = record { this = place; outer = 0; inner = 0; place = 0 }
+asking_at row = record { this = row; outer = 0; inner = 0; place = 0 }
 
 -- the depth inside a loop
 abbrev pub deeper : Depth → Depth
 deeper Outside = Once
 deeper _ = Twice
 
--- a lane inside a loop, at the agent of a place
+-- a lane inside a loop, at the agent of a row
 abbrev pub entered : Depth → Lane → ℕ → Lane
-entered Outside lane place = record lane { outer = place }
-entered _ lane place = record lane { inner = place }
+entered Outside lane row = record lane { outer = row }
+entered _ lane row = record lane { inner = row }
 
 -- the scopes whose word is set, or those whose word is 0
 abbrev pub chosen : Bool → List Scope → List ℤ → List Scope

@@ -1,7 +1,6 @@
 -- What is done in many scopes at once. Only the crate's own functions cite this.
-use Rattle.std.specs.Prelude.{◌≡◌, ℕ, ◌<◌, ℤ, pos, List, [], map, flat_map, take, drop, ◌-◌, length, true, false, Ok, slice_index_or}
+use Rattle.std.specs.Prelude.{◌≡◌, ℕ, ◌<◌, ℤ, pos, List, [], map, flat_map, take, drop, ◌-◌, length, false, Ok, slice_index_or}
 use Rattle.std.specs.List.{All}
-use Rattle.brace_model.specs.declared.program.Ty.TheVariants as ty
 use Rattle.brace_model.specs.Value.{Scope, typed}
 use Rattle.brace_model.specs.Query.{Deed, inside}
 use Rattle.brace_code.specs.declared.code.Code.{Code}
@@ -12,7 +11,7 @@ use Rattle.brace_plan.specs.Acts.{act, acts, near_by}
 use Rattle.brace_eval.specs.declared.heard.Heard.{Heard}
 use Rattle.brace_fold.specs.declared.crowd.Crowd.{Crowd}
 use Rattle.brace_fold.specs.declared.scene.Scene.{Scene}
-use Rattle.brace_fold.specs.inner.Crowds.{Stands, chosen}
+use Rattle.brace_fold.specs.inner.Crowds.{Stands, rows}
 use Rattle.brace_fold.specs.inner.Hears.{Hears}
 
 -- nothing faulted
@@ -46,19 +45,9 @@ pub record Leads (scene : Scene) (deed : Scope → Deed) (scopes : List Scope) (
   pub does : Does scene deed scopes old new
   pub stands : Stands scene after (map (λ s. (deed s).scope) scopes)
 
--- the lanes of a crowd by the flag that code gives in each scope
-pub record AreSides (scene : Scene) (code : Code) (scopes : List Scope) (set unset : Crowd)
-    : Type 0 where
-  pub flag : type_given code ≡ ty.Bool
-  pub words : List ℤ
-  pub worths : Worths code scopes words
-  pub first : Stands scene set (chosen true scopes words)
-  pub second : Stands scene unset (chosen false scopes words)
-
--- the scopes that a loop goes into from a scope
+-- the scopes that a loop goes into from a scope, in the order of the rows
 abbrev pub into : Scene → ℕ → List Bound → Scope → List Scope
-into scene class bounds s =
-    map (inside s) (near_by scene.program.now scene.agents.now s class bounds)
+into scene class bounds s = map (inside s) (near_by scene.program.now (rows scene) s class bounds)
 
 -- the part of a list from a place to another
 abbrev pub between : {A : Type 0} → ℕ → ℕ → List A → List A

@@ -1,10 +1,11 @@
 -- To whom lanes say values. Only the crate's own functions cite this.
-use Rattle.std.specs.Prelude.{◌≡◌, ℕ, ℤ, Bool, true, List, [], ◌∷◌, Some, slice_get}
+use Rattle.std.specs.Prelude.{◌≡◌, ℕ, ℤ, Bool, true, List, [], ◌∷◌, map, Some, slice_get}
 use Rattle.brace_model.specs.declared.program.Class.{Class}
 use Rattle.brace_model.specs.declared.program.Effect.{Effect}
 use Rattle.brace_model.specs.declared.program.Ty.{Ty}
 use Rattle.brace_model.specs.declared.program.Who.{Who}
 use Rattle.brace_model.specs.declared.program.Who.TheVariants.{This, Outer, Inner}
+use Rattle.brace_model.specs.declared.world.Agent.{Agent}
 use Rattle.brace_model.specs.Value.{Scope, agent_of, typed}
 use Rattle.brace_model.specs.Query.{Saying}
 use Rattle.brace_code.specs.declared.lane.Lane.{Lane}
@@ -13,11 +14,11 @@ use Rattle.brace_fold.specs.declared.saying.Ear.{Ear}
 use Rattle.brace_fold.specs.declared.scene.Scene.{Scene}
 use Rattle.brace_fold.specs.inner.Crowds.{has_outer, has_inner}
 
--- the place of the agent that a name stands for in a lane
-abbrev pub place_of : Who → Lane → ℕ
-place_of This lane = lane.this
-place_of Outer lane = lane.outer
-place_of Inner lane = lane.inner
+-- the row of the agent that a name stands for in a lane
+abbrev pub row_of : Who → Lane → ℕ
+row_of This lane = lane.this
+row_of Outer lane = lane.outer
+row_of Inner lane = lane.inner
 
 -- a name stands for an agent in the lanes of a depth
 abbrev pub is_there : Depth → Who → Bool
@@ -44,3 +45,8 @@ told_by who effect type [] words = []
 told_by who effect type (s ∷ scopes) [] = []
 told_by who effect type (s ∷ scopes) (w ∷ words) =
     told who effect type s w ∷ told_by who effect type scopes words
+
+-- what is said with words to an effect of an agent
+abbrev pub told_at : Agent → ℕ → Ty → List ℤ → List Saying
+told_at a effect type words =
+    map (λ word. record { target = a.id; field = effect; value = typed type word }) words

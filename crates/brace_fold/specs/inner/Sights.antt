@@ -1,7 +1,7 @@
 -- Agents in cells, the runs of the cells around one, and which agents are found there. Only the
 -- crate's own functions cite this.
-use Rattle.std.specs.Prelude.{◌≡◌, ℕ, ◌-◌, ◌<◌, ◌≤◌, ℤ, pos, ◌+ℤ◌, ◌-ℤ◌, ◌*ℤ◌, ◌<ℤ◌, ◌≤ℤ◌, Bool, true, not, ◌&&◌, ◌==◌, List, ◌++◌, map, filter, take, drop, length, slice_index_or, Some, is_some}
-use Rattle.std.specs.List.{list_all}
+use Rattle.std.specs.Prelude.{◌≡◌, ℕ, ◌-◌, ◌<◌, ◌≤◌, ℤ, pos, ◌+ℤ◌, ◌-ℤ◌, ◌*ℤ◌, ◌<ℤ◌, ◌≤ℤ◌, Bool, true, not, ◌&&◌, ◌==◌, List, [], ◌++◌, map, filter, take, drop, length, slice_index_or, Some, is_some}
+use Rattle.std.specs.List.{All, list_all}
 use Rattle.std.specs.List.Sorted.{IsPermutation}
 use Rattle.brace_model.specs.declared.program.Class.{Class}
 use Rattle.brace_model.specs.declared.program.Program.{Program}
@@ -13,6 +13,7 @@ use Rattle.brace_grid.specs.Grids as grids
 use Rattle.brace_plan.specs.Answers.{greatest_visible}
 use Rattle.brace_plan.specs.declared.action.Bound.{Bound}
 use Rattle.brace_plan.specs.Acts.{coordinate, limit_in, stands}
+use Rattle.brace_fold.specs.Asked.{agents_at}
 use Rattle.brace_fold.specs.declared.cells.Cells.{Cells}
 use Rattle.brace_fold.specs.declared.cells.Run.{Run}
 use Rattle.brace_fold.specs.declared.cells.Runs.{Runs}
@@ -38,7 +39,7 @@ spot_of program side place a = record {
   place = place;
 }
 
--- spots of agents, by place; each agent has a class of the program
+-- spots of agents, one by one; each agent has a class of the program
 pub record AreSpots (program : Program) (side : ℤ) (agents : List Agent) (spots : List Spot)
     : Type 0 where
   pub long : length spots ≡ length agents
@@ -47,22 +48,36 @@ pub record AreSpots (program : Program) (side : ℤ) (agents : List Agent) (spot
   pub each : (k : ℕ) (s : Spot) (a : Agent) → k < length agents
       → slice_index_or spots k s ≡ spot_of program side k (slice_index_or agents k a)
 
+-- a spot in a row
+abbrev pub in_row : ℕ → Spot → Spot
+in_row row s = record s { place = row }
+
 -- spots by rising cell
 pub record CellsRise (spots : List Spot) : Type 0 where
   pub rise : (i j : ℕ) (d : Spot) → i ≤ j → j < length spots
       → (slice_index_or spots i d).cell ≤ℤ (slice_index_or spots j d).cell
 
--- the agents of a list are in cells of a side no less than any class sees, in the order of these
+-- agents, row by row, are in cells of a side no less than any class sees, in the order of these
 pub record AreCells (program : Program) (agents : List Agent) (cells : Cells) : Type 0 where
   pub side : ℤ
   pub some : pos 0 <ℤ side
   pub wide : greatest_visible program ≤ℤ side
-  pub long : length cells.cells.items ≡ length agents
-  pub spots : List Spot
-  pub theirs : AreSpots program side agents spots
-  pub numbers : cells.cells.items ≡ map (λ s. s.cell) spots
-  pub moved : IsPermutation spots cells.spots.items
+  pub theirs : AreSpots program side agents cells.spots.items
   pub rise : CellsRise cells.spots.items
+
+-- the agent where there is none
+abbrev pub no_agent : Agent
+no_agent = record { class = 0; id = 0; states = [] }
+
+-- the agents of a list, row by row of cells
+abbrev pub by_row : List Agent → Cells → List Agent
+by_row agents cells = agents_at agents no_agent cells.order.items
+
+-- cells of the agents of a list, each of which has a row
+pub record AreSorted (program : Program) (agents : List Agent) (cells : Cells) : Type 0 where
+  pub are : AreCells program (by_row agents cells) cells
+  pub moved : IsPermutation agents (by_row agents cells)
+  pub within : All (λ place. place < length agents) cells.order.items
 
 -- so many spots come before a cell
 pub record IsRank (spots : List Spot) (cell : ℤ) (rank : ℕ) : Type 0 where

@@ -1,60 +1,71 @@
 use Rattle.std.proofs.Common.{◌≡◌, ◌∙◌, sym, ap, subst, ℕ, List, [], map, flat_map, get_or}
 use Rattle.std.specs.List.{All}
-use Rattle.std.specs.List.Sorted.{IsPermutation}
-use Rattle.std.proofs.lemmas.List.Sorted.{IsPermutation-map}
+use Rattle.std.proofs.lemmas.List.Elements.{All-map}
 use Rattle.brace_model.specs.declared.program.Program.{Program}
-use Rattle.brace_model.specs.Query.{query_of}
-use Rattle.brace_eval.specs.declared.heard.Heard.{Heard}
-use Rattle.brace_fold.specs.declared.askers.Asker.{Asker}
-use Rattle.brace_fold.specs.inner.Asks.{lent, made, places_of}
+use Rattle.brace_model.specs.declared.world.Agent.{Agent}
+use Rattle.brace_model.specs.Query.{Deed, query_of}
+use Rattle.brace_model.specs.World.{number, value_at}
+use Rattle.brace_fold.specs.Asked.{agents_at}
+use Rattle.brace_fold.specs.inner.Asks.{AreDrawn, lent, made, rows_of}
 use Rattle.brace_fold.specs.inner.Hears.{Hears}
-use Rattle.brace_fold.proofs.Askings.{heard-by, quiet-by}
-use Rattle.brace_fold.proofs.ColumnLemmas.{copied-view}
+use Rattle.brace_fold.specs.inner.Sights.{by_row, no_agent}
+use Rattle.brace_fold.proofs.Askings.{asking-sorted, heard-by, quiet-by}
+use Rattle.brace_fold.proofs.ColumnLemmas.{by-rows, copied-view}
+use Rattle.brace_fold.proofs.Doings.{mapped-said}
 use Rattle.brace_fold.proofs.Drawings.{draws-of}
 use Rattle.brace_fold.proofs.Walks.{on_ok}
 use Rattle.brace_fold.proofs.folding.fold.Goals as goal
 
 pub ask_all-requires-clause-scene : goal.ask_all-requires-clause-scene
-ask_all-requires-clause-scene c = record {
-  rises = c.requires.rises;
-  states = λ i column e. c.in_ok-columns.ensures i column
-      (copied-view c.deref-3.result.now c.in_ok-columns.columns.items i column
-      (ap (map (λ v. v.now)) c.deref-3.ensures.value ∙ c.in_ok-states.ensures ∙ c.deref.ensures.value) e);
-  classes = c.deref-4.ensures.value ∙ c.in_ok-classes.ensures;
-  draws = draws-of c.args.seed c.args.tick c.args.agents.now c.deref-5.result.now c.in_ok-drawn.drawn.items
-      (ap (map lent) c.deref-5.ensures.value ∙ c.in_ok-draws.ensures ∙ ap (map made) c.deref-2.ensures.value) c.in_ok-drawn.ensures;
-  cells = c.in_ok-cells.ensures;
-}
+ask_all-requires-clause-scene c =
+    let agents = c.args.agents.now in
+    let rows = by_row agents c.in_ok-cells.cells in
+    let refs = c.in_ok-rows.ensures ∙ ap (agents_at agents no_agent) c.deref.ensures.value in
+    record {
+      rises = c.requires.rises;
+      sorted = c.in_ok-cells.ensures;
+      states = λ i column e. c.in_ok-columns.ensures i column
+          (copied-view c.deref-7.result.now c.in_ok-columns.columns.items i column
+          (ap (map (λ v. v.now)) c.deref-7.ensures.value ∙ c.in_ok-states.ensures ∙ c.deref-3.ensures.value) e)
+          ∙ by-rows (λ a. number (value_at a.states i)) c.deref-2.result.now rows (ap (map (λ r. r.now)) c.deref-2.ensures.value ∙ refs);
+      classes = c.deref-8.ensures.value ∙ c.in_ok-classes.ensures
+          ∙ by-rows (λ a. a.class) c.deref-4.result.now rows (ap (map (λ r. r.now)) c.deref-4.ensures.value ∙ refs);
+      draws = draws-of c.args.seed c.args.tick rows c.deref-9.result.now c.in_ok-drawn.drawn.items
+          (ap (map lent) c.deref-9.ensures.value ∙ c.in_ok-draws.ensures ∙ ap (map made) c.deref-6.ensures.value)
+          (subst (λ (l : List Agent). All (AreDrawn c.args.seed c.args.tick l) c.in_ok-drawn.drawn.items)
+          (ap (map (λ r. r.now)) c.deref-5.ensures.value ∙ refs) c.in_ok-drawn.ensures);
+    }
 
 pub returns-clause-heard : goal.returns-clause-heard
 returns-clause-heard c = on_ok c.ask_all.result _ _ (λ asks d said faults is.
     let agents = c.args.agents.now in
-    let seed = c.args.seed in
-    let tick = c.args.tick in
+    let cells = c.in_ok-cells.cells in
     let program = c.args.plans.now in
-    let sorted = places_of c.deref-7.result.now in
-    let a : Heard = c.args.heard.now in
-    let b : Heard = c.ask_all.new.heard in
-    let perm : IsPermutation c.args.asking.now sorted =
-    subst (λ (l : List ℕ). IsPermutation l sorted) c.in_ok-asking.ensures
-    (subst (λ (l : List Asker). IsPermutation (places_of c.in_ok-asking.asking.items) (places_of l)) (sym c.deref-7.ensures.value)
-    (IsPermutation-map (λ (one : Asker). one.place) c.in_ok-asking.asking.items c.sort_by_class.new.all.items c.sort_by_class.ensures)) in
-    let quiet = subst (λ (p : Program). All (λ place. (query_of p seed tick agents (get_or agents place d)).faults ≡ []) sorted)
-    c.program-program.ensures (asks d).quiet in
-    let hears = subst (λ (p : Program). Hears p agents (flat_map (λ place. (query_of p seed tick agents (get_or agents place d)).said) sorted) a b)
+    let query : Program → Agent → Deed = λ p a. query_of p c.args.seed c.args.tick agents a in
+    let rows = by_row agents cells in
+    let sorted = rows_of c.deref-11.result.now in
+    let one : ℕ → Agent = λ row. get_or rows row d in
+    let perm = asking-sorted agents d cells c.args.asking.now c.in_ok-asking.asking.items c.sort_by_class.new.all.items c.deref-11.result.now
+    c.in_ok-cells.ensures.within c.in_ok-asking.ensures c.sort_by_class.ensures c.deref-11.ensures.value in
+    let quiet = subst (λ (p : Program). All (λ row. (query p (one row)).faults ≡ []) sorted) c.program-program.ensures (asks d).quiet in
+    let hears = subst (λ (p : Program). Hears p agents (flat_map (λ row. (query p (one row)).said) sorted) c.args.heard.now c.ask_all.new.heard)
     c.program-program.ensures (asks d).hears in
-    heard-by program seed tick agents d c.args.asking.now sorted a b perm quiet hears said faults is) c.ask_all.ensures
+    heard-by program c.args.seed c.args.tick agents (agents_at agents d c.args.asking.now) (agents_at rows d sorted) c.args.heard.now c.ask_all.new.heard perm
+    (All-map (λ a. (query program a).faults ≡ []) one sorted quiet)
+    (subst (λ l. Hears program agents l c.args.heard.now c.ask_all.new.heard) (sym (mapped-said one (λ a. (query program a).said) sorted)) hears)
+    said faults is) c.ask_all.ensures
 
 pub returns-clause-quiet : goal.returns-clause-quiet
 returns-clause-quiet c = on_ok c.ask_all.result _ _ (λ asks d.
     let agents = c.args.agents.now in
-    let seed = c.args.seed in
-    let tick = c.args.tick in
-    let sorted = places_of c.deref-7.result.now in
-    let perm : IsPermutation c.args.asking.now sorted =
-    subst (λ (l : List ℕ). IsPermutation l sorted) c.in_ok-asking.ensures
-    (subst (λ (l : List Asker). IsPermutation (places_of c.in_ok-asking.asking.items) (places_of l)) (sym c.deref-7.ensures.value)
-    (IsPermutation-map (λ (one : Asker). one.place) c.in_ok-asking.asking.items c.sort_by_class.new.all.items c.sort_by_class.ensures)) in
-    let quiet = subst (λ (p : Program). All (λ place. (query_of p seed tick agents (get_or agents place d)).faults ≡ []) sorted)
-    c.program-program.ensures (asks d).quiet in
-    quiet-by c.args.plans.now seed tick agents d c.args.asking.now sorted perm quiet) c.ask_all.ensures
+    let cells = c.in_ok-cells.cells in
+    let program = c.args.plans.now in
+    let query : Program → Agent → Deed = λ p a. query_of p c.args.seed c.args.tick agents a in
+    let rows = by_row agents cells in
+    let sorted = rows_of c.deref-11.result.now in
+    let one : ℕ → Agent = λ row. get_or rows row d in
+    let perm = asking-sorted agents d cells c.args.asking.now c.in_ok-asking.asking.items c.sort_by_class.new.all.items c.deref-11.result.now
+    c.in_ok-cells.ensures.within c.in_ok-asking.ensures c.sort_by_class.ensures c.deref-11.ensures.value in
+    let quiet = subst (λ (p : Program). All (λ row. (query p (one row)).faults ≡ []) sorted) c.program-program.ensures (asks d).quiet in
+    quiet-by program c.args.seed c.args.tick agents (agents_at agents d c.args.asking.now) (agents_at rows d sorted) perm
+    (All-map (λ a. (query program a).faults ≡ []) one sorted quiet)) c.ask_all.ensures

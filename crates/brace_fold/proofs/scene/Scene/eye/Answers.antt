@@ -10,10 +10,10 @@ returns c a this =
     let scene = c.args.self.now in
     let own = c.in-Some-get.own.now in
     let number = c.in-Some.number.now in
-    let is : slice_get scene.classes.now c.args.place ≡ Some number =
-    slice_get_read scene.classes.now _ c.args.place number refl c.in-Some.ensures.lookup.3.0
+    let is : slice_get scene.classes.now c.args.row ≡ Some number =
+    slice_get_read scene.classes.now _ c.args.row number refl c.in-Some.ensures.lookup.3.0
     c.in-Some.ensures.lookup.1 in
-    let class : number ≡ a.class = class_there scene c.requires c.args.place number is a this in
+    let class : number ≡ a.class = class_there scene c.requires c.args.row number is a this in
     let has : slice_get c.as_slice.result.now number ≡ Some own =
     slice_get_read c.as_slice.result.now _ number own refl c.in-Some-get.ensures.lookup.3.0
     c.in-Some-get.ensures.lookup.1 in

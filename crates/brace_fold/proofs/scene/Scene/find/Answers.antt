@@ -1,8 +1,9 @@
 use Rattle.std.proofs.Common.{◌∙◌, List, subst}
 use Rattle.std.specs.List.Sorted.{IsPermutation}
 use Rattle.brace_fold.specs.declared.seeing.Cut.{Cut}
-use Rattle.brace_fold.specs.inner.Sights.{found_around}
-use Rattle.brace_fold.proofs.Taking.{eye_cell, near_is}
+use Rattle.brace_fold.specs.inner.Crowds.{rows}
+use Rattle.brace_fold.specs.inner.Sights.{IsAround, found_around}
+use Rattle.brace_fold.proofs.Taking.{apart_moved, eye_cell, eye_stands, near_is}
 use Rattle.brace_fold.proofs.scene.Scene.find.Goals as goal
 
 pub returns-clause-near : goal.returns-clause-near
@@ -17,12 +18,13 @@ returns-clause-near c scope stands =
     let near = c.look_around.new.near.items in
     let this = stands.stands.this in
     let looks = c.in_ok-eye.ensures scope.this this in
-    let cell = eye_cell program scope class place bounds eye looks scene.agents.now
-    scene.cells.now c.requires.scene.cells c.requires.scene.rises this in
+    let are = c.requires.scene.sorted.are in
+    let apart = apart_moved scene.agents.now (rows scene) c.requires.scene.rises c.requires.scene.sorted.moved in
+    let stand = eye_stands program scope class place bounds eye looks (rows scene) scene.cells.now are apart this in
+    let cell = eye_cell program scope class place bounds eye looks (rows scene) scene.cells.now are apart this in
     let cuts = c.deref.ensures.value ∙ c.in_ok-cut.ensures scope stands in
-    near_is program scope class place bounds eye looks scene.agents.now scene.cells.now
-    c.requires.scene.cells c.requires.scene.rises this runs near
-    (c.in_ok-lead.ensures.around _ cell)
+    near_is program scope class place bounds eye looks (rows scene) scene.cells.now are apart this runs near
+    (subst (λ n. IsAround scene.cells.now n runs) cell (c.in_ok-lead.ensures.around _ stand))
     (subst (λ (l : List Cut). IsPermutation
     (found_around eye l scene.cells.now.spots.items runs) near) cuts
     c.in_ok-look_around.ensures.found) c.in_ok-look_around.ensures.rising

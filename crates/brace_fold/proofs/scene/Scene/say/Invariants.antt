@@ -1,10 +1,16 @@
-use Rattle.std.proofs.Common.{◌≡◌, List, take, length}
+use Rattle.std.proofs.Common.{◌≡◌, ◌≤◌, ◌-◌, List, take, length}
 use Rattle.brace_model.specs.Value.{Scope}
 use Rattle.brace_fold.specs.inner.Crowds.{Stands}
 use Rattle.brace_fold.specs.inner.Ears.{told_by}
 use Rattle.brace_fold.specs.inner.Hears.{Hears}
 use Rattle.brace_fold.proofs.scene.Scene.say.Given as goal
 
-abbrev pub invariant-loop-k : goal.invariant-loop-k
-invariant-loop-k l = (scopes : List Scope) → Stands l.self l.crowd scopes → length l.words ≡ length scopes
-    → Hears l.self.program.now l.self.agents.now (told_by l.who l.effect l.fn.ty (take l.k scopes) (take l.k l.words)) l.fn.heard l.heard
+abbrev pub invariant-loop-at : goal.invariant-loop-at
+invariant-loop-at l = record {
+  within : l.at ≤ length l.lanes;
+  said : (scopes : List Scope) → Stands l.self l.crowd scopes → length l.words ≡ length scopes
+      → Hears l.self.program.now l.self.agents.now (told_by l.who l.effect l.fn.ty (take l.at scopes) (take l.at l.words)) l.fn.heard l.heard;
+}
+
+abbrev pub decreases-loop-at : goal.decreases-loop-at
+decreases-loop-at l = length l.lanes - l.at

@@ -1,17 +1,10 @@
-use Rattle.std.proofs.Common.{◌≡◌, ◌∙◌, ap, get_or, set, pos, rules}
-use Rattle.brace_model.specs.declared.program.Value.{Value}
-use Rattle.brace_model.specs.Total.{joined}
-use Rattle.brace_model.specs.Value.{typed}
-use Rattle.brace_fold.proofs.Sayings.{hears-one}
+use Rattle.std.proofs.Common.{◌≡◌, ◌∙◌, refl, rules, to_z, of_z}
+use Rattle.std.specs.Int.{w128}
+use Rattle.brace_fold.proofs.Sayings.{hears-words}
 use Rattle.brace_fold.proofs.scene.Scene.say_to.Goals as goal
 
 pub returns : goal.returns
 returns c = λ a found.
-    let ear = c.args.ear.now in
-    let at = c.place_of-at.result in
-    let before = c.args.heard.now in
-    let value : c.typed.result ≡ typed ear.ty c.args.word = search rules in
-    hears-one c.args.self.now ear c.args.place at c.args.word before c.add.new.self a c.requires.scene c.requires.ear c.in_ok-expect_class.ensures found
-    c.place_of-at.ensures
-    (c.in_ok-add.ensures.totals ∙ ap (λ (v : Value). set before.totals.items at (joined ear.comb (get_or before.totals.items at (pos 0)) v)) value)
-    c.in_ok-add.ensures.counts c.in_ok-add.ensures.starts c.in_ok-add.ensures.least
+    let number : to_z w128 (of_z w128 c.in-Some.number) ≡ c.in-Some.number = search rules in
+    hears-words c.args.self.now c.args.ear.now c.args.row c.in-Some-place_at.place _ c.args.words.now _ c.args.heard.now c.join.new.self a c.requires.scene c.requires.ear
+    c.in_ok-expect_class.ensures found (search rules) (number ∙ c.in-Some.ensures) refl c.in_ok-join.ensures.told

@@ -12,5 +12,5 @@ returns-in-Some c =
     c.in-Some.ensures.lookup.3.0 c.in-Some.ensures.lookup.1 in
     if_ok c.read.result _ _
     (state_there scene c.requires c.args.state c.in-Some.column.now.now (ap option_copied there)
-    c.args.place)
+    c.args.row)
     c.read.ensures
