@@ -87,7 +87,7 @@ def check_predators(checks, program, folder):
 
 
 def check_ends(checks, program, folder, rows):
-    """Each saved end is resumed with the rows that are left, and saves the ends that are left."""
+    """Each saved end is resumed with the rows that are left, and saves the ends behind it."""
     lines = rows.splitlines(keepends=True)
     ends = [*range(EPOCH, TICKS, EPOCH), TICKS]
     for number, end in enumerate(ends):
@@ -97,7 +97,7 @@ def check_ends(checks, program, folder, rows):
         status, rest, message = run(program, folder, words)
         left = b"".join(line for line in lines if int(line.split(b",", 1)[0]) > end)
         checks.same(f"from {end}", (status, rest == left, message), (0, True, ""))
-        for later in ends[number:]:
+        for later in ends[number + 1:]:
             with open(os.path.join(folder, f"end.{later}"), "rb") as one, \
                     open(os.path.join(folder, f"later.{later}"), "rb") as other:
                 checks.same(f"from {end} the file of {later}", one.read() == other.read(), True)
