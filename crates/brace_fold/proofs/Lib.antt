@@ -14,3 +14,8 @@ pub mod Taking
 pub mod Readings
 pub mod Askings
 pub mod Drawings
+pub mod Choosing
+pub mod Placings
+pub mod RunLemmas
+pub mod LeavingLemmas
+pub mod RenewLemmas
