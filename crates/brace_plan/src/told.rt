@@ -41,6 +41,7 @@ impl Plans {
             constants: planned.constants,
         })
     }
+
     /// A class, by number, and its rules.
     pub fn ruled(&self, class: u32) -> Option<Ruled<'_>>
         ensures { IfSome result (λ ruled.
