@@ -1,9 +1,8 @@
 -- Lists of which some elements are chosen, and others are left out.
-use Rattle.std.proofs.Common.{◌≡◌, ◌∙◌, refl, sym, ap, ap₂, subst, ℕ, zero, suc, ◌+◌, ◌<◌, List, [], ◌∷◌, ◌++◌, append-nil, append_assoc, filter, filter_map, length, take, get_or, Bool, true, false, cond, Option, Some, None, arith}
+use Rattle.std.proofs.Common.{◌≡◌, ◌∙◌, refl, sym, ap, ap₂, subst, ℕ, zero, suc, ◌+◌, ◌<◌, List, [], ◌∷◌, filter, filter_map, length, take, get_or, Bool, true, false, cond, Option, Some, None, arith}
 use Rattle.std.specs.List.{All, cons_option}
 use Rattle.std.proofs.lemmas.List.{take_more}
-use Rattle.std.proofs.lemmas.List.Elements.{All-nil, All-cons, All-head, All-tail, All-append, filter_map-append}
-use Rattle.brace_plan.specs.Leaving.{with_one}
+use Rattle.std.proofs.lemmas.List.Elements.{All-nil, All-cons, All-head, All-tail, All-append}
 
 -- one element more of which something holds
 pub all-more : {A : Type 0} (P : A → Type 0) (xs : List A) (i : ℕ) (x : A) → i < length xs → x ≡ get_or xs i x → All P (take i xs) → P x → All P (take (i + 1) xs)
@@ -12,20 +11,6 @@ all-more P xs i x low is before here =
     (All-append P (take i xs) (get_or xs i x ∷ []) before (All-cons P (get_or xs i x) [] (subst P is here) (All-nil P)))
 
 module _ {A B : Type 0} where
-  one-behind : (ys : List B) (o : Option B) → with_one ys o ≡ ys ++ cons_option o []
-  one-behind ys None = sym (append-nil ys)
-  one-behind ys (Some y) = refl
-
-  -- one element more, where it is kept
-  pub kept-more : (f : A → Option B) (xs : List A) (i : ℕ) (x : A) (before now after : List B) → i < length xs → x ≡ get_or xs i x
-      → now ≡ before ++ filter_map f (take i xs) → after ≡ with_one now (f x) → after ≡ before ++ filter_map f (take (i + 1) xs)
-  kept-more f xs i x before now after low is so more =
-      more ∙ one-behind now (f x)
-      ∙ ap₂ (λ ys y. ys ++ cons_option (f y) []) so is
-      ∙ append_assoc before (filter_map f (take i xs)) (filter_map f (get_or xs i x ∷ []))
-      ∙ ap (λ ys. before ++ ys) (sym (filter_map-append f (take i xs) (get_or xs i x ∷ [])))
-      ∙ ap (λ ys. before ++ filter_map f ys) (sym (take_more xs i x low))
-
   -- two functions that agree on the elements of a list
   pub same-kept : (f g : A → Option B) (xs : List A) → All (λ x. f x ≡ g x) xs → filter_map f xs ≡ filter_map g xs
   same-kept f g [] all = refl

@@ -1,7 +1,9 @@
 -- What the agents of lanes leave by what their rules came to.
-use Rattle.std.proofs.Common.{◌≡◌, ◌∙◌, refl, sym, ap, ap₂, subst, ℕ, ◌<◌, List, [], ◌∷◌, ◌++◌, map, filter, filter_map, length, get_or, Bool, false, true, if◌then◌else◌, Option, Some, None}
-use Rattle.std.specs.List.{All, AllZip}
+use Rattle.std.proofs.Common.{◌≡◌, ◌∙◌, refl, sym, ap, ap₂, subst, ℕ, zero, suc, ◌+◌, ◌-◌, ◌<◌, ◌≤◌, List, [], ◌∷◌, ◌++◌, append_assoc, map, filter, filter_map, length, take, drop, get_or, arith, Bool, false, true, if◌then◌else◌, Option, Some, None}
+use Rattle.std.specs.Prelude.{option_to_list, reverse}
+use Rattle.std.specs.List.{All, AllZip, cons_option}
 use Rattle.std.specs.Result.{result_err}
+use Rattle.std.proofs.lemmas.List.{reverse-append}
 use Rattle.std.proofs.lemmas.List.Elements.{filter_map-append}
 use Rattle.brace_model.specs.declared.program.Class.{Class}
 use Rattle.brace_model.specs.declared.program.Value.{Value}
@@ -17,9 +19,8 @@ use Rattle.brace_plan.specs.Ruling.{gifts_by, gifts_of, rules_by}
 use Rattle.brace_plan.specs.Leaving.{dies_by, given_by, leaves_by, spawns_by, survivor, update_by}
 use Rattle.brace_fold.specs.declared.outcome.Column.{Column}
 use Rattle.brace_fold.specs.declared.outcome.Outcome.{Outcome}
-use Rattle.brace_fold.specs.declared.renewing.Renewed.{Renewed}
-use Rattle.brace_fold.specs.inner.Rulings.{AreBorn, AreLanes, IsOutcome, IsRun, Leaves, agent_at, child_of, given_at, is_set, lives_in, new_states, value_in}
-use Rattle.brace_fold.proofs.Choosing.{all-chosen, all-kept, chosen-all, kept-chosen, same-kept}
+use Rattle.brace_fold.specs.inner.Rulings.{AreBorn, AreLanes, IsOutcome, IsRun, Leaves, agent_at, child_of, given_at, is_set, lives_in, living_from, new_states, row_lane, value_in}
+use Rattle.brace_fold.proofs.Choosing.{all-chosen, all-kept, chosen-all, kept-chosen}
 use Rattle.brace_fold.proofs.RunLemmas.{fine, gifts-at, rule-at, rules-at}
 
 fine-values : (vs : List Value) → values_of (map fine vs) ≡ vs
@@ -30,8 +31,74 @@ no-stops : (vs : List Value) → filter_map result_err (map fine vs) ≡ []
 no-stops [] = refl
 no-stops (v ∷ vs) = no-stops vs
 
-module _ (class : Class) (rules : Rules) (agents : List Agent) (d : Agent) (frame : Frame) (places : List ℕ) (lanes parents : List Lane) (scope : Lane → Scope)
-    (shows : Shows frame scope) (are : AreLanes places lanes) (out : Outcome) (is : IsOutcome frame lanes rules out)
+-- ---- the states of an agent take the values of a row
+
+pub set-all : (columns : List (Option Column)) (row : ℕ) (old new : List Value) → length new ≡ length old → length old ≤ length columns
+    → ((j : ℕ) (d e : Value) (o : Option Column) → j < length old → get_or new j d ≡ value_in (get_or columns j o) row (get_or old j e))
+    → new ≡ new_states columns row old
+set-all columns row [] [] long low each = sym (no-pairs columns)
+  where
+    no-pairs : (columns : List (Option Column)) → new_states columns row [] ≡ []
+    no-pairs [] = refl
+    no-pairs (o ∷ columns) = refl
+set-all columns row [] (v ∷ new) long low each = absurd (omega (arith, long))
+set-all columns row (v ∷ old) [] long low each = absurd (omega (arith, long))
+set-all [] row (v ∷ old) (w ∷ new) long low each = absurd (omega (arith, low))
+set-all (o ∷ columns) row (v ∷ old) (w ∷ new) long low each =
+    ap₂ (λ x xs. x ∷ xs) (each zero w v o (omega arith))
+    (set-all columns row old new (omega (arith, long)) (omega (arith, low)) (λ j d e p less. each (suc j) d e p (omega (arith, less))))
+
+-- as many of the values as there are columns
+pub new-front : (columns : List (Option Column)) (row : ℕ) (olds : List Value) → new_states columns row (take (length columns) olds) ≡ new_states columns row olds
+new-front [] row olds = refl
+new-front (o ∷ columns) row [] = refl
+new-front (o ∷ columns) row (v ∷ olds) = ap (λ vs. value_in o row v ∷ vs) (new-front columns row olds)
+
+-- ---- agents are taken one by one, the last first
+
+consed : (o : Option Agent) (agents : List Agent) → cons_option o agents ≡ option_to_list o ++ agents
+consed None agents = refl
+consed (Some a) agents = refl
+
+module _ (agents rest : List Agent) (a : Agent) (is : agents ≡ rest ++ a ∷ []) where
+  turned : reverse agents ≡ a ∷ reverse rest
+  turned = ap reverse is ∙ reverse-append rest (a ∷ [])
+
+  module _ (count row : ℕ) (low : row < count) where
+    one-left : count - row ≡ suc (count - (row + 1))
+    one-left = omega (arith, low)
+
+    pub kept-one : (class : Class) (out : Outcome) (left after whole : List Agent)
+        → left ++ living_from class out row (take (count - row) (reverse agents)) ≡ whole → after ≡ left ++ option_to_list (lives_in class out row a)
+        → after ++ living_from class out (row + 1) (take (count - (row + 1)) (reverse rest)) ≡ whole
+    kept-one class out left after whole before more =
+        let further = living_from class out (row + 1) (take (count - (row + 1)) (reverse rest)) in
+        ap (λ xs. xs ++ further) more
+        ∙ append_assoc left (option_to_list (lives_in class out row a)) further
+        ∙ ap (λ xs. left ++ xs) (sym (consed (lives_in class out row a) further))
+        ∙ sym (ap₂ (λ n xs. left ++ living_from class out row (take n xs)) one-left turned)
+        ∙ before
+
+    pub dropped-one : (behind : List Agent) → drop (count - row) (reverse agents) ≡ behind → drop (count - (row + 1)) (reverse rest) ≡ behind
+    dropped-one behind before = sym (ap₂ (λ n (xs : List Agent). drop n xs) one-left turned) ∙ before
+
+-- ---- what rows come to, their lanes come to
+
+living-each : (class : Class) (out : Outcome) (f : Lane → Option Agent) (d : Agent) (l : Lane) (row : ℕ) (agents : List Agent) (lanes : List Lane)
+    → length lanes ≡ length agents → ((k : ℕ) → k < length lanes → lives_in class out (row + k) (get_or agents k d) ≡ f (get_or lanes k l))
+    → living_from class out row agents ≡ filter_map f lanes
+living-each class out f d l row [] [] long each = refl
+living-each class out f d l row [] (x ∷ lanes) long each = absurd (omega (arith, long))
+living-each class out f d l row (a ∷ agents) [] long each = absurd (omega (arith, long))
+living-each class out f d l row (a ∷ agents) (x ∷ lanes) long each =
+    let first : row + 0 ≡ row = omega arith in
+    ap₂ (λ o xs. cons_option o xs) (subst (λ n. lives_in class out n a ≡ f x) first (each zero (omega arith)))
+    (living-each class out f d l (row + 1) agents lanes (omega (arith, long)) (λ k low.
+    let next : row + suc k ≡ row + 1 + k = omega arith in
+    subst (λ n. lives_in class out n (get_or agents k d) ≡ f (get_or lanes k l)) next (each (suc k) (omega (arith, low)))))
+
+module _ (class : Class) (rules : Rules) (agents : List Agent) (d : Agent) (frame : Frame) (lanes parents : List Lane) (scope : Lane → Scope)
+    (shows : Shows frame scope) (are : AreLanes (length agents) lanes) (out : Outcome) (is : IsOutcome frame lanes rules out)
     (chosen : parents ≡ filter (λ (l : Lane). is_set out.spawn l.this) lanes)
     (gifts : List Column) (given : AllZip (IsRun frame parents) rules.gifts gifts) where
   abbrev of : Lane → Agent
@@ -67,15 +134,21 @@ module _ (class : Class) (rules : Rules) (agents : List Agent) (d : Agent) (fram
 
   -- ---- those that live on
 
-  lives-at : All (λ lane. lives_in class out agents d lane ≡ (leaves_by (scope lane) class rules (of lane)).agent) lanes
-  lives-at = λ k l low.
+  abbrev leaf : Lane → Option Agent
+  leaf lane = (leaves_by (scope lane) class rules (of lane)).agent
+
+  lives-at : (k : ℕ) (l : Lane) → k < length lanes → lives_in class out (0 + k) (get_or agents k d) ≡ leaf (get_or lanes k l)
+  lives-at k l low =
       let lane = get_or lanes k l in
       let a = of lane in
-      ap (λ vs. survivor (is_set out.die lane.this) class a vs) (sym (fine-values (new_states out.states.items lane.this a.states)))
+      let first : 0 + k ≡ k = omega arith in
+      ap (λ n. lives_in class out n (get_or agents k d)) first
+      ∙ ap (λ (x : Lane). lives_in class out x.this (of x)) (sym (are.each k l (subst (λ n. k < n) are.long low)))
+      ∙ ap (λ vs. survivor (is_set out.die lane.this) class a vs) (sym (fine-values (new_states out.states.items lane.this a.states)))
       ∙ sym (ap₂ (λ (w : Worth) ws. survivor (holds w) class a (values_of ws)) (dies-at k l low) (states-at k l low))
 
-  lives-are : filter_map (lives_in class out agents d) lanes ≡ filter_map (λ lane. (leaves_by (scope lane) class rules (of lane)).agent) lanes
-  lives-are = same-kept (lives_in class out agents d) (λ lane. (leaves_by (scope lane) class rules (of lane)).agent) lanes lives-at
+  lives-are : (l : Lane) → living_from class out 0 agents ≡ filter_map leaf lanes
+  lives-are l = living-each class out leaf d l 0 agents lanes are.long (λ k low. lives-at k l low)
 
   -- ---- their children
 
@@ -140,11 +213,10 @@ module _ (class : Class) (rules : Rules) (agents : List Agent) (d : Agent) (fram
 
   -- ---- all that they leave
 
-  pub leaves-of : (born : List Agent) (old new : Renewed) → AreBorn class gifts agents parents born
-      → new.left.items ≡ old.left.items ++ filter_map (lives_in class out agents d) lanes → new.born.items ≡ old.born.items ++ born
-      → Leaves class rules agents lanes scope d old new
-  leaves-of born old new are_born left bears_them = record {
+  pub leaves-of : (born old new : List Agent) → AreBorn class gifts agents parents born → new ≡ old ++ born
+      → Leaves class rules agents lanes scope d out old new
+  leaves-of born old new are_born bears_them = record {
     quiet = quiet-at;
-    left = left ∙ ap (λ l. old.left.items ++ l) lives-are;
-    born = bears_them ∙ ap (λ l. old.born.items ++ l) (children-are born are_born);
+    left = lives-are (row_lane 0);
+    born = bears_them ∙ ap (λ l. old ++ l) (children-are born are_born);
   }

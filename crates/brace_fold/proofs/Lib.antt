@@ -15,7 +15,6 @@ pub mod Readings
 pub mod Askings
 pub mod Drawings
 pub mod Choosing
-pub mod Placings
 pub mod RunLemmas
 pub mod LeavingLemmas
 pub mod RenewLemmas

@@ -1,82 +1,108 @@
-ghost use Rattle.std.specs.Prelude.{◌≡◌, ◌++◌, pos, ◌≤ℤ◌, filter, filter_map, map, IfOk, OnOk};
-ghost use Rattle.brace_model.specs.declared.world.Agent.{Agent};
-ghost use Rattle.brace_plan.specs.Leaving.{survivor, with_one};
-ghost use Rattle.brace_fold.specs.inner.Rulings.{AreBorn, child_of, given_at, is_set, lives_in, new_states};
+ghost use Rattle.std.specs.Prelude.{◌≡◌, ◌<◌, ◌≤◌, ◌+◌, ◌++◌, pos, ◌≤ℤ◌, filter, length, take, drop, reverse, option_to_list, IfOk};
+ghost use Rattle.std.specs.Vec.{vec_len, vec_capacity};
+ghost use Rattle.brace_model.specs.Next.{changed};
+ghost use Rattle.brace_fold.specs.inner.Rulings.{AreBorn, child_of, given_at, is_set, lives_in, living_from, moved_from, new_states};
 
 use crate::outcome::{Column, Outcome, is_set, value_in, word_value};
-use crate::rows::agent_at;
 use brace_code::{Lane, Redo};
-use brace_model::{Agent, Class, Value};
-use brace_num::List;
+use brace_model::{Agent, Class, Value, number, value_at};
+use brace_num::{List, clamp};
 use brace_plan::{changed, gifts_of, give};
 use std::alloc::Global;
 
-/// The new values of states in a row.
-fn new_states(
-    alloc: Global,
+/// The states of an agent take the values of a row.
+fn set_states(states: &mut [Value], columns: &[Option<Column>], row: usize)
+    requires { length states.old ≤ length columns.now }
+    ensures { states.new ≡ new_states columns.now row states.old }
+{
+    for (i, v) in states.iter_mut().enumerate() {
+        *v = value_in(&columns[i], row, *v);
+    }
+}
+
+/// A coordinate's new value is moved into reach of its old one.
+fn move_within(states: &mut [Value], place: u32, old: Value, reach: i64)
+    requires { pos 0 ≤ℤ reach }
+    ensures { states.new ≡ moved_from reach place old states.old }
+{
+    let at = place as usize;
+    if at < states.len() {
+        let new = number(value_at(states, place));
+        states[at] = Value::Fixed(clamp(number(old), new, reach));
+    }
+}
+
+/// The states of an agent of a class take the values of a row, both coordinates moved into reach.
+fn set_row(
+    states: &mut [Value],
+    class: &Class,
     columns: &[Option<Column>],
     row: usize,
-    old: &[Value],
-) -> Result<Vec<Value>, Redo>
-    ensures { IfOk result (λ new. new.items ≡ new_states columns.now row old.now) }
+    x: Value,
+    y: Value,
+)
+    requires reach { pos 0 ≤ℤ class.now.reach }
+    requires columns { length states.old ≤ length columns.now }
+    ensures { states.new ≡ moved_from class.now.reach class.now.y y
+        (moved_from class.now.reach class.now.x x (new_states columns.now row states.old)) }
 {
-    let mut new = Vec::with_capacity(alloc, old.len())?;
-    for (column, v) in columns.iter().zip(old) {
-        new.push(value_in(column, row, *v))?;
-    }
-    Ok(new)
+    set_states(states, columns, row);
+    move_within(states, class.x, x, class.reach);
+    move_within(states, class.y, y, class.reach);
 }
 
-/// An agent of a class with its new states, unless it dies.
-fn survivor(
-    alloc: Global,
-    class: &Class,
-    out: &Outcome,
-    row: usize,
-    a: &Agent,
-) -> Result<Option<Agent>, Redo>
+/// An agent of a class with the values of a row.
+fn renewed(a: Agent, class: &Class, columns: &[Option<Column>], row: usize) -> Agent
     requires { pos 0 ≤ℤ class.now.reach }
-    ensures { IfOk result (λ lives. lives ≡ survivor (is_set out.now.die row) class.now a.now
-        (new_states out.now.states.items row a.now.states)) }
+    ensures { result ≡ changed class.now a (new_states columns.now row a.states) }
 {
-    if is_set(&out.die, row) {
-        return Ok(None);
+    let mut states = a.states.into_vec();
+    let x = value_at(&states, class.x);
+    let y = value_at(&states, class.y);
+    states.truncate(columns.len());
+    set_row(&mut states, class, columns, row, x, y);
+    Agent {
+        class: a.class,
+        id: a.id,
+        states: List::from_vec(states),
     }
-    let new = new_states(alloc, &out.states, row, a.states.as_slice())?;
-    Ok(Some(changed(a, class, new)))
 }
 
-/// Adds an agent, where there is one.
-fn add(agents: &mut Vec<Agent>, agent: Option<Agent>) -> Result<(), Redo>
-    ensures { OnOk result (agents.new.items ≡ with_one agents.old.items agent) }
+/// Adds an agent of a class with the values of a row, unless it dies.
+fn keep(a: Agent, class: &Class, out: &Outcome, row: usize, left: &mut Vec<Agent>)
+    requires reach { pos 0 ≤ℤ class.now.reach }
+    requires room { vec_len left.old < vec_capacity left.old }
+    ensures left { left.new.items
+        ≡ left.old.items ++ option_to_list (lives_in class.now out.now row a) }
+    ensures len { vec_len left.new ≤ vec_len left.old + 1 }
+    ensures room { vec_capacity left.new ≡ vec_capacity left.old }
 {
-    if let Some(agent) = agent {
-        agents.push(agent)?;
+    if !is_set(&out.die, row) {
+        left.push_reserved(renewed(a, class, &out.states, row));
     }
-    Ok(())
 }
 
-/// Appends the agents of lanes that live on.
+/// Takes so many agents of a class, the last first, and keeps those that live on, renewed.
 pub fn keep_living(
-    alloc: Global,
     class: &Class,
     out: &Outcome,
-    agents: &[Agent],
-    lanes: &[Lane],
+    count: usize,
+    agents: &mut Vec<Agent>,
     left: &mut Vec<Agent>,
-) -> Result<(), Redo>
-    requires { pos 0 ≤ℤ class.now.reach }
-    ensures { OnOk result ((d : Agent) → left.new.items ≡ left.old.items
-        ++ filter_map (lives_in class.now out.now agents.now d) lanes.now) }
+)
+    requires reach { pos 0 ≤ℤ class.now.reach }
+    requires room { vec_len left.old + vec_len agents.old ≤ vec_capacity left.old }
+    ensures left { left.new.items ≡ left.old.items
+        ++ living_from class.now out.now 0 (take count (reverse agents.old.items)) }
+    ensures rest { reverse agents.new.items ≡ drop count (reverse agents.old.items) }
+    ensures room { vec_len left.new + vec_len agents.new ≤ vec_capacity left.new }
 {
-    for lane in lanes {
-        let Some(a) = agent_at(agents, lane.place) else {
-            return Err(Redo);
+    for row in 0..count {
+        let Some(a) = agents.pop() else {
+            return;
         };
-        let lives = survivor(alloc, class, out, lane.this as usize, a)?;
-        add(left, lives)?;
+        keep(a, class, out, row, left);
     }
-    Ok(())
 }
 
 /// The lanes in which a condition holds.
@@ -138,7 +164,7 @@ pub fn children(
 {
     let mut born = Vec::with_capacity(alloc, lanes.len())?;
     for k in 0..lanes.len() {
-        let Some(a) = agent_at(agents, lanes[k].place) else {
+        let Some(a) = agents.get(lanes[k].place as usize) else {
             return Err(Redo);
         };
         let child = child(alloc, class, gifts, k, a)?;

@@ -22,4 +22,4 @@ mod walk;
 
 pub use brace_code::Redo;
 pub use folding::fold;
-pub use renewing::{Renewed, renew};
+pub use renewing::renew;

@@ -1,5 +1,5 @@
 // What many agents leave, beside what each leaves by itself.
-ghost use Rattle.std.specs.Prelude.{IsTrue};
+ghost use Rattle.std.specs.Prelude.{◌≡◌, IfOk, IsTrue};
 ghost use Rattle.std.specs.List.{list_all};
 ghost use Rattle.brace_model.specs.Lawful.{LawfulProgram, is_lawful_agent};
 ghost use Rattle.brace_model.specs.World.{RisesById};
@@ -43,7 +43,18 @@ fn one_by_one(
     Ok(Some(format!(in alloc; "{:?} {:?}", lives, born)?))
 }
 
-/// The same, of all at once; they are at most 16.
+/// Agents equal to these.
+fn copied(alloc: Global, agents: &[Agent]) -> Result<Vec<Agent>, NoMemory>
+    ensures { IfOk result (λ copy. copy.items ≡ agents.now) }
+{
+    let mut copy = Vec::with_capacity(alloc, agents.len())?;
+    for a in agents {
+        copy.push(a.copy(alloc)?)?;
+    }
+    Ok(copy)
+}
+
+/// The same, of all at once.
 fn at_once(
     alloc: Global,
     plans: &Plans,
@@ -52,14 +63,14 @@ fn at_once(
 ) -> Result<Option<String>, NoMemory>
     requires { IsTrue (list_all (is_lawful_agent plans.now) agents.now) }
 {
-    let mut places = Vec::new(alloc);
-    for place in 0..16u32 {
-        if (place as usize) < agents.len() {
-            places.push(place)?;
-        }
+    let mut left = copied(alloc, agents)?;
+    let mut rows = Vec::new(alloc);
+    for place in 0..agents.len() {
+        let (totals, _) = heard.row(plans.program(), agents, place);
+        rows.push(totals)?;
     }
-    match renew(alloc, plans, 7, 4, agents, &places, heard) {
-        Ok(renewed) => Ok(Some(format!(in alloc; "{:?} {:?}", renewed.left, renewed.born)?)),
+    match renew(alloc, plans, 7, 4, &mut left, &rows) {
+        Ok(born) => Ok(Some(format!(in alloc; "{:?} {:?}", left, born)?)),
         Err(_) => Ok(None),
     }
 }

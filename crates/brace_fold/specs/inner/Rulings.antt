@@ -1,11 +1,13 @@
 -- Agents of one class in lanes, and what its rules come to there. Only the crate's own functions
 -- cite this.
-use Rattle.std.specs.Prelude.{◌≡◌, ℕ, ◌<◌, ℤ, pos, Bool, false, true, Option, None, Some, List, [], ◌++◌, map, zip, filter_map, ⊤, length, slice_get, slice_index_or, option_copied, Ok}
-use Rattle.std.specs.List.{All, AllZip}
+use Rattle.std.specs.Prelude.{◌≡◌, ℕ, ◌+◌, ◌<◌, ℤ, pos, Bool, false, true, Option, None, Some, List, [], ◌∷◌, ◌++◌, map, zip, filter_map, ⊤, length, slice_get, slice_index_or, slice_set, option_copied, Ok}
+use Rattle.std.specs.List.{All, AllZip, cons_option}
 use Rattle.std.specs.Result.{result_err}
+use Rattle.brace_num.specs.Exact.{clamped}
 use Rattle.brace_draw.specs.Draw.{draw_value}
 use Rattle.brace_model.specs.declared.program.Class.{Class}
 use Rattle.brace_model.specs.declared.program.Value.{Value}
+use Rattle.brace_model.specs.declared.program.Value.TheVariants.{Fixed}
 use Rattle.brace_model.specs.declared.world.Agent.{Agent}
 use Rattle.brace_model.specs.World.{no_value, number, value_at}
 use Rattle.brace_model.specs.Value.{Scope, typed}
@@ -20,17 +22,15 @@ use Rattle.brace_plan.specs.Ruling.{gifts_of}
 use Rattle.brace_plan.specs.Leaving.{leaves_by, survivor, update_by}
 use Rattle.brace_fold.specs.declared.outcome.Column.{Column}
 use Rattle.brace_fold.specs.declared.outcome.Outcome.{Outcome}
-use Rattle.brace_fold.specs.declared.renewing.Renewed.{Renewed}
 
--- the lane of the agent at a place, whose words stand in a row
-abbrev pub row_lane : ℕ → ℕ → Lane
-row_lane row place = record { this = row; outer = 0; inner = 0; place = place }
+-- the lane of an agent, whose words stand in a row
+abbrev pub row_lane : ℕ → Lane
+row_lane row = record { this = row; outer = 0; inner = 0; place = row }
 
--- lanes of the agents at some places, row by row
-pub record AreLanes (places : List ℕ) (lanes : List Lane) : Type 0 where
-  pub long : length lanes ≡ length places
-  pub each : (k : ℕ) (l : Lane) → k < length places
-      → slice_index_or lanes k l ≡ row_lane k (slice_index_or places k 0)
+-- lanes of so many agents, row by row
+pub record AreLanes (count : ℕ) (lanes : List Lane) : Type 0 where
+  pub long : length lanes ≡ count
+  pub each : (k : ℕ) (l : Lane) → k < count → slice_index_or lanes k l ≡ row_lane k
 
 -- the agent of a lane; another agent where its place is past the end
 abbrev pub agent_at : List Agent → Agent → Lane → Agent
@@ -87,15 +87,25 @@ is_set column row = holds (Ok (value_in column row no_value))
 abbrev pub new_states : List (Option Column) → ℕ → List Value → List Value
 new_states columns row old = map (λ p. value_in p.0 row p.1) (zip columns old)
 
+-- the new value of one coordinate, moved into reach of an old value
+abbrev pub moved_from : ℤ → ℕ → Value → List Value → List Value
+moved_from reach place old new =
+    slice_set new place (Fixed (clamped (number old) (number (value_at new place)) reach))
+
 -- the values of gifts in a row
 abbrev pub given_at : List Column → ℕ → List Value
 given_at gifts row = map (λ column. word_value column row) gifts
 
--- the agent of a lane, unless it dies
-abbrev pub lives_in : Class → Outcome → List Agent → Agent → Lane → Option Agent
-lives_in class out agents d lane =
-    let a = agent_at agents d lane in
-    survivor (is_set out.die lane.this) class a (new_states out.states.items lane.this a.states)
+-- the agent of a row, unless it dies
+abbrev pub lives_in : Class → Outcome → ℕ → Agent → Option Agent
+lives_in class out row a =
+    survivor (is_set out.die row) class a (new_states out.states.items row a.states)
+
+-- those that live on, of the agents of the rows from one on
+abbrev pub living_from : Class → Outcome → ℕ → List Agent → List Agent
+living_from class out row [] = []
+living_from class out row (a ∷ agents) =
+    cons_option (lives_in class out row a) (living_from class out (row + 1) agents)
 
 -- the child of an agent, with the gifts of a row
 abbrev pub child_of : Class → List Column → ℕ → Agent → Agent
@@ -109,12 +119,13 @@ pub record AreBorn (class : Class) (gifts : List Column) (agents : List Agent) (
   pub each : (k : ℕ) (a d : Agent) (l : Lane) → k < length lanes → slice_index_or born k a
       ≡ child_of class gifts k (agent_at agents d (slice_index_or lanes k l))
 
--- in the scopes of lanes nothing stops the updates of their agents, and what these leave is added
+-- in the scopes of lanes nothing stops the updates of their agents, those that live on are those of
+-- the rows, and the children are added
 pub record Leaves (class : Class) (rules : Rules) (agents : List Agent) (lanes : List Lane)
-    (scope : Lane → Scope) (d : Agent) (old new : Renewed) : Type 0 where
+    (scope : Lane → Scope) (d : Agent) (out : Outcome) (old new : List Agent) : Type 0 where
   pub quiet : All (λ lane.
       filter_map result_err (update_by (scope lane) rules (agent_at agents d lane)) ≡ []) lanes
-  pub left : new.left.items ≡ old.left.items ++ filter_map (λ lane.
+  pub left : living_from class out 0 agents ≡ filter_map (λ lane.
       (leaves_by (scope lane) class rules (agent_at agents d lane)).agent) lanes
-  pub born : new.born.items ≡ old.born.items ++ filter_map (λ lane.
+  pub born : new ≡ old ++ filter_map (λ lane.
       (leaves_by (scope lane) class rules (agent_at agents d lane)).child) lanes

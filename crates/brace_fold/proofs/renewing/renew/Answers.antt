@@ -1,19 +1,31 @@
-use Rattle.std.proofs.Common.{rules}
-use Rattle.brace_fold.specs.Asked.{agents_at}
-use Rattle.brace_fold.proofs.RenewLemmas.{left-of, born-of, quiet-of}
+use Rattle.std.proofs.Common.{◌∙◌, ◌++◌, ap, ap₂}
+use Rattle.brace_fold.specs.inner.Renewals.{living_in}
+use Rattle.brace_fold.proofs.RenewLemmas.{born-of, left-of, quiet-of, renews-all}
 use Rattle.brace_fold.proofs.renewing.renew.Goals as goal
 
 pub returns-clause-left : goal.returns-clause-left
-returns-clause-left c = λ d said faults heard.
-    left-of c.args.plans.now c.args.seed c.args.tick said (agents_at c.args.agents.now d c.args.places.now) _ _
-    (c.in_ok-renew_all.ensures d said faults heard) (search rules)
+returns-clause-left c = λ totals are.
+    let agents = c.args.agents.now.items in
+    let batches = c.in_ok-batches.batches.items in
+    let old = c.replace-old.ensures in
+    c.leave.ensures
+    ∙ ap₂ (λ l m. l ++ m) (ap (λ v. v.items) old.after ∙ c.in_ok-left.ensures.items) (ap₂ living_in c.deref.ensures.value (ap (λ v. v.items) old.value))
+    ∙ left-of c.args.plans.now c.args.seed c.args.tick totals agents (living_in batches agents) c.batches_of.new.born.items
+    (renews-all c.args.plans.now c.args.seed c.args.tick totals c.args.rows.now batches agents c.as_slice-2.result.now c.new-born.result.items
+    c.batches_of.new.born.items c.as_slice-2.ensures.value c.new-born.ensures.items are (c.in_ok-batches.ensures.renews totals))
 
 pub returns-clause-born : goal.returns-clause-born
-returns-clause-born c = λ d said faults heard.
-    born-of c.args.plans.now c.args.seed c.args.tick said (agents_at c.args.agents.now d c.args.places.now) _ _
-    (c.in_ok-renew_all.ensures d said faults heard) (search rules)
+returns-clause-born c = λ totals are.
+    let agents = c.args.agents.now.items in
+    let batches = c.in_ok-batches.batches.items in
+    born-of c.args.plans.now c.args.seed c.args.tick totals agents (living_in batches agents) c.batches_of.new.born.items
+    (renews-all c.args.plans.now c.args.seed c.args.tick totals c.args.rows.now batches agents c.as_slice-2.result.now c.new-born.result.items
+    c.batches_of.new.born.items c.as_slice-2.ensures.value c.new-born.ensures.items are (c.in_ok-batches.ensures.renews totals))
 
 pub returns-clause-quiet : goal.returns-clause-quiet
-returns-clause-quiet c = λ d said faults heard.
-    quiet-of c.args.plans.now c.args.seed c.args.tick said (agents_at c.args.agents.now d c.args.places.now) _ _
-    (c.in_ok-renew_all.ensures d said faults heard)
+returns-clause-quiet c = λ totals are.
+    let agents = c.args.agents.now.items in
+    let batches = c.in_ok-batches.batches.items in
+    quiet-of c.args.plans.now c.args.seed c.args.tick totals agents (living_in batches agents) c.batches_of.new.born.items
+    (renews-all c.args.plans.now c.args.seed c.args.tick totals c.args.rows.now batches agents c.as_slice-2.result.now c.new-born.result.items
+    c.batches_of.new.born.items c.as_slice-2.ensures.value c.new-born.ensures.items are (c.in_ok-batches.ensures.renews totals))
