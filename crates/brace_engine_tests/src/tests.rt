@@ -8,6 +8,7 @@ mod inversion;
 mod lanes;
 mod models;
 mod pieces;
+mod renewals;
 mod rules;
 mod steps;
 mod totals;

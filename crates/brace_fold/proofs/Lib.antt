@@ -16,3 +16,7 @@ pub mod Taking
 pub mod Readings
 pub mod Askings
 pub mod Drawings
+pub mod Choosing
+pub mod RunLemmas
+pub mod LeavingLemmas
+pub mod RenewLemmas

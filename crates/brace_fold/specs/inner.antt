@@ -3,4 +3,6 @@ pub mod Crowds
 pub mod Deeds
 pub mod Ears
 pub mod Hears
+pub mod Renewals
+pub mod Rulings
 pub mod Sights

@@ -19,7 +19,7 @@ pub struct Drawn {
 }
 
 /// The draws of agents at a site.
-fn drawn_at(
+pub fn drawn_at(
     alloc: Global,
     drawer: &Drawer,
     tick: u64,

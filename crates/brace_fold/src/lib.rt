@@ -1,4 +1,5 @@
-//! The queries of many agents at once, in lanes: what they all say, joined as it is said.
+//! The queries of many agents at once, in lanes: what they all say, joined as it is said; and their
+//! rules, what they all leave.
 #![tactic(auto)]
 
 mod askers;
@@ -9,6 +10,10 @@ mod drawn;
 mod finding;
 mod folding;
 mod gathering;
+mod leaving;
+mod outcome;
+mod renewing;
+mod rows;
 mod saying;
 mod scene;
 mod seeing;
@@ -17,3 +22,4 @@ mod walk;
 
 pub use brace_code::Redo;
 pub use folding::fold;
+pub use renewing::renew;

@@ -15,7 +15,7 @@ use brace_eval::Heard;
 use brace_model::{Comb, Ty, Value, Who};
 
 /// A word as a value of a type.
-fn typed(ty: Ty, word: i64) -> Value
+pub fn typed(ty: Ty, word: i64) -> Value
     ensures { result ≡ typed ty word }
 {
     match ty {

@@ -1,5 +1,5 @@
 use brace_code::Redo;
-use brace_model::{Expr, Program, Stmt};
+use brace_model::{Class, Expr, Program, Stmt};
 use brace_num::List;
 
 /// Notes the sites of draws in an expression.
@@ -47,6 +47,29 @@ fn sites_at(s: &Stmt, sites: &mut Vec<u32>) -> Result<(), Redo> {
 pub fn query_sites(program: &Program, sites: &mut Vec<u32>) -> Result<(), Redo> {
     for class in program.classes.as_slice() {
         sites_in(&class.query, sites)?;
+    }
+    Ok(())
+}
+
+/// Notes the sites of draws in a rule or a condition, where there is one.
+fn sites_if(rule: &Option<Expr>, sites: &mut Vec<u32>) -> Result<(), Redo> {
+    match rule {
+        None => Ok(()),
+        Some(e) => sites_of(e, sites),
+    }
+}
+
+/// Notes the sites of draws in the rules of a class, in its `die` and in its `spawn`.
+pub fn rule_sites(class: &Class, sites: &mut Vec<u32>) -> Result<(), Redo> {
+    for state in class.states.as_slice() {
+        sites_if(&state.rule, sites)?;
+    }
+    sites_if(&class.die, sites)?;
+    if let Some(spawn) = &class.spawn {
+        sites_of(&spawn.when, sites)?;
+        for gift in spawn.gifts.as_slice() {
+            sites_of(&gift.value, sites)?;
+        }
     }
     Ok(())
 }

@@ -119,15 +119,15 @@ impl<'a> Worker<'a> {
             return Err(Cause::Fault(fault));
         }
         if self.setting.invert {
-            return self.update(tick, &held, &heard);
+            return self.update(tick, held, &heard);
         }
         Ok(Stance::Hears(held, heard))
     }
 
     /// What its agents leave, where all is heard that is said to them.
-    fn update(&self, tick: u64, held: &[Agent], heard: &Heard) -> Result<Stance, Cause>
+    fn update(&self, tick: u64, held: Vec<Agent>, heard: &Heard) -> Result<Stance, Cause>
         requires worker { IsWorker self.now }
-        requires heard { HearsAll self.now.setting.now self.now.part tick held.now heard.now }
+        requires heard { HearsAll self.now.setting.now self.now.part tick held.items heard.now }
         requires ticks { tick ≤ 2 ^ 32 }
         requires next { self.now.next ≡ (on self.now.setting.now tick).next }
         ensures ready { IfOk result
@@ -154,14 +154,14 @@ impl<'a> Worker<'a> {
     fn behind_told(
         &self,
         tick: u64,
-        held: &[Agent],
+        held: Vec<Agent>,
         mut heard: Heard,
         taken: &[Piece],
     ) -> Result<Stance, Cause>
         requires worker { IsWorker self.now }
         requires work { IsWork self.now stage.Effects tick taken.now }
         requires plain { self.now.setting.now.invert ≡ false }
-        requires heard { HearsAsked self.now.setting.now self.now.part tick held.now heard }
+        requires heard { HearsAsked self.now.setting.now self.now.part tick held.items heard }
         ensures ready { IfOk result
             (IsReadyFor self.now.setting.now self.now.part stage.Census tick) }
         ensures passes { IfOk result (λ _. least
@@ -169,7 +169,7 @@ impl<'a> Worker<'a> {
         ensures faulted { IfErr result (IsCauseOf
             (found_in_work self.now.setting.now self.now.part stage.Effects tick)) }
     {
-        join_told(&self.setting.job.program, held, &mut heard, taken)?;
+        join_told(&self.setting.job.program, &held, &mut heard, taken)?;
         self.update(tick, held, &heard)
     }
 
@@ -243,7 +243,7 @@ impl<'a> Worker<'a> {
             (Stage::Hand, Stance::Owns(own)) => Ok(Stance::Owns(self.recut(tick, own, taken)?)),
             (Stage::Border, Stance::Owns(own)) => self.behind_queries(tick, own, taken),
             (Stage::Effects, Stance::Hears(held, heard)) => {
-                self.behind_told(tick, &held, heard, taken)
+                self.behind_told(tick, held, heard, taken)
             }
             (Stage::Census, Stance::Leaves(left, born, _)) => {
                 self.behind_censuses(tick, left, born, taken)

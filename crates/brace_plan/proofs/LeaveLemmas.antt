@@ -18,15 +18,15 @@ use Rattle.brace_model.specs.Value.{Scope, Worth, value}
 use Rattle.brace_model.specs.Typing.{Names}
 use Rattle.brace_model.specs.Typed.{Fits}
 use Rattle.brace_model.specs.Query.{opening_scope}
-use Rattle.brace_model.specs.Next.{Next, ruled, condition_in, spawns_in, gifts_in, update_in, update_fault, earlier_stop, first_stop, values_of, holds, with_gifts, changed, child_in, left_by, next_in, unless_stopped}
+use Rattle.brace_model.specs.Next.{Next, ruled, condition_in, spawns_in, gifts_in, update_in, update_fault, earlier_stop, first_stop, values_of, holds, with_gifts, changed, child_in, left_by, next_in, next_of, unless_stopped}
 use Rattle.brace_code.specs.declared.code.Code.{Code}
 use Rattle.brace_plan.specs.declared.rules.Rules.{Rules}
-use Rattle.brace_plan.specs.inner.Ruling.{ruled_by, rules_by, gifts_by, gifts_of, condition_of, IsRuleOf, IsCodeOf, AreRulesOf, stop_after, stops_after}
-use Rattle.brace_plan.specs.inner.Leaving.{dies_by, spawns_by, given_by, update_by, survivor, child_by}
+use Rattle.brace_plan.specs.Ruling.{ruled_by, rules_by, gifts_by, gifts_of, condition_of, IsRuleOf, IsCodeOf, AreRulesOf, stop_after, stops_after}
+use Rattle.brace_plan.specs.Leaving.{dies_by, spawns_by, given_by, update_by, survivor, child_by, leaves_by, next_by}
 
 -- ---- where nothing is left of two lists, gone through pair by pair
 
-no_pairs : {A B : Type 0} (xs : List A) (ys : List B) → (xs ≡ []) ⊎ (ys ≡ []) → zip xs ys ≡ []
+pub no_pairs : {A B : Type 0} (xs : List A) (ys : List B) → (xs ≡ []) ⊎ (ys ≡ []) → zip xs ys ≡ []
 no_pairs [] ys none = refl
 no_pairs (x ∷ xs) [] none = refl
 no_pairs (x ∷ xs) (y ∷ ys) (inl e) = absurd (cc)
@@ -114,6 +114,17 @@ module _ (names : Names) (scope : Scope) (fits : Fits names scope) where
     update_alike =
         ap₂ (λ rs ws. rs ++ ws) (rules_alike class.states rules.states a.states are.states)
         (ap₂ (λ d ws. d ∷ ws) dies_alike (ap₂ (λ w ws. w ∷ ws) spawns_alike (given_alike class.spawn spawns_alike are.gifts)))
+
+    -- what is left, and what becomes of the agent
+    leaves_alike : left_by scope class a ≡ leaves_by scope class rules a
+    leaves_alike =
+        let stays : (left_by scope class a).agent ≡ (leaves_by scope class rules a).agent =
+        ap₂ (λ w ws. survivor (holds w) class a (values_of ws)) (sym dies_alike) (sym (rules_alike class.states rules.states a.states are.states)) in
+        let bears : (left_by scope class a).child ≡ (leaves_by scope class rules a).child = sym (child_alike class.spawn spawns_alike are.gifts) in
+        λ i. record { agent = stays i; child = bears i }
+
+    pub next_alike : (tick : ℕ) → next_of tick class a scope ≡ next_by tick class rules a scope
+    next_alike tick = ap₂ (λ ws next. unless_stopped tick a (first_stop ws) next) (sym update_alike) leaves_alike
 
     -- the stop of an update, once all of it was run
     all_met : (b c d : Option Stop) → b ≡ stops_after None (rules_by scope rules.states a.states) → c ≡ stop_after b (dies_by scope rules)

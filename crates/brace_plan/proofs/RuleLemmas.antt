@@ -21,7 +21,7 @@ use Rattle.brace_model.specs.Typing.{Names, type_of, is_of_type}
 use Rattle.brace_model.specs.Lawful.{LawfulClass, LawfulProgram, rule_scope, is_distance, is_ruled, is_given, is_spawn, has_states, is_lawful_agent}
 use Rattle.brace_model.proofs.TypeLemmas.{one_type}
 use Rattle.brace_plan.specs.declared.rules.Rules.{Rules}
-use Rattle.brace_plan.specs.inner.Ruling.{IsRuleOf, IsCodeOf, AreRulesOf, AreAllRulesOf, condition_of, gifts_of}
+use Rattle.brace_plan.specs.Ruling.{IsRuleOf, IsCodeOf, AreRulesOf, AreAllRulesOf, condition_of, gifts_of}
 
 -- a type that is told is the expression's
 pub typed : (t : Ty) (o : Option Ty) → is_of_type t o ≡ true → o ≡ Some t
@@ -77,7 +77,7 @@ lawful_class None a e = absurd (cc)
 lawful_class (Some class) a e = (class, refl)
 
 -- a distance is not negative
-not_negative : (z : ℤ) → is_distance z ≡ true → pos 0 ≤ℤ z
+pub not_negative : (z : ℤ) → is_distance z ≡ true → pos 0 ≤ℤ z
 not_negative (pos n) is = grind (arith, ints)
 not_negative (negsuc n) is = absurd (cc)
 

@@ -1,4 +1,2 @@
 pub mod Doing
-pub mod Leaving
-pub mod Ruling
 pub mod Walks

@@ -8,8 +8,8 @@ ghost use Rattle.brace_model.specs.Typed.{Fits};
 ghost use Rattle.brace_model.specs.Next.{holds, moved, changed, with_gifts, values_of, update_fault, next_in};
 ghost use Rattle.brace_model.specs.Scopes.{scope_of};
 ghost use Rattle.brace_code.specs.Codes.{gives};
-ghost use Rattle.brace_plan.specs.inner.Ruling.{AreRulesOf, ruled_by, rules_by, gifts_by, with_stop, stop_after, stops_after};
-ghost use Rattle.brace_plan.specs.inner.Leaving.{with_one, spawns_by, given_by, survivor, child_by};
+ghost use Rattle.brace_plan.specs.Ruling.{AreRulesOf, ruled_by, rules_by, gifts_by, with_stop, stop_after, stops_after};
+ghost use Rattle.brace_plan.specs.Leaving.{with_one, spawns_by, given_by, survivor, child_by};
 
 use crate::desk::{Desk, is_true};
 use crate::plans::Plans;
@@ -196,7 +196,7 @@ fn move_within(new: &mut [Value], old: &[Value], place: u32, reach: i64)
 }
 
 /// An agent of a class with other states, both coordinates moved into reach.
-fn changed(a: &Agent, class: &Class, mut new: Vec<Value>) -> Agent
+pub fn changed(a: &Agent, class: &Class, mut new: Vec<Value>) -> Agent
     requires { pos 0 ≤ℤ class.now.reach }
     ensures { result ≡ changed class.now a.now new.items }
 {
@@ -232,7 +232,7 @@ fn put(states: &mut [Value], place: u32, v: Value)
 }
 
 /// Puts gifts in the places of some states.
-fn give(states: &mut [Value], gifts: &[Gift], given: &[Value])
+pub fn give(states: &mut [Value], gifts: &[Gift], given: &[Value])
     ensures { states.new ≡ with_gifts states.old gifts.now given.now }
 {
     for (gift, v) in gifts.iter().zip(given) {

@@ -40,7 +40,7 @@ impl Model for Plans {
     ghost use Rattle.brace_model.specs.Lawful.{LawfulProgram};
     ghost use Rattle.brace_plan.specs.Narrowing.{loops_in};
     ghost use Rattle.brace_plan.specs.Planning.{ArePlansOf};
-    ghost use Rattle.brace_plan.specs.inner.Ruling.{AreAllRulesOf};
+    ghost use Rattle.brace_plan.specs.Ruling.{AreAllRulesOf};
 
     ghost Value = { Program };
 

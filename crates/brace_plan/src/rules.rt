@@ -4,7 +4,7 @@ ghost use Rattle.brace_model.specs.declared.program.Ty.{Ty};
 ghost use Rattle.brace_model.specs.declared.program.State.{State};
 ghost use Rattle.brace_model.specs.Lawful.{LawfulProgram, is_given, is_ruled, is_spawn, rule_scope};
 ghost use Rattle.brace_code.specs.Codes.{names_of};
-ghost use Rattle.brace_plan.specs.inner.Ruling.{AreRulesOf, AreAllRulesOf, IsCodeOf, IsRuleOf, condition_of, gifts_of};
+ghost use Rattle.brace_plan.specs.Ruling.{AreRulesOf, AreAllRulesOf, IsCodeOf, IsRuleOf, condition_of, gifts_of};
 
 use brace_code::{Code, Known, compile};
 use brace_model::{Class, Expr, Gift, Program, Spawn, State};

@@ -1,9 +1,11 @@
 ghost use Rattle.std.specs.Prelude.{◌≡◌, IfSome};
+ghost use Rattle.brace_plan.specs.Leaving.{IsRuled};
 ghost use Rattle.brace_plan.specs.Planning.{IsPlanned};
 
 use crate::action::Action;
 use crate::plans::Plans;
-use brace_model::Program;
+use crate::rules::Rules;
+use brace_model::{Class, Program};
 use brace_num::List;
 
 /// The query of a class as actions, and how many constants they set.
@@ -11,6 +13,13 @@ use brace_num::List;
 pub struct Told<'a> {
     pub actions: &'a List<Action>,
     pub constants: usize,
+}
+
+/// A class and its compiled rules.
+#[derive(Debug, Clone, Copy)]
+pub struct Ruled<'a> {
+    pub class: &'a Class,
+    pub rules: &'a Rules,
 }
 
 impl Plans {
@@ -31,5 +40,16 @@ impl Plans {
             actions: &planned.actions,
             constants: planned.constants,
         })
+    }
+
+    /// A class, by number, and its rules.
+    pub fn ruled(&self, class: u32) -> Option<Ruled<'_>>
+        ensures { IfSome result (λ ruled.
+            IsRuled self.now class ruled.class.now ruled.rules.now) }
+    {
+        let place = class as usize;
+        let class = self.program.classes.as_slice().get(place)?;
+        let rules = self.rules.as_slice().get(place)?;
+        Some(Ruled { class, rules })
     }
 }

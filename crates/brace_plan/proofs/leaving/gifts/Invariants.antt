@@ -1,7 +1,7 @@
 use Rattle.std.proofs.Common.{◌≡◌, ◌++◌, drop}
 use Rattle.brace_model.specs.Next.{values_of}
 use Rattle.brace_model.specs.Scopes.{scope_of}
-use Rattle.brace_plan.specs.inner.Ruling.{gifts_by, stops_after}
+use Rattle.brace_plan.specs.Ruling.{gifts_by, stops_after}
 use Rattle.brace_plan.proofs.leaving.gifts.Given as goal
 
 abbrev pub invariant-loop-gift : goal.invariant-loop-gift

@@ -2,7 +2,7 @@ use Rattle.std.proofs.Common.{refl}
 use Rattle.std.specs.Slice.Iter.{iter_rest}
 use Rattle.std.proofs.lemmas.Slice.Zip.{either_empty_from_Zip}
 use Rattle.brace_model.specs.Scopes.{scope_of}
-use Rattle.brace_plan.specs.inner.Ruling.{rules_by}
+use Rattle.brace_plan.specs.Ruling.{rules_by}
 use Rattle.brace_plan.proofs.LeaveLemmas.{all_values, all_stops}
 use Rattle.brace_plan.proofs.leaving.ruled_states.Goals as goal
 

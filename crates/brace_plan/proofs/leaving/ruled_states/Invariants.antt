@@ -2,7 +2,7 @@ use Rattle.std.proofs.Common.{◌≡◌, ◌++◌}
 use Rattle.std.specs.Slice.Iter.{iter_rest}
 use Rattle.brace_model.specs.Next.{values_of}
 use Rattle.brace_model.specs.Scopes.{scope_of}
-use Rattle.brace_plan.specs.inner.Ruling.{rules_by, stops_after}
+use Rattle.brace_plan.specs.Ruling.{rules_by, stops_after}
 use Rattle.brace_plan.proofs.leaving.ruled_states.Given as goal
 
 abbrev pub invariant-loop-rule : goal.invariant-loop-rule

@@ -2,7 +2,7 @@ use Rattle.std.proofs.Common.{List}
 use Rattle.brace_model.specs.declared.program.Gift.{Gift}
 use Rattle.brace_model.specs.Lawful.{is_given}
 use Rattle.brace_code.specs.Codes.{names_of}
-use Rattle.brace_plan.specs.inner.Ruling.{IsCodeOf}
+use Rattle.brace_plan.specs.Ruling.{IsCodeOf}
 use Rattle.brace_plan.proofs.RuleLemmas.{one_code, one_passes, given_typed}
 use Rattle.brace_plan.proofs.rules.compile_gifts.Goals as goal
 

@@ -2,7 +2,7 @@ use Rattle.std.proofs.Common.{take}
 use Rattle.std.specs.List.{AllZip}
 use Rattle.brace_model.specs.declared.program.Gift.{Gift}
 use Rattle.brace_code.specs.Codes.{names_of}
-use Rattle.brace_plan.specs.inner.Ruling.{IsCodeOf}
+use Rattle.brace_plan.specs.Ruling.{IsCodeOf}
 use Rattle.brace_plan.proofs.rules.compile_gifts.Given as goal
 
 abbrev pub invariant-loop-gift : goal.invariant-loop-gift

@@ -1,6 +1,6 @@
 use Rattle.std.proofs.Common.{◌≡◌, ◌≤◌, ◌+◌, ap, length, arith}
 use Rattle.brace_model.specs.Lawful.{rule_scope}
-use Rattle.brace_plan.specs.inner.Ruling.{AreRulesOf}
+use Rattle.brace_plan.specs.Ruling.{AreRulesOf}
 use Rattle.brace_plan.proofs.Whole.{one_more, all_there, class_found}
 use Rattle.brace_plan.proofs.rules.compile_rules.Goals as goal
 

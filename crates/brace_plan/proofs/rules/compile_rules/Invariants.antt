@@ -1,6 +1,6 @@
 use Rattle.std.proofs.Common.{◌≡◌}
 use Rattle.brace_model.specs.Lawful.{rule_scope}
-use Rattle.brace_plan.specs.inner.Ruling.{AreRulesOf}
+use Rattle.brace_plan.specs.Ruling.{AreRulesOf}
 use Rattle.brace_plan.proofs.Whole.{OneEach_so_far}
 use Rattle.brace_plan.proofs.rules.compile_rules.Given as goal
 

@@ -2,7 +2,7 @@ use Rattle.std.proofs.Common.{List}
 use Rattle.brace_model.specs.declared.program.State.{State}
 use Rattle.brace_model.specs.Lawful.{is_ruled}
 use Rattle.brace_code.specs.Codes.{names_of}
-use Rattle.brace_plan.specs.inner.Ruling.{IsRuleOf}
+use Rattle.brace_plan.specs.Ruling.{IsRuleOf}
 use Rattle.brace_plan.proofs.RuleLemmas.{one_code, one_passes}
 use Rattle.brace_plan.proofs.rules.compile_states.Goals as goal
 

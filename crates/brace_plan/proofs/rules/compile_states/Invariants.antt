@@ -2,7 +2,7 @@ use Rattle.std.proofs.Common.{take}
 use Rattle.std.specs.List.{AllZip}
 use Rattle.brace_model.specs.declared.program.State.{State}
 use Rattle.brace_code.specs.Codes.{names_of}
-use Rattle.brace_plan.specs.inner.Ruling.{IsRuleOf}
+use Rattle.brace_plan.specs.Ruling.{IsRuleOf}
 use Rattle.brace_plan.proofs.rules.compile_states.Given as goal
 
 abbrev pub invariant-loop-state : goal.invariant-loop-state

@@ -3,7 +3,7 @@ use Rattle.std.specs.Prelude.{if◌then◌else◌}
 use Rattle.brace_model.specs.FaultOrder.{least}
 use Rattle.brace_pieces.specs.declared.setting.Stage.TheVariants as stage
 use Rattle.brace_part.specs.Parts.{IsCauseOf, cause_of}
-use Rattle.brace_part.specs.inner.Ready.{HearsAll, IsReadyFor}
+use Rattle.brace_part.specs.inner.Ready.{IsReadyFor}
 use Rattle.brace_part.proofs.WorkHeard.{asked_all, asked_least, query_is_least, found_inverted, found_plain, tick_fits}
 use Rattle.brace_part.proofs.work.Worker.behind_queries.Goals as goal
 
@@ -15,7 +15,7 @@ update-requires-clause-ticks c = tick_fits c.args.self.now c.requires.worker c.a
 
 pub update-requires-clause-heard : goal.update-requires-clause-heard
 update-requires-clause-heard c =
-    subst (λ xs. HearsAll c.args.self.now.setting.now c.args.self.now.part c.args.tick xs c.in_ok-held.heard) (sym c.deref.ensures.value) (asked_all c.args.self.now c.requires.worker c.args.tick c.if-self.true c.in_ok-held.held.items c.in_ok-held.heard c.in_ok-held.ensures.heard)
+    asked_all c.args.self.now c.requires.worker c.args.tick c.if-self.true c.in_ok-held.held.items c.in_ok-held.heard c.in_ok-held.ensures.heard
 
 pub update-requires-clause-next : goal.update-requires-clause-next
 update-requires-clause-next c = c.requires.work.next_is

@@ -1,4 +1,4 @@
--- The compiled rules of a class, and what they come to. Only the crate's own functions cite this.
+-- The compiled rules of a class, and what they come to.
 use Rattle.std.specs.Prelude.{◌≡◌, List, [], map, zip, fold, Option, Some, None, option_map, Ok, Err}
 use Rattle.std.specs.List.{AllZip}
 use Rattle.brace_model.specs.declared.fault.Stop.{Stop}

@@ -1,0 +1,126 @@
+// What many agents leave, beside what each leaves by itself.
+ghost use Rattle.std.specs.Prelude.{◌≡◌, IfOk, IsTrue};
+ghost use Rattle.std.specs.List.{list_all};
+ghost use Rattle.brace_model.specs.Lawful.{LawfulProgram, is_lawful_agent};
+ghost use Rattle.brace_model.specs.World.{RisesById};
+
+use super::scripts::program;
+use brace_eval::Heard;
+use brace_fold::renew;
+use brace_model::{Agent, Program};
+use brace_num::NoMemory;
+use brace_plan::{Plans, Room, plan};
+use brace_rows::read_agents;
+use std::alloc::Global;
+use std::test::Fail;
+
+/// What each agent leaves in tick 4 of a run of seed 7: first those that live on, then the children.
+fn one_by_one(
+    alloc: Global,
+    plans: &Plans,
+    agents: &[Agent],
+    heard: &Heard,
+) -> Result<Option<String>, NoMemory>
+    requires { IsTrue (list_all (is_lawful_agent plans.now) agents.now) }
+{
+    let mut room = Room::make(alloc, 7)?;
+    let mut lives = Vec::new(alloc);
+    let mut born = Vec::new(alloc);
+    let mut place = 0usize;
+    for a in agents {
+        let (totals, _) = heard.row(plans.program(), agents, place);
+        let Ok(left) = plans.left_by(alloc, 4, a, totals, &mut room) else {
+            return Ok(None);
+        };
+        place = place.saturating_add(1);
+        if let Some(agent) = left.agent {
+            lives.push(agent)?;
+        }
+        if let Some(child) = left.child {
+            born.push(child)?;
+        }
+    }
+    Ok(Some(format!(in alloc; "{:?} {:?}", lives, born)?))
+}
+
+/// Agents equal to these.
+fn copied(alloc: Global, agents: &[Agent]) -> Result<Vec<Agent>, NoMemory>
+    ensures { IfOk result (λ copy. copy.items ≡ agents.now) }
+{
+    let mut copy = Vec::with_capacity(alloc, agents.len())?;
+    for a in agents {
+        copy.push(a.copy(alloc)?)?;
+    }
+    Ok(copy)
+}
+
+/// The same, of all at once.
+fn at_once(
+    alloc: Global,
+    plans: &Plans,
+    agents: &[Agent],
+    heard: &Heard,
+) -> Result<Option<String>, NoMemory>
+    requires { IsTrue (list_all (is_lawful_agent plans.now) agents.now) }
+{
+    let mut left = copied(alloc, agents)?;
+    let mut rows = Vec::new(alloc);
+    for place in 0..agents.len() {
+        let (totals, _) = heard.row(plans.program(), agents, place);
+        rows.push(totals)?;
+    }
+    match renew(alloc, plans, 7, 4, &mut left, &rows) {
+        Ok(born) => Ok(Some(format!(in alloc; "{:?} {:?}", left, born)?)),
+        Err(_) => Ok(None),
+    }
+}
+
+/// What was heard of all agents, and both.
+fn both(
+    alloc: Global,
+    program: &Program,
+    agents: &[Agent],
+) -> Result<(Option<String>, Option<String>), NoMemory>
+    requires lawful { LawfulProgram program.now }
+    requires agents { IsTrue (list_all (is_lawful_agent program.now) agents.now) }
+    requires rises { RisesById agents.now }
+{
+    let plans = plan(alloc, program)?;
+    let mut heard = Heard::nothing(alloc, program, agents)?;
+    heard.hear(alloc, program, 7, 4, agents, agents)?;
+    let one_by_one = one_by_one(alloc, &plans, agents, &heard)?;
+    let at_once = at_once(alloc, &plans, agents, &heard)?;
+    Ok((one_by_one, at_once))
+}
+
+/// Two classes whose rules draw and read totals; deaths, and children with gifts.
+const GROWING: &str = "class P{#visible[4];#reach[1];public state fixed x:x+4.0*rand()-2.0;public \
+ state fixed y;public state int h:h+s-n;public state bool on:!on&&o;public effect int s:sum;public \
+ effect int n:count;public effect bool o:or;public void run(){foreach(P p:Extent<P>){p.s<-2;p.n<-1;\
+ p.o<-p.on;}foreach(Q q:Extent<Q>){q.m<-x;}}die when h>7&&on;spawn when n>=2&&x<9.0{h<-100/(h-7);x<-\
+ x+5.0;on<-rand()<0.5;}}class Q{#visible[1];public state fixed x:m;public state fixed y:y+rand();\
+ public effect fixed m:max;die when rand()<0.3;}";
+
+const ROWS: &str = "P,1,0,0,3,true\nP,2,-1.5,2,4,false\nQ,3,1,1\nP,4,2.5,-2,9,true\nP,5,1,1,10,\
+ true\nQ,6,0,0\nQ,7,2,-2\nQ,8,1,1\nP,9,40,0,8,true\n";
+
+/// One of the gifts stops.
+const STOPS: &str = "P,1,0,0,7,true\nP,2,0,0,7,false\nP,3,1,1,7,true\n";
+
+#[test]
+fn renews_all_as_each(rt: HostRuntime) -> Result<(), Fail> {
+    let alloc = rt.alloc();
+    let program = program(alloc, GROWING)?;
+    let Ok(world) = read_agents(alloc, &program, ROWS.as_bytes()) else {
+        return Err("no agents".into());
+    };
+    let (one_by_one, at_once) = both(alloc, &program, world.agents())?;
+    assert!(rt; one_by_one.is_some());
+    assert!(rt; one_by_one == at_once);
+    let Ok(world) = read_agents(alloc, &program, STOPS.as_bytes()) else {
+        return Err("no agents".into());
+    };
+    let (one_by_one, at_once) = both(alloc, &program, world.agents())?;
+    assert!(rt; one_by_one.is_none() && at_once.is_none());
+    Ok(())
+}
