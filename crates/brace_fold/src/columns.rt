@@ -33,6 +33,17 @@ pub fn by_row<'a>(alloc: Global, agents: &'a [Agent], order: &[u32]) -> Result<V
     Ok(rows)
 }
 
+/// Each agent of a list.
+pub fn each<'a>(alloc: Global, agents: &'a [Agent]) -> Result<Vec<&'a Agent>, Redo>
+    ensures { IfOk result (λ rows. map (λ r. r.now) rows.items ≡ agents.now) }
+{
+    let mut rows = Vec::with_capacity(alloc, agents.len())?;
+    for agent in agents {
+        rows.push(agent)?;
+    }
+    Ok(rows)
+}
+
 /// A state of each agent.
 fn state_column(alloc: Global, rows: &[&Agent], place: u32) -> Result<List<i64>, Redo>
     ensures { IfOk result (λ words.

@@ -19,7 +19,7 @@ pub struct Drawn {
 }
 
 /// The draws of agents at a site.
-pub fn drawn_at(
+fn drawn_at(
     alloc: Global,
     drawer: &Drawer,
     tick: u64,
@@ -39,6 +39,27 @@ pub fn drawn_at(
     })
 }
 
+/// The draws of agents at some sites.
+pub fn drawn_for(
+    alloc: Global,
+    seed: u64,
+    tick: u64,
+    sites: &[u32],
+    rows: &[&Agent],
+) -> Result<Vec<Drawn>, Redo>
+    requires { tick ≤ 2 ^ 32 }
+    ensures { IfOk result (λ all.
+        All (AreDrawn seed tick (map (λ r. r.now) rows.now)) all.items) }
+{
+    let ids = id_column(alloc, rows)?;
+    let drawer = Drawer::make(seed);
+    let mut all = Vec::with_capacity(alloc, sites.len())?;
+    for site in sites {
+        all.push(drawn_at(alloc, &drawer, tick, *site, &ids)?)?;
+    }
+    Ok(all)
+}
+
 /// The draws of agents at the sites of the queries of a program.
 pub fn all_drawn(
     alloc: Global,
@@ -53,13 +74,7 @@ pub fn all_drawn(
 {
     let mut sites = Vec::new(alloc);
     query_sites(program, &mut sites)?;
-    let ids = id_column(alloc, rows)?;
-    let drawer = Drawer::make(seed);
-    let mut all = Vec::new(alloc);
-    for site in &sites {
-        all.push(drawn_at(alloc, &drawer, tick, *site, &ids)?)?;
-    }
-    Ok(all)
+    drawn_for(alloc, seed, tick, &sites, rows)
 }
 
 /// Draws as columns that lanes read.

@@ -1,12 +1,8 @@
-ghost use Rattle.std.specs.Prelude.{◌≡◌, ◌≤◌, ◌^◌, ℕ, ℤ, List, Some, pos, map, length, take, slice_get, slice_index_or, IfOk, IfSome};
+ghost use Rattle.std.specs.Prelude.{◌≡◌, ◌≤◌, ℕ, ℤ, List, Some, pos, map, length, take, slice_get, slice_index_or, IfOk, IfSome};
 ghost use Rattle.std.specs.List.{All};
-ghost use Rattle.brace_fold.specs.inner.Asks.{AreDrawn};
 ghost use Rattle.brace_fold.specs.inner.Rulings.{AreLanes};
 
-use crate::columns::id_column;
-use crate::drawn::{Drawn, drawn_at};
 use brace_code::{Lane, Redo};
-use brace_draw::Drawer;
 use brace_model::Agent;
 use brace_num::List;
 use std::alloc::Global;
@@ -45,26 +41,6 @@ pub fn lanes_of(alloc: Global, count: usize) -> Result<List<Lane>, Redo>
         })?;
     }
     Ok(List::from_vec(lanes))
-}
-
-/// The draws of agents at some sites.
-pub fn drawn_for(
-    alloc: Global,
-    seed: u64,
-    tick: u64,
-    sites: &[u32],
-    agents: &[Agent],
-) -> Result<Vec<Drawn>, Redo>
-    requires { tick ≤ 2 ^ 32 }
-    ensures { IfOk result (λ all. All (AreDrawn seed tick agents.now) all.items) }
-{
-    let ids = id_column(alloc, agents)?;
-    let drawer = Drawer::make(seed);
-    let mut all = Vec::with_capacity(alloc, sites.len())?;
-    for site in sites {
-        all.push(drawn_at(alloc, &drawer, tick, *site, &ids)?)?;
-    }
-    Ok(all)
 }
 
 /// The total of an effect, where it fits a word.

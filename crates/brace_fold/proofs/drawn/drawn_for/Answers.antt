@@ -5,7 +5,7 @@ use Rattle.brace_fold.specs.declared.drawn.Drawn.{Drawn}
 use Rattle.brace_fold.specs.inner.Asks.{AreDrawn}
 use Rattle.brace_fold.proofs.Drawings.{drawn-of, mapped}
 use denote.Ref.{Bor}
-use Rattle.brace_fold.proofs.drawn.all_drawn.Goals as goal
+use Rattle.brace_fold.proofs.drawn.drawn_for.Goals as goal
 
 pub loop-site-preserved : goal.loop-site-preserved
 loop-site-preserved c =
