@@ -42,7 +42,7 @@ use Rattle.brace_top.specs.Trials.{strips, along_x, trial_plan, trial_line}
 use Rattle.brace_top.specs.Status.{has_run}
 use Rattle.brace_top.specs.inner.Settled.{told_counts, status_in, message_in, is_plain_work, outcome_of, outcome_by, IsWritten, IsRunOf}
 use Rattle.brace_top.specs.inner.Words.{said_trial}
-use Rattle.brace_top.proofs.CameLemmas.{counts_told}
+use Rattle.brace_top.proofs.SettleLemmas.{counts_told}
 use Rattle.brace_top.proofs.StatusLemmas.{plain_works, plain_counts, plain_stops}
 
 -- ---- the cut plan
