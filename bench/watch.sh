@@ -1,7 +1,7 @@
 #!/usr/bin/env bash
-# Runs 100,000 fish over a plane of 64 boxes, of which each tick is published, without watched figures
-# and with 1, 8 and 64 of them, and writes the seconds a tick and what the figures cost of it into
-# docs/PERFORMANCE.md.
+# Runs 100,000 fish over a plane of 64 boxes, of which each tick is published, without watched
+# figures and with 1, 8 and 64 of them, and writes the seconds a tick and what the figures cost of it
+# into docs/PERFORMANCE.md.
 set -eu
 top=$(cd "$(dirname "$0")/.." && pwd)
 work=$(mktemp -d)
@@ -29,7 +29,8 @@ with open(f"{work}/k", "w") as file:
 lines = ["| figures | seconds a tick | for the figures | of the tick |", "|---|---|---|---|"]
 plain = None
 for count in (0, 1, 8, 64):
-    words = [program, "run", "--script", f"{work}/s", "--agents", f"{work}/a", "--cuts", f"{work}/k"]
+    words = [program, "run", "--script", f"{work}/s", "--agents", f"{work}/a",
+             "--cuts", f"{work}/k"]
     if count:
         with open(f"{work}/w", "w") as file:
             file.writelines(f"{KINDS[i % len(KINDS)]}\n" for i in range(count))

@@ -212,8 +212,8 @@ pub fn crew_run_on_one<P: Publisher>(
 /// number is the number of parts. One worker runs over plain lanes in the order that a number
 /// draws, as [`crew_run_alone`] does, and has no seat.
 ///
-/// The setting is lawful and the publisher fits it. With two or more workers the call may wait; what
-/// is said here holds where it returns.
+/// The setting is lawful and the publisher fits it. With two or more workers the call may wait;
+/// what is said here holds where it returns.
 pub fn crew_run<R: Threads + Wait + Sync, P: Publisher + Send, G: Gate + Sync>(
     rt: &R,
     alloc: Global,
