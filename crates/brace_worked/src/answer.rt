@@ -55,7 +55,9 @@ impl Desk {
         shelf.prepare("c.2", 1000)?;
         shelf.prepare("c.4", 200)?;
         shelf.prepare("c.5", 200)?;
+        shelf.prepare("w.1", 1000)?;
         shelf.prepare("w.2", 1000)?;
+        shelf.prepare("w.3", 1000)?;
         shelf.prepare("w.4", 1000)?;
         shelf.prepare("w.5", 1000)?;
         Ok(Desk {
