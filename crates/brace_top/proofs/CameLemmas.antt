@@ -1,6 +1,6 @@
 -- What a run by parts came to whose publisher writes rows and saves checkpoints and figures: it carried its outcome out, or stopped in it.
 use Rattle.std.proofs.Common.{◌≡◌, ◌∙◌, refl, sym, ap, ap₂, subst, ℕ, zero, suc, ◌+◌, ◌≤◌, List, [], ◌∷◌, ◌++◌, flat_map, fold, take, drop, take_all, take-append-drop, length, append_assoc, Bool, true, false, Option, Some, None, Result, Ok, Err, All, Bor, slice_get, inl, inr, arith}
-use Rattle.std.specs.Prelude.{option_map, is_some, ◌||◌}
+use Rattle.std.specs.Prelude.{option_map}
 use Rattle.std.proofs.Math.Seq.{take-append_seam}
 use Rattle.std.proofs.lemmas.Grind.{flat_map-append}
 use Rattle.std.proofs.lemmas.List.{append-nil, length-append, map-append}
@@ -16,7 +16,6 @@ use Rattle.brace_model.specs.World.{World}
 use Rattle.brace_model.specs.Run.{first_fault}
 use Rattle.brace_pieces.specs.declared.setting.Setting.{Setting}
 use Rattle.brace_pieces.specs.Settings.{LawfulSetting}
-use Rattle.brace_pieces.specs.Counts.{count_border, count_effects, count_moved, count_handed}
 use Rattle.brace_part.specs.declared.counts.Counts.{Counts}
 use Rattle.brace_crew.specs.declared.crew.CrewFault.{CrewFault}
 use Rattle.brace_crew.specs.declared.crew.CrewFault.TheVariants as crew
@@ -43,11 +42,11 @@ use Rattle.brace_top.specs.declared.status.Status.TheVariants.{Done, Fault, Writ
 use Rattle.brace_top.specs.declared.task.Task.{Task}
 use Rattle.brace_top.specs.declared.command.TrialCommand.{TrialCommand as CodeTrial}
 use Rattle.brace_top.specs.Answer.{ShelfCall, SinkCall, sink_call, IsBehind, HasSaved, IsHalfSaved, LeavesFront, IsHalted, CountsShelf, CountsWrites}
-use Rattle.brace_top.specs.Messages.{stats_message, fault_message, write_fault_message, save_fault_message, no_memory_message}
-use Rattle.brace_top.specs.Outcome.{Outcome, stats_of, end_status, end_message, ran}
+use Rattle.brace_top.specs.Messages.{fault_message, save_fault_message, no_memory_message}
+use Rattle.brace_top.specs.Outcome.{Outcome, end_status, end_message, ran}
 use Rattle.brace_top.specs.Savings.{Saves, Saving, with_saved}
 use Rattle.brace_top.specs.Status.{has_run}
-use Rattle.brace_top.specs.inner.Settled.{stopped_status, stopped_message, status_in, message_in, IsRefusedAs, IsToldAs, told_counts, keeper_call, saves_in, saves_files, outcome_of, outcome_by, IsErrOf, IsUnsavedAs, IsRefusedBy, IsSettled, IsCarriedOut, IsRunOf, is_work, is_plain_work}
+use Rattle.brace_top.specs.inner.Settled.{stopped_status, stopped_message, status_in, message_in, told_counts, keeper_call, saves_in, saves_files, outcome_of, outcome_by, IsUnsavedAs, IsRefusedBy, IsSettled, IsCarriedOut, IsRunOf}
 use Rattle.brace_top.proofs.SavedLemmas.{text_of, listed, files_of, no_files_of, saving_of, saving_in, saved_by, saved_by-append, saves_none, StandsIn, stand_in, calls_save}
 use Rattle.brace_top.proofs.SettleLemmas.{counts_told, both_none, name_in, no_name, told_gives, unsaved_gives, stop_gives, stopped_gives, settled_gives, settled_work, settled_plain}
 use Rattle.brace_top.proofs.StatusLemmas.{work_reads}

@@ -19,7 +19,7 @@ use Rattle.brace_top.specs.declared.status.Status.TheVariants.{Done, Fault, Writ
 use Rattle.brace_top.specs.Messages.{stats_message, fault_message, write_fault_message, save_fault_message, no_memory_message}
 use Rattle.brace_top.specs.Outcome.{stats_of}
 use Rattle.brace_top.specs.Savings.{Saves}
-use Rattle.brace_top.specs.inner.Settled.{stopped_status, stopped_message, status_in, message_in, IsRefusedAs, IsToldAs, told_counts, saves_files, IsErrOf, IsUnsavedAs, IsRefusedBy, IsSettled, is_work, is_plain_work}
+use Rattle.brace_top.specs.inner.Settled.{stopped_status, stopped_message, status_in, message_in, IsRefusedAs, IsToldAs, told_counts, saves_files, IsUnsavedAs, IsRefusedBy, IsSettled, is_work, is_plain_work}
 
 pub counts_told : (stats : Bool) (s : Setting) (c : Counts) → c.border ≡ count_border s → c.effects ≡ count_effects s → c.moved ≡ count_moved s → c.handed ≡ count_handed s → told_counts stats c ≡ stats_of stats s
 counts_told false s c border effects moved handed = refl

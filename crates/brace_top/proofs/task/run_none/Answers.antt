@@ -1,4 +1,5 @@
 use Rattle.std.proofs.Common.{◌≡◌, ◌∙◌, refl, sym, ap, subst, inl}
+use Rattle.std.proofs.lemmas.Result.{err_from_is_err_and}
 use Rattle.brace_part.specs.declared.counts.Counts.{Counts}
 use Rattle.brace_top.specs.declared.status.Status.TheVariants.{Done}
 use Rattle.brace_top.specs.Answer.{sink_call}
@@ -8,8 +9,13 @@ use Rattle.brace_top.proofs.AnswerLemmas.{done_written}
 use Rattle.brace_top.proofs.CameLemmas.{piece_none}
 use Rattle.brace_top.proofs.SettleLemmas.{told_gives}
 use Rattle.brace_top.proofs.NoneLemmas.{nothing, ran_none}
-use Rattle.brace_top.proofs.TrialLemmas.{written_for}
+use Rattle.brace_top.proofs.TrialLemmas.{written_for, unflushed_written}
 use Rattle.brace_top.proofs.task.run_none.Goals as goal
+
+pub returns-in_err-flush-clause-written : goal.returns-in_err-flush-clause-written
+returns-in_err-flush-clause-written g c =
+    let p = err_from_is_err_and c.from_residual.result c.from_residual.ensures.1 in
+    rw (p.1, p.2) (unflushed_written c.args.task.now (sink_call g.O.Sink c.args.out.now c.flush.new.self) c.in_err-flush.ensures.same c.in_err-flush.ensures.rose)
 
 pub returns-clause-written : goal.returns-clause-written
 returns-clause-written g c =
