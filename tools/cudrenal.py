@@ -43,10 +43,10 @@ class Failure(Exception):
 
 
 class Refusal(Failure):
-    """Statuses 3 to 6, of a script, an agent file, a cut plan or a checkpoint.
+    """Statuses 3 to 6 and 14, of a script, an agent file, a cut plan, a checkpoint or a watch file.
 
     `name` is the file, `kind` why; `line` and `column` where in a script, `record` in an agent
-    file, `line` in a plan or checkpoint; what the file has not is None.
+    file, `line` in a plan, checkpoint or watch file; what the file has not is None.
     """
 
 
@@ -81,7 +81,7 @@ def failure(status, message, made):
         parts = {name: text if name in ("phase", "kind") else whole(text)
                  for name, text in found.groupdict().items()}
         return Fault(status, message, parts, made)
-    found = REFUSED.fullmatch(message) if 3 <= status <= 6 else None
+    found = REFUSED.fullmatch(message) if 3 <= status <= 6 or status == 14 else None
     if not found:
         return Failure(status, message, None, made)
     parts = found.groupdict()

@@ -1,16 +1,22 @@
 #!/usr/bin/env python3
-"""Draws published rows as SVG, for papers: the agents of one tick, or a column over all ticks.
+"""Draws published rows as SVG, for papers: the agents of one tick, or a column over all ticks; and
+the figures that a run watched.
 
     plot.py rows.csv --script fish.brasil --tick 100 --out school.svg
     plot.py rows.csv --script fish.brasil --series vx --out speed.svg
     plot.py rows.csv --script ill.brasil --counts status --out cases.svg
     plot.py rows.csv --script foxes.brasil --counts class --out waves.svg
+    plot.py --figures ill.watch --out ill.svg
+    plot.py --figures ill.watch --boxes 1 --out where.svg
 
 A column is named as in the script, or by CLASS.NAME; without a script by its number, from 1.
+Figures are those of all files NAME.k; a figure is named by its line of NAME, the watch file, or by
+its number where that is not there. With --boxes one figure is drawn as a band a box.
 """
 import argparse
 import collections
 import gc
+import glob
 import itertools
 import math
 import operator
@@ -447,6 +453,96 @@ def draw_lines(name, ticks, lines):
     return picture(f"agents by {name}", key, "tick", parts)
 
 
+class Figures:
+    """The figures of all files NAME.k: to each number, to each tick the whole and its boxes."""
+
+    FORM = re.compile(r"([0-9]+),([0-9]+)((?:,(?:none|-?[0-9]+(?:\.[0-9]{6})?))+)")
+
+    def __init__(self, name):
+        self.name, self.found, last = name, {}, -1
+        ends = [(int(path[len(name) + 1:]), path) for path in glob.glob(glob.escape(name) + ".*")
+                if DIGITS.fullmatch(path[len(name) + 1:])]
+        for _, path in sorted(ends):
+            last = self.read(path, last)
+        if not self.found:
+            raise Refusal(f"{name}: no figures are in files {name}.k")
+
+    def read(self, path, last):
+        """Reads a file whose ticks are behind `last`; its own last one."""
+        before = last
+        with open(path, encoding="utf-8", errors="replace", newline="\n") as file:
+            for count, line in enumerate(file, 1):
+                parts = self.FORM.fullmatch(line[:-1]) if line.endswith("\n") else None
+                if not parts:
+                    raise Refusal(f"{path}: line {count} is not tick,number,figures: {line[:60]!r}")
+                tick, number = int(parts[1]), int(parts[2])
+                if tick <= before or tick < last:
+                    raise Refusal(f"{path}: line {count} is of tick {tick}, which other lines have")
+                last = tick
+                self.found.setdefault(number, {})[tick] = [
+                    None if text == "none" else float(text) for text in parts[3][1:].split(",")]
+        return last
+
+    def words(self):
+        """What each figure is, by its number."""
+        try:
+            with open(self.name, encoding="utf-8", errors="replace") as file:
+                lines = file.read().split("\n")
+        except FileNotFoundError:
+            lines = []
+        return {n: lines[n - 1] if n <= len(lines) else f"figure {n}" for n in self.found}
+
+
+def runs(line):
+    """The pieces of a line without the ticks that have no value."""
+    for told, piece in itertools.groupby(line.items(), lambda item: item[1] is not None):
+        if told:
+            yield dict(piece)
+
+
+def draw_figures(name):
+    """A line for each figure of all agents, over all ticks."""
+    figures = Figures(name)
+    words = figures.words()
+    lines = [(COLOURS[i % len(COLOURS)], words[n], {tick: all_[0] for tick, all_ in line.items()})
+             for i, (n, line) in enumerate(sorted(figures.found.items()))]
+    values = [value for *_, line in lines for value in line.values() if value is not None]
+    if not values:
+        raise Refusal(f"{name}: all figures are none")
+    ticks = [tick for *_, line in lines for tick in line]
+    axes = Axes((min(ticks), max(ticks)), (min(values + [0]), max(values)))
+    parts = axes.drawn()
+    for i, (colour, word, line) in enumerate(lines):
+        parts += [f'<polyline points="{" ".join(points(axes, run))}" fill="none" '
+                  f'stroke="{colour}" stroke-width="2"/>' for run in runs(line)]
+        parts += [f'<circle cx="{LEFT + 14}" cy="{TOP + 14 + 18 * i}" r="5" fill="{colour}"/>',
+                  f'<text x="{LEFT + 26}" y="{TOP + 18 + 18 * i}" fill="#1c2430">'
+                  f"{escape(word)}</text>"]
+    return picture("watched figures", [], "tick", parts)
+
+
+def draw_boxes(name, number):
+    """A figure over all ticks, as a band for each box, one upon the other."""
+    figures = Figures(name)
+    if number not in figures.found:
+        raise Refusal(f"{name}: has no figure {number}")
+    line = figures.found[number]
+    if any(value is None or value < 0 for all_ in line.values() for value in all_):
+        raise Refusal(f"{name}: figure {number} is below 0 or none somewhere, and has no bands")
+    axes = Axes((min(line), max(line)), (0, max(all_[0] for all_ in line.values())))
+    parts, below = axes.drawn(), dict.fromkeys(line, 0.0)
+    for box in range(max(len(all_) for all_ in line.values()) - 1):
+        top = {tick: below[tick] + (all_[1:] + [0.0] * box)[box] for tick, all_ in line.items()}
+        band = " ".join(points(axes, top) + points(axes, below)[::-1])
+        parts.append(f'<polygon points="{band}" fill="{COLOURS[box % len(COLOURS)]}" '
+                     f'fill-opacity="0.6"><title>box {box}</title></polygon>')
+        below = top
+    whole_line = {tick: all_[0] for tick, all_ in line.items()}
+    parts.append(f'<polyline points="{" ".join(points(axes, whole_line))}" fill="none" '
+                 f'stroke="#1c2430" stroke-width="2"/>')
+    return picture(figures.words()[number], [], "tick", parts)
+
+
 def save(path, text):
     """Writes a file whole or not at all."""
     part = f"{path}.{os.getpid()}.part"
@@ -469,7 +565,7 @@ def whole(text):
 def main():
     words = argparse.ArgumentParser(
         prog="plot.py", description="Draws published rows as an SVG picture.", allow_abbrev=False)
-    words.add_argument("rows", help="the rows that brace run wrote")
+    words.add_argument("rows", nargs="?", help="the rows that brace run wrote")
     words.add_argument("--script", help="the script, which names the columns")
     what = words.add_mutually_exclusive_group(required=True)
     what.add_argument("--tick", type=whole, help="draw the agents of this tick")
@@ -477,16 +573,28 @@ def main():
     what.add_argument("--counts", metavar="COLUMN",
                       help="draw how many agents have each value of a column, or are of each "
                       "class (class), over all ticks")
+    what.add_argument("--figures", metavar="NAME",
+                      help="draw the figures of the files NAME.k, which brace run saved")
+    words.add_argument("--boxes", metavar="N", type=whole,
+                       help="draw figure N alone, as a band for each box")
     words.add_argument("--colour", metavar="COLUMN", help="colour the agents by a column")
     words.add_argument("--out", required=True, metavar="PICTURE.svg")
     asked = words.parse_args()
     if asked.colour and asked.tick is None:
         words.error("--colour goes with --tick")
+    if asked.boxes is not None and asked.figures is None:
+        words.error("--boxes goes with --figures")
+    if (asked.rows is None) == (asked.figures is None):
+        words.error("rows are drawn, or --figures")
     # Millions of short texts, and no cycles.
     gc.disable()
     try:
         columns = Columns(asked.script)
-        if asked.series:
+        if asked.boxes is not None:
+            text = draw_boxes(asked.figures, asked.boxes)
+        elif asked.figures:
+            text = draw_figures(asked.figures)
+        elif asked.series:
             text = draw_series(asked.rows, columns, asked.series)
         elif asked.counts == "class":
             text = draw_classes(asked.rows, columns)

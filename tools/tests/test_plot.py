@@ -55,6 +55,27 @@ REFUSED = [
 ]
 
 
+# Files of figures: of two ends of a run over two boxes, and of others that are wrong.
+FIGURES = {
+    "w": "count A\nmax A n where n < 2\n",
+    "w.2": "0,1,3,1,2\n0,2,none,none,none\n2,1,4,1,3\n2,2,1.500000,1.500000,none\n",
+    "w.10": "3,1,5,5,0\n3,2,1.000000,1.000000,none\n10,1,5,0,5\n10,2,-1.000000,-1.000000,none\n",
+    "w.10x": "no figures", "late.4": "4,1,1,1\n", "late.5": "4,1,1,1\n", "bad.1": "0,1,1.5,1\n",
+    "cut.1": "0,1,1,1\n0,2,1", "none.1": "0,1,none,none\n",
+}
+# Words, and how many lines and bands the picture has.
+FIGURES_DRAWN = [("--figures w", 2, 0), ("--figures w --boxes 1", 1, 2)]
+# Words and the line of the refusal.
+FIGURES_REFUSED = [
+    ("--figures absent", "absent: no figures are in files absent.k"),
+    ("--figures late", "late.5: line 1 is of tick 4, which other lines have"),
+    ("--figures bad", "bad.1: line 1 is not tick,number,figures: '0,1,1.5,1\\n'"),
+    ("--figures cut", "cut.1: line 2 is not tick,number,figures: '0,2,1'"),
+    ("--figures none", "none: all figures are none"),
+    ("--figures w --boxes 2", "w: figure 2 is below 0 or none somewhere, and has no bands"),
+    ("--figures w --boxes 3", "w: has no figure 3"),
+]
+
 # Many rows, of which all but the first are read in pieces; and rows that are wrong among them.
 MANY = [f"{tick},A,{name},{name}.500000,-{tick}.250000,{name % 3}\n" if name % 4 else
         f"{tick},B,{name},{'true' if tick > 1 else 'false'},0.000000,{tick}.000000\n"
@@ -108,6 +129,28 @@ def check_many(same, folder):
         same(told, made.stderr, f"plot.py: rows: row {at + 1} {told}\n")
 
 
+def draw(folder, words):
+    return subprocess.run([sys.executable, PLOT, *words.split(), "--out", "out.svg"], cwd=folder,
+                          capture_output=True, text=True)
+
+
+def check_figures(same):
+    """Figures are drawn, a line each or as bands; what is no file of figures is refused."""
+    with tempfile.TemporaryDirectory() as folder:
+        for name, text in FIGURES.items():
+            write(folder, name, text)
+        for words, lines, bands in FIGURES_DRAWN:
+            made = draw(folder, words)
+            same(words, made.stderr, "")
+            root = xml.etree.ElementTree.parse(os.path.join(folder, "out.svg")).getroot()
+            same(f"lines of {words}", len(list(root.iter(SVG + "polyline"))), lines)
+            same(f"bands of {words}", len(list(root.iter(SVG + "polygon"))), bands)
+        for words, line in FIGURES_REFUSED:
+            same(words, draw(folder, words).stderr, f"plot.py: {line}\n")
+        for words in ("rows --figures w", "--boxes 1 rows --tick 0", "--tick 0"):
+            same(words, draw(folder, words).returncode, 2)
+
+
 def main():
     count = failed = 0
 
@@ -131,6 +174,7 @@ def main():
         with open(os.path.join(folder, "out.svg"), encoding="utf-8") as file:
             same("a refusal leaves the picture", file.read(), "old")
         check_many(same, folder)
+        check_figures(same)
         write(folder, "rows", ROWS)
         made = plot(folder, "--tick 0", "none/out.svg")
         same("no folder", made.stderr, "plot.py: none/out.svg: No such file or directory\n")

@@ -32,6 +32,7 @@ use Rattle.brace_crew.specs.declared.publisher.PubFault.{PubFault}
 use Rattle.brace_crew.specs.declared.publisher.PubFault.TheVariants as refusal
 use Rattle.brace_crew.specs.declared.crew.CrewFault.TheVariants as fault
 use Rattle.brace_crew.specs.declared.desk.Lot.{Lot}
+use Rattle.brace_crew.specs.Refusals.{tick_of}
 use Rattle.brace_crew.specs.Calls.{Call, ticks_left, call_of, calls_to, calls, call_at, behind, IsCut, IsFront, HasRun, Rises, CameTo}
 use Rattle.brace_crew.specs.Desks.{OnDesk, whole_at, end_calls, ends_before, AreFaultless, HasShown, HasHalted, HasRefused}
 use Rattle.brace_crew.specs.inner.Crews.{IsDeskOf}
@@ -126,7 +127,7 @@ module _ {P : Type 0} (of : publisher.Ghosts P) (s : Setting) (run : IsRun s) (o
           ∙ sym (ap (behind of s opening) (rest_is ∙ ap (λ cs. front ++ cs) (one_call x xs is))
           ∙ fold-append (λ v c. of.after v s c.tick c.worlds) (of.state opening) front (record { tick = g.tick; worlds = worlds } ∷ []))
 
-      pub rest_cut : (x : Shown) (xs : List Shown) → worlds ≡ x ∷ xs → Rises of opening now → (last : P) (y : PubFault) → of.cut (of.state now) s g.tick worlds y (of.state last) → ((k : ℕ) → y ≡ refusal.Save k → (k ≡ g.tick) × Rose (of.saves now) (of.saves last))
+      pub rest_cut : (x : Shown) (xs : List Shown) → worlds ≡ x ∷ xs → Rises of opening now → (last : P) (y : PubFault) → of.cut (of.state now) s g.tick worlds y (of.state last) → ((k : ℕ) → tick_of y ≡ Some k → (k ≡ g.tick) × Rose (of.saves now) (of.saves last))
           → (y ≡ refusal.Write → Rose (of.writes now) (of.writes last)) → IsCut of s opening last (calls s) y
       rest_cut x xs is rises last y cut saved written =
           let all = rest_is ∙ ap (λ cs. front ++ cs) (one_call x xs is) in
@@ -269,7 +270,7 @@ module _ {P : Type 0} (of : publisher.Ghosts P) (s : Setting) (run : IsRun s) (d
             rises = then_rises of d.opening v last rises_there more;
           }
 
-      pub rest_was_refused : (y : PubFault) → of.cut (of.state v) s f.tick worlds y (of.state last) → ((k : ℕ) → y ≡ refusal.Save k → (k ≡ f.tick) × Rose (of.saves v) (of.saves last)) → (y ≡ refusal.Write → Rose (of.writes v) (of.writes last))
+      pub rest_was_refused : (y : PubFault) → of.cut (of.state v) s f.tick worlds y (of.state last) → ((k : ℕ) → tick_of y ≡ Some k → (k ≡ f.tick) × Rose (of.saves v) (of.saves last)) → (y ≡ refusal.Write → Rose (of.writes v) (of.writes last))
           → CameTo of s d.opening last (Err (fault.Publish y))
       rest_was_refused y cut saved written =
           let (x, (xs, filled)) = some_of worlds some in

@@ -25,6 +25,7 @@ use Rattle.brace_crew.specs.declared.publisher.Publisher as publisher
 use Rattle.brace_crew.specs.declared.desk.Lot.{Lot}
 use Rattle.brace_crew.specs.declared.desk.Stop.{Stop}
 use Rattle.brace_crew.specs.declared.desk.Stop.TheVariants as stop
+use Rattle.brace_crew.specs.Refusals.{tick_of}
 use Rattle.brace_crew.specs.Calls.{Rises}
 use Rattle.brace_crew.specs.Desks.{OnDesk, HasShown, HasHalted, HasRefused, whole_at, ends_before}
 use Rattle.brace_crew.specs.inner.Lots.{brought, tick_shown}
@@ -56,6 +57,10 @@ in_row Q (suc n) a p all low high = elim (cases_eq a p) [
   | inl same ↦ subst Q same (All-head Q a (range_with_len (a + 1) n) all)
   | inr other ↦ in_row Q n (a + 1) p (All-tail Q a (range_with_len (a + 1) n) all) (omega (arith, low, other)) (omega (arith, high))
 ]
+
+-- its publisher fits its run
+pub desk_fits : {P : Type 0} (of : publisher.Ghosts P) (d : OnDesk P) (room : ℕ) → IsDesk of d room → (s : Setting) → s ≡ d.course.setting → of.fits d.publisher s.job.program
+desk_fits of d room h s same = subst (λ (r : Setting). of.fits d.publisher r.job.program) (sym same) (h.rises.still_fits d.course.setting.job.program h.fits)
 
 -- ---- a desk at another place
 
@@ -89,6 +94,7 @@ module _ {P : Type 0} (of : publisher.Ghosts P) (d : OnDesk P) where
           on_course = course_within d.course h.on_course low;
           has_room = subst (λ r. parts d.course.setting ≤ r) (sym same) h.has_room;
           stands = stands;
+          fits = h.fits;
           rises = h.rises;
         })
 
@@ -103,6 +109,7 @@ module _ {P : Type 0} (of : publisher.Ghosts P) (d : OnDesk P) where
           on_course = course_behind d.course h.on_course;
           has_room = subst (λ r. parts d.course.setting ≤ r) (sym same) h.has_room;
           stands = stands;
+          fits = h.fits;
           rises = rises_on now h.rises rises;
         })
 
@@ -273,8 +280,8 @@ module _ {P : Type 0} (of : publisher.Ghosts P) (d : OnDesk P) where
 
           -- it refused
           pub refused_shown : (now : P) (x : PubFault) (lots : List Lot) (o : Option Stop) (closed : Bool) → Rises of d.opening d.publisher
-              → of.cut (of.state d.publisher) s t (map (whole_at s) (shown_ticks s t)) x (of.state now) → ((k : ℕ) → x ≡ fault.Save k → k ≡ t)
-              → (x ≡ fault.Write → Rose (of.writes d.publisher) (of.writes now)) → ((k : ℕ) → x ≡ fault.Save k → Rose (of.saves d.publisher) (of.saves now))
+              → of.cut (of.state d.publisher) s t (map (whole_at s) (shown_ticks s t)) x (of.state now) → ((k : ℕ) → tick_of x ≡ Some k → k ≡ t)
+              → (x ≡ fault.Write → Rose (of.writes d.publisher) (of.writes now)) → ((k : ℕ) → tick_of x ≡ Some k → Rose (of.saves d.publisher) (of.saves now))
               → IsClosedBy of (behind_work now lots o closed) (Some (stop.Refusal x))
           refused_shown now x lots o closed rises cut named written saved = record {
             cut_there = record {

@@ -20,6 +20,7 @@ use Rattle.brace_crew.specs.declared.publisher.Publisher as publisher
 use Rattle.brace_crew.specs.declared.desk.Lot.{Lot}
 use Rattle.brace_crew.specs.declared.desk.Stop.{Stop}
 use Rattle.brace_crew.specs.declared.desk.Stop.TheVariants as stop
+use Rattle.brace_crew.specs.Refusals.{tick_of}
 use Rattle.brace_crew.specs.Calls.{Rises}
 use Rattle.brace_crew.specs.Desks.{OnDesk, whole_at}
 use Rattle.brace_crew.specs.inner.Lots.{brought, tick_shown}
@@ -101,10 +102,10 @@ module _ {P : Type 0} (of : publisher.Ghosts P) (d : OnDesk P) (room : ℕ) (h :
           -- it refused, or memory was refused
           module _ {U : Type 0} (r : Result U Stop)
               (refused : (x : PubFault) → r ≡ Err (stop.Refusal x) → of.cut (of.state d.publisher) s t (map (whole_at s) (shown_ticks s t)) x (of.state p))
-              (named : (k : ℕ) → r ≡ Err (stop.Refusal (fault.Save k)) → k ≡ t)
+              (named : (x : PubFault) (k : ℕ) → r ≡ Err (stop.Refusal x) → tick_of x ≡ Some k → k ≡ t)
               (halted : (c : Cause) → r ≡ Err (stop.Halt c) → (c ≡ cause.NoMemory) × (p ≡ d.publisher))
               (written : r ≡ Err (stop.Refusal fault.Write) → Rose (of.writes d.publisher) (of.writes p))
-              (saved : (k : ℕ) → r ≡ Err (stop.Refusal (fault.Save k)) → Rose (of.saves d.publisher) (of.saves p)) where
+              (saved : (x : PubFault) (k : ℕ) → r ≡ Err (stop.Refusal x) → tick_of x ≡ Some k → Rose (of.saves d.publisher) (of.saves p)) where
             closed_so : (y : Stop) → r ≡ Err y → IsClosedBy of (worked p lots (Some y) closed) (Some y)
             closed_so (stop.Halt c) e =
                 let (memory, kept) = halted c e in
@@ -115,7 +116,7 @@ module _ {P : Type 0} (of : publisher.Ghosts P) (d : OnDesk P) (room : ℕ) (h :
             closed_so (stop.Refusal x) e =
                 refused_shown of d goes next_work h.is_last h.on_course.before_work t is went p x lots (Some (stop.Refusal x)) closed h.rises
                 (subst (λ (r : Setting). of.cut (of.state d.publisher) r t (map (whole_at r) (shown_ticks r t)) x (of.state p)) same_setting (refused x e))
-                (λ k same. named k (e ∙ ap (λ z. Err (stop.Refusal z)) same)) (λ same. written (e ∙ ap (λ z. Err (stop.Refusal z)) same)) (λ k same. saved k (e ∙ ap (λ z. Err (stop.Refusal z)) same))
+                (λ k is. named x k e is) (λ same. written (e ∙ ap (λ z. Err (stop.Refusal z)) same)) (λ k is. saved x k e is)
 
             pub work_refused : (y : Stop) → r ≡ Err y → closed ≡ is_some (Some y) → IsDesk of (desk_on of d course p lots (Some y) closed) places
             work_refused y e ends =

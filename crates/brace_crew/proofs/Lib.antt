@@ -21,3 +21,4 @@ pub mod RosterLemmas
 pub mod GatherLemmas
 pub mod BenchSends
 pub mod TeamLemmas
+pub mod WatchLemmas

@@ -4,6 +4,7 @@ use Rattle.std.specs.Prelude.{◌≡◌, ℕ, ◌+◌, ◌-◌, ◌%◌, ◌≤�
 use Rattle.std.specs.List.{range_with_len}
 use Rattle.brace_io.specs.Counts.{Rose}
 use Rattle.brace_model.specs.declared.fault.Fault.{Fault}
+use Rattle.brace_model.specs.declared.program.Program.{Program}
 use Rattle.brace_model.specs.World.{World}
 use Rattle.brace_model.specs.Run.{world_after, first_fault}
 use Rattle.brace_pieces.specs.declared.setting.Setting.{Setting}
@@ -16,6 +17,7 @@ use Rattle.brace_crew.specs.declared.crew.CrewFault.TheVariants as crew
 use Rattle.brace_crew.specs.declared.publisher.Publisher as publisher
 use Rattle.brace_crew.specs.declared.publisher.PubFault.{PubFault}
 use Rattle.brace_crew.specs.declared.publisher.PubFault.TheVariants as fault
+use Rattle.brace_crew.specs.Refusals.{tick_of}
 
 -- a call of a publisher: the tick up to which worlds are shown, and these
 pub record Call : Type 0 where
@@ -69,9 +71,9 @@ pub record IsCut {P : Type 0} (of : publisher.Ghosts P) (s : Setting) (opening n
   pub call : Call
   pub is_next : slice_get all made ≡ Some call
   pub is_cut : of.cut (behind of s opening (take made all)) s call.tick call.worlds x (of.state now)
-  pub is_named : (k : ℕ) → x ≡ fault.Save k → k ≡ call.tick
+  pub is_named : (k : ℕ) → tick_of x ≡ Some k → k ≡ call.tick
   pub written : x ≡ fault.Write → Rose (of.writes opening) (of.writes now)
-  pub saved : (k : ℕ) → x ≡ fault.Save k → Rose (of.saves opening) (of.saves now)
+  pub saved : (k : ℕ) → tick_of x ≡ Some k → Rose (of.saves opening) (of.saves now)
 
 -- a publisher answered the first of some calls by Ok, and was not called again
 pub record IsFront {P : Type 0} (of : publisher.Ghosts P) (s : Setting) (opening now : P)
@@ -103,11 +105,13 @@ CameBy of s opening now (Err (crew.Fault f)) = HasFaulted of s opening now f
 CameBy of s opening now (Err (crew.Publish x)) = IsCut of s opening now (calls s) x
 CameBy of s opening now (Err crew.NoMemory) = IsFront of s opening now (calls s)
 
--- a publisher at a later time: its counts of faults did not fall, and it holds the same references
+-- a publisher at a later time: its counts of faults did not fall, it holds the same references, and
+-- it fits the programs that it fitted
 pub record Rises {P : Type 0} (of : publisher.Ghosts P) (opening now : P) : Type 0 where
   pub writes_rise : of.writes opening ≤ of.writes now
   pub saves_rise : of.saves opening ≤ of.saves now
   pub same_loans : of.loans now ≡ of.loans opening
+  pub still_fits : (program : Program) → of.fits opening program → of.fits now program
 
 -- what a run came to
 pub record CameTo {P : Type 0} (of : publisher.Ghosts P) (s : Setting) (opening now : P)

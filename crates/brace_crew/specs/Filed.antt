@@ -73,11 +73,12 @@ after_epoch s setting tick shown =
     with_both s (shown_text setting.job s.fresh shown) (saved_file s.save setting tick shown)
 
 -- what a call may leave that fails: some rows, where the output failed; all rows and no whole file,
--- where the file was not saved; all as it was, where there was no memory
+-- where the file was not saved; all as it was, where there was no memory; it saves no figures
 abbrev pub IsCut : Filed → Setting → ℕ → List Shown → PubFault → Filed → Type 0
 IsCut s setting tick shown fault.Write t =
     WroteFront s (shown_text setting.job s.fresh shown) t
 IsCut s setting tick shown (fault.Save k) t =
     StoppedSaving (with_rows s (shown_text setting.job s.fresh shown))
     (saved_file s.save setting tick shown) t
+IsCut s setting tick shown (fault.Watch k) t = ⊥
 IsCut s setting tick shown fault.NoMemory t = t ≡ s

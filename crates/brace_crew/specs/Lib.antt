@@ -3,7 +3,9 @@ pub mod Calls
 pub mod Desks
 pub mod Filed
 pub mod Members
+pub mod Refusals
 pub mod Shows
 pub mod Sums
+pub mod Watched
 pub mod Workers
 pub mod inner

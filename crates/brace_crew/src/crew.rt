@@ -99,6 +99,7 @@ fn members<'a, P: Publisher>(
     publisher: P,
 ) -> Result<Vec<Member<'a, P>>, P>
     requires lawful { LawfulSetting setting.now }
+    requires fits { P.fits publisher setting.now.job.program }
     ensures members { IfOk result (λ all.
         AreMembers setting.now publisher (all_numbers setting.now) all.items) }
     ensures first_turns { IfOk result (λ all. AreNew all.items) }
@@ -377,8 +378,8 @@ pub(crate) fn concluded<P: Publisher>(
 /// Runs the parts of a setting and its publisher over plain lanes, in the order that a number
 /// draws, and gives the publisher back with what all parts gave, or why not all was published.
 ///
-/// The setting is lawful. The lanes are made for it, with one actor more than it has parts, and
-/// nothing was put on them.
+/// The setting is lawful and the publisher fits it. The lanes are made for it, with one actor more
+/// than it has parts, and nothing was put on them.
 pub fn crew_run_alone<P: Publisher>(
     alloc: Global,
     setting: &Setting,
@@ -387,6 +388,7 @@ pub fn crew_run_alone<P: Publisher>(
     publisher: P,
 ) -> (P, Result<Counts, CrewFault>)
     requires lawful { LawfulSetting setting.now }
+    requires fits { P.fits publisher setting.now.job.program }
     requires lanes_setting { lanes.old.setting ≡ setting.now }
     requires lanes_for { lanes.old.actors ≡ parts setting.now + 1 }
     requires nothing_put { (p q : ℕ) → puts_of lanes.old p q ≡ 0 }

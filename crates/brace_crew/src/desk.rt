@@ -14,6 +14,7 @@ ghost use Rattle.brace_crew.specs.declared.publisher.PubFault.{PubFault};
 ghost use Rattle.brace_crew.specs.declared.publisher.PubFault.TheVariants as fault;
 ghost use Rattle.brace_crew.specs.declared.desk.Stop.TheVariants as stop;
 ghost use Rattle.brace_crew.specs.Calls.{Rises};
+ghost use Rattle.brace_crew.specs.Refusals.{tick_of};
 ghost use Rattle.brace_crew.specs.Desks.{whole_at, HasShown, HasHalted, HasRefused};
 ghost use Rattle.brace_crew.specs.inner.Lots.{tick_shown, brought};
 
@@ -93,10 +94,11 @@ impl<'a, P: Publisher> Model for Desk<'a, P> {
 }
 
 impl<'a, P: Publisher> Desk<'a, P> {
-    /// The desk of a lawful run before its first turn; `Err` gives the publisher back where memory
-    /// is refused.
+    /// The desk of a lawful run, whose program the publisher fits, before its first turn; `Err`
+    /// gives the publisher back where memory is refused.
     pub fn make(alloc: Global, setting: &'a Setting, publisher: P) -> Result<Desk<'a, P>, P>
-        requires { LawfulSetting setting.now }
+        requires lawful { LawfulSetting setting.now }
+        requires fits { P.fits publisher setting.now.job.program }
         ensures start { IfOk result (λ desk.
             desk.course ≡ at_start setting.now (parts setting.now)) }
         ensures opening { IfOk result (λ desk. desk.opening ≡ publisher) }
@@ -123,7 +125,8 @@ impl<'a, P: Publisher> Desk<'a, P> {
 
     /// The publisher, which got all that was shown.
     pub fn into_publisher(self) -> P
-        ensures { result ≡ self.entry.publisher }
+        ensures same { result ≡ self.entry.publisher }
+        ensures fits { P.fits result self.entry.course.setting.job.program }
     {
         let Desk { publisher, .. } = self;
         publisher
@@ -165,6 +168,7 @@ fn publish<P: Publisher>(
 ) -> Result<(), Stop>
     requires lawful { LawfulSetting setting.now }
     requires numbers { NumbersFit setting.now }
+    requires fits { P.fits publisher.old setting.now.job.program }
     requires brought { lots.old.items ≡ map (brought setting.now (tick_shown setting.now end)
         (shown_ticks setting.now end)) (range_with_len 0 (parts setting.now)) }
     ensures done { IfOk result (λ _. P.state publisher.new ≡ P.after (P.state publisher.old)
@@ -172,12 +176,13 @@ fn publish<P: Publisher>(
     ensures refused { (x : PubFault) → result ≡ Err (stop.Refusal x) →
         P.cut (P.state publisher.old) setting.now end
         (map (whole_at setting.now) (shown_ticks setting.now end)) x (P.state publisher.new) }
-    ensures named { (k : ℕ) → result ≡ Err (stop.Refusal (fault.Save k)) → k ≡ end }
+    ensures named { (x : PubFault) (k : ℕ) → result ≡ Err (stop.Refusal x) → tick_of x ≡ Some k
+        → k ≡ end }
     ensures halted { (c : Cause) → result ≡ Err (stop.Halt c)
         → (c ≡ cause.NoMemory) × (publisher.new ≡ publisher.old) }
     ensures written { result ≡ Err (stop.Refusal fault.Write)
         → Rose (P.writes publisher.old) (P.writes publisher.new) }
-    ensures saved { (k : ℕ) → result ≡ Err (stop.Refusal (fault.Save k))
+    ensures saved { (x : PubFault) (k : ℕ) → result ≡ Err (stop.Refusal x) → tick_of x ≡ Some k
         → Rose (P.saves publisher.old) (P.saves publisher.new) }
     ensures rises { Rises P.Publisher publisher.old publisher.new }
     ensures places { vec_capacity lots.new ≡ vec_capacity lots.old }

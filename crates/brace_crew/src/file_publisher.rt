@@ -22,7 +22,7 @@ pub struct FilePublisher<'a, K: Keeper, O: Sink> {
 }
 
 impl<'a, K: Keeper, O: Sink> Publisher for FilePublisher<'a, K, O> {
-    ghost use Rattle.std.specs.Prelude.{◌∷◌, option_map};
+    ghost use Rattle.std.specs.Prelude.{◌∷◌, option_map, ⊤};
     ghost use Rattle.brace_crew.specs.Filed.{Filed, after_epoch, IsCut};
 
     ghost State = { Filed };
@@ -45,6 +45,8 @@ impl<'a, K: Keeper, O: Sink> Publisher for FilePublisher<'a, K, O> {
     ghost saves = { λ p. K.faults p.keeper.now };
 
     ghost loans = { λ p. p.out.ghost_name ∷ p.keeper.ghost_name ∷ K.loans p.keeper.now };
+
+    ghost fits = { λ _ _. ⊤ };
 
     fn epoch(
         &mut self,

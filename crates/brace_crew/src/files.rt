@@ -17,7 +17,7 @@ use std::alloc::Global;
 pub type File = (Text, List<u8>);
 
 /// The world that is shown last, where it is that of a tick at which an epoch ends.
-fn saved_world<'a>(setting: &Setting, tick: u64, shown: &'a [Shown]) -> Option<&'a Shown>
+pub(crate) fn saved_world<'a>(setting: &Setting, tick: u64, shown: &'a [Shown]) -> Option<&'a Shown>
     ensures { MatchOption result (saved_world setting.now tick shown.now ≡ None)
         (λ world. saved_world setting.now tick shown.now ≡ Some (as_world world.now)) }
 {
@@ -31,7 +31,7 @@ fn saved_world<'a>(setting: &Setting, tick: u64, shown: &'a [Shown]) -> Option<&
 }
 
 /// `NAME.k` for the tick k.
-fn file_name(alloc: Global, name: &str, tick: u64) -> Result<Text, NoMemory>
+pub(crate) fn file_name(alloc: Global, name: &str, tick: u64) -> Result<Text, NoMemory>
     ensures { IfOk result (λ text. text ≡ file_name name.now tick) }
 {
     let mut text = String::new(alloc);

@@ -16,6 +16,8 @@ mod roster;
 mod rows;
 mod sum_publisher;
 mod team;
+mod watch_publisher;
+mod watched;
 
 pub use bench::{Bench, Drive};
 pub use crew::{CrewFault, crew_run_alone};
@@ -28,3 +30,4 @@ pub use publisher::{PubFault, Publisher};
 pub use roster::benches;
 pub use sum_publisher::SumPublisher;
 pub use team::{crew_run, crew_run_on_one};
+pub use watch_publisher::WatchPublisher;

@@ -1,5 +1,8 @@
-ghost use Rattle.std.specs.Prelude.{◌≡◌, ◌≤◌, ℕ, Err, IfOk, IfErr};
+ghost use Rattle.std.specs.Prelude.{◌≡◌, ◌≤◌, ℕ, Err, Some, IfOk, IfErr};
 ghost use Rattle.brace_io.specs.Counts.{Rose};
+ghost use Rattle.brace_model.specs.declared.program.Program.{Program};
+ghost use Rattle.brace_pieces.specs.Settings.{LawfulSetting};
+ghost use Rattle.brace_crew.specs.Refusals.{tick_of};
 
 use brace_io::Failed;
 use brace_num::NoMemory;
@@ -13,6 +16,8 @@ pub enum PubFault {
     Write,
     /// The checkpoint of this tick was not saved.
     Save(u64),
+    /// The figures of this tick were not saved.
+    Watch(u64),
     /// The allocator refused memory.
     NoMemory,
 }
@@ -40,6 +45,7 @@ impl From<NoMemory> for PubFault {
 /// One to whom the whole worlds of a run are shown, end by end.
 pub trait Publisher: Drop {
     ghost use Rattle.std.specs.Prelude.{ℕ, List};
+    ghost use Rattle.brace_model.specs.declared.program.Program.{Program};
     ghost use Rattle.brace_pieces.specs.declared.setting.Setting.{Setting};
     ghost use Rattle.brace_pieces.specs.declared.piece.Shown.{Shown};
     ghost use Rattle.brace_crew.specs.declared.publisher.PubFault.{PubFault};
@@ -65,8 +71,11 @@ pub trait Publisher: Drop {
     /// The names of the references that it holds. No call changes them.
     ghost loans: { Self → List ℕ };
 
+    /// Whether it may be shown the worlds of a program's runs.
+    ghost fits: { Self → Program → Type 0 };
+
     /// Takes the whole worlds of the ticks that are shown at an end of a run, or behind its fault;
-    /// `tick` is that end, or the fault's.
+    /// `tick` is that end, or the fault's. The run is lawful.
     fn epoch(
         &mut self,
         alloc: Global,
@@ -74,14 +83,18 @@ pub trait Publisher: Drop {
         tick: u64,
         shown: &[Shown],
     ) -> Result<(), PubFault>
+        requires lawful { LawfulSetting setting.now }
+        requires fits { fits self.old setting.now.job.program }
         ensures done { IfOk result
             (λ _. state self.new ≡ after (state self.old) setting.now tick shown.now) }
         ensures cut { IfErr result
             (λ fault. cut (state self.old) setting.now tick shown.now fault (state self.new)) }
         ensures written { result ≡ Err PubFault.Write → Rose (writes self.old) (writes self.new) }
-        ensures saved { (k : ℕ) → result ≡ Err (PubFault.Save k)
-            → (k ≡ tick) × Rose (saves self.old) (saves self.new) }
+        ensures saved { IfErr result (λ fault. (k : ℕ) → tick_of fault ≡ Some k
+            → (k ≡ tick) × Rose (saves self.old) (saves self.new)) }
         ensures writes_rise { writes self.old ≤ writes self.new }
         ensures saves_rise { saves self.old ≤ saves self.new }
-        ensures same_loans { loans self.new ≡ loans self.old };
+        ensures same_loans { loans self.new ≡ loans self.old }
+        ensures still_fits { (program : Program) → fits self.old program
+            → fits self.new program };
 }

@@ -43,6 +43,7 @@ fn rosters<'a, P: Publisher>(
     publisher: P,
 ) -> Result<Vec<Vec<Member<'a, P>>>, P>
     requires lawful { LawfulSetting setting.now }
+    requires fits { P.fits publisher setting.now.job.program }
     requires some_worker { 0 < workers }
     ensures rosters { IfOk result (λ all. AreRosters setting.now publisher workers
         (all_numbers setting.now) (map (λ l. l.items) all.items)) }
@@ -70,6 +71,7 @@ pub fn benches<'a, P: Publisher>(
     publisher: P,
 ) -> Result<Vec<Bench<'a, P>>, P>
     requires lawful { LawfulSetting setting.now }
+    requires fits { P.fits publisher setting.now.job.program }
     requires some_worker { 0 < workers }
     requires seats { seats.items
         ≡ new_seats lanes.now setting.now (parts setting.now + 1) workers workers }

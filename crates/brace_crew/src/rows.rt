@@ -13,7 +13,7 @@ use brace_rows::print_rows;
 use std::alloc::Global;
 
 /// Whether a tick is published.
-fn is_published(job: &Job, fresh: bool, tick: u64) -> bool
+pub(crate) fn is_published(job: &Job, fresh: bool, tick: u64) -> bool
     ensures { result ≡ is_published job.now fresh tick }
 {
     (tick.is_multiple_of(job.every) || tick == job.last) && (fresh || job.first < tick)

@@ -40,7 +40,7 @@ impl SumPublisher {
 }
 
 impl Publisher for SumPublisher {
-    ghost use Rattle.std.specs.Prelude.{ℤ, [], ◌≡◌, Ok};
+    ghost use Rattle.std.specs.Prelude.{ℤ, [], ◌≡◌, Ok, ⊤};
     ghost use Rattle.brace_crew.specs.Sums.{sums_after};
 
     ghost State = { ℤ × ℤ };
@@ -56,6 +56,8 @@ impl Publisher for SumPublisher {
     ghost saves = { λ _. 0 };
 
     ghost loans = { λ _. [] };
+
+    ghost fits = { λ _ _. ⊤ };
 
     fn epoch(
         &mut self,

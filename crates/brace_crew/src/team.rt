@@ -159,6 +159,7 @@ fn run_on<'a, R: Threads + Wait + Sync, P: Publisher + Send, G: Gate + Sync>(
     gate: &G,
 ) -> (P, Vec<LaneSeat<Piece>>, Result<Counts, CrewFault>)
     requires lawful { LawfulSetting setting.now }
+    requires fits { P.fits publisher setting.now.job.program }
     requires some_worker { 0 < workers }
     requires seats { seats.items
         ≡ new_seats lanes.now setting.now (parts setting.now + 1) workers workers }
@@ -188,7 +189,7 @@ fn run_on<'a, R: Threads + Wait + Sync, P: Publisher + Send, G: Gate + Sync>(
 
 /// A run on one worker, over plain lanes, as [`crew_run_alone`] makes it.
 ///
-/// The setting is lawful.
+/// The setting is lawful and the publisher fits it.
 pub fn crew_run_on_one<P: Publisher>(
     alloc: Global,
     setting: &Setting,
@@ -196,6 +197,7 @@ pub fn crew_run_on_one<P: Publisher>(
     publisher: P,
 ) -> (P, Result<Counts, CrewFault>)
     requires lawful { LawfulSetting setting.now }
+    requires fits { P.fits publisher setting.now.job.program }
     ensures came { CameTo P.Publisher setting.now publisher result.0 result.1 }
 {
     match PlainLanes::make(alloc, setting, setting.parts() + 1) {
@@ -210,8 +212,8 @@ pub fn crew_run_on_one<P: Publisher>(
 /// number is the number of parts. One worker runs over plain lanes in the order that a number
 /// draws, as [`crew_run_alone`] does, and has no seat.
 ///
-/// The setting is lawful. With two or more workers the call may wait; what is said here holds where
-/// it returns.
+/// The setting is lawful and the publisher fits it. With two or more workers the call may wait;
+/// what is said here holds where it returns.
 pub fn crew_run<R: Threads + Wait + Sync, P: Publisher + Send, G: Gate + Sync>(
     rt: &R,
     alloc: Global,
@@ -222,6 +224,7 @@ pub fn crew_run<R: Threads + Wait + Sync, P: Publisher + Send, G: Gate + Sync>(
     gate: &G,
 ) -> (P, Vec<LaneSeat<Piece>>, Result<Counts, CrewFault>)
     requires lawful { LawfulSetting setting.now }
+    requires fits { P.fits publisher setting.now.job.program }
     requires some_worker { 1 ≤ workers }
     requires few_workers { workers ≤ 16 }
     ensures came { CameTo P.Publisher setting.now publisher result.0 result.2 }

@@ -10,6 +10,7 @@ use Rattle.brace_io.specs.Shelves.{Files, Holds, StoppedAt}
 use Rattle.brace_io.specs.Sinks.{with_piece, Gains, GainsFront}
 use Rattle.brace_cuts.specs.declared.plan.CutPlan.{CutPlan}
 use Rattle.brace_cuts.specs.CutPlans.{IsPlan}
+use Rattle.brace_watch.specs.declared.kinds.Watch.{Watch}
 use Rattle.brace_model.specs.declared.program.Program.{Program}
 use Rattle.brace_model.specs.Lawful.{LawfulProgram, LawfulAgents}
 use Rattle.brace_model.specs.World.{World, IsNumbered, world_of}
@@ -29,7 +30,7 @@ use Rattle.brace_top.specs.Limits.{agents_limit}
 use Rattle.brace_top.specs.declared.script_fault.ScriptFault.{ScriptFault}
 use Rattle.brace_top.specs.declared.script_fault.ScriptFault.TheVariants as script_fault
 use Rattle.brace_top.specs.declared.status.Status.{Status}
-use Rattle.brace_top.specs.declared.status.Status.TheVariants.{Done, Usage, Script, Agents, Plan, Checkpoint, Fault, ReadFault, WriteFault, SaveFault, NoMemory, Absent, Differs}
+use Rattle.brace_top.specs.declared.status.Status.TheVariants.{Done, Usage, Script, Agents, Plan, Checkpoint, Fault, ReadFault, WriteFault, SaveFault, NoMemory, Absent, Differs, Watches}
 use Rattle.brace_top.specs.declared.prepare.Work.{Work}
 use Rattle.brace_top.specs.declared.prepare.Work.TheVariants as work
 use Rattle.brace_top.specs.declared.task.Task.{Task}
@@ -37,7 +38,7 @@ use Rattle.brace_top.specs.declared.command.RunCommand.{RunCommand as CodeRun}
 use Rattle.brace_top.specs.Answer.{ShelfCall, SinkCall, shelf_call, sink_call, Among, HasSaved, LeavesAll, LeavesFront, IsEnd, IsAnswer, StopsShelf, CountsShelf, CountsReads, CountsWrites}
 use Rattle.brace_top.specs.Commands.{Command, RunCommand, TrialCommand, Run, Trial, is_anew, command_of, may_save, workers_of, workers_asked}
 use Rattle.brace_top.specs.Messages.{usage_message, write_fault_message, no_memory_message}
-use Rattle.brace_top.specs.Outcome.{Outcome, Refusal, TrialProgram, ProgramOf, refusal, refused, loaded, ComesTo, refused_at, stands_for, unless_faulty, world_from, agents_of, BeginsAt, plan_of, setting_of, ran, RunFrom, FollowedBy, RunOutcome, CommandOutcome, Reads, reads_plan}
+use Rattle.brace_top.specs.Outcome.{Outcome, Refusal, TrialProgram, ProgramOf, refusal, refused, loaded, ComesTo, refused_at, stands_for, unless_faulty, world_from, agents_of, BeginsAt, plan_of, watches_of, saves_of, setting_of, ran, RunOver, RunFrom, FollowedBy, RunOutcome, CommandOutcome, Reads, reads_plan, reads_watch}
 use Rattle.brace_top.specs.Savings.{Saving, with_saved}
 use Rattle.brace_top.specs.Status.{has_run}
 use Rattle.brace_top.specs.inner.Settled.{is_work, is_plain_work, stopped_status, stopped_message, status_in, message_in, IsOf, IsRefusedAs, IsScriptRefused, IsRecordRefused, refuses_file, is_stop, GivesNothing, IsLoaded, IsUnloaded, IsStopped, IsCarriedOut, IsWritten, IsRunOf, IsServed, outcome_of}
@@ -64,6 +65,7 @@ nothing_as of_ to_ name shelf message Plan up is = record { stops = refl; found 
 nothing_as of_ to_ name shelf message Checkpoint up is = record { stops = refl; found = λ files told. up files _ (is.found files told) }
 nothing_as of_ to_ name shelf message Absent up is = record { stops = refl; found = λ files told. up files _ (is.found files told) }
 nothing_as of_ to_ name shelf message Differs up is = record { stops = refl; found = λ files told. up files _ (is.found files told) }
+nothing_as of_ to_ name shelf message Watches up is = record { stops = refl; found = λ files told. up files _ (is.found files told) }
 
 -- what is not loaded does not give what may be made of it
 pub unloaded_as : {A B : Type 0} (of_ : Files → Result A Refusal → Type 0) (to_ : Files → Result B Refusal → Type 0) (name : List ℕ) (shelf : ShelfCall) (stopped : Stopped)
@@ -88,6 +90,7 @@ refusing P name shelf message Plan r found = record { stops = refl; found = foun
 refusing P name shelf message Checkpoint r found = record { stops = refl; found = found }
 refusing P name shelf message Absent r found = record { stops = refl; found = found }
 refusing P name shelf message Differs r found = record { stops = refl; found = found }
+refusing P name shelf message Watches r found = record { stops = refl; found = found }
 refusing P name shelf message ReadFault r found = absurd cc
 refusing P name shelf message NoMemory r found = absurd cc
 refusing P name shelf message Done r found = absurd cc
@@ -104,6 +107,7 @@ refusing_counts shelf Plan r same = same
 refusing_counts shelf Checkpoint r same = same
 refusing_counts shelf Absent r same = same
 refusing_counts shelf Differs r same = same
+refusing_counts shelf Watches r same = same
 refusing_counts shelf ReadFault r same = absurd cc
 refusing_counts shelf NoMemory r same = absurd cc
 refusing_counts shelf Done r same = absurd cc
@@ -188,6 +192,7 @@ nothing_stops P name shelf message WriteFault is = is.stops
 nothing_stops P name shelf message SaveFault is = is.stops
 nothing_stops P name shelf message Absent is = is.stops
 nothing_stops P name shelf message Differs is = is.stops
+nothing_stops P name shelf message Watches is = is.stops
 
 -- a refusal that is an outcome of the command
 refusal_answer : (files : Files) (command : Option Command) (shelf : ShelfCall) (out : SinkCall) (message : List ℕ) (status : Status)
@@ -215,6 +220,8 @@ stops P name command shelf message Absent reads up is files out told held same =
     refusal_answer files command shelf out message Absent (up files _ told (is.found files told)) (record { ends = refl; gained = same; holds = held ∙ told; says = refl })
 stops P name command shelf message Differs reads up is files out told held same =
     refusal_answer files command shelf out message Differs (up files _ told (is.found files told)) (record { ends = refl; gained = same; holds = held ∙ told; says = refl })
+stops P name command shelf message Watches reads up is files out told held same =
+    refusal_answer files command shelf out message Watches (up files _ told (is.found files told)) (record { ends = refl; gained = same; holds = held ∙ told; says = refl })
 stops P name command shelf message Done reads up is files out told held same = absurd (let e = is.stops in cc)
 stops P name command shelf message Usage reads up is files out told held same = absurd (let e = is.stops in cc)
 stops P name command shelf message Fault reads up is files out told held same = absurd (let e = is.stops in cc)
@@ -312,6 +319,7 @@ carried_as files these all shelf out message Checkpoint up is = among_as these a
 carried_as files these all shelf out message Fault up is = among_as these all _ up is
 carried_as files these all shelf out message Absent up is = among_as these all _ up is
 carried_as files these all shelf out message Differs up is = among_as these all _ up is
+carried_as files these all shelf out message Watches up is = among_as these all _ up is
 
 -- what was carried out for the outcomes of a command answers it
 carried_answer : (files : Files) (command : Option Command) (shelf : ShelfCall) (out : SinkCall) (message : List ℕ) (status : Status)
@@ -329,6 +337,7 @@ carried_answer files command shelf out message Checkpoint is = is
 carried_answer files command shelf out message Fault is = is
 carried_answer files command shelf out message Absent is = is
 carried_answer files command shelf out message Differs is = is
+carried_answer files command shelf out message Watches is = is
 
 -- what was carried out for outcomes of a command answers it
 answers : (these : Outcome → Type 0) (files : Files) (command : Option Command) (shelf : ShelfCall) (out : SinkCall) (message : List ℕ) (status : Status)
@@ -459,11 +468,11 @@ start_refused files run program r is = record { found = Err r; is = is; follows 
 
 -- what the plan of a run comes to follows on the moment at which it begins
 plan_follows : (files : Files) (run : RunCommand) (program : Program) (moment : Moment) (found : Result CutPlan Refusal) (o : Outcome) → BeginsAt files program run.start (Ok moment)
-    → plan_of files run.manner.epoch run.cuts ≡ found → FollowedBy (λ plan o. o ≡ ran run.manner.stats run.save (is_anew run.start) (setting_of run program moment plan)) found o → RunOutcome files run program o
+    → plan_of files run.manner.epoch run.cuts ≡ found → FollowedBy (RunOver files run program moment) found o → RunOutcome files run program o
 plan_follows files run program moment found o is f follows = record {
   found = Ok moment;
   is = is;
-  follows = subst (λ (found : Result CutPlan Refusal). FollowedBy (λ plan o. o ≡ ran run.manner.stats run.save (is_anew run.start) (setting_of run program moment plan)) found o) (sym f) follows;
+  follows = subst (λ (found : Result CutPlan Refusal). FollowedBy (RunOver files run program moment) found o) (sym f) follows;
 }
 
 -- a refused cut plan
@@ -471,19 +480,39 @@ pub plan_refused : (files : Files) (run : RunCommand) (program : Program) (momen
     → plan_of files run.manner.epoch run.cuts ≡ Err r → RunOutcome files run program (refused r)
 plan_refused files run program moment r is f = plan_follows files run program moment (Err r) (refused r) is f refl
 
--- a run over a plan
-pub run_ended : (files : Files) (run : RunCommand) (program : Program) (moment : Moment) (plan : CutPlan) (o : Outcome) → BeginsAt files program run.start (Ok moment)
-    → plan_of files run.manner.epoch run.cuts ≡ Ok plan → o ≡ ran run.manner.stats run.save (is_anew run.start) (setting_of run program moment plan) → RunOutcome files run program o
-run_ended files run program moment plan o is f ends = plan_follows files run program moment (Ok plan) o is f ends
+-- a run over a plan, by what its watch file comes to
+run_over : (files : Files) (run : RunCommand) (program : Program) (moment : Moment) (plan : CutPlan) (found : Result (List Watch) Refusal) (o : Outcome) → BeginsAt files program run.start (Ok moment)
+    → plan_of files run.manner.epoch run.cuts ≡ Ok plan → watches_of files program run.watch ≡ found
+    → FollowedBy (λ watches o. o ≡ ran run.manner.stats (saves_of run watches) (is_anew run.start) (setting_of run program moment plan)) found o → RunOutcome files run program o
+run_over files run program moment plan found o is f g follows =
+    plan_follows files run program moment (Ok plan) o is f
+    (subst (λ (r : Result (List Watch) Refusal). FollowedBy (λ watches o. o ≡ ran run.manner.stats (saves_of run watches) (is_anew run.start) (setting_of run program moment plan)) r o) (sym g) follows)
+
+-- a refused watch file
+pub watch_refused : (files : Files) (run : RunCommand) (program : Program) (moment : Moment) (plan : CutPlan) (r : Refusal) → BeginsAt files program run.start (Ok moment)
+    → plan_of files run.manner.epoch run.cuts ≡ Ok plan → watches_of files program run.watch ≡ Err r → RunOutcome files run program (refused r)
+watch_refused files run program moment plan r is f g = run_over files run program moment plan (Err r) (refused r) is f g refl
+
+-- a run over a plan that watches some figures
+pub run_ended : (files : Files) (run : RunCommand) (program : Program) (moment : Moment) (plan : CutPlan) (watches : List Watch) (o : Outcome) → BeginsAt files program run.start (Ok moment)
+    → plan_of files run.manner.epoch run.cuts ≡ Ok plan → watches_of files program run.watch ≡ Ok watches
+    → o ≡ ran run.manner.stats (saves_of run watches) (is_anew run.start) (setting_of run program moment plan) → RunOutcome files run program o
+run_ended files run program moment plan watches o is f g ends = run_over files run program moment plan (Ok watches) o is f g ends
+
+-- a name that is given
+is_named : (name : Option (List ℕ)) → (name ≡ None → ⊥) → name ≡ Some (unwrap_or name [])
+is_named None named = absurd (named refl)
+is_named (Some name) named = refl
 
 -- a cut plan is read where one is named
 pub plan_read : (files : Files) (run : RunCommand) (program : Program) (moment : Moment) → ProgramOf files run.script (Ok program)
     → BeginsAt files program run.start (Ok moment) → (run.cuts ≡ None → ⊥) → Reads files (Some (Run run)) (unwrap_or run.cuts [])
 plan_read files run program moment is f named = reads_plan run program moment (unwrap_or run.cuts []) is f (is_named run.cuts named)
-  where
-    is_named : (name : Option (List ℕ)) → (name ≡ None → ⊥) → name ≡ Some (unwrap_or name [])
-    is_named None named = absurd (named refl)
-    is_named (Some name) named = refl
+
+-- a watch file is read where one is named
+pub watch_read : (files : Files) (run : RunCommand) (program : Program) (moment : Moment) (plan : CutPlan) → ProgramOf files run.script (Ok program)
+    → BeginsAt files program run.start (Ok moment) → plan_of files run.manner.epoch run.cuts ≡ Ok plan → (run.watch ≡ None → ⊥) → Reads files (Some (Run run)) (unwrap_or run.watch [])
+watch_read files run program moment plan is f g named = reads_watch run program moment plan (unwrap_or run.watch []) is f g (is_named run.watch named)
 
 -- what is none once it is told otherwise is none
 pub none_of : {A B : Type 0} (f : A → B) (found : Option A) → option_map f found ≡ None → found ≡ None

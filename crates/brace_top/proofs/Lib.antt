@@ -11,10 +11,12 @@ pub mod PlaceLemmas
 pub mod ScriptLemmas
 pub mod RestartLemmas
 pub mod LoadLemmas
+pub mod WatchLemmas
 pub mod PointLemmas
 pub mod TrialLemmas
 pub mod FourFixed
 pub mod SavedLemmas
+pub mod SettleLemmas
 pub mod CameLemmas
 pub mod NoneLemmas
 pub mod NextLemmas

@@ -26,6 +26,7 @@ use Rattle.brace_check.specs.Programs.{program_of}
 use Rattle.brace_model.specs.declared.fault.Fault.{Fault}
 use Rattle.brace_model.specs.declared.program.Program.{Program}
 use Rattle.brace_cuts.specs.declared.plan.CutPlan.{CutPlan}
+use Rattle.brace_watch.specs.declared.kinds.Watch.{Watch}
 use Rattle.brace_model.specs.Lawful.{LawfulProgram}
 use Rattle.brace_model.specs.World.{World, x_of}
 use Rattle.brace_balance.specs.Texts.{plan_line, certificate}
@@ -41,7 +42,7 @@ use Rattle.brace_top.proofs.ScriptLemmas.{meant_lawful}
 use Rattle.brace_top.proofs.StripLemmas.{one_order, one_plan, one_certificate}
 use Rattle.brace_top.specs.Scripts.{IsTree, Means, resolved, NoTree, in_tokens, in_grammar, Refuses, without_tree, in_names, in_checks, token_fault, grammar_fault, name_fault, check_fault}
 use Rattle.brace_top.specs.Trials.{trial_script}
-use Rattle.brace_top.specs.Outcome.{Outcome, Refusal, ComesTo, unloaded, refused_at, stands_for, Follows, FollowedBy, RunFrom, RunOutcome, CommandOutcome, source_of, script_message, refused, told, shown, agents_of, plan_of, trial_outcome, audit_job, compared, agreed, AuditFrom, IsBalanced, Judged, IsJudged}
+use Rattle.brace_top.specs.Outcome.{Outcome, Refusal, ComesTo, unloaded, refused_at, stands_for, Follows, FollowedBy, RunOver, RunFrom, RunOutcome, CommandOutcome, source_of, script_message, refused, told, shown, agents_of, plan_of, watches_of, trial_outcome, audit_job, compared, agreed, AuditFrom, IsBalanced, Judged, IsJudged}
 use Rattle.brace_top.specs.Balances.{IsBalance}
 use Rattle.brace_top.specs.PlanText.{plan_text}
 
@@ -287,15 +288,22 @@ one_program_found name source program found means is = one_found Means Refuses p
 one_follows : {A : Type 0} (of_ : A → Outcome) (a : A) (o p : Outcome) → o ≡ of_ a → p ≡ of_ a → Agree o p
 one_follows of_ a o p x y = same o p (of_ a) x y
 
+-- what a watch file comes to is one, and so is what follows on it
+watches_agree : (found : Result (List Watch) Refusal) (of_ : List Watch → Outcome) (o p : Outcome) → FollowedBy (λ watches o. o ≡ of_ watches) found o
+    → FollowedBy (λ watches o. o ≡ of_ watches) found p → Agree o p
+watches_agree (Ok watches) of_ o p x y = same o p (of_ watches) x y
+watches_agree (Err r) of_ o p x y = same o p (refused r) x y
+
 -- what a plan comes to is one, and so is what follows on it
-plans_agree : (found : Result CutPlan Refusal) (of_ : CutPlan → Outcome) (o p : Outcome) → FollowedBy (λ plan o. o ≡ of_ plan) found o → FollowedBy (λ plan o. o ≡ of_ plan) found p → Agree o p
-plans_agree (Ok plan) of_ o p x y = same o p (of_ plan) x y
-plans_agree (Err r) of_ o p x y = same o p (refused r) x y
+plans_agree : (files : Files) (run : RunCommand) (program : Program) (moment : Moment) (found : Result CutPlan Refusal) (o p : Outcome)
+    → FollowedBy (RunOver files run program moment) found o → FollowedBy (RunOver files run program moment) found p → Agree o p
+plans_agree files run program moment (Ok plan) o p x y = watches_agree (watches_of files program run.watch) _ o p x y
+plans_agree files run program moment (Err r) o p x y = same o p (refused r) x y
 
 -- what follows on the moment at which a run begins
 moments_agree : (files : Files) (run : RunCommand) (program : Program) (found : Result Moment Refusal) (o p : Outcome)
     → FollowedBy (RunFrom files run program) found o → FollowedBy (RunFrom files run program) found p → Agree o p
-moments_agree files run program (Ok moment) o p x y = plans_agree (plan_of files run.manner.epoch run.cuts) _ o p x y
+moments_agree files run program (Ok moment) o p x y = plans_agree files run program moment (plan_of files run.manner.epoch run.cuts) o p x y
 moments_agree files run program (Err r) o p x y = same o p (refused r) x y
 
 runs_agree : (files : Files) (run : RunCommand) (program : Program) (o p : Outcome) → LawfulProgram program → RunOutcome files run program o → RunOutcome files run program p → Agree o p

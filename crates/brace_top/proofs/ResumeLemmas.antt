@@ -2,6 +2,7 @@
 use Rattle.std.proofs.Common.{◌≡◌, ◌∙◌, refl, sym, ap, subst, ℕ, ◌+◌, ◌-◌, ◌≤◌, List, ◌++◌, Bool, true, false, Some, Result, Ok}
 use Rattle.brace_io.specs.Shelves.{Files}
 use Rattle.brace_cuts.specs.declared.plan.CutPlan.{CutPlan}
+use Rattle.brace_watch.specs.declared.kinds.Watch.{Watch}
 use Rattle.brace_model.specs.declared.fault.Fault.{Fault}
 use Rattle.brace_model.specs.declared.job.Job.{Job}
 use Rattle.brace_model.specs.declared.program.Program.{Program}
@@ -14,7 +15,7 @@ use Rattle.brace_save.specs.Texts.{Moment, lines}
 use Rattle.brace_save.proofs.Feeds.{lines_one, none_unfinished, whole_text}
 use Rattle.brace_top.specs.Commands.{Run, RunCommand, Start, is_anew}
 use Rattle.brace_top.specs.Messages.{fault_message}
-use Rattle.brace_top.specs.Outcome.{BeginsAt, CommandOutcome, ComesTo, FollowedBy, Follows, Outcome, ProgramOf, Refusal, RunFrom, RunOutcome, end_message, end_status, plan_of, ran, setting_of, source_of, stands_for}
+use Rattle.brace_top.specs.Outcome.{BeginsAt, CommandOutcome, ComesTo, FollowedBy, Follows, Outcome, ProgramOf, Refusal, RunFrom, RunOutcome, RunOver, end_message, end_status, plan_of, ran, saves_of, setting_of, source_of, stands_for, watches_of}
 use Rattle.brace_top.specs.Restarts.{GoesOn, from_tick, told_world}
 use Rattle.brace_top.specs.Scripts.{Means, Refuses}
 use Rattle.brace_top.proofs.NextLemmas.{first_fault_told, published_told, started}
@@ -35,20 +36,21 @@ lawful_of : (name : List ℕ) (source : Result (List ℕ) Refusal) (program : Pr
 lawful_of name source _ (stands_for src program e m) = meant_lawful src program m
 
 -- the outcome of a run whose files are accepted is that of its setting
-module _ (files : Files) (run : RunCommand) (program : Program) (moment : Moment) (plan : CutPlan) (means : ProgramOf files run.script (Ok program))
-    (begins : BeginsAt files program run.start (Ok moment)) (cut : plan_of files run.manner.epoch run.cuts ≡ Ok plan) where
+module _ (files : Files) (run : RunCommand) (program : Program) (moment : Moment) (plan : CutPlan) (watches : List Watch) (means : ProgramOf files run.script (Ok program))
+    (begins : BeginsAt files program run.start (Ok moment)) (cut : plan_of files run.manner.epoch run.cuts ≡ Ok plan) (watched : watches_of files program run.watch ≡ Ok watches) where
   lawful : LawfulProgram program
   lawful = lawful_of run.script (source_of files run.script) program means
 
-  over_plan : (o : Outcome) → RunFrom files run program moment o → o ≡ ran run.manner.stats run.save (is_anew run.start) (setting_of run program moment plan)
+  over_plan : (o : Outcome) → RunFrom files run program moment o → o ≡ ran run.manner.stats (saves_of run watches) (is_anew run.start) (setting_of run program moment plan)
   over_plan o f =
-      subst (λ (found : Result CutPlan Refusal). FollowedBy (λ plan o. o ≡ ran run.manner.stats run.save (is_anew run.start) (setting_of run program moment plan)) found o) cut f
+      subst (λ (found : Result (List Watch) Refusal). FollowedBy (λ watches o. o ≡ ran run.manner.stats (saves_of run watches) (is_anew run.start) (setting_of run program moment plan)) found o) watched
+      (subst (λ (found : Result CutPlan Refusal). FollowedBy (RunOver files run program moment) found o) cut f)
 
   from_moment : (o : Outcome) → Follows (BeginsAt files program run.start) (RunFrom files run program) o → RunFrom files run program moment o
   from_moment o f =
       subst (λ (found : Result Moment Refusal). FollowedBy (RunFrom files run program) found o) (sym (one_beginning files program run.start (Ok moment) f.found lawful begins f.is)) f.follows
 
-  pub run_is : (o : Outcome) → CommandOutcome files (Some (Run run)) o → o ≡ ran run.manner.stats run.save (is_anew run.start) (setting_of run program moment plan)
+  pub run_is : (o : Outcome) → CommandOutcome files (Some (Run run)) o → o ≡ ran run.manner.stats (saves_of run watches) (is_anew run.start) (setting_of run program moment plan)
   run_is o f =
       over_plan o (from_moment o (subst (λ (found : Result Program Refusal). FollowedBy (RunOutcome files run) found o)
       (sym (one_program_found run.script (source_of files run.script) program f.found means f.is)) f.follows))
@@ -81,10 +83,10 @@ module _ (files : Files) (job : Job) (tick : ℕ) (world : World) (run : RunComm
   not_anew : is_anew run.start ≡ false
   not_anew = ap is_anew goes_on.begins
 
-  outcome : o ≡ ran run.manner.stats run.save false (setting_of run job.program moment_ goes_on.plan)
+  outcome : o ≡ ran run.manner.stats (saves_of run goes_on.watches) false (setting_of run job.program moment_ goes_on.plan)
   outcome =
-      run_is files run job.program moment_ goes_on.plan goes_on.means begins goes_on.cut o is
-      ∙ ap (λ (fresh : Bool). ran run.manner.stats run.save fresh (setting_of run job.program moment_ goes_on.plan)) not_anew
+      run_is files run job.program moment_ goes_on.plan goes_on.watches goes_on.means begins goes_on.cut goes_on.watched o is
+      ∙ ap (λ (fresh : Bool). ran run.manner.stats (saves_of run goes_on.watches) fresh (setting_of run job.program moment_ goes_on.plan)) not_anew
 
   fault_is : first_fault (setting_of run job.program moment_ goes_on.plan).job ≡ first_fault job
   fault_is = ap first_fault job_is ∙ first_fault_told later world ∙ fault-anew job tick world from to_ reached

@@ -1,11 +1,12 @@
--- The files that a publisher of rows and checkpoints saves, call by call, are the savings of its run.
-use Rattle.std.proofs.Common.{◌≡◌, ◌∙◌, refl, sym, ap, ap₂, subst, ℕ, zero, suc, ◌+◌, ◌-◌, ◌<◌, ◌≤◌, List, [], ◌∷◌, ◌++◌, map, filter, flat_map, append_assoc, Bool, true, false, cond, Option, Some, None, Ok, Err, All, arith}
+-- The files that a publisher of rows, checkpoints and figures saves, call by call, are the savings of its run.
+use Rattle.std.proofs.Common.{◌≡◌, ◌∙◌, refl, sym, ap, ap₂, subst, ℕ, zero, suc, ◌+◌, ◌-◌, ◌<◌, ◌≤◌, List, [], ◌∷◌, ◌++◌, map, filter, flat_map, append_assoc, Bool, true, false, cond, Option, Some, None, Result, Ok, Err, All, arith}
 use Rattle.std.specs.Prelude.{option_map, ◌%◌, ◌==◌}
 use Rattle.std.specs.List.{Contains, range_with_len}
 use Rattle.std.specs.Result.{result_err}
 use Rattle.std.proofs.lemmas.Grind.{flat_map-append}
 use Rattle.std.proofs.lemmas.List.{append-nil, map-append}
 use Rattle.std.proofs.lemmas.List.Elements.{filter-append, All-nil, All-cons}
+use Rattle.std.proofs.lemmas.List.Concat.{flat_map-cons}
 use Rattle.std.proofs.lemmas.List.Folds.{flat_map-map}
 use Rattle.brace_model.specs.declared.fault.Fault.{Fault}
 use Rattle.brace_model.specs.World.{World}
@@ -13,15 +14,18 @@ use Rattle.brace_model.specs.Run.{world_after, end_of}
 use Rattle.brace_model.proofs.RunLemmas.{world_after-next, world_after-ended}
 use Rattle.brace_pieces.specs.declared.setting.Setting.{Setting}
 use Rattle.brace_pieces.specs.declared.piece.Shown.{Shown}
-use Rattle.brace_pieces.specs.Settings.{LawfulSetting, is_end, ends, shown_from}
+use Rattle.brace_pieces.specs.Settings.{LawfulSetting, is_end, ends, shown_from, shown_ticks}
 use Rattle.brace_pieces.proofs.EpochLemmas.{row_one, from_one}
 use Rattle.brace_pieces.proofs.FaultLemmas.{step_is_of}
 use Rattle.brace_pieces.proofs.HaltLemmas.{ended}
 use Rattle.brace_num.proofs.Rows.{row_has}
-use Rattle.brace_crew.specs.Calls.{Call, worlds_at, call_at, ticks_left, call_of, calls_to, calls}
-use Rattle.brace_crew.specs.Shows.{Named, shown_text, saved_world, saved_file, checkpoint_file}
+use Rattle.brace_watch.specs.declared.kinds.Watch.{Watch}
+use Rattle.brace_crew.specs.Calls.{Call, world_shown, worlds_at, call_at, ticks_left, call_of, calls_to, calls}
+use Rattle.brace_crew.specs.Shows.{Named, shown_text, saved_world, saved_file, checkpoint_file, file_name}
+use Rattle.brace_crew.specs.Watched.{figures_text, watched_file}
+use Rattle.brace_crew.specs.Watched as watched
 use Rattle.brace_crew.proofs.TextLemmas.{up_to, cut_row, shown_at, told, text_at_end, all_saved}
-use Rattle.brace_top.specs.Savings.{Saving, saving_of, savings}
+use Rattle.brace_top.specs.Savings.{Saves, Saving, figures_of, checkpoint_at, figures_at, files_at, savings_at, savings}
 use Rattle.brace_num.proofs.Lists.{in_filter}
 
 -- ---- what calls save
@@ -30,56 +34,91 @@ use Rattle.brace_num.proofs.Lists.{in_filter}
 abbrev pub text_of : Setting → Bool → Call → List ℕ
 text_of s fresh c = shown_text s.job fresh c.worlds
 
--- the file of a call, if it has one
-abbrev pub file_of : Setting → Option (List ℕ) → Call → Option Named
-file_of s save c = saved_file save s c.tick c.worlds
+-- the file that there may be
+abbrev pub listed : Option Named → List Named
+listed None = []
+listed (Some file) = file ∷ []
 
--- a file behind a text, if there is one
-abbrev pub saving_in : List ℕ → Option Named → List Saving
-saving_in text None = []
-saving_in text (Some file) = record { file = file; behind = text } ∷ []
+-- the files of a call: the checkpoint, and the figures behind it
+abbrev pub files_of : Setting → Saves → Bool → Call → List Named
+files_of s saves fresh c =
+    listed (saved_file saves.save s c.tick c.worlds) ++ listed (watched_file saves.watch saves.watches fresh s c.tick c.worlds)
+
+-- files behind a text
+abbrev pub saving_of : List ℕ → Named → Saving
+saving_of text file = record { file = file; behind = text }
+
+abbrev pub saving_in : List ℕ → List Named → List Saving
+saving_in text files = map (saving_of text) files
 
 -- the files of some calls, each behind all text up to its call
-abbrev pub saved_by : Setting → Option (List ℕ) → Bool → List ℕ → List Call → List Saving
-saved_by s save fresh text [] = []
-saved_by s save fresh text (c ∷ cs) =
-    saving_in (text ++ text_of s fresh c) (file_of s save c) ++ saved_by s save fresh (text ++ text_of s fresh c) cs
+abbrev pub saved_by : Setting → Saves → Bool → List ℕ → List Call → List Saving
+saved_by s saves fresh text [] = []
+saved_by s saves fresh text (c ∷ cs) =
+    saving_in (text ++ text_of s fresh c) (files_of s saves fresh c) ++ saved_by s saves fresh (text ++ text_of s fresh c) cs
 
 -- what more calls save stands behind
-pub saved_by-append : (s : Setting) (save : Option (List ℕ)) (fresh : Bool) (text : List ℕ) (xs ys : List Call)
-    → saved_by s save fresh text (xs ++ ys) ≡ saved_by s save fresh text xs ++ saved_by s save fresh (text ++ flat_map (text_of s fresh) xs) ys
-saved_by-append s save fresh text [] ys = ap (λ t. saved_by s save fresh t ys) (sym (append-nil text))
-saved_by-append s save fresh text (c ∷ xs) ys =
+pub saved_by-append : (s : Setting) (saves : Saves) (fresh : Bool) (text : List ℕ) (xs ys : List Call)
+    → saved_by s saves fresh text (xs ++ ys) ≡ saved_by s saves fresh text xs ++ saved_by s saves fresh (text ++ flat_map (text_of s fresh) xs) ys
+saved_by-append s saves fresh text [] ys = ap (λ t. saved_by s saves fresh t ys) (sym (append-nil text))
+saved_by-append s saves fresh text (c ∷ xs) ys =
     let more : List ℕ = text ++ text_of s fresh c in
     let all : List ℕ = flat_map (text_of s fresh) xs in
-    ap (λ l. saving_in more (file_of s save c) ++ l)
-    (saved_by-append s save fresh more xs ys ∙ ap (λ t. saved_by s save fresh more xs ++ saved_by s save fresh t ys) (append_assoc text (text_of s fresh c) all))
-    ∙ sym (append_assoc (saving_in more (file_of s save c)) (saved_by s save fresh more xs) (saved_by s save fresh (text ++ (text_of s fresh c ++ all)) ys))
+    ap (λ l. saving_in more (files_of s saves fresh c) ++ l)
+    (saved_by-append s saves fresh more xs ys ∙ ap (λ t. saved_by s saves fresh more xs ++ saved_by s saves fresh t ys) (append_assoc text (text_of s fresh c) all))
+    ∙ sym (append_assoc (saving_in more (files_of s saves fresh c)) (saved_by s saves fresh more xs) (saved_by s saves fresh (text ++ (text_of s fresh c ++ all)) ys))
 
--- with no name nothing is saved
-pub saves_none : (s : Setting) (fresh : Bool) (text : List ℕ) (cs : List Call) → saved_by s None fresh text cs ≡ []
-saves_none s fresh text [] = refl
-saves_none s fresh text (c ∷ cs) = saves_none s fresh (text ++ text_of s fresh c) cs
+-- with no name a call has no file, and nothing is saved
+pub no_files_of : (s : Setting) (saves : Saves) (fresh : Bool) (c : Call) → saves.save ≡ None → saves.watch ≡ None → files_of s saves fresh c ≡ []
+no_files_of s saves fresh c save watch =
+    ap₂ (λ (a b : Option (List ℕ)). listed (saved_file a s c.tick c.worlds) ++ listed (watched_file b saves.watches fresh s c.tick c.worlds)) save watch
+
+pub saves_none : (s : Setting) (saves : Saves) (fresh : Bool) (text : List ℕ) (cs : List Call) → saves.save ≡ None → saves.watch ≡ None → saved_by s saves fresh text cs ≡ []
+saves_none s saves fresh text [] save watch = refl
+saves_none s saves fresh text (c ∷ cs) save watch =
+    let more : List ℕ = text ++ text_of s fresh c in
+    ap (λ (files : List Named). saving_in more files ++ saved_by s saves fresh more cs) (no_files_of s saves fresh c save watch) ∙ saves_none s saves fresh more cs save watch
 
 -- all text before a file is a front of the text of all calls
 abbrev pub StandsIn : List ℕ → Saving → Type 0
 StandsIn text saving = (more : List ℕ) × (text ≡ saving.behind ++ more)
 
-stands_first : (s : Setting) (fresh : Bool) (text piece all : List ℕ) (file : Option Named) (rest : List Saving)
-    → All (StandsIn (text ++ (piece ++ all))) rest → All (StandsIn (text ++ (piece ++ all))) (saving_in (text ++ piece) file ++ rest)
-stands_first s fresh text piece all None rest h = h
-stands_first s fresh text piece all (Some file) rest h =
-    All-cons (StandsIn (text ++ (piece ++ all))) (record { file = file; behind = text ++ piece }) rest (all, sym (append_assoc text piece all)) h
+stands_first : (text piece all : List ℕ) (files : List Named) (rest : List Saving)
+    → All (StandsIn (text ++ (piece ++ all))) rest → All (StandsIn (text ++ (piece ++ all))) (saving_in (text ++ piece) files ++ rest)
+stands_first text piece all [] rest h = h
+stands_first text piece all (file ∷ files) rest h =
+    All-cons (StandsIn (text ++ (piece ++ all))) (record { file = file; behind = text ++ piece }) (saving_in (text ++ piece) files ++ rest) (all, sym (append_assoc text piece all))
+    (stands_first text piece all files rest h)
 
-pub stand_in : (s : Setting) (save : Option (List ℕ)) (fresh : Bool) (text : List ℕ) (cs : List Call)
-    → All (StandsIn (text ++ flat_map (text_of s fresh) cs)) (saved_by s save fresh text cs)
-stand_in s save fresh text [] = All-nil (StandsIn (text ++ []))
-stand_in s save fresh text (c ∷ cs) =
+pub stand_in : (s : Setting) (saves : Saves) (fresh : Bool) (text : List ℕ) (cs : List Call)
+    → All (StandsIn (text ++ flat_map (text_of s fresh) cs)) (saved_by s saves fresh text cs)
+stand_in s saves fresh text [] = All-nil (StandsIn (text ++ []))
+stand_in s saves fresh text (c ∷ cs) =
     let piece : List ℕ = text_of s fresh c in
     let all : List ℕ = flat_map (text_of s fresh) cs in
-    let rest : List Saving = saved_by s save fresh (text ++ piece) cs in
-    stands_first s fresh text piece all (file_of s save c) rest
-    (subst (λ (t : List ℕ). All (StandsIn t) rest) (append_assoc text piece all) (stand_in s save fresh (text ++ piece) cs))
+    let rest : List Saving = saved_by s saves fresh (text ++ piece) cs in
+    stands_first text piece all (files_of s saves fresh c) rest
+    (subst (λ (t : List ℕ). All (StandsIn t) rest) (append_assoc text piece all) (stand_in s saves fresh (text ++ piece) cs))
+
+-- ---- the figures of an end
+
+module _ (s : Setting) (fresh : Bool) (watches : List Watch) where
+  -- the figures of a tick that is shown are those of its world
+  one_figure : (t : ℕ) (r : Result World Fault) → figures_text s fresh watches (world_shown t r) ≡ figures_of s fresh watches t r
+  one_figure t (Ok w) =
+      let shown : Shown = record { tick = t; agents = w.agents; next = w.next } in
+      flat_map-cons (watched.figures_at s fresh watches) shown [] ∙ append-nil (watched.figures_at s fresh watches shown)
+  one_figure t (Err f) = refl
+
+  pub figures_are : (ticks : List ℕ) → figures_text s fresh watches (worlds_at s ticks) ≡ flat_map (λ t. figures_of s fresh watches t (world_after s.job (t - s.job.first))) ticks
+  figures_are [] = refl
+  figures_are (t ∷ ticks) =
+      let worlds : ℕ → List Shown = λ t. world_shown t (world_after s.job (t - s.job.first)) in
+      let figures : ℕ → List ℕ = λ t. figures_of s fresh watches t (world_after s.job (t - s.job.first)) in
+      ap (figures_text s fresh watches) (flat_map-cons worlds t ticks)
+      ∙ flat_map-append (watched.figures_at s fresh watches) (worlds t) (worlds_at s ticks)
+      ∙ ap₂ (λ (a b : List ℕ). a ++ b) (one_figure t (world_after s.job (t - s.job.first))) (figures_are ticks)
+      ∙ sym (flat_map-cons figures t ticks)
 
 -- ---- the files of the ends up to a tick
 
@@ -92,35 +131,49 @@ row_split n (suc m) a =
     ∙ append_assoc (range_with_len a n) (range_with_len (a + n) m) ((a + n + m) ∷ [])
     ∙ ap (λ xs. range_with_len a n ++ xs) (sym (row_one m (a + n)))
 
-module _ (s : Setting) (name : List ℕ) (fresh : Bool) where
+module _ (s : Setting) (saves : Saves) (fresh : Bool) where
   -- what is saved at an end
   abbrev saved_at : ℕ → List Saving
-  saved_at end = saving_of name fresh s end (world_after s.job (end - s.job.first))
+  saved_at end = savings_at saves fresh s end (world_after s.job (end - s.job.first))
 
   -- what calls save
   abbrev by_calls : List ℕ → List Call → List Saving
-  by_calls = saved_by s (Some name) fresh
+  by_calls = saved_by s saves fresh
 
   -- the ends among the first ticks
   abbrev ends_to : ℕ → List ℕ
   ends_to n = filter (is_end s) (range_with_len s.job.first n)
 
-  file_at : (t : ℕ) (w : World) → s.job.first ≤ t → t ≤ s.job.last → is_end s t ≡ true → world_after s.job (t - s.job.first) ≡ Ok w
-      → file_of s (Some name) (call_at s t) ≡ Some (checkpoint_file name s t w)
-  file_at t w low high is there =
-      let among : Contains (ends s) t = in_filter (is_end s) (range_with_len s.job.first (s.job.last + 1 - s.job.first)) t (row_has s.job.first (s.job.last + 1 - s.job.first) t low (omega (arith, low, high))) is in
-      ap (option_map (checkpoint_file name s t)) (all_saved s t w among there)
+  checkpoint_there : (save : Option (List ℕ)) (t : ℕ) (worlds : List Shown) (w : World) → saved_world s t worlds ≡ Some w → listed (saved_file save s t worlds) ≡ checkpoint_at save s t w
+  checkpoint_there None t worlds w is = refl
+  checkpoint_there (Some name) t worlds w is = ap (λ (world : Option World). listed (option_map (checkpoint_file name s t) world)) is
 
-  -- the call at an end saves its world behind all text up to it
+  figures_there : (watch : Option (List ℕ)) (t : ℕ) (w : World) → saved_world s t (call_at s t).worlds ≡ Some w
+      → listed (watched_file watch saves.watches fresh s t (call_at s t).worlds) ≡ figures_at watch saves.watches fresh s t
+  figures_there None t w is = refl
+  figures_there (Some name) t w is =
+      ap (λ (world : Option World). listed (option_map (λ (v : World). (file_name name t, figures_text s fresh saves.watches (call_at s t).worlds)) world)) is
+      ∙ ap (λ (text : List ℕ). (file_name name t, text) ∷ []) (figures_are s fresh saves.watches (shown_ticks s t))
+
+  -- the files of the call at an end are those of the end
+  files_there : (t : ℕ) (w : World) → s.job.first ≤ t → t ≤ s.job.last → is_end s t ≡ true → world_after s.job (t - s.job.first) ≡ Ok w
+      → files_of s saves fresh (call_at s t) ≡ files_at saves fresh s t w
+  files_there t w low high is there =
+      let among : Contains (ends s) t = in_filter (is_end s) (range_with_len s.job.first (s.job.last + 1 - s.job.first)) t (row_has s.job.first (s.job.last + 1 - s.job.first) t low (omega (arith, low, high))) is in
+      let world = all_saved s t w among there in
+      ap₂ (λ (a b : List Named). a ++ b) (checkpoint_there saves.save t (call_at s t).worlds w world) (figures_there saves.watch t w world)
+
+  -- the call at an end saves its files behind all text up to it
   saved_here : (n t : ℕ) (w : World) → s.job.first + n ≡ t → t ≤ s.job.last → is_end s t ≡ true → world_after s.job n ≡ Ok w
       → by_calls (told s fresh n) (call_at s t ∷ []) ≡ saved_at t
   saved_here n t w is high at_end world =
       let back : t - s.job.first ≡ n = omega (arith, is) in
       let there : world_after s.job (t - s.job.first) ≡ Ok w = ap (world_after s.job) back ∙ world in
-      let file : Named = checkpoint_file name s t w in
-      ap (λ f. saving_in (told s fresh n ++ shown_at s fresh t) f ++ []) (file_at t w (omega (arith, is)) high at_end there)
-      ∙ ap (λ (text : List ℕ). saving_in text (Some file)) (text_at_end s fresh n t is high at_end)
-      ∙ sym (ap (saving_of name fresh s t) there)
+      let files : List Named = files_at saves fresh s t w in
+      ap (λ (l : List Named). saving_in (told s fresh n ++ shown_at s fresh t) l ++ []) (files_there t w (omega (arith, is)) high at_end there)
+      ∙ append-nil (saving_in (told s fresh n ++ shown_at s fresh t) files)
+      ∙ ap (λ (text : List ℕ). saving_in text files) (text_at_end s fresh n t is high at_end)
+      ∙ sym (ap (savings_at saves fresh s t) there)
 
   one_more : (n t : ℕ) (xs : List ℕ) (c : Bool) → flat_map (shown_at s fresh) xs ≡ told s fresh n → by_calls [] (map (call_at s) xs) ≡ flat_map saved_at xs
       → (c ≡ true → by_calls (told s fresh n) (call_at s t ∷ []) ≡ saved_at t)
@@ -128,7 +181,7 @@ module _ (s : Setting) (name : List ℕ) (fresh : Bool) where
   one_more n t xs false text before here = ap (λ l. by_calls [] (map (call_at s) l)) (append-nil xs) ∙ before ∙ sym (ap (flat_map saved_at) (append-nil xs))
   one_more n t xs true text before here =
       ap (by_calls []) (map-append (call_at s) xs (t ∷ []))
-      ∙ saved_by-append s (Some name) fresh [] (map (call_at s) xs) (call_at s t ∷ [])
+      ∙ saved_by-append s saves fresh [] (map (call_at s) xs) (call_at s t ∷ [])
       ∙ ap₂ (λ (a : List Saving) (l : List ℕ). a ++ by_calls l (call_at s t ∷ [])) before (flat_map-map (text_of s fresh) (call_at s) xs ∙ text)
       ∙ ap (λ l. flat_map saved_at xs ++ l) (here refl ∙ sym (append-nil (saved_at t)))
       ∙ sym (flat_map-append saved_at xs (t ∷ []))
@@ -153,17 +206,26 @@ module _ (s : Setting) (name : List ℕ) (fresh : Bool) where
   gone : (f : Fault) (m a : ℕ) → ((t : ℕ) → a ≤ t → world_after s.job (t - s.job.first) ≡ Err f) → flat_map saved_at (filter (is_end s) (range_with_len a m)) ≡ []
   gone f zero a none = refl
   gone f (suc m) a none =
-      one_gone a (filter (is_end s) (range_with_len (a + 1) m)) (is_end s a) (ap (saving_of name fresh s a) (none a (omega arith))) (gone f m (a + 1) (λ t low. none t (omega (arith, low))))
+      one_gone a (filter (is_end s) (range_with_len (a + 1) m)) (is_end s a) (ap (savings_at saves fresh s a) (none a (omega arith))) (gone f m (a + 1) (λ t low. none t (omega (arith, low))))
 
   -- ---- the call behind the last end before a fault
 
   not_saved : (t : ℕ) (shown : List Shown) → is_end s t ≡ false → saved_world s t shown ≡ None
   not_saved t shown out = rw out refl
 
+  no_checkpoint : (save : Option (List ℕ)) (t : ℕ) (shown : List Shown) → saved_world s t shown ≡ None → listed (saved_file save s t shown) ≡ []
+  no_checkpoint None t shown none = refl
+  no_checkpoint (Some name) t shown none = ap (λ (world : Option World). listed (option_map (checkpoint_file name s t) world)) none
+
+  no_figures : (watch : Option (List ℕ)) (t : ℕ) (shown : List Shown) → saved_world s t shown ≡ None → listed (watched_file watch saves.watches fresh s t shown) ≡ []
+  no_figures None t shown none = refl
+  no_figures (Some name) t shown none = ap (λ (world : Option World). listed (option_map (λ (v : World). (file_name name t, figures_text s fresh saves.watches shown)) world)) none
+
   no_file : (text : List ℕ) (t : ℕ) (shown : List Shown) → is_end s t ≡ false → by_calls text (call_of t shown) ≡ []
   no_file text t [] out = refl
   no_file text t (w ∷ ws) out =
-      ap (λ world. saving_in (text ++ shown_text s.job fresh (w ∷ ws)) (option_map (checkpoint_file name s t) world) ++ []) (not_saved t (w ∷ ws) out)
+      let none = not_saved t (w ∷ ws) out in
+      ap₂ (λ (a b : List Named). saving_in (text ++ shown_text s.job fresh (w ∷ ws)) (a ++ b) ++ []) (no_checkpoint saves.save t (w ∷ ws) none) (no_figures saves.watch t (w ∷ ws) none)
 
   left_none : (text : List ℕ) (t : ℕ) → s.job.first ≤ t → (c : Bool) → is_end s t ≡ c → by_calls text (call_of t (worlds_at s (ticks_left s t))) ≡ []
   left_none text t low false out = no_file text t (worlds_at s (ticks_left s t)) out
@@ -187,11 +249,11 @@ module _ (s : Setting) (name : List ℕ) (fresh : Bool) where
             absurd (let e = sym is ∙ over in cc)
       ]) refl
 
-  saved_whole : (w : World) → s.job.first ≤ s.job.last → end_of s.job ≡ Ok w → by_calls [] (calls_to s None) ≡ savings (Some name) fresh s
+  saved_whole : (w : World) → s.job.first ≤ s.job.last → end_of s.job ≡ Ok w → by_calls [] (calls_to s None) ≡ savings saves fresh s
   saved_whole w up is =
       saved_to (s.job.last + 1 - s.job.first) (omega (arith, up)) (λ k low. has_world (s.job.last - s.job.first) w is k (omega (arith, low, up)))
 
-  saved_to_fault : (f : Fault) → LawfulSetting s → end_of s.job ≡ Err f → by_calls [] (calls_to s (Some f)) ≡ savings (Some name) fresh s
+  saved_to_fault : (f : Fault) → LawfulSetting s → end_of s.job ≡ Err f → by_calls [] (calls_to s (Some f)) ≡ savings saves fresh s
   saved_to_fault f lawful is =
       let all : ℕ = s.job.last - s.job.first in
       let h = ended s all f is in
@@ -212,7 +274,7 @@ module _ (s : Setting) (name : List ℕ) (fresh : Bool) where
       let none : flat_map saved_at rest ≡ [] =
       gone f m (s.job.first + n) (λ v low. let d : ℕ = v - s.job.first - n in let there : v - s.job.first ≡ n + d = omega (arith, low) in ap (world_after s.job) there ∙ world_after-ended s.job n d f over) in
       ap (λ xs. by_calls [] (map (call_at s) xs ++ left)) cut
-      ∙ saved_by-append s (Some name) fresh [] (map (call_at s) (ends_to n)) left
+      ∙ saved_by-append s saves fresh [] (map (call_at s) (ends_to n)) left
       ∙ ap₂ (λ (a b : List Saving). a ++ b)
       (saved_to n (omega (arith, before)) (λ j low. has_world k h.world h.there j (omega (arith, low))))
       (left_none (flat_map (text_of s fresh) (map (call_at s) (ends_to n))) t (omega (arith, at)) (is_end s t) refl ∙ sym none)
@@ -220,10 +282,9 @@ module _ (s : Setting) (name : List ℕ) (fresh : Bool) where
       ∙ sym (ap (flat_map saved_at) split)
 
 -- what all calls of a run save are its savings
-pub calls_save : (s : Setting) (save : Option (List ℕ)) (fresh : Bool) → LawfulSetting s → s.job.first ≤ s.job.last → saved_by s save fresh [] (calls s) ≡ savings save fresh s
-calls_save s None fresh lawful up = saves_none s fresh [] (calls s)
-calls_save s (Some name) fresh lawful up =
-    (elim (end_of s.job) as (λ r. end_of s.job ≡ r → saved_by s (Some name) fresh [] (calls_to s (result_err r)) ≡ savings (Some name) fresh s) [
-      | Ok w ↦ λ is. saved_whole s name fresh w up is
-      | Err f ↦ λ is. saved_to_fault s name fresh f lawful is
+pub calls_save : (s : Setting) (saves : Saves) (fresh : Bool) → LawfulSetting s → s.job.first ≤ s.job.last → saved_by s saves fresh [] (calls s) ≡ savings saves fresh s
+calls_save s saves fresh lawful up =
+    (elim (end_of s.job) as (λ r. end_of s.job ≡ r → saved_by s saves fresh [] (calls_to s (result_err r)) ≡ savings saves fresh s) [
+      | Ok w ↦ λ is. saved_whole s saves fresh w up is
+      | Err f ↦ λ is. saved_to_fault s saves fresh f lawful is
     ]) refl

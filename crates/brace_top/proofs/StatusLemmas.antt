@@ -1,7 +1,7 @@
 -- What the kinds of statuses leave out.
 use Rattle.std.proofs.Common.{◌≡◌, subst, true, arith}
 use Rattle.brace_top.specs.declared.status.Status.{Status}
-use Rattle.brace_top.specs.declared.status.Status.TheVariants.{Done, Usage, Script, Agents, Plan, Checkpoint, Fault, ReadFault, WriteFault, SaveFault, NoMemory, Absent, Differs}
+use Rattle.brace_top.specs.declared.status.Status.TheVariants.{Done, Usage, Script, Agents, Plan, Checkpoint, Fault, ReadFault, WriteFault, SaveFault, NoMemory, Absent, Differs, Watches}
 use Rattle.brace_top.specs.Answer.{ShelfCall, SinkCall, StopsShelf, CountsShelf, CountsReads, CountsWrites}
 use Rattle.brace_top.specs.Status.{has_run, is_refusal, saves_nothing}
 use Rattle.brace_top.specs.inner.Settled.{is_stop, is_work, is_plain_work}
@@ -21,6 +21,7 @@ stop_runs P SaveFault s h = absurd cc
 stop_runs P NoMemory s h = absurd cc
 stop_runs P Absent s h = absurd cc
 stop_runs P Differs s h = absurd cc
+stop_runs P Watches s h = absurd cc
 
 -- a command that was stopped had words that are one
 pub stop_usage : (status : Status) → is_stop status ≡ true → status ≡ Usage → ⊥
@@ -46,6 +47,7 @@ work_refusal P SaveFault w r = absurd cc
 work_refusal P NoMemory w r = absurd cc
 work_refusal P Absent w r = absurd cc
 work_refusal P Differs w r = absurd cc
+work_refusal P Watches w r = absurd cc
 
 -- a command whose work was begun may save files
 pub work_saves : (P : Type 0) (status : Status) → is_work status ≡ true → saves_nothing status ≡ true → P
@@ -62,6 +64,7 @@ work_saves P SaveFault w r = absurd cc
 work_saves P NoMemory w r = absurd cc
 work_saves P Absent w r = absurd cc
 work_saves P Differs w r = absurd cc
+work_saves P Watches w r = absurd cc
 
 -- a command whose work was begun had words that are one
 pub work_usage : (status : Status) → is_work status ≡ true → status ≡ Usage → ⊥
@@ -86,6 +89,7 @@ plain_works SaveFault w = absurd cc
 plain_works NoMemory w = w
 plain_works Absent w = w
 plain_works Differs w = w
+plain_works Watches w = w
 
 -- work that saves nothing stops no shelf
 pub plain_stops : (shelf : ShelfCall) (status : Status) → is_plain_work status ≡ true → StopsShelf shelf status
@@ -109,6 +113,7 @@ plain_counts shelf SaveFault w same = absurd cc
 plain_counts shelf NoMemory w same = tt
 plain_counts shelf Absent w same = same
 plain_counts shelf Differs w same = same
+plain_counts shelf Watches w same = same
 
 -- a command that was stopped did nothing to its shelf but read
 pub stop_reads : (shelf : ShelfCall) (status : Status) → is_stop status ≡ true → CountsShelf shelf status → CountsReads shelf status
@@ -125,6 +130,7 @@ stop_reads shelf SaveFault s counts = absurd cc
 stop_reads shelf NoMemory s counts = counts
 stop_reads shelf Absent s counts = counts
 stop_reads shelf Differs s counts = counts
+stop_reads shelf Watches s counts = counts
 
 -- work that saves nothing reads nothing
 pub plain_reads : (shelf : ShelfCall) (status : Status) → is_plain_work status ≡ true → shelf.faults_after ≡ shelf.faults_before → CountsReads shelf status
@@ -141,3 +147,4 @@ plain_reads shelf SaveFault w same = absurd cc
 plain_reads shelf NoMemory w same = tt
 plain_reads shelf Absent w same = same
 plain_reads shelf Differs w same = same
+plain_reads shelf Watches w same = same

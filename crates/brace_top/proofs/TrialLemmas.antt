@@ -10,6 +10,7 @@ use Rattle.std.proofs.lemmas.List.Elements.{filter-append}
 use Rattle.std.proofs.lemmas.List.{map-append}
 use Rattle.std.proofs.lemmas.List.Sums.{fold-append}
 use Rattle.brace_io.specs.declared.sink.Sink as sink_trait
+use Rattle.brace_io.specs.Counts.{Rose}
 use Rattle.brace_cuts.specs.CutPlans.{IsPlan, IsPlanLine, are_alike}
 use Rattle.brace_cuts.specs.Space.{LawfulCuts}
 use Rattle.brace_cuts.specs.declared.plan.CutLine.{CutLine}
@@ -31,18 +32,22 @@ use Rattle.brace_pieces.specs.Counts.{count_border, count_effects, count_moved, 
 use Rattle.brace_part.specs.declared.counts.Counts.{Counts}
 use Rattle.brace_top.specs.declared.answer.Answer.{Answer}
 use Rattle.brace_top.specs.declared.answer.Stopped.{Stopped}
+use Rattle.brace_top.specs.declared.answer.Stopped.TheVariants as stopped
 use Rattle.brace_top.specs.declared.command.TrialCommand.{TrialCommand as CodeTrial}
 use Rattle.brace_top.specs.declared.task.Task.{Task}
 use Rattle.brace_top.specs.declared.status.Status.{Status}
-use Rattle.brace_top.specs.declared.status.Status.TheVariants.{Done}
+use Rattle.brace_top.specs.declared.status.Status.TheVariants.{Done, WriteFault}
 use Rattle.brace_top.specs.Answer.{ShelfCall, SinkCall, sink_call, CountsWrites}
 use Rattle.brace_top.specs.Commands.{TrialCommand}
+use Rattle.brace_top.specs.Messages.{write_fault_message}
 use Rattle.brace_top.specs.Outcome.{Outcome, stats_of, trial_end}
 use Rattle.brace_top.specs.Trials.{strips, along_x, trial_plan, trial_line}
 use Rattle.brace_top.specs.Status.{has_run}
 use Rattle.brace_top.specs.inner.Settled.{told_counts, status_in, message_in, is_plain_work, outcome_of, outcome_by, IsWritten, IsRunOf}
 use Rattle.brace_top.specs.inner.Words.{said_trial}
-use Rattle.brace_top.proofs.CameLemmas.{counts_told}
+use Rattle.brace_top.proofs.AnswerLemmas.{unwritten_written}
+use Rattle.brace_top.proofs.CameLemmas.{piece_none, runs}
+use Rattle.brace_top.proofs.SettleLemmas.{counts_told}
 use Rattle.brace_top.proofs.StatusLemmas.{plain_works, plain_counts, plain_stops}
 
 -- ---- the cut plan
@@ -256,4 +261,36 @@ trial_run of_sink task trial shelf out out_after r is held faults written plain 
       stops = plain_stops shelf _ plain;
       writes = writes;
       clean = clean;
+    }
+
+-- ---- a sink that was not flushed
+
+-- a trial reaches its end or its fault
+trial_runs : (trial : TrialCommand) (s : Setting) (r : Result World Fault) → has_run (trial_end trial s r).status ≡ true
+trial_runs trial s (Ok w) = refl
+trial_runs trial s (Err f) = refl
+
+-- and so does a task
+task_runs : (trial : Option CodeTrial) (task : Task) → has_run (outcome_by trial task).status ≡ true
+task_runs None task = runs (first_fault task.setting.job)
+task_runs (Some trial) task = trial_runs (said_trial trial) task.setting (end_of task.setting.job)
+
+-- a task of which nothing was written
+pub unflushed_written : (task : Task) (out : SinkCall) → out.after ≡ out.before → Rose out.faults_before out.faults_after → IsWritten (λ x. x ≡ outcome_of task) out write_fault_message WriteFault
+unflushed_written task out same rose = unwritten_written (outcome_of task) out (task_runs task.trial task) rose (0, (omega arith, same ∙ piece_none out.before))
+
+-- a task that was given up before its parts were run
+pub unflushed_run : {O : Type 0} (of_sink : sink_trait.Ghosts O) (task : Task) (shelf : ShelfCall) (out out_after : O) → shelf.held_after ≡ shelf.held → shelf.faults_after ≡ shelf.faults_before
+    → of_sink.written out_after ≡ of_sink.written out → Rose (of_sink.faults out) (of_sink.faults out_after) → IsRunOf of_sink task shelf out out_after (Err stopped.WriteFault)
+unflushed_run of_sink task shelf out out_after held faults same rose =
+    let all : IsWritten (λ x. x ≡ outcome_of task) (sink_call of_sink out out_after) write_fault_message WriteFault = unflushed_written task (sink_call of_sink out out_after) same rose in
+    record {
+      carried_out = λ files told. all files shelf told held;
+      written = λ bare. all;
+      plain = λ bare. refl;
+      work = refl;
+      counts = plain_counts shelf WriteFault refl faults;
+      stops = plain_stops shelf WriteFault refl;
+      writes = λ is. rose;
+      clean = λ ran. absurd (cc);
     }

@@ -1,5 +1,5 @@
 -- The command that the words of a command line ask for.
-use Rattle.std.specs.Prelude.{ℕ, List, Bool, true, false, ◌&&◌, if◌then◌else◌, Option, Some, None, is_none, is_some, option_map, option_and_then, unwrap_or}
+use Rattle.std.specs.Prelude.{ℕ, List, Bool, true, false, ◌||◌, if◌then◌else◌, Option, Some, None, is_none, is_some, option_map, option_and_then, unwrap_or}
 use Rattle.brace_words.specs.declared.line.Line.{Line}
 use Rattle.brace_words.specs.declared.mode.Mode.{Mode}
 use Rattle.brace_words.specs.declared.mode.Mode.TheVariants as mode
@@ -31,12 +31,14 @@ is_anew (Resumed from) = false
 
 -- a run of a script up to a last tick, over the plane as a cut plan cuts it, or in one part; ticks
 -- that `every` divides are published, and the last one; the world of each end of an epoch k is
--- saved as `NAME.k`, where a name is given
+-- saved as `NAME.k`, where a name is given; so are, as `WATCH.k`, the figures that the watch file
+-- WATCH asks for, where one is named
 pub record RunCommand : Type 0 where
   pub script : List ℕ
   pub start : Start
   pub cuts : Option (List ℕ)
   pub save : Option (List ℕ)
+  pub watch : Option (List ℕ)
   pub ticks : ℕ
   pub every : ℕ
   pub manner : Manner
@@ -92,14 +94,14 @@ agents_in (Balancing balance) = Some balance.agents
 agents_in (Auditing audit) = Some audit.agents
 agents_in _ = None
 
--- the command may save files: it is a run that is given a name for them
+-- the command may save files: it is a run that is given a name for its worlds or for figures
 abbrev pub may_save : Option Command → Bool
-may_save (Some (Run run)) = is_some run.save
+may_save (Some (Run run)) = is_some run.save || is_some run.watch
 may_save _ = false
 
--- the line asks for nothing that is not built yet: for no link and no watched figures
+-- the line asks for nothing that is not built yet: for no link
 abbrev pub built : Line → Bool
-built line = is_none line.link && is_none line.watch
+built line = is_none line.link
 
 -- how many workers words ask for: one where they are no line, and where it says nothing
 abbrev pub workers_of : Option Line → ℕ
@@ -134,6 +136,7 @@ run_of line (Some script) (Some start) (Some ticks) = Some (Run (record {
   start = start;
   cuts = line.cuts;
   save = line.save;
+  watch = line.watch;
   ticks = ticks;
   every = unwrap_or line.every 1;
   manner = manner_of line;

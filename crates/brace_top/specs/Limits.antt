@@ -13,6 +13,10 @@ agents_limit = 268435456
 abbrev pub plan_limit : ℕ
 plan_limit = 1048576
 
+-- the most bytes of a watch file
+abbrev pub watch_limit : ℕ
+watch_limit = 1048576
+
 -- the most bytes of a checkpoint
 abbrev pub checkpoint_limit : ℕ
 checkpoint_limit = 268435456

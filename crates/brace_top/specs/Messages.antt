@@ -11,6 +11,8 @@ use Rattle.brace_cuts.specs.declared.kinds.PlanKind.TheVariants as plan
 use Rattle.brace_rows.specs.declared.kinds.RowKind.{RowKind}
 use Rattle.brace_rows.specs.declared.kinds.RowKind.TheVariants as row
 use Rattle.brace_names.specs.declared.fault.Which.TheVariants as which
+use Rattle.brace_watch.specs.declared.kinds.WatchKind.{WatchKind}
+use Rattle.brace_watch.specs.declared.kinds.WatchKind.TheVariants as watch
 use Rattle.brace_save.specs.declared.kinds.PointFault.{PointFault}
 use Rattle.brace_save.specs.declared.kinds.PointFault.TheVariants as point
 use Rattle.brace_model.specs.declared.fault.Fault.{Fault}
@@ -83,11 +85,19 @@ plan_word plan.OffEpoch = codes "OffEpoch"
 plan_word plan.OtherCount = codes "OtherCount"
 plan_word plan.TooMany = codes "TooMany"
 
--- the message that names a line of a cut plan, counted from 1: `brace: NAME: line N: KIND`
-abbrev pub line_message : List ℕ → ℕ → PlanKind → List ℕ
+-- the word of a watch line's refusal
+abbrev pub watch_word : WatchKind → List ℕ
+watch_word watch.BadLine = codes "BadLine"
+watch_word watch.UnknownClass = codes "UnknownClass"
+watch_word watch.UnknownField = codes "UnknownField"
+watch_word watch.WrongType = codes "WrongType"
+watch_word watch.TooMany = codes "TooMany"
+
+-- the message that names a line of a cut plan or of a watch file, counted from 1:
+-- `brace: NAME: line N: KIND`
+abbrev pub line_message : List ℕ → ℕ → List ℕ → List ℕ
 line_message name number kind =
-    named_message name
-    (codes ": line " ++ (canonical_count number ++ (codes ": " ++ plan_word kind)))
+    named_message name (codes ": line " ++ (canonical_count number ++ (codes ": " ++ kind)))
 
 -- the word of a checkpoint's refusal; `BadLine` says which line, counted from 1; want of memory
 -- refuses none

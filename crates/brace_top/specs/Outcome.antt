@@ -8,6 +8,10 @@ use Rattle.brace_model.specs.declared.job.Job.{Job}
 use Rattle.brace_cuts.specs.declared.plan.CutPlan.{CutPlan}
 use Rattle.brace_cuts.specs.declared.kinds.PlanKind.{PlanKind}
 use Rattle.brace_cuts.specs.CutPlans as plan_file
+use Rattle.brace_watch.specs.declared.kinds.Watch.{Watch}
+use Rattle.brace_watch.specs.declared.kinds.WatchKind.{WatchKind}
+use Rattle.brace_watch.specs.Lines.{texts_of}
+use Rattle.brace_watch.specs.Watches as watch_file
 use Rattle.brace_audit.specs.Differs.{differs}
 use Rattle.brace_balance.specs.declared.kinds.Balance.{Balance}
 use Rattle.brace_balance.specs.Texts.{plan_line, certificate}
@@ -20,19 +24,19 @@ use Rattle.brace_crew.specs.Sums.{sums_of}
 use Rattle.brace_show.specs.Canonical.{canonical}
 use Rattle.brace_syntax.specs.declared.tree.Tree.{Tree}
 use Rattle.brace_top.specs.declared.status.Status.{Status}
-use Rattle.brace_top.specs.declared.status.Status.TheVariants.{Done, Usage, Script, Agents, Plan, Checkpoint, Absent, Differs}
+use Rattle.brace_top.specs.declared.status.Status.TheVariants.{Done, Usage, Script, Agents, Plan, Checkpoint, Absent, Differs, Watches}
 use Rattle.brace_top.specs.declared.status.Status.TheVariants as ended_by
-use Rattle.brace_top.specs.Limits.{script_limit, agents_limit, plan_limit, checkpoint_limit}
+use Rattle.brace_top.specs.Limits.{script_limit, agents_limit, plan_limit, watch_limit, checkpoint_limit}
 use Rattle.brace_top.specs.Balances.{IsAlongX, IsBalance}
 use Rattle.brace_top.specs.Commands.{Command, RunCommand, TrialCommand, BalanceCommand, AuditCommand, Start, Anew, Resumed, Run, Format, Check, Planning, Trial, Balancing, Auditing, command_of, script_in, agents_in, start_file, is_anew}
 use Rattle.brace_top.specs.declared.script_fault.ScriptFault.{ScriptFault}
 use Rattle.brace_top.specs.declared.script_fault.ScriptFault.TheVariants as fault
 use Rattle.brace_top.specs.declared.script_fault.ScriptKind.{ScriptKind}
-use Rattle.brace_top.specs.Messages.{named_message, placed_message, record_message, line_message, point_message, row_message, script_word, usage_message, fault_message, stats_message}
+use Rattle.brace_top.specs.Messages.{named_message, placed_message, record_message, line_message, plan_word, watch_word, point_message, row_message, script_word, usage_message, fault_message, stats_message}
 use Rattle.brace_top.specs.Places.{line_number, column_number}
 use Rattle.brace_top.specs.PlanText.{plan_text}
 use Rattle.brace_top.specs.Scripts.{IsTree, Means, NoTree, Refuses}
-use Rattle.brace_top.specs.Savings.{Saving, savings}
+use Rattle.brace_top.specs.Savings.{Saves, Saving, savings}
 use Rattle.brace_top.specs.Trials.{trial_script, trial_plan, trial_line}
 use Rattle.brace_save.specs.declared.kinds.PointFault.{PointFault}
 use Rattle.brace_save.specs.Lines.{IsRead, whole_lines, unfinished}
@@ -173,7 +177,7 @@ BeginsAt files program (Resumed name) found = PointOf files program name found
 abbrev pub unless_bad : List ℕ → CutPlan → Option (ℕ × PlanKind) → Result CutPlan Refusal
 unless_bad name plan None = Ok plan
 unless_bad name plan (Some (number, kind)) =
-    Err (record { status = Plan; message = line_message name number kind })
+    Err (record { status = Plan; message = line_message name number (plan_word kind) })
 
 -- the plan of the bytes of a cut plan, or the refusal of its first faulty line
 abbrev pub plan_from : ℕ → List ℕ → Result (List ℕ) Refusal → Result CutPlan Refusal
@@ -191,6 +195,31 @@ whole_plane = record { lines = record { tick = 0; cuts = record { xs = []; ys = 
 abbrev pub plan_of : Files → ℕ → Option (List ℕ) → Result CutPlan Refusal
 plan_of files epoch None = Ok whole_plane
 plan_of files epoch (Some name) = plan_from epoch name (loaded Plan plan_limit name (files name))
+
+-- watches, unless a line of their file is faulty: the number of the first one, and its kind
+abbrev pub unless_wrong : List ℕ → List Watch → Option (ℕ × WatchKind)
+    → Result (List Watch) Refusal
+unless_wrong name watches None = Ok watches
+unless_wrong name watches (Some (number, kind)) =
+    Err (record { status = Watches; message = line_message name number (watch_word kind) })
+
+-- the watches of the bytes of a watch file, or the refusal of its first faulty line
+abbrev pub watches_from : Program → List ℕ → Result (List ℕ) Refusal
+    → Result (List Watch) Refusal
+watches_from program name (Err r) = Err r
+watches_from program name (Ok bytes) =
+    let texts = texts_of bytes in
+    unless_wrong name (watch_file.watches_in program texts) (watch_file.first_fault program texts)
+
+-- the watches of a watch file within its limit, or none where none is named
+abbrev pub watches_of : Files → Program → Option (List ℕ) → Result (List Watch) Refusal
+watches_of files program None = Ok []
+watches_of files program (Some name) =
+    watches_from program name (loaded Watches watch_limit name (files name))
+
+-- what a run saves that watches these
+abbrev pub saves_of : RunCommand → List Watch → Saves
+saves_of run watches = record { save = run.save; watch = run.watch; watches = watches }
 
 -- the setting of a run from a moment on
 abbrev pub setting_of : RunCommand → Program → Moment → CutPlan → Setting
@@ -247,23 +276,28 @@ abbrev pub end_message : Bool → Setting → Option Fault → List ℕ
 end_message stats s None = stats_of stats s
 end_message stats s (Some f) = fault_message f
 
--- the outcome of a run: its published text, and the worlds of its ends; none of either where it
+-- the outcome of a run: its published text, and the files of its ends; none of either where it
 -- begins behind its last tick
-abbrev pub ran : Bool → Option (List ℕ) → Bool → Setting → Outcome
-ran stats save fresh s =
+abbrev pub ran : Bool → Saves → Bool → Setting → Outcome
+ran stats saves fresh s =
     let found = first_fault s.job in
     record {
       status = end_status found;
       out = published s.job fresh;
       err = end_message stats s found;
-      saved = savings save fresh s;
+      saved = savings saves fresh s;
     }
+
+-- an outcome of a run of a program from a moment over a plan
+abbrev pub RunOver : Files → RunCommand → Program → Moment → CutPlan → Outcome → Type 0
+RunOver files run program moment plan = FollowedBy
+    (λ watches o. o ≡ ran run.manner.stats (saves_of run watches) (is_anew run.start)
+    (setting_of run program moment plan)) (watches_of files program run.watch)
 
 -- an outcome of a run of a program from a moment
 abbrev pub RunFrom : Files → RunCommand → Program → Moment → Outcome → Type 0
-RunFrom files run program moment = FollowedBy (λ plan o. o ≡ ran run.manner.stats run.save
-    (is_anew run.start) (setting_of run program moment plan))
-    (plan_of files run.manner.epoch run.cuts)
+RunFrom files run program moment =
+    FollowedBy (RunOver files run program moment) (plan_of files run.manner.epoch run.cuts)
 
 -- an outcome of a run of a program
 abbrev pub RunOutcome : Files → RunCommand → Program → Outcome → Type 0
@@ -392,7 +426,8 @@ abbrev pub HasOutcome : List (List ℕ) → Files → Outcome → Type 0
 HasOutcome words files o = CommandOutcome files (command_of words) o
 
 -- a command reads the file of this name where every file before it is accepted: its script, then
--- the file with which a run begins, or the agent file, and its cut plan, or the published file
+-- the file with which a run begins, or the agent file, and its cut plan and its watch file, or the
+-- published file
 pub data Reads (files : Files) : Option Command → List ℕ → Type 0 where
   reads_script : (command : Command) (name : List ℕ) → script_in command ≡ Some name
       → Reads files (Some command) name
@@ -407,4 +442,9 @@ pub data Reads (files : Files) : Option Command → List ℕ → Type 0 where
   reads_plan : (run : RunCommand) (program : Program) (moment : Moment) (name : List ℕ)
       → ProgramOf files run.script (Ok program) → BeginsAt files program run.start (Ok moment)
       → run.cuts ≡ Some name
+      → Reads files (Some (Run run)) name
+  reads_watch : (run : RunCommand) (program : Program) (moment : Moment) (plan : CutPlan)
+      (name : List ℕ) → ProgramOf files run.script (Ok program)
+      → BeginsAt files program run.start (Ok moment)
+      → plan_of files run.manner.epoch run.cuts ≡ Ok plan → run.watch ≡ Some name
       → Reads files (Some (Run run)) name

@@ -7,10 +7,11 @@ use Rattle.brace_model.specs.declared.program.Program.{Program}
 use Rattle.brace_model.specs.Next.{has_births}
 use Rattle.brace_model.specs.World.{World, world_of}
 use Rattle.brace_save.specs.Lines.{IsText}
+use Rattle.brace_watch.specs.declared.kinds.Watch.{Watch}
 use Rattle.brace_top.specs.Limits.{checkpoint_limit}
 use Rattle.brace_top.specs.declared.status.Status.TheVariants.{Checkpoint}
 use Rattle.brace_top.specs.Commands.{RunCommand, Resumed}
-use Rattle.brace_top.specs.Outcome.{ProgramOf, loaded, plan_of}
+use Rattle.brace_top.specs.Outcome.{ProgramOf, loaded, plan_of, watches_of}
 
 -- the same run from the world of a tick on
 abbrev pub from_tick : Job → ℕ → World → Job
@@ -23,7 +24,7 @@ told_world program world = if has_births program then world else world_of world.
 
 -- over these files a run is resumed from the world that the run of a job has at a tick: a
 -- checkpoint of it is held, the script means the job's program, and the last tick and the published
--- ticks are the job's; how the plane is cut, and how the run is worked, is its own
+-- ticks are the job's; how the plane is cut, what is watched, and how the run is worked, is its own
 pub record GoesOn (files : Files) (job : Job) (tick : ℕ) (world : World) (run : RunCommand) : Type 0
   where
     pub name : List ℕ
@@ -38,5 +39,7 @@ pub record GoesOn (files : Files) (job : Job) (tick : ℕ) (world : World) (run 
     pub means : ProgramOf files run.script (Ok job.program)
     pub plan : CutPlan
     pub cut : plan_of files run.manner.epoch run.cuts ≡ Ok plan
+    pub watches : List Watch
+    pub watched : watches_of files job.program run.watch ≡ Ok watches
     pub last : run.ticks ≡ job.last
     pub every : run.every ≡ job.every

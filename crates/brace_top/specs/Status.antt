@@ -1,7 +1,7 @@
 -- How a command ends, and the number of each way.
 use Rattle.std.specs.Prelude.{ℕ, ◌==◌, Bool, true, false, if◌then◌else◌}
 use Rattle.brace_top.specs.declared.status.Status.{Status}
-use Rattle.brace_top.specs.declared.status.Status.TheVariants.{Done, Usage, Script, Agents, Plan, Checkpoint, Fault, ReadFault, WriteFault, SaveFault, NoMemory, Absent, Differs}
+use Rattle.brace_top.specs.declared.status.Status.TheVariants.{Done, Usage, Script, Agents, Plan, Checkpoint, Fault, ReadFault, WriteFault, SaveFault, NoMemory, Absent, Differs, Watches}
 
 -- the number with which the program ends
 abbrev pub code_of : Status → ℕ
@@ -18,6 +18,7 @@ code_of SaveFault = 10
 code_of NoMemory = 11
 code_of Absent = 12
 code_of Differs = 13
+code_of Watches = 14
 
 -- all was written, or a run ended in a fault
 abbrev pub has_run : Status → Bool
@@ -34,6 +35,7 @@ is_refusal Checkpoint = true
 is_refusal ReadFault = true
 is_refusal Absent = true
 is_refusal Differs = true
+is_refusal Watches = true
 is_refusal _ = false
 
 -- the way that a number stands for
@@ -43,7 +45,8 @@ status_of code =
     else if code == 4 then Agents else if code == 5 then Plan else if code == 6 then Checkpoint
     else if code == 7 then Fault else if code == 8 then ReadFault
     else if code == 9 then WriteFault else if code == 10 then SaveFault
-    else if code == 12 then Absent else if code == 13 then Differs else NoMemory
+    else if code == 12 then Absent else if code == 13 then Differs
+    else if code == 14 then Watches else NoMemory
 
 -- nothing is saved: the words are no command, or a named file is refused
 abbrev pub saves_nothing : Status → Bool

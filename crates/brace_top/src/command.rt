@@ -37,6 +37,8 @@ pub struct RunCommand<'a> {
     pub cuts: Option<&'a str>,
     /// The world of the end k of an epoch is saved as `NAME.k`, where this is NAME.
     pub save: Option<&'a str>,
+    /// The figures that this watch file asks for are saved as `NAME.k`, where this is NAME.
+    pub watch: Option<&'a str>,
     pub ticks: u64,
     /// Ticks that this number divides are published, and the last one. At least 1.
     pub every: u64,
@@ -99,11 +101,11 @@ pub enum Command<'a> {
 
 /// Whether a line asks for nothing that is not built yet.
 ///
-/// Not built are links and watched figures in `run` and `resume`.
+/// Not built are links in `run` and `resume`.
 pub fn built(line: &Line) -> bool
     ensures { result ≡ built line.now }
 {
-    line.link.is_none() && line.watch.is_none()
+    line.link.is_none()
 }
 
 /// How many workers words ask for, as they were read: 1 to 16, and 1 where they are no line.
@@ -170,6 +172,7 @@ fn run_of<'a>(line: &'a Line, start: Option<Start<'a>>) -> Option<Command<'a>>
         start: start?,
         cuts: name_of(&line.cuts),
         save: name_of(&line.save),
+        watch: name_of(&line.watch),
         ticks: line.ticks?,
         every: line.every.unwrap_or(1),
         manner: manner_of(line),

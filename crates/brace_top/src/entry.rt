@@ -126,6 +126,7 @@ fn answer_on<R: Threads + Wait + Sync, G: Gate + Sync, S: Shelf + Send, O: Sink 
 /// | 11 | the allocator refused memory |
 /// | 12 | a named file is not held |
 /// | 13 | the published file differs from what a run publishes |
+/// | 14 | the watch file is refused |
 ///
 /// `words` are those after the program's name. Files are read from `shelf` and saved there, rows or
 /// the canonical text go to `out`, and one line for each status other than 0 goes to `err`, whose

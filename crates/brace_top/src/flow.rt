@@ -3,6 +3,7 @@ ghost use Rattle.std.specs.Prelude.{◌≡◌, ◌≤◌, ℤ, [], None, Err, tr
 ghost use Rattle.brace_model.specs.Run.{end_of};
 ghost use Rattle.brace_pieces.specs.declared.setting.Setting.{Setting};
 ghost use Rattle.brace_pieces.specs.Settings.{LawfulSetting};
+ghost use Rattle.brace_watch.specs.Watches.{AreWatches};
 ghost use Rattle.brace_crew.specs.Calls.{CameTo};
 ghost use Rattle.brace_top.specs.Answer.{CountsWrites, sink_call};
 ghost use Rattle.brace_top.specs.Commands as asked;
@@ -19,7 +20,8 @@ use crate::task::{Task, done, faulted, settle};
 use crate::team::{Team, crew_run_on};
 use crate::trial::trial_line;
 use brace_crew::{
-    CrewFault, File, FilePublisher, Keeper, Publisher, SumPublisher, crew_run_on_one,
+    CrewFault, File, FilePublisher, Keeper, Publisher, SumPublisher, WatchPublisher,
+    crew_run_on_one,
 };
 use brace_io::{Failed, Gate, Sink, write_whole};
 use brace_model::Fault;
@@ -112,8 +114,8 @@ impl Keeper for NoKeeper {
 }
 
 /// Carries a task out by its parts on one worker: writes the rows of published ticks, and has the
-/// worlds of its ends saved where a name is given, or writes the line of a trial. What stood on the
-/// sink before is flushed first.
+/// worlds of its ends and the figures that it watches saved, each where a name is given, or writes
+/// the line of a trial. What stood on the sink before is flushed first.
 pub fn crew_alone<K: Keeper, O: Sink>(
     alloc: Global,
     task: &Task,
@@ -122,6 +124,7 @@ pub fn crew_alone<K: Keeper, O: Sink>(
 ) -> Result<Answer, Stopped>
     requires lawful { LawfulSetting task.now.setting }
     requires begins { task.now.setting.job.first ≤ task.now.setting.job.last }
+    requires watched { AreWatches task.now.setting.job.program task.now.watches.items }
     ensures run { IsRunOf O.Sink task.now (keeper_call K.Keeper keeper.old keeper.new)
         out.old out.new result }
     ensures same_loans { K.loans keeper.new ≡ K.loans keeper.old }
@@ -136,11 +139,15 @@ pub fn crew_alone<K: Keeper, O: Sink>(
         return settle_trial(alloc, &trial, publisher.sums(), came, out);
     }
     out.flush()?;
-    let publisher = FilePublisher {
-        out,
-        keeper,
-        save: &task.save,
-        fresh: task.fresh,
+    let publisher = WatchPublisher {
+        files: FilePublisher {
+            out,
+            keeper,
+            save: &task.save,
+            fresh: task.fresh,
+        },
+        watches: task.watches.as_slice(),
+        name: &task.watch,
     };
     let both = crew_run_on_one(alloc, &task.setting, task.order, publisher);
     settle(alloc, task, both.1)
@@ -158,6 +165,7 @@ pub fn crew_on<R: Threads + Wait + Sync, G: Gate + Sync, K: Keeper + Send, O: Si
     requires few { team.now.workers ≤ 16 }
     requires lawful { LawfulSetting task.now.setting }
     requires begins { task.now.setting.job.first ≤ task.now.setting.job.last }
+    requires watched { AreWatches task.now.setting.job.program task.now.watches.items }
     ensures run { IsRunOf O.Sink task.now (keeper_call K.Keeper keeper.old keeper.new)
         out.old out.new result }
     ensures same_loans { K.loans keeper.new ≡ K.loans keeper.old }
@@ -173,11 +181,15 @@ pub fn crew_on<R: Threads + Wait + Sync, G: Gate + Sync, K: Keeper + Send, O: Si
         return settle_trial(alloc, &trial, publisher.sums(), came, out);
     }
     out.flush()?;
-    let publisher = FilePublisher {
-        out,
-        keeper,
-        save: &task.save,
-        fresh: task.fresh,
+    let publisher = WatchPublisher {
+        files: FilePublisher {
+            out,
+            keeper,
+            save: &task.save,
+            fresh: task.fresh,
+        },
+        watches: task.watches.as_slice(),
+        name: &task.watch,
     };
     let both = crew_run_on(team, alloc, &task.setting, task.order, publisher);
     settle(alloc, task, both.1)

@@ -21,6 +21,7 @@ mod strips;
 mod task;
 mod team;
 mod trial;
+mod watches;
 
 pub use command::built;
 pub use entry::{run, run_alone};

@@ -16,7 +16,7 @@ ghost use Rattle.brace_top.specs.inner.Words.{said_start};
 use crate::answer::{Stopped, refuse, refuse_file};
 use crate::command::Start;
 use crate::limits::{AGENTS_LIMIT, CHECKPOINT_LIMIT, PLAN_LIMIT, SCRIPT_LIMIT};
-use crate::messages::{line_message, placed_message, point_message, record_message};
+use crate::messages::{line_message, placed_message, plan_word, point_message, record_message};
 use crate::places::{column_number, line_number};
 use crate::script::{read_program, read_tree};
 use crate::script_fault::ScriptFault;
@@ -32,7 +32,7 @@ use brace_syntax::Tree;
 use std::alloc::Global;
 
 /// The bytes of the file of a name, at most `limit`; `status` is that of a longer file.
-fn load_file<S: Shelf>(
+pub fn load_file<S: Shelf>(
     alloc: Global,
     shelf: &mut S,
     name: &str,
@@ -97,7 +97,8 @@ fn refuse_line(alloc: Global, name: &str, fault: PlanFault) -> Stopped
 {
     match fault {
         PlanFault::Bad(number, kind) => {
-            refuse(Status::Plan, line_message(alloc, name, number, kind))
+            let message = line_message(alloc, name, number, plan_word(kind));
+            refuse(Status::Plan, message)
         }
         PlanFault::NoMemory => Stopped::NoMemory,
     }

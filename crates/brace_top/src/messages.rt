@@ -1,6 +1,6 @@
 ghost use Rattle.std.specs.Prelude.{◌≡◌, ◌++◌, IfOk, OnOk};
 ghost use Rattle.brace_crew.specs.Shows.{file_name};
-ghost use Rattle.brace_top.specs.Messages.{named_message, placed_message, row_word, row_message, record_message, plan_word, line_message, point_word, point_message, save_fault_message, stats_message, phase_word, kind_word, loop_text, agents_text, site_text, fault_message};
+ghost use Rattle.brace_top.specs.Messages.{named_message, placed_message, row_word, row_message, record_message, plan_word, watch_word, line_message, point_word, point_message, save_fault_message, stats_message, phase_word, kind_word, loop_text, agents_text, site_text, fault_message};
 
 use brace_cuts::PlanKind;
 use brace_model::{Fault, Phase};
@@ -8,6 +8,7 @@ use brace_num::{Kind, NoMemory, print_count};
 use brace_part::Counts;
 use brace_rows::RowKind;
 use brace_save::PointFault;
+use brace_watch::WatchKind;
 use itoa::Buffer;
 use std::alloc::Global;
 
@@ -77,7 +78,8 @@ pub fn record_message(
     named_message(alloc, name, rest.as_slice())
 }
 
-fn plan_word(kind: PlanKind) -> &'static [u8]
+/// The word of a plan line's refusal.
+pub fn plan_word(kind: PlanKind) -> &'static [u8]
     ensures { result.now ≡ plan_word kind }
 {
     match kind {
@@ -89,20 +91,33 @@ fn plan_word(kind: PlanKind) -> &'static [u8]
     }
 }
 
-/// The message that names a line of a cut plan, counted from 1, and what is wrong with it.
+/// The word of a watch line's refusal.
+pub fn watch_word(kind: WatchKind) -> &'static [u8]
+    ensures { result.now ≡ watch_word kind }
+{
+    match kind {
+        WatchKind::BadLine => b"BadLine",
+        WatchKind::UnknownClass => b"UnknownClass",
+        WatchKind::UnknownField => b"UnknownField",
+        WatchKind::WrongType => b"WrongType",
+        WatchKind::TooMany => b"TooMany",
+    }
+}
+
+/// The message that names a line of a file, counted from 1, and what is wrong with it.
 pub fn line_message(
     alloc: Global,
     name: &str,
     number: u64,
-    kind: PlanKind,
+    kind: &[u8],
 ) -> Result<Vec<u8>, NoMemory>
-    ensures { IfOk result (λ text. text.items ≡ line_message name.now number kind) }
+    ensures { IfOk result (λ text. text.items ≡ line_message name.now number kind.now) }
 {
     let mut rest = Vec::new(alloc);
     rest.extend_from_slice(b": line ")?;
     print_count(&mut rest, number)?;
     rest.extend_from_slice(b": ")?;
-    rest.extend_from_slice(plan_word(kind))?;
+    rest.extend_from_slice(kind)?;
     named_message(alloc, name, rest.as_slice())
 }
 

@@ -1,15 +1,15 @@
 //! What is done for a command before its parts are run.
-ghost use Rattle.std.specs.Prelude.{◌≡◌, ◌≤◌, [], codes, is_some, option_map, None, Some, IfOk, MatchResult, true, false};
+ghost use Rattle.std.specs.Prelude.{◌≡◌, ◌≤◌, [], codes, None, Some, IfOk, MatchResult, true, false};
 ghost use Rattle.brace_io.specs.Shelves.{writes};
 ghost use Rattle.brace_model.specs.Lawful.{LawfulProgram, LawfulAgents, LawfulJob};
 ghost use Rattle.brace_save.specs.Lines.{moment_of};
 ghost use Rattle.brace_top.specs.Answer.{CountsWrites, sink_call};
 ghost use Rattle.brace_top.specs.Commands as asked;
 ghost use Rattle.brace_top.specs.Commands.{is_anew, may_save};
-ghost use Rattle.brace_top.specs.Outcome.{agreed, audit_job, shown, told, setting_of, ran};
+ghost use Rattle.brace_top.specs.Outcome.{agreed, audit_job, shown, told, saves_of, setting_of, ran};
 ghost use Rattle.brace_top.specs.Status.{has_run};
 ghost use Rattle.brace_top.specs.inner.Prepared.{IsPrepared, IsReady, IsStoppedBefore};
-ghost use Rattle.brace_top.specs.inner.Settled.{IsServed, IsWritten, is_plain_work, outcome_of, status_in, message_in};
+ghost use Rattle.brace_top.specs.inner.Settled.{IsServed, IsWritten, is_plain_work, outcome_of, saves_in, saves_files, status_in, message_in};
 ghost use Rattle.brace_top.specs.inner.Words.{said, said_audit, said_balance, said_run, said_start, said_trial, IsAuditInRange, IsBalanceInRange, IsInRange, IsRunInRange, IsTrialInRange};
 
 use crate::answer::{Answer, Stopped};
@@ -24,12 +24,14 @@ use crate::status::Status;
 use crate::strips::balanced_strips;
 use crate::task::{Task, run_none};
 use crate::trial::{has_four_fixed, trial_setting};
+use crate::watches::load_watches;
 use brace_cuts::CutPlan;
 use brace_io::{Shelf, Sink, write_whole};
 use brace_model::{Fault, Job, Program, World};
 use brace_pieces::Setting;
 use brace_save::Point;
 use brace_show::show;
+use brace_watch::Watch;
 use std::alloc::Global;
 
 /// What is left of a command whose files are read.
@@ -215,15 +217,22 @@ fn audit_file<S: Shelf, O: Sink>(
 }
 
 /// A run that can begin at a moment.
-fn task_of<'a>(run: &RunCommand<'a>, program: Program, point: Point, cuts: CutPlan) -> Task<'a>
+fn task_of<'a>(
+    run: &RunCommand<'a>,
+    program: Program,
+    point: Point,
+    cuts: CutPlan,
+    watches: Vec<Watch>,
+) -> Task<'a>
     ensures setting { result.setting
         ≡ setting_of (said_run run.now) program (moment_of point) cuts }
     ensures outcome { outcome_of result ≡ ran run.now.manner.stats
-        (option_map (λ name. name.now) run.now.save) (is_anew (said_start run.now.start))
+        (saves_of (said_run run.now) watches.items) (is_anew (said_start run.now.start))
         result.setting }
     ensures fresh { result.fresh ≡ is_anew (said_start run.now.start) }
+    ensures watches { result.watches.items ≡ watches.items }
     ensures saves { may_save (Some (asked.Run (said_run run.now)))
-        ≡ is_some (option_map (λ name. name.now) result.save) }
+        ≡ saves_files (saves_in result) }
     ensures no_trial { result.trial ≡ None }
 {
     let job = Job {
@@ -244,6 +253,8 @@ fn task_of<'a>(run: &RunCommand<'a>, program: Program, point: Point, cuts: CutPl
         order: run.manner.order,
         fresh: matches!(run.start, Start::Anew(..)),
         save: run.save,
+        watch: run.watch,
+        watches,
         stats: run.manner.stats,
         trial: None,
     }
@@ -268,7 +279,8 @@ fn load_task<'a, S: Shelf>(
     let program = load_program(alloc, shelf, run.script)?;
     let point = load_start(alloc, shelf, &program, &run.start)?;
     let cuts = load_cuts(alloc, shelf, run.cuts, run.manner.epoch)?;
-    Ok(task_of(run, program, point, cuts))
+    let watches = load_watches(alloc, shelf, &program, run.watch)?;
+    Ok(task_of(run, program, point, cuts, watches))
 }
 
 /// Reads the files of a run, and answers one that would begin behind its last tick.
@@ -290,10 +302,10 @@ fn ready_run<'a, S: Shelf, O: Sink>(
         let answer = run_none(alloc, &task, out)?;
         return Ok(Work::Told(answer));
     }
-    match task.save {
-        None => Ok(Work::Plain(task)),
-        Some(_) => Ok(Work::Saving(task)),
+    if task.saves() {
+        return Ok(Work::Saving(task));
     }
+    Ok(Work::Plain(task))
 }
 
 /// The trial of the program's own script over made agents; no file is read. That script has a class
@@ -308,7 +320,7 @@ fn ready_trial<'a, S: Shelf>(
         (IsReady S.Shelf (Some (asked.Trial (said_trial trial.now))) shelf.now shelf.now)
         (IsStoppedBefore S.Shelf (asked.Trial (said_trial trial.now)) shelf.now shelf.now) }
     ensures begins { IfOk result (λ task. task.setting.job.first ≤ task.setting.job.last) }
-    ensures plain { IfOk result (λ task. task.save ≡ None) }
+    ensures plain { IfOk result (λ task. saves_files (saves_in task) ≡ false) }
 {
     let program = load_trial(alloc)?;
     if !has_four_fixed(&program) {
@@ -320,6 +332,8 @@ fn ready_trial<'a, S: Shelf>(
         order: trial.manner.order,
         fresh: true,
         save: None,
+        watch: None,
+        watches: Vec::new(alloc),
         stats: trial.manner.stats,
         trial: Some(*trial),
     })

@@ -30,6 +30,8 @@ pub enum Status {
     Absent,
     /// The published file differs from what a run publishes.
     Differs,
+    /// The watch file is refused.
+    Watches,
 }
 
 impl Status {
@@ -52,6 +54,7 @@ impl Status {
             Status::NoMemory => 11,
             Status::Absent => 12,
             Status::Differs => 13,
+            Status::Watches => 14,
         }
     }
 }

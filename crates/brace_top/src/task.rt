@@ -1,10 +1,9 @@
 //! A task, which is a run by parts or a trial, and how it is answered.
-ghost use Rattle.std.specs.Prelude.{◌≡◌, ◌<◌, option_map, None, Some, Err, true, false};
-ghost use Rattle.brace_crew.specs.declared.crew.CrewFault.TheVariants as crew;
+ghost use Rattle.std.specs.Prelude.{◌≡◌, ◌<◌, option_map, None, true, false};
 ghost use Rattle.brace_top.specs.Answer.{CountsWrites, sink_call};
 ghost use Rattle.brace_top.specs.Messages.{fault_message};
 ghost use Rattle.brace_top.specs.Status.{has_run};
-ghost use Rattle.brace_top.specs.inner.Settled.{IsWritten, IsSettled, IsToldAs, told_counts, is_plain_work, outcome_of, status_in, message_in};
+ghost use Rattle.brace_top.specs.inner.Settled.{IsWritten, IsSettled, IsRefusedBy, IsUnsavedAs, IsToldAs, told_counts, is_plain_work, outcome_of, saves_in, saves_files, status_in, message_in};
 
 use crate::answer::{Answer, Stopped, refuse};
 use crate::command::TrialCommand;
@@ -15,6 +14,7 @@ use brace_io::Sink;
 use brace_model::Fault;
 use brace_part::Counts;
 use brace_pieces::Setting;
+use brace_watch::Watch;
 use std::alloc::Global;
 
 /// A run that can begin, or a trial.
@@ -27,10 +27,23 @@ pub struct Task<'a> {
     pub fresh: bool,
     /// The world of the end k of an epoch is saved as `NAME.k`, where this is NAME.
     pub save: Option<&'a str>,
+    /// The figures up to the end k of an epoch are saved as `NAME.k`, where this is NAME.
+    pub watch: Option<&'a str>,
+    /// The figures that are watched.
+    pub watches: Vec<Watch>,
     /// Whether counts are told at the end.
     pub stats: bool,
     /// The trial that it is, which writes no rows, but the line of its last world.
     pub trial: Option<TrialCommand>,
+}
+
+impl<'a> Task<'a> {
+    /// Whether it saves files.
+    pub fn saves(&self) -> bool
+        ensures { result ≡ saves_files (saves_in self.now) }
+    {
+        self.save.is_some() || self.watch.is_some()
+    }
 }
 
 /// The answer of a run that came to its last tick, with its counts where they are to be told.
@@ -58,17 +71,25 @@ pub fn faulted(alloc: Global, fault: &Fault) -> Result<Answer, Stopped>
     })
 }
 
-/// Why a run went no further whose publisher refused.
-fn refused(alloc: Global, save: Option<&str>, refusal: PubFault) -> Stopped
-    ensures { IsSettled false (option_map (λ name. name.now) save.entry)
-        (Err (crew.Publish refusal)) (Err result) }
+/// Why a run went no further whose file of a tick was not saved under a name.
+fn unsaved(alloc: Global, name: Option<&str>, tick: u64) -> Stopped
+    ensures { IsUnsavedAs (option_map (λ name. name.now) name.entry) tick result }
 {
-    match (refusal, save) {
-        (PubFault::Write, _) => Stopped::WriteFault,
-        (PubFault::Save(tick), Some(name)) => {
-            refuse(Status::SaveFault, save_fault_message(alloc, name, tick))
-        }
-        (PubFault::Save(_), None) | (PubFault::NoMemory, _) => Stopped::NoMemory,
+    match name {
+        Some(name) => refuse(Status::SaveFault, save_fault_message(alloc, name, tick)),
+        None => Stopped::NoMemory,
+    }
+}
+
+/// Why a run went no further whose publisher refused.
+fn refused(alloc: Global, task: &Task, refusal: PubFault) -> Stopped
+    ensures { IsRefusedBy (saves_in task.now) refusal result }
+{
+    match refusal {
+        PubFault::Write => Stopped::WriteFault,
+        PubFault::Save(tick) => unsaved(alloc, task.save, tick),
+        PubFault::Watch(tick) => unsaved(alloc, task.watch, tick),
+        PubFault::NoMemory => Stopped::NoMemory,
     }
 }
 
@@ -78,12 +99,12 @@ pub fn settle(
     task: &Task,
     came: Result<Counts, CrewFault>,
 ) -> Result<Answer, Stopped>
-    ensures { IsSettled task.now.stats (option_map (λ name. name.now) task.now.save) came result }
+    ensures { IsSettled task.now.stats (saves_in task.now) came result }
 {
     match came {
         Ok(counts) => done(alloc, task.stats, &counts),
         Err(CrewFault::Fault(fault)) => faulted(alloc, &fault),
-        Err(CrewFault::Publish(refusal)) => Err(refused(alloc, task.save, refusal)),
+        Err(CrewFault::Publish(refusal)) => Err(refused(alloc, task, refusal)),
         Err(CrewFault::NoMemory) => Err(Stopped::NoMemory),
     }
 }

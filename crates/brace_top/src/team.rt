@@ -31,6 +31,7 @@ pub fn crew_run_on<R: Threads + Wait + Sync, G: Gate + Sync, P: Publisher + Send
     requires some { 1 ≤ team.now.workers }
     requires few { team.now.workers ≤ 16 }
     requires lawful { LawfulSetting setting.now }
+    requires fits { P.fits publisher setting.now.job.program }
     ensures came { CameTo P.Publisher setting.now publisher result.0 result.1 }
 {
     let Team { rt, gate, workers } = *team;

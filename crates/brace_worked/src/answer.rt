@@ -48,10 +48,18 @@ impl Desk {
         if case.is_published {
             shelf.hold("p", case.published.as_slice())?;
         }
+        if case.is_watched {
+            shelf.hold("w", case.watch.as_slice())?;
+        }
         shelf.prepare("c.1", 1000)?;
         shelf.prepare("c.2", 1000)?;
         shelf.prepare("c.4", 200)?;
         shelf.prepare("c.5", 200)?;
+        shelf.prepare("w.1", 1000)?;
+        shelf.prepare("w.2", 1000)?;
+        shelf.prepare("w.3", 1000)?;
+        shelf.prepare("w.4", 1000)?;
+        shelf.prepare("w.5", 1000)?;
         Ok(Desk {
             shelf,
             out: MemSink::make(alloc, ROOM, numbers(alloc, case.sink_fails.as_slice())?)?,

@@ -18,6 +18,8 @@ pub struct Case<'a> {
     pub cuts: Vec<u8>,
     pub published: Vec<u8>,
     pub is_published: bool,
+    pub watch: Vec<u8>,
+    pub is_watched: bool,
     pub is_bare: bool,
     pub shelf_fails: Vec<u64>,
     pub sink_fails: Vec<u64>,
@@ -64,6 +66,8 @@ impl<'a> Case<'a> {
             cuts: Vec::new(alloc),
             published: Vec::new(alloc),
             is_published: false,
+            watch: Vec::new(alloc),
+            is_watched: false,
             is_bare: false,
             shelf_fails: Vec::new(alloc),
             sink_fails: Vec::new(alloc),
@@ -115,6 +119,10 @@ impl<'a> Case<'a> {
             "published" => {
                 self.is_published = true;
                 line.add_to(&mut self.published)
+            }
+            "watch" => {
+                self.is_watched = true;
+                line.add_to(&mut self.watch)
             }
             "out" => line.add_to(&mut self.out),
             "err" => line.add_to(&mut self.err),

@@ -57,7 +57,8 @@ abbrev pub IsAsItStands : {P : Type 0} → publisher.Ghosts P → OnDesk P → B
 IsAsItStands of d true = IsClosedBy of d d.stop
 IsAsItStands of d false = IsOpen of d
 
--- a desk is the publisher's place in a lawful run, and has room for what all parts bring
+-- a desk is the place in a lawful run of a publisher that fits it, and has room for what all parts
+-- bring
 pub record IsDesk {P : Type 0} (of : publisher.Ghosts P) (d : OnDesk P) (room : ℕ) : Type 0 where
   pub lawful : LawfulSetting d.course.setting
   pub numbers : NumbersFit d.course.setting
@@ -65,4 +66,5 @@ pub record IsDesk {P : Type 0} (of : publisher.Ghosts P) (d : OnDesk P) (room : 
   pub on_course : IsCourse d.course
   pub has_room : parts d.course.setting ≤ room
   pub stands : IsAsItStands of d d.closed
+  pub fits : of.fits d.opening d.course.setting.job.program
   pub rises : Rises of d.opening d.publisher

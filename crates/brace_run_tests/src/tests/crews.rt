@@ -24,7 +24,9 @@ const RESTING: &str = "class A{public state fixed x;public state fixed y;}";
 
 /// A run of agents that rest, from tick 0 to tick 4 in epochs of three ticks, of which every
 /// second tick is published.
-fn resting_run(alloc: Global) -> Result<Setting, &'static str> {
+fn resting_run(alloc: Global) -> Result<Setting, &'static str>
+    ensures { IfOk result LawfulSetting }
+{
     let run = Run {
         script: RESTING,
         agents: "",
@@ -122,7 +124,9 @@ fn shown_to<'x, K: Keeper, O: Sink>(
     keeper: &'x mut K,
     (save, fresh): (&'x Option<&'x str>, bool),
     (tick, worlds): (u64, &[Shown]),
-) -> Result<(), PubFault> {
+) -> Result<(), PubFault>
+    requires { LawfulSetting setting.now }
+{
     let mut publisher = FilePublisher {
         out,
         keeper,
@@ -214,6 +218,7 @@ fn run<R: Threads + Wait + Sync, P: Publisher + Send>(
     publisher: P,
 ) -> (P, usize, Result<Counts, CrewFault>)
     requires lawful { LawfulSetting setting.now }
+    requires fits { P.fits publisher setting.now.job.program }
     requires some { 1 ≤ workers }
     requires few { workers ≤ 4 }
 {

@@ -1,9 +1,10 @@
 -- What a command comes to before its parts are run. Only the crate's own functions cite this.
-use Rattle.std.specs.Prelude.{◌≡◌, ◌≤◌, true, Option, Some, None, is_some, option_map, Result, Ok, Err}
+use Rattle.std.specs.Prelude.{◌≡◌, ◌≤◌, true, false, Option, Some, None, Result, Ok, Err}
 use Rattle.brace_io.specs.declared.shelf.Shelf as shelf_trait
 use Rattle.brace_io.specs.declared.sink.Sink as sink_trait
 use Rattle.brace_io.specs.Shelves.{Files}
 use Rattle.brace_pieces.specs.Settings.{LawfulSetting}
+use Rattle.brace_watch.specs.Watches.{AreWatches}
 use Rattle.brace_top.specs.declared.answer.Stopped.{Stopped}
 use Rattle.brace_top.specs.declared.prepare.Work.{Work}
 use Rattle.brace_top.specs.declared.prepare.Work.TheVariants as work
@@ -12,7 +13,7 @@ use Rattle.brace_top.specs.declared.task.Task.{Task}
 use Rattle.brace_top.specs.Answer.{shelf_call, StopsShelf, CountsShelf}
 use Rattle.brace_top.specs.Commands.{Command, may_save}
 use Rattle.brace_top.specs.Outcome.{CommandOutcome, Judged}
-use Rattle.brace_top.specs.inner.Settled.{stopped_status, stopped_message, is_stop, outcome_of, IsStopped, IsServed}
+use Rattle.brace_top.specs.inner.Settled.{stopped_status, stopped_message, is_stop, outcome_of, saves_in, saves_files, IsStopped, IsServed}
 
 -- a script that was loaded
 abbrev pub judged : Script → Judged
@@ -35,7 +36,8 @@ pub record IsReady {S : Type 0} (of_shelf : shelf_trait.Ghosts S) (asked : Optio
   pub is_command : asked ≡ None → ⊥
   pub outcome : (files : Files) → of_shelf.held shelf ≡ Some files
       → CommandOutcome files asked (outcome_of task)
-  pub saves : may_save asked ≡ is_some (option_map (λ name. name.now) task.save)
+  pub watched : AreWatches task.setting.job.program task.watches.items
+  pub saves : may_save asked ≡ saves_files (saves_in task)
   pub unsaved : of_shelf.held shelf_after ≡ of_shelf.held shelf
   pub counts : of_shelf.faults shelf_after ≡ of_shelf.faults shelf
 
@@ -48,7 +50,8 @@ IsPrepared of_shelf of_sink asked shelf shelf_after out out_after (Ok (work.Told
     IsServed of_shelf of_sink asked shelf shelf_after out out_after (Ok answer)
 IsPrepared of_shelf of_sink asked shelf shelf_after out out_after (Ok (work.Plain task)) =
     IsReady of_shelf asked shelf shelf_after task
-    × (task.setting.job.first ≤ task.setting.job.last) × (out_after ≡ out) × (task.save ≡ None)
+    × (task.setting.job.first ≤ task.setting.job.last) × (out_after ≡ out)
+    × (saves_files (saves_in task) ≡ false)
 IsPrepared of_shelf of_sink asked shelf shelf_after out out_after (Ok (work.Saving task)) =
     IsReady of_shelf asked shelf shelf_after task
     × (task.setting.job.first ≤ task.setting.job.last) × (out_after ≡ out)

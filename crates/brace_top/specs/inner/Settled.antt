@@ -1,6 +1,6 @@
 -- What the parts of a command come to, before it is answered. Only the crate's own functions cite
 -- this.
-use Rattle.std.specs.Prelude.{◌≡◌, ℕ, List, [], Bool, true, false, ◌⊎◌, Option, Some, None, option_map, Result, Ok, Err, ⊤}
+use Rattle.std.specs.Prelude.{◌≡◌, ℕ, List, [], Bool, true, false, ◌⊎◌, ◌||◌, Option, Some, None, option_map, is_some, Result, Ok, Err, ⊤}
 use Rattle.brace_io.specs.Shelves.{Files}
 use Rattle.brace_top.specs.declared.answer.Answer.{Answer}
 use Rattle.brace_top.specs.declared.answer.Stopped.{Stopped}
@@ -11,20 +11,24 @@ use Rattle.brace_model.specs.Run.{end_of}
 use Rattle.brace_top.specs.declared.command.TrialCommand.{TrialCommand as CodeTrial}
 use Rattle.brace_top.specs.declared.task.Task.{Task}
 use Rattle.brace_top.specs.declared.status.Status.{Status}
-use Rattle.brace_top.specs.declared.status.Status.TheVariants.{Done, Usage, Script, Agents, Plan, Checkpoint, Fault, ReadFault, WriteFault, SaveFault, NoMemory, Absent, Differs}
+use Rattle.brace_top.specs.declared.status.Status.TheVariants.{Done, Usage, Script, Agents, Plan, Checkpoint, Fault, ReadFault, WriteFault, SaveFault, NoMemory, Absent, Differs, Watches}
 use Rattle.brace_top.specs.Answer.{ShelfCall, SinkCall, shelf_call, sink_call, Among, IsUnread, IsUnwritten, IsGivenUp, IsEnd, IsUnsaved, IsAnswer, StopsShelf, CountsShelf, CountsReads, CountsWrites}
 use Rattle.brace_top.specs.Status.{has_run, is_refusal, saves_nothing}
 use Rattle.brace_top.specs.Commands.{Command, may_save}
-use Rattle.brace_top.specs.Messages.{usage_message, record_message, line_message, point_message, stats_message, fault_message, write_fault_message, save_fault_message, no_memory_message}
+use Rattle.brace_top.specs.Messages.{usage_message, record_message, line_message, plan_word, watch_word, point_message, stats_message, fault_message, write_fault_message, save_fault_message, no_memory_message}
 use Rattle.brace_top.specs.Outcome.{Outcome, Refusal, script_message, ran, trial_end}
+use Rattle.brace_top.specs.Savings.{Saves}
 use Rattle.brace_top.specs.inner.Words.{said_trial}
 use Rattle.brace_cuts.specs.declared.kinds.PlanFault.{PlanFault}
 use Rattle.brace_cuts.specs.declared.kinds.PlanFault.TheVariants as plan_fault
+use Rattle.brace_watch.specs.declared.kinds.WatchFault.{WatchFault}
+use Rattle.brace_watch.specs.declared.kinds.WatchFault.TheVariants as watch_fault
 use Rattle.brace_part.specs.declared.counts.Counts.{Counts}
 use Rattle.brace_crew.specs.declared.keeper.Keeper as keeper_trait
 use Rattle.brace_crew.specs.Shows.{file_name}
 use Rattle.brace_crew.specs.declared.crew.CrewFault.{CrewFault}
 use Rattle.brace_crew.specs.declared.crew.CrewFault.TheVariants as crew
+use Rattle.brace_crew.specs.declared.publisher.PubFault.{PubFault}
 use Rattle.brace_crew.specs.declared.publisher.PubFault.TheVariants as refusal
 use Rattle.brace_save.specs.declared.kinds.PointFault.{PointFault}
 use Rattle.brace_save.specs.declared.kinds.PointFault.TheVariants as point_fault
@@ -84,8 +88,14 @@ IsRecordRefused name row_fault.NoMemory stop = stop ≡ stopped.NoMemory
 -- a cut plan is refused for the fault of a line
 abbrev pub IsPlanRefused : List ℕ → PlanFault → Stopped → Type 0
 IsPlanRefused name (plan_fault.Bad number kind) stop =
-    IsRefusedAs Plan (line_message name number kind) stop
+    IsRefusedAs Plan (line_message name number (plan_word kind)) stop
 IsPlanRefused name plan_fault.NoMemory stop = stop ≡ stopped.NoMemory
+
+-- a watch file is refused for the fault of a line
+abbrev pub IsWatchRefused : List ℕ → WatchFault → Stopped → Type 0
+IsWatchRefused name (watch_fault.Bad number kind) stop =
+    IsRefusedAs Watches (line_message name number (watch_word kind)) stop
+IsWatchRefused name watch_fault.NoMemory stop = stop ≡ stopped.NoMemory
 
 -- a checkpoint is refused for its fault
 abbrev pub IsPointRefused : List ℕ → PointFault → Stopped → Type 0
@@ -112,10 +122,21 @@ keeper_call of before after = record {
   faults_after = of.faults after;
 }
 
+-- what a task saves
+abbrev pub saves_in : Task → Saves
+saves_in task = record {
+  save = option_map (λ name. name.now) task.save;
+  watch = option_map (λ name. name.now) task.watch;
+  watches = task.watches.items;
+}
+
+-- a name is given under which files are saved
+abbrev pub saves_files : Saves → Bool
+saves_files saves = is_some saves.save || is_some saves.watch
+
 -- the outcome of a task: of a run, or of the trial that it is
 abbrev pub outcome_by : Option CodeTrial → Task → Outcome
-outcome_by None task =
-    ran task.stats (option_map (λ name. name.now) task.save) task.fresh task.setting
+outcome_by None task = ran task.stats (saves_in task) task.fresh task.setting
 outcome_by (Some trial) task =
     trial_end (said_trial trial) task.setting (end_of task.setting.job)
 
@@ -127,17 +148,25 @@ abbrev pub IsErrOf : (Stopped → Type 0) → Result Answer Stopped → Type 0
 IsErrOf so (Ok answer) = ⊥
 IsErrOf so (Err stop) = so stop
 
+-- the file of a tick was not saved, under a name that was given
+abbrev pub IsUnsavedAs : Option (List ℕ) → ℕ → Stopped → Type 0
+IsUnsavedAs (Some name) k stop =
+    IsRefusedAs SaveFault (save_fault_message (file_name name k)) stop
+IsUnsavedAs None k stop = stop ≡ stopped.NoMemory
+
+-- a publisher refused, which is told so
+abbrev pub IsRefusedBy : Saves → PubFault → Stopped → Type 0
+IsRefusedBy saves refusal.Write stop = stop ≡ stopped.WriteFault
+IsRefusedBy saves (refusal.Save k) stop = IsUnsavedAs saves.save k stop
+IsRefusedBy saves (refusal.Watch k) stop = IsUnsavedAs saves.watch k stop
+IsRefusedBy saves refusal.NoMemory stop = stop ≡ stopped.NoMemory
+
 -- a run is answered by what its crew came to
-abbrev pub IsSettled : Bool → Option (List ℕ) → Result Counts CrewFault → Result Answer Stopped
-    → Type 0
-IsSettled stats save (Ok counts) r = IsToldAs Done (told_counts stats counts) r
-IsSettled stats save (Err (crew.Fault f)) r = IsToldAs Fault (fault_message f) r
-IsSettled stats save (Err (crew.Publish refusal.Write)) r = r ≡ Err stopped.WriteFault
-IsSettled stats (Some name) (Err (crew.Publish (refusal.Save k))) r =
-    IsErrOf (IsRefusedAs SaveFault (save_fault_message (file_name name k))) r
-IsSettled stats None (Err (crew.Publish (refusal.Save k))) r = r ≡ Err stopped.NoMemory
-IsSettled stats save (Err (crew.Publish refusal.NoMemory)) r = r ≡ Err stopped.NoMemory
-IsSettled stats save (Err crew.NoMemory) r = r ≡ Err stopped.NoMemory
+abbrev pub IsSettled : Bool → Saves → Result Counts CrewFault → Result Answer Stopped → Type 0
+IsSettled stats saves (Ok counts) r = IsToldAs Done (told_counts stats counts) r
+IsSettled stats saves (Err (crew.Fault f)) r = IsToldAs Fault (fault_message f) r
+IsSettled stats saves (Err (crew.Publish x)) r = IsErrOf (IsRefusedBy saves x) r
+IsSettled stats saves (Err crew.NoMemory) r = r ≡ Err stopped.NoMemory
 
 -- the status refuses a file, or tells that it differs, with no fault of the outside
 abbrev pub refuses_file : Status → Bool
@@ -147,6 +176,7 @@ refuses_file Plan = true
 refuses_file Checkpoint = true
 refuses_file Absent = true
 refuses_file Differs = true
+refuses_file Watches = true
 refuses_file status = false
 
 -- a command is stopped so before it is carried out
@@ -159,6 +189,7 @@ is_stop ReadFault = true
 is_stop NoMemory = true
 is_stop Absent = true
 is_stop Differs = true
+is_stop Watches = true
 is_stop status = false
 
 -- a file is refused with this message, with no fault of the outside
@@ -234,9 +265,9 @@ pub record IsRunOf {O : Type 0} (of_sink : sink_trait.Ghosts O) (task : Task) (s
   pub carried_out : (files : Files) → shelf.held ≡ Some files
       → IsCarriedOut files (λ o. o ≡ outcome_of task) shelf (sink_call of_sink out out_after)
       (message_in r) (status_in r)
-  pub written : task.save ≡ None → IsWritten (λ o. o ≡ outcome_of task)
+  pub written : saves_files (saves_in task) ≡ false → IsWritten (λ o. o ≡ outcome_of task)
       (sink_call of_sink out out_after) (message_in r) (status_in r)
-  pub plain : task.save ≡ None → is_plain_work (status_in r) ≡ true
+  pub plain : saves_files (saves_in task) ≡ false → is_plain_work (status_in r) ≡ true
   pub work : is_work (status_in r) ≡ true
   pub counts : CountsShelf shelf (status_in r)
   pub stops : StopsShelf shelf (status_in r)

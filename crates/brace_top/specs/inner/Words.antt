@@ -51,6 +51,7 @@ said_run run = record {
   start = said_start run.start;
   cuts = option_map (λ name. name.now) run.cuts;
   save = option_map (λ name. name.now) run.save;
+  watch = option_map (λ name. name.now) run.watch;
   ticks = run.ticks;
   every = run.every;
   manner = said_manner run.manner;

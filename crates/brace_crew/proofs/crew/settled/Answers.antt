@@ -20,7 +20,7 @@ returns-in-Ok g c =
     let run : IsRun s = record { lawful = c.requires.lawful; numbers = c.numbers_fit.ensures } in
     let none : d.stop ≡ None = sym c.stop.ensures.same ∙ c.in-None.is in
     record {
-      came = subst (λ v. CameTo g.P.Publisher s d.opening v (Ok c.in-Ok.counts)) (sym c.into_publisher.ensures) (record {
+      came = subst (λ v. CameTo g.P.Publisher s d.opening v (Ok c.in-Ok.counts)) (sym c.into_publisher.ensures.same) (record {
         came = has_run g.P.Publisher s d c.requires.desk run (c.stop.ensures.all none (turned g.P.Publisher s d c.requires.desk)) c.in-Ok.counts (c.in-Ok.ensures s c.requires.parts);
         rises = c.stop.ensures.rises;
       });
@@ -33,7 +33,7 @@ returns-in-Err g c =
     let run : IsRun s = record { lawful = c.requires.lawful; numbers = c.numbers_fit.ensures } in
     let none : d.stop ≡ None = sym c.stop.ensures.same ∙ c.in-None.is in
     record {
-      came = subst (λ v. CameTo g.P.Publisher s d.opening v (Err fault.NoMemory)) (sym c.into_publisher-in-Err.ensures) (record {
+      came = subst (λ v. CameTo g.P.Publisher s d.opening v (Err fault.NoMemory)) (sym c.into_publisher-in-Err.ensures.same) (record {
         came = shown_front g.P.Publisher s d c.requires.desk run (c.stop.ensures.all none (turned g.P.Publisher s d c.requires.desk));
         rises = c.stop.ensures.rises;
       });
@@ -47,7 +47,7 @@ returns-in-Some-Halt-NoMemory g c =
     let x = c.in-Some-Halt-NoMemory.field-0-0 in
     let is : d.stop ≡ Some (stop.Halt x) = sym c.stop.ensures.same ∙ c.in-Some-Halt-NoMemory.is ∙ ap Some c.in-Some-Halt-NoMemory.field-0-is in
     record {
-      came = subst (λ v. CameTo g.P.Publisher s d.opening v (Err fault.NoMemory)) (sym c.into_publisher-in-Some-Halt-NoMemory.ensures) (record {
+      came = subst (λ v. CameTo g.P.Publisher s d.opening v (Err fault.NoMemory)) (sym c.into_publisher-in-Some-Halt-NoMemory.ensures.same) (record {
         came = halted_front g.P.Publisher s d c.requires.desk run x (c.stop.ensures.halted x is (turned g.P.Publisher s d c.requires.desk));
         rises = c.stop.ensures.rises;
       });
@@ -61,7 +61,7 @@ returns-in-Some-Refusal g c =
     let x = c.in-Some-Refusal.refusal in
     let is : d.stop ≡ Some (stop.Refusal x) = search rules in
     record {
-      came = subst (λ v. CameTo g.P.Publisher s d.opening v (Err (fault.Publish x))) (sym c.into_publisher-in-Some-Refusal.ensures) (record {
+      came = subst (λ v. CameTo g.P.Publisher s d.opening v (Err (fault.Publish x))) (sym c.into_publisher-in-Some-Refusal.ensures.same) (record {
         came = refused_cut g.P.Publisher s d c.requires.desk run x (c.stop.ensures.refused x is);
         rises = c.stop.ensures.rises;
       });

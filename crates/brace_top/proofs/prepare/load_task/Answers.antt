@@ -4,10 +4,11 @@ use Rattle.std.proofs.lemmas.Result.{err_from_is_err_and}
 use Rattle.brace_pieces.specs.declared.setting.Setting.{Setting}
 use Rattle.brace_pieces.specs.Settings.{LawfulSetting}
 use Rattle.brace_save.specs.Lines.{moment_of}
+use Rattle.brace_watch.specs.Watches.{AreWatches}
 use Rattle.brace_top.specs.Commands.{Run, is_anew, start_file}
-use Rattle.brace_top.specs.Outcome.{ProgramOf, BeginsAt, plan_of, ran, reads_script, reads_start}
+use Rattle.brace_top.specs.Outcome.{ProgramOf, BeginsAt, plan_of, watches_of, saves_of, ran, reads_script, reads_start}
 use Rattle.brace_top.specs.inner.Words.{said_run}
-use Rattle.brace_top.proofs.AnswerLemmas.{stop_before, stopped_before, unloaded_later, start_refused, plan_refused, plan_read, none_of, run_ended, run_is_lawful}
+use Rattle.brace_top.proofs.AnswerLemmas.{stop_before, stopped_before, unloaded_later, start_refused, plan_refused, plan_read, watch_refused, watch_read, none_of, run_ended, run_is_lawful}
 use Rattle.brace_top.proofs.prepare.load_task.Goals as goal
 
 pub returns-in_err-program-clause-ready : goal.returns-in_err-program-clause-ready
@@ -48,6 +49,29 @@ returns-in_err-cuts-clause-ready g c =
     (c.in_err-cuts.ensures.held ∙ held)
     (unloaded_later g.S.Shelf _ (unwrap_or run.cuts []) _ _ _ _ held faults c.in_err-cuts.ensures.loads))
 
+pub returns-in_err-watches-clause-ready : goal.returns-in_err-watches-clause-ready
+returns-in_err-watches-clause-ready g c =
+    let run = said_run c.args.run.now in
+    let program = c.in_ok-program.program in
+    let moment = moment_of c.in_ok-point.point in
+    let plan = c.in_ok-cuts.cuts in
+    let before = c.in_ok-point.ensures.held ∙ c.in_ok-program.ensures.held in
+    let held = c.in_ok-cuts.ensures.held ∙ before in
+    let faults = c.in_ok-cuts.ensures.loads.counts ∙ c.in_ok-point.ensures.loads.counts ∙ c.in_ok-program.ensures.loads.counts in
+    let p = err_from_is_err_and c.from_residual-in_err-watches.result c.from_residual-in_err-watches.ensures.1 in
+    rw (p.1, p.2) (stop_before g.S.Shelf (Run run) _ _ (λ files found. watches_of files program run.watch ≡ found) (unwrap_or run.watch []) _
+    (λ files told failed. watch_read files run program moment plan (c.in_ok-program.ensures.loads.found files told)
+    (c.in_ok-point.ensures.loads.found files (c.in_ok-program.ensures.held ∙ told)) (c.in_ok-cuts.ensures.loads.found files (before ∙ told))
+    (λ none. c.in_err-watches.ensures.unread (none_of _ _ none) failed))
+    (λ files r told is. record {
+      found = Ok program;
+      is = c.in_ok-program.ensures.loads.found files told;
+      follows = watch_refused files run program moment plan r (c.in_ok-point.ensures.loads.found files (c.in_ok-program.ensures.held ∙ told))
+          (c.in_ok-cuts.ensures.loads.found files (before ∙ told)) is;
+    })
+    (c.in_err-watches.ensures.held ∙ held)
+    (unloaded_later g.S.Shelf _ (unwrap_or run.watch []) _ _ _ _ held faults c.in_err-watches.ensures.loads))
+
 pub returns-clause-ready : goal.returns-clause-ready
 returns-clause-ready g c =
     let run = said_run c.args.run.now in
@@ -62,13 +86,17 @@ returns-clause-ready g c =
       outcome = λ files told. record {
         found = Ok program;
         is = c.in_ok-program.ensures.loads.found files told;
-        follows = run_ended files run program moment c.in_ok-cuts.cuts _ (c.in_ok-point.ensures.loads.found files (c.in_ok-program.ensures.held ∙ told))
+        follows = run_ended files run program moment c.in_ok-cuts.cuts c.in_ok-watches.watches.items _ (c.in_ok-point.ensures.loads.found files (c.in_ok-program.ensures.held ∙ told))
             (c.in_ok-cuts.ensures.loads.found files (c.in_ok-point.ensures.held ∙ c.in_ok-program.ensures.held ∙ told))
-            (c.task_of.ensures.outcome ∙ ap (ran run.manner.stats run.save (is_anew run.start)) c.task_of.ensures.setting);
+            (c.in_ok-watches.ensures.loads.found files (c.in_ok-cuts.ensures.held ∙ c.in_ok-point.ensures.held ∙ c.in_ok-program.ensures.held ∙ told))
+            (c.task_of.ensures.outcome ∙ ap (ran run.manner.stats (saves_of run c.in_ok-watches.watches.items) (is_anew run.start)) c.task_of.ensures.setting);
       };
+      watched =
+          subst (λ (s : Setting). AreWatches s.job.program c.task_of.result.watches.items) (sym c.task_of.ensures.setting)
+          (subst (AreWatches program) (sym c.task_of.ensures.watches) c.in_ok-watches.ensures.asked);
       saves = c.task_of.ensures.saves;
-      unsaved = c.in_ok-cuts.ensures.held ∙ c.in_ok-point.ensures.held ∙ c.in_ok-program.ensures.held;
-      counts = c.in_ok-cuts.ensures.loads.counts ∙ c.in_ok-point.ensures.loads.counts ∙ c.in_ok-program.ensures.loads.counts;
+      unsaved = c.in_ok-watches.ensures.held ∙ c.in_ok-cuts.ensures.held ∙ c.in_ok-point.ensures.held ∙ c.in_ok-program.ensures.held;
+      counts = c.in_ok-watches.ensures.loads.counts ∙ c.in_ok-cuts.ensures.loads.counts ∙ c.in_ok-point.ensures.loads.counts ∙ c.in_ok-program.ensures.loads.counts;
     }
 
 pub returns-clause-begins : goal.returns-clause-begins

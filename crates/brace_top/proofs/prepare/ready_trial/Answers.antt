@@ -7,6 +7,7 @@ use Rattle.brace_top.specs.Answer.{shelf_call}
 use Rattle.brace_top.specs.Outcome.{trial_end}
 use Rattle.brace_top.specs.inner.Words.{said_trial}
 use Rattle.brace_top.proofs.AnswerLemmas.{trial_stopped_before, memory_unloads}
+use Rattle.brace_top.proofs.WatchLemmas.{none_watched}
 use Rattle.brace_top.proofs.prepare.ready_trial.Goals as goal
 
 pub returns-in_err-program-clause-ready : goal.returns-in_err-program-clause-ready
@@ -32,6 +33,7 @@ returns-clause-ready g c =
         is = (c.in_ok-program.ensures.loads (record (shelf_call g.S.Shelf c.args.shelf.now c.args.shelf.now) { held = Some files }) refl).found files refl;
         follows = ap (λ (s : Setting). trial_end trial s (end_of s.job)) setting;
       };
+      watched = none_watched _ _ c.new.ensures.items;
       saves = refl;
       unsaved = refl;
       counts = refl;

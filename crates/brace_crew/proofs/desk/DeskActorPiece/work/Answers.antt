@@ -5,6 +5,7 @@ use Rattle.brace_pieces.specs.Courses.{step_of}
 use Rattle.brace_pieces.specs.Steps.{is_show}
 use Rattle.brace_crew.specs.declared.desk.Desk.TheInside.{Inside}
 use Rattle.brace_crew.specs.inner.Sound.{IsDesk}
+use Rattle.brace_crew.proofs.DeskKept.{desk_fits}
 use Rattle.brace_crew.proofs.DeskTurns.{some_left}
 use Rattle.brace_crew.proofs.DeskWorks.{next_work, work_left, work_closed, work_other, work_brought, work_stopped, work_shown, work_refused}
 use Rattle.brace_crew.proofs.desk.DeskActorPiece.work.Goals as goal
@@ -24,6 +25,10 @@ publish-shown-requires-clause-brought g c =
     let went = not_some c.self.inside.stop (c.is_none.ensures ∙ ap not c.if-is_none.true) in
     work_brought g.P.Publisher _ (vec_capacity c.self.inside.lots) c.self.invariant _ c.self.view_is c.requires c.go_on.new.self c.go_on.ensures.place c.if-self.false
     c.in-Some.at stands shows c.setting.result.now (c.setting.ensures.setting ∙ c.go_on.ensures.same_setting) went
+
+pub publish-shown-requires-clause-fits : goal.publish-shown-requires-clause-fits
+publish-shown-requires-clause-fits g c =
+    desk_fits g.P.Publisher _ (vec_capacity c.self.inside.lots) c.self.invariant c.setting.result.now (c.setting.ensures.setting ∙ c.go_on.ensures.same_setting)
 
 pub invariant_of-self-then-eq : goal.invariant_of-self-then-eq
 invariant_of-self-then-eq g c =
