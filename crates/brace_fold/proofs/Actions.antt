@@ -21,8 +21,8 @@ use Rattle.brace_plan.specs.declared.action.Action.TheVariants.{Const, If, Forea
 use Rattle.brace_plan.specs.declared.action.Bound.{Bound}
 use Rattle.brace_plan.specs.Acts.{act, near_by}
 use Rattle.brace_plan.proofs.Steps.{act-Const, act-If, act-Foreach, act-Assign}
-use Rattle.brace_eval.specs.declared.heard.Heard.{Heard}
 use Rattle.brace_fold.specs.declared.scene.Scene.{Scene}
+use Rattle.brace_fold.specs.declared.table.Table.{Table}
 use Rattle.brace_fold.specs.inner.Crowds as crowds
 use Rattle.brace_fold.specs.inner.Crowds.{bound_to, rows}
 use Rattle.brace_fold.specs.inner.Deeds.{IsQuiet, Does, Worths, done_by, into}
@@ -78,11 +78,11 @@ module _ (scene : Scene) where
         ap₂ (λ a b. a ++ b) (ap (λ (d : Deed). d.said) (const-is s w (worth-first code s scopes w words h)))
         (const-said scopes words (worth-rest code s scopes w words h))
 
-    pub const-does : (scopes : List Scope) (words : List ℤ) (heard : Heard) → Worths code scopes words → Does scene (in_scene (Const n code)) scopes heard heard
+    pub const-does : (scopes : List Scope) (words : List ℤ) (heard : Table) → Worths code scopes words → Does scene (in_scene (Const n code)) scopes heard heard
     const-does scopes words heard h = record {
       quiet = const-quiet scopes words h;
-      hears = subst (λ l. Hears scene.program.now scene.agents.now l heard heard) (sym (const-said scopes words h))
-          (hears-none scene.program.now scene.agents.now heard);
+      hears = subst (λ l. Hears scene.program.now (rows scene) l heard heard) (sym (const-said scopes words h))
+          (hears-none scene.program.now (rows scene) heard);
     }
 
   -- ---- values said
@@ -116,11 +116,11 @@ module _ (scene : Scene) where
         ap₂ (λ x l. x ∷ l) (ap (λ (d : Deed). d.scope) (assign-is s w (worth-first code s scopes w words h)))
         (assign-scopes scopes words (worth-rest code s scopes w words h))
 
-    pub assign-does : (scopes : List Scope) (words : List ℤ) (a b : Heard) → Worths code scopes words
-        → Hears scene.program.now scene.agents.now (told_by who effect (type_given code) scopes words) a b → Does scene (in_scene (Assign who effect code)) scopes a b
+    pub assign-does : (scopes : List Scope) (words : List ℤ) (a b : Table) → Worths code scopes words
+        → Hears scene.program.now (rows scene) (told_by who effect (type_given code) scopes words) a b → Does scene (in_scene (Assign who effect code)) scopes a b
     assign-does scopes words a b h said = record {
       quiet = assign-quiet scopes words h;
-      hears = subst (λ l. Hears scene.program.now scene.agents.now l a b) (sym (assign-said scopes words h)) said;
+      hears = subst (λ l. Hears scene.program.now (rows scene) l a b) (sym (assign-said scopes words h)) said;
     }
 
   -- ---- conditions
@@ -217,13 +217,13 @@ module _ (scene : Scene) where
     if-scopes (s ∷ scopes) (w ∷ words) h =
         ap₂ (λ t l. t ∷ l) (scope-set s scopes w words h (int_eq w (pos 0)) refl) (if-scopes scopes words (worth-rest code s scopes w words h))
 
-    pub if-does : (scopes : List Scope) (words : List ℤ) (a b c : Heard) → Worths code scopes words
+    pub if-does : (scopes : List Scope) (words : List ℤ) (a b c : Table) → Worths code scopes words
         → Does scene first (crowds.chosen true scopes words) a b → Does scene second (crowds.chosen false scopes words) b c
         → Does scene (in_scene (If code x y)) scopes a c
     if-does scopes words a b c h p q = record {
       quiet = if-quiet scopes words h p.quiet q.quiet;
-      hears = hears-alike scene.program.now scene.agents.now _ _ a c (if-said scopes words h)
-          (hears-more scene.program.now scene.agents.now _ _ a b c p.hears q.hears);
+      hears = hears-alike scene.program.now (rows scene) _ _ a c (if-said scopes words h)
+          (hears-more scene.program.now (rows scene) _ _ a b c p.hears q.hears);
     }
 
   -- ---- loops
@@ -274,13 +274,13 @@ module _ (scene : Scene) where
           (subst (Alike (flat_map (λ b. (at_agent s b).said) near)) second
           (near-alike scene.program.now (rows scene) scene.agents.now moved s class bounds (λ b. (at_agent s b).said)))
 
-      pub loop-does : (scopes : List Scope) (a b : Heard) → Does scene (done_by scene body) (flat_map enters scopes) a b
+      pub loop-does : (scopes : List Scope) (a b : Table) → Does scene (done_by scene body) (flat_map enters scopes) a b
           → Does scene (in_scene (Foreach class bounds body offset)) scopes a b
       loop-does scopes a b h =
           let each = does-loop scene (done_by scene body) enters scopes a b h in
           record {
             quiet = λ k d low. loop-quiet (get_or scopes k d) (each.quiet k d low);
-            hears = hears-alike scene.program.now scene.agents.now _ _ a b
+            hears = hears-alike scene.program.now (rows scene) _ _ a b
                 (alike-each (λ s. (looped s).said) (λ s. (in_scene (Foreach class bounds body offset) s).said) loop-alike scopes) each.hears;
           }
 

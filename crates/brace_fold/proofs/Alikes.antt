@@ -1,6 +1,7 @@
 -- Sayings that come to the same totals, whatever their order.
-use Rattle.std.proofs.Common.{◌≡◌, ◌∙◌, refl, sym, ap, ap₂, subst, ℕ, suc, ℤ, List, [], ◌∷◌, ◌++◌, fold, flat_map, append-nil, append_assoc}
+use Rattle.std.proofs.Common.{◌≡◌, ◌∙◌, refl, sym, ap, ap₂, subst, ℕ, suc, ℤ, pos, List, [], ◌∷◌, ◌++◌, fold, flat_map, length, append-nil, append_assoc, arith}
 use Rattle.std.specs.List.Sorted.{IsPermutation}
+use Rattle.std.proofs.lemmas.Int.{ints}
 use Rattle.std.proofs.lemmas.List.Sums.{fold-append}
 use Rattle.brace_model.specs.declared.program.Comb.{Comb}
 use Rattle.brace_model.specs.declared.program.Effect.{Effect}
@@ -13,12 +14,13 @@ use Rattle.brace_model.specs.Query.{Saying}
 use Rattle.brace_model.specs.Total.{identity, joined, said_to, totals_from}
 use Rattle.brace_model.specs.declared.program.Comb.TheVariants.{Sum, Min, Max, Count, Or}
 use Rattle.brace_comb.specs.Totals.{Tally, brought, merged}
-use Rattle.brace_comb.proofs.Joins.{join-turn}
+use Rattle.brace_comb.proofs.Joins.{fold-counted, join-turn}
 use Rattle.brace_comb.proofs.Permutations.{fold-IsPermutation}
 use Rattle.brace_comb.proofs.Said.{said_to-append}
 use Rattle.brace_eval.specs.declared.heard.Heard.{Heard}
 use Rattle.brace_eval.specs.Heard.{IsHeard, table_of, effects_in, counting}
-use Rattle.brace_fold.specs.inner.Hears.{Alike, Hears}
+use Rattle.brace_fold.specs.declared.table.Table.{Table}
+use Rattle.brace_fold.specs.inner.Hears.{Alike, AreSummed, Hears}
 
 pub alike-refl : (xs : List Saying) → Alike xs xs
 alike-refl xs = record { each = λ comb start id field. refl }
@@ -148,20 +150,43 @@ heard-alike program agents xs ys faults heard h k = record {
   starts = k.starts;
 }
 
-module _ (program : Program) (agents : List Agent) where
-  pub hears-none : (heard : Heard) → Hears program agents [] heard heard
-  hears-none heard = record {
-    each = λ said faults k. subst (λ l. IsHeard program agents l faults heard) (sym (append-nil said)) k;
+-- ---- sums of sayings that are alike
+
+same-many : (id field : ℕ) (xs ys : List Saying) → Alike xs ys → length (said_to id field xs) ≡ length (said_to id field ys)
+same-many id field xs ys h = omega (
+  arith,
+  ints,
+  h.each Count (pos 0) id field,
+  fold-counted (pos 0) (said_to id field xs),
+  fold-counted (pos 0) (said_to id field ys),
+)
+
+summed-alike : (program : Program) (rows : List Agent) (xs ys : List Saying) (table : Table) → Alike xs ys
+    → AreSummed program rows xs table → AreSummed program rows ys table
+summed-alike program rows xs ys table h k = record {
+  long = k.long;
+  sums = λ row effect a e got has.
+      let sum = k.sums row effect a e got has in
+      record {
+        many = sum.many ∙ same-many a.id effect xs ys h;
+        number = λ some. sum.number some ∙ h.each e.comb (identity e.comb) a.id effect;
+      };
+}
+
+module _ (program : Program) (rows : List Agent) where
+  pub hears-none : (table : Table) → Hears program rows [] table table
+  hears-none table = record {
+    each = λ said k. subst (λ l. AreSummed program rows l table) (sym (append-nil said)) k;
   }
 
-  pub hears-more : (xs ys : List Saying) (a b c : Heard) → Hears program agents xs a b → Hears program agents ys b c → Hears program agents (xs ++ ys) a c
+  pub hears-more : (xs ys : List Saying) (a b c : Table) → Hears program rows xs a b → Hears program rows ys b c → Hears program rows (xs ++ ys) a c
   hears-more xs ys a b c h k = record {
-    each = λ said faults is. subst (λ l. IsHeard program agents l faults c) (append_assoc said xs ys)
-        (k.each (said ++ xs) faults (h.each said faults is));
+    each = λ said is. subst (λ l. AreSummed program rows l c) (append_assoc said xs ys)
+        (k.each (said ++ xs) (h.each said is));
   }
 
-  pub hears-alike : (xs ys : List Saying) (a b : Heard) → Alike xs ys → Hears program agents xs a b → Hears program agents ys a b
+  pub hears-alike : (xs ys : List Saying) (a b : Table) → Alike xs ys → Hears program rows xs a b → Hears program rows ys a b
   hears-alike xs ys a b same h = record {
-    each = λ said faults is. heard-alike program agents (said ++ xs) (said ++ ys) faults b
-        (alike-append said said xs ys (alike-refl said) same) (h.each said faults is);
+    each = λ said is. summed-alike program rows (said ++ xs) (said ++ ys) b
+        (alike-append said said xs ys (alike-refl said) same) (h.each said is);
   }

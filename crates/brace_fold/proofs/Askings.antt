@@ -21,34 +21,35 @@ use Rattle.brace_eval.specs.Heard.{IsHeard, said_by, faults_by}
 use Rattle.brace_fold.specs.declared.askers.Asker.{Asker}
 use Rattle.brace_fold.specs.declared.cells.Cells.{Cells}
 use Rattle.brace_fold.specs.declared.scene.Scene.{Scene}
+use Rattle.brace_fold.specs.declared.table.Table.{Table}
 use Rattle.brace_fold.specs.Asked.{agents_at}
 use Rattle.brace_fold.specs.inner.Asks.{Asks, asked, openings, rows_of}
 use Rattle.brace_fold.specs.inner.Crowds.{IsOfClass, rows}
 use Rattle.brace_fold.specs.inner.Deeds.{Does, IsQuiet, done_by}
 use Rattle.brace_fold.specs.inner.Hears.{Hears}
 use Rattle.brace_fold.specs.inner.Sights.{by_row, no_agent}
-use Rattle.brace_fold.proofs.Alikes.{alike-permuted, hears-alike, hears-more, hears-none}
+use Rattle.brace_fold.proofs.Alikes.{alike-append, alike-permuted, alike-refl, heard-alike, hears-more, hears-none}
 use Rattle.brace_fold.proofs.Crowdings.{got-mapped}
 use Rattle.brace_fold.proofs.Doings.{All-back, All-both, mapped-said, no-faults, same-said}
 
 -- nobody asks
-pub asks-none : (scene : Scene) (d : Agent) (heard : Heard) → Asks scene d [] heard heard
+pub asks-none : (scene : Scene) (d : Agent) (heard : Table) → Asks scene d [] heard heard
 asks-none scene d heard = record {
   quiet = All-nil (λ row. (asked scene d row).faults ≡ []);
-  hears = hears-none scene.program.now scene.agents.now heard;
+  hears = hears-none scene.program.now (rows scene) heard;
 }
 
-pub asks-nobody : (scene : Scene) (d : Agent) (asking : List Asker) (heard : Heard) → slice_get asking 0 ≡ None
+pub asks-nobody : (scene : Scene) (d : Agent) (asking : List Asker) (heard : Table) → slice_get asking 0 ≡ None
     → Asks scene d (rows_of asking) heard heard
 asks-nobody scene d [] heard e = asks-none scene d heard
 asks-nobody scene d (x ∷ asking) heard e = absurd (none-some x (sym e))
 
 -- some ask, and then others
-pub asks-more : (scene : Scene) (d : Agent) (xs ys : List ℕ) (a b c : Heard) → Asks scene d xs a b → Asks scene d ys b c → Asks scene d (xs ++ ys) a c
+pub asks-more : (scene : Scene) (d : Agent) (xs ys : List ℕ) (a b c : Table) → Asks scene d xs a b → Asks scene d ys b c → Asks scene d (xs ++ ys) a c
 asks-more scene d xs ys a b c h k = record {
   quiet = All-append (λ row. (asked scene d row).faults ≡ []) xs ys h.quiet k.quiet;
-  hears = subst (λ l. Hears scene.program.now scene.agents.now l a c) (sym (flat_map-append (λ row. (asked scene d row).said) xs ys))
-      (hears-more scene.program.now scene.agents.now _ _ a b c h.hears k.hears);
+  hears = subst (λ l. Hears scene.program.now (rows scene) l a c) (sym (flat_map-append (λ row. (asked scene d row).said) xs ys))
+      (hears-more scene.program.now (rows scene) _ _ a b c h.hears k.hears);
 }
 
 module _ (scene : Scene) (class constants : ℕ) (actions : List Action) (d : Agent) (plan : IsPlanned scene.program.now class actions constants)
@@ -70,14 +71,14 @@ module _ (scene : Scene) (class constants : ℕ) (actions : List Action) (d : Ag
       (All-permutation (λ b. is_lawful_agent scene.program.now b ≡ true) scene.agents.now (rows scene) moved each row d low)
       (ap (λ (x : Agent). x.class) here ∙ of)
 
-  pub asks-of : (places : List ℕ) (a b : Heard) → All (IsOfClass (rows scene) class) places
+  pub asks-of : (places : List ℕ) (a b : Table) → All (IsOfClass (rows scene) class) places
       → Does scene (done_by scene actions) (openings scene constants d places) a b → Asks scene d places a b
   asks-of places a b all h =
       let same : All (λ place. does (opens place) ≡ asked scene d place) places = λ k e low. plan-asks (get_or places k e) (all k e low) in
       record {
         quiet = All-both (λ place. does (opens place) ≡ asked scene d place) (λ place. IsQuiet (does (opens place))) (λ row. (asked scene d row).faults ≡ [])
             (λ place e q. sym (ap (λ (x : Deed). x.faults) e) ∙ q.faults) places same (All-back opens (λ s. IsQuiet (does s)) places h.quiet);
-        hears = subst (λ l. Hears scene.program.now scene.agents.now l a b)
+        hears = subst (λ l. Hears scene.program.now (rows scene) l a b)
             (mapped-said opens (λ s. (does s).said) places
             ∙ same-said (λ place. (does (opens place)).said) (λ row. (asked scene d row).said) places (λ k e low. ap (λ (x : Deed). x.said) (same k e low)))
             h.hears;
@@ -103,15 +104,16 @@ module _ (program : Program) (seed tick : ℕ) (agents : List Agent) where
       no-faults (λ a. (query a).faults) asking
       (All-permutation (λ a. (query a).faults ≡ []) sorted asking (IsPermutation-sym asking sorted perm) all)
 
-  pub heard-by : (asking sorted : List Agent) (a b : Heard) → IsPermutation asking sorted → All (λ x. (query x).faults ≡ []) sorted
-      → Hears program agents (flat_map (λ x. (query x).said) sorted) a b → (said : List Saying) (faults : List Fault) → IsHeard program agents said faults a
-      → IsHeard program agents (said ++ said_by program seed tick agents asking) (faults ++ faults_by program seed tick agents asking) b
-  heard-by asking sorted a b perm all h said faults is =
+  pub heard-by : (asking sorted : List Agent) (after : Heard) → IsPermutation asking sorted → All (λ x. (query x).faults ≡ []) sorted
+      → (said : List Saying) (faults : List Fault) → IsHeard program agents (said ++ flat_map (λ x. (query x).said) sorted) faults after
+      → IsHeard program agents (said ++ said_by program seed tick agents asking) (faults ++ faults_by program seed tick agents asking) after
+  heard-by asking sorted after perm all said faults is =
       let says : Agent → List Saying = λ x. (query x).said in
-      let more = hears-alike program agents (flat_map says sorted) (flat_map says asking) a b
-      (alike-permuted says sorted asking (IsPermutation-sym asking sorted perm)) h in
+      let same = alike-permuted says sorted asking (IsPermutation-sym asking sorted perm) in
+      let more = heard-alike program agents (said ++ flat_map says sorted) (said ++ flat_map says asking) faults after
+      (alike-append said said (flat_map says sorted) (flat_map says asking) (alike-refl said) same) is in
       let none = ap (λ l. faults ++ l) (quiet-by asking sorted perm all) ∙ append-nil faults in
-      subst (λ l. IsHeard program agents (said ++ flat_map says asking) l b) (sym none) (more.each said faults is)
+      subst (λ l. IsHeard program agents (said ++ flat_map says asking) l after) (sym none) more
 
 -- the agents of rows that have the places of those who ask
 pub asking-at : (agents : List Agent) (d : Agent) (order asking rows : List ℕ) → All (λ place. place < length agents) order

@@ -23,7 +23,7 @@ use Rattle.brace_fold.specs.inner.Sights.{AreCells, IsAround, IsRun, cell_number
 use Rattle.brace_fold.proofs.CellNumbers.{is_along, along_within, along_below, along_above, beside_once, runs_of}
 
 -- a list that has a place has an item
-some_item : {X : Type 0} (xs : List X) (i : ℕ) → i < length xs → X
+pub some_item : {X : Type 0} (xs : List X) (i : ℕ) → i < length xs → X
 some_item [] i low = absurd (omega (arith, low))
 some_item (x ∷ xs) i low = x
 

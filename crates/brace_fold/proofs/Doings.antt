@@ -9,8 +9,9 @@ use Rattle.brace_model.specs.Query.{Deed, followed_by, iterated}
 use Rattle.brace_model.proofs.Deeds.{goes_to}
 use Rattle.brace_plan.specs.declared.action.Action.{Action}
 use Rattle.brace_plan.specs.Acts.{act}
-use Rattle.brace_eval.specs.declared.heard.Heard.{Heard}
 use Rattle.brace_fold.specs.declared.scene.Scene.{Scene}
+use Rattle.brace_fold.specs.declared.table.Table.{Table}
+use Rattle.brace_fold.specs.inner.Crowds.{rows}
 use Rattle.brace_fold.specs.inner.Hears.{Hears}
 use Rattle.brace_fold.specs.inner.Deeds.{IsQuiet, Does, done_by}
 use Rattle.brace_fold.proofs.Alikes.{alike-woven, hears-none, hears-more, hears-alike}
@@ -65,48 +66,48 @@ said-then : (first : Deed) (next : Scope → Deed) → IsQuiet first → first.s
 said-then first next h = ap (λ (d : Deed). d.said) (sym (goes_to first next h.goes_on))
 
 module _ (scene : Scene) where
-  pub does-none : (f : Scope → Deed) (heard : Heard) → Does scene f [] heard heard
+  pub does-none : (f : Scope → Deed) (heard : Table) → Does scene f [] heard heard
   does-none f heard = record {
     quiet = All-nil (λ s. IsQuiet (f s));
-    hears = hears-none scene.program.now scene.agents.now heard;
+    hears = hears-none scene.program.now (rows scene) heard;
   }
 
   -- in some scopes, and then in others
-  pub does-more : (f : Scope → Deed) (xs ys : List Scope) (a b c : Heard) → Does scene f xs a b → Does scene f ys b c → Does scene f (xs ++ ys) a c
+  pub does-more : (f : Scope → Deed) (xs ys : List Scope) (a b c : Table) → Does scene f xs a b → Does scene f ys b c → Does scene f (xs ++ ys) a c
   does-more f xs ys a b c h k = record {
     quiet = All-append (λ s. IsQuiet (f s)) xs ys h.quiet k.quiet;
-    hears = subst (λ l. Hears scene.program.now scene.agents.now l a c) (sym (flat_map-append (λ s. (f s).said) xs ys))
-        (hears-more scene.program.now scene.agents.now (flat_map (λ s. (f s).said) xs) (flat_map (λ s. (f s).said) ys) a b c h.hears k.hears);
+    hears = subst (λ l. Hears scene.program.now (rows scene) l a c) (sym (flat_map-append (λ s. (f s).said) xs ys))
+        (hears-more scene.program.now (rows scene) (flat_map (λ s. (f s).said) xs) (flat_map (λ s. (f s).said) ys) a b c h.hears k.hears);
   }
 
   -- one deed, and then another in the scopes that it leaves
-  pub does-then : (f g : Scope → Deed) (xs : List Scope) (a b c : Heard) → Does scene f xs a b → Does scene g (map (λ s. (f s).scope) xs) b c
+  pub does-then : (f g : Scope → Deed) (xs : List Scope) (a b c : Table) → Does scene f xs a b → Does scene g (map (λ s. (f s).scope) xs) b c
       → Does scene (λ s. followed_by (f s) g) xs a c
   does-then f g xs a b c h k =
       let next : Scope → Deed = λ s. g (f s).scope in
       let later : All (λ s. IsQuiet (next s)) xs = All-back (λ s. (f s).scope) (λ s. IsQuiet (g s)) xs k.quiet in
-      let second : Hears scene.program.now scene.agents.now (flat_map (λ s. (next s).said) xs) b c =
-      subst (λ l. Hears scene.program.now scene.agents.now l b c) (mapped-said (λ s. (f s).scope) (λ s. (g s).said) xs) k.hears in
+      let second : Hears scene.program.now (rows scene) (flat_map (λ s. (next s).said) xs) b c =
+      subst (λ l. Hears scene.program.now (rows scene) l b c) (mapped-said (λ s. (f s).scope) (λ s. (g s).said) xs) k.hears in
       record {
         quiet = All-both (λ s. IsQuiet (f s)) (λ s. IsQuiet (next s)) (λ s. IsQuiet (followed_by (f s) g)) (λ s p q. quiet-then (f s) g p q) xs h.quiet later;
-        hears = subst (λ l. Hears scene.program.now scene.agents.now l a c)
+        hears = subst (λ l. Hears scene.program.now (rows scene) l a c)
             (same-said (λ s. (f s).said ++ (next s).said) (λ s. (followed_by (f s) g).said) xs (λ i d low. said-then (f (get_or xs i d)) g (h.quiet i d low)))
-            (hears-alike scene.program.now scene.agents.now _ _ a c (alike-woven (λ s. (f s).said) (λ s. (next s).said) xs)
-            (hears-more scene.program.now scene.agents.now _ _ a b c h.hears second));
+            (hears-alike scene.program.now (rows scene) _ _ a c (alike-woven (λ s. (f s).said) (λ s. (next s).said) xs)
+            (hears-more scene.program.now (rows scene) _ _ a b c h.hears second));
       }
 
   -- ---- blocks
 
-  pub does-nothing : (xs : List Scope) (heard : Heard) → Does scene (done_by scene []) xs heard heard
+  pub does-nothing : (xs : List Scope) (heard : Table) → Does scene (done_by scene []) xs heard heard
   does-nothing xs heard = record {
     quiet = λ k d low. record { faults = refl; goes_on = refl };
-    hears = subst (λ l. Hears scene.program.now scene.agents.now l heard heard)
-        (sym (no-faults (λ s. (done_by scene [] s).said) xs (λ k d low. refl))) (hears-none scene.program.now scene.agents.now heard);
+    hears = subst (λ l. Hears scene.program.now (rows scene) l heard heard)
+        (sym (no-faults (λ s. (done_by scene [] s).said) xs (λ k d low. refl))) (hears-none scene.program.now (rows scene) heard);
   }
 
   -- what is left of a block: an action, and the rest behind it
   pub does-left : (items body : List Action) (i : ℕ) (x : Action) → items ≡ body → i < length items → x ≡ get_or items i x
-      → (xs : List Scope) (a b c : Heard) → Does scene (act scene.program.now scene.agents.now x) xs a b
+      → (xs : List Scope) (a b c : Table) → Does scene (act scene.program.now scene.agents.now x) xs a b
       → Does scene (done_by scene (drop (i + 1) body)) (map (λ s. (act scene.program.now scene.agents.now x s).scope) xs) b c
       → Does scene (done_by scene (drop i body)) xs a c
   does-left items body i x same low is xs a b c h k =
@@ -120,10 +121,10 @@ module _ (scene : Scene) where
 
   module _ (f : Scope → Deed) (into : Scope → List Scope) where
     -- what is done in all scopes that a loop goes into, as one deed of each scope
-    pub does-loop : (xs : List Scope) (a b : Heard) → Does scene f (flat_map into xs) a b → Does scene (λ s. iterated s (map f (into s))) xs a b
+    pub does-loop : (xs : List Scope) (a b : Table) → Does scene f (flat_map into xs) a b → Does scene (λ s. iterated s (map f (into s))) xs a b
     does-loop xs a b h = record {
       quiet = quiet-each xs h.quiet;
-      hears = subst (λ l. Hears scene.program.now scene.agents.now l a b) (said-all xs) h.hears;
+      hears = subst (λ l. Hears scene.program.now (rows scene) l a b) (said-all xs) h.hears;
     }
       where
         faults-none : (ys : List Scope) → All (λ s. IsQuiet (f s)) ys → flat_map (λ (d : Deed). d.faults) (map f ys) ≡ []

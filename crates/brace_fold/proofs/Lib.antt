@@ -4,7 +4,9 @@ pub mod Doings
 pub mod ColumnLemmas
 pub mod Evals
 pub mod Crowdings
+pub mod Summings
 pub mod Sayings
+pub mod Joinings
 pub mod Enterings
 pub mod Actions
 pub mod Walks

@@ -1,36 +1,36 @@
 -- What lanes say, joined run by run of lanes that say to one agent.
-use Rattle.std.proofs.Common.{◌≡◌, ◌∙◌, refl, sym, ap, ap₂, subst, ℕ, suc, ◌+◌, ◌-◌, ◌<◌, ◌≤◌, ℤ, pos, List, [], ◌∷◌, ◌++◌, map, length, take, drop, get_or, true, false, Some, None, arith, slice_get, Bool, Option, ⊎_elim}
-use Rattle.std.specs.Prelude.{min, option_map, unwrap_or}
+use Rattle.std.proofs.Common.{◌≡◌, ◌∙◌, refl, sym, ap, ap₂, subst, ℕ, suc, ◌+◌, ◌-◌, ◌<◌, ◌≤◌, ℤ, pos, List, [], ◌∷◌, ◌++◌, map, length, take, drop, get_or, set, true, false, Some, None, arith, slice_get, Bool, Option, ⊎_elim}
+use Rattle.std.specs.Prelude.{min, unwrap_or}
 use Rattle.std.proofs.lemmas.Bool.{cases_lt}
-use Rattle.std.proofs.lemmas.List.Elements.{All-map}
 use Rattle.std.proofs.lemmas.List.{get_or_default, take_all, length-map, length-take, length-drop, get_or-take, get_or-drop, map-append, take_more}
 use Rattle.std.proofs.lemmas.List.Sums.{fold-append}
-use Rattle.std.proofs.lemmas.Option.{get_or_from_slice_get, same_Some, slice_get-get_or, slice_get-map, slice_get_within}
+use Rattle.std.proofs.lemmas.Option.{same_Some}
 use Rattle.brace_model.specs.declared.program.Comb.{Comb}
 use Rattle.brace_model.specs.declared.program.Ty.{Ty}
 use Rattle.brace_model.specs.declared.program.Value.{Value}
 use Rattle.brace_model.specs.declared.program.Who.{Who}
 use Rattle.brace_model.specs.declared.program.Who.TheVariants.{This, Outer, Inner}
-use Rattle.brace_model.specs.declared.fault.Fault.{Fault}
 use Rattle.brace_model.specs.declared.world.Agent.{Agent}
 use Rattle.brace_model.specs.World.{class_of}
 use Rattle.brace_model.specs.Value.{Scope, agent_of, typed}
 use Rattle.brace_model.specs.Query.{Saying}
 use Rattle.brace_model.specs.Total.{identity, joined, total_of}
 use Rattle.brace_code.specs.declared.lane.Lane.{Lane}
-use Rattle.brace_eval.specs.declared.heard.Heard.{Heard}
-use Rattle.brace_eval.specs.Heard.{AreTold, IsHeard, effects_in}
+use Rattle.brace_eval.specs.Heard.{effects_in}
 use Rattle.brace_fold.specs.declared.crowd.Crowd.{Crowd}
 use Rattle.brace_fold.specs.declared.crowd.Depth.{Depth}
 use Rattle.brace_fold.specs.declared.saying.Ear.{Ear}
 use Rattle.brace_fold.specs.declared.scene.Scene.{Scene}
+use Rattle.brace_fold.specs.declared.table.Table.{Table}
 use Rattle.brace_fold.specs.inner.Crowds.{IsLane, IsFound, IsOfClass, IsScene, Stands, has_outer, has_inner, rows}
 use Rattle.brace_fold.specs.inner.Deeds.{between}
 use Rattle.brace_fold.specs.inner.Ears.{IsEar, row_of, is_there, told, told_at, told_by}
-use Rattle.brace_fold.specs.inner.Hears.{Hears}
+use Rattle.brace_fold.specs.inner.Hears.{Hears, sum_at, sum_place, summed}
 use Rattle.brace_fold.specs.inner.Sights.{no_agent}
 use Rattle.brace_fold.proofs.Alikes.{hears-more}
 use Rattle.brace_fold.proofs.Drawings.{mapped}
+use Rattle.brace_fold.proofs.Summings.{hears-sum}
+use Rattle.brace_fold.proofs.Taking.{apart_moved}
 use Rattle.brace_fold.proofs.Walks.{front}
 
 -- the total of one word more
@@ -45,43 +45,26 @@ total-more comb type words i total next v low value before is =
     ∙ ap (total_of comb) (sym (map-append (typed type) (take i words) (word ∷ [])))
     ∙ ap (λ l. total_of comb (map (typed type) l)) (sym (take_more words i (pos 0) low))
 
--- the agent of a row stands at the row's place of the list
-row-there : (scene : Scene) (row place : ℕ) (a : Agent) → IsScene scene → slice_get scene.cells.now.order.items row ≡ Some place
-    → slice_get (rows scene) row ≡ Some a → slice_get scene.agents.now place ≡ Some a
-row-there scene row place a is read found =
-    let order = scene.cells.now.order.items in
-    let agents = scene.agents.now in
-    let low : row < length order = slice_get_within order row place read in
-    let at : get_or order row place ≡ place = get_or_from_slice_get order row place place read in
-    let within : place < length agents = subst (λ p. p < length agents) at (is.sorted.within row place low) in
-    let same : get_or agents place no_agent ≡ a =
-    same_Some _ a (sym (slice_get-map (λ p. get_or agents p no_agent) order row ∙ ap (option_map (λ p. get_or agents p no_agent)) read) ∙ found) in
-    slice_get-get_or agents place no_agent within ∙ ap (λ (x : Agent). Some x) same
-
--- words were joined to the total of an effect of the agent of a row
-pub hears-words : (scene : Scene) (ear : Ear) (row place count : ℕ) (words : List ℤ) (number : ℤ) (before after : Heard) (a : Agent) → IsScene scene → IsEar scene ear
-    → IsOfClass (rows scene) ear.class row → slice_get (rows scene) row ≡ Some a → slice_get scene.cells.now.order.items row ≡ Some place
-    → number ≡ total_of ear.comb (map (typed ear.ty) words) → count ≡ length words
-    → ((x : Agent) (said told : List Saying) (faults : List Fault) → slice_get scene.agents.now place ≡ Some x
-    → IsHeard scene.program.now scene.agents.now said faults before → AreTold scene.program.now x ear.effect number count told
-    → IsHeard scene.program.now scene.agents.now (said ++ told) faults after)
-    → Hears scene.program.now scene.agents.now (told_at a ear.effect ear.ty words) before after
-hears-words scene ear row place count words number before after a scene_is hears (b, had, of) found read is many joins =
+-- words were joined to the sum of an effect of the agent of a row
+pub hears-words : (scene : Scene) (ear : Ear) (row count : ℕ) (words : List ℤ) (number : ℤ) (before after : Table) (a : Agent) → IsScene scene → IsEar scene ear
+    → IsOfClass (rows scene) ear.class row → slice_get (rows scene) row ≡ Some a
+    → number ≡ total_of ear.comb (map (typed ear.ty) words) → count ≡ length words → after.rows ≡ before.rows → row < before.rows
+    → sum_place before.rows ear.effect row < length before.sums.items
+    → after.sums.items ≡ set before.sums.items (sum_place before.rows ear.effect row) (summed ear.comb (sum_at before ear.effect row) number count)
+    → Hears scene.program.now (rows scene) (told_at a ear.effect ear.ty words) before after
+hears-words scene ear row count words number before after a scene_is hears (b, had, of) found is many same_rows low inside sums =
     let program = scene.program.now in
-    let one : ℤ → Saying = λ w. record { target = a.id; field = ear.effect; value = typed ear.ty w } in
+    let values = map (typed ear.ty) words in
+    let one : Value → Saying = λ v. record { target = a.id; field = ear.effect; value = v } in
     let own : a.class ≡ ear.class = ap (λ (x : Agent). x.class) (same_Some a b (sym found ∙ had)) ∙ of in
     let has : slice_get (effects_in (class_of program a)) ear.effect ≡ Some hears.effect =
     ap (λ n. slice_get (effects_in (slice_get program.classes n)) ear.effect) own
     ∙ ap (λ o. slice_get (effects_in o) ear.effect) hears.has ∙ hears.there in
-    let values : map (typed ear.ty) words ≡ map (λ (s : Saying). s.value) (map one words) = sym (mapped one (λ (s : Saying). s.value) words) in
-    let told : AreTold program a ear.effect number count (map one words) = record {
-      effect = hears.effect;
-      has = has;
-      alone = All-map (λ (s : Saying). (s.target ≡ a.id) × (s.field ≡ ear.effect)) one words (λ k d low. (refl, refl));
-      total = is ∙ ap (λ (c : Comb). total_of c (map (typed ear.ty) words)) hears.comb ∙ ap (total_of hears.effect.comb) values;
-      many = many ∙ sym (length-map words one);
-    } in
-    record { each = λ said faults k. joins a said (map one words) faults (row-there scene row place a scene_is read found) k told }
+    let apart = apart_moved scene.agents.now (rows scene) scene_is.rises scene_is.sorted.moved in
+    subst (λ l. Hears program (rows scene) l before after) (mapped (typed ear.ty) one words)
+    (hears-sum program (rows scene) before after row ear.effect count number a hears.effect values apart found has
+    (is ∙ ap (λ (c : Comb). total_of c values) hears.comb) (many ∙ sym (length-map words (typed ear.ty))) same_rows low inside
+    (sums ∙ ap (λ (c : Comb). set before.sums.items (sum_place before.rows ear.effect row) (summed c (sum_at before ear.effect row) number count)) hears.comb))
 
 -- the part of a list from a place to another
 between-long : {A : Type 0} (from next : ℕ) (xs : List A) → next ≤ length xs → length (between from next xs) ≡ next - from
@@ -142,17 +125,17 @@ module _ (who : Who) (effect : ℕ) (type : Ty) where
 
 -- what the lanes up to another place say to one agent
 pub says-more : (scene : Scene) (crowd : Crowd) (who : Who) (effect : ℕ) (type : Ty) (scopes : List Scope) (words these : List ℤ) (ear : Ear)
-    (from next : ℕ) (all : List Lane) (d : Lane) (place : ℕ) (a b c : Heard) → Stands scene crowd scopes → length words ≡ length scopes
+    (from next : ℕ) (all : List Lane) (d : Lane) (place : ℕ) (a b c : Table) → Stands scene crowd scopes → length words ≡ length scopes
     → all ≡ crowd.lanes → from < next → next ≤ length all → is_there crowd.depth who ≡ true → place ≡ row_of who (get_or all from d)
     → ((k : ℕ) (l : Lane) → from + 1 ≤ k → k < next → row_of who (get_or all k l) ≡ place)
     → these ≡ between from next words → ear.effect ≡ effect → ear.ty ≡ type
     → ((x : Agent) → slice_get (rows scene) place ≡ Some x
-    → Hears scene.program.now scene.agents.now (told_at x ear.effect ear.ty these) b c)
-    → Hears scene.program.now scene.agents.now (told_by who effect type (take from scopes) (take from words)) a b
-    → Hears scene.program.now scene.agents.now (told_by who effect type (take next scopes) (take next words)) a c
+    → Hears scene.program.now (rows scene) (told_at x ear.effect ear.ty these) b c)
+    → Hears scene.program.now (rows scene) (told_by who effect type (take from scopes) (take from words)) a b
+    → Hears scene.program.now (rows scene) (told_by who effect type (take next scopes) (take next words)) a c
 says-more scene crowd who effect type scopes words these ear from next all d place a b c stands long same less most there place_is run these_are same_effect same_type one before =
-    subst (λ l. Hears scene.program.now scene.agents.now l a c) (told-between who effect type scopes words from next (omega (arith, less)) long)
-    (hears-more scene.program.now scene.agents.now _ _ a b c before now)
+    subst (λ l. Hears scene.program.now (rows scene) l a c) (told-between who effect type scopes words from next (omega (arith, less)) long)
+    (hears-more scene.program.now (rows scene) _ _ a b c before now)
   where
     last : next ≤ length scopes
     last = subst (λ n. next ≤ n) (ap length same ∙ stands.long) most
@@ -183,8 +166,8 @@ says-more scene crowd who effect type scopes words these ear from next all d pla
         ap (λ (s : Scope). agent_of s who) (between-at from next scopes k nowhere within)
         ∙ same_Some _ x (sym (agent_at (from + k) (omega arith) within) ∙ agent_at from (omega arith) less)
 
-    now : Hears scene.program.now scene.agents.now (told_by who effect type (between from next scopes) (between from next words)) b c
-    now = subst (λ l. Hears scene.program.now scene.agents.now l b c)
+    now : Hears scene.program.now (rows scene) (told_by who effect type (between from next scopes) (between from next words)) b c
+    now = subst (λ l. Hears scene.program.now (rows scene) l b c)
         (ap₂ (λ (n : ℕ) (t : Ty). told_at x n t these) same_effect same_type
         ∙ ap (told_at x effect type) these_are
         ∙ told-one who effect type x (between from next scopes) (between from next words)

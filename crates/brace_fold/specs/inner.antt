@@ -3,6 +3,7 @@ pub mod Crowds
 pub mod Deeds
 pub mod Ears
 pub mod Hears
+pub mod Joins
 pub mod Renewals
 pub mod Rulings
 pub mod Sights

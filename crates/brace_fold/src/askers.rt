@@ -17,7 +17,7 @@ pub struct Asker {
 }
 
 /// The row of each place, as far as an order of places has it.
-fn rows_by_place(alloc: Global, order: &[u32]) -> Result<Vec<u32>, Redo> {
+pub fn rows_by_place(alloc: Global, order: &[u32]) -> Result<Vec<u32>, Redo> {
     let mut rows = vec![in alloc; 0u32; order.len()]?;
     for k in 0..order.len() {
         let Ok(row) = u32::try_from(k) else {
@@ -36,17 +36,11 @@ fn rows_by_place(alloc: Global, order: &[u32]) -> Result<Vec<u32>, Redo> {
 fn asker_at(classes: &[u32], cells: &Cells, rows: &[u32], place: u32) -> Result<Asker, Redo>
     ensures { IfOk result (λ one. slice_get cells.now.order.items one.row ≡ Some place) }
 {
-    let Some(row) = rows.get(place as usize).copied() else {
-        return Err(Redo);
-    };
-    let (Some(class), Some(there)) = (classes.get(row as usize).copied(), cells.place_at(row))
-    else {
-        return Err(Redo);
-    };
-    if there != place {
-        return Err(Redo);
+    let row = cells.row_at(rows, place)?;
+    match classes.get(row as usize).copied() {
+        Some(class) => Ok(Asker { class, row }),
+        None => Err(Redo),
     }
-    Ok(Asker { class, row })
 }
 
 /// Those who ask.
@@ -54,15 +48,15 @@ pub fn askers(
     alloc: Global,
     classes: &[u32],
     cells: &Cells,
+    rows: &[u32],
     asking: &[u32],
 ) -> Result<Vec<Asker>, Redo>
     ensures { IfOk result (λ all. map (slice_get cells.now.order.items) (rows_of all.items)
         ≡ map Some asking.now) }
 {
-    let rows = rows_by_place(alloc, &cells.order)?;
     let mut all = Vec::with_capacity(alloc, asking.len())?;
     for place in asking {
-        all.push(asker_at(classes, cells, &rows, *place)?)?;
+        all.push(asker_at(classes, cells, rows, *place)?)?;
     }
     Ok(all)
 }

@@ -245,6 +245,19 @@ impl Cells {
         self.order.get(row as usize).copied()
     }
 
+    /// The row of the agent at a place of the list, where a list of rows by place tells it.
+    pub fn row_at(&self, rows: &[u32], place: u32) -> Result<u32, Redo>
+        ensures { IfOk result (λ row. slice_get self.now.order.items row ≡ Some place) }
+    {
+        let Some(row) = rows.get(place as usize).copied() else {
+            return Err(Redo);
+        };
+        if self.place_at(row) != Some(place) {
+            return Err(Redo);
+        }
+        Ok(row)
+    }
+
     /// Leads runs on to those around the agent of a row.
     pub fn lead(&self, runs: &mut Runs, row: u32) -> Result<(), Redo>
         requires rise { CellsRise self.now.spots.items }

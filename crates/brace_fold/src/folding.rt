@@ -10,12 +10,14 @@ ghost use Rattle.brace_fold.specs.Asked.{agents_at};
 ghost use Rattle.brace_fold.specs.inner.Asks.{Asks, rows_of};
 ghost use Rattle.brace_fold.specs.inner.Crowds.{IsScene};
 
-use crate::askers::{Asker, askers, of_class, sort_by_class};
+use crate::askers::{Asker, askers, of_class, rows_by_place, sort_by_class};
 use crate::cells::Cells;
 use crate::columns::{by_row, class_column, most_states, state_columns, views};
 use crate::crowd::opening;
 use crate::drawn::{all_drawn, lent};
+use crate::joining::{join_all, most_effects};
 use crate::scene::Scene;
+use crate::table::Table;
 use crate::walk::block;
 use brace_code::Redo;
 use brace_eval::Heard;
@@ -32,7 +34,7 @@ fn ask(
     plans: &Plans,
     class: u32,
     asking: &[Asker],
-    heard: &mut Heard,
+    heard: &mut Table,
 ) -> Result<(), Redo>
     requires scene { IsScene scene.now }
     requires program { scene.now.program.now ≡ plans.now }
@@ -49,7 +51,7 @@ fn ask(
 }
 
 /// Asks all who ask, class by class.
-fn ask_all(scene: &Scene, plans: &Plans, asking: &[Asker], heard: &mut Heard) -> Result<(), Redo>
+fn ask_all(scene: &Scene, plans: &Plans, asking: &[Asker], heard: &mut Table) -> Result<(), Redo>
     requires scene { IsScene scene.now }
     requires program { scene.now.program.now ≡ plans.now }
     requires lawful { IsTrue (list_all (is_lawful_agent plans.now) scene.now.agents.now) }
@@ -71,7 +73,7 @@ fn ask_all(scene: &Scene, plans: &Plans, asking: &[Asker], heard: &mut Heard) ->
 
 /// Joins to what was heard all that the queries of the agents at some places of a list say, over
 /// that list as if it were the world, with the draws of a seed. What was heard is lost on `Redo`,
-/// which says nothing: a query may have faulted, or a total needs more than 128 bits, or memory was
+/// which says nothing: a query may have faulted, or a total needs more than 64 bits, or memory was
 /// refused.
 ///
 /// The agents are lawful ones of the program whose ids rise, and the tick is at most 2^32.
@@ -116,7 +118,10 @@ pub fn fold(
         draws: &draws,
         cells: &cells,
     };
-    let mut asking = askers(alloc, &classes, &cells, asking)?;
+    let places = rows_by_place(alloc, &cells.order)?;
+    let mut asking = askers(alloc, &classes, &cells, &places, asking)?;
     sort_by_class(&mut asking);
-    ask_all(&scene, plans, &asking, heard)
+    let mut table = Table::nothing(alloc, cells.order.len(), most_effects(program))?;
+    ask_all(&scene, plans, &asking, &mut table)?;
+    join_all(program, agents, &cells, &places, &table, heard)
 }

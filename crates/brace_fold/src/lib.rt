@@ -10,6 +10,7 @@ mod drawn;
 mod finding;
 mod folding;
 mod gathering;
+mod joining;
 mod leaving;
 mod outcome;
 mod renewing;
@@ -18,6 +19,7 @@ mod saying;
 mod scene;
 mod seeing;
 mod sites;
+mod table;
 mod walk;
 
 pub use brace_code::Redo;

@@ -9,9 +9,9 @@ ghost use Rattle.brace_fold.specs.inner.Hears.{Hears};
 
 use crate::crowd::{Crowd, Depth, has_inner, has_outer};
 use crate::scene::Scene;
+use crate::table::{Table, narrow};
 use brace_code::{Lane, Redo};
 use brace_comb::{identity, joined};
-use brace_eval::Heard;
 use brace_model::{Comb, Ty, Value, Who};
 
 /// A word as a value of a type.
@@ -97,6 +97,16 @@ fn total(comb: Comb, ty: Ty, words: &[i64]) -> Option<i128>
     }
 }
 
+/// How many words there are.
+fn count_of(words: &[i64]) -> Result<u32, Redo>
+    ensures { IfOk result (λ count. count ≡ length words.now) }
+{
+    match u32::try_from(words.len()) {
+        Ok(count) => Ok(count),
+        Err(_) => Err(Redo),
+    }
+}
+
 /// An effect of a class, to which words of a type are said.
 #[derive(Debug, Clone, Copy)]
 pub struct Ear {
@@ -131,29 +141,20 @@ impl<'a> Scene<'a> {
     }
 
     /// Joins words said to the agent of a row.
-    fn say_to(&self, ear: &Ear, row: u32, words: &[i64], heard: &mut Heard) -> Result<(), Redo>
+    fn say_to(&self, ear: &Ear, row: u32, words: &[i64], heard: &mut Table) -> Result<(), Redo>
         requires scene { IsScene self.now }
         requires ear { IsEar self.now ear.now }
         ensures { OnOk result ((a : Agent) → slice_get (rows self.now) row ≡ Some a
-            → Hears self.now.program.now self.now.agents.now
+            → Hears self.now.program.now (rows self.now)
             (told_at a ear.now.effect ear.now.ty words.now) heard.old heard.new) }
     {
         self.expect_class(row, ear.class)?;
         let Some(number) = total(ear.comb, ear.ty, words) else {
             return Err(Redo);
         };
-        let Some(place) = self.cells.place_at(row) else {
-            return Err(Redo);
-        };
-        let count = words.len() as u64;
-        heard.join(
-            self.program,
-            self.agents,
-            place as usize,
-            ear.effect,
-            number,
-            count,
-        )?;
+        let number = narrow(number)?;
+        let count = count_of(words)?;
+        heard.join(ear.effect, row, ear.comb, number, count)?;
         Ok(())
     }
 
@@ -165,12 +166,12 @@ impl<'a> Scene<'a> {
         effect: u32,
         ty: Ty,
         words: &[i64],
-        heard: &mut Heard,
+        heard: &mut Table,
     ) -> Result<(), Redo>
         requires scene { IsScene self.now }
         ensures { OnOk result ((scopes : List Scope) → Stands self.now crowd.now scopes
             → length words.now ≡ length scopes
-            → Hears self.now.program.now self.now.agents.now
+            → Hears self.now.program.now (rows self.now)
             (told_by who effect ty scopes words.now) heard.old heard.new) }
     {
         let lanes = crowd.lanes.as_slice();

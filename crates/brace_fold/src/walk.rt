@@ -1,7 +1,7 @@
 ghost use Rattle.std.specs.Prelude.{◌≡◌, ℕ, List, IfOk, OnOk};
 ghost use Rattle.brace_model.specs.Value.{Scope};
 ghost use Rattle.brace_plan.specs.declared.action.Action.TheVariants as action;
-ghost use Rattle.brace_eval.specs.declared.heard.Heard.{Heard};
+ghost use Rattle.brace_fold.specs.declared.table.Table.{Table};
 ghost use Rattle.brace_model.specs.declared.program.Ty.TheVariants as ty;
 ghost use Rattle.brace_code.specs.Codes.{type_given};
 ghost use Rattle.brace_fold.specs.inner.Crowds.{IsScene, Stands, chosen};
@@ -10,8 +10,8 @@ ghost use Rattle.brace_fold.specs.inner.Deeds.{Does, Leads, Worths, done_once, d
 use crate::crowd::Crowd;
 use crate::finding::Room;
 use crate::scene::Scene;
+use crate::table::Table;
 use brace_code::{Code, Redo};
-use brace_eval::Heard;
 use brace_model::{Ty, Who};
 use brace_num::List;
 use brace_plan::{Action, Bound};
@@ -19,7 +19,7 @@ use brace_plan::{Action, Bound};
 /// Sets a constant in each lane.
 fn set(scene: &Scene, n: u32, code: &Code, crowd: &mut Crowd) -> Result<(), Redo>
     requires { IsScene scene.now }
-    ensures { OnOk result ((scopes : List Scope) (heard : Heard)
+    ensures { OnOk result ((scopes : List Scope) (heard : Table)
         → Stands scene.now crowd.old scopes
         → Leads scene.now (done_once scene.now (action.Const n code.now)) scopes crowd.new
         heard heard) }
@@ -36,7 +36,7 @@ fn tell(
     effect: u32,
     code: &Code,
     crowd: &Crowd,
-    heard: &mut Heard,
+    heard: &mut Table,
 ) -> Result<(), Redo>
     requires { IsScene scene.now }
     ensures { OnOk result ((scopes : List Scope) → Stands scene.now crowd.now scopes
@@ -69,7 +69,7 @@ fn side(
     flags: &[i64],
     actions: &List<Action>,
     crowd: &Crowd,
-    heard: &mut Heard,
+    heard: &mut Table,
 ) -> Result<(), Redo>
     requires { IsScene scene.now }
     ensures { OnOk result ((scopes : List Scope) → Stands scene.now crowd.now scopes
@@ -85,7 +85,7 @@ fn side(
 
 /// Does an action in all lanes of a crowd.
 #[cycle(walk)]
-fn action(scene: &Scene, action: &Action, crowd: &mut Crowd, heard: &mut Heard) -> Result<(), Redo>
+fn action(scene: &Scene, action: &Action, crowd: &mut Crowd, heard: &mut Table) -> Result<(), Redo>
     requires { IsScene scene.now }
     ensures { OnOk result ((scopes : List Scope) → Stands scene.now crowd.old scopes
         → Leads scene.now (done_once scene.now action.now) scopes crowd.new
@@ -113,7 +113,7 @@ fn iterations(
     bounds: &List<Bound>,
     body: &List<Action>,
     crowd: &Crowd,
-    heard: &mut Heard,
+    heard: &mut Table,
 ) -> Result<(), Redo>
     requires { IsScene scene.now }
     ensures { OnOk result ((scopes : List Scope) (offset : ℕ)
@@ -138,7 +138,7 @@ pub fn block(
     scene: &Scene,
     actions: &List<Action>,
     crowd: Crowd,
-    heard: &mut Heard,
+    heard: &mut Table,
 ) -> Result<(), Redo>
     requires { IsScene scene.now }
     ensures { OnOk result ((scopes : List Scope) → Stands scene.now crowd scopes

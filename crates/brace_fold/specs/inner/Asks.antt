@@ -7,10 +7,10 @@ use Rattle.brace_model.specs.Query.{Deed, query_of}
 use Rattle.brace_model.specs.Value.{Scope}
 use Rattle.brace_code.specs.declared.lane.Draws.{Draws}
 use Rattle.brace_plan.specs.Planning.{opening_of}
-use Rattle.brace_eval.specs.declared.heard.Heard.{Heard}
 use Rattle.brace_fold.specs.declared.askers.Asker.{Asker}
 use Rattle.brace_fold.specs.declared.drawn.Drawn.{Drawn}
 use Rattle.brace_fold.specs.declared.scene.Scene.{Scene}
+use Rattle.brace_fold.specs.declared.table.Table.{Table}
 use Rattle.brace_fold.specs.inner.Crowds.{rows}
 use Rattle.brace_fold.specs.inner.Hears.{Hears}
 
@@ -20,9 +20,9 @@ asked scene d row = query_of scene.program.now scene.seed scene.tick scene.agent
     (slice_index_or (rows scene) row d)
 
 -- the queries of the agents of some rows fault nowhere, and what they say is heard
-pub record Asks (scene : Scene) (d : Agent) (asking : List ℕ) (old new : Heard) : Type 0 where
+pub record Asks (scene : Scene) (d : Agent) (asking : List ℕ) (old new : Table) : Type 0 where
   pub quiet : All (λ row. (asked scene d row).faults ≡ []) asking
-  pub hears : Hears scene.program.now scene.agents.now
+  pub hears : Hears scene.program.now (rows scene)
       (flat_map (λ row. (asked scene d row).said) asking) old new
 
 -- the scopes in which the queries of the agents of some rows begin

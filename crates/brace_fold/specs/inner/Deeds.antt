@@ -8,9 +8,9 @@ use Rattle.brace_code.specs.Codes.{gives, type_given}
 use Rattle.brace_plan.specs.declared.action.Action.{Action}
 use Rattle.brace_plan.specs.declared.action.Bound.{Bound}
 use Rattle.brace_plan.specs.Acts.{act, acts, near_by}
-use Rattle.brace_eval.specs.declared.heard.Heard.{Heard}
 use Rattle.brace_fold.specs.declared.crowd.Crowd.{Crowd}
 use Rattle.brace_fold.specs.declared.scene.Scene.{Scene}
+use Rattle.brace_fold.specs.declared.table.Table.{Table}
 use Rattle.brace_fold.specs.inner.Crowds.{Stands, rows}
 use Rattle.brace_fold.specs.inner.Hears.{Hears}
 
@@ -21,9 +21,9 @@ pub record IsQuiet (deed : Deed) : Type 0 where
 
 -- in each scope a deed is done with no fault, and what all say is heard
 pub record Does (scene : Scene) (deed : Scope → Deed) (scopes : List Scope)
-    (before after : Heard) : Type 0 where
+    (before after : Table) : Type 0 where
   pub quiet : All (λ s. IsQuiet (deed s)) scopes
-  pub hears : Hears scene.program.now scene.agents.now
+  pub hears : Hears scene.program.now (rows scene)
       (flat_map (λ s. (deed s).said) scopes) before after
 
 -- code gives a value in each scope, and the words are theirs
@@ -41,7 +41,7 @@ done_by scene = acts scene.program.now scene.agents.now
 
 -- a deed is done in the scopes of a crowd, and leaves a crowd of the scopes that it leaves
 pub record Leads (scene : Scene) (deed : Scope → Deed) (scopes : List Scope) (after : Crowd)
-    (old new : Heard) : Type 0 where
+    (old new : Table) : Type 0 where
   pub does : Does scene deed scopes old new
   pub stands : Stands scene after (map (λ s. (deed s).scope) scopes)
 

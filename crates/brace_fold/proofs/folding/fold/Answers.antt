@@ -1,18 +1,22 @@
-use Rattle.std.proofs.Common.{◌≡◌, ◌∙◌, sym, ap, subst, ℕ, List, [], map, flat_map, get_or}
+use Rattle.std.proofs.Common.{◌≡◌, ◌∙◌, ◌++◌, sym, ap, subst, ℕ, List, [], length, map, flat_map, get_or, rules}
 use Rattle.std.specs.List.{All}
+use Rattle.std.proofs.lemmas.List.{length-map}
 use Rattle.std.proofs.lemmas.List.Elements.{All-map}
 use Rattle.brace_model.specs.declared.program.Program.{Program}
 use Rattle.brace_model.specs.declared.world.Agent.{Agent}
-use Rattle.brace_model.specs.Query.{Deed, query_of}
+use Rattle.brace_model.specs.Query.{Deed, Saying, query_of}
 use Rattle.brace_model.specs.World.{number, value_at}
+use Rattle.brace_eval.specs.Heard.{IsHeard}
 use Rattle.brace_fold.specs.Asked.{agents_at}
 use Rattle.brace_fold.specs.inner.Asks.{AreDrawn, lent, made, rows_of}
-use Rattle.brace_fold.specs.inner.Hears.{Hears}
+use Rattle.brace_fold.specs.inner.Hears.{AreSummed, Hears}
+use Rattle.brace_fold.specs.inner.Joins.{said_of}
 use Rattle.brace_fold.specs.inner.Sights.{by_row, no_agent}
 use Rattle.brace_fold.proofs.Askings.{asking-sorted, heard-by, quiet-by}
 use Rattle.brace_fold.proofs.ColumnLemmas.{by-rows, copied-view}
 use Rattle.brace_fold.proofs.Doings.{mapped-said}
 use Rattle.brace_fold.proofs.Drawings.{draws-of}
+use Rattle.brace_fold.proofs.Joinings.{heard-joined}
 use Rattle.brace_fold.proofs.Walks.{on_ok}
 use Rattle.brace_fold.proofs.folding.fold.Goals as goal
 
@@ -37,35 +41,41 @@ ask_all-requires-clause-scene c =
     }
 
 pub returns-clause-heard : goal.returns-clause-heard
-returns-clause-heard c = on_ok c.ask_all.result _ _ (λ asks d said faults is.
+returns-clause-heard c = on_ok c.join_all.result _ _ (λ joins d said faults is.
     let agents = c.args.agents.now in
     let cells = c.in_ok-cells.cells in
     let program = c.args.plans.now in
     let query : Program → Agent → Deed = λ p a. query_of p c.args.seed c.args.tick agents a in
     let rows = by_row agents cells in
-    let sorted = rows_of c.deref-11.result.now in
+    let sorted = rows_of c.deref-13.result.now in
     let one : ℕ → Agent = λ row. get_or rows row d in
-    let perm = asking-sorted agents d cells c.args.asking.now c.in_ok-asking.asking.items c.sort_by_class.new.all.items c.deref-11.result.now
-    c.in_ok-cells.ensures.within c.in_ok-asking.ensures c.sort_by_class.ensures c.deref-11.ensures.value in
-    let quiet = subst (λ (p : Program). All (λ row. (query p (one row)).faults ≡ []) sorted) c.program-program.ensures (asks d).quiet in
-    let hears = subst (λ (p : Program). Hears p agents (flat_map (λ row. (query p (one row)).said) sorted) c.args.heard.now c.ask_all.new.heard)
-    c.program-program.ensures (asks d).hears in
-    heard-by program c.args.seed c.args.tick agents (agents_at agents d c.args.asking.now) (agents_at rows d sorted) c.args.heard.now c.ask_all.new.heard perm
-    (All-map (λ a. (query program a).faults ≡ []) one sorted quiet)
-    (subst (λ l. Hears program agents l c.args.heard.now c.ask_all.new.heard) (sym (mapped-said one (λ a. (query program a).said) sorted)) hears)
-    said faults is) c.ask_all.ensures
+    let asks = c.in_ok-ask_all.ensures d in
+    let perm = asking-sorted agents d cells c.args.asking.now c.in_ok-asking.asking.items c.sort_by_class.new.all.items c.deref-13.result.now
+    c.in_ok-cells.ensures.within c.in_ok-asking.ensures c.sort_by_class.ensures c.deref-13.ensures.value in
+    let quiet = subst (λ (p : Program). All (λ row. (query p (one row)).faults ≡ []) sorted) c.program-program.ensures asks.quiet in
+    let more : List Saying = flat_map (λ row. (query program (one row)).said) sorted in
+    let hears = subst (λ (p : Program). Hears p rows (flat_map (λ row. (query p (one row)).said) sorted) c.in_ok-table.table c.ask_all.new.heard)
+    c.program-program.ensures asks.hears in
+    let many : c.len.result ≡ length cells.order.items = search rules in
+    let summed = hears.each [] (c.in_ok-table.ensures program rows (many ∙ sym (length-map cells.order.items (λ p. get_or agents p no_agent)))) in
+    let joined = subst (λ (p : Program). AreSummed p rows more c.ask_all.new.heard → IsHeard p agents said faults c.args.heard.now
+    → IsHeard p agents (said ++ flat_map (said_of p more) agents) faults c.join_all.new.heard) c.program-program.ensures (joins more said faults) summed is in
+    let all = heard-joined program agents more said faults c.join_all.new.heard c.requires.rises joined in
+    heard-by program c.args.seed c.args.tick agents (agents_at agents d c.args.asking.now) (agents_at rows d sorted) c.join_all.new.heard perm
+    (All-map (λ a. (query program a).faults ≡ []) one sorted quiet) said faults
+    (subst (λ l. IsHeard program agents (said ++ l) faults c.join_all.new.heard) (sym (mapped-said one (λ a. (query program a).said) sorted)) all)) c.join_all.ensures
 
 pub returns-clause-quiet : goal.returns-clause-quiet
-returns-clause-quiet c = on_ok c.ask_all.result _ _ (λ asks d.
+returns-clause-quiet c = on_ok c.join_all.result _ _ (λ joins d.
     let agents = c.args.agents.now in
     let cells = c.in_ok-cells.cells in
     let program = c.args.plans.now in
     let query : Program → Agent → Deed = λ p a. query_of p c.args.seed c.args.tick agents a in
     let rows = by_row agents cells in
-    let sorted = rows_of c.deref-11.result.now in
+    let sorted = rows_of c.deref-13.result.now in
     let one : ℕ → Agent = λ row. get_or rows row d in
-    let perm = asking-sorted agents d cells c.args.asking.now c.in_ok-asking.asking.items c.sort_by_class.new.all.items c.deref-11.result.now
-    c.in_ok-cells.ensures.within c.in_ok-asking.ensures c.sort_by_class.ensures c.deref-11.ensures.value in
-    let quiet = subst (λ (p : Program). All (λ row. (query p (one row)).faults ≡ []) sorted) c.program-program.ensures (asks d).quiet in
+    let perm = asking-sorted agents d cells c.args.asking.now c.in_ok-asking.asking.items c.sort_by_class.new.all.items c.deref-13.result.now
+    c.in_ok-cells.ensures.within c.in_ok-asking.ensures c.sort_by_class.ensures c.deref-13.ensures.value in
+    let quiet = subst (λ (p : Program). All (λ row. (query p (one row)).faults ≡ []) sorted) c.program-program.ensures (c.in_ok-ask_all.ensures d).quiet in
     quiet-by program c.args.seed c.args.tick agents (agents_at agents d c.args.asking.now) (agents_at rows d sorted) perm
-    (All-map (λ a. (query program a).faults ≡ []) one sorted quiet)) c.ask_all.ensures
+    (All-map (λ a. (query program a).faults ≡ []) one sorted quiet)) c.join_all.ensures

@@ -1,6 +1,6 @@
 use Rattle.std.proofs.Common.{◌≤◌, ◌-◌, List, flat_map, take, drop, length}
 use Rattle.brace_model.specs.Value.{Scope}
-use Rattle.brace_eval.specs.declared.heard.Heard.{Heard}
+use Rattle.brace_fold.specs.declared.table.Table.{Table}
 use Rattle.brace_fold.specs.inner.Crowds.{Stands}
 use Rattle.brace_fold.specs.inner.Deeds.{Does, done_by, into}
 use Rattle.brace_fold.specs.inner.Sights.{AreLed}
@@ -9,7 +9,7 @@ use Rattle.brace_fold.proofs.walk.+walk.Given as goal
 abbrev pub invariant-block-loop-item : goal.invariant-block-loop-item
 invariant-block-loop-item l = (scopes : List Scope) → Stands l.scene l.fn.crowd scopes
     → (here : List Scope) × Stands l.scene l.crowd here
-    × ((end : Heard) → Does l.scene (done_by l.scene (drop l.item-index l.actions)) here l.heard end
+    × ((end : Table) → Does l.scene (done_by l.scene (drop l.item-index l.actions)) here l.heard end
     → Does l.scene (done_by l.scene l.actions) scopes l.fn.heard end)
 
 abbrev pub invariant-iterations-loop-at : goal.invariant-iterations-loop-at

@@ -1,5 +1,6 @@
 use Rattle.std.proofs.Common.{refl, ◌∙◌, ◌≤◌, ap, subst, length, arith, ℕ, List}
 use Rattle.brace_model.specs.Query.{Saying}
+use Rattle.brace_fold.specs.inner.Crowds.{rows}
 use Rattle.brace_fold.specs.inner.Hears.{Hears}
 use Rattle.brace_fold.proofs.Alikes.{hears-none}
 use Rattle.brace_fold.proofs.Sayings.{says-all, says-more}
@@ -8,7 +9,7 @@ use Rattle.brace_fold.proofs.scene.Scene.say.Goals as goal
 pub loop-at-init : goal.loop-at-init
 loop-at-init c = record {
   within = omega arith;
-  said = λ scopes stands long. hears-none c.args.self.now.program.now c.args.self.now.agents.now c.args.heard.now;
+  said = λ scopes stands long. hears-none c.args.self.now.program.now (rows c.args.self.now) c.args.heard.now;
 }
 
 pub loop-at-preserved : goal.loop-at-preserved
@@ -25,5 +26,5 @@ loop-at-preserved c = record {
 pub returns : goal.returns
 returns c = λ scopes stands long.
     let low = subst (λ (n : ℕ). n ≤ c.loop-at.at) (ap length c.as_slice-lanes.ensures ∙ stands.long) c.loop-at-test.false in
-    subst (λ (l : List Saying). Hears c.args.self.now.program.now c.args.self.now.agents.now l c.args.heard.now c.loop-at.heard)
+    subst (λ (l : List Saying). Hears c.args.self.now.program.now (rows c.args.self.now) l c.args.heard.now c.loop-at.heard)
     (says-all c.args.who c.args.effect c.args.ty scopes c.args.words.now c.loop-at.at low long) (c.loop-at.invariant.said scopes stands long)

@@ -1,6 +1,6 @@
 use Rattle.std.proofs.Common.{◌≡◌, ◌≤◌, ◌-◌, List, take, length}
 use Rattle.brace_model.specs.Value.{Scope}
-use Rattle.brace_fold.specs.inner.Crowds.{Stands}
+use Rattle.brace_fold.specs.inner.Crowds.{Stands, rows}
 use Rattle.brace_fold.specs.inner.Ears.{told_by}
 use Rattle.brace_fold.specs.inner.Hears.{Hears}
 use Rattle.brace_fold.proofs.scene.Scene.say.Given as goal
@@ -9,7 +9,7 @@ abbrev pub invariant-loop-at : goal.invariant-loop-at
 invariant-loop-at l = record {
   within : l.at ≤ length l.lanes;
   said : (scopes : List Scope) → Stands l.self l.crowd scopes → length l.words ≡ length scopes
-      → Hears l.self.program.now l.self.agents.now (told_by l.who l.effect l.fn.ty (take l.at scopes) (take l.at l.words)) l.fn.heard l.heard;
+      → Hears l.self.program.now (rows l.self) (told_by l.who l.effect l.fn.ty (take l.at scopes) (take l.at l.words)) l.fn.heard l.heard;
 }
 
 abbrev pub decreases-loop-at : goal.decreases-loop-at

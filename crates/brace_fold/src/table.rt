@@ -1,0 +1,120 @@
+ghost use Rattle.std.specs.Prelude.{◌≡◌, ◌<◌, [], length, slice_set, IfOk, IfSome, OnOk, List};
+ghost use Rattle.brace_model.specs.declared.program.Program.{Program};
+ghost use Rattle.brace_model.specs.declared.world.Agent.{Agent};
+ghost use Rattle.brace_fold.specs.inner.Hears.{AreSummed, sum_at, sum_place, summed};
+
+use brace_code::Redo;
+use brace_comb::merged;
+use brace_model::Comb;
+use std::alloc::Global;
+
+/// The number of a total of values, and how many they are; of none the number stands for nothing.
+#[derive(Debug, Clone, Copy, Drop)]
+pub struct Sum {
+    pub number: i64,
+    pub count: u32,
+}
+
+/// What was said to agents, row by row: a column of sums for each effect.
+#[derive(Debug, Drop)]
+pub struct Table {
+    /// How many rows there are.
+    pub rows: usize,
+    /// The sums, effect after effect, row after row.
+    pub sums: Vec<Sum>,
+}
+
+/// The number of a total, where 64 bits hold it.
+pub fn narrow(number: i128) -> Result<i64, Redo>
+    ensures { IfOk result (λ n. n ≡ number) }
+{
+    match i64::try_from(number) {
+        Ok(n) => Ok(n),
+        Err(_) => Err(Redo),
+    }
+}
+
+/// A sum and the total of so many values more.
+fn summed(comb: Comb, sum: Sum, number: i64, count: u32) -> Result<Sum, Redo>
+    ensures { IfOk result (λ s. s ≡ summed comb sum number count) }
+{
+    let Some(count) = sum.count.checked_add(count) else {
+        return Err(Redo);
+    };
+    if sum.count == 0 {
+        return Ok(Sum { number, count });
+    }
+    let Some(total) = merged(comb, i128::from(sum.number), i128::from(number)) else {
+        return Err(Redo);
+    };
+    let number = narrow(total)?;
+    Ok(Sum { number, count })
+}
+
+impl Table {
+    /// The table of so many rows and effects to which nothing was said.
+    pub fn nothing(alloc: Global, rows: usize, effects: usize) -> Result<Table, Redo>
+        ensures { IfOk result (λ table. (program : Program) (agents : List Agent)
+            → rows ≡ length agents → AreSummed program agents [] table) }
+    {
+        let Some(size) = rows.checked_mul(effects) else {
+            return Err(Redo);
+        };
+        let none = Sum {
+            number: 0,
+            count: 0,
+        };
+        let sums = vec![in alloc; none; size]?;
+        Ok(Table { rows, sums })
+    }
+
+    /// Where the sum of an effect of a row stands.
+    fn place_of(&self, effect: u32, row: u32) -> Option<usize>
+        ensures at { IfSome result (λ at. at ≡ sum_place self.now.rows effect row) }
+        ensures row { IfSome result (λ _. row < self.now.rows) }
+        ensures within { IfSome result (λ at. at < length self.now.sums.items) }
+    {
+        let row = row as usize;
+        if row >= self.rows {
+            return None;
+        }
+        let first = (effect as usize).checked_mul(self.rows)?;
+        let at = first.checked_add(row)?;
+        if at >= self.sums.len() {
+            return None;
+        }
+        Some(at)
+    }
+
+    /// The sum of an effect of a row.
+    pub fn sum(&self, effect: u32, row: u32) -> Option<Sum>
+        ensures { IfSome result (λ sum. sum ≡ sum_at self.now effect row) }
+    {
+        let at = self.place_of(effect, row)?;
+        Some(self.sums[at])
+    }
+
+    /// Joins the total of so many values to an effect of a row.
+    pub fn join(
+        &mut self,
+        effect: u32,
+        row: u32,
+        comb: Comb,
+        number: i64,
+        count: u32,
+    ) -> Result<(), Redo>
+        ensures rows { self.new.rows ≡ self.old.rows }
+        ensures row { OnOk result (row < self.old.rows) }
+        ensures within { OnOk result (sum_place self.old.rows effect row
+            < length self.old.sums.items) }
+        ensures sums { OnOk result (self.new.sums.items ≡ slice_set self.old.sums.items
+            (sum_place self.old.rows effect row)
+            (summed comb (sum_at self.old effect row) number count)) }
+    {
+        let Some(at) = self.place_of(effect, row) else {
+            return Err(Redo);
+        };
+        self.sums[at] = summed(comb, self.sums[at], number, count)?;
+        Ok(())
+    }
+}
