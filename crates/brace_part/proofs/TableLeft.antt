@@ -1,7 +1,7 @@
 -- What the agents of a part leave, one after another.
-use Rattle.std.proofs.Common.{◌≡◌, ◌∙◌, refl, sym, ap, ap₂, subst, ℕ, zero, suc, ◌+◌, ◌<◌, ◌≤◌, ℤ, List, [], ◌∷◌, ◌++◌, filter, length, take, get_or, map, Bool, true, false, cond, ◌&&◌, Option, Some, None, Result, Ok, Err, inl}
+use Rattle.std.proofs.Common.{◌≡◌, ◌∙◌, refl, sym, ap, ap₂, subst, ℕ, ◌+◌, ◌<◌, ◌≤◌, ℤ, List, [], ◌∷◌, ◌++◌, filter, length, take, get_or, map, Bool, true, false, cond, ◌&&◌, Option, Some, None, Result, Ok, Err, inl}
 use Rattle.std.specs.List.{list_all}
-use Rattle.std.proofs.lemmas.List.{get_or-map, map-append, map_more, take_all}
+use Rattle.std.proofs.lemmas.List.{get_or-map, map_more, take_all}
 use Rattle.brace_model.specs.declared.program.Class.{Class}
 use Rattle.brace_model.specs.declared.fault.Fault.{Fault}
 use Rattle.brace_model.specs.declared.program.Program.{Program}
@@ -85,15 +85,16 @@ pub same_left : (rs : List (Result Next Fault)) (stay after born more : List Age
     → SoFar rs stay born found → SoFar rs after more last
 same_left rs stay after born more found last lives bears first h = record { lives = lives ∙ h.lives; births = bears ∙ h.births; first = first ∙ h.first }
 
--- of agents that all pass a test those that are chosen pass it
+-- of elements that all pass a test those that are chosen pass it
+chosen_case : {A : Type 0} (P : A → Bool) (x : A) (xs ys : List A) (q p : Bool) → P x ≡ p → (p && list_all P xs) ≡ true
+    → (list_all P xs ≡ true → list_all P ys ≡ true) → list_all P (cond q (x ∷ ys) ys) ≡ true
+chosen_case P x xs ys q false is none rest = absurd (let no_way : false ≡ true = none in cc)
+chosen_case P x xs ys true true is all rest = ap₂ (λ a b. a && b) is (rest all)
+chosen_case P x xs ys false true is all rest = rest all
+
 pub all_chosen : {A : Type 0} (P Q : A → Bool) (xs : List A) → list_all P xs ≡ true → list_all P (filter Q xs) ≡ true
 all_chosen P Q [] all = refl
-all_chosen {A = A} P Q (x ∷ xs) all = by_test (Q x) (P x) refl all
-  where
-    by_test : (q p : Bool) → P x ≡ p → (p && list_all P xs) ≡ true → list_all P (cond q (x ∷ filter Q xs) (filter Q xs)) ≡ true
-    by_test q false is none = absurd (let no_way : false ≡ true = none in cc)
-    by_test true true is rest = ap₂ (λ a b. a && b) is (all_chosen P Q xs rest)
-    by_test false true is rest = all_chosen P Q xs rest
+all_chosen P Q (x ∷ xs) all = chosen_case P x xs (filter Q xs) (Q x) (P x) refl all (all_chosen P Q xs)
 
 -- ---- by a program that has the rules of a script
 

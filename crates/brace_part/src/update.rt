@@ -1,4 +1,4 @@
-ghost use Rattle.std.specs.Prelude.{◌≡◌, ◌≤◌, ◌^◌, List, length, map, filter_map, IsTrue, IfOk, IfErr, None};
+ghost use Rattle.std.specs.Prelude.{◌≡◌, ◌<◌, ◌≤◌, ◌^◌, List, length, map, filter_map, slice_index_or, IsTrue, IfOk, IfErr, None};
 ghost use Rattle.std.specs.List.{list_all};
 ghost use Rattle.std.specs.Result.{result_ok, result_err};
 ghost use Rattle.brace_model.specs.declared.fault.Fault.{Fault};
@@ -115,6 +115,14 @@ pub fn updated(
     }
 }
 
+/// The row at a place.
+fn row_at<'a>(rows: &[&'a [i128]], place: usize) -> &'a [i128]
+    requires { place < length rows.now }
+    ensures { result.now ≡ (slice_index_or rows.now place result).now }
+{
+    rows[place]
+}
+
 /// What agents leave, each by a row of its totals, those that live on and the children, or the least
 /// fault of their updates, agent by agent.
 fn updated_in_turn(
@@ -148,7 +156,8 @@ fn updated_in_turn(
     let mut born = Vec::new(alloc);
     let mut least = None;
     for i in 0..own.len() {
-        match plans.left_by(alloc, tick, &own[i], rows[i], &mut room) {
+        let totals = row_at(rows, i);
+        match plans.left_by(alloc, tick, &own[i], totals, &mut room) {
             Ok(next) => keep(&mut left, &mut born, next)?,
             Err(LeaveFault::Fault(fault)) => least = Some(with_earlier(least, fault)),
             Err(LeaveFault::NoMemory) => return Err(Cause::NoMemory),

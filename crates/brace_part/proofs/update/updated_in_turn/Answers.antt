@@ -1,4 +1,4 @@
-use Rattle.std.proofs.Common.{rules, ◌≡◌, ◌∙◌, ◌+◌, sym, ap, subst, ℤ, List, length, map, Some}
+use Rattle.std.proofs.Common.{rules, ◌≡◌, ◌<◌, ◌∙◌, ◌+◌, sym, ap, subst, ℤ, List, map, Some}
 use Rattle.std.proofs.lemmas.List.Sums.{AllPass-from_list_all}
 use Rattle.brace_model.specs.Lawful.{is_lawful_agent}
 use Rattle.brace_model.specs.declared.world.Agent.{Agent}
@@ -8,7 +8,7 @@ use Rattle.brace_model.specs.Query.{Saying}
 use Rattle.brace_eval.specs.Heard.{row_of}
 use Rattle.brace_part.proofs.TableLeft.{becoming, row_at, leaves, faults, same_left, all_left, caused}
 use Rattle.brace_part.proofs.update.updated_in_turn.Goals as goal
-use Rattle.brace_part.proofs.update.updated_in_turn.Goals.{in-Ok+in_ok-keep, in-Err-Fault}
+use Rattle.brace_part.proofs.update.updated_in_turn.Goals.{in-Ok+in_ok-keep-in-Ok, in-Err-Fault}
 use denote.Ref.{Bor}
 
 pub loop-i-preserved : goal.loop-i-preserved
@@ -20,23 +20,23 @@ loop-i-preserved c =
     let a = c.index-own-i.result in
     let low = c.loop-i-test.true in
     let is = c.index-own-i.is in
-    let row = c.index-rows-i.result in
+    let row = c.row_at-totals.result in
     let its : (said : List Saying) → map (λ (r : Bor (List ℤ)). r.now) c.args.rows.now ≡ map (row_of s.job.program said) own → row.now ≡ row_of s.job.program said a =
-    λ said. row_at (row_of s.job.program said) c.args.rows.now own i a row low (subst (λ n. i < n) (sym c.requires.rows) low) is (ap (λ (r : Bor (List ℤ)). r.now) c.index-rows-i.is) in
+    λ said. row_at (row_of s.job.program said) c.args.rows.now own i a row low (subst (λ n. i < n) (sym c.requires.rows) low) is c.row_at-totals.ensures in
     let rules : next_in c.loop-i.room tick (class_of s.job.program a) row.now a ≡ next_in c.loop-i.room tick (class_of c.args.plans.now a) row.now a =
     sym (c.requires.rules.next c.loop-i.room tick row.now a) in
-    elim c.left_by.branch [
-      | in-Ok+in_ok-keep w ↦
+    elim c.match-left_by.branch [
+      | in-Ok+in_ok-keep-in-Ok w ↦
           record {
-            seed = w.room-is ∙ w.left_by.ensures.seed ∙ c.loop-i.invariant.seed;
+            seed = c.left_by.ensures.seed ∙ c.loop-i.invariant.seed;
             so_far = λ said are.
-                same_left (becoming s tick said own (i + 1)) _ _ _ _ _ _ (ap (λ x. x.items) w.left-is ∙ w.in_ok-keep.ensures.left) (ap (λ x. x.items) w.born-is ∙ w.in_ok-keep.ensures.born) w.least-is
+                same_left (becoming s tick said own (i + 1)) _ _ _ _ _ _ (ap (λ x. x.items) w.left-is ∙ w.in_ok-keep-in-Ok.ensures.left) (ap (λ x. x.items) w.born-is ∙ w.in_ok-keep-in-Ok.ensures.born) w.least-is
                 (leaves s tick said own i a low is c.loop-i.left.items c.loop-i.born.items c.loop-i.least row.now c.loop-i.room (its said are) c.loop-i.invariant.seed
                 (c.loop-i.invariant.so_far said are) (record { agent = w.in-Ok.next.agent; child = w.in-Ok.next.child }) (rules ∙ w.in-Ok.ensures.left));
           }
       | in-Err-Fault w ↦
           record {
-            seed = w.room-is ∙ w.left_by.ensures.seed ∙ c.loop-i.invariant.seed;
+            seed = c.left_by.ensures.seed ∙ c.loop-i.invariant.seed;
             so_far = λ said are.
                 same_left (becoming s tick said own (i + 1)) _ _ _ _ _ _ (ap (λ x. x.items) w.left-is) (ap (λ x. x.items) w.born-is) (w.least-is ∙ ap Some w.with_earlier.ensures)
                 (faults s tick said own i a low is c.loop-i.left.items c.loop-i.born.items c.loop-i.least row.now c.loop-i.room (its said are) c.loop-i.invariant.seed
