@@ -4,13 +4,13 @@ ghost use Rattle.std.specs.List.{list_all};
 ghost use Rattle.brace_model.specs.Lawful.{LawfulProgram, is_lawful_agent};
 ghost use Rattle.brace_model.specs.World.{RisesById};
 
-use super::scripts::program;
 use brace_eval::Heard;
 use brace_fold::renew;
 use brace_model::{Agent, Program};
 use brace_num::NoMemory;
 use brace_plan::{Plans, Room, plan};
 use brace_rows::read_agents;
+use brace_test_runs::program;
 use std::alloc::Global;
 use std::test::Fail;
 
@@ -101,8 +101,9 @@ const GROWING: &str = "class P{#visible[4];#reach[1];public state fixed x:x+4.0*
  x+5.0;on<-rand()<0.5;}}class Q{#visible[1];public state fixed x:m;public state fixed y:y+rand();\
  public effect fixed m:max;die when rand()<0.3;}";
 
-const ROWS: &str = "P,1,0,0,3,true\nP,2,-1.5,2,4,false\nQ,3,1,1\nP,4,2.5,-2,9,true\nP,5,1,1,10,\
- true\nQ,6,0,0\nQ,7,2,-2\nQ,8,1,1\nP,9,40,0,8,true\n";
+const ROWS: &str =
+    "P,1,0,0,3,true\nP,2,-1.5,2,4,false\nP,4,2.5,-2,9,true\nP,5,1,1,10,true\nQ,6,0,0\n\
+ Q,7,2,-2\nQ,8,1,1\nP,9,40,0,8,true\nQ,10,1,1\n";
 
 /// One of the gifts stops.
 const STOPS: &str = "P,1,0,0,7,true\nP,2,0,0,7,false\nP,3,1,1,7,true\n";

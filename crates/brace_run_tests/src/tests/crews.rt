@@ -116,17 +116,20 @@ const CASES: [(Asked, Came); 8] = [
     ),
 ];
 
-/// The answer of a new publisher to one call, in which it is shown worlds up to a tick.
+/// The answer of a new publisher, by what it saves and whether it is fresh, to one call, in which it
+/// is shown worlds up to a tick.
 fn shown_to<'x, K: Keeper, O: Sink>(
     alloc: Global,
     setting: &Setting,
     out: &'x mut O,
     keeper: &'x mut K,
-    (save, fresh): (&'x Option<&'x str>, bool),
-    (tick, worlds): (u64, &[Shown]),
+    manner: (&'x Option<&'x str>, bool),
+    call: (u64, &[Shown]),
 ) -> Result<(), PubFault>
     requires { LawfulSetting setting.now }
 {
+    let (save, fresh) = manner;
+    let (tick, worlds) = call;
     let mut publisher = FilePublisher {
         out,
         keeper,
