@@ -8,7 +8,7 @@ use brace_eval::Heard;
 use brace_fold::renew;
 use brace_model::{Agent, Program};
 use brace_num::NoMemory;
-use brace_plan::{Plans, Room, plan};
+use brace_plan::{Left, Plans, Room, plan};
 use brace_rows::read_agents;
 use brace_test_runs::program;
 use std::alloc::Global;
@@ -33,10 +33,11 @@ fn one_by_one(
             return Ok(None);
         };
         place = place.saturating_add(1);
-        if let Some(agent) = left.agent {
+        let Left { agent, child } = left;
+        if let Some(agent) = agent {
             lives.push(agent)?;
         }
-        if let Some(child) = left.child {
+        if let Some(child) = child {
             born.push(child)?;
         }
     }
