@@ -21,7 +21,7 @@ import time
 from measure import written
 
 program, script = sys.argv[1:]
-ROUNDS, TICKS = 15, 5
+ROUNDS, TICKS = 9, 20
 COUNTS = 5_000, 10_000, 20_000, 40_000, 80_000
 draw = random.Random(7).random
 

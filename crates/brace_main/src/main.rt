@@ -8,6 +8,9 @@ use std::alloc::Global;
 use std::process::ExitCode;
 use std::{env, io};
 
+/// The bytes of a large block: as many as glibc goes along with, 32 MiB, less its own share.
+const LARGE_BLOCK: usize = 33_488_896;
+
 /// The words after the program's name.
 fn words(rt: &HostRuntime, alloc: Global) -> io::Result<Vec<String>> {
     let mut words = Vec::new(alloc);
@@ -30,7 +33,17 @@ fn unread<E: Sink>(err: &mut E, error: &io::Error) -> u8 {
     }
 }
 
+/// Takes a large block of memory and gives it back, if there is one. glibc then keeps up to twice as
+/// much that is free, which it would else give back to the host tick by tick, and take anew. No page
+/// of the block is touched.
+fn widen_heap(alloc: Global) {
+    if let Ok(block) = Vec::<u8>::with_capacity(alloc, LARGE_BLOCK) {
+        drop(block);
+    }
+}
+
 fn main(rt: HostRuntime) -> ExitCode {
+    widen_heap(rt.alloc());
     let mut err = ErrSink::make(rt.stderr());
     let words = match words(&rt, rt.alloc()) {
         Ok(words) => words,
