@@ -30,7 +30,7 @@ RUN = ("run", "--script", "s", "--agents", "a")
 COMMANDS = (
     (PAIRED, (*RUN, "--ticks", "1", "--cuts", "k", "--stats")),
     (PAIRED, (*RUN, "--ticks", "1", "--cuts", "k", "--stats", "--invert")),
-    (STEPPING, (*RUN, "--ticks", "2", "--epoch", "2", "--save", "c")),
+    ({**STEPPING, "c.2": "old"}, (*RUN, "--ticks", "2", "--epoch", "2", "--save", "c")),
     (STEPPING, (*RUN, "--ticks", "3", "--epoch", "2", "--save", "c", "--workers", "4")),
     ({"s": BEARING, "a": "B,1,0,0,0\nB,2,3,1,1\n", "k": "at 0 x 1 y\n"},
      (*RUN, "--ticks", "4", "--cuts", "k", "--epoch", "2", "--save", "c", "--workers", "2")),
@@ -89,7 +89,7 @@ class Command:
             return (f"brace: {'write fault' if status == 9 else 'no memory'}\n",)
         what = "read" if status == 8 else "save"
         return [f"brace: {name}: {what} fault\n" for name in self.whole[3]
-                if (name in self.files) == (status == 8)]
+                if name.startswith("c.") == (status == 10)]
 
     def is_right(self, kind, found):
         """Whether this may come of the command where a call of this kind failed."""
@@ -98,7 +98,8 @@ class Command:
             return False
         if status == 0:
             return (out, held) == (self.whole[1], self.whole[3])
-        saved = all(self.whole[3].get(name) == text for name, text in held.items())
+        saved = all(text in (self.whole[3].get(name), self.files.get(name))
+                    for name, text in held.items())
         return saved and self.whole[1].startswith(out) and (status != 8 or not out)
 
     def fail(self, kind, most):
