@@ -1,5 +1,3 @@
-pub mod Headings
-pub mod Scopes
 pub mod Types
 pub mod Findings
 pub mod Found
@@ -7,4 +5,3 @@ pub mod Faults
 pub mod Meanings
 pub mod Programs
 pub mod Resolved
-pub mod Checked

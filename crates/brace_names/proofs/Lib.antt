@@ -2,6 +2,8 @@ pub mod TableLemmas
 pub mod RepeatLemmas
 pub mod PastLemmas
 pub mod FirstLemmas
+pub mod Folds
+pub mod ByKind
 pub mod StmtLemmas
 pub mod FoundEquations
 pub mod NameOrder

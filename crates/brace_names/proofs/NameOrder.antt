@@ -1,6 +1,6 @@
 -- The places of what names stand for are places of tokens, in the same order.
 use Rattle.std.proofs.Common.{◌≡◌, refl, sym, ap, subst, ◌∙◌, ℕ, ◌+◌, ◌≤◌, Bool, true, false, List, [], ◌∷◌, ◌++◌, map, flat_map, length, arith}
-use Rattle.std.specs.Prelude.{Option, Some, None, not, ◌&&◌, if◌then◌else◌}
+use Rattle.std.specs.Prelude.{Option, Some, None, if◌then◌else◌}
 use Rattle.std.specs.Str.{bytes_eq}
 use Rattle.std.proofs.lemmas.List.{append-nil}
 use Rattle.std.proofs.lemmas.List.Concat.{flat_map-append, flat_map-cons}
@@ -12,12 +12,13 @@ use Rattle.brace_syntax.specs.declared.tree.Ident.{Ident}
 use Rattle.brace_syntax.specs.declared.tree.TyName.{TyName}
 use Rattle.brace_syntax.specs.declared.tree.TyName.TheVariants as ty
 use Rattle.brace_names.specs.declared.declared.Field.{Field}
-use Rattle.brace_names.specs.declared.scope.Local.{Local}
-use Rattle.brace_names.specs.declared.scope.Local.TheVariants as local
+use Rattle.brace_names.specs.declared.scope.Named as scopes
+use Rattle.brace_names.specs.declared.scope.Named.TheVariants as named
+use Rattle.brace_names.specs.declared.scope.LoopField.{LoopField}
 use Rattle.brace_names.specs.declared.finding.Finding.{Finding}
 use Rattle.brace_names.specs.declared.finding.Finding.TheVariants as finding
 use Rattle.brace_names.specs.declared.resolved.Binding.{Binding}
-use Rattle.brace_names.specs.Scopes.{Scope, is_taken, class_number, field_in, constant_of}
+use Rattle.brace_names.specs.Scopes.{Scope, is_taken, class_number, of_loop}
 use Rattle.brace_names.specs.Findings as f
 use Rattle.brace_names.specs.Tables.{look}
 use Rattle.brace_names.specs.Faults.{binding_of, AreRising}
@@ -38,10 +39,8 @@ join _ ys _ b (skip tok xs a r) s = skip tok (xs ++ ys) (a ++ b) (join xs ys a b
 join _ ys _ b (keep tok xs a r) s = keep tok (xs ++ ys) (a ++ b) (join xs ys a b r s)
 
 abbrev pub place_of : Finding → List ℕ
-place_of (finding.Fault x) = []
 place_of (finding.Names x) = x.at ∷ []
-place_of (finding.Site x) = []
-place_of (finding.Assignment x) = []
+place_of _ = []
 
 -- the places of what names stand for
 abbrev pub places : List Finding → List ℕ
@@ -111,50 +110,29 @@ pub quiet_declares : (scope : Scope) (name : Ident) → Silent (f.declares scope
 unfolding Silent
 quiet_declares scope name = quiet_if (is_taken scope name.text) _ refl
 
-quiet_summed : (scope : Scope) (at_ : ℕ) (o : Option Field) → Silent (f.summed scope at_ o)
+pub quiet_site : (b : Bool) (at_ : ℕ) → Silent (f.site_if b at_)
 unfolding Silent
-quiet_summed scope at_ None = refl
-quiet_summed scope at_ (Some x) = quiet_if (not scope.in_query && f.is_summed x) _ refl
-
-pub quiet_operation : (b : Bool) (at_ : ℕ) → Silent (f.operation b at_)
-unfolding Silent
-quiet_operation true at_ = refl
-quiet_operation false at_ = refl
+quiet_site true at_ = refl
+quiet_site false at_ = refl
 
 named_field : (src : List ℕ) (tok : Token) (at_ : ℕ) (o : Option Field) → Named (tok ∷ []) (f.names_field at_ (ident src tok) o)
 unfolding Named
 named_field src tok at_ None = nowhere (tok ∷ [])
 named_field src tok at_ (Some x) = keep tok [] [] none
 
-pub read_field : (src : List ℕ) (scope : Scope) (tok : Token) (at_ : ℕ) → Named (tok ∷ []) (f.reads_field scope at_ (ident src tok))
-read_field src scope tok at_ =
-    let o : Option Field = look scope.own (ident src tok).text in
-    behind (tok ∷ []) (f.names_field at_ (ident src tok) o) (f.summed scope at_ o) (named_field src tok at_ o) (quiet_summed scope at_ o)
-
-read_constant : (src : List ℕ) (scope : Scope) (tok : Token) (o : Option ℕ) → Named (tok ∷ []) (f.reads_constant scope (ident src tok) o)
+-- a name in an expression
+pub read : (src : List ℕ) (scope : Scope) (tok : Token) (at_ : ℕ) (o : Option scopes.Named) → Named (tok ∷ []) (f.reads scope at_ (ident src tok) o)
 unfolding Named
-read_constant src scope tok None = read_field src scope tok tok.from
-read_constant src scope tok (Some n) = keep tok [] [] none
+read src scope tok at_ None = nowhere (tok ∷ [])
+read src scope tok at_ (Some (named.Constant n t)) = keep tok [] [] none
+read src scope tok at_ (Some (named.Field x)) =
+    behind (tok ∷ []) (f.names_as tok.from (f.target_of x)) (f.site_if (f.is_summed scope x) at_) (keep tok [] [] none) (quiet_site (f.is_summed scope x) at_)
 
-pub read : (src : List ℕ) (scope : Scope) (tok : Token) → Named (tok ∷ []) (f.reads scope (ident src tok))
-read src scope tok = read_constant src scope tok (constant_of (look scope.locals (ident src tok).text))
-
-loop_field : (src : List ℕ) (loops : ℕ) (variable dot name : Token) (o : Option Field)
-    → Named (variable ∷ dot ∷ name ∷ []) (f.names_loop_field loops (ident src variable) (ident src name) o)
+loop_field : (src : List ℕ) (variable dot name : Token) (o : Option LoopField)
+    → Named (variable ∷ dot ∷ name ∷ []) (f.names_of_loop (ident src variable) (ident src name) o)
 unfolding Named
-loop_field src loops variable dot name None = nowhere (variable ∷ dot ∷ name ∷ [])
-loop_field src loops variable dot name (Some x) = keep variable (name.from ∷ []) (dot ∷ name ∷ []) (skip dot (name.from ∷ []) (name ∷ []) (keep name [] [] none))
-
-in_loop : (src : List ℕ) (scope : Scope) (variable dot name : Token) (o : Option Local)
-    → Named (variable ∷ dot ∷ name ∷ []) (f.names_in_loop scope (ident src variable) (ident src name) o)
-unfolding Named
-in_loop src scope variable dot name None = nowhere (variable ∷ dot ∷ name ∷ [])
-in_loop src scope variable dot name (Some (local.Constant n)) = nowhere (variable ∷ dot ∷ name ∷ [])
-in_loop src scope variable dot name (Some (local.Loop loops class)) = loop_field src loops variable dot name (field_in scope class (ident src name).text)
-
-pub of_loop : (src : List ℕ) (scope : Scope) (variable dot name : Token)
-    → Named (variable ∷ dot ∷ name ∷ []) (f.names_of_loop scope (ident src variable) (ident src name))
-of_loop src scope variable dot name = in_loop src scope variable dot name (look scope.locals (ident src variable).text)
+loop_field src variable dot name None = nowhere (variable ∷ dot ∷ name ∷ [])
+loop_field src variable dot name (Some x) = keep variable (name.from ∷ []) (dot ∷ name ∷ []) (skip dot (name.from ∷ []) (name ∷ []) (keep name [] [] none))
 
 where_query : (b : Bool) (toks : List Token) (all : List Finding) → Named toks all → Named toks (if b then all else [])
 unfolding Named
@@ -163,7 +141,9 @@ where_query false toks all r = nowhere toks
 
 pub read_of_loop : (src : List ℕ) (scope : Scope) (variable dot name : Token)
     → Named (variable ∷ dot ∷ name ∷ []) (f.reads_of_loop scope (ident src variable) (ident src name))
-read_of_loop src scope variable dot name = where_query scope.in_query (variable ∷ dot ∷ name ∷ []) _ (of_loop src scope variable dot name)
+read_of_loop src scope variable dot name =
+    where_query scope.in_query (variable ∷ dot ∷ name ∷ []) _
+    (loop_field src variable dot name (of_loop scope (ident src variable).text (ident src name).text))
 
 quiet_assignment : (at_ : ℕ) → Silent (f.assignment at_)
 unfolding Silent
@@ -171,14 +151,15 @@ quiet_assignment at_ = refl
 
 pub assigned : (src : List ℕ) (scope : Scope) (tok : Token) (at_ : ℕ) → Named (tok ∷ []) (f.assigns scope at_ (ident src tok))
 assigned src scope tok at_ =
-    let o : Option Field = look scope.own (ident src tok).text in
+    let o : Option Field = look scope.home.own (ident src tok).text in
     behind (tok ∷ []) (f.names_field at_ (ident src tok) o) (f.assignment at_) (named_field src tok at_ o) (quiet_assignment at_)
 
 pub assigned_of_loop : (src : List ℕ) (scope : Scope) (variable dot name : Token)
     → Named (variable ∷ dot ∷ name ∷ []) (f.assigns_of_loop scope (ident src variable) (ident src name))
 assigned_of_loop src scope variable dot name =
-    behind (variable ∷ dot ∷ name ∷ []) (f.names_of_loop scope (ident src variable) (ident src name)) (f.assignment variable.from)
-    (of_loop src scope variable dot name) (quiet_assignment variable.from)
+    let o : Option LoopField = of_loop scope (ident src variable).text (ident src name).text in
+    behind (variable ∷ dot ∷ name ∷ []) (f.names_of_loop (ident src variable) (ident src name) o) (f.assignment variable.from)
+    (loop_field src variable dot name o) (quiet_assignment variable.from)
 
 named_class : (tok : Token) (o : Option ℕ) → Named (tok ∷ []) (f.names_class tok.from o)
 unfolding Named

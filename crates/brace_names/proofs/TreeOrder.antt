@@ -1,9 +1,10 @@
 -- What the names of a script that is read stand for is in the order of its tokens.
-use Rattle.std.proofs.Common.{◌≡◌, refl, sym, subst, ℕ, Bool, true, false, List, [], ◌∷◌, ◌++◌, map, flat_map}
+use Rattle.std.proofs.Common.{◌≡◌, refl, sym, subst, ℕ, ◌+◌, Bool, true, false, List, [], ◌∷◌, ◌++◌, map, flat_map}
 use Rattle.std.specs.Prelude.{Option, Some, None, if◌then◌else◌, slice_get}
 use Rattle.std.specs.Option.{option_map}
 use Rattle.std.proofs.lemmas.List.Concat.{flat_map-cons}
 use Rattle.brace_tok.specs.declared.kinds.Token.{Token}
+use Rattle.brace_model.specs.Typing.{unary_faults, binary_faults}
 use Rattle.brace_syntax.specs.Tables.{ident}
 use Rattle.brace_syntax.specs.Reads as r
 use Rattle.brace_syntax.specs.Reads.{Row, ReadsExpr, ReadsStmt, ReadsStmts, ReadsBlock, ReadsField, ReadsGift, ReadsGifts, ReadsMember, ReadsMembers, ReadsClass, ReadsClasses}
@@ -14,21 +15,22 @@ use Rattle.brace_syntax.specs.declared.tree.GiftTree.{GiftTree}
 use Rattle.brace_syntax.specs.declared.tree.MemberTree.{MemberTree}
 use Rattle.brace_syntax.specs.declared.tree.ClassTree.{ClassTree}
 use Rattle.brace_syntax.specs.declared.tree.Tree.{Tree}
-use Rattle.brace_names.specs.declared.declared.Field.{Field}
 use Rattle.brace_names.specs.declared.finding.Finding.{Finding}
 use Rattle.brace_names.specs.declared.finding.Finding.TheVariants as finding
 use Rattle.brace_names.specs.declared.fault.NameFault.{NameFault}
 use Rattle.brace_names.specs.declared.fault.NameFault.TheVariants as fault
 use Rattle.brace_names.specs.declared.fault.Which.{Which}
 use Rattle.brace_names.specs.declared.fault.Which.TheVariants as which
-use Rattle.brace_names.specs.Tables.{table, repeated}
+use Rattle.brace_names.specs.Kinds.{unary_named, binary_named}
+use Rattle.brace_names.specs.Tables.{repeated}
 use Rattle.brace_names.specs.Classes.{Known, known, title, fields, has_position}
-use Rattle.brace_names.specs.Scopes.{Scope, outermost, inside, past}
+use Rattle.brace_names.specs.Scopes.{Home, home_of, Scope, outermost, read, read_own, inside, past}
+use Rattle.brace_names.specs.Walk.{behind, constants_in, block, in_classes}
 use Rattle.brace_names.specs.Findings as f
-use Rattle.brace_names.specs.Found.{expression, part, behind, constants_in, block, gift, states_given, gifts_found, member, members, too_many, position, declarations, class_names, found}
+use Rattle.brace_names.specs.Found.{expression, sought, part, gift, states_given, gifts_found, member, too_many, position, declarations, class_names, found}
 use Rattle.brace_names.proofs.FoundEquations as q
 use Rattle.brace_names.proofs.NameOrder as o
-use Rattle.brace_names.proofs.NameOrder.{Named, Silent, append, over, silent, padded, before, silent_both, quiet_nothing, quiet_typed, quiet_declares, quiet_operation, quiet_if, quiet_fault}
+use Rattle.brace_names.proofs.NameOrder.{Named, Silent, append, over, silent, padded, before, silent_both, quiet_nothing, quiet_typed, quiet_declares, quiet_site, quiet_if, quiet_fault}
 
 from : (toks : List Token) (all whole : List Finding) → whole ≡ all → Named toks all → Named toks whole
 from toks all whole e n = subst (Named toks) (sym e) n
@@ -36,76 +38,76 @@ from toks all whole e n = subst (Named toks) (sym e) n
 of_expression : (src : List ℕ) (row : Row) (toks : List Token) (x : ExprTree) → ReadsExpr src row toks x → (scope : Scope) → Named toks (expression x scope)
 of_expression src _ _ _ (r.alone row inner a x _ h) scope = of_expression src inner a x h scope
 of_expression src _ _ _ (r.joined row inner a b op name x y _ _ h g) scope =
-    from _ _ _ (q.in_Binary name x y op.from scope) (append a (op ∷ b) (expression x scope) (expression y scope ++ f.operation (f.binary_site name) op.from) (of_expression src row a x h scope)
-    (over op b _ (o.behind b _ _ (of_expression src inner b y g scope) (quiet_operation (f.binary_site name) op.from))))
+    from _ _ _ (q.in_Binary scope name x y op.from) (append a (op ∷ b) (expression x scope) (expression y scope ++ f.site_if (binary_faults (binary_named name)) op.from) (of_expression src row a x h scope)
+    (over op b _ (o.behind b _ _ (of_expression src inner b y g scope) (quiet_site (binary_faults (binary_named name)) op.from))))
 of_expression src _ _ _ (r.compared a b op name x y _ h g) scope =
-    from _ _ _ (q.in_Binary name x y op.from scope) (append a (op ∷ b) (expression x scope) (expression y scope ++ f.operation (f.binary_site name) op.from) (of_expression src r.sums a x h scope)
-    (over op b _ (o.behind b _ _ (of_expression src r.sums b y g scope) (quiet_operation (f.binary_site name) op.from))))
+    from _ _ _ (q.in_Binary scope name x y op.from) (append a (op ∷ b) (expression x scope) (expression y scope ++ f.site_if (binary_faults (binary_named name)) op.from) (of_expression src r.sums a x h scope)
+    (over op b _ (o.behind b _ _ (of_expression src r.sums b y g scope) (quiet_site (binary_faults (binary_named name)) op.from))))
 of_expression src _ _ _ (r.chosen a b c question colon w x y _ _ h g e) scope =
-    from _ _ _ (q.in_Choice w x y question.from scope)
+    from _ _ _ (q.in_Choice scope w x y question.from)
     (append (a ++ question ∷ b) (colon ∷ c) (expression w scope ++ expression x scope) (expression y scope)
     (append a (question ∷ b) (expression w scope) (expression x scope) (of_expression src r.ors a w h scope) (over question b _ (of_expression src r.choices b x g scope)))
     (over colon c _ (of_expression src r.choices c y e scope)))
 of_expression src _ _ _ (r.prefix a op name x _ h) scope =
-    from _ _ _ (q.in_Unary name x op.from scope) (over op a _ (o.behind a _ _ (of_expression src r.prefixed a x h scope) (quiet_operation (f.unary_site name) op.from)))
+    from _ _ _ (q.in_Unary scope name x op.from) (over op a _ (o.behind a _ _ (of_expression src r.prefixed a x h scope) (quiet_site (unary_faults (unary_named name)) op.from)))
 of_expression src _ _ _ (r.literal tok n _) scope =
-    from _ _ _ (q.in_Lit n scope) (silent (tok ∷ []) [] quiet_nothing)
+    from _ _ _ (q.in_Lit scope n) (silent (tok ∷ []) [] quiet_nothing)
 of_expression src _ _ _ (r.truth tok _) scope =
-    from _ _ _ (q.in_True tok.from scope) (silent (tok ∷ []) [] quiet_nothing)
+    from _ _ _ (q.in_True scope tok.from) (silent (tok ∷ []) [] quiet_nothing)
 of_expression src _ _ _ (r.falsity tok _) scope =
-    from _ _ _ (q.in_False tok.from scope) (silent (tok ∷ []) [] quiet_nothing)
+    from _ _ _ (q.in_False scope tok.from) (silent (tok ∷ []) [] quiet_nothing)
 of_expression src _ _ _ (r.enclosed a opening closing x _ _ h) scope =
     over opening (a ++ closing ∷ []) _ (padded a (closing ∷ []) _ (of_expression src r.choices a x h scope))
 of_expression src _ _ _ (r.of_this this dot name _ _ _) scope =
-    from _ _ _ (q.in_OfThis (ident src name) this.from scope) (over this (dot ∷ name ∷ []) _ (over dot (name ∷ []) _ (o.read_field src scope name this.from)))
+    from _ _ _ (q.in_OfThis scope (ident src name) this.from) (over this (dot ∷ name ∷ []) _ (over dot (name ∷ []) _ (o.read src scope name this.from (read_own scope (ident src name).text))))
 of_expression src _ _ _ (r.named name _) scope =
-    from _ _ _ (q.in_Name (ident src name) scope) (o.read src scope name)
+    from _ _ _ (q.in_Name scope (ident src name)) (o.read src scope name name.from (read scope (ident src name).text))
 of_expression src _ _ _ (r.of_loop loop dot name _ _ _) scope =
-    from _ _ _ (q.in_OfLoop (ident src loop) (ident src name) scope) (o.read_of_loop src scope loop dot name)
+    from _ _ _ (q.in_OfLoop scope (ident src loop) (ident src name)) (o.read_of_loop src scope loop dot name)
 of_expression src _ _ _ (r.called_one a word opening closing name x _ _ _ h) scope =
-    from _ _ _ (q.in_Unary name x word.from scope) (over word _ _ (over opening (a ++ closing ∷ []) _ (padded a (closing ∷ []) _
-    (o.behind a _ _ (of_expression src r.choices a x h scope) (quiet_operation (f.unary_site name) word.from)))))
+    from _ _ _ (q.in_Unary scope name x word.from) (over word _ _ (over opening (a ++ closing ∷ []) _ (padded a (closing ∷ []) _
+    (o.behind a _ _ (of_expression src r.choices a x h scope) (quiet_site (unary_faults (unary_named name)) word.from)))))
 of_expression src _ _ _ (r.called_two a b word opening comma closing name x y _ _ _ _ h g) scope =
-    from _ _ _ (q.in_Binary name x y word.from scope) (over word _ _ (over opening (a ++ comma ∷ b ++ closing ∷ []) _ (padded (a ++ comma ∷ b) (closing ∷ []) _
-    (append a (comma ∷ b) (expression x scope) (expression y scope ++ f.operation (f.binary_site name) word.from) (of_expression src r.choices a x h scope)
-    (over comma b _ (o.behind b _ _ (of_expression src r.choices b y g scope) (quiet_operation (f.binary_site name) word.from)))))))
+    from _ _ _ (q.in_Binary scope name x y word.from) (over word _ _ (over opening (a ++ comma ∷ b ++ closing ∷ []) _ (padded (a ++ comma ∷ b) (closing ∷ []) _
+    (append a (comma ∷ b) (expression x scope) (expression y scope ++ f.site_if (binary_faults (binary_named name)) word.from) (of_expression src r.choices a x h scope)
+    (over comma b _ (o.behind b _ _ (of_expression src r.choices b y g scope) (quiet_site (binary_faults (binary_named name)) word.from)))))))
 of_expression src _ _ _ (r.random word opening closing _ _ _) scope =
-    from _ _ _ (q.in_Rand word.from scope) (silent (word ∷ opening ∷ closing ∷ []) (f.site word.from) (quiet_fault (finding.Site word.from) refl))
+    from _ _ _ (q.in_Rand scope word.from) (silent (word ∷ opening ∷ closing ∷ []) (f.site word.from) (quiet_fault (finding.Site word.from) refl))
 
 mutual
-  of_statement : (src : List ℕ) (toks : List Token) (x : StmtTree) → ReadsStmt src toks x → (scope : Scope) → Named toks ((part x).found scope)
+  of_statement : (src : List ℕ) (toks : List Token) (x : StmtTree) → ReadsStmt src toks x → (scope : Scope) → Named toks ((part x).here scope)
   of_statement src _ _ (r.const a word type name equals semicolon t x _ _ _ _ _ h) scope =
-      from _ _ _ (q.in_Const t (ident src name) x word.from scope) (over word _ _ (over type _ _ (over name _ _ (over equals (a ++ semicolon ∷ []) _ (padded a (semicolon ∷ []) _
-      (before a (f.typed t) _ (quiet_typed t) (before a (f.declares scope (ident src name)) _ (quiet_declares scope (ident src name))
-      (of_expression src r.choices a x h scope))))))))
+      from _ _ _ (q.in_Const sought scope t (ident src name) x word.from) (over word _ _ (over type _ _ (over name _ _ (over equals (a ++ semicolon ∷ []) _ (padded a (semicolon ∷ []) _
+      (before a (f.typed t ++ f.declares scope (ident src name)) _ (silent_both (f.typed t) (f.declares scope (ident src name)) (quiet_typed t) (quiet_declares scope (ident src name)))
+      (of_expression src r.choices a x h scope)))))))
   of_statement src _ _ (r.when a b word opening closing x xs _ _ _ h g) scope =
-      from _ _ _ (q.in_If x xs word.from scope) (over word _ _ (over opening (a ++ closing ∷ b) _ (append a (closing ∷ b) (expression x scope) (block (map part xs) scope ++ [])
+      from _ _ _ (q.in_If sought scope x xs word.from) (over word _ _ (over opening (a ++ closing ∷ b) _ (append a (closing ∷ b) (expression x scope) (block (map part xs) scope ++ [])
       (of_expression src r.choices a x h scope) (over closing b _ (o.behind b (block (map part xs) scope) [] (of_block src b xs g scope) quiet_nothing)))))
   of_statement src _ _ (r.either_way a b c word opening closing otherwise x xs ys _ _ _ _ h g e) scope =
       let later : Scope = past (constants_in (map part xs)) scope in
-      from _ _ _ (q.in_IfElse x xs ys word.from scope) (over word _ _ (over opening (a ++ closing ∷ b ++ otherwise ∷ c) _
+      from _ _ _ (q.in_IfElse sought scope x xs ys word.from) (over word _ _ (over opening (a ++ closing ∷ b ++ otherwise ∷ c) _
       (append (a ++ closing ∷ b) (otherwise ∷ c) (expression x scope ++ block (map part xs) scope) (block (map part ys) later)
       (append a (closing ∷ b) (expression x scope) (block (map part xs) scope) (of_expression src r.choices a x h scope) (over closing b _ (of_block src b xs g scope)))
       (over otherwise c _ (of_block src c ys e later)))))
   of_statement src _ _ (r.foreach a word opening class variable colon extent less other greater closing xs _ _ _ _ _ _ _ _ _ _ h) scope =
-      from _ _ _ (q.in_Foreach (ident src class) (ident src variable) (ident src other) xs word.from scope) (over word _ _ (over opening _ _ (append (class ∷ variable ∷ colon ∷ extent ∷ less ∷ other ∷ []) (greater ∷ closing ∷ a)
-      (f.loops_over scope (ident src class) (ident src other)) _ (o.looped src scope class variable colon extent less other)
-      (over greater _ _ (over closing a _ (before a (f.declares scope (ident src variable)) _ (quiet_declares scope (ident src variable))
-      (of_block src a xs h (inside (ident src class) (ident src variable) scope))))))))
+      from _ _ _ (q.in_Foreach sought scope (ident src class) (ident src variable) (ident src other) xs word.from) (over word _ _ (over opening _ _ (append (class ∷ variable ∷ colon ∷ extent ∷ less ∷ other ∷ []) (greater ∷ closing ∷ a)
+      (f.loops_over scope (ident src class) (ident src other) ++ f.declares scope (ident src variable)) _
+      (o.behind _ _ (f.declares scope (ident src variable)) (o.looped src scope class variable colon extent less other) (quiet_declares scope (ident src variable)))
+      (over greater _ _ (over closing a _ (of_block src a xs h (inside (ident src class) (ident src variable) scope)))))))
   of_statement src _ _ (r.assign_this a this dot name arrow semicolon x _ _ _ _ _ h) scope =
-      from _ _ _ (q.in_AssignThis (ident src name) x this.from scope) (over this _ _ (over dot _ _ (append (name ∷ []) (arrow ∷ a ++ semicolon ∷ []) (f.assigns scope this.from (ident src name)) (expression x scope)
+      from _ _ _ (q.in_AssignThis sought scope (ident src name) x this.from) (over this _ _ (over dot _ _ (append (name ∷ []) (arrow ∷ a ++ semicolon ∷ []) (f.assigns scope this.from (ident src name)) (expression x scope)
       (o.assigned src scope name this.from) (over arrow (a ++ semicolon ∷ []) _ (padded a (semicolon ∷ []) _ (of_expression src r.choices a x h scope))))))
   of_statement src _ _ (r.assign a name arrow semicolon x _ _ _ h) scope =
-      from _ _ _ (q.in_Assign (ident src name) x scope) (append (name ∷ []) (arrow ∷ a ++ semicolon ∷ []) (f.assigns scope name.from (ident src name)) (expression x scope)
+      from _ _ _ (q.in_Assign sought scope (ident src name) x) (append (name ∷ []) (arrow ∷ a ++ semicolon ∷ []) (f.assigns scope name.from (ident src name)) (expression x scope)
       (o.assigned src scope name name.from) (over arrow (a ++ semicolon ∷ []) _ (padded a (semicolon ∷ []) _ (of_expression src r.choices a x h scope))))
   of_statement src _ _ (r.assign_loop a loop dot name arrow semicolon x _ _ _ _ _ h) scope =
-      from _ _ _ (q.in_AssignLoop (ident src loop) (ident src name) x scope) (append (loop ∷ dot ∷ name ∷ []) (arrow ∷ a ++ semicolon ∷ []) (f.assigns_of_loop scope (ident src loop) (ident src name)) (expression x scope)
+      from _ _ _ (q.in_AssignLoop sought scope (ident src loop) (ident src name) x) (append (loop ∷ dot ∷ name ∷ []) (arrow ∷ a ++ semicolon ∷ []) (f.assigns_of_loop scope (ident src loop) (ident src name)) (expression x scope)
       (o.assigned_of_loop src scope loop dot name) (over arrow (a ++ semicolon ∷ []) _ (padded a (semicolon ∷ []) _ (of_expression src r.choices a x h scope))))
 
   of_statements : (src : List ℕ) (toks : List Token) (xs : List StmtTree) → ReadsStmts src toks xs → (scope : Scope) → Named toks (block (map part xs) scope)
   of_statements src _ _ r.none scope = silent [] [] quiet_nothing
   of_statements src _ _ (r.more a b x xs h g) scope =
-      append a b ((part x).found scope) (block (map part xs) (behind (part x) scope)) (of_statement src a x h scope) (of_statements src b xs g (behind (part x) scope))
+      append a b ((part x).here scope) (block (map part xs) (behind (part x) scope)) (of_statement src a x h scope) (of_statements src b xs g (behind (part x) scope))
 
   of_block : (src : List ℕ) (toks : List Token) (xs : List StmtTree) → ReadsBlock src toks xs → (scope : Scope) → Named toks (block (map part xs) scope)
   of_block src _ _ (r.braced a opening closing xs _ _ h) scope =
@@ -127,27 +129,27 @@ quiet_faults kind (p ∷ ps) = silent_both (finding.Fault (kind p) ∷ []) (f.fa
 
 -- the members of a class
 
-module _ (all : Known) (own : List (List ℕ × Field)) where
-  of_field : (src : List ℕ) (shared : Bool) (at_ : ℕ) (toks : List Token) (x : MemberTree) → ReadsField src shared at_ toks x → Named toks (member all own x)
+module _ (home : Home) where
+  of_field : (src : List ℕ) (shared : Bool) (at_ : ℕ) (toks : List Token) (x : MemberTree) → ReadsField src shared at_ toks x → Named toks (member home x)
   of_field src shared at_ _ _ (r.state word type name semicolon t _ _ _ _) =
       silent (word ∷ type ∷ name ∷ semicolon ∷ []) _ (silent_both (f.typed t) [] (quiet_typed t) quiet_nothing)
   of_field src shared at_ _ _ (r.ruled a word type name colon semicolon t x _ _ _ _ _ h) =
       over word _ _ (over type _ _ (over name _ _ (over colon (a ++ semicolon ∷ []) _ (padded a (semicolon ∷ []) _
-      (before a (f.typed t) _ (quiet_typed t) (of_expression src r.choices a x h (outermost all own false)))))))
+      (before a (f.typed t) _ (quiet_typed t) (of_expression src r.choices a x h (outermost home false)))))))
   of_field src shared at_ _ _ (r.effect word type name colon combinator semicolon t c _ _ _ _ _ _) =
       silent (word ∷ type ∷ name ∷ colon ∷ combinator ∷ semicolon ∷ []) _ (quiet_typed t)
 
-  of_member : (src : List ℕ) (toks : List Token) (x : MemberTree) → ReadsMember src toks x → Named toks (member all own x)
+  of_member : (src : List ℕ) (toks : List Token) (x : MemberTree) → ReadsMember src toks x → Named toks (member home x)
   of_member src _ _ (r.visible word opening range closing semicolon n _ _ _ _ _) = silent (word ∷ opening ∷ range ∷ closing ∷ semicolon ∷ []) [] quiet_nothing
   of_member src _ _ (r.reach word opening range closing semicolon n _ _ _ _ _) = silent (word ∷ opening ∷ range ∷ closing ∷ semicolon ∷ []) [] quiet_nothing
   of_member src _ _ (r.public a word x _ h) = over word a _ (of_field src true word.from a x h)
   of_member src _ _ (r.private a word x _ h) = over word a _ (of_field src false word.from a x h)
   of_member src _ _ (r.run a word void run opening closing xs _ _ _ _ _ h) =
-      over word _ _ (over void _ _ (over run _ _ (over opening _ _ (over closing a _ (of_block src a xs h (outermost all own true))))))
+      over word _ _ (over void _ _ (over run _ _ (over opening _ _ (over closing a _ (of_block src a xs h (outermost home true))))))
   of_member src _ _ (r.die a word when semicolon x _ _ _ h) =
-      over word _ _ (over when (a ++ semicolon ∷ []) _ (padded a (semicolon ∷ []) _ (of_expression src r.choices a x h (outermost all own false))))
+      over word _ _ (over when (a ++ semicolon ∷ []) _ (padded a (semicolon ∷ []) _ (of_expression src r.choices a x h (outermost home false))))
   of_member src _ _ (r.spawn a b word when opening closing x gs _ _ _ _ h g) =
-      let scope : Scope = outermost all own false in
+      let scope : Scope = outermost home false in
       let again : List Finding = f.faults_at fault.DuplicateName (repeated (states_given scope gs)) in
       over word _ _ (over when (a ++ opening ∷ b ++ closing ∷ []) _ (padded (a ++ opening ∷ b) (closing ∷ []) _
       (append a (opening ∷ b) (expression x scope) (gifts_found scope gs word.from) (of_expression src r.choices a x h scope)
@@ -155,21 +157,21 @@ module _ (all : Known) (own : List (List ℕ × Field)) where
       (o.behind b (flat_map (gift scope) gs) again (of_gifts src b gs g scope) (quiet_faults fault.DuplicateName (repeated (states_given scope gs))))
       (quiet_fault (finding.Site word.from) refl))))))
 
-  of_members : (src : List ℕ) (toks : List Token) (xs : List MemberTree) → ReadsMembers src toks xs → Named toks (flat_map (member all own) xs)
+  of_members : (src : List ℕ) (toks : List Token) (xs : List MemberTree) → ReadsMembers src toks xs → Named toks (flat_map (member home) xs)
   of_members src _ _ r.none = silent [] [] quiet_nothing
   of_members src _ _ (r.more a b x xs h g) =
-      subst (Named (a ++ b)) (sym (flat_map-cons (member all own) x xs)) (append a b (member all own x) (flat_map (member all own) xs) (of_member src a x h) (of_members src b xs g))
+      subst (Named (a ++ b)) (sym (flat_map-cons (member home) x xs)) (append a b (member home x) (flat_map (member home) xs) (of_member src a x h) (of_members src b xs g))
 
-of_class : (all : Known) (src : List ℕ) (toks : List Token) (x : ClassTree) → ReadsClass src toks x → Named toks (members all x)
-of_class all src _ _ (r.class a word name opening closing xs _ _ _ _ h) =
+of_class : (all : Known) (number : ℕ) (src : List ℕ) (toks : List Token) (x : ClassTree) → ReadsClass src toks x → Named toks (flat_map (member (home_of all number x)) x.members)
+of_class all number src _ _ (r.class a word name opening closing xs _ _ _ _ h) =
     over word _ _ (over name _ _ (over opening (a ++ closing ∷ []) _ (padded a (closing ∷ []) _
-    (of_members all (table (fields (record { name = ident src name; members = xs; at = word.from }))) src a xs h))))
+    (of_members (home_of all number (record { name = ident src name; members = xs; at = word.from })) src a xs h))))
 
-of_classes : (all : Known) (src : List ℕ) (toks : List Token) (xs : List ClassTree) → ReadsClasses src toks xs → Named toks (flat_map (members all) xs)
-of_classes all src _ _ (r.last a x h) =
-    subst (Named a) (sym (flat_map-cons (members all) x [])) (o.behind a (members all x) [] (of_class all src a x h) quiet_nothing)
-of_classes all src _ _ (r.more a b x xs h g) =
-    subst (Named (a ++ b)) (sym (flat_map-cons (members all) x xs)) (append a b (members all x) (flat_map (members all) xs) (of_class all src a x h) (of_classes all src b xs g))
+of_classes : (all : Known) (number : ℕ) (src : List ℕ) (toks : List Token) (xs : List ClassTree) → ReadsClasses src toks xs → Named toks (in_classes member all number xs)
+of_classes all number src _ _ (r.last a x h) =
+    o.behind a (flat_map (member (home_of all number x)) x.members) [] (of_class all number src a x h) quiet_nothing
+of_classes all number src _ _ (r.more a b x xs h g) =
+    append a b (flat_map (member (home_of all number x)) x.members) (in_classes member all (number + 1) xs) (of_class all number src a x h) (of_classes all (number + 1) src b xs g)
 
 quiet_too_many : (w : Which) (name : Option Ident) → Silent (too_many w name)
 quiet_too_many w None = quiet_nothing
@@ -198,6 +200,6 @@ quiet_names names =
 pub of_script : (src : List ℕ) (toks : List Token) (tree : Tree) → ReadsClasses src toks tree.classes → Named toks (found tree)
 of_script src toks tree h =
     let names : List Ident = map (λ class. class.name) tree.classes in
-    before toks (class_names names ++ flat_map declarations tree.classes) (flat_map (members (known tree.classes)) tree.classes)
+    before toks (class_names names ++ flat_map declarations tree.classes) (in_classes member (known tree.classes) 0 tree.classes)
     (silent_both (class_names names) (flat_map declarations tree.classes) (quiet_names names) (quiet_classes tree.classes))
-    (of_classes (known tree.classes) src toks tree.classes h)
+    (of_classes (known tree.classes) 0 src toks tree.classes h)
