@@ -11,11 +11,13 @@ use Rattle.brace_model.specs.declared.program.Stmt.{Stmt}
 use Rattle.brace_model.specs.declared.program.Stmt.TheVariants as stmt
 use Rattle.brace_model.specs.Sites.{sites_of, sites_in}
 use Rattle.brace_model.proofs.LawEquations.{sites_in-Const, sites_in-If, sites_in-Foreach, sites_in-Assign}
-use Rattle.brace_check.specs.Scopes.{Scope, Part, stands, number_of, inside, past, behind, constants_in}
-use Rattle.brace_check.specs.Meanings.{Sited, plain, followed, with_sites, agent_of, expression, assigned, block, part, part_step}
-use Rattle.brace_check.proofs.ByKind.{ProvedStmt, stmts_of, Statements, proved, stmts-proved}
-use Rattle.brace_check.proofs.Folds.{of-Const, of-when, of-either, of-Foreach, of-Assign, of-AssignThis, of-AssignLoop}
+use Rattle.brace_names.proofs.ByKind.{ProvedStmt, stmts_of, Statements, proved, stmts-proved}
+use Rattle.brace_names.proofs.Folds.{of-Const, of-when, of-either, of-Foreach, of-Assign, of-AssignThis, of-AssignLoop}
 use Rattle.brace_check.proofs.Numbering.{Numbered, plain_numbered, made_numbered, followed_numbered, expression_numbered, concat-map}
+use Rattle.brace_names.specs.Tables.{look}
+use Rattle.brace_names.specs.Scopes.{Scope, of_loop, inside, past}
+use Rattle.brace_names.specs.Walk.{Part, behind, constants_in}
+use Rattle.brace_check.specs.Meanings.{Sited, plain, number_of, agent_of, loop_number, number_in, expression, followed, with_sites, assigned, block, part, part_step}
 
 -- the sites of a block, and of two blocks
 abbrev pub block_sites : List Stmt → List ℕ
@@ -77,14 +79,14 @@ kinds_numbered = record {
       (block (map part (stmts_of b)) (past (constants_in (map part (stmts_of a))) scope))
       (expression_numbered c scope) (parts_numbered a scope) (parts_numbered b (past (constants_in (map part (stmts_of a))) scope)));
   foreach = λ class variable other a at. back (s.Foreach class variable other (stmts_of a) at) _ (of-Foreach part_step class variable other (stmts_of a) at)
-      (λ scope. loop_numbered (number_of (stands scope class.at)) at (block (map part (stmts_of a)) (inside (number_of (stands scope class.at)) scope))
-      (parts_numbered a (inside (number_of (stands scope class.at)) scope)));
+      (λ scope. loop_numbered (number_in scope class) at (block (map part (stmts_of a)) (inside class variable scope))
+      (parts_numbered a (inside class variable scope)));
   assign = λ name x. back (s.Assign name x) _ (of-Assign part_step name x)
-      (λ scope. said_numbered This (number_of (stands scope name.at)) name.at (expression x scope) (expression_numbered x scope));
+      (λ scope. said_numbered This (number_of (look scope.home.own name.text)) name.at (expression x scope) (expression_numbered x scope));
   assign_this = λ name x at. back (s.AssignThis name x at) _ (of-AssignThis part_step name x at)
-      (λ scope. said_numbered This (number_of (stands scope name.at)) at (expression x scope) (expression_numbered x scope));
+      (λ scope. said_numbered This (number_of (look scope.home.own name.text)) at (expression x scope) (expression_numbered x scope));
   assign_loop = λ variable name x. back (s.AssignLoop variable name x) _ (of-AssignLoop part_step variable name x)
-      (λ scope. said_numbered (agent_of (stands scope variable.at)) (number_of (stands scope name.at)) variable.at (expression x scope) (expression_numbered x scope));
+      (λ scope. said_numbered (agent_of (of_loop scope variable.text name.text)) (loop_number (of_loop scope variable.text name.text)) variable.at (expression x scope) (expression_numbered x scope));
 }
 
 -- the sites of a block are numbered in finishing order

@@ -6,43 +6,37 @@ use Rattle.std.proofs.lemmas.Bool.{true≢false, ne_eqb, and_from, lt-ltb}
 use Rattle.brace_num.proofs.Lists.{none_front}
 use Rattle.brace_syntax.specs.declared.tree.MemberTree.{MemberTree}
 use Rattle.brace_syntax.specs.declared.tree.MemberTree.TheVariants as m
-use Rattle.brace_names.specs.declared.resolved.Target.{Target}
 use Rattle.brace_model.specs.declared.program.Stmt.{Stmt}
 use Rattle.brace_model.specs.Query.{constants}
 use Rattle.brace_model.specs.Sites.{constant_numbers}
 use Rattle.brace_model.specs.Lawful.{is_distance, combines}
 use Rattle.brace_check.specs.declared.fault.CheckFault.{CheckFault}
 use Rattle.brace_check.specs.declared.fault.CheckFault.TheVariants.{BadRange, WrongCombinator}
-use Rattle.brace_check.specs.declared.heading.Heading.{Heading}
-use Rattle.brace_check.specs.Headings.{type_named, comb_named}
-use Rattle.brace_check.specs.Scopes.{outermost}
 use Rattle.brace_check.specs.Findings.{fault_if, millionths}
 use Rattle.brace_check.specs.Found.{member}
 use Rattle.brace_check.specs.Programs.{effect_of, visible_of, reach_of, first_or_0, share, shares}
 use Rattle.brace_check.proofs.Rising.{Rises, range_rises}
 use Rattle.brace_check.proofs.ConstantNumbers.{BlockDeclares, none_declared, block_declares}
-
-module _ {A : Type 0} where
-  pub nil_back : (xs ys : List A) → xs ++ ys ≡ [] → ys ≡ []
-  nil_back [] ys h = h
-  nil_back (x ∷ xs) ys h = absurd (cc)
+use Rattle.brace_names.specs.Kinds.{type_named, comb_named}
+use Rattle.brace_names.specs.Scopes.{Home, outermost}
+use Rattle.brace_check.proofs.ExprSound.{nil_back}
 
 none_if : (test : Bool) (f : CheckFault) → fault_if (not test) f ≡ [] → test ≡ true
 none_if true f h = refl
 none_if false f h = absurd (cc)
 
-module _ (targets : List (ℕ × Target)) (headings : List Heading) (own : ℕ) where
+module _ (home : Home) where
   abbrev rest : MemberTree → List MemberTree → Type 0
-  rest one members = flat_map (member targets headings own) (one ∷ members) ≡ []
+  rest one members = flat_map (member home) (one ∷ members) ≡ []
 
-  behind_one : (one : MemberTree) (members : List MemberTree) → rest one members → flat_map (member targets headings own) members ≡ []
-  behind_one one members h = nil_back (member targets headings own one) (flat_map (member targets headings own) members) h
+  behind_one : (one : MemberTree) (members : List MemberTree) → rest one members → flat_map (member home) members ≡ []
+  behind_one one members h = nil_back (member home one) (flat_map (member home) members) h
 
-  first_one : (one : MemberTree) (members : List MemberTree) → rest one members → member targets headings own one ≡ []
-  first_one one members h = none_front (member targets headings own one) (flat_map (member targets headings own) members) h
+  first_one : (one : MemberTree) (members : List MemberTree) → rest one members → member home one ≡ []
+  first_one one members h = none_front (member home one) (flat_map (member home) members) h
 
   -- the visible range is a distance
-  pub visible_fits : (members : List MemberTree) → flat_map (member targets headings own) members ≡ []
+  pub visible_fits : (members : List MemberTree) → flat_map (member home) members ≡ []
       → IsTrue (is_distance (first_or_0 (flat_map visible_of members)))
   visible_fits [] h = refl
   visible_fits (m.Visible range at ∷ members) h =
@@ -55,7 +49,7 @@ module _ (targets : List (ℕ × Target)) (headings : List Heading) (own : ℕ) 
   visible_fits (m.Spawn x gifts at ∷ members) h = visible_fits members (behind_one (m.Spawn x gifts at) members h)
 
   -- so is the reach
-  pub reach_fits : (members : List MemberTree) → flat_map (member targets headings own) members ≡ []
+  pub reach_fits : (members : List MemberTree) → flat_map (member home) members ≡ []
       → IsTrue (is_distance (first_or_0 (flat_map reach_of members)))
   reach_fits [] h = refl
   reach_fits (m.Reach range at ∷ members) h =
@@ -68,7 +62,7 @@ module _ (targets : List (ℕ × Target)) (headings : List Heading) (own : ℕ) 
   reach_fits (m.Spawn x gifts at ∷ members) h = reach_fits members (behind_one (m.Spawn x gifts at) members h)
 
   -- combinators fit
-  pub effects_fit : (members : List MemberTree) → flat_map (member targets headings own) members ≡ []
+  pub effects_fit : (members : List MemberTree) → flat_map (member home) members ≡ []
       → IsTrue (list_all (λ e. combines e.comb e.ty) (flat_map effect_of members))
   effects_fit [] h = refl
   effects_fit (m.Effect shared type name c at ∷ members) h =
@@ -91,10 +85,10 @@ joined : (xs ys : List (List Stmt)) → AllByRecursion FromZero xs → AllByRecu
 joined [] ys here there = there
 joined (x ∷ xs) ys here there = (here.0, joined xs ys here.1 there)
 
-module _ (targets : List (ℕ × Target)) (headings : List Heading) (own : ℕ) where
-  one_from_zero : (one : MemberTree) (n : ℕ) → AllByRecursion FromZero ((share targets headings own one).behind n).queries
+module _ (home : Home) where
+  one_from_zero : (one : MemberTree) (n : ℕ) → AllByRecursion FromZero ((share home one).behind n).queries
   one_from_zero (m.Run statements at) n =
-      (record { count = _; declares = block_declares statements (outermost targets headings own true) n }, tt)
+      (record { count = _; declares = block_declares statements (outermost home true) n }, tt)
   one_from_zero (m.Visible range at) n = tt
   one_from_zero (m.Reach range at) n = tt
   one_from_zero (m.State shared type name x at) n = tt
@@ -103,12 +97,12 @@ module _ (targets : List (ℕ × Target)) (headings : List Heading) (own : ℕ) 
   one_from_zero (m.Spawn x gifts at) n = tt
 
   -- the constants of each query are numbered from 0 on
-  pub from_zero : (members : List MemberTree) (n : ℕ) → AllByRecursion FromZero ((shares targets headings own members).behind n).queries
+  pub from_zero : (members : List MemberTree) (n : ℕ) → AllByRecursion FromZero ((shares home members).behind n).queries
   from_zero [] n = tt
   from_zero (one ∷ members) n =
-      joined ((share targets headings own one).behind n).queries
-      ((shares targets headings own members).behind (n + length (share targets headings own one).sites)).queries
-      (one_from_zero one n) (from_zero members (n + length (share targets headings own one).sites))
+      joined ((share home one).behind n).queries
+      ((shares home members).behind (n + length (share home one).sites)).queries
+      (one_from_zero one n) (from_zero members (n + length (share home one).sites))
 
 -- the first of them
 pub first_from_zero : (queries : List (List Stmt)) → AllByRecursion FromZero queries → FromZero (unwrap_or (slice_get queries 0) [])

@@ -16,11 +16,15 @@ use Rattle.brace_model.specs.Query.{constants}
 use Rattle.brace_model.specs.Sites.{constant_numbers}
 use Rattle.brace_model.proofs.LawEquations.{constant_numbers-Const, constant_numbers-If, constant_numbers-Foreach, constant_numbers-Assign}
 use Rattle.brace_model.proofs.ValueEquations.{constants-Const, constants-If, constants-Foreach, constants-Assign}
-use Rattle.brace_check.specs.Scopes.{Scope, Part, stands, number_of, inside, past, behind, constants_in}
-use Rattle.brace_check.specs.Meanings.{Sited, agent_of, expression, block, part, part_step}
-use Rattle.brace_check.proofs.ByKind.{ProvedStmt, stmts_of, Statements, proved, stmts-proved}
+use Rattle.brace_names.proofs.ByKind.{ProvedStmt, stmts_of, Statements, proved, stmts-proved}
 use Rattle.brace_check.proofs.Numbering.{concat-map}
-use Rattle.brace_check.proofs.Folds.{of-Const, of-when, of-either, of-Foreach, of-Assign, of-AssignThis, of-AssignLoop}
+use Rattle.brace_names.proofs.Folds.{of-Const, of-when, of-either, of-Foreach, of-Assign, of-AssignThis, of-AssignLoop}
+use Rattle.brace_syntax.specs.declared.tree.Ident.{Ident}
+use Rattle.brace_names.specs.Tables.{look}
+use Rattle.brace_names.specs.Scopes.{Scope, of_loop, inside, past}
+use Rattle.brace_names.specs.Walk.{Part, declared_in, behind, constants_in}
+use Rattle.brace_names.proofs.StmtLemmas.{constants-cons}
+use Rattle.brace_check.specs.Meanings.{Sited, number_of, agent_of, loop_number, number_in, expression, block, part, part_step}
 
 -- a statement declares so many constants, numbered from one on
 pub record Declares (x : Stmt) (first count : ℕ) : Type 0 where
@@ -69,26 +73,27 @@ bound_declares : (first : ℕ) (x : Expr) → Declares (stmt.Const first x) firs
 bound_declares first x = record { numbers = constant_numbers-Const first x; many = constants-Const first x }
 
 abbrev PartDeclares : Part (Sited Stmt) → Type 0
-PartDeclares p = (scope : Scope) (n : ℕ) → Declares ((p.here scope).behind n) (length scope.constants) (length p.constants)
+PartDeclares p = (scope : Scope) (n : ℕ) → Declares ((p.here scope).behind n) scope.constants p.constants
 
 abbrev StmtDeclares : StmtTree → Type 0
 StmtDeclares x = PartDeclares (part x)
 
--- the same, where the scope has so many constants more
-behind_declares : (b : List Stmt) (xs ys : List Ty) (d : ℕ) → BlockDeclares b (length (xs ++ ys)) d → BlockDeclares b (length xs + length ys) d
-behind_declares b xs ys d h = subst (λ (k : ℕ). BlockDeclares b k d) (length-append xs ys) h
+-- a declaration leaves the count of constants as it is
+same_count : (one : Option (Ident × Ty)) (scope : Scope) → (declared_in one scope).constants ≡ scope.constants
+same_count None scope = refl
+same_count (Some one) scope = refl
 
 parts_declare : (ys : List (ProvedStmt StmtDeclares)) (scope : Scope) (n : ℕ)
-    → BlockDeclares ((block (map part (stmts_of ys)) scope).behind n) (length scope.constants) (length (constants_in (map part (stmts_of ys))))
-parts_declare [] scope n = none_declared (length scope.constants)
+    → BlockDeclares ((block (map part (stmts_of ys)) scope).behind n) scope.constants (constants_in (map part (stmts_of ys)))
+parts_declare [] scope n = none_declared scope.constants
 parts_declare (y ∷ ys) scope n =
     let p : Part (Sited Stmt) = part y.0 in
     let m : ℕ = n + length (p.here scope).sites in
     let rest : List Stmt = (block (map part (stmts_of ys)) (behind p scope)).behind m in
-    let more : List Ty = constants_in (map part (stmts_of ys)) in
-    subst (λ (k : ℕ). BlockDeclares ((p.here scope).behind n ∷ rest) (length scope.constants) k) (sym (length-append p.constants more))
-    (more_declared ((p.here scope).behind n) rest (length scope.constants) (length p.constants) (length more) (y.1 scope n)
-    (behind_declares rest scope.constants p.constants (length more) (parts_declare ys (behind p scope) m)))
+    let more : ℕ = constants_in (map part (stmts_of ys)) in
+    subst (λ (k : ℕ). BlockDeclares ((p.here scope).behind n ∷ rest) scope.constants k) (sym (constants-cons p (map part (stmts_of ys))))
+    (more_declared ((p.here scope).behind n) rest scope.constants p.constants more (y.1 scope n)
+    (subst (λ (k : ℕ). BlockDeclares rest (k + p.constants) more) (same_count p.declared scope) (parts_declare ys (behind p scope) m)))
 
 abbrev back : (x : StmtTree) (p : Part (Sited Stmt)) → part x ≡ p → PartDeclares p → StmtDeclares x
 back x p same h = subst PartDeclares (sym same) h
@@ -96,45 +101,38 @@ back x p same h = subst PartDeclares (sym same) h
 kinds_declare : Statements StmtDeclares
 kinds_declare = record {
   const = λ type name x at. back (s.Const type name x at) _ (of-Const part_step type name x at)
-      (λ scope n. bound_declares (length scope.constants) ((expression x scope).behind n));
+      (λ scope n. bound_declares scope.constants ((expression x scope).behind n));
   when = λ c a at. back (s.If c (stmts_of a) None at) _ (of-when part_step c (stmts_of a) at)
       (λ scope n.
-      let ca : List Ty = constants_in (map part (stmts_of a)) in
       let m : ℕ = n + length (expression c scope).sites in
-      subst (λ (k : ℕ). Declares (stmt.If ((expression c scope).behind n) ((block (map part (stmts_of a)) scope).behind m) []) (length scope.constants) k)
-      (sym (length-append ca []))
-      (if_declares ((expression c scope).behind n) ((block (map part (stmts_of a)) scope).behind m) [] (length scope.constants) (length ca) 0
-      (parts_declare a scope m) (none_declared (length scope.constants + length ca))));
+      let ca : ℕ = constants_in (map part (stmts_of a)) in
+      if_declares ((expression c scope).behind n) ((block (map part (stmts_of a)) scope).behind m) [] scope.constants ca 0
+      (parts_declare a scope m) (none_declared (scope.constants + ca)));
   either_way = λ c a b at. back (s.If c (stmts_of a) (Some (stmts_of b)) at) _ (of-either part_step c (stmts_of a) (stmts_of b) at)
       (λ scope n.
-      let ca : List Ty = constants_in (map part (stmts_of a)) in
-      let cb : List Ty = constants_in (map part (stmts_of b)) in
+      let ca : ℕ = constants_in (map part (stmts_of a)) in
       let m : ℕ = n + length (expression c scope).sites in
       let one : List Stmt = (block (map part (stmts_of a)) scope).behind m in
       let k : ℕ = m + length (block (map part (stmts_of a)) scope).sites in
-      let other : List Stmt = (block (map part (stmts_of b)) (past ca scope)).behind k in
-      subst (λ (l : ℕ). Declares (stmt.If ((expression c scope).behind n) one other) (length scope.constants) l)
-      (sym (length-append ca cb))
-      (if_declares ((expression c scope).behind n) one other (length scope.constants) (length ca) (length cb)
-      (parts_declare a scope m)
-      (behind_declares other scope.constants ca (length cb) (parts_declare b (past ca scope) k))));
+      if_declares ((expression c scope).behind n) one ((block (map part (stmts_of b)) (past ca scope)).behind k) scope.constants ca (constants_in (map part (stmts_of b)))
+      (parts_declare a scope m) (parts_declare b (past ca scope) k));
   foreach = λ class variable other a at. back (s.Foreach class variable other (stmts_of a) at) _ (of-Foreach part_step class variable other (stmts_of a) at)
-      (λ scope n. loop_declares (number_of (stands scope class.at)) at
-      ((block (map part (stmts_of a)) (inside (number_of (stands scope class.at)) scope)).behind n)
-      (length scope.constants) (length (constants_in (map part (stmts_of a))))
-      (parts_declare a (inside (number_of (stands scope class.at)) scope) n));
+      (λ scope n. loop_declares (number_in scope class) at
+      ((block (map part (stmts_of a)) (inside class variable scope)).behind n)
+      scope.constants (constants_in (map part (stmts_of a)))
+      (parts_declare a (inside class variable scope) n));
   assign = λ name x. back (s.Assign name x) _ (of-Assign part_step name x)
-      (λ scope n. said_declares This (number_of (stands scope name.at)) ((expression x scope).behind n) name.at (length scope.constants));
+      (λ scope n. said_declares This (number_of (look scope.home.own name.text)) ((expression x scope).behind n) name.at scope.constants);
   assign_this = λ name x at. back (s.AssignThis name x at) _ (of-AssignThis part_step name x at)
-      (λ scope n. said_declares This (number_of (stands scope name.at)) ((expression x scope).behind n) at (length scope.constants));
+      (λ scope n. said_declares This (number_of (look scope.home.own name.text)) ((expression x scope).behind n) at scope.constants);
   assign_loop = λ variable name x. back (s.AssignLoop variable name x) _ (of-AssignLoop part_step variable name x)
-      (λ scope n. said_declares (agent_of (stands scope variable.at)) (number_of (stands scope name.at)) ((expression x scope).behind n) variable.at (length scope.constants));
+      (λ scope n. said_declares (agent_of (of_loop scope variable.text name.text)) (loop_number (of_loop scope variable.text name.text)) ((expression x scope).behind n) variable.at scope.constants);
 }
 
 -- the constants of a block are numbered in text order
 pub block_declares : (xs : List StmtTree) (scope : Scope) (n : ℕ)
-    → BlockDeclares ((block (map part xs) scope).behind n) (length scope.constants) (length (constants_in (map part xs)))
+    → BlockDeclares ((block (map part xs) scope).behind n) scope.constants (constants_in (map part xs))
 block_declares xs scope n =
-    subst (λ (l : List StmtTree). BlockDeclares ((block (map part l) scope).behind n) (length scope.constants) (length (constants_in (map part l))))
+    subst (λ (l : List StmtTree). BlockDeclares ((block (map part l) scope).behind n) scope.constants (constants_in (map part l)))
     (stmts-proved StmtDeclares kinds_declare xs)
     (parts_declare (proved StmtDeclares kinds_declare xs) scope n)

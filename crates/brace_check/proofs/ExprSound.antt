@@ -1,290 +1,203 @@
--- Where the checks give an expression a type, what it means has that type: kind by kind.
-use Rattle.std.proofs.Common.{◌≡◌, refl, sym, ap, subst, ◌∙◌, ℕ, zero, suc, ◌+◌, ◌≤◌, Bool, true, false, List, [], ◌∷◌, ◌++◌, length, arith, inl, inr}
-use Rattle.std.specs.Prelude.{not, ◌&&◌, ◌||◌, ◌==◌, Option, Some, None, option_map, option_and_then, slice_get, Ok, if◌then◌else◌}
-use Rattle.std.proofs.lemmas.Option.{slice_get_past}
-use Rattle.std.proofs.lemmas.Bool.{true≢false, cases_Bool}
-use Rattle.brace_num.proofs.Lists.{none_front, each_front}
-use Rattle.brace_syntax.specs.declared.tree.Ident.{Ident}
+-- Where the checks give an expression a type, what it means has that type, kind by kind.
+use Rattle.std.proofs.Common.{◌≡◌, refl, sym, ap, subst, ◌∙◌, ℕ, ◌+◌, Bool, true, false, List, [], ◌∷◌, ◌++◌, length, inl, inr}
+use Rattle.std.specs.Prelude.{not, ◌&&◌, ◌||◌, ◌==◌, Option, Some, None, option_map, option_and_then, Result, Ok, if◌then◌else◌}
+use Rattle.std.proofs.lemmas.Bool.{true≢false, cases_Bool, not-false}
+use Rattle.brace_num.proofs.Lists.{none_front}
 use Rattle.brace_syntax.specs.declared.tree.Digits.{Digits}
 use Rattle.brace_syntax.specs.declared.tree.Digits.TheVariants as d
 use Rattle.brace_syntax.specs.declared.tree.ExprTree.{ExprTree}
 use Rattle.brace_syntax.specs.declared.tree.ExprTree.TheVariants as e
-use Rattle.brace_names.specs.declared.resolved.Target.{Target}
-use Rattle.brace_names.specs.declared.resolved.Target.TheVariants as target
+use Rattle.brace_names.specs.declared.declared.Field.{Field}
+use Rattle.brace_names.specs.declared.declared.Field.TheVariants as field
+use Rattle.brace_names.specs.declared.scope.Named.{Named}
+use Rattle.brace_names.specs.declared.scope.Named.TheVariants as named
+use Rattle.brace_names.specs.declared.scope.LoopField.{LoopField}
+use Rattle.brace_names.specs.Kinds.{unary_named, binary_named}
+use Rattle.brace_names.specs.Scopes.{Scope, read, read_own, of_loop}
+use Rattle.brace_names.proofs.ByKind.{Expressions, of_expression}
+use Rattle.brace_names.proofs.Folds.{of-Lit, of-True, of-False, of-Name, of-OfThis, of-OfLoop, of-Unary, of-Binary, of-Choice, of-Rand}
 use Rattle.brace_model.specs.declared.program.Ty.{Ty}
 use Rattle.brace_model.specs.declared.program.Ty.TheVariants as ty
 use Rattle.brace_model.specs.declared.program.Value.TheVariants as val
+use Rattle.brace_model.specs.declared.program.Who.{Who}
 use Rattle.brace_model.specs.declared.program.Who.TheVariants.{This}
 use Rattle.brace_model.specs.declared.program.UnOp.{UnOp}
 use Rattle.brace_model.specs.declared.program.BinOp.{BinOp}
+use Rattle.brace_model.specs.declared.program.Comb.{Comb}
 use Rattle.brace_model.specs.declared.program.Expr.{Expr}
 use Rattle.brace_model.specs.declared.program.Expr.TheVariants as expr
 use Rattle.brace_model.specs.declared.program.Effect.{Effect}
-use Rattle.brace_model.specs.Typing.{Names, same_type, only, type_of_value, class_named, may_name, state_type, effect_named, constant_type, is_sited, is_sum, unary_faults, binary_faults, unary_type, binary_type, choice_type, total_type, type_of as type_in}
+use Rattle.brace_model.specs.Typing.{Names, same_type, only, type_of_value, class_named, may_name, state_type, effect_named, is_sited, is_sum, unary_faults, binary_faults, unary_type, binary_type, choice_type, total_type, type_of as type_in}
 use Rattle.brace_model.proofs.LawEquations as model
 use Rattle.brace_check.specs.declared.fault.CheckFault.{CheckFault}
 use Rattle.brace_check.specs.declared.fault.CheckFault.TheVariants.{OtherAgentInUpdate, ReadsEffectInQuery, PrivateOfOtherClass}
-use Rattle.brace_check.specs.declared.heading.StateHeading.{StateHeading}
-use Rattle.brace_check.specs.declared.heading.EffectHeading.{EffectHeading}
-use Rattle.brace_check.specs.Scopes.{Scope, stands, state_in, effect_in, number_of, loop_class}
-use Rattle.brace_check.specs.Types.{unary_named, binary_named, digits_type, field_type, name_type, of_loop_type, typed_at, with_type, type_of}
-use Rattle.brace_check.specs.Findings.{reads, is_private, crosses, reads_of_loop}
-use Rattle.brace_check.specs.Found.{expression as found_in}
-use Rattle.brace_check.specs.Meanings.{Sited, literal, total, named, loop_agent, agent_of, expression}
-use Rattle.brace_check.proofs.ByKind.{Expressions, of_expression}
-use Rattle.brace_check.proofs.Folds.{of-Name, of-Unary, of-Binary, of-Choice}
-use Rattle.brace_check.proofs.Equations.{type-Lit, type-True, type-False, type-Name, type-OfThis, type-OfLoop, type-Unary, type-Binary, type-Choice, type-Rand, found-Name, found-OfThis, found-OfLoop, found-Unary, found-Binary, found-Choice, meant-Lit, meant-True, meant-False, meant-Name, meant-OfThis, meant-OfLoop, meant-Unary, meant-Binary, meant-Choice, meant-Rand}
-use Rattle.brace_check.proofs.CheckedMembers.{nil_back}
-use Rattle.brace_check.proofs.TypeSound.{Agrees, local_of, locals_step, locals, Knows, all_back, same-self, sited, TypeOk, type_ok, typed_ok, not_if, EffectIs, state_typed, effect_is, own_may, own_is}
+use Rattle.brace_check.specs.Types.{digits_type, field_type, is_shared, named_type, typed_at, with_type, type_step, type_of}
+use Rattle.brace_check.specs.Findings.{reads, crosses, reads_of_loop}
+use Rattle.brace_check.specs.Found.{expression as found_in, expression_step as found_step}
+use Rattle.brace_check.specs.Meanings.{Sited, literal, number_of, named_as, loop_agent, agent_of, loop_number, expression, expression_step}
+use Rattle.brace_check.proofs.TypeSound.{EffectHeading, FieldIs, declared, same-self, sited, TypeOk, type_ok, typed_ok, not_if, own_may, EffectIs, state_typed, effect_is}
+use Rattle.brace_check.proofs.Ties.{Tied, NamedIs, LoopIs, own_is, read_is, of_loop_is}
 
-record Mapped {A : Type 0} (f : A → Ty) (o : Option A) (t : Ty) : Type 0 where
-  pub inner : A
-  pub is : o ≡ Some inner
-  pub gives : f inner ≡ t
-
-mapped : {A : Type 0} (f : A → Ty) (o : Option A) (t : Ty) → option_map f o ≡ Some t → Mapped f o t
-mapped f None t h = absurd (cc)
-mapped f (Some a) t h = record { inner = a; is = refl; gives = (let same : f a ≡ t = cc in same) }
-
-record Chained {A : Type 0} (f : A → Option Ty) (o : Option A) (t : Ty) : Type 0 where
-  pub inner : A
-  pub is : o ≡ Some inner
-  pub gives : f inner ≡ Some t
-
-chained : {A : Type 0} (f : A → Option Ty) (o : Option A) (t : Ty) → option_and_then f o ≡ Some t → Chained f o t
-chained f None t h = absurd (cc)
-chained f (Some a) t h = record { inner = a; is = refl; gives = h }
-
-abbrev some : Ty → Option Ty
-some t = Some t
+module _ {A : Type 0} where
+  pub nil_back : (xs ys : List A) → xs ++ ys ≡ [] → ys ≡ []
+  nil_back [] ys h = h
+  nil_back (x ∷ xs) ys h = absurd (cc)
 
 -- literals
-literal_typed : (number : Digits) (t : Ty) → typed_at 0 (Some (digits_type number)) ≡ Ok t → Some (type_of_value (literal number)) ≡ Some t
-literal_typed (d.Int z) t h = typed_ok 0 (Some ty.Int) t h
-literal_typed (d.Fixed z) t h = typed_ok 0 (Some ty.Fixed) t h
+literal_typed : (number : Digits) → type_of_value (literal number) ≡ digits_type number
+literal_typed (d.Int z) = refl
+literal_typed (d.Fixed z) = refl
 
-module _ (scope : Scope) (names : Names) (agrees : Agrees scope names) where
+same_ok : (t u : Ty) → Ok t ≡ Ok u → Some t ≡ Some u
+same_ok t u h = let same : t ≡ u = cc in ap (λ (v : Ty). Some v) same
+
+abbrev summed : Scope → Comb → Bool
+summed n c = not n.in_query && is_sum c
+
+module _ (n : Scope) (m : Names) (tied : Tied n m) where
   -- a total in a rule
-  total_typed : (i n : ℕ) (h : EffectHeading) → names.in_rule ≡ true → EffectIs h (effect_named names This i)
-      → total_type names i h.ty (only (is_sum h.comb) n) ≡ Some h.ty
-  total_typed i n h rule is =
-      ap (λ (b : Bool). if b then option_and_then (λ e. only (same_type e.ty h.ty && is_sited (is_sum e.comb) (only (is_sum h.comb) n)) h.ty) (effect_named names This i) else None) rule
-      ∙ (ap (λ (o : Option Effect). option_and_then (λ e. only (same_type e.ty h.ty && is_sited (is_sum e.comb) (only (is_sum h.comb) n)) h.ty) o) is.named
-      ∙ (ap (λ (g : EffectHeading). only (same_type g.ty h.ty && is_sited (is_sum g.comb) (only (is_sum h.comb) n)) h.ty) is.is
-      ∙ (ap (λ (b : Bool). only (b && is_sited (is_sum h.comb) (only (is_sum h.comb) n)) h.ty) (same-self h.ty)
-      ∙ ap (λ (b : Bool). only b h.ty) (sited (is_sum h.comb) n))))
+  total_typed : (i k : ℕ) (t : Ty) (shared : Bool) (c : Comb) → n.in_query ≡ false → FieldIs (declared m) m.own (field.Effect i t shared c)
+      → type_in (expr.Total i t (only (summed n c) k)) m ≡ Some t
+  total_typed i k t shared c outside is =
+      let h : EffectHeading = record { ty = t; shared = shared; comb = c } in
+      let found : EffectIs h (effect_named m This i) = effect_is m This m.own i t shared refl (own_may m shared) c is in
+      let rule : m.in_rule ≡ true = tied.in_rule ∙ ap not outside in
+      ap (λ (b : Bool). type_in (expr.Total i t (only (not b && is_sum c) k)) m) outside
+      ∙ (model.type_of-Total i t (only (is_sum c) k) m
+      ∙ (ap (λ (b : Bool). if b then option_and_then (λ e. only (same_type e.ty t && is_sited (is_sum e.comb) (only (is_sum c) k)) t) (effect_named m This i) else None) rule
+      ∙ (ap (λ (o : Option Effect). option_and_then (λ e. only (same_type e.ty t && is_sited (is_sum e.comb) (only (is_sum c) k)) t) o) found.named
+      ∙ (ap (λ (g : EffectHeading). only (same_type g.ty t && is_sited (is_sum g.comb) (only (is_sum c) k)) t) found.is
+      ∙ (ap (λ (b : Bool). only (b && is_sited (is_sum c) (only (is_sum c) k)) t) (same-self t)
+      ∙ ap (λ (b : Bool). only b t) (sited (is_sum c) k))))))
 
-  state_sound : (i : ℕ) (t : Ty) → option_map (λ s. s.ty) (state_in scope scope.own i) ≡ Some t → state_type names This i ≡ Some t
-  state_sound i t h =
-      let found : Mapped (λ (s : StateHeading). s.ty) (state_in scope scope.own i) t = mapped (λ (s : StateHeading). s.ty) (state_in scope scope.own i) t h in
-      state_typed scope names agrees This scope.own i found.inner (own_is scope names agrees) (own_may scope names agrees found.inner.shared) found.is
-      ∙ ap some found.gives
+  -- `n` and `this.n`
+  named_sound : (at : ℕ) (o : Option Named) → NamedIs m o → reads n at o ≡ [] → (t : Ty) → typed_at at (option_map named_type o) ≡ Ok t → (k : ℕ)
+      → type_in ((named_as n at o).behind k) m ≡ Some t
+  named_sound at None is clean t h k = absurd (cc)
+  named_sound at (Some (named.Constant i u)) is clean t h k = model.type_of-Local i m ∙ (is ∙ same_ok u t h)
+  named_sound at (Some (named.Field (field.State i u shared))) is clean t h k =
+      model.type_of-Field This i m ∙ (state_typed m This m.own i u shared refl (own_may m shared) is ∙ same_ok u t h)
+  named_sound at (Some (named.Field (field.Effect i u shared c))) is clean t h k =
+      total_typed i k u shared c (not_if n.in_query (ReadsEffectInQuery at) clean) is ∙ same_ok u t h
 
-  effect_sound : (at i : ℕ) (t : Ty) (n : ℕ) → scope.in_query ≡ false → option_map (λ e. e.ty) (effect_in scope scope.own i) ≡ Some t
-      → type_in ((total at i (effect_in scope scope.own i)).behind n) names ≡ Some t
-  effect_sound at i t n rule h =
-      let found : Mapped (λ (e : EffectHeading). e.ty) (effect_in scope scope.own i) t = mapped (λ (e : EffectHeading). e.ty) (effect_in scope scope.own i) t h in
-      let in_rule : names.in_rule ≡ true = agrees.in_rule ∙ ap not rule in
-      ap (λ (o : Option EffectHeading). type_in ((total at i o).behind n) names) found.is
-      ∙ (model.type_of-Total i found.inner.ty (only (is_sum found.inner.comb) n) names
-      ∙ (total_typed i n found.inner in_rule
-      (effect_is scope names agrees This scope.own i found.inner (own_is scope names agrees) (own_may scope names agrees found.inner.shared) found.is)
-      ∙ ap some found.gives))
+  -- what may be named of the agent of a loop
+  pub may_cross : (at : ℕ) (x : LoopField) → crosses n at (Some x) ≡ [] → may_name m x.class (is_shared x.field) ≡ true
+  may_cross at x h =
+      ap (λ (own : ℕ). is_shared x.field || (x.class == own)) tied.number
+      ∙ not-false (is_shared x.field || (x.class == n.home.number)) (not_if (not (is_shared x.field || (x.class == n.home.number))) (PrivateOfOtherClass at) h)
 
-  -- `n`
-  named_sound : (at : ℕ) (o : Option Target) → Knows scope names (local_of o) → reads scope at o ≡ [] → (t : Ty)
-      → typed_at at (name_type scope o) ≡ Ok t → (n : ℕ) → type_in ((named scope at o).behind n) names ≡ Some t
-  named_sound at None known clean t h n = absurd (cc)
-  named_sound at (Some (target.Class i)) known clean t h n = absurd (cc)
-  named_sound at (Some (target.Loop i)) known clean t h n = absurd (cc)
-  named_sound at (Some (target.Local i)) known clean t h n =
-      model.type_of-Local i names ∙ (known.0 ∙ typed_ok at (slice_get scope.constants i) t h)
-  named_sound at (Some (target.State i)) known clean t h n =
-      model.type_of-Field This i names ∙ state_sound i t (typed_ok at (option_map (λ s. s.ty) (state_in scope scope.own i)) t h)
-  named_sound at (Some (target.Effect i)) known clean t h n =
-      effect_sound at i t n (not_if scope.in_query (ReadsEffectInQuery at) clean) (typed_ok at (option_map (λ e. e.ty) (effect_in scope scope.own i)) t h)
+  -- `q.n` in a query
+  in_field : (at : ℕ) (x : LoopField) (f : Field) → x.field ≡ f → LoopIs m (Some x) → n.in_query ≡ true → reads n at (Some (named.Field x.field)) ≡ [] → crosses n at (Some x) ≡ []
+      → (t : Ty) → Ok (field_type x.field) ≡ Ok t → state_type m (loop_agent x.loops) (number_of (Some x.field)) ≡ Some t
+  in_field at x (field.Effect i u shared c) e is query clean apart t h =
+      let read_it : reads n at (Some (named.Field (field.Effect i u shared c))) ≡ [] = subst (λ (f : Field). reads n at (Some (named.Field f)) ≡ []) e clean in
+      absurd (true≢false (sym query ∙ not_if n.in_query (ReadsEffectInQuery at) read_it))
+  in_field at x (field.State i u shared) e is query clean apart t h =
+      let may : may_name m x.class shared ≡ true = subst (λ (f : Field). may_name m x.class (is_shared f) ≡ true) e (may_cross at x apart) in
+      ap (λ (f : Field). state_type m (loop_agent x.loops) (number_of (Some f))) e
+      ∙ (state_typed m (loop_agent x.loops) x.class i u shared is.0 may (subst (FieldIs (declared m) x.class) e is.1)
+      ∙ same_ok u t (subst (λ (f : Field). Ok (field_type f) ≡ Ok t) e h))
 
-  -- `this.n`
-  this_sound : (at : ℕ) (o : Option Target) → reads scope at o ≡ [] → (t : Ty)
-      → typed_at at (field_type scope scope.own o) ≡ Ok t → (n : ℕ) → type_in ((named scope at o).behind n) names ≡ Some t
-  this_sound at None clean t h n = absurd (cc)
-  this_sound at (Some (target.Class i)) clean t h n = absurd (cc)
-  this_sound at (Some (target.Loop i)) clean t h n = absurd (cc)
-  this_sound at (Some (target.Local i)) clean t h n = absurd (cc)
-  this_sound at (Some (target.State i)) clean t h n = named_sound at (Some (target.State i)) tt clean t h n
-  this_sound at (Some (target.Effect i)) clean t h n = named_sound at (Some (target.Effect i)) tt clean t h n
+  loop_sound : (at : ℕ) (o : Option LoopField) → LoopIs m o → n.in_query ≡ true → reads n at (option_map (λ x. named.Field x.field) o) ≡ [] → crosses n at o ≡ []
+      → (t : Ty) → typed_at at (option_map (λ x. field_type x.field) o) ≡ Ok t → state_type m (agent_of o) (loop_number o) ≡ Some t
+  loop_sound at None is query clean apart t h = absurd (cc)
+  loop_sound at (Some x) is query clean apart t h = in_field at x x.field refl is query clean apart t h
 
-  -- the agent of a loop
-  pub agent_is : (k class : ℕ) → slice_get scope.over k ≡ Some class → class_named names (loop_agent k) ≡ Some class
-  agent_is zero class is = agrees.outer ∙ is
-  agent_is (suc zero) class is = agrees.inner ∙ is
-  agent_is (suc (suc k)) class is =
-      let few : length scope.over ≤ 2 = agrees.few in
-      let past : slice_get scope.over (suc (suc k)) ≡ None = slice_get_past scope.over (suc (suc k)) (omega (arith, few)) in
-      let never : None ≡ Some class = sym past ∙ is in
-      absurd (cc)
-
-  pub may_from : (shared same : Bool) → (not same && is_private (Some shared)) ≡ false → (shared || same) ≡ true
-  may_from true same h = refl
-  may_from false true h = refl
-  may_from false false h = absurd (true≢false h)
-
-  -- a field of the agent of a loop
-  field_sound : (at k class : ℕ) (o : Option Target) → scope.in_query ≡ true → slice_get scope.over k ≡ Some class
-      → reads scope at o ≡ [] → crosses scope at (Some class) o ≡ [] → (t : Ty) → field_type scope class o ≡ Some t
-      → state_type names (loop_agent k) (number_of o) ≡ Some t
-  field_sound at k class None query is clean apart t h = absurd (cc)
-  field_sound at k class (Some (target.Class i)) query is clean apart t h = absurd (cc)
-  field_sound at k class (Some (target.Loop i)) query is clean apart t h = absurd (cc)
-  field_sound at k class (Some (target.Local i)) query is clean apart t h = absurd (cc)
-  field_sound at k class (Some (target.Effect i)) query is clean apart t h =
-      absurd (true≢false (sym query ∙ not_if scope.in_query (ReadsEffectInQuery at) clean))
-  field_sound at k class (Some (target.State i)) query is clean apart t h =
-      let found : Mapped (λ (s : StateHeading). s.ty) (state_in scope class i) t = mapped (λ (s : StateHeading). s.ty) (state_in scope class i) t h in
-      let open_ : (not (class == scope.own) && is_private (option_map (λ s. s.shared) (state_in scope class i))) ≡ false =
-      not_if (not (class == scope.own) && is_private (option_map (λ s. s.shared) (state_in scope class i))) (PrivateOfOtherClass at) apart in
-      let opened : (not (class == scope.own) && is_private (Some found.inner.shared)) ≡ false =
-      subst (λ (s : Option StateHeading). (not (class == scope.own) && is_private (option_map (λ s. s.shared) s)) ≡ false) found.is open_ in
-      let may : may_name names class found.inner.shared ≡ true =
-      ap (λ (k : ℕ). found.inner.shared || (class == k)) agrees.own ∙ may_from found.inner.shared (class == scope.own) opened in
-      state_typed scope names agrees (loop_agent k) class i found.inner (agent_is k class is) may found.is ∙ ap some found.gives
-
-  -- `q.n`
-  loop_sound : (at : ℕ) (q o : Option Target) → scope.in_query ≡ true → reads scope at o ≡ [] → crosses scope at (loop_class scope q) o ≡ []
-      → (t : Ty) → option_and_then (λ class. field_type scope class o) (loop_class scope q) ≡ Some t
-      → state_type names (agent_of q) (number_of o) ≡ Some t
-  loop_sound at None o query clean apart t h = absurd (cc)
-  loop_sound at (Some (target.Class i)) o query clean apart t h = absurd (cc)
-  loop_sound at (Some (target.State i)) o query clean apart t h = absurd (cc)
-  loop_sound at (Some (target.Effect i)) o query clean apart t h = absurd (cc)
-  loop_sound at (Some (target.Local i)) o query clean apart t h = absurd (cc)
-  loop_sound at (Some (target.Loop k)) o query clean apart t h =
-      let found : Chained (λ (class : ℕ). field_type scope class o) (slice_get scope.over k) t =
-      chained (λ (class : ℕ). field_type scope class o) (slice_get scope.over k) t h in
-      field_sound at k found.inner o query found.is clean
-      (subst (λ (c : Option ℕ). crosses scope at c o ≡ []) found.is apart) t found.gives
+  of_loop_sound : (at : ℕ) (o : Option LoopField) → LoopIs m o → reads_of_loop n at o ≡ [] → (t : Ty) → typed_at at (option_map (λ x. field_type x.field) o) ≡ Ok t
+      → type_in (expr.Field (agent_of o) (loop_number o)) m ≡ Some t
+  of_loop_sound at o is f t h =
+      let front : List CheckFault = reads n at (option_map (λ x. named.Field x.field) o) in
+      let back : List CheckFault = crosses n at o in
+      elim (cases_Bool n.in_query) [
+        | inl query ↦
+            let clean : front ++ back ≡ [] = sym (ap (λ (b : Bool). if b then front ++ back else OtherAgentInUpdate at ∷ []) query) ∙ f in
+            model.type_of-Field (agent_of o) (loop_number o) m ∙ loop_sound at o is query (none_front front back clean) (nil_back front back clean) t h
+        | inr rule ↦
+            let never : OtherAgentInUpdate at ∷ [] ≡ [] = sym (ap (λ (b : Bool). if b then front ++ back else OtherAgentInUpdate at ∷ []) rule) ∙ f in
+            absurd (cc)
+      ]
 
 -- operations
-unary_sound : (op : UnOp) (n : ℕ) (x : Expr) (names : Names) (u t : Ty) → type_in x names ≡ Some u → unary_type op u ≡ Some t
-    → type_in (expr.Unary op (only (unary_faults op) n) x) names ≡ Some t
-unary_sound op n x names u t hx h =
-    model.type_of-Unary op (only (unary_faults op) n) x names
-    ∙ (ap (λ (b : Bool). if b then option_and_then (unary_type op) (type_in x names) else None) (sited (unary_faults op) n)
+unary_sound : (op : UnOp) (k : ℕ) (x : Expr) (m : Names) (u t : Ty) → type_in x m ≡ Some u → unary_type op u ≡ Some t
+    → type_in (expr.Unary op (only (unary_faults op) k) x) m ≡ Some t
+unary_sound op k x m u t hx h =
+    model.type_of-Unary op (only (unary_faults op) k) x m
+    ∙ (ap (λ (b : Bool). if b then option_and_then (unary_type op) (type_in x m) else None) (sited (unary_faults op) k)
     ∙ (ap (option_and_then (unary_type op)) hx ∙ h))
 
-binary_sound : (op : BinOp) (n : ℕ) (x y : Expr) (names : Names) (u v t : Ty) → type_in x names ≡ Some u → type_in y names ≡ Some v → binary_type op u v ≡ Some t
-    → type_in (expr.Binary op (only (binary_faults op) n) x y) names ≡ Some t
-binary_sound op n x y names u v t hx hy h =
-    model.type_of-Binary op (only (binary_faults op) n) x y names
-    ∙ (ap (λ (b : Bool). if b then option_and_then (λ s. option_and_then (binary_type op s) (type_in y names)) (type_in x names) else None) (sited (binary_faults op) n)
-    ∙ (ap (λ (o : Option Ty). option_and_then (λ s. option_and_then (binary_type op s) (type_in y names)) o) hx
+binary_sound : (op : BinOp) (k : ℕ) (x y : Expr) (m : Names) (u v t : Ty) → type_in x m ≡ Some u → type_in y m ≡ Some v → binary_type op u v ≡ Some t
+    → type_in (expr.Binary op (only (binary_faults op) k) x y) m ≡ Some t
+binary_sound op k x y m u v t hx hy h =
+    model.type_of-Binary op (only (binary_faults op) k) x y m
+    ∙ (ap (λ (b : Bool). if b then option_and_then (λ s. option_and_then (binary_type op s) (type_in y m)) (type_in x m) else None) (sited (binary_faults op) k)
+    ∙ (ap (λ (o : Option Ty). option_and_then (λ s. option_and_then (binary_type op s) (type_in y m)) o) hx
     ∙ (ap (option_and_then (binary_type op u)) hy ∙ h)))
 
-choice_sound : (c x y : Expr) (names : Names) (b u v t : Ty) → type_in c names ≡ Some b → type_in x names ≡ Some u → type_in y names ≡ Some v → choice_type b u v ≡ Some t
-    → type_in (expr.Choice c x y) names ≡ Some t
-choice_sound c x y names b u v t hc hx hy h =
-    model.type_of-Choice c x y names
-    ∙ (ap (λ (o : Option Ty). option_and_then (λ p. option_and_then (λ s. option_and_then (choice_type p s) (type_in y names)) (type_in x names)) o) hc
-    ∙ (ap (λ (o : Option Ty). option_and_then (λ s. option_and_then (choice_type b s) (type_in y names)) o) hx
+choice_sound : (c x y : Expr) (m : Names) (b u v t : Ty) → type_in c m ≡ Some b → type_in x m ≡ Some u → type_in y m ≡ Some v → choice_type b u v ≡ Some t
+    → type_in (expr.Choice c x y) m ≡ Some t
+choice_sound c x y m b u v t hc hx hy h =
+    model.type_of-Choice c x y m
+    ∙ (ap (λ (o : Option Ty). option_and_then (λ p. option_and_then (λ s. option_and_then (choice_type p s) (type_in y m)) (type_in x m)) o) hc
+    ∙ (ap (λ (o : Option Ty). option_and_then (λ s. option_and_then (choice_type b s) (type_in y m)) o) hx
     ∙ (ap (option_and_then (choice_type b u)) hy ∙ h)))
 
+-- what is found, the type and the meaning agree at a scope
+abbrev SoundAt : (Scope → List CheckFault) → (Scope → Result Ty ℕ) → (Scope → Sited Expr) → Type 0
+SoundAt f r s = (n : Scope) (m : Names) → Tied n m → f n ≡ [] → (t : Ty) → r n ≡ Ok t → (k : ℕ) → type_in ((s n).behind k) m ≡ Some t
+
 abbrev pub Sound : ExprTree → Type 0
-Sound x = (scope : Scope) (names : Names) → Agrees scope names → Knows scope names (locals x scope) → found_in x scope ≡ []
-    → (t : Ty) → type_of x scope ≡ Ok t → (n : ℕ) → type_in ((expression x scope).behind n) names ≡ Some t
+Sound x = SoundAt (found_in x) (type_of x) (expression x)
 
--- what an expression means, read off by its kind
-abbrev meaning : (x : ExprTree) (scope : Scope) (m : Sited Expr) (names : Names) (n : ℕ) (t : Ty) → expression x scope ≡ m
-    → type_in (m.behind n) names ≡ Some t → type_in ((expression x scope).behind n) names ≡ Some t
-meaning x scope m names n t same h = ap (λ (s : Sited Expr). type_in (s.behind n) names) same ∙ h
-
-known_as : (x : ExprTree) (scope : Scope) (names : Names) (l : Scope → List ℕ) → locals x ≡ l → Knows scope names (locals x scope) → Knows scope names (l scope)
-known_as x scope names l same h = subst (λ (f : Scope → List ℕ). Knows scope names (f scope)) same h
-
--- `q.n` in a query; outside one it is not named
-of_loop_sound : (variable name : Ident) (scope : Scope) (names : Names) (a : Agrees scope names) → reads_of_loop scope variable name ≡ []
-    → (t : Ty) → typed_at variable.at (of_loop_type scope variable name) ≡ Ok t
-    → type_in (expr.Field (agent_of (stands scope variable.at)) (number_of (stands scope name.at))) names ≡ Some t
-of_loop_sound variable name scope names a f t h =
-    let front : List CheckFault = reads scope variable.at (stands scope name.at) in
-    let back : List CheckFault = crosses scope variable.at (loop_class scope (stands scope variable.at)) (stands scope name.at) in
-    elim (cases_Bool scope.in_query) [
-      | inl query ↦
-          let clean : front ++ back ≡ [] = sym (ap (λ (b : Bool). if b then front ++ back else OtherAgentInUpdate variable.at ∷ []) query) ∙ f in
-          model.type_of-Field (agent_of (stands scope variable.at)) (number_of (stands scope name.at)) names
-          ∙ loop_sound scope names a variable.at (stands scope variable.at) (stands scope name.at) query
-          (none_front front back clean) (nil_back front back clean) t (typed_ok variable.at (of_loop_type scope variable name) t h)
-      | inr rule ↦
-          let never : OtherAgentInUpdate variable.at ∷ [] ≡ [] = sym (ap (λ (b : Bool). if b then front ++ back else OtherAgentInUpdate variable.at ∷ []) rule) ∙ f in
-          absurd (cc)
-    ]
-
-choice_case : (c x y : ExprTree) (at : ℕ) → Sound c → Sound x → Sound y → Sound (e.Choice c x y at)
-choice_case c x y at hc hx hy scope names a k f t h n =
-    let m : ℕ = n + length (expression c scope).sites in
-    let l : ℕ = m + length (expression x scope).sites in
-    let o : TypeOk (λ b. with_type (λ u. with_type (λ v. typed_at at (choice_type b u v)) (type_of y scope)) (type_of x scope)) (type_of c scope) t =
-    type_ok (λ b. with_type (λ u. with_type (λ v. typed_at at (choice_type b u v)) (type_of y scope)) (type_of x scope)) (type_of c scope) t (sym (type-Choice c x y at scope) ∙ h) in
-    let p : TypeOk (λ u. with_type (λ v. typed_at at (choice_type o.operand u v)) (type_of y scope)) (type_of x scope) t =
-    type_ok (λ u. with_type (λ v. typed_at at (choice_type o.operand u v)) (type_of y scope)) (type_of x scope) t o.gives in
-    let q : TypeOk (λ v. typed_at at (choice_type o.operand p.operand v)) (type_of y scope) t =
-    type_ok (λ v. typed_at at (choice_type o.operand p.operand v)) (type_of y scope) t p.gives in
-    let clean : (found_in c scope ++ found_in x scope) ++ found_in y scope ≡ [] = sym (found-Choice c x y at scope) ∙ f in
-    let clean_front : found_in c scope ++ found_in x scope ≡ [] = none_front (found_in c scope ++ found_in x scope) (found_in y scope) clean in
-    let known : Knows scope names (locals c scope ++ (locals x scope ++ locals y scope)) =
-    known_as (e.Choice c x y at) scope names (λ s. locals c s ++ (locals x s ++ locals y s)) (of-Choice locals_step c x y at) k in
-    let known_back : Knows scope names (locals x scope ++ locals y scope) =
-    all_back (λ n. constant_type names.known n ≡ slice_get scope.constants n) (locals c scope) (locals x scope ++ locals y scope) known in
-    meaning (e.Choice c x y at) scope _ names n t (meant-Choice c x y at scope)
-    (choice_sound ((expression c scope).behind n) ((expression x scope).behind m) ((expression y scope).behind l) names o.operand p.operand q.operand t
-    (hc scope names a (each_front (λ n. constant_type names.known n ≡ slice_get scope.constants n) (locals c scope) (locals x scope ++ locals y scope) known)
-    (none_front (found_in c scope) (found_in x scope) clean_front) o.operand o.is n)
-    (hx scope names a (each_front (λ n. constant_type names.known n ≡ slice_get scope.constants n) (locals x scope) (locals y scope) known_back)
-    (nil_back (found_in c scope) (found_in x scope) clean_front) p.operand p.is m)
-    (hy scope names a (all_back (λ n. constant_type names.known n ≡ slice_get scope.constants n) (locals x scope) (locals y scope) known_back)
-    (nil_back (found_in c scope ++ found_in x scope) (found_in y scope) clean) q.operand q.is l)
-    (typed_ok at (choice_type o.operand p.operand q.operand) t q.gives))
+kind : (x : ExprTree) (f : Scope → List CheckFault) (r : Scope → Result Ty ℕ) (s : Scope → Sited Expr) → found_in x ≡ f → type_of x ≡ r → expression x ≡ s → SoundAt f r s → Sound x
+kind x f r s ef er es h n m tied clean t typed k =
+    ap (λ (g : Scope → Sited Expr). type_in ((g n).behind k) m) es
+    ∙ h n m tied (ap (λ (g : Scope → List CheckFault). g n) (sym ef) ∙ clean) t (ap (λ (g : Scope → Result Ty ℕ). g n) (sym er) ∙ typed) k
 
 kinds_sound : Expressions Sound
 kinds_sound = record {
-  lit = λ number scope names a k f t h n. meaning (e.Lit number) scope _ names n t (meant-Lit number scope)
-      (model.type_of-Lit (literal number.digits) names ∙ literal_typed number.digits t (sym (type-Lit number scope) ∙ h));
-  true_ = λ at scope names a k f t h n. meaning (e.True at) scope _ names n t (meant-True at scope)
-      (model.type_of-Lit (val.Flag true) names ∙ typed_ok at (Some ty.Bool) t (sym (type-True at scope) ∙ h));
-  false_ = λ at scope names a k f t h n. meaning (e.False at) scope _ names n t (meant-False at scope)
-      (model.type_of-Lit (val.Flag false) names ∙ typed_ok at (Some ty.Bool) t (sym (type-False at scope) ∙ h));
-  name = λ name scope names a k f t h n. meaning (e.Name name) scope _ names n t (meant-Name name scope)
-      (named_sound scope names a name.at (stands scope name.at)
-      (known_as (e.Name name) scope names (λ s. local_of (stands s name.at)) (of-Name locals_step name) k)
-      (sym (found-Name name scope) ∙ f) t (sym (type-Name name scope) ∙ h) n);
-  of_this = λ name at scope names a k f t h n. meaning (e.OfThis name at) scope _ names n t (meant-OfThis name at scope)
-      (this_sound scope names a at (stands scope name.at) (sym (found-OfThis name at scope) ∙ f) t (sym (type-OfThis name at scope) ∙ h) n);
-  of_loop = λ variable name scope names a k f t h n. meaning (e.OfLoop variable name) scope _ names n t (meant-OfLoop variable name scope)
-      (of_loop_sound variable name scope names a (sym (found-OfLoop variable name scope) ∙ f) t (sym (type-OfLoop variable name scope) ∙ h));
-  unary = λ op x at hx scope names a k f t h n.
-      let o : TypeOk (λ u. typed_at at (unary_type (unary_named op) u)) (type_of x scope) t =
-      type_ok (λ u. typed_at at (unary_type (unary_named op) u)) (type_of x scope) t (sym (type-Unary op x at scope) ∙ h) in
-      meaning (e.Unary op x at) scope _ names n t (meant-Unary op x at scope)
-      (unary_sound (unary_named op) (n + length (expression x scope).sites) ((expression x scope).behind n) names o.operand t
-      (hx scope names a (known_as (e.Unary op x at) scope names (locals x) (of-Unary locals_step op x at) k) (sym (found-Unary op x at scope) ∙ f) o.operand o.is n)
-      (typed_ok at (unary_type (unary_named op) o.operand) t o.gives));
-  binary = λ op x y at hx hy scope names a k f t h n.
-      let m : ℕ = n + length (expression x scope).sites in
-      let o : TypeOk (λ u. with_type (λ v. typed_at at (binary_type (binary_named op) u v)) (type_of y scope)) (type_of x scope) t =
-      type_ok (λ u. with_type (λ v. typed_at at (binary_type (binary_named op) u v)) (type_of y scope)) (type_of x scope) t (sym (type-Binary op x y at scope) ∙ h) in
-      let p : TypeOk (λ v. typed_at at (binary_type (binary_named op) o.operand v)) (type_of y scope) t =
-      type_ok (λ v. typed_at at (binary_type (binary_named op) o.operand v)) (type_of y scope) t o.gives in
-      let clean : found_in x scope ++ found_in y scope ≡ [] = sym (found-Binary op x y at scope) ∙ f in
-      let known : Knows scope names (locals x scope ++ locals y scope) = known_as (e.Binary op x y at) scope names (λ s. locals x s ++ locals y s) (of-Binary locals_step op x y at) k in
-      meaning (e.Binary op x y at) scope _ names n t (meant-Binary op x y at scope)
-      (binary_sound (binary_named op) (m + length (expression y scope).sites) ((expression x scope).behind n) ((expression y scope).behind m) names o.operand p.operand t
-      (hx scope names a (each_front (λ n. constant_type names.known n ≡ slice_get scope.constants n) (locals x scope) (locals y scope) known)
-      (none_front (found_in x scope) (found_in y scope) clean) o.operand o.is n)
-      (hy scope names a (all_back (λ n. constant_type names.known n ≡ slice_get scope.constants n) (locals x scope) (locals y scope) known)
-      (nil_back (found_in x scope) (found_in y scope) clean) p.operand p.is m)
+  lit = λ number. kind (e.Lit number) _ _ _ (of-Lit found_step number) (of-Lit type_step number) (of-Lit expression_step number)
+      (λ n m tied f t h k. model.type_of-Lit (literal number.digits) m ∙ (ap (λ (u : Ty). Some u) (literal_typed number.digits) ∙ same_ok (digits_type number.digits) t h));
+  true_ = λ at. kind (e.True at) _ _ _ (of-True found_step at) (of-True type_step at) (of-True expression_step at)
+      (λ n m tied f t h k. model.type_of-Lit (val.Flag true) m ∙ same_ok ty.Bool t h);
+  false_ = λ at. kind (e.False at) _ _ _ (of-False found_step at) (of-False type_step at) (of-False expression_step at)
+      (λ n m tied f t h k. model.type_of-Lit (val.Flag false) m ∙ same_ok ty.Bool t h);
+  name = λ name. kind (e.Name name) _ _ _ (of-Name found_step name) (of-Name type_step name) (of-Name expression_step name)
+      (λ n m tied f t h k. named_sound n m tied name.at (read n name.text) (read_is n m tied name.text) f t h k);
+  of_this = λ name at. kind (e.OfThis name at) _ _ _ (of-OfThis found_step name at) (of-OfThis type_step name at) (of-OfThis expression_step name at)
+      (λ n m tied f t h k. named_sound n m tied at (read_own n name.text) (own_is n m tied name.text) f t h k);
+  of_loop = λ variable name. kind (e.OfLoop variable name) _ _ _ (of-OfLoop found_step variable name) (of-OfLoop type_step variable name) (of-OfLoop expression_step variable name)
+      (λ n m tied f t h k. of_loop_sound n m tied variable.at (of_loop n variable.text name.text) (of_loop_is n m tied variable.text name.text) f t h);
+  unary = λ op x at hx. kind (e.Unary op x at) _ _ _ (of-Unary found_step op x at) (of-Unary type_step op x at) (of-Unary expression_step op x at)
+      (λ n m tied f t h k.
+      let o : TypeOk (λ u. typed_at at (unary_type (unary_named op) u)) (type_of x n) t = type_ok (λ u. typed_at at (unary_type (unary_named op) u)) (type_of x n) t h in
+      unary_sound (unary_named op) (k + length (expression x n).sites) ((expression x n).behind k) m o.operand t
+      (hx n m tied f o.operand o.is k) (typed_ok at (unary_type (unary_named op) o.operand) t o.gives));
+  binary = λ op x y at hx hy. kind (e.Binary op x y at) _ _ _ (of-Binary found_step op x y at) (of-Binary type_step op x y at) (of-Binary expression_step op x y at)
+      (λ n m tied f t h k.
+      let j : ℕ = k + length (expression x n).sites in
+      let o : TypeOk (λ u. with_type (λ v. typed_at at (binary_type (binary_named op) u v)) (type_of y n)) (type_of x n) t =
+      type_ok (λ u. with_type (λ v. typed_at at (binary_type (binary_named op) u v)) (type_of y n)) (type_of x n) t h in
+      let p : TypeOk (λ v. typed_at at (binary_type (binary_named op) o.operand v)) (type_of y n) t =
+      type_ok (λ v. typed_at at (binary_type (binary_named op) o.operand v)) (type_of y n) t o.gives in
+      binary_sound (binary_named op) (j + length (expression y n).sites) ((expression x n).behind k) ((expression y n).behind j) m o.operand p.operand t
+      (hx n m tied (none_front (found_in x n) (found_in y n) f) o.operand o.is k) (hy n m tied (nil_back (found_in x n) (found_in y n) f) p.operand p.is j)
       (typed_ok at (binary_type (binary_named op) o.operand p.operand) t p.gives));
-  choice = λ c x y at hc hx hy scope names a k f t h n. choice_case c x y at hc hx hy scope names a k f t h n;
-  rand = λ at scope names a k f t h n. meaning (e.Rand at) scope _ names n t (meant-Rand at scope)
-      (model.type_of-Rand n names ∙ typed_ok at (Some ty.Fixed) t (sym (type-Rand at scope) ∙ h));
+  choice = λ c x y at hc hx hy. kind (e.Choice c x y at) _ _ _ (of-Choice found_step c x y at) (of-Choice type_step c x y at) (of-Choice expression_step c x y at)
+      (λ n m tied f t h k.
+      let j : ℕ = k + length (expression c n).sites in
+      let i : ℕ = j + length (expression x n).sites in
+      let o : TypeOk (λ b. with_type (λ u. with_type (λ v. typed_at at (choice_type b u v)) (type_of y n)) (type_of x n)) (type_of c n) t =
+      type_ok (λ b. with_type (λ u. with_type (λ v. typed_at at (choice_type b u v)) (type_of y n)) (type_of x n)) (type_of c n) t h in
+      let p : TypeOk (λ u. with_type (λ v. typed_at at (choice_type o.operand u v)) (type_of y n)) (type_of x n) t =
+      type_ok (λ u. with_type (λ v. typed_at at (choice_type o.operand u v)) (type_of y n)) (type_of x n) t o.gives in
+      let q : TypeOk (λ v. typed_at at (choice_type o.operand p.operand v)) (type_of y n) t =
+      type_ok (λ v. typed_at at (choice_type o.operand p.operand v)) (type_of y n) t p.gives in
+      let front : found_in c n ++ found_in x n ≡ [] = none_front (found_in c n ++ found_in x n) (found_in y n) f in
+      choice_sound ((expression c n).behind k) ((expression x n).behind j) ((expression y n).behind i) m o.operand p.operand q.operand t
+      (hc n m tied (none_front (found_in c n) (found_in x n) front) o.operand o.is k) (hx n m tied (nil_back (found_in c n) (found_in x n) front) p.operand p.is j)
+      (hy n m tied (nil_back (found_in c n ++ found_in x n) (found_in y n) f) q.operand q.is i) (typed_ok at (choice_type o.operand p.operand q.operand) t q.gives));
+  rand = λ at. kind (e.Rand at) _ _ _ (of-Rand found_step at) (of-Rand type_step at) (of-Rand expression_step at)
+      (λ n m tied f t h k. model.type_of-Rand k m ∙ same_ok ty.Fixed t h);
 }
 
 -- where an expression of a script has a type, what it means has that type in its program

@@ -1,51 +1,31 @@
--- The numbers that the checks of names give to fields and classes are those of the program.
+-- The numbers that the scope gives to fields and classes are those of the program.
 use Rattle.std.proofs.Common.{◌≡◌, refl, sym, ap, subst, ◌∙◌, ℕ, ◌+◌, ◌<◌, ◌≤◌, Bool, true, false, List, [], ◌∷◌, ◌++◌, map, flat_map, fold, length, length-append, append_assoc, arith, inl, inr}
-use Rattle.std.specs.Prelude.{cond, Option, Some, None, option_map, option_and_then, slice_get}
+use Rattle.std.specs.Prelude.{◌==◌, cond, Option, Some, None, option_map, option_and_then, slice_get, if◌then◌else◌}
 use Rattle.std.specs.List.{AllByRecursion}
 use Rattle.std.specs.Map.{lookup}
-use Rattle.std.proofs.lemmas.Bool.{cases_Bool, true≢false}
-use Rattle.std.proofs.lemmas.List.{length-map}
+use Rattle.std.proofs.lemmas.Bool.{cases_Bool, ne_eqb}
 use Rattle.std.proofs.lemmas.Option.{slice_get-map}
 use Rattle.std.proofs.lemmas.Grind.{flat_map-append}
 use Rattle.brace_num.proofs.Lists.{each_weaker, at_seam}
 use Rattle.brace_syntax.specs.declared.tree.Ident.{Ident}
-use Rattle.brace_syntax.specs.declared.tree.CombName.{CombName}
-use Rattle.brace_syntax.specs.declared.tree.CombName.TheVariants as combname
 use Rattle.brace_syntax.specs.declared.tree.MemberTree.{MemberTree}
 use Rattle.brace_syntax.specs.declared.tree.MemberTree.TheVariants as m
 use Rattle.brace_syntax.specs.declared.tree.ClassTree.{ClassTree}
 use Rattle.brace_names.specs.declared.declared.Field.{Field}
 use Rattle.brace_names.specs.declared.declared.Field.TheVariants as field
+use Rattle.brace_names.specs.Kinds.{type_named, comb_named}
 use Rattle.brace_names.specs.Tables.{has, with_name, table}
-use Rattle.brace_names.specs.Classes.{known, fields_behind, fields, numbered_from, is_sum}
-use Rattle.brace_model.specs.Typing as model
-use Rattle.brace_check.specs.declared.heading.StateHeading.{StateHeading}
-use Rattle.brace_check.specs.declared.heading.EffectHeading.{EffectHeading}
-use Rattle.brace_check.specs.declared.heading.Heading.{Heading}
-use Rattle.brace_check.specs.Headings.{type_named, comb_named, state_of, effect_of, heading}
+use Rattle.brace_names.specs.Classes.{known, fields_behind, fields, numbered_from}
+use Rattle.brace_model.specs.declared.program.Ty.{Ty}
+use Rattle.brace_model.specs.declared.program.Comb.{Comb}
 use Rattle.brace_check.proofs.Rising.{Rises, rises-joined}
-use Rattle.brace_check.proofs.Ties.{FieldIs, FieldsFit, named_too}
-
-sums_alike : (c : CombName) → model.is_sum (comb_named c) ≡ is_sum c
-sums_alike combname.Sum = refl
-sums_alike combname.Min = refl
-sums_alike combname.Max = refl
-sums_alike combname.Count = refl
-sums_alike combname.Or = refl
+use Rattle.brace_check.proofs.TypeSound.{StateHeading, EffectHeading, Heading, state_of, effect_of, heading, FieldIs, FieldsFit}
+use Rattle.brace_check.proofs.Ties.{named_too}
 
 -- a field of a class with these states and effects
-record StateOf (states : List StateHeading) (i : ℕ) : Type 0 where
-  heading : StateHeading
-  is : slice_get states i ≡ Some heading
-
-record EffectOf (effects : List EffectHeading) (i : ℕ) (sums : Bool) : Type 0 where
-  heading : EffectHeading
-  is : slice_get effects i ≡ Some heading
-  adds : model.is_sum heading.comb ≡ sums
-
 abbrev FieldOf : List StateHeading → List EffectHeading → Field → Type 0
-FieldOf states effects (field.State i) = StateOf states i
-FieldOf states effects (field.Effect i sums) = EffectOf effects i sums
+FieldOf states effects (field.State i t shared) = slice_get states i ≡ Some (record { ty = t; shared = shared })
+FieldOf states effects (field.Effect i t shared c) = slice_get effects i ≡ Some (record { ty = t; shared = shared; comb = c })
 
 abbrev AllOf : List StateHeading → List EffectHeading → List (Ident × Field) → Type 0
 AllOf states effects = AllByRecursion (λ one. FieldOf states effects one.1)
@@ -60,7 +40,7 @@ fields_of states effects [] = tt
 fields_of states effects (m.State shared type name x at ∷ members) =
     let one : StateHeading = record { ty = type_named type; shared = shared } in
     let seam : (states ++ one ∷ []) ++ flat_map state_of members ≡ states ++ one ∷ flat_map state_of members = append_assoc states (one ∷ []) (flat_map state_of members) in (
-      record { heading = one; is = at_seam states one (flat_map state_of members) },
+      at_seam states one (flat_map state_of members),
       subst (λ (l : List StateHeading). AllOf l (effects ++ flat_map effect_of members) (fields_behind (length states + 1) (length effects) members)) seam
           (subst (λ (k : ℕ). AllOf ((states ++ one ∷ []) ++ flat_map state_of members) (effects ++ flat_map effect_of members) (fields_behind k (length effects) members))
           (one-more states one) (fields_of (states ++ one ∷ []) effects members)),
@@ -68,7 +48,7 @@ fields_of states effects (m.State shared type name x at ∷ members) =
 fields_of states effects (m.Effect shared type name c at ∷ members) =
     let one : EffectHeading = record { ty = type_named type; shared = shared; comb = comb_named c } in
     let seam : (effects ++ one ∷ []) ++ flat_map effect_of members ≡ effects ++ one ∷ flat_map effect_of members = append_assoc effects (one ∷ []) (flat_map effect_of members) in (
-      record { heading = one; is = at_seam effects one (flat_map effect_of members); adds = sums_alike c },
+      at_seam effects one (flat_map effect_of members),
       subst (λ (l : List EffectHeading). AllOf (states ++ flat_map state_of members) l (fields_behind (length states) (length effects + 1) members)) seam
           (subst (λ (k : ℕ). AllOf (states ++ flat_map state_of members) ((effects ++ one ∷ []) ++ flat_map effect_of members) (fields_behind (length states) k members))
           (one-more effects one) (fields_of states (effects ++ one ∷ []) members)),
@@ -87,10 +67,8 @@ table_keeps P start (one ∷ all) kept h = table_keeps P (with_name start one.0.
 
 -- the field of a class of a number
 field_is : (headings : List Heading) (number : ℕ) (h : Heading) → slice_get headings number ≡ Some h → (x : Field) → FieldOf h.states h.effects x → FieldIs headings number x
-field_is headings number h there (field.State i) is =
-    record { heading = is.heading; is = ap (λ (o : Option Heading). option_and_then (λ h. slice_get h.states i) o) there ∙ is.is }
-field_is headings number h there (field.Effect i sums) is =
-    record { heading = is.heading; is = ap (λ (o : Option Heading). option_and_then (λ h. slice_get h.effects i) o) there ∙ is.is; adds = is.adds }
+field_is headings number h there (field.State i t shared) is = ap (λ (o : Option Heading). option_and_then (λ h. slice_get h.states i) o) there ∙ is
+field_is headings number h there (field.Effect i t shared c) is = ap (λ (o : Option Heading). option_and_then (λ h. slice_get h.effects i) o) there ∙ is
 
 -- the fields of a class are those that its heading has
 pub fields_fit : (headings : List Heading) (number : ℕ) (class : ClassTree) → slice_get headings number ≡ Some (heading class) → FieldsFit headings number (table (fields class))
@@ -122,16 +100,14 @@ numbered_below number [] all under = tt
 numbered_below number (class ∷ classes) all under =
     (omega (arith, under), numbered_below (number + 1) classes all (omega (arith, under)))
 
-pub classes_fit : (classes : List ClassTree) → AllByRecursion (λ e. e.1 < length (map heading classes)) (known classes).classes
+pub classes_fit : (classes : List ClassTree) → AllByRecursion (λ e. e.1 < length classes) (known classes).classes
 classes_fit classes =
-    let size : length (map heading classes) ≡ length classes = length-map classes heading in
-    let under : 0 + length classes ≤ length (map heading classes) = omega (arith, size) in
-    table_keeps (λ (k : ℕ). k < length (map heading classes)) [] (numbered_from 0 classes) tt (numbered_below 0 classes (length (map heading classes)) under)
+    table_keeps (λ (k : ℕ). k < length classes) [] (numbered_from 0 classes) tt (numbered_below 0 classes (length classes) (omega arith))
 
 -- the numbers of the states of a table rise
 abbrev state_number : Field → List ℕ
-state_number (field.State i) = i ∷ []
-state_number (field.Effect i sums) = []
+state_number (field.State i t shared) = i ∷ []
+state_number (field.Effect i t shared c) = []
 
 abbrev pub state_numbers : {K : Type 0} → List (K × Field) → List ℕ
 state_numbers = flat_map (λ e. state_number e.1)
@@ -149,18 +125,18 @@ numbers_more own name x hi h g = elim (cases_Bool (has own name)) [
   | inr new ↦ rw new g
 ]
 
-state_more : (own : List (List ℕ × Field)) (name : List ℕ) (i : ℕ) → RisingTable own i → RisingTable (with_name own name (field.State i)) (i + 1)
-state_more own name i h =
+state_more : (own : List (List ℕ × Field)) (name : List ℕ) (i : ℕ) (t : Ty) (shared : Bool) → RisingTable own i → RisingTable (with_name own name (field.State i t shared)) (i + 1)
+state_more own name i t shared h =
     let one : Rises i (i + 1) (i ∷ []) = (omega arith, omega arith) in
-    numbers_more own name (field.State i) (i + 1) (rises_below 0 i (i + 1) (state_numbers own) (omega arith) h)
-    (subst (Rises 0 (i + 1)) (sym (flat_map-append (λ (e : List ℕ × Field). state_number e.1) own ((name, field.State i) ∷ [])))
+    numbers_more own name (field.State i t shared) (i + 1) (rises_below 0 i (i + 1) (state_numbers own) (omega arith) h)
+    (subst (Rises 0 (i + 1)) (sym (flat_map-append (λ (e : List ℕ × Field). state_number e.1) own ((name, field.State i t shared) ∷ [])))
     (rises-joined 0 i (i + 1) (state_numbers own) (i ∷ []) h one))
 
-effect_more : (own : List (List ℕ × Field)) (name : List ℕ) (i : ℕ) (sums : Bool) (hi : ℕ) → RisingTable own hi → RisingTable (with_name own name (field.Effect i sums)) hi
-effect_more own name i sums hi h =
+effect_more : (own : List (List ℕ × Field)) (name : List ℕ) (i : ℕ) (t : Ty) (shared : Bool) (c : Comb) (hi : ℕ) → RisingTable own hi → RisingTable (with_name own name (field.Effect i t shared c)) hi
+effect_more own name i t shared c hi h =
     let none : Rises hi hi [] = omega arith in
-    numbers_more own name (field.Effect i sums) hi h
-    (subst (Rises 0 hi) (sym (flat_map-append (λ (e : List ℕ × Field). state_number e.1) own ((name, field.Effect i sums) ∷ [])))
+    numbers_more own name (field.Effect i t shared c) hi h
+    (subst (Rises 0 hi) (sym (flat_map-append (λ (e : List ℕ × Field). state_number e.1) own ((name, field.Effect i t shared c) ∷ [])))
     (rises-joined 0 hi hi (state_numbers own) [] h none))
 
 pub record RisesTo (own : List (List ℕ × Field)) : Type 0 where
@@ -171,9 +147,10 @@ table_rises : (own : List (List ℕ × Field)) (states effects : ℕ) (members :
     → RisesTo (fold (λ names one. with_name names one.0.text one.1) own (fields_behind states effects members))
 table_rises own states effects [] h = record { hi = states; rises = h }
 table_rises own states effects (m.State shared type name x at ∷ members) h =
-    table_rises (with_name own name.text (field.State states)) (states + 1) effects members (state_more own name.text states h)
+    table_rises (with_name own name.text (field.State states (type_named type) shared)) (states + 1) effects members (state_more own name.text states (type_named type) shared h)
 table_rises own states effects (m.Effect shared type name c at ∷ members) h =
-    table_rises (with_name own name.text (field.Effect effects (is_sum c))) states (effects + 1) members (effect_more own name.text effects (is_sum c) states h)
+    table_rises (with_name own name.text (field.Effect effects (type_named type) shared (comb_named c))) states (effects + 1) members
+    (effect_more own name.text effects (type_named type) shared (comb_named c) states h)
 table_rises own states effects (m.Visible range at ∷ members) h = table_rises own states effects members h
 table_rises own states effects (m.Reach range at ∷ members) h = table_rises own states effects members h
 table_rises own states effects (m.Run block at ∷ members) h = table_rises own states effects members h
@@ -184,62 +161,47 @@ table_rises own states effects (m.Spawn x gifts at ∷ members) h = table_rises 
 pub own_rises : (class : ClassTree) → RisesTo (table (fields class))
 own_rises class = let none : 0 ≤ 0 = omega arith in table_rises [] 0 0 class.members none
 
--- a state of a table stands under its number alone
-low_not : (lo hi i : ℕ) (p : List ℕ → Bool) (own : List (List ℕ × Field)) → i < lo → Rises lo hi (state_numbers own) → lookup p own ≡ Some (field.State i) → true ≡ false
-low_not lo hi i p [] under h is = absurd (cc)
-low_not lo hi i p ((name, field.State j) ∷ own) under h is = elim (cases_Bool (p name)) [
-  | inl same ↦
-      let found : Some (field.State j) ≡ Some (field.State i) = subst (λ (b : Bool). cond b (Some (field.State j)) (lookup p own) ≡ Some (field.State i)) same is in
-      let here : j ≡ i = cc in
-      let at : lo ≤ j = h.0 in
-      absurd (omega (arith, under, here, at))
-  | inr apart ↦
-      let at : lo ≤ j = h.0 in
-      low_not (j + 1) hi i p own (omega (arith, under, at)) h.1
-      (subst (λ (b : Bool). cond b (Some (field.State j)) (lookup p own) ≡ Some (field.State i)) apart is)
-]
-low_not lo hi i p ((name, field.Effect j sums) ∷ own) under h is = elim (cases_Bool (p name)) [
-  | inl same ↦
-      let found : Some (field.Effect j sums) ≡ Some (field.State i) = subst (λ (b : Bool). cond b (Some (field.Effect j sums)) (lookup p own) ≡ Some (field.State i)) same is in
-      absurd (cc)
-  | inr apart ↦ low_not lo hi i p own under h (subst (λ (b : Bool). cond b (Some (field.Effect j sums)) (lookup p own) ≡ Some (field.State i)) apart is)
-]
+-- the name of the state of a number
+abbrev pub numbered : ℕ → List (List ℕ × Field) → Option (List ℕ)
+numbered i [] = None
+numbered i ((name, field.State j t shared) ∷ own) = if j == i then Some name else numbered i own
+numbered i ((name, field.Effect j t shared c) ∷ own) = numbered i own
 
--- two tests that find one state pass one name
-pub record OneName (p q : List ℕ → Bool) : Type 0 where
+-- a state that a test finds is the one of its number
+pub record NamedAt (p : List ℕ → Bool) (lo i : ℕ) (own : List (List ℕ × Field)) : Type 0 where
   pub name : List ℕ
-  pub first : p name ≡ true
-  pub second : q name ≡ true
+  pub is : numbered i own ≡ Some name
+  pub passes : p name ≡ true
+  pub low : lo ≤ i
 
-module _ (p q : List ℕ → Bool) (i : ℕ) where
-  abbrev finds : (List ℕ → Bool) → Field → List (List ℕ × Field) → Bool → Type 0
-  finds test x own b = cond b (Some x) (lookup test own) ≡ Some (field.State i)
+module _ (p : List ℕ → Bool) (i : ℕ) (t : Ty) (shared : Bool) where
+  abbrev finds : Field → List (List ℕ × Field) → Bool → Type 0
+  finds x own b = cond b (Some x) (lookup p own) ≡ Some (field.State i t shared)
 
-  pub one_name : (lo hi : ℕ) (own : List (List ℕ × Field)) → Rises lo hi (state_numbers own) → lookup p own ≡ Some (field.State i) → lookup q own ≡ Some (field.State i)
-      → OneName p q
-  one_name lo hi [] h first second = absurd (cc)
-  one_name lo hi ((name, field.Effect j sums) ∷ own) h first second = elim (cases_Bool (p name)) [
-    | inl a ↦ let found : Some (field.Effect j sums) ≡ Some (field.State i) = subst (finds p (field.Effect j sums) own) a first in absurd (cc)
-    | inr a ↦ elim (cases_Bool (q name)) [
-      | inl b ↦ let found : Some (field.Effect j sums) ≡ Some (field.State i) = subst (finds q (field.Effect j sums) own) b second in absurd (cc)
-      | inr b ↦ one_name lo hi own h (subst (finds p (field.Effect j sums) own) a first) (subst (finds q (field.Effect j sums) own) b second)
-    ]
+  pub named_at : (lo hi : ℕ) (own : List (List ℕ × Field)) → Rises lo hi (state_numbers own) → lookup p own ≡ Some (field.State i t shared) → NamedAt p lo i own
+  named_at lo hi [] h is = absurd (cc)
+  named_at lo hi ((name, field.Effect j u open_ c) ∷ own) h is = elim (cases_Bool (p name)) [
+    | inl same ↦ let found : Some (field.Effect j u open_ c) ≡ Some (field.State i t shared) = subst (finds (field.Effect j u open_ c) own) same is in absurd (cc)
+    | inr apart ↦
+        let rest : NamedAt p lo i own = named_at lo hi own h (subst (finds (field.Effect j u open_ c) own) apart is) in
+        record { name = rest.name; is = rest.is; passes = rest.passes; low = rest.low }
   ]
-  one_name lo hi ((name, field.State j) ∷ own) h first second = elim (cases_Bool (p name)) [
-    | inl a ↦
-        let found : Some (field.State j) ≡ Some (field.State i) = subst (finds p (field.State j) own) a first in
-        let here : j ≡ i = cc in
-        let under : i < j + 1 = omega (arith, here) in
-        elim (cases_Bool (q name)) [
-          | inl b ↦ record { name = name; first = a; second = b }
-          | inr b ↦ absurd (true≢false (low_not (j + 1) hi i q own under h.1 (subst (finds q (field.State j) own) b second)))
-        ]
-    | inr a ↦ elim (cases_Bool (q name)) [
-      | inl b ↦
-          let found : Some (field.State j) ≡ Some (field.State i) = subst (finds q (field.State j) own) b second in
-          let here : j ≡ i = cc in
-          let under : i < j + 1 = omega (arith, here) in
-          absurd (true≢false (low_not (j + 1) hi i p own under h.1 (subst (finds p (field.State j) own) a first)))
-      | inr b ↦ one_name (j + 1) hi own h.1 (subst (finds p (field.State j) own) a first) (subst (finds q (field.State j) own) b second)
-    ]
-  ]
+  named_at lo hi ((name, field.State j u open_) ∷ own) h is =
+      let at : lo ≤ j = h.0 in
+      elim (cases_Bool (p name)) [
+        | inl same ↦
+            let found : Some (field.State j u open_) ≡ Some (field.State i t shared) = subst (finds (field.State j u open_) own) same is in
+            let here : j ≡ i = cc in
+            let one : (j == i) ≡ true = grind (arith, here) in
+            record { name = name; is = ap (λ (b : Bool). if b then Some name else numbered i own) one; passes = same; low = omega (arith, at, here) }
+        | inr apart ↦
+            let rest : NamedAt p (j + 1) i own = named_at (j + 1) hi own h.1 (subst (finds (field.State j u open_) own) apart is) in
+            let past : j + 1 ≤ i = rest.low in
+            let differ : (j == i) ≡ false = ne_eqb j i (λ e. let same : j ≡ i = e in absurd (omega (arith, past, same))) in
+            record {
+              name = rest.name;
+              is = ap (λ (b : Bool). if b then Some name else numbered i own) differ ∙ rest.is;
+              passes = rest.passes;
+              low = omega (arith, at, past);
+            }
+      ]

@@ -1,6 +1,6 @@
 -- What the checks of names say of the names of classes and fields, how many there are, and positions.
 use Rattle.std.proofs.Common.{◌≡◌, refl, sym, ap, subst, ◌∙◌, ℕ, zero, suc, ◌+◌, ◌≤◌, Bool, true, false, List, [], ◌∷◌, ◌++◌, map, flat_map, length, arith, inl, inr}
-use Rattle.std.specs.Prelude.{◌&&◌, ◌||◌, Option, Some, None, slice_get, if◌then◌else◌}
+use Rattle.std.specs.Prelude.{⊤, ◌&&◌, ◌||◌, Option, Some, None, slice_get, if◌then◌else◌}
 use Rattle.std.specs.Option.{option_map}
 use Rattle.std.specs.List.{AllByRecursion, IsDistinct, list_any}
 use Rattle.std.specs.Str.{bytes_eq}
@@ -16,9 +16,9 @@ use Rattle.brace_syntax.specs.declared.tree.MemberTree.{MemberTree}
 use Rattle.brace_syntax.specs.declared.tree.MemberTree.TheVariants as m
 use Rattle.brace_syntax.specs.declared.tree.ClassTree.{ClassTree}
 use Rattle.brace_names.specs.declared.finding.Finding.{Finding}
+use Rattle.brace_names.specs.declared.finding.Finding.TheVariants as finding
 use Rattle.brace_names.specs.declared.fault.NameFault.{NameFault}
 use Rattle.brace_names.specs.declared.fault.Which.{Which}
-use Rattle.brace_names.specs.declared.resolved.Target.{Target}
 use Rattle.brace_names.specs.declared.declared.Field.{Field}
 use Rattle.brace_names.specs.Tables.{repeated, repeated_after}
 use Rattle.brace_names.specs.Classes.{title, fields_behind, is_coordinate, has_position}
@@ -28,11 +28,10 @@ use Rattle.brace_model.specs.declared.program.Ty.TheVariants as ty
 use Rattle.brace_model.specs.declared.program.State.{State}
 use Rattle.brace_model.specs.Typing.{same_type}
 use Rattle.brace_model.specs.Lawful.{is_position}
-use Rattle.brace_check.specs.declared.heading.Heading.{Heading}
-use Rattle.brace_check.specs.Headings.{type_named}
-use Rattle.brace_check.specs.Scopes.{outermost}
 use Rattle.brace_check.specs.Programs.{rule, share, shares, effect_of, place_of}
-use Rattle.brace_check.proofs.Places.{AllFine}
+use Rattle.brace_names.specs.Kinds.{type_named}
+use Rattle.brace_names.specs.Scopes.{Home, outermost}
+use Rattle.brace_names.specs.Faults.{fault_of}
 
 -- equal bytes
 bytes-flip : (a b : List ℕ) → bytes_eq a b ≡ true → bytes_eq b a ≡ true
@@ -89,12 +88,27 @@ fresh earlier (name ∷ names) h =
       );
     }
 
-none_at : (kind : ℕ → NameFault) (targets : List (ℕ × Target)) (places : List ℕ) → AllFine targets (faults_at kind places) → places ≡ []
-none_at kind targets [] fine = refl
-none_at kind targets (p ∷ places) fine = absurd (true≢false fine.0)
+-- a finding is no fault
+abbrev pub Fine : Finding → Type 0
+Fine (finding.Fault x) = true ≡ false
+Fine _ = ⊤
 
-pub names_differ : (kind : ℕ → NameFault) (targets : List (ℕ × Target)) (names : List Ident) → AllFine targets (faults_at kind (repeated names)) → IsDistinct bytes_eq (map text names)
-names_differ kind targets names fine = (fresh [] names (none_at kind targets (repeated names) fine)).differ
+abbrev pub AllFine : List Finding → Type 0
+AllFine = AllByRecursion Fine
+
+pub all_fine : (all : List Finding) → flat_map fault_of all ≡ [] → AllFine all
+all_fine [] clean = tt
+all_fine (finding.Fault x ∷ all) clean = absurd (cc)
+all_fine (finding.Names b ∷ all) clean = (tt, all_fine all clean)
+all_fine (finding.Site at ∷ all) clean = (tt, all_fine all clean)
+all_fine (finding.Assignment at ∷ all) clean = (tt, all_fine all clean)
+
+none_at : (kind : ℕ → NameFault) (places : List ℕ) → AllFine (faults_at kind places) → places ≡ []
+none_at kind [] fine = refl
+none_at kind (p ∷ places) fine = absurd (true≢false fine.0)
+
+pub names_differ : (kind : ℕ → NameFault) (names : List Ident) → AllFine (faults_at kind (repeated names)) → IsDistinct bytes_eq (map text names)
+names_differ kind names fine = (fresh [] names (none_at kind (repeated names) fine)).differ
 
 -- nothing stands past a limit
 within : {A : Type 0} (xs : List A) (limit : ℕ) → slice_get xs limit ≡ None → length xs ≤ limit
@@ -102,33 +116,33 @@ within [] limit h = omega arith
 within (x ∷ xs) zero h = absurd (cc)
 within (x ∷ xs) (suc limit) h = let rest : length xs ≤ limit = within xs limit h in omega (arith, rest)
 
-no_more : (which : Which) (targets : List (ℕ × Target)) (o : Option Ident) → AllFine targets (too_many which o) → o ≡ None
-no_more which targets None fine = refl
-no_more which targets (Some name) fine = absurd (true≢false fine.0)
+no_more : (which : Which) (o : Option Ident) → AllFine (too_many which o) → o ≡ None
+no_more which None fine = refl
+no_more which (Some name) fine = absurd (true≢false fine.0)
 
 no_field : (o : Option (Ident × Field)) → option_map (λ one. one.0) o ≡ None → o ≡ None
 no_field None h = refl
 no_field (Some one) h = absurd (cc)
 
-pub few_names : (which : Which) (targets : List (ℕ × Target)) (names : List Ident) (limit : ℕ) → AllFine targets (too_many which (slice_get names limit)) → length names ≤ limit
-few_names which targets names limit fine = within names limit (no_more which targets (slice_get names limit) fine)
+pub few_names : (which : Which) (names : List Ident) (limit : ℕ) → AllFine (too_many which (slice_get names limit)) → length names ≤ limit
+few_names which names limit fine = within names limit (no_more which (slice_get names limit) fine)
 
-pub few_of : (which : Which) (targets : List (ℕ × Target)) (all : List (Ident × Field)) (limit : ℕ)
-    → AllFine targets (too_many which (option_map (λ one. one.0) (slice_get all limit))) → length all ≤ limit
-few_of which targets all limit fine =
-    within all limit (no_field (slice_get all limit) (no_more which targets (option_map (λ one. one.0) (slice_get all limit)) fine))
+pub few_of : (which : Which) (all : List (Ident × Field)) (limit : ℕ)
+    → AllFine (too_many which (option_map (λ one. one.0) (slice_get all limit))) → length all ≤ limit
+few_of which all limit fine =
+    within all limit (no_field (slice_get all limit) (no_more which (option_map (λ one. one.0) (slice_get all limit)) fine))
 
-positioned : (targets : List (ℕ × Target)) (test : Bool) (x : Finding) → AllFine targets (if test then [] else x ∷ []) → ((AllFine targets (x ∷ [])) → true ≡ false) → test ≡ true
-positioned targets true x fine never = refl
-positioned targets false x fine never = absurd (true≢false (never fine))
+positioned : (test : Bool) (x : Finding) → AllFine (if test then [] else x ∷ []) → ((AllFine (x ∷ [])) → true ≡ false) → test ≡ true
+positioned true x fine never = refl
+positioned false x fine never = absurd (true≢false (never fine))
 
-pub has_its_position : (targets : List (ℕ × Target)) (class : ClassTree) → AllFine targets (position class) → has_position class ≡ true
-has_its_position targets class fine = positioned targets (has_position class) _ fine (λ h. h.0)
+pub has_its_position : (class : ClassTree) → AllFine (position class) → has_position class ≡ true
+has_its_position class fine = positioned (has_position class) _ fine (λ h. h.0)
 
 -- the names of the states and effects of members are among their titles
-module _ (targets : List (ℕ × Target)) (headings : List Heading) (own : ℕ) where
+module _ (home : Home) where
   abbrev states_at : List MemberTree → ℕ → List State
-  states_at members n = ((shares targets headings own members).behind n).states
+  states_at members n = ((shares home members).behind n).states
 
   abbrev state_names : List MemberTree → ℕ → List (List ℕ)
   state_names members n = map (λ s. s.name) (states_at members n)
@@ -144,35 +158,35 @@ module _ (targets : List (ℕ × Target)) (headings : List Heading) (own : ℕ) 
       → length (fields_behind states effects members) ≡ length (states_at members n) + length (flat_map effect_of members)
   fields_count [] n states effects = refl
   fields_count (m.State shared type name x at ∷ members) n states effects =
-      let k : ℕ = n + length (share targets headings own (m.State shared type name x at)).sites in
+      let k : ℕ = n + length (share home (m.State shared type name x at)).sites in
       let rest : length (fields_behind (states + 1) effects members) ≡ length (states_at members k) + length (flat_map effect_of members) = fields_count members k (states + 1) effects in
       let total : suc (length (fields_behind (states + 1) effects members)) ≡ suc (length (states_at members k)) + length (flat_map effect_of members) = omega (arith, rest) in
       total
   fields_count (m.Effect shared type name c at ∷ members) n states effects =
-      let k : ℕ = n + length (share targets headings own (m.Effect shared type name c at)).sites in
+      let k : ℕ = n + length (share home (m.Effect shared type name c at)).sites in
       let rest : length (fields_behind states (effects + 1) members) ≡ length (states_at members k) + length (flat_map effect_of members) = fields_count members k states (effects + 1) in
       let total : suc (length (fields_behind states (effects + 1) members)) ≡ length (states_at members k) + suc (length (flat_map effect_of members)) = omega (arith, rest) in
       total
   fields_count (m.Visible range at ∷ members) n states effects = fields_count members (n + 0) states effects
   fields_count (m.Reach range at ∷ members) n states effects = fields_count members (n + 0) states effects
-  fields_count (m.Run block at ∷ members) n states effects = fields_count members (n + length (share targets headings own (m.Run block at)).sites) states effects
-  fields_count (m.Die x at ∷ members) n states effects = fields_count members (n + length (share targets headings own (m.Die x at)).sites) states effects
-  fields_count (m.Spawn x gifts at ∷ members) n states effects = fields_count members (n + length (share targets headings own (m.Spawn x gifts at)).sites) states effects
+  fields_count (m.Run block at ∷ members) n states effects = fields_count members (n + length (share home (m.Run block at)).sites) states effects
+  fields_count (m.Die x at ∷ members) n states effects = fields_count members (n + length (share home (m.Die x at)).sites) states effects
+  fields_count (m.Spawn x gifts at ∷ members) n states effects = fields_count members (n + length (share home (m.Spawn x gifts at)).sites) states effects
 
   -- a name that is apart from all titles is apart from all fields
   apart_from : (name : List ℕ) (members : List MemberTree) (n : ℕ) → Apart name (titles members) → Apart name (state_names members n) × Apart name (effect_names members)
   apart_from name [] n h = (tt, tt)
   apart_from name (m.State shared type word x at ∷ members) n h =
-      let rest : Apart name (state_names members _) × Apart name (effect_names members) = apart_from name members (n + length (share targets headings own (m.State shared type word x at)).sites) h.1 in
+      let rest : Apart name (state_names members _) × Apart name (effect_names members) = apart_from name members (n + length (share home (m.State shared type word x at)).sites) h.1 in
       ((h.0, rest.0), rest.1)
   apart_from name (m.Effect shared type word c at ∷ members) n h =
       let rest : Apart name (state_names members (n + 0)) × Apart name (effect_names members) = apart_from name members (n + 0) h.1 in
       (rest.0, (h.0, rest.1))
   apart_from name (m.Visible range at ∷ members) n h = apart_from name members (n + 0) h.1
   apart_from name (m.Reach range at ∷ members) n h = apart_from name members (n + 0) h.1
-  apart_from name (m.Run block at ∷ members) n h = apart_from name members (n + length (share targets headings own (m.Run block at)).sites) h.1
-  apart_from name (m.Die x at ∷ members) n h = apart_from name members (n + length (share targets headings own (m.Die x at)).sites) h.1
-  apart_from name (m.Spawn x gifts at ∷ members) n h = apart_from name members (n + length (share targets headings own (m.Spawn x gifts at)).sites) h.1
+  apart_from name (m.Run block at ∷ members) n h = apart_from name members (n + length (share home (m.Run block at)).sites) h.1
+  apart_from name (m.Die x at ∷ members) n h = apart_from name members (n + length (share home (m.Die x at)).sites) h.1
+  apart_from name (m.Spawn x gifts at ∷ members) n h = apart_from name members (n + length (share home (m.Spawn x gifts at)).sites) h.1
 
   insert : (x one : List ℕ) (xs ys : List (List ℕ)) → Apart x (xs ++ ys) → bytes_eq x one ≡ false → Apart x (xs ++ one ∷ ys)
   insert x one [] ys h apart = (apart, h)
@@ -190,7 +204,7 @@ module _ (targets : List (ℕ × Target)) (headings : List Heading) (own : ℕ) 
   unfolding IsDistinct
   fields_differ [] n h = tt
   fields_differ (m.State shared type name x at ∷ members) n h =
-      let k : ℕ = n + length (share targets headings own (m.State shared type name x at)).sites in
+      let k : ℕ = n + length (share home (m.State shared type name x at)).sites in
       let apart : Apart name.text (state_names members k) × Apart name.text (effect_names members) = apart_from name.text members k h.0 in
       (each_append (λ other. bytes_eq name.text other ≡ false) (state_names members k) (effect_names members) apart.0 apart.1, fields_differ members k h.1)
   fields_differ (m.Effect shared type name c at ∷ members) n h =
@@ -198,9 +212,9 @@ module _ (targets : List (ℕ × Target)) (headings : List Heading) (own : ℕ) 
       differ_between name.text (state_names members (n + 0)) (effect_names members) (fields_differ members (n + 0) h.1) apart.0 apart.1
   fields_differ (m.Visible range at ∷ members) n h = fields_differ members (n + 0) h.1
   fields_differ (m.Reach range at ∷ members) n h = fields_differ members (n + 0) h.1
-  fields_differ (m.Run block at ∷ members) n h = fields_differ members (n + length (share targets headings own (m.Run block at)).sites) h.1
-  fields_differ (m.Die x at ∷ members) n h = fields_differ members (n + length (share targets headings own (m.Die x at)).sites) h.1
-  fields_differ (m.Spawn x gifts at ∷ members) n h = fields_differ members (n + length (share targets headings own (m.Spawn x gifts at)).sites) h.1
+  fields_differ (m.Run block at ∷ members) n h = fields_differ members (n + length (share home (m.Run block at)).sites) h.1
+  fields_differ (m.Die x at ∷ members) n h = fields_differ members (n + length (share home (m.Die x at)).sites) h.1
+  fields_differ (m.Spawn x gifts at ∷ members) n h = fields_differ members (n + length (share home (m.Spawn x gifts at)).sites) h.1
 
   -- a coordinate is the first state of its name
   abbrev placed : List ℕ → List State → Bool
@@ -257,8 +271,8 @@ module _ (targets : List (ℕ × Target)) (headings : List Heading) (own : ℕ) 
   unfolding IsDistinct
   is_placed axis [] n h is = absurd (true≢false (sym is))
   is_placed axis (m.State shared type name x at ∷ members) n h is =
-      let k : ℕ = n + length (share targets headings own (m.State shared type name x at)).sites in
-      let s : State = record { name = name.text; ty = type_named type; shared = shared; rule = (rule x (outermost targets headings own false)).behind n } in
+      let k : ℕ = n + length (share home (m.State shared type name x at)).sites in
+      let s : State = record { name = name.text; ty = type_named type; shared = shared; rule = (rule x (outermost home false)).behind n } in
       elim (cases_Bool (bytes_eq name.text axis)) [
         | inl same ↦
             let one : name.text ≡ axis = (bytes_eq-Decides name.text axis).0 same in
@@ -271,6 +285,6 @@ module _ (targets : List (ℕ × Target)) (headings : List Heading) (own : ℕ) 
   is_placed axis (m.Effect shared type name c at ∷ members) n h is = is_placed axis members (n + 0) h.1 is
   is_placed axis (m.Visible range at ∷ members) n h is = is_placed axis members (n + 0) h.1 is
   is_placed axis (m.Reach range at ∷ members) n h is = is_placed axis members (n + 0) h.1 is
-  is_placed axis (m.Run block at ∷ members) n h is = is_placed axis members (n + length (share targets headings own (m.Run block at)).sites) h.1 is
-  is_placed axis (m.Die x at ∷ members) n h is = is_placed axis members (n + length (share targets headings own (m.Die x at)).sites) h.1 is
-  is_placed axis (m.Spawn x gifts at ∷ members) n h is = is_placed axis members (n + length (share targets headings own (m.Spawn x gifts at)).sites) h.1 is
+  is_placed axis (m.Run block at ∷ members) n h is = is_placed axis members (n + length (share home (m.Run block at)).sites) h.1 is
+  is_placed axis (m.Die x at ∷ members) n h is = is_placed axis members (n + length (share home (m.Die x at)).sites) h.1 is
+  is_placed axis (m.Spawn x gifts at ∷ members) n h is = is_placed axis members (n + length (share home (m.Spawn x gifts at)).sites) h.1 is

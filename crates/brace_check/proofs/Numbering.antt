@@ -6,8 +6,6 @@ use Rattle.std.proofs.lemmas.List.{append-nil}
 use Rattle.brace_num.proofs.Rows.{row_joined}
 use Rattle.brace_syntax.specs.declared.tree.ExprTree.{ExprTree}
 use Rattle.brace_syntax.specs.declared.tree.ExprTree.TheVariants as e
-use Rattle.brace_names.specs.declared.resolved.Target.{Target}
-use Rattle.brace_names.specs.declared.resolved.Target.TheVariants as target
 use Rattle.brace_model.specs.declared.program.Ty.TheVariants as ty
 use Rattle.brace_model.specs.declared.program.Value.TheVariants as val
 use Rattle.brace_model.specs.declared.program.UnOp.{UnOp}
@@ -18,12 +16,15 @@ use Rattle.brace_model.specs.declared.program.Expr.TheVariants as expr
 use Rattle.brace_model.specs.Sites.{sites_of}
 use Rattle.brace_model.specs.Typing.{only, is_sum, unary_faults, binary_faults}
 use Rattle.brace_model.proofs.LawEquations.{sites_of-Lit, sites_of-Field, sites_of-Total, sites_of-Local, sites_of-Unary, sites_of-Binary, sites_of-Choice, sites_of-Rand}
-use Rattle.brace_check.specs.declared.heading.EffectHeading.{EffectHeading}
-use Rattle.brace_check.specs.Scopes.{Scope, stands, effect_in, number_of}
-use Rattle.brace_check.specs.Types.{unary_named, binary_named}
-use Rattle.brace_check.specs.Meanings.{Sited, plain, followed, with_sites, site_if, literal, total, named, agent_of, unary, binary, choice, expression, expression_step}
-use Rattle.brace_check.proofs.ByKind.{Expressions, of_expression}
-use Rattle.brace_check.proofs.Folds.{of-Lit, of-True, of-False, of-Name, of-OfThis, of-OfLoop, of-Unary, of-Binary, of-Choice, of-Rand}
+use Rattle.brace_names.proofs.ByKind.{Expressions, of_expression}
+use Rattle.brace_names.proofs.Folds.{of-Lit, of-True, of-False, of-Name, of-OfThis, of-OfLoop, of-Unary, of-Binary, of-Choice, of-Rand}
+use Rattle.brace_names.specs.declared.declared.Field.TheVariants as field
+use Rattle.brace_names.specs.declared.scope.Named.{Named}
+use Rattle.brace_names.specs.declared.scope.Named.TheVariants as named
+use Rattle.brace_names.specs.Kinds.{unary_named, binary_named}
+use Rattle.brace_names.specs.Scopes.{Scope, read, read_own, of_loop}
+use Rattle.brace_names.specs.Findings.{is_summed}
+use Rattle.brace_check.specs.Meanings.{Sited, plain, site_if, literal, named_as, agent_of, loop_number, unary, binary, choice, expression, expression_step, followed, with_sites}
 
 -- what is made of each item, joined
 pub concat-map : {A : Type 0} (f : A → List ℕ) (xs : List A) → concat (map f xs) ≡ flat_map f xs
@@ -67,20 +68,13 @@ followed_numbered f g k both x y same hx hy n =
     ∙ (row_joined n (length x.sites) (length y.sites)
     ∙ ap (range_with_len n) (sym (length-append x.sites y.sites)))))
 
-total_numbered : (at i : ℕ) (e : Option EffectHeading) → Numbered sites_of (total at i e)
-total_numbered at i None n = sites_of-Total i ty.Int None
-total_numbered at i (Some e) n = sites_of-Total i e.ty (only (is_sum e.comb) n) ∙ numbers-first (is_sum e.comb) at n
-
-field_numbered : (i : ℕ) → Numbered sites_of (plain (expr.Field This i))
-field_numbered i n = sites_of-Field This i
-
-named_numbered : (scope : Scope) (at : ℕ) (t : Option Target) → Numbered sites_of (named scope at t)
-named_numbered scope at None = field_numbered 0
-named_numbered scope at (Some (target.Local i)) = λ n. sites_of-Local i
-named_numbered scope at (Some (target.Effect i)) = total_numbered at i (effect_in scope scope.own i)
-named_numbered scope at (Some (target.Class i)) = field_numbered i
-named_numbered scope at (Some (target.State i)) = field_numbered i
-named_numbered scope at (Some (target.Loop i)) = field_numbered i
+named_numbered : (scope : Scope) (at : ℕ) (o : Option Named) → Numbered sites_of (named_as scope at o)
+named_numbered scope at None n = sites_of-Field This 0
+named_numbered scope at (Some (named.Constant i t)) n = sites_of-Local i
+named_numbered scope at (Some (named.Field (field.State i t shared))) n = sites_of-Field This i
+named_numbered scope at (Some (named.Field (field.Effect i t shared c))) n =
+    let test : Bool = is_summed scope (field.Effect i t shared c) in
+    sites_of-Total i t (only test n) ∙ numbers-first test at n
 
 unary_numbered : (test : Bool) (at : ℕ) (op : UnOp) (x : Sited Expr) → Numbered sites_of x → Numbered sites_of (unary test at (expr.Unary op) x)
 unary_numbered test at op x h n =
@@ -128,10 +122,10 @@ kinds_numbered = record {
   lit = λ n. back (e.Lit n) _ (of-Lit expression_step n) (λ scope m. sites_of-Lit (literal n.digits));
   true_ = λ at. back (e.True at) _ (of-True expression_step at) (λ scope m. sites_of-Lit (val.Flag true));
   false_ = λ at. back (e.False at) _ (of-False expression_step at) (λ scope m. sites_of-Lit (val.Flag false));
-  name = λ name. back (e.Name name) _ (of-Name expression_step name) (λ scope. named_numbered scope name.at (stands scope name.at));
-  of_this = λ name at. back (e.OfThis name at) _ (of-OfThis expression_step name at) (λ scope. named_numbered scope at (stands scope name.at));
+  name = λ name. back (e.Name name) _ (of-Name expression_step name) (λ scope. named_numbered scope name.at (read scope name.text));
+  of_this = λ name at. back (e.OfThis name at) _ (of-OfThis expression_step name at) (λ scope. named_numbered scope at (read_own scope name.text));
   of_loop = λ variable name. back (e.OfLoop variable name) _ (of-OfLoop expression_step variable name)
-      (λ scope m. sites_of-Field (agent_of (stands scope variable.at)) (number_of (stands scope name.at)));
+      (λ scope m. sites_of-Field (agent_of (of_loop scope variable.text name.text)) (loop_number (of_loop scope variable.text name.text)));
   unary = λ op x at h. back (e.Unary op x at) _ (of-Unary expression_step op x at)
       (λ scope. unary_numbered (unary_faults (unary_named op)) at (unary_named op) (expression x scope) (h scope));
   binary = λ op x y at hx hy. back (e.Binary op x y at) _ (of-Binary expression_step op x y at)

@@ -7,21 +7,20 @@ use Rattle.brace_syntax.specs.declared.tree.ExprTree.{ExprTree}
 use Rattle.brace_syntax.specs.declared.tree.GiftTree.{GiftTree}
 use Rattle.brace_syntax.specs.declared.tree.MemberTree.{MemberTree}
 use Rattle.brace_syntax.specs.declared.tree.MemberTree.TheVariants as m
-use Rattle.brace_names.specs.declared.resolved.Target.{Target}
 use Rattle.brace_model.specs.declared.program.Expr.{Expr}
 use Rattle.brace_model.specs.declared.program.Stmt.{Stmt}
 use Rattle.brace_model.specs.declared.program.State.{State}
 use Rattle.brace_model.specs.declared.program.Gift.{Gift}
 use Rattle.brace_model.specs.declared.program.Spawn.{Spawn}
 use Rattle.brace_model.specs.Sites.{sites_of, sites_among, sites_of_spawn}
-use Rattle.brace_check.specs.declared.heading.Heading.{Heading}
 use Rattle.brace_check.specs.declared.share.Share.{Share}
-use Rattle.brace_check.specs.Scopes.{Scope, outermost, stands, number_of}
-use Rattle.brace_check.specs.Meanings.{Sited, followed, expression, block, part}
 use Rattle.brace_check.specs.Programs.{rule, gifts_in, spawn_of, no_share, share, shared_by, shares}
 use Rattle.brace_check.proofs.Rising.{Rises, rises-joined, range_rises}
 use Rattle.brace_check.proofs.Numbering.{Numbered, plain_numbered, made_numbered, followed_numbered, expression_numbered}
 use Rattle.brace_check.proofs.BlockNumbering.{block_sites, block_numbered}
+use Rattle.brace_names.specs.Tables.{look}
+use Rattle.brace_names.specs.Scopes.{Home, Scope, outermost}
+use Rattle.brace_check.specs.Meanings.{Sited, number_of, followed, expression, block, part}
 
 -- the sites of the parts of a class
 abbrev pub ruled_sites : List State → List ℕ
@@ -85,7 +84,7 @@ gift_sites gifts = sites_among (map (λ g. g.value) gifts)
 gifts_numbered : (gifts : List GiftTree) (scope : Scope) → Numbered gift_sites (gifts_in gifts scope)
 gifts_numbered [] scope = plain_numbered gift_sites [] refl
 gifts_numbered (g ∷ gifts) scope =
-    followed_numbered sites_of gift_sites gift_sites (λ (e : Expr) (rest : List Gift). record { state = number_of (stands scope g.state.at); value = e } ∷ rest)
+    followed_numbered sites_of gift_sites gift_sites (λ (e : Expr) (rest : List Gift). record { state = number_of (look scope.home.own g.state.text); value = e } ∷ rest)
     (expression g.value scope) (gifts_in gifts scope) (λ e rest. refl) (expression_numbered g.value scope) (gifts_numbered gifts scope)
 
 abbrev inner_sites : Expr × List Gift → List ℕ
@@ -103,45 +102,45 @@ spawn_numbered condition gifts at scope =
     (λ n. refl)
 
 -- the sites of one member rise
-pub share_rises : (targets : List (ℕ × Target)) (headings : List Heading) (own : ℕ) (member : MemberTree) (n : ℕ)
-    → SharesRise ((share targets headings own member).behind n) n (n + length (share targets headings own member).sites)
-share_rises targets headings own (m.Visible range at) n = none_rises n (n + 0) (under_more n 0)
-share_rises targets headings own (m.Reach range at) n = none_rises n (n + 0) (under_more n 0)
-share_rises targets headings own (m.Effect shared type name comb at) n = none_rises n (n + 0) (under_more n 0)
-share_rises targets headings own (m.State shared type name x at) n =
-    let r : Sited (Option Expr) = rule x (outermost targets headings own false) in
+pub share_rises : (home : Home) (member : MemberTree) (n : ℕ)
+    → SharesRise ((share home member).behind n) n (n + length (share home member).sites)
+share_rises home (m.Visible range at) n = none_rises n (n + 0) (under_more n 0)
+share_rises home (m.Reach range at) n = none_rises n (n + 0) (under_more n 0)
+share_rises home (m.Effect shared type name comb at) n = none_rises n (n + 0) (under_more n 0)
+share_rises home (m.State shared type name x at) n =
+    let r : Sited (Option Expr) = rule x (outermost home false) in
     let under : n ≤ n + length r.sites = under_more n (length r.sites) in
     record {
       rules = subst (λ (l : List Expr). Rises n (n + length r.sites) (sites_among l)) (sym (append-nil (option_to_list (r.behind n))))
-          (numbered_rises rule_sites_of r n (rule_numbered x (outermost targets headings own false)));
+          (numbered_rises rule_sites_of r n (rule_numbered x (outermost home false)));
       dies = under;
       spawns = under;
       queries = under;
     }
-share_rises targets headings own (m.Run statements at) n =
-    let b : Sited (List Stmt) = block (map part statements) (outermost targets headings own true) in
+share_rises home (m.Run statements at) n =
+    let b : Sited (List Stmt) = block (map part statements) (outermost home true) in
     let under : n ≤ n + length b.sites = under_more n (length b.sites) in
-    record { rules = under; dies = under; spawns = under; queries = alone_rises block_sites b n (block_numbered statements (outermost targets headings own true)) }
-share_rises targets headings own (m.Die condition at) n =
-    let e : Sited Expr = expression condition (outermost targets headings own false) in
+    record { rules = under; dies = under; spawns = under; queries = alone_rises block_sites b n (block_numbered statements (outermost home true)) }
+share_rises home (m.Die condition at) n =
+    let e : Sited Expr = expression condition (outermost home false) in
     let under : n ≤ n + length e.sites = under_more n (length e.sites) in
-    record { rules = under; dies = alone_rises sites_of e n (expression_numbered condition (outermost targets headings own false)); spawns = under; queries = under }
-share_rises targets headings own (m.Spawn condition gifts at) n =
-    let s : Sited Spawn = spawn_of condition gifts at (outermost targets headings own false) in
+    record { rules = under; dies = alone_rises sites_of e n (expression_numbered condition (outermost home false)); spawns = under; queries = under }
+share_rises home (m.Spawn condition gifts at) n =
+    let s : Sited Spawn = spawn_of condition gifts at (outermost home false) in
     let under : n ≤ n + length s.sites = under_more n (length s.sites) in
-    record { rules = under; dies = under; spawns = alone_rises sites_of_spawn s n (spawn_numbered condition gifts at (outermost targets headings own false)); queries = under }
+    record { rules = under; dies = under; spawns = alone_rises sites_of_spawn s n (spawn_numbered condition gifts at (outermost home false)); queries = under }
 
 -- the sites of the members of a class rise
-pub shares_rise : (targets : List (ℕ × Target)) (headings : List Heading) (own : ℕ) (members : List MemberTree) (n : ℕ)
-    → SharesRise ((shares targets headings own members).behind n) n (n + length (shares targets headings own members).sites)
-shares_rise targets headings own [] n = none_rises n (n + 0) (under_more n 0)
-shares_rise targets headings own (member ∷ members) n =
-    let a : Sited Share = share targets headings own member in
-    let b : Sited Share = shares targets headings own members in
+pub shares_rise : (home : Home) (members : List MemberTree) (n : ℕ)
+    → SharesRise ((shares home members).behind n) n (n + length (shares home members).sites)
+shares_rise home [] n = none_rises n (n + 0) (under_more n 0)
+shares_rise home (member ∷ members) n =
+    let a : Sited Share = share home member in
+    let b : Sited Share = shares home members in
     let mid : ℕ = n + length a.sites in
     let far : mid + length b.sites ≡ n + length (a.sites ++ b.sites) =
     (let assoc : mid + length b.sites ≡ n + (length a.sites + length b.sites) = omega arith in assoc)
     ∙ ap (λ (k : ℕ). n + k) (sym (length-append a.sites b.sites)) in
     subst (λ (hi : ℕ). SharesRise (shared_by (a.behind n) (b.behind mid)) n hi) far
     (both_rise (a.behind n) (b.behind mid) n mid (mid + length b.sites)
-    (share_rises targets headings own member n) (shares_rise targets headings own members mid))
+    (share_rises home member n) (shares_rise home members mid))

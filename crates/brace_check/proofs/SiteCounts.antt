@@ -8,17 +8,17 @@ use Rattle.std.proofs.lemmas.Grind.{flat_map-append}
 use Rattle.brace_syntax.specs.declared.tree.MemberTree.{MemberTree}
 use Rattle.brace_syntax.specs.declared.tree.MemberTree.TheVariants as m
 use Rattle.brace_syntax.specs.declared.tree.ClassTree.{ClassTree}
-use Rattle.brace_names.specs.declared.resolved.Target.{Target}
 use Rattle.brace_model.specs.declared.program.Stmt.{Stmt}
 use Rattle.brace_model.specs.declared.program.Class.{Class}
 use Rattle.brace_model.specs.Sites.{sites_of, sites_among, sites_of_spawn, class_sites}
-use Rattle.brace_check.specs.declared.heading.Heading.{Heading}
 use Rattle.brace_check.specs.declared.share.Share.{Share}
 use Rattle.brace_check.specs.Meanings.{Sited}
 use Rattle.brace_check.specs.Programs.{no_share, share, shared_by, shares, class_of, classes_from}
 use Rattle.brace_check.proofs.Rising.{Rises, bounds_rise}
 use Rattle.brace_check.proofs.BlockNumbering.{block_sites}
 use Rattle.brace_check.proofs.ShareNumbers.{ruled_sites, ruled-append, asked_sites, born_sites, asking_sites, SharesRise, share_rises}
+use Rattle.brace_names.specs.Classes.{Known}
+use Rattle.brace_names.specs.Scopes.{Home, home_of}
 
 -- how often a number stands in a place, and in a list
 abbrev here : ℕ → ℕ → ℕ
@@ -142,9 +142,9 @@ total-shared x a b =
     total
 
 -- a member has sites of one kind
-module _ (targets : List (ℕ × Target)) (headings : List Heading) (own : ℕ) (x : ℕ) where
+module _ (home : Home) (x : ℕ) where
   abbrev counted : MemberTree → ℕ → Type 0
-  counted one n = Once n (n + length (share targets headings own one).sites) x (total_times x ((share targets headings own one).behind n))
+  counted one n = Once n (n + length (share home one).sites) x (total_times x ((share home one).behind n))
 
   none_once : (n : ℕ) → Once n (n + 0) x 0
   none_once n = record { once = (let some : 0 ≤ 1 = omega arith in some); low = λ left. refl; high = λ right. refl }
@@ -165,30 +165,30 @@ module _ (targets : List (ℕ × Target)) (headings : List Heading) (own : ℕ) 
   unfolding total_times times
   nothing_once n = none_once n
 
-  member_once : (one : MemberTree) (n : ℕ) → SharesRise ((share targets headings own one).behind n) n (n + length (share targets headings own one).sites) → counted one n
+  member_once : (one : MemberTree) (n : ℕ) → SharesRise ((share home one).behind n) n (n + length (share home one).sites) → counted one n
   unfolding total_times times
   member_once (m.Visible range at) n h = none_once n
   member_once (m.Reach range at) n h = none_once n
   member_once (m.Effect shared type name c at) n h = none_once n
   member_once (m.State shared type name r at) n h =
-      alone n _ (times x (ruled_sites ((share targets headings own (m.State shared type name r at)).behind n).states)) (once_rising n _ x _ h.rules)
-  member_once (m.Die e at) n h = second n _ (times x (asked_sites ((share targets headings own (m.Die e at)).behind n).die)) (once_rising n _ x _ h.dies)
-  member_once (m.Spawn e gifts at) n h = third n _ (times x (born_sites ((share targets headings own (m.Spawn e gifts at)).behind n).spawn)) (once_rising n _ x _ h.spawns)
-  member_once (m.Run b at) n h = fourth n _ (times x (asking_sites ((share targets headings own (m.Run b at)).behind n).queries)) (once_rising n _ x _ h.queries)
+      alone n _ (times x (ruled_sites ((share home (m.State shared type name r at)).behind n).states)) (once_rising n _ x _ h.rules)
+  member_once (m.Die e at) n h = second n _ (times x (asked_sites ((share home (m.Die e at)).behind n).die)) (once_rising n _ x _ h.dies)
+  member_once (m.Spawn e gifts at) n h = third n _ (times x (born_sites ((share home (m.Spawn e gifts at)).behind n).spawn)) (once_rising n _ x _ h.spawns)
+  member_once (m.Run b at) n h = fourth n _ (times x (asking_sites ((share home (m.Run b at)).behind n).queries)) (once_rising n _ x _ h.queries)
 
   -- all members have each site once
-  members_once : (members : List MemberTree) (n : ℕ) → Once n (n + length (shares targets headings own members).sites) x (total_times x ((shares targets headings own members).behind n))
+  members_once : (members : List MemberTree) (n : ℕ) → Once n (n + length (shares home members).sites) x (total_times x ((shares home members).behind n))
   members_once [] n = nothing_once n
   members_once (one ∷ members) n =
-      let a : Sited Share = share targets headings own one in
-      let b : Sited Share = shares targets headings own members in
+      let a : Sited Share = share home one in
+      let b : Sited Share = shares home members in
       let mid : ℕ = n + length a.sites in
       let far : mid + length b.sites ≡ n + length (a.sites ++ b.sites) =
       (let assoc : mid + length b.sites ≡ n + (length a.sites + length b.sites) = omega arith in assoc) ∙ ap (λ (k : ℕ). n + k) (sym (length-append a.sites b.sites)) in
       subst (λ (hi : ℕ). Once n hi x (total_times x (shared_by (a.behind n) (b.behind mid)))) far
       (subst (Once n (mid + length b.sites) x) (sym (total-shared x (a.behind n) (b.behind mid)))
       (once_joined n mid (mid + length b.sites) x (total_times x (a.behind n)) (total_times x (b.behind mid)) (omega arith) (omega arith)
-      (member_once one n (share_rises targets headings own one n)) (members_once members mid)))
+      (member_once one n (share_rises home one n)) (members_once members mid)))
 
 -- the first of some things has no more
 module _ {A : Type 0} (f : A → List ℕ) (x : ℕ) where
@@ -207,14 +207,14 @@ first_query_times x (y ∷ ys) =
     let total : times x (block_sites y) ≤ times x (block_sites y ++ asking_sites ys) = omega (arith, whole) in
     total
 
-module _ (targets : List (ℕ × Target)) (headings : List Heading) (x : ℕ) where
+module _ (all : Known) (x : ℕ) where
   abbrev class_times : ℕ → ClassTree → ℕ → ℕ
-  class_times number class n = times x (class_sites ((class_of targets headings number class).behind n))
+  class_times number class n = times x (class_sites ((class_of (home_of all number class) class).behind n))
 
-  class_under : (number : ℕ) (class : ClassTree) (n : ℕ) → class_times number class n ≤ total_times x ((shares targets headings number class.members).behind n)
+  class_under : (number : ℕ) (class : ClassTree) (n : ℕ) → class_times number class n ≤ total_times x ((shares (home_of all number class) class.members).behind n)
   unfolding total_times
   class_under number class n =
-      let s : Share = (shares targets headings number class.members).behind n in
+      let s : Share = (shares (home_of all number class) class.members).behind n in
       let rules : List ℕ = ruled_sites s.states in
       let dies : List ℕ = sites_among (option_to_list (slice_get s.die 0)) in
       let spawns : List ℕ = flat_map sites_of_spawn (option_to_list (slice_get s.spawn 0)) in
@@ -229,18 +229,18 @@ module _ (targets : List (ℕ × Target)) (headings : List Heading) (x : ℕ) wh
       omega (arith, p, q, r, d, b, k) in
       total
 
-  class_once : (number : ℕ) (class : ClassTree) (n : ℕ) → Once n (n + length (class_of targets headings number class).sites) x (class_times number class n)
+  class_once : (number : ℕ) (class : ClassTree) (n : ℕ) → Once n (n + length (class_of (home_of all number class) class).sites) x (class_times number class n)
   class_once number class n =
-      once_less n _ x (class_times number class n) (total_times x ((shares targets headings number class.members).behind n)) (class_under number class n)
-      (members_once targets headings number x class.members n)
+      once_less n _ x (class_times number class n) (total_times x ((shares (home_of all number class) class.members).behind n)) (class_under number class n)
+      (members_once (home_of all number class) x class.members n)
 
   classes_once : (number : ℕ) (classes : List ClassTree) (n : ℕ)
-      → Once n (n + length (classes_from targets headings number classes).sites) x (times x (flat_map class_sites ((classes_from targets headings number classes).behind n)))
+      → Once n (n + length (classes_from all number classes).sites) x (times x (flat_map class_sites ((classes_from all number classes).behind n)))
   unfolding times
   classes_once number [] n = record { once = (let some : 0 ≤ 1 = omega arith in some); low = λ left. refl; high = λ right. refl }
   classes_once number (class ∷ classes) n =
-      let a : Sited Class = class_of targets headings number class in
-      let b : Sited (List Class) = classes_from targets headings (number + 1) classes in
+      let a : Sited Class = class_of (home_of all number class) class in
+      let b : Sited (List Class) = classes_from all (number + 1) classes in
       let mid : ℕ = n + length a.sites in
       let far : mid + length b.sites ≡ n + length (a.sites ++ b.sites) =
       (let assoc : mid + length b.sites ≡ n + (length a.sites + length b.sites) = omega arith in assoc) ∙ ap (λ (k : ℕ). n + k) (sym (length-append a.sites b.sites)) in
@@ -291,13 +291,13 @@ below bound (x ∷ xs) h =
           absurd (omega (arith, none, more))
     ]) rest
 
-module _ (targets : List (ℕ × Target)) (headings : List Heading) (classes : List ClassTree) where
+module _ (all : Known) (classes : List ClassTree) where
   abbrev sites_all : List ℕ
-  sites_all = flat_map class_sites ((classes_from targets headings 0 classes).behind 0)
+  sites_all = flat_map class_sites ((classes_from all 0 classes).behind 0)
 
   pub sites_differ : IsDistinct nat_eq sites_all
-  sites_differ = differ sites_all (λ x. (classes_once targets headings x 0 classes 0).once)
+  sites_differ = differ sites_all (λ x. (classes_once all x 0 classes 0).once)
 
-  pub sites_below : (bound : ℕ) → length (classes_from targets headings 0 classes).sites ≤ bound → list_all (λ x. nat_lt x bound) sites_all ≡ true
+  pub sites_below : (bound : ℕ) → length (classes_from all 0 classes).sites ≤ bound → list_all (λ x. nat_lt x bound) sites_all ≡ true
   sites_below bound few = below bound sites_all (λ x past.
-      (classes_once targets headings x 0 classes 0).high (let far : 0 + length (classes_from targets headings 0 classes).sites ≤ x = omega (arith, few, past) in far))
+      (classes_once all x 0 classes 0).high (let far : 0 + length (classes_from all 0 classes).sites ≤ x = omega (arith, few, past) in far))

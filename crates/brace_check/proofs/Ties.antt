@@ -1,190 +1,241 @@
--- How the scope of the checks of names, the scope of the check passes and what is in scope in the program are tied at a place.
-use Rattle.std.proofs.Common.{◌≡◌, refl, sym, ap, subst, ◌∙◌, ℕ, zero, suc, ◌+◌, ◌<◌, Bool, true, false, List, [], ◌∷◌, ◌++◌, length, length-append, arith, inl, inr}
-use Rattle.std.specs.Prelude.{◌==◌, Option, Some, option_and_then, slice_get, if◌then◌else◌}
+-- How the scope at a place of a script and what is in scope there in its program are tied.
+use Rattle.std.proofs.Common.{◌≡◌, refl, sym, ap, subst, ◌∙◌, ℕ, zero, suc, ◌+◌, ◌<◌, Bool, true, false, List, [], ◌∷◌, ◌++◌, map, length, arith, inl, inr}
+use Rattle.std.specs.Prelude.{⊤, ◌==◌, not, cond, Option, Some, None, is_none, option_map, option_and_then, slice_get, if◌then◌else◌}
 use Rattle.std.specs.List.{AllByRecursion}
+use Rattle.std.specs.Map.{lookup}
+use Rattle.std.specs.Str.{bytes_eq}
 use Rattle.std.proofs.lemmas.Bool.{cases_Bool, ne_eqb}
-use Rattle.std.proofs.lemmas.Option.{slice_get_within}
-use Rattle.brace_num.proofs.Lists.{each_weaker, each_append, at_seam}
+use Rattle.brace_num.proofs.Lists.{each_weaker, each_append}
 use Rattle.brace_syntax.specs.declared.tree.Ident.{Ident}
 use Rattle.brace_names.specs.declared.declared.Field.{Field}
-use Rattle.brace_names.specs.declared.declared.Field.TheVariants as field
 use Rattle.brace_names.specs.declared.scope.Local.{Local}
 use Rattle.brace_names.specs.declared.scope.Local.TheVariants as local
-use Rattle.brace_names.specs.Tables.{has, with_name}
-use Rattle.brace_names.specs.Scopes as names
+use Rattle.brace_names.specs.declared.scope.Named.{Named}
+use Rattle.brace_names.specs.declared.scope.Named.TheVariants as named
+use Rattle.brace_names.specs.declared.scope.LoopField.{LoopField}
+use Rattle.brace_names.specs.Tables.{look, has, with_name}
+use Rattle.brace_names.specs.Scopes.{Scope, class_number, field_in, read_own, constant_or, read, field_of, of_loop, inside, past, declaring}
 use Rattle.brace_model.specs.declared.program.Ty.{Ty}
-use Rattle.brace_model.specs.Typing.{Names, constant_type, is_sum}
-use Rattle.brace_check.specs.declared.heading.StateHeading.{StateHeading}
-use Rattle.brace_check.specs.declared.heading.EffectHeading.{EffectHeading}
-use Rattle.brace_check.specs.declared.heading.Heading.{Heading}
-use Rattle.brace_check.specs.Scopes.{Scope, inside, past}
-use Rattle.brace_check.proofs.TypeSound.{Agrees}
+use Rattle.brace_model.specs.declared.program.Class.{Class}
+use Rattle.brace_model.specs.declared.program.Who.{Who}
+use Rattle.brace_model.specs.declared.program.Who.TheVariants.{This, Outer, Inner}
+use Rattle.brace_model.specs.Typing.{Names, only, class_named, constant_type, within_loop}
+use Rattle.brace_check.specs.Meanings.{loop_agent}
+use Rattle.brace_check.proofs.TypeSound.{FieldIs, FieldsFit, heading_of, declared}
 
--- a state, and an effect, of the class of a number
-pub record StateIs (headings : List Heading) (class i : ℕ) : Type 0 where
-  pub heading : StateHeading
-  pub is : option_and_then (λ h. slice_get h.states i) (slice_get headings class) ≡ Some heading
+module _ {K A : Type 0} (p : K → Bool) (P : A → Type 0) where
+  -- what holds of all entries holds of the one that is found
+  pub found_among : (table : List (K × A)) (x : A) → AllByRecursion (λ e. P e.1) table → lookup p table ≡ Some x → P x
+  found_among [] x all is = absurd (cc)
+  found_among (e ∷ table) x all is = elim (cases_Bool (p e.0)) [
+    | inl same ↦
+        let found : Some e.1 ≡ Some x = subst (λ (b : Bool). cond b (Some e.1) (lookup p table) ≡ Some x) same is in
+        let here : e.1 ≡ x = cc in
+        subst P here all.0
+    | inr apart ↦ found_among table x all.1 (subst (λ (b : Bool). cond b (Some e.1) (lookup p table) ≡ Some x) apart is)
+  ]
 
-pub record EffectIn (headings : List Heading) (class i : ℕ) (sums : Bool) : Type 0 where
-  pub heading : EffectHeading
-  pub is : option_and_then (λ h. slice_get h.effects i) (slice_get headings class) ≡ Some heading
-  pub adds : is_sum heading.comb ≡ sums
-
-abbrev pub FieldIs : List Heading → ℕ → Field → Type 0
-FieldIs headings class (field.State i) = StateIs headings class i
-FieldIs headings class (field.Effect i sums) = EffectIn headings class i sums
-
--- each name of a table stands for a field of the class
-abbrev pub FieldsFit : List Heading → ℕ → List (List ℕ × Field) → Type 0
-FieldsFit headings class = AllByRecursion (λ e. FieldIs headings class e.1)
-
--- the class of a loop variable
-pub record LoopIs (over : List ℕ) (loops : ℕ) (class : Option ℕ) : Type 0 where
-  pub number : ℕ
-  pub named : class ≡ Some number
-  pub is : slice_get over loops ≡ Some number
-
--- a constant in scope is known with its type
-pub record ConstantIs (constants : List Ty) (known : List (ℕ × Ty)) (n : ℕ) : Type 0 where
-  pub under : n < length constants
-  pub is : constant_type known n ≡ slice_get constants n
-
-abbrev pub LocalIs : List ℕ → List Ty → List (ℕ × Ty) → Local → Type 0
-LocalIs over constants known (local.Constant n) = ConstantIs constants known n
-LocalIs over constants known (local.Loop loops class) = LoopIs over loops class
-
-pub record Tied (n : names.Scope) (c : Scope) (m : Names) : Type 0 where
-  pub agrees : Agrees c m
-  pub own : FieldsFit c.headings c.own n.own
-  pub others : (class : ℕ) (table : List (List ℕ × Field)) → slice_get n.known.fields class ≡ Some table → FieldsFit c.headings class table
-  pub classes : AllByRecursion (λ e. e.1 < length c.headings) n.known.classes
-  pub in_query : n.in_query ≡ c.in_query
-  pub loops : n.loops ≡ length c.over
-  pub constants : n.constants ≡ length c.constants
-  pub locals : AllByRecursion (λ e. LocalIs c.over c.constants m.known e.1) n.locals
-  pub known : AllByRecursion (λ k. k.0 < length c.constants) m.known
-
-module _ {A : Type 0} where
-  pub slice_get-front : (xs ys : List A) (i : ℕ) → i < length xs → slice_get (xs ++ ys) i ≡ slice_get xs i
-  slice_get-front [] ys i under = absurd (omega (arith, under))
-  slice_get-front (x ∷ xs) ys zero under = refl
-  slice_get-front (x ∷ xs) ys (suc i) under = slice_get-front xs ys i (omega (arith, under))
-
-module _ {A : Type 0} where
+module _ {A : Type 0} (P : A → Type 0) where
   -- a table of names keeps what holds of its entries
-  pub named_too : (P : A → Type 0) (table : List (List ℕ × A)) (name : List ℕ) (x : A) → AllByRecursion (λ e. P e.1) table → P x
+  pub named_too : (table : List (List ℕ × A)) (name : List ℕ) (x : A) → AllByRecursion (λ e. P e.1) table → P x
       → AllByRecursion (λ e. P e.1) (with_name table name x)
-  named_too P table name x all this = elim (cases_Bool (has table name)) [
+  named_too table name x all this = elim (cases_Bool (has table name)) [
     | inl there ↦ rw there all
     | inr new ↦ rw new (each_append (λ (e : List ℕ × A). P e.1) table ((name, x) ∷ []) all (this, tt))
   ]
 
--- more constants
-module _ (over : List ℕ) (constants more : List Ty) (known : List (ℕ × Ty)) where
-  local_past : (l : Local) → LocalIs over constants known l → LocalIs over (constants ++ more) known l
-  local_past (local.Constant n) h = record {
-    under = (let few : n < length constants = h.under in let size : length (constants ++ more) ≡ length constants + length more = length-append constants more in omega (arith, few, size));
-    is = h.is ∙ sym (slice_get-front constants more n h.under);
-  }
-  local_past (local.Loop loops class) h = h
+  pub all_back : (xs ys : List A) → AllByRecursion P (xs ++ ys) → AllByRecursion P ys
+  all_back [] ys h = h
+  all_back (x ∷ xs) ys h = all_back xs ys h.1
 
-  -- and one that is known
-  local_declared : (t : Ty) → (l : Local) → LocalIs over constants known l → LocalIs over (constants ++ t ∷ []) ((length constants, t) ∷ known) l
-  local_declared t (local.Constant n) h = record {
-    under = (let few : n < length constants = h.under in let size : length (constants ++ t ∷ []) ≡ length constants + 1 = length-append constants (t ∷ []) in omega (arith, few, size));
-    is =
-        (let few : n < length constants = h.under in
-        let apart : (length constants == n) ≡ false = ne_eqb (length constants) n (λ e. let same : length constants ≡ n = e in absurd (omega (arith, few, same))) in
-        ap (λ (b : Bool). if b then Some t else constant_type known n) apart)
-        ∙ (h.is ∙ sym (slice_get-front constants (t ∷ []) n h.under));
-  }
-  local_declared t (local.Loop loops class) h = h
+-- so many loops stand around
+abbrev LoopsAre : ℕ → Names → Type 0
+LoopsAre zero m = (m.outer_class ≡ None) × (m.inner_class ≡ None)
+LoopsAre (suc zero) m = (is_none m.outer_class ≡ false) × (m.inner_class ≡ None)
+LoopsAre (suc (suc loops)) m = ⊤
 
-  under_more : (k : ℕ × Ty) → k.0 < length constants → k.0 < length (constants ++ more)
-  under_more k few = let size : length (constants ++ more) ≡ length constants + length more = length-append constants more in omega (arith, few, size)
+-- a constant is known with its type, and a loop variable is of its class
+abbrev LocalIs : Names → ℕ → Local → Type 0
+LocalIs m count (local.Constant n t) = (n < count) × (constant_type m.known n ≡ Some t)
+LocalIs m count (local.Loop loops (Some class)) = class_named m (loop_agent loops) ≡ Some class
+LocalIs m count (local.Loop loops None) = ⊤
 
--- constants leave the rest of the scope as it is
-agrees_past : (c : Scope) (m : Names) (types : List Ty) (known : List (ℕ × Ty)) → Agrees c m → Agrees (past types c) (record m { known = known })
-agrees_past c m types known h = record {
-  headings = h.headings;
-  own = h.own;
-  in_rule = h.in_rule;
-  outer = h.outer;
-  inner = h.inner;
-  few = h.few;
-}
+pub record Tied (n : Scope) (m : Names) : Type 0 where
+  pub own : FieldsFit (declared m) n.home.number n.home.own
+  pub others : (class : ℕ) (table : List (List ℕ × Field)) → slice_get n.home.known.fields class ≡ Some table → FieldsFit (declared m) class table
+  pub classes : AllByRecursion (λ e. e.1 < length m.classes) n.home.known.classes
+  pub number : m.own ≡ n.home.number
+  pub in_rule : m.in_rule ≡ not n.in_query
+  pub loops : LoopsAre n.loops m
+  pub locals : AllByRecursion (λ e. LocalIs m n.constants e.1) n.locals
+
+-- what a name stands for is in the program
+abbrev pub NamedIs : Names → Option Named → Type 0
+NamedIs m None = ⊤
+NamedIs m (Some (named.Constant n t)) = constant_type m.known n ≡ Some t
+NamedIs m (Some (named.Field f)) = FieldIs (declared m) m.own f
+
+abbrev pub TargetIs : Names → Option Field → Type 0
+TargetIs m None = ⊤
+TargetIs m (Some f) = FieldIs (declared m) m.own f
+
+abbrev pub LoopIs : Names → Option LoopField → Type 0
+LoopIs m None = ⊤
+LoopIs m (Some x) = (class_named m (loop_agent x.loops) ≡ Some x.class) × FieldIs (declared m) x.class x.field
+
+module _ (n : Scope) (m : Names) (tied : Tied n m) where
+  own_field : (name : List ℕ) (o : Option Field) → look n.home.own name ≡ o → TargetIs m o
+  own_field name None is = tt
+  own_field name (Some f) is =
+      subst (λ (k : ℕ). FieldIs (declared m) k f) (sym tied.number) (found_among (bytes_eq name) (FieldIs (declared m) n.home.number) n.home.own f tied.own is)
+
+  -- a field of the class
+  pub target_is : (name : List ℕ) → TargetIs m (look n.home.own name)
+  target_is name = own_field name (look n.home.own name) refl
+
+  as_named : (o : Option Field) → TargetIs m o → NamedIs m (option_map (λ f. named.Field f) o)
+  as_named None h = tt
+  as_named (Some f) h = h
+
+  -- `this.n`
+  pub own_is : (name : List ℕ) → NamedIs m (read_own n name)
+  own_is name = as_named (look n.home.own name) (target_is name)
+
+  local_or : (name : List ℕ) (o : Option Local) → look n.locals name ≡ o → NamedIs m (constant_or o (read_own n name))
+  local_or name None is = own_is name
+  local_or name (Some (local.Loop loops class)) is = own_is name
+  local_or name (Some (local.Constant k t)) is = (found_among (bytes_eq name) (LocalIs m n.constants) n.locals (local.Constant k t) tied.locals is).1
+
+  -- `n`
+  pub read_is : (name : List ℕ) → NamedIs m (read n name)
+  read_is name = local_or name (look n.locals name) refl
+
+  in_class : (loops class : ℕ) (name : List ℕ) (o : Option (List (List ℕ × Field))) (p : Option Field) → slice_get n.home.known.fields class ≡ o
+      → option_and_then (λ own. look own name) o ≡ p → class_named m (loop_agent loops) ≡ Some class
+      → LoopIs m (option_map (λ f. record { loops = loops; class = class; field = f }) p)
+  in_class loops class name o None is found agent = tt
+  in_class loops class name None (Some f) is found agent = absurd (cc)
+  in_class loops class name (Some own) (Some f) is found agent = (agent, found_among (bytes_eq name) (FieldIs (declared m) class) own f (tied.others class own is) found)
+
+  of_local : (name : List ℕ) (variable : List ℕ) (o : Option Local) → look n.locals variable ≡ o → LoopIs m (field_of n name o)
+  of_local name variable None is = tt
+  of_local name variable (Some (local.Constant k t)) is = tt
+  of_local name variable (Some (local.Loop loops None)) is = tt
+  of_local name variable (Some (local.Loop loops (Some class))) is =
+      in_class loops class name (slice_get n.home.known.fields class) (field_in n class name) refl refl
+      (found_among (bytes_eq variable) (LocalIs m n.constants) n.locals (local.Loop loops (Some class)) tied.locals is)
+
+  -- `q.n`
+  pub of_loop_is : (variable name : List ℕ) → LoopIs m (of_loop n variable name)
+  of_loop_is variable name = of_local name variable (look n.locals variable) refl
 
 -- behind things in which constants stand
-pub tied_past : (n : names.Scope) (c : Scope) (m : Names) (count : ℕ) (types : List Ty) → length types ≡ count → Tied n c m
-    → Tied (names.past count n) (past types c) m
-tied_past n c m count types same h = record {
-  agrees = agrees_past c m types m.known h.agrees;
+pub tied_past : (n : Scope) (m : Names) (count : ℕ) → Tied n m → Tied (past count n) m
+tied_past n m count h = record {
   own = h.own;
   others = h.others;
   classes = h.classes;
-  in_query = h.in_query;
+  number = h.number;
+  in_rule = h.in_rule;
   loops = h.loops;
-  constants = ap (λ (k : ℕ). k + count) h.constants ∙ (ap (λ (k : ℕ). length c.constants + k) (sym same) ∙ sym (length-append c.constants types));
-  locals = each_weaker (λ (e : List ℕ × Local). LocalIs c.over c.constants m.known e.1) (λ (e : List ℕ × Local). LocalIs c.over (c.constants ++ types) m.known e.1)
-      (λ e is. local_past c.over c.constants types m.known e.1 is) n.locals h.locals;
-  known = each_weaker (λ (k : ℕ × Ty). k.0 < length c.constants) (λ (k : ℕ × Ty). k.0 < length (c.constants ++ types))
-      (λ k few. under_more c.over c.constants types m.known k few) m.known h.known;
+  locals = each_weaker (λ (e : List ℕ × Local). LocalIs m n.constants e.1) (λ (e : List ℕ × Local). LocalIs m (n.constants + count) e.1) (λ e is. more e.1 is) n.locals h.locals;
 }
+  where
+    more : (l : Local) → LocalIs m n.constants l → LocalIs m (n.constants + count) l
+    more (local.Constant k t) is = (let few : k < n.constants = is.0 in omega (arith, few), is.1)
+    more (local.Loop loops (Some class)) is = is
+    more (local.Loop loops None) is = is
 
 -- behind the declaration of a constant
-pub tied_declared : (n : names.Scope) (c : Scope) (m : Names) (name : Ident) (t : Ty) → Tied n c m
-    → Tied (names.past 1 (names.declaring name n)) (past (t ∷ []) c) (record m { known = (length c.constants, t) ∷ m.known })
-tied_declared n c m name t h =
-    let size : length (c.constants ++ t ∷ []) ≡ length c.constants + 1 = length-append c.constants (t ∷ []) in
-    let last : length c.constants < length (c.constants ++ t ∷ []) = omega (arith, size) in
-    let self : (length c.constants == length c.constants) ≡ true = grind arith in
-    let is : constant_type ((length c.constants, t) ∷ m.known) (length c.constants) ≡ slice_get (c.constants ++ t ∷ []) (length c.constants) =
-    ap (λ (b : Bool). if b then Some t else constant_type m.known (length c.constants)) self ∙ sym (at_seam c.constants t []) in
-    record {
-      agrees = agrees_past c m (t ∷ []) ((length c.constants, t) ∷ m.known) h.agrees;
-      own = h.own;
-      others = h.others;
-      classes = h.classes;
-      in_query = h.in_query;
-      loops = h.loops;
-      constants = ap (λ (k : ℕ). k + 1) h.constants ∙ sym size;
-      locals = named_too (LocalIs c.over (c.constants ++ t ∷ []) ((length c.constants, t) ∷ m.known)) n.locals name.text (local.Constant n.constants)
-          (each_weaker (λ (e : List ℕ × Local). LocalIs c.over c.constants m.known e.1) (λ (e : List ℕ × Local). LocalIs c.over (c.constants ++ t ∷ []) ((length c.constants, t) ∷ m.known) e.1)
-          (λ e is. local_declared c.over c.constants [] m.known t e.1 is) n.locals h.locals)
-          (subst (ConstantIs (c.constants ++ t ∷ []) ((length c.constants, t) ∷ m.known)) (sym h.constants) (record { under = last; is = is }));
-      known = (
-        last,
-        each_weaker (λ (k : ℕ × Ty). k.0 < length c.constants) (λ (k : ℕ × Ty). k.0 < length (c.constants ++ t ∷ []))
-            (λ k few. under_more c.over c.constants (t ∷ []) m.known k few) m.known h.known,
-      );
-    }
-
-local_inside : (over : List ℕ) (class : ℕ) (constants : List Ty) (known : List (ℕ × Ty)) (l : Local) → LocalIs over constants known l → LocalIs (over ++ class ∷ []) constants known l
-local_inside over class constants known (local.Constant n) h = h
-local_inside over class constants known (local.Loop loops which) h = record {
+pub tied_declared : (n : Scope) (m : Names) (name : Ident) (t : Ty) → Tied n m
+    → Tied (past 1 (declaring name t n)) (record m { known = (n.constants, t) ∷ m.known })
+tied_declared n m name t h = record {
+  own = h.own;
+  others = h.others;
+  classes = h.classes;
   number = h.number;
-  named = h.named;
-  is = slice_get-front over (class ∷ []) loops (slice_get_within over loops h.number h.is) ∙ h.is;
+  in_rule = h.in_rule;
+  loops = h.loops;
+  locals = named_too (LocalIs later (n.constants + 1)) n.locals name.text (local.Constant n.constants t)
+      (each_weaker (λ (e : List ℕ × Local). LocalIs m n.constants e.1) (λ (e : List ℕ × Local). LocalIs later (n.constants + 1) e.1) (λ e is. known_too e.1 is) n.locals h.locals)
+      (omega arith, (let self : (n.constants == n.constants) ≡ true = grind arith in ap (λ (b : Bool). if b then Some t else constant_type m.known n.constants) self));
 }
+  where
+    later : Names
+    later = record m { known = (n.constants, t) ∷ m.known }
+
+    known_too : (l : Local) → LocalIs m n.constants l → LocalIs later (n.constants + 1) l
+    known_too (local.Constant k u) is =
+        let few : k < n.constants = is.0 in
+        let apart : (n.constants == k) ≡ false = ne_eqb n.constants k (λ e. let same : n.constants ≡ k = e in absurd (omega (arith, few, same))) in
+        (omega (arith, few), ap (λ (b : Bool). if b then Some t else constant_type m.known k) apart ∙ is.1)
+    known_too (local.Loop loops (Some class)) is = is
+    known_too (local.Loop loops None) is = is
+
+-- a loop over the class of a number is entered
+pub record Entered (m : Names) (loops number : ℕ) : Type 0 where
+  pub inner : Names
+  pub is : within_loop m number ≡ Some inner
+  pub classes : inner.classes ≡ m.classes
+  pub own : inner.own ≡ m.own
+  pub in_rule : inner.in_rule ≡ m.in_rule
+  pub known : inner.known ≡ m.known
+  pub loops_are : LoopsAre (loops + 1) inner
+  pub over : class_named inner (loop_agent loops) ≡ Some number
+  pub kept : (who : Who) (class : ℕ) → class_named m who ≡ Some class → class_named inner who ≡ Some class
+
+pub entered : (m : Names) (loops number : ℕ) → loops < 2 → LoopsAre loops m → Entered m loops number
+entered m zero number few are = record {
+  inner = record m { outer_class = Some number };
+  is = ap (λ (o : Option ℕ). if is_none o then Some (record m { outer_class = Some number }) else only (is_none m.inner_class) (record m { inner_class = Some number })) are.0;
+  classes = refl;
+  own = refl;
+  in_rule = refl;
+  known = refl;
+  loops_are = (refl, are.1);
+  over = refl;
+  kept = kept;
+}
+  where
+    kept : (who : Who) (class : ℕ) → class_named m who ≡ Some class → class_named (record m { outer_class = Some number }) who ≡ Some class
+    kept This class is = is
+    kept Outer class is = let never : None ≡ Some class = sym are.0 ∙ is in absurd (cc)
+    kept Inner class is = is
+entered m (suc zero) number few are = record {
+  inner = record m { inner_class = Some number };
+  is = ap (λ (b : Bool). if b then Some (record m { outer_class = Some number }) else only (is_none m.inner_class) (record m { inner_class = Some number })) are.0
+      ∙ ap (λ (o : Option ℕ). only (is_none o) (record m { inner_class = Some number })) are.1;
+  classes = refl;
+  own = refl;
+  in_rule = refl;
+  known = refl;
+  loops_are = tt;
+  over = refl;
+  kept = kept;
+}
+  where
+    kept : (who : Who) (class : ℕ) → class_named m who ≡ Some class → class_named (record m { inner_class = Some number }) who ≡ Some class
+    kept This class is = is
+    kept Outer class is = is
+    kept Inner class is = let never : None ≡ Some class = sym are.1 ∙ is in absurd (cc)
+entered m (suc (suc loops)) number few are = absurd (omega (arith, few))
 
 -- in the block of a loop
-pub tied_inside : (n : names.Scope) (c : Scope) (m inner : Names) (class variable : Ident) (number : ℕ) → names.class_number n class.text ≡ Some number
-    → inner.known ≡ m.known → Agrees (inside number c) inner → Tied n c m
-    → Tied (names.inside class variable n) (inside number c) inner
-tied_inside n c m inner class variable number named same agrees h =
-    let over : List ℕ = c.over ++ number ∷ [] in
-    record {
-      agrees = agrees;
-      own = h.own;
-      others = h.others;
-      classes = h.classes;
-      in_query = h.in_query;
-      loops = ap (λ (k : ℕ). k + 1) h.loops ∙ sym (length-append c.over (number ∷ []));
-      constants = h.constants;
-      locals = subst (λ (known : List (ℕ × Ty)). AllByRecursion (λ e. LocalIs over c.constants known e.1) (names.inside class variable n).locals) (sym same)
-          (named_too (LocalIs over c.constants m.known) n.locals variable.text (local.Loop n.loops (names.class_number n class.text))
-          (each_weaker (λ (e : List ℕ × Local). LocalIs c.over c.constants m.known e.1) (λ (e : List ℕ × Local). LocalIs over c.constants m.known e.1)
-          (λ e is. local_inside c.over number c.constants m.known e.1 is) n.locals h.locals)
-          (record { number = number; named = named; is = ap (slice_get over) h.loops ∙ at_seam c.over number [] }));
-      known = subst (AllByRecursion (λ (k : ℕ × Ty). k.0 < length c.constants)) (sym same) h.known;
-    }
+module _ (n : Scope) (m : Names) (class variable : Ident) (number : ℕ) (named_ : class_number n class.text ≡ Some number) (e : Entered m n.loops number) (h : Tied n m) where
+  local_kept : (l : Local) → LocalIs m n.constants l → LocalIs e.inner n.constants l
+  local_kept (local.Constant k t) is = (is.0, ap (λ (known : List (ℕ × Ty)). constant_type known k) e.known ∙ is.1)
+  local_kept (local.Loop loops (Some class)) is = e.kept (loop_agent loops) class is
+  local_kept (local.Loop loops None) is = is
+
+  pub tied_inside : Tied (inside class variable n) e.inner
+  tied_inside = record {
+    own = subst (λ (classes : List Class). FieldsFit (map heading_of classes) n.home.number n.home.own) (sym e.classes) h.own;
+    others = λ k table is. subst (λ (classes : List Class). FieldsFit (map heading_of classes) k table) (sym e.classes) (h.others k table is);
+    classes = subst (λ (classes : List Class). AllByRecursion (λ (e : List ℕ × ℕ). e.1 < length classes) n.home.known.classes) (sym e.classes) h.classes;
+    number = e.own ∙ h.number;
+    in_rule = e.in_rule ∙ h.in_rule;
+    loops = e.loops_are;
+    locals = named_too (LocalIs e.inner n.constants) n.locals variable.text (local.Loop n.loops (class_number n class.text))
+        (each_weaker (λ (l : List ℕ × Local). LocalIs m n.constants l.1) (λ (l : List ℕ × Local). LocalIs e.inner n.constants l.1) (λ l is. local_kept l.1 is) n.locals h.locals)
+        (subst (λ (o : Option ℕ). LocalIs e.inner n.constants (local.Loop n.loops o)) (sym named_) e.over);
+  }

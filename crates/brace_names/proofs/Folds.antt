@@ -80,3 +80,6 @@ module _ {A : Type 0} (step : stmt.StmtTree-F A → A) where
   pub of-AssignLoop : (variable name : Ident) (x : ExprTree) → fold-StmtTree A step (s.AssignLoop variable name x) ≡ step (stmt.AssignLoop variable name x)
   of-AssignLoop variable name x =
       ap (fold-StmtTree A step) (sym (s.rolls-AssignLoop variable name x)) ∙ fold-roll-StmtTree A step (stmt.AssignLoop variable name x)
+
+-- all of these
+pub ruleset by_kind = (of-Lit, of-True, of-False, of-Name, of-OfThis, of-OfLoop, of-Unary, of-Binary, of-Choice, of-Rand, of-Const, of-when, of-either, of-Foreach, of-Assign, of-AssignThis, of-AssignLoop)

@@ -5,6 +5,7 @@ pub mod FirstLemmas
 pub mod Folds
 pub mod ByKind
 pub mod StmtLemmas
+pub mod WalkLemmas
 pub mod FoundEquations
 pub mod NameOrder
 pub mod TreeOrder

@@ -100,21 +100,24 @@ impl<'h, 's, 'a> Scope<'h, 's, 'a> {
     pub fn own(&self) -> u32
         ensures { result ≡ self.now.home.number }
     {
-        self.home.number
+        let home = self.home;
+        home.number
     }
 
     /// Whether the name stands for a field of the class, a constant or a loop variable.
     pub fn is_taken(&self, name: &[u8]) -> bool
         ensures { result ≡ is_taken self.now name.now }
     {
-        self.home.own.look(name).is_some() || self.locals.look(name).is_some()
+        let home = self.home;
+        home.own.look(name).is_some() || self.locals.look(name).is_some()
     }
 
     /// The field of the class.
     pub fn field(&self, name: &[u8]) -> Option<Field>
         ensures { result ≡ look self.now.home.own name.now }
     {
-        self.home.own.look(name)
+        let home = self.home;
+        home.own.look(name)
     }
 
     /// What `this.n` stands for.
@@ -140,7 +143,8 @@ impl<'h, 's, 'a> Scope<'h, 's, 'a> {
     {
         match self.locals.look(variable) {
             Some(Local::Loop(loops, Some(class))) => {
-                let field = self.home.known.field(class, name)?;
+                let home = self.home;
+                let field = home.known.field(class, name)?;
                 Some(LoopField {
                     loops,
                     class,
@@ -155,7 +159,8 @@ impl<'h, 's, 'a> Scope<'h, 's, 'a> {
     pub fn class_number(&self, name: &[u8]) -> Option<u32>
         ensures { result ≡ class_number self.now name.now }
     {
-        self.home.known.number(name)
+        let home = self.home;
+        home.known.number(name)
     }
 
     /// How many constants and loop variables are in scope.
