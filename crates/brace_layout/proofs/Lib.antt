@@ -1,9 +1,8 @@
+pub mod WalkZero
 pub mod NamesUnplaced
 pub mod ScriptUnplaced
-pub mod Codes
-pub mod Recoded
-pub mod ExprSame
-pub mod BlockSame
-pub mod MembersSame
+pub mod ExprZero
+pub mod BlockZero
+pub mod MembersZero
 pub mod AlikeScripts
 mod Examples

@@ -15,6 +15,7 @@ use Rattle.brace_syntax.specs.declared.tree.MemberTree.TheVariants as m
 use Rattle.brace_syntax.specs.declared.tree.ClassTree.{ClassTree}
 use Rattle.brace_syntax.specs.declared.tree.Tree.{Tree}
 use Rattle.brace_show.specs.Alike.{ident_at_0, type_at_0, expr_at_0, gift_at_0, member_at_0, class_at_0}
+use Rattle.brace_model.specs.declared.program.Ty.{Ty}
 use Rattle.brace_names.specs.declared.fault.NameFault.{NameFault}
 use Rattle.brace_names.specs.declared.fault.NameFault.TheVariants as fault
 use Rattle.brace_names.specs.declared.fault.Which.{Which}
@@ -26,14 +27,18 @@ use Rattle.brace_names.specs.declared.finding.Finding.TheVariants as finding
 use Rattle.brace_names.specs.declared.resolved.Binding.{Binding}
 use Rattle.brace_names.specs.declared.resolved.Target.{Target}
 use Rattle.brace_names.specs.Tables.{look, with_name, table, repeated, repeated_after}
-use Rattle.brace_names.specs.Classes.{Known, known, title, is_sum, fields, fields_behind, numbered_from, is_coordinate, has_position}
-use Rattle.brace_names.specs.Scopes.{Scope, outermost}
+use Rattle.brace_names.specs.Classes.{Known, known, title, fields, fields_behind, numbered_from, is_coordinate, has_position}
+use Rattle.brace_names.specs.Kinds.{type_named, comb_named}
+use Rattle.brace_names.specs.Scopes.{Home, home_of, Scope, outermost}
+use Rattle.brace_names.specs.Walk.{in_classes}
 use Rattle.brace_names.specs.Findings as f
 use Rattle.brace_names.specs.Found as names
-use Rattle.brace_names.specs.Found.{is_state, states_given, declarations, class_names, members, found}
+use Rattle.brace_names.specs.Found.{is_state, states_given, sought, declarations, class_names, found}
 use Rattle.brace_names.specs.Faults.{fault_of, binding_of, site_of, assignment_of, too_many, faults_among, faults}
 use Rattle.brace_layout.specs.Unplaced.{name_fault_at_0, targets_in}
-use Rattle.brace_layout.proofs.NamesUnplaced.{zeroed, both, expression_unplaced, block_unplaced, typed_at, assigns_at}
+use Rattle.brace_layout.proofs.WalkZero as walk
+use Rattle.brace_layout.proofs.WalkZero.{type_zero, many, block_zeroed}
+use Rattle.brace_layout.proofs.NamesUnplaced.{finding_at_0, zeroed, both, expression_unplaced, sought_unplaced, typed_at, assigns_at}
 
 abbrev pub nought : ℕ → ℕ
 nought at = 0
@@ -69,7 +74,7 @@ limit_zero w (Some name) = refl
 module _ (n : Scope) where
   given_zero : (gifts : List GiftTree) → map ident_at_0 (states_given n gifts) ≡ states_given n (map gift_at_0 gifts)
   given_zero [] = refl
-  given_zero (g ∷ gifts) = elim (cases_Bool (is_state (look n.own g.state.text))) [
+  given_zero (g ∷ gifts) = elim (cases_Bool (is_state (look n.home.own g.state.text))) [
     | inl given ↦ rw given (ap (λ (l : List Ident). ident_at_0 g.state ∷ l) (given_zero gifts))
     | inr other ↦ rw other (given_zero gifts)
   ]
@@ -80,9 +85,7 @@ module _ (n : Scope) where
       (assigns_at n g.state.at g.state) (expression_unplaced g.value n)
 
   gifts_zero : (gifts : List GiftTree) → zeroed (flat_map (names.gift n) gifts) ≡ flat_map (names.gift n) (map gift_at_0 gifts)
-  gifts_zero [] = refl
-  gifts_zero (g ∷ gifts) =
-      both (names.gift n g) (flat_map (names.gift n) gifts) (names.gift n (gift_at_0 g)) (flat_map (names.gift n) (map gift_at_0 gifts)) (gift_zero g) (gifts_zero gifts)
+  gifts_zero gifts = many finding_at_0 (names.gift n) gift_at_0 gifts gift_zero
 
   spawned_zero : (gifts : List GiftTree) (at : ℕ) → zeroed (names.gifts_found n gifts at) ≡ names.gifts_found n (map gift_at_0 gifts) 0
   spawned_zero gifts at =
@@ -98,26 +101,19 @@ module _ (n : Scope) where
   rule_zero None = refl
   rule_zero (Some x) = expression_unplaced x n
 
-member_zero : (all : Known) (own : List (List ℕ × Field)) (x : MemberTree) → zeroed (names.member all own x) ≡ names.member all own (member_at_0 x)
-member_zero all own (m.Visible range at) = refl
-member_zero all own (m.Reach range at) = refl
-member_zero all own (m.State shared type name x at) =
-    let n : Scope = outermost all own false in
+member_zero : (home : Home) (x : MemberTree) → zeroed (names.member home x) ≡ names.member home (member_at_0 x)
+member_zero home (m.Visible range at) = refl
+member_zero home (m.Reach range at) = refl
+member_zero home (m.State shared type name x at) =
+    let n : Scope = outermost home false in
     both (f.typed type) (names.rule x n) (f.typed (type_at_0 type)) (names.rule (option_map expr_at_0 x) n) (typed_at type) (rule_zero n x)
-member_zero all own (m.Effect shared type name comb at) = typed_at type
-member_zero all own (m.Run block at) = (block_unplaced block).found (outermost all own true)
-member_zero all own (m.Die x at) = expression_unplaced x (outermost all own false)
-member_zero all own (m.Spawn x gifts at) =
-    let n : Scope = outermost all own false in
+member_zero home (m.Effect shared type name comb at) = typed_at type
+member_zero home (m.Run block at) = block_zeroed finding_at_0 sought sought_unplaced block (outermost home true)
+member_zero home (m.Die x at) = expression_unplaced x (outermost home false)
+member_zero home (m.Spawn x gifts at) =
+    let n : Scope = outermost home false in
     both (names.expression x n) (names.gifts_found n gifts at) (names.expression (expr_at_0 x) n) (names.gifts_found n (map gift_at_0 gifts) 0)
     (expression_unplaced x n) (spawned_zero n gifts at)
-
-members_zero : (all : Known) (own : List (List ℕ × Field)) (xs : List MemberTree)
-    → zeroed (flat_map (names.member all own) xs) ≡ flat_map (names.member all own) (map member_at_0 xs)
-members_zero all own [] = refl
-members_zero all own (x ∷ xs) =
-    both (names.member all own x) (flat_map (names.member all own) xs) (names.member all own (member_at_0 x)) (flat_map (names.member all own) (map member_at_0 xs))
-    (member_zero all own x) (members_zero all own xs)
 
 -- fields
 module _ {A : Type 0} where
@@ -134,8 +130,12 @@ module _ {A : Type 0} where
 
 fields_zero : (states effects : ℕ) (xs : List MemberTree) → map entry_zero (fields_behind states effects xs) ≡ fields_behind states effects (map member_at_0 xs)
 fields_zero states effects [] = refl
-fields_zero states effects (m.State shared type name x at ∷ xs) = ap (λ (l : List (Ident × Field)). (ident_at_0 name, field.State states) ∷ l) (fields_zero (states + 1) effects xs)
-fields_zero states effects (m.Effect shared type name comb at ∷ xs) = ap (λ (l : List (Ident × Field)). (ident_at_0 name, field.Effect effects (is_sum comb)) ∷ l) (fields_zero states (effects + 1) xs)
+fields_zero states effects (m.State shared type name x at ∷ xs) =
+    ap (λ (l : List (Ident × Field)). (ident_at_0 name, field.State states (type_named type) shared) ∷ l) (fields_zero (states + 1) effects xs)
+    ∙ ap (λ (t : Ty). (ident_at_0 name, field.State states t shared) ∷ fields_behind (states + 1) effects (map member_at_0 xs)) (sym (type_zero type))
+fields_zero states effects (m.Effect shared type name c at ∷ xs) =
+    ap (λ (l : List (Ident × Field)). (ident_at_0 name, field.Effect effects (type_named type) shared (comb_named c)) ∷ l) (fields_zero states (effects + 1) xs)
+    ∙ ap (λ (t : Ty). (ident_at_0 name, field.Effect effects t shared (comb_named c)) ∷ fields_behind states (effects + 1) (map member_at_0 xs)) (sym (type_zero type))
 fields_zero states effects (m.Visible range at ∷ xs) = fields_zero states effects xs
 fields_zero states effects (m.Reach range at ∷ xs) = fields_zero states effects xs
 fields_zero states effects (m.Run block at ∷ xs) = fields_zero states effects xs
@@ -224,12 +224,6 @@ declarations_zero class =
     (limit_zero which.Fields o ∙ ap (names.too_many which.Fields) same))
     (position_zero class)
 
-all_declarations_zero : (classes : List ClassTree) → zeroed (flat_map declarations classes) ≡ flat_map declarations (map class_at_0 classes)
-all_declarations_zero [] = refl
-all_declarations_zero (class ∷ classes) =
-    both (declarations class) (flat_map declarations classes) (declarations (class_at_0 class)) (flat_map declarations (map class_at_0 classes))
-    (declarations_zero class) (all_declarations_zero classes)
-
 class_names_zero : (names_ : List Ident) → zeroed (class_names names_) ≡ class_names (map ident_at_0 names_)
 class_names_zero names_ =
     both (f.faults_at fault.DuplicateClass (repeated names_)) (names.too_many which.Classes (slice_get names_ 16))
@@ -237,12 +231,24 @@ class_names_zero names_ =
     (repeated_zero fault.DuplicateClass (λ at. refl) names_)
     (limit_zero which.Classes (slice_get names_ 16) ∙ ap (names.too_many which.Classes) (sym (slice_get-map ident_at_0 names_ 16)))
 
-all_members_zero : (all : Known) (classes : List ClassTree) → zeroed (flat_map (members all) classes) ≡ flat_map (members all) (map class_at_0 classes)
-all_members_zero all [] = refl
-all_members_zero all (class ∷ classes) =
-    both (members all class) (flat_map (members all) classes) (members all (class_at_0 class)) (flat_map (members all) (map class_at_0 classes))
-    (members_zero all (table (fields class)) class.members ∙ ap (λ (own : List (List ℕ × Field)). flat_map (names.member all own) (map member_at_0 class.members)) (own_zero class))
-    (all_members_zero all classes)
+-- a class at place 0 is the same to its members
+pub home_zero : (all : Known) (number : ℕ) (class : ClassTree) → home_of all number (class_at_0 class) ≡ home_of all number class
+home_zero all number class = ap (λ (own : List (List ℕ × Field)). record { known = all; number = number; own = own }) (sym (own_zero class))
+
+module _ {A : Type 0} (at_0 : A → A) (member : Home → MemberTree → List A) (zero : (home : Home) (x : MemberTree) → map at_0 (member home x) ≡ member home (member_at_0 x)) where
+  -- what is found in the members of classes
+  pub classes_zero : (all : Known) (number : ℕ) (classes : List ClassTree) → map at_0 (in_classes member all number classes) ≡ in_classes member all number (map class_at_0 classes)
+  classes_zero all number [] = refl
+  classes_zero all number (class ∷ classes) =
+      walk.both at_0 (flat_map (member (home_of all number class)) class.members) (in_classes member all (number + 1) classes)
+      (flat_map (member (home_of all number (class_at_0 class))) (map member_at_0 class.members)) (in_classes member all (number + 1) (map class_at_0 classes))
+      (many at_0 (member (home_of all number class)) member_at_0 class.members (zero (home_of all number class))
+      ∙ ap (λ (home : Home). flat_map (member home) (map member_at_0 class.members)) (sym (home_zero all number class)))
+      (classes_zero all (number + 1) classes)
+
+  -- and in those of a script
+  pub script_zero : (classes : List ClassTree) → map at_0 (in_classes member (known classes) 0 classes) ≡ in_classes member (known (map class_at_0 classes)) 0 (map class_at_0 classes)
+  script_zero classes = classes_zero (known classes) 0 classes ∙ ap (λ (all : Known). in_classes member all 0 (map class_at_0 classes)) (known_zero classes)
 
 titles_of : (classes : List ClassTree) → map ident_at_0 (map (λ class. class.name) classes) ≡ map (λ class. class.name) (map class_at_0 classes)
 titles_of [] = refl
@@ -257,13 +263,13 @@ found_zero tree =
     let classes : List ClassTree = tree.classes in
     let a : List Finding = class_names (map (λ class. class.name) classes) in
     let b : List Finding = flat_map declarations classes in
-    let d : List Finding = flat_map (members (known classes)) classes in
+    let d : List Finding = in_classes names.member (known classes) 0 classes in
     let a0 : List Finding = class_names (map (λ class. class.name) (map class_at_0 classes)) in
     let b0 : List Finding = flat_map declarations (map class_at_0 classes) in
-    let d0 : List Finding = flat_map (members (known (map class_at_0 classes))) (map class_at_0 classes) in
+    let d0 : List Finding = in_classes names.member (known (map class_at_0 classes)) 0 (map class_at_0 classes) in
     both (a ++ b) d (a0 ++ b0) d0
-    (both a b a0 b0 (class_names_zero (map (λ class. class.name) classes) ∙ ap class_names (titles_of classes)) (all_declarations_zero classes))
-    (all_members_zero (known classes) classes ∙ ap (λ (all : Known). flat_map (members all) (map class_at_0 classes)) (known_zero classes))
+    (both a b a0 b0 (class_names_zero (map (λ class. class.name) classes) ∙ ap class_names (titles_of classes)) (many finding_at_0 declarations class_at_0 classes declarations_zero))
+    (script_zero finding_at_0 names.member member_zero classes)
 
 -- faults, sites, assignments and bindings among what is found
 faults_of_zero : (all : List Finding) → map name_fault_at_0 (flat_map fault_of all) ≡ flat_map fault_of (zeroed all)
