@@ -2,7 +2,7 @@
 use Rattle.std.proofs.Common.{◌≡◌, refl, sym, ap, subst, ◌∙◌, ℕ, zero, suc, ◌+◌, ◌<◌, ◌≤◌, Bool, true, false, List, [], ◌∷◌, ◌++◌, map, flat_map, length, arith}
 use Rattle.std.specs.Prelude.{nat_eq, not, ◌&&◌, Option, Some, None, slice_get, codes, unwrap_or, option_to_list}
 use Rattle.std.specs.Option.{option_map}
-use Rattle.std.specs.List.{AllByRecursion, IsDistinct, list_any}
+use Rattle.std.specs.List.{AllByRecursion, IsDistinct, list_any, range_with_len}
 use Rattle.std.specs.Str.{bytes_eq}
 use Rattle.std.proofs.lemmas.Bool.{and_parts}
 use Rattle.std.proofs.lemmas.List.{length-map}
@@ -38,6 +38,7 @@ use Rattle.brace_check.specs.declared.share.Share.{Share}
 use Rattle.brace_check.specs.Found.{member}
 use Rattle.brace_check.specs.Faults.{faults}
 use Rattle.brace_check.specs.Programs.{shares, class_of, classes_from, program_of}
+use Rattle.brace_check.specs.Order.{in_text_order}
 use Rattle.brace_check.specs.Resolved.{IsResolved}
 use Rattle.brace_check.proofs.TypeSound.{Heading, heading, heading_of, FieldsFit}
 use Rattle.brace_check.proofs.Ties.{Tied, all_back}
@@ -54,6 +55,7 @@ use Rattle.brace_check.proofs.Words.{WordedClass, script_worded, fields_named}
 use Rattle.brace_check.proofs.LoopPlaces.{loops_apart}
 use Rattle.brace_check.proofs.SiteCounts.{sites_differ, sites_below}
 use Rattle.brace_check.proofs.ToldScript.{counted_sites, few_assignments}
+use Rattle.brace_check.proofs.TextOrder.{classes_in_order}
 
 first_born : (m : Names) (states : List State) (spawns : List Spawn) → AllByRecursion (Born m states) spawns
     → (is_spawn m states (slice_get spawns 0) ≡ true) × IsDistinct nat_eq (given_states (slice_get spawns 0))
@@ -65,6 +67,20 @@ first_query_rises : (lo hi : ℕ) (queries : List (List Stmt)) → Rises lo hi (
     → Rises lo hi (block_sites (unwrap_or (slice_get queries 0) []))
 first_query_rises lo hi [] h = h
 first_query_rises lo hi (b ∷ queries) h = front_rises lo hi (block_sites b) (flat_map block_sites queries) h
+
+-- the titles of the members of a class differ
+titles_differ : (class : ClassTree) → AllFine (declarations class) → IsDistinct bytes_eq (map text (map title class.members))
+titles_differ class fine =
+    let again : List Finding = f.faults_at DuplicateName (repeated (map title class.members)) in
+    let more : List Finding = too_many which.Fields (option_map (λ (one : Ident × Field). one.0) (slice_get (fields class) 64)) in
+    names_differ DuplicateName (map title class.members) (each_front Fine again more (each_front Fine (again ++ more) (position class) fine))
+
+classes_differ : (classes : List ClassTree) → AllFine (flat_map declarations classes) → AllByRecursion (λ (class : ClassTree). IsDistinct bytes_eq (map text (map title class.members))) classes
+classes_differ [] fine = tt
+classes_differ (class ∷ classes) fine = (
+  titles_differ class (each_front Fine (declarations class) (flat_map declarations classes) fine),
+  classes_differ classes (all_back Fine (declarations class) (flat_map declarations classes) fine),
+)
 
 module _ (trees : List ClassTree) (program : Program) (kept : map heading_of program.classes ≡ map heading trees) where
   headed : (number : ℕ) (class : ClassTree) → slice_get trees number ≡ Some class → slice_get (map heading_of program.classes) number ≡ Some (heading class)
@@ -102,7 +118,7 @@ module _ (trees : List ClassTree) (program : Program) (kept : map heading_of pro
       let again : List Finding = f.faults_at DuplicateName (repeated (map title class.members)) in
       let more : List Finding = too_many which.Fields (option_map (λ (one : Ident × Field). one.0) (slice_get (fields class) 64)) in
       let front : AllFine (again ++ more) = each_front Fine (again ++ more) (position class) declared_ in
-      let titles : IsDistinct bytes_eq (map text (map title class.members)) = names_differ DuplicateName (map title class.members) (each_front Fine again more front) in
+      let titles : IsDistinct bytes_eq (map text (map title class.members)) = titles_differ class declared_ in
       let few : length (fields class) ≤ 64 = few_of which.Fields (fields class) 64 (all_back Fine again more front) in
       let positioned : has_position class ≡ true = has_its_position class (all_back Fine (again ++ more) (position class) declared_) in
       let placed : (list_any (is_coordinate (codes "x")) class.members ≡ true) × (list_any (is_coordinate (codes "y")) class.members ≡ true) =
@@ -182,7 +198,7 @@ class_names-map all number [] n = refl
 class_names-map all number (class ∷ classes) n =
     ap (λ (l : List (List ℕ)). class.name.text ∷ l) (class_names-map all (number + 1) classes (n + length (class_of (home_of all number class) class).sites))
 
-module _ (src : List ℕ) (r : Resolved) (is : IsResolved src r) (clean : faults r ≡ []) where
+module _ (src : List ℕ) (r : Resolved) (is : IsResolved src r) where
   abbrev trees_ : List ClassTree
   trees_ = r.tree.classes
 
@@ -221,31 +237,39 @@ module _ (src : List ℕ) (r : Resolved) (is : IsResolved src r) (clean : faults
   fine_names : AllFine (class_names names_of_classes)
   fine_names = each_front Fine (class_names names_of_classes) (flat_map declarations trees_) fine_front
 
+  fine_declared : AllFine (flat_map declarations trees_)
+  fine_declared = all_back Fine (class_names names_of_classes) (flat_map declarations trees_) fine_front
+
+  -- its sites are numbered in the order of its text
+  pub sites_in_order : in_text_order trees_ (program_of r).classes ≡ range_with_len 0 (length (program_of r).sites)
+  sites_in_order = classes_in_order (known trees_) 0 trees_ 0 (classes_differ trees_ fine_declared)
+
   abbrev kept_ : map heading_of (program_of r).classes ≡ map heading trees_
   kept_ = classes_kept (known trees_) 0 trees_ 0
 
-  lawful_class : (number : ℕ) (class : Class) → slice_get (program_of r).classes number ≡ Some class → LawfulClass (program_of r) number class
-  lawful_class number class at =
-      let here : 0 + number ≡ number = omega arith in
-      classes_lawful trees_ (program_of r) kept_ 0 trees_ 0 (among_all trees_) (all_back Fine (class_names names_of_classes) (flat_map declarations trees_) fine_front)
-      (all_back Fine (class_names names_of_classes ++ flat_map declarations trees_) members_found fine) clean (script_worded src is.toks trees_ is.spelled is.read)
-      number class at number here
+  module _ (clean : faults r ≡ []) where
+    lawful_class : (number : ℕ) (class : Class) → slice_get (program_of r).classes number ≡ Some class → LawfulClass (program_of r) number class
+    lawful_class number class at =
+        let here : 0 + number ≡ number = omega arith in
+        classes_lawful trees_ (program_of r) kept_ 0 trees_ 0 (among_all trees_) fine_declared
+        (all_back Fine (class_names names_of_classes ++ flat_map declarations trees_) members_found fine) clean (script_worded src is.toks trees_ is.spelled is.read)
+        number class at number here
 
-  -- the program is lawful
-  pub accepted_lawful : LawfulProgram (program_of r)
-  accepted_lawful =
-      let again : List Finding = f.faults_at DuplicateClass (repeated names_of_classes) in
-      let more : List Finding = too_many which.Classes (slice_get names_of_classes 16) in
-      let few : length names_of_classes ≤ 16 = few_names which.Classes names_of_classes 16 (all_back Fine again more fine_names) in
-      let same : length (program_of r).classes ≡ length trees_ = count trees_ (program_of r) kept_ in
-      let d : length names_of_classes ≡ length trees_ = length-map trees_ (λ (class : ClassTree). class.name) in
-      record {
-        few_classes = omega (arith, few, same, d);
-        class_names_differ = subst (IsDistinct bytes_eq) (sym (class_names-map (known trees_) 0 trees_ 0))
-            (names_differ DuplicateClass names_of_classes (each_front Fine again more fine_names));
-        classes_are_lawful = lawful_class;
-        sites_in_range = sites_below (known trees_) trees_ 4096 few_sites;
-        sites_differ = sites_differ (known trees_) trees_;
-        few_assignments = few_assignments r.tree 4096 few_said;
-        loops_differ = loops_apart src is.toks (known trees_) trees_ is.spelled is.read;
-      }
+    -- the program is lawful
+    pub accepted_lawful : LawfulProgram (program_of r)
+    accepted_lawful =
+        let again : List Finding = f.faults_at DuplicateClass (repeated names_of_classes) in
+        let more : List Finding = too_many which.Classes (slice_get names_of_classes 16) in
+        let few : length names_of_classes ≤ 16 = few_names which.Classes names_of_classes 16 (all_back Fine again more fine_names) in
+        let same : length (program_of r).classes ≡ length trees_ = count trees_ (program_of r) kept_ in
+        let d : length names_of_classes ≡ length trees_ = length-map trees_ (λ (class : ClassTree). class.name) in
+        record {
+          few_classes = omega (arith, few, same, d);
+          class_names_differ = subst (IsDistinct bytes_eq) (sym (class_names-map (known trees_) 0 trees_ 0))
+              (names_differ DuplicateClass names_of_classes (each_front Fine again more fine_names));
+          classes_are_lawful = lawful_class;
+          sites_in_range = sites_below (known trees_) trees_ 4096 few_sites;
+          sites_differ = sites_differ (known trees_) trees_;
+          few_assignments = few_assignments r.tree 4096 few_said;
+          loops_differ = loops_apart src is.toks (known trees_) trees_ is.spelled is.read;
+        }

@@ -19,4 +19,5 @@ pub mod MembersSound
 pub mod Words
 pub mod LoopPlaces
 pub mod SiteCounts
+pub mod TextOrder
 pub mod LawfulProof

@@ -36,6 +36,13 @@ pub front_rises : (lo hi : ℕ) (xs ys : List ℕ) → Rises lo hi (xs ++ ys) �
 front_rises lo hi [] ys h = bounds_rise lo hi ys h
 front_rises lo hi (x ∷ xs) ys h = (h.0, front_rises (x + 1) hi xs ys h.1)
 
+-- and their end
+pub back_rises : (lo hi : ℕ) (xs ys : List ℕ) → Rises lo hi (xs ++ ys) → Rises lo hi ys
+back_rises lo hi [] ys h = h
+back_rises lo hi (x ∷ xs) ys h =
+    let at : lo ≤ x = h.0 in
+    rises_from lo (x + 1) hi ys (omega (arith, at)) (back_rises (x + 1) hi xs ys h.1)
+
 -- so many numbers in turn
 pub range_rises : (n c : ℕ) → Rises n (n + c) (range_with_len n c)
 range_rises n zero = omega arith

@@ -1,6 +1,7 @@
 -- The sites of a class rise over its rules, over each of its conditions, and over its query.
 use Rattle.std.proofs.Common.{◌≡◌, refl, sym, ap, subst, ◌∙◌, ℕ, ◌+◌, ◌≤◌, List, [], ◌∷◌, ◌++◌, map, flat_map, length, length-append, append_assoc, arith}
 use Rattle.std.specs.Prelude.{true, false, Option, Some, None, option_to_list}
+use Rattle.std.specs.List.{range_with_len}
 use Rattle.std.proofs.lemmas.List.{append-nil}
 use Rattle.std.proofs.lemmas.Grind.{flat_map-append}
 use Rattle.brace_syntax.specs.declared.tree.ExprTree.{ExprTree}
@@ -15,7 +16,7 @@ use Rattle.brace_model.specs.declared.program.Spawn.{Spawn}
 use Rattle.brace_model.specs.Sites.{sites_of, sites_among, sites_of_spawn}
 use Rattle.brace_check.specs.declared.share.Share.{Share}
 use Rattle.brace_check.specs.Programs.{rule, gifts_in, spawn_of, no_share, share, shared_by, shares}
-use Rattle.brace_check.proofs.Rising.{Rises, rises-joined, range_rises}
+use Rattle.brace_check.proofs.Rising.{Rises, rises-joined, front_rises, back_rises, range_rises}
 use Rattle.brace_check.proofs.Numbering.{Numbered, plain_numbered, made_numbered, followed_numbered, expression_numbered}
 use Rattle.brace_check.proofs.BlockNumbering.{block_sites, block_numbered}
 use Rattle.brace_names.specs.Tables.{look}
@@ -35,15 +36,16 @@ born_sites spawns = flat_map sites_of_spawn spawns
 abbrev pub asking_sites : List (List Stmt) → List ℕ
 asking_sites queries = flat_map block_sites queries
 
+-- all of them
+abbrev pub own_sites : Share → List ℕ
+own_sites s = ruled_sites s.states ++ (asked_sites s.die ++ (born_sites s.spawn ++ asking_sites s.queries))
+
 -- each of them rises between bounds
 pub record SharesRise (s : Share) (lo hi : ℕ) : Type 0 where
   pub rules : Rises lo hi (ruled_sites s.states)
   pub dies : Rises lo hi (asked_sites s.die)
   pub spawns : Rises lo hi (born_sites s.spawn)
   pub queries : Rises lo hi (asking_sites s.queries)
-
-none_rises : (lo hi : ℕ) → lo ≤ hi → SharesRise no_share lo hi
-none_rises lo hi under = record { rules = under; dies = under; spawns = under; queries = under }
 
 -- the rules of two lists of states
 pub ruled-append : (xs ys : List State) → ruled_sites (xs ++ ys) ≡ ruled_sites xs ++ ruled_sites ys
@@ -58,17 +60,6 @@ both_rise a b lo mid hi ha hb = record {
   spawns = subst (Rises lo hi) (sym (flat_map-append sites_of_spawn a.spawn b.spawn)) (rises-joined lo mid hi (born_sites a.spawn) (born_sites b.spawn) ha.spawns hb.spawns);
   queries = subst (Rises lo hi) (sym (flat_map-append block_sites a.queries b.queries)) (rises-joined lo mid hi (asking_sites a.queries) (asking_sites b.queries) ha.queries hb.queries);
 }
-
--- what is numbered rises
-numbered_rises : {A : Type 0} (f : A → List ℕ) (x : Sited A) (n : ℕ) → Numbered f x → Rises n (n + length x.sites) (f (x.behind n))
-numbered_rises f x n h = subst (Rises n (n + length x.sites)) (sym (h n)) (range_rises n (length x.sites))
-
--- the same, alone in a list
-alone_rises : {A : Type 0} (f : A → List ℕ) (x : Sited A) (n : ℕ) → Numbered f x → Rises n (n + length x.sites) (flat_map f (x.behind n ∷ []))
-alone_rises f x n h = subst (Rises n (n + length x.sites)) (sym (append-nil (f (x.behind n)))) (numbered_rises f x n h)
-
-under_more : (n c : ℕ) → n ≤ n + c
-under_more n c = omega arith
 
 abbrev rule_sites_of : Option Expr → List ℕ
 rule_sites_of r = sites_among (option_to_list r)
@@ -101,39 +92,39 @@ spawn_numbered condition gifts at scope =
     (λ e given. refl) (expression_numbered condition scope) (gifts_numbered gifts scope))
     (λ n. refl)
 
--- the sites of one member rise
-pub share_rises : (home : Home) (member : MemberTree) (n : ℕ)
-    → SharesRise ((share home member).behind n) n (n + length (share home member).sites)
-share_rises home (m.Visible range at) n = none_rises n (n + 0) (under_more n 0)
-share_rises home (m.Reach range at) n = none_rises n (n + 0) (under_more n 0)
-share_rises home (m.Effect shared type name comb at) n = none_rises n (n + 0) (under_more n 0)
-share_rises home (m.State shared type name x at) n =
-    let r : Sited (Option Expr) = rule x (outermost home false) in
-    let under : n ≤ n + length r.sites = under_more n (length r.sites) in
-    record {
-      rules = subst (λ (l : List Expr). Rises n (n + length r.sites) (sites_among l)) (sym (append-nil (option_to_list (r.behind n))))
-          (numbered_rises rule_sites_of r n (rule_numbered x (outermost home false)));
-      dies = under;
-      spawns = under;
-      queries = under;
-    }
-share_rises home (m.Run statements at) n =
-    let b : Sited (List Stmt) = block (map part statements) (outermost home true) in
-    let under : n ≤ n + length b.sites = under_more n (length b.sites) in
-    record { rules = under; dies = under; spawns = under; queries = alone_rises block_sites b n (block_numbered statements (outermost home true)) }
-share_rises home (m.Die condition at) n =
-    let e : Sited Expr = expression condition (outermost home false) in
-    let under : n ≤ n + length e.sites = under_more n (length e.sites) in
-    record { rules = under; dies = alone_rises sites_of e n (expression_numbered condition (outermost home false)); spawns = under; queries = under }
-share_rises home (m.Spawn condition gifts at) n =
-    let s : Sited Spawn = spawn_of condition gifts at (outermost home false) in
-    let under : n ≤ n + length s.sites = under_more n (length s.sites) in
-    record { rules = under; dies = under; spawns = alone_rises sites_of_spawn s n (spawn_numbered condition gifts at (outermost home false)); queries = under }
+-- the sites of one member are numbered in finishing order
+pub share_numbered : (home : Home) (x : MemberTree) (n : ℕ) → own_sites ((share home x).behind n) ≡ range_with_len n (length (share home x).sites)
+share_numbered home (m.Visible range at) n = refl
+share_numbered home (m.Reach range at) n = refl
+share_numbered home (m.Effect shared type name comb at) n = refl
+share_numbered home (m.State shared type name x at) n =
+    append-nil _ ∙ (ap sites_among (append-nil (option_to_list ((rule x (outermost home false)).behind n))) ∙ rule_numbered x (outermost home false) n)
+share_numbered home (m.Run statements at) n = append-nil _ ∙ block_numbered statements (outermost home true) n
+share_numbered home (m.Die condition at) n = append-nil _ ∙ (append-nil _ ∙ expression_numbered condition (outermost home false) n)
+share_numbered home (m.Spawn condition gifts at) n = append-nil _ ∙ (append-nil _ ∙ spawn_numbered condition gifts at (outermost home false) n)
 
--- the sites of the members of a class rise
-pub shares_rise : (home : Home) (members : List MemberTree) (n : ℕ)
-    → SharesRise ((shares home members).behind n) n (n + length (shares home members).sites)
-shares_rise home [] n = none_rises n (n + 0) (under_more n 0)
+-- so they rise
+share_rises : (home : Home) (x : MemberTree) (n : ℕ) → SharesRise ((share home x).behind n) n (n + length (share home x).sites)
+share_rises home x n =
+    let s : Share = (share home x).behind n in
+    let hi : ℕ = n + length (share home x).sites in
+    let rules : List ℕ = ruled_sites s.states in
+    let dies : List ℕ = asked_sites s.die in
+    let spawns : List ℕ = born_sites s.spawn in
+    let queries : List ℕ = asking_sites s.queries in
+    let all : Rises n hi (rules ++ (dies ++ (spawns ++ queries))) = subst (Rises n hi) (sym (share_numbered home x n)) (range_rises n (length (share home x).sites)) in
+    let most : Rises n hi (dies ++ (spawns ++ queries)) = back_rises n hi rules (dies ++ (spawns ++ queries)) all in
+    let last : Rises n hi (spawns ++ queries) = back_rises n hi dies (spawns ++ queries) most in
+    record {
+      rules = front_rises n hi rules (dies ++ (spawns ++ queries)) all;
+      dies = front_rises n hi dies (spawns ++ queries) most;
+      spawns = front_rises n hi spawns queries last;
+      queries = back_rises n hi spawns queries last;
+    }
+
+-- and those of the members of a class
+pub shares_rise : (home : Home) (members : List MemberTree) (n : ℕ) → SharesRise ((shares home members).behind n) n (n + length (shares home members).sites)
+shares_rise home [] n = record { rules = omega arith; dies = omega arith; spawns = omega arith; queries = omega arith }
 shares_rise home (member ∷ members) n =
     let a : Sited Share = share home member in
     let b : Sited Share = shares home members in
@@ -142,5 +133,4 @@ shares_rise home (member ∷ members) n =
     (let assoc : mid + length b.sites ≡ n + (length a.sites + length b.sites) = omega arith in assoc)
     ∙ ap (λ (k : ℕ). n + k) (sym (length-append a.sites b.sites)) in
     subst (λ (hi : ℕ). SharesRise (shared_by (a.behind n) (b.behind mid)) n hi) far
-    (both_rise (a.behind n) (b.behind mid) n mid (mid + length b.sites)
-    (share_rises home member n) (shares_rise home members mid))
+    (both_rise (a.behind n) (b.behind mid) n mid (mid + length b.sites) (share_rises home member n) (shares_rise home members mid))

@@ -4,4 +4,5 @@ pub mod Found
 pub mod Faults
 pub mod Meanings
 pub mod Programs
+pub mod Order
 pub mod Resolved

@@ -1,10 +1,13 @@
 //! Facts on the check passes that hold always. The functions do nothing; their clauses are the
 //! laws.
-ghost use Rattle.std.specs.Prelude.{◌≡◌, List, Some, flat_map};
+ghost use Rattle.std.specs.Prelude.{◌≡◌, ℕ, List, Some, flat_map, length};
+ghost use Rattle.std.specs.List.{range_with_len};
 ghost use Rattle.brace_check.specs.declared.fault.CheckFault.{CheckFault};
 ghost use Rattle.brace_names.specs.declared.resolved.Resolved.{Resolved};
 ghost use Rattle.brace_names.specs.Found.{found};
 ghost use Rattle.brace_names.specs.Faults.{site_of};
+ghost use Rattle.brace_check.specs.Resolved.{IsResolved};
+ghost use Rattle.brace_check.specs.Order.{in_text_order};
 ghost use Rattle.brace_check.specs.Faults.{first, IsFirst};
 ghost use Rattle.brace_check.specs.Programs.{program_of};
 
@@ -18,4 +21,13 @@ pub fn answers_are_first()
 /// same order.
 pub fn counted_sites_are_numbered()
     ensures { (r : Resolved) → flat_map site_of (found r.tree) ≡ (program_of r).sites }
+{}
+
+/// The sites of the program of a script that is read from a source and resolved are numbered from 0
+/// in turn over its classes, over their members and over their statements, in the order of the text:
+/// in an expression each operation behind its operands, in a `spawn` its own site behind its gifts.
+pub fn sites_are_numbered_in_text_order()
+    ensures { (src : List ℕ) (r : Resolved) → IsResolved src r
+        → in_text_order r.tree.classes (program_of r).classes
+        ≡ range_with_len 0 (length (program_of r).sites) }
 {}
