@@ -48,7 +48,10 @@ literal_typed : (number : Digits) → type_of_value (literal number) ≡ digits_
 literal_typed (d.Int z) = refl
 literal_typed (d.Fixed z) = refl
 
-same_ok : (t u : Ty) → Ok t ≡ Ok u → Some t ≡ Some u
+abbrev okay : Ty → Result Ty ℕ
+okay t = Ok t
+
+same_ok : (t u : Ty) → okay t ≡ okay u → Some t ≡ Some u
 same_ok t u h = let same : t ≡ u = cc in ap (λ (v : Ty). Some v) same
 
 abbrev summed : Scope → Comb → Bool
@@ -88,7 +91,7 @@ module _ (n : Scope) (m : Names) (tied : Tied n m) where
 
   -- `q.n` in a query
   in_field : (at : ℕ) (x : LoopField) (f : Field) → x.field ≡ f → LoopIs m (Some x) → n.in_query ≡ true → reads n at (Some (named.Field x.field)) ≡ [] → crosses n at (Some x) ≡ []
-      → (t : Ty) → Ok (field_type x.field) ≡ Ok t → state_type m (loop_agent x.loops) (number_of (Some x.field)) ≡ Some t
+      → (t : Ty) → okay (field_type x.field) ≡ okay t → state_type m (loop_agent x.loops) (number_of (Some x.field)) ≡ Some t
   in_field at x (field.Effect i u shared c) e is query clean apart t h =
       let read_it : reads n at (Some (named.Field (field.Effect i u shared c))) ≡ [] = subst (λ (f : Field). reads n at (Some (named.Field f)) ≡ []) e clean in
       absurd (true≢false (sym query ∙ not_if n.in_query (ReadsEffectInQuery at) read_it))
@@ -96,7 +99,7 @@ module _ (n : Scope) (m : Names) (tied : Tied n m) where
       let may : may_name m x.class shared ≡ true = subst (λ (f : Field). may_name m x.class (is_shared f) ≡ true) e (may_cross at x apart) in
       ap (λ (f : Field). state_type m (loop_agent x.loops) (number_of (Some f))) e
       ∙ (state_typed m (loop_agent x.loops) x.class i u shared is.0 may (subst (FieldIs (declared m) x.class) e is.1)
-      ∙ same_ok u t (subst (λ (f : Field). Ok (field_type f) ≡ Ok t) e h))
+      ∙ same_ok u t (subst (λ (f : Field). okay (field_type f) ≡ okay t) e h))
 
   loop_sound : (at : ℕ) (o : Option LoopField) → LoopIs m o → n.in_query ≡ true → reads n at (option_map (λ x. named.Field x.field) o) ≡ [] → crosses n at o ≡ []
       → (t : Ty) → typed_at at (option_map (λ x. field_type x.field) o) ≡ Ok t → state_type m (agent_of o) (loop_number o) ≡ Some t

@@ -49,13 +49,13 @@ module _ {A : Type 0} (P : A → Type 0) where
   all_back (x ∷ xs) ys h = all_back xs ys h.1
 
 -- so many loops stand around
-abbrev LoopsAre : ℕ → Names → Type 0
+abbrev pub LoopsAre : ℕ → Names → Type 0
 LoopsAre zero m = (m.outer_class ≡ None) × (m.inner_class ≡ None)
 LoopsAre (suc zero) m = (is_none m.outer_class ≡ false) × (m.inner_class ≡ None)
 LoopsAre (suc (suc loops)) m = ⊤
 
 -- a constant is known with its type, and a loop variable is of its class
-abbrev LocalIs : Names → ℕ → Local → Type 0
+abbrev pub LocalIs : Names → ℕ → Local → Type 0
 LocalIs m count (local.Constant n t) = (n < count) × (constant_type m.known n ≡ Some t)
 LocalIs m count (local.Loop loops (Some class)) = class_named m (loop_agent loops) ≡ Some class
 LocalIs m count (local.Loop loops None) = ⊤
@@ -130,6 +130,11 @@ module _ (n : Scope) (m : Names) (tied : Tied n m) where
   of_loop_is variable name = of_local name variable (look n.locals variable) refl
 
 -- behind things in which constants stand
+local_past : (m : Names) (few count : ℕ) (l : Local) → LocalIs m few l → LocalIs m (few + count) l
+local_past m few count (local.Constant k t) is = (let under : k < few = is.0 in omega (arith, under), is.1)
+local_past m few count (local.Loop loops (Some class)) is = is
+local_past m few count (local.Loop loops None) is = is
+
 pub tied_past : (n : Scope) (m : Names) (count : ℕ) → Tied n m → Tied (past count n) m
 tied_past n m count h = record {
   own = h.own;
@@ -138,17 +143,29 @@ tied_past n m count h = record {
   number = h.number;
   in_rule = h.in_rule;
   loops = h.loops;
-  locals = each_weaker (λ (e : List ℕ × Local). LocalIs m n.constants e.1) (λ (e : List ℕ × Local). LocalIs m (n.constants + count) e.1) (λ e is. more e.1 is) n.locals h.locals;
+  locals = each_weaker (λ (e : List ℕ × Local). LocalIs m n.constants e.1) (λ (e : List ℕ × Local). LocalIs m (n.constants + count) e.1)
+      (λ e is. local_past m n.constants count e.1 is) n.locals h.locals;
 }
-  where
-    more : (l : Local) → LocalIs m n.constants l → LocalIs m (n.constants + count) l
-    more (local.Constant k t) is = (let few : k < n.constants = is.0 in omega (arith, few), is.1)
-    more (local.Loop loops (Some class)) is = is
-    more (local.Loop loops None) is = is
 
 -- behind the declaration of a constant
-pub tied_declared : (n : Scope) (m : Names) (name : Ident) (t : Ty) → Tied n m
-    → Tied (past 1 (declaring name t n)) (record m { known = (n.constants, t) ∷ m.known })
+module _ (m : Names) (number : ℕ) (t : Ty) where
+  abbrev pub knowing : Names
+  knowing = record m { known = (number, t) ∷ m.known }
+
+  local_known : (l : Local) → LocalIs m number l → LocalIs knowing (number + 1) l
+  local_known (local.Constant k u) is =
+      let few : k < number = is.0 in
+      let apart : (number == k) ≡ false = ne_eqb number k (λ e. let same : number ≡ k = e in absurd (omega (arith, few, same))) in
+      (omega (arith, few), ap (λ (b : Bool). if b then Some t else constant_type m.known k) apart ∙ is.1)
+  local_known (local.Loop loops (Some class)) is = is
+  local_known (local.Loop loops None) is = is
+
+  last_known : LocalIs knowing (number + 1) (local.Constant number t)
+  last_known =
+      let self : (number == number) ≡ true = grind arith in
+      (omega arith, ap (λ (b : Bool). if b then Some t else constant_type m.known number) self)
+
+pub tied_declared : (n : Scope) (m : Names) (name : Ident) (t : Ty) → Tied n m → Tied (past 1 (declaring name t n)) (knowing m n.constants t)
 tied_declared n m name t h = record {
   own = h.own;
   others = h.others;
@@ -156,21 +173,11 @@ tied_declared n m name t h = record {
   number = h.number;
   in_rule = h.in_rule;
   loops = h.loops;
-  locals = named_too (LocalIs later (n.constants + 1)) n.locals name.text (local.Constant n.constants t)
-      (each_weaker (λ (e : List ℕ × Local). LocalIs m n.constants e.1) (λ (e : List ℕ × Local). LocalIs later (n.constants + 1) e.1) (λ e is. known_too e.1 is) n.locals h.locals)
-      (omega arith, (let self : (n.constants == n.constants) ≡ true = grind arith in ap (λ (b : Bool). if b then Some t else constant_type m.known n.constants) self));
+  locals = named_too (LocalIs (knowing m n.constants t) (n.constants + 1)) n.locals name.text (local.Constant n.constants t)
+      (each_weaker (λ (e : List ℕ × Local). LocalIs m n.constants e.1) (λ (e : List ℕ × Local). LocalIs (knowing m n.constants t) (n.constants + 1) e.1)
+      (λ e is. local_known m n.constants t e.1 is) n.locals h.locals)
+      (last_known m n.constants t);
 }
-  where
-    later : Names
-    later = record m { known = (n.constants, t) ∷ m.known }
-
-    known_too : (l : Local) → LocalIs m n.constants l → LocalIs later (n.constants + 1) l
-    known_too (local.Constant k u) is =
-        let few : k < n.constants = is.0 in
-        let apart : (n.constants == k) ≡ false = ne_eqb n.constants k (λ e. let same : n.constants ≡ k = e in absurd (omega (arith, few, same))) in
-        (omega (arith, few), ap (λ (b : Bool). if b then Some t else constant_type m.known k) apart ∙ is.1)
-    known_too (local.Loop loops (Some class)) is = is
-    known_too (local.Loop loops None) is = is
 
 -- a loop over the class of a number is entered
 pub record Entered (m : Names) (loops number : ℕ) : Type 0 where

@@ -28,7 +28,7 @@ use Rattle.brace_model.specs.declared.program.Spawn.{Spawn}
 use Rattle.brace_model.specs.declared.program.Class.{Class}
 use Rattle.brace_model.specs.Sites.{class_assignments}
 use Rattle.brace_check.specs.declared.share.Share.{Share}
-use Rattle.brace_check.specs.Meanings.{Sited, expression}
+use Rattle.brace_check.specs.Meanings.{expression, block, part}
 use Rattle.brace_check.specs.Programs.{gifts_in, share, shares, class_of, classes_from}
 use Rattle.brace_check.proofs.Told.{Told, Quiet, told_both, counted, placed, behind_quiet, quiet_both, quiet_nothing, quiet_fault, quiet_faults, quiet_if, quiet_typed, quiet_field, one_told, expression_told, said, block_told}
 
@@ -61,7 +61,10 @@ module _ (home : Home) where
   member_told (m.State shared type name (Some x) at) k =
       behind_quiet (f.typed type) (names.expression x (outermost home false)) (expression x (outermost home false)).sites 0 (quiet_typed type) (expression_told x (outermost home false))
   member_told (m.Effect shared type name c at) k = quiet_typed type
-  member_told (m.Run xs at) k = counted _ _ _ _ (omega arith) (block_told xs (outermost home true) k)
+  member_told (m.Run xs at) k =
+      let q : ℕ = said ((block (map part xs) (outermost home true)).behind k) in
+      let total : q ≡ (0 + q) + 0 = omega arith in
+      counted _ _ q ((0 + q) + 0) total (block_told xs (outermost home true) k)
   member_told (m.Die x at) k = expression_told x (outermost home false)
   member_told (m.Spawn x gifts at) k =
       let n : Scope = outermost home false in
@@ -71,7 +74,7 @@ module _ (home : Home) where
       let again : List Finding = f.faults_at DuplicateName (repeated (names.states_given n gifts)) in
       let s : List ℕ = (expression x n).sites in
       let t : List ℕ = (gifts_in gifts n).sites in
-      counted _ _ (0 + ((many + 0) + 0)) _ (omega arith)
+      counted _ _ (0 + ((many + 0) + 0)) (0 + (0 + many)) (omega arith)
       (placed _ (s ++ ((t ++ []) ++ at ∷ [])) _ _ (ap (λ (l : List ℕ). s ++ (l ++ at ∷ [])) (append-nil t) ∙ sym (append_assoc s t (at ∷ [])))
       (told_both (names.expression x n) ((all ++ again) ++ f.site at) s ((t ++ []) ++ at ∷ []) 0 ((many + 0) + 0) (expression_told x n)
       (told_both (all ++ again) (f.site at) (t ++ []) (at ∷ []) (many + 0) 0
@@ -85,7 +88,8 @@ module _ (home : Home) where
       let b : Share = (shares home xs).behind (k + length (share home x).sites) in
       let p : sum_by said (a.queries ++ b.queries) ≡ sum_by said a.queries + sum_by said b.queries = sum_by-append said a.queries b.queries in
       let r : given (a.spawn ++ b.spawn) ≡ given a.spawn + given b.spawn = sum_by-append (λ (p : Spawn). length p.gifts) a.spawn b.spawn in
-      counted _ _ (share_said a + share_said b) _ (omega (arith, p, r))
+      let total : (sum_by said a.queries + given a.spawn) + (sum_by said b.queries + given b.spawn) ≡ sum_by said (a.queries ++ b.queries) + given (a.spawn ++ b.spawn) = omega (arith, p, r) in
+      counted _ _ (share_said a + share_said b) _ total
       (told_both (names.member home x) (flat_map (names.member home) xs) (share home x).sites (shares home xs).sites (share_said a) (share_said b)
       (member_told x k) (members_told xs (k + length (share home x).sites)))
 
