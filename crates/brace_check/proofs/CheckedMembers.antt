@@ -41,12 +41,7 @@ module _ (home : Home) where
   visible_fits [] h = refl
   visible_fits (m.Visible range at ∷ members) h =
       none_if (is_distance (millionths range.digits)) (BadRange range.at) (first_one (m.Visible range at) members h)
-  visible_fits (m.Reach range at ∷ members) h = visible_fits members (behind_one (m.Reach range at) members h)
-  visible_fits (m.State shared type name x at ∷ members) h = visible_fits members (behind_one (m.State shared type name x at) members h)
-  visible_fits (m.Effect shared type name c at ∷ members) h = visible_fits members (behind_one (m.Effect shared type name c at) members h)
-  visible_fits (m.Run block at ∷ members) h = visible_fits members (behind_one (m.Run block at) members h)
-  visible_fits (m.Die x at ∷ members) h = visible_fits members (behind_one (m.Die x at) members h)
-  visible_fits (m.Spawn x gifts at ∷ members) h = visible_fits members (behind_one (m.Spawn x gifts at) members h)
+  visible_fits (one ∷ members) h = visible_fits members (behind_one one members h)
 
   -- so is the reach
   pub reach_fits : (members : List MemberTree) → flat_map (member home) members ≡ []
@@ -54,12 +49,7 @@ module _ (home : Home) where
   reach_fits [] h = refl
   reach_fits (m.Reach range at ∷ members) h =
       none_if (is_distance (millionths range.digits)) (BadRange range.at) (first_one (m.Reach range at) members h)
-  reach_fits (m.Visible range at ∷ members) h = reach_fits members (behind_one (m.Visible range at) members h)
-  reach_fits (m.State shared type name x at ∷ members) h = reach_fits members (behind_one (m.State shared type name x at) members h)
-  reach_fits (m.Effect shared type name c at ∷ members) h = reach_fits members (behind_one (m.Effect shared type name c at) members h)
-  reach_fits (m.Run block at ∷ members) h = reach_fits members (behind_one (m.Run block at) members h)
-  reach_fits (m.Die x at ∷ members) h = reach_fits members (behind_one (m.Die x at) members h)
-  reach_fits (m.Spawn x gifts at ∷ members) h = reach_fits members (behind_one (m.Spawn x gifts at) members h)
+  reach_fits (one ∷ members) h = reach_fits members (behind_one one members h)
 
   -- combinators fit
   pub effects_fit : (members : List MemberTree) → flat_map (member home) members ≡ []
@@ -69,12 +59,7 @@ module _ (home : Home) where
       and_from (combines (comb_named c) (type_named type)) (list_all (λ e. combines e.comb e.ty) (flat_map effect_of members))
       (none_if (combines (comb_named c) (type_named type)) (WrongCombinator name.at) (first_one (m.Effect shared type name c at) members h))
       (effects_fit members (behind_one (m.Effect shared type name c at) members h))
-  effects_fit (m.Visible range at ∷ members) h = effects_fit members (behind_one (m.Visible range at) members h)
-  effects_fit (m.Reach range at ∷ members) h = effects_fit members (behind_one (m.Reach range at) members h)
-  effects_fit (m.State shared type name x at ∷ members) h = effects_fit members (behind_one (m.State shared type name x at) members h)
-  effects_fit (m.Run block at ∷ members) h = effects_fit members (behind_one (m.Run block at) members h)
-  effects_fit (m.Die x at ∷ members) h = effects_fit members (behind_one (m.Die x at) members h)
-  effects_fit (m.Spawn x gifts at ∷ members) h = effects_fit members (behind_one (m.Spawn x gifts at) members h)
+  effects_fit (one ∷ members) h = effects_fit members (behind_one one members h)
 
 -- a block whose constants are numbered from 0 on
 pub record FromZero (b : List Stmt) : Type 0 where
@@ -89,12 +74,7 @@ module _ (home : Home) where
   one_from_zero : (one : MemberTree) (n : ℕ) → AllByRecursion FromZero ((share home one).behind n).queries
   one_from_zero (m.Run statements at) n =
       (record { count = _; declares = block_declares statements (outermost home true) n }, tt)
-  one_from_zero (m.Visible range at) n = tt
-  one_from_zero (m.Reach range at) n = tt
-  one_from_zero (m.State shared type name x at) n = tt
-  one_from_zero (m.Effect shared type name c at) n = tt
-  one_from_zero (m.Die x at) n = tt
-  one_from_zero (m.Spawn x gifts at) n = tt
+  one_from_zero _ n = tt
 
   -- the constants of each query are numbered from 0 on
   pub from_zero : (members : List MemberTree) (n : ℕ) → AllByRecursion FromZero ((shares home members).behind n).queries

@@ -53,11 +53,7 @@ fields_of states effects (m.Effect shared type name c at ∷ members) =
           (subst (λ (k : ℕ). AllOf (states ++ flat_map state_of members) ((effects ++ one ∷ []) ++ flat_map effect_of members) (fields_behind (length states) k members))
           (one-more effects one) (fields_of states (effects ++ one ∷ []) members)),
     )
-fields_of states effects (m.Visible range at ∷ members) = fields_of states effects members
-fields_of states effects (m.Reach range at ∷ members) = fields_of states effects members
-fields_of states effects (m.Run block at ∷ members) = fields_of states effects members
-fields_of states effects (m.Die x at ∷ members) = fields_of states effects members
-fields_of states effects (m.Spawn x gifts at ∷ members) = fields_of states effects members
+fields_of states effects (_ ∷ members) = fields_of states effects members
 
 -- what holds of each of them holds of the entries of their table
 table_keeps : {A : Type 0} (P : A → Type 0) (start : List (List ℕ × A)) (all : List (Ident × A)) → AllByRecursion (λ e. P e.1) start → AllByRecursion (λ e. P e.1) all
@@ -151,11 +147,7 @@ table_rises own states effects (m.State shared type name x at ∷ members) h =
 table_rises own states effects (m.Effect shared type name c at ∷ members) h =
     table_rises (with_name own name.text (field.Effect effects (type_named type) shared (comb_named c))) states (effects + 1) members
     (effect_more own name.text effects (type_named type) shared (comb_named c) states h)
-table_rises own states effects (m.Visible range at ∷ members) h = table_rises own states effects members h
-table_rises own states effects (m.Reach range at ∷ members) h = table_rises own states effects members h
-table_rises own states effects (m.Run block at ∷ members) h = table_rises own states effects members h
-table_rises own states effects (m.Die x at ∷ members) h = table_rises own states effects members h
-table_rises own states effects (m.Spawn x gifts at ∷ members) h = table_rises own states effects members h
+table_rises own states effects (_ ∷ members) h = table_rises own states effects members h
 
 -- the states of a class are numbered in turn
 pub own_rises : (class : ClassTree) → RisesTo (table (fields class))

@@ -201,15 +201,11 @@ module _ (home : Home) (rising : RisesTo home.own) (rule query : Names) (in_rule
       }
 
   member_ok : (x : MemberTree) (k : ℕ) → AllFine (names.member home x) → checks.member home x ≡ [] → MembersOk states rule query ((share home x).behind k)
-  member_ok (m.Visible range at) k fine clean = record { asked = tt; born = tt }
-  member_ok (m.Reach range at) k fine clean = record { asked = tt; born = tt }
-  member_ok (m.Effect shared type name c at) k fine clean = record { asked = tt; born = tt }
-  member_ok (m.State shared type name x at) k fine clean = record { asked = tt; born = tt }
-  member_ok (m.Die x at) k fine clean = record { asked = tt; born = tt }
   member_ok (m.Run xs at) k fine clean =
       let run : RunSound (map part xs) (outermost home true) query k = block_sound xs (outermost home true) query in_query clean k in
       record { asked = (ap is_some run.gives, tt); born = tt }
   member_ok (m.Spawn x gifts at) k fine clean = spawn_ok x gifts at k fine clean
+  member_ok _ k fine clean = record { asked = tt; born = tt }
 
   pub members_ok : (xs : List MemberTree) (k : ℕ) → AllFine (flat_map (names.member home) xs) → flat_map (checks.member home) xs ≡ [] → MembersOk states rule query ((shares home xs).behind k)
   members_ok [] k fine clean = record { asked = tt; born = tt }

@@ -167,11 +167,7 @@ module _ (home : Home) where
       let rest : length (fields_behind states (effects + 1) members) ≡ length (states_at members k) + length (flat_map effect_of members) = fields_count members k states (effects + 1) in
       let total : suc (length (fields_behind states (effects + 1) members)) ≡ length (states_at members k) + suc (length (flat_map effect_of members)) = omega (arith, rest) in
       total
-  fields_count (m.Visible range at ∷ members) n states effects = fields_count members (n + 0) states effects
-  fields_count (m.Reach range at ∷ members) n states effects = fields_count members (n + 0) states effects
-  fields_count (m.Run block at ∷ members) n states effects = fields_count members (n + length (share home (m.Run block at)).sites) states effects
-  fields_count (m.Die x at ∷ members) n states effects = fields_count members (n + length (share home (m.Die x at)).sites) states effects
-  fields_count (m.Spawn x gifts at ∷ members) n states effects = fields_count members (n + length (share home (m.Spawn x gifts at)).sites) states effects
+  fields_count (one ∷ members) n states effects = fields_count members (n + length (share home one).sites) states effects
 
   -- a name that is apart from all titles is apart from all fields
   apart_from : (name : List ℕ) (members : List MemberTree) (n : ℕ) → Apart name (titles members) → Apart name (state_names members n) × Apart name (effect_names members)
@@ -182,11 +178,7 @@ module _ (home : Home) where
   apart_from name (m.Effect shared type word c at ∷ members) n h =
       let rest : Apart name (state_names members (n + 0)) × Apart name (effect_names members) = apart_from name members (n + 0) h.1 in
       (rest.0, (h.0, rest.1))
-  apart_from name (m.Visible range at ∷ members) n h = apart_from name members (n + 0) h.1
-  apart_from name (m.Reach range at ∷ members) n h = apart_from name members (n + 0) h.1
-  apart_from name (m.Run block at ∷ members) n h = apart_from name members (n + length (share home (m.Run block at)).sites) h.1
-  apart_from name (m.Die x at ∷ members) n h = apart_from name members (n + length (share home (m.Die x at)).sites) h.1
-  apart_from name (m.Spawn x gifts at ∷ members) n h = apart_from name members (n + length (share home (m.Spawn x gifts at)).sites) h.1
+  apart_from name (one ∷ members) n h = apart_from name members (n + length (share home one).sites) h.1
 
   insert : (x one : List ℕ) (xs ys : List (List ℕ)) → Apart x (xs ++ ys) → bytes_eq x one ≡ false → Apart x (xs ++ one ∷ ys)
   insert x one [] ys h apart = (apart, h)
@@ -210,11 +202,7 @@ module _ (home : Home) where
   fields_differ (m.Effect shared type name c at ∷ members) n h =
       let apart : Apart name.text (state_names members (n + 0)) × Apart name.text (effect_names members) = apart_from name.text members (n + 0) h.0 in
       differ_between name.text (state_names members (n + 0)) (effect_names members) (fields_differ members (n + 0) h.1) apart.0 apart.1
-  fields_differ (m.Visible range at ∷ members) n h = fields_differ members (n + 0) h.1
-  fields_differ (m.Reach range at ∷ members) n h = fields_differ members (n + 0) h.1
-  fields_differ (m.Run block at ∷ members) n h = fields_differ members (n + length (share home (m.Run block at)).sites) h.1
-  fields_differ (m.Die x at ∷ members) n h = fields_differ members (n + length (share home (m.Die x at)).sites) h.1
-  fields_differ (m.Spawn x gifts at ∷ members) n h = fields_differ members (n + length (share home (m.Spawn x gifts at)).sites) h.1
+  fields_differ (one ∷ members) n h = fields_differ members (n + length (share home one).sites) h.1
 
   -- a coordinate is the first state of its name
   abbrev placed : List ℕ → List State → Bool
@@ -223,16 +211,7 @@ module _ (home : Home) where
   not_later : (axis : List ℕ) (members : List MemberTree) → Apart axis (titles members) → list_any (is_coordinate axis) members ≡ false
   not_later axis [] h = refl
   not_later axis (m.State true tyname.Fixed name x at ∷ members) h = rw h.0 (not_later axis members h.1)
-  not_later axis (m.State true tyname.Int name x at ∷ members) h = not_later axis members h.1
-  not_later axis (m.State true tyname.Bool name x at ∷ members) h = not_later axis members h.1
-  not_later axis (m.State true (tyname.Other other) name x at ∷ members) h = not_later axis members h.1
-  not_later axis (m.State false type name x at ∷ members) h = not_later axis members h.1
-  not_later axis (m.Effect shared type name c at ∷ members) h = not_later axis members h.1
-  not_later axis (m.Visible range at ∷ members) h = not_later axis members h.1
-  not_later axis (m.Reach range at ∷ members) h = not_later axis members h.1
-  not_later axis (m.Run block at ∷ members) h = not_later axis members h.1
-  not_later axis (m.Die x at ∷ members) h = not_later axis members h.1
-  not_later axis (m.Spawn x gifts at ∷ members) h = not_later axis members h.1
+  not_later axis (_ ∷ members) h = not_later axis members h.1
 
   placed_here : (axis : List ℕ) (s : State) (states : List State) → bytes_eq s.name axis ≡ true → placed axis (s ∷ states) ≡ (s.shared && same_type s.ty ty.Fixed)
   placed_here axis s states same =
@@ -282,9 +261,4 @@ module _ (home : Home) where
             placed_later axis s (states_at members k) apart
             ∙ is_placed axis members k h.1 (stands_later axis shared type name x at members (bytes-apart name.text axis apart) is)
       ]
-  is_placed axis (m.Effect shared type name c at ∷ members) n h is = is_placed axis members (n + 0) h.1 is
-  is_placed axis (m.Visible range at ∷ members) n h is = is_placed axis members (n + 0) h.1 is
-  is_placed axis (m.Reach range at ∷ members) n h is = is_placed axis members (n + 0) h.1 is
-  is_placed axis (m.Run block at ∷ members) n h is = is_placed axis members (n + length (share home (m.Run block at)).sites) h.1 is
-  is_placed axis (m.Die x at ∷ members) n h is = is_placed axis members (n + length (share home (m.Die x at)).sites) h.1 is
-  is_placed axis (m.Spawn x gifts at ∷ members) n h is = is_placed axis members (n + length (share home (m.Spawn x gifts at)).sites) h.1 is
+  is_placed axis (one ∷ members) n h is = is_placed axis members (n + length (share home one).sites) h.1 is

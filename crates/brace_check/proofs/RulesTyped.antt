@@ -31,12 +31,7 @@ use Rattle.brace_check.proofs.Said.{has_type}
 -- a program keeps what its script declares
 state_kept : (home : Home) (one : MemberTree) (n : ℕ) → map state_heading ((share home one).behind n).states ≡ state_of one
 state_kept home (m.State shared type name x at) n = refl
-state_kept home (m.Visible range at) n = refl
-state_kept home (m.Reach range at) n = refl
-state_kept home (m.Effect shared type name c at) n = refl
-state_kept home (m.Run block at) n = refl
-state_kept home (m.Die x at) n = refl
-state_kept home (m.Spawn x gifts at) n = refl
+state_kept home _ n = refl
 
 states_kept : (home : Home) (members : List MemberTree) (n : ℕ) → map state_heading ((shares home members).behind n).states ≡ flat_map state_of members
 states_kept home [] n = refl
@@ -52,12 +47,7 @@ effects_kept : (members : List MemberTree) → map effect_heading (flat_map prog
 effects_kept [] = refl
 effects_kept (m.Effect shared type name c at ∷ members) =
     ap (λ (l : List EffectHeading). record { ty = type_named type; shared = shared; comb = comb_named c } ∷ l) (effects_kept members)
-effects_kept (m.State shared type name x at ∷ members) = effects_kept members
-effects_kept (m.Visible range at ∷ members) = effects_kept members
-effects_kept (m.Reach range at ∷ members) = effects_kept members
-effects_kept (m.Run block at ∷ members) = effects_kept members
-effects_kept (m.Die x at ∷ members) = effects_kept members
-effects_kept (m.Spawn x gifts at ∷ members) = effects_kept members
+effects_kept (_ ∷ members) = effects_kept members
 
 pub class_kept : (home : Home) (class : ClassTree) (n : ℕ) → heading_of ((class_of home class).behind n) ≡ heading class
 class_kept home class n =
@@ -82,15 +72,9 @@ module _ (home : Home) (names : Names) (tied : Tied (outermost home false) names
   ruled s = is_ruled names s.ty s.rule
 
   state_typed : (one : MemberTree) (n : ℕ) → member home one ≡ [] → list_all ruled ((share home one).behind n).states ≡ true
-  state_typed (m.State shared type name None at) n h = refl
   state_typed (m.State shared type name (Some x) at) n h =
       and_from (is_of_type (type_named type) (type_in ((expression x (outermost home false)).behind n) names)) true (value_typed (type_named type) x n h) refl
-  state_typed (m.Visible range at) n h = refl
-  state_typed (m.Reach range at) n h = refl
-  state_typed (m.Effect shared type name c at) n h = refl
-  state_typed (m.Run block at) n h = refl
-  state_typed (m.Die x at) n h = refl
-  state_typed (m.Spawn x gifts at) n h = refl
+  state_typed _ n h = refl
 
   pub states_typed : (members : List MemberTree) (n : ℕ) → flat_map (member home) members ≡ [] → list_all ruled ((shares home members).behind n).states ≡ true
   states_typed [] n h = refl
@@ -108,12 +92,7 @@ module _ (home : Home) (names : Names) (tied : Tied (outermost home false) names
 
   death_typed : (one : MemberTree) (n : ℕ) → member home one ≡ [] → AllByRecursion bool_typed ((share home one).behind n).die
   death_typed (m.Die x at) n h = (value_typed ty.Bool x n h, tt)
-  death_typed (m.State shared type name x at) n h = tt
-  death_typed (m.Visible range at) n h = tt
-  death_typed (m.Reach range at) n h = tt
-  death_typed (m.Effect shared type name c at) n h = tt
-  death_typed (m.Run block at) n h = tt
-  death_typed (m.Spawn x gifts at) n h = tt
+  death_typed _ n h = tt
 
   pub deaths_typed : (members : List MemberTree) (n : ℕ) → flat_map (member home) members ≡ [] → AllByRecursion bool_typed ((shares home members).behind n).die
   deaths_typed [] n h = tt

@@ -94,14 +94,12 @@ spawn_numbered condition gifts at scope =
 
 -- the sites of one member are numbered in finishing order
 pub share_numbered : (home : Home) (x : MemberTree) (n : ℕ) → own_sites ((share home x).behind n) ≡ range_with_len n (length (share home x).sites)
-share_numbered home (m.Visible range at) n = refl
-share_numbered home (m.Reach range at) n = refl
-share_numbered home (m.Effect shared type name comb at) n = refl
 share_numbered home (m.State shared type name x at) n =
     append-nil _ ∙ (ap sites_among (append-nil (option_to_list ((rule x (outermost home false)).behind n))) ∙ rule_numbered x (outermost home false) n)
 share_numbered home (m.Run statements at) n = append-nil _ ∙ block_numbered statements (outermost home true) n
 share_numbered home (m.Die condition at) n = append-nil _ ∙ (append-nil _ ∙ expression_numbered condition (outermost home false) n)
 share_numbered home (m.Spawn condition gifts at) n = append-nil _ ∙ (append-nil _ ∙ spawn_numbered condition gifts at (outermost home false) n)
+share_numbered home _ n = refl
 
 -- so they rise
 share_rises : (home : Home) (x : MemberTree) (n : ℕ) → SharesRise ((share home x).behind n) n (n + length (share home x).sites)

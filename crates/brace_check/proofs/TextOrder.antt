@@ -36,32 +36,17 @@ module _ (home : Home) where
   no_die : (xs : List MemberTree) (n : ℕ) → Apart (codes "die") (titles xs) → (share_at xs n).die ≡ []
   no_die [] n h = refl
   no_die (m.Die x at ∷ xs) n h = absurd (true≢false h.0)
-  no_die (m.Visible range at ∷ xs) n h = no_die xs (n + 0) h.1
-  no_die (m.Reach range at ∷ xs) n h = no_die xs (n + 0) h.1
-  no_die (m.Effect shared type name c at ∷ xs) n h = no_die xs (n + 0) h.1
-  no_die (m.State shared type name x at ∷ xs) n h = no_die xs (n + length (share home (m.State shared type name x at)).sites) h.1
-  no_die (m.Run block at ∷ xs) n h = no_die xs (n + length (share home (m.Run block at)).sites) h.1
-  no_die (m.Spawn x gifts at ∷ xs) n h = no_die xs (n + length (share home (m.Spawn x gifts at)).sites) h.1
+  no_die (one ∷ xs) n h = no_die xs (n + length (share home one).sites) h.1
 
   no_spawn : (xs : List MemberTree) (n : ℕ) → Apart (codes "spawn") (titles xs) → (share_at xs n).spawn ≡ []
   no_spawn [] n h = refl
   no_spawn (m.Spawn x gifts at ∷ xs) n h = absurd (true≢false h.0)
-  no_spawn (m.Visible range at ∷ xs) n h = no_spawn xs (n + 0) h.1
-  no_spawn (m.Reach range at ∷ xs) n h = no_spawn xs (n + 0) h.1
-  no_spawn (m.Effect shared type name c at ∷ xs) n h = no_spawn xs (n + 0) h.1
-  no_spawn (m.State shared type name x at ∷ xs) n h = no_spawn xs (n + length (share home (m.State shared type name x at)).sites) h.1
-  no_spawn (m.Run block at ∷ xs) n h = no_spawn xs (n + length (share home (m.Run block at)).sites) h.1
-  no_spawn (m.Die x at ∷ xs) n h = no_spawn xs (n + length (share home (m.Die x at)).sites) h.1
+  no_spawn (one ∷ xs) n h = no_spawn xs (n + length (share home one).sites) h.1
 
   no_query : (xs : List MemberTree) (n : ℕ) → Apart (codes "run") (titles xs) → (share_at xs n).queries ≡ []
   no_query [] n h = refl
   no_query (m.Run block at ∷ xs) n h = absurd (true≢false h.0)
-  no_query (m.Visible range at ∷ xs) n h = no_query xs (n + 0) h.1
-  no_query (m.Reach range at ∷ xs) n h = no_query xs (n + 0) h.1
-  no_query (m.Effect shared type name c at ∷ xs) n h = no_query xs (n + 0) h.1
-  no_query (m.State shared type name x at ∷ xs) n h = no_query xs (n + length (share home (m.State shared type name x at)).sites) h.1
-  no_query (m.Spawn x gifts at ∷ xs) n h = no_query xs (n + length (share home (m.Spawn x gifts at)).sites) h.1
-  no_query (m.Die x at ∷ xs) n h = no_query xs (n + length (share home (m.Die x at)).sites) h.1
+  no_query (one ∷ xs) n h = no_query xs (n + length (share home one).sites) h.1
 
   module _ (class : Class) where
     -- what these members have of it is what the class has
@@ -102,12 +87,6 @@ module _ (home : Home) where
         → in_members xs (share_at xs n).states class ≡ range_with_len n (length (shares home xs).sites)
     unfolding IsDistinct
     members_in_order [] n h has = refl
-    members_in_order (m.Visible range at ∷ xs) n h has =
-        one_more (m.Visible range at) xs n [] _ refl (members_in_order xs (n + 0) h.1 (record { die = has.die; spawn = has.spawn; query = has.query }))
-    members_in_order (m.Reach range at ∷ xs) n h has =
-        one_more (m.Reach range at) xs n [] _ refl (members_in_order xs (n + 0) h.1 (record { die = has.die; spawn = has.spawn; query = has.query }))
-    members_in_order (m.Effect shared type name c at ∷ xs) n h has =
-        one_more (m.Effect shared type name c at) xs n [] _ refl (members_in_order xs (n + 0) h.1 (record { die = has.die; spawn = has.spawn; query = has.query }))
     members_in_order (m.State shared type name x at ∷ xs) n h has =
         let one : MemberTree = m.State shared type name x at in
         let j : ℕ = n + length (share home one).sites in
@@ -127,6 +106,8 @@ module _ (home : Home) where
         let j : ℕ = n + length (share home one).sites in
         one_more one xs n _ _ (in_query block at xs n has.query)
         (members_in_order xs j h.1 (record { die = has.die; spawn = has.spawn; query = inl (no_query xs j h.0) }))
+    members_in_order (one ∷ xs) n h has =
+        one_more one xs n [] _ refl (members_in_order xs (n + length (share home one).sites) h.1 (record { die = has.die; spawn = has.spawn; query = has.query }))
 
 -- a class, and classes
 class_in_order : (home : Home) (tree : ClassTree) (n : ℕ) → IsDistinct bytes_eq (titles tree.members)

@@ -25,11 +25,7 @@ use Rattle.brace_names.specs.Scopes.{Home}
 abbrev pub Worded : MemberTree → Type 0
 Worded (m.State shared type name x at) = IsTrue (is_name name.text)
 Worded (m.Effect shared type name c at) = IsTrue (is_name name.text)
-Worded (m.Visible range at) = ⊤
-Worded (m.Reach range at) = ⊤
-Worded (m.Run block at) = ⊤
-Worded (m.Die x at) = ⊤
-Worded (m.Spawn x gifts at) = ⊤
+Worded _ = ⊤
 
 -- so have a class and its members
 pub record WordedClass (class : ClassTree) : Type 0 where
@@ -77,23 +73,13 @@ module _ (home : Home) where
   states_named (m.State shared type name x at ∷ members) n h =
       and_from (is_name name.text) (list_all is_name (map (λ (s : State). s.name) ((shares home members).behind _).states)) h.0
       (states_named members (n + length (share home (m.State shared type name x at)).sites) h.1)
-  states_named (m.Effect shared type name c at ∷ members) n h = states_named members (n + 0) h.1
-  states_named (m.Visible range at ∷ members) n h = states_named members (n + 0) h.1
-  states_named (m.Reach range at ∷ members) n h = states_named members (n + 0) h.1
-  states_named (m.Run block at ∷ members) n h = states_named members (n + length (share home (m.Run block at)).sites) h.1
-  states_named (m.Die x at ∷ members) n h = states_named members (n + length (share home (m.Die x at)).sites) h.1
-  states_named (m.Spawn x gifts at ∷ members) n h = states_named members (n + length (share home (m.Spawn x gifts at)).sites) h.1
+  states_named (one ∷ members) n h = states_named members (n + length (share home one).sites) h.1
 
   effects_named : (members : List MemberTree) → AllByRecursion Worded members → list_all is_name (map (λ e. e.name) (flat_map effect_of members)) ≡ true
   effects_named [] h = refl
   effects_named (m.Effect shared type name c at ∷ members) h =
       and_from (is_name name.text) (list_all is_name (map (λ e. e.name) (flat_map effect_of members))) h.0 (effects_named members h.1)
-  effects_named (m.State shared type name x at ∷ members) h = effects_named members h.1
-  effects_named (m.Visible range at ∷ members) h = effects_named members h.1
-  effects_named (m.Reach range at ∷ members) h = effects_named members h.1
-  effects_named (m.Run block at ∷ members) h = effects_named members h.1
-  effects_named (m.Die x at ∷ members) h = effects_named members h.1
-  effects_named (m.Spawn x gifts at ∷ members) h = effects_named members h.1
+  effects_named (_ ∷ members) h = effects_named members h.1
 
   pub fields_named : (members : List MemberTree) (n : ℕ) → AllByRecursion Worded members
       → list_all is_name (map (λ (s : State). s.name) ((shares home members).behind n).states ++ map (λ e. e.name) (flat_map effect_of members)) ≡ true

@@ -102,9 +102,6 @@ joined_zero a b = ap (λ (l : List (List Stmt)). record (shared_by a b) { querie
 
 module _ (home : Home) where
   share_zero : (x : MemberTree) → SitedZero share_at_0 (share home x) (share home (member_at_0 x))
-  share_zero (m.Visible range at) = nothing_zero share_at_0 no_share no_share refl
-  share_zero (m.Reach range at) = nothing_zero share_at_0 no_share no_share refl
-  share_zero (m.Effect shared type name c at) = nothing_zero share_at_0 no_share no_share refl
   share_zero (m.State shared type name x at) =
       made_zero itself share_at_0 (with_state shared name.text (type_named type)) (with_state shared name.text (type_named (type_at_0 type)))
       (λ r. ap (λ (t : Ty). with_state shared name.text t r) (sym (type_zero type))) (rule x (outermost home false)) (rule (option_map expr_at_0 x) (outermost home false)) (rule_zero (outermost home false) x)
@@ -117,6 +114,7 @@ module _ (home : Home) where
   share_zero (m.Spawn x gifts at) =
       made_zero itself share_at_0 (λ s. record no_share { spawn = s ∷ [] }) (λ s. record no_share { spawn = s ∷ [] }) (λ s. refl)
       (spawn_of x gifts at (outermost home false)) (spawn_of (expr_at_0 x) (map gift_at_0 gifts) 0 (outermost home false)) (spawn_zero (outermost home false) x gifts at)
+  share_zero _ = nothing_zero share_at_0 no_share no_share refl
 
   shares_zero : (xs : List MemberTree) → SitedZero share_at_0 (shares home xs) (shares home (map member_at_0 xs))
   shares_zero [] = nothing_zero share_at_0 no_share no_share refl
@@ -127,37 +125,22 @@ module _ (home : Home) where
 visible_zero : (xs : List MemberTree) → flat_map visible_of (map member_at_0 xs) ≡ flat_map visible_of xs
 visible_zero [] = refl
 visible_zero (m.Visible range at ∷ xs) = ap (λ (l : List ℤ). millionths range.digits ∷ l) (visible_zero xs)
-visible_zero (m.Reach range at ∷ xs) = visible_zero xs
-visible_zero (m.State shared type name x at ∷ xs) = visible_zero xs
-visible_zero (m.Effect shared type name comb at ∷ xs) = visible_zero xs
-visible_zero (m.Run block at ∷ xs) = visible_zero xs
-visible_zero (m.Die x at ∷ xs) = visible_zero xs
-visible_zero (m.Spawn x gifts at ∷ xs) = visible_zero xs
+visible_zero (_ ∷ xs) = visible_zero xs
 
 reach_zero : (xs : List MemberTree) → flat_map reach_of (map member_at_0 xs) ≡ flat_map reach_of xs
 reach_zero [] = refl
-reach_zero (m.Visible range at ∷ xs) = reach_zero xs
 reach_zero (m.Reach range at ∷ xs) = ap (λ (l : List ℤ). millionths range.digits ∷ l) (reach_zero xs)
-reach_zero (m.State shared type name x at ∷ xs) = reach_zero xs
-reach_zero (m.Effect shared type name comb at ∷ xs) = reach_zero xs
-reach_zero (m.Run block at ∷ xs) = reach_zero xs
-reach_zero (m.Die x at ∷ xs) = reach_zero xs
-reach_zero (m.Spawn x gifts at ∷ xs) = reach_zero xs
+reach_zero (_ ∷ xs) = reach_zero xs
 
 abbrev effect_with : Bool → List ℕ → CombName → Ty → Effect
 effect_with shared name comb t = record { name = name; ty = t; shared = shared; comb = comb_named comb }
 
 effects_zero : (xs : List MemberTree) → flat_map effect_of (map member_at_0 xs) ≡ flat_map effect_of xs
 effects_zero [] = refl
-effects_zero (m.Visible range at ∷ xs) = effects_zero xs
-effects_zero (m.Reach range at ∷ xs) = effects_zero xs
-effects_zero (m.State shared type name x at ∷ xs) = effects_zero xs
 effects_zero (m.Effect shared type name comb at ∷ xs) =
     ap (λ (t : Ty). effect_with shared name.text comb t ∷ flat_map effect_of (map member_at_0 xs)) (type_zero type)
     ∙ ap (λ (l : List Effect). effect_with shared name.text comb (type_named type) ∷ l) (effects_zero xs)
-effects_zero (m.Run block at ∷ xs) = effects_zero xs
-effects_zero (m.Die x at ∷ xs) = effects_zero xs
-effects_zero (m.Spawn x gifts at ∷ xs) = effects_zero xs
+effects_zero (_ ∷ xs) = effects_zero xs
 
 first_query : (queries : List (List Stmt)) → map stmt_at_0 (unwrap_or (slice_get queries 0) []) ≡ unwrap_or (slice_get (map (map stmt_at_0) queries) 0) []
 first_query [] = refl

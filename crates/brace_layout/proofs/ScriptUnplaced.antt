@@ -136,11 +136,7 @@ fields_zero states effects (m.State shared type name x at ∷ xs) =
 fields_zero states effects (m.Effect shared type name c at ∷ xs) =
     ap (λ (l : List (Ident × Field)). (ident_at_0 name, field.Effect effects (type_named type) shared (comb_named c)) ∷ l) (fields_zero states (effects + 1) xs)
     ∙ ap (λ (t : Ty). (ident_at_0 name, field.Effect effects t shared (comb_named c)) ∷ fields_behind states (effects + 1) (map member_at_0 xs)) (sym (type_zero type))
-fields_zero states effects (m.Visible range at ∷ xs) = fields_zero states effects xs
-fields_zero states effects (m.Reach range at ∷ xs) = fields_zero states effects xs
-fields_zero states effects (m.Run block at ∷ xs) = fields_zero states effects xs
-fields_zero states effects (m.Die x at ∷ xs) = fields_zero states effects xs
-fields_zero states effects (m.Spawn x gifts at ∷ xs) = fields_zero states effects xs
+fields_zero states effects (_ ∷ xs) = fields_zero states effects xs
 
 pub own_zero : (class : ClassTree) → table (fields class) ≡ table (fields (class_at_0 class))
 own_zero class = sym (table_zero (fields class)) ∙ ap table (fields_zero 0 0 class.members)
@@ -175,16 +171,7 @@ titles_zero (m.Spawn x gifts at ∷ xs) = ap (λ (l : List Ident). record { text
 module _ (axis : List ℕ) where
   coordinate_zero : (x : MemberTree) → is_coordinate axis (member_at_0 x) ≡ is_coordinate axis x
   coordinate_zero (m.State true ty.Fixed name x at) = refl
-  coordinate_zero (m.State true ty.Int name x at) = refl
-  coordinate_zero (m.State true ty.Bool name x at) = refl
-  coordinate_zero (m.State true (ty.Other other) name x at) = refl
-  coordinate_zero (m.State false type name x at) = refl
-  coordinate_zero (m.Effect shared type name comb at) = refl
-  coordinate_zero (m.Visible range at) = refl
-  coordinate_zero (m.Reach range at) = refl
-  coordinate_zero (m.Run block at) = refl
-  coordinate_zero (m.Die x at) = refl
-  coordinate_zero (m.Spawn x gifts at) = refl
+  coordinate_zero _ = refl
 
   coordinates_zero : (xs : List MemberTree) → list_any (is_coordinate axis) (map member_at_0 xs) ≡ list_any (is_coordinate axis) xs
   coordinates_zero [] = refl
