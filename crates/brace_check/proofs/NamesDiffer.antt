@@ -99,9 +99,7 @@ AllFine = AllByRecursion Fine
 pub all_fine : (all : List Finding) → flat_map fault_of all ≡ [] → AllFine all
 all_fine [] clean = tt
 all_fine (finding.Fault x ∷ all) clean = absurd (cc)
-all_fine (finding.Names b ∷ all) clean = (tt, all_fine all clean)
-all_fine (finding.Site at ∷ all) clean = (tt, all_fine all clean)
-all_fine (finding.Assignment at ∷ all) clean = (tt, all_fine all clean)
+all_fine (_ ∷ all) clean = (tt, all_fine all clean)
 
 none_at : (kind : ℕ → NameFault) (places : List ℕ) → AllFine (faults_at kind places) → places ≡ []
 none_at kind [] fine = refl

@@ -262,33 +262,25 @@ found_zero tree =
 faults_of_zero : (all : List Finding) → map name_fault_at_0 (flat_map fault_of all) ≡ flat_map fault_of (zeroed all)
 faults_of_zero [] = refl
 faults_of_zero (finding.Fault x ∷ all) = ap (λ (l : List NameFault). name_fault_at_0 x ∷ l) (faults_of_zero all)
-faults_of_zero (finding.Names b ∷ all) = faults_of_zero all
-faults_of_zero (finding.Site at ∷ all) = faults_of_zero all
-faults_of_zero (finding.Assignment at ∷ all) = faults_of_zero all
+faults_of_zero (_ ∷ all) = faults_of_zero all
 
 sites_of_zero : (all : List Finding) → map nought (flat_map site_of all) ≡ flat_map site_of (zeroed all)
 sites_of_zero [] = refl
-sites_of_zero (finding.Fault x ∷ all) = sites_of_zero all
-sites_of_zero (finding.Names b ∷ all) = sites_of_zero all
 sites_of_zero (finding.Site at ∷ all) = ap (λ (l : List ℕ). 0 ∷ l) (sites_of_zero all)
-sites_of_zero (finding.Assignment at ∷ all) = sites_of_zero all
+sites_of_zero (_ ∷ all) = sites_of_zero all
 
 assignments_of_zero : (all : List Finding) → map nought (flat_map assignment_of all) ≡ flat_map assignment_of (zeroed all)
 assignments_of_zero [] = refl
-assignments_of_zero (finding.Fault x ∷ all) = assignments_of_zero all
-assignments_of_zero (finding.Names b ∷ all) = assignments_of_zero all
-assignments_of_zero (finding.Site at ∷ all) = assignments_of_zero all
 assignments_of_zero (finding.Assignment at ∷ all) = ap (λ (l : List ℕ). 0 ∷ l) (assignments_of_zero all)
+assignments_of_zero (_ ∷ all) = assignments_of_zero all
 
 abbrev target_in : Binding → Target
 target_in b = b.target
 
 targets_of_zero : (all : List Finding) → map target_in (flat_map binding_of all) ≡ map target_in (flat_map binding_of (zeroed all))
 targets_of_zero [] = refl
-targets_of_zero (finding.Fault x ∷ all) = targets_of_zero all
 targets_of_zero (finding.Names b ∷ all) = ap (λ (l : List Target). b.target ∷ l) (targets_of_zero all)
-targets_of_zero (finding.Site at ∷ all) = targets_of_zero all
-targets_of_zero (finding.Assignment at ∷ all) = targets_of_zero all
+targets_of_zero (_ ∷ all) = targets_of_zero all
 
 past_zero : (w : Which) (o : Option ℕ) → map name_fault_at_0 (too_many w o) ≡ too_many w (option_map nought o)
 past_zero w None = refl

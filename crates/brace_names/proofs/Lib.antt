@@ -6,6 +6,5 @@ pub mod Folds
 pub mod ByKind
 pub mod StmtLemmas
 pub mod WalkLemmas
-pub mod FoundEquations
 pub mod NameOrder
 pub mod TreeOrder

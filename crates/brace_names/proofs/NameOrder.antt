@@ -85,10 +85,8 @@ silent_both xs ys e g = flat_map-append place_of xs ys ∙ (ap (λ (l : List ℕ
 
 pub quiet_fault : (x : Finding) → place_of x ≡ [] → Silent (x ∷ [])
 unfolding Silent
-quiet_fault (finding.Fault x) e = refl
-quiet_fault (finding.Site x) e = refl
-quiet_fault (finding.Assignment x) e = refl
 quiet_fault (finding.Names x) e = e
+quiet_fault _ e = refl
 
 pub quiet_nothing : Silent []
 unfolding Silent
@@ -181,10 +179,8 @@ looped src scope class variable colon extent less other =
     (named_same other (bytes_eq (ident src class).text (ident src other).text) (class_number scope (ident src other).text) _ (quiet_fault _ refl))))))
 
 places_cons : (x : Finding) (xs : List Finding) → map (λ b. b.at) (flat_map binding_of (x ∷ xs)) ≡ place_of x ++ map (λ b. b.at) (flat_map binding_of xs)
-places_cons (finding.Fault x) xs = ap (λ (l : List Binding). map (λ b. b.at) l) (flat_map-cons binding_of (finding.Fault x) xs)
 places_cons (finding.Names x) xs = ap (λ (l : List Binding). map (λ b. b.at) l) (flat_map-cons binding_of (finding.Names x) xs)
-places_cons (finding.Site x) xs = ap (λ (l : List Binding). map (λ b. b.at) l) (flat_map-cons binding_of (finding.Site x) xs)
-places_cons (finding.Assignment x) xs = ap (λ (l : List Binding). map (λ b. b.at) l) (flat_map-cons binding_of (finding.Assignment x) xs)
+places_cons x xs = ap (λ (l : List Binding). map (λ b. b.at) l) (flat_map-cons binding_of x xs)
 
 places_of_bindings : (all : List Finding) → map (λ b. b.at) (flat_map binding_of all) ≡ places all
 places_of_bindings [] = refl

@@ -1,5 +1,5 @@
 -- What the names of a script that is read stand for is in the order of its tokens.
-use Rattle.std.proofs.Common.{◌≡◌, refl, sym, subst, ℕ, ◌+◌, Bool, true, false, List, [], ◌∷◌, ◌++◌, map, flat_map}
+use Rattle.std.proofs.Common.{◌≡◌, refl, sym, ap, subst, ℕ, ◌+◌, Bool, true, false, List, [], ◌∷◌, ◌++◌, map, flat_map}
 use Rattle.std.specs.Prelude.{Option, Some, None, if◌then◌else◌, slice_get}
 use Rattle.std.specs.Option.{option_map}
 use Rattle.std.proofs.lemmas.List.Concat.{flat_map-cons}
@@ -25,10 +25,10 @@ use Rattle.brace_names.specs.Kinds.{unary_named, binary_named}
 use Rattle.brace_names.specs.Tables.{repeated}
 use Rattle.brace_names.specs.Classes.{Known, known, title, fields, has_position}
 use Rattle.brace_names.specs.Scopes.{Home, home_of, Scope, outermost, read, read_own, inside, past}
-use Rattle.brace_names.specs.Walk.{behind, constants_in, block, in_classes}
+use Rattle.brace_names.specs.Walk.{behind, constants_in, block, part_step, in_classes}
 use Rattle.brace_names.specs.Findings as f
-use Rattle.brace_names.specs.Found.{expression, sought, part, gift, states_given, gifts_found, member, too_many, position, declarations, class_names, found}
-use Rattle.brace_names.proofs.FoundEquations as q
+use Rattle.brace_names.specs.Found.{expression, expression_step, sought, part, gift, states_given, gifts_found, member, too_many, position, declarations, class_names, found}
+use Rattle.brace_names.proofs.Folds.{of-Lit, of-True, of-False, of-Name, of-OfThis, of-OfLoop, of-Unary, of-Binary, of-Choice, of-Rand, of-Const, of-when, of-either, of-Foreach, of-Assign, of-AssignThis, of-AssignLoop}
 use Rattle.brace_names.proofs.NameOrder as o
 use Rattle.brace_names.proofs.NameOrder.{Named, Silent, append, over, silent, padded, before, silent_both, quiet_nothing, quiet_typed, quiet_declares, quiet_site, quiet_if, quiet_fault}
 
@@ -38,70 +38,73 @@ from toks all whole e n = subst (Named toks) (sym e) n
 of_expression : (src : List ℕ) (row : Row) (toks : List Token) (x : ExprTree) → ReadsExpr src row toks x → (scope : Scope) → Named toks (expression x scope)
 of_expression src _ _ _ (r.alone row inner a x _ h) scope = of_expression src inner a x h scope
 of_expression src _ _ _ (r.joined row inner a b op name x y _ _ h g) scope =
-    from _ _ _ (q.in_Binary scope name x y op.from) (append a (op ∷ b) (expression x scope) (expression y scope ++ f.site_if (binary_faults (binary_named name)) op.from) (of_expression src row a x h scope)
-    (over op b _ (o.behind b _ _ (of_expression src inner b y g scope) (quiet_site (binary_faults (binary_named name)) op.from))))
+    from _ _ _ (ap (λ g. g scope) (of-Binary expression_step name x y op.from)) (o.behind (a ++ op ∷ b) (expression x scope ++ expression y scope) _
+    (append a (op ∷ b) (expression x scope) (expression y scope) (of_expression src row a x h scope) (over op b _ (of_expression src inner b y g scope)))
+    (quiet_site (binary_faults (binary_named name)) op.from))
 of_expression src _ _ _ (r.compared a b op name x y _ h g) scope =
-    from _ _ _ (q.in_Binary scope name x y op.from) (append a (op ∷ b) (expression x scope) (expression y scope ++ f.site_if (binary_faults (binary_named name)) op.from) (of_expression src r.sums a x h scope)
-    (over op b _ (o.behind b _ _ (of_expression src r.sums b y g scope) (quiet_site (binary_faults (binary_named name)) op.from))))
+    from _ _ _ (ap (λ g. g scope) (of-Binary expression_step name x y op.from)) (o.behind (a ++ op ∷ b) (expression x scope ++ expression y scope) _
+    (append a (op ∷ b) (expression x scope) (expression y scope) (of_expression src r.sums a x h scope) (over op b _ (of_expression src r.sums b y g scope)))
+    (quiet_site (binary_faults (binary_named name)) op.from))
 of_expression src _ _ _ (r.chosen a b c question colon w x y _ _ h g e) scope =
-    from _ _ _ (q.in_Choice scope w x y question.from)
+    from _ _ _ (ap (λ g. g scope) (of-Choice expression_step w x y question.from))
     (append (a ++ question ∷ b) (colon ∷ c) (expression w scope ++ expression x scope) (expression y scope)
     (append a (question ∷ b) (expression w scope) (expression x scope) (of_expression src r.ors a w h scope) (over question b _ (of_expression src r.choices b x g scope)))
     (over colon c _ (of_expression src r.choices c y e scope)))
 of_expression src _ _ _ (r.prefix a op name x _ h) scope =
-    from _ _ _ (q.in_Unary scope name x op.from) (over op a _ (o.behind a _ _ (of_expression src r.prefixed a x h scope) (quiet_site (unary_faults (unary_named name)) op.from)))
+    from _ _ _ (ap (λ g. g scope) (of-Unary expression_step name x op.from)) (over op a _ (o.behind a _ _ (of_expression src r.prefixed a x h scope) (quiet_site (unary_faults (unary_named name)) op.from)))
 of_expression src _ _ _ (r.literal tok n _) scope =
-    from _ _ _ (q.in_Lit scope n) (silent (tok ∷ []) [] quiet_nothing)
+    from _ _ _ (ap (λ g. g scope) (of-Lit expression_step n)) (silent (tok ∷ []) [] quiet_nothing)
 of_expression src _ _ _ (r.truth tok _) scope =
-    from _ _ _ (q.in_True scope tok.from) (silent (tok ∷ []) [] quiet_nothing)
+    from _ _ _ (ap (λ g. g scope) (of-True expression_step tok.from)) (silent (tok ∷ []) [] quiet_nothing)
 of_expression src _ _ _ (r.falsity tok _) scope =
-    from _ _ _ (q.in_False scope tok.from) (silent (tok ∷ []) [] quiet_nothing)
+    from _ _ _ (ap (λ g. g scope) (of-False expression_step tok.from)) (silent (tok ∷ []) [] quiet_nothing)
 of_expression src _ _ _ (r.enclosed a opening closing x _ _ h) scope =
     over opening (a ++ closing ∷ []) _ (padded a (closing ∷ []) _ (of_expression src r.choices a x h scope))
 of_expression src _ _ _ (r.of_this this dot name _ _ _) scope =
-    from _ _ _ (q.in_OfThis scope (ident src name) this.from) (over this (dot ∷ name ∷ []) _ (over dot (name ∷ []) _ (o.read src scope name this.from (read_own scope (ident src name).text))))
+    from _ _ _ (ap (λ g. g scope) (of-OfThis expression_step (ident src name) this.from)) (over this (dot ∷ name ∷ []) _ (over dot (name ∷ []) _ (o.read src scope name this.from (read_own scope (ident src name).text))))
 of_expression src _ _ _ (r.named name _) scope =
-    from _ _ _ (q.in_Name scope (ident src name)) (o.read src scope name name.from (read scope (ident src name).text))
+    from _ _ _ (ap (λ g. g scope) (of-Name expression_step (ident src name))) (o.read src scope name name.from (read scope (ident src name).text))
 of_expression src _ _ _ (r.of_loop loop dot name _ _ _) scope =
-    from _ _ _ (q.in_OfLoop scope (ident src loop) (ident src name)) (o.read_of_loop src scope loop dot name)
+    from _ _ _ (ap (λ g. g scope) (of-OfLoop expression_step (ident src loop) (ident src name))) (o.read_of_loop src scope loop dot name)
 of_expression src _ _ _ (r.called_one a word opening closing name x _ _ _ h) scope =
-    from _ _ _ (q.in_Unary scope name x word.from) (over word _ _ (over opening (a ++ closing ∷ []) _ (padded a (closing ∷ []) _
+    from _ _ _ (ap (λ g. g scope) (of-Unary expression_step name x word.from)) (over word _ _ (over opening (a ++ closing ∷ []) _ (padded a (closing ∷ []) _
     (o.behind a _ _ (of_expression src r.choices a x h scope) (quiet_site (unary_faults (unary_named name)) word.from)))))
 of_expression src _ _ _ (r.called_two a b word opening comma closing name x y _ _ _ _ h g) scope =
-    from _ _ _ (q.in_Binary scope name x y word.from) (over word _ _ (over opening (a ++ comma ∷ b ++ closing ∷ []) _ (padded (a ++ comma ∷ b) (closing ∷ []) _
-    (append a (comma ∷ b) (expression x scope) (expression y scope ++ f.site_if (binary_faults (binary_named name)) word.from) (of_expression src r.choices a x h scope)
-    (over comma b _ (o.behind b _ _ (of_expression src r.choices b y g scope) (quiet_site (binary_faults (binary_named name)) word.from)))))))
+    from _ _ _ (ap (λ g. g scope) (of-Binary expression_step name x y word.from)) (over word _ _ (over opening (a ++ comma ∷ b ++ closing ∷ []) _ (padded (a ++ comma ∷ b) (closing ∷ []) _
+    (o.behind (a ++ comma ∷ b) (expression x scope ++ expression y scope) _
+    (append a (comma ∷ b) (expression x scope) (expression y scope) (of_expression src r.choices a x h scope) (over comma b _ (of_expression src r.choices b y g scope)))
+    (quiet_site (binary_faults (binary_named name)) word.from)))))
 of_expression src _ _ _ (r.random word opening closing _ _ _) scope =
-    from _ _ _ (q.in_Rand scope word.from) (silent (word ∷ opening ∷ closing ∷ []) (f.site word.from) (quiet_fault (finding.Site word.from) refl))
+    from _ _ _ (ap (λ g. g scope) (of-Rand expression_step word.from)) (silent (word ∷ opening ∷ closing ∷ []) (f.site word.from) (quiet_fault (finding.Site word.from) refl))
 
 mutual
   of_statement : (src : List ℕ) (toks : List Token) (x : StmtTree) → ReadsStmt src toks x → (scope : Scope) → Named toks ((part x).here scope)
   of_statement src _ _ (r.const a word type name equals semicolon t x _ _ _ _ _ h) scope =
-      from _ _ _ (q.in_Const sought scope t (ident src name) x word.from) (over word _ _ (over type _ _ (over name _ _ (over equals (a ++ semicolon ∷ []) _ (padded a (semicolon ∷ []) _
+      from _ _ _ (ap (λ p. p.here scope) (of-Const (part_step sought) t (ident src name) x word.from)) (over word _ _ (over type _ _ (over name _ _ (over equals (a ++ semicolon ∷ []) _ (padded a (semicolon ∷ []) _
       (before a (f.typed t ++ f.declares scope (ident src name)) _ (silent_both (f.typed t) (f.declares scope (ident src name)) (quiet_typed t) (quiet_declares scope (ident src name)))
       (of_expression src r.choices a x h scope)))))))
   of_statement src _ _ (r.when a b word opening closing x xs _ _ _ h g) scope =
-      from _ _ _ (q.in_If sought scope x xs word.from) (over word _ _ (over opening (a ++ closing ∷ b) _ (append a (closing ∷ b) (expression x scope) (block (map part xs) scope ++ [])
-      (of_expression src r.choices a x h scope) (over closing b _ (o.behind b (block (map part xs) scope) [] (of_block src b xs g scope) quiet_nothing)))))
+      from _ _ _ (ap (λ p. p.here scope) (of-when (part_step sought) x xs word.from)) (over word _ _ (over opening (a ++ closing ∷ b) _ (o.behind (a ++ closing ∷ b) (expression x scope ++ block (map part xs) scope) []
+      (append a (closing ∷ b) (expression x scope) (block (map part xs) scope) (of_expression src r.choices a x h scope) (over closing b _ (of_block src b xs g scope))) quiet_nothing)))
   of_statement src _ _ (r.either_way a b c word opening closing otherwise x xs ys _ _ _ _ h g e) scope =
       let later : Scope = past (constants_in (map part xs)) scope in
-      from _ _ _ (q.in_IfElse sought scope x xs ys word.from) (over word _ _ (over opening (a ++ closing ∷ b ++ otherwise ∷ c) _
+      from _ _ _ (ap (λ p. p.here scope) (of-either (part_step sought) x xs ys word.from)) (over word _ _ (over opening (a ++ closing ∷ b ++ otherwise ∷ c) _
       (append (a ++ closing ∷ b) (otherwise ∷ c) (expression x scope ++ block (map part xs) scope) (block (map part ys) later)
       (append a (closing ∷ b) (expression x scope) (block (map part xs) scope) (of_expression src r.choices a x h scope) (over closing b _ (of_block src b xs g scope)))
       (over otherwise c _ (of_block src c ys e later)))))
   of_statement src _ _ (r.foreach a word opening class variable colon extent less other greater closing xs _ _ _ _ _ _ _ _ _ _ h) scope =
-      from _ _ _ (q.in_Foreach sought scope (ident src class) (ident src variable) (ident src other) xs word.from) (over word _ _ (over opening _ _ (append (class ∷ variable ∷ colon ∷ extent ∷ less ∷ other ∷ []) (greater ∷ closing ∷ a)
+      from _ _ _ (ap (λ p. p.here scope) (of-Foreach (part_step sought) (ident src class) (ident src variable) (ident src other) xs word.from)) (over word _ _ (over opening _ _ (append (class ∷ variable ∷ colon ∷ extent ∷ less ∷ other ∷ []) (greater ∷ closing ∷ a)
       (f.loops_over scope (ident src class) (ident src other) ++ f.declares scope (ident src variable)) _
       (o.behind _ _ (f.declares scope (ident src variable)) (o.looped src scope class variable colon extent less other) (quiet_declares scope (ident src variable)))
       (over greater _ _ (over closing a _ (of_block src a xs h (inside (ident src class) (ident src variable) scope)))))))
   of_statement src _ _ (r.assign_this a this dot name arrow semicolon x _ _ _ _ _ h) scope =
-      from _ _ _ (q.in_AssignThis sought scope (ident src name) x this.from) (over this _ _ (over dot _ _ (append (name ∷ []) (arrow ∷ a ++ semicolon ∷ []) (f.assigns scope this.from (ident src name)) (expression x scope)
+      from _ _ _ (ap (λ p. p.here scope) (of-AssignThis (part_step sought) (ident src name) x this.from)) (over this _ _ (over dot _ _ (append (name ∷ []) (arrow ∷ a ++ semicolon ∷ []) (f.assigns scope this.from (ident src name)) (expression x scope)
       (o.assigned src scope name this.from) (over arrow (a ++ semicolon ∷ []) _ (padded a (semicolon ∷ []) _ (of_expression src r.choices a x h scope))))))
   of_statement src _ _ (r.assign a name arrow semicolon x _ _ _ h) scope =
-      from _ _ _ (q.in_Assign sought scope (ident src name) x) (append (name ∷ []) (arrow ∷ a ++ semicolon ∷ []) (f.assigns scope name.from (ident src name)) (expression x scope)
+      from _ _ _ (ap (λ p. p.here scope) (of-Assign (part_step sought) (ident src name) x)) (append (name ∷ []) (arrow ∷ a ++ semicolon ∷ []) (f.assigns scope name.from (ident src name)) (expression x scope)
       (o.assigned src scope name name.from) (over arrow (a ++ semicolon ∷ []) _ (padded a (semicolon ∷ []) _ (of_expression src r.choices a x h scope))))
   of_statement src _ _ (r.assign_loop a loop dot name arrow semicolon x _ _ _ _ _ h) scope =
-      from _ _ _ (q.in_AssignLoop sought scope (ident src loop) (ident src name) x) (append (loop ∷ dot ∷ name ∷ []) (arrow ∷ a ++ semicolon ∷ []) (f.assigns_of_loop scope (ident src loop) (ident src name)) (expression x scope)
+      from _ _ _ (ap (λ p. p.here scope) (of-AssignLoop (part_step sought) (ident src loop) (ident src name) x)) (append (loop ∷ dot ∷ name ∷ []) (arrow ∷ a ++ semicolon ∷ []) (f.assigns_of_loop scope (ident src loop) (ident src name)) (expression x scope)
       (o.assigned_of_loop src scope loop dot name) (over arrow (a ++ semicolon ∷ []) _ (padded a (semicolon ∷ []) _ (of_expression src r.choices a x h scope))))
 
   of_statements : (src : List ℕ) (toks : List Token) (xs : List StmtTree) → ReadsStmts src toks xs → (scope : Scope) → Named toks (block (map part xs) scope)
