@@ -35,8 +35,7 @@ use Rattle.brace_check.specs.Types.{digits_type, field_type, is_shared, named_ty
 use Rattle.brace_check.specs.Findings.{reads, crosses, reads_of_loop}
 use Rattle.brace_check.specs.Found.{expression as found_in, expression_step as found_step}
 use Rattle.brace_check.specs.Meanings.{Sited, literal, number_of, named_as, loop_agent, agent_of, loop_number, expression, expression_step}
-use Rattle.brace_check.proofs.TypeSound.{EffectHeading, FieldIs, declared, same-self, sited, TypeOk, type_ok, typed_ok, not_if, own_may, EffectIs, state_typed, effect_is}
-use Rattle.brace_check.proofs.Ties.{Tied, NamedIs, LoopIs, own_is, read_is, of_loop_is}
+use Rattle.brace_check.proofs.Ties.{EffectHeading, FieldIs, declared, same-self, sited, TypeOk, type_ok, typed_ok, not_if, own_may, EffectIs, state_typed, effect_is, Tied, NamedIs, LoopIs, own_is, read_is, of_loop_is}
 
 module _ {A : Type 0} where
   pub nil_back : (xs ys : List A) → xs ++ ys ≡ [] → ys ≡ []

@@ -40,21 +40,16 @@ use Rattle.brace_check.specs.Faults.{faults}
 use Rattle.brace_check.specs.Programs.{shares, class_of, classes_from, program_of}
 use Rattle.brace_check.specs.Order.{in_text_order}
 use Rattle.brace_check.specs.Resolved.{IsResolved}
-use Rattle.brace_check.proofs.TypeSound.{Heading, heading, heading_of, FieldsFit}
-use Rattle.brace_check.proofs.Ties.{Tied, all_back}
+use Rattle.brace_check.proofs.Ties.{Heading, heading, heading_of, FieldsFit, Tied, all_back}
 use Rattle.brace_check.proofs.ExprSound.{nil_back}
 use Rattle.brace_check.proofs.Rising.{Rises, increasing_from_rises, front_rises, first_rises}
-use Rattle.brace_check.proofs.BlockNumbering.{block_sites}
-use Rattle.brace_check.proofs.ShareNumbers.{SharesRise, shares_rise, ruled_sites}
-use Rattle.brace_check.proofs.CheckedMembers.{visible_fits, reach_fits, effects_fit, FromZero, from_zero, first_from_zero, constants_below, constants_apart}
-use Rattle.brace_check.proofs.RulesTyped.{class_kept, classes_kept, states_typed, deaths_typed, first_typed}
-use Rattle.brace_check.proofs.FieldNumbers.{fields_fit, others_fit, classes_fit, own_rises}
-use Rattle.brace_check.proofs.NamesDiffer.{Fine, AllFine, all_fine, text, names_differ, few_names, few_of, has_its_position, fields_count, fields_differ, is_placed}
-use Rattle.brace_check.proofs.MembersSound.{MembersOk, members_ok, Born, first_asked}
+use Rattle.brace_check.proofs.Numbering.{block_sites}
+use Rattle.brace_check.proofs.ShareNumbers.{SharesRise, shares_rise, ruled_sites, sites_differ, sites_below}
+use Rattle.brace_check.proofs.CheckedMembers.{visible_fits, reach_fits, effects_fit, FromZero, from_zero, first_from_zero, constants_below, constants_apart, class_kept, classes_kept, states_typed, deaths_typed, first_typed, MembersOk, members_ok, Born, first_asked}
+use Rattle.brace_check.proofs.FieldNumbers.{fields_fit, others_fit, classes_fit, own_rises, Fine, AllFine, all_fine, text, names_differ, few_names, few_of, has_its_position, fields_count, fields_differ, is_placed}
 use Rattle.brace_check.proofs.Words.{WordedClass, script_worded, fields_named}
 use Rattle.brace_check.proofs.LoopPlaces.{loops_apart}
-use Rattle.brace_check.proofs.SiteCounts.{sites_differ, sites_below}
-use Rattle.brace_check.proofs.ToldScript.{counted_sites, few_assignments}
+use Rattle.brace_check.proofs.Told.{counted_sites, few_assignments}
 use Rattle.brace_check.proofs.TextOrder.{classes_in_order}
 
 first_born : (m : Names) (states : List State) (spawns : List Spawn) → AllByRecursion (Born m states) spawns

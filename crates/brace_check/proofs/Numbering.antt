@@ -1,6 +1,6 @@
--- Sites are numbered in finishing order, each by how many come before it.
+-- The sites of an expression and of a block are numbered in finishing order, and the constants of a block in text order.
 use Rattle.std.proofs.Common.{◌≡◌, refl, sym, ap, subst, ◌∙◌, ℕ, zero, suc, ◌+◌, Bool, true, false, List, [], ◌∷◌, ◌++◌, length, length-append, append_assoc, arith, map, flat_map}
-use Rattle.std.specs.Prelude.{Option, Some, None, option_to_list}
+use Rattle.std.specs.Prelude.{Option, Some, None, option_to_list, sum}
 use Rattle.std.specs.List.{range_with_len, concat}
 use Rattle.std.proofs.lemmas.List.{append-nil}
 use Rattle.brace_num.proofs.Rows.{row_joined}
@@ -13,18 +13,31 @@ use Rattle.brace_model.specs.declared.program.BinOp.{BinOp}
 use Rattle.brace_model.specs.declared.program.Who.TheVariants.{This}
 use Rattle.brace_model.specs.declared.program.Expr.{Expr}
 use Rattle.brace_model.specs.declared.program.Expr.TheVariants as expr
-use Rattle.brace_model.specs.Sites.{sites_of}
+use Rattle.brace_model.specs.Sites.{sites_of, sites_in, constant_numbers}
 use Rattle.brace_model.specs.Typing.{only, is_sum, unary_faults, binary_faults}
-use Rattle.brace_model.proofs.LawEquations.{sites_of-Lit, sites_of-Field, sites_of-Total, sites_of-Local, sites_of-Unary, sites_of-Binary, sites_of-Choice, sites_of-Rand}
-use Rattle.brace_names.proofs.ByKind.{Expressions, of_expression}
-use Rattle.brace_names.proofs.Folds.{of-Lit, of-True, of-False, of-Name, of-OfThis, of-OfLoop, of-Unary, of-Binary, of-Choice, of-Rand}
+use Rattle.brace_model.proofs.LawEquations.{sites_of-Lit, sites_of-Field, sites_of-Total, sites_of-Local, sites_of-Unary, sites_of-Binary, sites_of-Choice, sites_of-Rand, sites_in-Const, sites_in-If, sites_in-Foreach, sites_in-Assign, constant_numbers-Const, constant_numbers-If, constant_numbers-Foreach, constant_numbers-Assign}
+use Rattle.brace_names.proofs.ByKind.{Expressions, of_expression, ProvedStmt, stmts_of, Statements, proved, stmts-proved}
+use Rattle.brace_names.proofs.Folds.{of-Lit, of-True, of-False, of-Name, of-OfThis, of-OfLoop, of-Unary, of-Binary, of-Choice, of-Rand, of-Const, of-when, of-either, of-Foreach, of-Assign, of-AssignThis, of-AssignLoop}
 use Rattle.brace_names.specs.declared.declared.Field.TheVariants as field
 use Rattle.brace_names.specs.declared.scope.Named.{Named}
 use Rattle.brace_names.specs.declared.scope.Named.TheVariants as named
 use Rattle.brace_names.specs.Kinds.{unary_named, binary_named}
-use Rattle.brace_names.specs.Scopes.{Scope, read, read_own, of_loop}
+use Rattle.brace_names.specs.Scopes.{Scope, read, read_own, of_loop, inside, past}
 use Rattle.brace_names.specs.Findings.{is_summed}
-use Rattle.brace_check.specs.Meanings.{Sited, plain, site_if, literal, named_as, agent_of, loop_number, unary, binary, choice, expression, expression_step, followed, with_sites}
+use Rattle.brace_check.specs.Meanings.{Sited, plain, site_if, literal, named_as, agent_of, loop_number, unary, binary, choice, expression, expression_step, followed, with_sites, number_of, number_in, assigned, block, part, part_step}
+use Rattle.brace_syntax.specs.declared.tree.StmtTree.{StmtTree}
+use Rattle.brace_syntax.specs.declared.tree.StmtTree.TheVariants as s
+use Rattle.brace_model.specs.declared.program.Who.{Who}
+use Rattle.brace_model.specs.declared.program.Stmt.{Stmt}
+use Rattle.brace_model.specs.declared.program.Stmt.TheVariants as stmt
+use Rattle.brace_names.specs.Tables.{look}
+use Rattle.brace_names.specs.Walk.{Part, behind, constants_in, declared_in}
+use Rattle.std.proofs.lemmas.List.Sums.{sum_by-cons}
+use Rattle.brace_model.specs.declared.program.Ty.{Ty}
+use Rattle.brace_model.specs.Query.{constants}
+use Rattle.brace_model.proofs.ValueEquations.{constants-Const, constants-If, constants-Foreach, constants-Assign}
+use Rattle.brace_syntax.specs.declared.tree.Ident.{Ident}
+use Rattle.brace_names.proofs.StmtLemmas.{constants-cons}
 
 -- what is made of each item, joined
 pub concat-map : {A : Type 0} (f : A → List ℕ) (xs : List A) → concat (map f xs) ≡ flat_map f xs
@@ -138,3 +151,190 @@ kinds_numbered = record {
 -- the sites of an expression are numbered in finishing order
 pub expression_numbered : (x : ExprTree) (scope : Scope) → Numbered sites_of (expression x scope)
 expression_numbered = of_expression NumberedExpr kinds_numbered
+
+-- the sites of a block, and of two blocks
+abbrev pub block_sites : List Stmt → List ℕ
+block_sites block = flat_map sites_in block
+
+abbrev both_sites : List Stmt × List Stmt → List ℕ
+both_sites p = block_sites p.0 ++ block_sites p.1
+
+abbrev NumberedPart : Part (Sited Stmt) → Type 0
+NumberedPart p = (scope : Scope) → Numbered sites_in (p.here scope)
+
+abbrev NumberedStmt : StmtTree → Type 0
+NumberedStmt x = NumberedPart (part x)
+
+parts_numbered : (ys : List (ProvedStmt NumberedStmt)) (scope : Scope) → Numbered block_sites (block (map part (stmts_of ys)) scope)
+parts_numbered [] scope = plain_numbered block_sites [] refl
+parts_numbered (y ∷ ys) scope =
+    followed_numbered sites_in block_sites block_sites (λ s rest. s ∷ rest)
+    ((part y.0).here scope) (block (map part (stmts_of ys)) (behind (part y.0) scope))
+    (λ s rest. refl) (y.1 scope) (parts_numbered ys (behind (part y.0) scope))
+
+blocks_sites : (c : Expr) (p : List Stmt × List Stmt) → sites_in (stmt.If c p.0 p.1) ≡ sites_of c ++ both_sites p
+blocks_sites c p =
+    sites_in-If c p.0 p.1
+    ∙ (ap (λ (l : List ℕ). sites_of c ++ (l ++ concat (map sites_in p.1))) (concat-map sites_in p.0)
+    ∙ ap (λ (l : List ℕ). sites_of c ++ (block_sites p.0 ++ l)) (concat-map sites_in p.1))
+
+if_numbered : (c : Sited Expr) (a b : Sited (List Stmt)) → Numbered sites_of c → Numbered block_sites a → Numbered block_sites b
+    → Numbered sites_in (followed (λ (c : Expr) (blocks : List Stmt × List Stmt). stmt.If c blocks.0 blocks.1) c (followed (λ a b. (a, b)) a b))
+if_numbered c a b hc ha hb =
+    followed_numbered sites_of both_sites sites_in (λ (c : Expr) (blocks : List Stmt × List Stmt). stmt.If c blocks.0 blocks.1)
+    c (followed (λ a b. (a, b)) a b) blocks_sites hc
+    (followed_numbered block_sites block_sites both_sites (λ a b. (a, b)) a b (λ a b. refl) ha hb)
+
+loop_numbered : (class at : ℕ) (body : Sited (List Stmt)) → Numbered block_sites body
+    → Numbered sites_in (with_sites (λ b. stmt.Foreach class b at) body)
+loop_numbered class at body h =
+    made_numbered block_sites sites_in (λ b. stmt.Foreach class b at) body
+    (λ b. sites_in-Foreach class b at ∙ concat-map sites_in b) h
+
+said_numbered : (who : Who) (effect at : ℕ) (x : Sited Expr) → Numbered sites_of x → Numbered sites_in (assigned who effect at x)
+said_numbered who effect at x h = made_numbered sites_of sites_in (λ e. stmt.Assign who effect e at) x (λ e. sites_in-Assign who effect e at) h
+
+bound_numbered : (n : ℕ) (x : Sited Expr) → Numbered sites_of x → Numbered sites_in (with_sites (stmt.Const n) x)
+bound_numbered n x h = made_numbered sites_of sites_in (stmt.Const n) x (λ e. sites_in-Const n e) h
+
+abbrev back_stmt : (x : StmtTree) (p : Part (Sited Stmt)) → part x ≡ p → NumberedPart p → NumberedStmt x
+back_stmt x p same h = subst NumberedPart (sym same) h
+
+stmts_numbered : Statements NumberedStmt
+stmts_numbered = record {
+  const = λ type name x at. back_stmt (s.Const type name x at) _ (of-Const part_step type name x at)
+      (λ scope. bound_numbered _ (expression x scope) (expression_numbered x scope));
+  when = λ c a at. back_stmt (s.If c (stmts_of a) None at) _ (of-when part_step c (stmts_of a) at)
+      (λ scope. if_numbered (expression c scope) (block (map part (stmts_of a)) scope) (plain [])
+      (expression_numbered c scope) (parts_numbered a scope) (plain_numbered block_sites [] refl));
+  either_way = λ c a b at. back_stmt (s.If c (stmts_of a) (Some (stmts_of b)) at) _ (of-either part_step c (stmts_of a) (stmts_of b) at)
+      (λ scope. if_numbered (expression c scope) (block (map part (stmts_of a)) scope)
+      (block (map part (stmts_of b)) (past (constants_in (map part (stmts_of a))) scope))
+      (expression_numbered c scope) (parts_numbered a scope) (parts_numbered b (past (constants_in (map part (stmts_of a))) scope)));
+  foreach = λ class variable other a at. back_stmt (s.Foreach class variable other (stmts_of a) at) _ (of-Foreach part_step class variable other (stmts_of a) at)
+      (λ scope. loop_numbered (number_in scope class) at (block (map part (stmts_of a)) (inside class variable scope))
+      (parts_numbered a (inside class variable scope)));
+  assign = λ name x. back_stmt (s.Assign name x) _ (of-Assign part_step name x)
+      (λ scope. said_numbered This (number_of (look scope.home.own name.text)) name.at (expression x scope) (expression_numbered x scope));
+  assign_this = λ name x at. back_stmt (s.AssignThis name x at) _ (of-AssignThis part_step name x at)
+      (λ scope. said_numbered This (number_of (look scope.home.own name.text)) at (expression x scope) (expression_numbered x scope));
+  assign_loop = λ variable name x. back_stmt (s.AssignLoop variable name x) _ (of-AssignLoop part_step variable name x)
+      (λ scope. said_numbered (agent_of (of_loop scope variable.text name.text)) (loop_number (of_loop scope variable.text name.text)) variable.at (expression x scope) (expression_numbered x scope));
+}
+
+-- the sites of a block are numbered in finishing order
+pub block_numbered : (xs : List StmtTree) (scope : Scope) → Numbered block_sites (block (map part xs) scope)
+block_numbered xs scope =
+    subst (λ (l : List StmtTree). Numbered block_sites (block (map part l) scope)) (stmts-proved NumberedStmt stmts_numbered xs)
+    (parts_numbered (proved NumberedStmt stmts_numbered xs) scope)
+
+-- a statement declares so many constants, numbered from one on
+pub record Declares (x : Stmt) (first count : ℕ) : Type 0 where
+  pub numbers : constant_numbers x ≡ range_with_len first count
+  pub many : constants x ≡ count
+
+-- a block declares so many constants, numbered from one on
+pub record BlockDeclares (b : List Stmt) (first count : ℕ) : Type 0 where
+  pub numbers : flat_map constant_numbers b ≡ range_with_len first count
+  pub many : sum (map constants b) ≡ count
+
+pub none_declared : (first : ℕ) → BlockDeclares [] first 0
+none_declared first = record { numbers = refl; many = refl }
+
+more_declared : (x : Stmt) (b : List Stmt) (first c d : ℕ) → Declares x first c → BlockDeclares b (first + c) d → BlockDeclares (x ∷ b) first (c + d)
+more_declared x b first c d one rest = record {
+  numbers =
+      ap (λ (l : List ℕ). l ++ flat_map constant_numbers b) one.numbers
+      ∙ (ap (λ (l : List ℕ). range_with_len first c ++ l) rest.numbers ∙ row_joined first c d);
+  many =
+      sum_by-cons (λ (k : ℕ). k) (constants x) (map constants b)
+      ∙ (ap (λ (k : ℕ). k + sum (map constants b)) one.many ∙ ap (λ (k : ℕ). c + k) rest.many);
+}
+
+if_declares : (x : Expr) (a b : List Stmt) (first c d : ℕ) → BlockDeclares a first c → BlockDeclares b (first + c) d → Declares (stmt.If x a b) first (c + d)
+if_declares x a b first c d one other = record {
+  numbers =
+      constant_numbers-If x a b
+      ∙ (ap (λ (l : List ℕ). l ++ concat (map constant_numbers b)) (concat-map constant_numbers a ∙ one.numbers)
+      ∙ (ap (λ (l : List ℕ). range_with_len first c ++ l) (concat-map constant_numbers b ∙ other.numbers) ∙ row_joined first c d));
+  many =
+      constants-If x a b
+      ∙ (ap (λ (k : ℕ). k + sum (map constants b)) one.many ∙ ap (λ (k : ℕ). c + k) other.many);
+}
+
+loop_declares : (class at : ℕ) (a : List Stmt) (first c : ℕ) → BlockDeclares a first c → Declares (stmt.Foreach class a at) first c
+loop_declares class at a first c h = record {
+  numbers = constant_numbers-Foreach class a at ∙ (concat-map constant_numbers a ∙ h.numbers);
+  many = constants-Foreach class a at ∙ h.many;
+}
+
+said_declares : (who : Who) (effect : ℕ) (x : Expr) (at first : ℕ) → Declares (stmt.Assign who effect x at) first 0
+said_declares who effect x at first = record { numbers = constant_numbers-Assign who effect x at; many = constants-Assign who effect x at }
+
+bound_declares : (first : ℕ) (x : Expr) → Declares (stmt.Const first x) first 1
+bound_declares first x = record { numbers = constant_numbers-Const first x; many = constants-Const first x }
+
+abbrev PartDeclares : Part (Sited Stmt) → Type 0
+PartDeclares p = (scope : Scope) (n : ℕ) → Declares ((p.here scope).behind n) scope.constants p.constants
+
+abbrev StmtDeclares : StmtTree → Type 0
+StmtDeclares x = PartDeclares (part x)
+
+-- a declaration leaves the count of constants as it is
+same_count : (one : Option (Ident × Ty)) (scope : Scope) → (declared_in one scope).constants ≡ scope.constants
+same_count None scope = refl
+same_count (Some one) scope = refl
+
+parts_declare : (ys : List (ProvedStmt StmtDeclares)) (scope : Scope) (n : ℕ)
+    → BlockDeclares ((block (map part (stmts_of ys)) scope).behind n) scope.constants (constants_in (map part (stmts_of ys)))
+parts_declare [] scope n = none_declared scope.constants
+parts_declare (y ∷ ys) scope n =
+    let p : Part (Sited Stmt) = part y.0 in
+    let m : ℕ = n + length (p.here scope).sites in
+    let rest : List Stmt = (block (map part (stmts_of ys)) (behind p scope)).behind m in
+    let more : ℕ = constants_in (map part (stmts_of ys)) in
+    subst (λ (k : ℕ). BlockDeclares ((p.here scope).behind n ∷ rest) scope.constants k) (sym (constants-cons p (map part (stmts_of ys))))
+    (more_declared ((p.here scope).behind n) rest scope.constants p.constants more (y.1 scope n)
+    (subst (λ (k : ℕ). BlockDeclares rest (k + p.constants) more) (same_count p.declared scope) (parts_declare ys (behind p scope) m)))
+
+abbrev back_declares : (x : StmtTree) (p : Part (Sited Stmt)) → part x ≡ p → PartDeclares p → StmtDeclares x
+back_declares x p same h = subst PartDeclares (sym same) h
+
+kinds_declare : Statements StmtDeclares
+kinds_declare = record {
+  const = λ type name x at. back_declares (s.Const type name x at) _ (of-Const part_step type name x at)
+      (λ scope n. bound_declares scope.constants ((expression x scope).behind n));
+  when = λ c a at. back_declares (s.If c (stmts_of a) None at) _ (of-when part_step c (stmts_of a) at)
+      (λ scope n.
+      let m : ℕ = n + length (expression c scope).sites in
+      let ca : ℕ = constants_in (map part (stmts_of a)) in
+      if_declares ((expression c scope).behind n) ((block (map part (stmts_of a)) scope).behind m) [] scope.constants ca 0
+      (parts_declare a scope m) (none_declared (scope.constants + ca)));
+  either_way = λ c a b at. back_declares (s.If c (stmts_of a) (Some (stmts_of b)) at) _ (of-either part_step c (stmts_of a) (stmts_of b) at)
+      (λ scope n.
+      let ca : ℕ = constants_in (map part (stmts_of a)) in
+      let m : ℕ = n + length (expression c scope).sites in
+      let one : List Stmt = (block (map part (stmts_of a)) scope).behind m in
+      let k : ℕ = m + length (block (map part (stmts_of a)) scope).sites in
+      if_declares ((expression c scope).behind n) one ((block (map part (stmts_of b)) (past ca scope)).behind k) scope.constants ca (constants_in (map part (stmts_of b)))
+      (parts_declare a scope m) (parts_declare b (past ca scope) k));
+  foreach = λ class variable other a at. back_declares (s.Foreach class variable other (stmts_of a) at) _ (of-Foreach part_step class variable other (stmts_of a) at)
+      (λ scope n. loop_declares (number_in scope class) at
+      ((block (map part (stmts_of a)) (inside class variable scope)).behind n)
+      scope.constants (constants_in (map part (stmts_of a)))
+      (parts_declare a (inside class variable scope) n));
+  assign = λ name x. back_declares (s.Assign name x) _ (of-Assign part_step name x)
+      (λ scope n. said_declares This (number_of (look scope.home.own name.text)) ((expression x scope).behind n) name.at scope.constants);
+  assign_this = λ name x at. back_declares (s.AssignThis name x at) _ (of-AssignThis part_step name x at)
+      (λ scope n. said_declares This (number_of (look scope.home.own name.text)) ((expression x scope).behind n) at scope.constants);
+  assign_loop = λ variable name x. back_declares (s.AssignLoop variable name x) _ (of-AssignLoop part_step variable name x)
+      (λ scope n. said_declares (agent_of (of_loop scope variable.text name.text)) (loop_number (of_loop scope variable.text name.text)) ((expression x scope).behind n) variable.at scope.constants);
+}
+
+-- the constants of a block are numbered in text order
+pub block_declares : (xs : List StmtTree) (scope : Scope) (n : ℕ)
+    → BlockDeclares ((block (map part xs) scope).behind n) scope.constants (constants_in (map part xs))
+block_declares xs scope n =
+    subst (λ (l : List StmtTree). BlockDeclares ((block (map part l) scope).behind n) scope.constants (constants_in (map part l)))
+    (stmts-proved StmtDeclares kinds_declare xs)
+    (parts_declare (proved StmtDeclares kinds_declare xs) scope n)

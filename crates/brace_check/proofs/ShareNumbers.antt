@@ -1,7 +1,7 @@
--- The sites of a class rise over its rules, over each of its conditions, and over its query.
-use Rattle.std.proofs.Common.{◌≡◌, refl, sym, ap, subst, ◌∙◌, ℕ, ◌+◌, ◌≤◌, List, [], ◌∷◌, ◌++◌, map, flat_map, length, length-append, append_assoc, arith}
-use Rattle.std.specs.Prelude.{true, false, Option, Some, None, option_to_list}
-use Rattle.std.specs.List.{range_with_len}
+-- The sites of a class rise over its rules, over each of its conditions, and over its query; each site of a program stands at one place of it.
+use Rattle.std.proofs.Common.{◌≡◌, refl, sym, ap, subst, ◌∙◌, ℕ, ◌+◌, ◌≤◌, List, [], ◌∷◌, ◌++◌, map, flat_map, length, length-append, append_assoc, arith, zero, suc, ◌<◌, nat_lt, Bool, true, false, tests, inl, inr}
+use Rattle.std.specs.Prelude.{Option, Some, None, option_to_list, nat_eq, cond, slice_get, unwrap_or}
+use Rattle.std.specs.List.{range_with_len, AllByRecursion, IsDistinct, list_all}
 use Rattle.std.proofs.lemmas.List.{append-nil}
 use Rattle.std.proofs.lemmas.Grind.{flat_map-append}
 use Rattle.brace_syntax.specs.declared.tree.ExprTree.{ExprTree}
@@ -13,15 +13,19 @@ use Rattle.brace_model.specs.declared.program.Stmt.{Stmt}
 use Rattle.brace_model.specs.declared.program.State.{State}
 use Rattle.brace_model.specs.declared.program.Gift.{Gift}
 use Rattle.brace_model.specs.declared.program.Spawn.{Spawn}
-use Rattle.brace_model.specs.Sites.{sites_of, sites_among, sites_of_spawn}
+use Rattle.brace_model.specs.Sites.{sites_of, sites_among, sites_of_spawn, class_sites}
 use Rattle.brace_check.specs.declared.share.Share.{Share}
-use Rattle.brace_check.specs.Programs.{rule, gifts_in, spawn_of, no_share, share, shared_by, shares}
+use Rattle.brace_check.specs.Programs.{rule, gifts_in, spawn_of, no_share, share, shared_by, shares, class_of, classes_from}
 use Rattle.brace_check.proofs.Rising.{Rises, rises-joined, front_rises, back_rises, range_rises}
-use Rattle.brace_check.proofs.Numbering.{Numbered, plain_numbered, made_numbered, followed_numbered, expression_numbered}
-use Rattle.brace_check.proofs.BlockNumbering.{block_sites, block_numbered}
+use Rattle.brace_check.proofs.Numbering.{Numbered, plain_numbered, made_numbered, followed_numbered, expression_numbered, block_sites, block_numbered}
 use Rattle.brace_names.specs.Tables.{look}
-use Rattle.brace_names.specs.Scopes.{Home, Scope, outermost}
+use Rattle.brace_names.specs.Scopes.{Home, Scope, outermost, home_of}
 use Rattle.brace_check.specs.Meanings.{Sited, number_of, followed, expression, block, part}
+use Rattle.std.proofs.lemmas.Bool.{cases_Bool, cases_lt, ne_eqb, and_from}
+use Rattle.brace_num.proofs.Rows.{row_joined}
+use Rattle.brace_syntax.specs.declared.tree.ClassTree.{ClassTree}
+use Rattle.brace_names.specs.Classes.{Known}
+use Rattle.brace_model.specs.declared.program.Class.{Class}
 
 -- the sites of the parts of a class
 abbrev pub ruled_sites : List State → List ℕ
@@ -132,3 +136,208 @@ shares_rise home (member ∷ members) n =
     ∙ ap (λ (k : ℕ). n + k) (sym (length-append a.sites b.sites)) in
     subst (λ (hi : ℕ). SharesRise (shared_by (a.behind n) (b.behind mid)) n hi) far
     (both_rise (a.behind n) (b.behind mid) n mid (mid + length b.sites) (share_rises home member n) (shares_rise home members mid))
+
+-- how often a number stands in a place, and in a list
+abbrev here : ℕ → ℕ → ℕ
+here x y = cond (nat_eq x y) 1 0
+
+times : ℕ → List ℕ → ℕ
+times x [] = 0
+times x (y ∷ ys) = here x y + times x ys
+
+times-append : (x : ℕ) (xs ys : List ℕ) → times x (xs ++ ys) ≡ times x xs + times x ys
+unfolding times
+times-append x [] ys = let none : times x ys ≡ 0 + times x ys = omega arith in none
+times-append x (y ∷ xs) ys =
+    let rest : times x (xs ++ ys) ≡ times x xs + times x ys = times-append x xs ys in
+    let total : here x y + times x (xs ++ ys) ≡ (here x y + times x xs) + times x ys = omega (arith, rest) in
+    total
+
+-- numbers in turn have each once, and none below the first of them or past the last
+times-low : (n c x : ℕ) → x < n → times x (range_with_len n c) ≡ 0
+unfolding times
+times-low n zero x under = refl
+times-low n (suc c) x under =
+    let apart : nat_eq x n ≡ false = ne_eqb x n (λ e. let same : x ≡ n = e in absurd (omega (arith, under, same))) in
+    let none : here x n ≡ 0 = ap (λ (b : Bool). cond b 1 0) apart in
+    let rest : times x (range_with_len (n + 1) c) ≡ 0 = times-low (n + 1) c x (omega (arith, under)) in
+    let total : here x n + times x (range_with_len (n + 1) c) ≡ 0 = omega (arith, none, rest) in
+    total
+
+times-past : (n c x : ℕ) → n + c ≤ x → times x (range_with_len n c) ≡ 0
+unfolding times
+times-past n zero x past = refl
+times-past n (suc c) x past =
+    let apart : nat_eq x n ≡ false = ne_eqb x n (λ e. let same : x ≡ n = e in absurd (omega (arith, past, same))) in
+    let none : here x n ≡ 0 = ap (λ (b : Bool). cond b 1 0) apart in
+    let rest : times x (range_with_len (n + 1) c) ≡ 0 = times-past (n + 1) c x (omega (arith, past)) in
+    let total : here x n + times x (range_with_len (n + 1) c) ≡ 0 = omega (arith, none, rest) in
+    total
+
+times-once : (n c x : ℕ) → times x (range_with_len n c) ≤ 1
+unfolding times
+times-once n zero x = omega arith
+times-once n (suc c) x = elim (cases_Bool (nat_eq x n)) [
+  | inl same ↦
+      let e : x ≡ n = grind (arith, tests) in
+      let one : here x n ≡ 1 = ap (λ (b : Bool). cond b 1 0) same in
+      let rest : times x (range_with_len (n + 1) c) ≡ 0 = times-low (n + 1) c x (omega (arith, e)) in
+      let total : here x n + times x (range_with_len (n + 1) c) ≤ 1 = omega (arith, one, rest) in
+      total
+  | inr apart ↦
+      let none : here x n ≡ 0 = ap (λ (b : Bool). cond b 1 0) apart in
+      let rest : times x (range_with_len (n + 1) c) ≤ 1 = times-once (n + 1) c x in
+      let total : here x n + times x (range_with_len (n + 1) c) ≤ 1 = omega (arith, none, rest) in
+      total
+]
+
+times-four : (x : ℕ) (a b c d : List ℕ) → times x (a ++ (b ++ (c ++ d))) ≡ times x a + (times x b + (times x c + times x d))
+times-four x a b c d =
+    let p : times x (a ++ (b ++ (c ++ d))) ≡ times x a + times x (b ++ (c ++ d)) = times-append x a (b ++ (c ++ d)) in
+    let q : times x (b ++ (c ++ d)) ≡ times x b + times x (c ++ d) = times-append x b (c ++ d) in
+    let r : times x (c ++ d) ≡ times x c + times x d = times-append x c d in
+    omega (arith, p, q, r)
+
+-- how often a number is a site of a share
+abbrev total_times : ℕ → Share → ℕ
+total_times x s = times x (ruled_sites s.states) + (times x (asked_sites s.die) + (times x (born_sites s.spawn) + times x (asking_sites s.queries)))
+
+total-shared : (x : ℕ) (a b : Share) → total_times x (shared_by a b) ≡ total_times x a + total_times x b
+total-shared x a b =
+    let p : times x (ruled_sites (a.states ++ b.states)) ≡ times x (ruled_sites a.states) + times x (ruled_sites b.states) =
+    ap (times x) (ruled-append a.states b.states) ∙ times-append x (ruled_sites a.states) (ruled_sites b.states) in
+    let q : times x (asked_sites (a.die ++ b.die)) ≡ times x (asked_sites a.die) + times x (asked_sites b.die) =
+    ap (times x) (flat_map-append sites_of a.die b.die) ∙ times-append x (asked_sites a.die) (asked_sites b.die) in
+    let r : times x (born_sites (a.spawn ++ b.spawn)) ≡ times x (born_sites a.spawn) + times x (born_sites b.spawn) =
+    ap (times x) (flat_map-append sites_of_spawn a.spawn b.spawn) ∙ times-append x (born_sites a.spawn) (born_sites b.spawn) in
+    let s : times x (asking_sites (a.queries ++ b.queries)) ≡ times x (asking_sites a.queries) + times x (asking_sites b.queries) =
+    ap (times x) (flat_map-append block_sites a.queries b.queries) ∙ times-append x (asking_sites a.queries) (asking_sites b.queries) in
+    omega (arith, p, q, r, s)
+
+-- the members of a class have the sites that are numbered for them
+members_times : (home : Home) (x : ℕ) (members : List MemberTree) (n : ℕ)
+    → total_times x ((shares home members).behind n) ≡ times x (range_with_len n (length (shares home members).sites))
+unfolding times
+members_times home x [] n = refl
+members_times home x (one ∷ members) n =
+    let a : Sited Share = share home one in
+    let b : Sited Share = shares home members in
+    let s : Share = a.behind n in
+    let mid : ℕ = n + length a.sites in
+    let first : total_times x s ≡ times x (range_with_len n (length a.sites)) =
+    sym (times-four x (ruled_sites s.states) (asked_sites s.die) (born_sites s.spawn) (asking_sites s.queries)) ∙ ap (times x) (share_numbered home one n) in
+    let rest : total_times x (b.behind mid) ≡ times x (range_with_len mid (length b.sites)) = members_times home x members mid in
+    let both : times x (range_with_len n (length (a.sites ++ b.sites))) ≡ times x (range_with_len n (length a.sites)) + times x (range_with_len mid (length b.sites)) =
+    ap (λ (k : ℕ). times x (range_with_len n k)) (length-append a.sites b.sites)
+    ∙ (ap (times x) (sym (row_joined n (length a.sites) (length b.sites))) ∙ times-append x (range_with_len n (length a.sites)) (range_with_len mid (length b.sites))) in
+    let whole : total_times x (shared_by s (b.behind mid)) ≡ total_times x s + total_times x (b.behind mid) = total-shared x s (b.behind mid) in
+    whole ∙ (ap (λ (k : ℕ). k + total_times x (b.behind mid)) first ∙ (ap (λ (k : ℕ). times x (range_with_len n (length a.sites)) + k) rest ∙ sym both))
+
+-- the first of some things has no more
+module _ {A : Type 0} (f : A → List ℕ) (x : ℕ) where
+  first_times : (xs : List A) → times x (flat_map f (option_to_list (slice_get xs 0))) ≤ times x (flat_map f xs)
+  first_times [] = omega arith
+  first_times (y ∷ ys) =
+      let whole : times x (f y ++ flat_map f ys) ≡ times x (f y) + times x (flat_map f ys) = times-append x (f y) (flat_map f ys) in
+      let front : times x (f y ++ []) ≡ times x (f y) = ap (times x) (append-nil (f y)) in
+      let total : times x (f y ++ []) ≤ times x (f y ++ flat_map f ys) = omega (arith, whole, front) in
+      total
+
+first_query_times : (x : ℕ) (queries : List (List Stmt)) → times x (block_sites (unwrap_or (slice_get queries 0) [])) ≤ times x (asking_sites queries)
+first_query_times x [] = omega arith
+first_query_times x (y ∷ ys) =
+    let whole : times x (block_sites y ++ asking_sites ys) ≡ times x (block_sites y) + times x (asking_sites ys) = times-append x (block_sites y) (asking_sites ys) in
+    let total : times x (block_sites y) ≤ times x (block_sites y ++ asking_sites ys) = omega (arith, whole) in
+    total
+
+module _ (all : Known) (x : ℕ) where
+  class_under : (home : Home) (class : ClassTree) (n : ℕ) → times x (class_sites ((class_of home class).behind n)) ≤ times x (range_with_len n (length (class_of home class).sites))
+  class_under home class n =
+      let s : Share = (shares home class.members).behind n in
+      let rules : List ℕ = ruled_sites s.states in
+      let dies : List ℕ = sites_among (option_to_list (slice_get s.die 0)) in
+      let spawns : List ℕ = flat_map sites_of_spawn (option_to_list (slice_get s.spawn 0)) in
+      let query : List ℕ = block_sites (unwrap_or (slice_get s.queries 0) []) in
+      let p : times x (rules ++ (dies ++ (spawns ++ query))) ≡ times x rules + (times x dies + (times x spawns + times x query)) = times-four x rules dies spawns query in
+      let d : times x dies ≤ times x (asked_sites s.die) = first_times sites_of x s.die in
+      let b : times x spawns ≤ times x (born_sites s.spawn) = first_times sites_of_spawn x s.spawn in
+      let k : times x query ≤ times x (asking_sites s.queries) = first_query_times x s.queries in
+      let whole : total_times x s ≡ times x (range_with_len n (length (class_of home class).sites)) = members_times home x class.members n in
+      omega (arith, p, d, b, k, whole)
+
+  classes_under : (number : ℕ) (classes : List ClassTree) (n : ℕ)
+      → times x (flat_map class_sites ((classes_from all number classes).behind n)) ≤ times x (range_with_len n (length (classes_from all number classes).sites))
+  classes_under number [] n = omega arith
+  classes_under number (class ∷ classes) n =
+      let home : Home = home_of all number class in
+      let a : Sited Class = class_of home class in
+      let b : Sited (List Class) = classes_from all (number + 1) classes in
+      let mid : ℕ = n + length a.sites in
+      let first : times x (class_sites (a.behind n)) ≤ times x (range_with_len n (length a.sites)) = class_under home class n in
+      let rest : times x (flat_map class_sites (b.behind mid)) ≤ times x (range_with_len mid (length b.sites)) = classes_under (number + 1) classes mid in
+      let both : times x (range_with_len n (length (a.sites ++ b.sites))) ≡ times x (range_with_len n (length a.sites)) + times x (range_with_len mid (length b.sites)) =
+      ap (λ (k : ℕ). times x (range_with_len n k)) (length-append a.sites b.sites)
+      ∙ (ap (times x) (sym (row_joined n (length a.sites) (length b.sites))) ∙ times-append x (range_with_len n (length a.sites)) (range_with_len mid (length b.sites))) in
+      let whole : times x (class_sites (a.behind n) ++ flat_map class_sites (b.behind mid)) ≡ times x (class_sites (a.behind n)) + times x (flat_map class_sites (b.behind mid)) =
+      times-append x (class_sites (a.behind n)) (flat_map class_sites (b.behind mid)) in
+      omega (arith, first, rest, both, whole)
+
+-- what stands nowhere in a list is apart from each of it
+not_in : (x : ℕ) (ys : List ℕ) → times x ys ≡ 0 → AllByRecursion (λ y. nat_eq x y ≡ false) ys
+unfolding times
+not_in x [] h = tt
+not_in x (y ∷ ys) h = elim (cases_Bool (nat_eq x y)) [
+  | inl same ↦ let some : 1 + times x ys ≡ 0 = subst (λ (b : Bool). cond b 1 0 + times x ys ≡ 0) same h in absurd (omega (arith, some))
+  | inr apart ↦ let rest : 0 + times x ys ≡ 0 = subst (λ (b : Bool). cond b 1 0 + times x ys ≡ 0) apart h in (apart, not_in x ys (omega (arith, rest)))
+]
+
+less_behind : (x y : ℕ) (ys : List ℕ) → times x ys ≤ times x (y ∷ ys)
+unfolding times
+less_behind x y ys = let h : times x ys ≤ here x y + times x ys = omega arith in h
+
+one_more : (x : ℕ) (xs : List ℕ) → times x (x ∷ xs) ≡ 1 + times x xs
+unfolding times
+one_more x xs = let self : nat_eq x x ≡ true = grind arith in ap (λ (b : Bool). cond b 1 0 + times x xs) self
+
+-- numbers of which each stands once differ
+differ : (xs : List ℕ) → ((x : ℕ) → times x xs ≤ 1) → IsDistinct nat_eq xs
+unfolding IsDistinct
+differ [] h = tt
+differ (x ∷ xs) h =
+    let one : times x (x ∷ xs) ≤ 1 = h x in
+    let more : times x (x ∷ xs) ≡ 1 + times x xs = one_more x xs in
+    let none : times x xs ≡ 0 = omega (arith, one, more) in
+    (not_in x xs none, differ xs (λ y. let once : times y (x ∷ xs) ≤ 1 = h y in let less : times y xs ≤ times y (x ∷ xs) = less_behind y x xs in omega (arith, once, less)))
+
+-- and those that do not stand at a bound or above it are below it
+below : (bound : ℕ) (xs : List ℕ) → ((x : ℕ) → bound ≤ x → times x xs ≡ 0) → list_all (λ x. nat_lt x bound) xs ≡ true
+below bound [] h = refl
+below bound (x ∷ xs) h =
+    let rest : list_all (λ x. nat_lt x bound) xs ≡ true =
+    below bound xs (λ y past. let none : times y (x ∷ xs) ≡ 0 = h y past in let less : times y xs ≤ times y (x ∷ xs) = less_behind y x xs in omega (arith, none, less)) in
+    and_from (nat_lt x bound) (list_all (λ x. nat_lt x bound) xs) (elim (cases_lt x bound) [
+      | inl under ↦ grind (arith, tests)
+      | inr past ↦
+          let none : times x (x ∷ xs) ≡ 0 = h x past in
+          let more : times x (x ∷ xs) ≡ 1 + times x xs = one_more x xs in
+          absurd (omega (arith, none, more))
+    ]) rest
+
+module _ (all : Known) (classes : List ClassTree) where
+  abbrev sites_all : List ℕ
+  sites_all = flat_map class_sites ((classes_from all 0 classes).behind 0)
+
+  abbrev count : ℕ
+  count = length (classes_from all 0 classes).sites
+
+  pub sites_differ : IsDistinct nat_eq sites_all
+  sites_differ = differ sites_all (λ x.
+      let under : times x sites_all ≤ times x (range_with_len 0 count) = classes_under all x 0 classes 0 in
+      let once : times x (range_with_len 0 count) ≤ 1 = times-once 0 count x in
+      omega (arith, under, once))
+
+  pub sites_below : (bound : ℕ) → count ≤ bound → list_all (λ x. nat_lt x bound) sites_all ≡ true
+  sites_below bound few = below bound sites_all (λ x past.
+      let under : times x sites_all ≤ times x (range_with_len 0 count) = classes_under all x 0 classes 0 in
+      let none : times x (range_with_len 0 count) ≡ 0 = times-past 0 count x (omega (arith, few, past)) in
+      omega (arith, under, none))

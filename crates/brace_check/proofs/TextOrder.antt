@@ -21,9 +21,9 @@ use Rattle.brace_model.specs.Sites.{sites_among, sites_of_spawn, die_sites, spaw
 use Rattle.brace_check.specs.declared.share.Share.{Share}
 use Rattle.brace_check.specs.Programs.{share, shares, class_of, classes_from}
 use Rattle.brace_check.specs.Order.{in_members, in_text_order}
-use Rattle.brace_check.proofs.BlockNumbering.{block_sites}
+use Rattle.brace_check.proofs.Numbering.{block_sites}
 use Rattle.brace_check.proofs.ShareNumbers.{own_sites, share_numbered}
-use Rattle.brace_check.proofs.NamesDiffer.{Apart, text}
+use Rattle.brace_check.proofs.FieldNumbers.{Apart, text}
 
 abbrev titles : List MemberTree → List (List ℕ)
 titles xs = map text (map title xs)

@@ -32,7 +32,7 @@ use Rattle.brace_check.specs.Meanings as means
 use Rattle.brace_check.specs.Meanings.{Sited, site_if, named_as}
 use Rattle.brace_layout.specs.Unplaced.{check_fault_at_0}
 use Rattle.brace_layout.proofs.WalkZero as walk
-use Rattle.brace_layout.proofs.ScriptUnplaced.{nought}
+use Rattle.brace_layout.proofs.NamesUnplaced.{nought}
 
 -- a type, or a fault at place 0
 abbrev typing_at_0 : Result Ty ℕ → Result Ty ℕ

@@ -1,8 +1,6 @@
 pub mod WalkZero
 pub mod NamesUnplaced
-pub mod ScriptUnplaced
 pub mod ExprZero
-pub mod BlockZero
-pub mod MembersZero
+pub mod ClassZero
 pub mod AlikeScripts
 mod Examples
