@@ -16,7 +16,7 @@ use Rattle.brace_check.specs.Findings.{fault_if, millionths, gives, given_type}
 use Rattle.brace_check.specs.Found.{member, valued}
 use Rattle.brace_check.specs.Programs.{effect_of, visible_of, reach_of, first_or_0, share, shares, class_of, classes_from, gifts_in}
 use Rattle.brace_check.proofs.Rising.{Rises, range_rises}
-use Rattle.brace_check.proofs.Numbering.{BlockDeclares, none_declared, block_declares}
+use Rattle.brace_check.proofs.Numbering.{BlockDeclares, none_declared, block_numbers}
 use Rattle.brace_names.specs.Kinds.{type_named, comb_named}
 use Rattle.brace_names.specs.Scopes.{Home, outermost, home_of, Scope}
 use Rattle.brace_check.proofs.ExprSound.{nil_back}
@@ -104,7 +104,7 @@ joined (x ∷ xs) ys here there = (here.0, joined xs ys here.1 there)
 module _ (home : Home) where
   one_from_zero : (one : MemberTree) (n : ℕ) → AllByRecursion FromZero ((share home one).behind n).queries
   one_from_zero (m.Run statements at) n =
-      (record { count = _; declares = block_declares statements (outermost home true) n }, tt)
+      (record { count = _; declares = (block_numbers statements).declares (outermost home true) n }, tt)
   one_from_zero _ n = tt
 
   -- the constants of each query are numbered from 0 on

@@ -20,7 +20,6 @@ use Rattle.brace_model.specs.declared.program.Ty.{Ty}
 use Rattle.brace_model.specs.declared.program.Comb.{Comb}
 use Rattle.brace_check.proofs.Rising.{Rises, rises-joined}
 use Rattle.brace_check.proofs.Ties.{StateHeading, EffectHeading, Heading, state_declared, effect_declared, heading, FieldIs, FieldsFit, named_too}
-use Rattle.std.specs.Option.{option_map}
 use Rattle.std.specs.Str.{bytes_eq}
 use Rattle.std.proofs.lemmas.List.Folds.{list_any-append}
 use Rattle.std.proofs.lemmas.Slice.Eq.{bytes_eq-Decides}

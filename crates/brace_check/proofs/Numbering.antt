@@ -1,21 +1,20 @@
--- The sites of an expression and of a block are numbered in finishing order, and the constants of a block in text order.
-use Rattle.std.proofs.Common.{◌≡◌, refl, sym, ap, subst, ◌∙◌, ℕ, zero, suc, ◌+◌, Bool, true, false, List, [], ◌∷◌, ◌++◌, length, length-append, append_assoc, arith, map, flat_map}
+-- The sites of an expression and of a block are numbered in finishing order, its constants in text order; and where its loops stand.
+use Rattle.std.proofs.Common.{◌≡◌, refl, sym, ap, subst, ◌∙◌, ℕ, ◌+◌, Bool, true, false, List, [], ◌∷◌, ◌++◌, length, length-append, append_assoc, map, flat_map}
 use Rattle.std.specs.Prelude.{Option, Some, None, option_to_list, sum}
 use Rattle.std.specs.List.{range_with_len, concat}
 use Rattle.std.proofs.lemmas.List.{append-nil}
 use Rattle.brace_num.proofs.Rows.{row_joined}
 use Rattle.brace_syntax.specs.declared.tree.ExprTree.{ExprTree}
 use Rattle.brace_syntax.specs.declared.tree.ExprTree.TheVariants as e
-use Rattle.brace_model.specs.declared.program.Ty.TheVariants as ty
 use Rattle.brace_model.specs.declared.program.Value.TheVariants as val
 use Rattle.brace_model.specs.declared.program.UnOp.{UnOp}
 use Rattle.brace_model.specs.declared.program.BinOp.{BinOp}
 use Rattle.brace_model.specs.declared.program.Who.TheVariants.{This}
 use Rattle.brace_model.specs.declared.program.Expr.{Expr}
 use Rattle.brace_model.specs.declared.program.Expr.TheVariants as expr
-use Rattle.brace_model.specs.Sites.{sites_of, sites_in, constant_numbers}
-use Rattle.brace_model.specs.Typing.{only, is_sum, unary_faults, binary_faults}
-use Rattle.brace_model.proofs.LawEquations.{sites_of-Lit, sites_of-Field, sites_of-Total, sites_of-Local, sites_of-Unary, sites_of-Binary, sites_of-Choice, sites_of-Rand, sites_in-Const, sites_in-If, sites_in-Foreach, sites_in-Assign, constant_numbers-Const, constant_numbers-If, constant_numbers-Foreach, constant_numbers-Assign}
+use Rattle.brace_model.specs.Sites.{sites_of, sites_in, constant_numbers, loop_offsets}
+use Rattle.brace_model.specs.Typing.{only, unary_faults, binary_faults}
+use Rattle.brace_model.proofs.LawEquations.{sites_of-Lit, sites_of-Field, sites_of-Total, sites_of-Local, sites_of-Unary, sites_of-Binary, sites_of-Choice, sites_of-Rand, sites_in-Const, sites_in-If, sites_in-Foreach, sites_in-Assign, constant_numbers-Const, constant_numbers-If, constant_numbers-Foreach, constant_numbers-Assign, loop_offsets-Const, loop_offsets-If, loop_offsets-Foreach, loop_offsets-Assign}
 use Rattle.brace_names.proofs.ByKind.{Expressions, of_expression, ProvedStmt, stmts_of, Statements, proved, stmts-proved}
 use Rattle.brace_names.proofs.Folds.{of-Lit, of-True, of-False, of-Name, of-OfThis, of-OfLoop, of-Unary, of-Binary, of-Choice, of-Rand, of-Const, of-when, of-either, of-Foreach, of-Assign, of-AssignThis, of-AssignLoop}
 use Rattle.brace_names.specs.declared.declared.Field.TheVariants as field
@@ -27,10 +26,13 @@ use Rattle.brace_names.specs.Findings.{is_summed}
 use Rattle.brace_check.specs.Meanings.{Sited, plain, site_if, literal, named_as, agent_of, loop_number, unary, binary, choice, expression, expression_step, followed, with_sites, number_of, number_in, assigned, block, part, part_step}
 use Rattle.brace_syntax.specs.declared.tree.StmtTree.{StmtTree}
 use Rattle.brace_syntax.specs.declared.tree.StmtTree.TheVariants as s
+use Rattle.brace_syntax.specs.declared.tree.StmtTree.TheOpen as layer
+use Rattle.brace_syntax.specs.declared.tree.StmtTree.TheFolds.{fold-StmtTree}
 use Rattle.brace_model.specs.declared.program.Who.{Who}
 use Rattle.brace_model.specs.declared.program.Stmt.{Stmt}
 use Rattle.brace_model.specs.declared.program.Stmt.TheVariants as stmt
 use Rattle.brace_names.specs.Tables.{look}
+use Rattle.brace_names.specs.Walk as walk
 use Rattle.brace_names.specs.Walk.{Part, behind, constants_in, declared_in}
 use Rattle.std.proofs.lemmas.List.Sums.{sum_by-cons}
 use Rattle.brace_model.specs.declared.program.Ty.{Ty}
@@ -159,19 +161,6 @@ block_sites block = flat_map sites_in block
 abbrev both_sites : List Stmt × List Stmt → List ℕ
 both_sites p = block_sites p.0 ++ block_sites p.1
 
-abbrev NumberedPart : Part (Sited Stmt) → Type 0
-NumberedPart p = (scope : Scope) → Numbered sites_in (p.here scope)
-
-abbrev NumberedStmt : StmtTree → Type 0
-NumberedStmt x = NumberedPart (part x)
-
-parts_numbered : (ys : List (ProvedStmt NumberedStmt)) (scope : Scope) → Numbered block_sites (block (map part (stmts_of ys)) scope)
-parts_numbered [] scope = plain_numbered block_sites [] refl
-parts_numbered (y ∷ ys) scope =
-    followed_numbered sites_in block_sites block_sites (λ s rest. s ∷ rest)
-    ((part y.0).here scope) (block (map part (stmts_of ys)) (behind (part y.0) scope))
-    (λ s rest. refl) (y.1 scope) (parts_numbered ys (behind (part y.0) scope))
-
 blocks_sites : (c : Expr) (p : List Stmt × List Stmt) → sites_in (stmt.If c p.0 p.1) ≡ sites_of c ++ both_sites p
 blocks_sites c p =
     sites_in-If c p.0 p.1
@@ -196,37 +185,6 @@ said_numbered who effect at x h = made_numbered sites_of sites_in (λ e. stmt.As
 
 bound_numbered : (n : ℕ) (x : Sited Expr) → Numbered sites_of x → Numbered sites_in (with_sites (stmt.Const n) x)
 bound_numbered n x h = made_numbered sites_of sites_in (stmt.Const n) x (λ e. sites_in-Const n e) h
-
-abbrev back_stmt : (x : StmtTree) (p : Part (Sited Stmt)) → part x ≡ p → NumberedPart p → NumberedStmt x
-back_stmt x p same h = subst NumberedPart (sym same) h
-
-stmts_numbered : Statements NumberedStmt
-stmts_numbered = record {
-  const = λ type name x at. back_stmt (s.Const type name x at) _ (of-Const part_step type name x at)
-      (λ scope. bound_numbered _ (expression x scope) (expression_numbered x scope));
-  when = λ c a at. back_stmt (s.If c (stmts_of a) None at) _ (of-when part_step c (stmts_of a) at)
-      (λ scope. if_numbered (expression c scope) (block (map part (stmts_of a)) scope) (plain [])
-      (expression_numbered c scope) (parts_numbered a scope) (plain_numbered block_sites [] refl));
-  either_way = λ c a b at. back_stmt (s.If c (stmts_of a) (Some (stmts_of b)) at) _ (of-either part_step c (stmts_of a) (stmts_of b) at)
-      (λ scope. if_numbered (expression c scope) (block (map part (stmts_of a)) scope)
-      (block (map part (stmts_of b)) (past (constants_in (map part (stmts_of a))) scope))
-      (expression_numbered c scope) (parts_numbered a scope) (parts_numbered b (past (constants_in (map part (stmts_of a))) scope)));
-  foreach = λ class variable other a at. back_stmt (s.Foreach class variable other (stmts_of a) at) _ (of-Foreach part_step class variable other (stmts_of a) at)
-      (λ scope. loop_numbered (number_in scope class) at (block (map part (stmts_of a)) (inside class variable scope))
-      (parts_numbered a (inside class variable scope)));
-  assign = λ name x. back_stmt (s.Assign name x) _ (of-Assign part_step name x)
-      (λ scope. said_numbered This (number_of (look scope.home.own name.text)) name.at (expression x scope) (expression_numbered x scope));
-  assign_this = λ name x at. back_stmt (s.AssignThis name x at) _ (of-AssignThis part_step name x at)
-      (λ scope. said_numbered This (number_of (look scope.home.own name.text)) at (expression x scope) (expression_numbered x scope));
-  assign_loop = λ variable name x. back_stmt (s.AssignLoop variable name x) _ (of-AssignLoop part_step variable name x)
-      (λ scope. said_numbered (agent_of (of_loop scope variable.text name.text)) (loop_number (of_loop scope variable.text name.text)) variable.at (expression x scope) (expression_numbered x scope));
-}
-
--- the sites of a block are numbered in finishing order
-pub block_numbered : (xs : List StmtTree) (scope : Scope) → Numbered block_sites (block (map part xs) scope)
-block_numbered xs scope =
-    subst (λ (l : List StmtTree). Numbered block_sites (block (map part l) scope)) (stmts-proved NumberedStmt stmts_numbered xs)
-    (parts_numbered (proved NumberedStmt stmts_numbered xs) scope)
 
 -- a statement declares so many constants, numbered from one on
 pub record Declares (x : Stmt) (first count : ℕ) : Type 0 where
@@ -274,67 +232,133 @@ said_declares who effect x at first = record { numbers = constant_numbers-Assign
 bound_declares : (first : ℕ) (x : Expr) → Declares (stmt.Const first x) first 1
 bound_declares first x = record { numbers = constant_numbers-Const first x; many = constants-Const first x }
 
-abbrev PartDeclares : Part (Sited Stmt) → Type 0
-PartDeclares p = (scope : Scope) (n : ℕ) → Declares ((p.here scope).behind n) scope.constants p.constants
-
-abbrev StmtDeclares : StmtTree → Type 0
-StmtDeclares x = PartDeclares (part x)
-
 -- a declaration leaves the count of constants as it is
 same_count : (one : Option (Ident × Ty)) (scope : Scope) → (declared_in one scope).constants ≡ scope.constants
 same_count None scope = refl
 same_count (Some one) scope = refl
 
-parts_declare : (ys : List (ProvedStmt StmtDeclares)) (scope : Scope) (n : ℕ)
-    → BlockDeclares ((block (map part (stmts_of ys)) scope).behind n) scope.constants (constants_in (map part (stmts_of ys)))
-parts_declare [] scope n = none_declared scope.constants
-parts_declare (y ∷ ys) scope n =
+-- the places of the loops of a statement of a script
+abbrev pub loops_step : layer.StmtTree-F (List ℕ) → List ℕ
+loops_step (layer.If c a None at) = concat a
+loops_step (layer.If c a (Some b) at) = concat a ++ concat b
+loops_step (layer.Foreach class variable other a at) = at ∷ concat a
+loops_step _ = []
+
+abbrev pub loops : StmtTree → List ℕ
+loops = fold-StmtTree (List ℕ) loops_step
+
+abbrev pub loops_in : List StmtTree → List ℕ
+loops_in = flat_map loops
+
+if_loops : (c : Expr) (a b : List Stmt) (x y : List ℕ) → flat_map loop_offsets a ≡ x → flat_map loop_offsets b ≡ y → loop_offsets (stmt.If c a b) ≡ x ++ y
+if_loops c a b x y h g =
+    loop_offsets-If c a b
+    ∙ (ap (λ (l : List ℕ). l ++ concat (map loop_offsets b)) (concat-map loop_offsets a ∙ h) ∙ ap (λ (l : List ℕ). x ++ l) (concat-map loop_offsets b ∙ g))
+
+-- the numbers of a statement: its sites in finishing order, its constants in text order, the places of its loops
+record PartNumbers (p : Part (Sited Stmt)) (places : List ℕ) : Type 0 where
+  numbered : (n : Scope) → Numbered sites_in (p.here n)
+  declares : (n : Scope) (k : ℕ) → Declares ((p.here n).behind k) n.constants p.constants
+  loops_are : (n : Scope) (k : ℕ) → loop_offsets ((p.here n).behind k) ≡ places
+
+-- and of a block
+pub record BlockNumbers (ps : List (Part (Sited Stmt))) (places : List ℕ) : Type 0 where
+  pub numbered : (n : Scope) → Numbered block_sites (block ps n)
+  pub declares : (n : Scope) (k : ℕ) → BlockDeclares ((block ps n).behind k) n.constants (constants_in ps)
+  pub loops_are : (n : Scope) (k : ℕ) → flat_map loop_offsets ((block ps n).behind k) ≡ places
+
+abbrev StmtNumbers : StmtTree → Type 0
+StmtNumbers x = PartNumbers (part x) (loops x)
+
+abbrev TreesNumbers : List StmtTree → Type 0
+TreesNumbers xs = BlockNumbers (map part xs) (loops_in xs)
+
+trees_numbers : (ys : List (ProvedStmt StmtNumbers)) → TreesNumbers (stmts_of ys)
+trees_numbers [] = record { numbered = λ n. plain_numbered block_sites [] refl; declares = λ n k. none_declared n.constants; loops_are = λ n k. refl }
+trees_numbers (y ∷ ys) =
     let p : Part (Sited Stmt) = part y.0 in
-    let m : ℕ = n + length (p.here scope).sites in
-    let rest : List Stmt = (block (map part (stmts_of ys)) (behind p scope)).behind m in
-    let more : ℕ = constants_in (map part (stmts_of ys)) in
-    subst (λ (k : ℕ). BlockDeclares ((p.here scope).behind n ∷ rest) scope.constants k) (sym (constants-cons p (map part (stmts_of ys))))
-    (more_declared ((p.here scope).behind n) rest scope.constants p.constants more (y.1 scope n)
-    (subst (λ (k : ℕ). BlockDeclares rest (k + p.constants) more) (same_count p.declared scope) (parts_declare ys (behind p scope) m)))
+    let ps : List (Part (Sited Stmt)) = map part (stmts_of ys) in
+    let rest : TreesNumbers (stmts_of ys) = trees_numbers ys in
+    record {
+      numbered = λ n. followed_numbered sites_in block_sites block_sites (λ s rest. s ∷ rest) (p.here n) (block ps (behind p n)) (λ s rest. refl) (y.1.numbered n) (rest.numbered (behind p n));
+      declares = λ n k.
+          let j : ℕ = k + length (p.here n).sites in
+          let b : List Stmt = (block ps (behind p n)).behind j in
+          subst (λ (c : ℕ). BlockDeclares ((p.here n).behind k ∷ b) n.constants c) (sym (constants-cons p ps))
+          (more_declared ((p.here n).behind k) b n.constants p.constants (constants_in ps) (y.1.declares n k)
+          (subst (λ (c : ℕ). BlockDeclares b (c + p.constants) (constants_in ps)) (same_count p.declared n) (rest.declares (behind p n) j)));
+      loops_are = λ n k.
+          let j : ℕ = k + length (p.here n).sites in
+          ap (λ (l : List ℕ). l ++ flat_map loop_offsets ((block ps (behind p n)).behind j)) (y.1.loops_are n k) ∙ ap (λ (l : List ℕ). loops y.0 ++ l) (rest.loops_are (behind p n) j);
+    }
 
-abbrev back_declares : (x : StmtTree) (p : Part (Sited Stmt)) → part x ≡ p → PartDeclares p → StmtDeclares x
-back_declares x p same h = subst PartDeclares (sym same) h
+back_numbers : (x : StmtTree) (p : Part (Sited Stmt)) (l : List ℕ) → part x ≡ p → loops x ≡ l → PartNumbers p l → StmtNumbers x
+back_numbers x p l h g is = subst (λ (p : Part (Sited Stmt)). PartNumbers p (loops x)) (sym h) (subst (PartNumbers p) (sym g) is)
 
-kinds_declare : Statements StmtDeclares
-kinds_declare = record {
-  const = λ type name x at. back_declares (s.Const type name x at) _ (of-Const part_step type name x at)
-      (λ scope n. bound_declares scope.constants ((expression x scope).behind n));
-  when = λ c a at. back_declares (s.If c (stmts_of a) None at) _ (of-when part_step c (stmts_of a) at)
-      (λ scope n.
-      let m : ℕ = n + length (expression c scope).sites in
-      let ca : ℕ = constants_in (map part (stmts_of a)) in
-      if_declares ((expression c scope).behind n) ((block (map part (stmts_of a)) scope).behind m) [] scope.constants ca 0
-      (parts_declare a scope m) (none_declared (scope.constants + ca)));
-  either_way = λ c a b at. back_declares (s.If c (stmts_of a) (Some (stmts_of b)) at) _ (of-either part_step c (stmts_of a) (stmts_of b) at)
-      (λ scope n.
-      let ca : ℕ = constants_in (map part (stmts_of a)) in
-      let m : ℕ = n + length (expression c scope).sites in
-      let one : List Stmt = (block (map part (stmts_of a)) scope).behind m in
-      let k : ℕ = m + length (block (map part (stmts_of a)) scope).sites in
-      if_declares ((expression c scope).behind n) one ((block (map part (stmts_of b)) (past ca scope)).behind k) scope.constants ca (constants_in (map part (stmts_of b)))
-      (parts_declare a scope m) (parts_declare b (past ca scope) k));
-  foreach = λ class variable other a at. back_declares (s.Foreach class variable other (stmts_of a) at) _ (of-Foreach part_step class variable other (stmts_of a) at)
-      (λ scope n. loop_declares (number_in scope class) at
-      ((block (map part (stmts_of a)) (inside class variable scope)).behind n)
-      scope.constants (constants_in (map part (stmts_of a)))
-      (parts_declare a (inside class variable scope) n));
-  assign = λ name x. back_declares (s.Assign name x) _ (of-Assign part_step name x)
-      (λ scope n. said_declares This (number_of (look scope.home.own name.text)) ((expression x scope).behind n) name.at scope.constants);
-  assign_this = λ name x at. back_declares (s.AssignThis name x at) _ (of-AssignThis part_step name x at)
-      (λ scope n. said_declares This (number_of (look scope.home.own name.text)) ((expression x scope).behind n) at scope.constants);
-  assign_loop = λ variable name x. back_declares (s.AssignLoop variable name x) _ (of-AssignLoop part_step variable name x)
-      (λ scope n. said_declares (agent_of (of_loop scope variable.text name.text)) (loop_number (of_loop scope variable.text name.text)) ((expression x scope).behind n) variable.at scope.constants);
+said_numbers : (p : Part (Sited Stmt)) (who : Scope → Who) (effect : Scope → ℕ) (at : ℕ) (x : ExprTree)
+    → p ≡ walk.plain 0 (λ n. assigned (who n) (effect n) at (expression x n)) → PartNumbers p []
+said_numbers p who effect at x e = subst (λ (q : Part (Sited Stmt)). PartNumbers q []) (sym e) (record {
+  numbered = λ n. said_numbered (who n) (effect n) at (expression x n) (expression_numbered x n);
+  declares = λ n k. said_declares (who n) (effect n) ((expression x n).behind k) at n.constants;
+  loops_are = λ n k. loop_offsets-Assign (who n) (effect n) ((expression x n).behind k) at;
+})
+
+kinds_numbers : Statements StmtNumbers
+kinds_numbers = record {
+  const = λ type name x at. back_numbers (s.Const type name x at) _ [] (of-Const part_step type name x at) (of-Const loops_step type name x at) (record {
+    numbered = λ n. bound_numbered n.constants (expression x n) (expression_numbered x n);
+    declares = λ n k. bound_declares n.constants ((expression x n).behind k);
+    loops_are = λ n k. loop_offsets-Const n.constants ((expression x n).behind k);
+  });
+  when = λ c a at. back_numbers (s.If c (stmts_of a) None at) _ (loops_in (stmts_of a)) (of-when part_step c (stmts_of a) at) (of-when loops_step c (stmts_of a) at ∙ concat-map loops (stmts_of a))
+      (let one : TreesNumbers (stmts_of a) = trees_numbers a in
+      let pa : List (Part (Sited Stmt)) = map part (stmts_of a) in
+      record {
+        numbered = λ n. if_numbered (expression c n) (block pa n) (plain []) (expression_numbered c n) (one.numbered n) (plain_numbered block_sites [] refl);
+        declares = λ n k.
+            let j : ℕ = k + length (expression c n).sites in
+            if_declares ((expression c n).behind k) ((block pa n).behind j) [] n.constants (constants_in pa) 0 (one.declares n j) (none_declared (n.constants + constants_in pa));
+        loops_are = λ n k.
+            let j : ℕ = k + length (expression c n).sites in
+            if_loops ((expression c n).behind k) ((block pa n).behind j) [] (loops_in (stmts_of a)) [] (one.loops_are n j) refl ∙ append-nil (loops_in (stmts_of a));
+      });
+  either_way = λ c a b at. back_numbers (s.If c (stmts_of a) (Some (stmts_of b)) at) _ (loops_in (stmts_of a) ++ loops_in (stmts_of b)) (of-either part_step c (stmts_of a) (stmts_of b) at)
+      (of-either loops_step c (stmts_of a) (stmts_of b) at
+      ∙ (ap (λ (l : List ℕ). l ++ concat (map loops (stmts_of b))) (concat-map loops (stmts_of a)) ∙ ap (λ (l : List ℕ). loops_in (stmts_of a) ++ l) (concat-map loops (stmts_of b))))
+      (let one : TreesNumbers (stmts_of a) = trees_numbers a in
+      let other : TreesNumbers (stmts_of b) = trees_numbers b in
+      let pa : List (Part (Sited Stmt)) = map part (stmts_of a) in
+      let pb : List (Part (Sited Stmt)) = map part (stmts_of b) in
+      let ca : ℕ = constants_in pa in
+      record {
+        numbered = λ n. if_numbered (expression c n) (block pa n) (block pb (past ca n)) (expression_numbered c n) (one.numbered n) (other.numbered (past ca n));
+        declares = λ n k.
+            let j : ℕ = k + length (expression c n).sites in
+            let i : ℕ = j + length (block pa n).sites in
+            if_declares ((expression c n).behind k) ((block pa n).behind j) ((block pb (past ca n)).behind i) n.constants ca (constants_in pb) (one.declares n j) (other.declares (past ca n) i);
+        loops_are = λ n k.
+            let j : ℕ = k + length (expression c n).sites in
+            let i : ℕ = j + length (block pa n).sites in
+            if_loops ((expression c n).behind k) ((block pa n).behind j) ((block pb (past ca n)).behind i) (loops_in (stmts_of a)) (loops_in (stmts_of b)) (one.loops_are n j) (other.loops_are (past ca n) i);
+      });
+  foreach = λ class variable other a at. back_numbers (s.Foreach class variable other (stmts_of a) at) _ (at ∷ loops_in (stmts_of a)) (of-Foreach part_step class variable other (stmts_of a) at)
+      (of-Foreach loops_step class variable other (stmts_of a) at ∙ ap (λ (l : List ℕ). at ∷ l) (concat-map loops (stmts_of a)))
+      (let one : TreesNumbers (stmts_of a) = trees_numbers a in
+      let pa : List (Part (Sited Stmt)) = map part (stmts_of a) in
+      record {
+        numbered = λ n. loop_numbered (number_in n class) at (block pa (inside class variable n)) (one.numbered (inside class variable n));
+        declares = λ n k. loop_declares (number_in n class) at ((block pa (inside class variable n)).behind k) n.constants (constants_in pa) (one.declares (inside class variable n) k);
+        loops_are = λ n k.
+            let b : List Stmt = (block pa (inside class variable n)).behind k in
+            loop_offsets-Foreach (number_in n class) b at ∙ ap (λ (l : List ℕ). at ∷ l) (concat-map loop_offsets b ∙ one.loops_are (inside class variable n) k);
+      });
+  assign = λ name x. back_numbers (s.Assign name x) _ [] (of-Assign part_step name x) (of-Assign loops_step name x)
+      (said_numbers _ (λ n. This) (λ n. number_of (look n.home.own name.text)) name.at x refl);
+  assign_this = λ name x at. back_numbers (s.AssignThis name x at) _ [] (of-AssignThis part_step name x at) (of-AssignThis loops_step name x at)
+      (said_numbers _ (λ n. This) (λ n. number_of (look n.home.own name.text)) at x refl);
+  assign_loop = λ variable name x. back_numbers (s.AssignLoop variable name x) _ [] (of-AssignLoop part_step variable name x) (of-AssignLoop loops_step variable name x)
+      (said_numbers _ (λ n. agent_of (of_loop n variable.text name.text)) (λ n. loop_number (of_loop n variable.text name.text)) variable.at x refl);
 }
 
--- the constants of a block are numbered in text order
-pub block_declares : (xs : List StmtTree) (scope : Scope) (n : ℕ)
-    → BlockDeclares ((block (map part xs) scope).behind n) scope.constants (constants_in (map part xs))
-block_declares xs scope n =
-    subst (λ (l : List StmtTree). BlockDeclares ((block (map part l) scope).behind n) scope.constants (constants_in (map part l)))
-    (stmts-proved StmtDeclares kinds_declare xs)
-    (parts_declare (proved StmtDeclares kinds_declare xs) scope n)
+pub block_numbers : (xs : List StmtTree) → TreesNumbers xs
+block_numbers xs = subst TreesNumbers (stmts-proved StmtNumbers kinds_numbers xs) (trees_numbers (proved StmtNumbers kinds_numbers xs))

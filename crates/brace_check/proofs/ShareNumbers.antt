@@ -17,7 +17,7 @@ use Rattle.brace_model.specs.Sites.{sites_of, sites_among, sites_of_spawn, class
 use Rattle.brace_check.specs.declared.share.Share.{Share}
 use Rattle.brace_check.specs.Programs.{rule, gifts_in, spawn_of, no_share, share, shared_by, shares, class_of, classes_from}
 use Rattle.brace_check.proofs.Rising.{Rises, rises-joined, front_rises, back_rises, range_rises}
-use Rattle.brace_check.proofs.Numbering.{Numbered, plain_numbered, made_numbered, followed_numbered, expression_numbered, block_sites, block_numbered}
+use Rattle.brace_check.proofs.Numbering.{Numbered, plain_numbered, made_numbered, followed_numbered, expression_numbered, block_sites, block_numbers}
 use Rattle.brace_names.specs.Tables.{look}
 use Rattle.brace_names.specs.Scopes.{Home, Scope, outermost, home_of}
 use Rattle.brace_check.specs.Meanings.{Sited, number_of, followed, expression, block, part}
@@ -100,7 +100,7 @@ spawn_numbered condition gifts at scope =
 pub share_numbered : (home : Home) (x : MemberTree) (n : ℕ) → own_sites ((share home x).behind n) ≡ range_with_len n (length (share home x).sites)
 share_numbered home (m.State shared type name x at) n =
     append-nil _ ∙ (ap sites_among (append-nil (option_to_list ((rule x (outermost home false)).behind n))) ∙ rule_numbered x (outermost home false) n)
-share_numbered home (m.Run statements at) n = append-nil _ ∙ block_numbered statements (outermost home true) n
+share_numbered home (m.Run statements at) n = append-nil _ ∙ (block_numbers statements).numbered (outermost home true) n
 share_numbered home (m.Die condition at) n = append-nil _ ∙ (append-nil _ ∙ expression_numbered condition (outermost home false) n)
 share_numbered home (m.Spawn condition gifts at) n = append-nil _ ∙ (append-nil _ ∙ spawn_numbered condition gifts at (outermost home false) n)
 share_numbered home _ n = refl

@@ -195,10 +195,10 @@ module _ {A : Type 0} (P : A → Type 0) where
   all_back (x ∷ xs) ys h = all_back xs ys h.1
 
 -- so many loops stand around
-abbrev pub LoopsAre : ℕ → Names → Type 0
-LoopsAre zero m = (m.outer_class ≡ None) × (m.inner_class ≡ None)
-LoopsAre (suc zero) m = (is_none m.outer_class ≡ false) × (m.inner_class ≡ None)
-LoopsAre (suc (suc loops)) m = ⊤
+abbrev pub LoopsAre : ℕ → Option ℕ → Option ℕ → Type 0
+LoopsAre zero outer inner = (outer ≡ None) × (inner ≡ None)
+LoopsAre (suc zero) outer inner = (is_none outer ≡ false) × (inner ≡ None)
+LoopsAre (suc (suc loops)) outer inner = ⊤
 
 -- a constant is known with its type, and a loop variable is of its class
 abbrev pub LocalIs : Names → ℕ → Local → Type 0
@@ -212,7 +212,7 @@ pub record Tied (n : Scope) (m : Names) : Type 0 where
   pub classes : AllByRecursion (λ e. e.1 < length m.classes) n.home.known.classes
   pub number : m.own ≡ n.home.number
   pub in_rule : m.in_rule ≡ not n.in_query
-  pub loops : LoopsAre n.loops m
+  pub loops : LoopsAre n.loops m.outer_class m.inner_class
   pub locals : AllByRecursion (λ e. LocalIs m n.constants e.1) n.locals
 
 -- what a name stands for is in the program
@@ -333,11 +333,11 @@ pub record Entered (m : Names) (loops number : ℕ) : Type 0 where
   pub own : inner.own ≡ m.own
   pub in_rule : inner.in_rule ≡ m.in_rule
   pub known : inner.known ≡ m.known
-  pub loops_are : LoopsAre (loops + 1) inner
+  pub loops_are : LoopsAre (loops + 1) inner.outer_class inner.inner_class
   pub over : class_named inner (loop_agent loops) ≡ Some number
   pub kept : (who : Who) (class : ℕ) → class_named m who ≡ Some class → class_named inner who ≡ Some class
 
-pub entered : (m : Names) (loops number : ℕ) → loops < 2 → LoopsAre loops m → Entered m loops number
+pub entered : (m : Names) (loops number : ℕ) → loops < 2 → LoopsAre loops m.outer_class m.inner_class → Entered m loops number
 entered m zero number few are = record {
   inner = record m { outer_class = Some number };
   is = ap (λ (o : Option ℕ). if is_none o then Some (record m { outer_class = Some number }) else only (is_none m.inner_class) (record m { inner_class = Some number })) are.0;
