@@ -1,8 +1,8 @@
 -- What holds of the members of a class in which nothing is found.
 use Rattle.std.proofs.Common.{◌≡◌, refl, sym, subst, ℕ, zero, suc, ◌+◌, ◌≤◌, ◌<◌, nat_lt, Bool, true, false, List, [], ◌∷◌, ◌++◌, map, flat_map, length, arith, tests, ap, ◌∙◌, inl, inr}
-use Rattle.std.specs.Prelude.{not, ◌&&◌, nat_eq, IsTrue, slice_get, unwrap_or, sum, Some, None, Option, is_some, option_map, option_and_then}
+use Rattle.std.specs.Prelude.{not, nat_eq, IsTrue, slice_get, unwrap_or, sum, Some, None, Option, is_some, option_map, option_and_then}
 use Rattle.std.specs.List.{AllByRecursion, IsDistinct, list_all, range_with_len, filter}
-use Rattle.std.proofs.lemmas.Bool.{true≢false, ne_eqb, and_from, lt-ltb, cases_Bool}
+use Rattle.std.proofs.lemmas.Bool.{true≢false, and_from, lt-ltb, cases_Bool}
 use Rattle.brace_num.proofs.Lists.{none_front, each_append, each_front}
 use Rattle.brace_syntax.specs.declared.tree.MemberTree.{MemberTree}
 use Rattle.brace_syntax.specs.declared.tree.MemberTree.TheVariants as m
@@ -15,11 +15,11 @@ use Rattle.brace_check.specs.declared.fault.CheckFault.TheVariants.{BadRange, Wr
 use Rattle.brace_check.specs.Findings.{fault_if, millionths, gives, given_type}
 use Rattle.brace_check.specs.Found.{member, valued}
 use Rattle.brace_check.specs.Programs.{effect_of, visible_of, reach_of, first_or_0, share, shares, class_of, classes_from, gifts_in}
-use Rattle.brace_check.proofs.Rising.{Rises, range_rises}
+use Rattle.brace_check.proofs.Rising.{range_rises, are_rising, rising_differ}
 use Rattle.brace_check.proofs.Numbering.{BlockDeclares, none_declared, block_numbers}
 use Rattle.brace_names.specs.Kinds.{type_named, comb_named}
 use Rattle.brace_names.specs.Scopes.{Home, outermost, home_of, Scope}
-use Rattle.brace_check.proofs.ExprSound.{nil_back}
+use Rattle.brace_check.proofs.Sound.{nil_back, has_type, RunSound, block_sound}
 use Rattle.std.proofs.lemmas.List.{map-append}
 use Rattle.std.proofs.lemmas.List.Folds.{list_all-append}
 use Rattle.brace_syntax.specs.declared.tree.ExprTree.{ExprTree}
@@ -30,9 +30,8 @@ use Rattle.brace_model.specs.declared.program.Ty.TheVariants as ty
 use Rattle.brace_model.specs.declared.program.Expr.{Expr}
 use Rattle.brace_model.specs.declared.program.State.{State}
 use Rattle.brace_model.specs.Typing.{Names, is_of_type, type_of as type_in, in_turn, scope_after}
-use Rattle.brace_check.specs.Meanings.{expression, Sited, number_of, part}
-use Rattle.brace_check.proofs.Ties.{StateHeading, EffectHeading, Heading, state_declared, effect_declared, heading, state_heading, effect_heading, heading_of, same-self, declared, Tied, TargetIs, target_is, all_back}
-use Rattle.brace_check.proofs.BlockSound.{has_type, RunSound, block_sound}
+use Rattle.brace_check.specs.Meanings.{expression, number_of, part}
+use Rattle.brace_check.proofs.Ties.{StateHeading, EffectHeading, Heading, state_declared, effect_declared, heading, state_heading, effect_heading, heading_of, same-self, declared, Tied, TargetIs, target_is, all_back, Entry, found_entry}
 use Rattle.std.specs.Str.{bytes_eq}
 use Rattle.std.proofs.lemmas.Option.{slice_get-map}
 use Rattle.std.proofs.lemmas.Slice.Eq.{bytes_eq-Decides}
@@ -50,7 +49,7 @@ use Rattle.brace_model.specs.declared.program.Gift.{Gift}
 use Rattle.brace_model.specs.declared.program.Spawn.{Spawn}
 use Rattle.brace_check.specs.declared.share.Share.{Share}
 use Rattle.brace_check.specs.Found as checks
-use Rattle.brace_check.proofs.FieldNumbers.{RisesTo, numbered, NamedAt, named_at, Fine, AllFine, Apart, text, names_differ}
+use Rattle.brace_check.proofs.FieldNumbers.{CalledSo, Fine, AllFine, Apart, text, names_differ}
 
 none_if : (test : Bool) (f : CheckFault) → fault_if (not test) f ≡ [] → test ≡ true
 none_if true f h = refl
@@ -97,10 +96,6 @@ pub record FromZero (b : List Stmt) : Type 0 where
   pub count : ℕ
   pub declares : BlockDeclares b 0 count
 
-joined : (xs ys : List (List Stmt)) → AllByRecursion FromZero xs → AllByRecursion FromZero ys → AllByRecursion FromZero (xs ++ ys)
-joined [] ys here there = there
-joined (x ∷ xs) ys here there = (here.0, joined xs ys here.1 there)
-
 module _ (home : Home) where
   one_from_zero : (one : MemberTree) (n : ℕ) → AllByRecursion FromZero ((share home one).behind n).queries
   one_from_zero (m.Run statements at) n =
@@ -111,7 +106,7 @@ module _ (home : Home) where
   pub from_zero : (members : List MemberTree) (n : ℕ) → AllByRecursion FromZero ((shares home members).behind n).queries
   from_zero [] n = tt
   from_zero (one ∷ members) n =
-      joined ((share home one).behind n).queries
+      each_append FromZero ((share home one).behind n).queries
       ((shares home members).behind (n + length (share home one).sites)).queries
       (one_from_zero one n) (from_zero members (n + length (share home one).sites))
 
@@ -127,22 +122,6 @@ below_range a (suc n) c h =
     let here : a < c = omega (arith, h) in
     and_from (nat_lt a c) (list_all (λ k. nat_lt k c) (range_with_len (a + 1) n)) (lt-ltb a c here) (below_range (a + 1) n c more)
 
-apart : (lo hi x : ℕ) (xs : List ℕ) → x < lo → Rises lo hi xs → AllByRecursion (λ y. nat_eq x y ≡ false) xs
-apart lo hi x [] under h = tt
-apart lo hi x (y ∷ ys) under h =
-    let at : lo ≤ y = h.0 in
-    let less : x < y = omega (arith, under, at) in
-    let further : x < y + 1 = omega (arith, less) in
-    (ne_eqb x y (λ e. let same : x ≡ y = e in absurd (omega (arith, less, same))), apart (y + 1) hi x ys further h.1)
-
--- numbers that rise differ
-pub distinct_from_rises : (lo hi : ℕ) (xs : List ℕ) → Rises lo hi xs → IsDistinct nat_eq xs
-unfolding IsDistinct
-distinct_from_rises lo hi [] h = tt
-distinct_from_rises lo hi (x ∷ xs) h =
-    let under : x < x + 1 = omega arith in
-    (apart (x + 1) hi x xs under h.1, distinct_from_rises (x + 1) hi xs h.1)
-
 -- so the constants of a query have numbers of their own
 pub constants_below : (b : List Stmt) → FromZero b → list_all (λ n. nat_lt n (sum (map constants b))) (flat_map constant_numbers b) ≡ true
 constants_below b z =
@@ -152,7 +131,7 @@ constants_below b z =
 
 pub constants_apart : (b : List Stmt) → FromZero b → IsDistinct nat_eq (flat_map constant_numbers b)
 constants_apart b z =
-    subst (IsDistinct nat_eq) (sym z.declares.numbers) (distinct_from_rises 0 (0 + z.count) (range_with_len 0 z.count) (range_rises 0 z.count))
+    subst (IsDistinct nat_eq) (sym z.declares.numbers) (rising_differ 0 (range_with_len 0 z.count) (are_rising 0 (0 + z.count) (range_with_len 0 z.count) (range_rises 0 z.count)))
 
 -- a program keeps what its script declares
 state_kept : (home : Home) (one : MemberTree) (n : ℕ) → map state_heading ((share home one).behind n).states ≡ state_declared one
@@ -306,20 +285,20 @@ module _ (n : Scope) (m : Names) (tied : Tied n m) (hd : Heading) (states : List
   are_states [] h = tt
   are_states (g ∷ gifts) h = (ap is_state h.0.named, are_states gifts h.1)
 
-  module _ (rising : RisesTo n.home.own) where
-    -- two names that stand for one state are one name
+  module _ (called : List (List ℕ)) (are_called : AllByRecursion (λ e. CalledSo called e.0 e.1) n.home.own) where
+    -- the name of a gift is that of the state of its number
+    called_at : (g : GiftTree) → GiftOk n m states g → slice_get called (number_given n g) ≡ Some g.state.text
+    called_at g h =
+        let e : Entry (bytes_eq g.state.text) (CalledSo called) (field.State h.number h.ty h.shared) = found_entry (bytes_eq g.state.text) (CalledSo called) n.home.own (field.State h.number h.ty h.shared) are_called h.named in
+        let same : g.state.text ≡ e.key = (bytes_eq-Decides g.state.text e.key).0 e.passes in
+        ap (λ (o : Option Field). slice_get called (number_of o)) h.named ∙ (e.is ∙ ap (λ (name : List ℕ). Some name) (sym same))
+
+    -- so two names that stand for one state are one name
     one_state : (g other : GiftTree) → GiftOk n m states g → GiftOk n m states other → number_given n g ≡ number_given n other → bytes_eq g.state.text other.state.text ≡ true
     one_state g other h k e =
-        let a : number_given n g ≡ h.number = ap number_of h.named in
-        let b : number_given n other ≡ k.number = ap number_of k.named in
-        let one : k.number ≡ h.number = sym b ∙ (sym e ∙ a) in
-        let first : NamedAt (bytes_eq g.state.text) 0 h.number n.home.own = named_at (bytes_eq g.state.text) h.number h.ty h.shared 0 rising.hi n.home.own rising.rises h.named in
-        let second : NamedAt (bytes_eq other.state.text) 0 k.number n.home.own = named_at (bytes_eq other.state.text) k.number k.ty k.shared 0 rising.hi n.home.own rising.rises k.named in
-        let same : Some first.name ≡ Some second.name = sym first.is ∙ (ap (λ (i : ℕ). numbered i n.home.own) (sym one) ∙ second.is) in
-        let name : first.name ≡ second.name = cc in
-        let p : g.state.text ≡ first.name = (bytes_eq-Decides g.state.text first.name).0 first.passes in
-        let q : other.state.text ≡ second.name = (bytes_eq-Decides other.state.text second.name).0 second.passes in
-        (bytes_eq-Decides g.state.text other.state.text).1 (p ∙ (name ∙ sym q))
+        let same : Some g.state.text ≡ Some other.state.text = sym (called_at g h) ∙ (ap (slice_get called) e ∙ called_at other k) in
+        let name : g.state.text ≡ other.state.text = cc in
+        (bytes_eq-Decides g.state.text other.state.text).1 name
 
     apart_numbers : (g : GiftTree) (gifts : List GiftTree) → GiftOk n m states g → AllByRecursion (GiftOk n m states) gifts → Apart g.state.text (map text (given_names gifts))
         → AllByRecursion (λ j. nat_eq (number_given n g) j ≡ false) (map (number_given n) gifts)
@@ -360,7 +339,7 @@ pub record MembersOk (states : List State) (rule query : Names) (s : Share) : Ty
   pub asked : AllByRecursion (Asked query) s.queries
   pub born : AllByRecursion (Born rule states) s.spawn
 
-module _ (home : Home) (rising : RisesTo home.own) (rule query : Names) (in_rule : Tied (outermost home false) rule) (in_query : Tied (outermost home true) query)
+module _ (home : Home) (called : List (List ℕ)) (are_called : AllByRecursion (λ e. CalledSo called e.0 e.1) home.own) (rule query : Names) (in_rule : Tied (outermost home false) rule) (in_query : Tied (outermost home true) query)
     (hd : Heading) (states : List State) (there : slice_get (declared rule) rule.own ≡ Some hd) (kept : map state_heading states ≡ hd.states) where
   abbrev scope_ : Scope
   scope_ = outermost home false
@@ -382,7 +361,7 @@ module _ (home : Home) (rising : RisesTo home.own) (rule query : Names) (in_rule
                 (ap (is_of_type ty.Bool) (has_type scope_ rule in_rule x k ty.Bool (none_front value (flat_map (checks.gift scope_) gifts) clean)))
                 (all_given scope_ rule in_rule hd states there kept gifts j g);
             differ = subst (IsDistinct nat_eq) (sym (gifts_numbers scope_ rule in_rule hd states there kept gifts j))
-                (gifts_differ scope_ rule in_rule hd states there kept rising gifts g (all_back Fine given again both));
+                (gifts_differ scope_ rule in_rule hd states there kept called are_called gifts g (all_back Fine given again both));
           },
           tt,
         );

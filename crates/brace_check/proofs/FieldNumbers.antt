@@ -1,11 +1,10 @@
 -- The numbers of fields and classes, and what the checks of names say of their names and how many there are.
 use Rattle.std.proofs.Common.{◌≡◌, refl, sym, ap, subst, ◌∙◌, ℕ, ◌+◌, ◌<◌, ◌≤◌, Bool, true, false, List, [], ◌∷◌, ◌++◌, map, flat_map, fold, length, length-append, append_assoc, arith, inl, inr, zero, suc}
-use Rattle.std.specs.Prelude.{◌==◌, cond, Option, Some, None, option_map, option_and_then, slice_get, if◌then◌else◌, ⊤, ◌&&◌, ◌||◌}
+use Rattle.std.specs.Prelude.{Option, Some, None, option_map, option_and_then, slice_get, if◌then◌else◌, ⊤, ◌&&◌, ◌||◌}
 use Rattle.std.specs.List.{AllByRecursion, IsDistinct, list_any}
-use Rattle.std.specs.Map.{lookup}
-use Rattle.std.proofs.lemmas.Bool.{cases_Bool, ne_eqb, true≢false, or_parts}
+use Rattle.std.proofs.lemmas.Bool.{cases_Bool, true≢false, or_parts}
+use Rattle.std.proofs.lemmas.List.{length-map}
 use Rattle.std.proofs.lemmas.Option.{slice_get-map}
-use Rattle.std.proofs.lemmas.Grind.{flat_map-append}
 use Rattle.brace_num.proofs.Lists.{each_weaker, at_seam, each_append}
 use Rattle.brace_syntax.specs.declared.tree.Ident.{Ident}
 use Rattle.brace_syntax.specs.declared.tree.MemberTree.{MemberTree}
@@ -16,9 +15,6 @@ use Rattle.brace_names.specs.declared.declared.Field.TheVariants as field
 use Rattle.brace_names.specs.Kinds.{type_named, comb_named}
 use Rattle.brace_names.specs.Tables.{has, with_name, table, repeated, repeated_after}
 use Rattle.brace_names.specs.Classes.{known, fields_behind, fields, numbered_from, title, is_coordinate, has_position}
-use Rattle.brace_model.specs.declared.program.Ty.{Ty}
-use Rattle.brace_model.specs.declared.program.Comb.{Comb}
-use Rattle.brace_check.proofs.Rising.{Rises, rises-joined}
 use Rattle.brace_check.proofs.Ties.{StateHeading, EffectHeading, Heading, state_declared, effect_declared, heading, FieldIs, FieldsFit, named_too}
 use Rattle.std.specs.Str.{bytes_eq}
 use Rattle.std.proofs.lemmas.List.Folds.{list_any-append}
@@ -73,11 +69,37 @@ fields_of states effects (m.Effect shared type name c at ∷ members) =
     )
 fields_of states effects (_ ∷ members) = fields_of states effects members
 
+-- the names of the states of members, and a name at the number of its state
+abbrev pub state_called : MemberTree → List (List ℕ)
+state_called (m.State shared type name x at) = name.text ∷ []
+state_called _ = []
+
+abbrev pub CalledSo : List (List ℕ) → List ℕ → Field → Type 0
+CalledSo names name (field.State i t shared) = slice_get names i ≡ Some name
+CalledSo names name (field.Effect i t shared c) = ⊤
+
+abbrev AllCalled : List (List ℕ) → List (Ident × Field) → Type 0
+AllCalled names = AllByRecursion (λ one. CalledSo names one.0.text one.1)
+
+states_called : (names : List (List ℕ)) (effects : ℕ) (members : List MemberTree) → AllCalled (names ++ flat_map state_called members) (fields_behind (length names) effects members)
+states_called names effects [] = tt
+states_called names effects (m.State shared type name x at ∷ members) = (
+  at_seam names name.text (flat_map state_called members),
+  subst (λ (l : List (List ℕ)). AllCalled l (fields_behind (length names + 1) effects members)) (append_assoc names (name.text ∷ []) (flat_map state_called members))
+      (subst (λ (k : ℕ). AllCalled ((names ++ name.text ∷ []) ++ flat_map state_called members) (fields_behind k effects members))
+      (one-more names name.text) (states_called (names ++ name.text ∷ []) effects members)),
+)
+states_called names effects (m.Effect shared type name c at ∷ members) = (tt, states_called names (effects + 1) members)
+states_called names effects (_ ∷ members) = states_called names effects members
+
 -- what holds of each of them holds of the entries of their table
-table_keeps : {A : Type 0} (P : A → Type 0) (start : List (List ℕ × A)) (all : List (Ident × A)) → AllByRecursion (λ e. P e.1) start → AllByRecursion (λ e. P e.1) all
-    → AllByRecursion (λ e. P e.1) (fold (λ names one. with_name names one.0.text one.1) start all)
+table_keeps : {A : Type 0} (P : List ℕ → A → Type 0) (start : List (List ℕ × A)) (all : List (Ident × A)) → AllByRecursion (λ e. P e.0 e.1) start → AllByRecursion (λ e. P e.0.text e.1) all
+    → AllByRecursion (λ e. P e.0 e.1) (fold (λ names one. with_name names one.0.text one.1) start all)
 table_keeps P start [] kept none = kept
 table_keeps P start (one ∷ all) kept h = table_keeps P (with_name start one.0.text one.1) all (named_too P start one.0.text one.1 kept h.0) h.1
+
+pub own_called : (class : ClassTree) → AllByRecursion (λ e. CalledSo (flat_map state_called class.members) e.0 e.1) (table (fields class))
+own_called class = table_keeps (CalledSo (flat_map state_called class.members)) [] (fields class) tt (states_called [] 0 class.members)
 
 -- the field of a class of a number
 field_is : (headings : List Heading) (number : ℕ) (h : Heading) → slice_get headings number ≡ Some h → (x : Field) → FieldOf h.states h.effects x → FieldIs headings number x
@@ -89,7 +111,7 @@ pub fields_fit : (headings : List Heading) (number : ℕ) (class : ClassTree) �
 fields_fit headings number class there =
     each_weaker (λ (e : List ℕ × Field). FieldOf (flat_map state_declared class.members) (flat_map effect_declared class.members) e.1) (λ (e : List ℕ × Field). FieldIs headings number e.1)
     (λ e is. field_is headings number (heading class) there e.1 is) (table (fields class))
-    (table_keeps (FieldOf (flat_map state_declared class.members) (flat_map effect_declared class.members)) [] (fields class) tt (fields_of [] [] class.members))
+    (table_keeps (λ (key : List ℕ) (x : Field). FieldOf (flat_map state_declared class.members) (flat_map effect_declared class.members) x) [] (fields class) tt (fields_of [] [] class.members))
 
 -- so are those of all classes
 pub record ClassAt (classes : List ClassTree) (number : ℕ) (own : List (List ℕ × Field)) : Type 0 where
@@ -116,105 +138,7 @@ numbered_below number (class ∷ classes) all under =
 
 pub classes_fit : (classes : List ClassTree) → AllByRecursion (λ e. e.1 < length classes) (known classes).classes
 classes_fit classes =
-    table_keeps (λ (k : ℕ). k < length classes) [] (numbered_from 0 classes) tt (numbered_below 0 classes (length classes) (omega arith))
-
--- the numbers of the states of a table rise
-abbrev state_number : Field → List ℕ
-state_number (field.State i t shared) = i ∷ []
-state_number (field.Effect i t shared c) = []
-
-abbrev pub state_numbers : {K : Type 0} → List (K × Field) → List ℕ
-state_numbers = flat_map (λ e. state_number e.1)
-
-abbrev pub RisingTable : List (List ℕ × Field) → ℕ → Type 0
-RisingTable own hi = Rises 0 hi (state_numbers own)
-
-rises_below : (lo hi higher : ℕ) (xs : List ℕ) → hi ≤ higher → Rises lo hi xs → Rises lo higher xs
-rises_below lo hi higher [] le h = omega (arith, le, h)
-rises_below lo hi higher (x ∷ xs) le h = (h.0, rises_below (x + 1) hi higher xs le h.1)
-
-numbers_more : (own : List (List ℕ × Field)) (name : List ℕ) (x : Field) (hi : ℕ) → RisingTable own hi → RisingTable (own ++ (name, x) ∷ []) hi → RisingTable (with_name own name x) hi
-numbers_more own name x hi h g = elim (cases_Bool (has own name)) [
-  | inl there ↦ rw there h
-  | inr new ↦ rw new g
-]
-
-state_more : (own : List (List ℕ × Field)) (name : List ℕ) (i : ℕ) (t : Ty) (shared : Bool) → RisingTable own i → RisingTable (with_name own name (field.State i t shared)) (i + 1)
-state_more own name i t shared h =
-    let one : Rises i (i + 1) (i ∷ []) = (omega arith, omega arith) in
-    numbers_more own name (field.State i t shared) (i + 1) (rises_below 0 i (i + 1) (state_numbers own) (omega arith) h)
-    (subst (Rises 0 (i + 1)) (sym (flat_map-append (λ (e : List ℕ × Field). state_number e.1) own ((name, field.State i t shared) ∷ [])))
-    (rises-joined 0 i (i + 1) (state_numbers own) (i ∷ []) h one))
-
-effect_more : (own : List (List ℕ × Field)) (name : List ℕ) (i : ℕ) (t : Ty) (shared : Bool) (c : Comb) (hi : ℕ) → RisingTable own hi → RisingTable (with_name own name (field.Effect i t shared c)) hi
-effect_more own name i t shared c hi h =
-    let none : Rises hi hi [] = omega arith in
-    numbers_more own name (field.Effect i t shared c) hi h
-    (subst (Rises 0 hi) (sym (flat_map-append (λ (e : List ℕ × Field). state_number e.1) own ((name, field.Effect i t shared c) ∷ [])))
-    (rises-joined 0 hi hi (state_numbers own) [] h none))
-
-pub record RisesTo (own : List (List ℕ × Field)) : Type 0 where
-  pub hi : ℕ
-  pub rises : RisingTable own hi
-
-table_rises : (own : List (List ℕ × Field)) (states effects : ℕ) (members : List MemberTree) → RisingTable own states
-    → RisesTo (fold (λ names one. with_name names one.0.text one.1) own (fields_behind states effects members))
-table_rises own states effects [] h = record { hi = states; rises = h }
-table_rises own states effects (m.State shared type name x at ∷ members) h =
-    table_rises (with_name own name.text (field.State states (type_named type) shared)) (states + 1) effects members (state_more own name.text states (type_named type) shared h)
-table_rises own states effects (m.Effect shared type name c at ∷ members) h =
-    table_rises (with_name own name.text (field.Effect effects (type_named type) shared (comb_named c))) states (effects + 1) members
-    (effect_more own name.text effects (type_named type) shared (comb_named c) states h)
-table_rises own states effects (_ ∷ members) h = table_rises own states effects members h
-
--- the states of a class are numbered in turn
-pub own_rises : (class : ClassTree) → RisesTo (table (fields class))
-own_rises class = let none : 0 ≤ 0 = omega arith in table_rises [] 0 0 class.members none
-
--- the name of the state of a number
-abbrev pub numbered : ℕ → List (List ℕ × Field) → Option (List ℕ)
-numbered i [] = None
-numbered i ((name, field.State j t shared) ∷ own) = if j == i then Some name else numbered i own
-numbered i ((name, field.Effect j t shared c) ∷ own) = numbered i own
-
--- a state that a test finds is the one of its number
-pub record NamedAt (p : List ℕ → Bool) (lo i : ℕ) (own : List (List ℕ × Field)) : Type 0 where
-  pub name : List ℕ
-  pub is : numbered i own ≡ Some name
-  pub passes : p name ≡ true
-  pub low : lo ≤ i
-
-module _ (p : List ℕ → Bool) (i : ℕ) (t : Ty) (shared : Bool) where
-  abbrev finds : Field → List (List ℕ × Field) → Bool → Type 0
-  finds x own b = cond b (Some x) (lookup p own) ≡ Some (field.State i t shared)
-
-  pub named_at : (lo hi : ℕ) (own : List (List ℕ × Field)) → Rises lo hi (state_numbers own) → lookup p own ≡ Some (field.State i t shared) → NamedAt p lo i own
-  named_at lo hi [] h is = absurd (cc)
-  named_at lo hi ((name, field.Effect j u open_ c) ∷ own) h is = elim (cases_Bool (p name)) [
-    | inl same ↦ let found : Some (field.Effect j u open_ c) ≡ Some (field.State i t shared) = subst (finds (field.Effect j u open_ c) own) same is in absurd (cc)
-    | inr apart ↦
-        let rest : NamedAt p lo i own = named_at lo hi own h (subst (finds (field.Effect j u open_ c) own) apart is) in
-        record { name = rest.name; is = rest.is; passes = rest.passes; low = rest.low }
-  ]
-  named_at lo hi ((name, field.State j u open_) ∷ own) h is =
-      let at : lo ≤ j = h.0 in
-      elim (cases_Bool (p name)) [
-        | inl same ↦
-            let found : Some (field.State j u open_) ≡ Some (field.State i t shared) = subst (finds (field.State j u open_) own) same is in
-            let here : j ≡ i = cc in
-            let one : (j == i) ≡ true = grind (arith, here) in
-            record { name = name; is = ap (λ (b : Bool). if b then Some name else numbered i own) one; passes = same; low = omega (arith, at, here) }
-        | inr apart ↦
-            let rest : NamedAt p (j + 1) i own = named_at (j + 1) hi own h.1 (subst (finds (field.State j u open_) own) apart is) in
-            let past : j + 1 ≤ i = rest.low in
-            let differ : (j == i) ≡ false = ne_eqb j i (λ e. let same : j ≡ i = e in absurd (omega (arith, past, same))) in
-            record {
-              name = rest.name;
-              is = ap (λ (b : Bool). if b then Some name else numbered i own) differ ∙ rest.is;
-              passes = rest.passes;
-              low = omega (arith, at, past);
-            }
-      ]
+    table_keeps (λ (key : List ℕ) (k : ℕ). k < length classes) [] (numbered_from 0 classes) tt (numbered_below 0 classes (length classes) (omega arith))
 
 -- equal bytes
 bytes-flip : (a b : List ℕ) → bytes_eq a b ≡ true → bytes_eq b a ≡ true
@@ -301,17 +225,15 @@ no_more : (which : Which) (o : Option Ident) → AllFine (too_many which o) → 
 no_more which None fine = refl
 no_more which (Some name) fine = absurd (true≢false fine.0)
 
-no_field : (o : Option (Ident × Field)) → option_map (λ one. one.0) o ≡ None → o ≡ None
-no_field None h = refl
-no_field (Some one) h = absurd (cc)
-
 pub few_names : (which : Which) (names : List Ident) (limit : ℕ) → AllFine (too_many which (slice_get names limit)) → length names ≤ limit
 few_names which names limit fine = within names limit (no_more which (slice_get names limit) fine)
 
 pub few_of : (which : Which) (all : List (Ident × Field)) (limit : ℕ)
     → AllFine (too_many which (option_map (λ one. one.0) (slice_get all limit))) → length all ≤ limit
 few_of which all limit fine =
-    within all limit (no_field (slice_get all limit) (no_more which (option_map (λ one. one.0) (slice_get all limit)) fine))
+    let first : Ident × Field → Ident = λ one. one.0 in
+    subst (λ (k : ℕ). k ≤ limit) (length-map all first)
+    (few_names which (map first all) limit (subst (λ (o : Option Ident). AllFine (too_many which o)) (sym (slice_get-map first all limit)) fine))
 
 positioned : (test : Bool) (x : Finding) → AllFine (if test then [] else x ∷ []) → ((AllFine (x ∷ [])) → true ≡ false) → test ≡ true
 positioned true x fine never = refl

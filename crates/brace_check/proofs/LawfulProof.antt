@@ -1,6 +1,6 @@
 -- The program of a script that is read from a source, and in which nothing is found, is lawful.
 use Rattle.std.proofs.Common.{◌≡◌, refl, sym, ap, subst, ◌∙◌, ℕ, zero, suc, ◌+◌, ◌<◌, ◌≤◌, Bool, true, false, List, [], ◌∷◌, ◌++◌, map, flat_map, length, arith}
-use Rattle.std.specs.Prelude.{nat_eq, not, ◌&&◌, Option, Some, None, slice_get, codes, unwrap_or, option_to_list}
+use Rattle.std.specs.Prelude.{nat_eq, not, Some, slice_get, codes, unwrap_or, option_to_list}
 use Rattle.std.specs.Option.{option_map}
 use Rattle.std.specs.List.{AllByRecursion, IsDistinct, list_any, range_with_len}
 use Rattle.std.specs.Str.{bytes_eq}
@@ -41,12 +41,12 @@ use Rattle.brace_check.specs.Programs.{shares, class_of, classes_from, program_o
 use Rattle.brace_check.specs.Order.{in_text_order}
 use Rattle.brace_check.specs.Resolved.{IsResolved}
 use Rattle.brace_check.proofs.Ties.{Heading, heading, heading_of, FieldsFit, Tied, all_back}
-use Rattle.brace_check.proofs.ExprSound.{nil_back}
+use Rattle.brace_check.proofs.Sound.{nil_back}
 use Rattle.brace_check.proofs.Rising.{Rises, increasing_from_rises, front_rises, first_rises}
 use Rattle.brace_check.proofs.Numbering.{block_sites}
 use Rattle.brace_check.proofs.ShareNumbers.{SharesRise, shares_rise, ruled_sites, sites_differ, sites_below}
 use Rattle.brace_check.proofs.CheckedMembers.{visible_fits, reach_fits, effects_fit, FromZero, from_zero, first_from_zero, constants_below, constants_apart, class_kept, classes_kept, states_typed, deaths_typed, first_typed, MembersOk, members_ok, Born, first_asked}
-use Rattle.brace_check.proofs.FieldNumbers.{fields_fit, others_fit, classes_fit, own_rises, Fine, AllFine, all_fine, text, names_differ, few_names, few_of, has_its_position, fields_count, fields_differ, is_placed}
+use Rattle.brace_check.proofs.FieldNumbers.{fields_fit, others_fit, classes_fit, state_called, own_called, Fine, AllFine, all_fine, text, names_differ, few_names, few_of, has_its_position, fields_count, fields_differ, is_placed}
 use Rattle.brace_check.proofs.Words.{WordedClass, script_worded, fields_named}
 use Rattle.brace_check.proofs.LoopPlaces.{loops_apart}
 use Rattle.brace_check.proofs.Told.{counted_sites, few_assignments}
@@ -119,7 +119,7 @@ module _ (trees : List ClassTree) (program : Program) (kept : map heading_of pro
       let placed : (list_any (is_coordinate (codes "x")) class.members ≡ true) × (list_any (is_coordinate (codes "y")) class.members ≡ true) =
       and_parts (list_any (is_coordinate (codes "x")) class.members) (list_any (is_coordinate (codes "y")) class.members) positioned in
       let ok : MembersOk s.states rule (query_scope program number) s =
-      members_ok home (own_rises class) rule (query_scope program number) in_rule (scope_tied number class true at) (heading class) s.states (headed number class at)
+      members_ok home (flat_map state_called class.members) (own_called class) rule (query_scope program number) in_rule (scope_tied number class true at) (heading class) s.states (headed number class at)
       (ap (λ (h : Heading). h.states) (class_kept home class n)) class.members n fine clean in
       let born : (is_spawn rule s.states (slice_get s.spawn 0) ≡ true) × IsDistinct nat_eq (given_states (slice_get s.spawn 0)) = first_born rule s.states s.spawn ok.born in
       record {

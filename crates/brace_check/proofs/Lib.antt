@@ -4,8 +4,7 @@ pub mod Numbering
 pub mod Rising
 pub mod ShareNumbers
 pub mod Ties
-pub mod ExprSound
-pub mod BlockSound
+pub mod Sound
 pub mod CheckedMembers
 pub mod FieldNumbers
 pub mod Words

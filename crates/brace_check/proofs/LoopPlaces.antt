@@ -1,9 +1,8 @@
 -- The loops of a script stand at places of their own.
-use Rattle.std.proofs.Common.{◌≡◌, sym, ap, subst, ◌∙◌, ℕ, ◌+◌, ◌≤◌, ◌<◌, Bool, true, List, [], ◌∷◌, ◌++◌, map, flat_map, length, take, zero, suc, arith}
+use Rattle.std.proofs.Common.{sym, ap, subst, ◌∙◌, ℕ, ◌+◌, Bool, true, List, [], ◌∷◌, ◌++◌, map, flat_map, length, take, zero, suc}
 use Rattle.std.specs.Prelude.{false, nat_eq, slice_get, unwrap_or}
-use Rattle.std.specs.List.{AllByRecursion, IsDistinct, concat}
+use Rattle.std.specs.List.{IsDistinct, concat}
 use Rattle.std.proofs.Math.Seq.{take-append_seam}
-use Rattle.std.proofs.lemmas.Bool.{ne_eqb}
 use Rattle.std.proofs.lemmas.List.{append-nil}
 use Rattle.std.proofs.lemmas.Grind.{flat_map-append}
 use Rattle.brace_tok.specs.declared.kinds.Token.{Token}
@@ -15,11 +14,11 @@ use Rattle.brace_syntax.specs.Tables.{ident}
 use Rattle.brace_syntax.specs.declared.tree.StmtTree.{StmtTree}
 use Rattle.brace_syntax.specs.declared.tree.MemberTree.{MemberTree}
 use Rattle.brace_syntax.specs.declared.tree.ClassTree.{ClassTree}
-use Rattle.brace_names.specs.Faults.{AreRising}
 use Rattle.brace_names.proofs.NameOrder.{Sub, none, skip, keep, nowhere, join, places_rise}
 use Rattle.brace_model.specs.declared.program.Stmt.{Stmt}
 use Rattle.brace_model.specs.declared.program.Class.{Class}
 use Rattle.brace_model.specs.Sites.{loop_offsets}
+use Rattle.brace_check.proofs.Rising.{rising_differ}
 use Rattle.brace_check.specs.Programs.{share, shares, class_of, classes_from}
 use Rattle.brace_names.proofs.Folds.{of-Const, of-when, of-either, of-Foreach, of-Assign, of-AssignThis, of-AssignLoop}
 use Rattle.brace_names.specs.Classes.{Known}
@@ -136,25 +135,10 @@ module _ (src : List ℕ) where
       subst (λ (l : List ℕ). Sub l (a ++ b)) (sym (flat_map-append loop_offsets query rest))
       (join (class_loops home x n) (flat_map loop_offsets rest) a b (at_class home a x n h) (at_classes all (number + 1) b xs k g))
 
-apart : (low x : ℕ) (xs : List ℕ) → x < low → AreRising low xs → AllByRecursion (λ y. nat_eq x y ≡ false) xs
-apart low x [] under h = tt
-apart low x (y ∷ ys) under h =
-    let at : low ≤ y = h.0 in
-    let less : x < y = omega (arith, under, at) in
-    let further : x < y + 1 = omega (arith, less) in
-    (ne_eqb x y (λ e. let same : x ≡ y = e in absurd (omega (arith, less, same))), apart (y + 1) x ys further h.1)
-
-differ : (low : ℕ) (xs : List ℕ) → AreRising low xs → IsDistinct nat_eq xs
-unfolding IsDistinct
-differ low [] h = tt
-differ low (x ∷ xs) h =
-    let under : x < x + 1 = omega arith in
-    (apart (x + 1) x xs under h.1, differ (x + 1) xs h.1)
-
 -- the loops of a program whose script is read have places of their own
 pub loops_apart : (src : List ℕ) (toks : List Token) (all : Known) (xs : List ClassTree) → Spells src toks → ReadsClasses src toks xs
     → IsDistinct nat_eq (flat_map loop_offsets (flat_map (λ c. c.query) ((classes_from all 0 xs).behind 0)))
 loops_apart src toks all xs spelled read =
-    differ 0 (flat_map loop_offsets (flat_map (λ (c : Class). c.query) ((classes_from all 0 xs).behind 0)))
+    rising_differ 0 (flat_map loop_offsets (flat_map (λ (c : Class). c.query) ((classes_from all 0 xs).behind 0)))
     (places_rise 0 (length src) toks (flat_map loop_offsets (flat_map (λ (c : Class). c.query) ((classes_from all 0 xs).behind 0)))
     (at_classes src all 0 toks xs 0 read) (spells_rises src toks spelled))

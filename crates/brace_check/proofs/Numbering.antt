@@ -15,8 +15,7 @@ use Rattle.brace_model.specs.declared.program.Expr.TheVariants as expr
 use Rattle.brace_model.specs.Sites.{sites_of, sites_in, constant_numbers, loop_offsets}
 use Rattle.brace_model.specs.Typing.{only, unary_faults, binary_faults}
 use Rattle.brace_model.proofs.LawEquations.{sites_of-Lit, sites_of-Field, sites_of-Total, sites_of-Local, sites_of-Unary, sites_of-Binary, sites_of-Choice, sites_of-Rand, sites_in-Const, sites_in-If, sites_in-Foreach, sites_in-Assign, constant_numbers-Const, constant_numbers-If, constant_numbers-Foreach, constant_numbers-Assign, loop_offsets-Const, loop_offsets-If, loop_offsets-Foreach, loop_offsets-Assign}
-use Rattle.brace_names.proofs.ByKind.{Expressions, of_expression, ProvedStmt, stmts_of, Statements, proved, stmts-proved}
-use Rattle.brace_names.proofs.Folds.{of-Lit, of-True, of-False, of-Name, of-OfThis, of-OfLoop, of-Unary, of-Binary, of-Choice, of-Rand, of-Const, of-when, of-either, of-Foreach, of-Assign, of-AssignThis, of-AssignLoop}
+use Rattle.brace_names.proofs.Folds.{Expressions, of_expression, ProvedStmt, stmts_of, Statements, proved, stmts-proved, of-Lit, of-True, of-False, of-Name, of-OfThis, of-OfLoop, of-Unary, of-Binary, of-Choice, of-Rand, of-Const, of-when, of-either, of-Foreach, of-Assign, of-AssignThis, of-AssignLoop}
 use Rattle.brace_names.specs.declared.declared.Field.TheVariants as field
 use Rattle.brace_names.specs.declared.scope.Named.{Named}
 use Rattle.brace_names.specs.declared.scope.Named.TheVariants as named

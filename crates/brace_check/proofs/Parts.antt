@@ -4,10 +4,8 @@ use Rattle.std.specs.Prelude.{Some, None}
 use Rattle.brace_syntax.specs.declared.tree.StmtTree.{StmtTree}
 use Rattle.brace_syntax.specs.declared.tree.StmtTree.TheVariants as s
 use Rattle.brace_names.specs.Walk.{Part, constants_in, Sought, part_of, part_step as walk_step}
-use Rattle.brace_names.proofs.ByKind.{ProvedStmt, stmts_of, Statements, proved, of_statement, stmts-proved}
-use Rattle.brace_names.proofs.Folds.{of-Const, of-when, of-either, of-Foreach, of-Assign, of-AssignThis, of-AssignLoop}
-use Rattle.brace_names.proofs.StmtLemmas.{constants-cons}
-use Rattle.brace_names.proofs.WalkLemmas.{Same}
+use Rattle.brace_names.proofs.Folds.{ProvedStmt, stmts_of, Statements, proved, of_statement, stmts-proved, of-Const, of-when, of-either, of-Foreach, of-Assign, of-AssignThis, of-AssignLoop}
+use Rattle.brace_names.proofs.StmtLemmas.{constants-cons, Same}
 use Rattle.brace_model.specs.declared.program.Stmt.{Stmt}
 use Rattle.brace_check.specs.Meanings.{Sited, part, part_step}
 

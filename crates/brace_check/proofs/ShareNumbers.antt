@@ -15,13 +15,13 @@ use Rattle.brace_model.specs.declared.program.Gift.{Gift}
 use Rattle.brace_model.specs.declared.program.Spawn.{Spawn}
 use Rattle.brace_model.specs.Sites.{sites_of, sites_among, sites_of_spawn, class_sites}
 use Rattle.brace_check.specs.declared.share.Share.{Share}
-use Rattle.brace_check.specs.Programs.{rule, gifts_in, spawn_of, no_share, share, shared_by, shares, class_of, classes_from}
+use Rattle.brace_check.specs.Programs.{rule, gifts_in, spawn_of, share, shared_by, shares, class_of, classes_from}
 use Rattle.brace_check.proofs.Rising.{Rises, rises-joined, front_rises, back_rises, range_rises}
 use Rattle.brace_check.proofs.Numbering.{Numbered, plain_numbered, made_numbered, followed_numbered, expression_numbered, block_sites, block_numbers}
 use Rattle.brace_names.specs.Tables.{look}
 use Rattle.brace_names.specs.Scopes.{Home, Scope, outermost, home_of}
-use Rattle.brace_check.specs.Meanings.{Sited, number_of, followed, expression, block, part}
-use Rattle.std.proofs.lemmas.Bool.{cases_Bool, cases_lt, ne_eqb, and_from}
+use Rattle.brace_check.specs.Meanings.{Sited, number_of, followed, expression}
+use Rattle.std.proofs.lemmas.Bool.{cases_Bool, cases_lt, and_from}
 use Rattle.brace_num.proofs.Rows.{row_joined}
 use Rattle.brace_syntax.specs.declared.tree.ClassTree.{ClassTree}
 use Rattle.brace_names.specs.Classes.{Known}
@@ -154,42 +154,31 @@ times-append x (y ∷ xs) ys =
     total
 
 -- numbers in turn have each once, and none below the first of them or past the last
-times-low : (n c x : ℕ) → x < n → times x (range_with_len n c) ≡ 0
-unfolding times
-times-low n zero x under = refl
-times-low n (suc c) x under =
-    let apart : nat_eq x n ≡ false = ne_eqb x n (λ e. let same : x ≡ n = e in absurd (omega (arith, under, same))) in
-    let none : here x n ≡ 0 = ap (λ (b : Bool). cond b 1 0) apart in
-    let rest : times x (range_with_len (n + 1) c) ≡ 0 = times-low (n + 1) c x (omega (arith, under)) in
-    let total : here x n + times x (range_with_len (n + 1) c) ≡ 0 = omega (arith, none, rest) in
-    total
+record Once (n c x many : ℕ) : Type 0 where
+  low : x < n → many ≡ 0
+  past : n + c ≤ x → many ≡ 0
+  once : many ≤ 1
 
-times-past : (n c x : ℕ) → n + c ≤ x → times x (range_with_len n c) ≡ 0
+times-range : (n c x : ℕ) → Once n c x (times x (range_with_len n c))
 unfolding times
-times-past n zero x past = refl
-times-past n (suc c) x past =
-    let apart : nat_eq x n ≡ false = ne_eqb x n (λ e. let same : x ≡ n = e in absurd (omega (arith, past, same))) in
-    let none : here x n ≡ 0 = ap (λ (b : Bool). cond b 1 0) apart in
-    let rest : times x (range_with_len (n + 1) c) ≡ 0 = times-past (n + 1) c x (omega (arith, past)) in
-    let total : here x n + times x (range_with_len (n + 1) c) ≡ 0 = omega (arith, none, rest) in
-    total
-
-times-once : (n c x : ℕ) → times x (range_with_len n c) ≤ 1
-unfolding times
-times-once n zero x = omega arith
-times-once n (suc c) x = elim (cases_Bool (nat_eq x n)) [
-  | inl same ↦
-      let e : x ≡ n = grind (arith, tests) in
-      let one : here x n ≡ 1 = ap (λ (b : Bool). cond b 1 0) same in
-      let rest : times x (range_with_len (n + 1) c) ≡ 0 = times-low (n + 1) c x (omega (arith, e)) in
-      let total : here x n + times x (range_with_len (n + 1) c) ≤ 1 = omega (arith, one, rest) in
-      total
-  | inr apart ↦
-      let none : here x n ≡ 0 = ap (λ (b : Bool). cond b 1 0) apart in
-      let rest : times x (range_with_len (n + 1) c) ≤ 1 = times-once (n + 1) c x in
-      let total : here x n + times x (range_with_len (n + 1) c) ≤ 1 = omega (arith, none, rest) in
-      total
-]
+times-range n zero x = record { low = λ h. refl; past = λ h. refl; once = omega arith }
+times-range n (suc c) x =
+    let many : ℕ = times x (range_with_len (n + 1) c) in
+    let r : Once (n + 1) c x many = times-range (n + 1) c x in
+    elim (cases_Bool (nat_eq x n)) [
+      | inl same ↦
+          let e : x ≡ n = grind (arith, tests) in
+          let one : here x n ≡ 1 = ap (λ (b : Bool). cond b 1 0) same in
+          let rest : many ≡ 0 = r.low (omega (arith, e)) in
+          let total : here x n + many ≤ 1 = omega (arith, one, rest) in
+          record { low = λ (h : x < n). absurd (omega (arith, e, h)); past = λ (h : n + suc c ≤ x). absurd (omega (arith, e, h)); once = total }
+      | inr apart ↦
+          let none : here x n ≡ 0 = ap (λ (b : Bool). cond b 1 0) apart in
+          let few : many ≤ 1 = r.once in
+          let total : here x n + many ≤ 1 = omega (arith, none, few) in
+          let nowhere : many ≡ 0 → here x n + many ≡ 0 = λ (h : many ≡ 0). omega (arith, none, h) in
+          record { low = λ (h : x < n). nowhere (r.low (omega (arith, h))); past = λ (h : n + suc c ≤ x). nowhere (r.past (omega (arith, h))); once = total }
+    ]
 
 times-four : (x : ℕ) (a b c d : List ℕ) → times x (a ++ (b ++ (c ++ d))) ≡ times x a + (times x b + (times x c + times x d))
 times-four x a b c d =
@@ -333,11 +322,11 @@ module _ (all : Known) (classes : List ClassTree) where
   pub sites_differ : IsDistinct nat_eq sites_all
   sites_differ = differ sites_all (λ x.
       let under : times x sites_all ≤ times x (range_with_len 0 count) = classes_under all x 0 classes 0 in
-      let once : times x (range_with_len 0 count) ≤ 1 = times-once 0 count x in
+      let once : times x (range_with_len 0 count) ≤ 1 = (times-range 0 count x).once in
       omega (arith, under, once))
 
   pub sites_below : (bound : ℕ) → count ≤ bound → list_all (λ x. nat_lt x bound) sites_all ≡ true
   sites_below bound few = below bound sites_all (λ x past.
       let under : times x sites_all ≤ times x (range_with_len 0 count) = classes_under all x 0 classes 0 in
-      let none : times x (range_with_len 0 count) ≡ 0 = times-past 0 count x (omega (arith, few, past)) in
+      let none : times x (range_with_len 0 count) ≡ 0 = (times-range 0 count x).past (omega (arith, few, past)) in
       omega (arith, under, none))

@@ -169,27 +169,36 @@ module _ (names : Names) (who : Who) (class i : ℕ) (t : Ty) (shared : Bool) (i
       (on_class_effect (may_name names class) (record { ty = t; shared = shared; comb = c }) may (slice_get names.classes class) i
       (ap (λ (o : Option Heading). option_and_then (λ g. slice_get g.effects i) o) (sym headed) ∙ found))
 
-module _ {K A : Type 0} (p : K → Bool) (P : A → Type 0) where
-  -- what holds of all entries holds of the one that is found
-  pub found_among : (table : List (K × A)) (x : A) → AllByRecursion (λ e. P e.1) table → lookup p table ≡ Some x → P x
-  found_among [] x all is = absurd (cc)
-  found_among (e ∷ table) x all is = elim (cases_Bool (p e.0)) [
-    | inl same ↦
-        let found : Some e.1 ≡ Some x = subst (λ (b : Bool). cond b (Some e.1) (lookup p table) ≡ Some x) same is in
-        let here : e.1 ≡ x = cc in
-        subst P here all.0
-    | inr apart ↦ found_among table x all.1 (subst (λ (b : Bool). cond b (Some e.1) (lookup p table) ≡ Some x) apart is)
-  ]
+-- the entry that is found
+pub record Entry {K A : Type 0} (p : K → Bool) (P : K → A → Type 0) (x : A) : Type 0 where
+  pub key : K
+  pub passes : p key ≡ true
+  pub is : P key x
+
+-- what holds of all entries holds of it
+pub found_entry : {K A : Type 0} (p : K → Bool) (P : K → A → Type 0) (table : List (K × A)) (x : A) → AllByRecursion (λ e. P e.0 e.1) table → lookup p table ≡ Some x → Entry p P x
+found_entry p P [] x all is = absurd (cc)
+found_entry p P (e ∷ table) x all is = elim (cases_Bool (p e.0)) [
+  | inl same ↦
+      let found : Some e.1 ≡ Some x = subst (λ (b : Bool). cond b (Some e.1) (lookup p table) ≡ Some x) same is in
+      let here : e.1 ≡ x = cc in
+      let there : Entry p P e.1 = record { key = e.0; passes = same; is = all.0 } in
+      subst (Entry p P) here there
+  | inr apart ↦ found_entry p P table x all.1 (subst (λ (b : Bool). cond b (Some e.1) (lookup p table) ≡ Some x) apart is)
+]
+
+pub found_among : {K A : Type 0} (p : K → Bool) (P : A → Type 0) (table : List (K × A)) (x : A) → AllByRecursion (λ e. P e.1) table → lookup p table ≡ Some x → P x
+found_among p P table x all is = (found_entry p (λ (key : K) (x : A). P x) table x all is).is
+
+-- a table of names keeps what holds of its entries
+pub named_too : {A : Type 0} (P : List ℕ → A → Type 0) (table : List (List ℕ × A)) (name : List ℕ) (x : A) → AllByRecursion (λ e. P e.0 e.1) table → P name x
+    → AllByRecursion (λ e. P e.0 e.1) (with_name table name x)
+named_too P table name x all this = elim (cases_Bool (has table name)) [
+  | inl there ↦ rw there all
+  | inr new ↦ rw new (each_append (λ (e : List ℕ × A). P e.0 e.1) table ((name, x) ∷ []) all (this, tt))
+]
 
 module _ {A : Type 0} (P : A → Type 0) where
-  -- a table of names keeps what holds of its entries
-  pub named_too : (table : List (List ℕ × A)) (name : List ℕ) (x : A) → AllByRecursion (λ e. P e.1) table → P x
-      → AllByRecursion (λ e. P e.1) (with_name table name x)
-  named_too table name x all this = elim (cases_Bool (has table name)) [
-    | inl there ↦ rw there all
-    | inr new ↦ rw new (each_append (λ (e : List ℕ × A). P e.1) table ((name, x) ∷ []) all (this, tt))
-  ]
-
   pub all_back : (xs ys : List A) → AllByRecursion P (xs ++ ys) → AllByRecursion P ys
   all_back [] ys h = h
   all_back (x ∷ xs) ys h = all_back xs ys h.1
@@ -319,7 +328,7 @@ tied_declared n m name t h = record {
   number = h.number;
   in_rule = h.in_rule;
   loops = h.loops;
-  locals = named_too (LocalIs (knowing m n.constants t) (n.constants + 1)) n.locals name.text (local.Constant n.constants t)
+  locals = named_too (λ (key : List ℕ) (l : Local). LocalIs (knowing m n.constants t) (n.constants + 1) l) n.locals name.text (local.Constant n.constants t)
       (each_weaker (λ (e : List ℕ × Local). LocalIs m n.constants e.1) (λ (e : List ℕ × Local). LocalIs (knowing m n.constants t) (n.constants + 1) e.1)
       (λ e is. local_known m n.constants t e.1 is) n.locals h.locals)
       (last_known m n.constants t);
@@ -388,7 +397,7 @@ module _ (n : Scope) (m : Names) (class variable : Ident) (number : ℕ) (named_
     number = e.own ∙ h.number;
     in_rule = e.in_rule ∙ h.in_rule;
     loops = e.loops_are;
-    locals = named_too (LocalIs e.inner n.constants) n.locals variable.text (local.Loop n.loops (class_number n class.text))
+    locals = named_too (λ (key : List ℕ) (l : Local). LocalIs e.inner n.constants l) n.locals variable.text (local.Loop n.loops (class_number n class.text))
         (each_weaker (λ (l : List ℕ × Local). LocalIs m n.constants l.1) (λ (l : List ℕ × Local). LocalIs e.inner n.constants l.1) (λ l is. local_kept l.1 is) n.locals h.locals)
         (subst (λ (o : Option ℕ). LocalIs e.inner n.constants (local.Loop n.loops o)) (sym named_) e.over);
   }

@@ -28,9 +28,8 @@ use Rattle.brace_names.specs.Findings as f
 use Rattle.brace_names.specs.Found as names
 use Rattle.brace_names.specs.Found.{sought, declarations, class_names, too_many, position, found}
 use Rattle.brace_names.specs.Faults.{site_of, assignment_of}
-use Rattle.brace_names.proofs.ByKind.{Expressions, of_expression, ProvedStmt, stmts_of, Statements, proved, stmts-proved}
-use Rattle.brace_names.proofs.Folds.{of-Lit, of-True, of-False, of-Name, of-OfThis, of-OfLoop, of-Unary, of-Binary, of-Choice, of-Rand, of-Const, of-when, of-either, of-Foreach, of-Assign, of-AssignThis, of-AssignLoop}
-use Rattle.brace_names.proofs.WalkLemmas.{behind_same}
+use Rattle.brace_names.proofs.Folds.{Expressions, of_expression, ProvedStmt, stmts_of, Statements, proved, stmts-proved, of-Lit, of-True, of-False, of-Name, of-OfThis, of-OfLoop, of-Unary, of-Binary, of-Choice, of-Rand, of-Const, of-when, of-either, of-Foreach, of-Assign, of-AssignThis, of-AssignLoop}
+use Rattle.brace_names.proofs.StmtLemmas.{behind_same}
 use Rattle.brace_model.specs.declared.program.Expr.{Expr}
 use Rattle.brace_model.specs.declared.program.Stmt.{Stmt}
 use Rattle.brace_model.specs.declared.program.Stmt.TheVariants as stmt

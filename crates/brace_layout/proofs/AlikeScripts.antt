@@ -22,8 +22,7 @@ use Rattle.brace_check.specs.Resolved.{IsResolved}
 use Rattle.brace_layout.specs.Formatted.{IsFormatted}
 use Rattle.brace_layout.specs.Unplaced.{name_fault_at_0, check_fault_at_0, targets_in, class_at_0, program_at_0}
 use Rattle.brace_layout.proofs.NamesUnplaced.{nought, tree_at_0, faults_unplaced, targets_unplaced, script_zero}
-use Rattle.brace_layout.proofs.ExprZero.{SitedZero}
-use Rattle.brace_layout.proofs.ClassZero.{member_found, meant_script}
+use Rattle.brace_layout.proofs.ChecksZero.{SitedZero, member_found, meant_script}
 
 one_tree : (tree other : Tree) → Alike tree other → tree_at_0 tree ≡ tree_at_0 other
 one_tree tree other alike = ap (λ (classes : List ClassTree). record { classes = classes }) alike

@@ -1,6 +1,5 @@
 pub mod WalkZero
 pub mod NamesUnplaced
-pub mod ExprZero
-pub mod ClassZero
+pub mod ChecksZero
 pub mod AlikeScripts
 mod Examples

@@ -21,8 +21,7 @@ use Rattle.brace_names.specs.Tables.{look, with_name, table, repeated, repeated_
 use Rattle.brace_names.specs.Scopes.{Scope, is_taken, class_number, read, read_own, of_loop, Home, home_of, outermost}
 use Rattle.brace_names.specs.Findings as f
 use Rattle.brace_names.specs.Found.{expression, expression_step, sought, is_state, states_given, declarations, class_names, found}
-use Rattle.brace_names.proofs.ByKind.{Expressions, of_expression}
-use Rattle.brace_names.proofs.Folds.{of-Lit, of-True, of-False, of-Name, of-OfThis, of-OfLoop, of-Unary, of-Binary, of-Choice, of-Rand}
+use Rattle.brace_names.proofs.Folds.{Expressions, of_expression, of-Lit, of-True, of-False, of-Name, of-OfThis, of-OfLoop, of-Unary, of-Binary, of-Choice, of-Rand}
 use Rattle.brace_layout.specs.Unplaced.{name_fault_at_0, targets_in}
 use Rattle.brace_layout.proofs.WalkZero as walk
 use Rattle.brace_layout.proofs.WalkZero.{Unplaced, type_zero, many, block_zeroed}
@@ -75,11 +74,6 @@ loop_at : (variable name : Ident) (o : Option LoopField) → zeroed (f.names_of_
 loop_at variable name None = refl
 loop_at variable name (Some x) = refl
 
-loop_if_at : (test : Bool) (variable name : Ident) (o : Option LoopField)
-    → zeroed (if test then f.names_of_loop variable name o else []) ≡ (if test then f.names_of_loop (ident_at_0 variable) (ident_at_0 name) o else [])
-loop_if_at true variable name o = loop_at variable name o
-loop_if_at false variable name o = refl
-
 abbrev ExprUnplaced : ExprTree → Type 0
 ExprUnplaced x = (n : Scope) → zeroed (expression x n) ≡ expression (expr_at_0 x) n
 
@@ -98,7 +92,7 @@ kinds = record {
       (λ n. reads_at n at name (read_own n name.text));
   of_loop = λ variable name. through (e.OfLoop variable name) (e.OfLoop (ident_at_0 variable) (ident_at_0 name)) _ _
       (of-OfLoop expression_step variable name) (of-OfLoop expr_step variable name) (of-OfLoop expression_step (ident_at_0 variable) (ident_at_0 name))
-      (λ n. loop_if_at n.in_query variable name (of_loop n variable.text name.text));
+      (λ n. walk.either finding_at_0 n.in_query _ [] _ [] (loop_at variable name (of_loop n variable.text name.text)) refl);
   unary = λ op x at hx. through (e.Unary op x at) (e.Unary op (expr_at_0 x) 0) _ _ (of-Unary expression_step op x at) (of-Unary expr_step op x at) (of-Unary expression_step op (expr_at_0 x) 0)
       (λ n.
       let test : Bool = unary_faults (unary_named op) in
@@ -126,26 +120,19 @@ typed_at ty.Fixed = refl
 typed_at ty.Bool = refl
 typed_at (ty.Other name) = refl
 
-if_duplicate : (test : Bool) (at : ℕ) → zeroed (if test then f.fault (DuplicateName at) else []) ≡ (if test then f.fault (DuplicateName 0) else [])
-if_duplicate true at = refl
-if_duplicate false at = refl
-
 declares_at : (n : Scope) (name : Ident) → zeroed (f.declares n name) ≡ f.declares n (ident_at_0 name)
-declares_at n name = if_duplicate (is_taken n name.text) name.at
+declares_at n name = walk.either finding_at_0 (is_taken n name.text) (f.fault (DuplicateName name.at)) [] (f.fault (DuplicateName 0)) [] refl refl
 
 class_at : (at : ℕ) (o : Option ℕ) → zeroed (f.names_class at o) ≡ f.names_class 0 o
 class_at at None = refl
 class_at at (Some k) = refl
 
-other_at : (test : Bool) (at : ℕ) (o : Option ℕ)
-    → zeroed (if test then f.names_class at o else f.fault (UnknownClass at)) ≡ (if test then f.names_class 0 o else f.fault (UnknownClass 0))
-other_at true at o = class_at at o
-other_at false at o = refl
-
 loops_at : (n : Scope) (class other : Ident) → zeroed (f.loops_over n class other) ≡ f.loops_over n (ident_at_0 class) (ident_at_0 other)
 loops_at n class other =
     both (f.names_class class.at (class_number n class.text)) (f.names_again n class other) (f.names_class 0 (class_number n class.text)) (f.names_again n (ident_at_0 class) (ident_at_0 other))
-    (class_at class.at (class_number n class.text)) (other_at (bytes_eq class.text other.text) other.at (class_number n other.text))
+    (class_at class.at (class_number n class.text))
+    (walk.either finding_at_0 (bytes_eq class.text other.text) (f.names_class other.at (class_number n other.text)) (f.fault (UnknownClass other.at))
+    (f.names_class 0 (class_number n other.text)) (f.fault (UnknownClass 0)) (class_at other.at (class_number n other.text)) refl)
 
 field_at : (at : ℕ) (name : Ident) (o : Option Field) → zeroed (f.names_field at name o) ≡ f.names_field 0 (ident_at_0 name) o
 field_at at name None = refl
@@ -294,12 +281,7 @@ known_zero classes =
 titles_zero : (xs : List MemberTree) → map ident_at_0 (map title xs) ≡ map title (map member_at_0 xs)
 titles_zero [] = refl
 titles_zero (m.State shared type name x at ∷ xs) = ap (λ (l : List Ident). ident_at_0 name ∷ l) (titles_zero xs)
-titles_zero (m.Effect shared type name comb at ∷ xs) = ap (λ (l : List Ident). ident_at_0 name ∷ l) (titles_zero xs)
-titles_zero (m.Visible range at ∷ xs) = ap (λ (l : List Ident). record { text = codes "#visible"; at = 0 } ∷ l) (titles_zero xs)
-titles_zero (m.Reach range at ∷ xs) = ap (λ (l : List Ident). record { text = codes "#reach"; at = 0 } ∷ l) (titles_zero xs)
-titles_zero (m.Run block at ∷ xs) = ap (λ (l : List Ident). record { text = codes "run"; at = 0 } ∷ l) (titles_zero xs)
-titles_zero (m.Die x at ∷ xs) = ap (λ (l : List Ident). record { text = codes "die"; at = 0 } ∷ l) (titles_zero xs)
-titles_zero (m.Spawn x gifts at ∷ xs) = ap (λ (l : List Ident). record { text = codes "spawn"; at = 0 } ∷ l) (titles_zero xs)
+titles_zero (x ∷ xs) = ap (λ (l : List Ident). ident_at_0 (title x) ∷ l) (titles_zero xs)
 
 module _ (axis : List ℕ) where
   coordinate_zero : (x : MemberTree) → is_coordinate axis (member_at_0 x) ≡ is_coordinate axis x
@@ -312,15 +294,11 @@ module _ (axis : List ℕ) where
       ap (λ (b : Bool). b || list_any (is_coordinate axis) (map member_at_0 xs)) (coordinate_zero x)
       ∙ ap (λ (b : Bool). is_coordinate axis x || b) (coordinates_zero xs)
 
-position_if : (test : Bool) (at : ℕ) → zeroed (if test then [] else f.fault (fault.NoPosition at)) ≡ (if test then [] else f.fault (fault.NoPosition 0))
-position_if true at = refl
-position_if false at = refl
-
 position_zero : (class : ClassTree) → zeroed (names.position class) ≡ names.position (class_at_0 class)
 position_zero class =
     let a : Bool = list_any (is_coordinate (codes "x")) class.members in
     let b : Bool = list_any (is_coordinate (codes "y")) (map member_at_0 class.members) in
-    position_if (has_position class) class.name.at
+    walk.either finding_at_0 (has_position class) [] (f.fault (fault.NoPosition class.name.at)) [] (f.fault (fault.NoPosition 0)) refl refl
     ∙ (ap (λ (t : Bool). if a && t then [] else f.fault (fault.NoPosition 0)) (sym (coordinates_zero (codes "y") class.members))
     ∙ ap (λ (t : Bool). if t && b then [] else f.fault (fault.NoPosition 0)) (sym (coordinates_zero (codes "x") class.members)))
 

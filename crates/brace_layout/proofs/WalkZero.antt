@@ -1,6 +1,6 @@
 -- What is found in the statements of a script at place 0 is what is found in the script, at place 0, whatever is looked for.
-use Rattle.std.proofs.Common.{◌≡◌, refl, sym, ap, subst, ◌∙◌, ℕ, ◌+◌, List, [], ◌∷◌, ◌++◌, map, flat_map}
-use Rattle.std.specs.Prelude.{Some, None}
+use Rattle.std.proofs.Common.{◌≡◌, refl, sym, ap, subst, ◌∙◌, ℕ, ◌+◌, Bool, true, false, List, [], ◌∷◌, ◌++◌, map, flat_map}
+use Rattle.std.specs.Prelude.{Some, None, if◌then◌else◌}
 use mathlib.Core.List.{map-append}
 use Rattle.brace_syntax.specs.declared.tree.Ident.{Ident}
 use Rattle.brace_syntax.specs.declared.tree.TyName.{TyName}
@@ -8,14 +8,12 @@ use Rattle.brace_syntax.specs.declared.tree.TyName.TheVariants as tyname
 use Rattle.brace_syntax.specs.declared.tree.ExprTree.{ExprTree}
 use Rattle.brace_syntax.specs.declared.tree.StmtTree.{StmtTree}
 use Rattle.brace_syntax.specs.declared.tree.StmtTree.TheVariants as s
-use Rattle.brace_syntax.specs.declared.tree.MemberTree.{MemberTree}
 use Rattle.brace_show.specs.Alike.{ident_at_0, type_at_0, expr_at_0, stmt_step, stmt_at_0}
 use Rattle.brace_model.specs.declared.program.Ty.{Ty}
 use Rattle.brace_names.specs.Kinds.{type_named}
 use Rattle.brace_names.specs.Scopes.{Scope, inside, past, declaring}
 use Rattle.brace_names.specs.Walk.{Part, behind, constants_in, block, Sought, part_step, part_of}
-use Rattle.brace_names.proofs.ByKind.{ProvedStmt, stmts_of, Statements, proved, stmts-proved}
-use Rattle.brace_names.proofs.Folds.{of-Const, of-when, of-either, of-Foreach, of-Assign, of-AssignThis, of-AssignLoop}
+use Rattle.brace_names.proofs.Folds.{ProvedStmt, stmts_of, Statements, proved, stmts-proved, of-Const, of-when, of-either, of-Foreach, of-Assign, of-AssignThis, of-AssignLoop}
 use Rattle.brace_names.proofs.StmtLemmas.{constants-cons}
 
 -- a type keeps its kind
@@ -47,6 +45,11 @@ module _ {A : Type 0} (at_0 : A → A) where
 
   pub both : (xs ys a b : List A) → zeroed xs ≡ a → zeroed ys ≡ b → zeroed (xs ++ ys) ≡ a ++ b
   both xs ys a b h g = map-append at_0 xs ys ∙ (ap (λ (l : List A). l ++ zeroed ys) h ∙ ap (λ (l : List A). a ++ l) g)
+
+  -- of one thing or another
+  pub either : (test : Bool) (xs ys a b : List A) → zeroed xs ≡ a → zeroed ys ≡ b → zeroed (if test then xs else ys) ≡ (if test then a else b)
+  either true xs ys a b h g = h
+  either false xs ys a b h g = g
 
   -- of many things, where of each
   pub many : {X : Type 0} (f : X → List A) (x_at_0 : X → X) (xs : List X) → ((x : X) → zeroed (f x) ≡ f (x_at_0 x)) → zeroed (flat_map f xs) ≡ flat_map f (map x_at_0 xs)

@@ -3,8 +3,5 @@ pub mod RepeatLemmas
 pub mod PastLemmas
 pub mod FirstLemmas
 pub mod Folds
-pub mod ByKind
 pub mod StmtLemmas
-pub mod WalkLemmas
 pub mod NameOrder
-pub mod TreeOrder

@@ -1,4 +1,4 @@
--- The scope behind the statements of a block.
+-- The scope behind the statements of a block, and statements that declare the same.
 use Rattle.std.proofs.Common.{◌≡◌, refl, sym, ap, ◌∙◌, ℕ, ◌+◌, List, [], ◌∷◌, ◌++◌, take, length, append_assoc, arith, inl, inr}
 use Rattle.std.specs.Prelude.{Option, Some, None}
 use Rattle.std.proofs.lemmas.Bool.{cases_Bool}
@@ -72,3 +72,14 @@ module _ {A : Type 0} where
       let g : Grown scope (behind_all parts scope) (constants_in parts) = grows parts scope in
       ap (λ (s : Scope). record s { loops = scope.loops; locals = take (length scope.locals) s.locals }) (e ∙ g.is)
       ∙ ap (λ (l : List (List ℕ × Local)). record scope { locals = l; constants = scope.constants + constants_in parts }) (take-append_seam scope.locals g.more)
+
+-- two parts declare the same
+pub record Same {A B : Type 0} (p : Part A) (q : Part B) : Type 0 where
+  pub declared : p.declared ≡ q.declared
+  pub constants : p.constants ≡ q.constants
+
+-- so the scope behind them is one
+pub behind_same : {A B : Type 0} (p : Part A) (q : Part B) (scope : Scope) → Same p q → behind p scope ≡ behind q scope
+behind_same p q scope h =
+    ap (λ (d : Option (Ident × Ty)). past p.constants (declared_in d scope)) h.declared
+    ∙ ap (λ (k : ℕ). past k (declared_in q.declared scope)) h.constants
