@@ -42,17 +42,17 @@ none_of f (x ∷ xs) (y ∷ ys) same none = absurd (cc)
 pub none_either : (tree other : Tree) → Alike tree other → name_faults tree ≡ [] → name_faults other ≡ []
 none_either tree other alike none = none_of name_fault_at_0 (name_faults tree) (name_faults other) (same_name_faults tree other alike) none
 
--- the classes of a script with 0 in each place
-abbrev all_zero : Tree → Sited (List Class)
-all_zero tree = classes_from (known (tree_at_0 tree).classes) 0 (tree_at_0 tree).classes
+-- the classes of a script
+abbrev all_in : Tree → Sited (List Class)
+all_in tree = classes_from (known tree.classes) 0 tree.classes
 
 faults_zero : (r : Resolved) → map check_fault_at_0 (check_faults r) ≡ found (tree_at_0 r.tree)
 faults_zero r = script_zero check_fault_at_0 member member_found r.tree.classes
 
-program_zero : (r : Resolved) → program_at_0 (program_of r) ≡ program_with (all_zero r.tree)
+program_zero : (r : Resolved) → program_at_0 (program_of r) ≡ program_with (all_in (tree_at_0 r.tree))
 program_zero r =
-    let h : SitedZero (map class_at_0) (classes_from (known r.tree.classes) 0 r.tree.classes) (all_zero r.tree) = meant_script r.tree.classes in
-    ap (λ (l : List Class). record { classes = l; sites = map nought (program_of r).sites }) (h.means 0) ∙ ap (λ (l : List ℕ). record { classes = (all_zero r.tree).behind 0; sites = l }) h.sites
+    let h : SitedZero (map class_at_0) (all_in r.tree) (all_in (tree_at_0 r.tree)) = meant_script r.tree.classes in
+    ap (λ (l : List Class). record { classes = l; sites = map nought (program_of r).sites }) (h.means 0) ∙ ap (λ (l : List ℕ). record { classes = (all_in (tree_at_0 r.tree)).behind 0; sites = l }) h.sites
 
 module _ (r q : Resolved) (alike : Alike r.tree q.tree) where
   pub same_check_faults : map check_fault_at_0 (check_faults r) ≡ map check_fault_at_0 (check_faults q)
@@ -62,7 +62,7 @@ module _ (r q : Resolved) (alike : Alike r.tree q.tree) where
   clean_either none = none_of check_fault_at_0 (check_faults r) (check_faults q) same_check_faults none
 
   pub same_programs : program_at_0 (program_of r) ≡ program_at_0 (program_of q)
-  same_programs = program_zero r ∙ (ap (λ (t : Tree). program_with (all_zero t)) (one_tree r.tree q.tree alike) ∙ sym (program_zero q))
+  same_programs = program_zero r ∙ (ap (λ (t : Tree). program_with (all_in t)) (one_tree r.tree q.tree alike) ∙ sym (program_zero q))
 
 -- what a canonical text is resolved as
 module _ (src : List ℕ) (r : Resolved) (is : IsResolved src r) where
