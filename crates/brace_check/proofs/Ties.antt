@@ -188,12 +188,12 @@ found_entry p P (e ∷ table) x all is = elim (cases_Bool (p e.0)) [
 ]
 
 pub found_among : {K A : Type 0} (p : K → Bool) (P : A → Type 0) (table : List (K × A)) (x : A) → AllByRecursion (λ e. P e.1) table → lookup p table ≡ Some x → P x
-found_among p P table x all is = (found_entry p (λ (key : K) (x : A). P x) table x all is).is
+found_among {K = K} {A = A} p P table x all is = (found_entry p (λ (key : K) (x : A). P x) table x all is).is
 
 -- a table of names keeps what holds of its entries
 pub named_too : {A : Type 0} (P : List ℕ → A → Type 0) (table : List (List ℕ × A)) (name : List ℕ) (x : A) → AllByRecursion (λ e. P e.0 e.1) table → P name x
     → AllByRecursion (λ e. P e.0 e.1) (with_name table name x)
-named_too P table name x all this = elim (cases_Bool (has table name)) [
+named_too {A = A} P table name x all this = elim (cases_Bool (has table name)) [
   | inl there ↦ rw there all
   | inr new ↦ rw new (each_append (λ (e : List ℕ × A). P e.0 e.1) table ((name, x) ∷ []) all (this, tt))
 ]

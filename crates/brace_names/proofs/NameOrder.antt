@@ -357,11 +357,11 @@ of_class all number src _ _ (r.class a word name opening closing xs _ _ _ _ h) =
     over word _ _ (over name _ _ (over opening (a ++ closing ∷ []) _ (padded a (closing ∷ []) _
     (of_members (home_of all number (record { name = ident src name; members = xs; at = word.from })) src a xs h))))
 
-of_classes : (all : Known) (number : ℕ) (src : List ℕ) (toks : List Token) (xs : List ClassTree) → ReadsClasses src toks xs → Named toks (in_classes member all number xs)
-of_classes all number src _ _ (r.last a x h) =
+of_classes : (src : List ℕ) (all : Known) (number : ℕ) (toks : List Token) (xs : List ClassTree) → ReadsClasses src toks xs → Named toks (in_classes member all number xs)
+of_classes src all number _ _ (r.last a x h) =
     before_silent a (flat_map (member (home_of all number x)) x.members) [] (of_class all number src a x h) quiet_nothing
-of_classes all number src _ _ (r.more a b x xs h g) =
-    append a b (flat_map (member (home_of all number x)) x.members) (in_classes member all (number + 1) xs) (of_class all number src a x h) (of_classes all (number + 1) src b xs g)
+of_classes src all number _ _ (r.more a b x xs h g) =
+    append a b (flat_map (member (home_of all number x)) x.members) (in_classes member all (number + 1) xs) (of_class all number src a x h) (of_classes src all (number + 1) b xs g)
 
 quiet_too_many : (w : Which) (name : Option Ident) → Silent (too_many w name)
 quiet_too_many w None = quiet_nothing
@@ -392,4 +392,4 @@ of_script src toks tree h =
     let names : List Ident = map (λ class. class.name) tree.classes in
     before toks (class_names names ++ flat_map declarations tree.classes) (in_classes member (known tree.classes) 0 tree.classes)
     (silent_both (class_names names) (flat_map declarations tree.classes) (quiet_names names) (quiet_classes tree.classes))
-    (of_classes (known tree.classes) 0 src toks tree.classes h)
+    (of_classes src (known tree.classes) 0 toks tree.classes h)
