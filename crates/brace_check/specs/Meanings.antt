@@ -1,8 +1,6 @@
 -- What expressions and statements of a script mean: the same with numbers for names, and each site
 -- numbered by how many sites come before it in finishing order.
-use Rattle.std.specs.Prelude.{ℕ, nat_eq, ◌+◌, Bool, true, false, List, [], ◌∷◌, ◌++◌, length, Option, Some, None, if◌then◌else◌}
-use Rattle.brace_model.specs.declared.program.Ty.{Ty}
-use Rattle.brace_model.specs.declared.program.Ty.TheVariants as ty
+use Rattle.std.specs.Prelude.{ℕ, nat_eq, ◌+◌, Bool, true, false, List, [], ◌∷◌, ◌++◌, length, Option, Some, None, option_map, unwrap_or, if◌then◌else◌}
 use Rattle.brace_model.specs.declared.program.Value.{Value}
 use Rattle.brace_model.specs.declared.program.Value.TheVariants as val
 use Rattle.brace_model.specs.declared.program.Who.{Who}
@@ -11,7 +9,7 @@ use Rattle.brace_model.specs.declared.program.Expr.{Expr}
 use Rattle.brace_model.specs.declared.program.Expr.TheVariants as expr
 use Rattle.brace_model.specs.declared.program.Stmt.{Stmt}
 use Rattle.brace_model.specs.declared.program.Stmt.TheVariants as stmt
-use Rattle.brace_model.specs.Typing.{only, is_sum, unary_faults, binary_faults}
+use Rattle.brace_model.specs.Typing.{only, unary_faults, binary_faults}
 use Rattle.brace_syntax.specs.declared.tree.Ident.{Ident}
 use Rattle.brace_syntax.specs.declared.tree.Digits.{Digits}
 use Rattle.brace_syntax.specs.declared.tree.Digits.TheVariants as d
@@ -21,12 +19,17 @@ use Rattle.brace_syntax.specs.declared.tree.ExprTree.TheFolds.{fold-ExprTree}
 use Rattle.brace_syntax.specs.declared.tree.StmtTree.{StmtTree}
 use Rattle.brace_syntax.specs.declared.tree.StmtTree.TheOpen.{StmtTree-F, Const, If, Foreach, Assign, AssignThis, AssignLoop}
 use Rattle.brace_syntax.specs.declared.tree.StmtTree.TheFolds.{fold-StmtTree}
-use Rattle.brace_names.specs.declared.resolved.Target.{Target}
-use Rattle.brace_names.specs.declared.resolved.Target.TheVariants as target
-use Rattle.brace_check.specs.declared.heading.EffectHeading.{EffectHeading}
-use Rattle.brace_check.specs.Headings.{type_named}
-use Rattle.brace_check.specs.Scopes.{Scope, Part, stands, effect_in, number_of, inside, past, behind, constants_in}
-use Rattle.brace_check.specs.Types.{unary_named, binary_named}
+use Rattle.brace_names.specs.declared.declared.Field.{Field}
+use Rattle.brace_names.specs.declared.declared.Field.TheVariants as field
+use Rattle.brace_names.specs.declared.scope.Named.{Named}
+use Rattle.brace_names.specs.declared.scope.Named.TheVariants as named
+use Rattle.brace_names.specs.declared.scope.LoopField.{LoopField}
+use Rattle.brace_names.specs.Kinds.{type_named, unary_named, binary_named}
+use Rattle.brace_names.specs.Tables.{look}
+use Rattle.brace_names.specs.Scopes.{Scope, class_number, read, read_own, of_loop, inside, past}
+use Rattle.brace_names.specs.Walk.{Part, behind, constants_in, constants_otherwise}
+use Rattle.brace_names.specs.Walk as walk
+use Rattle.brace_names.specs.Findings.{is_summed}
 
 -- something with sites: their places in finishing order, and what it is behind so many sites of the
 -- script
@@ -47,27 +50,34 @@ abbrev pub literal : Digits → Value
 literal (d.Int n) = val.Int n
 literal (d.Fixed n) = val.Fixed n
 
--- the total of an effect of `this` that is named at a place; a sum is read at a site
-abbrev pub total : ℕ → ℕ → Option EffectHeading → Sited Expr
-total at i None = plain (expr.Total i ty.Int None)
-total at i (Some e) = record {
-  sites = site_if (is_sum e.comb) at;
-  behind = λ n. expr.Total i e.ty (only (is_sum e.comb) n);
-}
+-- the number of a field among the states or the effects of its class; of nothing 0
+abbrev pub number_of : Option Field → ℕ
+number_of None = 0
+number_of (Some (field.State n t shared)) = n
+number_of (Some (field.Effect n t shared c)) = n
 
--- a constant, or a field of `this`, that is named at a place
-abbrev pub named : Scope → ℕ → Option Target → Sited Expr
-named scope at (Some (target.Local n)) = plain (expr.Local n)
-named scope at (Some (target.Effect i)) = total at i (effect_in scope scope.own i)
-named scope at t = plain (expr.Field This (number_of t))
+-- what a name at a place stands for: a constant, or a state or the total of an effect of `this`
+abbrev pub named_as : Scope → ℕ → Option Named → Sited Expr
+named_as scope at (Some (named.Constant n t)) = plain (expr.Local n)
+named_as scope at (Some (named.Field (field.Effect n t shared c))) = record {
+  sites = site_if (is_summed scope (field.Effect n t shared c)) at;
+  behind = λ k. expr.Total n t (only (is_summed scope (field.Effect n t shared c)) k);
+}
+named_as scope at (Some (named.Field (field.State n t shared))) = plain (expr.Field This n)
+named_as scope at None = plain (expr.Field This 0)
 
 -- the agent of the loop that stands in so many loops
 abbrev pub loop_agent : ℕ → Who
 loop_agent n = if nat_eq n 0 then Outer else Inner
 
--- the agent that a loop variable stands for
-abbrev pub agent_of : Option Target → Who
-agent_of t = loop_agent (number_of t)
+-- the agent of the loop of a field
+abbrev pub agent_of : Option LoopField → Who
+agent_of None = Outer
+agent_of (Some x) = loop_agent x.loops
+
+-- the number of a field of the agent of a loop
+abbrev pub loop_number : Option LoopField → ℕ
+loop_number x = number_of (option_map (λ x. x.field) x)
 
 -- an operation on one operand at a place
 abbrev pub unary : Bool → ℕ → (Option ℕ → Expr → Expr) → Sited Expr → Sited Expr
@@ -98,10 +108,12 @@ abbrev pub expression_step : ExprTree-F (Scope → Sited Expr) → Scope → Sit
 expression_step (Lit number) scope = plain (expr.Lit (literal number.digits))
 expression_step (True at) scope = plain (expr.Lit (val.Flag true))
 expression_step (False at) scope = plain (expr.Lit (val.Flag false))
-expression_step (Name name) scope = named scope name.at (stands scope name.at)
-expression_step (OfThis name at) scope = named scope at (stands scope name.at)
+expression_step (Name name) scope = named_as scope name.at (read scope name.text)
+expression_step (OfThis name at) scope = named_as scope at (read_own scope name.text)
 expression_step (OfLoop variable name) scope =
-    plain (expr.Field (agent_of (stands scope variable.at)) (number_of (stands scope name.at)))
+    plain
+    (expr.Field (agent_of (of_loop scope variable.text name.text))
+    (loop_number (of_loop scope variable.text name.text)))
 expression_step (Unary op x at) scope =
     unary (unary_faults (unary_named op)) at (expr.Unary (unary_named op)) (x scope)
 expression_step (Binary op x y at) scope =
@@ -135,54 +147,47 @@ abbrev pub otherwise : Option (List (Part (Sited Stmt))) → Scope → Sited (Li
 otherwise None scope = plain []
 otherwise (Some parts) scope = block parts scope
 
-abbrev pub constants_otherwise : {A : Type 0} → Option (List (Part A)) → List Ty
-constants_otherwise None = []
-constants_otherwise (Some parts) = constants_in parts
-
 -- a value said to an effect of an agent, in a statement at a place
 abbrev pub assigned : Who → ℕ → ℕ → Sited Expr → Sited Stmt
 assigned who effect at x = with_sites (λ e. stmt.Assign who effect e at) x
 
--- `q.n <- x`
-abbrev pub assigned_of_loop : Ident → Ident → ExprTree → Scope → Sited Stmt
-assigned_of_loop variable name x scope =
-    assigned (agent_of (stands scope variable.at)) (number_of (stands scope name.at)) variable.at
-    (expression x scope)
+-- the number of the class of a name; of none 0
+abbrev pub number_in : Scope → Ident → ℕ
+number_in scope class = unwrap_or (class_number scope class.text) 0
+
+-- a value said to a field of `this`, in an assignment at a place
+abbrev pub said : ℕ → Ident → ExprTree → Scope → Sited Stmt
+said at name x scope =
+    assigned This (number_of (look scope.home.own name.text)) at (expression x scope)
+
+-- a value said to a field of the agent of a loop, in an assignment at a place
+abbrev pub said_to_loop : ℕ → Option LoopField → ExprTree → Scope → Sited Stmt
+said_to_loop at x value scope =
+    assigned (agent_of x) (loop_number x) at (expression value scope)
 
 -- a statement of each kind
 abbrev pub part_step : StmtTree-F (Part (Sited Stmt)) → Part (Sited Stmt)
 part_step (Const type name x at) = record {
-  constants = type_named type ∷ [];
-  here = λ scope. with_sites (stmt.Const (length scope.constants)) (expression x scope);
+  declared = Some (name, type_named type);
+  constants = 1;
+  here = λ scope. with_sites (stmt.Const scope.constants) (expression x scope);
 }
-part_step (If condition parts other at) = record {
-  constants = constants_in parts ++ constants_otherwise other;
-  here = λ scope.
-      followed (λ (c : Expr) (blocks : List Stmt × List Stmt). stmt.If c blocks.0 blocks.1)
-      (expression condition scope)
-      (followed (λ a b. (a, b)) (block parts scope)
-      (otherwise other (past (constants_in parts) scope)));
-}
-part_step (Foreach class variable other parts at) = record {
-  constants = constants_in parts;
-  here = λ scope.
-      with_sites (λ body. stmt.Foreach (number_of (stands scope class.at)) body at)
-      (block parts (inside (number_of (stands scope class.at)) scope));
-}
-part_step (Assign name x) = record {
-  constants = [];
-  here = λ scope. assigned This (number_of (stands scope name.at)) name.at (expression x scope);
-}
-part_step (AssignThis name x at) = record {
-  constants = [];
-  here = λ scope. assigned This (number_of (stands scope name.at)) at (expression x scope);
-}
-part_step (AssignLoop variable name x) = record {
-  constants = [];
-  here = λ scope.
-      assigned (agent_of (stands scope variable.at)) (number_of (stands scope name.at)) variable.at
-      (expression x scope);
-}
+part_step (If condition parts other at) =
+    walk.plain (constants_in parts + constants_otherwise other)
+    (λ scope. followed
+    (λ (c : Expr) (blocks : List Stmt × List Stmt). stmt.If c blocks.0 blocks.1)
+    (expression condition scope)
+    (followed (λ a b. (a, b)) (block parts scope)
+    (otherwise other (past (constants_in parts) scope))))
+part_step (Foreach class variable other parts at) =
+    walk.plain (constants_in parts)
+    (λ scope. with_sites (λ body. stmt.Foreach (number_in scope class) body at)
+    (block parts (inside class variable scope)))
+part_step (Assign name x) = walk.plain 0 (said name.at name x)
+part_step (AssignThis name x at) = walk.plain 0 (said at name x)
+part_step (AssignLoop variable name x) =
+    walk.plain 0
+    (λ scope. said_to_loop variable.at (of_loop scope variable.text name.text) x scope)
 
 -- what a statement means
 abbrev pub part : StmtTree → Part (Sited Stmt)

@@ -1,5 +1,0 @@
-use Rattle.brace_check.proofs.Accepted.{accepted_checked}
-use Rattle.brace_check.proofs.laws.accepted_programs_are_checked.Goals as goal
-
-pub returns : goal.returns
-returns c r h = accepted_checked r h
