@@ -40,6 +40,7 @@ use Rattle.brace_check.specs.Faults.{faults}
 use Rattle.brace_check.specs.Programs.{shares, class_of, classes_from, program_of}
 use Rattle.brace_check.specs.Order.{in_text_order}
 use Rattle.brace_check.specs.Resolved.{IsResolved}
+use Rattle.brace_check.specs.Checked.{CheckedClass, IsChecked}
 use Rattle.brace_check.proofs.Ties.{Heading, heading, heading_of, FieldsFit, Tied, all_back}
 use Rattle.brace_check.proofs.Sound.{nil_back}
 use Rattle.brace_check.proofs.Rising.{Rises, increasing_from_rises, front_rises, first_rises}
@@ -97,19 +98,43 @@ module _ (trees : List ClassTree) (program : Program) (kept : map heading_of pro
     locals = tt;
   }
 
-  class_lawful : (number : ℕ) (class : ClassTree) (n : ℕ) → slice_get trees number ≡ Some class → AllFine (declarations class)
-      → AllFine (flat_map (names.member (home_of (known trees) number class)) class.members)
-      → flat_map (member (home_of (known trees) number class)) class.members ≡ [] → WordedClass class
-      → LawfulClass program number ((class_of (home_of (known trees) number class) class).behind n)
-  class_lawful number class n at declared_ fine clean words =
-      let home : Home = home_of (known trees) number class in
-      let s : Share = (shares home class.members).behind n in
-      let hi : ℕ = n + length (shares home class.members).sites in
-      let r : SharesRise s n hi = shares_rise home class.members n in
+  abbrev home : ℕ → ClassTree → Home
+  home number class = home_of (known trees) number class
+
+  class_checked : (number : ℕ) (class : ClassTree) (n : ℕ) → slice_get trees number ≡ Some class
+      → flat_map (member (home number class)) class.members ≡ [] → CheckedClass program number ((class_of (home number class) class).behind n)
+  class_checked number class n at clean =
+      let h : Home = home number class in
+      let s : Share = (shares h class.members).behind n in
+      let hi : ℕ = n + length (shares h class.members).sites in
+      let r : SharesRise s n hi = shares_rise h class.members n in
       let query : List Stmt = unwrap_or (slice_get s.queries 0) [] in
-      let z : FromZero query = first_from_zero s.queries (from_zero home class.members n) in
+      let z : FromZero query = first_from_zero s.queries (from_zero h class.members n) in
       let rule : Names = rule_scope program number in
-      let in_rule : Tied (outermost home false) rule = scope_tied number class false at in
+      let in_rule : Tied (outermost h false) rule = scope_tied number class false at in
+      record {
+        visible_is_distance = visible_fits h class.members clean;
+        reach_is_distance = reach_fits h class.members clean;
+        effects_combine = effects_fit h class.members clean;
+        rules_are_typed = states_typed h rule in_rule class.members n clean;
+        die_is_typed = first_typed h rule in_rule s.die (deaths_typed h rule in_rule class.members n clean);
+        constants_in_range = constants_below query z;
+        constants_differ = constants_apart query z;
+        rule_sites_rise = increasing_from_rises n hi (ruled_sites s.states) r.rules;
+        die_sites_rise = increasing_from_rises n hi (sites_among (option_to_list (slice_get s.die 0))) (first_rises sites_of n hi s.die r.dies);
+        spawn_sites_rise = increasing_from_rises n hi (flat_map sites_of_spawn (option_to_list (slice_get s.spawn 0))) (first_rises sites_of_spawn n hi s.spawn r.spawns);
+        query_sites_rise = increasing_from_rises n hi (block_sites query) (first_query_rises n hi s.queries r.queries);
+      }
+
+  class_lawful : (number : ℕ) (class : ClassTree) (n : ℕ) → slice_get trees number ≡ Some class → AllFine (declarations class)
+      → AllFine (flat_map (names.member (home number class)) class.members)
+      → flat_map (member (home number class)) class.members ≡ [] → WordedClass class
+      → LawfulClass program number ((class_of (home number class) class).behind n)
+  class_lawful number class n at declared_ fine clean words =
+      let h : Home = home number class in
+      let s : Share = (shares h class.members).behind n in
+      let c : CheckedClass program number ((class_of h class).behind n) = class_checked number class n at clean in
+      let rule : Names = rule_scope program number in
       let again : List Finding = f.faults_at DuplicateName (repeated (map title class.members)) in
       let more : List Finding = too_many which.Fields (option_map (λ (one : Ident × Field). one.0) (slice_get (fields class) 64)) in
       let front : AllFine (again ++ more) = each_front Fine (again ++ more) (position class) declared_ in
@@ -119,30 +144,30 @@ module _ (trees : List ClassTree) (program : Program) (kept : map heading_of pro
       let placed : (list_any (is_coordinate (codes "x")) class.members ≡ true) × (list_any (is_coordinate (codes "y")) class.members ≡ true) =
       and_parts (list_any (is_coordinate (codes "x")) class.members) (list_any (is_coordinate (codes "y")) class.members) positioned in
       let ok : MembersOk s.states rule (query_scope program number) s =
-      members_ok home (flat_map state_called class.members) (own_called class) rule (query_scope program number) in_rule (scope_tied number class true at) (heading class) s.states (headed number class at)
-      (ap (λ (h : Heading). h.states) (class_kept home class n)) class.members n fine clean in
+      members_ok h (flat_map state_called class.members) (own_called class) rule (query_scope program number) (scope_tied number class false at) (scope_tied number class true at)
+      (heading class) s.states (headed number class at) (ap (λ (h : Heading). h.states) (class_kept h class n)) class.members n fine clean in
       let born : (is_spawn rule s.states (slice_get s.spawn 0) ≡ true) × IsDistinct nat_eq (given_states (slice_get s.spawn 0)) = first_born rule s.states s.spawn ok.born in
       record {
         class_is_named = words.named;
-        fields_are_named = fields_named home class.members n words.members;
-        field_names_differ = fields_differ home class.members n titles;
-        few_fields = subst (λ (k : ℕ). k ≤ 64) (fields_count home class.members n 0 0) few;
-        visible_is_distance = visible_fits home class.members clean;
-        reach_is_distance = reach_fits home class.members clean;
-        x_is_position = is_placed home (codes "x") class.members n titles placed.0;
-        y_is_position = is_placed home (codes "y") class.members n titles placed.1;
-        effects_combine = effects_fit home class.members clean;
-        rules_are_typed = states_typed home rule in_rule class.members n clean;
-        die_is_typed = first_typed home rule in_rule s.die (deaths_typed home rule in_rule class.members n clean);
+        fields_are_named = fields_named h class.members n words.members;
+        field_names_differ = fields_differ h class.members n titles;
+        few_fields = subst (λ (k : ℕ). k ≤ 64) (fields_count h class.members n 0 0) few;
+        visible_is_distance = c.visible_is_distance;
+        reach_is_distance = c.reach_is_distance;
+        x_is_position = is_placed h (codes "x") class.members n titles placed.0;
+        y_is_position = is_placed h (codes "y") class.members n titles placed.1;
+        effects_combine = c.effects_combine;
+        rules_are_typed = c.rules_are_typed;
+        die_is_typed = c.die_is_typed;
         spawn_is_typed = born.0;
         gifts_differ = born.1;
         query_is_typed = first_asked (query_scope program number) s.queries ok.asked;
-        constants_in_range = constants_below query z;
-        constants_differ = constants_apart query z;
-        rule_sites_rise = increasing_from_rises n hi (ruled_sites s.states) r.rules;
-        die_sites_rise = increasing_from_rises n hi (sites_among (option_to_list (slice_get s.die 0))) (first_rises sites_of n hi s.die r.dies);
-        spawn_sites_rise = increasing_from_rises n hi (flat_map sites_of_spawn (option_to_list (slice_get s.spawn 0))) (first_rises sites_of_spawn n hi s.spawn r.spawns);
-        query_sites_rise = increasing_from_rises n hi (block_sites query) (first_query_rises n hi s.queries r.queries);
+        constants_in_range = c.constants_in_range;
+        constants_differ = c.constants_differ;
+        rule_sites_rise = c.rule_sites_rise;
+        die_sites_rise = c.die_sites_rise;
+        spawn_sites_rise = c.spawn_sites_rise;
+        query_sites_rise = c.query_sites_rise;
       }
 
   -- classes that stand among all from a number on
@@ -157,26 +182,41 @@ module _ (trees : List ClassTree) (program : Program) (kept : map heading_of pro
       let next : number + suc i ≡ (number + 1) + i = omega arith in
       subst (λ (k : ℕ). slice_get trees k ≡ Some c) next (h (suc i) c is)
 
+  classes_checked : (number : ℕ) (classes : List ClassTree) (n : ℕ) → Among number classes → in_classes member (known trees) number classes ≡ []
+      → (k : ℕ) (c : Class) → slice_get ((classes_from (known trees) number classes).behind n) k ≡ Some c → (j : ℕ) → number + k ≡ j → CheckedClass program j c
+  classes_checked number [] n among clean k c is j at = absurd (cc)
+  classes_checked number (class ∷ classes) n among clean zero c is j at =
+      let same : (class_of (home number class) class).behind n ≡ c = cc in
+      let here : number ≡ j = omega (arith, at) in
+      subst (λ (i : ℕ). CheckedClass program i c) here
+      (subst (CheckedClass program number) same
+      (class_checked number class n (among_first number class classes among)
+      (none_front (flat_map (member (home number class)) class.members) (in_classes member (known trees) (number + 1) classes) clean)))
+  classes_checked number (class ∷ classes) n among clean (suc k) c is j at =
+      let there : (number + 1) + k ≡ j = omega (arith, at) in
+      classes_checked (number + 1) classes (n + length (class_of (home number class) class).sites) (among_rest number class classes among)
+      (nil_back (flat_map (member (home number class)) class.members) (in_classes member (known trees) (number + 1) classes) clean) k c is j there
+
   classes_lawful : (number : ℕ) (classes : List ClassTree) (n : ℕ) → Among number classes → AllFine (flat_map declarations classes) → AllFine (in_classes names.member (known trees) number classes)
       → in_classes member (known trees) number classes ≡ [] → AllByRecursion WordedClass classes
       → (k : ℕ) (c : Class) → slice_get ((classes_from (known trees) number classes).behind n) k ≡ Some c → (j : ℕ) → number + k ≡ j → LawfulClass program j c
   classes_lawful number [] n among declared_ fine clean words k c is j at = absurd (cc)
   classes_lawful number (class ∷ classes) n among declared_ fine clean words zero c is j at =
-      let home : Home = home_of (known trees) number class in
-      let same : (class_of home class).behind n ≡ c = cc in
+      let h : Home = home number class in
+      let same : (class_of h class).behind n ≡ c = cc in
       let here : number ≡ j = omega (arith, at) in
       subst (λ (i : ℕ). LawfulClass program i c) here
       (subst (LawfulClass program number) same
       (class_lawful number class n (among_first number class classes among) (each_front Fine (declarations class) (flat_map declarations classes) declared_)
-      (each_front Fine (flat_map (names.member home) class.members) (in_classes names.member (known trees) (number + 1) classes) fine)
-      (none_front (flat_map (member home) class.members) (in_classes member (known trees) (number + 1) classes) clean) words.0))
+      (each_front Fine (flat_map (names.member h) class.members) (in_classes names.member (known trees) (number + 1) classes) fine)
+      (none_front (flat_map (member h) class.members) (in_classes member (known trees) (number + 1) classes) clean) words.0))
   classes_lawful number (class ∷ classes) n among declared_ fine clean words (suc k) c is j at =
-      let home : Home = home_of (known trees) number class in
+      let h : Home = home number class in
       let there : (number + 1) + k ≡ j = omega (arith, at) in
-      classes_lawful (number + 1) classes (n + length (class_of home class).sites) (among_rest number class classes among)
+      classes_lawful (number + 1) classes (n + length (class_of h class).sites) (among_rest number class classes among)
       (all_back Fine (declarations class) (flat_map declarations classes) declared_)
-      (all_back Fine (flat_map (names.member home) class.members) (in_classes names.member (known trees) (number + 1) classes) fine)
-      (nil_back (flat_map (member home) class.members) (in_classes member (known trees) (number + 1) classes) clean) words.1 k c is j there
+      (all_back Fine (flat_map (names.member h) class.members) (in_classes names.member (known trees) (number + 1) classes) fine)
+      (nil_back (flat_map (member h) class.members) (in_classes member (known trees) (number + 1) classes) clean) words.1 k c is j there
 
 among_all : (trees : List ClassTree) (i : ℕ) (class : ClassTree) → slice_get trees i ≡ Some class → slice_get trees (0 + i) ≡ Some class
 among_all trees i class at = let same : i ≡ 0 + i = omega arith in subst (λ (k : ℕ). slice_get trees k ≡ Some class) same at
@@ -192,6 +232,13 @@ class_names-map : (all : Known) (number : ℕ) (classes : List ClassTree) (n : �
 class_names-map all number [] n = refl
 class_names-map all number (class ∷ classes) n =
     ap (λ (l : List (List ℕ)). class.name.text ∷ l) (class_names-map all (number + 1) classes (n + length (class_of (home_of all number class) class).sites))
+
+-- whatever the checks of names find
+pub accepted_checked : (r : Resolved) → faults r ≡ [] → IsChecked (program_of r)
+accepted_checked r clean number class is =
+    let trees : List ClassTree = r.tree.classes in
+    let at : 0 + number ≡ number = omega arith in
+    classes_checked trees (program_of r) (classes_kept (known trees) 0 trees 0) 0 trees 0 (among_all trees) clean number class is number at
 
 module _ (src : List ℕ) (r : Resolved) (is : IsResolved src r) where
   abbrev trees_ : List ClassTree

@@ -6,3 +6,4 @@ pub mod Meanings
 pub mod Programs
 pub mod Order
 pub mod Resolved
+pub mod Checked
