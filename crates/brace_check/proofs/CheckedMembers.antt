@@ -97,18 +97,18 @@ pub record FromZero (b : List Stmt) : Type 0 where
   pub declares : BlockDeclares b 0 count
 
 module _ (home : Home) where
-  one_from_zero : (one : MemberTree) (n : ℕ) → AllByRecursion FromZero ((share home one).behind n).queries
+  one_from_zero : (one : MemberTree) (n : List ℕ) → AllByRecursion FromZero (share home one n).0.queries
   one_from_zero (m.Run statements at) n =
       (record { count = _; declares = (block_numbers statements).declares (outermost home true) n }, tt)
   one_from_zero _ n = tt
 
   -- the constants of each query are numbered from 0 on
-  pub from_zero : (members : List MemberTree) (n : ℕ) → AllByRecursion FromZero ((shares home members).behind n).queries
+  pub from_zero : (members : List MemberTree) (n : List ℕ) → AllByRecursion FromZero (shares home members n).0.queries
   from_zero [] n = tt
   from_zero (one ∷ members) n =
-      each_append FromZero ((share home one).behind n).queries
-      ((shares home members).behind (n + length (share home one).sites)).queries
-      (one_from_zero one n) (from_zero members (n + length (share home one).sites))
+      each_append FromZero (share home one n).0.queries
+      (shares home members (share home one n).1).0.queries
+      (one_from_zero one n) (from_zero members (share home one n).1)
 
 -- the first of them
 pub first_from_zero : (queries : List (List Stmt)) → AllByRecursion FromZero queries → FromZero (unwrap_or (slice_get queries 0) [])
@@ -134,16 +134,16 @@ constants_apart b z =
     subst (IsDistinct nat_eq) (sym z.declares.numbers) (rising_differ 0 (range_with_len 0 z.count) (are_rising 0 (0 + z.count) (range_with_len 0 z.count) (range_rises 0 z.count)))
 
 -- a program keeps what its script declares
-state_kept : (home : Home) (one : MemberTree) (n : ℕ) → map state_heading ((share home one).behind n).states ≡ state_declared one
+state_kept : (home : Home) (one : MemberTree) (n : List ℕ) → map state_heading (share home one n).0.states ≡ state_declared one
 state_kept home (m.State shared type name x at) n = refl
 state_kept home _ n = refl
 
-states_kept : (home : Home) (members : List MemberTree) (n : ℕ) → map state_heading ((shares home members).behind n).states ≡ flat_map state_declared members
+states_kept : (home : Home) (members : List MemberTree) (n : List ℕ) → map state_heading (shares home members n).0.states ≡ flat_map state_declared members
 states_kept home [] n = refl
 states_kept home (one ∷ members) n =
-    let a : List State = ((share home one).behind n).states in
-    let k : ℕ = n + length (share home one).sites in
-    let b : List State = ((shares home members).behind k).states in
+    let a : List State = (share home one n).0.states in
+    let k : List ℕ = (share home one n).1 in
+    let b : List State = (shares home members k).0.states in
     map-append state_heading a b
     ∙ (ap (λ (l : List StateHeading). l ++ map state_heading b) (state_kept home one n)
     ∙ ap (λ (l : List StateHeading). state_declared one ++ l) (states_kept home members k))
@@ -154,39 +154,39 @@ effects_kept (m.Effect shared type name c at ∷ members) =
     ap (λ (l : List EffectHeading). record { ty = type_named type; shared = shared; comb = comb_named c } ∷ l) (effects_kept members)
 effects_kept (_ ∷ members) = effects_kept members
 
-pub class_kept : (home : Home) (class : ClassTree) (n : ℕ) → heading_of ((class_of home class).behind n) ≡ heading class
+pub class_kept : (home : Home) (class : ClassTree) (n : List ℕ) → heading_of (class_of home class n).0 ≡ heading class
 class_kept home class n =
     ap (λ (states : List StateHeading). record { states = states; effects = map effect_heading (flat_map effect_of class.members) }) (states_kept home class.members n)
     ∙ ap (λ (effects : List EffectHeading). record { states = flat_map state_declared class.members; effects = effects }) (effects_kept class.members)
 
-pub classes_kept : (all : Known) (number : ℕ) (classes : List ClassTree) (n : ℕ) → map heading_of ((classes_from all number classes).behind n) ≡ map heading classes
+pub classes_kept : (all : Known) (number : ℕ) (classes : List ClassTree) (n : List ℕ) → map heading_of (classes_from all number classes n).0 ≡ map heading classes
 classes_kept all number [] n = refl
 classes_kept all number (class ∷ classes) n =
     let home : Home = home_of all number class in
-    let k : ℕ = n + length (class_of home class).sites in
-    ap (λ (h : Heading). h ∷ map heading_of ((classes_from all (number + 1) classes).behind k)) (class_kept home class n)
+    let k : List ℕ = (class_of home class n).1 in
+    ap (λ (h : Heading). h ∷ map heading_of (classes_from all (number + 1) classes k).0) (class_kept home class n)
     ∙ ap (λ (l : List Heading). heading class ∷ l) (classes_kept all (number + 1) classes k)
 
 module _ (home : Home) (names : Names) (tied : Tied (outermost home false) names) where
   -- a value in which nothing is found
-  value_typed : (want : Ty) (x : ExprTree) (n : ℕ) → valued (Some want) x (outermost home false) ≡ []
-      → is_of_type want (type_in ((expression x (outermost home false)).behind n) names) ≡ true
+  value_typed : (want : Ty) (x : ExprTree) (n : List ℕ) → valued (Some want) x (outermost home false) ≡ []
+      → is_of_type want (type_in (expression x (outermost home false) n).0 names) ≡ true
   value_typed want x n h = ap (is_of_type want) (has_type (outermost home false) names tied x n want h) ∙ same-self want
 
   abbrev ruled : State → Bool
   ruled s = is_ruled names s.ty s.rule
 
-  state_typed : (one : MemberTree) (n : ℕ) → member home one ≡ [] → list_all ruled ((share home one).behind n).states ≡ true
+  state_typed : (one : MemberTree) (n : List ℕ) → member home one ≡ [] → list_all ruled (share home one n).0.states ≡ true
   state_typed (m.State shared type name (Some x) at) n h =
-      and_from (is_of_type (type_named type) (type_in ((expression x (outermost home false)).behind n) names)) true (value_typed (type_named type) x n h) refl
+      and_from (is_of_type (type_named type) (type_in (expression x (outermost home false) n).0 names)) true (value_typed (type_named type) x n h) refl
   state_typed _ n h = refl
 
-  pub states_typed : (members : List MemberTree) (n : ℕ) → flat_map (member home) members ≡ [] → list_all ruled ((shares home members).behind n).states ≡ true
+  pub states_typed : (members : List MemberTree) (n : List ℕ) → flat_map (member home) members ≡ [] → list_all ruled (shares home members n).0.states ≡ true
   states_typed [] n h = refl
   states_typed (one ∷ members) n h =
-      let a : List State = ((share home one).behind n).states in
-      let k : ℕ = n + length (share home one).sites in
-      let b : List State = ((shares home members).behind k).states in
+      let a : List State = (share home one n).0.states in
+      let k : List ℕ = (share home one n).1 in
+      let b : List State = (shares home members k).0.states in
       list_all-append ruled a b
       ∙ and_from (list_all ruled a) (list_all ruled b)
       (state_typed one n (none_front (member home one) (flat_map (member home) members) h))
@@ -195,15 +195,15 @@ module _ (home : Home) (names : Names) (tied : Tied (outermost home false) names
   abbrev bool_typed : Expr → Type 0
   bool_typed e = is_of_type ty.Bool (type_in e names) ≡ true
 
-  death_typed : (one : MemberTree) (n : ℕ) → member home one ≡ [] → AllByRecursion bool_typed ((share home one).behind n).die
+  death_typed : (one : MemberTree) (n : List ℕ) → member home one ≡ [] → AllByRecursion bool_typed (share home one n).0.die
   death_typed (m.Die x at) n h = (value_typed ty.Bool x n h, tt)
   death_typed _ n h = tt
 
-  pub deaths_typed : (members : List MemberTree) (n : ℕ) → flat_map (member home) members ≡ [] → AllByRecursion bool_typed ((shares home members).behind n).die
+  pub deaths_typed : (members : List MemberTree) (n : List ℕ) → flat_map (member home) members ≡ [] → AllByRecursion bool_typed (shares home members n).0.die
   deaths_typed [] n h = tt
   deaths_typed (one ∷ members) n h =
-      let k : ℕ = n + length (share home one).sites in
-      each_append bool_typed ((share home one).behind n).die ((shares home members).behind k).die
+      let k : List ℕ = (share home one n).1 in
+      each_append bool_typed (share home one n).0.die (shares home members k).0.die
       (death_typed one n (none_front (member home one) (flat_map (member home) members) h))
       (deaths_typed members k (nil_back (member home one) (flat_map (member home) members) h))
 
@@ -232,7 +232,7 @@ record GiftOk (n : Scope) (m : Names) (states : List State) (g : GiftTree) : Typ
   ty : Ty
   shared : Bool
   named : look n.home.own g.state.text ≡ Some (field.State number ty shared)
-  given : (k : ℕ) → is_given m states (record { state = number_given n g; value = (expression g.value n).behind k }) ≡ true
+  given : (k : List ℕ) → is_given m states (record { state = number_given n g; value = (expression g.value n k).0 }) ≡ true
 
 all_states : (own : List (List ℕ × Field)) (names_ : List Ident) → AllByRecursion (λ name. is_state (look own name.text) ≡ true) names_
     → filter (λ name. is_state (look own name.text)) names_ ≡ names_
@@ -257,7 +257,7 @@ module _ (n : Scope) (m : Names) (tied : Tied n m) (hd : Heading) (states : List
         shared = shared;
         named = is;
         given = λ k.
-            let typed : type_in ((expression g.value n).behind k) m ≡ Some t = has_type n m tied g.value k t clean in
+            let typed : type_in (expression g.value n k).0 m ≡ Some t = has_type n m tied g.value k t clean in
             let found : slice_get states (number_given n g) ≡ Some st.state = ap (λ (o : Option Field). slice_get states (number_of o)) is ∙ st.is in
             rw found (ap (is_of_type st.state.ty) typed ∙ (ap (λ (u : Ty). is_of_type u (Some t)) st.typed ∙ same-self t));
       }
@@ -270,16 +270,16 @@ module _ (n : Scope) (m : Names) (tied : Tied n m) (hd : Heading) (states : List
   gifts_ok (g ∷ gifts) clean =
       (gift_ok g (none_front (checks.gift n g) (flat_map (checks.gift n) gifts) clean), gifts_ok gifts (nil_back (checks.gift n g) (flat_map (checks.gift n) gifts) clean))
 
-  all_given : (gifts : List GiftTree) (k : ℕ) → AllByRecursion (GiftOk n m states) gifts → list_all (is_given m states) ((gifts_in gifts n).behind k) ≡ true
+  all_given : (gifts : List GiftTree) (k : List ℕ) → AllByRecursion (GiftOk n m states) gifts → list_all (is_given m states) (gifts_in gifts n k).0 ≡ true
   all_given [] k h = refl
   all_given (g ∷ gifts) k h =
-      let j : ℕ = k + length (expression g.value n).sites in
-      and_from (is_given m states (record { state = number_given n g; value = (expression g.value n).behind k })) (list_all (is_given m states) ((gifts_in gifts n).behind j))
+      let j : List ℕ = (expression g.value n k).1 in
+      and_from (is_given m states (record { state = number_given n g; value = (expression g.value n k).0 })) (list_all (is_given m states) (gifts_in gifts n j).0)
       (h.0.given k) (all_given gifts j h.1)
 
-  gifts_numbers : (gifts : List GiftTree) (k : ℕ) → map (λ (g : Gift). g.state) ((gifts_in gifts n).behind k) ≡ map (number_given n) gifts
+  gifts_numbers : (gifts : List GiftTree) (k : List ℕ) → map (λ (g : Gift). g.state) (gifts_in gifts n k).0 ≡ map (number_given n) gifts
   gifts_numbers [] k = refl
-  gifts_numbers (g ∷ gifts) k = ap (λ (l : List ℕ). number_given n g ∷ l) (gifts_numbers gifts (k + length (expression g.value n).sites))
+  gifts_numbers (g ∷ gifts) k = ap (λ (l : List ℕ). number_given n g ∷ l) (gifts_numbers gifts (expression g.value n k).1)
 
   are_states : (gifts : List GiftTree) → AllByRecursion (GiftOk n m states) gifts → AllByRecursion (λ (name : Ident). is_state (look n.home.own name.text) ≡ true) (given_names gifts)
   are_states [] h = tt
@@ -344,20 +344,20 @@ module _ (home : Home) (called : List (List ℕ)) (are_called : AllByRecursion (
   abbrev scope_ : Scope
   scope_ = outermost home false
 
-  spawn_ok : (x : ExprTree) (gifts : List GiftTree) (at k : ℕ) → AllFine (names.member home (m.Spawn x gifts at)) → checks.member home (m.Spawn x gifts at) ≡ []
-      → MembersOk states rule query ((share home (m.Spawn x gifts at)).behind k)
+  spawn_ok : (x : ExprTree) (gifts : List GiftTree) (at : ℕ) (k : List ℕ) → AllFine (names.member home (m.Spawn x gifts at)) → checks.member home (m.Spawn x gifts at) ≡ []
+      → MembersOk states rule query (share home (m.Spawn x gifts at) k).0
   spawn_ok x gifts at k fine clean =
       let given : List Finding = flat_map (names.gift scope_) gifts in
       let again : List Finding = f.faults_at DuplicateName (repeated (states_given scope_ gifts)) in
       let value : List CheckFault = valued (Some ty.Bool) x scope_ in
       let both : AllFine (given ++ again) = each_front Fine (given ++ again) (f.site at) (all_back Fine (names.expression x scope_) (gifts_found scope_ gifts at) fine) in
       let g : AllByRecursion (GiftOk scope_ rule states) gifts = gifts_ok scope_ rule in_rule hd states there kept gifts (nil_back value (flat_map (checks.gift scope_) gifts) clean) in
-      let j : ℕ = k + length (expression x scope_).sites in
+      let j : List ℕ = (expression x scope_ k).1 in
       record {
         asked = tt;
         born = (
           record {
-            is = and_from (is_of_type ty.Bool (type_in ((expression x scope_).behind k) rule)) (list_all (is_given rule states) ((gifts_in gifts scope_).behind j))
+            is = and_from (is_of_type ty.Bool (type_in (expression x scope_ k).0 rule)) (list_all (is_given rule states) (gifts_in gifts scope_ j).0)
                 (ap (is_of_type ty.Bool) (has_type scope_ rule in_rule x k ty.Bool (none_front value (flat_map (checks.gift scope_) gifts) clean)))
                 (all_given scope_ rule in_rule hd states there kept gifts j g);
             differ = subst (IsDistinct nat_eq) (sym (gifts_numbers scope_ rule in_rule hd states there kept gifts j))
@@ -367,24 +367,24 @@ module _ (home : Home) (called : List (List ℕ)) (are_called : AllByRecursion (
         );
       }
 
-  member_ok : (x : MemberTree) (k : ℕ) → AllFine (names.member home x) → checks.member home x ≡ [] → MembersOk states rule query ((share home x).behind k)
+  member_ok : (x : MemberTree) (k : List ℕ) → AllFine (names.member home x) → checks.member home x ≡ [] → MembersOk states rule query (share home x k).0
   member_ok (m.Run xs at) k fine clean =
       let run : RunSound (map part xs) (outermost home true) query k = block_sound xs (outermost home true) query in_query clean k in
       record { asked = (ap is_some run.gives, tt); born = tt }
   member_ok (m.Spawn x gifts at) k fine clean = spawn_ok x gifts at k fine clean
   member_ok _ k fine clean = record { asked = tt; born = tt }
 
-  pub members_ok : (xs : List MemberTree) (k : ℕ) → AllFine (flat_map (names.member home) xs) → flat_map (checks.member home) xs ≡ [] → MembersOk states rule query ((shares home xs).behind k)
+  pub members_ok : (xs : List MemberTree) (k : List ℕ) → AllFine (flat_map (names.member home) xs) → flat_map (checks.member home) xs ≡ [] → MembersOk states rule query (shares home xs k).0
   members_ok [] k fine clean = record { asked = tt; born = tt }
   members_ok (x ∷ xs) k fine clean =
-      let j : ℕ = k + length (share home x).sites in
-      let h : MembersOk states rule query ((share home x).behind k) =
+      let j : List ℕ = (share home x k).1 in
+      let h : MembersOk states rule query (share home x k).0 =
       member_ok x k (each_front Fine (names.member home x) (flat_map (names.member home) xs) fine) (none_front (checks.member home x) (flat_map (checks.member home) xs) clean) in
-      let g : MembersOk states rule query ((shares home xs).behind j) =
+      let g : MembersOk states rule query (shares home xs j).0 =
       members_ok xs j (all_back Fine (names.member home x) (flat_map (names.member home) xs) fine) (nil_back (checks.member home x) (flat_map (checks.member home) xs) clean) in
       record {
-        asked = each_append (Asked query) ((share home x).behind k).queries ((shares home xs).behind j).queries h.asked g.asked;
-        born = each_append (Born rule states) ((share home x).behind k).spawn ((shares home xs).behind j).spawn h.born g.born;
+        asked = each_append (Asked query) (share home x k).0.queries (shares home xs j).0.queries h.asked g.asked;
+        born = each_append (Born rule states) (share home x k).0.spawn (shares home xs j).0.spawn h.born g.born;
       }
 
 -- the first of them

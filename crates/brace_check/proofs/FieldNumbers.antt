@@ -244,10 +244,10 @@ has_its_position class fine = positioned (has_position class) _ fine (λ h. h.0)
 
 -- the names of the states and effects of members are among their titles
 module _ (home : Home) where
-  abbrev states_at : List MemberTree → ℕ → List State
-  states_at members n = ((shares home members).behind n).states
+  abbrev states_at : List MemberTree → List ℕ → List State
+  states_at members n = (shares home members n).0.states
 
-  abbrev state_names : List MemberTree → ℕ → List (List ℕ)
+  abbrev state_names : List MemberTree → List ℕ → List (List ℕ)
   state_names members n = map (λ s. s.name) (states_at members n)
 
   abbrev effect_names : List MemberTree → List (List ℕ)
@@ -257,31 +257,31 @@ module _ (home : Home) where
   titles members = map text (map title members)
 
   -- how many there are
-  pub fields_count : (members : List MemberTree) (n states effects : ℕ)
+  pub fields_count : (members : List MemberTree) (n : List ℕ) (states effects : ℕ)
       → length (fields_behind states effects members) ≡ length (states_at members n) + length (flat_map effect_of members)
   fields_count [] n states effects = refl
   fields_count (m.State shared type name x at ∷ members) n states effects =
-      let k : ℕ = n + length (share home (m.State shared type name x at)).sites in
+      let k : List ℕ = (share home (m.State shared type name x at) n).1 in
       let rest : length (fields_behind (states + 1) effects members) ≡ length (states_at members k) + length (flat_map effect_of members) = fields_count members k (states + 1) effects in
       let total : suc (length (fields_behind (states + 1) effects members)) ≡ suc (length (states_at members k)) + length (flat_map effect_of members) = omega (arith, rest) in
       total
   fields_count (m.Effect shared type name c at ∷ members) n states effects =
-      let k : ℕ = n + length (share home (m.Effect shared type name c at)).sites in
+      let k : List ℕ = (share home (m.Effect shared type name c at) n).1 in
       let rest : length (fields_behind states (effects + 1) members) ≡ length (states_at members k) + length (flat_map effect_of members) = fields_count members k states (effects + 1) in
       let total : suc (length (fields_behind states (effects + 1) members)) ≡ length (states_at members k) + suc (length (flat_map effect_of members)) = omega (arith, rest) in
       total
-  fields_count (one ∷ members) n states effects = fields_count members (n + length (share home one).sites) states effects
+  fields_count (one ∷ members) n states effects = fields_count members (share home one n).1 states effects
 
   -- a name that is apart from all titles is apart from all fields
-  apart_from : (name : List ℕ) (members : List MemberTree) (n : ℕ) → Apart name (titles members) → Apart name (state_names members n) × Apart name (effect_names members)
+  apart_from : (name : List ℕ) (members : List MemberTree) (n : List ℕ) → Apart name (titles members) → Apart name (state_names members n) × Apart name (effect_names members)
   apart_from name [] n h = (tt, tt)
   apart_from name (m.State shared type word x at ∷ members) n h =
-      let rest : Apart name (state_names members _) × Apart name (effect_names members) = apart_from name members (n + length (share home (m.State shared type word x at)).sites) h.1 in
+      let rest : Apart name (state_names members _) × Apart name (effect_names members) = apart_from name members (share home (m.State shared type word x at) n).1 h.1 in
       ((h.0, rest.0), rest.1)
   apart_from name (m.Effect shared type word c at ∷ members) n h =
-      let rest : Apart name (state_names members (n + 0)) × Apart name (effect_names members) = apart_from name members (n + 0) h.1 in
+      let rest : Apart name (state_names members n) × Apart name (effect_names members) = apart_from name members n h.1 in
       (rest.0, (h.0, rest.1))
-  apart_from name (one ∷ members) n h = apart_from name members (n + length (share home one).sites) h.1
+  apart_from name (one ∷ members) n h = apart_from name members (share home one n).1 h.1
 
   insert : (x one : List ℕ) (xs ys : List (List ℕ)) → Apart x (xs ++ ys) → bytes_eq x one ≡ false → Apart x (xs ++ one ∷ ys)
   insert x one [] ys h apart = (apart, h)
@@ -295,17 +295,17 @@ module _ (home : Home) where
       (insert x one xs ys h.0 (bytes-apart one x here.0), differ_between one xs ys h.1 here.1 there)
 
   -- the fields of a class have names of their own each
-  pub fields_differ : (members : List MemberTree) (n : ℕ) → IsDistinct bytes_eq (titles members) → IsDistinct bytes_eq (state_names members n ++ effect_names members)
+  pub fields_differ : (members : List MemberTree) (n : List ℕ) → IsDistinct bytes_eq (titles members) → IsDistinct bytes_eq (state_names members n ++ effect_names members)
   unfolding IsDistinct
   fields_differ [] n h = tt
   fields_differ (m.State shared type name x at ∷ members) n h =
-      let k : ℕ = n + length (share home (m.State shared type name x at)).sites in
+      let k : List ℕ = (share home (m.State shared type name x at) n).1 in
       let apart : Apart name.text (state_names members k) × Apart name.text (effect_names members) = apart_from name.text members k h.0 in
       (each_append (λ other. bytes_eq name.text other ≡ false) (state_names members k) (effect_names members) apart.0 apart.1, fields_differ members k h.1)
   fields_differ (m.Effect shared type name c at ∷ members) n h =
-      let apart : Apart name.text (state_names members (n + 0)) × Apart name.text (effect_names members) = apart_from name.text members (n + 0) h.0 in
-      differ_between name.text (state_names members (n + 0)) (effect_names members) (fields_differ members (n + 0) h.1) apart.0 apart.1
-  fields_differ (one ∷ members) n h = fields_differ members (n + length (share home one).sites) h.1
+      let apart : Apart name.text (state_names members n) × Apart name.text (effect_names members) = apart_from name.text members n h.0 in
+      differ_between name.text (state_names members n) (effect_names members) (fields_differ members n h.1) apart.0 apart.1
+  fields_differ (one ∷ members) n h = fields_differ members (share home one n).1 h.1
 
   -- a coordinate is the first state of its name
   abbrev placed : List ℕ → List State → Bool
@@ -348,13 +348,13 @@ module _ (home : Home) where
   stands_later axis false type name x at members apart is = is
 
   -- a class with a coordinate has its place
-  pub is_placed : (axis : List ℕ) (members : List MemberTree) (n : ℕ) → IsDistinct bytes_eq (titles members) → list_any (is_coordinate axis) members ≡ true
+  pub is_placed : (axis : List ℕ) (members : List MemberTree) (n : List ℕ) → IsDistinct bytes_eq (titles members) → list_any (is_coordinate axis) members ≡ true
       → placed axis (states_at members n) ≡ true
   unfolding IsDistinct
   is_placed axis [] n h is = absurd (true≢false (sym is))
   is_placed axis (m.State shared type name x at ∷ members) n h is =
-      let k : ℕ = n + length (share home (m.State shared type name x at)).sites in
-      let s : State = record { name = name.text; ty = type_named type; shared = shared; rule = (rule x (outermost home false)).behind n } in
+      let k : List ℕ = (share home (m.State shared type name x at) n).1 in
+      let s : State = record { name = name.text; ty = type_named type; shared = shared; rule = (rule x (outermost home false) n).0 } in
       elim (cases_Bool (bytes_eq name.text axis)) [
         | inl same ↦
             let one : name.text ≡ axis = (bytes_eq-Decides name.text axis).0 same in
@@ -364,4 +364,4 @@ module _ (home : Home) where
             placed_later axis s (states_at members k) apart
             ∙ is_placed axis members k h.1 (stands_later axis shared type name x at members (bytes-apart name.text axis apart) is)
       ]
-  is_placed axis (one ∷ members) n h is = is_placed axis members (n + length (share home one).sites) h.1 is
+  is_placed axis (one ∷ members) n h is = is_placed axis members (share home one n).1 h.1 is

@@ -101,13 +101,14 @@ module _ (trees : List ClassTree) (program : Program) (kept : map heading_of pro
   abbrev home : ℕ → ClassTree → Home
   home number class = home_of (known trees) number class
 
-  class_checked : (number : ℕ) (class : ClassTree) (n : ℕ) → slice_get trees number ≡ Some class
-      → flat_map (member (home number class)) class.members ≡ [] → CheckedClass program number ((class_of (home number class) class).behind n)
+  class_checked : (number : ℕ) (class : ClassTree) (n : List ℕ) → slice_get trees number ≡ Some class
+      → flat_map (member (home number class)) class.members ≡ [] → CheckedClass program number (class_of (home number class) class n).0
   class_checked number class n at clean =
       let h : Home = home number class in
-      let s : Share = (shares h class.members).behind n in
-      let hi : ℕ = n + length (shares h class.members).sites in
-      let r : SharesRise s n hi = shares_rise h class.members n in
+      let s : Share = (shares h class.members n).0 in
+      let lo : ℕ = length n in
+      let hi : ℕ = length (shares h class.members n).1 in
+      let r : SharesRise s lo hi = shares_rise h class.members n in
       let query : List Stmt = unwrap_or (slice_get s.queries 0) [] in
       let z : FromZero query = first_from_zero s.queries (from_zero h class.members n) in
       let rule : Names = rule_scope program number in
@@ -120,20 +121,20 @@ module _ (trees : List ClassTree) (program : Program) (kept : map heading_of pro
         die_is_typed = first_typed h rule in_rule s.die (deaths_typed h rule in_rule class.members n clean);
         constants_in_range = constants_below query z;
         constants_differ = constants_apart query z;
-        rule_sites_rise = increasing_from_rises n hi (ruled_sites s.states) r.rules;
-        die_sites_rise = increasing_from_rises n hi (sites_among (option_to_list (slice_get s.die 0))) (first_rises sites_of n hi s.die r.dies);
-        spawn_sites_rise = increasing_from_rises n hi (flat_map sites_of_spawn (option_to_list (slice_get s.spawn 0))) (first_rises sites_of_spawn n hi s.spawn r.spawns);
-        query_sites_rise = increasing_from_rises n hi (block_sites query) (first_query_rises n hi s.queries r.queries);
+        rule_sites_rise = increasing_from_rises lo hi (ruled_sites s.states) r.rules;
+        die_sites_rise = increasing_from_rises lo hi (sites_among (option_to_list (slice_get s.die 0))) (first_rises sites_of lo hi s.die r.dies);
+        spawn_sites_rise = increasing_from_rises lo hi (flat_map sites_of_spawn (option_to_list (slice_get s.spawn 0))) (first_rises sites_of_spawn lo hi s.spawn r.spawns);
+        query_sites_rise = increasing_from_rises lo hi (block_sites query) (first_query_rises lo hi s.queries r.queries);
       }
 
-  class_lawful : (number : ℕ) (class : ClassTree) (n : ℕ) → slice_get trees number ≡ Some class → AllFine (declarations class)
+  class_lawful : (number : ℕ) (class : ClassTree) (n : List ℕ) → slice_get trees number ≡ Some class → AllFine (declarations class)
       → AllFine (flat_map (names.member (home number class)) class.members)
       → flat_map (member (home number class)) class.members ≡ [] → WordedClass class
-      → LawfulClass program number ((class_of (home number class) class).behind n)
+      → LawfulClass program number (class_of (home number class) class n).0
   class_lawful number class n at declared_ fine clean words =
       let h : Home = home number class in
-      let s : Share = (shares h class.members).behind n in
-      let c : CheckedClass program number ((class_of h class).behind n) = class_checked number class n at clean in
+      let s : Share = (shares h class.members n).0 in
+      let c : CheckedClass program number (class_of h class n).0 = class_checked number class n at clean in
       let rule : Names = rule_scope program number in
       let again : List Finding = f.faults_at DuplicateName (repeated (map title class.members)) in
       let more : List Finding = too_many which.Fields (option_map (λ (one : Ident × Field). one.0) (slice_get (fields class) 64)) in
@@ -182,11 +183,11 @@ module _ (trees : List ClassTree) (program : Program) (kept : map heading_of pro
       let next : number + suc i ≡ (number + 1) + i = omega arith in
       subst (λ (k : ℕ). slice_get trees k ≡ Some c) next (h (suc i) c is)
 
-  classes_checked : (number : ℕ) (classes : List ClassTree) (n : ℕ) → Among number classes → in_classes member (known trees) number classes ≡ []
-      → (k : ℕ) (c : Class) → slice_get ((classes_from (known trees) number classes).behind n) k ≡ Some c → (j : ℕ) → number + k ≡ j → CheckedClass program j c
+  classes_checked : (number : ℕ) (classes : List ClassTree) (n : List ℕ) → Among number classes → in_classes member (known trees) number classes ≡ []
+      → (k : ℕ) (c : Class) → slice_get (classes_from (known trees) number classes n).0 k ≡ Some c → (j : ℕ) → number + k ≡ j → CheckedClass program j c
   classes_checked number [] n among clean k c is j at = absurd (cc)
   classes_checked number (class ∷ classes) n among clean zero c is j at =
-      let same : (class_of (home number class) class).behind n ≡ c = cc in
+      let same : (class_of (home number class) class n).0 ≡ c = cc in
       let here : number ≡ j = omega (arith, at) in
       subst (λ (i : ℕ). CheckedClass program i c) here
       (subst (CheckedClass program number) same
@@ -194,16 +195,16 @@ module _ (trees : List ClassTree) (program : Program) (kept : map heading_of pro
       (none_front (flat_map (member (home number class)) class.members) (in_classes member (known trees) (number + 1) classes) clean)))
   classes_checked number (class ∷ classes) n among clean (suc k) c is j at =
       let there : (number + 1) + k ≡ j = omega (arith, at) in
-      classes_checked (number + 1) classes (n + length (class_of (home number class) class).sites) (among_rest number class classes among)
+      classes_checked (number + 1) classes (class_of (home number class) class n).1 (among_rest number class classes among)
       (nil_back (flat_map (member (home number class)) class.members) (in_classes member (known trees) (number + 1) classes) clean) k c is j there
 
-  classes_lawful : (number : ℕ) (classes : List ClassTree) (n : ℕ) → Among number classes → AllFine (flat_map declarations classes) → AllFine (in_classes names.member (known trees) number classes)
+  classes_lawful : (number : ℕ) (classes : List ClassTree) (n : List ℕ) → Among number classes → AllFine (flat_map declarations classes) → AllFine (in_classes names.member (known trees) number classes)
       → in_classes member (known trees) number classes ≡ [] → AllByRecursion WordedClass classes
-      → (k : ℕ) (c : Class) → slice_get ((classes_from (known trees) number classes).behind n) k ≡ Some c → (j : ℕ) → number + k ≡ j → LawfulClass program j c
+      → (k : ℕ) (c : Class) → slice_get (classes_from (known trees) number classes n).0 k ≡ Some c → (j : ℕ) → number + k ≡ j → LawfulClass program j c
   classes_lawful number [] n among declared_ fine clean words k c is j at = absurd (cc)
   classes_lawful number (class ∷ classes) n among declared_ fine clean words zero c is j at =
       let h : Home = home number class in
-      let same : (class_of h class).behind n ≡ c = cc in
+      let same : (class_of h class n).0 ≡ c = cc in
       let here : number ≡ j = omega (arith, at) in
       subst (λ (i : ℕ). LawfulClass program i c) here
       (subst (LawfulClass program number) same
@@ -213,7 +214,7 @@ module _ (trees : List ClassTree) (program : Program) (kept : map heading_of pro
   classes_lawful number (class ∷ classes) n among declared_ fine clean words (suc k) c is j at =
       let h : Home = home number class in
       let there : (number + 1) + k ≡ j = omega (arith, at) in
-      classes_lawful (number + 1) classes (n + length (class_of h class).sites) (among_rest number class classes among)
+      classes_lawful (number + 1) classes (class_of h class n).1 (among_rest number class classes among)
       (all_back Fine (declarations class) (flat_map declarations classes) declared_)
       (all_back Fine (flat_map (names.member h) class.members) (in_classes names.member (known trees) (number + 1) classes) fine)
       (nil_back (flat_map (member h) class.members) (in_classes member (known trees) (number + 1) classes) clean) words.1 k c is j there
@@ -227,18 +228,18 @@ few_found [] limit w h = omega arith
 few_found (p ∷ places_) zero w h = absurd (cc)
 few_found (p ∷ places_) (suc limit) w h = let rest : length places_ ≤ limit = few_found places_ limit w h in omega (arith, rest)
 
-class_names-map : (all : Known) (number : ℕ) (classes : List ClassTree) (n : ℕ)
-    → map (λ (c : Class). c.name) ((classes_from all number classes).behind n) ≡ map text (map (λ (class : ClassTree). class.name) classes)
+class_names-map : (all : Known) (number : ℕ) (classes : List ClassTree) (n : List ℕ)
+    → map (λ (c : Class). c.name) (classes_from all number classes n).0 ≡ map text (map (λ (class : ClassTree). class.name) classes)
 class_names-map all number [] n = refl
 class_names-map all number (class ∷ classes) n =
-    ap (λ (l : List (List ℕ)). class.name.text ∷ l) (class_names-map all (number + 1) classes (n + length (class_of (home_of all number class) class).sites))
+    ap (λ (l : List (List ℕ)). class.name.text ∷ l) (class_names-map all (number + 1) classes (class_of (home_of all number class) class n).1)
 
 -- whatever the checks of names find
 pub accepted_checked : (r : Resolved) → faults r ≡ [] → IsChecked (program_of r)
 accepted_checked r clean number class is =
     let trees : List ClassTree = r.tree.classes in
     let at : 0 + number ≡ number = omega arith in
-    classes_checked trees (program_of r) (classes_kept (known trees) 0 trees 0) 0 trees 0 (among_all trees) clean number class is number at
+    classes_checked trees (program_of r) (classes_kept (known trees) 0 trees []) 0 trees [] (among_all trees) clean number class is number at
 
 module _ (src : List ℕ) (r : Resolved) (is : IsResolved src r) where
   abbrev trees_ : List ClassTree
@@ -256,7 +257,7 @@ module _ (src : List ℕ) (r : Resolved) (is : IsResolved src r) where
   faultless : flat_map fault_of all_found ++ past_sites ≡ []
   faultless = none_front (flat_map fault_of all_found ++ past_sites) past_said is.faultless
 
-  few_sites : length (classes_from (known trees_) 0 trees_).sites ≤ 4096
+  few_sites : length (program_of r).sites ≤ 4096
   few_sites =
       subst (λ (l : List ℕ). length l ≤ 4096) (counted_sites r.tree)
       (few_found (flat_map site_of all_found) 4096 which.Sites (nil_back (flat_map fault_of all_found) past_sites faultless))
@@ -284,16 +285,16 @@ module _ (src : List ℕ) (r : Resolved) (is : IsResolved src r) where
 
   -- its sites are numbered in the order of its text
   pub sites_in_order : in_text_order trees_ (program_of r).classes ≡ range_with_len 0 (length (program_of r).sites)
-  sites_in_order = classes_in_order (known trees_) 0 trees_ 0 (classes_differ trees_ fine_declared)
+  sites_in_order = classes_in_order (known trees_) 0 trees_ [] (classes_differ trees_ fine_declared)
 
   abbrev kept_ : map heading_of (program_of r).classes ≡ map heading trees_
-  kept_ = classes_kept (known trees_) 0 trees_ 0
+  kept_ = classes_kept (known trees_) 0 trees_ []
 
   module _ (clean : faults r ≡ []) where
     lawful_class : (number : ℕ) (class : Class) → slice_get (program_of r).classes number ≡ Some class → LawfulClass (program_of r) number class
     lawful_class number class at =
         let here : 0 + number ≡ number = omega arith in
-        classes_lawful trees_ (program_of r) kept_ 0 trees_ 0 (among_all trees_) fine_declared
+        classes_lawful trees_ (program_of r) kept_ 0 trees_ [] (among_all trees_) fine_declared
         (all_back Fine (class_names names_of_classes ++ flat_map declarations trees_) members_found fine) clean (script_worded src is.toks trees_ is.spelled is.read)
         number class at number here
 
@@ -307,7 +308,7 @@ module _ (src : List ℕ) (r : Resolved) (is : IsResolved src r) where
         let d : length names_of_classes ≡ length trees_ = length-map trees_ (λ (class : ClassTree). class.name) in
         record {
           few_classes = omega (arith, few, same, d);
-          class_names_differ = subst (IsDistinct bytes_eq) (sym (class_names-map (known trees_) 0 trees_ 0))
+          class_names_differ = subst (IsDistinct bytes_eq) (sym (class_names-map (known trees_) 0 trees_ []))
               (names_differ DuplicateClass names_of_classes (each_front Fine again more fine_names));
           classes_are_lawful = lawful_class;
           sites_in_range = sites_below (known trees_) trees_ 4096 few_sites;

@@ -70,15 +70,15 @@ abbrev query_loops : List (List Stmt) → List ℕ
 query_loops = flat_map (λ (query : List Stmt). flat_map loop_offsets query)
 
 module _ (src : List ℕ) where
-  abbrev member_queries : Home → MemberTree → ℕ → List (List Stmt)
-  member_queries home x n = ((share home x).behind n).queries
+  abbrev member_queries : Home → MemberTree → List ℕ → List (List Stmt)
+  member_queries home x n = (share home x n).0.queries
 
-  at_field : (home : Home) (shared : Bool) (at : ℕ) (toks : List Token) (x : MemberTree) (n : ℕ) → ReadsField src shared at toks x → Sub (query_loops (member_queries home x n)) toks
+  at_field : (home : Home) (shared : Bool) (at : ℕ) (toks : List Token) (x : MemberTree) (n : List ℕ) → ReadsField src shared at toks x → Sub (query_loops (member_queries home x n)) toks
   at_field home shared at toks _ n (r.state word type name semicolon t _ _ _ _) = nowhere toks
   at_field home shared at toks _ n (r.ruled a word type name colon semicolon t x _ _ _ _ _ _) = nowhere toks
   at_field home shared at toks _ n (r.effect word type name colon combinator semicolon t c _ _ _ _ _ _) = nowhere toks
 
-  at_member : (home : Home) (toks : List Token) (x : MemberTree) (n : ℕ) → ReadsMember src toks x → Sub (query_loops (member_queries home x n)) toks
+  at_member : (home : Home) (toks : List Token) (x : MemberTree) (n : List ℕ) → ReadsMember src toks x → Sub (query_loops (member_queries home x n)) toks
   at_member home toks _ n (r.visible word opening range closing semicolon k _ _ _ _ _) = nowhere toks
   at_member home toks _ n (r.reach word opening range closing semicolon k _ _ _ _ _) = nowhere toks
   at_member home toks _ n (r.public a word x _ h) = skip word _ a (at_field home true word.from a x n h)
@@ -89,12 +89,12 @@ module _ (src : List ℕ) where
   at_member home toks _ n (r.die a word when semicolon x _ _ _ _) = nowhere toks
   at_member home toks _ n (r.spawn a b word when opening closing x gs _ _ _ _ _ _) = nowhere toks
 
-  at_members : (home : Home) (toks : List Token) (xs : List MemberTree) (n : ℕ) → ReadsMembers src toks xs → Sub (query_loops ((shares home xs).behind n).queries) toks
+  at_members : (home : Home) (toks : List Token) (xs : List MemberTree) (n : List ℕ) → ReadsMembers src toks xs → Sub (query_loops (shares home xs n).0.queries) toks
   at_members home _ _ n r.none = none
   at_members home _ _ n (r.more a b x xs h g) =
-      let k : ℕ = n + length (share home x).sites in
+      let k : List ℕ = (share home x n).1 in
       let one : List (List Stmt) = member_queries home x n in
-      let rest : List (List Stmt) = ((shares home xs).behind k).queries in
+      let rest : List (List Stmt) = (shares home xs k).0.queries in
       subst (λ (l : List ℕ). Sub l (a ++ b)) (sym (flat_map-append (λ (query : List Stmt). flat_map loop_offsets query) one rest))
       (join (query_loops one) (query_loops rest) a b (at_member home a x n h) (at_members home b xs k g))
 
@@ -112,33 +112,33 @@ module _ (src : List ℕ) where
   first_query [] toks h = nowhere toks
   first_query (query ∷ queries) toks h = front (flat_map loop_offsets query) (query_loops queries) toks h
 
-  abbrev class_loops : Home → ClassTree → ℕ → List ℕ
-  class_loops home class n = flat_map loop_offsets ((class_of home class).behind n).query
+  abbrev class_loops : Home → ClassTree → List ℕ → List ℕ
+  class_loops home class n = flat_map loop_offsets (class_of home class n).0.query
 
-  at_class : (home : Home) (toks : List Token) (x : ClassTree) (n : ℕ) → ReadsClass src toks x → Sub (class_loops home x n) toks
+  at_class : (home : Home) (toks : List Token) (x : ClassTree) (n : List ℕ) → ReadsClass src toks x → Sub (class_loops home x n) toks
   at_class home _ _ n (r.class a word name opening closing xs _ _ _ _ h) =
       skip word _ _ (skip name _ _ (skip opening _ _ (pad _ a (closing ∷ [])
-      (first_query ((shares home xs).behind n).queries a (at_members home a xs n h)))))
+      (first_query (shares home xs n).0.queries a (at_members home a xs n h)))))
 
   abbrev program_loops : List Class → List ℕ
   program_loops classes = flat_map loop_offsets (flat_map (λ c. c.query) classes)
 
-  at_classes : (all : Known) (number : ℕ) (toks : List Token) (xs : List ClassTree) (n : ℕ) → ReadsClasses src toks xs → Sub (program_loops ((classes_from all number xs).behind n)) toks
+  at_classes : (all : Known) (number : ℕ) (toks : List Token) (xs : List ClassTree) (n : List ℕ) → ReadsClasses src toks xs → Sub (program_loops (classes_from all number xs n).0) toks
   at_classes all number _ _ n (r.last a x h) =
-      let query : List Stmt = ((class_of (home_of all number x) x).behind n).query in
+      let query : List Stmt = (class_of (home_of all number x) x n).0.query in
       subst (λ (l : List Stmt). Sub (flat_map loop_offsets l) a) (sym (append-nil query)) (at_class (home_of all number x) a x n h)
   at_classes all number _ _ n (r.more a b x xs h g) =
       let home : Home = home_of all number x in
-      let k : ℕ = n + length (class_of home x).sites in
-      let query : List Stmt = ((class_of home x).behind n).query in
-      let rest : List Stmt = flat_map (λ (c : Class). c.query) ((classes_from all (number + 1) xs).behind k) in
+      let k : List ℕ = (class_of home x n).1 in
+      let query : List Stmt = (class_of home x n).0.query in
+      let rest : List Stmt = flat_map (λ (c : Class). c.query) (classes_from all (number + 1) xs k).0 in
       subst (λ (l : List ℕ). Sub l (a ++ b)) (sym (flat_map-append loop_offsets query rest))
       (join (class_loops home x n) (flat_map loop_offsets rest) a b (at_class home a x n h) (at_classes all (number + 1) b xs k g))
 
 -- the loops of a program whose script is read have places of their own
 pub loops_apart : (src : List ℕ) (toks : List Token) (all : Known) (xs : List ClassTree) → Spells src toks → ReadsClasses src toks xs
-    → IsDistinct nat_eq (flat_map loop_offsets (flat_map (λ c. c.query) ((classes_from all 0 xs).behind 0)))
+    → IsDistinct nat_eq (flat_map loop_offsets (flat_map (λ c. c.query) (classes_from all 0 xs []).0))
 loops_apart src toks all xs spelled read =
-    rising_differ 0 (flat_map loop_offsets (flat_map (λ (c : Class). c.query) ((classes_from all 0 xs).behind 0)))
-    (places_rise 0 (length src) toks (flat_map loop_offsets (flat_map (λ (c : Class). c.query) ((classes_from all 0 xs).behind 0)))
-    (at_classes src all 0 toks xs 0 read) (spells_rises src toks spelled))
+    rising_differ 0 (flat_map loop_offsets (flat_map (λ (c : Class). c.query) (classes_from all 0 xs []).0))
+    (places_rise 0 (length src) toks (flat_map loop_offsets (flat_map (λ (c : Class). c.query) (classes_from all 0 xs []).0))
+    (at_classes src all 0 toks xs [] read) (spells_rises src toks spelled))

@@ -1,5 +1,5 @@
 -- The sites of an expression and of a block are numbered in finishing order, its constants in text order; and where its loops stand.
-use Rattle.std.proofs.Common.{◌≡◌, refl, sym, ap, subst, ◌∙◌, ℕ, ◌+◌, Bool, true, false, List, [], ◌∷◌, ◌++◌, length, length-append, append_assoc, map, flat_map}
+use Rattle.std.proofs.Common.{◌≡◌, refl, sym, ap, subst, ◌∙◌, ℕ, ◌+◌, Bool, true, false, List, [], ◌∷◌, ◌++◌, length, length-append, append_assoc, map, flat_map, arith}
 use Rattle.std.specs.Prelude.{Option, Some, None, option_to_list, sum}
 use Rattle.std.specs.List.{range_with_len, concat}
 use Rattle.std.proofs.lemmas.List.{append-nil}
@@ -22,7 +22,7 @@ use Rattle.brace_names.specs.declared.scope.Named.TheVariants as named
 use Rattle.brace_names.specs.Kinds.{unary_named, binary_named}
 use Rattle.brace_names.specs.Scopes.{Scope, read, read_own, of_loop, inside, past}
 use Rattle.brace_names.specs.Findings.{is_summed}
-use Rattle.brace_check.specs.Meanings.{Sited, plain, site_if, literal, named_as, agent_of, loop_number, unary, binary, choice, expression, expression_step, followed, with_sites, number_of, number_in, assigned, block, part, part_step}
+use Rattle.brace_check.specs.Meanings.{Meaning, plain, site, site_if, literal, named_as, agent_of, loop_number, unary, binary, choice, expression, expression_step, followed, made, number_of, number_in, assigned, block, part, part_step}
 use Rattle.brace_syntax.specs.declared.tree.StmtTree.{StmtTree}
 use Rattle.brace_syntax.specs.declared.tree.StmtTree.TheVariants as s
 use Rattle.brace_syntax.specs.declared.tree.StmtTree.TheOpen as layer
@@ -45,108 +45,98 @@ pub concat-map : {A : Type 0} (f : A → List ℕ) (xs : List A) → concat (map
 concat-map f [] = refl
 concat-map f (x ∷ xs) = ap (λ (l : List ℕ). f x ++ l) (concat-map f xs)
 
--- the numbers of the sites that are noted so far, and that of one more, where there is one
-pub numbers-site : (test : Bool) (at n : ℕ) (sites : List ℕ)
-    → range_with_len n (length sites) ++ option_to_list (only test (n + length sites)) ≡ range_with_len n (length (sites ++ site_if test at))
-numbers-site true at n sites =
-    row_joined n (length sites) 1 ∙ ap (range_with_len n) (sym (length-append sites (at ∷ [])))
-numbers-site false at n sites =
-    append-nil (range_with_len n (length sites)) ∙ ap (λ (l : List ℕ). range_with_len n (length l)) (sym (append-nil sites))
+-- the numbers of sites
+abbrev pub upto : List ℕ → List ℕ
+upto sites = range_with_len 0 (length sites)
 
--- the number of a first site, where there is one
-pub numbers-first : (test : Bool) (at n : ℕ) → option_to_list (only test n) ≡ range_with_len n (length (site_if test at))
-numbers-first true at n = refl
-numbers-first false at n = refl
+-- behind any sites, the sites of a thing, as they are read off it, are numbered in turn
+abbrev pub Numbered : {A : Type 0} → (A → List ℕ) → Meaning A → Type 0
+Numbered sites x = (k : List ℕ) → upto k ++ sites (x k).0 ≡ upto (x k).1
 
--- the sites of a thing, as they are read off it, are numbered in turn behind any number of sites
-abbrev pub Numbered : {A : Type 0} → (A → List ℕ) → Sited A → Type 0
-Numbered sites x = (n : ℕ) → sites (x.behind n) ≡ range_with_len n (length x.sites)
+-- one site more
+pub one_site : (at : ℕ) → Numbered (λ (n : ℕ). n ∷ []) (site at)
+one_site at k =
+    let here : length k ≡ 0 + length k = omega arith in
+    ap (λ (n : ℕ). upto k ++ n ∷ []) here ∙ (row_joined 0 (length k) 1 ∙ ap (range_with_len 0) (sym (length-append k (at ∷ []))))
+
+site_if_numbered : (test : Bool) (at : ℕ) → Numbered (λ (o : Option ℕ). option_to_list o) (site_if test at)
+site_if_numbered true at k = one_site at k
+site_if_numbered false at k = append-nil (upto k)
 
 -- what has no sites
 pub plain_numbered : {A : Type 0} (sites : A → List ℕ) (x : A) → sites x ≡ [] → Numbered sites (plain x)
-plain_numbered sites x h n = h
+plain_numbered sites x h k = ap (λ (l : List ℕ). upto k ++ l) h ∙ append-nil (upto k)
 
 -- something made of another, with the same sites
-pub made_numbered : {A B : Type 0} (f : A → List ℕ) (g : B → List ℕ) (make : A → B) (x : Sited A)
-    → ((a : A) → g (make a) ≡ f a) → Numbered f x → Numbered g (with_sites make x)
-made_numbered f g make x same h n = same (x.behind n) ∙ h n
+pub made_numbered : {A B : Type 0} (f : A → List ℕ) (g : B → List ℕ) (make : A → B) (x : Meaning A)
+    → ((a : A) → g (make a) ≡ f a) → Numbered f x → Numbered g (made make x)
+made_numbered f g make x same h k = ap (λ (l : List ℕ). upto k ++ l) (same (x k).0) ∙ h k
 
 -- two things, the sites of the second behind those of the first
-pub followed_numbered : {A B C : Type 0} (f : A → List ℕ) (g : B → List ℕ) (k : C → List ℕ) (both : A → B → C) (x : Sited A) (y : Sited B)
-    → ((a : A) (b : B) → k (both a b) ≡ f a ++ g b) → Numbered f x → Numbered g y → Numbered k (followed both x y)
-followed_numbered f g k both x y same hx hy n =
-    let a : List ℕ = range_with_len n (length x.sites) in
-    same (x.behind n) (y.behind (n + length x.sites))
-    ∙ (ap (λ (l : List ℕ). l ++ g (y.behind (n + length x.sites))) (hx n)
-    ∙ (ap (λ (l : List ℕ). a ++ l) (hy (n + length x.sites))
-    ∙ (row_joined n (length x.sites) (length y.sites)
-    ∙ ap (range_with_len n) (sym (length-append x.sites y.sites)))))
+pub followed_numbered : {A B C : Type 0} (f : A → List ℕ) (g : B → List ℕ) (h : C → List ℕ) (both : A → B → C) (x : Meaning A) (y : Meaning B)
+    → ((a : A) (b : B) → h (both a b) ≡ f a ++ g b) → Numbered f x → Numbered g y → Numbered h (followed both x y)
+followed_numbered f g h both x y same hx hy k =
+    let a : List ℕ = f (x k).0 in
+    let b : List ℕ = g (y (x k).1).0 in
+    ap (λ (l : List ℕ). upto k ++ l) (same (x k).0 (y (x k).1).0)
+    ∙ (sym (append_assoc (upto k) a b) ∙ (ap (λ (l : List ℕ). l ++ b) (hx k) ∙ hy (x k).1))
 
 named_numbered : (scope : Scope) (at : ℕ) (o : Option Named) → Numbered sites_of (named_as scope at o)
-named_numbered scope at None n = sites_of-Field This 0
-named_numbered scope at (Some (named.Constant i t)) n = sites_of-Local i
-named_numbered scope at (Some (named.Field (field.State i t shared))) n = sites_of-Field This i
-named_numbered scope at (Some (named.Field (field.Effect i t shared c))) n =
+named_numbered scope at None = plain_numbered sites_of (expr.Field This 0) (sites_of-Field This 0)
+named_numbered scope at (Some (named.Constant i t)) = plain_numbered sites_of (expr.Local i) (sites_of-Local i)
+named_numbered scope at (Some (named.Field (field.State i t shared))) = plain_numbered sites_of (expr.Field This i) (sites_of-Field This i)
+named_numbered scope at (Some (named.Field (field.Effect i t shared c))) =
     let test : Bool = is_summed scope (field.Effect i t shared c) in
-    sites_of-Total i t (only test n) ∙ numbers-first test at n
+    made_numbered (λ (o : Option ℕ). option_to_list o) sites_of (expr.Total i t) (site_if test at) (λ o. sites_of-Total i t o) (site_if_numbered test at)
 
-unary_numbered : (test : Bool) (at : ℕ) (op : UnOp) (x : Sited Expr) → Numbered sites_of x → Numbered sites_of (unary test at (expr.Unary op) x)
-unary_numbered test at op x h n =
-    sites_of-Unary op (only test (n + length x.sites)) (x.behind n)
-    ∙ (ap (λ (l : List ℕ). l ++ option_to_list (only test (n + length x.sites))) (h n)
-    ∙ numbers-site test at n x.sites)
+unary_numbered : (test : Bool) (at : ℕ) (op : UnOp) (x : Meaning Expr) → Numbered sites_of x → Numbered sites_of (unary test at (expr.Unary op) x)
+unary_numbered test at op x h =
+    followed_numbered sites_of (λ (o : Option ℕ). option_to_list o) sites_of (λ (a : Expr) (n : Option ℕ). expr.Unary op n a) x (site_if test at)
+    (λ a n. sites_of-Unary op n a) h (site_if_numbered test at)
 
-binary_numbered : (test : Bool) (at : ℕ) (op : BinOp) (x y : Sited Expr) → Numbered sites_of x → Numbered sites_of y
+-- the sites of two operands
+abbrev operand_sites : Expr × Expr → List ℕ
+operand_sites p = sites_of p.0 ++ sites_of p.1
+
+operands_numbered : (x y : Meaning Expr) → Numbered sites_of x → Numbered sites_of y → Numbered operand_sites (followed (λ (a b : Expr). (a, b)) x y)
+operands_numbered x y hx hy = followed_numbered sites_of sites_of operand_sites (λ (a b : Expr). (a, b)) x y (λ a b. refl) hx hy
+
+binary_numbered : (test : Bool) (at : ℕ) (op : BinOp) (x y : Meaning Expr) → Numbered sites_of x → Numbered sites_of y
     → Numbered sites_of (binary test at (expr.Binary op) x y)
-binary_numbered test at op x y hx hy n =
-    let m : ℕ = n + length x.sites in
-    let site : List ℕ = option_to_list (only test (m + length y.sites)) in
-    let rest : List ℕ = y.sites ++ site_if test at in
-    sites_of-Binary op (only test (m + length y.sites)) (x.behind n) (y.behind m)
-    ∙ (ap (λ (l : List ℕ). l ++ (sites_of (y.behind m) ++ site)) (hx n)
-    ∙ (ap (λ (l : List ℕ). range_with_len n (length x.sites) ++ (l ++ site)) (hy m)
-    ∙ (ap (λ (l : List ℕ). range_with_len n (length x.sites) ++ l) (numbers-site test at m y.sites)
-    ∙ (row_joined n (length x.sites) (length rest)
-    ∙ (ap (range_with_len n) (sym (length-append x.sites rest))
-    ∙ ap (λ (l : List ℕ). range_with_len n (length l)) (sym (append_assoc x.sites y.sites (site_if test at))))))))
+binary_numbered test at op x y hx hy =
+    followed_numbered operand_sites (λ (o : Option ℕ). option_to_list o) sites_of (λ (p : Expr × Expr) (n : Option ℕ). expr.Binary op n p.0 p.1)
+    (followed (λ (a b : Expr). (a, b)) x y) (site_if test at)
+    (λ p n. sites_of-Binary op n p.0 p.1 ∙ sym (append_assoc (sites_of p.0) (sites_of p.1) (option_to_list n)))
+    (operands_numbered x y hx hy) (site_if_numbered test at)
 
-choice_numbered : (c x y : Sited Expr) → Numbered sites_of c → Numbered sites_of x → Numbered sites_of y → Numbered sites_of (choice c x y)
-choice_numbered c x y hc hx hy n =
-    let m : ℕ = n + length c.sites in
-    let k : ℕ = m + length x.sites in
-    sites_of-Choice (c.behind n) (x.behind m) (y.behind k)
-    ∙ (ap (λ (l : List ℕ). l ++ (sites_of (x.behind m) ++ sites_of (y.behind k))) (hc n)
-    ∙ (ap (λ (l : List ℕ). range_with_len n (length c.sites) ++ (l ++ sites_of (y.behind k))) (hx m)
-    ∙ (ap (λ (l : List ℕ). range_with_len n (length c.sites) ++ (range_with_len m (length x.sites) ++ l)) (hy k)
-    ∙ (ap (λ (l : List ℕ). range_with_len n (length c.sites) ++ l) (row_joined m (length x.sites) (length y.sites))
-    ∙ (row_joined n (length c.sites) (length x.sites + length y.sites)
-    ∙ (ap (λ (k : ℕ). range_with_len n (length c.sites + k)) (sym (length-append x.sites y.sites))
-    ∙ (ap (range_with_len n) (sym (length-append c.sites (x.sites ++ y.sites)))
-    ∙ ap (λ (l : List ℕ). range_with_len n (length l)) (sym (append_assoc c.sites x.sites y.sites)))))))))
+choice_numbered : (c x y : Meaning Expr) → Numbered sites_of c → Numbered sites_of x → Numbered sites_of y → Numbered sites_of (choice c x y)
+choice_numbered c x y hc hx hy =
+    followed_numbered sites_of operand_sites sites_of (λ (a : Expr) (p : Expr × Expr). expr.Choice a p.0 p.1) c (followed (λ (a b : Expr). (a, b)) x y)
+    (λ a p. sites_of-Choice a p.0 p.1) hc (operands_numbered x y hx hy)
 
 abbrev NumberedExpr : ExprTree → Type 0
 NumberedExpr x = (scope : Scope) → Numbered sites_of (expression x scope)
 
 -- what an expression of a kind means, in a scope
-abbrev back : (x : ExprTree) (f : Scope → Sited Expr) → expression x ≡ f → ((scope : Scope) → Numbered sites_of (f scope)) → NumberedExpr x
-back x f same h scope = subst (λ (g : Scope → Sited Expr). Numbered sites_of (g scope)) (sym same) (h scope)
+abbrev back : (x : ExprTree) (f : Scope → Meaning Expr) → expression x ≡ f → ((scope : Scope) → Numbered sites_of (f scope)) → NumberedExpr x
+back x f same h scope = subst (λ (g : Scope → Meaning Expr). Numbered sites_of (g scope)) (sym same) (h scope)
 
 kinds_numbered : Expressions NumberedExpr
 kinds_numbered = record {
-  lit = λ n. back (e.Lit n) _ (of-Lit expression_step n) (λ scope m. sites_of-Lit (literal n.digits));
-  true_ = λ at. back (e.True at) _ (of-True expression_step at) (λ scope m. sites_of-Lit (val.Flag true));
-  false_ = λ at. back (e.False at) _ (of-False expression_step at) (λ scope m. sites_of-Lit (val.Flag false));
+  lit = λ n. back (e.Lit n) _ (of-Lit expression_step n) (λ scope. plain_numbered sites_of _ (sites_of-Lit (literal n.digits)));
+  true_ = λ at. back (e.True at) _ (of-True expression_step at) (λ scope. plain_numbered sites_of _ (sites_of-Lit (val.Flag true)));
+  false_ = λ at. back (e.False at) _ (of-False expression_step at) (λ scope. plain_numbered sites_of _ (sites_of-Lit (val.Flag false)));
   name = λ name. back (e.Name name) _ (of-Name expression_step name) (λ scope. named_numbered scope name.at (read scope name.text));
   of_this = λ name at. back (e.OfThis name at) _ (of-OfThis expression_step name at) (λ scope. named_numbered scope at (read_own scope name.text));
   of_loop = λ variable name. back (e.OfLoop variable name) _ (of-OfLoop expression_step variable name)
-      (λ scope m. sites_of-Field (agent_of (of_loop scope variable.text name.text)) (loop_number (of_loop scope variable.text name.text)));
+      (λ scope. plain_numbered sites_of _ (sites_of-Field (agent_of (of_loop scope variable.text name.text)) (loop_number (of_loop scope variable.text name.text))));
   unary = λ op x at h. back (e.Unary op x at) _ (of-Unary expression_step op x at)
       (λ scope. unary_numbered (unary_faults (unary_named op)) at (unary_named op) (expression x scope) (h scope));
   binary = λ op x y at hx hy. back (e.Binary op x y at) _ (of-Binary expression_step op x y at)
       (λ scope. binary_numbered (binary_faults (binary_named op)) at (binary_named op) (expression x scope) (expression y scope) (hx scope) (hy scope));
   choice = λ c x y at hc hx hy. back (e.Choice c x y at) _ (of-Choice expression_step c x y at)
       (λ scope. choice_numbered (expression c scope) (expression x scope) (expression y scope) (hc scope) (hx scope) (hy scope));
-  rand = λ at. back (e.Rand at) _ (of-Rand expression_step at) (λ scope m. sites_of-Rand m);
+  rand = λ at. back (e.Rand at) _ (of-Rand expression_step at) (λ scope. made_numbered (λ (n : ℕ). n ∷ []) sites_of expr.Rand (site at) (λ n. sites_of-Rand n) (one_site at));
 }
 
 -- the sites of an expression are numbered in finishing order
@@ -166,23 +156,23 @@ blocks_sites c p =
     ∙ (ap (λ (l : List ℕ). sites_of c ++ (l ++ concat (map sites_in p.1))) (concat-map sites_in p.0)
     ∙ ap (λ (l : List ℕ). sites_of c ++ (block_sites p.0 ++ l)) (concat-map sites_in p.1))
 
-if_numbered : (c : Sited Expr) (a b : Sited (List Stmt)) → Numbered sites_of c → Numbered block_sites a → Numbered block_sites b
+if_numbered : (c : Meaning Expr) (a b : Meaning (List Stmt)) → Numbered sites_of c → Numbered block_sites a → Numbered block_sites b
     → Numbered sites_in (followed (λ (c : Expr) (blocks : List Stmt × List Stmt). stmt.If c blocks.0 blocks.1) c (followed (λ a b. (a, b)) a b))
 if_numbered c a b hc ha hb =
     followed_numbered sites_of both_sites sites_in (λ (c : Expr) (blocks : List Stmt × List Stmt). stmt.If c blocks.0 blocks.1)
     c (followed (λ a b. (a, b)) a b) blocks_sites hc
     (followed_numbered block_sites block_sites both_sites (λ a b. (a, b)) a b (λ a b. refl) ha hb)
 
-loop_numbered : (class at : ℕ) (body : Sited (List Stmt)) → Numbered block_sites body
-    → Numbered sites_in (with_sites (λ b. stmt.Foreach class b at) body)
+loop_numbered : (class at : ℕ) (body : Meaning (List Stmt)) → Numbered block_sites body
+    → Numbered sites_in (made (λ b. stmt.Foreach class b at) body)
 loop_numbered class at body h =
     made_numbered block_sites sites_in (λ b. stmt.Foreach class b at) body
     (λ b. sites_in-Foreach class b at ∙ concat-map sites_in b) h
 
-said_numbered : (who : Who) (effect at : ℕ) (x : Sited Expr) → Numbered sites_of x → Numbered sites_in (assigned who effect at x)
+said_numbered : (who : Who) (effect at : ℕ) (x : Meaning Expr) → Numbered sites_of x → Numbered sites_in (assigned who effect at x)
 said_numbered who effect at x h = made_numbered sites_of sites_in (λ e. stmt.Assign who effect e at) x (λ e. sites_in-Assign who effect e at) h
 
-bound_numbered : (n : ℕ) (x : Sited Expr) → Numbered sites_of x → Numbered sites_in (with_sites (stmt.Const n) x)
+bound_numbered : (n : ℕ) (x : Meaning Expr) → Numbered sites_of x → Numbered sites_in (made (stmt.Const n) x)
 bound_numbered n x h = made_numbered sites_of sites_in (stmt.Const n) x (λ e. sites_in-Const n e) h
 
 -- a statement declares so many constants, numbered from one on
@@ -255,16 +245,16 @@ if_loops c a b x y h g =
     ∙ (ap (λ (l : List ℕ). l ++ concat (map loop_offsets b)) (concat-map loop_offsets a ∙ h) ∙ ap (λ (l : List ℕ). x ++ l) (concat-map loop_offsets b ∙ g))
 
 -- the numbers of a statement: its sites in finishing order, its constants in text order, the places of its loops
-record PartNumbers (p : Part (Sited Stmt)) (places : List ℕ) : Type 0 where
+record PartNumbers (p : Part (Meaning Stmt)) (places : List ℕ) : Type 0 where
   numbered : (n : Scope) → Numbered sites_in (p.here n)
-  declares : (n : Scope) (k : ℕ) → Declares ((p.here n).behind k) n.constants p.constants
-  loops_are : (n : Scope) (k : ℕ) → loop_offsets ((p.here n).behind k) ≡ places
+  declares : (n : Scope) (k : List ℕ) → Declares (p.here n k).0 n.constants p.constants
+  loops_are : (n : Scope) (k : List ℕ) → loop_offsets (p.here n k).0 ≡ places
 
 -- and of a block
-pub record BlockNumbers (ps : List (Part (Sited Stmt))) (places : List ℕ) : Type 0 where
+pub record BlockNumbers (ps : List (Part (Meaning Stmt))) (places : List ℕ) : Type 0 where
   pub numbered : (n : Scope) → Numbered block_sites (block ps n)
-  pub declares : (n : Scope) (k : ℕ) → BlockDeclares ((block ps n).behind k) n.constants (constants_in ps)
-  pub loops_are : (n : Scope) (k : ℕ) → flat_map loop_offsets ((block ps n).behind k) ≡ places
+  pub declares : (n : Scope) (k : List ℕ) → BlockDeclares (block ps n k).0 n.constants (constants_in ps)
+  pub loops_are : (n : Scope) (k : List ℕ) → flat_map loop_offsets (block ps n k).0 ≡ places
 
 abbrev StmtNumbers : StmtTree → Type 0
 StmtNumbers x = PartNumbers (part x) (loops x)
@@ -275,80 +265,80 @@ TreesNumbers xs = BlockNumbers (map part xs) (loops_in xs)
 trees_numbers : (ys : List (ProvedStmt StmtNumbers)) → TreesNumbers (stmts_of ys)
 trees_numbers [] = record { numbered = λ n. plain_numbered block_sites [] refl; declares = λ n k. none_declared n.constants; loops_are = λ n k. refl }
 trees_numbers (y ∷ ys) =
-    let p : Part (Sited Stmt) = part y.0 in
-    let ps : List (Part (Sited Stmt)) = map part (stmts_of ys) in
+    let p : Part (Meaning Stmt) = part y.0 in
+    let ps : List (Part (Meaning Stmt)) = map part (stmts_of ys) in
     let rest : TreesNumbers (stmts_of ys) = trees_numbers ys in
     record {
       numbered = λ n. followed_numbered sites_in block_sites block_sites (λ s rest. s ∷ rest) (p.here n) (block ps (behind p n)) (λ s rest. refl) (y.1.numbered n) (rest.numbered (behind p n));
       declares = λ n k.
-          let j : ℕ = k + length (p.here n).sites in
-          let b : List Stmt = (block ps (behind p n)).behind j in
-          subst (λ (c : ℕ). BlockDeclares ((p.here n).behind k ∷ b) n.constants c) (sym (constants-cons p ps))
-          (more_declared ((p.here n).behind k) b n.constants p.constants (constants_in ps) (y.1.declares n k)
+          let j : List ℕ = (p.here n k).1 in
+          let b : List Stmt = (block ps (behind p n) j).0 in
+          subst (λ (c : ℕ). BlockDeclares ((p.here n k).0 ∷ b) n.constants c) (sym (constants-cons p ps))
+          (more_declared (p.here n k).0 b n.constants p.constants (constants_in ps) (y.1.declares n k)
           (subst (λ (c : ℕ). BlockDeclares b (c + p.constants) (constants_in ps)) (same_count p.declared n) (rest.declares (behind p n) j)));
       loops_are = λ n k.
-          let j : ℕ = k + length (p.here n).sites in
-          ap (λ (l : List ℕ). l ++ flat_map loop_offsets ((block ps (behind p n)).behind j)) (y.1.loops_are n k) ∙ ap (λ (l : List ℕ). loops y.0 ++ l) (rest.loops_are (behind p n) j);
+          let j : List ℕ = (p.here n k).1 in
+          ap (λ (l : List ℕ). l ++ flat_map loop_offsets (block ps (behind p n) j).0) (y.1.loops_are n k) ∙ ap (λ (l : List ℕ). loops y.0 ++ l) (rest.loops_are (behind p n) j);
     }
 
-back_numbers : (x : StmtTree) (p : Part (Sited Stmt)) (l : List ℕ) → part x ≡ p → loops x ≡ l → PartNumbers p l → StmtNumbers x
-back_numbers x p l h g is = subst (λ (p : Part (Sited Stmt)). PartNumbers p (loops x)) (sym h) (subst (PartNumbers p) (sym g) is)
+back_numbers : (x : StmtTree) (p : Part (Meaning Stmt)) (l : List ℕ) → part x ≡ p → loops x ≡ l → PartNumbers p l → StmtNumbers x
+back_numbers x p l h g is = subst (λ (p : Part (Meaning Stmt)). PartNumbers p (loops x)) (sym h) (subst (PartNumbers p) (sym g) is)
 
-said_numbers : (p : Part (Sited Stmt)) (who : Scope → Who) (effect : Scope → ℕ) (at : ℕ) (x : ExprTree)
+said_numbers : (p : Part (Meaning Stmt)) (who : Scope → Who) (effect : Scope → ℕ) (at : ℕ) (x : ExprTree)
     → p ≡ walk.plain 0 (λ n. assigned (who n) (effect n) at (expression x n)) → PartNumbers p []
-said_numbers p who effect at x e = subst (λ (q : Part (Sited Stmt)). PartNumbers q []) (sym e) (record {
+said_numbers p who effect at x e = subst (λ (q : Part (Meaning Stmt)). PartNumbers q []) (sym e) (record {
   numbered = λ n. said_numbered (who n) (effect n) at (expression x n) (expression_numbered x n);
-  declares = λ n k. said_declares (who n) (effect n) ((expression x n).behind k) at n.constants;
-  loops_are = λ n k. loop_offsets-Assign (who n) (effect n) ((expression x n).behind k) at;
+  declares = λ n k. said_declares (who n) (effect n) (expression x n k).0 at n.constants;
+  loops_are = λ n k. loop_offsets-Assign (who n) (effect n) (expression x n k).0 at;
 })
 
 kinds_numbers : Statements StmtNumbers
 kinds_numbers = record {
   const = λ type name x at. back_numbers (s.Const type name x at) _ [] (of-Const part_step type name x at) (of-Const loops_step type name x at) (record {
     numbered = λ n. bound_numbered n.constants (expression x n) (expression_numbered x n);
-    declares = λ n k. bound_declares n.constants ((expression x n).behind k);
-    loops_are = λ n k. loop_offsets-Const n.constants ((expression x n).behind k);
+    declares = λ n k. bound_declares n.constants (expression x n k).0;
+    loops_are = λ n k. loop_offsets-Const n.constants (expression x n k).0;
   });
   when = λ c a at. back_numbers (s.If c (stmts_of a) None at) _ (loops_in (stmts_of a)) (of-when part_step c (stmts_of a) at) (of-when loops_step c (stmts_of a) at ∙ concat-map loops (stmts_of a))
       (let one : TreesNumbers (stmts_of a) = trees_numbers a in
-      let pa : List (Part (Sited Stmt)) = map part (stmts_of a) in
+      let pa : List (Part (Meaning Stmt)) = map part (stmts_of a) in
       record {
         numbered = λ n. if_numbered (expression c n) (block pa n) (plain []) (expression_numbered c n) (one.numbered n) (plain_numbered block_sites [] refl);
         declares = λ n k.
-            let j : ℕ = k + length (expression c n).sites in
-            if_declares ((expression c n).behind k) ((block pa n).behind j) [] n.constants (constants_in pa) 0 (one.declares n j) (none_declared (n.constants + constants_in pa));
+            let j : List ℕ = (expression c n k).1 in
+            if_declares (expression c n k).0 (block pa n j).0 [] n.constants (constants_in pa) 0 (one.declares n j) (none_declared (n.constants + constants_in pa));
         loops_are = λ n k.
-            let j : ℕ = k + length (expression c n).sites in
-            if_loops ((expression c n).behind k) ((block pa n).behind j) [] (loops_in (stmts_of a)) [] (one.loops_are n j) refl ∙ append-nil (loops_in (stmts_of a));
+            let j : List ℕ = (expression c n k).1 in
+            if_loops (expression c n k).0 (block pa n j).0 [] (loops_in (stmts_of a)) [] (one.loops_are n j) refl ∙ append-nil (loops_in (stmts_of a));
       });
   either_way = λ c a b at. back_numbers (s.If c (stmts_of a) (Some (stmts_of b)) at) _ (loops_in (stmts_of a) ++ loops_in (stmts_of b)) (of-either part_step c (stmts_of a) (stmts_of b) at)
       (of-either loops_step c (stmts_of a) (stmts_of b) at
       ∙ (ap (λ (l : List ℕ). l ++ concat (map loops (stmts_of b))) (concat-map loops (stmts_of a)) ∙ ap (λ (l : List ℕ). loops_in (stmts_of a) ++ l) (concat-map loops (stmts_of b))))
       (let one : TreesNumbers (stmts_of a) = trees_numbers a in
       let other : TreesNumbers (stmts_of b) = trees_numbers b in
-      let pa : List (Part (Sited Stmt)) = map part (stmts_of a) in
-      let pb : List (Part (Sited Stmt)) = map part (stmts_of b) in
+      let pa : List (Part (Meaning Stmt)) = map part (stmts_of a) in
+      let pb : List (Part (Meaning Stmt)) = map part (stmts_of b) in
       let ca : ℕ = constants_in pa in
       record {
         numbered = λ n. if_numbered (expression c n) (block pa n) (block pb (past ca n)) (expression_numbered c n) (one.numbered n) (other.numbered (past ca n));
         declares = λ n k.
-            let j : ℕ = k + length (expression c n).sites in
-            let i : ℕ = j + length (block pa n).sites in
-            if_declares ((expression c n).behind k) ((block pa n).behind j) ((block pb (past ca n)).behind i) n.constants ca (constants_in pb) (one.declares n j) (other.declares (past ca n) i);
+            let j : List ℕ = (expression c n k).1 in
+            let i : List ℕ = (block pa n j).1 in
+            if_declares (expression c n k).0 (block pa n j).0 (block pb (past ca n) i).0 n.constants ca (constants_in pb) (one.declares n j) (other.declares (past ca n) i);
         loops_are = λ n k.
-            let j : ℕ = k + length (expression c n).sites in
-            let i : ℕ = j + length (block pa n).sites in
-            if_loops ((expression c n).behind k) ((block pa n).behind j) ((block pb (past ca n)).behind i) (loops_in (stmts_of a)) (loops_in (stmts_of b)) (one.loops_are n j) (other.loops_are (past ca n) i);
+            let j : List ℕ = (expression c n k).1 in
+            let i : List ℕ = (block pa n j).1 in
+            if_loops (expression c n k).0 (block pa n j).0 (block pb (past ca n) i).0 (loops_in (stmts_of a)) (loops_in (stmts_of b)) (one.loops_are n j) (other.loops_are (past ca n) i);
       });
   foreach = λ class variable other a at. back_numbers (s.Foreach class variable other (stmts_of a) at) _ (at ∷ loops_in (stmts_of a)) (of-Foreach part_step class variable other (stmts_of a) at)
       (of-Foreach loops_step class variable other (stmts_of a) at ∙ ap (λ (l : List ℕ). at ∷ l) (concat-map loops (stmts_of a)))
       (let one : TreesNumbers (stmts_of a) = trees_numbers a in
-      let pa : List (Part (Sited Stmt)) = map part (stmts_of a) in
+      let pa : List (Part (Meaning Stmt)) = map part (stmts_of a) in
       record {
         numbered = λ n. loop_numbered (number_in n class) at (block pa (inside class variable n)) (one.numbered (inside class variable n));
-        declares = λ n k. loop_declares (number_in n class) at ((block pa (inside class variable n)).behind k) n.constants (constants_in pa) (one.declares (inside class variable n) k);
+        declares = λ n k. loop_declares (number_in n class) at (block pa (inside class variable n) k).0 n.constants (constants_in pa) (one.declares (inside class variable n) k);
         loops_are = λ n k.
-            let b : List Stmt = (block pa (inside class variable n)).behind k in
+            let b : List Stmt = (block pa (inside class variable n) k).0 in
             loop_offsets-Foreach (number_in n class) b at ∙ ap (λ (l : List ℕ). at ∷ l) (concat-map loop_offsets b ∙ one.loops_are (inside class variable n) k);
       });
   assign = λ name x. back_numbers (s.Assign name x) _ [] (of-Assign part_step name x) (of-Assign loops_step name x)

@@ -7,7 +7,7 @@ use Rattle.brace_names.specs.Walk.{Part, constants_in, Sought, part_of, part_ste
 use Rattle.brace_names.proofs.Folds.{ProvedStmt, stmts_of, Statements, proved, of_statement, stmts-proved, of-Const, of-when, of-either, of-Foreach, of-Assign, of-AssignThis, of-AssignLoop}
 use Rattle.brace_names.proofs.StmtLemmas.{constants-cons, Same}
 use Rattle.brace_model.specs.declared.program.Stmt.{Stmt}
-use Rattle.brace_check.specs.Meanings.{Sited, part, part_step}
+use Rattle.brace_check.specs.Meanings.{Meaning, part, part_step}
 
 module _ {A : Type 0} (v : Sought A) where
   abbrev StmtSame : StmtTree → Type 0
@@ -21,8 +21,8 @@ module _ {A : Type 0} (v : Sought A) where
       ∙ (ap (λ (k : ℕ). (part y.0).constants + k) (trees_same ys)
       ∙ sym (constants-cons (part y.0) (map part (stmts_of ys)))))
 
-  back : (x : StmtTree) (p : Part (List A)) (q : Part (Sited Stmt)) → part_of v x ≡ p → part x ≡ q → Same p q → StmtSame x
-  back x p q e g h = subst (λ (r : Part (List A)). Same r (part x)) (sym e) (subst (λ (r : Part (Sited Stmt)). Same p r) (sym g) h)
+  back : (x : StmtTree) (p : Part (List A)) (q : Part (Meaning Stmt)) → part_of v x ≡ p → part x ≡ q → Same p q → StmtSame x
+  back x p q e g h = subst (λ (r : Part (List A)). Same r (part x)) (sym e) (subst (λ (r : Part (Meaning Stmt)). Same p r) (sym g) h)
 
   kinds_same : Statements StmtSame
   kinds_same = record {

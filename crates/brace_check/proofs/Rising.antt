@@ -52,6 +52,13 @@ range_rises n (suc c) =
     let more : (n + 1) + c ≡ n + suc c = omega arith in
     (omega arith, subst (λ (hi : ℕ). Rises (n + 1) hi (range_with_len (n + 1) c)) more (range_rises (n + 1) c))
 
+-- what stands behind so many numbers in turn
+pub rises_past : (n c hi : ℕ) (xs : List ℕ) → Rises n hi (range_with_len n c ++ xs) → Rises (n + c) hi xs
+rises_past n zero hi xs h = rises_from (n + 0) n hi xs (omega arith) h
+rises_past n (suc c) hi xs h =
+    let more : (n + 1) + c ≡ n + suc c = omega arith in
+    subst (λ (lo : ℕ). Rises lo hi xs) more (rises_past (n + 1) c hi xs h.1)
+
 -- so each number is below all behind it
 pub are_rising : (lo hi : ℕ) (xs : List ℕ) → Rises lo hi xs → AreRising lo xs
 are_rising lo hi [] h = tt

@@ -16,13 +16,12 @@ use Rattle.brace_model.specs.declared.program.Spawn.{Spawn}
 use Rattle.brace_model.specs.Sites.{sites_of, sites_among, sites_of_spawn, class_sites}
 use Rattle.brace_check.specs.declared.share.Share.{Share}
 use Rattle.brace_check.specs.Programs.{rule, gifts_in, spawn_of, share, shared_by, shares, class_of, classes_from}
-use Rattle.brace_check.proofs.Rising.{Rises, rises-joined, front_rises, back_rises, range_rises}
-use Rattle.brace_check.proofs.Numbering.{Numbered, plain_numbered, made_numbered, followed_numbered, expression_numbered, block_sites, block_numbers}
+use Rattle.brace_check.proofs.Rising.{Rises, rises-joined, front_rises, back_rises, range_rises, rises_past}
+use Rattle.brace_check.proofs.Numbering.{Numbered, upto, one_site, plain_numbered, made_numbered, followed_numbered, expression_numbered, block_sites, block_numbers}
 use Rattle.brace_names.specs.Tables.{look}
 use Rattle.brace_names.specs.Scopes.{Home, Scope, outermost, home_of}
-use Rattle.brace_check.specs.Meanings.{Sited, number_of, followed, expression}
+use Rattle.brace_check.specs.Meanings.{site, number_of, followed, expression}
 use Rattle.std.proofs.lemmas.Bool.{cases_Bool, cases_lt, and_from}
-use Rattle.brace_num.proofs.Rows.{row_joined}
 use Rattle.brace_syntax.specs.declared.tree.ClassTree.{ClassTree}
 use Rattle.brace_names.specs.Classes.{Known}
 use Rattle.brace_model.specs.declared.program.Class.{Class}
@@ -89,53 +88,48 @@ spawn_numbered : (condition : ExprTree) (gifts : List GiftTree) (at : ℕ) (scop
 spawn_numbered condition gifts at scope =
     followed_numbered inner_sites (λ (n : ℕ). n ∷ []) sites_of_spawn
     (λ (inner : Expr × List Gift) n. record { when = inner.0; gifts = inner.1; site = n })
-    (followed (λ e given. (e, given)) (expression condition scope) (gifts_in gifts scope))
-    (record { sites = at ∷ []; behind = λ n. n })
+    (followed (λ e given. (e, given)) (expression condition scope) (gifts_in gifts scope)) (site at)
     (λ inner n. sym (append_assoc (sites_of inner.0) (gift_sites inner.1) (n ∷ [])))
     (followed_numbered sites_of gift_sites inner_sites (λ e given. (e, given)) (expression condition scope) (gifts_in gifts scope)
     (λ e given. refl) (expression_numbered condition scope) (gifts_numbered gifts scope))
-    (λ n. refl)
+    (one_site at)
 
 -- the sites of one member are numbered in finishing order
-pub share_numbered : (home : Home) (x : MemberTree) (n : ℕ) → own_sites ((share home x).behind n) ≡ range_with_len n (length (share home x).sites)
-share_numbered home (m.State shared type name x at) n =
-    append-nil _ ∙ (ap sites_among (append-nil (option_to_list ((rule x (outermost home false)).behind n))) ∙ rule_numbered x (outermost home false) n)
-share_numbered home (m.Run statements at) n = append-nil _ ∙ (block_numbers statements).numbered (outermost home true) n
-share_numbered home (m.Die condition at) n = append-nil _ ∙ (append-nil _ ∙ expression_numbered condition (outermost home false) n)
-share_numbered home (m.Spawn condition gifts at) n = append-nil _ ∙ (append-nil _ ∙ spawn_numbered condition gifts at (outermost home false) n)
-share_numbered home _ n = refl
+pub share_numbered : (home : Home) (x : MemberTree) → Numbered own_sites (share home x)
+share_numbered home (m.State shared type name x at) k =
+    ap (λ (l : List ℕ). upto k ++ l) (append-nil _ ∙ ap sites_among (append-nil (option_to_list (rule x (outermost home false) k).0))) ∙ rule_numbered x (outermost home false) k
+share_numbered home (m.Run statements at) k = ap (λ (l : List ℕ). upto k ++ l) (append-nil _) ∙ (block_numbers statements).numbered (outermost home true) k
+share_numbered home (m.Die condition at) k = ap (λ (l : List ℕ). upto k ++ l) (append-nil _ ∙ append-nil _) ∙ expression_numbered condition (outermost home false) k
+share_numbered home (m.Spawn condition gifts at) k = ap (λ (l : List ℕ). upto k ++ l) (append-nil _ ∙ append-nil _) ∙ spawn_numbered condition gifts at (outermost home false) k
+share_numbered home _ k = append-nil (upto k)
 
 -- so they rise
-share_rises : (home : Home) (x : MemberTree) (n : ℕ) → SharesRise ((share home x).behind n) n (n + length (share home x).sites)
-share_rises home x n =
-    let s : Share = (share home x).behind n in
-    let hi : ℕ = n + length (share home x).sites in
+share_rises : (home : Home) (x : MemberTree) (k : List ℕ) → SharesRise (share home x k).0 (length k) (length (share home x k).1)
+share_rises home x k =
+    let s : Share = (share home x k).0 in
+    let lo : ℕ = length k in
+    let hi : ℕ = length (share home x k).1 in
     let rules : List ℕ = ruled_sites s.states in
     let dies : List ℕ = asked_sites s.die in
     let spawns : List ℕ = born_sites s.spawn in
     let queries : List ℕ = asking_sites s.queries in
-    let all : Rises n hi (rules ++ (dies ++ (spawns ++ queries))) = subst (Rises n hi) (sym (share_numbered home x n)) (range_rises n (length (share home x).sites)) in
-    let most : Rises n hi (dies ++ (spawns ++ queries)) = back_rises n hi rules (dies ++ (spawns ++ queries)) all in
-    let last : Rises n hi (spawns ++ queries) = back_rises n hi dies (spawns ++ queries) most in
+    let all : Rises lo hi (rules ++ (dies ++ (spawns ++ queries))) = rises_past 0 lo hi (own_sites s) (subst (Rises 0 hi) (sym (share_numbered home x k)) (range_rises 0 hi)) in
+    let most : Rises lo hi (dies ++ (spawns ++ queries)) = back_rises lo hi rules (dies ++ (spawns ++ queries)) all in
+    let last : Rises lo hi (spawns ++ queries) = back_rises lo hi dies (spawns ++ queries) most in
     record {
-      rules = front_rises n hi rules (dies ++ (spawns ++ queries)) all;
-      dies = front_rises n hi dies (spawns ++ queries) most;
-      spawns = front_rises n hi spawns queries last;
-      queries = back_rises n hi spawns queries last;
+      rules = front_rises lo hi rules (dies ++ (spawns ++ queries)) all;
+      dies = front_rises lo hi dies (spawns ++ queries) most;
+      spawns = front_rises lo hi spawns queries last;
+      queries = back_rises lo hi spawns queries last;
     }
 
 -- and those of the members of a class
-pub shares_rise : (home : Home) (members : List MemberTree) (n : ℕ) → SharesRise ((shares home members).behind n) n (n + length (shares home members).sites)
-shares_rise home [] n = record { rules = omega arith; dies = omega arith; spawns = omega arith; queries = omega arith }
-shares_rise home (member ∷ members) n =
-    let a : Sited Share = share home member in
-    let b : Sited Share = shares home members in
-    let mid : ℕ = n + length a.sites in
-    let far : mid + length b.sites ≡ n + length (a.sites ++ b.sites) =
-    (let assoc : mid + length b.sites ≡ n + (length a.sites + length b.sites) = omega arith in assoc)
-    ∙ ap (λ (k : ℕ). n + k) (sym (length-append a.sites b.sites)) in
-    subst (λ (hi : ℕ). SharesRise (shared_by (a.behind n) (b.behind mid)) n hi) far
-    (both_rise (a.behind n) (b.behind mid) n mid (mid + length b.sites) (share_rises home member n) (shares_rise home members mid))
+pub shares_rise : (home : Home) (members : List MemberTree) (k : List ℕ) → SharesRise (shares home members k).0 (length k) (length (shares home members k).1)
+shares_rise home [] k = record { rules = omega arith; dies = omega arith; spawns = omega arith; queries = omega arith }
+shares_rise home (member ∷ members) k =
+    let a : Share × List ℕ = share home member k in
+    let b : Share × List ℕ = shares home members a.1 in
+    both_rise a.0 b.0 (length k) (length a.1) (length b.1) (share_rises home member k) (shares_rise home members a.1)
 
 -- how often a number stands in a place, and in a list
 abbrev here : ℕ → ℕ → ℕ
@@ -204,23 +198,20 @@ total-shared x a b =
     omega (arith, p, q, r, s)
 
 -- the members of a class have the sites that are numbered for them
-members_times : (home : Home) (x : ℕ) (members : List MemberTree) (n : ℕ)
-    → total_times x ((shares home members).behind n) ≡ times x (range_with_len n (length (shares home members).sites))
+members_times : (home : Home) (x : ℕ) (members : List MemberTree) (k : List ℕ)
+    → times x (upto k) + total_times x (shares home members k).0 ≡ times x (upto (shares home members k).1)
 unfolding times
-members_times home x [] n = refl
-members_times home x (one ∷ members) n =
-    let a : Sited Share = share home one in
-    let b : Sited Share = shares home members in
-    let s : Share = a.behind n in
-    let mid : ℕ = n + length a.sites in
-    let first : total_times x s ≡ times x (range_with_len n (length a.sites)) =
-    sym (times-four x (ruled_sites s.states) (asked_sites s.die) (born_sites s.spawn) (asking_sites s.queries)) ∙ ap (times x) (share_numbered home one n) in
-    let rest : total_times x (b.behind mid) ≡ times x (range_with_len mid (length b.sites)) = members_times home x members mid in
-    let both : times x (range_with_len n (length (a.sites ++ b.sites))) ≡ times x (range_with_len n (length a.sites)) + times x (range_with_len mid (length b.sites)) =
-    ap (λ (k : ℕ). times x (range_with_len n k)) (length-append a.sites b.sites)
-    ∙ (ap (times x) (sym (row_joined n (length a.sites) (length b.sites))) ∙ times-append x (range_with_len n (length a.sites)) (range_with_len mid (length b.sites))) in
-    let whole : total_times x (shared_by s (b.behind mid)) ≡ total_times x s + total_times x (b.behind mid) = total-shared x s (b.behind mid) in
-    whole ∙ (ap (λ (k : ℕ). k + total_times x (b.behind mid)) first ∙ (ap (λ (k : ℕ). times x (range_with_len n (length a.sites)) + k) rest ∙ sym both))
+members_times home x [] k = let none : times x (upto k) + (0 + (0 + (0 + 0))) ≡ times x (upto k) = omega arith in none
+members_times home x (one ∷ members) k =
+    let a : Share × List ℕ = share home one k in
+    let b : Share × List ℕ = shares home members a.1 in
+    let s : Share = a.0 in
+    let four : times x (own_sites s) ≡ total_times x s = times-four x (ruled_sites s.states) (asked_sites s.die) (born_sites s.spawn) (asking_sites s.queries) in
+    let first : times x (upto k) + times x (own_sites s) ≡ times x (upto a.1) = sym (times-append x (upto k) (own_sites s)) ∙ ap (times x) (share_numbered home one k) in
+    let rest : times x (upto a.1) + total_times x b.0 ≡ times x (upto b.1) = members_times home x members a.1 in
+    let whole : total_times x (shared_by s b.0) ≡ total_times x s + total_times x b.0 = total-shared x s b.0 in
+    let sum : times x (upto k) + total_times x (shared_by s b.0) ≡ times x (upto b.1) = omega (arith, four, first, rest, whole) in
+    sum
 
 -- the first of some things has no more
 module _ {A : Type 0} (f : A → List ℕ) (x : ℕ) where
@@ -240,9 +231,9 @@ first_query_times x (y ∷ ys) =
     total
 
 module _ (all : Known) (x : ℕ) where
-  class_under : (home : Home) (class : ClassTree) (n : ℕ) → times x (class_sites ((class_of home class).behind n)) ≤ times x (range_with_len n (length (class_of home class).sites))
-  class_under home class n =
-      let s : Share = (shares home class.members).behind n in
+  class_under : (home : Home) (class : ClassTree) (k : List ℕ) → times x (upto k) + times x (class_sites (class_of home class k).0) ≤ times x (upto (class_of home class k).1)
+  class_under home class k =
+      let s : Share = (shares home class.members k).0 in
       let rules : List ℕ = ruled_sites s.states in
       let dies : List ℕ = sites_among (option_to_list (slice_get s.die 0)) in
       let spawns : List ℕ = flat_map sites_of_spawn (option_to_list (slice_get s.spawn 0)) in
@@ -250,26 +241,23 @@ module _ (all : Known) (x : ℕ) where
       let p : times x (rules ++ (dies ++ (spawns ++ query))) ≡ times x rules + (times x dies + (times x spawns + times x query)) = times-four x rules dies spawns query in
       let d : times x dies ≤ times x (asked_sites s.die) = first_times sites_of x s.die in
       let b : times x spawns ≤ times x (born_sites s.spawn) = first_times sites_of_spawn x s.spawn in
-      let k : times x query ≤ times x (asking_sites s.queries) = first_query_times x s.queries in
-      let whole : total_times x s ≡ times x (range_with_len n (length (class_of home class).sites)) = members_times home x class.members n in
-      omega (arith, p, d, b, k, whole)
+      let q : times x query ≤ times x (asking_sites s.queries) = first_query_times x s.queries in
+      let whole : times x (upto k) + total_times x s ≡ times x (upto (shares home class.members k).1) = members_times home x class.members k in
+      omega (arith, p, d, b, q, whole)
 
-  classes_under : (number : ℕ) (classes : List ClassTree) (n : ℕ)
-      → times x (flat_map class_sites ((classes_from all number classes).behind n)) ≤ times x (range_with_len n (length (classes_from all number classes).sites))
-  classes_under number [] n = omega arith
-  classes_under number (class ∷ classes) n =
+  classes_under : (number : ℕ) (classes : List ClassTree) (k : List ℕ)
+      → times x (upto k) + times x (flat_map class_sites (classes_from all number classes k).0) ≤ times x (upto (classes_from all number classes k).1)
+  unfolding times
+  classes_under number [] k = let none : times x (upto k) + 0 ≤ times x (upto k) = omega arith in none
+  classes_under number (class ∷ classes) k =
       let home : Home = home_of all number class in
-      let a : Sited Class = class_of home class in
-      let b : Sited (List Class) = classes_from all (number + 1) classes in
-      let mid : ℕ = n + length a.sites in
-      let first : times x (class_sites (a.behind n)) ≤ times x (range_with_len n (length a.sites)) = class_under home class n in
-      let rest : times x (flat_map class_sites (b.behind mid)) ≤ times x (range_with_len mid (length b.sites)) = classes_under (number + 1) classes mid in
-      let both : times x (range_with_len n (length (a.sites ++ b.sites))) ≡ times x (range_with_len n (length a.sites)) + times x (range_with_len mid (length b.sites)) =
-      ap (λ (k : ℕ). times x (range_with_len n k)) (length-append a.sites b.sites)
-      ∙ (ap (times x) (sym (row_joined n (length a.sites) (length b.sites))) ∙ times-append x (range_with_len n (length a.sites)) (range_with_len mid (length b.sites))) in
-      let whole : times x (class_sites (a.behind n) ++ flat_map class_sites (b.behind mid)) ≡ times x (class_sites (a.behind n)) + times x (flat_map class_sites (b.behind mid)) =
-      times-append x (class_sites (a.behind n)) (flat_map class_sites (b.behind mid)) in
-      omega (arith, first, rest, both, whole)
+      let a : Class × List ℕ = class_of home class k in
+      let b : List Class × List ℕ = classes_from all (number + 1) classes a.1 in
+      let first : times x (upto k) + times x (class_sites a.0) ≤ times x (upto a.1) = class_under home class k in
+      let rest : times x (upto a.1) + times x (flat_map class_sites b.0) ≤ times x (upto b.1) = classes_under (number + 1) classes a.1 in
+      let whole : times x (class_sites a.0 ++ flat_map class_sites b.0) ≡ times x (class_sites a.0) + times x (flat_map class_sites b.0) =
+      times-append x (class_sites a.0) (flat_map class_sites b.0) in
+      omega (arith, first, rest, whole)
 
 -- what stands nowhere in a list is apart from each of it
 not_in : (x : ℕ) (ys : List ℕ) → times x ys ≡ 0 → AllByRecursion (λ y. nat_eq x y ≡ false) ys
@@ -313,20 +301,23 @@ below bound (x ∷ xs) h =
     ]) rest
 
 module _ (all : Known) (classes : List ClassTree) where
-  abbrev sites_all : List ℕ
-  sites_all = flat_map class_sites ((classes_from all 0 classes).behind 0)
+  abbrev meant : List Class × List ℕ
+  meant = classes_from all 0 classes []
 
-  abbrev count : ℕ
-  count = length (classes_from all 0 classes).sites
+  abbrev sites_all : List ℕ
+  sites_all = flat_map class_sites meant.0
+
+  under : (x : ℕ) → times x sites_all ≤ times x (upto meant.1)
+  under x = let h : times x (upto []) + times x sites_all ≤ times x (upto meant.1) = classes_under all x 0 classes [] in omega (arith, h)
 
   pub sites_differ : IsDistinct nat_eq sites_all
   sites_differ = differ sites_all (λ x.
-      let under : times x sites_all ≤ times x (range_with_len 0 count) = classes_under all x 0 classes 0 in
-      let once : times x (range_with_len 0 count) ≤ 1 = (times-range 0 count x).once in
-      omega (arith, under, once))
+      let few : times x sites_all ≤ times x (upto meant.1) = under x in
+      let once : times x (upto meant.1) ≤ 1 = (times-range 0 (length meant.1) x).once in
+      omega (arith, few, once))
 
-  pub sites_below : (bound : ℕ) → count ≤ bound → list_all (λ x. nat_lt x bound) sites_all ≡ true
+  pub sites_below : (bound : ℕ) → length meant.1 ≤ bound → list_all (λ x. nat_lt x bound) sites_all ≡ true
   sites_below bound few = below bound sites_all (λ x past.
-      let under : times x sites_all ≤ times x (range_with_len 0 count) = classes_under all x 0 classes 0 in
-      let none : times x (range_with_len 0 count) ≡ 0 = (times-range 0 count x).past (omega (arith, few, past)) in
-      omega (arith, under, none))
+      let no_more : times x sites_all ≤ times x (upto meant.1) = under x in
+      let none : times x (upto meant.1) ≡ 0 = (times-range 0 (length meant.1) x).past (omega (arith, few, past)) in
+      omega (arith, no_more, none))

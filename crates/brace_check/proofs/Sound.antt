@@ -33,7 +33,7 @@ use Rattle.brace_check.specs.declared.fault.CheckFault.TheVariants.{OtherAgentIn
 use Rattle.brace_check.specs.Types.{digits_type, field_type, is_shared, named_type, typed_at, with_type, type_step, type_of, place}
 use Rattle.brace_check.specs.Findings.{reads, crosses, reads_of_loop, said_type, misfits, nests, loops_over}
 use Rattle.brace_check.specs.Found.{expression as found_in, expression_step as found_step, valued, says, says_to_loop, sought}
-use Rattle.brace_check.specs.Meanings.{Sited, literal, number_of, named_as, loop_agent, agent_of, loop_number, expression, expression_step, block, part, part_step}
+use Rattle.brace_check.specs.Meanings.{Meaning, literal, number_of, named_as, loop_agent, agent_of, loop_number, expression, expression_step, block, part, part_step}
 use Rattle.brace_check.proofs.Ties.{EffectHeading, FieldIs, declared, same-self, sited, TypeOk, type_ok, typed_ok, not_if, own_may, EffectIs, state_typed, effect_is, Tied, NamedIs, LoopIs, own_is, read_is, of_loop_is, TargetIs, found_among, tied_past, tied_declared, tied_inside, Entered, entered, target_is}
 use Rattle.brace_model.specs.declared.program.Comb.TheVariants as comb
 use Rattle.brace_model.specs.declared.program.Stmt.TheVariants as stmt
@@ -88,14 +88,14 @@ module _ (n : Scope) (m : Names) (tied : Tied n m) where
       ∙ ap (λ (b : Bool). only b t) (sited (is_sum c) k))))))
 
   -- `n` and `this.n`
-  named_sound : (at : ℕ) (o : Option Named) → NamedIs m o → reads n at o ≡ [] → (t : Ty) → typed_at at (option_map named_type o) ≡ Ok t → (k : ℕ)
-      → type_in ((named_as n at o).behind k) m ≡ Some t
+  named_sound : (at : ℕ) (o : Option Named) → NamedIs m o → reads n at o ≡ [] → (t : Ty) → typed_at at (option_map named_type o) ≡ Ok t → (k : List ℕ)
+      → type_in (named_as n at o k).0 m ≡ Some t
   named_sound at None is clean t h k = absurd (cc)
   named_sound at (Some (named.Constant i u)) is clean t h k = model.type_of-Local i m ∙ (is ∙ same_ok u t h)
   named_sound at (Some (named.Field (field.State i u shared))) is clean t h k =
       model.type_of-Field This i m ∙ (state_typed m This m.own i u shared refl (own_may m shared) is ∙ same_ok u t h)
   named_sound at (Some (named.Field (field.Effect i u shared c))) is clean t h k =
-      total_typed i k u shared c (not_if n.in_query (ReadsEffectInQuery at) clean) is ∙ same_ok u t h
+      total_typed i (length k) u shared c (not_if n.in_query (ReadsEffectInQuery at) clean) is ∙ same_ok u t h
 
   -- what may be named of the agent of a loop
   pub may_cross : (at : ℕ) (x : LoopField) → crosses n at (Some x) ≡ [] → may_name m x.class (is_shared x.field) ≡ true
@@ -159,15 +159,15 @@ choice_sound c x y m b u v t hc hx hy h =
     ∙ (ap (option_and_then (choice_type b u)) hy ∙ h)))
 
 -- what is found, the type and the meaning agree at a scope
-abbrev SoundAt : (Scope → List CheckFault) → (Scope → Result Ty ℕ) → (Scope → Sited Expr) → Type 0
-SoundAt f r s = (n : Scope) (m : Names) → Tied n m → f n ≡ [] → (t : Ty) → r n ≡ Ok t → (k : ℕ) → type_in ((s n).behind k) m ≡ Some t
+abbrev SoundAt : (Scope → List CheckFault) → (Scope → Result Ty ℕ) → (Scope → Meaning Expr) → Type 0
+SoundAt f r s = (n : Scope) (m : Names) → Tied n m → f n ≡ [] → (t : Ty) → r n ≡ Ok t → (k : List ℕ) → type_in (s n k).0 m ≡ Some t
 
 abbrev pub Sound : ExprTree → Type 0
 Sound x = SoundAt (found_in x) (type_of x) (expression x)
 
-kind : (x : ExprTree) (f : Scope → List CheckFault) (r : Scope → Result Ty ℕ) (s : Scope → Sited Expr) → found_in x ≡ f → type_of x ≡ r → expression x ≡ s → SoundAt f r s → Sound x
+kind : (x : ExprTree) (f : Scope → List CheckFault) (r : Scope → Result Ty ℕ) (s : Scope → Meaning Expr) → found_in x ≡ f → type_of x ≡ r → expression x ≡ s → SoundAt f r s → Sound x
 kind x f r s ef er es h n m tied clean t typed k =
-    ap (λ (g : Scope → Sited Expr). type_in ((g n).behind k) m) es
+    ap (λ (g : Scope → Meaning Expr). type_in (g n k).0 m) es
     ∙ h n m tied (ap (λ (g : Scope → List CheckFault). g n) (sym ef) ∙ clean) t (ap (λ (g : Scope → Result Ty ℕ). g n) (sym er) ∙ typed) k
 
 values_sound : Expressions Sound
@@ -187,22 +187,22 @@ values_sound = record {
   unary = λ op x at hx. kind (e.Unary op x at) _ _ _ (of-Unary found_step op x at) (of-Unary type_step op x at) (of-Unary expression_step op x at)
       (λ n m tied f t h k.
       let o : TypeOk (λ u. typed_at at (unary_type (unary_named op) u)) (type_of x n) t = type_ok (λ u. typed_at at (unary_type (unary_named op) u)) (type_of x n) t h in
-      unary_sound (unary_named op) (k + length (expression x n).sites) ((expression x n).behind k) m o.operand t
+      unary_sound (unary_named op) (length (expression x n k).1) (expression x n k).0 m o.operand t
       (hx n m tied f o.operand o.is k) (typed_ok at (unary_type (unary_named op) o.operand) t o.gives));
   binary = λ op x y at hx hy. kind (e.Binary op x y at) _ _ _ (of-Binary found_step op x y at) (of-Binary type_step op x y at) (of-Binary expression_step op x y at)
       (λ n m tied f t h k.
-      let j : ℕ = k + length (expression x n).sites in
+      let j : List ℕ = (expression x n k).1 in
       let o : TypeOk (λ u. with_type (λ v. typed_at at (binary_type (binary_named op) u v)) (type_of y n)) (type_of x n) t =
       type_ok (λ u. with_type (λ v. typed_at at (binary_type (binary_named op) u v)) (type_of y n)) (type_of x n) t h in
       let p : TypeOk (λ v. typed_at at (binary_type (binary_named op) o.operand v)) (type_of y n) t =
       type_ok (λ v. typed_at at (binary_type (binary_named op) o.operand v)) (type_of y n) t o.gives in
-      binary_sound (binary_named op) (j + length (expression y n).sites) ((expression x n).behind k) ((expression y n).behind j) m o.operand p.operand t
+      binary_sound (binary_named op) (length (expression y n j).1) (expression x n k).0 (expression y n j).0 m o.operand p.operand t
       (hx n m tied (none_front (found_in x n) (found_in y n) f) o.operand o.is k) (hy n m tied (nil_back (found_in x n) (found_in y n) f) p.operand p.is j)
       (typed_ok at (binary_type (binary_named op) o.operand p.operand) t p.gives));
   choice = λ c x y at hc hx hy. kind (e.Choice c x y at) _ _ _ (of-Choice found_step c x y at) (of-Choice type_step c x y at) (of-Choice expression_step c x y at)
       (λ n m tied f t h k.
-      let j : ℕ = k + length (expression c n).sites in
-      let i : ℕ = j + length (expression x n).sites in
+      let j : List ℕ = (expression c n k).1 in
+      let i : List ℕ = (expression x n j).1 in
       let o : TypeOk (λ b. with_type (λ u. with_type (λ v. typed_at at (choice_type b u v)) (type_of y n)) (type_of x n)) (type_of c n) t =
       type_ok (λ b. with_type (λ u. with_type (λ v. typed_at at (choice_type b u v)) (type_of y n)) (type_of x n)) (type_of c n) t h in
       let p : TypeOk (λ u. with_type (λ v. typed_at at (choice_type o.operand u v)) (type_of y n)) (type_of x n) t =
@@ -210,11 +210,11 @@ values_sound = record {
       let q : TypeOk (λ v. typed_at at (choice_type o.operand p.operand v)) (type_of y n) t =
       type_ok (λ v. typed_at at (choice_type o.operand p.operand v)) (type_of y n) t p.gives in
       let front : found_in c n ++ found_in x n ≡ [] = none_front (found_in c n ++ found_in x n) (found_in y n) f in
-      choice_sound ((expression c n).behind k) ((expression x n).behind j) ((expression y n).behind i) m o.operand p.operand q.operand t
+      choice_sound (expression c n k).0 (expression x n j).0 (expression y n i).0 m o.operand p.operand q.operand t
       (hc n m tied (none_front (found_in c n) (found_in x n) front) o.operand o.is k) (hx n m tied (nil_back (found_in c n) (found_in x n) front) p.operand p.is j)
       (hy n m tied (nil_back (found_in c n ++ found_in x n) (found_in y n) f) q.operand q.is i) (typed_ok at (choice_type o.operand p.operand q.operand) t q.gives));
   rand = λ at. kind (e.Rand at) _ _ _ (of-Rand found_step at) (of-Rand type_step at) (of-Rand expression_step at)
-      (λ n m tied f t h k. model.type_of-Rand k m ∙ same_ok ty.Fixed t h);
+      (λ n m tied f t h k. model.type_of-Rand (length k) m ∙ same_ok ty.Fixed t h);
 }
 
 -- where an expression of a script has a type, what it means has that type in its program
@@ -258,16 +258,16 @@ module _ (name : List ℕ) (t : Ty) (shared : Bool) (at : ℕ) (r : Result Ty �
   takes_ok comb.Max h = ap (takes (Some (effect_with name t shared comb.Max))) (takes_one h) ∙ same-self t
   takes_ok comb.Or h = ap (takes (Some (effect_with name t shared comb.Or))) (takes_one h) ∙ same-self t
 
-module _ (n : Scope) (m : Names) (tied : Tied n m) (x : ExprTree) (k : ℕ) where
+module _ (n : Scope) (m : Names) (tied : Tied n m) (x : ExprTree) (k : List ℕ) where
   -- a value in which nothing is found
-  pub has_type : (want : Ty) → valued (Some want) x n ≡ [] → type_in ((expression x n).behind k) m ≡ Some want
+  pub has_type : (want : Ty) → valued (Some want) x n ≡ [] → type_in (expression x n k).0 m ≡ Some want
   has_type want h =
       sound x n m tied (none_front (found_in x n) (misfits (Some want) (place x) (type_of x n)) h) want
       (fits want (place x) (type_of x n) (nil_back (found_in x n) (misfits (Some want) (place x) (type_of x n)) h)) k
 
   -- a value is said to an effect of the class of an agent
   said : (who : Who) (class i : ℕ) (t : Ty) (shared : Bool) (c : Comb) (at : ℕ) → class_named m who ≡ Some class → may_name m class shared ≡ true
-      → FieldIs (declared m) class (field.Effect i t shared c) → valued (said_type c t) x n ≡ [] → scope_after (stmt.Assign who i ((expression x n).behind k) at) m ≡ Some m
+      → FieldIs (declared m) class (field.Effect i t shared c) → valued (said_type c t) x n ≡ [] → scope_after (stmt.Assign who i (expression x n k).0 at) m ≡ Some m
   said who class i t shared c at named may is clean =
       let h : EffectHeading = record { ty = t; shared = shared; comb = c } in
       let e : EffectIs h (effect_named m who i) = effect_is m who class i t shared named may c is in
@@ -275,73 +275,73 @@ module _ (n : Scope) (m : Names) (tied : Tied n m) (x : ExprTree) (k : ℕ) wher
       let none : found_in x n ≡ [] = none_front (found_in x n) (misfits (said_type c t) (place x) found) clean in
       let fit : misfits (said_type e.effect.comb e.effect.ty) (place x) found ≡ [] =
       subst (λ (g : EffectHeading). misfits (said_type g.comb g.ty) (place x) found ≡ []) (sym e.is) (nil_back (found_in x n) (misfits (said_type c t) (place x) found) clean) in
-      scope_after-Assign who i ((expression x n).behind k) at m
+      scope_after-Assign who i (expression x n k).0 at m
       ∙ ap (λ (b : Bool). only b m)
-      (ap (λ (o : Option Effect). takes o (type_in ((expression x n).behind k) m)) e.named
-      ∙ takes_ok e.effect.name e.effect.ty e.effect.shared (place x) found (type_in ((expression x n).behind k) m)
+      (ap (λ (o : Option Effect). takes o (type_in (expression x n k).0 m)) e.named
+      ∙ takes_ok e.effect.name e.effect.ty e.effect.shared (place x) found (type_in (expression x n k).0 m)
       (λ u is. sound x n m tied none u is k) e.effect.comb fit)
 
   -- `n <- x` and `this.n <- x`
-  pub said_to_this : (at : ℕ) (o : Option Field) → TargetIs m o → says at o x n ≡ [] → scope_after (stmt.Assign This (number_of o) ((expression x n).behind k) at) m ≡ Some m
+  pub said_to_this : (at : ℕ) (o : Option Field) → TargetIs m o → says at o x n ≡ [] → scope_after (stmt.Assign This (number_of o) (expression x n k).0 at) m ≡ Some m
   said_to_this at None is clean = absurd (cc)
   said_to_this at (Some (field.State i t shared)) is clean = absurd (cc)
   said_to_this at (Some (field.Effect i t shared c)) is clean = said This m.own i t shared c at refl (own_may m shared) is clean
 
   -- `q.n <- x`
   to_field : (at : ℕ) (y : LoopField) (f : Field) → y.field ≡ f → LoopIs m (Some y) → crosses n at (Some y) ≡ [] → says at (Some y.field) x n ≡ []
-      → scope_after (stmt.Assign (loop_agent y.loops) (number_of (Some y.field)) ((expression x n).behind k) at) m ≡ Some m
+      → scope_after (stmt.Assign (loop_agent y.loops) (number_of (Some y.field)) (expression x n k).0 at) m ≡ Some m
   to_field at y (field.State i t shared) e is apart clean =
       let never : says at (Some (field.State i t shared)) x n ≡ [] = subst (λ (f : Field). says at (Some f) x n ≡ []) e clean in
       absurd (cc)
   to_field at y (field.Effect i t shared c) e is apart clean =
-      ap (λ (f : Field). scope_after (stmt.Assign (loop_agent y.loops) (number_of (Some f)) ((expression x n).behind k) at) m) e
+      ap (λ (f : Field). scope_after (stmt.Assign (loop_agent y.loops) (number_of (Some f)) (expression x n k).0 at) m) e
       ∙ said (loop_agent y.loops) y.class i t shared c at is.0 (subst (λ (f : Field). may_name m y.class (is_shared f) ≡ true) e (may_cross n m tied at y apart))
       (subst (FieldIs (declared m) y.class) e is.1) (subst (λ (f : Field). says at (Some f) x n ≡ []) e clean)
 
   pub said_to_loop : (at : ℕ) (o : Option LoopField) → LoopIs m o → says_to_loop at o x n ≡ []
-      → scope_after (stmt.Assign (agent_of o) (loop_number o) ((expression x n).behind k) at) m ≡ Some m
+      → scope_after (stmt.Assign (agent_of o) (loop_number o) (expression x n k).0 at) m ≡ Some m
   said_to_loop at None is clean = absurd (cc)
   said_to_loop at (Some y) is clean =
       let apart : List CheckFault = crosses n at (Some y) in
       to_field at y y.field refl is (none_front apart (says at (Some y.field) x n) clean) (nil_back apart (says at (Some y.field) x n) clean)
 
 -- a statement, in a scope, behind so many sites
-record StepSound (s : Part (Sited Stmt)) (n : Scope) (m : Names) (k : ℕ) : Type 0 where
+record StepSound (s : Part (Meaning Stmt)) (n : Scope) (m : Names) (k : List ℕ) : Type 0 where
   after : Names
-  gives : scope_after ((s.here n).behind k) m ≡ Some after
+  gives : scope_after (s.here n k).0 m ≡ Some after
   tied : Tied (behind s n) after
 
-abbrev PartSound : Part (List CheckFault) → Part (Sited Stmt) → Type 0
-PartSound q s = (n : Scope) (m : Names) → Tied n m → q.here n ≡ [] → (k : ℕ) → StepSound s n m k
+abbrev PartSound : Part (List CheckFault) → Part (Meaning Stmt) → Type 0
+PartSound q s = (n : Scope) (m : Names) → Tied n m → q.here n ≡ [] → (k : List ℕ) → StepSound s n m k
 
 -- and a block
-pub record RunSound (ss : List (Part (Sited Stmt))) (n : Scope) (m : Names) (k : ℕ) : Type 0 where
+pub record RunSound (ss : List (Part (Meaning Stmt))) (n : Scope) (m : Names) (k : List ℕ) : Type 0 where
   pub after : Names
-  pub gives : in_turn (map scope_after ((block ss n).behind k)) m ≡ Some after
+  pub gives : in_turn (map scope_after (block ss n k).0) m ≡ Some after
 
 abbrev StmtSound : StmtTree → Type 0
 StmtSound x = PartSound (checks.part x) (part x)
 
 abbrev pub TreesSound : List StmtTree → Type 0
-TreesSound xs = (n : Scope) (m : Names) → Tied n m → walk.block (map checks.part xs) n ≡ [] → (k : ℕ) → RunSound (map part xs) n m k
+TreesSound xs = (n : Scope) (m : Names) → Tied n m → walk.block (map checks.part xs) n ≡ [] → (k : List ℕ) → RunSound (map part xs) n m k
 
 trees_sound : (ys : List (ProvedStmt StmtSound)) → TreesSound (stmts_of ys)
 trees_sound [] n m tied clean k = record { after = m; gives = refl }
 trees_sound (y ∷ ys) n m tied clean k =
     let q : Part (List CheckFault) = checks.part y.0 in
-    let s : Part (Sited Stmt) = part y.0 in
+    let s : Part (Meaning Stmt) = part y.0 in
     let rest : List (Part (List CheckFault)) = map checks.part (stmts_of ys) in
     let h : StepSound s n m k = y.1 n m tied (none_front (q.here n) (walk.block rest (behind q n)) clean) k in
-    let j : ℕ = k + length (s.here n).sites in
+    let j : List ℕ = (s.here n k).1 in
     let g : RunSound (map part (stmts_of ys)) (behind s n) h.after j =
     trees_sound ys (behind s n) h.after h.tied
     (subst (λ (l : Scope). walk.block rest l ≡ []) (behind_same q s n (same_part sought y.0)) (nil_back (q.here n) (walk.block rest (behind q n)) clean)) j in
     record {
       after = g.after;
-      gives = ap (option_and_then (in_turn (map scope_after ((block (map part (stmts_of ys)) (behind s n)).behind j)))) h.gives ∙ g.gives;
+      gives = ap (option_and_then (in_turn (map scope_after (block (map part (stmts_of ys)) (behind s n) j).0))) h.gives ∙ g.gives;
     }
 
-back : (x : StmtTree) (q : Part (List CheckFault)) (s : Part (Sited Stmt)) → checks.part x ≡ q → part x ≡ s → PartSound q s → StmtSound x
+back : (x : StmtTree) (q : Part (List CheckFault)) (s : Part (Meaning Stmt)) → checks.part x ≡ q → part x ≡ s → PartSound q s → StmtSound x
 back x q s g h sound = subst (λ (q : Part (List CheckFault)). PartSound q (part x)) (sym g) (subst (PartSound q) (sym h) sound)
 
 -- `const T n = x`
@@ -350,7 +350,7 @@ const_sound type name x at n m tied clean k =
     let t : Ty = type_named type in
     record {
       after = record m { known = (n.constants, t) ∷ m.known };
-      gives = scope_after-Const n.constants ((expression x n).behind k) m
+      gives = scope_after-Const n.constants (expression x n k).0 m
           ∙ ap (option_map (λ (u : Ty). record m { known = (n.constants, u) ∷ m.known })) (has_type n m tied x k t clean);
       tied = tied_declared n m name t tied;
     }
@@ -373,11 +373,11 @@ when_sound w a at first n m tied clean k =
     let value : List CheckFault = valued (Some ty.Bool) w n in
     let one : List CheckFault = walk.block (map checks.part a) n in
     let none : value ++ one ≡ [] = none_front (value ++ one) [] clean in
-    let j : ℕ = k + length (expression w n).sites in
+    let j : List ℕ = (expression w n k).1 in
     let g : RunSound (map part a) n m j = first n m tied (nil_back value one none) j in
     record {
       after = m;
-      gives = fits_if m ((expression w n).behind k) ((block (map part a) n).behind j) [] g.after m (has_type n m tied w k ty.Bool (none_front value one none)) g.gives refl;
+      gives = fits_if m (expression w n k).0 (block (map part a) n j).0 [] g.after m (has_type n m tied w k ty.Bool (none_front value one none)) g.gives refl;
       tied = tied_past n m (constants_in (map part a) + 0) tied;
     }
 
@@ -390,15 +390,15 @@ either_sound w a b at first second n m tied clean k =
     let one : List CheckFault = walk.block (map checks.part a) n in
     let other : List CheckFault = walk.block (map checks.part b) (past (constants_in (map checks.part a)) n) in
     let none : value ++ one ≡ [] = none_front (value ++ one) other clean in
-    let j : ℕ = k + length (expression w n).sites in
+    let j : List ℕ = (expression w n k).1 in
     let g : RunSound (map part a) n m j = first n m tied (nil_back value one none) j in
-    let i : ℕ = j + length (block (map part a) n).sites in
+    let i : List ℕ = (block (map part a) n j).1 in
     let d : RunSound (map part b) later m i =
     second later m (tied_past n m (constants_in (map part a)) tied)
     (subst (λ (c : ℕ). walk.block (map checks.part b) (past c n) ≡ []) (same_blocks sought a) (nil_back (value ++ one) other clean)) i in
     record {
       after = m;
-      gives = fits_if m ((expression w n).behind k) ((block (map part a) n).behind j) ((block (map part b) later).behind i) g.after d.after
+      gives = fits_if m (expression w n k).0 (block (map part a) n j).0 (block (map part b) later i).0 g.after d.after
           (has_type n m tied w k ty.Bool (none_front value one none)) g.gives d.gives;
       tied = tied_past n m (constants_in (map part a) + constants_in (map part b)) tied;
     }
@@ -406,15 +406,15 @@ either_sound w a b at first second n m tied clean k =
 -- a loop
 module _ (class variable other : Ident) (a : List StmtTree) (at : ℕ) (run : TreesSound a) where
   over_class : (n : Scope) (m : Names) → Tied n m → (o : Option ℕ) → class_number n class.text ≡ o → nests n at ≡ [] → loops_over class.at o ≡ []
-      → walk.block (map checks.part a) (inside class variable n) ≡ [] → (k : ℕ)
-      → scope_after (stmt.Foreach (unwrap_or o 0) ((block (map part a) (inside class variable n)).behind k) at) m ≡ Some m
+      → walk.block (map checks.part a) (inside class variable n) ≡ [] → (k : List ℕ)
+      → scope_after (stmt.Foreach (unwrap_or o 0) (block (map part a) (inside class variable n) k).0 at) m ≡ Some m
   over_class n m tied None is shallow there clean k = absurd (cc)
   over_class n m tied (Some number) is shallow there clean k =
       let few : n.loops < 2 = leb-false 2 n.loops (not_if (nat_le 2 n.loops) (NestedTooDeep at) shallow) in
       let e : Entered m n.loops number = entered m n.loops number few tied.loops in
       let g : RunSound (map part a) (inside class variable n) e.inner k =
       run (inside class variable n) e.inner (tied_inside n m class variable number is e tied) clean k in
-      let body : List Stmt = (block (map part a) (inside class variable n)).behind k in
+      let body : List Stmt = (block (map part a) (inside class variable n) k).0 in
       let under : number < length m.classes = found_among (bytes_eq class.text) (λ (j : ℕ). j < length m.classes) n.home.known.classes number tied.classes is in
       scope_after-Foreach number body at m
       ∙ ap (λ (t : Bool). only t m)

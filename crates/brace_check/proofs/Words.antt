@@ -68,12 +68,12 @@ module _ (src : List ℕ) where
 
 -- the names of the fields in the program
 module _ (home : Home) where
-  states_named : (members : List MemberTree) (n : ℕ) → AllByRecursion Worded members → list_all is_name (map (λ (s : State). s.name) ((shares home members).behind n).states) ≡ true
+  states_named : (members : List MemberTree) (n : List ℕ) → AllByRecursion Worded members → list_all is_name (map (λ (s : State). s.name) (shares home members n).0.states) ≡ true
   states_named [] n h = refl
   states_named (m.State shared type name x at ∷ members) n h =
-      and_from (is_name name.text) (list_all is_name (map (λ (s : State). s.name) ((shares home members).behind _).states)) h.0
-      (states_named members (n + length (share home (m.State shared type name x at)).sites) h.1)
-  states_named (one ∷ members) n h = states_named members (n + length (share home one).sites) h.1
+      and_from (is_name name.text) (list_all is_name (map (λ (s : State). s.name) (shares home members _).0.states)) h.0
+      (states_named members (share home (m.State shared type name x at) n).1 h.1)
+  states_named (one ∷ members) n h = states_named members (share home one n).1 h.1
 
   effects_named : (members : List MemberTree) → AllByRecursion Worded members → list_all is_name (map (λ e. e.name) (flat_map effect_of members)) ≡ true
   effects_named [] h = refl
@@ -81,9 +81,9 @@ module _ (home : Home) where
       and_from (is_name name.text) (list_all is_name (map (λ e. e.name) (flat_map effect_of members))) h.0 (effects_named members h.1)
   effects_named (_ ∷ members) h = effects_named members h.1
 
-  pub fields_named : (members : List MemberTree) (n : ℕ) → AllByRecursion Worded members
-      → list_all is_name (map (λ (s : State). s.name) ((shares home members).behind n).states ++ map (λ e. e.name) (flat_map effect_of members)) ≡ true
+  pub fields_named : (members : List MemberTree) (n : List ℕ) → AllByRecursion Worded members
+      → list_all is_name (map (λ (s : State). s.name) (shares home members n).0.states ++ map (λ e. e.name) (flat_map effect_of members)) ≡ true
   fields_named members n h =
-      let states : List (List ℕ) = map (λ (s : State). s.name) ((shares home members).behind n).states in
+      let states : List (List ℕ) = map (λ (s : State). s.name) (shares home members n).0.states in
       let effects : List (List ℕ) = map (λ e. e.name) (flat_map effect_of members) in
       list_all-append is_name states effects ∙ and_from (list_all is_name states) (list_all is_name effects) (states_named members n h) (effects_named members h)

@@ -1,7 +1,7 @@
-ghost use Rattle.std.specs.Prelude.{◌≡◌, [], ◌∷◌, ◌++◌, length, not, ◌&&◌, OnOk, IfOk};
-ghost use Rattle.brace_model.specs.Typing.{only, is_sum};
+ghost use Rattle.std.specs.Prelude.{◌≡◌, not, ◌&&◌, OnOk, IfOk};
+ghost use Rattle.brace_model.specs.Typing.{is_sum};
 ghost use Rattle.brace_names.specs.Findings.{is_summed};
-ghost use Rattle.brace_check.specs.Meanings.{site_if, literal, number_of, named_as, loop_agent, agent_of, loop_number, expression};
+ghost use Rattle.brace_check.specs.Meanings.{site, site_if, literal, number_of, named_as, loop_agent, agent_of, loop_number, expression};
 
 use brace_model::{Comb, Expr, Value, Who};
 use brace_names::{
@@ -13,8 +13,8 @@ use std::alloc::Global;
 
 /// Notes a site at an offset, and gives its number.
 pub fn site(sites: &mut Vec<u32>, at: u32) -> Result<u32, NoMemory>
-    ensures noted { OnOk result (sites.new.items ≡ sites.old.items ++ at ∷ []) }
-    ensures number { IfOk result (λ n. n ≡ length sites.old.items) }
+    ensures noted { OnOk result (sites.new.items ≡ (site at sites.old.items).1) }
+    ensures number { IfOk result (λ n. n ≡ (site at sites.old.items).0) }
 {
     let number = u32::try_from(sites.len()).ok().ok_or(NoMemory)?;
     sites.push(at)?;
@@ -23,8 +23,8 @@ pub fn site(sites: &mut Vec<u32>, at: u32) -> Result<u32, NoMemory>
 
 // The same, where an operation is a site.
 fn site_if(sites: &mut Vec<u32>, test: bool, at: u32) -> Result<Option<u32>, NoMemory>
-    ensures noted { OnOk result (sites.new.items ≡ sites.old.items ++ site_if test at) }
-    ensures number { IfOk result (λ n. n ≡ only test (length sites.old.items)) }
+    ensures noted { OnOk result (sites.new.items ≡ (site_if test at sites.old.items).1) }
+    ensures number { IfOk result (λ n. n ≡ (site_if test at sites.old.items).0) }
 {
     if test {
         Ok(Some(site(sites, at)?))
@@ -67,10 +67,10 @@ fn named_as(
     at: u32,
     named: Option<Named>,
 ) -> Result<Expr, NoMemory>
-    ensures noted { OnOk result (sites.new.items ≡ sites.old.items
-        ++ (named_as scope.now at named).sites) }
+    ensures noted { OnOk result (sites.new.items
+        ≡ (named_as scope.now at named sites.old.items).1) }
     ensures meant { IfOk result (λ e. e
-        ≡ (named_as scope.now at named).behind (length sites.old.items)) }
+        ≡ (named_as scope.now at named sites.old.items).0) }
 {
     match named {
         Some(Named::Constant(number, _)) => Ok(Expr::Local(number)),
@@ -113,10 +113,10 @@ pub fn expression(
     scope: &Scope,
     x: &ExprTree,
 ) -> Result<Expr, NoMemory>
-    ensures noted { OnOk result (sites.new.items ≡ sites.old.items
-        ++ (expression x.now scope.now).sites) }
+    ensures noted { OnOk result (sites.new.items
+        ≡ (expression x.now scope.now sites.old.items).1) }
     ensures meant { IfOk result (λ e. e
-        ≡ (expression x.now scope.now).behind (length sites.old.items)) }
+        ≡ (expression x.now scope.now sites.old.items).0) }
 {
     match x {
         ExprTree::Lit(number) => Ok(Expr::Lit(literal(number.digits))),

@@ -1,4 +1,4 @@
-ghost use Rattle.std.specs.Prelude.{◌≡◌, ◌++◌, flat_map, length, slice_get, OnOk, IfOk};
+ghost use Rattle.std.specs.Prelude.{◌≡◌, flat_map, slice_get, OnOk, IfOk};
 ghost use Rattle.brace_names.specs.Scopes.{home_of};
 ghost use Rattle.brace_check.specs.Programs.{effect_of, visible_of, reach_of, first_or_0, place_of, class_with, class_of, classes_from, program_with};
 
@@ -102,11 +102,10 @@ fn class_of<'a>(
     number: u32,
     class: &'a ClassTree,
 ) -> Result<Class, NoMemory>
-    ensures noted { OnOk result (sites.new.items ≡ sites.old.items
-        ++ (class_of (home_of known.now number class.now) class.now).sites) }
+    ensures noted { OnOk result (sites.new.items
+        ≡ (class_of (home_of known.now number class.now) class.now sites.old.items).1) }
     ensures meant { IfOk result (λ c. c
-        ≡ (class_of (home_of known.now number class.now) class.now).behind
-        (length sites.old.items)) }
+        ≡ (class_of (home_of known.now number class.now) class.now sites.old.items).0) }
 {
     let own = field_table(alloc, class)?;
     let home = Home {
@@ -125,10 +124,10 @@ fn classes<'a>(
     known: &Classes<'a>,
     trees: &'a [ClassTree],
 ) -> Result<List<Class>, NoMemory>
-    ensures noted { OnOk result (sites.new.items ≡ sites.old.items
-        ++ (classes_from known.now 0 trees.now).sites) }
+    ensures noted { OnOk result (sites.new.items
+        ≡ (classes_from known.now 0 trees.now sites.old.items).1) }
     ensures meant { IfOk result (λ c. c
-        ≡ (classes_from known.now 0 trees.now).behind (length sites.old.items)) }
+        ≡ (classes_from known.now 0 trees.now sites.old.items).0) }
 {
     let mut all = List::new(alloc);
     let mut number = 0;

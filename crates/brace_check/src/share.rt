@@ -1,4 +1,4 @@
-ghost use Rattle.std.specs.Prelude.{◌≡◌, ◌++◌, map, length, OnOk, IfOk};
+ghost use Rattle.std.specs.Prelude.{◌≡◌, map, OnOk, IfOk};
 ghost use Rattle.brace_check.specs.Programs.{rule, gifts_in, spawn_of, no_share, share, shared_by, shares};
 
 use crate::meaning::{expression, number_of, site};
@@ -24,9 +24,9 @@ fn rule(
     scope: &Scope,
     x: &Option<ExprTree>,
 ) -> Result<Option<Expr>, NoMemory>
-    ensures noted { OnOk result (sites.new.items ≡ sites.old.items
-        ++ (rule x.now scope.now).sites) }
-    ensures meant { IfOk result (λ r. r ≡ (rule x.now scope.now).behind (length sites.old.items)) }
+    ensures noted { OnOk result (sites.new.items
+        ≡ (rule x.now scope.now sites.old.items).1) }
+    ensures meant { IfOk result (λ r. r ≡ (rule x.now scope.now sites.old.items).0) }
 {
     match x {
         Some(x) => Ok(Some(expression(alloc, sites, scope, x)?)),
@@ -41,10 +41,10 @@ fn gifts(
     scope: &Scope,
     given: &List<GiftTree>,
 ) -> Result<List<Gift>, NoMemory>
-    ensures noted { OnOk result (sites.new.items ≡ sites.old.items
-        ++ (gifts_in given.now scope.now).sites) }
+    ensures noted { OnOk result (sites.new.items
+        ≡ (gifts_in given.now scope.now sites.old.items).1) }
     ensures meant { IfOk result (λ gifts. gifts
-        ≡ (gifts_in given.now scope.now).behind (length sites.old.items)) }
+        ≡ (gifts_in given.now scope.now sites.old.items).0) }
 {
     let mut gifts = List::new(alloc);
     for one in given.as_slice() {
@@ -64,10 +64,10 @@ fn spawn(
     given: &List<GiftTree>,
     at: u32,
 ) -> Result<Spawn, NoMemory>
-    ensures noted { OnOk result (sites.new.items ≡ sites.old.items
-        ++ (spawn_of condition.now given.now at scope.now).sites) }
+    ensures noted { OnOk result (sites.new.items
+        ≡ (spawn_of condition.now given.now at scope.now sites.old.items).1) }
     ensures meant { IfOk result (λ s. s
-        ≡ (spawn_of condition.now given.now at scope.now).behind (length sites.old.items)) }
+        ≡ (spawn_of condition.now given.now at scope.now sites.old.items).0) }
 {
     let when = expression(alloc, sites, scope, condition)?;
     let gifts = gifts(alloc, sites, scope, given)?;
@@ -83,11 +83,11 @@ fn add<'a>(
     home: &Home<'_, 'a>,
     one: &'a MemberTree,
 ) -> Result<(), NoMemory>
-    ensures noted { OnOk result (sites.new.items ≡ sites.old.items
-        ++ (share home.now one.now).sites) }
+    ensures noted { OnOk result (sites.new.items
+        ≡ (share home.now one.now sites.old.items).1) }
     ensures meant { OnOk result (all.new
         ≡ shared_by all.old
-        ((share home.now one.now).behind (length sites.old.items))) }
+        ((share home.now one.now sites.old.items).0)) }
 {
     match one {
         MemberTree::State(shared, ty, name, x, _) => {
@@ -127,11 +127,10 @@ pub fn shares<'a>(
     home: &Home<'_, 'a>,
     class: &'a ClassTree,
 ) -> Result<Share, NoMemory>
-    ensures noted { OnOk result (sites.new.items ≡ sites.old.items
-        ++ (shares home.now class.now.members).sites) }
+    ensures noted { OnOk result (sites.new.items
+        ≡ (shares home.now class.now.members sites.old.items).1) }
     ensures meant { IfOk result (λ s. s
-        ≡ (shares home.now class.now.members).behind
-        (length sites.old.items)) }
+        ≡ (shares home.now class.now.members sites.old.items).0) }
 {
     let mut all = Share {
         states: List::new(alloc),

@@ -1,4 +1,4 @@
-ghost use Rattle.std.specs.Prelude.{◌≡◌, ◌++◌, map, length, unwrap_or, OnOk, IfOk};
+ghost use Rattle.std.specs.Prelude.{◌≡◌, map, unwrap_or, OnOk, IfOk};
 ghost use Rattle.brace_names.specs.Tables.{look};
 ghost use Rattle.brace_names.specs.Scopes.{past};
 ghost use Rattle.brace_names.specs.Walk.{behind, constants_in};
@@ -21,10 +21,10 @@ fn assigned(
     at: u32,
     x: &ExprTree,
 ) -> Result<Stmt, NoMemory>
-    ensures noted { OnOk result (sites.new.items ≡ sites.old.items
-        ++ (expression x.now scope.now).sites) }
+    ensures noted { OnOk result (sites.new.items
+        ≡ (expression x.now scope.now sites.old.items).1) }
     ensures meant { IfOk result (λ s. s
-        ≡ (assigned who effect at (expression x.now scope.now)).behind (length sites.old.items)) }
+        ≡ (assigned who effect at (expression x.now scope.now) sites.old.items).0) }
 {
     let x = expression(alloc, sites, scope, x)?;
     Ok(Stmt::Assign(who, effect, x, at))
@@ -39,10 +39,10 @@ fn said(
     name: &Ident,
     x: &ExprTree,
 ) -> Result<Stmt, NoMemory>
-    ensures noted { OnOk result (sites.new.items ≡ sites.old.items
-        ++ (said at name.now x.now scope.now).sites) }
+    ensures noted { OnOk result (sites.new.items
+        ≡ (said at name.now x.now scope.now sites.old.items).1) }
     ensures meant { IfOk result (λ s. s
-        ≡ (said at name.now x.now scope.now).behind (length sites.old.items)) }
+        ≡ (said at name.now x.now scope.now sites.old.items).0) }
 {
     let effect = number_of(scope.field(name.text.as_bytes()));
     assigned(alloc, sites, scope, Who::This, effect, at, x)
@@ -57,10 +57,10 @@ fn said_to_loop(
     found: Option<LoopField>,
     x: &ExprTree,
 ) -> Result<Stmt, NoMemory>
-    ensures noted { OnOk result (sites.new.items ≡ sites.old.items
-        ++ (said_to_loop at found x.now scope.now).sites) }
+    ensures noted { OnOk result (sites.new.items
+        ≡ (said_to_loop at found x.now scope.now sites.old.items).1) }
     ensures meant { IfOk result (λ s. s
-        ≡ (said_to_loop at found x.now scope.now).behind (length sites.old.items)) }
+        ≡ (said_to_loop at found x.now scope.now sites.old.items).0) }
 {
     assigned(alloc, sites, scope, agent_of(found), loop_number(found), at, x)
 }
@@ -79,10 +79,10 @@ fn statement<'a>(
     scope: &mut Scope<'_, '_, 'a>,
     s: &'a StmtTree,
 ) -> Result<Stmt, NoMemory>
-    ensures noted { OnOk result (sites.new.items ≡ sites.old.items
-        ++ ((part s.now).here scope.old).sites) }
+    ensures noted { OnOk result (sites.new.items
+        ≡ ((part s.now).here scope.old sites.old.items).1) }
     ensures meant { IfOk result (λ stmt. stmt
-        ≡ ((part s.now).here scope.old).behind (length sites.old.items)) }
+        ≡ ((part s.now).here scope.old sites.old.items).0) }
     ensures behind { OnOk result (scope.new ≡ behind (part s.now) scope.old) }
 {
     match s {
@@ -127,10 +127,10 @@ pub fn block<'a>(
     scope: &mut Scope<'_, '_, 'a>,
     statements: &'a List<StmtTree>,
 ) -> Result<List<Stmt>, NoMemory>
-    ensures noted { OnOk result (sites.new.items ≡ sites.old.items
-        ++ (block (map part statements.now) scope.old).sites) }
+    ensures noted { OnOk result (sites.new.items
+        ≡ (block (map part statements.now) scope.old sites.old.items).1) }
     ensures meant { IfOk result (λ b. b
-        ≡ (block (map part statements.now) scope.old).behind (length sites.old.items)) }
+        ≡ (block (map part statements.now) scope.old sites.old.items).0) }
     ensures behind { OnOk result (scope.new
         ≡ past (constants_in (map part statements.now)) scope.old) }
 {

@@ -16,13 +16,13 @@ use Rattle.brace_names.specs.Faults.{bindings, faults as name_faults}
 use Rattle.brace_model.specs.declared.program.Class.{Class}
 use Rattle.brace_check.specs.Faults.{faults as check_faults}
 use Rattle.brace_check.specs.Found.{member, found}
-use Rattle.brace_check.specs.Meanings.{Sited}
+use Rattle.brace_check.specs.Meanings.{Meaning}
 use Rattle.brace_check.specs.Programs.{classes_from, program_with, program_of}
 use Rattle.brace_check.specs.Resolved.{IsResolved}
 use Rattle.brace_layout.specs.Formatted.{IsFormatted}
 use Rattle.brace_layout.specs.Unplaced.{name_fault_at_0, check_fault_at_0, targets_in, class_at_0, program_at_0}
 use Rattle.brace_layout.proofs.NamesUnplaced.{nought, tree_at_0, faults_unplaced, targets_unplaced, script_zero}
-use Rattle.brace_layout.proofs.ChecksZero.{SitedZero, member_found, meant_script}
+use Rattle.brace_layout.proofs.ChecksZero.{MeantZero, member_found, meant_script}
 
 one_tree : (tree other : Tree) → Alike tree other → tree_at_0 tree ≡ tree_at_0 other
 one_tree tree other alike = ap (λ (classes : List ClassTree). record { classes = classes }) alike
@@ -43,7 +43,7 @@ pub none_either : (tree other : Tree) → Alike tree other → name_faults tree 
 none_either tree other alike none = none_of name_fault_at_0 (name_faults tree) (name_faults other) (same_name_faults tree other alike) none
 
 -- the classes of a script
-abbrev all_in : Tree → Sited (List Class)
+abbrev all_in : Tree → Meaning (List Class)
 all_in tree = classes_from (known tree.classes) 0 tree.classes
 
 faults_zero : (r : Resolved) → map check_fault_at_0 (check_faults r) ≡ found (tree_at_0 r.tree)
@@ -51,8 +51,8 @@ faults_zero r = script_zero check_fault_at_0 member member_found r.tree.classes
 
 program_zero : (r : Resolved) → program_at_0 (program_of r) ≡ program_with (all_in (tree_at_0 r.tree))
 program_zero r =
-    let h : SitedZero (map class_at_0) (all_in r.tree) (all_in (tree_at_0 r.tree)) = meant_script r.tree.classes in
-    ap (λ (l : List Class). record { classes = l; sites = map nought (program_of r).sites }) (h.means 0) ∙ ap (λ (l : List ℕ). record { classes = (all_in (tree_at_0 r.tree)).behind 0; sites = l }) h.sites
+    let h : MeantZero (map class_at_0) (all_in r.tree) (all_in (tree_at_0 r.tree)) = meant_script r.tree.classes in
+    ap (λ (l : List Class). record { classes = l; sites = map nought (program_of r).sites }) (h.means []) ∙ ap (λ (l : List ℕ). record { classes = (all_in (tree_at_0 r.tree) []).0; sites = l }) (h.sites [])
 
 module _ (r q : Resolved) (alike : Alike r.tree q.tree) where
   pub same_check_faults : map check_fault_at_0 (check_faults r) ≡ map check_fault_at_0 (check_faults q)

@@ -24,7 +24,7 @@ use Rattle.brace_check.specs.Findings.{fault_if, reads, crosses, reads_of_loop, 
 use Rattle.brace_check.specs.Found as found
 use Rattle.brace_check.specs.Found.{valued, says, sought}
 use Rattle.brace_check.specs.Meanings as means
-use Rattle.brace_check.specs.Meanings.{Sited, site_if, named_as, plain, followed, with_sites, number_of, agent_of, loop_number, number_in, expression, block, part, part_step}
+use Rattle.brace_check.specs.Meanings.{Meaning, plain, site, site_if, made, followed, named_as, number_of, agent_of, loop_number, number_in, expression, block, part, part_step}
 use Rattle.brace_layout.specs.Unplaced.{check_fault_at_0, stmt_step, stmt_at_0, class_at_0}
 use Rattle.brace_layout.proofs.WalkZero as walk
 use Rattle.brace_layout.proofs.NamesUnplaced.{nought, home_zero, known_zero}
@@ -72,44 +72,60 @@ pub fault_zero : (test : Bool) (x y : CheckFault) → check_fault_at_0 x ≡ y �
 fault_zero true x y h = ap (λ (z : CheckFault). z ∷ []) h
 fault_zero false x y h = refl
 
--- what has its sites at place 0, and is the same behind them but for places
-pub record SitedZero {A : Type 0} (at_0 : A → A) (a b : Sited A) : Type 0 where
-  pub sites : map nought a.sites ≡ b.sites
-  pub means : (k : ℕ) → at_0 (a.behind k) ≡ b.behind k
-
-pub as_many : {A : Type 0} (at_0 : A → A) (a b : Sited A) → SitedZero at_0 a b → length a.sites ≡ length b.sites
-as_many at_0 a b h = sym (length-map a.sites nought) ∙ ap length h.sites
-
-pub sites_both : (xs ys a b : List ℕ) → map nought xs ≡ a → map nought ys ≡ b → map nought (xs ++ ys) ≡ a ++ b
-sites_both = walk.both nought
-
-site_zero : (test : Bool) (at : ℕ) → map nought (site_if test at) ≡ site_if test 0
-site_zero true at = refl
-site_zero false at = refl
-
 abbrev pub itself : {A : Type 0} → A → A
 itself x = x
+
+-- what is the same, with its sites at place 0 behind sites at place 0
+pub record MeantZero {A : Type 0} (at_0 : A → A) (a b : Meaning A) : Type 0 where
+  pub sites : (k : List ℕ) → map nought (a k).1 ≡ (b (map nought k)).1
+  pub means : (k : List ℕ) → at_0 (a k).0 ≡ (b (map nought k)).0
+
+site_zero : (at : ℕ) → MeantZero itself (site at) (site 0)
+site_zero at = record { sites = λ k. map-append nought k (at ∷ []); means = λ k. sym (length-map k nought) }
+
+site_if_zero : (test : Bool) (at : ℕ) → MeantZero itself (site_if test at) (site_if test 0)
+site_if_zero true at = record { sites = λ k. map-append nought k (at ∷ []); means = λ k. ap (only true) (sym (length-map k nought)) }
+site_if_zero false at = record { sites = λ k. refl; means = λ k. ap (only false) (sym (length-map k nought)) }
+
+module _ {A B C : Type 0} (f : A → A) (g : B → B) (h : C → C) where
+  followed_zero : (join meet : A → B → C) → ((x : A) (y : B) → h (join x y) ≡ meet (f x) (g y)) → (a b : Meaning A) (c d : Meaning B) → MeantZero f a b → MeantZero g c d
+      → MeantZero h (followed join a c) (followed meet b d)
+  followed_zero join meet joins a b c d one other = record {
+    sites = λ k. other.sites (a k).1 ∙ ap (λ (l : List ℕ). (d l).1) (one.sites k);
+    means = λ k.
+        let first : A × List ℕ = b (map nought k) in
+        joins (a k).0 (c (a k).1).0
+        ∙ (ap (λ (v : A). meet v (g (c (a k).1).0)) (one.means k)
+        ∙ (ap (meet first.0) (other.means (a k).1) ∙ ap (λ (l : List ℕ). meet first.0 (d l).0) (one.sites k)));
+  }
+
+module _ {A B : Type 0} (f : A → A) (g : B → B) where
+  made_zero : (make build : A → B) → ((x : A) → g (make x) ≡ build (f x)) → (a b : Meaning A) → MeantZero f a b → MeantZero g (made make a) (made build b)
+  made_zero make build makes a b h = record { sites = h.sites; means = λ k. makes (a k).0 ∙ ap build (h.means k) }
+
+nothing_zero : {A : Type 0} (f : A → A) (x y : A) → f x ≡ y → MeantZero f (plain x) (plain y)
+nothing_zero f x y e = record { sites = λ k. refl; means = λ k. e }
 
 -- what an expression comes to in a scope: its type, what is found in it, and what it means
 record Sense : Type 0 where
   types : Scope → Result Ty ℕ
   faults : Scope → List CheckFault
-  meant : Scope → Sited Expr
+  meant : Scope → Meaning Expr
 
 abbrev sense : ExprTree → Sense
 sense x = record { types = type_of x; faults = found.expression x; meant = means.expression x }
 
-sense_is : (x : ExprTree) (t : Scope → Result Ty ℕ) (f : Scope → List CheckFault) (m : Scope → Sited Expr) → type_of x ≡ t → found.expression x ≡ f → means.expression x ≡ m
+sense_is : (x : ExprTree) (t : Scope → Result Ty ℕ) (f : Scope → List CheckFault) (m : Scope → Meaning Expr) → type_of x ≡ t → found.expression x ≡ f → means.expression x ≡ m
     → sense x ≡ record { types = t; faults = f; meant = m }
 sense_is x t f m a b c =
     ap (λ (t : Scope → Result Ty ℕ). record { types = t; faults = found.expression x; meant = means.expression x }) a
     ∙ (ap (λ (f : Scope → List CheckFault). record { types = t; faults = f; meant = means.expression x }) b
-    ∙ ap (λ (m : Scope → Sited Expr). record { types = t; faults = f; meant = m }) c)
+    ∙ ap (λ (m : Scope → Meaning Expr). record { types = t; faults = f; meant = m }) c)
 
 record SenseZero (p q : Sense) : Type 0 where
   typed : (n : Scope) → typing_at_0 (p.types n) ≡ q.types n
   found_ : (n : Scope) → faults_at_0 (p.faults n) ≡ q.faults n
-  meant : (n : Scope) → SitedZero itself (p.meant n) (q.meant n)
+  meant : (n : Scope) → MeantZero itself (p.meant n) (q.meant n)
 
 record ExprZero (x : ExprTree) : Type 0 where
   senses : SenseZero (sense x) (sense (expr_at_0 x))
@@ -142,42 +158,37 @@ of_loop_zero n at o =
     (faults_both (reads n at field_) (crosses n at o) (reads n 0 field_) (crosses n 0 o) (reads_zero n at field_) (crosses_zero n at o)) refl
 
 -- meanings
-still : (x : Expr) → SitedZero itself (means.plain x) (means.plain x)
-still x = record { sites = refl; means = λ k. refl }
+still : (x : Expr) → MeantZero itself (plain x) (plain x)
+still x = nothing_zero itself x x refl
 
-named_zero : (n : Scope) (at : ℕ) (o : Option Named) → SitedZero itself (named_as n at o) (named_as n 0 o)
+named_zero : (n : Scope) (at : ℕ) (o : Option Named) → MeantZero itself (named_as n at o) (named_as n 0 o)
 named_zero n at None = still _
 named_zero n at (Some (named.Constant i t)) = still _
 named_zero n at (Some (named.Field (field.State i t shared))) = still _
-named_zero n at (Some (named.Field (field.Effect i t shared c))) = record { sites = site_zero (is_summed n (field.Effect i t shared c)) at; means = λ k. refl }
+named_zero n at (Some (named.Field (field.Effect i t shared c))) =
+    let test : Bool = is_summed n (field.Effect i t shared c) in
+    made_zero itself itself (expr.Total i t) (expr.Total i t) (λ o. refl) (site_if test at) (site_if test 0) (site_if_zero test at)
 
-unary_zero : (test : Bool) (at : ℕ) (op : Option ℕ → Expr → Expr) (x y : Sited Expr) → SitedZero itself x y → SitedZero itself (means.unary test at op x) (means.unary test 0 op y)
-unary_zero test at op x y h = record {
-  sites = sites_both x.sites (site_if test at) y.sites (site_if test 0) h.sites (site_zero test at);
-  means = λ k. ap (λ (j : ℕ). op (only test (k + j)) (x.behind k)) (as_many itself x y h) ∙ ap (op (only test (k + length y.sites))) (h.means k);
-}
+unary_zero : (test : Bool) (at : ℕ) (op : Option ℕ → Expr → Expr) (x y : Meaning Expr) → MeantZero itself x y → MeantZero itself (means.unary test at op x) (means.unary test 0 op y)
+unary_zero test at op x y h =
+    followed_zero itself itself itself (λ a n. op n a) (λ a n. op n a) (λ a n. refl) x y (site_if test at) (site_if test 0) h (site_if_zero test at)
 
-binary_zero : (test : Bool) (at : ℕ) (op : Option ℕ → Expr → Expr → Expr) (x y a b : Sited Expr) → SitedZero itself x a → SitedZero itself y b
-    → SitedZero itself (means.binary test at op x y) (means.binary test 0 op a b)
-binary_zero test at op x y a b h g = record {
-  sites = sites_both (x.sites ++ y.sites) (site_if test at) (a.sites ++ b.sites) (site_if test 0) (sites_both x.sites y.sites a.sites b.sites h.sites g.sites) (site_zero test at);
-  means = λ k.
-      ap (λ (j : ℕ). op (only test (k + j + length y.sites)) (x.behind k) (y.behind (k + j))) (as_many itself x a h)
-      ∙ (ap (λ (j : ℕ). op (only test (k + length a.sites + j)) (x.behind k) (y.behind (k + length a.sites))) (as_many itself y b g)
-      ∙ (ap (λ (v : Expr). op (only test (k + length a.sites + length b.sites)) v (y.behind (k + length a.sites))) (h.means k)
-      ∙ ap (λ (v : Expr). op (only test (k + length a.sites + length b.sites)) (a.behind k) v) (g.means (k + length a.sites))));
-}
+abbrev operands : Meaning Expr → Meaning Expr → Meaning (Expr × Expr)
+operands x y = followed (λ a b. (a, b)) x y
 
-choice_zero : (w x y v a b : Sited Expr) → SitedZero itself w v → SitedZero itself x a → SitedZero itself y b → SitedZero itself (means.choice w x y) (means.choice v a b)
-choice_zero w x y v a b h g d = record {
-  sites = sites_both (w.sites ++ x.sites) y.sites (v.sites ++ a.sites) b.sites (sites_both w.sites x.sites v.sites a.sites h.sites g.sites) d.sites;
-  means = λ k.
-      ap (λ (j : ℕ). expr.Choice (w.behind k) (x.behind (k + j)) (y.behind (k + j + length x.sites))) (as_many itself w v h)
-      ∙ (ap (λ (j : ℕ). expr.Choice (w.behind k) (x.behind (k + length v.sites)) (y.behind (k + length v.sites + j))) (as_many itself x a g)
-      ∙ (ap (λ (z : Expr). expr.Choice z (x.behind (k + length v.sites)) (y.behind (k + length v.sites + length a.sites))) (h.means k)
-      ∙ (ap (λ (z : Expr). expr.Choice (v.behind k) z (y.behind (k + length v.sites + length a.sites))) (g.means (k + length v.sites))
-      ∙ ap (expr.Choice (v.behind k) (a.behind (k + length v.sites))) (d.means (k + length v.sites + length a.sites)))));
-}
+operands_zero : (x y a b : Meaning Expr) → MeantZero itself x a → MeantZero itself y b → MeantZero itself (operands x y) (operands a b)
+operands_zero x y a b h g = followed_zero itself itself itself (λ a b. (a, b)) (λ a b. (a, b)) (λ a b. refl) x a y b h g
+
+binary_zero : (test : Bool) (at : ℕ) (op : Option ℕ → Expr → Expr → Expr) (x y a b : Meaning Expr) → MeantZero itself x a → MeantZero itself y b
+    → MeantZero itself (means.binary test at op x y) (means.binary test 0 op a b)
+binary_zero test at op x y a b h g =
+    let both : Expr × Expr → Option ℕ → Expr = λ p n. op n p.0 p.1 in
+    followed_zero itself itself itself both both (λ p n. refl) (operands x y) (operands a b) (site_if test at) (site_if test 0) (operands_zero x y a b h g) (site_if_zero test at)
+
+choice_zero : (w x y v a b : Meaning Expr) → MeantZero itself w v → MeantZero itself x a → MeantZero itself y b → MeantZero itself (means.choice w x y) (means.choice v a b)
+choice_zero w x y v a b h g d =
+    let both : Expr → Expr × Expr → Expr = λ c p. expr.Choice c p.0 p.1 in
+    followed_zero itself itself itself both both (λ c p. refl) w v (operands x y) (operands a b) h (operands_zero x y a b g d)
 
 through : (x y : ExprTree) (p q : Sense) → sense x ≡ p → expr_at_0 x ≡ y → sense y ≡ q → place y ≡ 0 → SenseZero p q → ExprZero x
 through x y p q a b c d h = record {
@@ -239,13 +250,13 @@ senses_zero = record {
             (d.senses.meant c) (h.senses.meant c) (g.senses.meant c);
       });
   rand = λ at. through (e.Rand at) (e.Rand 0) _ _ (sense_is (e.Rand at) _ _ _ (of-Rand type_step at) (of-Rand found.expression_step at) (of-Rand means.expression_step at)) (of-Rand expr_step at) (sense_is (e.Rand 0) _ _ _ (of-Rand type_step 0) (of-Rand found.expression_step 0) (of-Rand means.expression_step 0)) (of-Rand place_step 0)
-      (record { typed = λ c. refl; found_ = λ c. refl; meant = λ c. record { sites = refl; means = λ k. refl } });
+      (record { typed = λ c. refl; found_ = λ c. refl; meant = λ c. made_zero itself itself expr.Rand expr.Rand (λ n. refl) (site at) (site 0) (site_zero at) });
 }
 
 expression_zero : (x : ExprTree) → ExprZero x
 expression_zero = of_expression ExprZero senses_zero
 
-pub meant_zero : (x : ExprTree) (n : Scope) → SitedZero itself (means.expression x n) (means.expression (expr_at_0 x) n)
+pub meant_zero : (x : ExprTree) (n : Scope) → MeantZero itself (means.expression x n) (means.expression (expr_at_0 x) n)
 meant_zero x n = (expression_zero x).senses.meant n
 
 -- a value of which a type may be asked
@@ -301,33 +312,14 @@ zero-Foreach class body at = ap stmt_at_0 (sym (stmt.rolls-Foreach class body at
 zero-Assign : (who : Who) (effect : ℕ) (x : Expr) (at : ℕ) → stmt_at_0 (stmt.Assign who effect x at) ≡ stmt.Assign who effect x 0
 zero-Assign who effect x at = ap stmt_at_0 (sym (stmt.rolls-Assign who effect x at)) ∙ fold-roll-Stmt Stmt stmt_step (model.Assign who effect x at)
 
-module _ {A B C : Type 0} (f : A → A) (g : B → B) (h : C → C) where
-  pub followed_zero : (join meet : A → B → C) → ((x : A) (y : B) → h (join x y) ≡ meet (f x) (g y)) → (a b : Sited A) (c d : Sited B) → SitedZero f a b → SitedZero g c d
-      → SitedZero h (followed join a c) (followed meet b d)
-  followed_zero join meet joins a b c d one other = record {
-    sites = sites_both a.sites c.sites b.sites d.sites one.sites other.sites;
-    means = λ k.
-        joins (a.behind k) (c.behind (k + length a.sites))
-        ∙ (ap (λ (j : ℕ). meet (f (a.behind k)) (g (c.behind (k + j)))) (as_many f a b one)
-        ∙ (ap (λ (v : A). meet v (g (c.behind (k + length b.sites)))) (one.means k)
-        ∙ ap (meet (b.behind k)) (other.means (k + length b.sites))));
-  }
-
-module _ {A B : Type 0} (f : A → A) (g : B → B) where
-  pub made_zero : (make build : A → B) → ((x : A) → g (make x) ≡ build (f x)) → (a b : Sited A) → SitedZero f a b → SitedZero g (with_sites make a) (with_sites build b)
-  made_zero make build makes a b h = record { sites = h.sites; means = λ k. makes (a.behind k) ∙ ap build (h.means k) }
-
-pub nothing_zero : {A : Type 0} (f : A → A) (x y : A) → f x ≡ y → SitedZero f (plain x) (plain y)
-nothing_zero f x y e = record { sites = refl; means = λ k. e }
-
 -- a statement and the same at place 0
-record PartZero (p p0 : Part (Sited Stmt)) : Type 0 where
+record PartZero (p p0 : Part (Meaning Stmt)) : Type 0 where
   declares : Declares p0 p
-  means : (n : Scope) → SitedZero stmt_at_0 (p.here n) (p0.here n)
+  means : (n : Scope) → MeantZero stmt_at_0 (p.here n) (p0.here n)
 
-record BlockZero (ps p0s : List (Part (Sited Stmt))) : Type 0 where
+record BlockZero (ps p0s : List (Part (Meaning Stmt))) : Type 0 where
   constants : constants_in p0s ≡ constants_in ps
-  means : (n : Scope) → SitedZero (map stmt_at_0) (block ps n) (block p0s n)
+  means : (n : Scope) → MeantZero (map stmt_at_0) (block ps n) (block p0s n)
 
 abbrev StmtZero : StmtTree → Type 0
 StmtZero x = PartZero (part x) (part (tree.stmt_at_0 x))
@@ -338,24 +330,24 @@ TreesZero xs = BlockZero (map part xs) (map part (map tree.stmt_at_0 xs))
 trees_zero : (ys : List (ProvedStmt StmtZero)) → TreesZero (stmts_of ys)
 trees_zero [] = record { constants = refl; means = λ n. nothing_zero (map stmt_at_0) [] [] refl }
 trees_zero (y ∷ ys) =
-    let p : Part (Sited Stmt) = part y.0 in
-    let p0 : Part (Sited Stmt) = part (tree.stmt_at_0 y.0) in
-    let ps : List (Part (Sited Stmt)) = map part (stmts_of ys) in
-    let p0s : List (Part (Sited Stmt)) = map part (map tree.stmt_at_0 (stmts_of ys)) in
+    let p : Part (Meaning Stmt) = part y.0 in
+    let p0 : Part (Meaning Stmt) = part (tree.stmt_at_0 y.0) in
+    let ps : List (Part (Meaning Stmt)) = map part (stmts_of ys) in
+    let p0s : List (Part (Meaning Stmt)) = map part (map tree.stmt_at_0 (stmts_of ys)) in
     let rest : BlockZero ps p0s = trees_zero ys in
     record {
       constants = more_constants p0 p p0s ps y.1.declares rest.constants;
       means = λ n. followed_zero stmt_at_0 (map stmt_at_0) (map stmt_at_0) (λ s rest. s ∷ rest) (λ s rest. s ∷ rest) (λ s rest. refl)
           (p.here n) (p0.here n) (block ps (behind p n)) (block p0s (behind p0 n)) (y.1.means n)
-          (subst (λ (l : Scope). SitedZero (map stmt_at_0) (block ps (behind p n)) (block p0s l)) (sym (y.1.declares.scope n)) (rest.means (behind p n)));
+          (subst (λ (l : Scope). MeantZero (map stmt_at_0) (block ps (behind p n)) (block p0s l)) (sym (y.1.declares.scope n)) (rest.means (behind p n)));
     }
 
-back : (x y : StmtTree) (p p0 : Part (Sited Stmt)) → part x ≡ p → tree.stmt_at_0 x ≡ y → part y ≡ p0 → PartZero p p0 → StmtZero x
+back : (x y : StmtTree) (p p0 : Part (Meaning Stmt)) → part x ≡ p → tree.stmt_at_0 x ≡ y → part y ≡ p0 → PartZero p p0 → StmtZero x
 back x y p p0 a b c h =
-    subst (λ (r : Part (Sited Stmt)). PartZero r (part (tree.stmt_at_0 x))) (sym a) (subst (λ (r : Part (Sited Stmt)). PartZero p r) (sym (ap part b ∙ c)) h)
+    subst (λ (r : Part (Meaning Stmt)). PartZero r (part (tree.stmt_at_0 x))) (sym a) (subst (λ (r : Part (Meaning Stmt)). PartZero p r) (sym (ap part b ∙ c)) h)
 
-if_zero : (w : ExprTree) (n : Scope) (a a0 b b0 : Sited (List Stmt)) → SitedZero (map stmt_at_0) a a0 → SitedZero (map stmt_at_0) b b0
-    → SitedZero stmt_at_0 (followed (λ (c : Expr) (blocks : List Stmt × List Stmt). stmt.If c blocks.0 blocks.1) (expression w n) (followed (λ a b. (a, b)) a b))
+if_zero : (w : ExprTree) (n : Scope) (a a0 b b0 : Meaning (List Stmt)) → MeantZero (map stmt_at_0) a a0 → MeantZero (map stmt_at_0) b b0
+    → MeantZero stmt_at_0 (followed (λ (c : Expr) (blocks : List Stmt × List Stmt). stmt.If c blocks.0 blocks.1) (expression w n) (followed (λ a b. (a, b)) a b))
     (followed (λ (c : Expr) (blocks : List Stmt × List Stmt). stmt.If c blocks.0 blocks.1) (expression (expr_at_0 w) n) (followed (λ a b. (a, b)) a0 b0))
 if_zero w n a a0 b b0 h g =
     followed_zero itself (λ (p : List Stmt × List Stmt). (map stmt_at_0 p.0, map stmt_at_0 p.1)) stmt_at_0
@@ -364,7 +356,7 @@ if_zero w n a a0 b b0 h g =
     (followed_zero (map stmt_at_0) (map stmt_at_0) (λ (p : List Stmt × List Stmt). (map stmt_at_0 p.0, map stmt_at_0 p.1)) (λ a b. (a, b)) (λ a b. (a, b)) (λ a b. refl) a a0 b b0 h g)
 
 said_zero : (who : Who) (effect at : ℕ) (x : ExprTree) (n : Scope)
-    → SitedZero stmt_at_0 (with_sites (λ e. stmt.Assign who effect e at) (expression x n)) (with_sites (λ e. stmt.Assign who effect e 0) (expression (expr_at_0 x) n))
+    → MeantZero stmt_at_0 (made (λ e. stmt.Assign who effect e at) (expression x n)) (made (λ e. stmt.Assign who effect e 0) (expression (expr_at_0 x) n))
 said_zero who effect at x n =
     made_zero itself stmt_at_0 (λ e. stmt.Assign who effect e at) (λ e. stmt.Assign who effect e 0) (λ e. zero-Assign who effect e at) (expression x n) (expression (expr_at_0 x) n) (meant_zero x n)
 
@@ -387,14 +379,14 @@ kinds_zero = record {
       (of-either part_step (expr_at_0 w) (map tree.stmt_at_0 (stmts_of a)) (map tree.stmt_at_0 (stmts_of b)) 0)
       (let one : TreesZero (stmts_of a) = trees_zero a in
       let other : TreesZero (stmts_of b) = trees_zero b in
-      let pa : List (Part (Sited Stmt)) = map part (stmts_of a) in
-      let pb : List (Part (Sited Stmt)) = map part (stmts_of b) in
-      let a0 : List (Part (Sited Stmt)) = map part (map tree.stmt_at_0 (stmts_of a)) in
-      let b0 : List (Part (Sited Stmt)) = map part (map tree.stmt_at_0 (stmts_of b)) in
+      let pa : List (Part (Meaning Stmt)) = map part (stmts_of a) in
+      let pb : List (Part (Meaning Stmt)) = map part (stmts_of b) in
+      let a0 : List (Part (Meaning Stmt)) = map part (map tree.stmt_at_0 (stmts_of a)) in
+      let b0 : List (Part (Meaning Stmt)) = map part (map tree.stmt_at_0 (stmts_of b)) in
       record {
         declares = plain_declares _ _ _ _ (ap (λ (k : ℕ). k + constants_in b0) one.constants ∙ ap (λ (k : ℕ). constants_in pa + k) other.constants);
         means = λ n. if_zero w n (block pa n) (block a0 n) (block pb (past (constants_in pa) n)) (block b0 (past (constants_in a0) n)) (one.means n)
-            (subst (λ (k : ℕ). SitedZero (map stmt_at_0) (block pb (past (constants_in pa) n)) (block b0 (past k n))) (sym one.constants) (other.means (past (constants_in pa) n)));
+            (subst (λ (k : ℕ). MeantZero (map stmt_at_0) (block pb (past (constants_in pa) n)) (block b0 (past k n))) (sym one.constants) (other.means (past (constants_in pa) n)));
       });
   foreach = λ class variable other a at.
       back (s.Foreach class variable other (stmts_of a) at) (s.Foreach (ident_at_0 class) (ident_at_0 variable) (ident_at_0 other) (map tree.stmt_at_0 (stmts_of a)) 0) _ _
@@ -420,9 +412,9 @@ kinds_zero = record {
       });
 }
 
-pub block_zero : (xs : List StmtTree) (n : Scope) → SitedZero (map stmt_at_0) (block (map part xs) n) (block (map part (map tree.stmt_at_0 xs)) n)
+pub block_zero : (xs : List StmtTree) (n : Scope) → MeantZero (map stmt_at_0) (block (map part xs) n) (block (map part (map tree.stmt_at_0 xs)) n)
 block_zero xs n =
-    subst (λ (l : List StmtTree). SitedZero (map stmt_at_0) (block (map part l) n) (block (map part (map tree.stmt_at_0 l)) n)) (stmts-proved StmtZero kinds_zero xs)
+    subst (λ (l : List StmtTree). MeantZero (map stmt_at_0) (block (map part l) n) (block (map part (map tree.stmt_at_0 l)) n)) (stmts-proved StmtZero kinds_zero xs)
     ((trees_zero (proved StmtZero kinds_zero xs)).means n)
 
 -- what members have, at offset 0
@@ -460,23 +452,23 @@ module _ (home : Home) where
       (valued_zero (Some ty.Bool) x n) (many check_fault_at_0 (found.gift n) gift_at_0 gifts (gift_zero n))
 
 -- what members mean
-gifts_zero : (n : Scope) (gifts : List GiftTree) → SitedZero itself (gifts_in gifts n) (gifts_in (map gift_at_0 gifts) n)
+gifts_zero : (n : Scope) (gifts : List GiftTree) → MeantZero itself (gifts_in gifts n) (gifts_in (map gift_at_0 gifts) n)
 gifts_zero n [] = nothing_zero itself [] [] refl
 gifts_zero n (g ∷ gifts) =
     let given : Expr → List Gift → List Gift = λ e rest. record { state = number_of (look n.home.own g.state.text); value = e } ∷ rest in
     followed_zero itself itself itself given given (λ e rest. refl) (expression g.value n) (expression (expr_at_0 g.value) n) (gifts_in gifts n) (gifts_in (map gift_at_0 gifts) n)
     (meant_zero g.value n) (gifts_zero n gifts)
 
-spawn_zero : (n : Scope) (x : ExprTree) (gifts : List GiftTree) (at : ℕ) → SitedZero itself (spawn_of x gifts at n) (spawn_of (expr_at_0 x) (map gift_at_0 gifts) 0 n)
+spawn_zero : (n : Scope) (x : ExprTree) (gifts : List GiftTree) (at : ℕ) → MeantZero itself (spawn_of x gifts at n) (spawn_of (expr_at_0 x) (map gift_at_0 gifts) 0 n)
 spawn_zero n x gifts at =
     let pair : Expr → List Gift → Expr × List Gift = λ e given. (e, given) in
     let spawned : Expr × List Gift → ℕ → Spawn = λ inner n. record { when = inner.0; gifts = inner.1; site = n } in
     followed_zero itself itself itself spawned spawned (λ i k. refl) (followed pair (expression x n) (gifts_in gifts n)) (followed pair (expression (expr_at_0 x) n) (gifts_in (map gift_at_0 gifts) n))
-    (record { sites = at ∷ []; behind = λ n. n }) (record { sites = 0 ∷ []; behind = λ n. n })
+    (site at) (site 0)
     (followed_zero itself itself itself pair pair (λ i k. refl) (expression x n) (expression (expr_at_0 x) n) (gifts_in gifts n) (gifts_in (map gift_at_0 gifts) n) (meant_zero x n) (gifts_zero n gifts))
-    (record { sites = refl; means = λ k. refl })
+    (site_zero at)
 
-rule_zero : (n : Scope) (x : Option ExprTree) → SitedZero itself (rule x n) (rule (option_map expr_at_0 x) n)
+rule_zero : (n : Scope) (x : Option ExprTree) → MeantZero itself (rule x n) (rule (option_map expr_at_0 x) n)
 rule_zero n None = nothing_zero itself None None refl
 rule_zero n (Some x) = made_zero itself itself (λ e. Some e) (λ e. Some e) (λ e. refl) (expression x n) (expression (expr_at_0 x) n) (meant_zero x n)
 
@@ -487,7 +479,7 @@ joined_zero : (a b : Share) → share_at_0 (shared_by a b) ≡ shared_by (share_
 joined_zero a b = ap (λ (l : List (List Stmt)). record (shared_by a b) { queries = l }) (map-append (map stmt_at_0) a.queries b.queries)
 
 module _ (home : Home) where
-  share_zero : (x : MemberTree) → SitedZero share_at_0 (share home x) (share home (member_at_0 x))
+  share_zero : (x : MemberTree) → MeantZero share_at_0 (share home x) (share home (member_at_0 x))
   share_zero (m.State shared type name x at) =
       made_zero itself share_at_0 (with_state shared name.text (type_named type)) (with_state shared name.text (type_named (type_at_0 type)))
       (λ r. ap (λ (t : Ty). with_state shared name.text t r) (sym (type_zero type))) (rule x (outermost home false)) (rule (option_map expr_at_0 x) (outermost home false)) (rule_zero (outermost home false) x)
@@ -502,7 +494,7 @@ module _ (home : Home) where
       (spawn_of x gifts at (outermost home false)) (spawn_of (expr_at_0 x) (map gift_at_0 gifts) 0 (outermost home false)) (spawn_zero (outermost home false) x gifts at)
   share_zero _ = nothing_zero share_at_0 no_share no_share refl
 
-  shares_zero : (xs : List MemberTree) → SitedZero share_at_0 (shares home xs) (shares home (map member_at_0 xs))
+  shares_zero : (xs : List MemberTree) → MeantZero share_at_0 (shares home xs) (shares home (map member_at_0 xs))
   shares_zero [] = nothing_zero share_at_0 no_share no_share refl
   shares_zero (x ∷ xs) =
       followed_zero share_at_0 share_at_0 share_at_0 shared_by shared_by joined_zero (share home x) (share home (member_at_0 x)) (shares home xs) (shares home (map member_at_0 xs)) (share_zero x) (shares_zero xs)
@@ -556,20 +548,20 @@ with_zero class s =
     ∙ (ap (λ (l : List ℤ). class_of_parts name (flat_map visible_of (map member_at_0 xs)) l (flat_map effect_of xs) t) (sym (reach_zero xs))
     ∙ ap (λ (l : List Effect). class_of_parts name (flat_map visible_of (map member_at_0 xs)) (flat_map reach_of (map member_at_0 xs)) l t) (sym (effects_zero xs))))
 
-class_zero : (home : Home) (class : ClassTree) → SitedZero class_at_0 (class_of home class) (class_of home (tree.class_at_0 class))
+class_zero : (home : Home) (class : ClassTree) → MeantZero class_at_0 (class_of home class) (class_of home (tree.class_at_0 class))
 class_zero home class =
     made_zero share_at_0 class_at_0 (class_with class) (class_with (tree.class_at_0 class)) (with_zero class) (shares home class.members) (shares home (map member_at_0 class.members)) (shares_zero home class.members)
 
 -- what classes mean
-classes_zero : (all : Known) (number : ℕ) (classes : List ClassTree) → SitedZero (map class_at_0) (classes_from all number classes) (classes_from all number (map tree.class_at_0 classes))
+classes_zero : (all : Known) (number : ℕ) (classes : List ClassTree) → MeantZero (map class_at_0) (classes_from all number classes) (classes_from all number (map tree.class_at_0 classes))
 classes_zero all number [] = nothing_zero (map class_at_0) [] [] refl
 classes_zero all number (class ∷ classes) =
     let class0 : ClassTree = tree.class_at_0 class in
     followed_zero class_at_0 (map class_at_0) (map class_at_0) (λ c rest. c ∷ rest) (λ c rest. c ∷ rest) (λ c rest. refl)
     (class_of (home_of all number class) class) (class_of (home_of all number class0) class0) (classes_from all (number + 1) classes) (classes_from all (number + 1) (map tree.class_at_0 classes))
-    (subst (λ (home : Home). SitedZero class_at_0 (class_of (home_of all number class) class) (class_of home class0)) (sym (home_zero all number class)) (class_zero (home_of all number class) class))
+    (subst (λ (home : Home). MeantZero class_at_0 (class_of (home_of all number class) class) (class_of home class0)) (sym (home_zero all number class)) (class_zero (home_of all number class) class))
     (classes_zero all (number + 1) classes)
 
-pub meant_script : (classes : List ClassTree) → SitedZero (map class_at_0) (classes_from (known classes) 0 classes) (classes_from (known (map tree.class_at_0 classes)) 0 (map tree.class_at_0 classes))
+pub meant_script : (classes : List ClassTree) → MeantZero (map class_at_0) (classes_from (known classes) 0 classes) (classes_from (known (map tree.class_at_0 classes)) 0 (map tree.class_at_0 classes))
 meant_script classes =
-    subst (λ (all : Known). SitedZero (map class_at_0) (classes_from (known classes) 0 classes) (classes_from all 0 (map tree.class_at_0 classes))) (known_zero classes) (classes_zero (known classes) 0 classes)
+    subst (λ (all : Known). MeantZero (map class_at_0) (classes_from (known classes) 0 classes) (classes_from all 0 (map tree.class_at_0 classes))) (known_zero classes) (classes_zero (known classes) 0 classes)
