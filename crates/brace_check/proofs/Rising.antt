@@ -53,11 +53,18 @@ range_rises n (suc c) =
     (omega arith, subst (λ (hi : ℕ). Rises (n + 1) hi (range_with_len (n + 1) c)) more (range_rises (n + 1) c))
 
 -- what stands behind so many numbers in turn
-pub rises_past : (n c hi : ℕ) (xs : List ℕ) → Rises n hi (range_with_len n c ++ xs) → Rises (n + c) hi xs
+rises_past : (n c hi : ℕ) (xs : List ℕ) → Rises n hi (range_with_len n c ++ xs) → Rises (n + c) hi xs
 rises_past n zero hi xs h = rises_from (n + 0) n hi xs (omega arith) h
 rises_past n (suc c) hi xs h =
     let more : (n + 1) + c ≡ n + suc c = omega arith in
     subst (λ (lo : ℕ). Rises lo hi xs) more (rises_past (n + 1) c hi xs h.1)
+
+pub rises_behind : (lo hi : ℕ) (xs : List ℕ) → range_with_len 0 lo ++ xs ≡ range_with_len 0 hi → Rises lo hi xs
+rises_behind lo hi xs h =
+    let low : 0 + lo ≡ lo = omega arith in
+    let high : 0 + hi ≡ hi = omega arith in
+    subst (λ (n : ℕ). Rises n hi xs) low
+    (rises_past 0 lo hi xs (subst (Rises 0 hi) (sym h) (subst (λ (n : ℕ). Rises 0 n (range_with_len 0 hi)) high (range_rises 0 hi))))
 
 -- so each number is below all behind it
 pub are_rising : (lo hi : ℕ) (xs : List ℕ) → Rises lo hi xs → AreRising lo xs

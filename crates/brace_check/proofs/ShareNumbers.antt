@@ -16,7 +16,7 @@ use Rattle.brace_model.specs.declared.program.Spawn.{Spawn}
 use Rattle.brace_model.specs.Sites.{sites_of, sites_among, sites_of_spawn, class_sites}
 use Rattle.brace_check.specs.declared.share.Share.{Share}
 use Rattle.brace_check.specs.Programs.{rule, gifts_in, spawn_of, share, shared_by, shares, class_of, classes_from}
-use Rattle.brace_check.proofs.Rising.{Rises, rises-joined, front_rises, back_rises, range_rises, rises_past}
+use Rattle.brace_check.proofs.Rising.{Rises, rises-joined, front_rises, back_rises, rises_behind}
 use Rattle.brace_check.proofs.Numbering.{Numbered, upto, one_site, plain_numbered, made_numbered, followed_numbered, expression_numbered, block_sites, block_numbers}
 use Rattle.brace_names.specs.Tables.{look}
 use Rattle.brace_names.specs.Scopes.{Home, Scope, outermost, home_of}
@@ -113,7 +113,7 @@ share_rises home x k =
     let dies : List ℕ = asked_sites s.die in
     let spawns : List ℕ = born_sites s.spawn in
     let queries : List ℕ = asking_sites s.queries in
-    let all : Rises lo hi (rules ++ (dies ++ (spawns ++ queries))) = rises_past 0 lo hi (own_sites s) (subst (Rises 0 hi) (sym (share_numbered home x k)) (range_rises 0 hi)) in
+    let all : Rises lo hi (rules ++ (dies ++ (spawns ++ queries))) = rises_behind lo hi (own_sites s) (share_numbered home x k) in
     let most : Rises lo hi (dies ++ (spawns ++ queries)) = back_rises lo hi rules (dies ++ (spawns ++ queries)) all in
     let last : Rises lo hi (spawns ++ queries) = back_rises lo hi dies (spawns ++ queries) most in
     record {

@@ -29,7 +29,7 @@ titles xs = map text (map title xs)
 
 -- what a class has once, no other member has
 module _ (home : Home) where
-  abbrev share_at : List MemberTree → ℕ → Share
+  abbrev share_at : List MemberTree → List ℕ → Share
   share_at xs n = (shares home xs n).0
 
   no_die : (xs : List MemberTree) (n : List ℕ) → Apart (codes "die") (titles xs) → (share_at xs n).die ≡ []
