@@ -1,17 +1,20 @@
--- The scope behind the statements of a block, and statements that declare the same.
-use Rattle.std.proofs.Common.{◌≡◌, refl, sym, ap, ◌∙◌, ℕ, ◌+◌, List, [], ◌∷◌, ◌++◌, take, length, append_assoc, arith, inl, inr}
+-- The scope behind the statements of a block, statements that declare the same, and classes in turn.
+use Rattle.std.proofs.Common.{◌≡◌, refl, sym, ap, ◌∙◌, ℕ, ◌+◌, List, [], ◌∷◌, ◌++◌, take, drop, get_or, length, flat_map, ◌<◌, append_assoc, arith, inl, inr}
 use Rattle.std.specs.Prelude.{Option, Some, None}
 use Rattle.std.proofs.lemmas.Bool.{cases_Bool}
-use Rattle.std.proofs.lemmas.List.{append-nil}
+use Rattle.std.proofs.lemmas.List.{append-nil, drop_more}
 use Rattle.std.proofs.lemmas.List.Sums.{sum_by-cons}
 use Rattle.std.proofs.Math.Seq.{take-append_seam}
 use Rattle.brace_syntax.specs.declared.tree.Ident.{Ident}
+use Rattle.brace_syntax.specs.declared.tree.MemberTree.{MemberTree}
+use Rattle.brace_syntax.specs.declared.tree.ClassTree.{ClassTree}
 use Rattle.brace_model.specs.declared.program.Ty.{Ty}
 use Rattle.brace_names.specs.declared.scope.Local.{Local}
 use Rattle.brace_names.specs.declared.scope.Local.TheVariants as local
 use Rattle.brace_names.specs.Tables.{has, with_name}
-use Rattle.brace_names.specs.Scopes.{Scope, past}
-use Rattle.brace_names.specs.Walk.{Part, behind, declared_in, constants_in}
+use Rattle.brace_names.specs.Classes.{Known}
+use Rattle.brace_names.specs.Scopes.{Home, home_of, Scope, past}
+use Rattle.brace_names.specs.Walk.{Part, behind, declared_in, constants_in, in_classes}
 
 module _ {A : Type 0} where
   -- the scope behind all of these statements
@@ -83,3 +86,14 @@ pub behind_same : {A B : Type 0} (p : Part A) (q : Part B) (scope : Scope) → S
 behind_same p q scope h =
     ap (λ (d : Option (Ident × Ty)). past p.constants (declared_in d scope)) h.declared
     ∙ ap (λ (k : ℕ). past k (declared_in q.declared scope)) h.constants
+
+-- what is found in one class more
+module _ {A : Type 0} (member : Home → MemberTree → List A) (all : Known) (classes : List ClassTree) where
+  pub class_more : (i number next : ℕ) (one : ClassTree) (out : List A) → i < length classes → one ≡ get_or classes i one → next ≡ number + 1
+      → (out ++ flat_map (member (home_of all number one)) one.members) ++ in_classes member all next (drop (i + 1) classes) ≡ out ++ in_classes member all number (drop i classes)
+  class_more i number next one out within is e =
+      let mine : List A = flat_map (member (home_of all number one)) one.members in
+      let rest : List ClassTree = drop (i + 1) classes in
+      let cut : one ∷ rest ≡ drop i classes = ap (λ (c : ClassTree). c ∷ rest) is ∙ sym (drop_more classes i one within) in
+      ap (λ (k : ℕ). (out ++ mine) ++ in_classes member all k rest) e
+      ∙ (append_assoc out mine (in_classes member all (number + 1) rest) ∙ ap (λ (l : List ClassTree). out ++ in_classes member all number l) cut)
