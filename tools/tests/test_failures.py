@@ -25,6 +25,8 @@ BEARING = ("class B { #reach[1.0]; " + PLACES + "public state int a : a + 1; "
            "spawn when a % 2 == 0 { x <- x + 0.5; } }")
 STEPPING = {"s": STEPS, "a": "P,7,0,0\n"}
 PAIRED = {"s": PAIRS, "a": "H,1,0,0,0\nH,2,3,0,0\nH,3,6,0,0\n", "k": "at 0 x 0.000001 4 y\n"}
+WATCHED = {**PAIRED, "k": "at 0 x 0.000001 4 y 0\n", "w": "count H\nsum H n where n > 0\n"}
+SAVED = "brace checkpoint 1\ntick 2\nseed 0\nclass P x:fixed y:fixed\nP,7,3.000000,0.000000\nend 1\n"
 RUN = ("run", "--script", "s", "--agents", "a")
 # Files, and words.
 COMMANDS = (
@@ -34,6 +36,9 @@ COMMANDS = (
     (STEPPING, (*RUN, "--ticks", "3", "--epoch", "2", "--save", "c", "--workers", "4")),
     ({"s": BEARING, "a": "B,1,0,0,0\nB,2,3,1,1\n", "k": "at 0 x 1 y\n"},
      (*RUN, "--ticks", "4", "--cuts", "k", "--epoch", "2", "--save", "c", "--workers", "2")),
+    ({"s": STEPS, "c.2": SAVED}, ("resume", "--script", "s", "--from", "c.2", "--ticks", "3")),
+    (WATCHED, (*RUN, "--ticks", "3", "--cuts", "k", "--epoch", "2", "--save", "c", "--watch", "w",
+               "--workers", "4")),
     ({}, ("trial", "--count", "500", "--ticks", "4", "--epoch", "2", "--stats", "--workers", "2")),
 )
 # What a failing call may come to: a read, a write or a save that failed, no memory, or nothing. The
@@ -89,7 +94,7 @@ class Command:
             return (f"brace: {'write fault' if status == 9 else 'no memory'}\n",)
         what = "read" if status == 8 else "save"
         return [f"brace: {name}: {what} fault\n" for name in self.whole[3]
-                if name.startswith("c.") == (status == 10)]
+                if (name in self.words) == (status == 8)]
 
     def is_right(self, kind, found):
         """Whether this may come of the command where a call of this kind failed."""

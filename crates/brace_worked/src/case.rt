@@ -9,6 +9,23 @@ pub struct Held<'a> {
     pub bytes: Option<Vec<u8>>,
 }
 
+/// Whose calls fail: those of the shelf, or those of the sink of rows.
+#[derive(Debug, Clone, Copy, Drop)]
+pub enum Failing {
+    Shelf,
+    Sink,
+}
+
+/// What is varied of a command that is given more than once.
+#[derive(Debug, Clone, Copy, Drop)]
+pub enum Variation {
+    None,
+    /// File a is cut off at each place.
+    Fronts,
+    /// Each call fails in turn, until none is left that does.
+    Calls(Failing),
+}
+
 /// A command, what it finds, how it is varied, and what comes of it.
 #[derive(Debug, Drop)]
 pub struct Case<'a> {
@@ -23,6 +40,9 @@ pub struct Case<'a> {
     pub is_bare: bool,
     pub shelf_fails: Vec<u64>,
     pub sink_fails: Vec<u64>,
+    /// The most bytes that one call moves.
+    pub most: usize,
+    pub variation: Variation,
     pub has_workers: bool,
     pub orders: u64,
     pub status: u8,
@@ -71,6 +91,8 @@ impl<'a> Case<'a> {
             is_bare: false,
             shelf_fails: Vec::new(alloc),
             sink_fails: Vec::new(alloc),
+            most: usize::MAX,
+            variation: Variation::None,
             has_workers: false,
             orders: 0,
             status: 0,
@@ -93,8 +115,10 @@ impl<'a> Case<'a> {
             "workers" => self.has_workers = true,
             "orders" => self.orders = rest.parse::<u64>().unwrap_or(0),
             "status" => self.status = rest.parse::<u8>().unwrap_or(u8::MAX),
-            "shelf" => self.shelf_fails.push(failing(rest))?,
-            "sink" => self.sink_fails.push(failing(rest))?,
+            "most" => self.most = rest.parse::<usize>().unwrap_or(0),
+            "fronts" => self.variation = Variation::Fronts,
+            "shelf" => self.take_failing(Failing::Shelf, rest)?,
+            "sink" => self.take_failing(Failing::Sink, rest)?,
             "file" => return self.take_file(alloc, rest, texts),
             _ => return self.take_text(word, rest, texts),
         }
@@ -143,12 +167,19 @@ impl<'a> Case<'a> {
         self.files.push(Held { name, bytes })?;
         Ok(true)
     }
-}
 
-/// The number of the call that fails, from `fails N`.
-fn failing(rest: &str) -> u64 {
-    match rest.strip_prefix("fails ") {
-        Some(number) => number.parse::<u64>().unwrap_or(0),
-        None => 0,
+    /// Takes the line of a call that fails, or of each in turn: `fails N`, `fails each`.
+    fn take_failing(&mut self, failing: Failing, rest: &str) -> Result<(), Unfit> {
+        let number = rest.strip_prefix("fails ").unwrap_or("");
+        if number == "each" {
+            self.variation = Variation::Calls(failing);
+            return Ok(());
+        }
+        let number = number.parse::<u64>().unwrap_or(0);
+        match failing {
+            Failing::Shelf => self.shelf_fails.push(number)?,
+            Failing::Sink => self.sink_fails.push(number)?,
+        }
+        Ok(())
     }
 }

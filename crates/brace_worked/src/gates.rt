@@ -1,5 +1,5 @@
 //! Workers that are held at a gate until another one has passed it.
-use crate::answer::Desk;
+use crate::answer::{Desk, Found};
 use crate::case::Case;
 use crate::texts::append_line;
 use crate::unfit::Unfit;
@@ -85,7 +85,7 @@ pub fn is_passed<R: Threads + Wait + Sync>(
     holds: [Hold; 2],
 ) -> Result<bool, Unfit> {
     let gate = HoldingGate::make(holds);
-    let mut desk = Desk::of(alloc, &resting(alloc)?)?;
+    let mut desk = Desk::of(alloc, &resting(alloc)?, Found::Nothing)?;
     let status = desk.give(rt, alloc, RUN, &gate)?;
     Ok(status == 0 && gate.ran_out.load(Ordering::SeqCst) == 0)
 }

@@ -6,6 +6,7 @@ ghost use Rattle.std.specs.Prelude.{◌≡◌};
 ghost use Rattle.brace_io.specs.Shelves.{Idle};
 
 mod answer;
+mod calls;
 mod case;
 mod gates;
 mod sheet;

@@ -1,4 +1,4 @@
-use crate::answer::is_as_worked;
+use crate::answer::times_as_worked;
 use crate::case::Case;
 use crate::texts::{Text, append, append_line, append_repeated};
 use crate::unfit::Unfit;
@@ -126,8 +126,9 @@ impl<'a> Sheet<'a> {
     ) -> Result<(), Unfit> {
         let mut words = String::from_str(alloc, case.words)?;
         words.push_str(more)?;
-        self.given = self.given.saturating_add(1);
-        if !is_as_worked(rt, alloc, case, words.as_str())? {
+        let times = times_as_worked(rt, alloc, case, words.as_str())?;
+        self.given = self.given.saturating_add(times.unwrap_or(1));
+        if times.is_none() {
             self.tell("not as worked: ", words.as_str())?;
         }
         Ok(())
