@@ -12,7 +12,7 @@ use Rattle.brace_model.specs.declared.world.Agent.{Agent}
 use Rattle.brace_model.specs.World.{class_of, x_of, y_of}
 use Rattle.brace_cuts.specs.declared.space.Cuts.{Cuts}
 use Rattle.brace_cuts.specs.Space.{owner_of, parts_of}
-use Rattle.brace_comb.specs.Totals.{tally_of, join}
+use Rattle.brace_comb.specs.Totals.{Tally, tally_of, join}
 use Rattle.brace_comb.proofs.Joins.{join-append, tally_of-IsPermutation}
 use Rattle.brace_pieces.specs.Owned.{owns_at, owns, owned}
 use Rattle.brace_pieces.proofs.Merges.{Apart, apart_in_row, any_in_row}
@@ -22,6 +22,7 @@ use Rattle.brace_pieces.proofs.Partings.{parted}
 use Rattle.brace_watch.specs.declared.kinds.Watch.{Watch}
 use Rattle.brace_watch.specs.Watches.{IsWatch}
 use Rattle.brace_watch.specs.Figures.{meets, is_watched, value_for, values_of, figure, box_figures, all_joined}
+use Rattle.brace_watch.specs.inner.Columns.{all_owned}
 use Rattle.brace_watch.proofs.Asked.{class_is_there}
 
 -- totals of some lists, joined one after the other, are the total of all lists in a row
@@ -90,3 +91,15 @@ module _ (program : Program) (watch : Watch) where
         each_given : (ps : List ℕ) → flat_map (λ q. flat_map given (owned program cuts q xs)) ps ≡ flat_map (λ q. values_of watch (owned program cuts q xs)) ps
         each_given [] = refl
         each_given (p ∷ ps) = ap₂ (λ us vs. us ++ vs) (values_given (owned program cuts p xs)) (each_given ps)
+
+    -- the figures of boxes that were counted, and their join
+    pub boxes_figured : (xs : List Agent) (boxes : List (List Agent)) (totals : List Tally) → boxes ≡ all_owned program cuts xs → totals ≡ map (figure watch) boxes → totals ≡ box_figures program cuts watch xs
+    boxes_figured xs boxes totals owned_so counted = counted ∙ ap (map (figure watch)) owned_so ∙ mapped parts
+      where
+        mapped : (ps : List ℕ) → map (figure watch) (map (λ p. owned program cuts p xs) ps) ≡ map (λ p. figure watch (owned program cuts p xs)) ps
+        mapped [] = refl
+        mapped (p ∷ ps) = ap (λ l. figure watch (owned program cuts p xs) ∷ l) (mapped ps)
+
+    pub whole_figured : (xs : List Agent) (boxes : List (List Agent)) (totals : List Tally) (whole : Tally) → boxes ≡ all_owned program cuts xs → totals ≡ map (figure watch) boxes
+        → all_joined watch.kind totals ≡ whole → whole ≡ figure watch xs
+    whole_figured xs boxes totals whole owned_so counted join = sym join ∙ ap (all_joined watch.kind) (boxes_figured xs boxes totals owned_so counted) ∙ joined xs

@@ -1,13 +1,19 @@
 //! The figures of a list of agents.
-ghost use Rattle.std.specs.Prelude.{◌≡◌, ◌<◌, ◌==◌, ℕ, map, length, IfOk};
+ghost use Rattle.std.specs.Prelude.{◌≡◌, List, map, length, IfOk, IfSome, OnOk};
+ghost use Rattle.brace_model.specs.declared.program.Value.{Value};
+ghost use Rattle.brace_model.specs.declared.world.Agent.{Agent};
+ghost use Rattle.brace_model.specs.World.{number};
 ghost use Rattle.brace_cuts.specs.Space.{LawfulCuts};
-ghost use Rattle.brace_comb.specs.Totals.{tally};
+ghost use Rattle.brace_comb.specs.Totals.{tally, tally_of};
 ghost use Rattle.brace_watch.specs.Watches.{IsWatch};
-ghost use Rattle.brace_watch.specs.Figures.{is_comparison, compares, meets, is_watched, value_for, figure, box_figures, all_joined};
+ghost use Rattle.brace_watch.specs.Figures.{compares, meets, figure, box_figures, all_joined};
+ghost use Rattle.brace_watch.specs.inner.Columns.{number_for, values_met, tested};
 
+use crate::rows::{Rows, parted};
 use crate::{Figures, Watch};
+use brace_comb::{Combine, Total, identity, joined, merged};
 use brace_cuts::Cuts;
-use brace_model::{Agent, BinOp, Program, Value, number, value_at, x_of, y_of};
+use brace_model::{Agent, BinOp, Comb, Program, Value, number};
 use brace_num::NoMemory;
 use std::alloc::Global;
 
@@ -30,38 +36,80 @@ pub fn figures(
     ensures joined { IfOk result (λ f. all_joined watch.now.kind (map tally f.boxes.items)
         ≡ tally f.whole) }
 {
-    let class = &program.classes.as_slice()[watch.class as usize];
-    let mut figures = Figures::of_none(alloc, watch.kind, cuts.parts())?;
-    for agent in agents {
-        if is_watched(watch, agent) {
-            let owner = cuts.owner(x_of(class, agent), y_of(class, agent));
-            figures.add(watch.kind, owner, value_for(watch.field, agent))?;
+    let mut boxes = parted(alloc, program, cuts, agents)?;
+    figures_of(alloc, watch, &mut boxes)
+}
+
+/// The figures of a watch over the agents of boxes.
+pub(crate) fn figures_of(
+    alloc: Global,
+    watch: &Watch,
+    boxes: &mut [Rows],
+) -> Result<Figures, NoMemory>
+    ensures boxes { IfOk result (λ f. map tally f.boxes.items
+        ≡ map (figure watch.now) boxes.old) }
+    ensures joined { IfOk result (λ f. all_joined watch.now.kind (map tally f.boxes.items)
+        ≡ tally f.whole) }
+    ensures kept { OnOk result (boxes.new ≡ boxes.old) }
+{
+    let mut totals = Vec::with_capacity(alloc, boxes.len())?;
+    for rows in boxes.iter_mut() {
+        totals.push(rows.figure(alloc, watch)?)?;
+    }
+    Ok(Figures {
+        whole: all_joined(watch.kind, &totals).ok_or(NoMemory)?,
+        boxes: totals,
+    })
+}
+
+/// Totals of a kind in one; None only where 128 bits do not hold its number, or 64 how many values
+/// there are.
+fn all_joined(kind: Comb, totals: &[Total]) -> Option<Total>
+    ensures { IfSome result (λ t. tally t ≡ all_joined kind (map tally totals.now)) }
+{
+    let mut number = identity(kind);
+    let mut count = 0u64;
+    for total in totals {
+        number = merged(kind, number, total.number())?;
+        count = count.checked_add(total.count())?;
+    }
+    Total::make(kind, number, count)
+}
+
+/// The total of the numbers that agents have in the state of a watch, where their numbers in the
+/// state of its condition meet that; None only where 128 bits do not hold it.
+pub(crate) fn total_of(watch: &Watch, tests: &[i64], numbers: &[i64]) -> Option<Total>
+    requires { length tests.now ≡ length numbers.now }
+    ensures { IfSome result (λ t. (agents : List Agent)
+        → tests.now ≡ map (number_for (tested watch.now.test)) agents
+        → numbers.now ≡ map (number_for watch.now.field) agents
+        → tally t ≡ tally_of watch.now.kind (values_met watch.now agents)) }
+{
+    let mut number = identity(watch.kind);
+    let mut count = 0u64;
+    for i in 0..numbers.len() {
+        if meets(watch.test, tests[i]) {
+            number = joined(watch.kind, number, Value::Int(numbers[i]))?;
+            count += 1;
         }
     }
-    Ok(figures)
+    Total::make(watch.kind, number, count)
 }
 
-/// Whether an agent is of the class of a watch and meets its condition.
-fn is_watched(watch: &Watch, agent: &Agent) -> bool
-    ensures { result ≡ is_watched watch.now agent.now }
-{
-    agent.class == watch.class && meets(watch.test, agent)
-}
-
-fn meets(test: Option<(u32, BinOp, Value)>, agent: &Agent) -> bool
-    ensures { result ≡ meets test agent.now }
+/// Whether a number in the state of a condition meets it.
+fn meets(test: Option<(u32, BinOp, Value)>, n: i64) -> bool
+    ensures { (a : Agent) → n ≡ number_for (tested test) a → result ≡ meets test a }
 {
     match test {
         None => true,
-        Some((place, op, v)) => compares(op, value_at(agent.states.as_slice(), place), v),
+        Some((_, op, v)) => compares(op, n, number(v)),
     }
 }
 
-/// Whether two values stand so to each other.
-fn compares(op: BinOp, a: Value, b: Value) -> bool
-    ensures { result ≡ compares op a b }
+/// Whether two numbers stand so to each other.
+fn compares(op: BinOp, x: i64, y: i64) -> bool
+    ensures { (a b : Value) → x ≡ number a → y ≡ number b → result ≡ compares op a b }
 {
-    let (x, y) = (number(a), number(b));
     match op {
         BinOp::Lt => x < y,
         BinOp::Le => x <= y,
@@ -69,15 +117,5 @@ fn compares(op: BinOp, a: Value, b: Value) -> bool
         BinOp::Ge => y <= x,
         BinOp::Eq => x == y,
         _ => false,
-    }
-}
-
-/// The value of the state at a place, or any where agents are counted.
-fn value_for(field: Option<u32>, agent: &Agent) -> Value
-    ensures { result ≡ value_for field agent.now }
-{
-    match field {
-        None => Value::Flag(true),
-        Some(place) => value_at(agent.states.as_slice(), place),
     }
 }

@@ -8,7 +8,7 @@ mod kinds;
 mod line;
 mod name;
 mod print;
-mod total;
+mod rows;
 
 pub use count::figures;
 pub use file::read_watch;

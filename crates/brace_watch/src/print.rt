@@ -7,8 +7,10 @@ ghost use Rattle.brace_comb.specs.Totals.{tally};
 ghost use Rattle.brace_watch.specs.Watches.{IsWatch};
 ghost use Rattle.brace_watch.specs.Texts.{type_of, is_extreme, number_text, figure_text, line_text, watched_text};
 
+use crate::count::figures_of;
 use crate::name::{states_in, type_at};
-use crate::{Figures, Watch, figures};
+use crate::rows::parted;
+use crate::{Figures, Watch};
 use brace_comb::{Combine, Total};
 use brace_cuts::Cuts;
 use brace_model::{Agent, Program, Ty};
@@ -59,8 +61,9 @@ fn append_watched(
         ++ watched_text program.now watches.now cuts.now tick agents.now) }
     ensures only_appends { take (length out.old.items) out.new.items ≡ out.old.items }
 {
+    let mut boxes = parted(alloc, program, cuts, agents)?;
     for (place, watch) in watches.iter().enumerate() {
-        let found = figures(alloc, program, watch, cuts, agents)?;
+        let found = figures_of(alloc, watch, &mut boxes)?;
         append_line(out, type_of(program, watch), tick, place as u64 + 1, &found)?;
     }
     Ok(())
