@@ -21,3 +21,5 @@ pub mod RosterLemmas
 pub mod GatherLemmas
 pub mod BenchSends
 pub mod TeamLemmas
+pub mod LinkedEnds
+pub mod BytesLemmas

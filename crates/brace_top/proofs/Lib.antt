@@ -20,3 +20,4 @@ pub mod NoneLemmas
 pub mod NextLemmas
 pub mod ResumeLemmas
 pub mod ToldLemmas
+pub mod LinkLemmas

@@ -1,5 +1,5 @@
 -- The command that the words of a command line ask for.
-use Rattle.std.specs.Prelude.{ℕ, List, Bool, true, false, ◌&&◌, if◌then◌else◌, Option, Some, None, is_none, is_some, option_map, option_and_then, unwrap_or}
+use Rattle.std.specs.Prelude.{ℕ, List, Bool, true, false, if◌then◌else◌, Option, Some, None, is_none, is_some, option_map, option_and_then, unwrap_or}
 use Rattle.brace_words.specs.declared.line.Line.{Line}
 use Rattle.brace_words.specs.declared.mode.Mode.{Mode}
 use Rattle.brace_words.specs.declared.mode.Mode.TheVariants as mode
@@ -97,9 +97,9 @@ abbrev pub may_save : Option Command → Bool
 may_save (Some (Run run)) = is_some run.save
 may_save _ = false
 
--- the line asks for nothing that is not built yet: for no link and no watched figures
+-- the line asks for nothing that is not built yet: for no watched figures
 abbrev pub built : Line → Bool
-built line = is_none line.link && is_none line.watch
+built line = is_none line.watch
 
 -- how many workers words ask for: one where they are no line, and where it says nothing
 abbrev pub workers_of : Option Line → ℕ

@@ -1,5 +1,6 @@
-ghost use Rattle.std.specs.Prelude.{◌≡◌, ◌≤◌, option_map, MatchOption, IfErr, IfOk, IfSome, None, Some};
+ghost use Rattle.std.specs.Prelude.{◌≡◌, ◌≤◌, option_map, MatchOption, IfErr, IfOk, IfSome, None, Some, true};
 ghost use Rattle.brace_words.specs.Lines as lines;
+ghost use Rattle.brace_words.specs.Values.{is_link};
 ghost use Rattle.brace_top.specs.Commands.{anew_of, audit_of, balance_of, built, command_in, manner_of, resumed_of, run_of, trial_of, workers_of};
 ghost use Rattle.brace_top.specs.inner.Words.{said, said_manner, said_start, IsInRange, IsMannerInRange};
 
@@ -37,6 +38,9 @@ pub struct RunCommand<'a> {
     pub cuts: Option<&'a str>,
     /// The world of the end k of an epoch is saved as `NAME.k`, where this is NAME.
     pub save: Option<&'a str>,
+    /// The letters of a link, over which one worker runs the parts; without them these exchange
+    /// pieces in memory.
+    pub link: Option<&'a str>,
     pub ticks: u64,
     /// Ticks that this number divides are published, and the last one. At least 1.
     pub every: u64,
@@ -99,11 +103,11 @@ pub enum Command<'a> {
 
 /// Whether a line asks for nothing that is not built yet.
 ///
-/// Not built are links and watched figures in `run` and `resume`.
+/// Not built are watched figures in `run` and `resume`.
 pub fn built(line: &Line) -> bool
     ensures { result ≡ built line.now }
 {
-    line.link.is_none() && line.watch.is_none()
+    line.watch.is_none()
 }
 
 /// How many workers words ask for, as they were read: 1 to 16, and 1 where they are no line.
@@ -141,6 +145,14 @@ fn name_of(name: &Option<Text>) -> Option<&str>
     name.as_ref().map(|name| name.as_str())
 }
 
+/// The letters of a line's link, if it has one.
+fn link_of(line: &Line) -> Option<&str>
+    requires { lines.IsInRange line.now }
+    ensures { IfSome result (λ letters. is_link letters.now ≡ true) }
+{
+    Some(line.link.as_ref()?.as_str())
+}
+
 /// A run that begins anew, where the line names the agent file.
 fn anew_of(line: &Line) -> Option<Start<'_>>
     ensures { option_map said_start result ≡ anew_of line.now }
@@ -170,6 +182,7 @@ fn run_of<'a>(line: &'a Line, start: Option<Start<'a>>) -> Option<Command<'a>>
         start: start?,
         cuts: name_of(&line.cuts),
         save: name_of(&line.save),
+        link: link_of(line),
         ticks: line.ticks?,
         every: line.every.unwrap_or(1),
         manner: manner_of(line),

@@ -1,8 +1,9 @@
 //! How a task is carried out, on one worker or on several.
-ghost use Rattle.std.specs.Prelude.{◌≡◌, ◌≤◌, ℤ, [], None, Err, true};
+ghost use Rattle.std.specs.Prelude.{◌≡◌, ◌≤◌, ℤ, [], IfSome, None, Err, true};
 ghost use Rattle.brace_model.specs.Run.{end_of};
 ghost use Rattle.brace_pieces.specs.declared.setting.Setting.{Setting};
 ghost use Rattle.brace_pieces.specs.Settings.{LawfulSetting};
+ghost use Rattle.brace_words.specs.Values.{is_link};
 ghost use Rattle.brace_crew.specs.Calls.{CameTo};
 ghost use Rattle.brace_top.specs.Answer.{CountsWrites, sink_call};
 ghost use Rattle.brace_top.specs.Commands as asked;
@@ -15,6 +16,7 @@ ghost use Rattle.brace_top.specs.inner.Words.{said_trial};
 
 use crate::answer::{Answer, Stopped};
 use crate::command::TrialCommand;
+use crate::links::crew_run_linked_by;
 use crate::task::{Task, done, faulted, settle};
 use crate::team::{Team, crew_run_on};
 use crate::trial::trial_line;
@@ -122,6 +124,7 @@ pub fn crew_alone<K: Keeper, O: Sink>(
 ) -> Result<Answer, Stopped>
     requires lawful { LawfulSetting task.now.setting }
     requires begins { task.now.setting.job.first ≤ task.now.setting.job.last }
+    requires link { IfSome task.now.link (λ letters. is_link letters.now ≡ true) }
     ensures run { IsRunOf O.Sink task.now (keeper_call K.Keeper keeper.old keeper.new)
         out.old out.new result }
     ensures same_loans { K.loans keeper.new ≡ K.loans keeper.old }
@@ -142,7 +145,7 @@ pub fn crew_alone<K: Keeper, O: Sink>(
         save: &task.save,
         fresh: task.fresh,
     };
-    let both = crew_run_on_one(alloc, &task.setting, task.order, publisher);
+    let both = crew_run_linked_by(alloc, &task.setting, task.order, task.link, publisher);
     settle(alloc, task, both.1)
 }
 
@@ -158,6 +161,7 @@ pub fn crew_on<R: Threads + Wait + Sync, G: Gate + Sync, K: Keeper + Send, O: Si
     requires few { team.now.workers ≤ 16 }
     requires lawful { LawfulSetting task.now.setting }
     requires begins { task.now.setting.job.first ≤ task.now.setting.job.last }
+    requires link { IfSome task.now.link (λ letters. is_link letters.now ≡ true) }
     ensures run { IsRunOf O.Sink task.now (keeper_call K.Keeper keeper.old keeper.new)
         out.old out.new result }
     ensures same_loans { K.loans keeper.new ≡ K.loans keeper.old }
@@ -168,6 +172,7 @@ pub fn crew_on<R: Threads + Wait + Sync, G: Gate + Sync, K: Keeper + Send, O: Si
             alloc,
             &task.setting,
             task.order,
+            None,
             SumPublisher::make(),
         );
         return settle_trial(alloc, &trial, publisher.sums(), came, out);
@@ -179,6 +184,6 @@ pub fn crew_on<R: Threads + Wait + Sync, G: Gate + Sync, K: Keeper + Send, O: Si
         save: &task.save,
         fresh: task.fresh,
     };
-    let both = crew_run_on(team, alloc, &task.setting, task.order, publisher);
+    let both = crew_run_on(team, alloc, &task.setting, task.order, task.link, publisher);
     settle(alloc, task, both.1)
 }

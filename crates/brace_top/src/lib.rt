@@ -7,6 +7,7 @@ mod entry;
 mod flow;
 pub mod laws;
 mod limits;
+mod links;
 mod listing;
 mod load;
 mod messages;

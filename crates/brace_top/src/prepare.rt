@@ -1,8 +1,9 @@
 //! What is done for a command before its parts are run.
-ghost use Rattle.std.specs.Prelude.{◌≡◌, ◌≤◌, [], codes, is_some, option_map, None, Some, IfOk, MatchResult, true, false};
+ghost use Rattle.std.specs.Prelude.{◌≡◌, ◌≤◌, [], codes, is_some, option_map, None, Some, IfOk, IfSome, MatchResult, true, false};
 ghost use Rattle.brace_io.specs.Shelves.{writes};
 ghost use Rattle.brace_model.specs.Lawful.{LawfulProgram, LawfulAgents, LawfulJob};
 ghost use Rattle.brace_save.specs.Lines.{moment_of};
+ghost use Rattle.brace_words.specs.Values.{is_link};
 ghost use Rattle.brace_top.specs.Answer.{CountsWrites, sink_call};
 ghost use Rattle.brace_top.specs.Commands as asked;
 ghost use Rattle.brace_top.specs.Commands.{is_anew, may_save};
@@ -224,6 +225,8 @@ fn task_of<'a>(run: &RunCommand<'a>, program: Program, point: Point, cuts: CutPl
     ensures fresh { result.fresh ≡ is_anew (said_start run.now.start) }
     ensures saves { may_save (Some (asked.Run (said_run run.now)))
         ≡ is_some (option_map (λ name. name.now) result.save) }
+    ensures link { IsRunInRange run.now
+        → IfSome result.link (λ letters. is_link letters.now ≡ true) }
     ensures no_trial { result.trial ≡ None }
 {
     let job = Job {
@@ -244,6 +247,7 @@ fn task_of<'a>(run: &RunCommand<'a>, program: Program, point: Point, cuts: CutPl
         order: run.manner.order,
         fresh: matches!(run.start, Start::Anew(..)),
         save: run.save,
+        link: run.link,
         stats: run.manner.stats,
         trial: None,
     }
@@ -320,6 +324,7 @@ fn ready_trial<'a, S: Shelf>(
         order: trial.manner.order,
         fresh: true,
         save: None,
+        link: None,
         stats: trial.manner.stats,
         trial: Some(*trial),
     })

@@ -27,6 +27,9 @@ pub struct Task<'a> {
     pub fresh: bool,
     /// The world of the end k of an epoch is saved as `NAME.k`, where this is NAME.
     pub save: Option<&'a str>,
+    /// The letters of a link, over which one worker runs the parts; without them these exchange
+    /// pieces in memory.
+    pub link: Option<&'a str>,
     /// Whether counts are told at the end.
     pub stats: bool,
     /// The trial that it is, which writes no rows, but the line of its last world.

@@ -67,6 +67,7 @@ returns-clause-ready g c =
             (c.task_of.ensures.outcome ∙ ap (ran run.manner.stats run.save (is_anew run.start)) c.task_of.ensures.setting);
       };
       saves = c.task_of.ensures.saves;
+      link = c.task_of.ensures.link c.requires.range;
       unsaved = c.in_ok-cuts.ensures.held ∙ c.in_ok-point.ensures.held ∙ c.in_ok-program.ensures.held;
       counts = c.in_ok-cuts.ensures.loads.counts ∙ c.in_ok-point.ensures.loads.counts ∙ c.in_ok-program.ensures.loads.counts;
     }

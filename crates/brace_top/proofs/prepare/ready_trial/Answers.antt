@@ -33,6 +33,7 @@ returns-clause-ready g c =
         follows = ap (λ (s : Setting). trial_end trial s (end_of s.job)) setting;
       };
       saves = refl;
+      link = tt;
       unsaved = refl;
       counts = refl;
     }
