@@ -24,6 +24,7 @@ pub struct Case<'a> {
     pub shelf_fails: Vec<u64>,
     pub sink_fails: Vec<u64>,
     pub has_workers: bool,
+    pub has_links: bool,
     pub orders: u64,
     pub status: u8,
     pub out: Vec<u8>,
@@ -72,6 +73,7 @@ impl<'a> Case<'a> {
             shelf_fails: Vec::new(alloc),
             sink_fails: Vec::new(alloc),
             has_workers: false,
+            has_links: false,
             orders: 0,
             status: 0,
             out: Vec::new(alloc),
@@ -91,6 +93,7 @@ impl<'a> Case<'a> {
         match word {
             "bare" => self.is_bare = true,
             "workers" => self.has_workers = true,
+            "links" => self.has_links = true,
             "orders" => self.orders = rest.parse::<u64>().unwrap_or(0),
             "status" => self.status = rest.parse::<u8>().unwrap_or(u8::MAX),
             "shelf" => self.shelf_fails.push(failing(rest))?,
