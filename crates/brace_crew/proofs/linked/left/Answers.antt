@@ -15,7 +15,7 @@ returns-in-Some-Refusal g c =
     let x = c.in-Some-Refusal.refusal in
     let is : d.stop ≡ Some (stop.Refusal x) = search rules in
     record {
-      came = subst (λ v. CameTo g.P.Publisher s d.opening v (Err (fault.Publish x))) (sym c.into_publisher-in-Some-Refusal.ensures) (record {
+      came = subst (λ v. CameTo g.P.Publisher s d.opening v (Err (fault.Publish x))) (sym c.into_publisher-in-Some-Refusal.ensures.same) (record {
         came = given_cut g.P.Publisher s run d c.requires.desk x (c.stop.ensures.refused x is);
         rises = c.stop.ensures.rises;
       });
@@ -29,7 +29,7 @@ returns-in-None g c =
     let none : d.stop ≡ None = sym c.stop.ensures.same ∙ c.in-None.is in
     let (count, shown) = c.stop.ensures.shown (none_refused d.stop none) in
     record {
-      came = subst (λ v. CameTo g.P.Publisher s d.opening v (Err fault.NoMemory)) (sym c.into_publisher-in-None.ensures) (record {
+      came = subst (λ v. CameTo g.P.Publisher s d.opening v (Err fault.NoMemory)) (sym c.into_publisher-in-None.ensures.same) (record {
         came = given_front g.P.Publisher s run d c.requires.desk count shown;
         rises = c.stop.ensures.rises;
       });
@@ -44,7 +44,7 @@ returns-in-Some-Halt g c =
     let halted : d.stop ≡ Some (stop.Halt x) = search rules in
     let (count, shown) = c.stop.ensures.shown (halted_unrefused d.stop x halted) in
     record {
-      came = subst (λ v. CameTo g.P.Publisher s d.opening v (Err fault.NoMemory)) (sym c.into_publisher-in-Some-Halt.ensures) (record {
+      came = subst (λ v. CameTo g.P.Publisher s d.opening v (Err fault.NoMemory)) (sym c.into_publisher-in-Some-Halt.ensures.same) (record {
         came = given_front g.P.Publisher s run d c.requires.desk count shown;
         rises = c.stop.ensures.rises;
       });
