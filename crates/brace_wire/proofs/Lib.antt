@@ -6,3 +6,11 @@ pub mod PieceFormats
 pub mod Starts
 pub mod StreamLemmas
 pub mod WriteLemmas
+pub mod AcceptLemmas
+pub mod ShownLemmas
+pub mod HopeLemmas
+pub mod LinkLemmas
+pub mod RoundLemmas
+pub mod RunLemmas
+pub mod FeedLemmas
+pub mod SendLemmas

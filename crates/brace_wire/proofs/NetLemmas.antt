@@ -6,17 +6,17 @@ use Rattle.std.proofs.lemmas.Bool.{eqb-true}
 use Rattle.std.proofs.lemmas.List.{take-append-le, take_more, length-append, length-take}
 use Rattle.brace_wire.proofs.Known.{some_is}
 use Rattle.brace_wire.proofs.StreamLemmas.{all_append}
-use Rattle.brace_wire.specs.Net.{Carried, Lane, opening, Event, IsAllowed, carried, place_back, after_hand, handed, after, Happens, IsInOrder, IsKept}
+use Rattle.brace_wire.specs.Net.{Carried, Lane, opening, Event, IsAllowed, carried, place_back, after_hand, handed, after, Reaches, Happens, IsInOrder, IsKept}
 
 -- what holds of all holds of the one at a place
-all_at : {A : Type 0} (P : A → Type 0) (xs : List A) (i : ℕ) (x : A) → AllByRecursion P xs → slice_get xs i ≡ Some x → P x
+pub all_at : {A : Type 0} (P : A → Type 0) (xs : List A) (i : ℕ) (x : A) → AllByRecursion P xs → slice_get xs i ≡ Some x → P x
 all_at P [] i x h e = absurd cc
 all_at P (y ∷ ys) zero x h e = subst P (some_is y x e) h.0
 all_at P (y ∷ ys) (suc i) x h e = all_at P ys i x h.1 e
 
 module _ {F : Type 0} where
   -- a frame carries the piece that was put at its place
-  abbrev IsPut : List F → Carried F → Type 0
+  abbrev pub IsPut : List F → Carried F → Type 0
   IsPut puts c = slice_get puts c.ordinal ≡ Some c.piece
 
   pub record Sound (lane : Lane F) : Type 0 where
@@ -25,7 +25,7 @@ module _ {F : Type 0} where
     pub taken : lane.taken ≤ length lane.received
     pub few : length lane.puts ≤ lane.taken + 2
 
-  get_more : (xs : List F) (f : F) (i : ℕ) (x : F) → slice_get xs i ≡ Some x → slice_get (xs ++ f ∷ []) i ≡ Some x
+  pub get_more : (xs : List F) (f : F) (i : ℕ) (x : F) → slice_get xs i ≡ Some x → slice_get (xs ++ f ∷ []) i ≡ Some x
   get_more [] f i x e = absurd cc
   get_more (y ∷ ys) f zero x e = e
   get_more (y ∷ ys) f (suc i) x e = get_more ys f i x e
@@ -34,7 +34,7 @@ module _ {F : Type 0} where
   still_put puts f [] h = tt
   still_put puts f (c ∷ sent) h = (get_more puts f c.ordinal c.piece h.0, still_put puts f sent h.1)
 
-  there : (xs : List F) (n : ℕ) (x : F) → slice_get xs n ≡ Some x → n < length xs
+  pub there : (xs : List F) (n : ℕ) (x : F) → slice_get xs n ≡ Some x → n < length xs
   there [] n x e = absurd cc
   there (y ∷ ys) zero x e = omega arith
   there (y ∷ ys) (suc n) x e = let more = there ys n x e in omega arith
@@ -44,7 +44,7 @@ module _ {F : Type 0} where
   read_there (y ∷ ys) zero x e = cc
   read_there (y ∷ ys) (suc n) x e = read_there ys n x e
 
-  within : (lane : Lane F) → IsInOrder lane → length lane.received ≤ length lane.puts
+  pub within : (lane : Lane F) → IsInOrder lane → length lane.received ≤ length lane.puts
   within lane h = omega (arith, ap length h ∙ length-take (length lane.received) lane.puts)
 
   sound_put : (lane : Lane F) (f : F) → Sound lane → length lane.puts < lane.taken + 2 → Sound (after lane (Event.put f))
@@ -101,9 +101,12 @@ module _ {F : Type 0} where
   sound_after lane _ h (IsAllowed.hand i within') = sound_hand lane i (slice_get lane.sent i) h refl
   sound_after lane _ h (IsAllowed.take_next lt) = sound_take lane h lt
 
+  pub sound_later : (lane later : Lane F) → Sound lane → Reaches lane later → Sound later
+  sound_later lane _ h Reaches.begin = h
+  sound_later lane _ h (Reaches.next later e before allowed) = sound_after later e (sound_later lane later h before) allowed
+
   pub sound : (lane : Lane F) → Happens lane → Sound lane
-  sound _ Happens.begin = record { in_order = refl; sent = tt; taken = omega arith; few = omega arith }
-  sound _ (Happens.next lane e before allowed) = sound_after lane e (sound lane before) allowed
+  sound lane happens = sound_later opening lane (record { in_order = refl; sent = tt; taken = omega arith; few = omega arith }) happens
 
   pub kept : (lane : Lane F) → Happens lane → IsKept lane
   kept lane h = let s = sound lane h in omega (arith, s.taken, s.few)

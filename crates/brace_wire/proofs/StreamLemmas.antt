@@ -40,11 +40,11 @@ one_spelling types a b x y h g e =
 pub took : (n : ℕ) (x : List ℕ) → n ≤ length x → length (take n x) ≡ n
 took n x h = omega (arith, length-take n x)
 
-length_four : (n : ℕ) → length (four n) ≡ 4
+pub length_four : (n : ℕ) → length (four n) ≡ 4
 unfolding four
 length_four n = refl
 
-front_length : (n : ℕ) (x : List ℕ) → n < 2 ^ 32 → length_in_front (four n ++ x) ≡ n
+pub front_length : (n : ℕ) (x : List ℕ) → n < 2 ^ 32 → length_in_front (four n ++ x) ≡ n
 unfolding four
 front_length n x h = ap (from_be_bytes w32) (take_at (to_be_bytes w32 n) x 4 refl) ∙ from_be_bytes-to_be_bytes_4 n h
 

@@ -2,4 +2,6 @@ pub mod Frames
 pub mod Fitting
 pub mod Streams
 pub mod Net
+pub mod Links
+pub mod Shown
 pub mod inner

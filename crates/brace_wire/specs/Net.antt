@@ -64,10 +64,15 @@ after lane (Event.send back) =
 after lane (Event.hand i) = after_hand lane (slice_get lane.sent i)
 after lane Event.take_next = record lane { taken = lane.taken + 1 }
 
+-- a lane comes about from another by allowed events
+pub data Reaches {F : Type 0} (lane : Lane F) : Lane F → Type 0 where
+  begin : Reaches lane lane
+  next : (later : Lane F) (e : Event F) → Reaches lane later → IsAllowed later e
+      → Reaches lane (after later e)
+
 -- a lane comes about from a new one by allowed events
-pub data Happens {F : Type 0} : Lane F → Type 0 where
-  begin : Happens opening
-  next : (lane : Lane F) (e : Event F) → Happens lane → IsAllowed lane e → Happens (after lane e)
+abbrev pub Happens : {F : Type 0} → Lane F → Type 0
+Happens lane = Reaches opening lane
 
 -- what was received is a first part of what was put
 abbrev pub IsInOrder : {F : Type 0} → Lane F → Type 0

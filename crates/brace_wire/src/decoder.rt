@@ -55,6 +55,15 @@ impl Decoder {
         })
     }
 
+    /// Begins another stream.
+    pub(crate) fn begin(&mut self)
+        ensures { self.new ≡ waits self.old.types 0 [] }
+    {
+        self.place = 0;
+        self.rest.clear();
+        self.is_broken = false;
+    }
+
     /// Takes the next piece of the stream, and appends the frames that are whole now.
     ///
     /// `BadFrame` where a whole frame, by its length, is none: it tells its place in the stream.

@@ -1,5 +1,6 @@
 //! Frames as bytes.
-ghost use Rattle.std.specs.Prelude.{◌≡◌, ◌<◌, ◌≤◌, ◌+◌, ◌-◌, ◌^◌, ◌++◌, take, drop, length, OnOk, OnErr};
+ghost use Rattle.std.specs.Prelude.{◌≡◌, ◌<◌, ◌≤◌, ◌+◌, ◌-◌, ◌^◌, ◌++◌, take, drop, length, List, OnOk, OnErr};
+ghost use Rattle.brace_model.specs.declared.program.Ty.{Ty};
 ghost use Rattle.brace_wire.specs.Frames.{four, piece_bytes, body, frame};
 ghost use Rattle.brace_wire.specs.Fitting.{AgentFits, PieceFits, IsOf, IsFrame, layout};
 ghost use Rattle.brace_wire.specs.inner.Written.{BodyFits};
@@ -20,6 +21,16 @@ pub fn encode(out: &mut Vec<u8>, program: &Program, f: &Frame) -> Result<(), NoM
     ensures written { OnOk result (out.new.items ≡ out.old.items ++ frame f.now) }
     ensures fits { OnOk result (IsOf (layout program.now) f.now.piece
         → IsFrame (layout program.now) f.now) }
+    ensures kept { OnErr result (out.new.items ≡ out.old.items) }
+{
+    append(out, f)
+}
+
+/// Appends the bytes of a frame, which is one of whatever classes its agents are of.
+pub(crate) fn append(out: &mut Vec<u8>, f: &Frame) -> Result<(), NoMemory>
+    ensures written { OnOk result (out.new.items ≡ out.old.items ++ frame f.now) }
+    ensures fits { OnOk result ((types : List (List Ty)) → IsOf types f.now.piece
+        → IsFrame types f.now) }
     ensures kept { OnErr result (out.new.items ≡ out.old.items) }
 {
     let before = out.len();

@@ -1,6 +1,6 @@
+use Rattle.std.proofs.lemmas.Result.{on_ok_weaker}
 use Rattle.brace_wire.specs.Fitting.{layout}
-use Rattle.brace_wire.proofs.WriteLemmas.{encoded}
 use Rattle.brace_wire.proofs.encoding.encode.Goals as goal
 
-pub returns-else-is_err-clause-fits : goal.returns-else-is_err-clause-fits
-returns-else-is_err-clause-fits c = encoded (layout c.args.program.now) c.args.f.now c.append_frame-written.result c.append_frame-written.ensures.fits c.append_frame-written.ensures.short
+pub returns-clause-fits : goal.returns-clause-fits
+returns-clause-fits c = on_ok_weaker _ (λ fits. fits (layout c.args.program.now)) c.append.ensures.fits

@@ -1,0 +1,16 @@
+use Rattle.std.proofs.Common.{◌+◌, ◌*◌, length}
+use Rattle.std.specs.List.{sum_by}
+use Rattle.brace_core.specs.Exchanges.{turns_left}
+use Rattle.brace_pieces.specs.Steps.{schedule}
+use Rattle.brace_wire.specs.inner.Hope.{all_hope}
+use Rattle.brace_wire.proofs.RunLemmas.{IsRunning}
+use Rattle.brace_wire.proofs.run.run_over_links.Given as goal
+
+abbrev pub invariant-loop : goal.invariant-loop
+invariant-loop g l =
+    IsRunning g.A.Actor.setting g.A.Actor.number g.A.Actor.past g.A.Actor.opening l.initial.lanes.setting l.initial.lanes.fates l.initial.actors l.actors l.lanes
+
+-- how many turns are left, and how many rounds may be needed
+abbrev pub decreases-loop : goal.decreases-loop
+decreases-loop g l =
+    sum_by (turns_left g.A.Actor.setting g.A.Actor.number g.A.Actor.past schedule) l.actors * (length l.initial.lanes.fates + 2) + all_hope l.lanes
