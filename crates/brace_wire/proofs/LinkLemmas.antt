@@ -331,6 +331,12 @@ pub record IsTakeDone (v w : OnLinks) (types : List (List Ty)) (name : Name) (ou
   pub oldest : out ≡ slice_get (link_of v name.from name.to).receiver.waiting 0
   pub events : GoOn v w
 
+-- the link of a lane's next name is there
+pub place_there : (V v : OnLinks) → V ≡ v → (types : List (List Ty)) → IsSound V types → (name : Name) (n : ℕ) → IsNext (schedule v.setting) name n → name.from * V.actors + name.to < length V.links
+place_there V v is types is_sound name n next =
+    let (from, to) = next_below V types is_sound name n (subst (λ (u : OnLinks). IsNext (schedule u.setting) name n) (sym is) next) in
+    place_within V name is_sound.size from to
+
 module _ (V v : OnLinks) (is : V ≡ v) (types : List (List Ty)) (is_sound : IsSound V types) (name : Name) (r : OnLink) (read : r ≡ get_or V.links (name.from * V.actors + name.to) r) where
   -- what was read is the link
   link_read : name.from < V.actors → name.to < V.actors → r ≡ link_of V name.from name.to

@@ -17,7 +17,8 @@ use Rattle.brace_wire.specs.Links.{OnLink, OnLinks, link_of}
 
 -- every piece that is right for a name is of the program's classes
 abbrev pub HasBytes : Setting → Type 0
-HasBytes s = (name : Name) (piece : Piece) → IsRight s name piece → IsOf (layout s.job.program) piece
+HasBytes s =
+    (name : Name) (piece : Piece) → IsRight s name piece → IsOf (layout s.job.program) piece
 
 -- a frame is lost
 abbrev pub is_lost : Fate → Bool

@@ -35,37 +35,37 @@ loop-number-preserved-in-Some g c =
     c.make_turn.ensures.same_opening c.make_turn.ensures.same c.make_turn.ensures.put c.make_turn.ensures.taken
 
 pub loop-number-smaller : goal.loop-number-smaller
-loop-number-smaller g c = less_behind _ _ _ (c.in_ok-round.ensures.nearer (c.is_quiet.ensures.hope c.if-is_quiet.false))
+loop-number-smaller g c = less_behind _ _ _ (c.in_ok-round-in-None-2.ensures.nearer (c.is_quiet.ensures.hope c.if-is_quiet.false))
 
 pub loop-number-preserved : goal.loop-number-preserved
 loop-number-preserved g c =
     running_round g.A.Actor.setting g.A.Actor.number g.A.Actor.past g.A.Actor.opening c.args.lanes.now.setting c.args.lanes.now.fates c.args.actors.now
     c.loop-number.actors c.loop-number.lanes c.loop-number.invariant c.round.new.self c.round.ensures.setting c.round.ensures.actors c.round.ensures.fates c.round.ensures.put c.round.ensures.taken
-    c.in_ok-round.ensures.counted (c.in_ok-round.ensures.nearer (c.is_quiet.ensures.hope c.if-is_quiet.false))
+    c.in_ok-round-in-None-2.ensures.counted (c.in_ok-round-in-None-2.ensures.nearer (c.is_quiet.ensures.hope c.if-is_quiet.false))
 
-pub returns-then-is_quiet-clause-done : goal.returns-then-is_quiet-clause-done
-returns-then-is_quiet-clause-done g c =
+pub returns-in-None-clause-done : goal.returns-in-None-clause-done
+returns-in-None-clause-done g c =
     running_done g.A.Actor.setting g.A.Actor.number g.A.Actor.past g.A.Actor.opening c.args.lanes.now.setting c.args.lanes.now.fates c.args.actors.now
     c.loop-number.actors c.loop-number.lanes c.loop-number.invariant c.draw.result c.in-None.ensures.none (c.is_quiet.ensures.quiet c.if-is_quiet.true)
 
-pub returns-then-is_quiet-clause-all_put : goal.returns-then-is_quiet-clause-all_put
-returns-then-is_quiet-clause-all_put g c =
+pub returns-in-None-clause-all_put : goal.returns-in-None-clause-all_put
+returns-in-None-clause-all_put g c =
     running_put g.A.Actor.setting g.A.Actor.number g.A.Actor.past g.A.Actor.opening c.args.lanes.now.setting c.args.lanes.now.fates c.args.actors.now
     c.loop-number.actors c.loop-number.lanes c.loop-number.invariant c.draw.result c.in-None.ensures.none (c.is_quiet.ensures.quiet c.if-is_quiet.true)
 
-pub returns-then-is_quiet-clause-all_received : goal.returns-then-is_quiet-clause-all_received
-returns-then-is_quiet-clause-all_received g c p q =
+pub returns-in-None-clause-all_received : goal.returns-in-None-clause-all_received
+returns-in-None-clause-all_received g c p q =
     let quiet = c.is_quiet.ensures.quiet c.if-is_quiet.true in
     sym (quiet p q)
     ∙ running_put g.A.Actor.setting g.A.Actor.number g.A.Actor.past g.A.Actor.opening c.args.lanes.now.setting c.args.lanes.now.fates c.args.actors.now
     c.loop-number.actors c.loop-number.lanes c.loop-number.invariant c.draw.result c.in-None.ensures.none quiet p q
 
-pub returns-then-is_quiet-clause-all_taken : goal.returns-then-is_quiet-clause-all_taken
-returns-then-is_quiet-clause-all_taken g c =
+pub returns-in-None-clause-all_taken : goal.returns-in-None-clause-all_taken
+returns-in-None-clause-all_taken g c =
     running_taken g.A.Actor.setting g.A.Actor.number g.A.Actor.past g.A.Actor.opening c.args.lanes.now.setting c.args.lanes.now.fates c.args.actors.now
     c.loop-number.actors c.loop-number.lanes c.loop-number.invariant c.draw.result c.in-None.ensures.none (c.is_quiet.ensures.quiet c.if-is_quiet.true)
 
-pub returns-then-is_quiet-clause-few_rounds : goal.returns-then-is_quiet-clause-few_rounds
-returns-then-is_quiet-clause-few_rounds g c =
+pub returns-in-None-clause-few_rounds : goal.returns-in-None-clause-few_rounds
+returns-in-None-clause-few_rounds g c =
     running_few g.A.Actor.setting g.A.Actor.number g.A.Actor.past g.A.Actor.opening c.args.lanes.now.setting c.args.lanes.now.fates c.args.actors.now
     c.loop-number.actors c.loop-number.lanes c.loop-number.invariant c.draw.result c.in-None.ensures.none (c.is_quiet.ensures.quiet c.if-is_quiet.true)

@@ -14,23 +14,27 @@ round_all-requires-clause-short c = short_at _ _ c.self.invariant
 
 pub returns-in_err-round_all-clause-put : goal.returns-in_err-round_all-clause-put
 returns-in_err-round_all-clause-put c =
-    (round_done _ c.args.self.now c.self.view_is _ _ c.self.invariant c.round_all.ensures.types _ c.as_slice.ensures.value _ _ c.round_all.ensures.some_made).puts
+    (round_done _ c.args.self.now c.self.view_is _ _ c.self.invariant c.round_all.ensures.types _ c.as_slice.ensures.value _ c.self.inside.rounds c.round_all.ensures.some_made).puts
 
 pub returns-in_err-round_all-clause-taken : goal.returns-in_err-round_all-clause-taken
 returns-in_err-round_all-clause-taken c =
-    (round_done _ c.args.self.now c.self.view_is _ _ c.self.invariant c.round_all.ensures.types _ c.as_slice.ensures.value _ _ c.round_all.ensures.some_made).takes
+    (round_done _ c.args.self.now c.self.view_is _ _ c.self.invariant c.round_all.ensures.types _ c.as_slice.ensures.value _ c.self.inside.rounds c.round_all.ensures.some_made).takes
 
 pub returns-in_err-round_all-clause-events : goal.returns-in_err-round_all-clause-events
 returns-in_err-round_all-clause-events c =
-    (round_done _ c.args.self.now c.self.view_is _ _ c.self.invariant c.round_all.ensures.types _ c.as_slice.ensures.value _ _ c.round_all.ensures.some_made).events
+    (round_done _ c.args.self.now c.self.view_is _ _ c.self.invariant c.round_all.ensures.types _ c.as_slice.ensures.value _ c.self.inside.rounds c.round_all.ensures.some_made).events
 
 pub invariant_of-self : goal.invariant_of-self
 invariant_of-self c =
     (round_done _ c.args.self.now c.self.view_is _ _ c.self.invariant c.round_all.ensures.types _ c.as_slice.ensures.value _ _ c.round_all.ensures.some_made).sound
 
+pub invariant_of-self-2 : goal.invariant_of-self-2
+invariant_of-self-2 c =
+    (round_done _ c.args.self.now c.self.view_is _ _ c.self.invariant c.round_all.ensures.types _ c.as_slice.ensures.value _ _ c.round_all.ensures.some_made).sound
+
 pub returns : goal.returns
 returns c =
-    let done = round_done _ c.args.self.now c.self.view_is _ _ c.self.invariant c.round_all.ensures.types _ c.as_slice.ensures.value _ c.saturating_add.result c.round_all.ensures.some_made in
+    let done = round_done _ c.args.self.now c.self.view_is _ _ c.self.invariant c.round_all.ensures.types _ c.as_slice.ensures.value _ c.saturating_add-self-inside.result c.round_all.ensures.some_made in
     record {
       setting = done.setting;
       actors = done.actors;
@@ -38,7 +42,7 @@ returns c =
       put = done.puts;
       taken = done.takes;
       events = done.events;
-      made = whole_made _ c.args.self.now c.self.view_is _ _ c.self.invariant c.round_all.ensures.types _ c.as_slice.ensures.value _ c.saturating_add.result c.in_ok-round_all.ensures.made;
-      counted = omega (arith, c.saturating_add.ensures, ap (λ v. v.rounds) c.self.view_is);
-      nearer = whole_nearer _ c.args.self.now c.self.view_is _ _ c.self.invariant c.round_all.ensures.types _ c.as_slice.ensures.value _ c.saturating_add.result c.in_ok-round_all.ensures.made;
+      made = whole_made _ c.args.self.now c.self.view_is _ _ c.self.invariant c.round_all.ensures.types _ c.as_slice.ensures.value _ c.saturating_add-self-inside.result c.in_ok-round_all.ensures.made;
+      counted = omega (arith, c.saturating_add-self-inside.ensures, ap (λ v. v.rounds) c.self.view_is);
+      nearer = whole_nearer _ c.args.self.now c.self.view_is _ _ c.self.invariant c.round_all.ensures.types _ c.as_slice.ensures.value _ c.saturating_add-self-inside.result c.in_ok-round_all.ensures.made;
     }
