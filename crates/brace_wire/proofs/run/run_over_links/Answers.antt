@@ -1,4 +1,5 @@
 use Rattle.std.proofs.Common.{◌∙◌, ◌<◌, get_or, refl, sym, ap, arith}
+use Rattle.brace_pieces.proofs.ScheduleLemmas.{schedule_lawful}
 use Rattle.brace_wire.proofs.RunLemmas.{less_behind, no_hope, running_start, setting_here, counted_here, running_smaller, running_more, running_round, running_done, running_put, running_taken, running_few}
 use Rattle.brace_wire.proofs.run.run_over_links.Goals as goal
 
@@ -6,6 +7,9 @@ pub loop-number-init : goal.loop-number-init
 loop-number-init g c = running_start g.A.Actor.setting g.A.Actor.number g.A.Actor.past g.A.Actor.opening c.args.lanes.now.setting c.args.lanes.now.fates c.args.actors.now
     c.args.lanes.now refl c.requires.lanes_for refl c.requires.settings c.requires.numbers c.requires.first_turns c.requires.nothing_put
     (no_hope c.args.lanes.now (let count = c.requires.lanes_for in omega (arith, count)) c.requires.nothing_put) c.requires.no_round
+
+pub make_turn-requires-clause-lawful : goal.make_turn-requires-clause-lawful
+make_turn-requires-clause-lawful g c κs within = schedule_lawful c.loop-number.lanes.setting
 
 pub make_turn-requires-clause-setting : goal.make_turn-requires-clause-setting
 make_turn-requires-clause-setting g c κs within =
