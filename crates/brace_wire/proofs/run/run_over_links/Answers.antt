@@ -1,4 +1,4 @@
-use Rattle.std.proofs.Common.{◌∙◌, ◌<◌, get_or, refl, sym, ap, arith}
+use Rattle.std.proofs.Common.{◌∙◌, get_or, refl, sym, ap, arith}
 use Rattle.brace_pieces.proofs.ScheduleLemmas.{schedule_lawful}
 use Rattle.brace_wire.proofs.RunLemmas.{less_behind, no_hope, running_start, setting_here, counted_here, running_smaller, running_more, running_round, running_done, running_put, running_taken, running_few}
 use Rattle.brace_wire.proofs.run.run_over_links.Goals as goal

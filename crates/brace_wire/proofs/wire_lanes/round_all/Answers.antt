@@ -1,4 +1,4 @@
-use Rattle.std.proofs.Common.{◌∙◌, ◌<◌, length, sym, subst, arith}
+use Rattle.std.proofs.Common.{◌∙◌, sym, subst, arith}
 use Rattle.brace_wire.specs.Links.{after_round}
 use Rattle.brace_wire.specs.inner.Standing.{CanRound}
 use Rattle.brace_wire.proofs.SendLemmas.{next_there, set_there, kept_there, all_changed}

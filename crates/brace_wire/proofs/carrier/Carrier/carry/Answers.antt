@@ -1,4 +1,4 @@
-use Rattle.std.proofs.Common.{◌≡◌, ◌∙◌, [], ◌∷◌, ◌++◌, List, ℕ, ap, sym, subst}
+use Rattle.std.proofs.Common.{◌∙◌, [], ◌∷◌, ◌++◌, List, ℕ, ap, sym, subst}
 use Rattle.brace_wire.specs.Frames.{frame}
 use Rattle.brace_wire.specs.Fitting.{IsOf}
 use Rattle.brace_wire.specs.Streams.{Waiting}

@@ -1,4 +1,4 @@
-use Rattle.std.proofs.Common.{◌≡◌, ◌∙◌, ◌++◌, List, ap, subst, sym, refl, arith}
+use Rattle.std.proofs.Common.{◌∙◌, ◌++◌, List, ap, subst, sym, arith}
 use Rattle.std.specs.List.{fold}
 use Rattle.brace_wire.specs.declared.frame.Frame.{Frame}
 use Rattle.brace_wire.specs.Links.{OnLink, OnReceiver, accepted, after_round, sent_at_once, sent_late}

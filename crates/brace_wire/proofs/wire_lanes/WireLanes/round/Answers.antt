@@ -1,5 +1,4 @@
-use Rattle.std.proofs.Common.{◌≡◌, ◌<◌, length, sym, ap, subst, arith}
-use Rattle.brace_wire.specs.declared.fate.Fate.{Fate}
+use Rattle.std.proofs.Common.{◌<◌, length, sym, ap, subst, arith}
 use Rattle.brace_wire.proofs.RoundLemmas.{can_round_at, short_at, some_fates, round_done, whole_made, whole_nearer}
 use Rattle.brace_wire.proofs.wire_lanes.WireLanes.round.Goals as goal
 
