@@ -1,7 +1,7 @@
 #!/usr/bin/env bash
 # Times a piece of a million agents of four numbers as bytes and back, and writes bytes and MB a
-# second into docs/PERFORMANCE.md: of `encode`, and of a decoder's `feed` in pieces of 4096 bytes and
-# of the whole.
+# second into docs/PERFORMANCE.md: of `encode`, and of a decoder's `feed` in pieces of 4096 bytes
+# and of the whole.
 #
 # The program, bench/link/main.txt, is added as a crate to a copy of those below it, and proved with
 # them, so that it runs without checks.
@@ -18,7 +18,10 @@ for crate in $below brace_wire; do
   grep "^$crate:" "$top/crates.txt" >>"$work/crates.txt"
 done
 echo "bench_link: brace_num brace_model brace_pieces brace_wire" >>"$work/crates.txt"
-(cd "$work/crates/bench_link" && rt run >"$work/said" 2>"$work/log") || { cat "$work/log" && exit 1; }
+(cd "$work/crates/bench_link" && rt run >"$work/said" 2>"$work/log") || {
+  cat "$work/log"
+  exit 1
+}
 PYTHONPATH=$top/bench python3 - "$work/said" <<'P'
 import sys
 from measure import written

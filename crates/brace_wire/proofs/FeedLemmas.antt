@@ -1,6 +1,6 @@
 -- The bytes of whole frames that are fed in pieces.
-use Rattle.std.proofs.Common.{◌≡◌, ◌∙◌, ℕ, ◌+◌, ◌-◌, ◌<◌, ◌≤◌, ◌^◌, Bool, true, false, ◌&&◌, List, [], ◌∷◌, ◌++◌, length, take, drop, refl, sym, ap, subst, arith, append_assoc, inl, inr}
-use Rattle.std.specs.Prelude.{nat_le}
+use Rattle.std.proofs.Common.{◌≡◌, ◌∙◌, ℕ, ◌+◌, ◌-◌, ◌≤◌, Bool, true, false, List, [], ◌∷◌, ◌++◌, length, take, drop, Result, Ok, Err, refl, sym, ap, subst, arith, append_assoc, inl, inr}
+use Rattle.std.specs.Prelude.{nat_le, OnOk}
 use Rattle.std.specs.Int.{w32, from_be_bytes}
 use Rattle.std.specs.List.{flat_map}
 use Rattle.std.proofs.lemmas.Bool.{and_parts, and_from}
@@ -127,3 +127,9 @@ one_frame types bytes f is fits = record {
   same = is ∙ sym (append-nil (frame f)) ∙ sym (append-nil (frame f ++ []));
   each = (fits, tt);
 }
+
+-- what was read of them is this frame
+pub fed_one : {X E : Type 0} (r : Result X E) (types : List (List Ty)) (bytes : List ℕ) (before out : List Frame) (f : Frame) → Reads types bytes (f ∷ []) []
+    → OnOk r ((frames : List Frame) → Reads types bytes frames [] → out ≡ before ++ frames) → OnOk r (out ≡ before ++ f ∷ [])
+fed_one (Ok x) types bytes before out f whole read = read (f ∷ []) whole
+fed_one (Err e) types bytes before out f whole read = tt

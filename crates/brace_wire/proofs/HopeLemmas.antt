@@ -1,7 +1,7 @@
 -- How many rounds lanes may still need: each round brings them nearer.
 use Rattle.std.proofs.Common.{◌≡◌, ◌∙◌, ℕ, zero, suc, ◌+◌, ◌-◌, ◌*◌, ◌/◌, ◌%◌, ◌<◌, ◌≤◌, ◌⊎◌, inl, inr, Bool, true, false, ◌||◌, eqb, List, [], ◌∷◌, ◌++◌, length, get_or, Option, Some, None, refl, sym, ap, subst, arith}
 use Rattle.std.specs.Prelude.{if◌then◌else◌}
-use Rattle.std.specs.List.{fold, list_any}
+use Rattle.std.specs.List.{fold}
 use Rattle.std.proofs.lemmas.Bool.{eqb-true, eq-eqb, ne_eqb, or_parts, cases_Bool}
 use Rattle.std.proofs.lemmas.List.{length-append}
 use Rattle.std.proofs.lemmas.List.Folds.{list_any-append}
@@ -17,7 +17,7 @@ use Rattle.brace_wire.specs.Net.{Lane, opening, Happens}
 use Rattle.brace_wire.specs.Links.{OnReceiver, OnLink, received, with_put, accepted, fate_of, at_once, late_of, sent_at_once, sent_late, sent_again, after_round}
 use Rattle.brace_wire.specs.Shown.{is_lost, HasDelivery, IsBack, Shows}
 use Rattle.brace_wire.specs.inner.Hope.{comes, rounds_by, rounds_in, due_in, rounds_left, hope}
-use Rattle.brace_wire.proofs.NetLemmas.{Sound, sound, within}
+use Rattle.brace_wire.proofs.NetLemmas.{sound, within}
 use Rattle.brace_wire.proofs.AcceptLemmas.{accepted_by}
 use Rattle.brace_wire.proofs.ShownLemmas.{all_received, shows_round, reaches_on}
 

@@ -1,35 +1,30 @@
 -- What a put, a take and a round change on lanes over links.
-use Rattle.std.proofs.Common.{◌≡◌, ◌∙◌, ℕ, zero, suc, ◌+◌, ◌-◌, ◌*◌, ◌/◌, ◌%◌, ◌^◌, ◌<◌, ◌≤◌, ◌⊎◌, inl, inr, Bool, true, false, cond, eqb, nat_lt, List, [], ◌∷◌, ◌++◌, length, get_or, set, map, take, drop, replicate, Option, Some, None, is_some, refl, sym, ap, subst, arith}
+use Rattle.std.proofs.Common.{◌≡◌, ◌∙◌, ℕ, ◌+◌, ◌-◌, ◌*◌, ◌^◌, ◌<◌, ◌≤◌, inl, inr, Bool, true, false, cond, eqb, nat_lt, List, [], ◌∷◌, length, get_or, set, Option, Some, None, is_some, refl, sym, ap, subst, arith}
 use Rattle.std.specs.Prelude.{slice_get, IfSome, IfNone}
-use Rattle.std.specs.List.{AllByRecursion, sum_by}
-use Rattle.std.proofs.lemmas.Bool.{eqb-true, eq-eqb, and_parts, and_from, lt-ltb, ltb-true, le-ltb, cases_lt, cases_Bool, cond-true, cond-false}
-use Rattle.std.proofs.lemmas.List.{append-nil, length-append, length-set, length-map, length-replicate, get_or-set_same, get_or-set_other, get_or-map, get_or-replicate, get_or_past, get_or_read, set-get_or}
-use Rattle.std.proofs.lemmas.List.Sums.{sum_by-set, sum_by-cons}
+use Rattle.std.proofs.lemmas.Bool.{eqb-true, eq-eqb, and_parts, and_from, lt-ltb, le-ltb, cases_lt, cases_Bool, cond-true, cond-false}
+use Rattle.std.proofs.lemmas.List.{append-nil, length-append, length-set, get_or-set_same, get_or-set_other, get_or_read, set-get_or}
+use Rattle.std.proofs.lemmas.List.Sums.{sum_by-set}
 use Rattle.std.proofs.lemmas.Nat.{mul-add-lt, same_from_place}
-use Rattle.std.proofs.lemmas.Option.{slice_get_within, get_or_from_slice_get}
+use Rattle.std.proofs.lemmas.Option.{slice_get_within}
 use Rattle.brace_core.specs.declared.name.Name.{Name}
 use Rattle.brace_core.specs.Schedule.{lane}
 use Rattle.brace_core.specs.Events.{is_on}
 use Rattle.brace_core.specs.Exchanges.{Follows, IsNext, IsAnswered, one_on}
-use Rattle.brace_core.specs.Lanes.{AreBelow}
-use Rattle.brace_core.proofs.LaneLemmas.{at_push, is_on_itself, names_at_most}
+use Rattle.brace_core.proofs.LaneLemmas.{at_push, names_at_most}
 use Rattle.brace_model.specs.declared.program.Ty.{Ty}
 use Rattle.brace_pieces.specs.declared.setting.Setting.{Setting}
 use Rattle.brace_pieces.specs.declared.piece.Piece.{Piece}
 use Rattle.brace_pieces.specs.Right.{IsRight}
 use Rattle.brace_pieces.specs.Steps.{schedule}
-use Rattle.brace_wire.specs.declared.fate.Fate.{Fate}
-use Rattle.brace_wire.specs.declared.kept.Kept.{Kept}
-use Rattle.brace_wire.specs.Fitting.{IsOf, layout}
-use Rattle.brace_wire.specs.Net.{Lane, opening, Reaches, Happens}
-use Rattle.brace_wire.specs.Links.{OnReceiver, OnLink, OnLinks, fresh, link_of, received, puts_on, takes_on, received_on, with_put, taken_at, after_round}
-use Rattle.brace_wire.specs.Shown.{HasBytes, HasDelivery, IsBack, Shows, ShowsLater, Becomes, GoOn, GoOnWith}
-use Rattle.brace_wire.specs.inner.Standing.{CanBeSent, CanRound, Stands, IsSound}
+use Rattle.brace_wire.specs.Net.{Lane, opening, Reaches}
+use Rattle.brace_wire.specs.Links.{OnLink, OnLinks, fresh, link_of, received, puts_on, takes_on, received_on, with_put, taken_at}
+use Rattle.brace_wire.specs.Shown.{Shows, ShowsLater, Becomes, GoOn, GoOnWith}
+use Rattle.brace_wire.specs.inner.Standing.{Stands, IsSound}
 use Rattle.brace_wire.specs.inner.Hope.{rounds_left, hope, all_hope}
 use Rattle.brace_wire.specs.inner.Keeps.{Keeps}
-use Rattle.brace_wire.proofs.NetLemmas.{Sound, sound, within}
-use Rattle.brace_wire.proofs.ShownLemmas.{get_last, all_received, reaches_on, shows_put, shows_take, taken_was_put, held_has_place, shows_round}
-use Rattle.brace_wire.proofs.HopeLemmas.{put_hope, round_nears, hope_of_some}
+use Rattle.brace_wire.proofs.NetLemmas.{sound, within}
+use Rattle.brace_wire.proofs.ShownLemmas.{all_received, reaches_on, shows_put, shows_take, taken_was_put}
+use Rattle.brace_wire.proofs.HopeLemmas.{put_hope}
 
 -- ---- one link among all
 
@@ -330,6 +325,12 @@ pub record IsTakeDone (v w : OnLinks) (types : List (List Ty)) (name : Name) (ou
   pub none : IfNone out (takes_on v name.from name.to ≡ received_on v name.from name.to)
   pub oldest : out ≡ slice_get (link_of v name.from name.to).receiver.waiting 0
   pub events : GoOn v w
+
+-- the link of a lane's next name is there
+pub place_there : (V v : OnLinks) → V ≡ v → (types : List (List Ty)) → IsSound V types → (name : Name) (n : ℕ) → IsNext (schedule v.setting) name n → name.from * V.actors + name.to < length V.links
+place_there V v is types is_sound name n next =
+    let (from, to) = next_below V types is_sound name n (subst (λ (u : OnLinks). IsNext (schedule u.setting) name n) (sym is) next) in
+    place_within V name is_sound.size from to
 
 module _ (V v : OnLinks) (is : V ≡ v) (types : List (List Ty)) (is_sound : IsSound V types) (name : Name) (r : OnLink) (read : r ≡ get_or V.links (name.from * V.actors + name.to) r) where
   -- what was read is the link

@@ -1,28 +1,24 @@
 -- What a round changes on lanes over links, and what holds of new ones.
-use Rattle.std.proofs.Common.{◌≡◌, ◌∙◌, ℕ, zero, suc, ◌+◌, ◌-◌, ◌*◌, ◌/◌, ◌%◌, ◌^◌, ◌<◌, ◌≤◌, ◌⊎◌, inl, inr, Bool, true, false, ◌||◌, cond, eqb, nat_lt, List, [], ◌∷◌, ◌++◌, length, get_or, map, take, drop, replicate, Option, Some, None, refl, sym, ap, subst, arith}
+use Rattle.std.proofs.Common.{◌≡◌, ◌∙◌, ℕ, zero, suc, ◌+◌, ◌*◌, ◌/◌, ◌%◌, ◌^◌, ◌<◌, ◌≤◌, ◌⊎◌, inl, inr, Bool, true, false, ◌||◌, cond, eqb, nat_lt, List, [], ◌∷◌, ◌++◌, length, get_or, map, take, drop, replicate, Option, Some, None, refl, sym, ap, subst, arith}
 use Rattle.std.specs.Prelude.{slice_get, not}
-use Rattle.std.specs.List.{AllByRecursion, sum_by, fold, list_any}
-use Rattle.std.proofs.lemmas.Bool.{lt-ltb, le-ltb, eqb-true, eq-eqb, or_parts, cases_lt, cases_Bool, cond-true, cond-false}
-use Rattle.std.proofs.lemmas.List.{append-nil, length-append, length-map, length-take, length-drop, length-replicate, get_or-replicate, get_or_past}
+use Rattle.std.specs.List.{sum_by, list_any}
+use Rattle.std.proofs.lemmas.Bool.{lt-ltb, le-ltb, eqb-true, eq-eqb, cases_lt, cases_Bool, cond-true, cond-false}
+use Rattle.std.proofs.lemmas.List.{length-replicate, get_or-replicate, get_or_past}
 use Rattle.std.proofs.lemmas.List.Sums.{sum_by-cons}
 use Rattle.std.proofs.lemmas.Option.{slice_get_within, slice_get_read, slice_get_past, get_or_from_slice_get}
 use Rattle.std.proofs.Math.ListN.{get_or-map}
-use Rattle.brace_core.specs.declared.name.Name.{Name}
 use Rattle.brace_core.specs.Schedule.{lane}
 use Rattle.brace_core.specs.Lanes.{AreBelow}
 use Rattle.brace_model.specs.declared.program.Ty.{Ty}
 use Rattle.brace_pieces.specs.declared.setting.Setting.{Setting}
 use Rattle.brace_pieces.specs.declared.piece.Piece.{Piece}
-use Rattle.brace_pieces.specs.Right.{IsRight}
 use Rattle.brace_pieces.specs.Steps.{schedule}
-use Rattle.brace_wire.specs.declared.frame.Frame.{Frame}
 use Rattle.brace_wire.specs.declared.fate.Fate.{Fate}
-use Rattle.brace_wire.specs.declared.fate.Fate.TheVariants.{Lose}
 use Rattle.brace_wire.specs.declared.kept.Kept.{Kept}
-use Rattle.brace_wire.specs.Fitting.{IsOf, layout}
-use Rattle.brace_wire.specs.Net.{Lane, opening, Reaches}
-use Rattle.brace_wire.specs.Links.{OnReceiver, OnLink, OnLinks, fresh, link_of, received, puts_on, takes_on, received_on, accepted, sent_at_once, after_round}
-use Rattle.brace_wire.specs.Shown.{HasBytes, HasDelivery, is_lost, IsBack, Shows, Becomes, GoOn}
+use Rattle.brace_wire.specs.Fitting.{layout}
+use Rattle.brace_wire.specs.Net.{opening, Reaches}
+use Rattle.brace_wire.specs.Links.{OnLink, OnLinks, fresh, link_of, received, puts_on, takes_on, received_on, sent_at_once, after_round}
+use Rattle.brace_wire.specs.Shown.{HasBytes, HasDelivery, is_lost, IsBack, Becomes, GoOn}
 use Rattle.brace_wire.specs.inner.Standing.{CanBeSent, CanRound, Stands, IsSound}
 use Rattle.brace_wire.specs.inner.Hope.{hope, all_hope}
 use Rattle.brace_wire.proofs.AcceptLemmas.{all_same_taken}

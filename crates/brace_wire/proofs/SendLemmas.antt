@@ -1,9 +1,10 @@
 -- What a sending hands over by its fate, and what a link's receiver has behind a round.
-use Rattle.std.proofs.Common.{◌≡◌, ◌∙◌, ℕ, zero, suc, ◌+◌, ◌%◌, ◌^◌, ◌<◌, ◌≤◌, List, [], ◌∷◌, ◌++◌, length, get_or, set, map, take, drop, Option, Some, None, refl, sym, ap, subst, append_assoc, arith}
+use Rattle.std.proofs.Common.{◌≡◌, ◌∙◌, ℕ, zero, suc, ◌+◌, ◌%◌, ◌^◌, ◌<◌, ◌≤◌, List, [], ◌∷◌, ◌++◌, length, get_or, set, map, take, drop, Option, Some, None, Result, Ok, Err, refl, sym, ap, subst, append_assoc, arith}
 use Rattle.std.specs.List.{AllByRecursion, fold}
-use Rattle.std.specs.Prelude.{slice_get}
+use Rattle.std.specs.Prelude.{slice_get, OnOk}
 use Rattle.std.proofs.lemmas.List.{get_or_read, set-get_or, take_all, append-nil}
 use Rattle.std.proofs.lemmas.List.Sums.{fold-append}
+use Rattle.std.proofs.lemmas.Result.{on_ok_weaker}
 use Rattle.brace_wire.specs.declared.frame.Frame.{Frame}
 use Rattle.brace_wire.specs.declared.fate.Fate.{Fate}
 use Rattle.brace_wire.specs.declared.fate.Fate.TheVariants.{Lose, Deliver, Twice, After}
@@ -40,11 +41,24 @@ can_count o kept is low = subst CanCount (sym is) low
 pub none_more : (out more : List Frame) → more ≡ [] → out ≡ out ++ more
 none_more out more none = sym (ap (λ (l : List Frame). out ++ l) none ∙ append-nil out)
 
-pub one_more : (out new more : List Frame) (f : Frame) → new ≡ out ++ f ∷ [] → more ≡ f ∷ [] → new ≡ out ++ more
-one_more out new more f is one = is ∙ ap (λ (l : List Frame). out ++ l) (sym one)
+same_more : (out more frames : List Frame) → more ≡ frames → out ++ frames ≡ out ++ more
+same_more out more frames is = ap (λ (l : List Frame). out ++ l) (sym is)
 
-pub two_more : (out mid new : List Frame) (f : Frame) → mid ≡ out ++ f ∷ [] → new ≡ mid ++ f ∷ [] → new ≡ out ++ f ∷ f ∷ []
-two_more out mid new f one two = two ∙ ap (λ (l : List Frame). l ++ f ∷ []) one ∙ append_assoc out (f ∷ []) (f ∷ [])
+-- the same where an answer is Ok
+module _ {X E : Type 0} (r : Result X E) where
+  pub ok_known : (P : Type 0) → P → OnOk r P
+  ok_known P p = known r
+    where
+      known : (r : Result X E) → OnOk r P
+      known (Ok x) = p
+      known (Err e) = tt
+
+  pub ok_more : (out new more frames : List Frame) → more ≡ frames → OnOk r (new ≡ out ++ frames) → OnOk r (new ≡ out ++ more)
+  ok_more out new more frames is = on_ok_weaker r (λ (e : new ≡ out ++ frames). e ∙ same_more out more frames is)
+
+  pub ok_twice : (out mid new : List Frame) (f : Frame) → mid ≡ out ++ f ∷ [] → OnOk r (new ≡ mid ++ f ∷ []) → OnOk r (new ≡ out ++ f ∷ f ∷ [])
+  ok_twice out mid new f one =
+      on_ok_weaker r (λ (two : new ≡ mid ++ f ∷ []). two ∙ ap (λ (l : List Frame). l ++ f ∷ []) one ∙ append_assoc out (f ∷ []) (f ∷ []))
 
 -- ---- places
 

@@ -1,5 +1,5 @@
 -- A link goes by events of the lane that it shows: a put, a take and a round.
-use Rattle.std.proofs.Common.{◌≡◌, ◌∙◌, ℕ, zero, suc, ◌+◌, ◌-◌, ◌<◌, ◌≤◌, Bool, true, false, eqb, List, [], ◌∷◌, ◌++◌, length, get_or, take, drop, Option, Some, None, refl, sym, ap, subst, arith}
+use Rattle.std.proofs.Common.{◌≡◌, ◌∙◌, ℕ, zero, suc, ◌+◌, ◌<◌, ◌≤◌, Bool, true, false, eqb, List, [], ◌∷◌, ◌++◌, length, take, drop, Option, Some, None, refl, sym, ap, subst, arith}
 use Rattle.std.specs.Prelude.{slice_get, if◌then◌else◌}
 use Rattle.std.specs.List.{AllByRecursion, fold}
 use Rattle.std.proofs.lemmas.List.{append-nil, length-append, length-drop, drop-append-le, drop_more}
@@ -9,13 +9,13 @@ use Rattle.brace_wire.specs.declared.frame.Frame.{Frame}
 use Rattle.brace_wire.specs.declared.fate.Fate.{Fate}
 use Rattle.brace_wire.specs.declared.fate.Fate.TheVariants.{Lose, Deliver, Twice, After}
 use Rattle.brace_wire.specs.declared.kept.Kept.{Kept}
-use Rattle.brace_wire.specs.Net.{Carried, Lane, opening, Event, IsAllowed, carried, place_back, after_hand, handed, after, Reaches, Happens}
+use Rattle.brace_wire.specs.Net.{Carried, Lane, opening, Event, IsAllowed, carried, place_back, after_hand, after, Reaches, Happens}
 use Rattle.brace_wire.specs.Links.{OnReceiver, OnLink, received, with_put, accepted, fate_of, at_once, late_of, sent_at_once, sent_late, sent_again, after_round}
 use Rattle.brace_wire.specs.Shown.{carried_by, WasSent, IsBack, Shows, ShowsLater}
 use Rattle.brace_wire.specs.inner.Standing.{frames_of, held, HasPlace}
 use Rattle.brace_wire.proofs.AcceptLemmas.{accepted_by}
 use Rattle.brace_wire.proofs.StreamLemmas.{all_append}
-use Rattle.brace_wire.proofs.NetLemmas.{all_at, IsPut, Sound, sound, sound_later, get_more, there}
+use Rattle.brace_wire.proofs.NetLemmas.{all_at, IsPut, Sound, sound, get_more, there}
 
 -- ---- lists
 

@@ -67,9 +67,17 @@ pub on_ok : {X E : Type 0} (r : Result X E) (P Q : Type 0) → OnOk r P → (P �
 on_ok (Ok x) P Q h f = f h
 on_ok (Err e) P Q h f = tt
 
-pub encoded : {X E : Type 0} (types : List (List Ty)) (f : Frame) (r : Result X E) → OnOk r (BodyFits AgentFits f) → OnOk r (length (body f) < 2 ^ 32) → OnOk r (IsOf types f.piece → IsFrame types f)
-encoded types f (Ok x) fits short = frame_is types f fits short
-encoded types f (Err e) fits short = tt
+-- a frame that fits is one of whatever classes its agents are of
+abbrev pub IsOfItsOwn : Frame → Type 0
+IsOfItsOwn f = (types : List (List Ty)) → IsOf types f.piece → IsFrame types f
+
+pub encoded : {X E : Type 0} (f : Frame) (r : Result X E) → OnOk r (BodyFits AgentFits f) → OnOk r (length (body f) < 2 ^ 32) → OnOk r (IsOfItsOwn f)
+encoded f (Ok x) fits short = λ types. frame_is types f fits short
+encoded f (Err e) fits short = tt
+
+pub encoded_for : {X E : Type 0} (types : List (List Ty)) (f : Frame) (r : Result X E) → OnOk r (IsOfItsOwn f) → OnOk r (IsOf types f.piece → IsFrame types f)
+encoded_for types f (Ok x) fits = fits types
+encoded_for types f (Err e) fits = tt
 
 -- ---- bytes behind one another
 

@@ -1,6 +1,6 @@
 -- What stands at both ends of a link is what a lane over it comes to: each call is a list of events
 -- of its lanes.
-use Rattle.std.specs.Prelude.{◌≡◌, ℕ, ◌+◌, ◌<◌, ◌≤◌, cond, List, [], ◌∷◌, ◌++◌, length, drop, Bool, true, false, Option, Some, None, slice_get, slice_index_or}
+use Rattle.std.specs.Prelude.{◌≡◌, ℕ, ◌+◌, ◌<◌, cond, List, [], ◌∷◌, ◌++◌, length, drop, Bool, true, false, Option, Some, None, slice_get, slice_index_or}
 use Rattle.std.specs.List.{AllByRecursion}
 use Rattle.brace_core.specs.declared.name.Name.{Name}
 use Rattle.brace_core.specs.Events.{is_on}
@@ -9,7 +9,7 @@ use Rattle.brace_pieces.specs.declared.piece.Piece.{Piece}
 use Rattle.brace_pieces.specs.Right.{IsRight}
 use Rattle.brace_wire.specs.declared.frame.Frame.{Frame}
 use Rattle.brace_wire.specs.declared.fate.Fate.{Fate}
-use Rattle.brace_wire.specs.declared.fate.Fate.TheVariants.{Lose, Deliver, Twice, After}
+use Rattle.brace_wire.specs.declared.fate.Fate.TheVariants.{Lose}
 use Rattle.brace_wire.specs.declared.kept.Kept.{Kept}
 use Rattle.brace_wire.specs.Fitting.{IsOf, layout}
 use Rattle.brace_wire.specs.Net.{Carried, Lane, Happens, Reaches}
@@ -17,7 +17,8 @@ use Rattle.brace_wire.specs.Links.{OnLink, OnLinks, link_of}
 
 -- every piece that is right for a name is of the program's classes
 abbrev pub HasBytes : Setting → Type 0
-HasBytes s = (name : Name) (piece : Piece) → IsRight s name piece → IsOf (layout s.job.program) piece
+HasBytes s =
+    (name : Name) (piece : Piece) → IsRight s name piece → IsOf (layout s.job.program) piece
 
 -- a frame is lost
 abbrev pub is_lost : Fate → Bool

@@ -119,8 +119,8 @@ impl Link {
     }
 }
 
-/// Sends a piece that is kept, if there is one: appends the frames that its fate hands over at once,
-/// and those that it hands over late.
+/// Sends a piece that is kept, if there is one: appends the frames that its fate hands over at
+/// once, and those that it hands over late.
 fn send(
     kept: &Option<Kept>,
     fates: &[Fate],

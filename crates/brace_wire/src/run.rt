@@ -49,13 +49,13 @@ fn first_that_can<A: Actor<Piece>>(actors: &[A], lanes: &WireLanes, drawn: u32) 
     None
 }
 
-/// Runs actors over links until all are Done. For each event a number is drawn from `order`, and the
-/// first actor from there onward, cyclically, whose next turn can be made makes it; where none can,
-/// a round is made. A call that finds no memory is given up.
+/// Runs actors over links until all are Done. For each event a number is drawn from `order`, and
+/// the first actor from there onward, cyclically, whose next turn can be made makes it; where none
+/// can, a round is made. A call that finds no memory is given up.
 ///
 /// The actors are all those of the schedule by rising number, each at its first turn, and of one
-/// setting with the lanes. These were made for as many actors, nothing was put on them, and no round
-/// was made.
+/// setting with the lanes. These were made for as many actors, nothing was put on them, and no
+/// round was made.
 pub fn run_over_links<A: Actor<Piece>>(
     actors: &mut [A],
     lanes: &mut WireLanes,

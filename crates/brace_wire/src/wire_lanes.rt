@@ -199,6 +199,7 @@ fn round_all(
 
 impl Exchange<Piece> for WireLanes {
     ghost use Rattle.brace_wire.specs.Links.{puts_on, takes_on, received_on};
+    ghost use Rattle.std.proofs.Common.{arith, rules};
     ghost use Rattle.brace_wire.specs.inner.Keeps.{Keeps};
 
     ghost setting = { λ lanes. lanes.setting };
@@ -246,5 +247,5 @@ impl Exchange<Piece> for WireLanes {
         self.links[at].take()
     }
 
-    ghost keeps_itself = { Prim.search rules };
+    ghost keeps_itself = { Prim.search (arith, rules) };
 }

@@ -1,4 +1,4 @@
-use Rattle.std.proofs.Common.{◌≡◌, ◌∙◌, Err, sym, ap, rules, arith}
+use Rattle.std.proofs.Common.{◌≡◌, ◌∙◌, Err, ap, rules, arith}
 use Rattle.brace_wire.specs.declared.fault.WireFault.TheVariants as fault
 use Rattle.brace_wire.specs.Streams.{Waiting}
 use Rattle.brace_wire.proofs.FeedLemmas.{fed_none, fed_more, never_broken, fed_all, take_on}

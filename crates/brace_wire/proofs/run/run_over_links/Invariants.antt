@@ -6,11 +6,11 @@ use Rattle.brace_wire.specs.inner.Hope.{all_hope}
 use Rattle.brace_wire.proofs.RunLemmas.{IsRunning}
 use Rattle.brace_wire.proofs.run.run_over_links.Given as goal
 
-abbrev pub invariant-loop : goal.invariant-loop
-invariant-loop g l =
+abbrev pub invariant-loop-number : goal.invariant-loop-number
+invariant-loop-number g l =
     IsRunning g.A.Actor.setting g.A.Actor.number g.A.Actor.past g.A.Actor.opening l.initial.lanes.setting l.initial.lanes.fates l.initial.actors l.actors l.lanes
 
 -- how many turns are left, and how many rounds may be needed
-abbrev pub decreases-loop : goal.decreases-loop
-decreases-loop g l =
+abbrev pub decreases-loop-number : goal.decreases-loop-number
+decreases-loop-number g l =
     sum_by (turns_left g.A.Actor.setting g.A.Actor.number g.A.Actor.past schedule) l.actors * (length l.initial.lanes.fates + 2) + all_hope l.lanes

@@ -1,4 +1,4 @@
-use Rattle.std.proofs.Common.{◌≡◌, ◌×◌, ◌≤◌, ◌++◌, length, map, take, drop}
+use Rattle.std.proofs.Common.{◌≡◌, ◌++◌, map, take, drop}
 use Rattle.brace_wire.specs.Links.{after_round}
 use Rattle.brace_wire.proofs.wire_lanes.round_all.Given as goal
 

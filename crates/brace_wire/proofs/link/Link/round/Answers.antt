@@ -1,10 +1,10 @@
-use Rattle.std.proofs.Common.{◌≡◌, ◌∙◌, ◌++◌, List, ap, subst, sym, refl, arith}
+use Rattle.std.proofs.Common.{◌∙◌, ◌++◌, List, ap, subst, sym, arith}
 use Rattle.std.specs.List.{fold}
 use Rattle.brace_wire.specs.declared.frame.Frame.{Frame}
 use Rattle.brace_wire.specs.Links.{OnLink, OnReceiver, accepted, after_round, sent_at_once, sent_late}
 use Rattle.brace_wire.specs.inner.Standing.{CanBeSent, CanRound, HasPlace}
 use Rattle.brace_wire.proofs.AcceptLemmas.{all_same_taken}
-use Rattle.brace_wire.proofs.SendLemmas.{once_has_place, late_has_place, after_is}
+use Rattle.brace_wire.proofs.SendLemmas.{once_has_place, late_has_place, link_with, after_is}
 use Rattle.brace_wire.proofs.link.Link.round.Goals as goal
 
 pub send-requires-2-clause-can : goal.send-requires-2-clause-can
@@ -15,7 +15,7 @@ send-requires-2-clause-can c =
 pub accept_all-requires-clause-place : goal.accept_all-requires-clause-place
 accept_all-requires-clause-place c =
     let can = subst (λ (l : OnLink). CanRound c.args.carrier.now.decoder.types l) (sym c.self.view_is) c.requires.can in
-    once_has_place c.args.fates.now _ can.has_place c.send-2.new.at_once.items
+    once_has_place c.args.fates.now (link_with c.self.inside.put c.self.inside.older c.self.inside.newer c.self.inside.late.items c.self.inside.receiver) can.has_place c.send-2.new.at_once.items
     (c.in_ok-send-2.ensures.at_once
     ∙ ap (λ (l : List Frame). l ++ sent_at_once c.args.fates.now c.self.inside.newer)
     (c.in_ok-send.ensures.at_once ∙ ap (λ (l : List Frame). l ++ sent_at_once c.args.fates.now c.self.inside.older) c.new-at_once.ensures.items))
@@ -35,7 +35,7 @@ accept_all-requires-2-clause-place c =
     let can = subst (λ (l : OnLink). CanRound c.args.carrier.now.decoder.types l) (sym c.self.view_is) c.requires.can in
     subst (λ (r : OnReceiver). HasPlace r.taken c.replace.result.items) (sym c.accept_all.ensures)
     (subst (HasPlace (fold accepted c.self.inside.receiver c.send-2.new.at_once.items).taken) (sym (ap (λ v. v.items) c.replace.ensures.value))
-    (late_has_place c.args.fates.now _ can.has_place c.send-2.new.at_once.items))
+    (late_has_place c.args.fates.now (link_with c.self.inside.put c.self.inside.older c.self.inside.newer c.self.inside.late.items c.self.inside.receiver) can.has_place c.send-2.new.at_once.items))
 
 pub returns-clause-made : goal.returns-clause-made
 returns-clause-made c =

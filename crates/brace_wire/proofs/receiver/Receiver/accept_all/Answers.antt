@@ -1,7 +1,6 @@
 use Rattle.std.proofs.Common.{◌∙◌, sym}
-use Rattle.std.specs.Vec.Iter.{into_iter_items}
 use Rattle.brace_num.proofs.Lists.{none_long}
-use Rattle.brace_wire.proofs.AcceptLemmas.{next_place, one_left, none_left}
+use Rattle.brace_wire.proofs.AcceptLemmas.{next_place, none_left}
 use Rattle.brace_wire.proofs.receiver.Receiver.accept_all.Goals as goal
 
 pub accept-requires-clause-short : goal.accept-requires-clause-short

@@ -1,5 +1,3 @@
-use Rattle.std.proofs.Common.{ℕ, ◌≤◌, subst, arith, ap}
-use Rattle.brace_wire.specs.Links.{OnLinks, puts_on, received_on}
 use Rattle.brace_wire.proofs.LinkLemmas.{all_low_received}
 use Rattle.brace_wire.proofs.wire_lanes.WireLanes.actors.Goals as goal
 

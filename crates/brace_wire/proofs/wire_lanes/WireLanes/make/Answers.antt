@@ -1,4 +1,4 @@
-use Rattle.std.proofs.Common.{refl, arith}
+use Rattle.std.proofs.Common.{arith}
 use Rattle.brace_wire.proofs.RoundLemmas.{sound_made}
 use Rattle.brace_wire.proofs.wire_lanes.WireLanes.make.Goals as goal
 
