@@ -1,5 +1,5 @@
 -- Every right piece of a lawful run is of the program's classes.
-use Rattle.std.proofs.Common.{◌≡◌, ◌∙◌, sym, ap, subst, ℕ, ◌+◌, ◌≤◌, List, [], ◌∷◌, map, filter, Bool, true, Option, Some, None}
+use Rattle.std.proofs.Common.{◌≡◌, ◌∙◌, refl, sym, ap, subst, ℕ, ◌+◌, ◌-◌, ◌≤◌, List, [], ◌∷◌, map, filter, Bool, true, Option, Some, None}
 use Rattle.std.specs.Prelude.{slice_get}
 use Rattle.std.specs.List.{All, AllByRecursion, list_all, flat_map}
 use Rattle.std.specs.Option.{option_map}
@@ -8,7 +8,6 @@ use Rattle.std.proofs.lemmas.Option.{slice_get-map, slice_get_within, get_or_fro
 use Rattle.std.proofs.lemmas.List.Concat.{flat_map-cons}
 use Rattle.std.proofs.lemmas.List.Sums.{AllPass-from_list_all, list_all-from_AllPass}
 use Rattle.std.proofs.lemmas.List.Elements.{All-filter, All-map}
-use Rattle.brace_core.specs.declared.name.Name.{Name}
 use Rattle.brace_cuts.specs.declared.space.Cuts.{Cuts}
 use Rattle.brace_model.specs.declared.program.Ty.{Ty}
 use Rattle.brace_model.specs.declared.program.Class.{Class}
@@ -23,16 +22,16 @@ use Rattle.brace_pieces.specs.declared.setting.Step.{Step}
 use Rattle.brace_pieces.specs.declared.piece.Piece.{Piece}
 use Rattle.brace_pieces.specs.declared.piece.Piece.TheVariants as piece
 use Rattle.brace_pieces.specs.declared.piece.Shown.{Shown}
-use Rattle.brace_pieces.specs.Settings.{range, cuts_of, cuts_shown, shown_ticks}
+use Rattle.brace_pieces.specs.Settings.{cuts_of, cuts_shown, shown_ticks}
 use Rattle.brace_pieces.specs.Steps.{steps}
-use Rattle.brace_pieces.specs.Continued.{descent, continued, on}
-use Rattle.brace_pieces.specs.Owned.{owned, held}
-use Rattle.brace_pieces.specs.Right.{IsRight, IsRightIn, IsRightAt, border, handed, moved, comes_from, shown}
+use Rattle.brace_pieces.specs.Continued.{descent, on}
+use Rattle.brace_pieces.specs.Owned.{owned}
+use Rattle.brace_pieces.specs.Right.{IsRight, IsRightIn, IsRightAt, border, handed, moved, shown}
 use Rattle.brace_pieces.proofs.OnLemmas.{on_next}
 use Rattle.brace_pieces.proofs.OrderLemmas.{steps_tick}
 use Rattle.brace_part.proofs.LawfulOn.{some_pass}
 use Rattle.brace_crew.proofs.RunMembers.{of_all_map}
-use Rattle.brace_wire.specs.Fitting.{layout, are_of, is_of, IsOf, agents_of}
+use Rattle.brace_wire.specs.Fitting.{layout, are_of, is_of, IsOf}
 use Rattle.brace_wire.specs.Shown.{HasBytes}
 use Rattle.brace_wire.proofs.StreamLemmas.{all_append}
 
@@ -91,7 +90,8 @@ module _ (s : Setting) (lawful : (t : ℕ) → LawfulAgents s.job.program (on s 
 
     hand_of : (at : Stage) (agents : List Agent) → IsRightAt s number at tick from to (piece.Hand agents) → AreOf agents
     hand_of stage.Hand agents right =
-        subst AreOf (sym right) (all_of (handed s tick from to (on s tick).agents) (owned_of _ to _ (owned_of _ from (on s tick).agents (on_of tick))))
+        subst AreOf (sym right) (all_of (handed s tick from to (on s tick).agents)
+        (owned_of (cuts_of s tick) to _ (owned_of (cuts_of s (tick - 1)) from (on s tick).agents (on_of tick))))
     hand_of stage.Border agents right = absurd right
     hand_of stage.Effects agents right = absurd right
     hand_of stage.Census agents right = absurd right

@@ -46,7 +46,7 @@ pub fn crew_run_linked_by<P: Publisher>(
 ) -> (P, Result<Counts, CrewFault>)
     requires lawful { LawfulSetting setting.now }
     requires fits { P.fits publisher setting.now.job.program }
-    requires link { IfSome link.entry (λ letters. is_link letters.now ≡ true) }
+    requires link { IfSome link (λ letters. is_link letters.now ≡ true) }
     ensures came { CameTo P.Publisher setting.now publisher result.0 result.1 }
 {
     let Some(letters) = link else {

@@ -36,7 +36,7 @@ pub fn crew_run_on<R: Threads + Wait + Sync, G: Gate + Sync, P: Publisher + Send
     requires few { team.now.workers ≤ 16 }
     requires lawful { LawfulSetting setting.now }
     requires fits { P.fits publisher setting.now.job.program }
-    requires link { IfSome link.entry (λ letters. is_link letters.now ≡ true) }
+    requires link { IfSome link (λ letters. is_link letters.now ≡ true) }
     ensures came { CameTo P.Publisher setting.now publisher result.0 result.1 }
 {
     if link.is_some() {
