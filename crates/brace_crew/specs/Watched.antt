@@ -1,5 +1,5 @@
--- A publisher of rows, checkpoints and figures: what it has made, what one more call leaves, and what
--- a call leaves that fails.
+-- A publisher of rows, checkpoints and figures: what it has made, what one more call leaves, and
+-- what a call leaves that fails.
 use Rattle.std.specs.Prelude.{◌≡◌, ℕ, List, [], flat_map, Option, Some, None, option_map, Bool, if◌then◌else◌}
 use Rattle.brace_model.specs.Published.{is_published}
 use Rattle.brace_pieces.specs.declared.setting.Setting.{Setting}
@@ -13,7 +13,8 @@ use Rattle.brace_crew.specs.Filed.{Filed, held_after, stage_after, after_epoch, 
 use Rattle.brace_crew.specs.Filed as files
 use Rattle.brace_crew.specs.Shows.{Named, file_name, saved_world}
 
--- what it has written and saved, the figures that it watches, and the name under which it saves them
+-- what it has written and saved, the figures that it watches, and the name under which it saves
+-- them
 pub record Watching : Type 0 where
   pub filed : Filed
   pub watches : List Watch

@@ -2,7 +2,9 @@
 use Rattle.std.proofs.Common.{◌≡◌, ◌∙◌, refl, sym, ap, subst, ℕ, zero, suc, ℤ, List, [], ◌∷◌, ◌++◌, map, length, Some, slice_get}
 use Rattle.std.specs.Prelude.{option_copied}
 use Rattle.std.proofs.lemmas.Option.{none-some, same_Some, slice_get-map}
+use Rattle.brace_model.specs.declared.program.Value.{Value}
 use Rattle.brace_model.specs.declared.world.Agent.{Agent}
+use Rattle.brace_model.specs.World.{number, value_at}
 use Rattle.brace_fold.specs.inner.Crowds.{IsOfClass}
 use Rattle.brace_fold.proofs.Drawings.{mapped}
 use denote.Ref.{Bor}
@@ -34,3 +36,11 @@ class-of (a ∷ agents) (suc place) class number e same = class-of agents place 
 pub by-rows : {B : Type 0} (f : Agent → B) (refs : List (Bor Agent)) (agents : List Agent) → map (λ r. r.now) refs ≡ agents
     → map (λ r. f r.now) refs ≡ map f agents
 by-rows f refs agents are = sym (mapped (λ (r : Bor Agent). r.now) f refs) ∙ ap (map f) are
+
+-- a state of agents, read from what they have
+pub by-values : (i : ℕ) (values : List (Bor (List Value))) (agents : List Agent) → map (λ v. v.now) values ≡ map (λ a. a.states) agents
+    → map (λ v. number (value_at v.now i)) values ≡ map (λ a. number (value_at a.states i)) agents
+by-values i values agents are =
+    sym (mapped (λ (v : Bor (List Value)). v.now) (λ l. number (value_at l i)) values)
+    ∙ ap (map (λ l. number (value_at l i))) are
+    ∙ mapped (λ (a : Agent). a.states) (λ l. number (value_at l i)) agents

@@ -14,6 +14,7 @@ pub mod CellNumbers
 pub mod CellOrder
 pub mod Sortings
 pub mod Counting
+pub mod Risings
 pub mod Taking
 pub mod Readings
 pub mod Askings

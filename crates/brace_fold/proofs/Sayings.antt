@@ -1,8 +1,8 @@
 -- What lanes say, joined run by run of lanes that say to one agent.
-use Rattle.std.proofs.Common.{◌≡◌, ◌∙◌, refl, sym, ap, ap₂, subst, ℕ, suc, ◌+◌, ◌-◌, ◌<◌, ◌≤◌, ℤ, pos, List, [], ◌∷◌, ◌++◌, map, length, take, drop, get_or, set, true, false, Some, None, arith, slice_get, Bool, Option, ⊎_elim}
+use Rattle.std.proofs.Common.{◌≡◌, ◌∙◌, refl, sym, ap, ap₂, subst, ℕ, suc, ◌+◌, ◌<◌, ◌≤◌, ℤ, pos, List, [], ◌∷◌, ◌++◌, map, length, take, get_or, set, true, false, Some, None, arith, slice_get, Bool, Option, ⊎_elim}
 use Rattle.std.specs.Prelude.{min, unwrap_or}
 use Rattle.std.proofs.lemmas.Bool.{cases_lt}
-use Rattle.std.proofs.lemmas.List.{get_or_default, take_all, length-map, length-take, length-drop, get_or-take, get_or-drop, map-append, take_more}
+use Rattle.std.proofs.lemmas.List.{get_or_default, take_all, length-map, length-take, map-append, take_more}
 use Rattle.std.proofs.lemmas.List.Sums.{fold-append}
 use Rattle.std.proofs.lemmas.Option.{same_Some}
 use Rattle.brace_model.specs.declared.program.Comb.{Comb}
@@ -31,7 +31,7 @@ use Rattle.brace_fold.proofs.Alikes.{hears-more}
 use Rattle.brace_fold.proofs.Drawings.{mapped}
 use Rattle.brace_fold.proofs.Summings.{hears-sum}
 use Rattle.brace_fold.proofs.Taking.{apart_moved}
-use Rattle.brace_fold.proofs.Walks.{front}
+use Rattle.brace_fold.proofs.Walks.{between-at, between-long, front}
 
 -- the total of one word more
 pub total-more : (comb : Comb) (type : Ty) (words : List ℤ) (i : ℕ) (total next : ℤ) (v : Value) → i < length words
@@ -65,16 +65,6 @@ hears-words scene ear row count words number before after a scene_is hears (b, h
     (hears-sum program (rows scene) before after row ear.effect count number a hears.effect values apart found has
     (is ∙ ap (λ (c : Comb). total_of c values) hears.comb) (many ∙ sym (length-map words (typed ear.ty))) same_rows low inside
     (sums ∙ ap (λ (c : Comb). set before.sums.items (sum_place before.rows ear.effect row) (summed c (sum_at before ear.effect row) number count)) hears.comb))
-
--- the part of a list from a place to another
-between-long : {A : Type 0} (from next : ℕ) (xs : List A) → next ≤ length xs → length (between from next xs) ≡ next - from
-between-long from next xs le =
-    let behind = length-drop from xs in
-    let so = length-take (next - from) (drop from xs) in
-    so ∙ omega (arith, behind, le)
-
-between-at : {A : Type 0} (from next : ℕ) (xs : List A) (k : ℕ) (d : A) → from + k < next → get_or (between from next xs) k d ≡ get_or xs (from + k) d
-between-at from next xs k d low = get_or-take (next - from) (drop from xs) k d (omega (arith, low)) ∙ get_or-drop from xs k d
 
 -- the agent that a name stands for stands in its row
 pub agent-there : (scene : Scene) (depth : Depth) (who : Who) (lane : Lane) (s : Scope) → IsLane scene depth lane s → is_there depth who ≡ true

@@ -2,9 +2,10 @@
 use Rattle.std.proofs.Common.{◌≡◌, ◌∙◌, ℕ, suc, ◌<◌, ℤ, pos, ◌≤ℤ◌, Bool, true, false, cond, not, ◌&&◌, List, [], ◌∷◌, length, map, filter, get_or, slice_get, Option, Some, None, refl, sym, ap, ap₂, arith, ⊎_elim}
 use Rattle.std.specs.Prelude.{◌==◌, nat_eq, is_some, option_map, unwrap_or}
 use Rattle.std.specs.List.{AllPairs, list_all}
-use Rattle.std.specs.List.Sorted.{IsNonDecreasing, IsPermutation}
+use Rattle.std.specs.List.Sorted.{IsPermutation}
 use Rattle.std.proofs.lemmas.Bool.{cases_order, eq-eqb, ne_eqb}
 use Rattle.std.proofs.lemmas.Int.{ints}
+use Rattle.std.proofs.lemmas.List.Sorted.{IsPermutation-refl}
 use Rattle.std.proofs.lemmas.Option.{get_or_from_slice_get, slice_get-get_or, slice_get_within}
 use Rattle.brace_num.proofs.Lists.{filter_twice}
 use Rattle.brace_num.proofs.Numbers.{eq_swap}
@@ -26,6 +27,7 @@ use Rattle.brace_fold.specs.declared.cells.Spot.{Spot}
 use Rattle.brace_fold.specs.declared.seeing.Eye.{Eye}
 use Rattle.brace_fold.specs.inner.Sights.{AreCells, IsAround, IsEye, cell_number, cut_in, found_around, is_found, meets_cut, spot_of}
 use Rattle.brace_fold.proofs.Counting.{all_found}
+use Rattle.brace_fold.proofs.Risings.{around_rises}
 
 -- tests in another order
 regroup : (a x y n m : Bool) → (((a && x) && y) && (n && m)) ≡ ((a && (n && (x && y))) && m)
@@ -196,14 +198,14 @@ module _ (program : Program) (scope : Scope) (class place : ℕ) (bounds : List 
         ap (λ (z : Point). cell_number are.side z.x z.y) (place_is program scope.this looks.own looks.has)
         ∙ sym (ap₂ (cell_number are.side) looks.x looks.y)
 
-    -- places in order of what is found around the eye are those of all that the loop takes
-    pub near_is : (runs : Runs) (near : List ℕ)
-        → IsAround cells (cell_number are.side eye.x eye.y) runs
-        → IsPermutation (found_around eye (map (cut_in scope) bounds) cells.spots.items runs) near
-        → IsNonDecreasing near
-        → map (slice_get agents) near
+    -- what is found around the eye is all that the loop takes
+    pub near_is : (runs : Runs) → IsAround cells (cell_number are.side eye.x eye.y) runs
+        → map (slice_get agents)
+        (found_around eye (map (cut_in scope) bounds) cells.spots.items runs)
         ≡ map (λ b. Some b) (near_by program agents scope class bounds)
-    near_is runs near around moved up =
+    near_is runs around =
+        let cuts = map (cut_in scope) bounds in
+        let near = found_around eye cuts cells.spots.items runs in
         let wide : pos eye.range ≤ℤ are.side =
         omega (
           arith,
@@ -214,8 +216,9 @@ module _ (program : Program) (scope : Scope) (class place : ℕ) (bounds : List 
           are.wide,
         ) in
         ap (map (slice_get agents))
-        (all_found program agents cells are eye (map (cut_in scope) bounds) wide runs around
-        near moved up)
+        (all_found program agents cells are eye cuts wide runs around near
+        (IsPermutation-refl near)
+        (around_rises program agents cells are eye cuts (cell_number are.side eye.x eye.y) runs around))
         ∙ picks agents agents cells.spots.items (is_found eye (map (cut_in scope) bounds)) is_taken
         are.theirs.long agent_there finds_there
         ∙ ap (map (λ b. Some b))

@@ -4,7 +4,7 @@ ghost use Rattle.brace_fold.specs.Asked.{agents_at};
 ghost use Rattle.brace_fold.specs.inner.Sights.{no_agent};
 
 use brace_code::Redo;
-use brace_model::{Agent, Program, number, value_at};
+use brace_model::{Agent, Program, Value, number, value_at};
 use brace_num::List;
 use std::alloc::Global;
 
@@ -44,27 +44,39 @@ pub fn each<'a>(alloc: Global, agents: &'a [Agent]) -> Result<Vec<&'a Agent>, Re
     Ok(rows)
 }
 
-/// A state of each agent.
-fn state_column(alloc: Global, rows: &[&Agent], place: u32) -> Result<List<i64>, Redo>
-    ensures { IfOk result (λ words.
-        words ≡ map (λ r. number (value_at r.now.states place)) rows.now) }
+/// The states of each agent.
+pub fn states_of<'a>(alloc: Global, rows: &[&'a Agent]) -> Result<Vec<&'a [Value]>, Redo>
+    ensures { IfOk result (λ states. map (λ s. s.now) states.items
+        ≡ map (λ r. r.now.states) rows.now) }
 {
-    let mut words = Vec::with_capacity(alloc, rows.len())?;
+    let mut states = Vec::with_capacity(alloc, rows.len())?;
     for agent in rows {
-        words.push(number(value_at(agent.states.as_slice(), place)))?;
+        states.push(agent.states.as_slice())?;
+    }
+    Ok(states)
+}
+
+/// A state of each agent.
+fn state_column(alloc: Global, states: &[&[Value]], place: u32) -> Result<List<i64>, Redo>
+    ensures { IfOk result (λ words.
+        words ≡ map (λ s. number (value_at s.now place)) states.now) }
+{
+    let mut words = Vec::with_capacity(alloc, states.len())?;
+    for values in states {
+        words.push(number(value_at(values, place)))?;
     }
     Ok(List::from_vec(words))
 }
 
 /// The first states of each agent, so many.
-pub fn state_columns(alloc: Global, rows: &[&Agent], count: u32) -> Result<Vec<List<i64>>, Redo>
+pub fn state_columns(alloc: Global, states: &[&[Value]], count: u32) -> Result<Vec<List<i64>>, Redo>
     ensures { IfOk result (λ columns. (i : ℕ) (column : List ℤ)
         → slice_get columns.items i ≡ Some column
-        → column ≡ map (λ r. number (value_at r.now.states i)) rows.now) }
+        → column ≡ map (λ s. number (value_at s.now i)) states.now) }
 {
     let mut columns = Vec::with_capacity(alloc, count as usize)?;
     for place in 0..count {
-        let column = state_column(alloc, rows, place)?;
+        let column = state_column(alloc, states, place)?;
         columns.push(column)?;
     }
     Ok(columns)

@@ -12,7 +12,7 @@ ghost use Rattle.brace_fold.specs.inner.Crowds.{IsScene};
 
 use crate::askers::{Asker, askers, of_class, rows_by_place, sort_by_class};
 use crate::cells::Cells;
-use crate::columns::{by_row, class_column, most_states, state_columns, views};
+use crate::columns::{by_row, class_column, most_states, state_columns, states_of, views};
 use crate::crowd::opening;
 use crate::drawn::{all_drawn, lent};
 use crate::joining::{join_all, most_effects};
@@ -102,7 +102,8 @@ pub fn fold(
     let side = greatest_visible(program).max(UNIT);
     let cells = Cells::of(alloc, program, agents, side)?;
     let rows = by_row(alloc, agents, &cells.order)?;
-    let columns = state_columns(alloc, &rows, most_states(program))?;
+    let values = states_of(alloc, &rows)?;
+    let columns = state_columns(alloc, &values, most_states(program))?;
     let states = views(alloc, &columns)?;
     let classes = class_column(alloc, &rows)?;
     let drawn = all_drawn(alloc, program, seed, tick, &rows)?;

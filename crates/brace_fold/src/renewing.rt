@@ -12,7 +12,7 @@ ghost use Rattle.brace_fold.specs.Becoming.{becomes_by};
 ghost use Rattle.brace_fold.specs.inner.Rulings.{AreLanes, Leaves};
 ghost use Rattle.brace_fold.specs.inner.Renewals.{HasReach, Renews, left_by, living_in};
 
-use crate::columns::{each, state_columns, views};
+use crate::columns::{each, state_columns, states_of, views};
 use crate::drawn::{drawn_for, lent};
 use crate::leaving::{children, keep_living, lanes_set};
 use crate::outcome::{Outcome, run_all, run_gifts};
@@ -122,7 +122,8 @@ fn batch_of<'a>(
     };
     let count = as_many(ruled.class.states.as_slice().len());
     let agent_rows = each(alloc, agents)?;
-    let columns = state_columns(alloc, &agent_rows, count)?;
+    let values = states_of(alloc, &agent_rows)?;
+    let columns = state_columns(alloc, &values, count)?;
     let states = views(alloc, &columns)?;
     let count = as_many(ruled.class.effects.as_slice().len());
     let sums = total_columns(alloc, rows, count)?;

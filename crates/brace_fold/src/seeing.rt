@@ -1,6 +1,5 @@
 ghost use Rattle.std.specs.Prelude.{◌≡◌, ◌++◌, OnOk};
 ghost use Rattle.std.specs.List.{list_all};
-ghost use Rattle.std.specs.List.Sorted.{IsNonDecreasing, IsPermutation};
 ghost use Rattle.brace_plan.specs.Acts.{stands};
 ghost use Rattle.brace_fold.specs.inner.Sights.{found_around, found_in, is_found, is_seen, meets_cut, spots_along};
 
@@ -108,7 +107,7 @@ fn look_along(
     Ok(())
 }
 
-/// Replaces `near` by the places, rising, of the agents in runs that are found.
+/// Replaces `near` by the places of the agents in runs that are found, run by run.
 pub fn look_around(
     cells: &Cells,
     runs: &Runs,
@@ -116,14 +115,12 @@ pub fn look_around(
     cuts: &[Cut],
     near: &mut Vec<u32>,
 ) -> Result<(), Redo>
-    ensures found { OnOk result (IsPermutation
-        (found_around eye.now cuts.now cells.now.spots.items runs.now) near.new.items) }
-    ensures rising { OnOk result (IsNonDecreasing near.new.items) }
+    ensures { OnOk result (near.new.items
+        ≡ found_around eye.now cuts.now cells.now.spots.items runs.now) }
 {
     near.clear();
     look_along(cells, &runs.west, eye, cuts, near)?;
     look_along(cells, &runs.middle, eye, cuts, near)?;
     look_along(cells, &runs.east, eye, cuts, near)?;
-    near.sort_unstable();
     Ok(())
 }

@@ -33,9 +33,9 @@ fn unread<E: Sink>(err: &mut E, error: &io::Error) -> u8 {
     }
 }
 
-/// Takes a large block of memory and gives it back, if there is one. glibc then keeps up to twice as
-/// much that is free, which it would else give back to the host tick by tick, and take anew. No page
-/// of the block is touched.
+/// Takes a large block of memory and gives it back, if there is one. glibc then keeps up to twice
+/// as much that is free, which it would else give back to the host tick by tick, and take anew. No
+/// page of the block is touched.
 fn widen_heap(alloc: Global) {
     if let Ok(block) = Vec::<u8>::with_capacity(alloc, LARGE_BLOCK) {
         drop(block);

@@ -3,3 +3,4 @@ pub mod Tables
 pub mod Asked
 pub mod Ready
 pub mod Sound
+pub mod Hearing

@@ -178,8 +178,8 @@ impl<'a> Scene<'a> {
         Ok(())
     }
 
-    /// Asks the queries of the agents at some places. Those that stand near each other are asked one
-    /// after another, as they look at the same agents.
+    /// Asks the queries of the agents at some places. Those that stand near each other are asked
+    /// one after another, as they look at the same agents.
     pub fn ask_some(
         &self,
         plans: &Plans,

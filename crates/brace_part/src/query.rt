@@ -1,13 +1,9 @@
-ghost use Rattle.std.specs.Prelude.{◌≡◌, ◌≤◌, ◌<◌, ◌^◌, ℕ, List, length, IsTrue, IfOk};
-ghost use Rattle.std.specs.List.{All, list_all};
-ghost use Rattle.brace_model.specs.declared.world.Agent.{Agent};
-ghost use Rattle.brace_model.specs.World.{RisesById};
-ghost use Rattle.brace_model.specs.Lawful.{LawfulProgram, is_lawful_agent};
-ghost use Rattle.brace_eval.specs.Heard.{IsHeard};
+ghost use Rattle.std.specs.Prelude.{IfOk};
+ghost use Rattle.brace_model.specs.Lawful.{LawfulProgram};
 ghost use Rattle.brace_pieces.specs.declared.setting.Setting.{Setting};
-ghost use Rattle.brace_part.specs.inner.Asked.{ArePlaces, HasRulesOf};
+ghost use Rattle.brace_part.specs.inner.Asked.{HasRulesOf};
+ghost use Rattle.brace_part.specs.inner.Hearing.{CanHear, HearsOver};
 ghost use Rattle.brace_part.specs.inner.Sound.{AreQueriesOf};
-ghost use Rattle.brace_part.specs.inner.Tables.{said_over, faults_over};
 
 use crate::asking::{Hearing, Scene};
 use crate::places::all_places;
@@ -56,8 +52,8 @@ impl Queries {
     }
 
     /// What the queries of a part say to the agents that it holds, and their least fault: those of
-    /// its own agents, which stand at some places; with inversion those of the forward program of its
-    /// own agents, and of the inverse program of all that it holds.
+    /// its own agents, which stand at some places; with inversion those of the forward program of
+    /// its own agents, and of the inverse program of all that it holds.
     pub fn heard(
         &self,
         alloc: Global,
@@ -66,16 +62,8 @@ impl Queries {
         places: &[u32],
         held: &[Agent],
     ) -> Result<Heard, NoMemory>
-        requires queries { AreQueriesOf setting.now self.now }
-        requires lawful { IsTrue (list_all (is_lawful_agent setting.now.job.program) held.now) }
-        requires few { length held.now ≤ 2 ^ 20 }
-        requires rises { RisesById held.now }
-        requires placed { All (λ (place : ℕ). place < length held.now) places.now }
-        requires ticks { tick ≤ 2 ^ 32 }
-        ensures heard { IfOk result (λ heard. (own : List Agent)
-            → ArePlaces held.now own places.now
-            → IsHeard setting.now.job.program held.now (said_over setting.now tick own held.now)
-            (faults_over setting.now tick own held.now) heard) }
+        requires { CanHear setting.now self.now tick places.now held.now }
+        ensures { IfOk result (HearsOver setting.now tick places.now held.now) }
     {
         match self.heard_in_lanes(alloc, setting, tick, places, held) {
             Ok(heard) => Ok(heard),
@@ -92,16 +80,8 @@ impl Queries {
         places: &[u32],
         held: &[Agent],
     ) -> Result<Heard, Redo>
-        requires queries { AreQueriesOf setting.now self.now }
-        requires lawful { IsTrue (list_all (is_lawful_agent setting.now.job.program) held.now) }
-        requires few { length held.now ≤ 2 ^ 20 }
-        requires rises { RisesById held.now }
-        requires placed { All (λ (place : ℕ). place < length held.now) places.now }
-        requires ticks { tick ≤ 2 ^ 32 }
-        ensures heard { IfOk result (λ heard. (own : List Agent)
-            → ArePlaces held.now own places.now
-            → IsHeard setting.now.job.program held.now (said_over setting.now tick own held.now)
-            (faults_over setting.now tick own held.now) heard) }
+        requires { CanHear setting.now self.now tick places.now held.now }
+        ensures { IfOk result (HearsOver setting.now tick places.now held.now) }
     {
         let program = &setting.job.program;
         let seed = setting.job.seed;
@@ -126,16 +106,8 @@ impl Queries {
         places: &[u32],
         held: &[Agent],
     ) -> Result<Heard, NoMemory>
-        requires queries { AreQueriesOf setting.now self.now }
-        requires lawful { IsTrue (list_all (is_lawful_agent setting.now.job.program) held.now) }
-        requires few { length held.now ≤ 2 ^ 20 }
-        requires rises { RisesById held.now }
-        requires placed { All (λ (place : ℕ). place < length held.now) places.now }
-        requires ticks { tick ≤ 2 ^ 32 }
-        ensures heard { IfOk result (λ heard. (own : List Agent)
-            → ArePlaces held.now own places.now
-            → IsHeard setting.now.job.program held.now (said_over setting.now tick own held.now)
-            (faults_over setting.now tick own held.now) heard) }
+        requires { CanHear setting.now self.now tick places.now held.now }
+        ensures { IfOk result (HearsOver setting.now tick places.now held.now) }
     {
         let job = &setting.job;
         let scene = Scene::open(alloc, &job.program, tick, held)?;

@@ -73,8 +73,8 @@ fn own_rows<'a>(
 }
 
 /// What the agents of a part leave, by rising id, those that live on and the children, or the least
-/// fault of their updates. What was heard is of all that the part holds; the rules of the script are
-/// run by plans that have them.
+/// fault of their updates. What was heard is of all that the part holds; the rules of the script
+/// are run by plans that have them.
 pub fn updated(
     alloc: Global,
     setting: &Setting,
@@ -123,8 +123,8 @@ fn row_at<'a>(rows: &[&'a [i128]], place: usize) -> &'a [i128]
     rows[place]
 }
 
-/// What agents leave, each by a row of its totals, those that live on and the children, or the least
-/// fault of their updates, agent by agent.
+/// What agents leave, each by a row of its totals, those that live on and the children, or the
+/// least fault of their updates, agent by agent.
 fn updated_in_turn(
     alloc: Global,
     setting: &Setting,

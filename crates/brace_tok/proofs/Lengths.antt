@@ -5,7 +5,8 @@ use Rattle.std.specs.Str.{bytes_eq}
 use Rattle.std.specs.Bool.{nat_eq}
 use Rattle.std.proofs.lemmas.Bool.{ne_eqb, eqb-false}
 use Rattle.brace_num.proofs.Booleans.{and_false}
-use Rattle.brace_tok.specs.Tables.{found, words, reserved, reserved_of}
+use Rattle.brace_tok.specs.Tables.{found, words, reserved}
+use Rattle.brace_tok.specs.inner.Lengths.{reserved_of}
 use Rattle.brace_tok.specs.declared.kinds.TokKind.{TokKind}
 
 lengths_differ : (a b : List ℕ) → (length a ≡ length b → ⊥) → bytes_eq a b ≡ false

@@ -8,7 +8,7 @@ use Rattle.brace_num.specs.Names.{begins, is_digit, is_letter}
 use Rattle.brace_tok.specs.Tables.{symbol, directive}
 use Rattle.brace_tok.specs.Roles.{nothing, token, refused, role_at, token_or, word_kind, whole_kind, fixed_kind}
 use Rattle.brace_tok.specs.Spells.{text_of, is_sound, is_longest, is_row, token_at, tokens_from, FirstFault}
-use Rattle.brace_tok.specs.Steps.{Stands, StepIs, HasEnd, Passes}
+use Rattle.brace_tok.specs.inner.Steps.{Stands, StepIs, HasEnd, Passes}
 use Rattle.brace_tok.specs.Answers.{IsFault}
 use Rattle.brace_tok.specs.declared.kinds.Token.{Token}
 use Rattle.brace_tok.specs.declared.kinds.TokKind.{TokKind}

@@ -12,7 +12,7 @@ use Rattle.brace_tok.specs.Pieces.{blank, line_comment, block_comment, word, who
 use Rattle.brace_tok.specs.Roles.{token, refused, token_or}
 use Rattle.brace_tok.specs.declared.kinds.TokKind.{TokKind}
 use Rattle.brace_tok.specs.declared.fault.TokFault.{TokFault}
-use Rattle.brace_tok.specs.Steps.{IsRun, IsClosed, Stands, pair_of}
+use Rattle.brace_tok.specs.inner.Steps.{IsRun, IsClosed, Stands, pair_of}
 use Rattle.brace_tok.proofs.Scans.{begins-end}
 
 pub blank_stands : (text : List ℕ) → 0 < length text → is_blank (get_or text 0 0) ≡ true → Stands text (blank (get_or text 0 0)) 1

@@ -4,5 +4,5 @@ pub mod Pieces
 pub mod Roles
 pub mod Spells
 pub mod Names
-pub mod Steps
 pub mod Answers
+pub mod inner

@@ -1,6 +1,5 @@
 -- The reserved words, the directives and the symbols, each with the kind of its token.
-use Rattle.std.specs.Prelude.{List, [], ◌∷◌, zip, length, ◌==◌, ℕ, Option, Some, None, if◌then◌else◌, codes}
-use Rattle.std.specs.List.{filter}
+use Rattle.std.specs.Prelude.{List, [], ◌∷◌, zip, ℕ, Option, Some, None, if◌then◌else◌, codes}
 use Rattle.std.specs.Str.{bytes_eq}
 use Rattle.brace_num.specs.Names.{reserved_words}
 use Rattle.brace_tok.specs.declared.kinds.TokKind.{TokKind}
@@ -24,10 +23,6 @@ words = zip reserved_words (
 -- a reserved word is never a name
 unfoldable pub reserved : List ℕ → Option TokKind
 reserved = found words
-
--- the same, among the reserved words of n bytes
-unfoldable pub reserved_of : ℕ → List ℕ → Option TokKind
-reserved_of n = found (filter (λ entry. length entry.0 == n) words)
 
 -- the directives
 abbrev pub directives : List (List ℕ × TokKind)

@@ -2,7 +2,7 @@ ghost use Rattle.std.specs.Prelude.{◌≡◌, ℕ, ◌≤◌, ◌^◌, ◌-◌,
 ghost use Rattle.std.specs.Str.Parse.{digits_value};
 ghost use Rattle.brace_tok.specs.Bytes.{are_digits};
 ghost use Rattle.brace_tok.specs.Roles.{whole_kind, fixed_kind};
-ghost use Rattle.brace_tok.specs.Steps.{IsFraction};
+ghost use Rattle.brace_tok.specs.inner.Steps.{IsFraction};
 
 use crate::TokKind;
 use crate::runs::{Run, is_digit, run_length};

@@ -1,7 +1,7 @@
 ghost use Rattle.std.specs.Prelude.{◌≡◌};
 ghost use Rattle.brace_num.specs.Names.{is_digit, is_letter};
 ghost use Rattle.brace_tok.specs.Bytes.{is_blank};
-ghost use Rattle.brace_tok.specs.Steps.{is_of, IsRun, IsClosed};
+ghost use Rattle.brace_tok.specs.inner.Steps.{is_of, IsRun, IsClosed};
 
 /// A kind of bytes that stand in a row.
 #[derive(Debug, Clone, Copy, PartialEq, Eq, Drop)]

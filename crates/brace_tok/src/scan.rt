@@ -4,7 +4,7 @@ ghost use Rattle.brace_tok.specs.Names.{IsNamed};
 ghost use Rattle.brace_tok.specs.Spells.{FirstFault, Rises, Spells};
 ghost use Rattle.brace_tok.specs.declared.fault.TokFault.{TokFault};
 ghost use Rattle.brace_tok.specs.declared.kinds.Token.{Token};
-ghost use Rattle.brace_tok.specs.Steps.{HasEnd, Passes};
+ghost use Rattle.brace_tok.specs.inner.Steps.{HasEnd, Passes};
 
 use crate::step::{Step, step_at};
 use crate::{TokFault, Token};

@@ -1,7 +1,7 @@
 ghost use Rattle.std.specs.Prelude.{◌≡◌, ◌<◌, ◌≤◌, ◌==◌, length, drop, IsTrue, IsFalse};
 ghost use Rattle.brace_num.specs.Names.{is_digit, is_letter, is_word_byte, begins};
 ghost use Rattle.brace_tok.specs.Bytes.{is_blank, begins_comment};
-ghost use Rattle.brace_tok.specs.Steps.{StepIs, pair_of};
+ghost use Rattle.brace_tok.specs.inner.Steps.{StepIs, pair_of};
 
 use crate::literals::{decimals_length, fixed_kind, whole_kind};
 use crate::runs::{Run, close_at, is_blank, is_digit, is_letter, run_length};

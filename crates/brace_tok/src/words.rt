@@ -1,5 +1,6 @@
 ghost use Rattle.std.specs.Prelude.{◌≡◌};
-ghost use Rattle.brace_tok.specs.Tables.{directive, reserved, reserved_of};
+ghost use Rattle.brace_tok.specs.Tables.{directive, reserved};
+ghost use Rattle.brace_tok.specs.inner.Lengths.{reserved_of};
 ghost use Rattle.brace_tok.specs.Roles.{word_kind};
 
 use crate::TokKind;
@@ -47,7 +48,7 @@ fn reserved(letters: &[u8]) -> Option<TokKind>
     }
 }
 
-#[tactic(auto, unfolding(crate::specs::Tables::reserved_of))]
+#[tactic(auto, unfolding(crate::specs::inner::Lengths::reserved_of))]
 fn two_letters(letters: &[u8]) -> Option<TokKind>
     ensures { result ≡ reserved_of 2 letters.now }
 {
@@ -58,7 +59,7 @@ fn two_letters(letters: &[u8]) -> Option<TokKind>
     }
 }
 
-#[tactic(auto, unfolding(crate::specs::Tables::reserved_of))]
+#[tactic(auto, unfolding(crate::specs::inner::Lengths::reserved_of))]
 fn three_letters(letters: &[u8]) -> Option<TokKind>
     ensures { result ≡ reserved_of 3 letters.now }
 {
@@ -74,7 +75,7 @@ fn three_letters(letters: &[u8]) -> Option<TokKind>
     }
 }
 
-#[tactic(auto, unfolding(crate::specs::Tables::reserved_of))]
+#[tactic(auto, unfolding(crate::specs::inner::Lengths::reserved_of))]
 fn four_letters(letters: &[u8]) -> Option<TokKind>
     ensures { result ≡ reserved_of 4 letters.now }
 {
@@ -91,7 +92,7 @@ fn four_letters(letters: &[u8]) -> Option<TokKind>
     }
 }
 
-#[tactic(auto, unfolding(crate::specs::Tables::reserved_of))]
+#[tactic(auto, unfolding(crate::specs::inner::Lengths::reserved_of))]
 fn five_letters(letters: &[u8]) -> Option<TokKind>
     ensures { result ≡ reserved_of 5 letters.now }
 {
@@ -108,7 +109,7 @@ fn five_letters(letters: &[u8]) -> Option<TokKind>
     }
 }
 
-#[tactic(auto, unfolding(crate::specs::Tables::reserved_of))]
+#[tactic(auto, unfolding(crate::specs::inner::Lengths::reserved_of))]
 fn six_letters(letters: &[u8]) -> Option<TokKind>
     ensures { result ≡ reserved_of 6 letters.now }
 {
@@ -120,7 +121,7 @@ fn six_letters(letters: &[u8]) -> Option<TokKind>
     }
 }
 
-#[tactic(auto, unfolding(crate::specs::Tables::reserved_of))]
+#[tactic(auto, unfolding(crate::specs::inner::Lengths::reserved_of))]
 fn seven_letters(letters: &[u8]) -> Option<TokKind>
     ensures { result ≡ reserved_of 7 letters.now }
 {

@@ -1,5 +1,5 @@
--- The files that a run saves at each end of an epoch that it reaches: the world, and the figures that
--- are watched.
+-- The files that a run saves at each end of an epoch that it reaches: the world, and the figures
+-- that are watched.
 use Rattle.std.specs.Prelude.{ℕ, ◌+◌, ◌-◌, List, [], ◌∷◌, ◌++◌, map, flat_map, fold, Bool, if◌then◌else◌, Option, Some, None, Result, Ok, Err}
 use Rattle.brace_io.specs.Shelves.{Files}
 use Rattle.brace_model.specs.declared.fault.Fault.{Fault}

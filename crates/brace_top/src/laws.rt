@@ -74,8 +74,8 @@ pub fn saved_files_tell_their_worlds()
 /// A run that is resumed from a checkpoint goes on as the first one does, from the tick that the
 /// checkpoint tells: the rows up to that tick and its own are all rows of the first run, it ends in
 /// the same status, and it names the same fault. The two may be cut, and worked, each in its way. A
-/// checkpoint tells a world with its next free id; where no class bears children that plays no part,
-/// and is not told.
+/// checkpoint tells a world with its next free id; where no class bears children that plays no
+/// part, and is not told.
 pub fn resumed_runs_go_on()
     ensures rows { (files : Files) (job : Job) (tick : ℕ) (world : World) (run : RunCommand)
         (o : Outcome) → job.first ≤ tick → tick ≤ job.last

@@ -14,7 +14,8 @@ use brace_test_runs::program;
 use std::alloc::Global;
 use std::test::Fail;
 
-/// What each agent leaves in tick 4 of a run of seed 7: first those that live on, then the children.
+/// What each agent leaves in tick 4 of a run of seed 7: first those that live on, then the
+/// children.
 fn one_by_one(
     alloc: Global,
     plans: &Plans,

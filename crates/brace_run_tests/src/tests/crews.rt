@@ -117,8 +117,8 @@ const CASES: [(Asked, Came); 8] = [
     ),
 ];
 
-/// The answer of a new publisher, by what it saves and whether it is fresh, to one call, in which it
-/// is shown worlds up to a tick.
+/// The answer of a new publisher, by what it saves and whether it is fresh, to one call, in which
+/// it is shown worlds up to a tick.
 fn shown_to<'x, K: Keeper, O: Sink>(
     alloc: Global,
     setting: &Setting,

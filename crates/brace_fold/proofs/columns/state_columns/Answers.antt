@@ -6,7 +6,7 @@ use Rattle.brace_fold.proofs.columns.state_columns.Goals as goal
 pub loop-place-preserved : goal.loop-place-preserved
 loop-place-preserved c = record {
   long = search rules;
-  each = rw c.in_ok-push.ensures.items (columns-more (λ i. map (λ r. number (value_at r.now.states i)) c.args.rows.now) c.loop-place.columns.items _
+  each = rw c.in_ok-push.ensures.items (columns-more (λ i. map (λ s. number (value_at s.now i)) c.args.states.now) c.loop-place.columns.items _
       c.loop-place.invariant.each
-      (c.in_ok-column.ensures ∙ ap (λ (i : ℕ). map (λ r. number (value_at r.now.states i)) c.args.rows.now) (sym c.loop-place.invariant.long)));
+      (c.in_ok-column.ensures ∙ ap (λ (i : ℕ). map (λ s. number (value_at s.now i)) c.args.states.now) (sym c.loop-place.invariant.long)));
 }

@@ -5,5 +5,5 @@ use Rattle.brace_fold.proofs.columns.state_columns.Given as goal
 abbrev pub invariant-loop-place : goal.invariant-loop-place
 invariant-loop-place l = record {
   long : length l.columns.items ≡ l.place;
-  each : (i : ℕ) (column : List ℤ) → slice_get l.columns.items i ≡ Some column → column ≡ map (λ r. number (value_at r.now.states i)) l.rows;
+  each : (i : ℕ) (column : List ℤ) → slice_get l.columns.items i ≡ Some column → column ≡ map (λ s. number (value_at s.now i)) l.states;
 }

@@ -5,7 +5,6 @@ use Rattle.std.proofs.lemmas.List.Elements.{All-map}
 use Rattle.brace_model.specs.declared.program.Program.{Program}
 use Rattle.brace_model.specs.declared.world.Agent.{Agent}
 use Rattle.brace_model.specs.Query.{Deed, Saying, query_of}
-use Rattle.brace_model.specs.World.{number, value_at}
 use Rattle.brace_eval.specs.Heard.{IsHeard}
 use Rattle.brace_fold.specs.Asked.{agents_at}
 use Rattle.brace_fold.specs.inner.Asks.{AreDrawn, lent, made, rows_of}
@@ -13,7 +12,7 @@ use Rattle.brace_fold.specs.inner.Hears.{AreSummed, Hears}
 use Rattle.brace_fold.specs.inner.Joins.{said_of}
 use Rattle.brace_fold.specs.inner.Sights.{by_row, no_agent}
 use Rattle.brace_fold.proofs.Askings.{asking-sorted, heard-by, quiet-by}
-use Rattle.brace_fold.proofs.ColumnLemmas.{by-rows, copied-view}
+use Rattle.brace_fold.proofs.ColumnLemmas.{by-rows, by-values, copied-view}
 use Rattle.brace_fold.proofs.Doings.{mapped-said}
 use Rattle.brace_fold.proofs.Drawings.{draws-of}
 use Rattle.brace_fold.proofs.Joinings.{heard-joined}
@@ -29,15 +28,16 @@ ask_all-requires-clause-scene c =
       rises = c.requires.rises;
       sorted = c.in_ok-cells.ensures;
       states = λ i column e. c.in_ok-columns.ensures i column
-          (copied-view c.deref-7.result.now c.in_ok-columns.columns.items i column
-          (ap (map (λ v. v.now)) c.deref-7.ensures.value ∙ c.in_ok-states.ensures ∙ c.deref-3.ensures.value) e)
-          ∙ by-rows (λ a. number (value_at a.states i)) c.deref-2.result.now rows (ap (map (λ r. r.now)) c.deref-2.ensures.value ∙ refs);
-      classes = c.deref-8.ensures.value ∙ c.in_ok-classes.ensures
-          ∙ by-rows (λ a. a.class) c.deref-4.result.now rows (ap (map (λ r. r.now)) c.deref-4.ensures.value ∙ refs);
-      draws = draws-of c.args.seed c.args.tick rows c.deref-9.result.now c.in_ok-drawn.drawn.items
-          (ap (map lent) c.deref-9.ensures.value ∙ c.in_ok-draws.ensures ∙ ap (map made) c.deref-6.ensures.value)
+          (copied-view c.deref-8.result.now c.in_ok-columns.columns.items i column
+          (ap (map (λ v. v.now)) c.deref-8.ensures.value ∙ c.in_ok-states.ensures ∙ c.deref-4.ensures.value) e)
+          ∙ by-values i c.deref-3.result.now rows (ap (map (λ s. s.now)) c.deref-3.ensures.value ∙ c.in_ok-values.ensures
+          ∙ by-rows (λ a. a.states) c.deref-2.result.now rows (ap (map (λ r. r.now)) c.deref-2.ensures.value ∙ refs));
+      classes = c.deref-9.ensures.value ∙ c.in_ok-classes.ensures
+          ∙ by-rows (λ a. a.class) c.deref-5.result.now rows (ap (map (λ r. r.now)) c.deref-5.ensures.value ∙ refs);
+      draws = draws-of c.args.seed c.args.tick rows c.deref-10.result.now c.in_ok-drawn.drawn.items
+          (ap (map lent) c.deref-10.ensures.value ∙ c.in_ok-draws.ensures ∙ ap (map made) c.deref-7.ensures.value)
           (subst (λ (l : List Agent). All (AreDrawn c.args.seed c.args.tick l) c.in_ok-drawn.drawn.items)
-          (ap (map (λ r. r.now)) c.deref-5.ensures.value ∙ refs) c.in_ok-drawn.ensures);
+          (ap (map (λ r. r.now)) c.deref-6.ensures.value ∙ refs) c.in_ok-drawn.ensures);
     }
 
 pub returns-clause-heard : goal.returns-clause-heard
@@ -47,11 +47,11 @@ returns-clause-heard c = on_ok c.join_all.result _ _ (λ joins d said faults is.
     let program = c.args.plans.now in
     let query : Program → Agent → Deed = λ p a. query_of p c.args.seed c.args.tick agents a in
     let rows = by_row agents cells in
-    let sorted = rows_of c.deref-13.result.now in
+    let sorted = rows_of c.deref-14.result.now in
     let one : ℕ → Agent = λ row. get_or rows row d in
     let asks = c.in_ok-ask_all.ensures d in
-    let perm = asking-sorted agents d cells c.args.asking.now c.in_ok-asking.asking.items c.sort_by_class.new.all.items c.deref-13.result.now
-    c.in_ok-cells.ensures.within c.in_ok-asking.ensures c.sort_by_class.ensures c.deref-13.ensures.value in
+    let perm = asking-sorted agents d cells c.args.asking.now c.in_ok-asking.asking.items c.sort_by_class.new.all.items c.deref-14.result.now
+    c.in_ok-cells.ensures.within c.in_ok-asking.ensures c.sort_by_class.ensures c.deref-14.ensures.value in
     let quiet = subst (λ (p : Program). All (λ row. (query p (one row)).faults ≡ []) sorted) c.program-program.ensures asks.quiet in
     let more : List Saying = flat_map (λ row. (query program (one row)).said) sorted in
     let hears = subst (λ (p : Program). Hears p rows (flat_map (λ row. (query p (one row)).said) sorted) c.in_ok-table.table c.ask_all.new.heard)
@@ -72,10 +72,10 @@ returns-clause-quiet c = on_ok c.join_all.result _ _ (λ joins d.
     let program = c.args.plans.now in
     let query : Program → Agent → Deed = λ p a. query_of p c.args.seed c.args.tick agents a in
     let rows = by_row agents cells in
-    let sorted = rows_of c.deref-13.result.now in
+    let sorted = rows_of c.deref-14.result.now in
     let one : ℕ → Agent = λ row. get_or rows row d in
-    let perm = asking-sorted agents d cells c.args.asking.now c.in_ok-asking.asking.items c.sort_by_class.new.all.items c.deref-13.result.now
-    c.in_ok-cells.ensures.within c.in_ok-asking.ensures c.sort_by_class.ensures c.deref-13.ensures.value in
+    let perm = asking-sorted agents d cells c.args.asking.now c.in_ok-asking.asking.items c.sort_by_class.new.all.items c.deref-14.result.now
+    c.in_ok-cells.ensures.within c.in_ok-asking.ensures c.sort_by_class.ensures c.deref-14.ensures.value in
     let quiet = subst (λ (p : Program). All (λ row. (query p (one row)).faults ≡ []) sorted) c.program-program.ensures (c.in_ok-ask_all.ensures d).quiet in
     quiet-by program c.args.seed c.args.tick agents (agents_at agents d c.args.asking.now) (agents_at rows d sorted) perm
     (All-map (λ a. (query program a).faults ≡ []) one sorted quiet)) c.join_all.ensures

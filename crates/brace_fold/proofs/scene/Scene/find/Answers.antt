@@ -1,5 +1,4 @@
-use Rattle.std.proofs.Common.{◌∙◌, List, subst}
-use Rattle.std.specs.List.Sorted.{IsPermutation}
+use Rattle.std.proofs.Common.{◌∙◌, ℕ, List, ap, map, slice_get, subst}
 use Rattle.brace_fold.specs.declared.seeing.Cut.{Cut}
 use Rattle.brace_fold.specs.inner.Crowds.{rows}
 use Rattle.brace_fold.specs.inner.Sights.{IsAround, found_around}
@@ -15,7 +14,6 @@ returns-clause-near c scope stands =
     let bounds = c.args.bounds.now in
     let eye = c.in_ok-eye.eye in
     let runs = c.lead.new.runs in
-    let near = c.look_around.new.near.items in
     let this = stands.stands.this in
     let looks = c.in_ok-eye.ensures scope.this this in
     let are = c.requires.scene.sorted.are in
@@ -23,8 +21,7 @@ returns-clause-near c scope stands =
     let stand = eye_stands program scope class place bounds eye looks (rows scene) scene.cells.now are apart this in
     let cell = eye_cell program scope class place bounds eye looks (rows scene) scene.cells.now are apart this in
     let cuts = c.deref.ensures.value ∙ c.in_ok-cut.ensures scope stands in
-    near_is program scope class place bounds eye looks (rows scene) scene.cells.now are apart this runs near
+    let found = c.in_ok-look_around.ensures ∙ ap (λ (l : List Cut). found_around eye l scene.cells.now.spots.items runs) cuts in
+    ap (map (slice_get (rows scene))) found
+    ∙ near_is program scope class place bounds eye looks (rows scene) scene.cells.now are apart this runs
     (subst (λ n. IsAround scene.cells.now n runs) cell (c.in_ok-lead.ensures.around _ stand))
-    (subst (λ (l : List Cut). IsPermutation
-    (found_around eye l scene.cells.now.spots.items runs) near) cuts
-    c.in_ok-look_around.ensures.found) c.in_ok-look_around.ensures.rising

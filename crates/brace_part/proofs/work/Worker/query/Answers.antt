@@ -12,27 +12,23 @@ use Rattle.brace_part.proofs.LaneLemmas.{places_within}
 use Rattle.brace_part.proofs.WorkOwned.{holds_near}
 use Rattle.brace_part.proofs.work.Worker.query.Goals as goal
 
-pub heard-requires-clause-lawful : goal.heard-requires-clause-lawful
-heard-requires-clause-lawful c =
-    near_lawful c.args.self.now c.requires.worker c.args.tick c.deref-3.result.now (c.deref-3.ensures.value
-    ∙ holds_near c.args.self.now c.requires.worker c.args.tick c.args.taken.now.items c.args.own.items c.in_ok-held.held.items c.in_ok-held.ensures.sorted c.requires.work c.requires.own)
-
-pub heard-requires-clause-few : goal.heard-requires-clause-few
-heard-requires-clause-few c =
-    near_few c.args.self.now c.requires.worker c.args.tick c.deref-3.result.now (c.deref-3.ensures.value
-    ∙ holds_near c.args.self.now c.requires.worker c.args.tick c.args.taken.now.items c.args.own.items c.in_ok-held.held.items c.in_ok-held.ensures.sorted c.requires.work c.requires.own)
-
-pub heard-requires-clause-rises : goal.heard-requires-clause-rises
-heard-requires-clause-rises c =
-    near_rises c.args.self.now c.requires.worker c.args.tick c.deref-3.result.now (c.deref-3.ensures.value
-    ∙ holds_near c.args.self.now c.requires.worker c.args.tick c.args.taken.now.items c.args.own.items c.in_ok-held.held.items c.in_ok-held.ensures.sorted c.requires.work c.requires.own)
-
-pub heard-requires-clause-placed : goal.heard-requires-clause-placed
-heard-requires-clause-placed c =
+pub heard-requires : goal.heard-requires
+heard-requires c =
+    let w = c.args.self.now in
     let held = c.in_ok-held.held.items in
-    subst (λ xs. All (λ (place : ℕ). place < length xs) c.deref-2.result.now) (sym c.deref-3.ensures.value)
-    (places_within held _ c.deref-2.result.now (subst (ArePlaces held _) (sym {A = List ℕ} c.deref-2.ensures.value)
-    (subst (λ xs. ArePlaces xs (owned c.args.self.now.setting.now.job.program c.cuts_at-cuts.result.now c.args.self.now.part xs) c.in_ok-places.places.items) c.deref.ensures.value c.in_ok-places.ensures)))
+    let places = c.deref-2.result.now in
+    let near = c.deref-3.ensures.value
+    ∙ holds_near w c.requires.worker c.args.tick c.args.taken.now.items c.args.own.items c.in_ok-held.held.items c.in_ok-held.ensures.sorted c.requires.work c.requires.own in
+    record {
+      queries = c.requires.worker.queries_are;
+      lawful = near_lawful w c.requires.worker c.args.tick c.deref-3.result.now near;
+      few = near_few w c.requires.worker c.args.tick c.deref-3.result.now near;
+      rises = near_rises w c.requires.worker c.args.tick c.deref-3.result.now near;
+      placed = subst (λ xs. All (λ (place : ℕ). place < length xs) places) (sym c.deref-3.ensures.value)
+          (places_within held _ places (subst (ArePlaces held _) (sym {A = List ℕ} c.deref-2.ensures.value)
+          (subst (λ xs. ArePlaces xs (owned w.setting.now.job.program c.cuts_at-cuts.result.now w.part xs) c.in_ok-places.places.items) c.deref.ensures.value c.in_ok-places.ensures)));
+      ticks = tick_fits w c.requires.worker c.args.tick stage.Border (λ e. absurd (cc)) c.requires.work.stands;
+    }
 
 pub own_places-requires-clause-cuts : goal.own_places-requires-clause-cuts
 own_places-requires-clause-cuts c =
@@ -43,9 +39,6 @@ pub own_places-requires-clause-few : goal.own_places-requires-clause-few
 own_places-requires-clause-few c =
     near_few c.args.self.now c.requires.worker c.args.tick c.deref.result.now (c.deref.ensures.value
     ∙ holds_near c.args.self.now c.requires.worker c.args.tick c.args.taken.now.items c.args.own.items c.in_ok-held.held.items c.in_ok-held.ensures.sorted c.requires.work c.requires.own)
-
-pub heard-requires-clause-ticks : goal.heard-requires-clause-ticks
-heard-requires-clause-ticks c = tick_fits c.args.self.now c.requires.worker c.args.tick stage.Border (λ e. absurd (cc)) c.requires.work.stands
 
 pub returns-clause-heard : goal.returns-clause-heard
 returns-clause-heard c =
@@ -61,5 +54,5 @@ returns-clause-heard c =
     record {
       holds = holds;
       hears = subst (λ xs. IsHeard m xs (said_over s t (own_in s w.part t) xs) (faults_over s t (own_in s w.part t) xs) c.in_ok-heard.heard) c.deref-3.ensures.value
-          (c.in_ok-heard.ensures.heard (own_in s w.part t) (subst (λ xs. ArePlaces xs (own_in s w.part t) c.deref-2.result.now) (sym c.deref-3.ensures.value) at));
+          (c.in_ok-heard.ensures (own_in s w.part t) (subst (λ xs. ArePlaces xs (own_in s w.part t) c.deref-2.result.now) (sym c.deref-3.ensures.value) at));
     }

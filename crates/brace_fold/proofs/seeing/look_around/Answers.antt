@@ -1,7 +1,0 @@
-use Rattle.std.proofs.lemmas.List.Sorted.{IsNonDecreasingBy-from_sort}
-use Rattle.brace_fold.proofs.seeing.look_around.Goals as goal
-
-pub returns-clause-rising : goal.returns-clause-rising
-returns-clause-rising c =
-    IsNonDecreasingBy-from_sort (λ x. x) c.sort_unstable.new.self.items
-    c.sort_unstable.ensures.sorted
