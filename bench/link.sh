@@ -33,15 +33,14 @@ if not rounds or any(came != AGENTS or again != AGENTS for *_, came, again in ro
 size = rounds[0][0]
 
 
-def half(place):
-    """MB a second, of the median of the rounds."""
-    times = sorted(round[place] for round in rounds)
-    return size * 1000 / times[len(times) // 2]
+def best(place):
+    """MB a second in the fastest of the rounds."""
+    return size * 1000 / min(round[place] for round in rounds)
 
 
 written("Pieces as bytes", [
     "| agents | bytes | encode, MB/s | feed of 4096 bytes, MB/s | feed of the whole, MB/s |",
     "|---|---|---|---|---|",
-    f"| {AGENTS:,} | {size:,} | {half(1):,.0f} | {half(2):,.0f} | {half(3):,.0f} |",
-])
+    f"| {AGENTS:,} | {size:,} | {best(1):,.0f} | {best(2):,.0f} | {best(3):,.0f} |",
+], f"the fastest of {len(rounds)} rounds")
 P
