@@ -22,7 +22,7 @@ use Rattle.brace_crew.specs.declared.desk.Lot.{Lot}
 use Rattle.brace_crew.specs.declared.desk.Stop.{Stop}
 use Rattle.brace_crew.specs.declared.desk.Stop.TheVariants as stop
 use Rattle.brace_pieces.specs.Settings.{ends}
-use Rattle.brace_crew.specs.Desks.{OnDesk, HasShown, HasHalted, HasRefused}
+use Rattle.brace_crew.specs.Desks.{OnDesk, HasShown, HasHalted, HasRefused, ends_before}
 use Rattle.brace_crew.specs.inner.Sound.{HalfHalted, IsOpen, IsClosedBy, IsAsItStands, IsDesk}
 use Rattle.brace_crew.proofs.EndCalls.{ends_all}
 use Rattle.brace_crew.proofs.DeskCourses.{ack_right, takes_shown, takes_from, shown_taken, nothing_else, none_made, last_behind}

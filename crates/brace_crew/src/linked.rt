@@ -27,8 +27,9 @@ fn left<P: Publisher>(setting: &Setting, desk: Desk<P>) -> (P, CrewFault)
 {
     setting.numbers_fit();
     match desk.stop() {
+        None => (desk.into_publisher(), CrewFault::NoMemory),
+        Some(Stop::Halt(_)) => (desk.into_publisher(), CrewFault::NoMemory),
         Some(Stop::Refusal(refusal)) => (desk.into_publisher(), CrewFault::Publish(refusal)),
-        None | Some(Stop::Halt(_)) => (desk.into_publisher(), CrewFault::NoMemory),
     }
 }
 

@@ -10,4 +10,4 @@ use Rattle.brace_top.proofs.links.crew_run_linked_by.Goals as goal
 pub crew_run_on_links-requires-clause-delivers : goal.crew_run_on_links-requires-clause-delivers
 crew_run_on_links-requires-clause-delivers g c =
     let link : is_link c.in-Some.letters.now ≡ true = search rules in
-    subst (λ fates. list_any (λ fate. not (is_lost fate)) fates ≡ true) (sym (c.in-Ok.ensures ∙ ap (map fate_of) c.as_bytes.ensures)) (link_delivers c.in-Some.letters.now link)
+    subst (λ fates. list_any (λ fate. not (is_lost fate)) fates ≡ true) (sym (c.in-Ok.ensures ∙ ap (map fate_of) c.as_bytes.ensures.value)) (link_delivers c.in-Some.letters.now link)
