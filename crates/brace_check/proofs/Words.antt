@@ -1,7 +1,7 @@
 -- The classes and fields of a script that is read have names.
-use Rattle.std.proofs.Common.{◌≡◌, refl, ◌∙◌, ℕ, suc, ◌+◌, Bool, true, false, List, [], ◌∷◌, ◌++◌, map, flat_map, length, arith}
+use Rattle.std.proofs.Common.{◌≡◌, refl, ◌∙◌, ℕ, ◌+◌, Bool, true, false, List, [], ◌∷◌, ◌++◌, map, flat_map, length}
 use Rattle.std.specs.Prelude.{⊤, IsTrue}
-use Rattle.std.specs.List.{All, AllByRecursion, list_all}
+use Rattle.std.specs.List.{AllByRecursion, list_all}
 use Rattle.std.proofs.lemmas.List.Folds.{list_all-append}
 use Rattle.std.proofs.lemmas.Bool.{and_from}
 use Rattle.std.proofs.lemmas.List.Elements.{recursion_from_All}
@@ -16,21 +16,16 @@ use Rattle.brace_syntax.specs.Reads.{ReadsField, ReadsMember, ReadsMembers, Read
 use Rattle.brace_syntax.specs.declared.tree.MemberTree.{MemberTree}
 use Rattle.brace_syntax.specs.declared.tree.MemberTree.TheVariants as m
 use Rattle.brace_syntax.specs.declared.tree.ClassTree.{ClassTree}
-use Rattle.brace_names.specs.declared.resolved.Target.{Target}
 use Rattle.brace_model.specs.declared.program.State.{State}
-use Rattle.brace_check.specs.declared.heading.Heading.{Heading}
 use Rattle.brace_check.specs.Programs.{share, shares, effect_of}
-use Rattle.brace_check.proofs.TypeSound.{all_back}
+use Rattle.brace_check.proofs.Ties.{all_back}
+use Rattle.brace_names.specs.Scopes.{Home}
 
 -- a member that is a field has a name
 abbrev pub Worded : MemberTree → Type 0
 Worded (m.State shared type name x at) = IsTrue (is_name name.text)
 Worded (m.Effect shared type name c at) = IsTrue (is_name name.text)
-Worded (m.Visible range at) = ⊤
-Worded (m.Reach range at) = ⊤
-Worded (m.Run block at) = ⊤
-Worded (m.Die x at) = ⊤
-Worded (m.Spawn x gifts at) = ⊤
+Worded _ = ⊤
 
 -- so have a class and its members
 pub record WordedClass (class : ClassTree) : Type 0 where
@@ -72,33 +67,23 @@ module _ (src : List ℕ) where
   script_worded toks xs spelled read = worded_classes toks xs read (recursion_from_All (IsNamed src) toks (spells_names src toks spelled))
 
 -- the names of the fields in the program
-module _ (targets : List (ℕ × Target)) (headings : List Heading) (own : ℕ) where
-  states_named : (members : List MemberTree) (n : ℕ) → AllByRecursion Worded members → list_all is_name (map (λ (s : State). s.name) ((shares targets headings own members).behind n).states) ≡ true
+module _ (home : Home) where
+  states_named : (members : List MemberTree) (n : List ℕ) → AllByRecursion Worded members → list_all is_name (map (λ (s : State). s.name) (shares home members n).0.states) ≡ true
   states_named [] n h = refl
   states_named (m.State shared type name x at ∷ members) n h =
-      and_from (is_name name.text) (list_all is_name (map (λ (s : State). s.name) ((shares targets headings own members).behind _).states)) h.0
-      (states_named members (n + length (share targets headings own (m.State shared type name x at)).sites) h.1)
-  states_named (m.Effect shared type name c at ∷ members) n h = states_named members (n + 0) h.1
-  states_named (m.Visible range at ∷ members) n h = states_named members (n + 0) h.1
-  states_named (m.Reach range at ∷ members) n h = states_named members (n + 0) h.1
-  states_named (m.Run block at ∷ members) n h = states_named members (n + length (share targets headings own (m.Run block at)).sites) h.1
-  states_named (m.Die x at ∷ members) n h = states_named members (n + length (share targets headings own (m.Die x at)).sites) h.1
-  states_named (m.Spawn x gifts at ∷ members) n h = states_named members (n + length (share targets headings own (m.Spawn x gifts at)).sites) h.1
+      and_from (is_name name.text) (list_all is_name (map (λ (s : State). s.name) (shares home members _).0.states)) h.0
+      (states_named members (share home (m.State shared type name x at) n).1 h.1)
+  states_named (one ∷ members) n h = states_named members (share home one n).1 h.1
 
   effects_named : (members : List MemberTree) → AllByRecursion Worded members → list_all is_name (map (λ e. e.name) (flat_map effect_of members)) ≡ true
   effects_named [] h = refl
   effects_named (m.Effect shared type name c at ∷ members) h =
       and_from (is_name name.text) (list_all is_name (map (λ e. e.name) (flat_map effect_of members))) h.0 (effects_named members h.1)
-  effects_named (m.State shared type name x at ∷ members) h = effects_named members h.1
-  effects_named (m.Visible range at ∷ members) h = effects_named members h.1
-  effects_named (m.Reach range at ∷ members) h = effects_named members h.1
-  effects_named (m.Run block at ∷ members) h = effects_named members h.1
-  effects_named (m.Die x at ∷ members) h = effects_named members h.1
-  effects_named (m.Spawn x gifts at ∷ members) h = effects_named members h.1
+  effects_named (_ ∷ members) h = effects_named members h.1
 
-  pub fields_named : (members : List MemberTree) (n : ℕ) → AllByRecursion Worded members
-      → list_all is_name (map (λ (s : State). s.name) ((shares targets headings own members).behind n).states ++ map (λ e. e.name) (flat_map effect_of members)) ≡ true
+  pub fields_named : (members : List MemberTree) (n : List ℕ) → AllByRecursion Worded members
+      → list_all is_name (map (λ (s : State). s.name) (shares home members n).0.states ++ map (λ e. e.name) (flat_map effect_of members)) ≡ true
   fields_named members n h =
-      let states : List (List ℕ) = map (λ (s : State). s.name) ((shares targets headings own members).behind n).states in
+      let states : List (List ℕ) = map (λ (s : State). s.name) (shares home members n).0.states in
       let effects : List (List ℕ) = map (λ e. e.name) (flat_map effect_of members) in
       list_all-append is_name states effects ∙ and_from (list_all is_name states) (list_all is_name effects) (states_named members n h) (effects_named members h)

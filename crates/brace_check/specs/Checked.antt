@@ -1,5 +1,5 @@
--- What the check passes and the numbering ensure of each class of a program, whatever the names of
--- its script stand for.
+-- What the check passes and the numbering ensure of each class of a program, whatever the checks of
+-- names find in its script.
 use Rattle.std.specs.Prelude.{◌≡◌, ℕ, nat_eq, nat_lt, map, flat_map, sum, slice_get, IsTrue, Some}
 use Rattle.std.specs.List.{IsDistinct, list_all}
 use Rattle.std.specs.List.Sorted.{IsStrictlyIncreasing}

@@ -4,7 +4,6 @@ use Rattle.brace_names.specs.Answered as answered
 use Rattle.brace_names.specs.declared.resolved.Resolved.{Resolved}
 use Rattle.brace_check.specs.declared.fault.CheckFault.{CheckFault}
 use Rattle.brace_check.specs.declared.fault.CheckFault.TheVariants as fault
-use Rattle.brace_check.specs.Scopes.{targets_of}
 use Rattle.brace_check.specs.Found.{found}
 
 -- the pass that has a fault
@@ -50,9 +49,9 @@ first = answered.first pass rank
 abbrev pub IsFirst : CheckFault → List CheckFault → Type 0
 IsFirst = answered.IsFirst pass rank
 
--- the faults of a script with what its names stand for
+-- the faults of a script whose names are resolved
 abbrev pub faults : Resolved → List CheckFault
-faults r = found (targets_of r.bindings) r.tree
+faults r = found r.tree
 
 -- what a fault says of a script
 abbrev pub Refuses : Resolved → CheckFault → Type 0

@@ -1,10 +1,9 @@
-pub mod Headings
-pub mod Scopes
 pub mod Types
 pub mod Findings
 pub mod Found
 pub mod Faults
 pub mod Meanings
 pub mod Programs
+pub mod Order
 pub mod Resolved
 pub mod Checked

@@ -1,8 +1,6 @@
 -- What expressions and statements of a script mean: the same with numbers for names, and each site
 -- numbered by how many sites come before it in finishing order.
-use Rattle.std.specs.Prelude.{ℕ, nat_eq, ◌+◌, Bool, true, false, List, [], ◌∷◌, ◌++◌, length, Option, Some, None, if◌then◌else◌}
-use Rattle.brace_model.specs.declared.program.Ty.{Ty}
-use Rattle.brace_model.specs.declared.program.Ty.TheVariants as ty
+use Rattle.std.specs.Prelude.{ℕ, nat_eq, ◌+◌, Bool, true, false, List, [], ◌∷◌, ◌++◌, length, Option, Some, None, option_map, unwrap_or, if◌then◌else◌}
 use Rattle.brace_model.specs.declared.program.Value.{Value}
 use Rattle.brace_model.specs.declared.program.Value.TheVariants as val
 use Rattle.brace_model.specs.declared.program.Who.{Who}
@@ -11,7 +9,7 @@ use Rattle.brace_model.specs.declared.program.Expr.{Expr}
 use Rattle.brace_model.specs.declared.program.Expr.TheVariants as expr
 use Rattle.brace_model.specs.declared.program.Stmt.{Stmt}
 use Rattle.brace_model.specs.declared.program.Stmt.TheVariants as stmt
-use Rattle.brace_model.specs.Typing.{only, is_sum, unary_faults, binary_faults}
+use Rattle.brace_model.specs.Typing.{only, unary_faults, binary_faults}
 use Rattle.brace_syntax.specs.declared.tree.Ident.{Ident}
 use Rattle.brace_syntax.specs.declared.tree.Digits.{Digits}
 use Rattle.brace_syntax.specs.declared.tree.Digits.TheVariants as d
@@ -21,169 +19,170 @@ use Rattle.brace_syntax.specs.declared.tree.ExprTree.TheFolds.{fold-ExprTree}
 use Rattle.brace_syntax.specs.declared.tree.StmtTree.{StmtTree}
 use Rattle.brace_syntax.specs.declared.tree.StmtTree.TheOpen.{StmtTree-F, Const, If, Foreach, Assign, AssignThis, AssignLoop}
 use Rattle.brace_syntax.specs.declared.tree.StmtTree.TheFolds.{fold-StmtTree}
-use Rattle.brace_names.specs.declared.resolved.Target.{Target}
-use Rattle.brace_names.specs.declared.resolved.Target.TheVariants as target
-use Rattle.brace_check.specs.declared.heading.EffectHeading.{EffectHeading}
-use Rattle.brace_check.specs.Headings.{type_named}
-use Rattle.brace_check.specs.Scopes.{Scope, Part, stands, effect_in, number_of, inside, past, behind, constants_in}
-use Rattle.brace_check.specs.Types.{unary_named, binary_named}
+use Rattle.brace_names.specs.declared.declared.Field.{Field}
+use Rattle.brace_names.specs.declared.declared.Field.TheVariants as field
+use Rattle.brace_names.specs.declared.scope.Named.{Named}
+use Rattle.brace_names.specs.declared.scope.Named.TheVariants as named
+use Rattle.brace_names.specs.declared.scope.LoopField.{LoopField}
+use Rattle.brace_names.specs.Kinds.{type_named, unary_named, binary_named}
+use Rattle.brace_names.specs.Tables.{look}
+use Rattle.brace_names.specs.Scopes.{Scope, class_number, read, read_own, of_loop, inside, past}
+use Rattle.brace_names.specs.Walk.{Part, behind, constants_in, constants_otherwise}
+use Rattle.brace_names.specs.Walk as walk
+use Rattle.brace_names.specs.Findings.{is_summed}
 
--- something with sites: their places in finishing order, and what it is behind so many sites of the
--- script
-pub record Sited (A : Type 0) : Type 0 where
-  pub sites : List ℕ
-  pub behind : ℕ → A
+-- what something means behind sites of the script at these places, in finishing order, and the
+-- places with its own behind them
+abbrev pub Meaning : Type 0 → Type 0
+Meaning A = List ℕ → A × List ℕ
 
 -- something without sites
-abbrev pub plain : {A : Type 0} → A → Sited A
-plain x = record { sites = []; behind = λ n. x }
+abbrev pub plain : {A : Type 0} → A → Meaning A
+plain x = λ sites. (x, sites)
 
--- a site at a place, where a test holds
-abbrev pub site_if : Bool → ℕ → List ℕ
-site_if test at = if test then at ∷ [] else []
+-- a site at a place, whose number is its position
+abbrev pub site : ℕ → Meaning ℕ
+site at = λ sites. (length sites, sites ++ at ∷ [])
+
+-- the same, where a test holds
+abbrev pub site_if : Bool → ℕ → Meaning (Option ℕ)
+site_if test at = λ sites.
+    (only test (length sites), if test then sites ++ at ∷ [] else sites)
+
+-- something made of another
+abbrev pub made : {A B : Type 0} → (A → B) → Meaning A → Meaning B
+made make x = λ sites. (make (x sites).0, (x sites).1)
+
+-- one thing behind another
+abbrev pub followed : {A B C : Type 0} → (A → B → C) → Meaning A → Meaning B → Meaning C
+followed both first second = λ sites.
+    (both (first sites).0 (second (first sites).1).0, (second (first sites).1).1)
 
 -- the value of a literal
 abbrev pub literal : Digits → Value
 literal (d.Int n) = val.Int n
 literal (d.Fixed n) = val.Fixed n
 
--- the total of an effect of `this` that is named at a place; a sum is read at a site
-abbrev pub total : ℕ → ℕ → Option EffectHeading → Sited Expr
-total at i None = plain (expr.Total i ty.Int None)
-total at i (Some e) = record {
-  sites = site_if (is_sum e.comb) at;
-  behind = λ n. expr.Total i e.ty (only (is_sum e.comb) n);
-}
+-- the number of a field among the states or the effects of its class; of nothing 0
+abbrev pub number_of : Option Field → ℕ
+number_of None = 0
+number_of (Some (field.State n t shared)) = n
+number_of (Some (field.Effect n t shared c)) = n
 
--- a constant, or a field of `this`, that is named at a place
-abbrev pub named : Scope → ℕ → Option Target → Sited Expr
-named scope at (Some (target.Local n)) = plain (expr.Local n)
-named scope at (Some (target.Effect i)) = total at i (effect_in scope scope.own i)
-named scope at t = plain (expr.Field This (number_of t))
+-- what a name at a place stands for: a constant, or a state or the total of an effect of `this`
+abbrev pub named_as : Scope → ℕ → Option Named → Meaning Expr
+named_as scope at (Some (named.Constant n t)) = plain (expr.Local n)
+named_as scope at (Some (named.Field (field.Effect n t shared c))) =
+    made (expr.Total n t) (site_if (is_summed scope (field.Effect n t shared c)) at)
+named_as scope at (Some (named.Field (field.State n t shared))) = plain (expr.Field This n)
+named_as scope at None = plain (expr.Field This 0)
 
 -- the agent of the loop that stands in so many loops
 abbrev pub loop_agent : ℕ → Who
 loop_agent n = if nat_eq n 0 then Outer else Inner
 
--- the agent that a loop variable stands for
-abbrev pub agent_of : Option Target → Who
-agent_of t = loop_agent (number_of t)
+-- the agent of the loop of a field
+abbrev pub agent_of : Option LoopField → Who
+agent_of None = Outer
+agent_of (Some x) = loop_agent x.loops
+
+-- the number of a field of the agent of a loop
+abbrev pub loop_number : Option LoopField → ℕ
+loop_number x = number_of (option_map (λ x. x.field) x)
 
 -- an operation on one operand at a place
-abbrev pub unary : Bool → ℕ → (Option ℕ → Expr → Expr) → Sited Expr → Sited Expr
-unary is_site at op x = record {
-  sites = x.sites ++ site_if is_site at;
-  behind = λ n. op (only is_site (n + length x.sites)) (x.behind n);
-}
+abbrev pub unary : Bool → ℕ → (Option ℕ → Expr → Expr) → Meaning Expr → Meaning Expr
+unary is_site at op x = followed (λ a n. op n a) x (site_if is_site at)
 
 -- an operation on two operands at a place, the left one first
-abbrev pub binary : Bool → ℕ → (Option ℕ → Expr → Expr → Expr) → Sited Expr → Sited Expr
-    → Sited Expr
-binary is_site at op x y = record {
-  sites = x.sites ++ y.sites ++ site_if is_site at;
-  behind = λ n. op (only is_site (n + length x.sites + length y.sites)) (x.behind n)
-      (y.behind (n + length x.sites));
-}
+abbrev pub binary : Bool → ℕ → (Option ℕ → Expr → Expr → Expr) → Meaning Expr → Meaning Expr
+    → Meaning Expr
+binary is_site at op x y =
+    followed (λ (operands : Expr × Expr) n. op n operands.0 operands.1)
+    (followed (λ a b. (a, b)) x y)
+    (site_if is_site at)
 
 -- a choice: the condition first, then the two branches
-abbrev pub choice : Sited Expr → Sited Expr → Sited Expr → Sited Expr
-choice c x y = record {
-  sites = c.sites ++ x.sites ++ y.sites;
-  behind = λ n. expr.Choice (c.behind n) (x.behind (n + length c.sites))
-      (y.behind (n + length c.sites + length x.sites));
-}
+abbrev pub choice : Meaning Expr → Meaning Expr → Meaning Expr → Meaning Expr
+choice c x y =
+    followed (λ a (branches : Expr × Expr). expr.Choice a branches.0 branches.1) c
+    (followed (λ a b. (a, b)) x y)
 
 -- an expression of each kind, by the scope
-abbrev pub expression_step : ExprTree-F (Scope → Sited Expr) → Scope → Sited Expr
+abbrev pub expression_step : ExprTree-F (Scope → Meaning Expr) → Scope → Meaning Expr
 expression_step (Lit number) scope = plain (expr.Lit (literal number.digits))
 expression_step (True at) scope = plain (expr.Lit (val.Flag true))
 expression_step (False at) scope = plain (expr.Lit (val.Flag false))
-expression_step (Name name) scope = named scope name.at (stands scope name.at)
-expression_step (OfThis name at) scope = named scope at (stands scope name.at)
+expression_step (Name name) scope = named_as scope name.at (read scope name.text)
+expression_step (OfThis name at) scope = named_as scope at (read_own scope name.text)
 expression_step (OfLoop variable name) scope =
-    plain (expr.Field (agent_of (stands scope variable.at)) (number_of (stands scope name.at)))
+    plain
+    (expr.Field (agent_of (of_loop scope variable.text name.text))
+    (loop_number (of_loop scope variable.text name.text)))
 expression_step (Unary op x at) scope =
     unary (unary_faults (unary_named op)) at (expr.Unary (unary_named op)) (x scope)
 expression_step (Binary op x y at) scope =
     binary (binary_faults (binary_named op)) at (expr.Binary (binary_named op)) (x scope) (y scope)
 expression_step (Choice c x y at) scope = choice (c scope) (x scope) (y scope)
-expression_step (Rand at) scope = record { sites = at ∷ []; behind = λ n. expr.Rand n }
+expression_step (Rand at) scope = made expr.Rand (site at)
 
 -- what an expression means
-abbrev pub expression : ExprTree → Scope → Sited Expr
-expression = fold-ExprTree (Scope → Sited Expr) expression_step
-
--- one thing behind another
-abbrev pub followed : {A B C : Type 0} → (A → B → C) → Sited A → Sited B → Sited C
-followed both first second = record {
-  sites = first.sites ++ second.sites;
-  behind = λ n. both (first.behind n) (second.behind (n + length first.sites));
-}
-
--- something made of another
-abbrev pub with_sites : {A B : Type 0} → (A → B) → Sited A → Sited B
-with_sites make x = record { sites = x.sites; behind = λ n. make (x.behind n) }
+abbrev pub expression : ExprTree → Scope → Meaning Expr
+expression = fold-ExprTree (Scope → Meaning Expr) expression_step
 
 -- what a block means: each statement in the scope behind those before it
-abbrev pub block : List (Part (Sited Stmt)) → Scope → Sited (List Stmt)
+abbrev pub block : List (Part (Meaning Stmt)) → Scope → Meaning (List Stmt)
 block [] scope = plain []
 block (part ∷ parts) scope =
     followed (λ s rest. s ∷ rest) (part.here scope) (block parts (behind part scope))
 
 -- what the block of an `else` means
-abbrev pub otherwise : Option (List (Part (Sited Stmt))) → Scope → Sited (List Stmt)
+abbrev pub otherwise : Option (List (Part (Meaning Stmt))) → Scope → Meaning (List Stmt)
 otherwise None scope = plain []
 otherwise (Some parts) scope = block parts scope
 
-abbrev pub constants_otherwise : {A : Type 0} → Option (List (Part A)) → List Ty
-constants_otherwise None = []
-constants_otherwise (Some parts) = constants_in parts
-
 -- a value said to an effect of an agent, in a statement at a place
-abbrev pub assigned : Who → ℕ → ℕ → Sited Expr → Sited Stmt
-assigned who effect at x = with_sites (λ e. stmt.Assign who effect e at) x
+abbrev pub assigned : Who → ℕ → ℕ → Meaning Expr → Meaning Stmt
+assigned who effect at x = made (λ e. stmt.Assign who effect e at) x
 
--- `q.n <- x`
-abbrev pub assigned_of_loop : Ident → Ident → ExprTree → Scope → Sited Stmt
-assigned_of_loop variable name x scope =
-    assigned (agent_of (stands scope variable.at)) (number_of (stands scope name.at)) variable.at
-    (expression x scope)
+-- the number of the class of a name; of none 0
+abbrev pub number_in : Scope → Ident → ℕ
+number_in scope class = unwrap_or (class_number scope class.text) 0
+
+-- a value said to a field of `this`, in an assignment at a place
+abbrev pub said : ℕ → Ident → ExprTree → Scope → Meaning Stmt
+said at name x scope =
+    assigned This (number_of (look scope.home.own name.text)) at (expression x scope)
+
+-- a value said to a field of the agent of a loop, in an assignment at a place
+abbrev pub said_to_loop : ℕ → Option LoopField → ExprTree → Scope → Meaning Stmt
+said_to_loop at x value scope =
+    assigned (agent_of x) (loop_number x) at (expression value scope)
 
 -- a statement of each kind
-abbrev pub part_step : StmtTree-F (Part (Sited Stmt)) → Part (Sited Stmt)
+abbrev pub part_step : StmtTree-F (Part (Meaning Stmt)) → Part (Meaning Stmt)
 part_step (Const type name x at) = record {
-  constants = type_named type ∷ [];
-  here = λ scope. with_sites (stmt.Const (length scope.constants)) (expression x scope);
+  declared = Some (name, type_named type);
+  constants = 1;
+  here = λ scope. made (stmt.Const scope.constants) (expression x scope);
 }
-part_step (If condition parts other at) = record {
-  constants = constants_in parts ++ constants_otherwise other;
-  here = λ scope.
-      followed (λ (c : Expr) (blocks : List Stmt × List Stmt). stmt.If c blocks.0 blocks.1)
-      (expression condition scope)
-      (followed (λ a b. (a, b)) (block parts scope)
-      (otherwise other (past (constants_in parts) scope)));
-}
-part_step (Foreach class variable other parts at) = record {
-  constants = constants_in parts;
-  here = λ scope.
-      with_sites (λ body. stmt.Foreach (number_of (stands scope class.at)) body at)
-      (block parts (inside (number_of (stands scope class.at)) scope));
-}
-part_step (Assign name x) = record {
-  constants = [];
-  here = λ scope. assigned This (number_of (stands scope name.at)) name.at (expression x scope);
-}
-part_step (AssignThis name x at) = record {
-  constants = [];
-  here = λ scope. assigned This (number_of (stands scope name.at)) at (expression x scope);
-}
-part_step (AssignLoop variable name x) = record {
-  constants = [];
-  here = λ scope.
-      assigned (agent_of (stands scope variable.at)) (number_of (stands scope name.at)) variable.at
-      (expression x scope);
-}
+part_step (If condition parts other at) =
+    walk.plain (constants_in parts + constants_otherwise other)
+    (λ scope. followed
+    (λ (c : Expr) (blocks : List Stmt × List Stmt). stmt.If c blocks.0 blocks.1)
+    (expression condition scope)
+    (followed (λ a b. (a, b)) (block parts scope)
+    (otherwise other (past (constants_in parts) scope))))
+part_step (Foreach class variable other parts at) =
+    walk.plain (constants_in parts)
+    (λ scope. made (λ body. stmt.Foreach (number_in scope class) body at)
+    (block parts (inside class variable scope)))
+part_step (Assign name x) = walk.plain 0 (said name.at name x)
+part_step (AssignThis name x at) = walk.plain 0 (said at name x)
+part_step (AssignLoop variable name x) =
+    walk.plain 0
+    (λ scope. said_to_loop variable.at (of_loop scope variable.text name.text) x scope)
 
 -- what a statement means
-abbrev pub part : StmtTree → Part (Sited Stmt)
-part = fold-StmtTree (Part (Sited Stmt)) part_step
+abbrev pub part : StmtTree → Part (Meaning Stmt)
+part = fold-StmtTree (Part (Meaning Stmt)) part_step

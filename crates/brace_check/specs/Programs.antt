@@ -14,56 +14,56 @@ use Rattle.brace_syntax.specs.declared.tree.GiftTree.{GiftTree}
 use Rattle.brace_syntax.specs.declared.tree.MemberTree.{MemberTree}
 use Rattle.brace_syntax.specs.declared.tree.MemberTree.TheVariants as m
 use Rattle.brace_syntax.specs.declared.tree.ClassTree.{ClassTree}
-use Rattle.brace_names.specs.declared.resolved.Target.{Target}
 use Rattle.brace_names.specs.declared.resolved.Resolved.{Resolved}
-use Rattle.brace_check.specs.declared.heading.Heading.{Heading}
+use Rattle.brace_names.specs.Kinds.{type_named, comb_named}
+use Rattle.brace_names.specs.Tables.{look}
+use Rattle.brace_names.specs.Classes.{Known, known}
+use Rattle.brace_names.specs.Scopes.{Home, home_of, Scope, outermost}
 use Rattle.brace_check.specs.declared.share.Share.{Share}
-use Rattle.brace_check.specs.Headings.{type_named, comb_named, heading}
-use Rattle.brace_check.specs.Scopes.{Scope, targets_of, outermost, stands, number_of}
 use Rattle.brace_check.specs.Findings.{millionths}
-use Rattle.brace_check.specs.Meanings.{Sited, plain, followed, with_sites, expression, block, part}
+use Rattle.brace_check.specs.Meanings.{Meaning, plain, site, made, followed, number_of, expression, block, part}
 
 -- the rule of a state, where it has one
-abbrev pub rule : Option ExprTree → Scope → Sited (Option Expr)
+abbrev pub rule : Option ExprTree → Scope → Meaning (Option Expr)
 rule None scope = plain None
-rule (Some x) scope = with_sites (λ e. Some e) (expression x scope)
+rule (Some x) scope = made (λ e. Some e) (expression x scope)
 
 -- the gifts of a `spawn`, in turn
-abbrev pub gifts_in : List GiftTree → Scope → Sited (List Gift)
+abbrev pub gifts_in : List GiftTree → Scope → Meaning (List Gift)
 gifts_in [] scope = plain []
 gifts_in (g ∷ gifts) scope =
-    followed (λ e rest. record { state = number_of (stands scope g.state.at); value = e } ∷ rest)
+    followed (λ e rest. record { state = number_of (look scope.home.own g.state.text); value = e } ∷ rest)
     (expression g.value scope) (gifts_in gifts scope)
 
 -- a `spawn` at a place, whose own site comes after all those in it
-abbrev pub spawn_of : ExprTree → List GiftTree → ℕ → Scope → Sited Spawn
+abbrev pub spawn_of : ExprTree → List GiftTree → ℕ → Scope → Meaning Spawn
 spawn_of condition gifts at scope =
     followed (λ (inner : Expr × List Gift) n. record { when = inner.0; gifts = inner.1; site = n })
     (followed (λ e given. (e, given)) (expression condition scope) (gifts_in gifts scope))
-    (record { sites = at ∷ []; behind = λ n. n })
+    (site at)
 
 -- a member that has nothing of it
 abbrev pub no_share : Share
 no_share = record { states = []; queries = []; die = []; spawn = [] }
 
--- what a member of the class of a number has
-abbrev pub share : List (ℕ × Target) → List Heading → ℕ → MemberTree → Sited Share
-share targets headings own (m.State shared type name x at) =
-    with_sites
+-- what a member of a class has
+abbrev pub share : Home → MemberTree → Meaning Share
+share home (m.State shared type name x at) =
+    made
     (λ r. record no_share {
       states = record { name = name.text; ty = type_named type; shared = shared; rule = r } ∷ [];
     })
-    (rule x (outermost targets headings own false))
-share targets headings own (m.Run statements at) =
-    with_sites (λ query. record no_share { queries = query ∷ [] })
-    (block (map part statements) (outermost targets headings own true))
-share targets headings own (m.Die condition at) =
-    with_sites (λ e. record no_share { die = e ∷ [] })
-    (expression condition (outermost targets headings own false))
-share targets headings own (m.Spawn condition gifts at) =
-    with_sites (λ s. record no_share { spawn = s ∷ [] })
-    (spawn_of condition gifts at (outermost targets headings own false))
-share targets headings own _ = plain no_share
+    (rule x (outermost home false))
+share home (m.Run statements at) =
+    made (λ query. record no_share { queries = query ∷ [] })
+    (block (map part statements) (outermost home true))
+share home (m.Die condition at) =
+    made (λ e. record no_share { die = e ∷ [] })
+    (expression condition (outermost home false))
+share home (m.Spawn condition gifts at) =
+    made (λ s. record no_share { spawn = s ∷ [] })
+    (spawn_of condition gifts at (outermost home false))
+share home _ = plain no_share
 
 -- two shares, one behind the other
 abbrev pub shared_by : Share → Share → Share
@@ -75,10 +75,10 @@ shared_by a b = record {
 }
 
 -- what members have together, each behind those before it
-abbrev pub shares : List (ℕ × Target) → List Heading → ℕ → List MemberTree → Sited Share
-shares targets headings own [] = plain no_share
-shares targets headings own (member ∷ members) =
-    followed shared_by (share targets headings own member) (shares targets headings own members)
+abbrev pub shares : Home → List MemberTree → Meaning Share
+shares home [] = plain no_share
+shares home (member ∷ members) =
+    followed shared_by (share home member) (shares home members)
 
 -- the effect that a member declares, if it does
 abbrev pub effect_of : MemberTree → List Effect
@@ -119,24 +119,21 @@ class_with class all = record {
   spawn = slice_get all.spawn 0;
 }
 
--- the class of a number
-abbrev pub class_of : List (ℕ × Target) → List Heading → ℕ → ClassTree → Sited Class
-class_of targets headings number class =
-    with_sites (class_with class) (shares targets headings number class.members)
+-- a class
+abbrev pub class_of : Home → ClassTree → Meaning Class
+class_of home class = made (class_with class) (shares home class.members)
 
 -- classes, numbered from a number on
-abbrev pub classes_from : List (ℕ × Target) → List Heading → ℕ → List ClassTree → Sited (List Class)
-classes_from targets headings number [] = plain []
-classes_from targets headings number (class ∷ classes) =
-    followed (λ c rest. c ∷ rest) (class_of targets headings number class)
-    (classes_from targets headings (number + 1) classes)
+abbrev pub classes_from : Known → ℕ → List ClassTree → Meaning (List Class)
+classes_from all number [] = plain []
+classes_from all number (class ∷ classes) =
+    followed (λ c rest. c ∷ rest) (class_of (home_of all number class) class)
+    (classes_from all (number + 1) classes)
 
 -- a program, and the places of its sites
-abbrev pub program_with : Sited (List Class) → Program
-program_with all = record { classes = all.behind 0; sites = all.sites }
+abbrev pub program_with : Meaning (List Class) → Program
+program_with all = record { classes = (all []).0; sites = (all []).1 }
 
--- the program of a script with what its names stand for
+-- the program of a script whose names are resolved
 abbrev pub program_of : Resolved → Program
-program_of r =
-    program_with
-    (classes_from (targets_of r.bindings) (map heading r.tree.classes) 0 r.tree.classes)
+program_of r = program_with (classes_from (known r.tree.classes) 0 r.tree.classes)

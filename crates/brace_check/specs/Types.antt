@@ -1,53 +1,20 @@
 -- The type of an expression of a script, or the place of the first operation that does not fit its
 -- operands.
-use Rattle.std.specs.Prelude.{ℕ, Option, Some, None, option_map, option_and_then, slice_get, Result, Ok, Err}
+use Rattle.std.specs.Prelude.{ℕ, Bool, Option, Some, None, option_map, Result, Ok, Err}
 use Rattle.brace_model.specs.declared.program.Ty.{Ty}
 use Rattle.brace_model.specs.declared.program.Ty.TheVariants as ty
-use Rattle.brace_model.specs.declared.program.UnOp.{UnOp}
-use Rattle.brace_model.specs.declared.program.UnOp.TheVariants as un
-use Rattle.brace_model.specs.declared.program.BinOp.{BinOp}
-use Rattle.brace_model.specs.declared.program.BinOp.TheVariants as bin
 use Rattle.brace_model.specs.Typing.{unary_type, binary_type, choice_type}
-use Rattle.brace_syntax.specs.declared.tree.Ident.{Ident}
 use Rattle.brace_syntax.specs.declared.tree.Digits.{Digits}
 use Rattle.brace_syntax.specs.declared.tree.Digits.TheVariants as d
-use Rattle.brace_syntax.specs.declared.tree.UnName.{UnName}
-use Rattle.brace_syntax.specs.declared.tree.UnName.TheVariants as unname
-use Rattle.brace_syntax.specs.declared.tree.BinName.{BinName}
-use Rattle.brace_syntax.specs.declared.tree.BinName.TheVariants as binname
 use Rattle.brace_syntax.specs.declared.tree.ExprTree.{ExprTree}
 use Rattle.brace_syntax.specs.declared.tree.ExprTree.TheOpen.{ExprTree-F, Lit, True, False, Name, OfThis, OfLoop, Unary, Binary, Choice, Rand}
 use Rattle.brace_syntax.specs.declared.tree.ExprTree.TheFolds.{fold-ExprTree}
-use Rattle.brace_names.specs.declared.resolved.Target.{Target}
-use Rattle.brace_names.specs.declared.resolved.Target.TheVariants as target
-use Rattle.brace_check.specs.Scopes.{Scope, stands, state_in, effect_in, loop_class}
-
--- the operation of a name with one operand
-abbrev pub unary_named : UnName → UnOp
-unary_named unname.Neg = un.Neg
-unary_named unname.Not = un.Not
-unary_named unname.Abs = un.Abs
-unary_named unname.Sqrt = un.Sqrt
-unary_named unname.ToFixed = un.ToFixed
-unary_named unname.Trunc = un.Trunc
-
--- the operation of a name with two operands
-abbrev pub binary_named : BinName → BinOp
-binary_named binname.Add = bin.Add
-binary_named binname.Sub = bin.Sub
-binary_named binname.Mul = bin.Mul
-binary_named binname.Div = bin.Div
-binary_named binname.Rem = bin.Rem
-binary_named binname.Lt = bin.Lt
-binary_named binname.Le = bin.Le
-binary_named binname.Gt = bin.Gt
-binary_named binname.Ge = bin.Ge
-binary_named binname.Eq = bin.Eq
-binary_named binname.Ne = bin.Ne
-binary_named binname.And = bin.And
-binary_named binname.Or = bin.Or
-binary_named binname.Min = bin.Min
-binary_named binname.Max = bin.Max
+use Rattle.brace_names.specs.declared.declared.Field.{Field}
+use Rattle.brace_names.specs.declared.declared.Field.TheVariants as field
+use Rattle.brace_names.specs.declared.scope.Named.{Named}
+use Rattle.brace_names.specs.declared.scope.Named.TheVariants as named
+use Rattle.brace_names.specs.Kinds.{unary_named, binary_named}
+use Rattle.brace_names.specs.Scopes.{Scope, read, read_own, of_loop}
 
 -- the place of an expression: its operator's, its word's, or that of its first token
 abbrev pub place_step : ExprTree-F ℕ → ℕ
@@ -62,6 +29,7 @@ place_step (Binary op x y at) = at
 place_step (Choice c x y at) = at
 place_step (Rand at) = at
 
+-- where a fault of the whole expression stands
 abbrev pub place : ExprTree → ℕ
 place = fold-ExprTree ℕ place_step
 
@@ -70,22 +38,20 @@ abbrev pub digits_type : Digits → Ty
 digits_type (d.Int n) = ty.Int
 digits_type (d.Fixed n) = ty.Fixed
 
--- the type of a field of a class
-abbrev pub field_type : Scope → ℕ → Option Target → Option Ty
-field_type scope class (Some (target.State i)) = option_map (λ s. s.ty) (state_in scope class i)
-field_type scope class (Some (target.Effect i)) = option_map (λ e. e.ty) (effect_in scope class i)
-field_type scope class _ = None
+-- the type of a field
+abbrev pub field_type : Field → Ty
+field_type (field.State n t shared) = t
+field_type (field.Effect n t shared c) = t
 
--- the type of a constant, or of a field of `this`
-abbrev pub name_type : Scope → Option Target → Option Ty
-name_type scope (Some (target.Local n)) = slice_get scope.constants n
-name_type scope t = field_type scope scope.own t
+-- whether a field is public
+abbrev pub is_shared : Field → Bool
+is_shared (field.State n t shared) = shared
+is_shared (field.Effect n t shared c) = shared
 
--- the type of `q.n`
-abbrev pub of_loop_type : Scope → Ident → Ident → Option Ty
-of_loop_type scope variable name =
-    option_and_then (λ class. field_type scope class (stands scope name.at))
-    (loop_class scope (stands scope variable.at))
+-- the type of what `n` or `this.n` stands for
+abbrev pub named_type : Named → Ty
+named_type (named.Constant n t) = t
+named_type (named.Field f) = field_type f
 
 -- what follows from a type; a fault stands
 abbrev pub with_type : (Ty → Result Ty ℕ) → Result Ty ℕ → Result Ty ℕ
@@ -102,9 +68,11 @@ abbrev pub type_step : ExprTree-F (Scope → Result Ty ℕ) → Scope → Result
 type_step (Lit number) scope = Ok (digits_type number.digits)
 type_step (True at) scope = Ok ty.Bool
 type_step (False at) scope = Ok ty.Bool
-type_step (Name name) scope = typed_at name.at (name_type scope (stands scope name.at))
-type_step (OfThis name at) scope = typed_at at (field_type scope scope.own (stands scope name.at))
-type_step (OfLoop variable name) scope = typed_at variable.at (of_loop_type scope variable name)
+type_step (Name name) scope = typed_at name.at (option_map named_type (read scope name.text))
+type_step (OfThis name at) scope = typed_at at (option_map named_type (read_own scope name.text))
+type_step (OfLoop variable name) scope =
+    typed_at variable.at
+    (option_map (λ x. field_type x.field) (of_loop scope variable.text name.text))
 type_step (Unary op x at) scope =
     with_type (λ t. typed_at at (unary_type (unary_named op) t)) (x scope)
 type_step (Binary op x y at) scope =

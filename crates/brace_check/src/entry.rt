@@ -6,11 +6,9 @@ ghost use Rattle.brace_check.specs.Programs.{program_of};
 
 use crate::fault::CheckFault;
 use crate::found::found;
-use crate::heading::headings;
 use crate::program::program;
-use crate::targets::Targets;
 use brace_model::Program;
-use brace_names::Resolved;
+use brace_names::{Classes, Resolved};
 use std::alloc::Global;
 
 fn pass(fault: CheckFault) -> u8
@@ -84,12 +82,11 @@ pub fn check(alloc: Global, r: Resolved) -> Result<Program, CheckFault>
     ensures first { IfErr result (Refuses r) }
     ensures lawful { (src : List ℕ) → IsResolved src r → IfOk result LawfulProgram }
 {
-    let targets = Targets::of(alloc, r.bindings.as_slice())?;
     let classes = r.tree.classes.as_slice();
-    let headings = headings(alloc, classes)?;
-    let faults = found(alloc, &targets, headings.as_slice(), classes)?;
+    let known = Classes::of(alloc, classes)?;
+    let faults = found(alloc, &known, classes)?;
     if let Some(fault) = first(faults.as_slice()) {
         return Err(fault);
     }
-    Ok(program(alloc, &targets, headings.as_slice(), classes)?)
+    Ok(program(alloc, &known, classes)?)
 }

@@ -1,16 +1,14 @@
 ghost use Rattle.std.specs.Prelude.{◌≡◌, ◌++◌, OnOk, IfOk};
 ghost use Rattle.brace_model.specs.Lawful.{is_distance, combines};
 ghost use Rattle.brace_check.specs.declared.fault.CheckFault.{CheckFault};
-ghost use Rattle.brace_check.specs.Findings.{fault_if, reads, is_shared, is_private, crosses, crosses_to, reads_of_loop, assigns, gives, nests, said_type, wanted, wanted_of_loop, given_type, misfits, millionths, ranges, joins};
+ghost use Rattle.brace_check.specs.Findings.{fault_if, reads, crosses, reads_of_loop, assigns, gives, nests, loops_over, said_type, wanted, given_type, misfits, millionths, ranges, joins};
 
 use crate::fault::CheckFault;
-use crate::heading::EffectHeading;
-use crate::scope::Scope;
-use crate::types::{is_number, same_type};
+use crate::types::{is_number, is_shared, same_type};
 use brace_model::{Comb, Ty};
-use brace_names::Target;
+use brace_names::{Field, LoopField, Named, Scope};
 use brace_num::NoMemory;
-use brace_syntax::{Digits, Ident, Number};
+use brace_syntax::{Digits, Number};
 
 // A fault, where a test holds.
 fn fault_if(out: &mut Vec<CheckFault>, test: bool, fault: CheckFault) -> Result<(), NoMemory>
@@ -22,110 +20,77 @@ fn fault_if(out: &mut Vec<CheckFault>, test: bool, fault: CheckFault) -> Result<
     Ok(())
 }
 
-/// A field is read that stands at an offset.
+/// A name that stands for this is read at an offset.
 pub fn read(
     out: &mut Vec<CheckFault>,
     scope: &Scope,
     at: u32,
-    field: Option<Target>,
+    named: Option<Named>,
 ) -> Result<(), NoMemory>
-    ensures { OnOk result (out.new.items ≡ out.old.items ++ reads scope.now at field) }
+    ensures { OnOk result (out.new.items ≡ out.old.items ++ reads scope.now at named) }
 {
-    match field {
-        Some(Target::Effect(_)) => {
+    match named {
+        Some(Named::Field(Field::Effect(_, _, _, _))) => {
             fault_if(out, scope.in_query(), CheckFault::ReadsEffectInQuery(at))
         }
         _ => Ok(()),
     }
 }
 
-// Whether a field of a class is public.
-fn is_shared(scope: &Scope, class: u32, field: Option<Target>) -> Option<bool>
-    ensures { result ≡ is_shared scope.now class field }
-{
-    match field {
-        Some(Target::State(n)) => scope.state_in(class, n).map(|state| state.shared),
-        Some(Target::Effect(n)) => scope.effect_in(class, n).map(|effect| effect.shared),
-        _ => None,
-    }
-}
-
-fn is_private(shared: Option<bool>) -> bool
-    ensures { result ≡ is_private shared }
-{
-    match shared {
-        Some(false) => true,
-        _ => false,
-    }
-}
-
-fn cross(
+/// A field of the class of a loop variable is named at an offset.
+pub fn cross(
     out: &mut Vec<CheckFault>,
     scope: &Scope,
     at: u32,
-    class: Option<u32>,
-    field: Option<Target>,
+    found: Option<LoopField>,
 ) -> Result<(), NoMemory>
-    ensures { OnOk result (out.new.items ≡ out.old.items ++ crosses scope.now at class field) }
+    ensures { OnOk result (out.new.items ≡ out.old.items ++ crosses scope.now at found) }
 {
-    match class {
+    match found {
         None => Ok(()),
-        Some(class) => {
-            let test = class != scope.own() && is_private(is_shared(scope, class, field));
-            fault_if(out, test, CheckFault::PrivateOfOtherClass(at))
+        Some(found) => {
+            let may = is_shared(found.field) || found.class == scope.own();
+            fault_if(out, !may, CheckFault::PrivateOfOtherClass(at))
         }
     }
-}
-
-/// `q.n` is named.
-pub fn cross_to(
-    out: &mut Vec<CheckFault>,
-    scope: &Scope,
-    variable: &Ident,
-    name: &Ident,
-) -> Result<(), NoMemory>
-    ensures { OnOk result (out.new.items ≡ out.old.items
-        ++ crosses_to scope.now variable.now name.now) }
-{
-    let class = scope.loop_class(scope.stands(variable.at));
-    cross(out, scope, variable.at, class, scope.stands(name.at))
 }
 
 /// `q.n` in an expression.
 pub fn read_of_loop(
     out: &mut Vec<CheckFault>,
     scope: &Scope,
-    variable: &Ident,
-    name: &Ident,
+    at: u32,
+    found: Option<LoopField>,
 ) -> Result<(), NoMemory>
-    ensures { OnOk result (out.new.items ≡ out.old.items
-        ++ reads_of_loop scope.now variable.now name.now) }
+    ensures { OnOk result (out.new.items ≡ out.old.items ++ reads_of_loop scope.now at found) }
 {
     if scope.in_query() {
-        read(out, scope, variable.at, scope.stands(name.at))?;
-        cross_to(out, scope, variable, name)
+        read(out, scope, at, found.map(|found| Named::Field(found.field)))?;
+        cross(out, scope, at, found)
     } else {
-        fault_if(out, true, CheckFault::OtherAgentInUpdate(variable.at))
+        fault_if(out, true, CheckFault::OtherAgentInUpdate(at))
     }
 }
 
-/// A value is said to a target that stands at an offset.
-pub fn assign(out: &mut Vec<CheckFault>, at: u32, target: Option<Target>) -> Result<(), NoMemory>
+/// A value is said to a field that stands at an offset.
+pub fn assign(out: &mut Vec<CheckFault>, at: u32, target: Option<Field>) -> Result<(), NoMemory>
     ensures { OnOk result (out.new.items ≡ out.old.items ++ assigns at target) }
 {
     match target {
-        Some(Target::State(_)) => fault_if(out, true, CheckFault::AssignsState(at)),
-        _ => Ok(()),
+        None => fault_if(out, true, CheckFault::WrongType(at)),
+        Some(Field::State(_, _, _)) => fault_if(out, true, CheckFault::AssignsState(at)),
+        Some(Field::Effect(_, _, _, _)) => Ok(()),
     }
 }
 
-/// A child gets a value for a target at an offset.
-pub fn give(out: &mut Vec<CheckFault>, at: u32, target: Option<Target>) -> Result<(), NoMemory>
+/// A child gets a value for a field at an offset.
+pub fn give(out: &mut Vec<CheckFault>, at: u32, target: Option<Field>) -> Result<(), NoMemory>
     ensures { OnOk result (out.new.items ≡ out.old.items ++ gives at target) }
 {
     match target {
-        Some(Target::Effect(_)) => fault_if(out, true, CheckFault::AssignsEffect(at)),
-        _ => Ok(()),
+        None => fault_if(out, true, CheckFault::WrongType(at)),
+        Some(Field::State(_, _, _)) => Ok(()),
+        Some(Field::Effect(_, _, _, _)) => fault_if(out, true, CheckFault::AssignsEffect(at)),
     }
 }
 
@@ -136,40 +101,42 @@ pub fn nest(out: &mut Vec<CheckFault>, scope: &Scope, at: u32) -> Result<(), NoM
     fault_if(out, 2 <= scope.loops(), CheckFault::NestedTooDeep(at))
 }
 
-// The type that a value said to an effect is to have, where one is asked for.
-fn said_type(effect: EffectHeading) -> Option<Ty>
-    ensures { result ≡ said_type effect }
+/// A loop is over the class of a number, which stands at an offset.
+pub fn loop_over(out: &mut Vec<CheckFault>, at: u32, class: Option<u32>) -> Result<(), NoMemory>
+    ensures { OnOk result (out.new.items ≡ out.old.items ++ loops_over at class) }
 {
-    match effect.comb {
-        Comb::Count => None,
-        Comb::Sum | Comb::Min | Comb::Max | Comb::Or => Some(effect.ty),
+    match class {
+        None => fault_if(out, true, CheckFault::WrongType(at)),
+        Some(_) => Ok(()),
     }
 }
 
-/// The type that a value said to a target of a class is to have, where one is asked for.
-pub fn wanted(scope: &Scope, class: u32, target: Option<Target>) -> Option<Ty>
-    ensures { result ≡ wanted scope.now class target }
+// The type that a value said to an effect is to have, where one is asked for.
+fn said_type(comb: Comb, ty: Ty) -> Option<Ty>
+    ensures { result ≡ said_type comb ty }
+{
+    match comb {
+        Comb::Count => None,
+        Comb::Sum | Comb::Min | Comb::Max | Comb::Or => Some(ty),
+    }
+}
+
+/// The type that a value said to a field is to have, where one is asked for.
+pub fn wanted(target: Option<Field>) -> Option<Ty>
+    ensures { result ≡ wanted target }
 {
     match target {
-        Some(Target::Effect(n)) => said_type(scope.effect_in(class, n)?),
+        Some(Field::Effect(_, ty, _, comb)) => said_type(comb, ty),
         _ => None,
     }
 }
 
-/// The same of `q.n`.
-pub fn wanted_of_loop(scope: &Scope, variable: &Ident, name: &Ident) -> Option<Ty>
-    ensures { result ≡ wanted_of_loop scope.now variable.now name.now }
-{
-    let class = scope.loop_class(scope.stands(variable.at))?;
-    wanted(scope, class, scope.stands(name.at))
-}
-
-/// The type that a value given to a target is to have, where one is asked for.
-pub fn given_type(scope: &Scope, target: Option<Target>) -> Option<Ty>
-    ensures { result ≡ given_type scope.now target }
+/// The type that a value given to a field is to have, where one is asked for.
+pub fn given_type(target: Option<Field>) -> Option<Ty>
+    ensures { result ≡ given_type target }
 {
     match target {
-        Some(Target::State(n)) => scope.state_in(scope.own(), n).map(|state| state.ty),
+        Some(Field::State(_, ty, _)) => Some(ty),
         _ => None,
     }
 }

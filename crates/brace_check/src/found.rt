@@ -1,19 +1,16 @@
 ghost use Rattle.std.specs.Prelude.{◌≡◌, ◌++◌, map, flat_map, length, OnOk, IfOk};
 ghost use Rattle.brace_model.specs.declared.program.Ty.TheVariants as ty;
-ghost use Rattle.brace_check.specs.Headings.{heading};
-ghost use Rattle.brace_check.specs.Scopes.{behind, past, constants_in};
-ghost use Rattle.brace_check.specs.Found.{expression, valued, says, part, block, rule, gift, member, classes_from};
+ghost use Rattle.brace_names.specs.Scopes.{home_of, past};
+ghost use Rattle.brace_names.specs.Walk.{behind, block, constants_in, in_classes};
+ghost use Rattle.brace_check.specs.Found.{expression, valued, says, says_to_loop, part, rule, gift, member};
 
 use crate::fault::CheckFault;
 use crate::finding::{
-    assign, cross_to, fit, give, given_type, join, nest, range, read, read_of_loop, wanted,
-    wanted_of_loop,
+    assign, cross, fit, give, given_type, join, loop_over, nest, range, read, read_of_loop, wanted,
 };
-use crate::heading::{Heading, comb_named, type_named};
-use crate::scope::{Scope, number_of};
-use crate::targets::Targets;
 use crate::types::{place, type_of};
 use brace_model::Ty;
+use brace_names::{Classes, Field, Home, LoopField, Scope, comb_named, field_table, type_named};
 use brace_num::{List, NoMemory};
 use brace_syntax::{ClassTree, ExprTree, GiftTree, MemberTree, StmtTree};
 use std::alloc::Global;
@@ -24,9 +21,12 @@ fn expression(out: &mut Vec<CheckFault>, scope: &Scope, x: &ExprTree) -> Result<
 {
     match x {
         ExprTree::Lit(_) | ExprTree::True(_) | ExprTree::False(_) | ExprTree::Rand(_) => Ok(()),
-        ExprTree::Name(name) => read(out, scope, name.at, scope.stands(name.at)),
-        ExprTree::OfThis(name, at) => read(out, scope, *at, scope.stands(name.at)),
-        ExprTree::OfLoop(variable, name) => read_of_loop(out, scope, variable, name),
+        ExprTree::Name(name) => read(out, scope, name.at, scope.read(name.text.as_bytes())),
+        ExprTree::OfThis(name, at) => read(out, scope, *at, scope.read_own(name.text.as_bytes())),
+        ExprTree::OfLoop(variable, name) => {
+            let found = scope.of_loop(variable.text.as_bytes(), name.text.as_bytes());
+            read_of_loop(out, scope, variable.at, found)
+        }
         ExprTree::Unary(_, x, _) => expression(out, scope, x.get()),
         ExprTree::Binary(_, x, y, _) => {
             expression(out, scope, x.get())?;
@@ -54,15 +54,18 @@ fn value(
 }
 
 #[cycle(statements)]
-fn statement(out: &mut Vec<CheckFault>, scope: &mut Scope, s: &StmtTree) -> Result<(), NoMemory>
+fn statement<'a>(
+    out: &mut Vec<CheckFault>,
+    scope: &mut Scope<'_, '_, 'a>,
+    s: &'a StmtTree,
+) -> Result<(), NoMemory>
     ensures found { OnOk result (out.new.items ≡ out.old.items ++ (part s.now).here scope.old) }
     ensures behind { OnOk result (scope.new ≡ behind (part s.now) scope.old) }
 {
     match s {
-        StmtTree::Const(name, _, x, _) => {
-            let ty = type_named(name);
-            value(out, scope, Some(ty), x)?;
-            scope.declare(ty)
+        StmtTree::Const(ty, name, x, _) => {
+            value(out, scope, Some(type_named(ty)), x)?;
+            scope.declare(name, type_named(ty))
         }
         StmtTree::If(condition, statements, other, _) => {
             value(out, scope, Some(Ty::Bool), condition)?;
@@ -72,54 +75,76 @@ fn statement(out: &mut Vec<CheckFault>, scope: &mut Scope, s: &StmtTree) -> Resu
                 None => Ok(()),
             }
         }
-        StmtTree::Foreach(class, _, _, statements, at) => {
-            nest(out, scope, *at)?;
+        StmtTree::Foreach(class, variable, _, statements, at) => {
             let loops = scope.loops();
-            scope.enter(number_of(scope.stands(class.at)))?;
+            let names = scope.len();
+            nest(out, scope, *at)?;
+            loop_over(out, class.at, scope.class_number(class.text.as_bytes()))?;
+            scope.enter(class, variable)?;
             block(out, scope, statements)?;
-            scope.leave(loops);
+            scope.leave(loops, names);
             Ok(())
         }
-        StmtTree::Assign(name, x) => said(out, scope, name.at, name.at, x),
-        StmtTree::AssignThis(name, x, at) => said(out, scope, *at, name.at, x),
+        StmtTree::Assign(name, x) => {
+            said(out, scope, name.at, scope.field(name.text.as_bytes()), x)
+        }
+        StmtTree::AssignThis(name, x, at) => {
+            said(out, scope, *at, scope.field(name.text.as_bytes()), x)
+        }
         StmtTree::AssignLoop(variable, name, x) => {
-            assign(out, variable.at, scope.stands(name.at))?;
-            cross_to(out, scope, variable, name)?;
-            value(out, scope, wanted_of_loop(scope, variable, name), x)
+            let found = scope.of_loop(variable.text.as_bytes(), name.text.as_bytes());
+            said_to_loop(out, scope, variable.at, found, x)
         }
     }
 }
 
-// A value is said to a target of `this` whose name stands at an offset, in an assignment at an
-// offset.
+// A value is said to a field, in an assignment at an offset.
 fn said(
     out: &mut Vec<CheckFault>,
     scope: &Scope,
     at: u32,
-    name: u32,
+    target: Option<Field>,
     x: &ExprTree,
 ) -> Result<(), NoMemory>
-    ensures { OnOk result (out.new.items ≡ out.old.items ++ says scope.now at name x.now) }
+    ensures { OnOk result (out.new.items ≡ out.old.items ++ says at target x.now scope.now) }
 {
-    let target = scope.stands(name);
     assign(out, at, target)?;
-    value(out, scope, wanted(scope, scope.own(), target), x)
+    value(out, scope, wanted(target), x)
 }
 
-#[cycle(statements)]
-fn block(
+// A value is said to a field of the agent of a loop, in an assignment at an offset.
+fn said_to_loop(
     out: &mut Vec<CheckFault>,
-    scope: &mut Scope,
-    statements: &List<StmtTree>,
+    scope: &Scope,
+    at: u32,
+    target: Option<LoopField>,
+    x: &ExprTree,
+) -> Result<(), NoMemory>
+    ensures { OnOk result (out.new.items ≡ out.old.items
+        ++ says_to_loop at target x.now scope.now) }
+{
+    cross(out, scope, at, target)?;
+    said(out, scope, at, target.map(|found| found.field), x)
+}
+
+// Notes what is found in a block, and leaves its scope.
+#[cycle(statements)]
+fn block<'a>(
+    out: &mut Vec<CheckFault>,
+    scope: &mut Scope<'_, '_, 'a>,
+    statements: &'a List<StmtTree>,
 ) -> Result<(), NoMemory>
     ensures found { OnOk result (out.new.items ≡ out.old.items
         ++ block (map part statements.now) scope.old) }
     ensures behind { OnOk result (scope.new
         ≡ past (constants_in (map part statements.now)) scope.old) }
 {
+    let loops = scope.loops();
+    let len = scope.len();
     for s in statements.as_slice() {
         statement(out, scope, s)?;
     }
+    scope.leave(loops, len);
     Ok(())
 }
 
@@ -140,9 +165,9 @@ fn rule(
 fn gift(out: &mut Vec<CheckFault>, scope: &Scope, one: &GiftTree) -> Result<(), NoMemory>
     ensures { OnOk result (out.new.items ≡ out.old.items ++ gift scope.now one.now) }
 {
-    let target = scope.stands(one.state.at);
+    let target = scope.field(one.state.text.as_bytes());
     give(out, one.state.at, target)?;
-    value(out, scope, given_type(scope, target), &one.value)
+    value(out, scope, given_type(target), &one.value)
 }
 
 // Notes what is found in gifts.
@@ -155,16 +180,13 @@ fn gifts(out: &mut Vec<CheckFault>, scope: &Scope, given: &List<GiftTree>) -> Re
     Ok(())
 }
 
-fn member(
+fn member<'a>(
     alloc: Global,
     out: &mut Vec<CheckFault>,
-    targets: &Targets,
-    headings: &[Heading],
-    own: u32,
-    one: &MemberTree,
+    home: &Home<'_, 'a>,
+    one: &'a MemberTree,
 ) -> Result<(), NoMemory>
-    ensures { OnOk result (out.new.items ≡ out.old.items
-        ++ member targets.now headings.now own one.now) }
+    ensures { OnOk result (out.new.items ≡ out.old.items ++ member home.now one.now) }
 {
     match one {
         MemberTree::Visible(number, _) | MemberTree::Reach(number, _) => range(out, number),
@@ -172,19 +194,18 @@ fn member(
             join(out, comb_named(*comb), type_named(ty), name.at)
         }
         MemberTree::Run(statements, _) => {
-            let mut scope = Scope::outermost(alloc, targets, headings, own, true);
+            let mut scope = Scope::outermost(alloc, home, true);
             block(out, &mut scope, statements)
         }
         MemberTree::State(_, ty, _, x, _) => {
-            let scope = Scope::outermost(alloc, targets, headings, own, false);
-            rule(out, &scope, type_named(ty), x)
+            rule(out, &Scope::outermost(alloc, home, false), type_named(ty), x)
         }
         MemberTree::Die(condition, _) => {
-            let scope = Scope::outermost(alloc, targets, headings, own, false);
+            let scope = Scope::outermost(alloc, home, false);
             value(out, &scope, Some(Ty::Bool), condition)
         }
         MemberTree::Spawn(condition, given, _) => {
-            let scope = Scope::outermost(alloc, targets, headings, own, false);
+            let scope = Scope::outermost(alloc, home, false);
             value(out, &scope, Some(Ty::Bool), condition)?;
             gifts(out, &scope, given)
         }
@@ -192,36 +213,40 @@ fn member(
 }
 
 // Notes what is found in the class of a number.
-fn class(
+fn class<'a>(
     alloc: Global,
     out: &mut Vec<CheckFault>,
-    targets: &Targets,
-    headings: &[Heading],
-    own: u32,
-    one: &ClassTree,
+    known: &Classes<'a>,
+    number: u32,
+    one: &'a ClassTree,
 ) -> Result<(), NoMemory>
     ensures { OnOk result (out.new.items ≡ out.old.items
-        ++ flat_map (member targets.now headings.now own) one.now.members) }
+        ++ flat_map (member (home_of known.now number one.now)) one.now.members) }
 {
+    let own = field_table(alloc, one)?;
+    let home = Home {
+        known,
+        number,
+        own: &own,
+    };
     for m in one.members.as_slice() {
-        member(alloc, out, targets, headings, own, m)?;
+        member(alloc, out, &home, m)?;
     }
     Ok(())
 }
 
 /// The faults of the check passes in classes, in finishing order.
-pub fn found(
+pub fn found<'a>(
     alloc: Global,
-    targets: &Targets,
-    headings: &[Heading],
-    classes: &[ClassTree],
+    known: &Classes<'a>,
+    classes: &'a [ClassTree],
 ) -> Result<Vec<CheckFault>, NoMemory>
-    ensures { IfOk result (λ all. all.items ≡ classes_from targets.now headings.now 0 classes.now) }
+    ensures { IfOk result (λ all. all.items ≡ in_classes member known.now 0 classes.now) }
 {
     let mut out = Vec::new(alloc);
     let mut number = 0;
     for one in classes {
-        class(alloc, &mut out, targets, headings, number, one)?;
+        class(alloc, &mut out, known, number, one)?;
         number = number.checked_add(1).ok_or(NoMemory)?;
     }
     Ok(out)

@@ -5,14 +5,11 @@ mod entry;
 mod fault;
 mod finding;
 mod found;
-mod heading;
 pub mod laws;
 mod meaning;
 mod program;
-mod scope;
 mod share;
 mod statement;
-mod targets;
 mod types;
 
 pub use entry::check;

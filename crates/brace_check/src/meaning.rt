@@ -1,20 +1,20 @@
-ghost use Rattle.std.specs.Prelude.{◌≡◌, [], ◌∷◌, ◌++◌, length, OnOk, IfOk};
-ghost use Rattle.brace_model.specs.Typing.{only, is_sum, unary_faults, binary_faults};
-ghost use Rattle.brace_check.specs.Scopes.{effect_in};
-ghost use Rattle.brace_check.specs.Meanings.{site_if, literal, total, named, loop_agent, agent_of, expression};
+ghost use Rattle.std.specs.Prelude.{◌≡◌, not, ◌&&◌, OnOk, IfOk};
+ghost use Rattle.brace_model.specs.Typing.{is_sum};
+ghost use Rattle.brace_names.specs.Findings.{is_summed};
+ghost use Rattle.brace_check.specs.Meanings.{site, site_if, literal, number_of, named_as, loop_agent, agent_of, loop_number, expression};
 
-use crate::scope::{Scope, number_of};
-use crate::types::{binary_named, unary_named};
-use brace_model::{BinOp, Comb, Expr, Ty, UnOp, Value, Who};
-use brace_names::Target;
+use brace_model::{Comb, Expr, Value, Who};
+use brace_names::{
+    Field, LoopField, Named, Scope, binary_faults, binary_named, is_sum, unary_faults, unary_named,
+};
 use brace_num::{Boxed, NoMemory};
 use brace_syntax::{Digits, ExprTree};
 use std::alloc::Global;
 
 /// Notes a site at an offset, and gives its number.
 pub fn site(sites: &mut Vec<u32>, at: u32) -> Result<u32, NoMemory>
-    ensures noted { OnOk result (sites.new.items ≡ sites.old.items ++ at ∷ []) }
-    ensures number { IfOk result (λ n. n ≡ length sites.old.items) }
+    ensures noted { OnOk result (sites.new.items ≡ (site at sites.old.items).1) }
+    ensures number { IfOk result (λ n. n ≡ (site at sites.old.items).0) }
 {
     let number = u32::try_from(sites.len()).ok().ok_or(NoMemory)?;
     sites.push(at)?;
@@ -23,8 +23,8 @@ pub fn site(sites: &mut Vec<u32>, at: u32) -> Result<u32, NoMemory>
 
 // The same, where an operation is a site.
 fn site_if(sites: &mut Vec<u32>, test: bool, at: u32) -> Result<Option<u32>, NoMemory>
-    ensures noted { OnOk result (sites.new.items ≡ sites.old.items ++ site_if test at) }
-    ensures number { IfOk result (λ n. n ≡ only test (length sites.old.items)) }
+    ensures noted { OnOk result (sites.new.items ≡ (site_if test at sites.old.items).1) }
+    ensures number { IfOk result (λ n. n ≡ (site_if test at sites.old.items).0) }
 {
     if test {
         Ok(Some(site(sites, at)?))
@@ -42,80 +42,68 @@ fn literal(digits: Digits) -> Value
     }
 }
 
-fn is_sum(comb: Comb) -> bool
-    ensures { result ≡ is_sum comb }
+/// The number of a field among the states or the effects of its class; of nothing 0, which no resolved
+/// script has.
+pub fn number_of(field: Option<Field>) -> u32
+    ensures { result ≡ number_of field }
 {
-    match comb {
-        Comb::Sum => true,
-        Comb::Min | Comb::Max | Comb::Count | Comb::Or => false,
+    match field {
+        Some(Field::State(number, _, _) | Field::Effect(number, _, _, _)) => number,
+        None => 0,
     }
 }
 
-fn unary_faults(op: UnOp) -> bool
-    ensures { result ≡ unary_faults op }
+// The total of an effect is read at a site, where it is added up.
+fn is_total_site(scope: &Scope, comb: Comb) -> bool
+    ensures { result ≡ (not scope.now.in_query && is_sum comb) }
 {
-    match op {
-        UnOp::Neg | UnOp::Abs | UnOp::Sqrt | UnOp::ToFixed => true,
-        UnOp::Not | UnOp::Trunc => false,
-    }
+    !scope.in_query() && is_sum(comb)
 }
 
-fn binary_faults(op: BinOp) -> bool
-    ensures { result ≡ binary_faults op }
-{
-    match op {
-        BinOp::Add | BinOp::Sub | BinOp::Mul | BinOp::Div | BinOp::Rem => true,
-        BinOp::Lt | BinOp::Le | BinOp::Gt | BinOp::Ge => false,
-        BinOp::Eq | BinOp::Ne | BinOp::And | BinOp::Or => false,
-        BinOp::Min | BinOp::Max => false,
-    }
-}
-
-// The total of an effect of `this` that is named at an offset.
-fn total(sites: &mut Vec<u32>, scope: &Scope, at: u32, number: u32) -> Result<Expr, NoMemory>
-    ensures noted { OnOk result (sites.new.items ≡ sites.old.items
-        ++ (total at number (effect_in scope.now scope.now.own number)).sites) }
+// What a name at an offset stands for.
+fn named_as(
+    sites: &mut Vec<u32>,
+    scope: &Scope,
+    at: u32,
+    named: Option<Named>,
+) -> Result<Expr, NoMemory>
+    ensures noted { OnOk result (sites.new.items
+        ≡ (named_as scope.now at named sites.old.items).1) }
     ensures meant { IfOk result (λ e. e
-        ≡ (total at number (effect_in scope.now scope.now.own number)).behind
-        (length sites.old.items)) }
+        ≡ (named_as scope.now at named sites.old.items).0) }
 {
-    match scope.effect_in(scope.own(), number) {
-        None => Ok(Expr::Total(number, Ty::Int, None)),
-        Some(effect) => {
-            let site = site_if(sites, is_sum(effect.comb), at)?;
-            Ok(Expr::Total(number, effect.ty, site))
+    match named {
+        Some(Named::Constant(number, _)) => Ok(Expr::Local(number)),
+        Some(Named::Field(Field::State(number, _, _))) => Ok(Expr::Field(Who::This, number)),
+        Some(Named::Field(Field::Effect(number, ty, _, comb))) => {
+            let site = site_if(sites, is_total_site(scope, comb), at)?;
+            Ok(Expr::Total(number, ty, site))
+        }
+        None => Ok(Expr::Field(Who::This, 0)),
+    }
+}
+
+/// The agent of the loop of a field.
+pub fn agent_of(found: Option<LoopField>) -> Who
+    ensures { result ≡ agent_of found }
+{
+    match found {
+        None => Who::Outer,
+        Some(found) => {
+            if found.loops == 0 {
+                Who::Outer
+            } else {
+                Who::Inner
+            }
         }
     }
 }
 
-// A constant, or a field of `this`, that is named at an offset.
-fn named(
-    sites: &mut Vec<u32>,
-    scope: &Scope,
-    at: u32,
-    target: Option<Target>,
-) -> Result<Expr, NoMemory>
-    ensures noted { OnOk result (sites.new.items ≡ sites.old.items
-        ++ (named scope.now at target).sites) }
-    ensures meant { IfOk result (λ e. e
-        ≡ (named scope.now at target).behind (length sites.old.items)) }
+/// The number of a field of the agent of a loop.
+pub fn loop_number(found: Option<LoopField>) -> u32
+    ensures { result ≡ loop_number found }
 {
-    match target {
-        Some(Target::Local(number)) => Ok(Expr::Local(number)),
-        Some(Target::Effect(number)) => total(sites, scope, at, number),
-        _ => Ok(Expr::Field(Who::This, number_of(target))),
-    }
-}
-
-/// The agent that a loop variable stands for.
-pub fn agent_of(variable: Option<Target>) -> Who
-    ensures { result ≡ agent_of variable }
-{
-    if number_of(variable) == 0 {
-        Who::Outer
-    } else {
-        Who::Inner
-    }
+    number_of(found.map(|found| found.field))
 }
 
 /// What an expression means. Its sites are noted in finishing order.
@@ -125,20 +113,24 @@ pub fn expression(
     scope: &Scope,
     x: &ExprTree,
 ) -> Result<Expr, NoMemory>
-    ensures noted { OnOk result (sites.new.items ≡ sites.old.items
-        ++ (expression x.now scope.now).sites) }
+    ensures noted { OnOk result (sites.new.items
+        ≡ (expression x.now scope.now sites.old.items).1) }
     ensures meant { IfOk result (λ e. e
-        ≡ (expression x.now scope.now).behind (length sites.old.items)) }
+        ≡ (expression x.now scope.now sites.old.items).0) }
 {
     match x {
         ExprTree::Lit(number) => Ok(Expr::Lit(literal(number.digits))),
         ExprTree::True(_) => Ok(Expr::Lit(Value::Flag(true))),
         ExprTree::False(_) => Ok(Expr::Lit(Value::Flag(false))),
-        ExprTree::Name(name) => named(sites, scope, name.at, scope.stands(name.at)),
-        ExprTree::OfThis(name, at) => named(sites, scope, *at, scope.stands(name.at)),
+        ExprTree::Name(name) => {
+            named_as(sites, scope, name.at, scope.read(name.text.as_bytes()))
+        }
+        ExprTree::OfThis(name, at) => {
+            named_as(sites, scope, *at, scope.read_own(name.text.as_bytes()))
+        }
         ExprTree::OfLoop(variable, name) => {
-            let agent = agent_of(scope.stands(variable.at));
-            Ok(Expr::Field(agent, number_of(scope.stands(name.at))))
+            let found = scope.of_loop(variable.text.as_bytes(), name.text.as_bytes());
+            Ok(Expr::Field(agent_of(found), loop_number(found)))
         }
         ExprTree::Unary(op, x, at) => {
             let op = unary_named(*op);

@@ -1,11 +1,11 @@
-ghost use Rattle.std.specs.Prelude.{◌≡◌, ◌++◌, flat_map, length, slice_get, OnOk, IfOk};
+ghost use Rattle.std.specs.Prelude.{◌≡◌, flat_map, slice_get, OnOk, IfOk};
+ghost use Rattle.brace_names.specs.Scopes.{home_of};
 ghost use Rattle.brace_check.specs.Programs.{effect_of, visible_of, reach_of, first_or_0, place_of, class_with, class_of, classes_from, program_with};
 
 use crate::finding::millionths;
-use crate::heading::{Heading, comb_named, type_named};
 use crate::share::{Share, shares};
-use crate::targets::Targets;
 use brace_model::{Class, Effect, Program, State};
+use brace_names::{Classes, Home, comb_named, field_table, type_named};
 use brace_num::{List, NoMemory};
 use brace_syntax::{ClassTree, MemberTree};
 use std::alloc::Global;
@@ -95,57 +95,59 @@ fn class_with(alloc: Global, class: &ClassTree, all: Share) -> Result<Class, NoM
 }
 
 // The class of a number. Its sites are noted in finishing order.
-fn class_of(
+fn class_of<'a>(
     alloc: Global,
     sites: &mut Vec<u32>,
-    targets: &Targets,
-    headings: &[Heading],
+    known: &Classes<'a>,
     number: u32,
-    class: &ClassTree,
+    class: &'a ClassTree,
 ) -> Result<Class, NoMemory>
-    ensures noted { OnOk result (sites.new.items ≡ sites.old.items
-        ++ (class_of targets.now headings.now number class.now).sites) }
+    ensures noted { OnOk result (sites.new.items
+        ≡ (class_of (home_of known.now number class.now) class.now sites.old.items).1) }
     ensures meant { IfOk result (λ c. c
-        ≡ (class_of targets.now headings.now number class.now).behind (length sites.old.items)) }
+        ≡ (class_of (home_of known.now number class.now) class.now sites.old.items).0) }
 {
-    let all = shares(alloc, sites, targets, headings, number, class)?;
+    let own = field_table(alloc, class)?;
+    let home = Home {
+        known,
+        number,
+        own: &own,
+    };
+    let all = shares(alloc, sites, &home, class)?;
     class_with(alloc, class, all)
 }
 
 // The classes of a script. Their sites are noted in finishing order.
-fn classes(
+fn classes<'a>(
     alloc: Global,
     sites: &mut Vec<u32>,
-    targets: &Targets,
-    headings: &[Heading],
-    trees: &[ClassTree],
+    known: &Classes<'a>,
+    trees: &'a [ClassTree],
 ) -> Result<List<Class>, NoMemory>
-    ensures noted { OnOk result (sites.new.items ≡ sites.old.items
-        ++ (classes_from targets.now headings.now 0 trees.now).sites) }
+    ensures noted { OnOk result (sites.new.items
+        ≡ (classes_from known.now 0 trees.now sites.old.items).1) }
     ensures meant { IfOk result (λ c. c
-        ≡ (classes_from targets.now headings.now 0 trees.now).behind (length sites.old.items)) }
+        ≡ (classes_from known.now 0 trees.now sites.old.items).0) }
 {
     let mut all = List::new(alloc);
     let mut number = 0;
     for class in trees {
-        all.push(class_of(alloc, sites, targets, headings, number, class)?)?;
+        all.push(class_of(alloc, sites, known, number, class)?)?;
         number = number.checked_add(1).ok_or(NoMemory)?;
     }
     Ok(all)
 }
 
-/// The program of classes whose names at offsets stand for these targets.
-pub fn program(
+/// The program of the classes of a script, which declares what is known.
+pub fn program<'a>(
     alloc: Global,
-    targets: &Targets,
-    headings: &[Heading],
-    trees: &[ClassTree],
+    known: &Classes<'a>,
+    trees: &'a [ClassTree],
 ) -> Result<Program, NoMemory>
-    ensures { IfOk result (λ p. p
-        ≡ program_with (classes_from targets.now headings.now 0 trees.now)) }
+    ensures { IfOk result (λ p. p ≡ program_with (classes_from known.now 0 trees.now)) }
 {
     let mut sites = Vec::new(alloc);
-    let classes = classes(alloc, &mut sites, targets, headings, trees)?;
+    let classes = classes(alloc, &mut sites, known, trees)?;
     Ok(Program {
         classes,
         sites: List::from_vec(sites),

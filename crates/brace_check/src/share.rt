@@ -1,12 +1,10 @@
-ghost use Rattle.std.specs.Prelude.{◌≡◌, ◌++◌, map, length, OnOk, IfOk};
+ghost use Rattle.std.specs.Prelude.{◌≡◌, map, OnOk, IfOk};
 ghost use Rattle.brace_check.specs.Programs.{rule, gifts_in, spawn_of, no_share, share, shared_by, shares};
 
-use crate::heading::{Heading, type_named};
-use crate::meaning::{expression, site};
-use crate::scope::{Scope, number_of};
+use crate::meaning::{expression, number_of, site};
 use crate::statement::block;
-use crate::targets::Targets;
 use brace_model::{Expr, Gift, Spawn, State, Stmt};
+use brace_names::{Home, Scope, type_named};
 use brace_num::{List, NoMemory};
 use brace_syntax::{ClassTree, ExprTree, GiftTree, MemberTree};
 use std::alloc::Global;
@@ -26,9 +24,9 @@ fn rule(
     scope: &Scope,
     x: &Option<ExprTree>,
 ) -> Result<Option<Expr>, NoMemory>
-    ensures noted { OnOk result (sites.new.items ≡ sites.old.items
-        ++ (rule x.now scope.now).sites) }
-    ensures meant { IfOk result (λ r. r ≡ (rule x.now scope.now).behind (length sites.old.items)) }
+    ensures noted { OnOk result (sites.new.items
+        ≡ (rule x.now scope.now sites.old.items).1) }
+    ensures meant { IfOk result (λ r. r ≡ (rule x.now scope.now sites.old.items).0) }
 {
     match x {
         Some(x) => Ok(Some(expression(alloc, sites, scope, x)?)),
@@ -43,14 +41,14 @@ fn gifts(
     scope: &Scope,
     given: &List<GiftTree>,
 ) -> Result<List<Gift>, NoMemory>
-    ensures noted { OnOk result (sites.new.items ≡ sites.old.items
-        ++ (gifts_in given.now scope.now).sites) }
+    ensures noted { OnOk result (sites.new.items
+        ≡ (gifts_in given.now scope.now sites.old.items).1) }
     ensures meant { IfOk result (λ gifts. gifts
-        ≡ (gifts_in given.now scope.now).behind (length sites.old.items)) }
+        ≡ (gifts_in given.now scope.now sites.old.items).0) }
 {
     let mut gifts = List::new(alloc);
     for one in given.as_slice() {
-        let state = number_of(scope.stands(one.state.at));
+        let state = number_of(scope.field(one.state.text.as_bytes()));
         let value = expression(alloc, sites, scope, &one.value)?;
         gifts.push(Gift { state, value })?;
     }
@@ -66,10 +64,10 @@ fn spawn(
     given: &List<GiftTree>,
     at: u32,
 ) -> Result<Spawn, NoMemory>
-    ensures noted { OnOk result (sites.new.items ≡ sites.old.items
-        ++ (spawn_of condition.now given.now at scope.now).sites) }
+    ensures noted { OnOk result (sites.new.items
+        ≡ (spawn_of condition.now given.now at scope.now sites.old.items).1) }
     ensures meant { IfOk result (λ s. s
-        ≡ (spawn_of condition.now given.now at scope.now).behind (length sites.old.items)) }
+        ≡ (spawn_of condition.now given.now at scope.now sites.old.items).0) }
 {
     let when = expression(alloc, sites, scope, condition)?;
     let gifts = gifts(alloc, sites, scope, given)?;
@@ -77,25 +75,23 @@ fn spawn(
     Ok(Spawn { when, gifts, site })
 }
 
-// Adds what a member of the class of a number has.
-fn add(
+// Adds what a member of a class has.
+fn add<'a>(
     alloc: Global,
     sites: &mut Vec<u32>,
     all: &mut Share,
-    targets: &Targets,
-    headings: &[Heading],
-    own: u32,
-    one: &MemberTree,
+    home: &Home<'_, 'a>,
+    one: &'a MemberTree,
 ) -> Result<(), NoMemory>
-    ensures noted { OnOk result (sites.new.items ≡ sites.old.items
-        ++ (share targets.now headings.now own one.now).sites) }
+    ensures noted { OnOk result (sites.new.items
+        ≡ (share home.now one.now sites.old.items).1) }
     ensures meant { OnOk result (all.new
         ≡ shared_by all.old
-        ((share targets.now headings.now own one.now).behind (length sites.old.items))) }
+        ((share home.now one.now sites.old.items).0)) }
 {
     match one {
         MemberTree::State(shared, ty, name, x, _) => {
-            let scope = Scope::outermost(alloc, targets, headings, own, false);
+            let scope = Scope::outermost(alloc, home, false);
             let rule = rule(alloc, sites, &scope, x)?;
             all.states.push(State {
                 name: name.text.copy(alloc)?,
@@ -105,17 +101,17 @@ fn add(
             })
         }
         MemberTree::Run(statements, _) => {
-            let mut scope = Scope::outermost(alloc, targets, headings, own, true);
+            let mut scope = Scope::outermost(alloc, home, true);
             let query = block(alloc, sites, &mut scope, statements)?;
             all.queries.push(query)
         }
         MemberTree::Die(condition, _) => {
-            let scope = Scope::outermost(alloc, targets, headings, own, false);
+            let scope = Scope::outermost(alloc, home, false);
             let condition = expression(alloc, sites, &scope, condition)?;
             all.die.push(condition)
         }
         MemberTree::Spawn(condition, given, at) => {
-            let scope = Scope::outermost(alloc, targets, headings, own, false);
+            let scope = Scope::outermost(alloc, home, false);
             let spawn = spawn(alloc, sites, &scope, condition, given, *at)?;
             all.spawn.push(spawn)
         }
@@ -124,21 +120,17 @@ fn add(
     }
 }
 
-/// What the members of the class of a number have together. Their sites are noted in finishing
-/// order.
-pub fn shares(
+/// What the members of a class have together. Their sites are noted in finishing order.
+pub fn shares<'a>(
     alloc: Global,
     sites: &mut Vec<u32>,
-    targets: &Targets,
-    headings: &[Heading],
-    own: u32,
-    class: &ClassTree,
+    home: &Home<'_, 'a>,
+    class: &'a ClassTree,
 ) -> Result<Share, NoMemory>
-    ensures noted { OnOk result (sites.new.items ≡ sites.old.items
-        ++ (shares targets.now headings.now own class.now.members).sites) }
+    ensures noted { OnOk result (sites.new.items
+        ≡ (shares home.now class.now.members sites.old.items).1) }
     ensures meant { IfOk result (λ s. s
-        ≡ (shares targets.now headings.now own class.now.members).behind
-        (length sites.old.items)) }
+        ≡ (shares home.now class.now.members sites.old.items).0) }
 {
     let mut all = Share {
         states: List::new(alloc),
@@ -147,7 +139,7 @@ pub fn shares(
         spawn: List::new(alloc),
     };
     for one in class.members.as_slice() {
-        add(alloc, sites, &mut all, targets, headings, own, one)?;
+        add(alloc, sites, &mut all, home, one)?;
     }
     Ok(all)
 }

@@ -1,21 +1,15 @@
-ghost use Rattle.std.specs.Prelude.{◌≡◌, ◌++◌, map, length, OnOk, IfOk};
-ghost use Rattle.brace_check.specs.Scopes.{behind, past, constants_in};
-ghost use Rattle.brace_check.specs.Meanings.{assigned, assigned_of_loop, expression, part, block};
+ghost use Rattle.std.specs.Prelude.{◌≡◌, map, unwrap_or, OnOk, IfOk};
+ghost use Rattle.brace_names.specs.Tables.{look};
+ghost use Rattle.brace_names.specs.Scopes.{past};
+ghost use Rattle.brace_names.specs.Walk.{behind, constants_in};
+ghost use Rattle.brace_check.specs.Meanings.{assigned, number_in, said, said_to_loop, expression, part, block};
 
-use crate::heading::type_named;
-use crate::meaning::{agent_of, expression};
-use crate::scope::{Scope, number_of};
+use crate::meaning::{agent_of, expression, loop_number, number_of};
 use brace_model::{Stmt, Who};
+use brace_names::{LoopField, Scope, type_named};
 use brace_num::{List, NoMemory};
 use brace_syntax::{ExprTree, Ident, StmtTree};
 use std::alloc::Global;
-
-// The number of the constant that is declared next.
-fn next_constant(scope: &Scope) -> Result<u32, NoMemory>
-    ensures { IfOk result (λ n. n ≡ length scope.now.constants) }
-{
-    u32::try_from(scope.constants()).ok().ok_or(NoMemory)
-}
 
 // A value said to an effect of an agent, in a statement at an offset.
 fn assigned(
@@ -27,53 +21,75 @@ fn assigned(
     at: u32,
     x: &ExprTree,
 ) -> Result<Stmt, NoMemory>
-    ensures noted { OnOk result (sites.new.items ≡ sites.old.items
-        ++ (expression x.now scope.now).sites) }
+    ensures noted { OnOk result (sites.new.items
+        ≡ (expression x.now scope.now sites.old.items).1) }
     ensures meant { IfOk result (λ s. s
-        ≡ (assigned who effect at (expression x.now scope.now)).behind (length sites.old.items)) }
+        ≡ (assigned who effect at (expression x.now scope.now) sites.old.items).0) }
 {
     let x = expression(alloc, sites, scope, x)?;
     Ok(Stmt::Assign(who, effect, x, at))
 }
 
-// `q.n <- x`.
-fn assigned_of_loop(
+// A value said to a field of `this`, in an assignment at an offset.
+fn said(
     alloc: Global,
     sites: &mut Vec<u32>,
     scope: &Scope,
-    variable: &Ident,
+    at: u32,
     name: &Ident,
     x: &ExprTree,
 ) -> Result<Stmt, NoMemory>
-    ensures noted { OnOk result (sites.new.items ≡ sites.old.items
-        ++ (expression x.now scope.now).sites) }
+    ensures noted { OnOk result (sites.new.items
+        ≡ (said at name.now x.now scope.now sites.old.items).1) }
     ensures meant { IfOk result (λ s. s
-        ≡ (assigned_of_loop variable.now name.now x.now scope.now).behind
-        (length sites.old.items)) }
+        ≡ (said at name.now x.now scope.now sites.old.items).0) }
 {
-    let agent = agent_of(scope.stands(variable.at));
-    let effect = number_of(scope.stands(name.at));
-    assigned(alloc, sites, scope, agent, effect, variable.at, x)
+    let effect = number_of(scope.field(name.text.as_bytes()));
+    assigned(alloc, sites, scope, Who::This, effect, at, x)
+}
+
+// A value said to a field of the agent of a loop, in an assignment at an offset.
+fn said_to_loop(
+    alloc: Global,
+    sites: &mut Vec<u32>,
+    scope: &Scope,
+    at: u32,
+    found: Option<LoopField>,
+    x: &ExprTree,
+) -> Result<Stmt, NoMemory>
+    ensures noted { OnOk result (sites.new.items
+        ≡ (said_to_loop at found x.now scope.now sites.old.items).1) }
+    ensures meant { IfOk result (λ s. s
+        ≡ (said_to_loop at found x.now scope.now sites.old.items).0) }
+{
+    assigned(alloc, sites, scope, agent_of(found), loop_number(found), at, x)
+}
+
+// The number of the class of a name.
+fn number_in(scope: &Scope, class: &Ident) -> u32
+    ensures { result ≡ number_in scope.now class.now }
+{
+    scope.class_number(class.text.as_bytes()).unwrap_or(0)
 }
 
 #[cycle(statements)]
-fn statement(
+fn statement<'a>(
     alloc: Global,
     sites: &mut Vec<u32>,
-    scope: &mut Scope,
-    s: &StmtTree,
+    scope: &mut Scope<'_, '_, 'a>,
+    s: &'a StmtTree,
 ) -> Result<Stmt, NoMemory>
-    ensures noted { OnOk result (sites.new.items ≡ sites.old.items
-        ++ ((part s.now).here scope.old).sites) }
+    ensures noted { OnOk result (sites.new.items
+        ≡ ((part s.now).here scope.old sites.old.items).1) }
     ensures meant { IfOk result (λ stmt. stmt
-        ≡ ((part s.now).here scope.old).behind (length sites.old.items)) }
+        ≡ ((part s.now).here scope.old sites.old.items).0) }
     ensures behind { OnOk result (scope.new ≡ behind (part s.now) scope.old) }
 {
     match s {
-        StmtTree::Const(name, _, x, _) => {
-            let number = next_constant(scope)?;
+        StmtTree::Const(ty, name, x, _) => {
+            let number = scope.constants();
             let x = expression(alloc, sites, scope, x)?;
-            scope.declare(type_named(name))?;
+            scope.declare(name, type_named(ty))?;
             Ok(Stmt::Const(number, x))
         }
         StmtTree::If(condition, statements, other, _) => {
@@ -85,46 +101,45 @@ fn statement(
             };
             Ok(Stmt::If(condition, statements, other))
         }
-        StmtTree::Foreach(class, _, _, statements, at) => {
-            let class = number_of(scope.stands(class.at));
+        StmtTree::Foreach(class, variable, _, statements, at) => {
+            let number = number_in(scope, class);
             let loops = scope.loops();
-            scope.enter(class)?;
+            let names = scope.len();
+            scope.enter(class, variable)?;
             let statements = block(alloc, sites, scope, statements)?;
-            scope.leave(loops);
-            Ok(Stmt::Foreach(class, statements, *at))
+            scope.leave(loops, names);
+            Ok(Stmt::Foreach(number, statements, *at))
         }
-        StmtTree::Assign(name, x) => {
-            let effect = number_of(scope.stands(name.at));
-            assigned(alloc, sites, scope, Who::This, effect, name.at, x)
-        }
-        StmtTree::AssignThis(name, x, at) => {
-            let effect = number_of(scope.stands(name.at));
-            assigned(alloc, sites, scope, Who::This, effect, *at, x)
-        }
+        StmtTree::Assign(name, x) => said(alloc, sites, scope, name.at, name, x),
+        StmtTree::AssignThis(name, x, at) => said(alloc, sites, scope, *at, name, x),
         StmtTree::AssignLoop(variable, name, x) => {
-            assigned_of_loop(alloc, sites, scope, variable, name, x)
+            let found = scope.of_loop(variable.text.as_bytes(), name.text.as_bytes());
+            said_to_loop(alloc, sites, scope, variable.at, found, x)
         }
     }
 }
 
-/// What a block means. Its sites are noted in finishing order, and the scope is left behind it.
+/// What a block means. Its sites are noted in finishing order, and its scope is left.
 #[cycle(statements)]
-pub fn block(
+pub fn block<'a>(
     alloc: Global,
     sites: &mut Vec<u32>,
-    scope: &mut Scope,
-    statements: &List<StmtTree>,
+    scope: &mut Scope<'_, '_, 'a>,
+    statements: &'a List<StmtTree>,
 ) -> Result<List<Stmt>, NoMemory>
-    ensures noted { OnOk result (sites.new.items ≡ sites.old.items
-        ++ (block (map part statements.now) scope.old).sites) }
+    ensures noted { OnOk result (sites.new.items
+        ≡ (block (map part statements.now) scope.old sites.old.items).1) }
     ensures meant { IfOk result (λ b. b
-        ≡ (block (map part statements.now) scope.old).behind (length sites.old.items)) }
+        ≡ (block (map part statements.now) scope.old sites.old.items).0) }
     ensures behind { OnOk result (scope.new
         ≡ past (constants_in (map part statements.now)) scope.old) }
 {
+    let loops = scope.loops();
+    let len = scope.len();
     let mut meant = List::new(alloc);
     for s in statements.as_slice() {
         meant.push(statement(alloc, sites, scope, s)?)?;
     }
+    scope.leave(loops, len);
     Ok(meant)
 }

@@ -1,48 +1,11 @@
 ghost use Rattle.std.specs.Prelude.{◌≡◌};
 ghost use Rattle.brace_model.specs.Typing.{same_type, is_number, unary_type, operation_type, binary_type, choice_type};
-ghost use Rattle.brace_check.specs.Types.{unary_named, binary_named, place, digits_type, field_type, name_type, of_loop_type, type_of};
+ghost use Rattle.brace_names.specs.Scopes.{read, read_own, of_loop};
+ghost use Rattle.brace_check.specs.Types.{place, digits_type, field_type, is_shared, named_type, type_of};
 
-use crate::scope::Scope;
 use brace_model::{BinOp, Ty, UnOp};
-use brace_names::Target;
-use brace_syntax::{BinName, Digits, ExprTree, Ident, UnName};
-
-/// The operation of a name with one operand.
-pub fn unary_named(name: UnName) -> UnOp
-    ensures { result ≡ unary_named name }
-{
-    match name {
-        UnName::Neg => UnOp::Neg,
-        UnName::Not => UnOp::Not,
-        UnName::Abs => UnOp::Abs,
-        UnName::Sqrt => UnOp::Sqrt,
-        UnName::ToFixed => UnOp::ToFixed,
-        UnName::Trunc => UnOp::Trunc,
-    }
-}
-
-/// The operation of a name with two operands.
-pub fn binary_named(name: BinName) -> BinOp
-    ensures { result ≡ binary_named name }
-{
-    match name {
-        BinName::Add => BinOp::Add,
-        BinName::Sub => BinOp::Sub,
-        BinName::Mul => BinOp::Mul,
-        BinName::Div => BinOp::Div,
-        BinName::Rem => BinOp::Rem,
-        BinName::Lt => BinOp::Lt,
-        BinName::Le => BinOp::Le,
-        BinName::Gt => BinOp::Gt,
-        BinName::Ge => BinOp::Ge,
-        BinName::Eq => BinOp::Eq,
-        BinName::Ne => BinOp::Ne,
-        BinName::And => BinOp::And,
-        BinName::Or => BinOp::Or,
-        BinName::Min => BinOp::Min,
-        BinName::Max => BinOp::Max,
-    }
-}
+use brace_names::{Field, Named, Scope, binary_named, unary_named};
+use brace_syntax::{Digits, ExprTree};
 
 /// Whether two types are one.
 pub fn same_type(a: Ty, b: Ty) -> bool
@@ -149,33 +112,32 @@ fn digits_type(digits: Digits) -> Ty
     }
 }
 
-// The type of a field of a class.
-fn field_type(scope: &Scope, class: u32, field: Option<Target>) -> Option<Ty>
-    ensures { result ≡ field_type scope.now class field }
+// The type of a field.
+fn field_type(field: Field) -> Ty
+    ensures { result ≡ field_type field }
 {
     match field {
-        Some(Target::State(n)) => scope.state_in(class, n).map(|state| state.ty),
-        Some(Target::Effect(n)) => scope.effect_in(class, n).map(|effect| effect.ty),
-        _ => None,
+        Field::State(_, ty, _) | Field::Effect(_, ty, _, _) => ty,
     }
 }
 
-// The type of a constant, or of a field of `this`.
-fn name_type(scope: &Scope, name: Option<Target>) -> Option<Ty>
-    ensures { result ≡ name_type scope.now name }
+/// Whether a field is public.
+pub fn is_shared(field: Field) -> bool
+    ensures { result ≡ is_shared field }
 {
-    match name {
-        Some(Target::Local(n)) => scope.constant(n),
-        _ => field_type(scope, scope.own(), name),
+    match field {
+        Field::State(_, _, shared) | Field::Effect(_, _, shared, _) => shared,
     }
 }
 
-// The type of `q.n`.
-fn of_loop_type(scope: &Scope, variable: &Ident, name: &Ident) -> Option<Ty>
-    ensures { result ≡ of_loop_type scope.now variable.now name.now }
+// The type of what `n` or `this.n` stands for.
+fn named_type(named: Named) -> Ty
+    ensures { result ≡ named_type named }
 {
-    let class = scope.loop_class(scope.stands(variable.at))?;
-    field_type(scope, class, scope.stands(name.at))
+    match named {
+        Named::Constant(_, ty) => ty,
+        Named::Field(field) => field_type(field),
+    }
 }
 
 /// The type of an expression, or the offset of the first operation, in finishing order, that does
@@ -186,12 +148,19 @@ pub fn type_of(scope: &Scope, x: &ExprTree) -> Result<Ty, u32>
     match x {
         ExprTree::Lit(number) => Ok(digits_type(number.digits)),
         ExprTree::True(_) | ExprTree::False(_) => Ok(Ty::Bool),
-        ExprTree::Name(name) => name_type(scope, scope.stands(name.at)).ok_or(name.at),
-        ExprTree::OfThis(name, at) => {
-            field_type(scope, scope.own(), scope.stands(name.at)).ok_or(*at)
-        }
+        ExprTree::Name(name) => match scope.read(name.text.as_bytes()) {
+            Some(named) => Ok(named_type(named)),
+            None => Err(name.at),
+        },
+        ExprTree::OfThis(name, at) => match scope.read_own(name.text.as_bytes()) {
+            Some(named) => Ok(named_type(named)),
+            None => Err(*at),
+        },
         ExprTree::OfLoop(variable, name) => {
-            of_loop_type(scope, variable, name).ok_or(variable.at)
+            match scope.of_loop(variable.text.as_bytes(), name.text.as_bytes()) {
+                Some(found) => Ok(field_type(found.field)),
+                None => Err(variable.at),
+            }
         }
         ExprTree::Unary(op, x, at) => {
             let operand = type_of(scope, x.get())?;

@@ -10,8 +10,7 @@ use Rattle.brace_names.specs.declared.resolved.Target.TheVariants as target
 use Rattle.brace_names.specs.declared.resolved.Resolved.{Resolved}
 use Rattle.brace_show.specs.Alike.{expr_step, Alike}
 use Rattle.brace_check.specs.Programs.{program_of}
-use Rattle.brace_check.proofs.Equations.{by_kind}
-use Rattle.brace_check.proofs.Folds.{of-Lit, of-Name, of-Binary}
+use Rattle.brace_names.proofs.Folds.{of-Lit, of-Name, of-Binary, by_kind}
 use Rattle.brace_layout.specs.Unplaced.{program_at_0}
 
 -- `x + 1.5`, each token so many bytes later

@@ -1,9 +1,5 @@
+pub mod WalkZero
 pub mod NamesUnplaced
-pub mod ScriptUnplaced
-pub mod Codes
-pub mod Recoded
-pub mod ExprSame
-pub mod BlockSame
-pub mod MembersSame
+pub mod ChecksZero
 pub mod AlikeScripts
 mod Examples

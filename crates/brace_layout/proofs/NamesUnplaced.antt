@@ -1,32 +1,51 @@
 -- What is found in the names of a script at place 0 is what is found in the script, at place 0.
-use Rattle.std.proofs.Common.{◌≡◌, refl, sym, ap, subst, ◌∙◌, ℕ, ◌+◌, Bool, true, false, List, [], ◌∷◌, ◌++◌, map}
-use Rattle.std.specs.Prelude.{not, ◌&&◌, Option, Some, None, if◌then◌else◌}
-use mathlib.Core.List.{map-append}
+use Rattle.std.proofs.Common.{◌≡◌, refl, sym, ap, ◌∙◌, ℕ, Bool, true, false, List, [], ◌∷◌, ◌++◌, map, ◌+◌, flat_map, fold, codes, inl, inr}
+use Rattle.std.specs.Prelude.{Option, Some, None, if◌then◌else◌, ◌&&◌, ◌||◌, slice_get, option_map}
 use Rattle.std.specs.Str.{bytes_eq}
-use Rattle.std.proofs.lemmas.List.Sums.{sum_by-cons}
 use Rattle.brace_syntax.specs.declared.tree.Ident.{Ident}
 use Rattle.brace_syntax.specs.declared.tree.TyName.{TyName}
 use Rattle.brace_syntax.specs.declared.tree.TyName.TheVariants as ty
 use Rattle.brace_syntax.specs.declared.tree.ExprTree.{ExprTree}
 use Rattle.brace_syntax.specs.declared.tree.ExprTree.TheVariants as e
-use Rattle.brace_syntax.specs.declared.tree.StmtTree.{StmtTree}
-use Rattle.brace_syntax.specs.declared.tree.StmtTree.TheVariants as s
-use Rattle.brace_syntax.specs.declared.tree.StmtTree.TheOpen as layer
-use Rattle.brace_show.specs.Alike.{ident_at_0, number_at_0, type_at_0, expr_step, expr_at_0, stmt_step, stmt_at_0}
+use Rattle.brace_show.specs.Alike.{ident_at_0, number_at_0, type_at_0, expr_step, expr_at_0, gift_at_0, member_at_0, class_at_0}
+use Rattle.brace_model.specs.Typing.{unary_faults, binary_faults}
 use Rattle.brace_names.specs.declared.fault.NameFault.TheVariants.{DuplicateName, UnknownClass}
 use Rattle.brace_names.specs.declared.declared.Field.{Field}
-use Rattle.brace_names.specs.declared.scope.Local.{Local}
-use Rattle.brace_names.specs.declared.scope.Local.TheVariants as local
+use Rattle.brace_names.specs.declared.scope.Named.{Named}
+use Rattle.brace_names.specs.declared.scope.Named.TheVariants as named
+use Rattle.brace_names.specs.declared.scope.LoopField.{LoopField}
 use Rattle.brace_names.specs.declared.finding.Finding.{Finding}
 use Rattle.brace_names.specs.declared.finding.Finding.TheVariants as finding
-use Rattle.brace_names.specs.Tables.{look}
-use Rattle.brace_names.specs.Scopes.{Scope, inside, past, is_taken, class_number, field_in, constant_of}
+use Rattle.brace_names.specs.Kinds.{unary_named, binary_named, type_named, comb_named}
+use Rattle.brace_names.specs.Tables.{look, with_name, table, repeated, repeated_after}
+use Rattle.brace_names.specs.Scopes.{Scope, is_taken, class_number, read, read_own, of_loop, Home, home_of, outermost}
 use Rattle.brace_names.specs.Findings as f
-use Rattle.brace_names.specs.Found.{Part, behind, constants_in, block, expression, part, part_step}
-use Rattle.brace_names.proofs.FoundEquations as q
-use Rattle.brace_check.proofs.ByKind.{Expressions, of_expression, ProvedStmt, stmts_of, Statements, proved, stmts-proved}
-use Rattle.brace_check.proofs.Folds.{of-Lit, of-True, of-False, of-Name, of-OfThis, of-OfLoop, of-Unary, of-Binary, of-Choice, of-Rand, of-Const, of-when, of-either, of-Foreach, of-Assign, of-AssignThis, of-AssignLoop}
-use Rattle.brace_layout.specs.Unplaced.{name_fault_at_0}
+use Rattle.brace_names.specs.Found.{expression, expression_step, sought, is_state, states_given, declarations, class_names, found}
+use Rattle.brace_names.proofs.Folds.{Expressions, of_expression, of-Lit, of-True, of-False, of-Name, of-OfThis, of-OfLoop, of-Unary, of-Binary, of-Choice, of-Rand}
+use Rattle.brace_layout.specs.Unplaced.{name_fault_at_0, targets_in}
+use Rattle.brace_layout.proofs.WalkZero as walk
+use Rattle.brace_layout.proofs.WalkZero.{Unplaced, type_zero, many, block_zeroed}
+use mathlib.Core.List.{map-append}
+use Rattle.std.specs.List.{list_any}
+use Rattle.std.proofs.lemmas.Bool.{cases_Bool}
+use Rattle.std.proofs.lemmas.Option.{slice_get-map}
+use Rattle.brace_syntax.specs.declared.tree.GiftTree.{GiftTree}
+use Rattle.brace_syntax.specs.declared.tree.MemberTree.{MemberTree}
+use Rattle.brace_syntax.specs.declared.tree.MemberTree.TheVariants as m
+use Rattle.brace_syntax.specs.declared.tree.ClassTree.{ClassTree}
+use Rattle.brace_syntax.specs.declared.tree.Tree.{Tree}
+use Rattle.brace_model.specs.declared.program.Ty.{Ty}
+use Rattle.brace_names.specs.declared.fault.NameFault.{NameFault}
+use Rattle.brace_names.specs.declared.fault.NameFault.TheVariants as fault
+use Rattle.brace_names.specs.declared.fault.Which.{Which}
+use Rattle.brace_names.specs.declared.fault.Which.TheVariants as which
+use Rattle.brace_names.specs.declared.declared.Field.TheVariants as field
+use Rattle.brace_names.specs.declared.resolved.Binding.{Binding}
+use Rattle.brace_names.specs.declared.resolved.Target.{Target}
+use Rattle.brace_names.specs.Classes.{Known, known, title, fields, fields_behind, numbered_from, is_coordinate, has_position}
+use Rattle.brace_names.specs.Walk.{in_classes}
+use Rattle.brace_names.specs.Found as names
+use Rattle.brace_names.specs.Faults.{fault_of, binding_of, site_of, assignment_of, too_many, faults_among, faults}
 
 -- a finding at place 0
 abbrev pub finding_at_0 : Finding → Finding
@@ -39,240 +58,365 @@ abbrev pub zeroed : List Finding → List Finding
 zeroed = map finding_at_0
 
 pub both : (xs ys a b : List Finding) → zeroed xs ≡ a → zeroed ys ≡ b → zeroed (xs ++ ys) ≡ a ++ b
-both xs ys a b h g = map-append finding_at_0 xs ys ∙ (ap (λ (l : List Finding). l ++ zeroed ys) h ∙ ap (λ (l : List Finding). a ++ l) g)
+both = walk.both finding_at_0
 
-if_site : (test : Bool) (at : ℕ) → zeroed (if test then f.site at else []) ≡ (if test then f.site 0 else [])
+if_site : (test : Bool) (at : ℕ) → zeroed (f.site_if test at) ≡ f.site_if test 0
 if_site true at = refl
 if_site false at = refl
 
-module _ (n : Scope) where
-  summed_at : (at : ℕ) (o : Option Field) → zeroed (f.summed n at o) ≡ f.summed n 0 o
-  summed_at at None = refl
-  summed_at at (Some x) = if_site (not n.in_query && f.is_summed x) at
+reads_at : (n : Scope) (at : ℕ) (name : Ident) (o : Option Named) → zeroed (f.reads n at name o) ≡ f.reads n 0 (ident_at_0 name) o
+reads_at n at name None = refl
+reads_at n at name (Some (named.Constant k t)) = refl
+reads_at n at name (Some (named.Field x)) =
+    both (f.names_as name.at (f.target_of x)) (f.site_if (f.is_summed n x) at) (f.names_as 0 (f.target_of x)) (f.site_if (f.is_summed n x) 0) refl (if_site (f.is_summed n x) at)
 
-  named_at : (at : ℕ) (name : Ident) (o : Option Field) → zeroed (f.names_field at name o) ≡ f.names_field 0 (ident_at_0 name) o
-  named_at at name None = refl
-  named_at at name (Some x) = refl
+loop_at : (variable name : Ident) (o : Option LoopField) → zeroed (f.names_of_loop variable name o) ≡ f.names_of_loop (ident_at_0 variable) (ident_at_0 name) o
+loop_at variable name None = refl
+loop_at variable name (Some x) = refl
 
-  field_at : (at : ℕ) (name : Ident) → zeroed (f.reads_field n at name) ≡ f.reads_field n 0 (ident_at_0 name)
-  field_at at name =
-      let o : Option Field = look n.own name.text in
-      both (f.names_field at name o) (f.summed n at o) (f.names_field 0 (ident_at_0 name) o) (f.summed n 0 o) (named_at at name o) (summed_at at o)
+abbrev ExprUnplaced : ExprTree → Type 0
+ExprUnplaced x = (n : Scope) → zeroed (expression x n) ≡ expression (expr_at_0 x) n
 
-  reads_at : (name : Ident) (o : Option ℕ) → zeroed (f.reads_constant n name o) ≡ f.reads_constant n (ident_at_0 name) o
-  reads_at name None = field_at name.at name
-  reads_at name (Some k) = refl
+through : (x y : ExprTree) (g h : Scope → List Finding) → expression x ≡ g → expr_at_0 x ≡ y → expression y ≡ h → ((n : Scope) → zeroed (g n) ≡ h n) → ExprUnplaced x
+through x y g h a b c same n =
+    ap (λ (k : Scope → List Finding). zeroed (k n)) a ∙ (same n ∙ ap (λ (k : Scope → List Finding). k n) (sym (ap expression b ∙ c)))
 
-  loop_field_at : (loops : ℕ) (variable name : Ident) (o : Option Field)
-      → zeroed (f.names_loop_field loops variable name o) ≡ f.names_loop_field loops (ident_at_0 variable) (ident_at_0 name) o
-  loop_field_at loops variable name None = refl
-  loop_field_at loops variable name (Some x) = refl
-
-  in_loop_at : (variable name : Ident) (o : Option Local)
-      → zeroed (f.names_in_loop n variable name o) ≡ f.names_in_loop n (ident_at_0 variable) (ident_at_0 name) o
-  in_loop_at variable name None = refl
-  in_loop_at variable name (Some (local.Constant k)) = refl
-  in_loop_at variable name (Some (local.Loop loops class)) = loop_field_at loops variable name (field_in n class name.text)
-
-  loop_at : (variable name : Ident) → zeroed (f.names_of_loop n variable name) ≡ f.names_of_loop n (ident_at_0 variable) (ident_at_0 name)
-  loop_at variable name = in_loop_at variable name (look n.locals variable.text)
-
-  loop_if_at : (test : Bool) (variable name : Ident)
-      → zeroed (if test then f.names_of_loop n variable name else []) ≡ (if test then f.names_of_loop n (ident_at_0 variable) (ident_at_0 name) else [])
-  loop_if_at true variable name = loop_at variable name
-  loop_if_at false variable name = refl
-
-abbrev Unplaced : ExprTree → Type 0
-Unplaced x = (n : Scope) → zeroed (expression x n) ≡ expression (expr_at_0 x) n
-
-through : (x y : ExprTree) (n : Scope) (all rest : List Finding) → expression x n ≡ all → zeroed all ≡ rest → expression y n ≡ rest → expr_at_0 x ≡ y
-    → zeroed (expression x n) ≡ expression (expr_at_0 x) n
-through x y n all rest a b c d = ap zeroed a ∙ (b ∙ (sym c ∙ ap (λ (z : ExprTree). expression z n) (sym d)))
-
-kinds : Expressions Unplaced
+kinds : Expressions ExprUnplaced
 kinds = record {
-  lit = λ number n. through (e.Lit number) (e.Lit (number_at_0 number)) n [] [] (q.in_Lit number n) refl (q.in_Lit (number_at_0 number) n) (of-Lit expr_step number);
-  true_ = λ at n. through (e.True at) (e.True 0) n [] [] (q.in_True at n) refl (q.in_True 0 n) (of-True expr_step at);
-  false_ = λ at n. through (e.False at) (e.False 0) n [] [] (q.in_False at n) refl (q.in_False 0 n) (of-False expr_step at);
-  name = λ name n. through (e.Name name) (e.Name (ident_at_0 name)) n _ _ (q.in_Name name n) (reads_at n name (constant_of (look n.locals name.text)))
-      (q.in_Name (ident_at_0 name) n) (of-Name expr_step name);
-  of_this = λ name at n. through (e.OfThis name at) (e.OfThis (ident_at_0 name) 0) n _ _ (q.in_OfThis name at n) (field_at n at name)
-      (q.in_OfThis (ident_at_0 name) 0 n) (of-OfThis expr_step name at);
-  of_loop = λ variable name n. through (e.OfLoop variable name) (e.OfLoop (ident_at_0 variable) (ident_at_0 name)) n _ _
-      (q.in_OfLoop variable name n) (loop_if_at n n.in_query variable name) (q.in_OfLoop (ident_at_0 variable) (ident_at_0 name) n) (of-OfLoop expr_step variable name);
-  unary = λ op x at hx n. through (e.Unary op x at) (e.Unary op (expr_at_0 x) 0) n _ _ (q.in_Unary op x at n)
-      (both (expression x n) (f.operation (f.unary_site op) at) (expression (expr_at_0 x) n) (f.operation (f.unary_site op) 0) (hx n) (if_site (f.unary_site op) at))
-      (q.in_Unary op (expr_at_0 x) 0 n) (of-Unary expr_step op x at);
-  binary = λ op x y at hx hy n. through (e.Binary op x y at) (e.Binary op (expr_at_0 x) (expr_at_0 y) 0) n _ _ (q.in_Binary op x y at n)
-      (both (expression x n) (expression y n ++ f.operation (f.binary_site op) at) (expression (expr_at_0 x) n) (expression (expr_at_0 y) n ++ f.operation (f.binary_site op) 0) (hx n)
-      (both (expression y n) (f.operation (f.binary_site op) at) (expression (expr_at_0 y) n) (f.operation (f.binary_site op) 0) (hy n) (if_site (f.binary_site op) at)))
-      (q.in_Binary op (expr_at_0 x) (expr_at_0 y) 0 n) (of-Binary expr_step op x y at);
-  choice = λ w x y at hw hx hy n. through (e.Choice w x y at) (e.Choice (expr_at_0 w) (expr_at_0 x) (expr_at_0 y) 0) n _ _ (q.in_Choice w x y at n)
-      (both (expression w n ++ expression x n) (expression y n) (expression (expr_at_0 w) n ++ expression (expr_at_0 x) n) (expression (expr_at_0 y) n)
-      (both (expression w n) (expression x n) (expression (expr_at_0 w) n) (expression (expr_at_0 x) n) (hw n) (hx n)) (hy n))
-      (q.in_Choice (expr_at_0 w) (expr_at_0 x) (expr_at_0 y) 0 n) (of-Choice expr_step w x y at);
-  rand = λ at n. through (e.Rand at) (e.Rand 0) n _ _ (q.in_Rand at n) refl (q.in_Rand 0 n) (of-Rand expr_step at);
+  lit = λ number. through (e.Lit number) (e.Lit (number_at_0 number)) _ _ (of-Lit expression_step number) (of-Lit expr_step number) (of-Lit expression_step (number_at_0 number)) (λ n. refl);
+  true_ = λ at. through (e.True at) (e.True 0) _ _ (of-True expression_step at) (of-True expr_step at) (of-True expression_step 0) (λ n. refl);
+  false_ = λ at. through (e.False at) (e.False 0) _ _ (of-False expression_step at) (of-False expr_step at) (of-False expression_step 0) (λ n. refl);
+  name = λ name. through (e.Name name) (e.Name (ident_at_0 name)) _ _ (of-Name expression_step name) (of-Name expr_step name) (of-Name expression_step (ident_at_0 name))
+      (λ n. reads_at n name.at name (read n name.text));
+  of_this = λ name at. through (e.OfThis name at) (e.OfThis (ident_at_0 name) 0) _ _ (of-OfThis expression_step name at) (of-OfThis expr_step name at) (of-OfThis expression_step (ident_at_0 name) 0)
+      (λ n. reads_at n at name (read_own n name.text));
+  of_loop = λ variable name. through (e.OfLoop variable name) (e.OfLoop (ident_at_0 variable) (ident_at_0 name)) _ _
+      (of-OfLoop expression_step variable name) (of-OfLoop expr_step variable name) (of-OfLoop expression_step (ident_at_0 variable) (ident_at_0 name))
+      (λ n. walk.either finding_at_0 n.in_query _ [] _ [] (loop_at variable name (of_loop n variable.text name.text)) refl);
+  unary = λ op x at hx. through (e.Unary op x at) (e.Unary op (expr_at_0 x) 0) _ _ (of-Unary expression_step op x at) (of-Unary expr_step op x at) (of-Unary expression_step op (expr_at_0 x) 0)
+      (λ n.
+      let test : Bool = unary_faults (unary_named op) in
+      both (expression x n) (f.site_if test at) (expression (expr_at_0 x) n) (f.site_if test 0) (hx n) (if_site test at));
+  binary = λ op x y at hx hy. through (e.Binary op x y at) (e.Binary op (expr_at_0 x) (expr_at_0 y) 0) _ _
+      (of-Binary expression_step op x y at) (of-Binary expr_step op x y at) (of-Binary expression_step op (expr_at_0 x) (expr_at_0 y) 0)
+      (λ n.
+      let test : Bool = binary_faults (binary_named op) in
+      both (expression x n ++ expression y n) (f.site_if test at) (expression (expr_at_0 x) n ++ expression (expr_at_0 y) n) (f.site_if test 0)
+      (both (expression x n) (expression y n) (expression (expr_at_0 x) n) (expression (expr_at_0 y) n) (hx n) (hy n)) (if_site test at));
+  choice = λ w x y at hw hx hy. through (e.Choice w x y at) (e.Choice (expr_at_0 w) (expr_at_0 x) (expr_at_0 y) 0) _ _
+      (of-Choice expression_step w x y at) (of-Choice expr_step w x y at) (of-Choice expression_step (expr_at_0 w) (expr_at_0 x) (expr_at_0 y) 0)
+      (λ n. both (expression w n ++ expression x n) (expression y n) (expression (expr_at_0 w) n ++ expression (expr_at_0 x) n) (expression (expr_at_0 y) n)
+      (both (expression w n) (expression x n) (expression (expr_at_0 w) n) (expression (expr_at_0 x) n) (hw n) (hx n)) (hy n));
+  rand = λ at. through (e.Rand at) (e.Rand 0) _ _ (of-Rand expression_step at) (of-Rand expr_step at) (of-Rand expression_step 0) (λ n. refl);
 }
 
-pub expression_unplaced : (x : ExprTree) → Unplaced x
-expression_unplaced = of_expression Unplaced kinds
+pub expression_unplaced : (x : ExprTree) → ExprUnplaced x
+expression_unplaced = of_expression ExprUnplaced kinds
 
--- a statement, and one at place 0
-pub record Zeroed (p p0 : Part) : Type 0 where
-  pub constants : p0.constants ≡ p.constants
-  pub scope : (n : Scope) → behind p0 n ≡ behind p n
-  pub found : (n : Scope) → zeroed (p.found n) ≡ p0.found n
-
-pub record BlockZeroed (ps p0s : List Part) : Type 0 where
-  constants : constants_in p0s ≡ constants_in ps
-  pub found : (n : Scope) → zeroed (block ps n) ≡ block p0s n
-
-more : (p p0 : Part) (ps p0s : List Part) → Zeroed p p0 → BlockZeroed ps p0s → BlockZeroed (p ∷ ps) (p0 ∷ p0s)
-more p p0 ps p0s one rest = record {
-  constants = sum_by-cons (λ (part : Part). part.constants) p0 p0s
-      ∙ (ap (λ (k : ℕ). k + constants_in p0s) one.constants
-      ∙ (ap (λ (k : ℕ). p.constants + k) rest.constants ∙ sym (sum_by-cons (λ (part : Part). part.constants) p ps)));
-  found = λ n. both (p.found n) (block ps (behind p n)) (p0.found n) (block p0s (behind p0 n)) (one.found n)
-      (rest.found (behind p n) ∙ ap (block p0s) (sym (one.scope n)));
-}
-
-abbrev StmtUnplaced : StmtTree → Type 0
-StmtUnplaced x = Zeroed (part x) (part (stmt_at_0 x))
-
-abbrev pub BlockUnplaced : List StmtTree → Type 0
-BlockUnplaced xs = BlockZeroed (map part xs) (map part (map stmt_at_0 xs))
-
-trees_unplaced : (ys : List (ProvedStmt StmtUnplaced)) → BlockUnplaced (stmts_of ys)
-trees_unplaced [] = record { constants = refl; found = λ n. refl }
-trees_unplaced (y ∷ ys) =
-    more (part y.0) (part (stmt_at_0 y.0)) (map part (stmts_of ys)) (map part (map stmt_at_0 (stmts_of ys))) y.1 (trees_unplaced ys)
-
-back : (x y : StmtTree) (p p0 : Part) → part x ≡ p → stmt_at_0 x ≡ y → part y ≡ p0 → Zeroed p p0 → StmtUnplaced x
-back x y p p0 a b c h =
-    subst (λ (r : Part). Zeroed r (part (stmt_at_0 x))) (sym a) (subst (λ (r : Part). Zeroed p r) (sym (ap part b ∙ c)) h)
-
+-- statements
 pub typed_at : (type : TyName) → zeroed (f.typed type) ≡ f.typed (type_at_0 type)
 typed_at ty.Int = refl
 typed_at ty.Fixed = refl
 typed_at ty.Bool = refl
 typed_at (ty.Other name) = refl
 
-if_duplicate : (test : Bool) (at : ℕ) → zeroed (if test then f.fault (DuplicateName at) else []) ≡ (if test then f.fault (DuplicateName 0) else [])
-if_duplicate true at = refl
-if_duplicate false at = refl
-
 declares_at : (n : Scope) (name : Ident) → zeroed (f.declares n name) ≡ f.declares n (ident_at_0 name)
-declares_at n name = if_duplicate (is_taken n name.text) name.at
+declares_at n name = walk.either finding_at_0 (is_taken n name.text) (f.fault (DuplicateName name.at)) [] (f.fault (DuplicateName 0)) [] refl refl
 
 class_at : (at : ℕ) (o : Option ℕ) → zeroed (f.names_class at o) ≡ f.names_class 0 o
 class_at at None = refl
 class_at at (Some k) = refl
 
-other_at : (test : Bool) (at : ℕ) (o : Option ℕ)
-    → zeroed (if test then f.names_class at o else f.fault (UnknownClass at)) ≡ (if test then f.names_class 0 o else f.fault (UnknownClass 0))
-other_at true at o = class_at at o
-other_at false at o = refl
-
 loops_at : (n : Scope) (class other : Ident) → zeroed (f.loops_over n class other) ≡ f.loops_over n (ident_at_0 class) (ident_at_0 other)
 loops_at n class other =
     both (f.names_class class.at (class_number n class.text)) (f.names_again n class other) (f.names_class 0 (class_number n class.text)) (f.names_again n (ident_at_0 class) (ident_at_0 other))
-    (class_at class.at (class_number n class.text)) (other_at (bytes_eq class.text other.text) other.at (class_number n other.text))
+    (class_at class.at (class_number n class.text))
+    (walk.either finding_at_0 (bytes_eq class.text other.text) (f.names_class other.at (class_number n other.text)) (f.fault (UnknownClass other.at))
+    (f.names_class 0 (class_number n other.text)) (f.fault (UnknownClass 0)) (class_at other.at (class_number n other.text)) refl)
+
+field_at : (at : ℕ) (name : Ident) (o : Option Field) → zeroed (f.names_field at name o) ≡ f.names_field 0 (ident_at_0 name) o
+field_at at name None = refl
+field_at at name (Some x) = refl
 
 pub assigns_at : (n : Scope) (at : ℕ) (name : Ident) → zeroed (f.assigns n at name) ≡ f.assigns n 0 (ident_at_0 name)
 assigns_at n at name =
-    let o : Option Field = look n.own name.text in
-    both (f.names_field at name o) (f.assignment at) (f.names_field 0 (ident_at_0 name) o) (f.assignment 0) (named_at n at name o) refl
+    let o : Option Field = look n.home.own name.text in
+    both (f.names_field at name o) (f.assignment at) (f.names_field 0 (ident_at_0 name) o) (f.assignment 0) (field_at at name o) refl
 
 assigns_loop_at : (n : Scope) (variable name : Ident) → zeroed (f.assigns_of_loop n variable name) ≡ f.assigns_of_loop n (ident_at_0 variable) (ident_at_0 name)
 assigns_loop_at n variable name =
-    both (f.names_of_loop n variable name) (f.assignment variable.at) (f.names_of_loop n (ident_at_0 variable) (ident_at_0 name)) (f.assignment 0) (loop_at n variable name) refl
+    let o : Option LoopField = of_loop n variable.text name.text in
+    both (f.names_of_loop variable name o) (f.assignment variable.at) (f.names_of_loop (ident_at_0 variable) (ident_at_0 name) o) (f.assignment 0) (loop_at variable name o) refl
 
-const_unplaced : (type : TyName) (name : Ident) (x : ExprTree) (at : ℕ)
-    → Zeroed (part_step (layer.Const type name x at)) (part_step (layer.Const (type_at_0 type) (ident_at_0 name) (expr_at_0 x) 0))
-const_unplaced type name x at = record {
-  constants = refl;
-  scope = λ n. refl;
-  found = λ n. both (f.typed type ++ f.declares n name) (expression x n) (f.typed (type_at_0 type) ++ f.declares n (ident_at_0 name)) (expression (expr_at_0 x) n)
+pub sought_unplaced : Unplaced finding_at_0 sought
+sought_unplaced = record {
+  constant = λ type name x n. both (f.typed type ++ f.declares n name) (expression x n) (f.typed (type_at_0 type) ++ f.declares n (ident_at_0 name)) (expression (expr_at_0 x) n)
       (both (f.typed type) (f.declares n name) (f.typed (type_at_0 type)) (f.declares n (ident_at_0 name)) (typed_at type) (declares_at n name)) (expression_unplaced x n);
+  condition = expression_unplaced;
+  head = λ class variable other at n. both (f.loops_over n class other) (f.declares n variable) (f.loops_over n (ident_at_0 class) (ident_at_0 other)) (f.declares n (ident_at_0 variable))
+      (loops_at n class other) (declares_at n variable);
+  assigned = λ at name x n. both (f.assigns n at name) (expression x n) (f.assigns n 0 (ident_at_0 name)) (expression (expr_at_0 x) n) (assigns_at n at name) (expression_unplaced x n);
+  assigned_of_loop = λ variable name x n. both (f.assigns_of_loop n variable name) (expression x n) (f.assigns_of_loop n (ident_at_0 variable) (ident_at_0 name)) (expression (expr_at_0 x) n)
+      (assigns_loop_at n variable name) (expression_unplaced x n);
 }
 
-when_unplaced : (w : ExprTree) (a : List StmtTree) (at : ℕ) → BlockUnplaced a
-    → Zeroed (part_step (layer.If w (map part a) None at)) (part_step (layer.If (expr_at_0 w) (map part (map stmt_at_0 a)) None 0))
-when_unplaced w a at h = record {
-  constants = ap (λ (k : ℕ). k + 0) h.constants;
-  scope = λ n. ap (λ (k : ℕ). past (k + 0) n) h.constants;
-  found = λ n. both (expression w n ++ block (map part a) n) [] (expression (expr_at_0 w) n ++ block (map part (map stmt_at_0 a)) n) []
-      (both (expression w n) (block (map part a) n) (expression (expr_at_0 w) n) (block (map part (map stmt_at_0 a)) n) (expression_unplaced w n) (h.found n)) refl;
-}
+abbrev pub nought : ℕ → ℕ
+nought at = 0
 
-either_unplaced : (w : ExprTree) (a b : List StmtTree) (at : ℕ) → BlockUnplaced a → BlockUnplaced b
-    → Zeroed (part_step (layer.If w (map part a) (Some (map part b)) at)) (part_step (layer.If (expr_at_0 w) (map part (map stmt_at_0 a)) (Some (map part (map stmt_at_0 b))) 0))
-either_unplaced w a b at h g =
-    let a0 : List Part = map part (map stmt_at_0 a) in
-    let b0 : List Part = map part (map stmt_at_0 b) in
-    let count : constants_in a0 + constants_in b0 ≡ constants_in (map part a) + constants_in (map part b) =
-    ap (λ (k : ℕ). k + constants_in b0) h.constants ∙ ap (λ (k : ℕ). constants_in (map part a) + k) g.constants in
-    record {
-      constants = count;
-      scope = λ n. ap (λ (k : ℕ). past k n) count;
-      found = λ n. both (expression w n ++ block (map part a) n) (block (map part b) (past (constants_in (map part a)) n)) (expression (expr_at_0 w) n ++ block a0 n) (block b0 (past (constants_in a0) n))
-          (both (expression w n) (block (map part a) n) (expression (expr_at_0 w) n) (block a0 n) (expression_unplaced w n) (h.found n))
-          (g.found (past (constants_in (map part a)) n) ∙ ap (λ (k : ℕ). block b0 (past k n)) (sym h.constants));
-    }
+-- names that are repeated
+repeated_if : (test : Bool) (at : ℕ) → map nought (if test then at ∷ [] else []) ≡ (if test then 0 ∷ [] else [])
+repeated_if true at = refl
+repeated_if false at = refl
 
-foreach_unplaced : (class variable other : Ident) (a : List StmtTree) (at : ℕ) → BlockUnplaced a
-    → Zeroed (part_step (layer.Foreach class variable other (map part a) at))
-    (part_step (layer.Foreach (ident_at_0 class) (ident_at_0 variable) (ident_at_0 other) (map part (map stmt_at_0 a)) 0))
-foreach_unplaced class variable other a at h = record {
-  constants = h.constants;
-  scope = λ n. ap (λ (k : ℕ). past k n) h.constants;
-  found = λ n. both (f.loops_over n class other ++ f.declares n variable) (block (map part a) (inside class variable n))
-      (f.loops_over n (ident_at_0 class) (ident_at_0 other) ++ f.declares n (ident_at_0 variable)) (block (map part (map stmt_at_0 a)) (inside class variable n))
-      (both (f.loops_over n class other) (f.declares n variable) (f.loops_over n (ident_at_0 class) (ident_at_0 other)) (f.declares n (ident_at_0 variable))
-      (loops_at n class other) (declares_at n variable))
-      (h.found (inside class variable n));
-}
+repeats : (earlier : List (List ℕ)) (names_ : List Ident) → map nought (repeated_after earlier names_) ≡ repeated_after earlier (map ident_at_0 names_)
+repeats earlier [] = refl
+repeats earlier (name ∷ names_) =
+    let test : Bool = list_any (bytes_eq name.text) earlier in
+    let rest : List ℕ = repeated_after (earlier ++ name.text ∷ []) names_ in
+    map-append nought (if test then name.at ∷ [] else []) rest
+    ∙ (ap (λ (l : List ℕ). l ++ map nought rest) (repeated_if test name.at)
+    ∙ ap (λ (l : List ℕ). (if test then 0 ∷ [] else []) ++ l) (repeats (earlier ++ name.text ∷ []) names_))
 
-stmt_kinds : Statements StmtUnplaced
-stmt_kinds = record {
-  const = λ type name x at. back (s.Const type name x at) (s.Const (type_at_0 type) (ident_at_0 name) (expr_at_0 x) 0) _ _
-      (of-Const part_step type name x at) (of-Const stmt_step type name x at) (of-Const part_step (type_at_0 type) (ident_at_0 name) (expr_at_0 x) 0)
-      (const_unplaced type name x at);
-  when = λ w a at. back (s.If w (stmts_of a) None at) (s.If (expr_at_0 w) (map stmt_at_0 (stmts_of a)) None 0) _ _
-      (of-when part_step w (stmts_of a) at) (of-when stmt_step w (stmts_of a) at) (of-when part_step (expr_at_0 w) (map stmt_at_0 (stmts_of a)) 0)
-      (when_unplaced w (stmts_of a) at (trees_unplaced a));
-  either_way = λ w a b at. back (s.If w (stmts_of a) (Some (stmts_of b)) at) (s.If (expr_at_0 w) (map stmt_at_0 (stmts_of a)) (Some (map stmt_at_0 (stmts_of b))) 0) _ _
-      (of-either part_step w (stmts_of a) (stmts_of b) at) (of-either stmt_step w (stmts_of a) (stmts_of b) at)
-      (of-either part_step (expr_at_0 w) (map stmt_at_0 (stmts_of a)) (map stmt_at_0 (stmts_of b)) 0)
-      (either_unplaced w (stmts_of a) (stmts_of b) at (trees_unplaced a) (trees_unplaced b));
-  foreach = λ class variable other a at.
-      back (s.Foreach class variable other (stmts_of a) at) (s.Foreach (ident_at_0 class) (ident_at_0 variable) (ident_at_0 other) (map stmt_at_0 (stmts_of a)) 0) _ _
-      (of-Foreach part_step class variable other (stmts_of a) at) (of-Foreach stmt_step class variable other (stmts_of a) at)
-      (of-Foreach part_step (ident_at_0 class) (ident_at_0 variable) (ident_at_0 other) (map stmt_at_0 (stmts_of a)) 0)
-      (foreach_unplaced class variable other (stmts_of a) at (trees_unplaced a));
-  assign = λ name x. back (s.Assign name x) (s.Assign (ident_at_0 name) (expr_at_0 x)) _ _
-      (of-Assign part_step name x) (of-Assign stmt_step name x) (of-Assign part_step (ident_at_0 name) (expr_at_0 x))
-      (record {
-        constants = refl;
-        scope = λ n. refl;
-        found = λ n. both (f.assigns n name.at name) (expression x n) (f.assigns n 0 (ident_at_0 name)) (expression (expr_at_0 x) n) (assigns_at n name.at name) (expression_unplaced x n);
-      });
-  assign_this = λ name x at. back (s.AssignThis name x at) (s.AssignThis (ident_at_0 name) (expr_at_0 x) 0) _ _
-      (of-AssignThis part_step name x at) (of-AssignThis stmt_step name x at) (of-AssignThis part_step (ident_at_0 name) (expr_at_0 x) 0)
-      (record {
-        constants = refl;
-        scope = λ n. refl;
-        found = λ n. both (f.assigns n at name) (expression x n) (f.assigns n 0 (ident_at_0 name)) (expression (expr_at_0 x) n) (assigns_at n at name) (expression_unplaced x n);
-      });
-  assign_loop = λ variable name x. back (s.AssignLoop variable name x) (s.AssignLoop (ident_at_0 variable) (ident_at_0 name) (expr_at_0 x)) _ _
-      (of-AssignLoop part_step variable name x) (of-AssignLoop stmt_step variable name x) (of-AssignLoop part_step (ident_at_0 variable) (ident_at_0 name) (expr_at_0 x))
-      (record {
-        constants = refl;
-        scope = λ n. refl;
-        found = λ n. both (f.assigns_of_loop n variable name) (expression x n) (f.assigns_of_loop n (ident_at_0 variable) (ident_at_0 name)) (expression (expr_at_0 x) n)
-            (assigns_loop_at n variable name) (expression_unplaced x n);
-      });
-}
+module _ (kind : ℕ → NameFault) (same : (at : ℕ) → name_fault_at_0 (kind at) ≡ kind 0) where
+  faults_zero : (places : List ℕ) → zeroed (f.faults_at kind places) ≡ f.faults_at kind (map nought places)
+  faults_zero [] = refl
+  faults_zero (at ∷ places) =
+      ap (λ (x : NameFault). finding.Fault x ∷ zeroed (f.faults_at kind places)) (same at) ∙ ap (λ (l : List Finding). finding.Fault (kind 0) ∷ l) (faults_zero places)
 
-pub block_unplaced : (xs : List StmtTree) → BlockUnplaced xs
-block_unplaced xs = subst BlockUnplaced (stmts-proved StmtUnplaced stmt_kinds xs) (trees_unplaced (proved StmtUnplaced stmt_kinds xs))
+  repeated_zero : (names_ : List Ident) → zeroed (f.faults_at kind (repeated names_)) ≡ f.faults_at kind (repeated (map ident_at_0 names_))
+  repeated_zero names_ = faults_zero (repeated names_) ∙ ap (f.faults_at kind) (repeats [] names_)
+
+limit_zero : (w : Which) (o : Option Ident) → zeroed (names.too_many w o) ≡ names.too_many w (option_map ident_at_0 o)
+limit_zero w None = refl
+limit_zero w (Some name) = refl
+
+-- members
+module _ (n : Scope) where
+  given_zero : (gifts : List GiftTree) → map ident_at_0 (states_given n gifts) ≡ states_given n (map gift_at_0 gifts)
+  given_zero [] = refl
+  given_zero (g ∷ gifts) = elim (cases_Bool (is_state (look n.home.own g.state.text))) [
+    | inl given ↦ rw given (ap (λ (l : List Ident). ident_at_0 g.state ∷ l) (given_zero gifts))
+    | inr other ↦ rw other (given_zero gifts)
+  ]
+
+  gift_zero : (g : GiftTree) → zeroed (names.gift n g) ≡ names.gift n (gift_at_0 g)
+  gift_zero g =
+      both (f.assigns n g.state.at g.state) (names.expression g.value n) (f.assigns n 0 (ident_at_0 g.state)) (names.expression (expr_at_0 g.value) n)
+      (assigns_at n g.state.at g.state) (expression_unplaced g.value n)
+
+  gifts_zero : (gifts : List GiftTree) → zeroed (flat_map (names.gift n) gifts) ≡ flat_map (names.gift n) (map gift_at_0 gifts)
+  gifts_zero gifts = many finding_at_0 (names.gift n) gift_at_0 gifts gift_zero
+
+  spawned_zero : (gifts : List GiftTree) (at : ℕ) → zeroed (names.gifts_found n gifts at) ≡ names.gifts_found n (map gift_at_0 gifts) 0
+  spawned_zero gifts at =
+      let a : List Finding = flat_map (names.gift n) gifts in
+      let b : List Finding = f.faults_at fault.DuplicateName (repeated (states_given n gifts)) in
+      let a0 : List Finding = flat_map (names.gift n) (map gift_at_0 gifts) in
+      let b0 : List Finding = f.faults_at fault.DuplicateName (repeated (states_given n (map gift_at_0 gifts))) in
+      both (a ++ b) (f.site at) (a0 ++ b0) (f.site 0)
+      (both a b a0 b0 (gifts_zero gifts)
+      (repeated_zero fault.DuplicateName (λ at. refl) (states_given n gifts) ∙ ap (λ (l : List Ident). f.faults_at fault.DuplicateName (repeated l)) (given_zero gifts))) refl
+
+  rule_zero : (x : Option ExprTree) → zeroed (names.rule x n) ≡ names.rule (option_map expr_at_0 x) n
+  rule_zero None = refl
+  rule_zero (Some x) = expression_unplaced x n
+
+member_zero : (home : Home) (x : MemberTree) → zeroed (names.member home x) ≡ names.member home (member_at_0 x)
+member_zero home (m.Visible range at) = refl
+member_zero home (m.Reach range at) = refl
+member_zero home (m.State shared type name x at) =
+    let n : Scope = outermost home false in
+    both (f.typed type) (names.rule x n) (f.typed (type_at_0 type)) (names.rule (option_map expr_at_0 x) n) (typed_at type) (rule_zero n x)
+member_zero home (m.Effect shared type name comb at) = typed_at type
+member_zero home (m.Run block at) = block_zeroed finding_at_0 sought sought_unplaced block (outermost home true)
+member_zero home (m.Die x at) = expression_unplaced x (outermost home false)
+member_zero home (m.Spawn x gifts at) =
+    let n : Scope = outermost home false in
+    both (names.expression x n) (names.gifts_found n gifts at) (names.expression (expr_at_0 x) n) (names.gifts_found n (map gift_at_0 gifts) 0)
+    (expression_unplaced x n) (spawned_zero n gifts at)
+
+-- fields
+module _ {A : Type 0} where
+  abbrev entry_zero : Ident × A → Ident × A
+  entry_zero one = (ident_at_0 one.0, one.1)
+
+  table_from : (known_ : List (List ℕ × A)) (all : List (Ident × A))
+      → fold (λ names one. with_name names one.0.text one.1) known_ (map entry_zero all) ≡ fold (λ names one. with_name names one.0.text one.1) known_ all
+  table_from known_ [] = refl
+  table_from known_ (one ∷ all) = table_from (with_name known_ one.0.text one.1) all
+
+  table_zero : (all : List (Ident × A)) → table (map entry_zero all) ≡ table all
+  table_zero all = table_from [] all
+
+fields_zero : (states effects : ℕ) (xs : List MemberTree) → map entry_zero (fields_behind states effects xs) ≡ fields_behind states effects (map member_at_0 xs)
+fields_zero states effects [] = refl
+fields_zero states effects (m.State shared type name x at ∷ xs) =
+    ap (λ (l : List (Ident × Field)). (ident_at_0 name, field.State states (type_named type) shared) ∷ l) (fields_zero (states + 1) effects xs)
+    ∙ ap (λ (t : Ty). (ident_at_0 name, field.State states t shared) ∷ fields_behind (states + 1) effects (map member_at_0 xs)) (sym (type_zero type))
+fields_zero states effects (m.Effect shared type name c at ∷ xs) =
+    ap (λ (l : List (Ident × Field)). (ident_at_0 name, field.Effect effects (type_named type) shared (comb_named c)) ∷ l) (fields_zero states (effects + 1) xs)
+    ∙ ap (λ (t : Ty). (ident_at_0 name, field.Effect effects t shared (comb_named c)) ∷ fields_behind states (effects + 1) (map member_at_0 xs)) (sym (type_zero type))
+fields_zero states effects (_ ∷ xs) = fields_zero states effects xs
+
+pub own_zero : (class : ClassTree) → table (fields class) ≡ table (fields (class_at_0 class))
+own_zero class = sym (table_zero (fields class)) ∙ ap table (fields_zero 0 0 class.members)
+
+tables_zero : (classes : List ClassTree) → map (λ class. table (fields class)) classes ≡ map (λ class. table (fields class)) (map class_at_0 classes)
+tables_zero [] = refl
+tables_zero (class ∷ classes) =
+    ap (λ (l : List (List ℕ × Field)). l ∷ map (λ class. table (fields class)) classes) (own_zero class)
+    ∙ ap (λ (l : List (List (List ℕ × Field))). table (fields (class_at_0 class)) ∷ l) (tables_zero classes)
+
+numbers_zero : (k : ℕ) (classes : List ClassTree) → map entry_zero (numbered_from k classes) ≡ numbered_from k (map class_at_0 classes)
+numbers_zero k [] = refl
+numbers_zero k (class ∷ classes) = ap (λ (l : List (Ident × ℕ)). (ident_at_0 class.name, k) ∷ l) (numbers_zero (k + 1) classes)
+
+pub known_zero : (classes : List ClassTree) → known classes ≡ known (map class_at_0 classes)
+known_zero classes =
+    let a : table (numbered_from 0 classes) ≡ table (numbered_from 0 (map class_at_0 classes)) = sym (table_zero (numbered_from 0 classes)) ∙ ap table (numbers_zero 0 classes) in
+    ap (λ (t : List (List ℕ × ℕ)). record { classes = t; fields = map (λ class. table (fields class)) classes }) a
+    ∙ ap (λ (t : List (List (List ℕ × Field))). record { classes = table (numbered_from 0 (map class_at_0 classes)); fields = t }) (tables_zero classes)
+
+-- what a class declares
+titles_zero : (xs : List MemberTree) → map ident_at_0 (map title xs) ≡ map title (map member_at_0 xs)
+titles_zero [] = refl
+titles_zero (m.State shared type name x at ∷ xs) = ap (λ (l : List Ident). ident_at_0 name ∷ l) (titles_zero xs)
+titles_zero (x ∷ xs) = ap (λ (l : List Ident). ident_at_0 (title x) ∷ l) (titles_zero xs)
+
+module _ (axis : List ℕ) where
+  coordinate_zero : (x : MemberTree) → is_coordinate axis (member_at_0 x) ≡ is_coordinate axis x
+  coordinate_zero (m.State true ty.Fixed name x at) = refl
+  coordinate_zero _ = refl
+
+  coordinates_zero : (xs : List MemberTree) → list_any (is_coordinate axis) (map member_at_0 xs) ≡ list_any (is_coordinate axis) xs
+  coordinates_zero [] = refl
+  coordinates_zero (x ∷ xs) =
+      ap (λ (b : Bool). b || list_any (is_coordinate axis) (map member_at_0 xs)) (coordinate_zero x)
+      ∙ ap (λ (b : Bool). is_coordinate axis x || b) (coordinates_zero xs)
+
+position_zero : (class : ClassTree) → zeroed (names.position class) ≡ names.position (class_at_0 class)
+position_zero class =
+    let a : Bool = list_any (is_coordinate (codes "x")) class.members in
+    let b : Bool = list_any (is_coordinate (codes "y")) (map member_at_0 class.members) in
+    walk.either finding_at_0 (has_position class) [] (f.fault (fault.NoPosition class.name.at)) [] (f.fault (fault.NoPosition 0)) refl refl
+    ∙ (ap (λ (t : Bool). if a && t then [] else f.fault (fault.NoPosition 0)) (sym (coordinates_zero (codes "y") class.members))
+    ∙ ap (λ (t : Bool). if t && b then [] else f.fault (fault.NoPosition 0)) (sym (coordinates_zero (codes "x") class.members)))
+
+first_zero : (o : Option (Ident × Field)) → option_map ident_at_0 (option_map (λ one. one.0) o) ≡ option_map (λ one. one.0) (option_map entry_zero o)
+first_zero None = refl
+first_zero (Some one) = refl
+
+declarations_zero : (class : ClassTree) → zeroed (declarations class) ≡ declarations (class_at_0 class)
+declarations_zero class =
+    let a : List Finding = f.faults_at fault.DuplicateName (repeated (map title class.members)) in
+    let a0 : List Finding = f.faults_at fault.DuplicateName (repeated (map title (map member_at_0 class.members))) in
+    let o : Option Ident = option_map (λ one. one.0) (slice_get (fields class) 64) in
+    let o0 : Option Ident = option_map (λ one. one.0) (slice_get (fields (class_at_0 class)) 64) in
+    let same : option_map ident_at_0 o ≡ o0 =
+    first_zero (slice_get (fields class) 64)
+    ∙ ap (λ (p : Option (Ident × Field)). option_map (λ one. one.0) p)
+    (sym (slice_get-map entry_zero (fields class) 64) ∙ ap (λ (l : List (Ident × Field)). slice_get l 64) (fields_zero 0 0 class.members)) in
+    both (a ++ names.too_many which.Fields o) (names.position class) (a0 ++ names.too_many which.Fields o0) (names.position (class_at_0 class))
+    (both a (names.too_many which.Fields o) a0 (names.too_many which.Fields o0)
+    (repeated_zero fault.DuplicateName (λ at. refl) (map title class.members) ∙ ap (λ (l : List Ident). f.faults_at fault.DuplicateName (repeated l)) (titles_zero class.members))
+    (limit_zero which.Fields o ∙ ap (names.too_many which.Fields) same))
+    (position_zero class)
+
+class_names_zero : (names_ : List Ident) → zeroed (class_names names_) ≡ class_names (map ident_at_0 names_)
+class_names_zero names_ =
+    both (f.faults_at fault.DuplicateClass (repeated names_)) (names.too_many which.Classes (slice_get names_ 16))
+    (f.faults_at fault.DuplicateClass (repeated (map ident_at_0 names_))) (names.too_many which.Classes (slice_get (map ident_at_0 names_) 16))
+    (repeated_zero fault.DuplicateClass (λ at. refl) names_)
+    (limit_zero which.Classes (slice_get names_ 16) ∙ ap (names.too_many which.Classes) (sym (slice_get-map ident_at_0 names_ 16)))
+
+-- a class at place 0 is the same to its members
+pub home_zero : (all : Known) (number : ℕ) (class : ClassTree) → home_of all number (class_at_0 class) ≡ home_of all number class
+home_zero all number class = ap (λ (own : List (List ℕ × Field)). record { known = all; number = number; own = own }) (sym (own_zero class))
+
+module _ {A : Type 0} (at_0 : A → A) (member : Home → MemberTree → List A) (zero : (home : Home) (x : MemberTree) → map at_0 (member home x) ≡ member home (member_at_0 x)) where
+  -- what is found in the members of classes
+  pub classes_zero : (all : Known) (number : ℕ) (classes : List ClassTree) → map at_0 (in_classes member all number classes) ≡ in_classes member all number (map class_at_0 classes)
+  classes_zero all number [] = refl
+  classes_zero all number (class ∷ classes) =
+      walk.both at_0 (flat_map (member (home_of all number class)) class.members) (in_classes member all (number + 1) classes)
+      (flat_map (member (home_of all number (class_at_0 class))) (map member_at_0 class.members)) (in_classes member all (number + 1) (map class_at_0 classes))
+      (many at_0 (member (home_of all number class)) member_at_0 class.members (zero (home_of all number class))
+      ∙ ap (λ (home : Home). flat_map (member home) (map member_at_0 class.members)) (sym (home_zero all number class)))
+      (classes_zero all (number + 1) classes)
+
+  -- and in those of a script
+  pub script_zero : (classes : List ClassTree) → map at_0 (in_classes member (known classes) 0 classes) ≡ in_classes member (known (map class_at_0 classes)) 0 (map class_at_0 classes)
+  script_zero classes = classes_zero (known classes) 0 classes ∙ ap (λ (all : Known). in_classes member all 0 (map class_at_0 classes)) (known_zero classes)
+
+titles_of : (classes : List ClassTree) → map ident_at_0 (map (λ class. class.name) classes) ≡ map (λ class. class.name) (map class_at_0 classes)
+titles_of [] = refl
+titles_of (class ∷ classes) = ap (λ (l : List Ident). ident_at_0 class.name ∷ l) (titles_of classes)
+
+-- a script with 0 in each place
+abbrev pub tree_at_0 : Tree → Tree
+tree_at_0 tree = record { classes = map class_at_0 tree.classes }
+
+pub found_zero : (tree : Tree) → zeroed (found tree) ≡ found (tree_at_0 tree)
+found_zero tree =
+    let classes : List ClassTree = tree.classes in
+    let a : List Finding = class_names (map (λ class. class.name) classes) in
+    let b : List Finding = flat_map declarations classes in
+    let d : List Finding = in_classes names.member (known classes) 0 classes in
+    let a0 : List Finding = class_names (map (λ class. class.name) (map class_at_0 classes)) in
+    let b0 : List Finding = flat_map declarations (map class_at_0 classes) in
+    let d0 : List Finding = in_classes names.member (known (map class_at_0 classes)) 0 (map class_at_0 classes) in
+    both (a ++ b) d (a0 ++ b0) d0
+    (both a b a0 b0 (class_names_zero (map (λ class. class.name) classes) ∙ ap class_names (titles_of classes)) (many finding_at_0 declarations class_at_0 classes declarations_zero))
+    (script_zero finding_at_0 names.member member_zero classes)
+
+-- faults, sites, assignments and bindings among what is found
+faults_of_zero : (all : List Finding) → map name_fault_at_0 (flat_map fault_of all) ≡ flat_map fault_of (zeroed all)
+faults_of_zero [] = refl
+faults_of_zero (finding.Fault x ∷ all) = ap (λ (l : List NameFault). name_fault_at_0 x ∷ l) (faults_of_zero all)
+faults_of_zero (_ ∷ all) = faults_of_zero all
+
+sites_of_zero : (all : List Finding) → map nought (flat_map site_of all) ≡ flat_map site_of (zeroed all)
+sites_of_zero [] = refl
+sites_of_zero (finding.Site at ∷ all) = ap (λ (l : List ℕ). 0 ∷ l) (sites_of_zero all)
+sites_of_zero (_ ∷ all) = sites_of_zero all
+
+assignments_of_zero : (all : List Finding) → map nought (flat_map assignment_of all) ≡ flat_map assignment_of (zeroed all)
+assignments_of_zero [] = refl
+assignments_of_zero (finding.Assignment at ∷ all) = ap (λ (l : List ℕ). 0 ∷ l) (assignments_of_zero all)
+assignments_of_zero (_ ∷ all) = assignments_of_zero all
+
+abbrev target_in : Binding → Target
+target_in b = b.target
+
+targets_of_zero : (all : List Finding) → map target_in (flat_map binding_of all) ≡ map target_in (flat_map binding_of (zeroed all))
+targets_of_zero [] = refl
+targets_of_zero (finding.Names b ∷ all) = ap (λ (l : List Target). b.target ∷ l) (targets_of_zero all)
+targets_of_zero (_ ∷ all) = targets_of_zero all
+
+past_zero : (w : Which) (o : Option ℕ) → map name_fault_at_0 (too_many w o) ≡ too_many w (option_map nought o)
+past_zero w None = refl
+past_zero w (Some at) = refl
+
+past_limit_zero : (w : Which) (l l0 : List ℕ) → map nought l ≡ l0 → map name_fault_at_0 (too_many w (slice_get l 4096)) ≡ too_many w (slice_get l0 4096)
+past_limit_zero w l l0 same =
+    past_zero w (slice_get l 4096) ∙ ap (too_many w) (sym (slice_get-map nought l 4096) ∙ ap (λ (l : List ℕ). slice_get l 4096) same)
+
+among_zero : (all : List Finding) → map name_fault_at_0 (faults_among all) ≡ faults_among (zeroed all)
+among_zero all =
+    let a : List NameFault = flat_map fault_of all in
+    let b : List NameFault = too_many which.Sites (slice_get (flat_map site_of all) 4096) in
+    let d : List NameFault = too_many which.Assignments (slice_get (flat_map assignment_of all) 4096) in
+    let b0 : List NameFault = too_many which.Sites (slice_get (flat_map site_of (zeroed all)) 4096) in
+    map-append name_fault_at_0 (a ++ b) d
+    ∙ (ap (λ (l : List NameFault). l ++ map name_fault_at_0 d) (map-append name_fault_at_0 a b)
+    ∙ (ap (λ (l : List NameFault). l ++ map name_fault_at_0 b ++ map name_fault_at_0 d) (faults_of_zero all)
+    ∙ (ap (λ (l : List NameFault). flat_map fault_of (zeroed all) ++ l ++ map name_fault_at_0 d) (past_limit_zero which.Sites (flat_map site_of all) (flat_map site_of (zeroed all)) (sites_of_zero all))
+    ∙ ap (λ (l : List NameFault). flat_map fault_of (zeroed all) ++ b0 ++ l)
+    (past_limit_zero which.Assignments (flat_map assignment_of all) (flat_map assignment_of (zeroed all)) (assignments_of_zero all)))))
+
+-- the faults of a script at place 0, and what its names stand for
+pub faults_unplaced : (tree : Tree) → map name_fault_at_0 (faults tree) ≡ faults (tree_at_0 tree)
+faults_unplaced tree = among_zero (found tree) ∙ ap faults_among (found_zero tree)
+
+pub targets_unplaced : (tree : Tree) → targets_in tree ≡ targets_in (tree_at_0 tree)
+targets_unplaced tree = targets_of_zero (found tree) ∙ ap (λ (all : List Finding). map target_in (flat_map binding_of all)) (found_zero tree)

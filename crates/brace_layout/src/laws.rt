@@ -23,24 +23,21 @@ pub fn alike_scripts_have_the_same_names()
     ensures targets { (tree other : Tree) → Alike tree other → targets_in tree ≡ targets_in other }
 {}
 
-/// Where two scripts that are the same apart from places are resolved, the faults of their check
-/// passes are the same apart from places; and where nothing is found in them, so are their
-/// programs.
+/// Scripts that are the same apart from places have the same faults of the check passes apart from
+/// places, so nothing is found in one where nothing is found in the other; and the same program apart
+/// from offsets.
 pub fn alike_scripts_mean_the_same()
-    ensures faults { (src other : List ℕ) (r q : Resolved)
-        → IsResolved src r → IsResolved other q → Alike r.tree q.tree
+    ensures faults { (r q : Resolved) → Alike r.tree q.tree
         → map check_fault_at_0 (check_faults r) ≡ map check_fault_at_0 (check_faults q) }
-    ensures faultless { (src other : List ℕ) (r q : Resolved)
-        → IsResolved src r → IsResolved other q → Alike r.tree q.tree
+    ensures faultless { (r q : Resolved) → Alike r.tree q.tree
         → check_faults r ≡ [] → check_faults q ≡ [] }
-    ensures programs { (src other : List ℕ) (r q : Resolved)
-        → IsResolved src r → IsResolved other q → Alike r.tree q.tree
-        → check_faults r ≡ [] → program_at_0 (program_of r) ≡ program_at_0 (program_of q) }
+    ensures programs { (r q : Resolved) → Alike r.tree q.tree
+        → program_at_0 (program_of r) ≡ program_at_0 (program_of q) }
 {}
 
 /// The canonical text of a script that is resolved is resolved too, as the same script apart from
 /// places. Where nothing is found in the script, nothing is found in what its canonical text is
-/// resolved as, whose program is the same apart from offsets.
+/// resolved as; and its program is the same apart from offsets.
 pub fn canonical_texts_mean_the_same()
     ensures resolved { (src : List ℕ) (r : Resolved) → IsResolved src r → IsFormatted r }
     ensures faultless { (src : List ℕ) (r q : Resolved)
@@ -48,5 +45,5 @@ pub fn canonical_texts_mean_the_same()
         → check_faults r ≡ [] → check_faults q ≡ [] }
     ensures programs { (src : List ℕ) (r q : Resolved)
         → IsResolved src r → IsResolved (canonical r.tree) q
-        → check_faults r ≡ [] → program_at_0 (program_of q) ≡ program_at_0 (program_of r) }
+        → program_at_0 (program_of q) ≡ program_at_0 (program_of r) }
 {}

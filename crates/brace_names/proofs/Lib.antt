@@ -2,7 +2,6 @@ pub mod TableLemmas
 pub mod RepeatLemmas
 pub mod PastLemmas
 pub mod FirstLemmas
+pub mod Folds
 pub mod StmtLemmas
-pub mod FoundEquations
 pub mod NameOrder
-pub mod TreeOrder

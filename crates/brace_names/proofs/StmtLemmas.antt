@@ -1,21 +1,26 @@
--- The scope behind the statements of a block.
-use Rattle.std.proofs.Common.{◌≡◌, refl, sym, ap, ◌∙◌, ℕ, ◌+◌, List, [], ◌∷◌, ◌++◌, take, length, append_assoc, arith, inl, inr}
+-- The scope behind the statements of a block, statements that declare the same, and classes in turn.
+use Rattle.std.proofs.Common.{◌≡◌, refl, sym, ap, ◌∙◌, ℕ, ◌+◌, List, [], ◌∷◌, ◌++◌, take, drop, get_or, length, flat_map, ◌<◌, append_assoc, arith, inl, inr}
 use Rattle.std.specs.Prelude.{Option, Some, None}
 use Rattle.std.proofs.lemmas.Bool.{cases_Bool}
-use Rattle.std.proofs.lemmas.List.{append-nil}
+use Rattle.std.proofs.lemmas.List.{append-nil, drop_more}
 use Rattle.std.proofs.lemmas.List.Sums.{sum_by-cons}
 use Rattle.std.proofs.Math.Seq.{take-append_seam}
 use Rattle.brace_syntax.specs.declared.tree.Ident.{Ident}
+use Rattle.brace_syntax.specs.declared.tree.MemberTree.{MemberTree}
+use Rattle.brace_syntax.specs.declared.tree.ClassTree.{ClassTree}
+use Rattle.brace_model.specs.declared.program.Ty.{Ty}
 use Rattle.brace_names.specs.declared.scope.Local.{Local}
 use Rattle.brace_names.specs.declared.scope.Local.TheVariants as local
 use Rattle.brace_names.specs.Tables.{has, with_name}
-use Rattle.brace_names.specs.Scopes.{Scope, past}
-use Rattle.brace_names.specs.Found.{Part, behind, declared_in, constants_in}
+use Rattle.brace_names.specs.Classes.{Known}
+use Rattle.brace_names.specs.Scopes.{Home, home_of, Scope, past}
+use Rattle.brace_names.specs.Walk.{Part, behind, declared_in, constants_in, in_classes}
 
--- the scope behind all of these statements
-abbrev pub behind_all : List Part → Scope → Scope
-behind_all [] scope = scope
-behind_all (part ∷ parts) scope = behind_all parts (behind part scope)
+module _ {A : Type 0} where
+  -- the scope behind all of these statements
+  abbrev pub behind_all : List (Part A) → Scope → Scope
+  behind_all [] scope = scope
+  behind_all (part ∷ parts) scope = behind_all parts (behind part scope)
 
 record Added {A : Type 0} (table after : List (List ℕ × A)) : Type 0 where
   pub more : List (List ℕ × A)
@@ -39,33 +44,56 @@ none_more scope l = ap (λ (n : ℕ). record scope { locals = l; constants = n }
 same : (scope : Scope) → Grown scope scope 0
 same scope = record { more = []; is = ap (λ (l : List (List ℕ × Local)). record scope { locals = l }) (sym (append-nil scope.locals)) ∙ none_more scope (scope.locals ++ []) }
 
-declared_grows : (name : Option Ident) (scope : Scope) → Grown scope (declared_in name scope) 0
+declared_grows : (one : Option (Ident × Ty)) (scope : Scope) → Grown scope (declared_in one scope) 0
 declared_grows None scope = same scope
-declared_grows (Some name) scope =
-    let a : Added scope.locals (with_name scope.locals name.text (local.Constant scope.constants)) = added scope.locals name.text (local.Constant scope.constants) in
+declared_grows (Some (name, t)) scope =
+    let a : Added scope.locals (with_name scope.locals name.text (local.Constant scope.constants t)) = added scope.locals name.text (local.Constant scope.constants t) in
     record { more = a.more; is = ap (λ (l : List (List ℕ × Local)). record scope { locals = l }) a.is ∙ none_more scope (scope.locals ++ a.more) }
 
-constants-cons : (part : Part) (parts : List Part) → constants_in (part ∷ parts) ≡ part.constants + constants_in parts
-constants-cons part parts = sum_by-cons (λ (p : Part). p.constants) part parts
+module _ {A : Type 0} where
+  pub constants-cons : (part : Part A) (parts : List (Part A)) → constants_in (part ∷ parts) ≡ part.constants + constants_in parts
+  constants-cons part parts = sum_by-cons (λ (p : Part A). p.constants) part parts
 
-grows : (parts : List Part) (scope : Scope) → Grown scope (behind_all parts scope) (constants_in parts)
-grows [] scope = same scope
-grows (part ∷ parts) scope =
-    let first : Grown scope (declared_in part.declared scope) 0 = declared_grows part.declared scope in
-    let rest : Grown (behind part scope) (behind_all parts (behind part scope)) (constants_in parts) = grows parts (behind part scope) in
-    record {
-      more = first.more ++ rest.more;
-      is =
-          rest.is
-          ∙ (ap (λ (s : Scope). record s { locals = s.locals ++ rest.more; constants = (s.constants + part.constants) + constants_in parts }) first.is
-          ∙ (ap (λ (l : List (List ℕ × Local)). record scope { locals = l; constants = ((scope.constants + 0) + part.constants) + constants_in parts }) (append_assoc scope.locals first.more rest.more)
-          ∙ ap (λ (n : ℕ). record scope { locals = scope.locals ++ (first.more ++ rest.more); constants = n }) (omega (arith, constants-cons part parts))));
-    }
+  grows : (parts : List (Part A)) (scope : Scope) → Grown scope (behind_all parts scope) (constants_in parts)
+  grows [] scope = same scope
+  grows (part ∷ parts) scope =
+      let first : Grown scope (declared_in part.declared scope) 0 = declared_grows part.declared scope in
+      let rest : Grown (behind part scope) (behind_all parts (behind part scope)) (constants_in parts) = grows parts (behind part scope) in
+      record {
+        more = first.more ++ rest.more;
+        is =
+            rest.is
+            ∙ (ap (λ (s : Scope). record s { locals = s.locals ++ rest.more; constants = (s.constants + part.constants) + constants_in parts }) first.is
+            ∙ (ap (λ (l : List (List ℕ × Local)). record scope { locals = l; constants = ((scope.constants + 0) + part.constants) + constants_in parts }) (append_assoc scope.locals first.more rest.more)
+            ∙ ap (λ (n : ℕ). record scope { locals = scope.locals ++ (first.more ++ rest.more); constants = n }) (omega (arith, constants-cons part parts))));
+      }
 
--- what a block leaves of the scope, once its own names are forgotten
-pub left_behind : (parts : List Part) (scope after : Scope) → after ≡ behind_all parts scope
-    → record after { loops = scope.loops; locals = take (length scope.locals) after.locals } ≡ past (constants_in parts) scope
-left_behind parts scope after e =
-    let g : Grown scope (behind_all parts scope) (constants_in parts) = grows parts scope in
-    ap (λ (s : Scope). record s { loops = scope.loops; locals = take (length scope.locals) s.locals }) (e ∙ g.is)
-    ∙ ap (λ (l : List (List ℕ × Local)). record scope { locals = l; constants = scope.constants + constants_in parts }) (take-append_seam scope.locals g.more)
+  -- what a block leaves of the scope, once its own names are forgotten
+  pub left_behind : (parts : List (Part A)) (scope after : Scope) → after ≡ behind_all parts scope
+      → record after { loops = scope.loops; locals = take (length scope.locals) after.locals } ≡ past (constants_in parts) scope
+  left_behind parts scope after e =
+      let g : Grown scope (behind_all parts scope) (constants_in parts) = grows parts scope in
+      ap (λ (s : Scope). record s { loops = scope.loops; locals = take (length scope.locals) s.locals }) (e ∙ g.is)
+      ∙ ap (λ (l : List (List ℕ × Local)). record scope { locals = l; constants = scope.constants + constants_in parts }) (take-append_seam scope.locals g.more)
+
+-- two parts declare the same
+pub record Same {A B : Type 0} (p : Part A) (q : Part B) : Type 0 where
+  pub declared : p.declared ≡ q.declared
+  pub constants : p.constants ≡ q.constants
+
+-- so the scope behind them is one
+pub behind_same : {A B : Type 0} (p : Part A) (q : Part B) (scope : Scope) → Same p q → behind p scope ≡ behind q scope
+behind_same p q scope h =
+    ap (λ (d : Option (Ident × Ty)). past p.constants (declared_in d scope)) h.declared
+    ∙ ap (λ (k : ℕ). past k (declared_in q.declared scope)) h.constants
+
+-- what is found in one class more
+module _ {A : Type 0} (member : Home → MemberTree → List A) (all : Known) (classes : List ClassTree) where
+  pub class_more : (i number next : ℕ) (one : ClassTree) (out : List A) → i < length classes → one ≡ get_or classes i one → next ≡ number + 1
+      → (out ++ flat_map (member (home_of all number one)) one.members) ++ in_classes member all next (drop (i + 1) classes) ≡ out ++ in_classes member all number (drop i classes)
+  class_more i number next one out within is e =
+      let mine : List A = flat_map (member (home_of all number one)) one.members in
+      let rest : List ClassTree = drop (i + 1) classes in
+      let cut : one ∷ rest ≡ drop i classes = ap (λ (c : ClassTree). c ∷ rest) is ∙ sym (drop_more classes i one within) in
+      ap (λ (k : ℕ). (out ++ mine) ++ in_classes member all k rest) e
+      ∙ (append_assoc out mine (in_classes member all (number + 1) rest) ∙ ap (λ (l : List ClassTree). out ++ in_classes member all number l) cut)

@@ -4,13 +4,12 @@ use Rattle.std.specs.List.{list_any}
 use Rattle.std.specs.Str.{bytes_eq}
 use Rattle.brace_syntax.specs.declared.tree.Ident.{Ident}
 use Rattle.brace_syntax.specs.declared.tree.TyName.TheVariants as ty
-use Rattle.brace_syntax.specs.declared.tree.CombName.{CombName}
-use Rattle.brace_syntax.specs.declared.tree.CombName.TheVariants as comb
 use Rattle.brace_syntax.specs.declared.tree.MemberTree.{MemberTree}
 use Rattle.brace_syntax.specs.declared.tree.MemberTree.TheVariants as m
 use Rattle.brace_syntax.specs.declared.tree.ClassTree.{ClassTree}
 use Rattle.brace_names.specs.declared.declared.Field.{Field}
 use Rattle.brace_names.specs.declared.declared.Field.TheVariants as field
+use Rattle.brace_names.specs.Kinds.{type_named, comb_named}
 use Rattle.brace_names.specs.Tables.{table}
 
 -- what a class can have once: a field of the name, or the member that begins with the word
@@ -23,27 +22,16 @@ title (m.Run block at) = record { text = codes "run"; at = at }
 title (m.Die condition at) = record { text = codes "die"; at = at }
 title (m.Spawn condition gifts at) = record { text = codes "spawn"; at = at }
 
--- what is assigned to the effect is added up
-abbrev pub is_sum : CombName → Bool
-is_sum comb.Sum = true
-is_sum comb.Min = false
-is_sum comb.Max = false
-is_sum comb.Count = false
-is_sum comb.Or = false
-
 -- the fields among these members, behind so many states and effects of the class
 abbrev pub fields_behind : ℕ → ℕ → List MemberTree → List (Ident × Field)
 fields_behind states effects [] = []
 fields_behind states effects (m.State shared type name rule at ∷ members) =
-    (name, field.State states) ∷ fields_behind (states + 1) effects members
-fields_behind states effects (m.Effect shared type name comb at ∷ members) =
-    (name, field.Effect effects (is_sum comb)) ∷ fields_behind states (effects + 1) members
-fields_behind states effects (m.Visible range at ∷ members) = fields_behind states effects members
-fields_behind states effects (m.Reach range at ∷ members) = fields_behind states effects members
-fields_behind states effects (m.Run block at ∷ members) = fields_behind states effects members
-fields_behind states effects (m.Die condition at ∷ members) = fields_behind states effects members
-fields_behind states effects (m.Spawn condition gifts at ∷ members) =
-    fields_behind states effects members
+    (name, field.State states (type_named type) shared)
+    ∷ fields_behind (states + 1) effects members
+fields_behind states effects (m.Effect shared type name c at ∷ members) =
+    (name, field.Effect effects (type_named type) shared (comb_named c))
+    ∷ fields_behind states (effects + 1) members
+fields_behind states effects (_ ∷ members) = fields_behind states effects members
 
 -- the fields of a class, numbered among its states and among its effects
 abbrev pub fields : ClassTree → List (Ident × Field)

@@ -14,30 +14,22 @@ use Rattle.brace_names.specs.Answered as answered
 -- a finding that is a fault
 abbrev pub fault_of : Finding → List NameFault
 fault_of (finding.Fault f) = f ∷ []
-fault_of (finding.Names b) = []
-fault_of (finding.Site at) = []
-fault_of (finding.Assignment at) = []
+fault_of _ = []
 
 -- a finding that a name stands for something
 abbrev pub binding_of : Finding → List Binding
-binding_of (finding.Fault f) = []
 binding_of (finding.Names b) = b ∷ []
-binding_of (finding.Site at) = []
-binding_of (finding.Assignment at) = []
+binding_of _ = []
 
 -- the place of a finding that is a site
 abbrev pub site_of : Finding → List ℕ
-site_of (finding.Fault f) = []
-site_of (finding.Names b) = []
 site_of (finding.Site at) = at ∷ []
-site_of (finding.Assignment at) = []
+site_of _ = []
 
 -- the place of a finding that is an assignment
 abbrev pub assignment_of : Finding → List ℕ
-assignment_of (finding.Fault f) = []
-assignment_of (finding.Names b) = []
-assignment_of (finding.Site at) = []
 assignment_of (finding.Assignment at) = at ∷ []
+assignment_of _ = []
 
 -- the fault of the first place past a limit
 abbrev pub too_many : Which → Option ℕ → List NameFault

@@ -1,6 +1,8 @@
 pub mod Tables
+pub mod Kinds
 pub mod Classes
 pub mod Scopes
+pub mod Walk
 pub mod Findings
 pub mod Found
 pub mod Answered

@@ -1,19 +1,20 @@
 ghost use Rattle.std.specs.Prelude.{◌≡◌, ◌++◌, map, flat_map, slice_get, OnOk, IfOk};
 ghost use Rattle.brace_names.specs.Tables.{repeated};
 ghost use Rattle.brace_names.specs.Findings.{faults_at};
-ghost use Rattle.brace_names.specs.Found.{rule, gift, states_given, gifts_found, member, members, too_many, position, declarations, class_names, found};
+ghost use Rattle.brace_names.specs.Found.{rule, gift, states_given, gifts_found, member, too_many, position, declarations, class_names, found};
+ghost use Rattle.brace_names.specs.Walk.{in_classes};
+ghost use Rattle.brace_names.specs.Scopes.{home_of};
 ghost use Rattle.brace_names.specs.Classes.{fields};
 ghost use Rattle.brace_names.specs.declared.fault.Which.TheVariants as which;
 ghost use Rattle.std.specs.Option.{option_map};
 ghost use Rattle.brace_names.specs.declared.fault.NameFault.TheVariants as fault;
 
-use crate::declared::{Classes, Field, field_table, fields, has_position, title};
+use crate::declared::{Classes, Field, field_table, fields, has_position, next, title};
 use crate::expr::expression;
 use crate::fault::{NameFault, Which};
 use crate::finding::Finding;
-use crate::names::Names;
 use crate::place::{assign, fault, site, type_name};
-use crate::scope::Scope;
+use crate::scope::{Home, Scope};
 use crate::stmt::block;
 use crate::word::{Word, repeats};
 use brace_num::{List, NoMemory};
@@ -50,7 +51,7 @@ fn states_given<'a>(
 {
     let mut names = Vec::new(alloc);
     for gift in gifts {
-        if let Some(Field::State(_)) = scope.field(gift.state.text.as_bytes()) {
+        if let Some(Field::State(_, _, _)) = scope.field(gift.state.text.as_bytes()) {
             names.push(Word::of(&gift.state))?;
         }
     }
@@ -79,46 +80,52 @@ fn gifts(
 fn member<'a>(
     alloc: Global,
     out: &mut Vec<Finding>,
-    known: &Classes<'a>,
-    own: &Names<'a, Field>,
+    home: &Home<'_, 'a>,
     one: &'a MemberTree,
 ) -> Result<(), NoMemory>
-    ensures { OnOk result (out.new.items ≡ out.old.items ++ member known.now own.now one.now) }
+    ensures { OnOk result (out.new.items ≡ out.old.items ++ member home.now one.now) }
 {
     match one {
         MemberTree::Visible(_, _) | MemberTree::Reach(_, _) => Ok(()),
         MemberTree::State(_, ty, _, x, _) => {
             type_name(out, ty)?;
-            rule(out, &Scope::outermost(alloc, known, own, false), x)
+            rule(out, &Scope::outermost(alloc, home, false), x)
         }
         MemberTree::Effect(_, ty, _, _, _) => type_name(out, ty),
         MemberTree::Run(statements, _) => {
-            let mut scope = Scope::outermost(alloc, known, own, true);
+            let mut scope = Scope::outermost(alloc, home, true);
             block(out, &mut scope, statements)
         }
         MemberTree::Die(condition, _) => {
-            expression(out, &Scope::outermost(alloc, known, own, false), condition)
+            expression(out, &Scope::outermost(alloc, home, false), condition)
         }
         MemberTree::Spawn(condition, given, at) => {
-            let scope = Scope::outermost(alloc, known, own, false);
+            let scope = Scope::outermost(alloc, home, false);
             expression(out, &scope, condition)?;
             gifts(alloc, out, &scope, given, *at)
         }
     }
 }
 
-// The members of a class.
+// The members of the class of a number.
 fn members<'a>(
     alloc: Global,
     out: &mut Vec<Finding>,
     known: &Classes<'a>,
+    number: u32,
     class: &'a ClassTree,
 ) -> Result<(), NoMemory>
-    ensures { OnOk result (out.new.items ≡ out.old.items ++ members known.now class.now) }
+    ensures { OnOk result (out.new.items ≡ out.old.items
+        ++ flat_map (member (home_of known.now number class.now)) class.now.members) }
 {
     let own = field_table(alloc, class)?;
+    let home = Home {
+        known,
+        number,
+        own: &own,
+    };
     for one in class.members.as_slice() {
-        member(alloc, out, known, &own, one)?;
+        member(alloc, out, &home, one)?;
     }
     Ok(())
 }
@@ -206,10 +213,12 @@ fn all_members<'a>(
     classes: &'a [ClassTree],
 ) -> Result<(), NoMemory>
     ensures { OnOk result (out.new.items ≡ out.old.items
-        ++ flat_map (members known.now) classes.now) }
+        ++ in_classes member known.now 0 classes.now) }
 {
+    let mut number = 0;
     for class in classes {
-        members(alloc, out, known, class)?;
+        members(alloc, out, known, number, class)?;
+        number = next(number)?;
     }
     Ok(())
 }

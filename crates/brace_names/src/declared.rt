@@ -1,21 +1,23 @@
 ghost use Rattle.std.specs.Prelude.{◌≡◌, ◌+◌, IfOk, slice_get, option_and_then};
 ghost use Rattle.std.specs.List.{list_any};
 ghost use Rattle.brace_names.specs.Tables.{look, table};
-ghost use Rattle.brace_names.specs.Classes.{title, is_sum, fields, numbered_from, known, is_coordinate, has_position, Known};
+ghost use Rattle.brace_names.specs.Classes.{title, fields, numbered_from, known, is_coordinate, has_position, Known};
 
+use crate::kinds::{comb_named, type_named};
 use crate::names::Names;
 use crate::word::Word;
+use brace_model::{Comb, Ty};
 use brace_num::NoMemory;
-use brace_syntax::{ClassTree, CombName, MemberTree, TyName};
+use brace_syntax::{ClassTree, MemberTree, TyName};
 use std::alloc::Global;
 use std::marker::Model;
 
-/// A state or an effect, by its number among the states or the effects of its class; of an effect,
-/// whether what is assigned to it is added up.
+/// A state or an effect, by its number among the states or the effects of its class, with its type,
+/// whether it is public, and how what is said to an effect is joined.
 #[derive(Debug, Clone, Copy, PartialEq, Eq, Drop)]
 pub enum Field {
-    State(u32),
-    Effect(u32, bool),
+    State(u32, Ty, bool),
+    Effect(u32, Ty, bool, Comb),
 }
 
 /// A field as it is declared.
@@ -81,14 +83,14 @@ pub fn fields<'a>(alloc: Global, class: &'a ClassTree) -> Result<Vec<Declared<'a
     let mut effects = 0;
     for member in class.members.as_slice() {
         match member {
-            MemberTree::State(_, _, name, _, _) => {
-                let field = Field::State(states);
+            MemberTree::State(shared, ty, name, _, _) => {
+                let field = Field::State(states, type_named(ty), *shared);
                 let name = Word::of(name);
                 all.push(Declared { name, field })?;
                 states = next(states)?;
             }
-            MemberTree::Effect(_, _, name, comb, _) => {
-                let field = Field::Effect(effects, *comb == CombName::Sum);
+            MemberTree::Effect(shared, ty, name, comb, _) => {
+                let field = Field::Effect(effects, type_named(ty), *shared, comb_named(*comb));
                 let name = Word::of(name);
                 all.push(Declared { name, field })?;
                 effects = next(effects)?;
@@ -143,11 +145,11 @@ impl<'a> Classes<'a> {
     }
 
     /// What a name stands for in the class of a number.
-    pub fn field(&self, class: Option<u32>, name: &[u8]) -> Option<Field>
+    pub fn field(&self, class: u32, name: &[u8]) -> Option<Field>
         ensures { result ≡ option_and_then (λ own. look own name.now)
-            (option_and_then (slice_get self.now.fields) class) }
+            (slice_get self.now.fields class) }
     {
-        self.fields.get(class? as usize)?.look(name)
+        self.fields.get(class as usize)?.look(name)
     }
 }
 

@@ -1,12 +1,14 @@
 ghost use Rattle.std.specs.Prelude.{◌≡◌, ◌∷◌, ◌++◌, [], Bool, OnOk, Option};
-ghost use Rattle.brace_names.specs.Findings.{fault, names_as, site, assignment, target_of, names_field, summed, reads_field, reads, names_of_loop, reads_of_loop, assigns, assigns_of_loop, declares, typed, names_class, names_again, loops_over, operation};
+ghost use Rattle.brace_names.specs.Findings.{fault, names_as, site, assignment, target_of, is_summed, site_if, reads, names_of_loop, reads_of_loop, names_field, assigns, assigns_of_loop, declares, typed, names_class, names_again, loops_over};
 ghost use Rattle.brace_names.specs.declared.finding.Finding.TheVariants as finding;
+ghost use Rattle.brace_names.specs.Scopes.{of_loop};
 
 use crate::declared::Field;
 use crate::fault::NameFault;
 use crate::finding::Finding;
+use crate::kinds::is_sum;
 use crate::resolved::{Binding, Target};
-use crate::scope::{Local, Scope};
+use crate::scope::{LoopField, Named, Scope};
 use brace_num::NoMemory;
 use brace_syntax::{Ident, TyName};
 
@@ -34,9 +36,9 @@ pub fn site(out: &mut Vec<Finding>, at: u32) -> Result<(), NoMemory>
     Ok(())
 }
 
-/// An operation, which is a site or not.
-pub fn operation(out: &mut Vec<Finding>, is_site: bool, at: u32) -> Result<(), NoMemory>
-    ensures { OnOk result (out.new.items ≡ out.old.items ++ operation is_site at) }
+/// A site, where an operation or a total is one.
+pub fn site_if(out: &mut Vec<Finding>, is_site: bool, at: u32) -> Result<(), NoMemory>
+    ensures { OnOk result (out.new.items ≡ out.old.items ++ site_if is_site at) }
 {
     if is_site {
         site(out, at)?;
@@ -48,70 +50,58 @@ fn target_of(field: Field) -> Target
     ensures { result ≡ target_of field }
 {
     match field {
-        Field::State(number) => Target::State(number),
-        Field::Effect(number, _) => Target::Effect(number),
+        Field::State(number, _, _) => Target::State(number),
+        Field::Effect(number, _, _, _) => Target::Effect(number),
     }
 }
 
-// The name stands for a field, or at the offset there is a fault.
-fn field(
-    out: &mut Vec<Finding>,
-    at: u32,
-    word: &Ident,
-    field: Option<Field>,
-) -> Result<(), NoMemory>
-    ensures { OnOk result (out.new.items ≡ out.old.items ++ names_field at word.now field) }
+// Whether the total of an effect that is added up is read at a site.
+fn is_summed(scope: &Scope, field: Field) -> bool
+    ensures { result ≡ is_summed scope.now field }
 {
     match field {
-        Some(field) => name(out, word.at, target_of(field)),
-        None => fault(out, NameFault::UnknownName(at)),
+        Field::State(_, _, _) => false,
+        Field::Effect(_, _, _, comb) => !scope.in_query() && is_sum(comb),
     }
 }
 
-/// A field of the class is read; what is read stands at the offset.
-pub fn read_field(
+/// A name in an expression stands for this; what is read stands at the offset.
+pub fn read(
     out: &mut Vec<Finding>,
     scope: &Scope,
     at: u32,
     word: &Ident,
+    named: Option<Named>,
 ) -> Result<(), NoMemory>
-    ensures { OnOk result (out.new.items ≡ out.old.items ++ reads_field scope.now at word.now) }
+    ensures { OnOk result (out.new.items ≡ out.old.items ++ reads scope.now at word.now named) }
 {
-    let found = scope.field(word.text.as_bytes());
-    field(out, at, word, found)?;
-    match found {
-        Some(Field::Effect(_, true)) if !scope.in_query() => site(out, at),
-        _ => Ok(()),
-    }
-}
-
-/// `n` in an expression.
-pub fn read(out: &mut Vec<Finding>, scope: &Scope, word: &Ident) -> Result<(), NoMemory>
-    ensures { OnOk result (out.new.items ≡ out.old.items ++ reads scope.now word.now) }
-{
-    match scope.local(word.text.as_bytes()) {
-        Some(Local::Constant(number)) => name(out, word.at, Target::Local(number)),
-        _ => read_field(out, scope, word.at, word),
-    }
-}
-
-// `q.n`: a loop variable, and a field of its class.
-fn of_loop(
-    out: &mut Vec<Finding>,
-    scope: &Scope,
-    variable: &Ident,
-    word: &Ident,
-) -> Result<(), NoMemory>
-    ensures { OnOk result (out.new.items ≡ out.old.items
-        ++ names_of_loop scope.now variable.now word.now) }
-{
-    if let Some(Local::Loop(loops, class)) = scope.local(variable.text.as_bytes()) {
-        if let Some(field) = scope.field_in(class, word.text.as_bytes()) {
-            name(out, variable.at, Target::Loop(loops))?;
-            return name(out, word.at, target_of(field));
+    match named {
+        None => fault(out, NameFault::UnknownName(at)),
+        Some(Named::Constant(number, _)) => name(out, word.at, Target::Local(number)),
+        Some(Named::Field(field)) => {
+            name(out, word.at, target_of(field))?;
+            site_if(out, is_summed(scope, field), at)
         }
     }
-    fault(out, NameFault::UnknownName(variable.at))
+}
+
+// `q.n` stands for this.
+fn of_loop(
+    out: &mut Vec<Finding>,
+    variable: &Ident,
+    word: &Ident,
+    found: Option<LoopField>,
+) -> Result<(), NoMemory>
+    ensures { OnOk result (out.new.items ≡ out.old.items
+        ++ names_of_loop variable.now word.now found) }
+{
+    match found {
+        None => fault(out, NameFault::UnknownName(variable.at)),
+        Some(found) => {
+            name(out, variable.at, Target::Loop(found.loops))?;
+            name(out, word.at, target_of(found.field))
+        }
+    }
 }
 
 /// `q.n` in an expression; outside a query it is not looked up.
@@ -124,10 +114,26 @@ pub fn read_of_loop(
     ensures { OnOk result (out.new.items ≡ out.old.items
         ++ reads_of_loop scope.now variable.now word.now) }
 {
-    if scope.in_query() {
-        of_loop(out, scope, variable, word)?;
+    if !scope.in_query() {
+        return Ok(());
     }
-    Ok(())
+    let found = scope.of_loop(variable.text.as_bytes(), word.text.as_bytes());
+    of_loop(out, variable, word, found)
+}
+
+// The target of an assignment at the offset is this field of the class.
+fn field(
+    out: &mut Vec<Finding>,
+    at: u32,
+    word: &Ident,
+    field: Option<Field>,
+) -> Result<(), NoMemory>
+    ensures { OnOk result (out.new.items ≡ out.old.items ++ names_field at word.now field) }
+{
+    match field {
+        Some(field) => name(out, word.at, target_of(field)),
+        None => fault(out, NameFault::UnknownName(at)),
+    }
 }
 
 fn assignment(out: &mut Vec<Finding>, at: u32) -> Result<(), NoMemory>
@@ -155,7 +161,8 @@ pub fn assign_of_loop(
     ensures { OnOk result (out.new.items ≡ out.old.items
         ++ assigns_of_loop scope.now variable.now word.now) }
 {
-    of_loop(out, scope, variable, word)?;
+    let found = scope.of_loop(variable.text.as_bytes(), word.text.as_bytes());
+    of_loop(out, variable, word, found)?;
     assignment(out, variable.at)
 }
 

@@ -1,9 +1,11 @@
 ghost use Rattle.std.specs.Prelude.{◌≡◌, ◌++◌, map, OnOk};
 ghost use Rattle.brace_names.specs.Scopes.{past};
-ghost use Rattle.brace_names.specs.Found.{part, behind, block, constants_in};
+ghost use Rattle.brace_names.specs.Walk.{behind, block, constants_in};
+ghost use Rattle.brace_names.specs.Found.{part};
 
 use crate::expr::expression;
 use crate::finding::Finding;
+use crate::kinds::type_named;
 use crate::place::{assign, assign_of_loop, declare, loop_over, type_name};
 use crate::scope::Scope;
 use brace_num::{List, NoMemory};
@@ -12,10 +14,10 @@ use brace_syntax::StmtTree;
 #[cycle(statements)]
 fn statement<'a>(
     out: &mut Vec<Finding>,
-    scope: &mut Scope<'_, 'a>,
+    scope: &mut Scope<'_, '_, 'a>,
     s: &'a StmtTree,
 ) -> Result<(), NoMemory>
-    ensures found { OnOk result (out.new.items ≡ out.old.items ++ (part s.now).found scope.old) }
+    ensures found { OnOk result (out.new.items ≡ out.old.items ++ (part s.now).here scope.old) }
     ensures behind { OnOk result (scope.new ≡ behind (part s.now) scope.old) }
 {
     match s {
@@ -23,7 +25,7 @@ fn statement<'a>(
             type_name(out, ty)?;
             declare(out, scope, name)?;
             expression(out, scope, x)?;
-            scope.declare(name)
+            scope.declare(name, type_named(ty))
         }
         StmtTree::If(condition, statements, other, _) => {
             expression(out, scope, condition)?;
@@ -62,7 +64,7 @@ fn statement<'a>(
 #[cycle(statements)]
 pub fn block<'a>(
     out: &mut Vec<Finding>,
-    scope: &mut Scope<'_, 'a>,
+    scope: &mut Scope<'_, '_, 'a>,
     statements: &'a List<StmtTree>,
 ) -> Result<(), NoMemory>
     ensures found { OnOk result (out.new.items ≡ out.old.items

@@ -1,4 +1,4 @@
-use Rattle.brace_check.proofs.Accepted.{accepted_checked}
+use Rattle.brace_check.proofs.LawfulProof.{accepted_checked}
 use Rattle.brace_check.proofs.laws.accepted_programs_are_checked.Goals as goal
 
 pub returns : goal.returns

@@ -2,8 +2,7 @@ use Rattle.std.proofs.Common.{◌∙◌, List, subst, sym, ap, map, flat_map}
 use Rattle.brace_names.specs.declared.resolved.Binding.{Binding}
 use Rattle.brace_names.specs.Found.{found}
 use Rattle.brace_names.specs.Faults.{binding_of, AreRising}
-use Rattle.brace_names.proofs.NameOrder.{bindings_rise}
-use Rattle.brace_names.proofs.TreeOrder.{of_script}
+use Rattle.brace_names.proofs.NameOrder.{bindings_rise, of_script}
 use Rattle.brace_names.proofs.entry.resolve.Goals as goal
 
 pub returns-clause-rising : goal.returns-clause-rising

@@ -1,5 +1,6 @@
 use Rattle.std.proofs.Common.{◌≡◌, ◌++◌, map, drop}
-use Rattle.brace_names.specs.Found.{part, block}
+use Rattle.brace_names.specs.Walk.{block}
+use Rattle.brace_names.specs.Found.{part}
 use Rattle.brace_names.proofs.StmtLemmas.{behind_all}
 use Rattle.brace_names.proofs.stmt.+statements.Given as goal
 
