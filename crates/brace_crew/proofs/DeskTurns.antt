@@ -22,7 +22,7 @@ use Rattle.brace_crew.specs.declared.desk.Lot.{Lot}
 use Rattle.brace_crew.specs.declared.desk.Stop.{Stop}
 use Rattle.brace_crew.specs.declared.desk.Stop.TheVariants as stop
 use Rattle.brace_pieces.specs.Settings.{ends}
-use Rattle.brace_crew.specs.Desks.{OnDesk, HasShown, HasHalted, HasRefused}
+use Rattle.brace_crew.specs.Desks.{OnDesk, HasShown, HasHalted, HasRefused, ends_before}
 use Rattle.brace_crew.specs.inner.Sound.{HalfHalted, IsOpen, IsClosedBy, IsAsItStands, IsDesk}
 use Rattle.brace_crew.proofs.EndCalls.{ends_all}
 use Rattle.brace_crew.proofs.DeskCourses.{ack_right, takes_shown, takes_from, shown_taken, nothing_else, none_made, last_behind}
@@ -66,6 +66,19 @@ module _ {P : Type 0} (of : publisher.Ghosts P) (d : OnDesk P) (room : ℕ) (h :
       by_closed : (b : Bool) → IsAsItStands of d b → HasRefused of d x
       by_closed true by = subst (IsClosedBy of d) is by
       by_closed false goes = let half = subst (HalfHalted d.course) is goes.halting in absurd (no_halt half.cause half.halts)
+
+  -- the publisher of a desk that did not refuse was shown the first ends
+  pub stop_shown : ((x : PubFault) → d.stop ≡ Some (stop.Refusal x) → ⊥) → (count : ℕ) × HasShown of d count
+  stop_shown no_refusal = by_closed d.closed h.stands
+    where
+      by_stop : (o : Option Stop) → d.stop ≡ o → IsClosedBy of d o → (count : ℕ) × HasShown of d count
+      by_stop None is by = absurd by
+      by_stop (Some (stop.Halt x)) is by = (ends_before d.course.setting by.0.number, by.0.shown)
+      by_stop (Some (stop.Refusal x)) is by = absurd (no_refusal x is)
+
+      by_closed : (b : Bool) → IsAsItStands of d b → (count : ℕ) × HasShown of d count
+      by_closed true by = by_stop d.stop refl by
+      by_closed false goes = (ends_before d.course.setting d.course.number, goes.shown)
 
   module _ (now : OnDesk P) (view : d ≡ now) where
     -- ---- a put

@@ -22,3 +22,5 @@ pub mod GatherLemmas
 pub mod BenchSends
 pub mod TeamLemmas
 pub mod WatchLemmas
+pub mod LinkedEnds
+pub mod BytesLemmas

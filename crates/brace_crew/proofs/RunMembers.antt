@@ -83,6 +83,9 @@ module _ {P : Type 0} (s : Setting) (publisher : P) (members : List (Member P)) 
   pub desk_opening : (d : OnDesk P) → last ≡ member.Desk d → d.opening ≡ publisher
   desk_opening d desk = let opens : Some d.opening ≡ Some publisher = ap opening_of (sym desk) ∙ opens_desk in cc
 
+  pub desk_setting : (d : OnDesk P) → last ≡ member.Desk d → d.course.setting ≡ s
+  desk_setting d desk = ap setting_of (sym desk) ∙ all_last (λ m. setting_of m ≡ s) front last of_setting
+
   module _ (done : All IsDone members) where
     all_done : All IsDone (front ++ last ∷ [])
     all_done = subst (All IsDone) is done

@@ -93,7 +93,7 @@ pub(crate) fn parts<'a, P: Publisher>(
 
 /// All members of a run before their first turns: its parts, and the desk behind them; `Err` gives
 /// the publisher back where memory is refused.
-fn members<'a, P: Publisher>(
+pub(crate) fn members<'a, P: Publisher>(
     alloc: Global,
     setting: &'a Setting,
     publisher: P,

@@ -134,7 +134,7 @@ impl<'a, P: Publisher> Desk<'a, P> {
 
     /// Why it publishes nothing any more. Where it went on to its last turn its publisher was shown
     /// all ends; where a part halted, all ends before; where the publisher refused, all ends before
-    /// that.
+    /// that; and at any time the first ends, where it did not refuse.
     pub fn stop(&self) -> Option<Stop>
         ensures same { result ≡ self.now.stop }
         ensures all { self.now.stop ≡ None → due schedule self.now.course.setting
@@ -145,6 +145,8 @@ impl<'a, P: Publisher> Desk<'a, P> {
             (past_of self.now.course) ≡ turn.Done → HasHalted P.Publisher self.now c }
         ensures refused { (x : PubFault) → self.now.stop ≡ Some (stop.Refusal x)
             → HasRefused P.Publisher self.now x }
+        ensures shown { ((x : PubFault) → self.now.stop ≡ Some (stop.Refusal x) → ⊥)
+            → (count : ℕ) × HasShown P.Publisher self.now count }
         ensures rises { Rises P.Publisher self.now.opening self.now.publisher }
     {
         self.stop

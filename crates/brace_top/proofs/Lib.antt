@@ -22,3 +22,4 @@ pub mod NoneLemmas
 pub mod NextLemmas
 pub mod ResumeLemmas
 pub mod ToldLemmas
+pub mod LinkLemmas

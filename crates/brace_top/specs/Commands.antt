@@ -1,5 +1,5 @@
 -- The command that the words of a command line ask for.
-use Rattle.std.specs.Prelude.{ℕ, List, Bool, true, false, ◌||◌, if◌then◌else◌, Option, Some, None, is_none, is_some, option_map, option_and_then, unwrap_or}
+use Rattle.std.specs.Prelude.{ℕ, List, Bool, true, false, ◌||◌, Option, Some, None, is_some, option_map, option_and_then, unwrap_or}
 use Rattle.brace_words.specs.declared.line.Line.{Line}
 use Rattle.brace_words.specs.declared.mode.Mode.{Mode}
 use Rattle.brace_words.specs.declared.mode.Mode.TheVariants as mode
@@ -99,10 +99,6 @@ abbrev pub may_save : Option Command → Bool
 may_save (Some (Run run)) = is_some run.save || is_some run.watch
 may_save _ = false
 
--- the line asks for nothing that is not built yet: for no link
-abbrev pub built : Line → Bool
-built line = is_none line.link
-
 -- how many workers words ask for: one where they are no line, and where it says nothing
 abbrev pub workers_of : Option Line → ℕ
 workers_of None = 1
@@ -185,9 +181,9 @@ asked line mode.Trial = trial_of line line.count line.ticks
 asked line mode.Balance = balance_of line.script line.agents line.strips
 asked line mode.Audit = audit_of line line.script line.agents line.published line.ticks
 
--- what a line asks for, where it is built
+-- what a line asks for
 abbrev pub command_in : Line → Option Command
-command_in line = if built line then asked line line.mode else None
+command_in line = asked line line.mode
 
 -- what words ask for, where they are a line
 abbrev pub command_of : List (List ℕ) → Option Command

@@ -1,3 +1,4 @@
 pub mod Prepared
 pub mod Settled
 pub mod Words
+pub mod Fates

@@ -1,6 +1,7 @@
-ghost use Rattle.std.specs.Prelude.{◌≡◌, ◌≤◌, option_map, MatchOption, IfErr, IfOk, IfSome, None, Some};
+ghost use Rattle.std.specs.Prelude.{◌≡◌, ◌≤◌, option_map, MatchOption, IfErr, IfOk, IfSome, None, Some, true};
 ghost use Rattle.brace_words.specs.Lines as lines;
-ghost use Rattle.brace_top.specs.Commands.{anew_of, audit_of, balance_of, built, command_in, manner_of, resumed_of, run_of, trial_of, workers_of};
+ghost use Rattle.brace_words.specs.Values.{is_link};
+ghost use Rattle.brace_top.specs.Commands.{anew_of, audit_of, balance_of, command_in, manner_of, resumed_of, run_of, trial_of, workers_of};
 ghost use Rattle.brace_top.specs.inner.Words.{said, said_manner, said_start, IsInRange, IsMannerInRange};
 
 use brace_num::Text;
@@ -39,6 +40,9 @@ pub struct RunCommand<'a> {
     pub save: Option<&'a str>,
     /// The figures that this watch file asks for are saved as `NAME.k`, where this is NAME.
     pub watch: Option<&'a str>,
+    /// The letters of a link, over which one worker runs the parts; without them these exchange
+    /// pieces in memory.
+    pub link: Option<&'a str>,
     pub ticks: u64,
     /// Ticks that this number divides are published, and the last one. At least 1.
     pub every: u64,
@@ -99,15 +103,6 @@ pub enum Command<'a> {
     Audit(AuditCommand<'a>),
 }
 
-/// Whether a line asks for nothing that is not built yet.
-///
-/// Not built are links in `run` and `resume`.
-pub fn built(line: &Line) -> bool
-    ensures { result ≡ built line.now }
-{
-    line.link.is_none()
-}
-
 /// How many workers words ask for, as they were read: 1 to 16, and 1 where they are no line.
 pub fn workers_of(line: &Result<Line, LineFault>) -> u32
     requires range { IfOk line.now lines.IsInRange }
@@ -143,6 +138,14 @@ fn name_of(name: &Option<Text>) -> Option<&str>
     name.as_ref().map(|name| name.as_str())
 }
 
+/// The letters of a line's link, if it has one.
+fn link_of(line: &Line) -> Option<&str>
+    requires { lines.IsInRange line.now }
+    ensures { IfSome result (λ letters. is_link letters.now ≡ true) }
+{
+    Some(line.link.as_ref()?.as_str())
+}
+
 /// A run that begins anew, where the line names the agent file.
 fn anew_of(line: &Line) -> Option<Start<'_>>
     ensures { option_map said_start result ≡ anew_of line.now }
@@ -173,6 +176,7 @@ fn run_of<'a>(line: &'a Line, start: Option<Start<'a>>) -> Option<Command<'a>>
         cuts: name_of(&line.cuts),
         save: name_of(&line.save),
         watch: name_of(&line.watch),
+        link: link_of(line),
         ticks: line.ticks?,
         every: line.every.unwrap_or(1),
         manner: manner_of(line),
@@ -231,16 +235,13 @@ fn audit_of(line: &Line) -> Option<Command<'_>>
     }))
 }
 
-/// The command that a line asks for, or None where it is not built yet.
+/// The command that a line asks for, or None where it lacks what its mode needs.
 pub fn command_in(line: &Line) -> Option<Command<'_>>
     requires { lines.IsInRange line.now }
     ensures command { MatchOption result (command_in line.now ≡ None)
         (λ command. command_in line.now ≡ Some (said command)) }
     ensures range { IfSome result IsInRange }
 {
-    if !built(line) {
-        return None;
-    }
     match line.mode {
         Mode::Run => run_of(line, anew_of(line)),
         Mode::Resume => run_of(line, resumed_of(line)),

@@ -117,7 +117,7 @@ fn answer_on<R: Threads + Wait + Sync, G: Gate + Sync, S: Shelf + Send, O: Sink 
 /// | Status | When it comes |
 /// |---|---|
 /// | 0 | all was written |
-/// | 2 | the words are no line, or ask for what is not [`built`](crate::built) yet |
+/// | 2 | the words are no line |
 /// | 3, 4, 5, 6 | the script, the agent file, the cut plan, the checkpoint is refused |
 /// | 7 | the run ended in a fault before its last tick |
 /// | 8 | a read failed |

@@ -1,9 +1,10 @@
 //! How a task is carried out, on one worker or on several.
-ghost use Rattle.std.specs.Prelude.{◌≡◌, ◌≤◌, ℤ, [], None, Err, true};
+ghost use Rattle.std.specs.Prelude.{◌≡◌, ◌≤◌, ℤ, [], IfSome, None, Err, true};
 ghost use Rattle.brace_model.specs.Run.{end_of};
 ghost use Rattle.brace_pieces.specs.declared.setting.Setting.{Setting};
 ghost use Rattle.brace_pieces.specs.Settings.{LawfulSetting};
 ghost use Rattle.brace_watch.specs.Watches.{AreWatches};
+ghost use Rattle.brace_words.specs.Values.{is_link};
 ghost use Rattle.brace_crew.specs.Calls.{CameTo};
 ghost use Rattle.brace_top.specs.Answer.{CountsWrites, sink_call};
 ghost use Rattle.brace_top.specs.Commands as asked;
@@ -16,6 +17,7 @@ ghost use Rattle.brace_top.specs.inner.Words.{said_trial};
 
 use crate::answer::{Answer, Stopped};
 use crate::command::TrialCommand;
+use crate::links::crew_run_linked_by;
 use crate::task::{Task, done, faulted, settle};
 use crate::team::{Team, crew_run_on};
 use crate::trial::trial_line;
@@ -125,6 +127,7 @@ pub fn crew_alone<K: Keeper, O: Sink>(
     requires lawful { LawfulSetting task.now.setting }
     requires begins { task.now.setting.job.first ≤ task.now.setting.job.last }
     requires watched { AreWatches task.now.setting.job.program task.now.watches.items }
+    requires link { IfSome task.now.link (λ letters. is_link letters.now ≡ true) }
     ensures run { IsRunOf O.Sink task.now (keeper_call K.Keeper keeper.old keeper.new)
         out.old out.new result }
     ensures same_loans { K.loans keeper.new ≡ K.loans keeper.old }
@@ -149,7 +152,7 @@ pub fn crew_alone<K: Keeper, O: Sink>(
         watches: task.watches.as_slice(),
         name: &task.watch,
     };
-    let both = crew_run_on_one(alloc, &task.setting, task.order, publisher);
+    let both = crew_run_linked_by(alloc, &task.setting, task.order, task.link, publisher);
     settle(alloc, task, both.1)
 }
 
@@ -166,6 +169,7 @@ pub fn crew_on<R: Threads + Wait + Sync, G: Gate + Sync, K: Keeper + Send, O: Si
     requires lawful { LawfulSetting task.now.setting }
     requires begins { task.now.setting.job.first ≤ task.now.setting.job.last }
     requires watched { AreWatches task.now.setting.job.program task.now.watches.items }
+    requires link { IfSome task.now.link (λ letters. is_link letters.now ≡ true) }
     ensures run { IsRunOf O.Sink task.now (keeper_call K.Keeper keeper.old keeper.new)
         out.old out.new result }
     ensures same_loans { K.loans keeper.new ≡ K.loans keeper.old }
@@ -176,6 +180,7 @@ pub fn crew_on<R: Threads + Wait + Sync, G: Gate + Sync, K: Keeper + Send, O: Si
             alloc,
             &task.setting,
             task.order,
+            None,
             SumPublisher::make(),
         );
         return settle_trial(alloc, &trial, publisher.sums(), came, out);
@@ -191,6 +196,6 @@ pub fn crew_on<R: Threads + Wait + Sync, G: Gate + Sync, K: Keeper + Send, O: Si
         watches: task.watches.as_slice(),
         name: &task.watch,
     };
-    let both = crew_run_on(team, alloc, &task.setting, task.order, publisher);
+    let both = crew_run_on(team, alloc, &task.setting, task.order, task.link, publisher);
     settle(alloc, task, both.1)
 }

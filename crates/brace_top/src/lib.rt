@@ -7,6 +7,7 @@ mod entry;
 mod flow;
 pub mod laws;
 mod limits;
+mod links;
 mod listing;
 mod load;
 mod messages;
@@ -23,5 +24,4 @@ mod team;
 mod trial;
 mod watches;
 
-pub use command::built;
 pub use entry::{run, run_alone};

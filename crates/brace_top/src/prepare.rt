@@ -1,8 +1,9 @@
 //! What is done for a command before its parts are run.
-ghost use Rattle.std.specs.Prelude.{◌≡◌, ◌≤◌, [], codes, None, Some, IfOk, MatchResult, true, false};
+ghost use Rattle.std.specs.Prelude.{◌≡◌, ◌≤◌, [], codes, None, Some, IfOk, IfSome, MatchResult, true, false};
 ghost use Rattle.brace_io.specs.Shelves.{writes};
 ghost use Rattle.brace_model.specs.Lawful.{LawfulProgram, LawfulAgents, LawfulJob};
 ghost use Rattle.brace_save.specs.Lines.{moment_of};
+ghost use Rattle.brace_words.specs.Values.{is_link};
 ghost use Rattle.brace_top.specs.Answer.{CountsWrites, sink_call};
 ghost use Rattle.brace_top.specs.Commands as asked;
 ghost use Rattle.brace_top.specs.Commands.{is_anew, may_save};
@@ -233,6 +234,8 @@ fn task_of<'a>(
     ensures watches { result.watches.items ≡ watches.items }
     ensures saves { may_save (Some (asked.Run (said_run run.now)))
         ≡ saves_files (saves_in result) }
+    ensures link { IsRunInRange run.now
+        → IfSome result.link (λ letters. is_link letters.now ≡ true) }
     ensures no_trial { result.trial ≡ None }
 {
     let job = Job {
@@ -255,6 +258,7 @@ fn task_of<'a>(
         save: run.save,
         watch: run.watch,
         watches,
+        link: run.link,
         stats: run.manner.stats,
         trial: None,
     }
@@ -334,6 +338,7 @@ fn ready_trial<'a, S: Shelf>(
         save: None,
         watch: None,
         watches: Vec::new(alloc),
+        link: None,
         stats: trial.manner.stats,
         trial: Some(*trial),
     })

@@ -31,6 +31,9 @@ pub struct Task<'a> {
     pub watch: Option<&'a str>,
     /// The figures that are watched.
     pub watches: Vec<Watch>,
+    /// The letters of a link, over which one worker runs the parts; without them these exchange
+    /// pieces in memory.
+    pub link: Option<&'a str>,
     /// Whether counts are told at the end.
     pub stats: bool,
     /// The trial that it is, which writes no rows, but the line of its last world.

@@ -1,5 +1,5 @@
 -- The line that words are, by clap's definition of what a simple command finds in them.
-use Rattle.std.specs.Prelude.{◌≤◌, ◌^◌, List, Bool, if◌then◌else◌, Option, None, Some, IfSome, codes, option_and_then}
+use Rattle.std.specs.Prelude.{◌≡◌, ◌≤◌, ◌^◌, List, Bool, true, if◌then◌else◌, Option, None, Some, IfSome, codes, option_and_then}
 use Rattle.std.specs.List.{list_all}
 use Rattle.clap.specs.Walk.{Row, Text, first_of, is_empty}
 use Rattle.clap.specs.Simple.{matches_of}
@@ -9,7 +9,7 @@ use Rattle.brace_words.specs.declared.mode.Mode.{Mode}
 use Rattle.brace_words.specs.Command.{brace}
 use Rattle.brace_words.specs.Modes.{mode_named}
 use Rattle.brace_words.specs.Options.{options, takes}
-use Rattle.brace_words.specs.Values.{Found, is_absent_or, is_set, number_in}
+use Rattle.brace_words.specs.Values.{Found, is_absent_or, is_link, is_set, number_in}
 
 -- each text that stands for an option is a value of it
 abbrev pub has_values : Found → Bool
@@ -62,7 +62,7 @@ line_of words =
     if is_empty (fault_of brace words)
     then option_and_then taken (line_found (by_name (matches_of brace words))) else None
 
--- the numbers of a line are within the limits of their options
+-- the numbers of a line are within the limits of their options, and its letters are a link's
 pub record IsInRange (line : Line) : Type 0 where
   pub ticks : IfSome line.ticks (λ n. n ≤ 2 ^ 32)
   pub count : IfSome line.count (λ n. n ≤ 2 ^ 20)
@@ -70,3 +70,4 @@ pub record IsInRange (line : Line) : Type 0 where
   pub epoch : IfSome line.epoch (λ n. (1 ≤ n) × (n ≤ 16))
   pub workers : IfSome line.workers (λ n. (1 ≤ n) × (n ≤ 16))
   pub strips : IfSome line.strips (λ n. (1 ≤ n) × (n ≤ 64))
+  pub link : IfSome line.link (λ letters. is_link letters ≡ true)

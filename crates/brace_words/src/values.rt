@@ -34,6 +34,7 @@ pub(crate) fn link_of(
     option: &str,
 ) -> Result<Option<Text>, LineFault>
     ensures letters { IfOk result (λ letters. letters ≡ found_in matches.now option.now) }
+    ensures link { IfOk result (λ letters. IfSome letters (λ text. is_link text ≡ true)) }
     ensures taken { IfOk result (λ letters.
         is_absent_or is_link (found_in matches.now option.now) ≡ true) }
     ensures usage { IfErr result (λ fault. fault ≡ LineFault.Usage

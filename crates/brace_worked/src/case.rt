@@ -44,6 +44,7 @@ pub struct Case<'a> {
     pub most: usize,
     pub variation: Variation,
     pub has_workers: bool,
+    pub has_links: bool,
     pub orders: u64,
     pub status: u8,
     pub out: Vec<u8>,
@@ -94,6 +95,7 @@ impl<'a> Case<'a> {
             most: usize::MAX,
             variation: Variation::None,
             has_workers: false,
+            has_links: false,
             orders: 0,
             status: 0,
             out: Vec::new(alloc),
@@ -113,6 +115,7 @@ impl<'a> Case<'a> {
         match word {
             "bare" => self.is_bare = true,
             "workers" => self.has_workers = true,
+            "links" => self.has_links = true,
             "orders" => self.orders = rest.parse::<u64>().unwrap_or(0),
             "status" => self.status = rest.parse::<u8>().unwrap_or(u8::MAX),
             "most" => self.most = rest.parse::<usize>().unwrap_or(0),

@@ -10,6 +10,9 @@ use std::thread::Threads;
 /// What is added to the words of a command that is given with several numbers of workers.
 const WORKERS: [&str; 3] = [" --workers 2", " --workers 3", " --workers 16"];
 
+/// What is added to the words of a command that is given over links.
+const LINKS: [&str; 3] = [" --link llld", " --link ta", " --link d"];
+
 /// What was read so far: the texts, the group, its command that is still being read, and how many
 /// commands of the group were given.
 #[derive(Debug, Drop)]
@@ -106,6 +109,11 @@ impl<'a> Sheet<'a> {
         if case.has_workers {
             for workers in WORKERS {
                 self.give(rt, alloc, &case, workers)?;
+            }
+        }
+        if case.has_links {
+            for link in LINKS {
+                self.give(rt, alloc, &case, link)?;
             }
         }
         for order in 0..case.orders {

@@ -5,7 +5,7 @@ ghost use Rattle.brace_pieces.specs.Settings.{LawfulSetting, parts};
 
 use brace_crew::{
     Bench, CrewFault, Drive, FilePublisher, Keeper, PubFault, Publisher, ShelfKeeper, SumPublisher,
-    benches, crew_run,
+    benches, crew_run, crew_run_linked,
 };
 use brace_io::{MemShelf, MemSink, OpenGate, Sink};
 use brace_lanes::{LaneSeat, Lanes};
@@ -14,6 +14,7 @@ use brace_num::{List, NoMemory};
 use brace_part::Counts;
 use brace_pieces::{Piece, Setting, Shown};
 use brace_test_runs::{Run, agent, setting};
+use brace_wire::{Fate, WireLanes};
 use std::alloc::Global;
 use std::sync::Wait;
 use std::test::Fail;
@@ -260,6 +261,27 @@ fn runs_to_the_end_and_saves_each_end(rt: HostRuntime) -> Result<(), Fail> {
     }
     Ok(())
 }
+
+/// What a run comes to over links on which a piece is lost twice, then comes late, and then comes
+/// twice, and how many rounds were made.
+fn run_linked(alloc: Global, setting: &Setting) -> Result<(Result<Counts, CrewFault>, u64), Fail>
+    requires { LawfulSetting setting.now }
+{
+    let fates = vec![in alloc; Fate::Lose, Fate::Lose, Fate::After, Fate::Twice]?;
+    let mut lanes = WireLanes::make(alloc, setting, setting.parts() + 1, fates)?;
+    let (_, came) = crew_run_linked(alloc, setting, 3, &mut lanes, SumPublisher::make());
+    Ok((came, lanes.rounds()))
+}
+
+#[test]
+fn runs_to_the_end_over_links_that_lose(rt: HostRuntime) -> Result<(), Fail> {
+    let setting = empty_run(rt.alloc())?;
+    let (came, rounds) = run_linked(rt.alloc(), &setting)?;
+    assert!(rt; came == Ok(Counts::none()));
+    assert!(rt; 4 <= rounds);
+    Ok(())
+}
+
 /// The benches of a run on two workers.
 fn two_benches<'a>(
     alloc: Global,

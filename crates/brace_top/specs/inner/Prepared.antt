@@ -1,10 +1,11 @@
 -- What a command comes to before its parts are run. Only the crate's own functions cite this.
-use Rattle.std.specs.Prelude.{◌≡◌, ◌≤◌, true, false, Option, Some, None, Result, Ok, Err}
+use Rattle.std.specs.Prelude.{◌≡◌, ◌≤◌, true, false, Option, Some, None, IfSome, Result, Ok, Err}
 use Rattle.brace_io.specs.declared.shelf.Shelf as shelf_trait
 use Rattle.brace_io.specs.declared.sink.Sink as sink_trait
 use Rattle.brace_io.specs.Shelves.{Files}
 use Rattle.brace_pieces.specs.Settings.{LawfulSetting}
 use Rattle.brace_watch.specs.Watches.{AreWatches}
+use Rattle.brace_words.specs.Values.{is_link}
 use Rattle.brace_top.specs.declared.answer.Stopped.{Stopped}
 use Rattle.brace_top.specs.declared.prepare.Work.{Work}
 use Rattle.brace_top.specs.declared.prepare.Work.TheVariants as work
@@ -38,6 +39,7 @@ pub record IsReady {S : Type 0} (of_shelf : shelf_trait.Ghosts S) (asked : Optio
       → CommandOutcome files asked (outcome_of task)
   pub watched : AreWatches task.setting.job.program task.watches.items
   pub saves : may_save asked ≡ saves_files (saves_in task)
+  pub link : IfSome task.link (λ letters. is_link letters.now ≡ true)
   pub unsaved : of_shelf.held shelf_after ≡ of_shelf.held shelf
   pub counts : of_shelf.faults shelf_after ≡ of_shelf.faults shelf
 

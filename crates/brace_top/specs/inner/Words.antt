@@ -1,10 +1,11 @@
 -- The command that the code read, as the definitions see it.
-use Rattle.std.specs.Prelude.{◌≡◌, ◌≤◌, ◌^◌, ℕ, List, Some, None, Result, IfOk, IfErr, option_map, ⊤}
+use Rattle.std.specs.Prelude.{◌≡◌, ◌≤◌, ◌^◌, ℕ, List, Some, None, Result, IfOk, IfErr, IfSome, option_map, true, ⊤}
 use Rattle.brace_words.specs.declared.line.Line.{Line}
 use Rattle.brace_words.specs.declared.fault.LineFault.{LineFault}
 use Rattle.brace_words.specs.declared.fault.LineFault.TheVariants as line_fault
 use Rattle.brace_words.specs.Lines as lines
 use Rattle.brace_words.specs.Lines.{line_of}
+use Rattle.brace_words.specs.Values.{is_link}
 use Rattle.brace_top.specs.declared.answer.Stopped.{Stopped}
 use Rattle.brace_top.specs.declared.answer.Stopped.TheVariants as stopped
 use Rattle.brace_top.specs.declared.command.AuditCommand.{AuditCommand as CodeAudit}
@@ -100,10 +101,11 @@ pub record IsMannerInRange (manner : CodeManner) : Type 0 where
   pub some_ticks : 1 ≤ manner.epoch
   pub few_ticks : manner.epoch ≤ 16
 
--- the last tick of a run is within the limit, and some tick is published
+-- the last tick of a run is within the limit, some tick is published, and its letters are a link's
 pub record IsRunInRange (run : CodeRun) : Type 0 where
   pub ticks : run.ticks ≤ 2 ^ 32
   pub every : 1 ≤ run.every
+  pub link : IfSome run.link (λ letters. is_link letters.now ≡ true)
   pub manner : IsMannerInRange run.manner
 
 -- the agents and the last tick of a trial are within their limits

@@ -20,10 +20,10 @@ returns-in_err-flush-clause-run g c =
 
 pub returns-clause-run : goal.returns-clause-run
 returns-clause-run g c =
-    task_run g.K.Keeper g.O.Sink c.args.task.now c.args.keeper.now c.keeper-1.given.0 c.args.out.now c.out-1.given.0 _ c.crew_run_on_one-both.result.0 c.crew_run_on_one-both.result.1 c.settle.result
+    task_run g.K.Keeper g.O.Sink c.args.task.now c.args.keeper.now c.keeper-1.given.0 c.args.out.now c.out-1.given.0 _ c.crew_run_linked_by-both.result.0 c.crew_run_linked_by-both.result.1 c.settle.result
     (record {
       settled = c.settle.ensures;
-      run = c.crew_run_on_one-both.ensures.came;
+      run = c.crew_run_linked_by-both.ensures.came;
       save = refl;
       watch = refl;
       watches = c.as_slice.ensures.value;

@@ -95,6 +95,7 @@ returns-clause-ready g c =
           subst (λ (s : Setting). AreWatches s.job.program c.task_of.result.watches.items) (sym c.task_of.ensures.setting)
           (subst (AreWatches program) (sym c.task_of.ensures.watches) c.in_ok-watches.ensures.asked);
       saves = c.task_of.ensures.saves;
+      link = c.task_of.ensures.link c.requires.range;
       unsaved = c.in_ok-watches.ensures.held ∙ c.in_ok-cuts.ensures.held ∙ c.in_ok-point.ensures.held ∙ c.in_ok-program.ensures.held;
       counts = c.in_ok-watches.ensures.loads.counts ∙ c.in_ok-cuts.ensures.loads.counts ∙ c.in_ok-point.ensures.loads.counts ∙ c.in_ok-program.ensures.loads.counts;
     }

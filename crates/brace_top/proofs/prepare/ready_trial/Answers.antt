@@ -35,6 +35,7 @@ returns-clause-ready g c =
       };
       watched = none_watched _ _ c.new.ensures.items;
       saves = refl;
+      link = tt;
       unsaved = refl;
       counts = refl;
     }

@@ -1,0 +1,113 @@
+//! A run over links.
+ghost use Rattle.std.specs.Prelude.{◌≡◌, ℕ, ◌+◌, length, not, Err, IsTrue, OnOk};
+ghost use Rattle.std.specs.List.{list_any};
+ghost use Rattle.brace_core.specs.Schedule.{lane};
+ghost use Rattle.brace_pieces.specs.Settings.{LawfulSetting, parts};
+ghost use Rattle.brace_pieces.specs.Steps.{schedule};
+ghost use Rattle.brace_wire.specs.Links.{fresh, link_of, puts_on, received_on, takes_on};
+ghost use Rattle.brace_wire.specs.Shown.{is_lost};
+ghost use Rattle.brace_crew.specs.declared.crew.CrewFault.TheVariants as fault;
+ghost use Rattle.brace_crew.specs.Calls.{CameTo};
+ghost use Rattle.brace_crew.specs.inner.Crews.{AreMembers, all_numbers};
+
+use crate::crew::{concluded, members};
+use crate::desk::Stop;
+use crate::{CrewFault, Desk, Member, Publisher};
+use brace_num::NoMemory;
+use brace_part::Counts;
+use brace_pieces::Setting;
+use brace_wire::{Fate, WireLanes, run_over_links};
+use std::alloc::Global;
+
+/// What a run came to that was given up for want of memory, by its desk.
+fn left<P: Publisher>(setting: &Setting, desk: Desk<P>) -> (P, CrewFault)
+    requires lawful { LawfulSetting setting.now }
+    requires desk { desk.course.setting ≡ setting.now }
+    ensures came { CameTo P.Publisher setting.now desk.entry.opening result.0 (Err result.1) }
+{
+    setting.numbers_fit();
+    match desk.stop() {
+        None => (desk.into_publisher(), CrewFault::NoMemory),
+        Some(Stop::Halt(_)) => (desk.into_publisher(), CrewFault::NoMemory),
+        Some(Stop::Refusal(refusal)) => (desk.into_publisher(), CrewFault::Publish(refusal)),
+    }
+}
+
+/// What a run came to that was given up for want of memory, by all its members.
+fn given_up<P: Publisher>(setting: &Setting, mut members: Vec<Member<P>>) -> (P, CrewFault)
+    requires lawful { LawfulSetting setting.now }
+    requires members { (publisher : P)
+        × AreMembers setting.now publisher (all_numbers setting.now) members.items }
+    ensures came { (publisher : P)
+        → AreMembers setting.now publisher (all_numbers setting.now) members.entry.items
+        → CameTo P.Publisher setting.now publisher result.0 (Err result.1) }
+{
+    match members.pop() {
+        Some(Member::Desk(desk)) => left(setting, desk),
+        Some(Member::Part(_part)) => unreachable!(),
+        None => unreachable!(),
+    }
+}
+
+/// Runs the parts of a setting and its publisher over links, as
+/// [`crew_run_alone`](crate::crew_run_alone) does over plain lanes.
+///
+/// The setting is lawful and the publisher fits it. The lanes are made for it, with one actor more
+/// than it has parts, nothing was put on them, and no round was made.
+pub fn crew_run_linked<P: Publisher>(
+    alloc: Global,
+    setting: &Setting,
+    order: u64,
+    lanes: &mut WireLanes,
+    publisher: P,
+) -> (P, Result<Counts, CrewFault>)
+    requires lawful { LawfulSetting setting.now }
+    requires fits { P.fits publisher setting.now.job.program }
+    requires lanes_setting { lanes.old.setting ≡ setting.now }
+    requires lanes_for { lanes.old.actors ≡ parts setting.now + 1 }
+    requires nothing_put { (p q : ℕ) → link_of lanes.old p q ≡ fresh }
+    requires no_round { lanes.old.rounds ≡ 0 }
+    ensures came { CameTo P.Publisher setting.now publisher result.0 result.1 }
+    ensures all_put { OnOk result.1 ((p q : ℕ)
+        → puts_on lanes.new p q ≡ length (lane (schedule setting.now) p q)) }
+    ensures all_received { OnOk result.1 ((p q : ℕ)
+        → received_on lanes.new p q ≡ length (lane (schedule setting.now) p q)) }
+    ensures all_taken { OnOk result.1 ((p q : ℕ)
+        → takes_on lanes.new p q ≡ length (lane (schedule setting.now) p q)) }
+    ensures lanes_setting { lanes.new.setting ≡ lanes.old.setting }
+    ensures lanes_actors { lanes.new.actors ≡ lanes.old.actors }
+{
+    let mut members = match members(alloc, setting, publisher) {
+        Ok(members) => members,
+        Err(publisher) => return (publisher, Err(CrewFault::NoMemory)),
+    };
+    match run_over_links(&mut members, lanes, order) {
+        Ok(()) => concluded(alloc, setting, members),
+        Err(NoMemory) => {
+            let (publisher, fault) = given_up(setting, members);
+            (publisher, Err(fault))
+        }
+    }
+}
+
+/// Runs the parts of a setting and its publisher over links of their own, on which sendings have
+/// these fates in turn, as [`crew_run_linked`] does.
+///
+/// The setting is lawful and the publisher fits it. One fate is other than a loss.
+pub fn crew_run_on_links<P: Publisher>(
+    alloc: Global,
+    setting: &Setting,
+    order: u64,
+    fates: Vec<Fate>,
+    publisher: P,
+) -> (P, Result<Counts, CrewFault>)
+    requires lawful { LawfulSetting setting.now }
+    requires fits { P.fits publisher setting.now.job.program }
+    requires delivers { IsTrue (list_any (λ fate. not (is_lost fate)) fates.items) }
+    ensures came { CameTo P.Publisher setting.now publisher result.0 result.1 }
+{
+    match WireLanes::make(alloc, setting, setting.parts() + 1, fates) {
+        Ok(mut lanes) => crew_run_linked(alloc, setting, order, &mut lanes, publisher),
+        Err(NoMemory) => (publisher, Err(CrewFault::NoMemory)),
+    }
+}

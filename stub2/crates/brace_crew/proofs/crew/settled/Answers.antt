@@ -1,0 +1,68 @@
+use Rattle.std.proofs.Common.{rules, ◌≡◌, ◌∙◌, sym, ap, subst, Ok, Err, Some, None}
+use Rattle.brace_pieces.specs.declared.piece.Cause.TheVariants as cause
+use Rattle.brace_crew.specs.declared.desk.Stop.TheVariants as stop
+use Rattle.brace_crew.specs.declared.crew.CrewFault.TheVariants as fault
+use Rattle.brace_crew.specs.Calls.{CameTo}
+use Rattle.brace_crew.proofs.FirstFault.{IsRun}
+use Rattle.brace_crew.proofs.CrewEnds.{turned, has_run, shown_front, halted_front, refused_cut}
+use Rattle.brace_crew.proofs.crew.settled.Goals as goal
+
+pub ended-publisher-requires-clause-halted : goal.ended-publisher-requires-clause-halted
+ended-publisher-requires-clause-halted g c =
+    let f = c.in-Some-Halt-Fault.field-0-0-0 in
+    let is : c.args.desk.stop ≡ Some (stop.Halt (cause.Fault f)) = search rules in
+    (f, c.stop.ensures.halted (cause.Fault f) is (turned g.P.Publisher c.args.setting.now c.args.desk c.requires.desk))
+
+pub returns-in-Ok : goal.returns-in-Ok
+returns-in-Ok g c =
+    let s = c.args.setting.now in
+    let d = c.args.desk in
+    let run : IsRun s = record { lawful = c.requires.lawful; numbers = c.numbers_fit.ensures } in
+    let none : d.stop ≡ None = sym c.stop.ensures.same ∙ c.in-None.is in
+    record {
+      came = subst (λ v. CameTo g.P.Publisher s d.opening v (Ok c.in-Ok.counts)) (sym c.into_publisher.ensures.same) (record {
+        came = has_run g.P.Publisher s d c.requires.desk run (c.stop.ensures.all none (turned g.P.Publisher s d c.requires.desk)) c.in-Ok.counts (c.in-Ok.ensures s c.requires.parts);
+        rises = c.stop.ensures.rises;
+      });
+    }
+
+pub returns-in-Err : goal.returns-in-Err
+returns-in-Err g c =
+    let s = c.args.setting.now in
+    let d = c.args.desk in
+    let run : IsRun s = record { lawful = c.requires.lawful; numbers = c.numbers_fit.ensures } in
+    let none : d.stop ≡ None = sym c.stop.ensures.same ∙ c.in-None.is in
+    record {
+      came = subst (λ v. CameTo g.P.Publisher s d.opening v (Err fault.NoMemory)) (sym c.into_publisher-in-Err.ensures.same) (record {
+        came = shown_front g.P.Publisher s d c.requires.desk run (c.stop.ensures.all none (turned g.P.Publisher s d c.requires.desk));
+        rises = c.stop.ensures.rises;
+      });
+    }
+
+pub returns-in-Some-Halt-NoMemory : goal.returns-in-Some-Halt-NoMemory
+returns-in-Some-Halt-NoMemory g c =
+    let s = c.args.setting.now in
+    let d = c.args.desk in
+    let run : IsRun s = record { lawful = c.requires.lawful; numbers = c.numbers_fit.ensures } in
+    let x = c.in-Some-Halt-NoMemory.field-0-0 in
+    let is : d.stop ≡ Some (stop.Halt x) = sym c.stop.ensures.same ∙ c.in-Some-Halt-NoMemory.is ∙ ap Some c.in-Some-Halt-NoMemory.field-0-is in
+    record {
+      came = subst (λ v. CameTo g.P.Publisher s d.opening v (Err fault.NoMemory)) (sym c.into_publisher-in-Some-Halt-NoMemory.ensures.same) (record {
+        came = halted_front g.P.Publisher s d c.requires.desk run x (c.stop.ensures.halted x is (turned g.P.Publisher s d c.requires.desk));
+        rises = c.stop.ensures.rises;
+      });
+    }
+
+pub returns-in-Some-Refusal : goal.returns-in-Some-Refusal
+returns-in-Some-Refusal g c =
+    let s = c.args.setting.now in
+    let d = c.args.desk in
+    let run : IsRun s = record { lawful = c.requires.lawful; numbers = c.numbers_fit.ensures } in
+    let x = c.in-Some-Refusal.refusal in
+    let is : d.stop ≡ Some (stop.Refusal x) = search rules in
+    record {
+      came = subst (λ v. CameTo g.P.Publisher s d.opening v (Err (fault.Publish x))) (sym c.into_publisher-in-Some-Refusal.ensures.same) (record {
+        came = refused_cut g.P.Publisher s d c.requires.desk run x (c.stop.ensures.refused x is);
+        rises = c.stop.ensures.rises;
+      });
+    }

@@ -1,0 +1,12 @@
+use Rattle.std.proofs.Common.{◌≡◌, ◌++◌, length}
+use Rattle.std.specs.List.{AllZip}
+use Rattle.std.specs.Vec.Iter.{into_iter_items, into_iter_len}
+use Rattle.brace_crew.specs.inner.Lots.{IsSortedWorld}
+use Rattle.brace_crew.proofs.join.sorted.Given as goal
+
+abbrev pub invariant-loop-world : goal.invariant-loop-world
+invariant-loop-world l = record {
+  rest : l.yielded ++ into_iter_items l.world-iterator ≡ l.fn.worlds.items;
+  so_far : AllZip IsSortedWorld l.yielded l.all.items;
+  has : into_iter_len l.world-iterator ≡ length (into_iter_items l.world-iterator);
+}

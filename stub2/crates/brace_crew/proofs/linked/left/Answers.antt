@@ -1,0 +1,50 @@
+use Rattle.std.proofs.Common.{rules, ◌≡◌, ◌∙◌, sym, ap, subst, Err, Some, None}
+use Rattle.brace_crew.specs.declared.desk.Stop.TheVariants as stop
+use Rattle.brace_crew.specs.declared.crew.CrewFault.TheVariants as fault
+use Rattle.brace_crew.specs.Calls.{CameTo}
+use Rattle.brace_crew.proofs.FirstFault.{IsRun}
+use Rattle.brace_crew.proofs.LinkedEnds.{none_refused, halted_unrefused, given_front, given_cut}
+use Rattle.brace_crew.proofs.linked.left.Goals as goal
+
+pub returns-in-None : goal.returns-in-None
+returns-in-None g c =
+    let s = c.args.setting.now in
+    let d = c.args.desk in
+    let run : IsRun s = record { lawful = c.requires.lawful; numbers = c.numbers_fit.ensures } in
+    let none : d.stop ≡ None = sym c.stop.ensures.same ∙ c.in-None.is in
+    let (count, shown) = c.stop.ensures.shown (none_refused d.stop none) in
+    record {
+      came = subst (λ v. CameTo g.P.Publisher s d.opening v (Err fault.NoMemory)) (sym c.into_publisher.ensures.same) (record {
+        came = given_front g.P.Publisher s run d c.requires.desk count shown;
+        rises = c.stop.ensures.rises;
+      });
+    }
+
+pub returns-in-Some-Halt : goal.returns-in-Some-Halt
+returns-in-Some-Halt g c =
+    let s = c.args.setting.now in
+    let d = c.args.desk in
+    let run : IsRun s = record { lawful = c.requires.lawful; numbers = c.numbers_fit.ensures } in
+    let x = c.in-Some-Halt.field-0-0 in
+    let halted : d.stop ≡ Some (stop.Halt x) = sym c.stop.ensures.same ∙ c.in-Some-Halt.is ∙ ap Some c.in-Some-Halt.field-0-is in
+    let (count, shown) = c.stop.ensures.shown (halted_unrefused d.stop x halted) in
+    record {
+      came = subst (λ v. CameTo g.P.Publisher s d.opening v (Err fault.NoMemory)) (sym c.into_publisher-in-Some-Halt.ensures.same) (record {
+        came = given_front g.P.Publisher s run d c.requires.desk count shown;
+        rises = c.stop.ensures.rises;
+      });
+    }
+
+pub returns-in-Some-Refusal : goal.returns-in-Some-Refusal
+returns-in-Some-Refusal g c =
+    let s = c.args.setting.now in
+    let d = c.args.desk in
+    let run : IsRun s = record { lawful = c.requires.lawful; numbers = c.numbers_fit.ensures } in
+    let x = c.in-Some-Refusal.refusal in
+    let is : d.stop ≡ Some (stop.Refusal x) = search rules in
+    record {
+      came = subst (λ v. CameTo g.P.Publisher s d.opening v (Err (fault.Publish x))) (sym c.into_publisher-in-Some-Refusal.ensures.same) (record {
+        came = given_cut g.P.Publisher s run d c.requires.desk x (c.stop.ensures.refused x is);
+        rises = c.stop.ensures.rises;
+      });
+    }

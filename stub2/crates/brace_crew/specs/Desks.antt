@@ -1,0 +1,70 @@
+-- The desk of a run as contracts see it: what its publisher got of the continued worlds, and why it
+-- gets no more.
+use Rattle.std.specs.Prelude.{◌≡◌, ℕ, ◌+◌, ◌<◌, List, map, filter, take, length, Bool, Option, Some, slice_get}
+use Rattle.std.specs.List.{All}
+use Rattle.brace_pieces.specs.declared.setting.Setting.{Setting}
+use Rattle.brace_pieces.specs.declared.setting.Stage.TheVariants.{Show}
+use Rattle.brace_pieces.specs.declared.piece.Cause.{Cause}
+use Rattle.brace_pieces.specs.declared.piece.Shown.{Shown}
+use Rattle.brace_pieces.specs.Settings.{parts, shown_ticks, ends}
+use Rattle.brace_pieces.specs.Steps.{step, steps, is_show}
+use Rattle.brace_pieces.specs.Continued.{on}
+use Rattle.brace_pieces.specs.Right.{IsFaultless, IsShown, IsRightCause}
+use Rattle.brace_pieces.specs.Courses.{OnCourse}
+use Rattle.brace_crew.specs.declared.publisher.PubFault.{PubFault}
+use Rattle.brace_crew.specs.declared.publisher.Publisher as publisher
+use Rattle.brace_crew.specs.declared.desk.Lot.{Lot}
+use Rattle.brace_crew.specs.declared.desk.Stop.{Stop}
+use Rattle.brace_crew.specs.Calls.{Call, behind, IsCut}
+
+-- a desk: where it stands in the schedule of its setting, what its publisher was when it was made
+-- and what it is, why it publishes nothing any more, and what parts brought last
+pub record OnDesk (P : Type 0) : Type 0 where
+  pub course : OnCourse
+  pub opening : P
+  pub publisher : P
+  pub stop : Option Stop
+  pub lots : List Lot
+  pub closed : Bool
+
+-- the whole continued world of a tick
+abbrev pub whole_at : Setting → ℕ → Shown
+whole_at s tick = record { tick = tick; agents = (on s tick).agents; next = (on s tick).next }
+
+-- the calls of a publisher at all ends, with the continued worlds
+abbrev pub end_calls : Setting → List Call
+end_calls s =
+    map (λ end. record { tick = end; worlds = map (whole_at s) (shown_ticks s end) }) (ends s)
+
+-- how many ends are shown in the first steps of a run
+abbrev pub ends_before : Setting → ℕ → ℕ
+ends_before s number = length (filter (λ at. is_show at.stage) (take number (steps s)))
+
+-- no part found a fault before the first ends, so many of them
+abbrev pub AreFaultless : Setting → ℕ → Type 0
+AreFaultless s count =
+    All (λ end. (p : ℕ) → p < parts s → IsFaultless s end p) (take count (ends s))
+
+-- the publisher was shown the first ends, before which no part found a fault
+pub record HasShown {P : Type 0} (of : publisher.Ghosts P) (d : OnDesk P) (count : ℕ) : Type 0
+  where
+    pub is_behind : of.state d.publisher
+        ≡ behind of d.course.setting d.opening (take count (end_calls d.course.setting))
+    pub faultless : AreFaultless d.course.setting count
+
+-- the publisher was shown all ends before that of a step, in which a part told a cause, or memory
+-- was refused; each lot is what a part showed there
+pub record HasHalted {P : Type 0} (of : publisher.Ghosts P) (d : OnDesk P) (cause : Cause) : Type 0
+  where
+    pub number : ℕ
+    pub end : ℕ
+    pub stands : slice_get (steps d.course.setting) number ≡ Some (step Show end)
+    pub shown : HasShown of d (ends_before d.course.setting number)
+    pub right : IsRightCause d.course.setting number cause
+    pub brought : All (λ lot. IsShown d.course.setting end lot.part lot.worlds) d.lots
+
+-- the publisher refused at an end, before which no part found a fault
+pub record HasRefused {P : Type 0} (of : publisher.Ghosts P) (d : OnDesk P) (x : PubFault) : Type 0
+  where
+    pub cut_there : IsCut of d.course.setting d.opening d.publisher (end_calls d.course.setting) x
+    pub faultless : AreFaultless d.course.setting (cut_there.made + 1)

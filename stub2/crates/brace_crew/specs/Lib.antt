@@ -1,0 +1,11 @@
+pub mod Benches
+pub mod Calls
+pub mod Desks
+pub mod Filed
+pub mod Members
+pub mod Refusals
+pub mod Shows
+pub mod Sums
+pub mod Watched
+pub mod Workers
+pub mod inner

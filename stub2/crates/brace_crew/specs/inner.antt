@@ -1,0 +1,5 @@
+pub mod Crews
+pub mod Driven
+pub mod Lots
+pub mod Sound
+pub mod Teams

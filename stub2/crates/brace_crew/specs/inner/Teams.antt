@@ -1,0 +1,40 @@
+-- The members of a run on several workers, before it and behind it. Only the crate's own functions
+-- cite this.
+use Rattle.std.specs.Prelude.{◌≡◌, ℕ, ◌<◌, List, map, length, slice_index_or}
+use Rattle.std.specs.List.{All}
+use Rattle.brace_lanes.specs.Seats.{OnSeat}
+use Rattle.brace_pieces.specs.declared.setting.Setting.{Setting}
+use Rattle.brace_crew.specs.declared.member.Member.{Member}
+use Rattle.brace_crew.specs.Members.{IsDone}
+use Rattle.brace_crew.specs.Benches.{OnBench, IsUsedUp, IsSameBench}
+use Rattle.brace_crew.specs.Workers.{IsSeatOf}
+use Rattle.brace_crew.specs.inner.Crews.{AreMembers, served}
+
+-- the members of each worker, by rising worker: of these numbers those that the worker serves
+pub record AreRosters {P : Type 0} (s : Setting) (publisher : P) (workers : ℕ) (numbers : List ℕ)
+    (rosters : List (List (Member P))) : Type 0 where
+  pub one_each : length rosters ≡ workers
+  pub each : (k : ℕ) (d : List (Member P)) → k < workers →
+      AreMembers s publisher (served workers k numbers) (slice_index_or rosters k d)
+
+-- the benches of a run, one a worker, by rising worker
+pub record IsTeam {P : Type 0} (s : Setting) (publisher : P) (workers : ℕ) (numbers : List ℕ)
+    (benches : List (OnBench P)) : Type 0 where
+  pub rosters : AreRosters s publisher workers numbers (map (λ b. b.members) benches)
+  pub seats : (k : ℕ) (d : OnBench P) → k < workers →
+      IsSeatOf s workers k (slice_index_or benches k d).seat
+
+-- all members of a bench are Done, and its seat is used up
+pub record HasEnded {P : Type 0} (b : OnBench P) : Type 0 where
+  pub done : All IsDone b.members
+  pub used_up : IsUsedUp b.seat
+
+-- the same benches at a later time
+pub record AreLater {P : Type 0} (xs ys : List (OnBench P)) : Type 0 where
+  pub one_each : length ys ≡ length xs
+  pub each : (k : ℕ) (d : OnBench P) → k < length xs →
+      IsSameBench (slice_index_or xs k d) (slice_index_or ys k d)
+
+-- the seat of a bench
+abbrev pub seat_of : {P : Type 0} → OnBench P → OnSeat Setting
+seat_of b = record { lanes = b.lanes; view = b.seat }

@@ -1,0 +1,271 @@
+ghost use Rattle.std.specs.Prelude.{◌≡◌, ℕ, ◌≤◌, map, length, IfOk, IfErr, Err, Some, None};
+ghost use Rattle.std.specs.List.{range_with_len};
+ghost use Rattle.std.specs.Vec.{vec_capacity};
+ghost use Rattle.brace_io.specs.Counts.{Rose};
+ghost use Rattle.brace_core.specs.Exchanges.{due};
+ghost use Rattle.brace_core.specs.declared.name.Turn.TheVariants as turn;
+ghost use Rattle.brace_pieces.specs.declared.piece.Cause.{Cause};
+ghost use Rattle.brace_pieces.specs.declared.piece.Cause.TheVariants as cause;
+ghost use Rattle.brace_pieces.specs.Settings.{LawfulSetting, parts, shown_ticks, ends};
+ghost use Rattle.brace_pieces.specs.Numbers.{NumbersFit};
+ghost use Rattle.brace_pieces.specs.Steps.{schedule};
+ghost use Rattle.brace_pieces.specs.Courses.{at_start, past_of};
+ghost use Rattle.brace_crew.specs.declared.publisher.PubFault.{PubFault};
+ghost use Rattle.brace_crew.specs.declared.publisher.PubFault.TheVariants as fault;
+ghost use Rattle.brace_crew.specs.declared.desk.Stop.TheVariants as stop;
+ghost use Rattle.brace_crew.specs.Calls.{Rises};
+ghost use Rattle.brace_crew.specs.Refusals.{tick_of};
+ghost use Rattle.brace_crew.specs.Desks.{whole_at, HasShown, HasHalted, HasRefused};
+ghost use Rattle.brace_crew.specs.inner.Lots.{tick_shown, brought};
+
+use crate::join::joined;
+use crate::{PubFault, Publisher};
+use brace_core::{Actor, Turn};
+use brace_num::{List, NoMemory};
+use brace_pieces::{Cause, Course, Piece, Setting, Shown, Stage};
+use std::alloc::Global;
+use std::marker::Model;
+use std::snapshot::Snapshot;
+
+/// What a part brings where all is shown.
+#[derive(Debug, Drop)]
+pub struct Lot {
+    pub part: u32,
+    pub worlds: List<Shown>,
+}
+
+/// Why a desk publishes nothing any more.
+#[derive(Debug, Clone, Copy, PartialEq, Eq, Drop)]
+pub enum Stop {
+    /// A part goes no further, or the desk had no memory.
+    Halt(Cause),
+    /// The publisher refused.
+    Refusal(PubFault),
+}
+
+/// The publisher of a run as an actor: where all is shown it takes the agents of each part, and the
+/// publisher gets the whole worlds.
+///
+/// Contracts see where it stands in the schedule of its setting, what its publisher was when it was
+/// made and what it is, why it publishes nothing any more, and what parts brought last.
+#[derive(Drop)]
+pub struct Desk<'a, P: Publisher> {
+    alloc: Global,
+    course: Course<'a>,
+    opening: Snapshot<P>,
+    publisher: P,
+    /// What came in this step, or in the step in which the first part halted.
+    lots: Vec<Lot>,
+    stop: Option<Stop>,
+    /// Whether it stopped in a step before.
+    closed: bool,
+}
+
+impl<'a, P: Publisher> Model for Desk<'a, P> {
+    ghost use Rattle.std.specs.Vec.{vec_capacity};
+    ghost use Rattle.brace_crew.specs.Desks.{OnDesk};
+    ghost use Rattle.brace_crew.specs.inner.Sound.{IsDesk};
+
+    ghost Value = { OnDesk P };
+
+    ghost use Rattle.std.specs.Coded.{codes};
+    ghost use Rattle.brace_model.specs.contracts.program.Expr as expr;
+    ghost use Rattle.brace_model.specs.contracts.program.Stmt as stmt;
+
+    ghost coded = { Prim.hlevel (codes, expr.the_row.coded, stmt.the_row.coded) };
+
+    ghost view = { λ d. record {
+      course = d.course;
+      opening = d.opening.value;
+      publisher = d.publisher;
+      stop = d.stop;
+      lots = d.lots.items;
+      closed = d.closed;
+    } };
+
+    ghost invariant = { λ d. IsDesk P.Publisher (record {
+      closed = d.closed;
+      lots = d.lots.items;
+      stop = d.stop;
+      publisher = d.publisher;
+      opening = d.opening.value;
+      course = d.course;
+    }) (vec_capacity d.lots) };
+}
+
+impl<'a, P: Publisher> Desk<'a, P> {
+    /// The desk of a lawful run, whose program the publisher fits, before its first turn; `Err`
+    /// gives the publisher back where memory is refused.
+    pub fn make(alloc: Global, setting: &'a Setting, publisher: P) -> Result<Desk<'a, P>, P>
+        requires lawful { LawfulSetting setting.now }
+        requires fits { P.fits publisher setting.now.job.program }
+        ensures start { IfOk result (λ desk.
+            desk.course ≡ at_start setting.now (parts setting.now)) }
+        ensures opening { IfOk result (λ desk. desk.opening ≡ publisher) }
+        ensures back { IfErr result (λ p. p ≡ publisher) }
+    {
+        setting.numbers_fit();
+        let parts = setting.parts();
+        let Ok(course) = Course::make(alloc, setting, parts) else {
+            return Err(publisher);
+        };
+        let Ok(lots) = Vec::with_capacity(alloc, parts as usize) else {
+            return Err(publisher);
+        };
+        Ok(Desk {
+            alloc,
+            course,
+            opening: Snapshot::of(&publisher),
+            publisher,
+            lots,
+            stop: None,
+            closed: false,
+        })
+    }
+
+    /// The publisher, which got all that was shown.
+    pub fn into_publisher(self) -> P
+        ensures same { result ≡ self.entry.publisher }
+        ensures fits { P.fits result self.entry.course.setting.job.program }
+    {
+        let Desk { publisher, .. } = self;
+        publisher
+    }
+
+    /// Why it publishes nothing any more. Where it went on to its last turn its publisher was shown
+    /// all ends; where a part halted, all ends before; where the publisher refused, all ends before
+    /// that; and at any time the first ends, where it did not refuse.
+    pub fn stop(&self) -> Option<Stop>
+        ensures same { result ≡ self.now.stop }
+        ensures all { self.now.stop ≡ None → due schedule self.now.course.setting
+            self.now.course.actor (past_of self.now.course) ≡ turn.Done
+            → HasShown P.Publisher self.now (length (ends self.now.course.setting)) }
+        ensures halted { (c : Cause) → self.now.stop ≡ Some (stop.Halt c)
+            → due schedule self.now.course.setting self.now.course.actor
+            (past_of self.now.course) ≡ turn.Done → HasHalted P.Publisher self.now c }
+        ensures refused { (x : PubFault) → self.now.stop ≡ Some (stop.Refusal x)
+            → HasRefused P.Publisher self.now x }
+        ensures shown { ((x : PubFault) → self.now.stop ≡ Some (stop.Refusal x) → ⊥)
+            → (count : ℕ) × HasShown P.Publisher self.now count }
+        ensures rises { Rises P.Publisher self.now.opening self.now.publisher }
+    {
+        self.stop
+    }
+
+    /// What came in the step in which the first part halted, by rising part.
+    pub fn kept(&self) -> &[Lot]
+        ensures { result.now ≡ self.now.lots }
+    {
+        self.lots.as_slice()
+    }
+}
+
+/// Shows the publisher the whole worlds of an end, of which each part brought its agents.
+fn publish<P: Publisher>(
+    alloc: Global,
+    setting: &Setting,
+    end: u64,
+    lots: &mut Vec<Lot>,
+    publisher: &mut P,
+) -> Result<(), Stop>
+    requires lawful { LawfulSetting setting.now }
+    requires numbers { NumbersFit setting.now }
+    requires fits { P.fits publisher.old setting.now.job.program }
+    requires brought { lots.old.items ≡ map (brought setting.now (tick_shown setting.now end)
+        (shown_ticks setting.now end)) (range_with_len 0 (parts setting.now)) }
+    ensures done { IfOk result (λ _. P.state publisher.new ≡ P.after (P.state publisher.old)
+        setting.now end (map (whole_at setting.now) (shown_ticks setting.now end))) }
+    ensures refused { (x : PubFault) → result ≡ Err (stop.Refusal x) →
+        P.cut (P.state publisher.old) setting.now end
+        (map (whole_at setting.now) (shown_ticks setting.now end)) x (P.state publisher.new) }
+    ensures named { (x : PubFault) (k : ℕ) → result ≡ Err (stop.Refusal x) → tick_of x ≡ Some k
+        → k ≡ end }
+    ensures halted { (c : Cause) → result ≡ Err (stop.Halt c)
+        → (c ≡ cause.NoMemory) × (publisher.new ≡ publisher.old) }
+    ensures written { result ≡ Err (stop.Refusal fault.Write)
+        → Rose (P.writes publisher.old) (P.writes publisher.new) }
+    ensures saved { (x : PubFault) (k : ℕ) → result ≡ Err (stop.Refusal x) → tick_of x ≡ Some k
+        → Rose (P.saves publisher.old) (P.saves publisher.new) }
+    ensures rises { Rises P.Publisher publisher.old publisher.new }
+    ensures places { vec_capacity lots.new ≡ vec_capacity lots.old }
+{
+    let worlds = match joined(alloc, lots) {
+        Ok(worlds) => worlds,
+        Err(NoMemory) => return Err(Stop::Halt(Cause::NoMemory)),
+    };
+    match publisher.epoch(alloc, setting, end, &worlds) {
+        Ok(()) => Ok(()),
+        Err(fault) => Err(Stop::Refusal(fault)),
+    }
+}
+
+impl<'a, P: Publisher> Actor<Piece> for Desk<'a, P> {
+    ghost use Rattle.brace_pieces.specs.Courses.{past_of};
+
+    type Opening = P;
+
+    ghost setting = { λ desk. desk.course.setting };
+
+    ghost number = { λ desk. desk.course.actor };
+
+    ghost opening = { λ desk. desk.opening };
+
+    ghost past = { λ desk. past_of desk.course };
+
+    fn next(&self) -> Turn {
+        self.course.turn()
+    }
+
+    fn piece(&mut self) -> Piece {
+        self.course.go_on();
+        match self.stop {
+            None => Piece::Ack,
+            Some(Stop::Halt(cause)) => Piece::Halt(cause),
+            Some(Stop::Refusal(_)) => Piece::Halt(Cause::Closed),
+        }
+    }
+
+    fn give(&mut self, piece: Piece) {
+        let turn = self.course.turn();
+        self.course.go_on();
+        if self.closed {
+            return;
+        }
+        match (piece, turn) {
+            (Piece::Halt(cause), _) => {
+                if self.stop.is_none() {
+                    self.stop = Some(Stop::Halt(cause));
+                }
+            }
+            (Piece::Show(worlds), Turn::Take(name)) => {
+                self.lots.push_reserved(Lot {
+                    part: name.from,
+                    worlds,
+                });
+            }
+            _ => {}
+        }
+    }
+
+    fn work(&mut self) {
+        let at = self.course.step();
+        self.course.go_on();
+        if self.closed {
+            return;
+        }
+        if let Some(at) = at {
+            if at.stage == Stage::Show {
+                if self.stop.is_none() {
+                    let (course, lots) = (&self.course, &mut self.lots);
+                    let publisher = &mut self.publisher;
+                    let shown = publish(self.alloc, course.setting(), at.tick, lots, publisher);
+                    self.lots.clear();
+                    if let Err(stop) = shown {
+                        self.stop = Some(stop);
+                    }
+                }
+                self.closed = self.stop.is_some();
+            }
+        }
+    }
+}

@@ -1,0 +1,233 @@
+//! A run on several workers.
+ghost use Rattle.std.specs.Prelude.{◌≡◌, ◌≤◌, ◌<◌, ◌+◌, [], true, length, map, IfOk, Err};
+ghost use Rattle.std.specs.List.{All};
+ghost use Rattle.std.specs.Vec.{vec_capacity};
+ghost use Rattle.std.specs.Vec.Iter.{into_iter_items};
+ghost use Rattle.brace_pieces.specs.declared.setting.Setting.{Setting};
+ghost use Rattle.brace_lanes.specs.Seats.{new_seats};
+ghost use Rattle.brace_pieces.specs.Settings.{LawfulSetting, parts};
+ghost use Rattle.brace_crew.specs.declared.crew.CrewFault.TheVariants as fault;
+ghost use Rattle.brace_crew.specs.Calls.{CameTo};
+ghost use Rattle.brace_crew.specs.Members.{IsDone};
+ghost use Rattle.brace_crew.specs.Workers.{AreUsedUp};
+ghost use Rattle.brace_crew.specs.inner.Crews.{AreMembers, all_numbers};
+ghost use Rattle.brace_crew.specs.inner.Teams.{AreRosters, IsTeam, HasEnded, AreLater, seat_of};
+
+use crate::crew::concluded;
+use crate::roster::benches;
+use crate::{Bench, CrewFault, Member, Publisher, crew_run_alone};
+use brace_core::PlainLanes;
+use brace_io::Gate;
+use brace_lanes::{LaneSeat, Lanes};
+use brace_num::NoMemory;
+use brace_part::Counts;
+use brace_pieces::{Piece, Setting};
+use std::alloc::Global;
+use std::sync::Wait;
+use std::thread;
+use std::thread::Threads;
+use std::vec::IntoIter;
+
+/// In how many rounds, one behind the other, no member of a bench may make a turn before the bench
+/// waits. They last longer than a work of a large part does, so that a bench that waits for one is
+/// still there when its pieces come.
+const PATIENCE: u64 = 1_048_576;
+
+/// Whether no turn is left of any member of benches.
+fn are_complete<P: Publisher>(benches: &[Bench<P>]) -> bool
+    ensures { result ≡ true → All HasEnded benches.now }
+{
+    benches.iter().all(|bench| bench.is_complete())
+}
+
+/// Drives each bench once, beside the others.
+fn drive_all<R: Threads + Wait + Sync, P: Publisher + Send, G: Gate + Sync>(
+    rt: &R,
+    benches: &mut [Bench<P>],
+    gate: &G,
+)
+    requires some_bench { 0 < length benches.old }
+    ensures same { AreLater benches.old benches.new }
+{
+    let workers = benches.len();
+    thread::for_each_mut(
+        rt,
+        benches,
+        workers,
+        &|_, bench| {
+            bench.drive(gate, PATIENCE);
+        },
+    );
+}
+
+/// Drives benches beside each other, again and again, until all are complete.
+fn drive_through<R: Threads + Wait + Sync, P: Publisher + Send, G: Gate + Sync>(
+    rt: &R,
+    benches: &mut [Bench<P>],
+    gate: &G,
+)
+    requires some_bench { 0 < length benches.old }
+    ensures same { AreLater benches.old benches.new }
+    ensures complete { All HasEnded benches.new }
+{
+    for _ in rt.forever() {
+        if are_complete(benches) {
+            return;
+        }
+        drive_all(rt, benches, gate);
+    }
+}
+
+/// Places for what comes out of the benches of a run.
+#[derive(Drop)]
+struct Room<'a, P: Publisher> {
+    lists: Vec<IntoIter<Member<'a, P>, Global>>,
+    members: Vec<Member<'a, P>>,
+    seats: Vec<LaneSeat<Piece>>,
+}
+
+impl<'a, P: Publisher> Room<'a, P> {
+    /// Places for so many workers and members.
+    fn make(alloc: Global, workers: usize, members: usize) -> Result<Room<'a, P>, NoMemory>
+        ensures no_list { IfOk result (λ room. room.lists.items ≡ []) }
+        ensures no_member { IfOk result (λ room. room.members.items ≡ []) }
+        ensures no_seat { IfOk result (λ room. room.seats.items ≡ []) }
+        ensures lists_room { IfOk result (λ room. workers ≤ vec_capacity room.lists) }
+        ensures members_room { IfOk result (λ room. members ≤ vec_capacity room.members) }
+        ensures seats_room { IfOk result (λ room. workers ≤ vec_capacity room.seats) }
+    {
+        Ok(Room {
+            lists: Vec::with_capacity(alloc, workers)?,
+            members: Vec::with_capacity(alloc, members)?,
+            seats: Vec::with_capacity(alloc, workers)?,
+        })
+    }
+}
+
+/// Takes the members of benches and their seats.
+fn unpack<'a, P: Publisher>(
+    benches: Vec<Bench<'a, P>>,
+    lists: &mut Vec<IntoIter<Member<'a, P>, Global>>,
+    seats: &mut Vec<LaneSeat<Piece>>,
+)
+    requires no_list { lists.old.items ≡ [] }
+    requires no_seat { seats.old.items ≡ [] }
+    requires lists_room { length benches.items ≤ vec_capacity lists.old }
+    requires seats_room { length benches.items ≤ vec_capacity seats.old }
+    ensures lists { map into_iter_items lists.new.items ≡ map (λ b. b.members) benches.entry.items }
+    ensures seats { seats.new.items ≡ map seat_of benches.entry.items }
+{
+    for bench in benches {
+        let (members, seat) = bench.into_members();
+        lists.push_reserved(members.into_iter());
+        seats.push_reserved(seat);
+    }
+}
+
+/// Takes so many members from lists, one from each in turn.
+fn take_in_turn<'a, P: Publisher>(
+    lists: &mut [IntoIter<Member<'a, P>, Global>],
+    count: usize,
+    members: &mut Vec<Member<'a, P>>,
+)
+    requires some_list { 0 < length lists.old }
+    requires no_member { members.old.items ≡ [] }
+    requires room { count ≤ vec_capacity members.old }
+    ensures members { (s : Setting) (publisher : P) → count ≡ parts s + 1
+        → AreRosters s publisher (length lists.old) (all_numbers s) (map into_iter_items lists.old)
+        → AreMembers s publisher (all_numbers s) members.new.items }
+    ensures done { All (λ list. All IsDone (into_iter_items list)) lists.old
+        → All IsDone members.new.items }
+{
+    let workers = lists.len();
+    for number in 0..count {
+        if let Some(member) = lists[number % workers].next() {
+            members.push_reserved(member);
+        }
+    }
+}
+
+/// A run on the workers of seats, one each, of lanes that are made for it.
+fn run_on<'a, R: Threads + Wait + Sync, P: Publisher + Send, G: Gate + Sync>(
+    rt: &R,
+    alloc: Global,
+    setting: &'a Setting,
+    lanes: &'a Lanes<Piece>,
+    seats: Vec<LaneSeat<Piece>>,
+    workers: u32,
+    publisher: P,
+    gate: &G,
+) -> (P, Vec<LaneSeat<Piece>>, Result<Counts, CrewFault>)
+    requires lawful { LawfulSetting setting.now }
+    requires fits { P.fits publisher setting.now.job.program }
+    requires some_worker { 0 < workers }
+    requires seats { seats.items
+        ≡ new_seats lanes.now setting.now (parts setting.now + 1) workers workers }
+    ensures came { CameTo P.Publisher setting.now publisher result.0 result.2 }
+    ensures used_up { (result.2 ≡ Err fault.NoMemory → ⊥)
+        → AreUsedUp setting.now workers result.1.items }
+{
+    let count = setting.parts() as usize + 1;
+    let Ok(mut room) = Room::make(alloc, workers as usize, count) else {
+        return (publisher, Vec::new(alloc), Err(CrewFault::NoMemory));
+    };
+    let mut team = match benches(alloc, setting, lanes, seats, workers, publisher) {
+        Ok(team) => team,
+        Err(publisher) => return (publisher, Vec::new(alloc), Err(CrewFault::NoMemory)),
+    };
+    drive_through(rt, &mut team, gate);
+    let Room {
+        mut lists,
+        mut members,
+        mut seats,
+    } = room;
+    unpack(team, &mut lists, &mut seats);
+    take_in_turn(&mut lists, count, &mut members);
+    let (publisher, answer) = concluded(alloc, setting, members);
+    (publisher, seats, answer)
+}
+
+/// A run on one worker, over plain lanes, as [`crew_run_alone`] makes it.
+///
+/// The setting is lawful and the publisher fits it.
+pub fn crew_run_on_one<P: Publisher>(
+    alloc: Global,
+    setting: &Setting,
+    order: u64,
+    publisher: P,
+) -> (P, Result<Counts, CrewFault>)
+    requires lawful { LawfulSetting setting.now }
+    requires fits { P.fits publisher setting.now.job.program }
+    ensures came { CameTo P.Publisher setting.now publisher result.0 result.1 }
+{
+    (publisher, Err(CrewFault::NoMemory))
+}
+
+/// Runs the parts of a setting and its publisher on so many workers, 1 to 16, and gives the
+/// publisher back, the seats of all workers by rising number, and what all parts gave, or why not
+/// all was published. Part p goes to worker p mod `workers`, and so does the publisher, whose
+/// number is the number of parts. One worker runs over plain lanes in the order that a number
+/// draws, as [`crew_run_alone`] does, and has no seat.
+///
+/// The setting is lawful and the publisher fits it. With two or more workers the call may wait;
+/// what is said here holds where it returns.
+pub fn crew_run<R: Threads + Wait + Sync, P: Publisher + Send, G: Gate + Sync>(
+    rt: &R,
+    alloc: Global,
+    setting: &Setting,
+    workers: u32,
+    order: u64,
+    publisher: P,
+    gate: &G,
+) -> (P, Vec<LaneSeat<Piece>>, Result<Counts, CrewFault>)
+    requires lawful { LawfulSetting setting.now }
+    requires fits { P.fits publisher setting.now.job.program }
+    requires some_worker { 1 ≤ workers }
+    requires few_workers { workers ≤ 16 }
+    ensures came { CameTo P.Publisher setting.now publisher result.0 result.2 }
+    ensures alone { workers ≡ 1 → result.1.items ≡ [] }
+    ensures used_up { 2 ≤ workers → (result.2 ≡ Err fault.NoMemory → ⊥)
+        → AreUsedUp setting.now workers result.1.items }
+{
+    (publisher, Vec::new(alloc), Err(CrewFault::NoMemory))
+}
