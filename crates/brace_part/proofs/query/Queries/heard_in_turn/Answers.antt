@@ -50,13 +50,13 @@ returns c =
       | in-Script+in_ok-ask_some-in-Script w ↦
           let (plain, script) = subst (AreQueriesOf s) w.in-Script.is c.requires.queries in
           let after = w.ask_some.new.hearing.heard in
-            λ own at.
-                let grew = grew_over scene m held w.in-Script.plans seed c.in_ok-make.field-0 tick own c.in_ok-nothing.field-0 after
-                is.program is.held is.tick c.in_ok-make.ensures
-                (w.in_ok-ask_some-in-Script.ensures.hears own (subst (λ xs. ArePlaces xs own c.args.places.now) (sym is.held) at)) in
-                let heard = over_script s tick own held after plain
-                (subst (λ p. IsHeard m held (said_by p seed tick held own) (faults_by p seed tick held own) after) script (grew [] [] c.in_ok-nothing.ensures.nothing)) in
-                subst (IsHeard m held (said_over s tick own held) (faults_over s tick own held)) (sym (ap (λ h. h.heard) w.hearing-is)) heard
+          λ own at.
+          let grew = grew_over scene m held w.in-Script.plans seed c.in_ok-make.field-0 tick own c.in_ok-nothing.field-0 after
+          is.program is.held is.tick c.in_ok-make.ensures
+          (w.in_ok-ask_some-in-Script.ensures.hears own (subst (λ xs. ArePlaces xs own c.args.places.now) (sym is.held) at)) in
+          let heard = over_script s tick own held after plain
+          (subst (λ p. IsHeard m held (said_by p seed tick held own) (faults_by p seed tick held own) after) script (grew [] [] c.in_ok-nothing.ensures.nothing)) in
+          subst (IsHeard m held (said_over s tick own held) (faults_over s tick own held)) (sym (ap (λ h. h.heard) w.hearing-is)) heard
       | in-Inverted+in_ok-all-in-Inverted+in_ok-ask_some-in-Inverted+in_ok-ask_some-in-Inverted-2 w ↦
           let (inverts, forward, inverse) = subst (AreQueriesOf s) w.in-Inverted.is c.requires.queries in
           let p = w.in-Inverted.forward in
@@ -65,12 +65,12 @@ returns c =
           let after = w.ask_some-in-Inverted-2.new.hearing.heard in
           let all = subst (λ xs. ArePlaces xs held w.deref.result.now) (sym is.held)
           (subst (ArePlaces held held) (sym {A = List ℕ} w.deref.ensures.value) w.in_ok-all-in-Inverted.ensures) in
-            λ own at.
-                let first = grew_over scene m held p seed c.in_ok-make.field-0 tick own c.in_ok-nothing.field-0 between.heard
-                is.program is.held is.tick c.in_ok-make.ensures
-                (w.in_ok-ask_some-in-Inverted.ensures.hears own (subst (λ xs. ArePlaces xs own c.args.places.now) (sym is.held) at)) [] [] c.in_ok-nothing.ensures.nothing in
-                let second = grew_over scene m held q seed between.room tick held between.heard after
-                is.program is.held is.tick (w.in_ok-ask_some-in-Inverted.ensures.seed ∙ c.in_ok-make.ensures) (w.in_ok-ask_some-in-Inverted-2.ensures.hears held all) _ _ first in
-                let heard = over_both s tick own held after p q inverts forward inverse second in
-                subst (IsHeard m held (said_over s tick own held) (faults_over s tick own held)) (sym (ap (λ h. h.heard) w.hearing-is)) heard
+          λ own at.
+          let first = grew_over scene m held p seed c.in_ok-make.field-0 tick own c.in_ok-nothing.field-0 between.heard
+          is.program is.held is.tick c.in_ok-make.ensures
+          (w.in_ok-ask_some-in-Inverted.ensures.hears own (subst (λ xs. ArePlaces xs own c.args.places.now) (sym is.held) at)) [] [] c.in_ok-nothing.ensures.nothing in
+          let second = grew_over scene m held q seed between.room tick held between.heard after
+          is.program is.held is.tick (w.in_ok-ask_some-in-Inverted.ensures.seed ∙ c.in_ok-make.ensures) (w.in_ok-ask_some-in-Inverted-2.ensures.hears held all) _ _ first in
+          let heard = over_both s tick own held after p q inverts forward inverse second in
+          subst (IsHeard m held (said_over s tick own held) (faults_over s tick own held)) (sym (ap (λ h. h.heard) w.hearing-is)) heard
     ]
