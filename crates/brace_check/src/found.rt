@@ -198,7 +198,12 @@ fn member<'a>(
             block(out, &mut scope, statements)
         }
         MemberTree::State(_, ty, _, x, _) => {
-            rule(out, &Scope::outermost(alloc, home, false), type_named(ty), x)
+            rule(
+                out,
+                &Scope::outermost(alloc, home, false),
+                type_named(ty),
+                x,
+            )
         }
         MemberTree::Die(condition, _) => {
             let scope = Scope::outermost(alloc, home, false);

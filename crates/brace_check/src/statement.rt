@@ -62,7 +62,15 @@ fn said_to_loop(
     ensures meant { IfOk result (λ s. s
         ≡ (said_to_loop at found x.now scope.now sites.old.items).0) }
 {
-    assigned(alloc, sites, scope, agent_of(found), loop_number(found), at, x)
+    assigned(
+        alloc,
+        sites,
+        scope,
+        agent_of(found),
+        loop_number(found),
+        at,
+        x,
+    )
 }
 
 // The number of the class of a name.
