@@ -1,5 +1,5 @@
 -- An expression and a class at place 0 have the type, the faults and the meaning of the expression and of the class, at place 0.
-use Rattle.std.proofs.Common.{◌≡◌, refl, sym, ap, subst, ◌∙◌, ℕ, ◌+◌, Bool, true, false, List, [], ◌∷◌, ◌++◌, map, length, flat_map}
+use Rattle.std.proofs.Common.{◌≡◌, refl, sym, ap, subst, ◌∙◌, ℕ, ◌+◌, Bool, true, false, List, [], ◌∷◌, ◌++◌, map, flat_map}
 use Rattle.std.specs.Prelude.{not, ◌||◌, ◌==◌, Option, Some, None, option_map, Result, Ok, Err, nat_le, ℤ, codes, slice_get, unwrap_or}
 use Rattle.std.proofs.lemmas.List.{length-map}
 use Rattle.brace_syntax.specs.declared.tree.ExprTree.{ExprTree}
