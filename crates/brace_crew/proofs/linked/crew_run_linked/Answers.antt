@@ -48,19 +48,19 @@ returns-in-Ok-run_over_links-clause-came g c =
 pub returns-in-Ok-run_over_links-clause-all_put : goal.returns-in-Ok-run_over_links-clause-all_put
 returns-in-Ok-run_over_links-clause-all_put g c =
     let all : (p q : ℕ) → puts_on c.run_over_links.new.lanes p q ≡ length (lane (schedule c.args.setting.now) p q) =
-        λ p q. c.in-Ok-run_over_links.ensures.all_put p q ∙ ap (λ s. length (lane (schedule s) p q)) c.requires.lanes_setting in
+    λ p q. c.in-Ok-run_over_links.ensures.all_put p q ∙ ap (λ s. length (lane (schedule s) p q)) c.requires.lanes_setting in
     on_ok _ _ all
 
 pub returns-in-Ok-run_over_links-clause-all_received : goal.returns-in-Ok-run_over_links-clause-all_received
 returns-in-Ok-run_over_links-clause-all_received g c =
     let all : (p q : ℕ) → received_on c.run_over_links.new.lanes p q ≡ length (lane (schedule c.args.setting.now) p q) =
-        λ p q. c.in-Ok-run_over_links.ensures.all_received p q ∙ ap (λ s. length (lane (schedule s) p q)) c.requires.lanes_setting in
+    λ p q. c.in-Ok-run_over_links.ensures.all_received p q ∙ ap (λ s. length (lane (schedule s) p q)) c.requires.lanes_setting in
     on_ok _ _ all
 
 pub returns-in-Ok-run_over_links-clause-all_taken : goal.returns-in-Ok-run_over_links-clause-all_taken
 returns-in-Ok-run_over_links-clause-all_taken g c =
     let all : (p q : ℕ) → takes_on c.run_over_links.new.lanes p q ≡ length (lane (schedule c.args.setting.now) p q) =
-        λ p q. c.in-Ok-run_over_links.ensures.all_taken p q ∙ ap (λ s. length (lane (schedule s) p q)) c.requires.lanes_setting in
+    λ p q. c.in-Ok-run_over_links.ensures.all_taken p q ∙ ap (λ s. length (lane (schedule s) p q)) c.requires.lanes_setting in
     on_ok _ _ all
 
 pub returns-in-Err-run_over_links-clause-came : goal.returns-in-Err-run_over_links-clause-came
