@@ -1,5 +1,0 @@
-use Rattle.brace_crew.specs.inner.Teams.{AreLater}
-use Rattle.brace_crew.proofs.team.drive_through.Given as goal
-
-abbrev pub invariant-loop : goal.invariant-loop
-invariant-loop g l = AreLater l.initial.benches l.benches

@@ -1,4 +1,0 @@
-pub mod Prepared
-pub mod Settled
-pub mod Words
-pub mod Fates
