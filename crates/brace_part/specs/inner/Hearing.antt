@@ -13,9 +13,9 @@ use Rattle.brace_part.specs.inner.Sound.{AreQueriesOf}
 use Rattle.brace_part.specs.inner.Tables.{said_over, faults_over}
 
 -- the queries of a run can be asked of the agents at some places of those that are held
-pub record CanHear (s : Setting) (queries : Queries) (tick : ℕ) (places : List ℕ)
+pub record CanHear (s : Setting) (asked : Queries) (tick : ℕ) (places : List ℕ)
     (held : List Agent) : Type 0 where
-  pub queries : AreQueriesOf s queries
+  pub queries : AreQueriesOf s asked
   pub lawful : IsTrue (list_all (is_lawful_agent s.job.program) held)
   pub few : length held ≤ 2 ^ 20
   pub rises : RisesById held
