@@ -33,6 +33,11 @@ fn unread<E: Sink>(err: &mut E, error: &io::Error) -> u8 {
     }
 }
 
+/// Whether the words ask for ticks to be worked.
+fn works_ticks(words: &[String]) -> bool {
+    words.iter().any(|word| matches!(word.as_str(), "run" | "resume" | "trial" | "audit"))
+}
+
 /// Takes a large block of memory and gives it back, if there is one. glibc then keeps up to twice
 /// as much that is free, which it would else give back to the host tick by tick, and take anew. No
 /// page of the block is touched.
@@ -43,12 +48,14 @@ fn widen_heap(alloc: Global) {
 }
 
 fn main(rt: HostRuntime) -> ExitCode {
-    widen_heap(rt.alloc());
     let mut err = ErrSink::make(rt.stderr());
     let words = match words(&rt, rt.alloc()) {
         Ok(words) => words,
         Err(error) => return ExitCode::from(unread(&mut err, &error)),
     };
+    if works_ticks(words.as_slice()) {
+        widen_heap(rt.alloc());
+    }
     let mut shelf = DirShelf::make(rt.alloc(), &rt);
     let mut out = OutSink::make(rt.stdout());
     ExitCode::from(run(
