@@ -1,4 +1,4 @@
-ghost use Rattle.std.specs.Prelude.{◌≡◌, ◌++◌, map, flat_map, length, OnOk, IfOk};
+ghost use Rattle.std.specs.Prelude.{◌≡◌, ◌+◌, ◌++◌, map, flat_map, length, OnOk, IfOk};
 ghost use Rattle.brace_model.specs.declared.program.Ty.TheVariants as ty;
 ghost use Rattle.brace_names.specs.Scopes.{home_of, past};
 ghost use Rattle.brace_names.specs.Walk.{behind, block, constants_in, in_classes};
@@ -240,6 +240,13 @@ fn class<'a>(
     Ok(())
 }
 
+/// The number behind this one.
+fn next(number: u32) -> Result<u32, NoMemory>
+    ensures { IfOk result (λ n. n ≡ number + 1) }
+{
+    number.checked_add(1).ok_or(NoMemory)
+}
+
 /// The faults of the check passes in classes, in finishing order.
 pub fn found<'a>(
     alloc: Global,
@@ -252,7 +259,7 @@ pub fn found<'a>(
     let mut number = 0;
     for one in classes {
         class(alloc, &mut out, known, number, one)?;
-        number = number.checked_add(1).ok_or(NoMemory)?;
+        number = next(number)?;
     }
     Ok(out)
 }
