@@ -34,8 +34,37 @@ pub struct Desk {
     pub err: Portioned<MemSink>,
 }
 
-fn numbers(alloc: Global, from: &[u64]) -> Result<Vec<u64>, Unfit> {
-    Ok(Vec::from_slice(alloc, from)?)
+impl<'a> Found<'a> {
+    /// The bytes of file a, which a command has too.
+    fn agents(self, of_case: &'a [u8]) -> &'a [u8] {
+        match self {
+            Found::Agents(bytes) => bytes,
+            _ => of_case,
+        }
+    }
+
+    fn call_of_shelf(self) -> Option<u64> {
+        match self {
+            Found::ShelfFails(number) => Some(number),
+            _ => None,
+        }
+    }
+
+    fn call_of_sink(self) -> Option<u64> {
+        match self {
+            Found::SinkFails(number) => Some(number),
+            _ => None,
+        }
+    }
+}
+
+/// The numbers of calls that fail, and of one more, if there is one.
+fn numbers(alloc: Global, from: &[u64], more: Option<u64>) -> Result<Vec<u64>, Unfit> {
+    let mut numbers = Vec::from_slice(alloc, from)?;
+    if let Some(number) = more {
+        numbers.push(number)?;
+    }
+    Ok(numbers)
 }
 
 fn words_of(alloc: Global, text: &str) -> Result<Vec<String>, Unfit> {
@@ -46,47 +75,48 @@ fn words_of(alloc: Global, text: &str) -> Result<Vec<String>, Unfit> {
     Ok(words)
 }
 
+/// The files that a command finds, and places for those that it saves.
+fn files_of(alloc: Global, case: &Case, agents: &[u8], fails: Vec<u64>) -> Result<MemShelf, Unfit>
+    ensures { IfOk result (λ shelf. shelf.stage ≡ Idle) }
+{
+    let mut shelf = MemShelf::make(alloc, fails);
+    if !case.is_bare {
+        shelf.hold("s", case.script.as_slice())?;
+        shelf.hold("a", agents)?;
+    }
+    if !case.cuts.is_empty() {
+        shelf.hold("k", case.cuts.as_slice())?;
+    }
+    if case.is_published {
+        shelf.hold("p", case.published.as_slice())?;
+    }
+    if case.is_watched {
+        shelf.hold("w", case.watch.as_slice())?;
+    }
+    shelf.prepare("c.1", 1000)?;
+    shelf.prepare("c.2", 1000)?;
+    shelf.prepare("c.3", 200)?;
+    shelf.prepare("c.4", 200)?;
+    shelf.prepare("c.5", 200)?;
+    shelf.prepare("c.16", 200)?;
+    shelf.prepare("w.1", 1000)?;
+    shelf.prepare("w.2", 1000)?;
+    shelf.prepare("w.3", 1000)?;
+    shelf.prepare("w.4", 1000)?;
+    shelf.prepare("w.5", 1000)?;
+    Ok(shelf)
+}
+
 impl Desk {
     /// What a command finds.
     pub fn of(alloc: Global, case: &Case, found: Found) -> Result<Desk, Unfit>
         ensures { IfOk result (λ desk. desk.shelf.inner.stage ≡ Idle) }
     {
-        let mut shelf_fails = numbers(alloc, case.shelf_fails.as_slice())?;
-        let mut sink_fails = numbers(alloc, case.sink_fails.as_slice())?;
-        match found {
-            Found::ShelfFails(number) => shelf_fails.push(number)?,
-            Found::SinkFails(number) => sink_fails.push(number)?,
-            _ => {}
-        }
-        let mut shelf = MemShelf::make(alloc, shelf_fails);
-        if !case.is_bare {
-            shelf.hold("s", case.script.as_slice())?;
-            match found {
-                Found::Agents(bytes) => shelf.hold("a", bytes)?,
-                _ => shelf.hold("a", case.agents.as_slice())?,
-            }
-        }
-        if !case.cuts.is_empty() {
-            shelf.hold("k", case.cuts.as_slice())?;
-        }
-        if case.is_published {
-            shelf.hold("p", case.published.as_slice())?;
-        }
-        if case.is_watched {
-            shelf.hold("w", case.watch.as_slice())?;
-        }
-        shelf.prepare("c.1", 1000)?;
-        shelf.prepare("c.2", 1000)?;
-        shelf.prepare("c.3", 200)?;
-        shelf.prepare("c.4", 200)?;
-        shelf.prepare("c.5", 200)?;
-        shelf.prepare("c.16", 200)?;
-        shelf.prepare("w.1", 1000)?;
-        shelf.prepare("w.2", 1000)?;
-        shelf.prepare("w.3", 1000)?;
-        shelf.prepare("w.4", 1000)?;
-        shelf.prepare("w.5", 1000)?;
-        let out = MemSink::make(alloc, ROOM, sink_fails)?;
+        let agents = found.agents(case.agents.as_slice());
+        let fails = numbers(alloc, case.shelf_fails.as_slice(), found.call_of_shelf())?;
+        let shelf = files_of(alloc, case, agents, fails)?;
+        let fails = numbers(alloc, case.sink_fails.as_slice(), found.call_of_sink())?;
+        let out = MemSink::make(alloc, ROOM, fails)?;
         let err = MemSink::make(alloc, ROOM, Vec::new(alloc))?;
         let most = case.most.max(1);
         Ok(Desk {
