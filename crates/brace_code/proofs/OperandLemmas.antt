@@ -1,5 +1,5 @@
 -- Columns of operands.
-use Rattle.std.proofs.Common.{◌≡◌, ◌∙◌, refl, sym, ap, subst, ℕ, ◌+◌, ◌<◌, ℤ, pos, List, length, drop, get_or, drop-cons, add-one, Option, Some, None, Result, Ok, Err, slice_index_or, if◌then◌else◌}
+use Rattle.std.proofs.Common.{◌≡◌, ◌∙◌, refl, sym, ap, subst, ℕ, ◌+◌, ◌<◌, ℤ, pos, List, length, drop, get_or, drop-cons, add-one, Option, Some, Result, Ok, Err, slice_index_or, if◌then◌else◌}
 use Rattle.std.specs.Prelude.{◌==◌, IfOk}
 use Rattle.brace_model.specs.declared.program.Ty.{Ty}
 use Rattle.brace_model.specs.declared.program.Who.{Who}
@@ -11,7 +11,7 @@ use Rattle.brace_code.specs.declared.lane.Row.{Row}
 use Rattle.brace_code.specs.declared.lane.Frame.{Frame}
 use Rattle.brace_code.specs.declared.lane.Redo.{Redo}
 use Rattle.brace_code.specs.declared.lane.Draws.{Draws}
-use Rattle.brace_code.specs.Lanes.{Shows, column_of, row_of, number_in, draws_at}
+use Rattle.brace_code.specs.Lanes.{column_of, row_of, number_in, draws_at}
 use Rattle.brace_code.specs.inner.Words.{Outcome, word_of, operand_word}
 use Rattle.brace_code.specs.Columns.{Numbers, Words, row_at}
 

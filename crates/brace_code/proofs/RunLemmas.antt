@@ -1,26 +1,27 @@
 -- What each instruction does in each lane.
-use Rattle.std.proofs.Common.{◌≡◌, ◌∙◌, refl, sym, ap, ℕ, suc, ◌+◌, ◌-◌, ◌<◌, ◌≤◌, ℤ, pos, Bool, true, false, List, [], ◌∷◌, length, take, map, Result, Ok, Err, slice_index_or, get_or, arith}
-use Rattle.std.specs.Prelude.{nat_lt, if◌then◌else◌}
+use Rattle.std.proofs.Common.{◌≡◌, ◌∙◌, refl, sym, ap, subst, ℕ, suc, ◌+◌, ◌-◌, ◌<◌, ◌≤◌, ℤ, pos, Bool, true, false, List, [], ◌∷◌, length, take, Result, Ok, slice_index_or, get_or, arith}
+use Rattle.std.specs.Prelude.{if◌then◌else◌, replicate}
 use Rattle.std.specs.Ordering.{int_eq}
-use Rattle.std.proofs.lemmas.List.{take_more, take_all}
+use Rattle.std.proofs.lemmas.List.{take_more, take_all, length-replicate, get_or-replicate}
 use Rattle.brace_num.specs.declared.kinds.Kind.{Kind}
 use Rattle.brace_model.specs.declared.program.Ty.{Ty}
 use Rattle.brace_model.specs.declared.program.UnOp.{UnOp}
 use Rattle.brace_model.specs.declared.program.BinOp.{BinOp}
-use Rattle.brace_model.specs.Value.{Scope, typed}
+use Rattle.brace_model.specs.Value.{Scope}
 use Rattle.brace_code.specs.declared.code.Code.{Code}
 use Rattle.brace_code.specs.declared.code.Operand.{Operand}
+use Rattle.brace_code.specs.declared.code.Operand.TheVariants.{Word}
 use Rattle.brace_code.specs.declared.code.Instr.{Instr}
 use Rattle.brace_code.specs.declared.code.Instr.TheVariants.{Push, Unary, Binary, With, Choice}
 use Rattle.brace_code.specs.declared.lane.Lane.{Lane}
 use Rattle.brace_code.specs.declared.lane.Frame.{Frame}
-use Rattle.brace_code.specs.Codes.{type_given, gives}
+use Rattle.brace_code.specs.declared.splitting.SideWords.{SideWords}
 use Rattle.brace_code.specs.Lanes.{Shows, Gives}
 use Rattle.brace_code.specs.inner.Words.{Outcome, value_of, made_word, with_word, unary_word, binary_word, choose_word, operand_word}
-use Rattle.brace_code.specs.inner.Runs.{Left, Deed, onward, pushed, put, top, deed, run, outcome}
-use Rattle.brace_code.specs.Columns.{Words, Maps, Pairs, Leads, stack_at, taking, merged}
-use Rattle.brace_code.proofs.LaneLemmas.{Holds, merged_chosen}
-use Rattle.brace_code.proofs.CodeLemmas.{run-push}
+use Rattle.brace_code.specs.inner.Runs.{Left, onward, pushed, top, deed, run, outcome}
+use Rattle.brace_code.specs.Columns.{Words, Maps, Pairs, Leads, Serves, stack_at, spread, taking, merged}
+use Rattle.brace_code.proofs.LaneLemmas.{merged_chosen, taking-short}
+use Rattle.brace_code.proofs.CodeLemmas.{run-one, run-push}
 use Rattle.brace_code.proofs.SingleLemmas.{push_does, unary_does, binary_does, with_does, choice_does}
 
 high : (columns : List (List ℤ)) (k : ℕ) → length (stack_at columns k) ≡ length columns
@@ -62,7 +63,7 @@ module _ (frame : Frame) (lanes : List Lane) (room : ℕ) (before after : List (
 
   pub choice_leads : (a b : List Instr) (set unset : List Lane) (ts ys ns : List ℤ) (rest : List (List ℤ)) (left : ℕ) → i ≡ Choice a b → before ≡ ts ∷ rest
       → length ts ≡ length lanes → left ≡ room - length rest → set ≡ taking true lanes ts → unset ≡ taking false lanes ts
-      → Words frame (outcome a left) set ys → Words frame (outcome b left) unset ns → words ≡ merged ts ys ns → after ≡ words ∷ rest
+      → Serves frame (outcome a left) set ys → Serves frame (outcome b left) unset ns → words ≡ merged ts ys ns → after ≡ words ∷ rest
       → Leads (deed i) room frame lanes before after
   choice_leads a b set unset ts ys ns rest left is s long r p q f g m h = puts rest h (λ scope shows k d l.
       let below : room - length (stack_at rest k) ≡ left = ap (λ (n : ℕ). room - n) (high rest k) ∙ sym r in
@@ -75,6 +76,29 @@ module _ (frame : Frame) (lanes : List Lane) (room : ℕ) (before after : List (
       apart : (e : Bool) (scope : Scope) → outcome (if e then b else a) left scope ≡ (if e then outcome b left scope else outcome a left scope)
       apart true scope = refl
       apart false scope = refl
+
+-- code that is a word serves any lanes
+pub same_serves : (frame : Frame) (lanes : List Lane) (ts : List ℤ) (set : Bool) (code : List Instr) (room : ℕ) (w v : ℤ) (s : SideWords) → code ≡ Push (Word w) ∷ [] → 0 < room
+    → v ≡ w → ((n : ℕ) → spread n s ≡ replicate n v) → Serves frame (outcome code room) (taking set lanes ts) (spread (length ts) s)
+same_serves frame lanes ts set code room w v s is some word all =
+    let short = taking-short set lanes ts in
+    let base : Serves frame (outcome code room) (taking set lanes ts) (replicate (length ts) w) = record {
+      long = subst (λ (m : ℕ). length (taking set lanes ts) ≤ m) (sym (length-replicate (length ts) w)) short;
+      each = λ scope shows k d l.
+          let at = scope (slice_index_or (taking set lanes ts) k d) in
+          ap (λ (c : List Instr). outcome c room at) is
+          ∙ ap top (run-one (Push (Word w)) room at [] ∙ push_does (Push (Word w)) room at [] (Word w) refl some)
+          ∙ ap (λ (x : ℤ). let r : Outcome = Ok x in r) (sym (get_or-replicate (length ts) k w (pos 0) (omega (arith, short, l))));
+    } in
+    subst (λ (ws : List ℤ). Serves frame (outcome code room) (taking set lanes ts) ws) (sym (all (length ts) ∙ ap (replicate (length ts)) word)) base
+
+-- words of lanes serve them
+pub words_serve : (frame : Frame) (f : Scope → Outcome) (lanes these : List Lane) (words : List ℤ) → these ≡ lanes → Words frame f these words → Serves frame f lanes words
+words_serve frame f lanes these words is p =
+    let base : Serves frame f these words = record { long = omega (arith, p.long); each = p.each } in
+    subst (λ (l : List Lane). Serves frame f l words) is base
+
+pub ruleset side_rules = (same_serves, words_serve)
 
 pub ruleset step_rules = (push_leads, unary_leads, binary_leads, with_leads, choice_leads)
 

@@ -1,5 +1,5 @@
 -- Columns: what operations, splits and merges of lanes make of them.
-use Rattle.std.specs.Prelude.{◌≡◌, ◌<◌, ℕ, ℤ, pos, Bool, true, not, if◌then◌else◌, List, [], ◌∷◌, ◌++◌, length, map, Result, Ok, slice_index_or}
+use Rattle.std.specs.Prelude.{◌≡◌, ◌<◌, ◌≤◌, ℕ, ℤ, pos, Bool, true, not, if◌then◌else◌, List, [], ◌∷◌, ◌++◌, length, map, replicate, Result, Ok, slice_index_or}
 use Rattle.std.specs.Ordering.{int_eq}
 use Rattle.brace_num.specs.declared.kinds.Kind.{Kind}
 use Rattle.brace_model.specs.Value.{Scope}
@@ -8,6 +8,7 @@ use Rattle.brace_code.specs.declared.lane.Row.{Row}
 use Rattle.brace_code.specs.declared.lane.Row.TheVariants as row
 use Rattle.brace_code.specs.declared.lane.Frame.{Frame}
 use Rattle.brace_code.specs.declared.code.Operand.{Operand}
+use Rattle.brace_code.specs.declared.splitting.SideWords.{SideWords}
 use Rattle.brace_code.specs.Lanes.{Shows, number_in}
 use Rattle.brace_code.specs.inner.Words.{Outcome, choose_word}
 use Rattle.brace_code.specs.inner.Runs.{Deed}
@@ -66,6 +67,18 @@ merged [] ys ns = []
 merged (t ∷ ts) ys ns =
     if side true t then before ys (λ rest. merged ts rest ns)
     else before ns (λ rest. merged ts ys rest)
+
+-- the words of a side: one for each lane, or one that all of its at most so many lanes have
+abbrev pub spread : ℕ → SideWords → List ℤ
+spread n s = if s.same then replicate n (slice_index_or s.words 0 (pos 0)) else s.words
+
+-- each lane's scope has an outcome that is a word, the one that a column has there, which may be
+-- longer
+pub record Serves (frame : Frame) (f : Scope → Outcome) (lanes : List Lane) (column : List ℤ)
+    : Type 0 where
+  pub long : length lanes ≤ length column
+  pub each : (scope : Lane → Scope) → Shows frame scope → (k : ℕ) (d : Lane) → k < length lanes
+      → f (scope (slice_index_or lanes k d)) ≡ Ok (slice_index_or column k (pos 0))
 
 -- by the word of each lane, one of two outcomes, which is the word that a column has there
 pub record Chosen (f g : Lane → Outcome) (lanes : List Lane) (ts words : List ℤ) : Type 0 where

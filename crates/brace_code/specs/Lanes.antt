@@ -1,7 +1,6 @@
 -- Lanes: many scopes at once, whose words stand in columns.
 use Rattle.std.specs.Prelude.{◌≡◌, ◌==◌, ◌<◌, ℕ, ℤ, pos, if◌then◌else◌, List, [], ◌∷◌, length, Option, Some, None, Ok, option_copied, slice_get, slice_index_or}
 use Rattle.brace_draw.specs.Draw.{draw_value}
-use Rattle.brace_model.specs.declared.program.Ty.{Ty}
 use Rattle.brace_model.specs.declared.program.Who.TheVariants.{This, Outer, Inner}
 use Rattle.brace_model.specs.World.{number, value_at}
 use Rattle.brace_model.specs.Value.{Scope, agent_of, typed}

@@ -1,14 +1,16 @@
-ghost use Rattle.std.specs.Prelude.{◌≡◌, ◌∷◌, IfOk, OnOk, length};
+ghost use Rattle.std.specs.Prelude.{◌≡◌, ◌∷◌, [], IfOk, IfSome, OnOk, length};
+ghost use Rattle.brace_code.specs.declared.code.Instr.TheVariants as instr;
+ghost use Rattle.brace_code.specs.declared.code.Operand.TheVariants as operand;
 ghost use Rattle.brace_code.specs.Lanes.{Gives};
 ghost use Rattle.brace_code.specs.inner.Words.{operand_word};
 ghost use Rattle.brace_code.specs.inner.Runs.{deed, outcome};
-ghost use Rattle.brace_code.specs.Columns.{Numbers, Words, Leads};
+ghost use Rattle.brace_code.specs.Columns.{Leads, Numbers, Serves, Words, spread, taking};
 
 use crate::code::{Code, Instr, Operand};
 use crate::columns::Columns;
 use crate::kernels::{binary_each, constant, gather, total_each, unary_each};
 use crate::lane::{Frame, Lane, Redo, row_of};
-use crate::splitting::{Sides, merged, split};
+use crate::splitting::{SideWords, merged, part, same};
 use brace_num::List;
 use std::alloc::Global;
 
@@ -96,9 +98,8 @@ fn step(
             if below > room {
                 return Err(Redo);
             }
-            let sides = split(alloc, lanes, &test)?;
-            let ys = run_lanes(alloc, set, room - below, frame, &sides.set)?;
-            let ns = run_lanes(alloc, unset, room - below, frame, &sides.unset)?;
+            let ys = side_words(alloc, true, set, room - below, frame, lanes, &test)?;
+            let ns = side_words(alloc, false, unset, room - below, frame, lanes, &test)?;
             let words = merged(test, &ys, &ns)?;
             stack.push(words)?;
         }
@@ -118,6 +119,47 @@ fn taken(stack: &mut Columns, lanes: &List<Lane>) -> Result<List<i64>, Redo>
         return Err(Redo);
     }
     Ok(top)
+}
+
+/// The word that code is, if it is nothing else.
+#[tactic(auto, using(crate::proofs::CodeLemmas::word_rules))]
+fn word_in(code: &List<Instr>) -> Option<i64>
+    ensures { IfSome result (λ word. code.now ≡ instr.Push (operand.Word word) ∷ []) }
+{
+    let (first, rest) = code.as_slice().split_first()?;
+    match first {
+        Instr::Push(Operand::Word(word)) if rest.is_empty() => Some(*word),
+        _ => None,
+    }
+}
+
+/// What code leaves on top in the lanes whose word is set, or in those whose word is 0. Code that
+/// is a word is not run.
+#[tactic(auto, using(crate::proofs::RunLemmas::side_rules))]
+#[cycle(running_lanes)]
+fn side_words(
+    alloc: Global,
+    set: bool,
+    code: &List<Instr>,
+    room: usize,
+    frame: &Frame,
+    lanes: &List<Lane>,
+    test: &List<i64>,
+) -> Result<SideWords, Redo>
+    requires { length test.now ≡ length lanes.now }
+    ensures { IfOk result (λ side. Serves frame.now (outcome code.now room)
+        (taking set lanes.now test.now) (spread (length test.now) side)) }
+{
+    if room == 0 {
+        return Err(Redo);
+    }
+    if let Some(word) = word_in(code) {
+        let side = same(alloc, word)?;
+        return Ok(side);
+    }
+    let these = part(alloc, set, lanes, test)?;
+    let words = run_lanes(alloc, code, room, frame, &these)?;
+    Ok(SideWords { words, same: false })
 }
 
 /// What code leaves on top in each lane; where a lane faults or memory runs out, `Redo`.

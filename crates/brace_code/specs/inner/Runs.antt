@@ -1,5 +1,5 @@
 -- What instructions do in a scope to a stack of words with so much room.
-use Rattle.std.specs.Prelude.{◌≡◌, ◌≤◌, ℕ, ◌-◌, ℤ, nat_lt, if◌then◌else◌, List, [], ◌∷◌, length, map, take, reverse, Option, Some, None, Result, Ok, Err}
+use Rattle.std.specs.Prelude.{ℕ, ◌-◌, ℤ, nat_lt, if◌then◌else◌, List, [], ◌∷◌, length, map, take, reverse, Option, Some, None, Result, Ok, Err}
 use Rattle.brace_num.specs.declared.kinds.Kind.TheVariants.{Overflow}
 use Rattle.brace_model.specs.declared.fault.Stop.{Stop}
 use Rattle.brace_model.specs.Value.{Scope}

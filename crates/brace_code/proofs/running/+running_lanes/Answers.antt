@@ -1,7 +1,11 @@
 use Rattle.std.proofs.Common.{rules, refl}
-use Rattle.brace_code.proofs.RunLemmas.{choice_leads}
+use Rattle.brace_code.proofs.RunLemmas.{choice_leads, same_serves}
 use Rattle.brace_code.proofs.running.+running_lanes.Goals as goal
 
 pub step-returns-in_ok-push-in-Choice : goal.step-returns-in_ok-push-in-Choice
 step-returns-in_ok-push-in-Choice t c = choice_leads _ _ _ _ _ _ _ _ _ _ _ _ _ _ _ _ c.in-Choice.is (search rules) (search rules) (search rules)
-    c.in_ok-sides-in-Choice.ensures.set c.in_ok-sides-in-Choice.ensures.unset c.in_ok-ys-in-Choice.ensures c.in_ok-ns-in-Choice.ensures c.in_ok-words-in-Choice.ensures c.in_ok-push-in-Choice.ensures
+    refl refl c.in_ok-ys-in-Choice.ensures c.in_ok-ns-in-Choice.ensures c.in_ok-words-in-Choice.ensures c.in_ok-push-in-Choice.ensures
+
+pub side_words-returns-in-Some : goal.side_words-returns-in-Some
+side_words-returns-in-Some t c = same_serves _ _ _ _ _ _ c.in-Some.word _ c.in_ok-side.side c.in-Some.ensures (search rules) (search rules)
+    c.in_ok-side.ensures
