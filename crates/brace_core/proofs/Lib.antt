@@ -7,6 +7,7 @@ pub mod Counted
 pub mod Runs
 pub mod Progress
 pub mod CoreLaw
+pub mod Fronts
 pub mod LaneLemmas
 pub mod Calls
 pub mod ActorLemmas

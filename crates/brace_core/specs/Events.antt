@@ -1,10 +1,10 @@
 -- The exchange of pieces as a machine of events, and what a run puts, takes and leaves in flight.
-use Rattle.std.specs.Prelude.{◌≡◌, ℕ, ◌+◌, ◌<◌, Bool, true, false, ◌==◌, ◌&&◌, nat_lt, cond, IsTrue, List, [], ◌∷◌, ◌++◌, filter, length, take, slice_index_or, sum_by}
+use Rattle.std.specs.Prelude.{◌≡◌, ℕ, ◌+◌, ◌<◌, ◌≤◌, Bool, true, false, ◌==◌, ◌&&◌, nat_lt, cond, IsTrue, List, [], ◌∷◌, ◌++◌, filter, length, take, slice_index_or, sum_by}
 use Rattle.std.specs.List.{list_any}
 use Rattle.brace_core.specs.declared.name.Name.{Name}
 use Rattle.brace_core.specs.declared.name.Turn.{Turn}
 use Rattle.brace_core.specs.declared.name.Turn.TheVariants.{Put, Take, Work, Done}
-use Rattle.brace_core.specs.Schedule.{Schedule, IsLawful, turn_at}
+use Rattle.brace_core.specs.Schedule.{Schedule, IsLawful, turns, turn_at, front}
 
 -- how many of its turns each actor has made, and the names in flight in the order of their puts
 pub record State : Type 0 where
@@ -71,6 +71,10 @@ turns_made s x (p ∷ events) = next s x p ∷ turns_made s (after s x p) events
 -- no actor has a turn left
 abbrev pub AllDone : Schedule → State → Type 0
 AllDone s x = (p : ℕ) → p < s.actors → next s x p ≡ Done
+
+-- no actor went behind the first steps, so many
+abbrev pub IsWithin : Schedule → ℕ → State → Type 0
+IsWithin s n x = (p : ℕ) → p < s.actors → x.place p ≤ length (turns (front s n) p)
 
 -- the name is one of the lane from p to q
 abbrev pub is_on : ℕ → ℕ → Name → Bool

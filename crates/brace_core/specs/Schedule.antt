@@ -1,5 +1,5 @@
 -- Schedules: which actors meet in which step, and from that each lane's names and actor's turns.
-use Rattle.std.specs.Prelude.{◌≡◌, ℕ, suc, ◌<◌, ◌≤◌, Bool, false, ◌==◌, ◌&&◌, cond, IsTrue, List, [], ◌∷◌, ◌++◌, map, filter, count_by, slice_index_or}
+use Rattle.std.specs.Prelude.{◌≡◌, ℕ, suc, ◌<◌, ◌≤◌, Bool, false, ◌==◌, ◌&&◌, cond, IsTrue, List, [], ◌∷◌, ◌++◌, map, filter, count_by, take, slice_index_or}
 use Rattle.std.specs.List.{All, list_any, range_with_len}
 use Rattle.brace_core.specs.declared.name.Name.{Name}
 use Rattle.brace_core.specs.declared.name.Turn.{Turn}
@@ -31,6 +31,10 @@ pub record IsLawfulStep (actors : ℕ) (step : List Pair) : Type 0 where
 
 abbrev pub IsLawful : Schedule → Type 0
 IsLawful s = All (IsLawfulStep s.actors) s.steps
+
+-- the front of a schedule: its first steps, so many
+abbrev pub front : Schedule → ℕ → Schedule
+front s n = record s { steps = take n s.steps }
 
 abbrev pub name : ℕ → ℕ → ℕ → Name
 name k p q = record { step = k; from = p; to = q }

@@ -1,7 +1,7 @@
 //! What holds of every run of events. The function does nothing; its clauses are the law.
 ghost use Rattle.std.specs.Prelude.{◌≡◌, ◌≤◌, ◌+◌, ◌⊎◌, ℕ, IsTrue, length, drop};
-ghost use Rattle.brace_core.specs.Schedule.{Schedule, lane};
-ghost use Rattle.brace_core.specs.Events.{OnRuns, AllDone, AreFirst, RiseByStep, end_of, is_enabled, put_on, taken_from, in_flight, events_of};
+ghost use Rattle.brace_core.specs.Schedule.{Schedule, IsLawful, front, lane};
+ghost use Rattle.brace_core.specs.Events.{OnRuns, AllDone, AreFirst, IsRun, IsWithin, RiseByStep, end_of, is_enabled, put_on, taken_from, in_flight, events_of};
 
 /// For every lawful schedule and every list of events that are enabled one after the other,
 /// whatever their order:
@@ -33,4 +33,26 @@ pub fn core_law()
         AllDone s (end_of s events) ⊎ ((p : ℕ) × IsTrue (is_enabled s (end_of s events) p))) }
     ensures counted { OnRuns (λ s events. AllDone s (end_of s events) →
         length events ≡ events_of s) }
+{}
+
+/// A run may end before its schedule does. The front of a lawful schedule is lawful, and its lanes'
+/// names are the first of the whole's. A run in which no actor went behind a front is a run of that
+/// front, to the same end. There all actors have no turn of the front left, or one of them can make
+/// one; where none has one left, all names of the front were put and taken, and no others.
+pub fn front_law()
+    ensures lawful { (s : Schedule) (n : ℕ) → IsLawful s → IsLawful (front s n) }
+    ensures names { (s : Schedule) (n p q : ℕ) → AreFirst (lane (front s n) p q) (lane s p q) }
+    ensures run { OnRuns (λ s events. (n : ℕ) → IsWithin s n (end_of s events) →
+        IsRun (front s n) events) }
+    ensures end { OnRuns (λ s events. (n : ℕ) → IsWithin s n (end_of s events) →
+        end_of (front s n) events ≡ end_of s events) }
+    ensures progress { OnRuns (λ s events. (n : ℕ) → IsWithin s n (end_of s events) →
+        AllDone (front s n) (end_of s events)
+        ⊎ ((p : ℕ) × IsTrue (is_enabled (front s n) (end_of s events) p))) }
+    ensures all_put { OnRuns (λ s events. (n : ℕ) → IsWithin s n (end_of s events) →
+        AllDone (front s n) (end_of s events) → (p q : ℕ) →
+        put_on s events p q ≡ lane (front s n) p q) }
+    ensures all_taken { OnRuns (λ s events. (n : ℕ) → IsWithin s n (end_of s events) →
+        AllDone (front s n) (end_of s events) → (p q : ℕ) →
+        taken_from s events p q ≡ lane (front s n) p q) }
 {}

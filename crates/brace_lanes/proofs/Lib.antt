@@ -7,3 +7,4 @@ pub mod StepsAllowed
 pub mod SeatLemmas
 pub mod MakeLemmas
 pub mod TalkLemmas
+pub mod StateLemmas

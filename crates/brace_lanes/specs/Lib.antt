@@ -2,4 +2,5 @@ pub mod Places
 pub mod Views
 pub mod Rule
 pub mod Seats
+pub mod States
 pub mod inner
