@@ -16,7 +16,7 @@ use Rattle.brace_wire.specs.declared.kept.Kept.{Kept}
 use Rattle.brace_wire.specs.Net.{Lane, opening, Happens}
 use Rattle.brace_wire.specs.Links.{OnReceiver, OnLink, received, with_put, accepted, fate_of, at_once, late_of, sent_at_once, sent_late, sent_again, after_round}
 use Rattle.brace_wire.specs.Shown.{is_lost, HasDelivery, IsBack, Shows}
-use Rattle.brace_wire.specs.inner.Hope.{comes, rounds_by, rounds_in, due_in, rounds_left, hope}
+use Rattle.brace_wire.specs.Hope.{comes, rounds_by, rounds_in, due_in, rounds_left, hope}
 use Rattle.brace_wire.proofs.NetLemmas.{sound, within}
 use Rattle.brace_wire.proofs.AcceptLemmas.{accepted_by}
 use Rattle.brace_wire.proofs.ShownLemmas.{all_received, shows_round, reaches_on}

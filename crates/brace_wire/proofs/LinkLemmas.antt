@@ -20,8 +20,8 @@ use Rattle.brace_wire.specs.Net.{Lane, opening, Reaches}
 use Rattle.brace_wire.specs.Links.{OnLink, OnLinks, fresh, link_of, received, puts_on, takes_on, received_on, with_put, taken_at}
 use Rattle.brace_wire.specs.Shown.{Shows, ShowsLater, Becomes, GoOn, GoOnWith}
 use Rattle.brace_wire.specs.inner.Standing.{Stands, IsSound}
-use Rattle.brace_wire.specs.inner.Hope.{rounds_left, hope, all_hope}
-use Rattle.brace_wire.specs.inner.Keeps.{Keeps}
+use Rattle.brace_wire.specs.Hope.{rounds_left, hope, all_hope}
+use Rattle.brace_wire.specs.Keeps.{Keeps}
 use Rattle.brace_wire.proofs.NetLemmas.{sound, within}
 use Rattle.brace_wire.proofs.ShownLemmas.{all_received, reaches_on, shows_put, shows_take, taken_was_put}
 use Rattle.brace_wire.proofs.HopeLemmas.{put_hope}

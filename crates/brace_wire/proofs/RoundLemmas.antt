@@ -20,7 +20,7 @@ use Rattle.brace_wire.specs.Net.{opening, Reaches}
 use Rattle.brace_wire.specs.Links.{OnLink, OnLinks, fresh, link_of, received, puts_on, takes_on, received_on, sent_at_once, after_round}
 use Rattle.brace_wire.specs.Shown.{HasBytes, HasDelivery, is_lost, IsBack, Becomes, GoOn}
 use Rattle.brace_wire.specs.inner.Standing.{CanBeSent, CanRound, Stands, IsSound}
-use Rattle.brace_wire.specs.inner.Hope.{hope, all_hope}
+use Rattle.brace_wire.specs.Hope.{hope, all_hope}
 use Rattle.brace_wire.proofs.AcceptLemmas.{all_same_taken}
 use Rattle.brace_wire.proofs.ShownLemmas.{held_has_place, shows_round}
 use Rattle.brace_wire.proofs.HopeLemmas.{round_nears, hope_of_some}

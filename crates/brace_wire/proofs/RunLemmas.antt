@@ -1,5 +1,5 @@
 -- The loop over events and rounds: where actors and lanes stand, and how many rounds there are.
-use Rattle.std.proofs.Common.{◌≡◌, ◌∙◌, ℕ, zero, suc, ◌+◌, ◌*◌, ◌/◌, ◌%◌, ◌<◌, ◌≤◌, Bool, true, false, cond, ◌&&◌, ◌==◌, nat_lt, List, [], ◌∷◌, ◌++◌, map, length, get_or, set, slice_index, refl, sym, ap, arith, inl, inr}
+use Rattle.std.proofs.Common.{◌≡◌, ◌∙◌, ℕ, zero, suc, ◌+◌, ◌-◌, ◌*◌, ◌/◌, ◌%◌, ◌^◌, ◌<◌, ◌≤◌, min, Bool, true, false, cond, ◌&&◌, ◌==◌, nat_lt, List, [], ◌∷◌, ◌++◌, map, length, get_or, set, slice_index, refl, sym, ap, arith, inl, inr}
 use Rattle.std.specs.List.{All, range_with_len, sum_by}
 use Rattle.std.proofs.lemmas.Bool.{eq-eqb, ne_eqb, and_parts, lt-ltb, ltb-true, cases_eq, cond-true, cond-false}
 use Rattle.std.proofs.lemmas.List.{get_or-set_same, get_or-set_other, length-map, length-append, map-set, get_or_default}
@@ -27,8 +27,8 @@ use Rattle.brace_pieces.specs.Steps.{schedule}
 use Rattle.brace_pieces.proofs.ScheduleLemmas.{schedule_lawful}
 use Rattle.brace_wire.specs.declared.fate.Fate.{Fate}
 use Rattle.brace_wire.specs.Links.{OnLink, OnLinks, fresh, link_of, puts_on, takes_on, received_on}
-use Rattle.brace_wire.specs.inner.Hope.{hope, all_hope}
-use Rattle.brace_wire.specs.inner.Keeps.{Keeps}
+use Rattle.brace_wire.specs.Hope.{hope, all_hope}
+use Rattle.brace_wire.specs.Keeps.{Keeps}
 use Rattle.brace_wire.specs.inner.Going.{can_make, can_go_on}
 
 -- actors that have made so many turns each, and lanes with these counts, stand where some run ends
@@ -330,7 +330,7 @@ module _ {A O : Type 0} (setting : A → Setting) (number past : A → ℕ) (ope
         few = few;
       }
 
-      pub running_round : w.rounds ≤ v.rounds + 1 → all_hope w < all_hope v → IsRunning actors w
+      pub running_round : w.rounds ≡ min (v.rounds + 1) (2 ^ 64 - 1) → all_hope w < all_hope v → IsRunning actors w
       running_round counted nearer = running_kept (omega (arith, running.few, counted, nearer))
 
     -- where no actor can go on and all was received

@@ -4,4 +4,6 @@ pub mod Streams
 pub mod Net
 pub mod Links
 pub mod Shown
+pub mod Hope
+pub mod Keeps
 pub mod inner

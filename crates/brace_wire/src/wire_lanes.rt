@@ -1,4 +1,4 @@
-ghost use Rattle.std.specs.Prelude.{◌≡◌, ◌+◌, ◌^◌, ◌<◌, ◌≤◌, ℕ, List, cond, is_some, length, nat_lt, not, slice_get, IfOk, IfSome, IfNone, IsTrue, OnOk, Some, false, map, take, drop, ◌++◌};
+ghost use Rattle.std.specs.Prelude.{◌≡◌, ◌+◌, ◌-◌, ◌^◌, ◌<◌, ◌≤◌, min, ℕ, List, cond, is_some, length, nat_lt, not, slice_get, IfOk, IfSome, IfNone, IsTrue, OnOk, OnErr, Some, false, map, take, drop, ◌++◌};
 ghost use Rattle.std.specs.List.{list_any};
 ghost use Rattle.brace_core.specs.Exchanges.{Follows, IsAnswered, one_on};
 ghost use Rattle.brace_core.specs.Lanes.{AreBelow};
@@ -7,7 +7,7 @@ ghost use Rattle.brace_pieces.specs.Right.{IsRight};
 ghost use Rattle.brace_pieces.specs.Steps.{schedule};
 ghost use Rattle.brace_wire.specs.Links.{OnLink, fresh, link_of, puts_on, takes_on, received_on, after_round};
 ghost use Rattle.brace_wire.specs.Shown.{HasBytes, is_lost, GoOn, GoOnWith};
-ghost use Rattle.brace_wire.specs.inner.Hope.{all_hope};
+ghost use Rattle.brace_wire.specs.Hope.{all_hope};
 ghost use Rattle.brace_wire.specs.inner.Standing.{CanRound};
 
 use crate::Fate;
@@ -120,7 +120,7 @@ impl WireLanes {
     /// Makes a round: on each lane, by its first actor and then its second, the pieces that the
     /// sender keeps are sent once, the older first, and what came late in the round before is
     /// handed over. A round that finds no memory is given up: it was made on some lanes and not on
-    /// the others.
+    /// the others, and is not counted.
     pub fn round(&mut self) -> Result<(), NoMemory>
         ensures setting { self.new.setting ≡ self.old.setting }
         ensures actors { self.new.actors ≡ self.old.actors }
@@ -130,7 +130,9 @@ impl WireLanes {
         ensures events { GoOn self.old self.new }
         ensures made { OnOk result ((p q : ℕ) → link_of self.new p q
             ≡ after_round self.old.fates (link_of self.old p q)) }
-        ensures counted { OnOk result (self.new.rounds ≤ self.old.rounds + 1) }
+        ensures counted { OnOk result (
+            self.new.rounds ≡ min (self.old.rounds + 1) (2 ^ 64 - 1)) }
+        ensures not_counted { OnErr result (self.new.rounds ≡ self.old.rounds) }
         ensures nearer { OnOk result (0 < all_hope self.old
             → all_hope self.new < all_hope self.old) }
     {
@@ -200,7 +202,7 @@ fn round_all(
 impl Exchange<Piece> for WireLanes {
     ghost use Rattle.brace_wire.specs.Links.{puts_on, takes_on, received_on};
     ghost use Rattle.std.proofs.Common.{arith, rules};
-    ghost use Rattle.brace_wire.specs.inner.Keeps.{Keeps};
+    ghost use Rattle.brace_wire.specs.Keeps.{Keeps};
 
     ghost setting = { λ lanes. lanes.setting };
 

@@ -2,7 +2,7 @@ use Rattle.std.proofs.Common.{◌+◌, ◌*◌, length}
 use Rattle.std.specs.List.{sum_by}
 use Rattle.brace_core.specs.Exchanges.{turns_left}
 use Rattle.brace_pieces.specs.Steps.{schedule}
-use Rattle.brace_wire.specs.inner.Hope.{all_hope}
+use Rattle.brace_wire.specs.Hope.{all_hope}
 use Rattle.brace_wire.proofs.RunLemmas.{IsRunning}
 use Rattle.brace_wire.proofs.run.run_over_links.Given as goal
 

@@ -1,7 +1,7 @@
 use Rattle.std.proofs.Common.{◌≡◌, ◌<◌, ◌∙◌, true, false, eqb, length, ap, subst, arith, rules}
 use Rattle.std.proofs.lemmas.Option.{slice_get_within}
 use Rattle.brace_wire.specs.Links.{OnLinks, received}
-use Rattle.brace_wire.specs.inner.Hope.{all_hope}
+use Rattle.brace_wire.specs.Hope.{all_hope}
 use Rattle.brace_wire.proofs.RoundLemmas.{all_quiet, item_there, quiet_more, some_hope, short_at}
 use Rattle.brace_wire.proofs.wire_lanes.WireLanes.is_quiet.Goals as goal
 

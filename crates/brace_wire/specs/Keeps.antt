@@ -1,7 +1,7 @@
 -- What a put or a take keeps of lanes over links.
 use Rattle.std.specs.Prelude.{◌≡◌, ◌+◌, ◌≤◌, length}
 use Rattle.brace_wire.specs.Links.{OnLinks}
-use Rattle.brace_wire.specs.inner.Hope.{all_hope}
+use Rattle.brace_wire.specs.Hope.{all_hope}
 
 -- as many rounds were made, and at most those are needed more that one piece takes
 pub record Keeps (v w : OnLinks) : Type 0 where
