@@ -93,13 +93,20 @@ module _ (program : Program) (watch : Watch) where
         each_given (p ∷ ps) = ap₂ (λ us vs. us ++ vs) (values_given (owned program cuts p xs)) (each_given ps)
 
     -- the figures of boxes that were counted, and their join
-    pub boxes_figured : (xs : List Agent) (boxes : List (List Agent)) (totals : List Tally) → boxes ≡ all_owned program cuts xs → totals ≡ map (figure watch) boxes → totals ≡ box_figures program cuts watch xs
-    boxes_figured xs boxes totals owned_so counted = counted ∙ ap (map (figure watch)) owned_so ∙ mapped parts
+    pub boxes_figured : (xs : List Agent) (boxes : List (List Agent)) (totals : List Tally)
+        → boxes ≡ all_owned program cuts xs → totals ≡ map (figure watch) boxes
+        → totals ≡ box_figures program cuts watch xs
+    boxes_figured xs boxes totals owned_so counted =
+        counted ∙ ap (map (figure watch)) owned_so ∙ mapped parts
       where
-        mapped : (ps : List ℕ) → map (figure watch) (map (λ p. owned program cuts p xs) ps) ≡ map (λ p. figure watch (owned program cuts p xs)) ps
+        mapped : (ps : List ℕ) → map (figure watch) (map (λ p. owned program cuts p xs) ps)
+            ≡ map (λ p. figure watch (owned program cuts p xs)) ps
         mapped [] = refl
         mapped (p ∷ ps) = ap (λ l. figure watch (owned program cuts p xs) ∷ l) (mapped ps)
 
-    pub whole_figured : (xs : List Agent) (boxes : List (List Agent)) (totals : List Tally) (whole : Tally) → boxes ≡ all_owned program cuts xs → totals ≡ map (figure watch) boxes
+    pub whole_figured : (xs : List Agent) (boxes : List (List Agent)) (totals : List Tally)
+        (whole : Tally) → boxes ≡ all_owned program cuts xs → totals ≡ map (figure watch) boxes
         → all_joined watch.kind totals ≡ whole → whole ≡ figure watch xs
-    whole_figured xs boxes totals whole owned_so counted join = sym join ∙ ap (all_joined watch.kind) (boxes_figured xs boxes totals owned_so counted) ∙ joined xs
+    whole_figured xs boxes totals whole owned_so counted join =
+        sym join ∙ ap (all_joined watch.kind) (boxes_figured xs boxes totals owned_so counted)
+        ∙ joined xs

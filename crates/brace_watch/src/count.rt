@@ -20,7 +20,7 @@ use std::alloc::Global;
 /// The figure of a watch over some agents, and that over the agents of each box that cuts make, by
 /// its number. The join of the boxes' figures is that of all.
 ///
-/// It looks once at each agent.
+/// It finds the box of each agent once.
 pub fn figures(
     alloc: Global,
     program: &Program,

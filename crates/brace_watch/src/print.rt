@@ -21,6 +21,8 @@ use std::alloc::Global;
 /// Appends the lines of a tick: for each watch `tick,n,V,V0,..` with its number from 1, the figure
 /// of all agents, and those of the boxes that cuts make. The least and the greatest value of no
 /// agent are `none`. A refused print leaves `out` as it was.
+///
+/// It finds the box of each agent once, and reads each state that watches name once.
 pub fn print_watched(
     alloc: Global,
     out: &mut Vec<u8>,

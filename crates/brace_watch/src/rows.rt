@@ -16,8 +16,8 @@ use brace_num::NoMemory;
 use std::alloc::Global;
 use std::marker::Model;
 
-/// The agents of a box, and the columns of theirs that were read. Contracts see the agents, in their
-/// order.
+/// The agents of a box, and the columns of theirs that were read. Contracts see the agents, in
+/// their order.
 #[derive(Drop)]
 pub(crate) struct Rows<'a> {
     agents: Vec<&'a Agent>,
@@ -148,8 +148,6 @@ fn number_for(field: Option<u32>, agent: &Agent) -> i64
 }
 
 /// The agents of each box that cuts make, by its number.
-///
-/// It looks once at each agent.
 pub(crate) fn parted<'a>(
     alloc: Global,
     program: &Program,

@@ -5,4 +5,5 @@ use Rattle.brace_watch.proofs.Counting.{tally_with}
 use Rattle.brace_watch.proofs.count.all_joined.Given as goal
 
 abbrev pub invariant-loop-total : goal.invariant-loop-total
-invariant-loop-total l = tally_with l.kind l.number l.count ≡ all_joined l.kind (map tally (take l.total-index l.totals))
+invariant-loop-total l = tally_with l.kind l.number l.count ≡ all_joined l.kind
+    (map tally (take l.total-index l.totals))

@@ -25,10 +25,14 @@ loop-i-preserved c =
       so_far = λ agents tests_are numbers_are. elim c.if-meets.branch [
         | then-meets+in_ok-number w ↦
             let more : now ≡ joined watch.kind before (Int f) = search rules in
-            counted_more watch agents tests numbers i (pos 0) t f before now c.loop-i.count c.if-meets.count true test refl tests_are numbers_are (search rules)
-            (λ a read. sym w.if-meets.true ∙ c.meets.ensures a read) more (search rules) (c.loop-i.invariant.so_far agents tests_are numbers_are)
+            counted_more watch agents tests numbers i (pos 0) t f before now c.loop-i.count
+            c.if-meets.count true test refl tests_are numbers_are (search rules)
+            (λ a read. sym w.if-meets.true ∙ c.meets.ensures a read) more (search rules)
+            (c.loop-i.invariant.so_far agents tests_are numbers_are)
         | else-meets w ↦
-            counted_more watch agents tests numbers i (pos 0) t f before now c.loop-i.count c.if-meets.count false test refl tests_are numbers_are (search rules)
-            (λ a read. sym w.if-meets.false ∙ c.meets.ensures a read) (search rules) (search rules) (c.loop-i.invariant.so_far agents tests_are numbers_are)
+            counted_more watch agents tests numbers i (pos 0) t f before now c.loop-i.count
+            c.if-meets.count false test refl tests_are numbers_are (search rules)
+            (λ a read. sym w.if-meets.false ∙ c.meets.ensures a read) (search rules) (search rules)
+            (c.loop-i.invariant.so_far agents tests_are numbers_are)
       ];
     }

@@ -8,6 +8,8 @@ use Rattle.brace_watch.proofs.count.total_of.Given as goal
 abbrev pub invariant-loop-i : goal.invariant-loop-i
 invariant-loop-i l = record {
   few : l.count ≤ l.i;
-  so_far : (agents : List Agent) → l.tests ≡ map (number_for (tested l.watch.test)) agents → l.numbers ≡ map (number_for l.watch.field) agents
-      → tally_with l.watch.kind l.number l.count ≡ tally_of l.watch.kind (values_met l.watch (take l.i agents));
+  so_far : (agents : List Agent) → l.tests ≡ map (number_for (tested l.watch.test)) agents
+      → l.numbers ≡ map (number_for l.watch.field) agents
+      → tally_with l.watch.kind l.number l.count ≡ tally_of l.watch.kind
+      (values_met l.watch (take l.i agents));
 }

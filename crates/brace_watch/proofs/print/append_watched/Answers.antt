@@ -15,11 +15,17 @@ loop-place-preserved c =
     let whole = whole_figured program _ cuts is agents _ _ _ owned found.boxes found.joined in
     let each = boxes_figured program _ cuts is agents _ _ owned found.boxes in
     record {
-      owned = with_items_is c.loop-place.boxes c.figures_of.new.boxes (c.figures_of.auto.boxes ∙ c.deref_mut.ensures.len) ∙ found.kept ∙ owned;
-      told = lines_more program cuts c.args.tick agents c.args.watches.now c.loop-place.place _ _ c.loop-place.out.items _ c.loop-place-test.true c.loop-place.invariant.told
-          (c.in_ok-append_line.ensures.printed ∙ ap (λ l. c.loop-place.out.items ++ l) (line_is program cuts c.args.tick agents c.loop-place.place _ _ _ _ c.type_of.ensures whole each));
+      owned = with_items_is c.loop-place.boxes c.figures_of.new.boxes
+          (c.figures_of.auto.boxes ∙ c.deref_mut.ensures.len)
+          ∙ found.kept ∙ owned;
+      told = lines_more program cuts c.args.tick agents c.args.watches.now c.loop-place.place _ _
+          c.loop-place.out.items _ c.loop-place-test.true c.loop-place.invariant.told
+          (c.in_ok-append_line.ensures.printed ∙ ap (λ l. c.loop-place.out.items ++ l)
+          (line_is program cuts c.args.tick agents c.loop-place.place _ _ _ _ c.type_of.ensures
+          whole each));
     }
 
 pub returns-clause-printed : goal.returns-clause-printed
 returns-clause-printed c =
-    lines_all c.args.program.now c.args.cuts.now c.args.tick c.args.agents.now c.args.watches.now c.loop-place.place _ _ c.loop-place-test.false c.loop-place.invariant.told
+    lines_all c.args.program.now c.args.cuts.now c.args.tick c.args.agents.now c.args.watches.now
+    c.loop-place.place _ _ c.loop-place-test.false c.loop-place.invariant.told

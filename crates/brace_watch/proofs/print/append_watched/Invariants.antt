@@ -7,5 +7,6 @@ use Rattle.brace_watch.proofs.print.append_watched.Given as goal
 abbrev pub invariant-loop-place : goal.invariant-loop-place
 invariant-loop-place l = record {
   owned : l.boxes.items ≡ all_owned l.program l.cuts l.agents;
-  told : l.out.items ≡ l.initial.out.items ++ flat_map (watch_text l.program l.cuts l.tick l.agents) (take l.place (enumerate_from 0 l.watches));
+  told : l.out.items ≡ l.initial.out.items ++ flat_map (watch_text l.program l.cuts l.tick l.agents)
+      (take l.place (enumerate_from 0 l.watches));
 }

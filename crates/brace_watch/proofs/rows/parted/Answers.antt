@@ -9,7 +9,8 @@ use Rattle.brace_watch.proofs.rows.parted.Goals as goal
 use Rattle.brace_watch.proofs.rows.parted.Goals.{in-Some+in_ok-add, in_default}
 
 pub loop-agent-init : goal.loop-agent-init
-loop-agent-init c = c.in_ok-boxes.ensures ∙ none_owned c.args.program.now c.args.cuts.now c.parts.result c.parts.ensures
+loop-agent-init c = c.in_ok-boxes.ensures
+    ∙ none_owned c.args.program.now c.args.cuts.now c.parts.result c.parts.ensures
 
 pub index_mut-rows-requires : goal.index_mut-rows-requires
 index_mut-rows-requires c =
@@ -35,10 +36,15 @@ loop-agent-preserved c =
           let fits_y : FitsSigned w64 w.y_of.result = search rules in
           let x_is = sym w.x_of.ensures ∙ sym (to_z-of_z w64 w.x_of.result fits_x) in
           let y_is = sym w.y_of.ensures ∙ sym (to_z-of_z w64 w.y_of.result fits_y) in
-          let owner : owner_of cuts (x_of class a) (y_of class a) ≡ p = ap₂ (owner_of cuts) x_is y_is ∙ sym w.owner-owner.ensures.owner in
-          let rows = w.in_ok-add.ensures ∙ ap (λ l. l ++ a ∷ []) (w.index_mut-rows.ensures.value ∙ ap (λ l. get_or l p before) c.loop-agent.invariant) in
+          let owner : owner_of cuts (x_of class a) (y_of class a) ≡ p =
+          ap₂ (owner_of cuts) x_is y_is ∙ sym w.owner-owner.ensures.owner in
+          let now = w.index_mut-rows.ensures.value
+          ∙ ap (λ l. get_or l p before) c.loop-agent.invariant in
+          let rows = w.in_ok-add.ensures ∙ ap (λ l. l ++ a ∷ []) now in
           ap (λ v. v.items) w.boxes-is ∙ ap (λ l. set l p w.add.new.self) c.loop-agent.invariant
-          ∙ one_owned program cuts xs a class p w.add.new.self before (sym w.in-Some.ensures) owner w.owner-owner.ensures.in_range rows
+          ∙ one_owned program cuts xs a class p w.add.new.self before (sym w.in-Some.ensures) owner
+          w.owner-owner.ensures.in_range rows
       | in_default w ↦
-          ap (λ v. v.items) w.boxes-is ∙ c.loop-agent.invariant ∙ unowned program cuts xs a (sym w.in_default.ensures)
+          ap (λ v. v.items) w.boxes-is ∙ c.loop-agent.invariant
+          ∙ unowned program cuts xs a (sym w.in_default.ensures)
     ])

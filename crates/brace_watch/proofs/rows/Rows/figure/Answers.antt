@@ -11,11 +11,18 @@ returns-clause-figure c =
     let watch = c.args.watch.now in
     let mine = of_class watch.class c.args.self.now in
     let agents = ap (map (λ a. a.now)) c.as_slice-agents.ensures.value ∙ c.self.view_is in
-    let kept = column_kept c.read_column.new.columns.items c.read_column-2.new.columns.items c.in_ok-tests.tests c.index.result.now c.in_ok-tests.ensures.there c.in_ok-values.ensures.kept in
+    let kept = column_kept c.read_column.new.columns.items c.read_column-2.new.columns.items
+    c.in_ok-tests.tests c.index.result.now c.in_ok-tests.ensures.there
+    c.in_ok-values.ensures.kept in
     let tests : c.as_slice-tests.result.now ≡ map (number_for (tested watch.test)) mine =
-    c.as_slice-tests.ensures.value ∙ ap (λ d. d.numbers.items) (c.index.ensures ∙ kept) ∙ c.in_ok-tests.ensures.numbers c.index.result.now ∙ ap₂ (numbers_of watch.class) c.tested.ensures agents in
+    c.as_slice-tests.ensures.value ∙ ap (λ d. d.numbers.items) (c.index.ensures ∙ kept)
+    ∙ c.in_ok-tests.ensures.numbers c.index.result.now
+    ∙ ap₂ (numbers_of watch.class) c.tested.ensures agents in
     let values : c.as_slice-values.result.now ≡ map (number_for watch.field) mine =
-    c.as_slice-values.ensures.value ∙ ap (λ d. d.numbers.items) c.index-2.ensures ∙ c.in_ok-values.ensures.numbers c.index-2.result.now ∙ ap (numbers_of watch.class watch.field) agents in
+    c.as_slice-values.ensures.value ∙ ap (λ d. d.numbers.items) c.index-2.ensures
+    ∙ c.in_ok-values.ensures.numbers c.index-2.result.now
+    ∙ ap (numbers_of watch.class watch.field) agents in
     let found : IfSome c.total_of.result (λ t. tally t ≡ figure watch c.args.self.now) =
-    IfSome_then c.total_of.result c.total_of.ensures (λ t total. total mine tests values ∙ figure_is watch c.args.self.now) in
+    IfSome_then c.total_of.result c.total_of.ensures
+    (λ t total. total mine tests values ∙ figure_is watch c.args.self.now) in
     search (rules, found)
