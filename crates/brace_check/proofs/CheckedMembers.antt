@@ -1,5 +1,5 @@
 -- What holds of the members of a class in which nothing is found.
-use Rattle.std.proofs.Common.{◌≡◌, refl, sym, subst, ℕ, zero, suc, ◌+◌, ◌≤◌, ◌<◌, nat_lt, Bool, true, false, List, [], ◌∷◌, ◌++◌, map, flat_map, length, arith, tests, ap, ◌∙◌, inl, inr}
+use Rattle.std.proofs.Common.{◌≡◌, refl, sym, subst, ℕ, zero, suc, ◌+◌, ◌≤◌, ◌<◌, nat_lt, Bool, true, false, List, [], ◌∷◌, ◌++◌, map, flat_map, arith, tests, ap, ◌∙◌, inl, inr}
 use Rattle.std.specs.Prelude.{not, nat_eq, IsTrue, slice_get, unwrap_or, sum, Some, None, Option, is_some, option_map, option_and_then}
 use Rattle.std.specs.List.{AllByRecursion, IsDistinct, list_all, range_with_len, filter}
 use Rattle.std.proofs.lemmas.Bool.{true≢false, and_from, lt-ltb, cases_Bool}
@@ -15,8 +15,7 @@ use Rattle.brace_check.specs.declared.fault.CheckFault.TheVariants.{BadRange, Wr
 use Rattle.brace_check.specs.Findings.{fault_if, millionths, gives, given_type}
 use Rattle.brace_check.specs.Found.{member, valued}
 use Rattle.brace_check.specs.Programs.{effect_of, visible_of, reach_of, first_or_0, share, shares, class_of, classes_from, gifts_in}
-use Rattle.brace_check.proofs.Rising.{range_rises, are_rising, rising_differ}
-use Rattle.brace_check.proofs.Numbering.{BlockDeclares, none_declared, block_numbers}
+use Rattle.brace_check.proofs.Numbering.{range_rises, are_rising, rising_differ, BlockDeclares, none_declared, block_numbers}
 use Rattle.brace_names.specs.Kinds.{type_named, comb_named}
 use Rattle.brace_names.specs.Scopes.{Home, outermost, home_of, Scope}
 use Rattle.brace_check.proofs.Sound.{nil_back, has_type, RunSound, block_sound}

@@ -1,11 +1,11 @@
--- The numbers of fields and classes, and what the checks of names say of their names and how many there are.
+-- The numbers and the names of fields and classes, and what the checks of names say of them.
 use Rattle.std.proofs.Common.{◌≡◌, refl, sym, ap, subst, ◌∙◌, ℕ, ◌+◌, ◌<◌, ◌≤◌, Bool, true, false, List, [], ◌∷◌, ◌++◌, map, flat_map, fold, length, length-append, append_assoc, arith, inl, inr, zero, suc}
-use Rattle.std.specs.Prelude.{Option, Some, None, option_map, option_and_then, slice_get, if◌then◌else◌, ⊤, ◌&&◌, ◌||◌}
-use Rattle.std.specs.List.{AllByRecursion, IsDistinct, list_any}
-use Rattle.std.proofs.lemmas.Bool.{cases_Bool, true≢false, or_parts}
+use Rattle.std.specs.Prelude.{Option, Some, None, option_map, option_and_then, slice_get, if◌then◌else◌, ⊤, ◌&&◌, ◌||◌, IsTrue}
+use Rattle.std.specs.List.{AllByRecursion, IsDistinct, list_any, list_all}
+use Rattle.std.proofs.lemmas.Bool.{cases_Bool, true≢false, or_parts, and_from}
 use Rattle.std.proofs.lemmas.List.{length-map}
 use Rattle.std.proofs.lemmas.Option.{slice_get-map}
-use Rattle.brace_num.proofs.Lists.{each_weaker, at_seam, each_append}
+use Rattle.brace_num.proofs.Lists.{each_weaker, at_seam, each_append, each_front}
 use Rattle.brace_syntax.specs.declared.tree.Ident.{Ident}
 use Rattle.brace_syntax.specs.declared.tree.MemberTree.{MemberTree}
 use Rattle.brace_syntax.specs.declared.tree.MemberTree.TheVariants as m
@@ -13,11 +13,11 @@ use Rattle.brace_syntax.specs.declared.tree.ClassTree.{ClassTree}
 use Rattle.brace_names.specs.declared.declared.Field.{Field}
 use Rattle.brace_names.specs.declared.declared.Field.TheVariants as field
 use Rattle.brace_names.specs.Kinds.{type_named, comb_named}
-use Rattle.brace_names.specs.Tables.{has, with_name, table, repeated, repeated_after}
+use Rattle.brace_names.specs.Tables.{with_name, table, repeated, repeated_after}
 use Rattle.brace_names.specs.Classes.{known, fields_behind, fields, numbered_from, title, is_coordinate, has_position}
-use Rattle.brace_check.proofs.Ties.{StateHeading, EffectHeading, Heading, state_declared, effect_declared, heading, FieldIs, FieldsFit, named_too}
+use Rattle.brace_check.proofs.Ties.{StateHeading, EffectHeading, Heading, state_declared, effect_declared, heading, FieldIs, FieldsFit, named_too, all_back}
 use Rattle.std.specs.Str.{bytes_eq}
-use Rattle.std.proofs.lemmas.List.Folds.{list_any-append}
+use Rattle.std.proofs.lemmas.List.Folds.{list_any-append, list_all-append}
 use Rattle.std.proofs.lemmas.Slice.Eq.{bytes_eq-Decides}
 use Rattle.brace_syntax.specs.declared.tree.TyName.{TyName}
 use Rattle.brace_syntax.specs.declared.tree.TyName.TheVariants as tyname
@@ -35,6 +35,14 @@ use Rattle.brace_model.specs.Lawful.{is_position}
 use Rattle.brace_check.specs.Programs.{rule, share, shares, effect_of, place_of}
 use Rattle.brace_names.specs.Scopes.{Home, outermost}
 use Rattle.brace_names.specs.Faults.{fault_of}
+use Rattle.std.proofs.lemmas.List.Elements.{recursion_from_All}
+use Rattle.brace_num.specs.Names.{is_name}
+use Rattle.brace_tok.specs.declared.kinds.Token.{Token}
+use Rattle.brace_tok.specs.Names.{IsNamed}
+use Rattle.brace_tok.specs.Spells.{Spells}
+use Rattle.brace_tok.proofs.Named.{spells_names}
+use Rattle.brace_syntax.specs.Reads as r
+use Rattle.brace_syntax.specs.Reads.{ReadsField, ReadsMember, ReadsMembers, ReadsClass, ReadsClasses}
 
 -- a field of a class with these states and effects
 abbrev FieldOf : List StateHeading → List EffectHeading → Field → Type 0
@@ -365,3 +373,70 @@ module _ (home : Home) where
             ∙ is_placed axis members k h.1 (stands_later axis shared type name x at members (bytes-apart name.text axis apart) is)
       ]
   is_placed axis (one ∷ members) n h is = is_placed axis members (share home one n).1 h.1 is
+
+-- a member that is a field has a name
+abbrev pub Worded : MemberTree → Type 0
+Worded (m.State shared type name x at) = IsTrue (is_name name.text)
+Worded (m.Effect shared type name c at) = IsTrue (is_name name.text)
+Worded _ = ⊤
+
+-- so have a class and its members
+pub record WordedClass (class : ClassTree) : Type 0 where
+  pub named : IsTrue (is_name class.name.text)
+  pub members : AllByRecursion Worded class.members
+
+module _ (src : List ℕ) where
+  abbrev Words : List Token → Type 0
+  Words = AllByRecursion (IsNamed src)
+
+  worded_field : (shared : Bool) (at : ℕ) (toks : List Token) (x : MemberTree) → ReadsField src shared at toks x → Words toks → Worded x
+  worded_field shared at _ _ (r.state word type name semicolon t _ _ is _) h = h.1.1.0 is
+  worded_field shared at _ _ (r.ruled a word type name colon semicolon t x _ _ is _ _ _) h = h.1.1.0 is
+  worded_field shared at _ _ (r.effect word type name colon combinator semicolon t c _ _ is _ _ _) h = h.1.1.0 is
+
+  worded_member : (toks : List Token) (x : MemberTree) → ReadsMember src toks x → Words toks → Worded x
+  worded_member _ _ (r.visible word opening range closing semicolon n _ _ _ _ _) h = tt
+  worded_member _ _ (r.reach word opening range closing semicolon n _ _ _ _ _) h = tt
+  worded_member _ _ (r.public a word x _ g) h = worded_field true word.from a x g h.1
+  worded_member _ _ (r.private a word x _ g) h = worded_field false word.from a x g h.1
+  worded_member _ _ (r.run a word void run opening closing xs _ _ _ _ _ _) h = tt
+  worded_member _ _ (r.die a word when semicolon x _ _ _ _) h = tt
+  worded_member _ _ (r.spawn a b word when opening closing x gs _ _ _ _ _ _) h = tt
+
+  worded_members : (toks : List Token) (xs : List MemberTree) → ReadsMembers src toks xs → Words toks → AllByRecursion Worded xs
+  worded_members _ _ r.none h = tt
+  worded_members _ _ (r.more a b x xs g e) h = (worded_member a x g (each_front (IsNamed src) a b h), worded_members b xs e (all_back (IsNamed src) a b h))
+
+  worded_class : (toks : List Token) (x : ClassTree) → ReadsClass src toks x → Words toks → WordedClass x
+  worded_class _ _ (r.class a word name opening closing xs _ is _ _ g) h =
+      record { named = h.1.0 is; members = worded_members a xs g (each_front (IsNamed src) a (closing ∷ []) h.1.1.1) }
+
+  worded_classes : (toks : List Token) (xs : List ClassTree) → ReadsClasses src toks xs → Words toks → AllByRecursion WordedClass xs
+  worded_classes _ _ (r.last a x g) h = (worded_class a x g h, tt)
+  worded_classes _ _ (r.more a b x xs g e) h = (worded_class a x g (each_front (IsNamed src) a b h), worded_classes b xs e (all_back (IsNamed src) a b h))
+
+  -- the classes of a script that is read from a source
+  pub script_worded : (toks : List Token) (xs : List ClassTree) → Spells src toks → ReadsClasses src toks xs → AllByRecursion WordedClass xs
+  script_worded toks xs spelled read = worded_classes toks xs read (recursion_from_All (IsNamed src) toks (spells_names src toks spelled))
+
+-- the names of the fields in the program
+module _ (home : Home) where
+  states_named : (members : List MemberTree) (n : List ℕ) → AllByRecursion Worded members → list_all is_name (map (λ (s : State). s.name) (shares home members n).0.states) ≡ true
+  states_named [] n h = refl
+  states_named (m.State shared type name x at ∷ members) n h =
+      and_from (is_name name.text) (list_all is_name (map (λ (s : State). s.name) (shares home members _).0.states)) h.0
+      (states_named members (share home (m.State shared type name x at) n).1 h.1)
+  states_named (one ∷ members) n h = states_named members (share home one n).1 h.1
+
+  effects_named : (members : List MemberTree) → AllByRecursion Worded members → list_all is_name (map (λ e. e.name) (flat_map effect_of members)) ≡ true
+  effects_named [] h = refl
+  effects_named (m.Effect shared type name c at ∷ members) h =
+      and_from (is_name name.text) (list_all is_name (map (λ e. e.name) (flat_map effect_of members))) h.0 (effects_named members h.1)
+  effects_named (_ ∷ members) h = effects_named members h.1
+
+  pub fields_named : (members : List MemberTree) (n : List ℕ) → AllByRecursion Worded members
+      → list_all is_name (map (λ (s : State). s.name) (shares home members n).0.states ++ map (λ e. e.name) (flat_map effect_of members)) ≡ true
+  fields_named members n h =
+      let states : List (List ℕ) = map (λ (s : State). s.name) (shares home members n).0.states in
+      let effects : List (List ℕ) = map (λ e. e.name) (flat_map effect_of members) in
+      list_all-append is_name states effects ∙ and_from (list_all is_name states) (list_all is_name effects) (states_named members n h) (effects_named members h)

@@ -43,15 +43,11 @@ use Rattle.brace_check.specs.Resolved.{IsResolved}
 use Rattle.brace_check.specs.Checked.{CheckedClass, IsChecked}
 use Rattle.brace_check.proofs.Ties.{Heading, heading, heading_of, FieldsFit, Tied, all_back}
 use Rattle.brace_check.proofs.Sound.{nil_back}
-use Rattle.brace_check.proofs.Rising.{Rises, increasing_from_rises, front_rises, first_rises}
-use Rattle.brace_check.proofs.Numbering.{block_sites}
-use Rattle.brace_check.proofs.ShareNumbers.{SharesRise, shares_rise, ruled_sites, sites_differ, sites_below}
+use Rattle.brace_check.proofs.Numbering.{Rises, increasing_from_rises, front_rises, first_rises, block_sites}
+use Rattle.brace_check.proofs.ShareNumbers.{SharesRise, shares_rise, ruled_sites, sites_differ, sites_below, loops_apart, classes_in_order}
 use Rattle.brace_check.proofs.CheckedMembers.{visible_fits, reach_fits, effects_fit, FromZero, from_zero, first_from_zero, constants_below, constants_apart, class_kept, classes_kept, states_typed, deaths_typed, first_typed, MembersOk, members_ok, Born, first_asked}
-use Rattle.brace_check.proofs.FieldNumbers.{fields_fit, others_fit, classes_fit, state_called, own_called, Fine, AllFine, all_fine, text, names_differ, few_names, few_of, has_its_position, fields_count, fields_differ, is_placed}
-use Rattle.brace_check.proofs.Words.{WordedClass, script_worded, fields_named}
-use Rattle.brace_check.proofs.LoopPlaces.{loops_apart}
+use Rattle.brace_check.proofs.FieldNumbers.{fields_fit, others_fit, classes_fit, state_called, own_called, Fine, AllFine, all_fine, text, names_differ, few_names, few_of, has_its_position, fields_count, fields_differ, is_placed, WordedClass, script_worded, fields_named}
 use Rattle.brace_check.proofs.Told.{counted_sites, few_assignments}
-use Rattle.brace_check.proofs.TextOrder.{classes_in_order}
 
 first_born : (m : Names) (states : List State) (spawns : List Spawn) → AllByRecursion (Born m states) spawns
     → (is_spawn m states (slice_get spawns 0) ≡ true) × IsDistinct nat_eq (given_states (slice_get spawns 0))

@@ -1,13 +1,8 @@
-pub mod Parts
 pub mod Told
 pub mod Numbering
-pub mod Rising
 pub mod ShareNumbers
 pub mod Ties
 pub mod Sound
 pub mod CheckedMembers
 pub mod FieldNumbers
-pub mod Words
-pub mod LoopPlaces
-pub mod TextOrder
 pub mod LawfulProof

@@ -1,7 +1,7 @@
--- The sites of a class rise over its rules, over each of its conditions, and over its query; each site of a program stands at one place of it.
-use Rattle.std.proofs.Common.{◌≡◌, refl, sym, ap, subst, ◌∙◌, ℕ, ◌+◌, ◌≤◌, List, [], ◌∷◌, ◌++◌, map, flat_map, length, length-append, append_assoc, arith, zero, suc, ◌<◌, nat_lt, Bool, true, false, tests, inl, inr}
-use Rattle.std.specs.Prelude.{Option, Some, None, option_to_list, nat_eq, cond, slice_get, unwrap_or}
-use Rattle.std.specs.List.{range_with_len, AllByRecursion, IsDistinct, list_all}
+-- The sites of a class rise, differ, and follow the order of the text; its loops stand apart.
+use Rattle.std.proofs.Common.{◌≡◌, refl, sym, ap, subst, ◌∙◌, ℕ, ◌+◌, ◌≤◌, List, [], ◌∷◌, ◌++◌, map, flat_map, length, append_assoc, arith, zero, suc, ◌<◌, nat_lt, Bool, true, false, tests, inl, inr, codes, take}
+use Rattle.std.specs.Prelude.{Option, Some, None, option_to_list, nat_eq, cond, slice_get, unwrap_or, false}
+use Rattle.std.specs.List.{range_with_len, AllByRecursion, IsDistinct, list_all, concat}
 use Rattle.std.proofs.lemmas.List.{append-nil}
 use Rattle.std.proofs.lemmas.Grind.{flat_map-append}
 use Rattle.brace_syntax.specs.declared.tree.ExprTree.{ExprTree}
@@ -13,18 +13,30 @@ use Rattle.brace_model.specs.declared.program.Stmt.{Stmt}
 use Rattle.brace_model.specs.declared.program.State.{State}
 use Rattle.brace_model.specs.declared.program.Gift.{Gift}
 use Rattle.brace_model.specs.declared.program.Spawn.{Spawn}
-use Rattle.brace_model.specs.Sites.{sites_of, sites_among, sites_of_spawn, class_sites}
+use Rattle.brace_model.specs.Sites.{sites_of, sites_among, sites_of_spawn, class_sites, loop_offsets}
 use Rattle.brace_check.specs.declared.share.Share.{Share}
 use Rattle.brace_check.specs.Programs.{rule, gifts_in, spawn_of, share, shared_by, shares, class_of, classes_from}
-use Rattle.brace_check.proofs.Rising.{Rises, rises-joined, front_rises, back_rises, rises_behind}
-use Rattle.brace_check.proofs.Numbering.{Numbered, upto, one_site, plain_numbered, made_numbered, followed_numbered, expression_numbered, block_sites, block_numbers}
+use Rattle.brace_check.proofs.Numbering.{Rises, rises-joined, front_rises, back_rises, rises_behind, rising_differ, Numbered, upto, one_site, plain_numbered, made_numbered, followed_numbered, expression_numbered, block_sites, block_numbers, concat-map, loops_step, loops, loops_in}
 use Rattle.brace_names.specs.Tables.{look}
 use Rattle.brace_names.specs.Scopes.{Home, Scope, outermost, home_of}
 use Rattle.brace_check.specs.Meanings.{site, number_of, followed, expression}
-use Rattle.std.proofs.lemmas.Bool.{cases_Bool, cases_lt, and_from}
+use Rattle.std.proofs.lemmas.Bool.{cases_Bool, cases_lt, and_from, true≢false}
 use Rattle.brace_syntax.specs.declared.tree.ClassTree.{ClassTree}
-use Rattle.brace_names.specs.Classes.{Known}
+use Rattle.brace_names.specs.Classes.{Known, title}
 use Rattle.brace_model.specs.declared.program.Class.{Class}
+use Rattle.std.specs.Str.{bytes_eq}
+use Rattle.brace_syntax.specs.declared.tree.StmtTree.{StmtTree}
+use Rattle.brace_check.specs.Order.{in_members, in_text_order}
+use Rattle.brace_check.proofs.FieldNumbers.{Apart, text}
+use Rattle.std.proofs.Math.Seq.{take-append_seam}
+use Rattle.brace_tok.specs.declared.kinds.Token.{Token}
+use Rattle.brace_tok.specs.Spells.{Spells}
+use Rattle.brace_tok.proofs.Unique.{spells_rises}
+use Rattle.brace_syntax.specs.Reads as r
+use Rattle.brace_syntax.specs.Reads.{ReadsStmt, ReadsStmts, ReadsBlock, ReadsField, ReadsMember, ReadsMembers, ReadsClass, ReadsClasses}
+use Rattle.brace_syntax.specs.Tables.{ident}
+use Rattle.brace_names.proofs.NameOrder.{Sub, none, skip, keep, nowhere, join, places_rise}
+use Rattle.brace_names.proofs.Folds.{of-Const, of-when, of-either, of-Foreach, of-Assign, of-AssignThis, of-AssignLoop}
 
 -- the sites of the parts of a class
 abbrev pub ruled_sites : List State → List ℕ
@@ -321,3 +333,203 @@ module _ (all : Known) (classes : List ClassTree) where
       let no_more : times x sites_all ≤ times x (upto meant.1) = under x in
       let none : times x (upto meant.1) ≡ 0 = (times-range 0 (length meant.1) x).past (omega (arith, few, past)) in
       omega (arith, no_more, none))
+
+abbrev titles : List MemberTree → List (List ℕ)
+titles xs = map text (map title xs)
+
+-- what a class has once, no other member has
+module _ (home : Home) where
+  abbrev share_at : List MemberTree → List ℕ → Share
+  share_at xs n = (shares home xs n).0
+
+  no_die : (xs : List MemberTree) (n : List ℕ) → Apart (codes "die") (titles xs) → (share_at xs n).die ≡ []
+  no_die [] n h = refl
+  no_die (m.Die x at ∷ xs) n h = absurd (true≢false h.0)
+  no_die (one ∷ xs) n h = no_die xs (share home one n).1 h.1
+
+  no_spawn : (xs : List MemberTree) (n : List ℕ) → Apart (codes "spawn") (titles xs) → (share_at xs n).spawn ≡ []
+  no_spawn [] n h = refl
+  no_spawn (m.Spawn x gifts at ∷ xs) n h = absurd (true≢false h.0)
+  no_spawn (one ∷ xs) n h = no_spawn xs (share home one n).1 h.1
+
+  no_query : (xs : List MemberTree) (n : List ℕ) → Apart (codes "run") (titles xs) → (share_at xs n).queries ≡ []
+  no_query [] n h = refl
+  no_query (m.Run block at ∷ xs) n h = absurd (true≢false h.0)
+  no_query (one ∷ xs) n h = no_query xs (share home one n).1 h.1
+
+  module _ (class : Class) where
+    -- what these members have of it is what the class has
+    abbrev Has : Share → Type 0
+    Has s =
+        ((x : Expr) (xs : List Expr) → s.die ≡ x ∷ xs → class.die ≡ Some x)
+        × ((x : Spawn) (xs : List Spawn) → s.spawn ≡ x ∷ xs → class.spawn ≡ Some x)
+        × ((x : List Stmt) (xs : List (List Stmt)) → s.queries ≡ x ∷ xs → class.query ≡ x)
+
+    -- one member, then the rest of the class
+    member_more : (x : MemberTree) (xs : List MemberTree) (n mine rest : List ℕ)
+        → mine ≡ own_sites (share home x n).0
+        → upto (share home x n).1 ++ rest ≡ upto (shares home (x ∷ xs) n).1
+        → upto n ++ (mine ++ rest) ≡ upto (shares home (x ∷ xs) n).1
+    member_more x xs n mine rest h g =
+        ap (λ (l : List ℕ). upto n ++ (l ++ rest)) h
+        ∙ (sym (append_assoc (upto n) (own_sites (share home x n).0) rest) ∙ (ap (λ (l : List ℕ). l ++ rest) (share_numbered home x n) ∙ g))
+
+    members_in_order : (xs : List MemberTree) (n : List ℕ) → IsDistinct bytes_eq (titles xs) → Has (share_at xs n)
+        → upto n ++ in_members xs (share_at xs n).states class ≡ upto (shares home xs n).1
+    unfolding IsDistinct
+    members_in_order [] n h has = append-nil (upto n)
+    members_in_order (m.State shared type name x at ∷ xs) n h has =
+        member_more (m.State shared type name x at) xs n _ _
+        (sym (append-nil _ ∙ ap sites_among (append-nil _))) (members_in_order xs _ h.1 has)
+    members_in_order (m.Die x at ∷ xs) n h has =
+        let none = no_die xs (share home (m.Die x at) n).1 h.0 in
+        member_more (m.Die x at) xs n _ _
+        (ap (λ (o : Option Expr). sites_among (option_to_list o)) (has.0 _ _ refl)
+        ∙ sym (append-nil _)) (members_in_order xs _ h.1 (λ y ys e. absurd (cc), has.1, has.2))
+    members_in_order (m.Spawn x gifts at ∷ xs) n h has =
+        let none = no_spawn xs (share home (m.Spawn x gifts at) n).1 h.0 in
+        member_more (m.Spawn x gifts at) xs n _ _
+        (ap (λ (o : Option Spawn). flat_map sites_of_spawn (option_to_list o)) (has.1 _ _ refl)
+        ∙ sym (append-nil _)) (members_in_order xs _ h.1 (has.0, λ y ys e. absurd (cc), has.2))
+    members_in_order (m.Run block at ∷ xs) n h has =
+        let none = no_query xs (share home (m.Run block at) n).1 h.0 in
+        member_more (m.Run block at) xs n _ _ (ap block_sites (has.2 _ _ refl) ∙ sym (append-nil _))
+        (members_in_order xs _ h.1 (has.0, has.1, λ y ys e. absurd (cc)))
+    members_in_order (one ∷ xs) n h has =
+        member_more one xs n [] _ refl (members_in_order xs (share home one n).1 h.1 has)
+
+-- a class, and classes
+class_in_order : (home : Home) (tree : ClassTree) (n : List ℕ) → IsDistinct bytes_eq (titles tree.members)
+    → upto n ++ in_members tree.members (class_of home tree n).0.states (class_of home tree n).0 ≡ upto (class_of home tree n).1
+class_in_order home tree n h =
+    members_in_order home (class_of home tree n).0 tree.members n h (
+      λ x xs e. ap (λ (l : List Expr). slice_get l 0) e,
+      λ x xs e. ap (λ (l : List Spawn). slice_get l 0) e,
+      λ x xs e. ap (λ (l : List (List Stmt)). unwrap_or (slice_get l 0) []) e,
+    )
+
+pub classes_in_order : (all : Known) (number : ℕ) (trees : List ClassTree) (n : List ℕ) → AllByRecursion (λ (tree : ClassTree). IsDistinct bytes_eq (titles tree.members)) trees
+    → upto n ++ in_text_order trees (classes_from all number trees n).0 ≡ upto (classes_from all number trees n).1
+classes_in_order all number [] n h = append-nil (upto n)
+classes_in_order all number (tree ∷ trees) n h =
+    let one : Class × List ℕ = class_of (home_of all number tree) tree n in
+    let rest : List Class = (classes_from all (number + 1) trees one.1).0 in
+    sym (append_assoc (upto n) (in_members tree.members one.0.states one.0) (in_text_order trees rest))
+    ∙ (ap (λ (l : List ℕ). l ++ in_text_order trees rest) (class_in_order (home_of all number tree) tree n h.0) ∙ classes_in_order all (number + 1) trees one.1 h.1)
+
+-- they stand at tokens, in the order of these
+pad : (xs : List ℕ) (a b : List Token) → Sub xs a → Sub xs (a ++ b)
+pad xs a b h = subst (λ (l : List ℕ). Sub l (a ++ b)) (append-nil xs) (join xs [] a b h (nowhere b))
+
+before : (xs : List ℕ) (a b : List Token) → Sub xs b → Sub xs (a ++ b)
+before xs [] b h = h
+before xs (tok ∷ a) b h = skip tok xs (a ++ b) (before xs a b h)
+
+module _ (src : List ℕ) where
+  mutual
+    at_statement : (toks : List Token) (x : StmtTree) → ReadsStmt src toks x → Sub (loops x) toks
+    at_statement toks _ (r.const a word type name equals semicolon t x _ _ _ _ _ _) =
+        subst (λ (l : List ℕ). Sub l toks) (sym (of-Const loops_step t (ident src name) x word.from)) (nowhere toks)
+    at_statement toks _ (r.when a b word opening closing x xs _ _ _ _ g) =
+        subst (λ (l : List ℕ). Sub l toks) (sym (of-when loops_step x xs word.from ∙ concat-map loops xs))
+        (skip word _ _ (skip opening _ _ (before (loops_in xs) a (closing ∷ b) (skip closing _ b (at_block b xs g)))))
+    at_statement toks _ (r.either_way a b c word opening closing otherwise x xs ys _ _ _ _ _ g e) =
+        subst (λ (l : List ℕ). Sub l toks)
+        (sym (of-either loops_step x xs ys word.from
+        ∙ (ap (λ (l : List ℕ). l ++ concat (map loops ys)) (concat-map loops xs) ∙ ap (λ (l : List ℕ). loops_in xs ++ l) (concat-map loops ys))))
+        (skip word _ _ (skip opening _ _ (join (loops_in xs) (loops_in ys) (a ++ closing ∷ b) (otherwise ∷ c)
+        (before (loops_in xs) a (closing ∷ b) (skip closing _ b (at_block b xs g))) (skip otherwise _ c (at_block c ys e)))))
+    at_statement toks _ (r.foreach a word opening class variable colon extent less other greater closing xs _ _ _ _ _ _ _ _ _ _ g) =
+        subst (λ (l : List ℕ). Sub l toks) (sym (of-Foreach loops_step (ident src class) (ident src variable) (ident src other) xs word.from ∙ ap (λ (l : List ℕ). word.from ∷ l) (concat-map loops xs)))
+        (keep word _ _ (before (loops_in xs) (opening ∷ class ∷ variable ∷ colon ∷ extent ∷ less ∷ other ∷ greater ∷ closing ∷ []) a (at_block a xs g)))
+    at_statement toks _ (r.assign_this a this dot name arrow semicolon x _ _ _ _ _ _) =
+        subst (λ (l : List ℕ). Sub l toks) (sym (of-AssignThis loops_step (ident src name) x this.from)) (nowhere toks)
+    at_statement toks _ (r.assign a name arrow semicolon x _ _ _ _) =
+        subst (λ (l : List ℕ). Sub l toks) (sym (of-Assign loops_step (ident src name) x)) (nowhere toks)
+    at_statement toks _ (r.assign_loop a loop dot name arrow semicolon x _ _ _ _ _ _) =
+        subst (λ (l : List ℕ). Sub l toks) (sym (of-AssignLoop loops_step (ident src loop) (ident src name) x)) (nowhere toks)
+
+    at_statements : (toks : List Token) (xs : List StmtTree) → ReadsStmts src toks xs → Sub (loops_in xs) toks
+    at_statements _ _ r.none = none
+    at_statements _ _ (r.more a b x xs h g) = join (loops x) (loops_in xs) a b (at_statement a x h) (at_statements b xs g)
+
+    at_block : (toks : List Token) (xs : List StmtTree) → ReadsBlock src toks xs → Sub (loops_in xs) toks
+    at_block _ _ (r.braced a opening closing xs _ _ h) = skip opening _ _ (pad (loops_in xs) a (closing ∷ []) (at_statements a xs h))
+
+-- the loops of the queries of members
+abbrev query_loops : List (List Stmt) → List ℕ
+query_loops = flat_map (λ (query : List Stmt). flat_map loop_offsets query)
+
+module _ (src : List ℕ) where
+  abbrev member_queries : Home → MemberTree → List ℕ → List (List Stmt)
+  member_queries home x n = (share home x n).0.queries
+
+  at_field : (home : Home) (shared : Bool) (at : ℕ) (toks : List Token) (x : MemberTree) (n : List ℕ) → ReadsField src shared at toks x → Sub (query_loops (member_queries home x n)) toks
+  at_field home shared at toks _ n (r.state word type name semicolon t _ _ _ _) = nowhere toks
+  at_field home shared at toks _ n (r.ruled a word type name colon semicolon t x _ _ _ _ _ _) = nowhere toks
+  at_field home shared at toks _ n (r.effect word type name colon combinator semicolon t c _ _ _ _ _ _) = nowhere toks
+
+  at_member : (home : Home) (toks : List Token) (x : MemberTree) (n : List ℕ) → ReadsMember src toks x → Sub (query_loops (member_queries home x n)) toks
+  at_member home toks _ n (r.visible word opening range closing semicolon k _ _ _ _ _) = nowhere toks
+  at_member home toks _ n (r.reach word opening range closing semicolon k _ _ _ _ _) = nowhere toks
+  at_member home toks _ n (r.public a word x _ h) = skip word _ a (at_field home true word.from a x n h)
+  at_member home toks _ n (r.private a word x _ h) = skip word _ a (at_field home false word.from a x n h)
+  at_member home toks _ n (r.run a word void run opening closing xs _ _ _ _ _ h) =
+      subst (λ (l : List ℕ). Sub l toks) (sym (append-nil _ ∙ (block_numbers xs).loops_are (outermost home true) n))
+      (before (loops_in xs) (word ∷ void ∷ run ∷ opening ∷ closing ∷ []) a (at_block src a xs h))
+  at_member home toks _ n (r.die a word when semicolon x _ _ _ _) = nowhere toks
+  at_member home toks _ n (r.spawn a b word when opening closing x gs _ _ _ _ _ _) = nowhere toks
+
+  at_members : (home : Home) (toks : List Token) (xs : List MemberTree) (n : List ℕ) → ReadsMembers src toks xs → Sub (query_loops (shares home xs n).0.queries) toks
+  at_members home _ _ n r.none = none
+  at_members home _ _ n (r.more a b x xs h g) =
+      let k : List ℕ = (share home x n).1 in
+      let one : List (List Stmt) = member_queries home x n in
+      let rest : List (List Stmt) = (shares home xs k).0.queries in
+      subst (λ (l : List ℕ). Sub l (a ++ b)) (sym (flat_map-append (λ (query : List Stmt). flat_map loop_offsets query) one rest))
+      (join (query_loops one) (query_loops rest) a b (at_member home a x n h) (at_members home b xs k g))
+
+  first_places : (places : List ℕ) (toks : List Token) → Sub places toks → (n : ℕ) → Sub (take n places) toks
+  first_places _ _ none zero = none
+  first_places _ _ none (suc n) = none
+  first_places _ _ (skip tok places toks h) n = skip tok (take n places) toks (first_places places toks h n)
+  first_places _ _ (keep tok places toks h) zero = nowhere (tok ∷ toks)
+  first_places _ _ (keep tok places toks h) (suc n) = keep tok (take n places) toks (first_places places toks h n)
+
+  front : (xs ys : List ℕ) (toks : List Token) → Sub (xs ++ ys) toks → Sub xs toks
+  front xs ys toks h = subst (λ (l : List ℕ). Sub l toks) (take-append_seam xs ys) (first_places (xs ++ ys) toks h (length xs))
+
+  first_query : (queries : List (List Stmt)) (toks : List Token) → Sub (query_loops queries) toks → Sub (flat_map loop_offsets (unwrap_or (slice_get queries 0) [])) toks
+  first_query [] toks h = nowhere toks
+  first_query (query ∷ queries) toks h = front (flat_map loop_offsets query) (query_loops queries) toks h
+
+  abbrev class_loops : Home → ClassTree → List ℕ → List ℕ
+  class_loops home class n = flat_map loop_offsets (class_of home class n).0.query
+
+  at_class : (home : Home) (toks : List Token) (x : ClassTree) (n : List ℕ) → ReadsClass src toks x → Sub (class_loops home x n) toks
+  at_class home _ _ n (r.class a word name opening closing xs _ _ _ _ h) =
+      skip word _ _ (skip name _ _ (skip opening _ _ (pad _ a (closing ∷ [])
+      (first_query (shares home xs n).0.queries a (at_members home a xs n h)))))
+
+  abbrev program_loops : List Class → List ℕ
+  program_loops classes = flat_map loop_offsets (flat_map (λ c. c.query) classes)
+
+  at_classes : (all : Known) (number : ℕ) (toks : List Token) (xs : List ClassTree) (n : List ℕ) → ReadsClasses src toks xs → Sub (program_loops (classes_from all number xs n).0) toks
+  at_classes all number _ _ n (r.last a x h) =
+      let query : List Stmt = (class_of (home_of all number x) x n).0.query in
+      subst (λ (l : List Stmt). Sub (flat_map loop_offsets l) a) (sym (append-nil query)) (at_class (home_of all number x) a x n h)
+  at_classes all number _ _ n (r.more a b x xs h g) =
+      let home : Home = home_of all number x in
+      let k : List ℕ = (class_of home x n).1 in
+      let query : List Stmt = (class_of home x n).0.query in
+      let rest : List Stmt = flat_map (λ (c : Class). c.query) (classes_from all (number + 1) xs k).0 in
+      subst (λ (l : List ℕ). Sub l (a ++ b)) (sym (flat_map-append loop_offsets query rest))
+      (join (class_loops home x n) (flat_map loop_offsets rest) a b (at_class home a x n h) (at_classes all (number + 1) b xs k g))
+
+-- the loops of a program whose script is read have places of their own
+pub loops_apart : (src : List ℕ) (toks : List Token) (all : Known) (xs : List ClassTree) → Spells src toks → ReadsClasses src toks xs
+    → IsDistinct nat_eq (flat_map loop_offsets (flat_map (λ c. c.query) (classes_from all 0 xs []).0))
+loops_apart src toks all xs spelled read =
+    rising_differ 0 (flat_map loop_offsets (flat_map (λ (c : Class). c.query) (classes_from all 0 xs []).0))
+    (places_rise 0 (length src) toks (flat_map loop_offsets (flat_map (λ (c : Class). c.query) (classes_from all 0 xs []).0))
+    (at_classes src all 0 toks xs [] read) (spells_rises src toks spelled))

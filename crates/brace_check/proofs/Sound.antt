@@ -28,13 +28,14 @@ use Rattle.brace_model.specs.declared.program.Expr.TheVariants as expr
 use Rattle.brace_model.specs.declared.program.Effect.{Effect}
 use Rattle.brace_model.specs.Typing.{Names, same_type, only, type_of_value, class_named, may_name, state_type, effect_named, is_sited, is_sum, unary_faults, binary_faults, unary_type, binary_type, choice_type, type_of as type_in, takes, scope_after, is_of_type, within_loop, in_turn}
 use Rattle.brace_model.proofs.LawEquations as model
+use Rattle.brace_model.proofs.TypeLemmas.{one_type}
 use Rattle.brace_check.specs.declared.fault.CheckFault.{CheckFault}
 use Rattle.brace_check.specs.declared.fault.CheckFault.TheVariants.{OtherAgentInUpdate, ReadsEffectInQuery, PrivateOfOtherClass, WrongType, NestedTooDeep}
 use Rattle.brace_check.specs.Types.{digits_type, field_type, is_shared, named_type, typed_at, with_type, type_step, type_of, place}
 use Rattle.brace_check.specs.Findings.{reads, crosses, reads_of_loop, said_type, misfits, nests, loops_over}
 use Rattle.brace_check.specs.Found.{expression as found_in, expression_step as found_step, valued, says, says_to_loop, sought}
 use Rattle.brace_check.specs.Meanings.{Meaning, literal, number_of, named_as, loop_agent, agent_of, loop_number, expression, expression_step, block, part, part_step}
-use Rattle.brace_check.proofs.Ties.{EffectHeading, FieldIs, declared, same-self, sited, TypeOk, type_ok, typed_ok, not_if, own_may, EffectIs, state_typed, effect_is, Tied, NamedIs, LoopIs, own_is, read_is, of_loop_is, TargetIs, found_among, tied_past, tied_declared, tied_inside, Entered, entered, target_is}
+use Rattle.brace_check.proofs.Ties.{EffectHeading, FieldIs, declared, same-self, sited, TypeOk, type_ok, typed_ok, not_if, own_may, EffectIs, state_typed, effect_is, Tied, NamedIs, LoopIs, own_is, read_is, of_loop_is, TargetIs, found_among, tied_past, tied_declared, tied_inside, Entered, entered, target_is, same_part, same_blocks}
 use Rattle.brace_model.specs.declared.program.Comb.TheVariants as comb
 use Rattle.brace_model.specs.declared.program.Stmt.TheVariants as stmt
 use Rattle.brace_model.proofs.LawEquations.{scope_after-Assign, scope_after-Const, scope_after-If, scope_after-Foreach}
@@ -50,7 +51,6 @@ use Rattle.brace_names.specs.Walk as walk
 use Rattle.brace_names.proofs.StmtLemmas.{behind_same}
 use Rattle.brace_model.specs.declared.program.Stmt.{Stmt}
 use Rattle.brace_check.specs.Found as checks
-use Rattle.brace_check.proofs.Parts.{same_part, same_blocks}
 
 module _ {A : Type 0} where
   pub nil_back : (xs ys : List A) → xs ++ ys ≡ [] → ys ≡ []
@@ -222,17 +222,6 @@ pub sound : (x : ExprTree) → Sound x
 sound = of_expression Sound values_sound
 
 -- what fits is of the type that is asked for
-one_type : (a b : Ty) → same_type a b ≡ true → a ≡ b
-one_type ty.Int ty.Int h = refl
-one_type ty.Fixed ty.Fixed h = refl
-one_type ty.Bool ty.Bool h = refl
-one_type ty.Int ty.Fixed h = absurd (cc)
-one_type ty.Int ty.Bool h = absurd (cc)
-one_type ty.Fixed ty.Int h = absurd (cc)
-one_type ty.Fixed ty.Bool h = absurd (cc)
-one_type ty.Bool ty.Int h = absurd (cc)
-one_type ty.Bool ty.Fixed h = absurd (cc)
-
 fits : (want : Ty) (at : ℕ) (r : Result Ty ℕ) → misfits (Some want) at r ≡ [] → r ≡ Ok want
 fits want at (Err place) h = absurd (cc)
 fits want at (Ok t) h =

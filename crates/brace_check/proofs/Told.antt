@@ -38,7 +38,7 @@ use Rattle.brace_model.specs.Typing.{unary_faults, binary_faults}
 use Rattle.brace_model.specs.Sites.{assignments, class_assignments}
 use Rattle.brace_model.proofs.LawEquations.{assignments-Const, assignments-If, assignments-Foreach, assignments-Assign}
 use Rattle.brace_check.specs.Meanings.{Meaning, site_if, number_of, named_as, agent_of, loop_number, number_in, expression, expression_step, block, part, part_step}
-use Rattle.brace_check.proofs.Parts.{same_part, same_blocks}
+use Rattle.brace_check.proofs.Ties.{same_part, same_blocks}
 use Rattle.std.proofs.lemmas.List.{append-nil}
 use Rattle.brace_syntax.specs.declared.tree.GiftTree.{GiftTree}
 use Rattle.brace_syntax.specs.declared.tree.MemberTree.{MemberTree}

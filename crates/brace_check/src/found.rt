@@ -1,4 +1,4 @@
-ghost use Rattle.std.specs.Prelude.{◌≡◌, ◌+◌, ◌++◌, map, flat_map, length, OnOk, IfOk};
+ghost use Rattle.std.specs.Prelude.{◌≡◌, ◌++◌, map, flat_map, length, OnOk, IfOk};
 ghost use Rattle.brace_model.specs.declared.program.Ty.TheVariants as ty;
 ghost use Rattle.brace_names.specs.Scopes.{home_of, past};
 ghost use Rattle.brace_names.specs.Walk.{behind, block, constants_in, in_classes};
@@ -10,7 +10,9 @@ use crate::finding::{
 };
 use crate::types::{place, type_of};
 use brace_model::Ty;
-use brace_names::{Classes, Field, Home, LoopField, Scope, comb_named, field_table, type_named};
+use brace_names::{
+    Classes, Field, Home, LoopField, Scope, comb_named, field_table, next, type_named,
+};
 use brace_num::{List, NoMemory};
 use brace_syntax::{ClassTree, ExprTree, GiftTree, MemberTree, StmtTree};
 use std::alloc::Global;
@@ -238,13 +240,6 @@ fn class<'a>(
         member(alloc, out, &home, m)?;
     }
     Ok(())
-}
-
-/// The number behind this one.
-fn next(number: u32) -> Result<u32, NoMemory>
-    ensures { IfOk result (λ n. n ≡ number + 1) }
-{
-    number.checked_add(1).ok_or(NoMemory)
 }
 
 /// The faults of the check passes in classes, in finishing order.

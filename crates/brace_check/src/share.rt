@@ -10,7 +10,7 @@ use brace_syntax::{ClassTree, ExprTree, GiftTree, MemberTree};
 use std::alloc::Global;
 
 /// What the members of a class have of what is numbered over the whole script.
-#[derive(Debug, Drop)]
+#[derive(Drop)]
 pub struct Share {
     pub states: List<State>,
     pub queries: List<List<Stmt>>,

@@ -2,4 +2,3 @@ pub mod WalkZero
 pub mod NamesUnplaced
 pub mod ChecksZero
 pub mod AlikeScripts
-mod Examples

@@ -83,9 +83,6 @@ module _ {A : Type 0} (step : stmt.StmtTree-F A → A) where
   of-AssignLoop variable name x =
       ap (fold-StmtTree A step) (sym (s.rolls-AssignLoop variable name x)) ∙ fold-roll-StmtTree A step (stmt.AssignLoop variable name x)
 
--- all of these
-pub ruleset by_kind = (of-Lit, of-True, of-False, of-Name, of-OfThis, of-OfLoop, of-Unary, of-Binary, of-Choice, of-Rand, of-Const, of-when, of-either, of-Foreach, of-Assign, of-AssignThis, of-AssignLoop)
-
 -- the fact of each kind of expression, from that of its operands
 pub record Expressions (P : ExprTree → Type 0) : Type 0 where
   pub lit : (n : Number) → P (e.Lit n)

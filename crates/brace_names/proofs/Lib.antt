@@ -1,6 +1,4 @@
 pub mod TableLemmas
-pub mod RepeatLemmas
-pub mod PastLemmas
 pub mod FirstLemmas
 pub mod Folds
 pub mod StmtLemmas

@@ -89,11 +89,16 @@ behind_same p q scope h =
 
 -- what is found in one class more
 module _ {A : Type 0} (member : Home → MemberTree → List A) (all : Known) (classes : List ClassTree) where
-  pub class_more : (i number next : ℕ) (one : ClassTree) (out : List A) → i < length classes → one ≡ get_or classes i one → next ≡ number + 1
-      → (out ++ flat_map (member (home_of all number one)) one.members) ++ in_classes member all next (drop (i + 1) classes) ≡ out ++ in_classes member all number (drop i classes)
-  class_more i number next one out within is e =
+  pub class_more : (i number next : ℕ) (one : ClassTree) (out after : List A)
+      → i < length classes → one ≡ get_or classes i one → next ≡ number + 1
+      → after ≡ out ++ flat_map (member (home_of all number one)) one.members
+      → after ++ in_classes member all next (drop (i + 1) classes)
+      ≡ out ++ in_classes member all number (drop i classes)
+  class_more i number next one out after within is e found =
       let mine : List A = flat_map (member (home_of all number one)) one.members in
       let rest : List ClassTree = drop (i + 1) classes in
       let cut : one ∷ rest ≡ drop i classes = ap (λ (c : ClassTree). c ∷ rest) is ∙ sym (drop_more classes i one within) in
-      ap (λ (k : ℕ). (out ++ mine) ++ in_classes member all k rest) e
-      ∙ (append_assoc out mine (in_classes member all (number + 1) rest) ∙ ap (λ (l : List ClassTree). out ++ in_classes member all number l) cut)
+      ap (λ (l : List A). l ++ in_classes member all next rest) found
+      ∙ (ap (λ (k : ℕ). (out ++ mine) ++ in_classes member all k rest) e
+      ∙ (append_assoc out mine (in_classes member all (number + 1) rest)
+      ∙ ap (λ (l : List ClassTree). out ++ in_classes member all number l) cut))

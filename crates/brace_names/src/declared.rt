@@ -14,7 +14,7 @@ use std::marker::Model;
 
 /// A state or an effect, by its number among the states or the effects of its class, with its type,
 /// whether it is public, and how what is said to an effect is joined.
-#[derive(Debug, Clone, Copy, PartialEq, Eq, Drop)]
+#[derive(Clone, Copy, Drop)]
 pub enum Field {
     State(u32, Ty, bool),
     Effect(u32, Ty, bool, Comb),

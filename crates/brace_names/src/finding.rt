@@ -2,7 +2,7 @@ use crate::fault::NameFault;
 use crate::resolved::Binding;
 
 /// What is found at a place of a script.
-#[derive(Debug, Clone, Copy, PartialEq, Eq, Drop)]
+#[derive(Clone, Copy, Drop)]
 pub enum Finding {
     /// A fault of a name.
     Fault(NameFault),

@@ -16,7 +16,7 @@ mod scope;
 mod stmt;
 mod word;
 
-pub use declared::{Classes, Field, field_table};
+pub use declared::{Classes, Field, field_table, next};
 pub use entry::resolve;
 pub use fault::{NameFault, Which};
 pub use kinds::{

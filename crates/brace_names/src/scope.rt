@@ -12,7 +12,7 @@ use std::marker::Model;
 
 /// A constant by its number in its class, with its type, or a loop variable by the number of loops
 /// that its loop stands in, with the number of the class looped over where there is one of the name.
-#[derive(Debug, Clone, Copy, PartialEq, Eq, Drop)]
+#[derive(Clone, Copy, Drop)]
 pub enum Local {
     Constant(u32, Ty),
     Loop(u32, Option<u32>),
@@ -20,7 +20,7 @@ pub enum Local {
 
 /// What `n` or `this.n` stands for in an expression: a constant by its number in its class, with its
 /// type, or a field of the class.
-#[derive(Debug, Clone, Copy, PartialEq, Eq, Drop)]
+#[derive(Clone, Copy, Drop)]
 pub enum Named {
     Constant(u32, Ty),
     Field(Field),
@@ -28,7 +28,7 @@ pub enum Named {
 
 /// What `q.n` stands for: the number of loops that the variable's loop stands in, the number of the
 /// class looped over, and the field of it.
-#[derive(Debug, Clone, Copy, PartialEq, Eq, Drop)]
+#[derive(Clone, Copy, Drop)]
 pub struct LoopField {
     pub loops: u32,
     pub class: u32,

@@ -1,5 +1,5 @@
 use Rattle.brace_names.specs.declared.fault.Which.TheVariants as which
-use Rattle.brace_names.proofs.PastLemmas.{within_names}
+use Rattle.brace_names.proofs.TableLemmas.{within_names}
 use Rattle.brace_names.proofs.class.past_classes.Goals as goal
 
 pub returns-in-None : goal.returns-in-None

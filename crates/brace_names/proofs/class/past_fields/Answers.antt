@@ -3,7 +3,7 @@ use Rattle.brace_syntax.specs.declared.tree.Ident.{Ident}
 use Rattle.brace_names.specs.declared.declared.Field.{Field}
 use Rattle.brace_names.specs.declared.fault.Which.TheVariants as which
 use Rattle.brace_names.specs.Classes.{fields}
-use Rattle.brace_names.proofs.PastLemmas.{within}
+use Rattle.brace_names.proofs.TableLemmas.{within}
 use Rattle.brace_names.proofs.class.past_fields.Goals as goal
 
 pub returns : goal.returns

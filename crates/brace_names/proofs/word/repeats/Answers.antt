@@ -1,4 +1,4 @@
-use Rattle.brace_names.proofs.RepeatLemmas.{turn}
+use Rattle.brace_names.proofs.TableLemmas.{turn}
 use Rattle.brace_names.proofs.word.repeats.Goals as goal
 
 pub loop-word-preserved : goal.loop-word-preserved

@@ -1,6 +1,6 @@
 use Rattle.std.proofs.Common.{◌≡◌, ◌++◌, drop}
 use Rattle.brace_names.specs.Tables.{repeated, repeated_after}
-use Rattle.brace_names.proofs.RepeatLemmas.{Knows, texts}
+use Rattle.brace_names.proofs.TableLemmas.{Knows, texts}
 use Rattle.brace_names.proofs.word.repeats.Given as goal
 
 abbrev pub invariant-loop-word : goal.invariant-loop-word
