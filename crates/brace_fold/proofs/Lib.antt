@@ -15,6 +15,7 @@ pub mod CellOrder
 pub mod Sortings
 pub mod Counting
 pub mod Risings
+pub mod Looks
 pub mod Taking
 pub mod Readings
 pub mod Askings

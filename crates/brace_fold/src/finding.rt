@@ -21,6 +21,7 @@ use std::alloc::Global;
 pub struct Room {
     pub runs: Runs,
     pub cuts: Vec<Cut>,
+    pub found: Vec<u32>,
     pub near: Vec<u32>,
 }
 
@@ -32,6 +33,7 @@ impl Room {
         Room {
             runs: Runs::none(),
             cuts: Vec::new(alloc),
+            found: Vec::new(alloc),
             near: Vec::new(alloc),
         }
     }
@@ -144,7 +146,15 @@ impl<'a> Scene<'a> {
         let eye = self.eye(lane.this, class)?;
         self.cells.lead(&mut room.runs, lane.this)?;
         self.cut(crowd, lane, bounds, &mut room.cuts)?;
-        look_around(self.cells, &room.runs, &eye, &room.cuts, &mut room.near)?;
+        look_around(
+            self.alloc,
+            self.cells,
+            &room.runs,
+            &eye,
+            &room.cuts,
+            &mut room.found,
+            &mut room.near,
+        )?;
         Ok(())
     }
 }

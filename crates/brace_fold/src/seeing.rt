@@ -1,4 +1,4 @@
-ghost use Rattle.std.specs.Prelude.{◌≡◌, ◌++◌, OnOk};
+ghost use Rattle.std.specs.Prelude.{◌≡◌, ◌<◌, ◌≤◌, ◌+◌, ◌++◌, ◌∷◌, [], length, take, if◌then◌else◌, IfOk, OnOk};
 ghost use Rattle.std.specs.List.{list_all};
 ghost use Rattle.brace_plan.specs.Acts.{stands};
 ghost use Rattle.brace_fold.specs.inner.Sights.{found_around, found_in, is_found, is_seen, meets_cut, spots_along};
@@ -6,6 +6,7 @@ ghost use Rattle.brace_fold.specs.inner.Sights.{found_around, found_in, is_found
 use crate::cells::{Cells, Run, Runs, Spot};
 use brace_code::Redo;
 use brace_plan::{Axis, Side};
+use std::alloc::Global;
 
 /// A bound whose limit is known.
 #[derive(Debug, Clone, Copy, Drop)]
@@ -76,6 +77,92 @@ fn is_found(eye: &Eye, cuts: &[Cut], spot: &Spot) -> bool
     is_seen(eye, spot) && spot.place != eye.place && meets_all(cuts, spot)
 }
 
+/// Whether an agent at a spot is looked for, told without a branch.
+fn is_sought(eye: &Eye, spot: &Spot) -> bool
+    ensures { result ≡ is_found eye.now [] spot.now }
+{
+    is_seen(eye, spot) & (spot.place != eye.place)
+}
+
+// Writes a row at a place, and goes on from the next place if it is kept: no branch depends on it.
+#[tactic(auto, using(crate::proofs::Looks::put_kept))]
+fn put_kept(out: &mut [u32], at: usize, row: u32, keeps: bool) -> usize
+    requires { at < length out.old }
+    ensures front { take result out.new ≡ take at out.old ++ (if keeps then row ∷ [] else []) }
+    ensures next { result ≤ at + 1 }
+{
+    out[at] = row;
+    at + usize::from(keeps)
+}
+
+/// Writes the places of the agents at spots that are looked for from a count of places on, and gives
+/// the count of places behind them.
+#[tactic(auto, using(crate::proofs::Looks::found_more))]
+fn scan_into(spots: &[Spot], eye: Eye, out: &mut [u32], from: usize) -> usize
+    requires { from + length spots.now ≤ length out.old }
+    ensures within { result ≤ from + length spots.now }
+    ensures found { take result out.new ≡ take from out.old ++ found_in eye [] spots.now }
+{
+    let mut count = from;
+    for spot in spots {
+        count = put_kept(out, count, spot.place, is_sought(&eye, spot));
+    }
+    count
+}
+
+/// The spots of a run.
+fn along<'a>(cells: &'a Cells, run: &Run) -> Result<&'a [Spot], Redo>
+    ensures { IfOk result (λ spots.
+        spots.now ≡ spots_along run.now cells.now.spots.items) }
+{
+    if run.start > run.end || run.end > cells.spots.len() {
+        return Err(Redo);
+    }
+    Ok(&cells.spots[run.start..run.end])
+}
+
+/// How many spots there are in three runs.
+fn all_of(west: &[Spot], middle: &[Spot], east: &[Spot]) -> Result<usize, Redo>
+    ensures { IfOk result (λ n. n ≡ length west.now + length middle.now + length east.now) }
+{
+    let Some(most) = west.len().checked_add(middle.len()) else {
+        return Err(Redo);
+    };
+    let Some(most) = most.checked_add(east.len()) else {
+        return Err(Redo);
+    };
+    Ok(most)
+}
+
+/// Replaces `near` by the places of the agents in runs that are looked for, run by run. They are
+/// written into `found` first, which is used again from call to call.
+#[tactic(auto, using(crate::proofs::Looks::found_runs))]
+fn scan_around(
+    alloc: Global,
+    cells: &Cells,
+    runs: &Runs,
+    eye: &Eye,
+    found: &mut Vec<u32>,
+    near: &mut Vec<u32>,
+) -> Result<(), Redo>
+    ensures { OnOk result (near.new.items
+        ≡ found_around eye.now [] cells.now.spots.items runs.now) }
+{
+    let west = along(cells, &runs.west)?;
+    let middle = along(cells, &runs.middle)?;
+    let east = along(cells, &runs.east)?;
+    let most = all_of(west, middle, east)?;
+    if found.len() < most {
+        *found = vec![in alloc; 0u32; most]?;
+    }
+    let first = scan_into(west, *eye, found, 0);
+    let second = scan_into(middle, *eye, found, first);
+    let third = scan_into(east, *eye, found, second);
+    near.clear();
+    near.extend_from_slice(&found[..third])?;
+    Ok(())
+}
+
 /// Appends the places of the agents at spots that are found.
 fn look(spots: &[Spot], eye: &Eye, cuts: &[Cut], near: &mut Vec<u32>) -> Result<(), Redo>
     ensures { OnOk result (near.new.items
@@ -100,24 +187,29 @@ fn look_along(
     ensures { OnOk result (near.new.items ≡ near.old.items
         ++ found_in eye.now cuts.now (spots_along run.now cells.now.spots.items)) }
 {
-    if run.start > run.end || run.end > cells.spots.len() {
-        return Err(Redo);
-    }
-    look(&cells.spots[run.start..run.end], eye, cuts, near)?;
+    let spots = along(cells, run)?;
+    look(spots, eye, cuts, near)?;
     Ok(())
 }
 
 /// Replaces `near` by the places of the agents in runs that are found, run by run.
+#[tactic(auto, using(crate::proofs::Looks::around_uncut))]
 pub fn look_around(
+    alloc: Global,
     cells: &Cells,
     runs: &Runs,
     eye: &Eye,
     cuts: &[Cut],
+    found: &mut Vec<u32>,
     near: &mut Vec<u32>,
 ) -> Result<(), Redo>
     ensures { OnOk result (near.new.items
         ≡ found_around eye.now cuts.now cells.now.spots.items runs.now) }
 {
+    if cuts.is_empty() {
+        scan_around(alloc, cells, runs, eye, found, near)?;
+        return Ok(());
+    }
     near.clear();
     look_along(cells, &runs.west, eye, cuts, near)?;
     look_along(cells, &runs.middle, eye, cuts, near)?;
