@@ -1,21 +1,26 @@
 -- What lanes say, joined run by run of lanes that say to one agent.
-use Rattle.std.proofs.Common.{◌≡◌, ◌∙◌, refl, sym, ap, ap₂, subst, ℕ, suc, ◌+◌, ◌<◌, ◌≤◌, ℤ, pos, List, [], ◌∷◌, ◌++◌, map, length, take, get_or, set, true, false, Some, None, arith, slice_get, Bool, Option, ⊎_elim}
+use Rattle.std.proofs.Common.{◌≡◌, ◌∙◌, refl, sym, ap, ap₂, subst, ℕ, suc, ◌+◌, ◌<◌, ◌≤◌, ℤ, pos, List, [], ◌∷◌, ◌++◌, map, length, take, get_or, set, true, false, Some, None, arith, slice_get, Bool, Option, ◌+ℤ◌, ⊎_elim}
 use Rattle.std.specs.Prelude.{min, unwrap_or}
-use Rattle.std.proofs.lemmas.Bool.{cases_lt}
+use Rattle.std.proofs.lemmas.Bool.{cases_lt, true≢false}
+use Rattle.std.proofs.lemmas.Int.{ints}
 use Rattle.std.proofs.lemmas.List.{get_or_default, take_all, length-map, length-take, map-append, take_more}
 use Rattle.std.proofs.lemmas.List.Sums.{fold-append}
 use Rattle.std.proofs.lemmas.Option.{same_Some}
 use Rattle.brace_model.specs.declared.program.Comb.{Comb}
+use Rattle.brace_model.specs.declared.program.Comb.TheVariants.{Sum, Count}
 use Rattle.brace_model.specs.declared.program.Ty.{Ty}
+use Rattle.brace_model.specs.declared.program.Ty.TheVariants as ty
 use Rattle.brace_model.specs.declared.program.Value.{Value}
 use Rattle.brace_model.specs.declared.program.Who.{Who}
 use Rattle.brace_model.specs.declared.program.Who.TheVariants.{This, Outer, Inner}
 use Rattle.brace_model.specs.declared.world.Agent.{Agent}
-use Rattle.brace_model.specs.World.{class_of}
+use Rattle.brace_model.specs.Typing.{same_type}
+use Rattle.brace_model.specs.World.{class_of, number}
 use Rattle.brace_model.specs.Value.{Scope, agent_of, typed}
 use Rattle.brace_model.specs.Query.{Saying}
 use Rattle.brace_model.specs.Total.{identity, joined, total_of}
 use Rattle.brace_code.specs.declared.lane.Lane.{Lane}
+use Rattle.brace_comb.proofs.Joins.{fold-counted}
 use Rattle.brace_eval.specs.Heard.{effects_in}
 use Rattle.brace_fold.specs.declared.crowd.Crowd.{Crowd}
 use Rattle.brace_fold.specs.declared.crowd.Depth.{Depth}
@@ -44,6 +49,29 @@ total-more comb type words i total next v low value before is =
     ∙ sym (fold-append (joined comb) (identity comb) (map (typed type) (take i words)) (typed type word ∷ []))
     ∙ ap (total_of comb) (sym (map-append (typed type) (take i words) (word ∷ [])))
     ∙ ap (λ l. total_of comb (map (typed type) l)) (sym (take_more words i (pos 0) low))
+
+-- a word of a type that is no flag is its value's number
+kept : (type : Ty) (word : ℤ) → same_type type ty.Bool ≡ false → number (typed type word) ≡ word
+kept ty.Int word plain = refl
+kept ty.Fixed word plain = refl
+kept ty.Bool word plain = absurd (true≢false plain)
+
+-- the sum of one word more
+pub sum_more : (type : Ty) (words : List ℤ) (i : ℕ) (total next : ℤ) → same_type type ty.Bool ≡ false
+    → i < length words → total ≡ total_of Sum (map (typed type) (take i words)) → next ≡ total +ℤ get_or words i (pos 0)
+    → next ≡ total_of Sum (map (typed type) (take (i + 1) words))
+sum_more type words i total next plain low before is =
+    let word = get_or words i (pos 0) in
+    total-more Sum type words i total next (typed type word) low refl before
+    (is ∙ ap (λ n. total +ℤ n) (sym (kept type word plain)))
+
+-- a count of words
+pub counted : (type : Ty) (words : List ℤ) (count : ℕ) → count ≡ length words
+    → pos count ≡ total_of Count (map (typed type) words)
+counted type words count is =
+    let many = fold-counted (pos 0) (map (typed type) words) in
+    let long = length-map words (typed type) in
+    omega (arith, ints, many, long, is)
 
 -- words were joined to the sum of an effect of the agent of a row
 pub hears-words : (scene : Scene) (ear : Ear) (row count : ℕ) (words : List ℤ) (number : ℤ) (before after : Table) (a : Agent) → IsScene scene → IsEar scene ear

@@ -46,8 +46,9 @@ fn enter(depth: Depth, lane: Lane, near: &[u32], lanes: &mut Vec<Lane>) -> Resul
     ensures { OnOk result (lanes.new.items
         ≡ lanes.old.items ++ map (entered depth lane) near.now) }
 {
+    lanes.reserve(near.len())?;
     for row in near {
-        lanes.push(entered(depth, lane, *row))?;
+        lanes.push_reserved(entered(depth, lane, *row));
     }
     Ok(())
 }

@@ -1,9 +1,12 @@
-ghost use Rattle.std.specs.Prelude.{◌≡◌, ◌<◌, ◌≤◌, ℕ, List, IfOk, IfSome, OnOk, length, map, slice_get, slice_index_or, Some, true};
+ghost use Rattle.std.specs.Prelude.{◌≡◌, ◌<◌, ◌≤◌, ℕ, List, IfOk, IfSome, OnOk, length, map, slice_get, slice_index_or, Some, false, true};
 ghost use Rattle.brace_code.specs.declared.lane.Lane.{Lane};
 ghost use Rattle.brace_model.specs.declared.world.Agent.{Agent};
 ghost use Rattle.brace_model.specs.Value.{Scope, typed};
 ghost use Rattle.brace_fold.specs.inner.Crowds.{IsScene, Stands, rows};
+ghost use Rattle.brace_model.specs.declared.program.Comb.TheVariants as combs;
+ghost use Rattle.brace_model.specs.declared.program.Ty.TheVariants as types;
 ghost use Rattle.brace_model.specs.Total.{total_of};
+ghost use Rattle.brace_model.specs.Typing.{same_type};
 ghost use Rattle.brace_fold.specs.inner.Ears.{IsEar, row_of, is_there, told_at, told_by};
 ghost use Rattle.brace_fold.specs.inner.Hears.{Hears};
 
@@ -84,17 +87,17 @@ fn total_of(comb: Comb, ty: Ty, words: &[i64]) -> Option<i128>
     Some(total)
 }
 
-/// The total of words of a type; None where 128 bits do not hold it.
-fn total(comb: Comb, ty: Ty, words: &[i64]) -> Option<i128>
-    ensures { IfSome result (λ n. n ≡ total_of comb (map (typed ty) words.now)) }
+/// The sum of words of a type that is no flag; None where 64 bits do not hold one on the way.
+#[tactic(auto, using(crate::proofs::Sayings::sum_more))]
+fn sum(ty: Ty, words: &[i64]) -> Option<i128>
+    requires { same_type ty types.Bool ≡ false }
+    ensures { IfSome result (λ n. n ≡ total_of combs.Sum (map (typed ty) words.now)) }
 {
-    match comb {
-        Comb::Sum => total_of(Comb::Sum, ty, words),
-        Comb::Min => total_of(Comb::Min, ty, words),
-        Comb::Max => total_of(Comb::Max, ty, words),
-        Comb::Count => total_of(Comb::Count, ty, words),
-        Comb::Or => total_of(Comb::Or, ty, words),
+    let mut total = 0i64;
+    for word in words {
+        total = total.checked_add(*word)?;
     }
+    Some(i128::from(total))
 }
 
 /// How many words there are.
@@ -104,6 +107,23 @@ fn count_of(words: &[i64]) -> Result<u32, Redo>
     match u32::try_from(words.len()) {
         Ok(count) => Ok(count),
         Err(_) => Err(Redo),
+    }
+}
+
+/// The total of words of a type; None where it is not made, as where 128 bits do not hold it.
+#[tactic(auto, using(crate::proofs::Sayings::counted))]
+fn total(comb: Comb, ty: Ty, words: &[i64]) -> Option<i128>
+    ensures { IfSome result (λ n. n ≡ total_of comb (map (typed ty) words.now)) }
+{
+    match comb {
+        Comb::Sum => match ty {
+            Ty::Int | Ty::Fixed => sum(ty, words),
+            Ty::Bool => total_of(Comb::Sum, ty, words),
+        },
+        Comb::Min => total_of(Comb::Min, ty, words),
+        Comb::Max => total_of(Comb::Max, ty, words),
+        Comb::Count => Some(i128::from(count_of(words).ok()?)),
+        Comb::Or => total_of(Comb::Or, ty, words),
     }
 }
 
