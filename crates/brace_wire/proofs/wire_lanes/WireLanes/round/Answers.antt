@@ -1,4 +1,4 @@
-use Rattle.std.proofs.Common.{◌<◌, length, sym, ap, subst, arith}
+use Rattle.std.proofs.Common.{◌∙◌, ◌+◌, ◌-◌, ◌^◌, ◌<◌, min, length, sym, ap, subst}
 use Rattle.brace_wire.proofs.RoundLemmas.{can_round_at, short_at, some_fates, round_done, whole_made, whole_nearer}
 use Rattle.brace_wire.proofs.wire_lanes.WireLanes.round.Goals as goal
 
@@ -42,6 +42,7 @@ returns c =
       taken = done.takes;
       events = done.events;
       made = whole_made _ c.args.self.now c.self.view_is _ _ c.self.invariant c.round_all.ensures.types _ c.as_slice.ensures.value _ c.saturating_add-self-inside.result c.in_ok-round_all.ensures.made;
-      counted = omega (arith, c.saturating_add-self-inside.ensures, ap (λ v. v.rounds) c.self.view_is);
+      counted = c.saturating_add-self-inside.ensures ∙ ap (λ v. min (v.rounds + 1) (2 ^ 64 - 1)) c.self.view_is;
+      not_counted = tt;
       nearer = whole_nearer _ c.args.self.now c.self.view_is _ _ c.self.invariant c.round_all.ensures.types _ c.as_slice.ensures.value _ c.saturating_add-self-inside.result c.in_ok-round_all.ensures.made;
     }
