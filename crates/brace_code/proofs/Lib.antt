@@ -4,6 +4,7 @@ pub mod CodeLemmas
 pub mod CompileLemmas
 pub mod SingleLemmas
 pub mod LaneLemmas
+pub mod KernelLemmas
 pub mod OperandLemmas
 pub mod RunLemmas
 pub mod LawLemmas

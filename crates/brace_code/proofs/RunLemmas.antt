@@ -19,7 +19,7 @@ use Rattle.brace_code.specs.declared.splitting.SideWords.{SideWords}
 use Rattle.brace_code.specs.Lanes.{Shows, Gives}
 use Rattle.brace_code.specs.inner.Words.{Outcome, value_of, made_word, with_word, unary_word, binary_word, choose_word, operand_word}
 use Rattle.brace_code.specs.inner.Runs.{Left, onward, pushed, top, deed, run, outcome}
-use Rattle.brace_code.specs.Columns.{Words, Maps, Pairs, Leads, Serves, stack_at, spread, taking, merged}
+use Rattle.brace_code.specs.Columns.{Joins, Words, Maps, Pairs, Leads, Serves, stack_at, spread, taking, merged}
 use Rattle.brace_code.proofs.LaneLemmas.{merged_chosen, taking-short}
 use Rattle.brace_code.proofs.CodeLemmas.{run-one, run-push}
 use Rattle.brace_code.proofs.SingleLemmas.{push_does, unary_does, binary_does, with_does, choice_does}
@@ -48,18 +48,19 @@ module _ (frame : Frame) (lanes : List Lane) (room : ℕ) (before after : List (
       ∙ ap (λ (w : Result ℤ Kind). pushed (stack_at rest k) (made_word site w)) (p.each k (rw long l)))
 
   pub binary_leads : (op : BinOp) (t : Ty) (site : ℕ) (a b : List ℤ) (middle rest : List (List ℤ)) → i ≡ Binary op t site → before ≡ b ∷ middle → middle ≡ a ∷ rest
-      → length a ≡ length lanes → Pairs (binary_word op t) a b words → after ≡ words ∷ rest → Leads (deed i) room frame lanes before after
+      → length a ≡ length lanes → Pairs (binary_word op t) a (λ k. slice_index_or b k (pos 0)) words → after ≡ words ∷ rest → Leads (deed i) room frame lanes before after
   binary_leads op t site a b middle rest is s m long p h = puts rest h (λ scope shows k d l.
       binary_does i room (scope (slice_index_or lanes k d)) (stack_at before k) op t site (slice_index_or a k (pos 0)) (slice_index_or b k (pos 0)) (stack_at rest k) is
       (ap (λ (s : List (List ℤ)). stack_at s k) (s ∙ ap (λ (s : List (List ℤ)). b ∷ s) m))
       ∙ ap (λ (w : Result ℤ Kind). pushed (stack_at rest k) (made_word site w)) (p.each k (rw long l)))
 
-  pub with_leads : (op : BinOp) (t : Ty) (site : ℕ) (o : Operand) (a b : List ℤ) (rest : List (List ℤ)) → i ≡ With op t site o → before ≡ a ∷ rest → length a ≡ length lanes
-      → Words frame (λ scope. operand_word scope o) lanes b → Pairs (binary_word op t) a b words → after ≡ words ∷ rest → Leads (deed i) room frame lanes before after
-  with_leads op t site o a b rest is s long q p h = puts rest h (λ scope shows k d l.
+  pub with_leads : (op : BinOp) (t : Ty) (site : ℕ) (o : Operand) (a : List ℤ) (rest : List (List ℤ)) → i ≡ With op t site o → before ≡ a ∷ rest → length a ≡ length lanes
+      → Joins frame (λ scope. operand_word scope o) (binary_word op t) lanes a words → after ≡ words ∷ rest → Leads (deed i) room frame lanes before after
+  with_leads op t site o a rest is s long p h = puts rest h (λ scope shows k d l.
+      let (b, read, made) = p.each scope shows k d l in
       with_does i room (scope (slice_index_or lanes k d)) (stack_at before k) op t site o (slice_index_or a k (pos 0)) (stack_at rest k) is (ap (λ (s : List (List ℤ)). stack_at s k) s)
-      ∙ ap (λ (w : Outcome). pushed (stack_at rest k) (with_word w (λ y. made_word site (binary_word op t (slice_index_or a k (pos 0)) y)))) (q.each scope shows k d l)
-      ∙ ap (λ (w : Result ℤ Kind). pushed (stack_at rest k) (made_word site w)) (p.each k (rw long l)))
+      ∙ ap (λ (w : Outcome). pushed (stack_at rest k) (with_word w (λ y. made_word site (binary_word op t (slice_index_or a k (pos 0)) y)))) read
+      ∙ ap (λ (w : Result ℤ Kind). pushed (stack_at rest k) (made_word site w)) made)
 
   pub choice_leads : (a b : List Instr) (set unset : List Lane) (ts ys ns : List ℤ) (rest : List (List ℤ)) (left : ℕ) → i ≡ Choice a b → before ≡ ts ∷ rest
       → length ts ≡ length lanes → left ≡ room - length rest → set ≡ taking true lanes ts → unset ≡ taking false lanes ts

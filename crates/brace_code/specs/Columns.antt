@@ -1,5 +1,5 @@
 -- Columns: what operations, splits and merges of lanes make of them.
-use Rattle.std.specs.Prelude.{◌≡◌, ◌<◌, ◌≤◌, ℕ, ℤ, pos, Bool, true, not, if◌then◌else◌, List, [], ◌∷◌, ◌++◌, length, map, replicate, Result, Ok, slice_index_or}
+use Rattle.std.specs.Prelude.{◌≡◌, ◌<◌, ◌≤◌, ℕ, ℤ, pos, Bool, true, not, if◌then◌else◌, List, [], ◌∷◌, ◌++◌, length, map, replicate, ⊤, Result, Ok, slice_index_or}
 use Rattle.std.specs.Ordering.{int_eq}
 use Rattle.brace_num.specs.declared.kinds.Kind.{Kind}
 use Rattle.brace_model.specs.Value.{Scope}
@@ -8,6 +8,8 @@ use Rattle.brace_code.specs.declared.lane.Row.{Row}
 use Rattle.brace_code.specs.declared.lane.Row.TheVariants as row
 use Rattle.brace_code.specs.declared.lane.Frame.{Frame}
 use Rattle.brace_code.specs.declared.code.Operand.{Operand}
+use Rattle.brace_code.specs.declared.kernels.View.{View}
+use Rattle.brace_code.specs.declared.kernels.View.TheVariants.{Same, Each, At}
 use Rattle.brace_code.specs.declared.splitting.SideWords.{SideWords}
 use Rattle.brace_code.specs.Lanes.{Shows, number_in}
 use Rattle.brace_code.specs.inner.Words.{Outcome, choose_word}
@@ -19,6 +21,10 @@ row_at row.This lane = lane.this
 row_at row.Outer lane = lane.outer
 row_at row.Inner lane = lane.inner
 row_at row.Place lane = lane.place
+
+-- the lane where there is none
+abbrev pub no_lane : Lane
+no_lane = record { this = 0; outer = 0; inner = 0; place = 0 }
 
 -- each lane's scope has an outcome that is a word, the one that the column has there
 pub record Words (frame : Frame) (f : Scope → Outcome) (lanes : List Lane) (column : List ℤ)
@@ -40,12 +46,34 @@ pub record Maps (op : ℤ → Result ℤ Kind) (a c : List ℤ) : Type 0 where
   pub each : (k : ℕ) → k < length a
       → op (slice_index_or a k (pos 0)) ≡ Ok (slice_index_or c k (pos 0))
 
--- an operation on the words of two columns, pairwise
-pub record Pairs (op : ℤ → ℤ → Result ℤ Kind) (a b c : List ℤ) : Type 0 where
+-- the word that a view has for the lane of a number
+abbrev pub seen : View → ℕ → ℤ
+seen (Same word) k = word
+seen (Each words) k = slice_index_or words.now k (pos 0)
+seen (At column row lanes) k =
+    slice_index_or column.now (row_at row (slice_index_or lanes.now k no_lane)) (pos 0)
+
+-- a view has a word for the lane of a number
+abbrev pub Sees : View → ℕ → Type 0
+Sees (Same word) k = ⊤
+Sees (Each words) k = k < length words.now
+Sees (At column row lanes) k = (k < length lanes.now)
+    × (row_at row (slice_index_or lanes.now k no_lane) < length column.now)
+
+-- an operation on the words of a column and on others, pairwise
+pub record Pairs (op : ℤ → ℤ → Result ℤ Kind) (a : List ℤ) (b : ℕ → ℤ) (c : List ℤ)
+    : Type 0 where
   pub long : length c ≡ length a
   pub each : (k : ℕ) → k < length a
-      → op (slice_index_or a k (pos 0)) (slice_index_or b k (pos 0))
-      ≡ Ok (slice_index_or c k (pos 0))
+      → op (slice_index_or a k (pos 0)) (b k) ≡ Ok (slice_index_or c k (pos 0))
+
+-- an operation on the words of a column and on the words that outcomes are in each lane's scope
+pub record Joins (frame : Frame) (f : Scope → Outcome) (op : ℤ → ℤ → Result ℤ Kind)
+    (lanes : List Lane) (a c : List ℤ) : Type 0 where
+  pub long : length c ≡ length a
+  pub each : (scope : Lane → Scope) → Shows frame scope → (k : ℕ) (d : Lane) → k < length lanes
+      → (b : ℤ) × (f (scope (slice_index_or lanes k d)) ≡ Ok b)
+      × (op (slice_index_or a k (pos 0)) b ≡ Ok (slice_index_or c k (pos 0)))
 
 -- the lanes whose word is set, or those whose word is 0
 abbrev pub side : Bool → ℤ → Bool

@@ -1,4 +1,4 @@
-ghost use Rattle.std.specs.Prelude.{◌≡◌, ◌<◌, ℕ, Option, pos, Ok, length, IfOk, OnOk, IsFalse, slice_index_or, false, not, int_lt, int_le};
+ghost use Rattle.std.specs.Prelude.{◌≡◌, ◌<◌, ℕ, Option, pos, Ok, length, IfOk, IfSome, OnOk, IsFalse, slice_index_or, false, not, int_lt, int_le};
 ghost use Rattle.std.specs.Ordering.{int_eq};
 ghost use Rattle.std.specs.Int.{int_min, int_max};
 ghost use Rattle.brace_num.specs.Exact.{exact_add, exact_sub, exact_neg, exact_abs, exact_sqrt, exact_to_fixed, exact_trunc, exact_int_mul, exact_int_div, exact_int_rem, exact_fixed_mul, exact_fixed_div};
@@ -8,7 +8,7 @@ ghost use Rattle.brace_model.specs.declared.program.Ty.TheVariants as ty;
 ghost use Rattle.brace_model.specs.Typing.{same_type};
 ghost use Rattle.brace_model.specs.Value.{total_read};
 ghost use Rattle.brace_code.specs.inner.Words.{word_of, flag, unary_word, binary_word, product_word, quotient_word};
-ghost use Rattle.brace_code.specs.Columns.{row_at, Maps, Pairs};
+ghost use Rattle.brace_code.specs.Columns.{row_at, seen, Sees, Maps, Pairs};
 
 use crate::lane::{Lane, Redo, Row, row_at};
 use crate::operations::{fixed_product, fixed_quotient, flag, short_quotient};
@@ -55,6 +55,71 @@ fn pairs<F: Fn(i64, i64) -> (i64, bool)>(a: &mut [i64], b: &[i64], op: F) -> Res
     Ok(())
 }
 
+/// Replaces each word of a column by what an operation gives of it and of a word; `Redo` where one
+/// failed.
+fn same_pairs<F: Fn(i64, i64) -> (i64, bool)>(a: &mut [i64], b: i64, op: F) -> Result<(), Redo>
+    requires { F.IsAlwaysCallable op }
+    ensures { OnOk result ((k : ℕ) → k < length a.old
+        → F.post op (slice_index_or a.old k (pos 0)) b (slice_index_or a.new k (pos 0), false)) }
+{
+    let mut failed = false;
+    for (k, x) in a.iter_mut().enumerate() {
+        let (word, fails) = op(*x, b);
+        *x = word;
+        failed |= fails;
+    }
+    if failed {
+        return Err(Redo);
+    }
+    Ok(())
+}
+
+/// The word of a column at a row of a lane.
+#[inline(always)]
+fn word_at(column: &[i64], row: Row, lane: &Lane) -> Option<i64>
+    ensures there { IfSome result (λ _. row_at row lane.now < length column.now) }
+    ensures word { IfSome result (λ word.
+        slice_index_or column.now (row_at row lane.now) (pos 0) ≡ word) }
+{
+    let word = column.get(row_at(row, lane) as usize)?;
+    Some(*word)
+}
+
+/// Replaces each word of a column by what an operation gives of it and of another column's word at
+/// a row of its lane; `Redo` where one failed or there is no such row.
+// Inlined where the row is known, so that its loop does not ask for it.
+#[inline(always)]
+fn row_pairs<F: Fn(i64, i64) -> (i64, bool)>(
+    a: &mut [i64],
+    column: &[i64],
+    row: Row,
+    lanes: &[Lane],
+    op: F,
+) -> Result<(), Redo>
+    requires callable { F.IsAlwaysCallable op }
+    requires long { length lanes.now ≡ length a.old }
+    ensures sees { OnOk result ((k : ℕ) (d : Lane) → k < length a.old
+        → row_at row (slice_index_or lanes.now k d) < length column.now) }
+    ensures each { OnOk result ((k : ℕ) (d : Lane) → k < length a.old
+        → F.post op (slice_index_or a.old k (pos 0))
+        (slice_index_or column.now (row_at row (slice_index_or lanes.now k d)) (pos 0))
+        (slice_index_or a.new k (pos 0), false)) }
+{
+    let mut failed = false;
+    for (k, x) in a.iter_mut().enumerate() {
+        let Some(other) = word_at(column, row, &lanes[k]) else {
+            return Err(Redo);
+        };
+        let (word, fails) = op(*x, other);
+        *x = word;
+        failed |= fails;
+    }
+    if failed {
+        return Err(Redo);
+    }
+    Ok(())
+}
+
 /// A column of what an operation gives of each word of a column.
 fn mapped<F: Fn(i64) -> (i64, bool)>(a: List<i64>, op: F) -> Result<List<i64>, Redo>
     requires { F.IsAlwaysCallable op }
@@ -67,21 +132,78 @@ fn mapped<F: Fn(i64) -> (i64, bool)>(a: List<i64>, op: F) -> Result<List<i64>, R
     Ok(List::from_vec(a))
 }
 
-/// A column of what an operation gives of the words of two columns.
-fn joined<F: Fn(i64, i64) -> (i64, bool)>(
-    a: List<i64>,
-    b: &List<i64>,
+/// What lanes read of an operand: one word, the words of a column in turn, or those of a column at
+/// a row of each lane.
+#[derive(Debug, Clone, Copy)]
+pub enum View<'a> {
+    Same(i64),
+    Each(&'a [i64]),
+    At(&'a [i64], Row, &'a [Lane]),
+}
+
+/// Replaces each word of a column by what an operation gives of it and of another column's word at
+/// a row of its lane; `Redo` where one failed or there is no such row.
+fn at_pairs<F: Fn(i64, i64) -> (i64, bool)>(
+    a: &mut [i64],
+    column: &[i64],
+    row: Row,
+    lanes: &[Lane],
     op: F,
-) -> Result<List<i64>, Redo>
+) -> Result<(), Redo>
     requires callable { F.IsAlwaysCallable op }
-    requires long { length b.now ≡ length a }
+    requires long { length lanes.now ≡ length a.old }
+    ensures sees { OnOk result ((k : ℕ) (d : Lane) → k < length a.old
+        → row_at row (slice_index_or lanes.now k d) < length column.now) }
+    ensures each { OnOk result ((k : ℕ) (d : Lane) → k < length a.old
+        → F.post op (slice_index_or a.old k (pos 0))
+        (slice_index_or column.now (row_at row (slice_index_or lanes.now k d)) (pos 0))
+        (slice_index_or a.new k (pos 0), false)) }
+{
+    match row {
+        Row::This => row_pairs(a, column, Row::This, lanes, op),
+        Row::Outer => row_pairs(a, column, Row::Outer, lanes, op),
+        Row::Inner => row_pairs(a, column, Row::Inner, lanes, op),
+        Row::Place => row_pairs(a, column, Row::Place, lanes, op),
+    }
+}
+
+/// Replaces each word of a column by what an operation gives of it and of what lanes read; `Redo`
+/// where one failed or has nothing to read.
+fn view_pairs<F: Fn(i64, i64) -> (i64, bool)>(a: &mut [i64], b: &View, op: F) -> Result<(), Redo>
+    requires { F.IsAlwaysCallable op }
+    ensures sees { OnOk result ((k : ℕ) → k < length a.old → Sees b.now k) }
+    ensures each { OnOk result ((k : ℕ) → k < length a.old
+        → F.post op (slice_index_or a.old k (pos 0)) (seen b.now k)
+        (slice_index_or a.new k (pos 0), false)) }
+{
+    match *b {
+        View::Same(word) => same_pairs(a, word, op),
+        View::Each(words) => {
+            if words.len() != a.len() {
+                return Err(Redo);
+            }
+            pairs(a, words, op)
+        }
+        View::At(column, row, lanes) => {
+            if lanes.len() != a.len() {
+                return Err(Redo);
+            }
+            at_pairs(a, column, row, lanes, op)
+        }
+    }
+}
+
+/// A column of what an operation gives of the words of a column and of what lanes read.
+fn joined<F: Fn(i64, i64) -> (i64, bool)>(a: List<i64>, b: &View, op: F) -> Result<List<i64>, Redo>
+    requires { F.IsAlwaysCallable op }
     ensures long { IfOk result (λ c. length c ≡ length a) }
+    ensures sees { IfOk result (λ _. (k : ℕ) → k < length a → Sees b.now k) }
     ensures each { IfOk result (λ c. (k : ℕ) → k < length a
-        → F.post op (slice_index_or a k (pos 0)) (slice_index_or b.now k (pos 0))
+        → F.post op (slice_index_or a k (pos 0)) (seen b.now k)
         (slice_index_or c k (pos 0), false)) }
 {
     let mut a = a.into_vec();
-    pairs(&mut a, b.as_slice(), op)?;
+    view_pairs(&mut a, b, op)?;
     Ok(List::from_vec(a))
 }
 
@@ -267,9 +389,9 @@ fn second(_a: i64, b: i64) -> (i64, bool)
     (b, false)
 }
 
-fn products(ty: Ty, a: List<i64>, b: &List<i64>) -> Result<List<i64>, Redo>
-    requires { length b.now ≡ length a }
-    ensures { IfOk result (λ c. Pairs (product_word ty) a b.now c) }
+fn products(ty: Ty, a: List<i64>, b: &View) -> Result<List<i64>, Redo>
+    ensures sees { IfOk result (λ _. (k : ℕ) → k < length a → Sees b.now k) }
+    ensures each { IfOk result (λ c. Pairs (product_word ty) a (seen b.now) c) }
 {
     match ty {
         Ty::Int => joined(a, b, int_product),
@@ -277,9 +399,9 @@ fn products(ty: Ty, a: List<i64>, b: &List<i64>) -> Result<List<i64>, Redo>
     }
 }
 
-fn quotients(ty: Ty, a: List<i64>, b: &List<i64>) -> Result<List<i64>, Redo>
-    requires { length b.now ≡ length a }
-    ensures { IfOk result (λ c. Pairs (quotient_word ty) a b.now c) }
+fn quotients(ty: Ty, a: List<i64>, b: &View) -> Result<List<i64>, Redo>
+    ensures sees { IfOk result (λ _. (k : ℕ) → k < length a → Sees b.now k) }
+    ensures each { IfOk result (λ c. Pairs (quotient_word ty) a (seen b.now) c) }
 {
     match ty {
         Ty::Int => joined(a, b, int_quotient),
@@ -287,10 +409,11 @@ fn quotients(ty: Ty, a: List<i64>, b: &List<i64>) -> Result<List<i64>, Redo>
     }
 }
 
-/// A column of what an operation gives of the words of two columns of a type.
-pub fn binary_each(op: BinOp, ty: Ty, a: List<i64>, b: &List<i64>) -> Result<List<i64>, Redo>
-    requires { length b.now ≡ length a }
-    ensures { IfOk result (λ c. Pairs (binary_word op ty) a b.now c) }
+/// A column of what an operation gives of the words of a column and of what lanes read, all of a
+/// type.
+pub fn binary_each(op: BinOp, ty: Ty, a: List<i64>, b: &View) -> Result<List<i64>, Redo>
+    ensures sees { IfOk result (λ _. (k : ℕ) → k < length a → Sees b.now k) }
+    ensures each { IfOk result (λ c. Pairs (binary_word op ty) a (seen b.now) c) }
 {
     match op {
         BinOp::Add => joined(a, b, sum),

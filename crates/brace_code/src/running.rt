@@ -1,16 +1,18 @@
-ghost use Rattle.std.specs.Prelude.{◌≡◌, ◌∷◌, [], IfOk, IfSome, OnOk, length};
+ghost use Rattle.std.specs.Prelude.{◌≡◌, ◌∷◌, [], IfOk, IfSome, Ok, OnOk, length};
+ghost use Rattle.brace_model.specs.Value.{Scope};
 ghost use Rattle.brace_code.specs.declared.code.Instr.TheVariants as instr;
 ghost use Rattle.brace_code.specs.declared.code.Operand.TheVariants as operand;
-ghost use Rattle.brace_code.specs.Lanes.{Gives};
-ghost use Rattle.brace_code.specs.inner.Words.{operand_word};
+ghost use Rattle.brace_code.specs.Lanes.{Gives, number_in};
+ghost use Rattle.brace_code.specs.inner.Words.{binary_word, operand_word};
 ghost use Rattle.brace_code.specs.inner.Runs.{deed, outcome};
-ghost use Rattle.brace_code.specs.Columns.{Leads, Numbers, Serves, Words, spread, taking};
+ghost use Rattle.brace_code.specs.Columns.{Joins, Leads, Numbers, Serves, Words, spread, taking};
 
 use crate::code::{Code, Instr, Operand};
 use crate::columns::Columns;
-use crate::kernels::{binary_each, constant, gather, total_each, unary_each};
+use crate::kernels::{View, binary_each, constant, gather, total_each, unary_each};
 use crate::lane::{Frame, Lane, Redo, row_of};
 use crate::splitting::{SideWords, merged, part, same};
+use brace_model::{BinOp, Ty};
 use brace_num::List;
 use std::alloc::Global;
 
@@ -53,6 +55,71 @@ fn operand_column(
     }
 }
 
+/// What an operation gives of a word and of the number that each lane reads of an operand.
+#[tactic(auto, using(crate::proofs::OperandLemmas::join_at))]
+fn with_numbers(
+    op: BinOp,
+    ty: Ty,
+    a: List<i64>,
+    operand: Operand,
+    frame: &Frame,
+    lanes: &List<Lane>,
+) -> Result<List<i64>, Redo>
+    requires { length a ≡ length lanes.now }
+    ensures { IfOk result (λ words. ((scope : Scope)
+        → operand_word scope operand ≡ Ok (number_in scope operand))
+        → Joins frame.now (λ scope. operand_word scope operand) (binary_word op ty) lanes.now
+        a words) }
+{
+    let Some(column) = frame.column(operand) else {
+        return Err(Redo);
+    };
+    let view = View::At(column, row_of(operand), lanes.as_slice());
+    let words = binary_each(op, ty, a, &view)?;
+    Ok(words)
+}
+
+/// What an operation gives of a word and of an operand in each lane. No column is made of an
+/// operand whose word is its number.
+#[tactic(auto, using(crate::proofs::OperandLemmas::join_rules))]
+fn with_operand(
+    alloc: Global,
+    op: BinOp,
+    ty: Ty,
+    a: List<i64>,
+    operand: Operand,
+    frame: &Frame,
+    lanes: &List<Lane>,
+) -> Result<List<i64>, Redo>
+    requires { length a ≡ length lanes.now }
+    ensures { IfOk result (λ words. Joins frame.now (λ scope. operand_word scope operand)
+        (binary_word op ty) lanes.now a words) }
+{
+    match operand {
+        Operand::Word(word) => {
+            let words = binary_each(op, ty, a, &View::Same(word))?;
+            Ok(words)
+        }
+        Operand::Total(_, _, _) => {
+            let b = operand_column(alloc, operand, frame, lanes)?;
+            let words = binary_each(op, ty, a, &View::Each(b.as_slice()))?;
+            Ok(words)
+        }
+        Operand::Field(_, _) => {
+            let words = with_numbers(op, ty, a, operand, frame, lanes)?;
+            Ok(words)
+        }
+        Operand::Local(_) => {
+            let words = with_numbers(op, ty, a, operand, frame, lanes)?;
+            Ok(words)
+        }
+        Operand::Rand(_) => {
+            let words = with_numbers(op, ty, a, operand, frame, lanes)?;
+            Ok(words)
+        }
+    }
+}
+
 /// One instruction in each lane, on a stack of columns.
 #[tactic(auto, using(crate::proofs::RunLemmas::step_rules))]
 #[cycle(running_lanes)]
@@ -83,13 +150,12 @@ fn step(
         Instr::Binary(op, ty, _) => {
             let b = taken(stack, lanes)?;
             let a = taken(stack, lanes)?;
-            let words = binary_each(*op, *ty, a, &b)?;
+            let words = binary_each(*op, *ty, a, &View::Each(b.as_slice()))?;
             stack.push(words)?;
         }
         Instr::With(op, ty, _, operand) => {
             let a = taken(stack, lanes)?;
-            let b = operand_column(alloc, *operand, frame, lanes)?;
-            let words = binary_each(*op, *ty, a, &b)?;
+            let words = with_operand(alloc, *op, *ty, a, *operand, frame, lanes)?;
             stack.push(words)?;
         }
         Instr::Choice(set, unset) => {
