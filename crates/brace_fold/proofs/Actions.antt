@@ -24,7 +24,7 @@ use Rattle.brace_plan.proofs.Steps.{act-Const, act-If, act-Foreach, act-Assign}
 use Rattle.brace_fold.specs.declared.scene.Scene.{Scene}
 use Rattle.brace_fold.specs.declared.table.Table.{Table}
 use Rattle.brace_fold.specs.inner.Crowds as crowds
-use Rattle.brace_fold.specs.inner.Crowds.{bound_to, rows}
+use Rattle.brace_fold.specs.inner.Crowds.{bound_to, rows, world}
 use Rattle.brace_fold.specs.inner.Deeds.{IsQuiet, Does, Worths, done_by, into}
 use Rattle.brace_fold.specs.inner.Ears.{told_by}
 use Rattle.brace_fold.specs.inner.Hears.{Alike, Hears}
@@ -47,13 +47,14 @@ no-words P code s scopes h = absurd (omega (arith, h.long))
 
 module _ (scene : Scene) where
   abbrev in_scene : Action → Scope → Deed
-  in_scene = act scene.program.now scene.agents.now
+  in_scene = act scene.program.now (world scene)
 
   -- ---- constants
 
   module _ (n : ℕ) (code : Code) where
     const-is : (s : Scope) (w : ℤ) → gives code s ≡ Ok (typed (type_given code) w) → in_scene (Const n code) s ≡ silent (bound s n (typed (type_given code) w))
-    const-is s w e = act-Const scene.program.now scene.agents.now n code s ∙ ap (λ (x : Worth). deed_of s x (λ v. silent (bound s n v))) e
+    const-is s w e = act-Const scene.program.now (world scene) n code s
+        ∙ ap (λ (x : Worth). deed_of s x (λ v. silent (bound s n v))) e
 
     pub const-scopes : (scopes : List Scope) (words : List ℤ) → Worths code scopes words
         → map (λ s. (in_scene (Const n code) s).scope) scopes ≡ bound_to n (type_given code) scopes words
@@ -91,7 +92,8 @@ module _ (scene : Scene) where
     assign-is : (s : Scope) (w : ℤ) → gives code s ≡ Ok (typed (type_given code) w)
         → in_scene (Assign who effect code) s ≡ saying s (agent_of s who) effect (typed (type_given code) w)
     assign-is s w e =
-        act-Assign scene.program.now scene.agents.now who effect code s ∙ ap (λ (x : Worth). deed_of s x (saying s (agent_of s who) effect)) e
+        act-Assign scene.program.now (world scene) who effect code s
+        ∙ ap (λ (x : Worth). deed_of s x (saying s (agent_of s who) effect)) e
 
     assign-quiet : (scopes : List Scope) (words : List ℤ) → Worths code scopes words → All (λ s. IsQuiet (in_scene (Assign who effect code) s)) scopes
     assign-quiet [] words h = All-nil (λ s. IsQuiet (in_scene (Assign who effect code) s))
@@ -139,7 +141,7 @@ module _ (scene : Scene) where
     picked : (s : Scope) (w : ℤ) (b : Bool) → gives code s ≡ Ok (typed (type_given code) w) → int_eq w (pos 0) ≡ b
         → in_scene (If code x y) s ≡ closed s (chosen (flag_of b) (first s) (second s))
     picked s w b e so =
-        act-If scene.program.now scene.agents.now code x y s
+        act-If scene.program.now (world scene) code x y s
         ∙ ap (λ (o : Worth). deed_of s o (λ v. closed s (chosen v (first s) (second s)))) (e ∙ ap (λ (t : Ty). let o : Worth = Ok (typed t w) in o) flag)
         ∙ ap (λ (c : Bool). closed s (chosen (flag_of c) (first s) (second s))) so
 
@@ -241,30 +243,31 @@ module _ (scene : Scene) where
     looped s = iterated s (map (done_by scene body) (enters s))
 
     loop-is : (s : Scope) → in_scene (Foreach class bounds body offset) s
-        ≡ iterated s (map (at_agent s) (near_by scene.program.now scene.agents.now s class bounds))
-    loop-is s = act-Foreach scene.program.now scene.agents.now class bounds body offset s
+        ≡ iterated s (map (at_agent s) (near_by scene.program.now (world scene) s class bounds))
+    loop-is s = act-Foreach scene.program.now (world scene) class bounds body offset s
 
     looped-is : (s : Scope) → looped s ≡ iterated s (map (at_agent s) (near_by scene.program.now (rows scene) s class bounds))
     looped-is s = ap (iterated s) (mapped (inside s) (done_by scene body) (near_by scene.program.now (rows scene) s class bounds))
 
-    module _ (moved : IsPermutation (rows scene) scene.agents.now) where
+    module _ (moved : IsPermutation (rows scene) (world scene)) where
       loop-quiet : (s : Scope) → IsQuiet (looped s) → IsQuiet (in_scene (Foreach class bounds body offset) s)
       loop-quiet s h =
           let near = near_by scene.program.now (rows scene) s class bounds in
-          let all = near_by scene.program.now scene.agents.now s class bounds in
+          let all = near_by scene.program.now (world scene) s class bounds in
           let faults : Deed → List Fault = λ d. d.faults in
           let none : flat_map (λ b. (at_agent s b).faults) near ≡ [] =
           sym (mapped-said (at_agent s) faults near) ∙ ap faults (sym (looped-is s)) ∙ h.faults in
           subst IsQuiet (sym (loop-is s)) (record {
             faults = mapped-said (at_agent s) faults all
-                ∙ near-none scene.program.now (rows scene) scene.agents.now moved s class bounds (λ b. (at_agent s b).faults) none;
+                ∙ near-none scene.program.now (rows scene) (world scene) moved s class bounds
+                (λ b. (at_agent s b).faults) none;
             goes_on = refl;
           })
 
       loop-alike : (s : Scope) → Alike (looped s).said (in_scene (Foreach class bounds body offset) s).said
       loop-alike s =
           let near = near_by scene.program.now (rows scene) s class bounds in
-          let all = near_by scene.program.now scene.agents.now s class bounds in
+          let all = near_by scene.program.now (world scene) s class bounds in
           let said : Deed → List Saying = λ d. d.said in
           let first : flat_map (λ b. (at_agent s b).said) near ≡ (looped s).said =
           sym (mapped-said (at_agent s) said near) ∙ ap said (sym (looped-is s)) in
@@ -272,7 +275,8 @@ module _ (scene : Scene) where
           sym (mapped-said (at_agent s) said all) ∙ ap said (sym (loop-is s)) in
           subst (λ l. Alike l (in_scene (Foreach class bounds body offset) s).said) first
           (subst (Alike (flat_map (λ b. (at_agent s b).said) near)) second
-          (near-alike scene.program.now (rows scene) scene.agents.now moved s class bounds (λ b. (at_agent s b).said)))
+          (near-alike scene.program.now (rows scene) (world scene) moved s class bounds
+          (λ b. (at_agent s b).said)))
 
       pub loop-does : (scopes : List Scope) (a b : Table) → Does scene (done_by scene body) (flat_map enters scopes) a b
           → Does scene (in_scene (Foreach class bounds body offset)) scopes a b

@@ -20,7 +20,8 @@ use Rattle.brace_comb.proofs.Said.{said_to-append}
 use Rattle.brace_eval.specs.declared.heard.Heard.{Heard}
 use Rattle.brace_eval.specs.Heard.{IsHeard, table_of, effects_in, counting}
 use Rattle.brace_fold.specs.declared.table.Table.{Table}
-use Rattle.brace_fold.specs.inner.Hears.{Alike, AreSummed, Hears}
+use Rattle.brace_fold.specs.Sums.{AreSummed}
+use Rattle.brace_fold.specs.inner.Hears.{Alike, Hears}
 
 pub alike-refl : (xs : List Saying) → Alike xs xs
 alike-refl xs = record { each = λ comb start id field. refl }

@@ -1,14 +1,13 @@
 -- What agents that ask say, all together.
-use Rattle.std.proofs.Common.{◌≡◌, ◌∙◌, sym, ap, ap₂, subst, ℕ, ◌<◌, take, drop, take-append-drop, List, [], ◌∷◌, ◌++◌, append-nil, refl, map, flat_map, length, get_or, true, None, Some, slice_get}
+use Rattle.std.proofs.Common.{◌≡◌, ◌∙◌, sym, ap, ap₂, subst, ℕ, ◌<◌, take, drop, take-append-drop, List, [], ◌∷◌, ◌++◌, refl, map, flat_map, length, get_or, true, None, Some, slice_get}
 use Rattle.std.specs.List.{All, list_all}
 use Rattle.std.specs.List.Sorted.{IsPermutation}
 use Rattle.std.proofs.lemmas.List.{get_or_default, map-append}
 use Rattle.std.proofs.lemmas.List.Sums.{AllPass-from_list_all}
-use Rattle.std.proofs.lemmas.List.Elements.{All-nil, All-append}
-use Rattle.std.proofs.lemmas.List.Sorted.{All-permutation, IsPermutation-map, IsPermutation-sym}
+use Rattle.std.proofs.lemmas.List.Elements.{All-nil, All-append, All-map}
+use Rattle.std.proofs.lemmas.List.Sorted.{All-permutation}
 use Rattle.std.proofs.lemmas.Grind.{flat_map-append}
 use Rattle.std.proofs.lemmas.Option.{get_or_from_slice_get, none-some, slice_get_within}
-use Rattle.brace_model.specs.declared.fault.Fault.{Fault}
 use Rattle.brace_model.specs.declared.program.Program.{Program}
 use Rattle.brace_model.specs.declared.world.Agent.{Agent}
 use Rattle.brace_model.specs.Lawful.{is_lawful_agent}
@@ -16,19 +15,19 @@ use Rattle.brace_model.specs.Value.{Scope}
 use Rattle.brace_model.specs.Query.{Deed, Saying, query_of}
 use Rattle.brace_plan.specs.declared.action.Action.{Action}
 use Rattle.brace_plan.specs.Planning.{IsPlanned, opening_of}
-use Rattle.brace_eval.specs.declared.heard.Heard.{Heard}
-use Rattle.brace_eval.specs.Heard.{IsHeard, said_by, faults_by}
+use Rattle.brace_eval.specs.Heard.{said_by, faults_by}
 use Rattle.brace_fold.specs.declared.askers.Asker.{Asker}
-use Rattle.brace_fold.specs.declared.cells.Cells.{Cells}
 use Rattle.brace_fold.specs.declared.scene.Scene.{Scene}
 use Rattle.brace_fold.specs.declared.table.Table.{Table}
 use Rattle.brace_fold.specs.Asked.{agents_at}
-use Rattle.brace_fold.specs.inner.Asks.{Asks, asked, openings, rows_of}
-use Rattle.brace_fold.specs.inner.Crowds.{IsOfClass, rows}
+use Rattle.brace_fold.specs.Rows.{by_id}
+use Rattle.brace_fold.specs.Sums.{AreSummed}
+use Rattle.brace_fold.specs.inner.Asks.{Asks, AsksIn, asked, asked_in, openings, rows_of}
+use Rattle.brace_fold.specs.inner.Crowds.{IsOfClass, rows, world}
 use Rattle.brace_fold.specs.inner.Deeds.{Does, IsQuiet, done_by}
 use Rattle.brace_fold.specs.inner.Hears.{Hears}
-use Rattle.brace_fold.specs.inner.Sights.{by_row, no_agent}
-use Rattle.brace_fold.proofs.Alikes.{alike-append, alike-permuted, alike-refl, heard-alike, hears-more, hears-none}
+use Rattle.brace_fold.specs.inner.Sights.{no_agent}
+use Rattle.brace_fold.proofs.Alikes.{alike-permuted, hears-alike, hears-more, hears-none}
 use Rattle.brace_fold.proofs.Crowdings.{got-mapped}
 use Rattle.brace_fold.proofs.Doings.{All-back, All-both, mapped-said, no-faults, same-said}
 
@@ -53,7 +52,8 @@ asks-more scene d xs ys a b c h k = record {
 }
 
 module _ (scene : Scene) (class constants : ℕ) (actions : List Action) (d : Agent) (plan : IsPlanned scene.program.now class actions constants)
-    (lawful : list_all (is_lawful_agent scene.program.now) scene.agents.now ≡ true) (moved : IsPermutation scene.agents.now (rows scene)) where
+    (lawful : list_all (is_lawful_agent scene.program.now) (world scene) ≡ true)
+    (moved : IsPermutation (world scene) (rows scene)) where
   abbrev opens : ℕ → Scope
   opens row = opening_of constants scene.seed scene.tick (get_or (rows scene) row d)
 
@@ -65,10 +65,11 @@ module _ (scene : Scene) (class constants : ℕ) (actions : List Action) (d : Ag
   plan-asks row (a, got, of) =
       let here : get_or (rows scene) row d ≡ a = get_or_from_slice_get (rows scene) row a d got in
       let low : row < length (rows scene) = slice_get_within (rows scene) row a got in
-      let each : All (λ b. is_lawful_agent scene.program.now b ≡ true) scene.agents.now =
-      AllPass-from_list_all (is_lawful_agent scene.program.now) scene.agents.now lawful in
-      plan.same scene.seed scene.tick scene.agents.now (get_or (rows scene) row d) lawful
-      (All-permutation (λ b. is_lawful_agent scene.program.now b ≡ true) scene.agents.now (rows scene) moved each row d low)
+      let each : All (λ b. is_lawful_agent scene.program.now b ≡ true) (world scene) =
+      AllPass-from_list_all (is_lawful_agent scene.program.now) (world scene) lawful in
+      plan.same scene.seed scene.tick (world scene) (get_or (rows scene) row d) lawful
+      (All-permutation (λ b. is_lawful_agent scene.program.now b ≡ true) (world scene)
+      (rows scene) moved each row d low)
       (ap (λ (x : Agent). x.class) here ∙ of)
 
   pub asks-of : (places : List ℕ) (a b : Table) → All (IsOfClass (rows scene) class) places
@@ -92,28 +93,69 @@ rows-split asking these rest n front back =
     ∙ sym (map-append (λ (one : Asker). one.row) (take n asking) (drop n asking))
     ∙ ap rows_of (take-append-drop n asking)
 
--- ---- agents that ask in any order
+-- those who ask in another order
+pub asks-moved : (program : Program) (seed tick : ℕ) (rows : List Agent) (d : Agent)
+    (xs ys : List ℕ) (a b : Table) → IsPermutation xs ys
+    → AsksIn program seed tick rows d xs a b → AsksIn program seed tick rows d ys a b
+asks-moved program seed tick rows d xs ys a b perm h =
+    let does : ℕ → Deed = asked_in program seed tick rows d in
+    record {
+      quiet = All-permutation (λ row. (does row).faults ≡ []) xs ys perm h.quiet;
+      hears = hears-alike program rows _ _ a b
+          (alike-permuted (λ row. (does row).said) xs ys perm) h.hears;
+    }
 
-module _ (program : Program) (seed tick : ℕ) (agents : List Agent) where
+-- ---- what agents of rows say
+
+module _ (program : Program) (seed tick : ℕ) (rows : List Agent) (d : Agent)
+    (asking : List ℕ) (a b : Table)
+    (h : AsksIn program seed tick rows d asking a b) where
   abbrev query : Agent → Deed
-  query a = query_of program seed tick agents a
+  query x = query_of program seed tick (by_id rows) x
 
-  pub quiet-by : (asking sorted : List Agent) → IsPermutation asking sorted → All (λ a. (query a).faults ≡ []) sorted
-      → faults_by program seed tick agents asking ≡ []
-  quiet-by asking sorted perm all =
-      no-faults (λ a. (query a).faults) asking
-      (All-permutation (λ a. (query a).faults ≡ []) sorted asking (IsPermutation-sym asking sorted perm) all)
+  abbrev one : ℕ → Agent
+  one row = get_or rows row d
 
-  pub heard-by : (asking sorted : List Agent) (after : Heard) → IsPermutation asking sorted → All (λ x. (query x).faults ≡ []) sorted
-      → (said : List Saying) (faults : List Fault) → IsHeard program agents (said ++ flat_map (λ x. (query x).said) sorted) faults after
-      → IsHeard program agents (said ++ said_by program seed tick agents asking) (faults ++ faults_by program seed tick agents asking) after
-  heard-by asking sorted after perm all said faults is =
-      let says : Agent → List Saying = λ x. (query x).said in
-      let same = alike-permuted says sorted asking (IsPermutation-sym asking sorted perm) in
-      let more = heard-alike program agents (said ++ flat_map says sorted) (said ++ flat_map says asking) faults after
-      (alike-append said said (flat_map says sorted) (flat_map says asking) (alike-refl said) same) is in
-      let none = ap (λ l. faults ++ l) (quiet-by asking sorted perm all) ∙ append-nil faults in
-      subst (λ l. IsHeard program agents (said ++ flat_map says asking) l after) (sym none) more
+  pub asks-said : (before : List Saying) → AreSummed program rows before a
+      → AreSummed program rows
+      (before ++ said_by program seed tick (by_id rows) (agents_at rows d asking)) b
+  asks-said before summed =
+      subst (λ l. AreSummed program rows (before ++ l) b)
+      (sym (mapped-said one (λ x. (query x).said) asking)) (h.hears.each before summed)
+
+  pub asks-quiet : faults_by program seed tick (by_id rows) (agents_at rows d asking) ≡ []
+  asks-quiet = no-faults (λ x. (query x).faults) (agents_at rows d asking)
+      (All-map (λ x. (query x).faults ≡ []) one asking h.quiet)
+
+-- what the agents of an order of rows say is brought to their rows
+pub asks-carried : (program : Program) (seed tick : ℕ) (agents rows : List Agent) (d : Agent)
+    (asking at : List ℕ) (before after none told : Table)
+    → by_id rows ≡ by_id agents → agents_at agents d asking ≡ agents_at rows d at
+    → AsksIn program seed tick rows d at none told
+    → AreSummed program rows [] none
+    → ((more : List Saying) → AreSummed program rows more told
+    → Hears program agents more before after)
+    → AsksIn program seed tick agents d asking before after
+asks-carried program seed tick agents rows d asking at before after none told
+    world there h empty carried =
+    let does : List Agent → Agent → Deed = λ w x. query_of program seed tick w x in
+    let mine : ℕ → Agent = λ row. get_or agents row d in
+    let theirs : ℕ → Agent = λ row. get_or rows row d in
+    let quiet : All (λ x. (does (by_id agents) x).faults ≡ []) (agents_at agents d asking) =
+    subst (All (λ x. (does (by_id agents) x).faults ≡ [])) (sym there)
+    (subst (λ w. All (λ x. (does w x).faults ≡ []) (agents_at rows d at)) world
+    (All-map (λ x. (does (by_id rows) x).faults ≡ []) theirs at h.quiet)) in
+    let said : List Saying = flat_map (λ row. (does (by_id rows) (theirs row)).said) at in
+    let same : said ≡ flat_map (λ row. (does (by_id agents) (mine row)).said) asking =
+    sym (mapped-said theirs (λ x. (does (by_id rows) x).said) at)
+    ∙ ap (λ w. flat_map (λ x. (does w x).said) (agents_at rows d at)) world
+    ∙ ap (flat_map (λ x. (does (by_id agents) x).said)) (sym there)
+    ∙ mapped-said mine (λ x. (does (by_id agents) x).said) asking in
+    record {
+      quiet = All-back mine (λ x. (does (by_id agents) x).faults ≡ []) asking quiet;
+      hears = subst (λ l. Hears program agents l before after) same
+          (carried said (h.hears.each [] empty));
+    }
 
 -- the agents of rows that have the places of those who ask
 pub asking-at : (agents : List Agent) (d : Agent) (order asking rows : List ℕ) → All (λ place. place < length agents) order
@@ -133,14 +175,3 @@ asking-at agents d order (p ∷ asking) (r ∷ rows) within e =
     ∙ ap (λ n. get_or agents n no_agent) (sym at)
     ∙ sym (got-mapped (λ n. get_or agents n no_agent) order r p d low) in
     ap₂ (λ a l. a ∷ l) same (asking-at agents d order asking rows within rest)
-
--- those who ask, and the agents of the rows by which they are asked
-pub asking-sorted : (agents : List Agent) (d : Agent) (cells : Cells) (asking : List ℕ) (all sorted left : List Asker)
-    → All (λ place. place < length agents) cells.order.items → map (slice_get cells.order.items) (rows_of all) ≡ map Some asking
-    → IsPermutation all sorted → left ≡ sorted → IsPermutation (agents_at agents d asking) (agents_at (by_row agents cells) d (rows_of left))
-asking-sorted agents d cells asking all sorted left within are perm same =
-    let rows = by_row agents cells in
-    let moved : IsPermutation (rows_of all) (rows_of left) =
-    subst (λ l. IsPermutation (rows_of all) (rows_of l)) (sym same) (IsPermutation-map (λ (one : Asker). one.row) all sorted perm) in
-    subst (λ l. IsPermutation l (agents_at rows d (rows_of left))) (sym (asking-at agents d cells.order.items asking (rows_of all) within are))
-    (IsPermutation-map (λ row. get_or rows row d) (rows_of all) (rows_of left) moved)

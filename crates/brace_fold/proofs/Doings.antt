@@ -11,7 +11,7 @@ use Rattle.brace_plan.specs.declared.action.Action.{Action}
 use Rattle.brace_plan.specs.Acts.{act}
 use Rattle.brace_fold.specs.declared.scene.Scene.{Scene}
 use Rattle.brace_fold.specs.declared.table.Table.{Table}
-use Rattle.brace_fold.specs.inner.Crowds.{rows}
+use Rattle.brace_fold.specs.inner.Crowds.{rows, world}
 use Rattle.brace_fold.specs.inner.Hears.{Hears}
 use Rattle.brace_fold.specs.inner.Deeds.{IsQuiet, Does, done_by}
 use Rattle.brace_fold.proofs.Alikes.{alike-woven, hears-none, hears-more, hears-alike}
@@ -107,15 +107,18 @@ module _ (scene : Scene) where
 
   -- what is left of a block: an action, and the rest behind it
   pub does-left : (items body : List Action) (i : ℕ) (x : Action) → items ≡ body → i < length items → x ≡ get_or items i x
-      → (xs : List Scope) (a b c : Table) → Does scene (act scene.program.now scene.agents.now x) xs a b
-      → Does scene (done_by scene (drop (i + 1) body)) (map (λ s. (act scene.program.now scene.agents.now x s).scope) xs) b c
+      → (xs : List Scope) (a b c : Table)
+      → Does scene (act scene.program.now (world scene) x) xs a b
+      → Does scene (done_by scene (drop (i + 1) body))
+      (map (λ s. (act scene.program.now (world scene) x s).scope) xs) b c
       → Does scene (done_by scene (drop i body)) xs a c
   does-left items body i x same low is xs a b c h k =
       let within : i < length body = subst (λ (l : List Action). i < length l) same low in
       let got : x ≡ get_or body i x = subst (λ (l : List Action). x ≡ get_or l i x) same is in
       let cut : x ∷ drop (i + 1) body ≡ drop i body = ap (λ (y : Action). y ∷ drop (i + 1) body) got ∙ sym (drop_more body i x within) in
       subst (λ (l : List Action). Does scene (done_by scene l) xs a c) cut
-      (does-then (act scene.program.now scene.agents.now x) (done_by scene (drop (i + 1) body)) xs a b c h k)
+      (does-then (act scene.program.now (world scene) x)
+      (done_by scene (drop (i + 1) body)) xs a b c h k)
 
   -- ---- loops
 

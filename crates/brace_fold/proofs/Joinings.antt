@@ -23,7 +23,7 @@ use Rattle.brace_eval.proofs.CountLemmas.{counted-effects}
 use Rattle.brace_fold.specs.Asked.{agents_at}
 use Rattle.brace_fold.specs.declared.table.Sum.{Sum}
 use Rattle.brace_fold.specs.declared.table.Table.{Table}
-use Rattle.brace_fold.specs.inner.Hears.{AreSummed, sum_at}
+use Rattle.brace_fold.specs.Sums.{AreSummed, sum_at}
 use Rattle.brace_fold.specs.inner.Joins.{said_of, to_effect, to_first}
 use Rattle.brace_fold.specs.inner.Sights.{no_agent}
 use Rattle.brace_fold.proofs.Counting.{some_item}
@@ -99,7 +99,8 @@ module _ (program : Program) (more : List Saying) (n : ℕ) where
   differ a b off same = absurd (let on : nat_eq a b ≡ true = eq-eqb a b same in cc)
 
   -- what is said to an agent of many
-  one-is : (agents : List Agent) (k : ℕ) (d : Agent) → AreApart agents → k < length agents → n < length (effects_in (class_of program (get_or agents k d)))
+  pub one-is : (agents : List Agent) (k : ℕ) (d : Agent) → AreApart agents → k < length agents
+      → n < length (effects_in (class_of program (get_or agents k d)))
       → said_to (get_or agents k d).id n (flat_map (said_of program more) agents) ≡ said_to (get_or agents k d).id n more
   one-is [] k d apart low less = absurd (omega (arith, low))
   one-is (b ∷ agents) zero d apart low less =

@@ -24,3 +24,11 @@ pub mod Choosing
 pub mod RunLemmas
 pub mod LeavingLemmas
 pub mod RenewLemmas
+pub mod RowLemmas
+pub mod Spottings
+pub mod MoveLemmas
+pub mod Bringings
+pub mod Survivings
+pub mod Tellings
+pub mod Slicings
+pub mod RenewalLemmas

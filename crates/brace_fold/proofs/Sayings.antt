@@ -27,10 +27,11 @@ use Rattle.brace_fold.specs.declared.crowd.Depth.{Depth}
 use Rattle.brace_fold.specs.declared.saying.Ear.{Ear}
 use Rattle.brace_fold.specs.declared.scene.Scene.{Scene}
 use Rattle.brace_fold.specs.declared.table.Table.{Table}
-use Rattle.brace_fold.specs.inner.Crowds.{IsLane, IsFound, IsOfClass, IsScene, Stands, has_outer, has_inner, rows}
+use Rattle.brace_fold.specs.inner.Crowds.{IsLane, IsFound, IsOfClass, IsScene, Stands, has_outer, has_inner, rows, world}
 use Rattle.brace_fold.specs.inner.Deeds.{between}
 use Rattle.brace_fold.specs.inner.Ears.{IsEar, row_of, is_there, told, told_at, told_by}
-use Rattle.brace_fold.specs.inner.Hears.{Hears, sum_at, sum_place, summed}
+use Rattle.brace_fold.specs.Sums.{sum_at, sum_place, summed}
+use Rattle.brace_fold.specs.inner.Hears.{Hears}
 use Rattle.brace_fold.specs.inner.Sights.{no_agent}
 use Rattle.brace_fold.proofs.Alikes.{hears-more}
 use Rattle.brace_fold.proofs.Drawings.{mapped}
@@ -88,7 +89,7 @@ hears-words scene ear row count words number before after a scene_is hears (b, h
     let has : slice_get (effects_in (class_of program a)) ear.effect ≡ Some hears.effect =
     ap (λ n. slice_get (effects_in (slice_get program.classes n)) ear.effect) own
     ∙ ap (λ o. slice_get (effects_in o) ear.effect) hears.has ∙ hears.there in
-    let apart = apart_moved scene.agents.now (rows scene) scene_is.rises scene_is.sorted.moved in
+    let apart = apart_moved (world scene) (rows scene) scene_is.rises scene_is.moved in
     subst (λ l. Hears program (rows scene) l before after) (mapped (typed ear.ty) one words)
     (hears-sum program (rows scene) before after row ear.effect count number a hears.effect values apart found has
     (is ∙ ap (λ (c : Comb). total_of c values) hears.comb) (many ∙ sym (length-map words (typed ear.ty))) same_rows low inside

@@ -1,3 +1,5 @@
 pub mod Asked
 pub mod Becoming
 pub mod inner
+pub mod Rows
+pub mod Sums

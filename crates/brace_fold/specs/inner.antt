@@ -4,6 +4,7 @@ pub mod Deeds
 pub mod Ears
 pub mod Hears
 pub mod Joins
+pub mod Moves
 pub mod Renewals
 pub mod Rulings
 pub mod Sights

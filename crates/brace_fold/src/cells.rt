@@ -1,19 +1,22 @@
-ghost use Rattle.std.specs.Prelude.{◌≡◌, ◌<◌, ◌≤◌, ℕ, ℤ, pos, ◌<ℤ◌, ◌≤ℤ◌, true, is_some, length, map, slice_get, slice_index_or, Some, IfOk, IfSome, OnOk};
+ghost use Rattle.std.specs.Prelude.{◌≡◌, ◌<◌, ◌≤◌, ℕ, ℤ, List, pos, ◌<ℤ◌, ◌≤ℤ◌, true, length, map, slice_get, slice_index_or, Some, IfOk, IfSome, OnOk};
 ghost use Rattle.std.specs.List.Sorted.{IsPermutation};
-ghost use Rattle.brace_model.specs.World.{class_of};
+ghost use Rattle.brace_model.specs.declared.world.Agent.{Agent};
 ghost use Rattle.brace_plan.specs.Answers.{greatest_visible};
 ghost use Rattle.brace_fold.specs.declared.cells.Cells.{Cells};
-ghost use Rattle.brace_fold.specs.inner.Sights.{AreLed, AreSorted, AreSpots, CellsRise, IsAround, IsRank, IsRun, cell_number, in_row, spot_of};
+ghost use Rattle.brace_fold.specs.Rows.{AreColumns};
+ghost use Rattle.brace_fold.specs.inner.Sights.{AreLed, AreSorted, CellsRise, IsAround, IsRank, IsRun, cell_number, in_row};
 
+use crate::columns::Columns;
+use crate::spotting::spots_in;
 use brace_code::Redo;
-use brace_model::{Agent, Program, class_of, x_of, y_of};
+use brace_model::Program;
 use std::alloc::Global;
 
 /// How far apart the numbers of cells are that lie side by side along x.
 const HEIGHT: i64 = 524_288;
 
-/// Where an agent stands, the number of the cell that it is in, its class, and its place: first in
-/// the list, and then among the spots, its row.
+/// Where an agent stands, the number of the cell that it is in, its class, and its row: first that
+/// of the columns, and then its place among the spots.
 #[derive(Debug, Clone, Copy, Drop)]
 pub struct Spot {
     pub x: i64,
@@ -27,61 +30,25 @@ pub struct Spot {
 /// share a number.
 #[derive(Debug, Drop)]
 pub struct Cells {
-    /// The place in the list of the agent of each row.
-    pub order: Vec<u32>,
     /// Where the agents stand, by rising cell.
     pub spots: Vec<Spot>,
 }
 
+/// The agents of rows in cells.
+#[derive(Debug, Drop)]
+pub struct Sorted {
+    pub cells: Cells,
+    /// The row from which that of each spot came.
+    pub order: Vec<u32>,
+}
+
 /// The number of the cell that a point is in: of its column, times `HEIGHT`, and its row.
-fn cell_number(x: i64, y: i64, side: i64) -> Option<i64>
+pub fn cell_number(x: i64, y: i64, side: i64) -> Option<i64>
     requires { pos 0 <ℤ side }
     ensures { IfSome result (λ cell. cell ≡ cell_number side x y) }
 {
     let first = x.div_euclid(side).checked_mul(HEIGHT)?;
     first.checked_add(y.div_euclid(side))
-}
-
-/// Where the agent at a place stands, if it has a class of the program.
-fn spot_of(program: &Program, a: &Agent, place: u32, side: i64) -> Result<Spot, Redo>
-    requires { pos 0 <ℤ side }
-    ensures known { IfOk result (λ _. is_some (class_of program.now a.now) ≡ true) }
-    ensures spot { IfOk result (λ spot. spot ≡ spot_of program.now side place a.now) }
-{
-    let Some(class) = class_of(program, a) else {
-        return Err(Redo);
-    };
-    let (x, y) = (x_of(class, a), y_of(class, a));
-    let Some(cell) = cell_number(x, y, side) else {
-        return Err(Redo);
-    };
-    Ok(Spot {
-        x,
-        y,
-        cell,
-        class: a.class,
-        place,
-    })
-}
-
-/// Where agents stand, by place.
-fn spots_of(
-    alloc: Global,
-    program: &Program,
-    agents: &[Agent],
-    side: i64,
-) -> Result<Vec<Spot>, Redo>
-    requires { pos 0 <ℤ side }
-    ensures { IfOk result (λ spots. AreSpots program.now side agents.now spots.items) }
-{
-    let mut spots = Vec::with_capacity(alloc, agents.len())?;
-    for i in 0..agents.len() {
-        let Ok(place) = u32::try_from(i) else {
-            return Err(Redo);
-        };
-        spots.push(spot_of(program, &agents[i], place, side)?)?;
-    }
-    Ok(spots)
 }
 
 /// The places of spots.
@@ -118,19 +85,28 @@ fn sort_by_cell(spots: &mut Vec<Spot>)
     spots.sort_unstable_by_key(|spot: &Spot| spot.cell);
 }
 
-impl Cells {
-    /// The agents of a list in the order of cells of some side, which is above 0 and no less than
+impl Sorted {
+    /// The agents of columns in the order of cells of some side, which is above 0 and no less than
     /// any of them sees.
-    pub fn of(alloc: Global, program: &Program, agents: &[Agent], side: i64) -> Result<Cells, Redo>
+    pub fn of(
+        alloc: Global,
+        program: &Program,
+        columns: &Columns,
+        side: i64,
+    ) -> Result<Sorted, Redo>
         requires side { pos 0 <ℤ side }
         requires wide { greatest_visible program.now ≤ℤ side }
-        ensures { IfOk result (λ cells. AreSorted program.now agents.now cells) }
+        ensures { IfOk result (λ sorted. (agents : List Agent) → AreColumns agents columns.now
+            → AreSorted program.now agents sorted) }
     {
-        let mut spots = spots_of(alloc, program, agents, side)?;
+        let mut spots = spots_in(alloc, program, columns, side)?;
         sort_by_cell(&mut spots);
         let order = order_of(alloc, &spots)?;
         number_rows(&mut spots)?;
-        Ok(Cells { order, spots })
+        Ok(Sorted {
+            cells: Cells { spots },
+            order,
+        })
     }
 }
 
@@ -236,26 +212,6 @@ impl Cells {
             middle: run_from(spots, &near.middle, cell)?,
             east: run_from(spots, &near.east, east)?,
         })
-    }
-
-    /// The place in the list of the agent of a row.
-    pub fn place_at(&self, row: u32) -> Option<u32>
-        ensures { IfSome result (λ place. slice_get self.now.order.items row ≡ Some place) }
-    {
-        self.order.get(row as usize).copied()
-    }
-
-    /// The row of the agent at a place of the list, where a list of rows by place tells it.
-    pub fn row_at(&self, rows: &[u32], place: u32) -> Result<u32, Redo>
-        ensures { IfOk result (λ row. slice_get self.now.order.items row ≡ Some place) }
-    {
-        let Some(row) = rows.get(place as usize).copied() else {
-            return Err(Redo);
-        };
-        if self.place_at(row) != Some(place) {
-            return Err(Redo);
-        }
-        Ok(row)
     }
 
     /// Leads runs on to those around the agent of a row.

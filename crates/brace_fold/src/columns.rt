@@ -1,12 +1,63 @@
-ghost use Rattle.std.specs.Prelude.{◌≡◌, ℕ, ℤ, List, Some, map, slice_get, IfOk};
+ghost use Rattle.std.specs.Prelude.{◌≡◌, ℕ, ℤ, List, Some, map, slice_get, IfOk, IfSome, OnOk};
+ghost use Rattle.brace_model.specs.declared.world.Agent.{Agent};
 ghost use Rattle.brace_model.specs.World.{number, value_at};
-ghost use Rattle.brace_fold.specs.Asked.{agents_at};
-ghost use Rattle.brace_fold.specs.inner.Sights.{no_agent};
+ghost use Rattle.brace_fold.specs.Rows.{AreColumns, IsWide};
 
 use brace_code::Redo;
 use brace_model::{Agent, Program, Value, number, value_at};
 use brace_num::List;
 use std::alloc::Global;
+
+/// Agents in columns of words, one in each row.
+#[derive(Debug, Clone, Copy)]
+pub struct Columns<'a> {
+    /// The number of the class of each.
+    pub classes: &'a [u32],
+    pub ids: &'a [u64],
+    /// A column for each state, as many as any class has.
+    pub states: &'a [&'a [i64]],
+}
+
+/// The word of a column in a row.
+pub fn read(column: &[i64], row: u32) -> Result<i64, Redo>
+    ensures { IfOk result (λ word. slice_get column.now row ≡ Some word) }
+{
+    match column.get(row as usize) {
+        Some(word) => Ok(*word),
+        None => Err(Redo),
+    }
+}
+
+/// The class of a row, by number.
+pub fn class_in(columns: &Columns, row: u32) -> Option<u32>
+    ensures { IfSome result (λ number. slice_get columns.now.classes.now row ≡ Some number) }
+{
+    columns.classes.get(row as usize).copied()
+}
+
+/// The word of a state in a row.
+pub fn word_in(columns: &Columns, state: u32, row: u32) -> Result<i64, Redo>
+    ensures { IfOk result (λ word. (agents : List Agent) (a : Agent)
+        → AreColumns agents columns.now → slice_get agents row ≡ Some a
+        → word ≡ number (value_at a.states state)) }
+{
+    match columns.states.get(state as usize) {
+        Some(column) => read(column, row),
+        None => Err(Redo),
+    }
+}
+
+/// Tells Redo where a class has more states than there are columns.
+pub fn expect_wide(program: &Program, columns: &Columns) -> Result<(), Redo>
+    ensures { OnOk result (IsWide program.now columns.now) }
+{
+    for class in program.classes.as_slice() {
+        if class.states.as_slice().len() > columns.states.len() {
+            return Err(Redo);
+        }
+    }
+    Ok(())
+}
 
 /// How many states a class has at most.
 pub fn most_states(program: &Program) -> u32 {
@@ -16,21 +67,6 @@ pub fn most_states(program: &Program) -> u32 {
         most = most.max(states);
     }
     most
-}
-
-/// The agents at places of a list, in the order of these.
-pub fn by_row<'a>(alloc: Global, agents: &'a [Agent], order: &[u32]) -> Result<Vec<&'a Agent>, Redo>
-    ensures { IfOk result (λ rows. map (λ r. r.now) rows.items
-        ≡ agents_at agents.now no_agent order.now) }
-{
-    let mut rows = Vec::with_capacity(alloc, order.len())?;
-    for place in order {
-        let Some(agent) = agents.get(*place as usize) else {
-            return Err(Redo);
-        };
-        rows.push(agent)?;
-    }
-    Ok(rows)
 }
 
 /// Each agent of a list.

@@ -1,6 +1,7 @@
-ghost use Rattle.std.specs.Prelude.{◌≡◌, ◌≤◌, ◌^◌, pos, map, IfOk};
+ghost use Rattle.std.specs.Prelude.{◌≡◌, ◌≤◌, ◌^◌, List, pos, map, IfOk};
 ghost use Rattle.std.specs.List.{All};
 ghost use Rattle.brace_draw.specs.Draw.{draw_value};
+ghost use Rattle.brace_model.specs.declared.world.Agent.{Agent};
 ghost use Rattle.brace_fold.specs.inner.Asks.{AreDrawn, lent, made};
 
 use crate::columns::id_column;
@@ -39,6 +40,26 @@ fn drawn_at(
     })
 }
 
+/// The draws of the agents of ids at some sites.
+pub fn drawn_of(
+    alloc: Global,
+    seed: u64,
+    tick: u64,
+    sites: &[u32],
+    ids: &[u64],
+) -> Result<Vec<Drawn>, Redo>
+    requires { tick ≤ 2 ^ 32 }
+    ensures { IfOk result (λ all. (agents : List Agent) → ids.now ≡ map (λ a. a.id) agents
+        → All (AreDrawn seed tick agents) all.items) }
+{
+    let drawer = Drawer::make(seed);
+    let mut all = Vec::with_capacity(alloc, sites.len())?;
+    for site in sites {
+        all.push(drawn_at(alloc, &drawer, tick, *site, ids)?)?;
+    }
+    Ok(all)
+}
+
 /// The draws of agents at some sites.
 pub fn drawn_for(
     alloc: Global,
@@ -52,29 +73,24 @@ pub fn drawn_for(
         All (AreDrawn seed tick (map (λ r. r.now) rows.now)) all.items) }
 {
     let ids = id_column(alloc, rows)?;
-    let drawer = Drawer::make(seed);
-    let mut all = Vec::with_capacity(alloc, sites.len())?;
-    for site in sites {
-        all.push(drawn_at(alloc, &drawer, tick, *site, &ids)?)?;
-    }
-    Ok(all)
+    drawn_of(alloc, seed, tick, sites, &ids)
 }
 
-/// The draws of agents at the sites of the queries of a program.
+/// The draws of the agents of ids at the sites of the queries of a program.
 pub fn all_drawn(
     alloc: Global,
     program: &Program,
     seed: u64,
     tick: u64,
-    rows: &[&Agent],
+    ids: &[u64],
 ) -> Result<Vec<Drawn>, Redo>
     requires { tick ≤ 2 ^ 32 }
-    ensures { IfOk result (λ all.
-        All (AreDrawn seed tick (map (λ r. r.now) rows.now)) all.items) }
+    ensures { IfOk result (λ all. (agents : List Agent) → ids.now ≡ map (λ a. a.id) agents
+        → All (AreDrawn seed tick agents) all.items) }
 {
     let mut sites = Vec::new(alloc);
     query_sites(program, &mut sites)?;
-    drawn_for(alloc, seed, tick, &sites, rows)
+    drawn_of(alloc, seed, tick, &sites, ids)
 }
 
 /// Draws as columns that lanes read.

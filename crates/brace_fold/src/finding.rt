@@ -8,6 +8,7 @@ ghost use Rattle.brace_fold.specs.inner.Crowds.{IsScene, IsIn, rows};
 ghost use Rattle.brace_fold.specs.inner.Sights.{AreLed, IsEye, cut_in};
 
 use crate::cells::Runs;
+use crate::columns::read;
 use crate::crowd::Crowd;
 use crate::scene::Scene;
 use crate::seeing::{Cut, Eye, look_around};
@@ -36,16 +37,6 @@ impl Room {
             found: Vec::new(alloc),
             near: Vec::new(alloc),
         }
-    }
-}
-
-/// The word of a column in a row.
-fn read(column: &[i64], at: u32) -> Result<i64, Redo>
-    ensures { IfOk result (λ word. slice_get column.now at ≡ Some word) }
-{
-    match column.get(at as usize) {
-        Some(word) => Ok(*word),
-        None => Err(Redo),
     }
 }
 

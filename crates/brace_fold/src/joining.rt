@@ -5,11 +5,9 @@ ghost use Rattle.brace_model.specs.declared.world.Agent.{Agent};
 ghost use Rattle.brace_model.specs.Query.{Saying};
 ghost use Rattle.brace_model.specs.World.{RisesById, class_of};
 ghost use Rattle.brace_eval.specs.Heard.{IsHeard, effects_in};
-ghost use Rattle.brace_fold.specs.inner.Hears.{AreSummed};
+ghost use Rattle.brace_fold.specs.Sums.{AreSummed};
 ghost use Rattle.brace_fold.specs.inner.Joins.{said_of, to_effect};
-ghost use Rattle.brace_fold.specs.inner.Sights.{by_row};
 
-use crate::cells::Cells;
 use crate::table::Table;
 use brace_code::Redo;
 use brace_eval::{Heard, effects_of};
@@ -83,27 +81,24 @@ fn join_agent(
     Ok(())
 }
 
-/// Joins what was said to all agents to what was heard, by their rows by place.
+/// Joins what was said to all agents, each in the row of its place, to what was heard.
 pub fn join_all(
     program: &Program,
     agents: &[Agent],
-    cells: &Cells,
-    rows: &[u32],
     table: &Table,
     heard: &mut Heard,
 ) -> Result<(), Redo>
     requires rises { RisesById agents.now }
     ensures { OnOk result ((more said : List Saying) (faults : List Fault)
-        → AreSummed program.now (by_row agents.now cells.now) more table.now
+        → AreSummed program.now agents.now more table.now
         → IsHeard program.now agents.now said faults heard.old
         → IsHeard program.now agents.now (said ++ flat_map (said_of program.now more) agents.now)
         faults heard.new) }
 {
     for place in 0..agents.len() {
-        let Ok(at) = u32::try_from(place) else {
+        let Ok(row) = u32::try_from(place) else {
             return Err(Redo);
         };
-        let row = cells.row_at(rows, at)?;
         join_agent(program, agents, table, row, place, heard)?;
     }
     Ok(())

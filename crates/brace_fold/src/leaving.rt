@@ -52,7 +52,7 @@ fn set_row(
 }
 
 /// An agent of a class with the values of a row.
-fn renewed(a: Agent, class: &Class, columns: &[Option<Column>], row: usize) -> Agent
+pub fn renewed(a: Agent, class: &Class, columns: &[Option<Column>], row: usize) -> Agent
     requires { pos 0 ≤ℤ class.now.reach }
     ensures { result ≡ changed class.now a (new_states columns.now row a.states) }
 {
@@ -134,7 +134,7 @@ fn given_at(alloc: Global, gifts: &[Column], row: usize) -> Result<Vec<Value>, R
 }
 
 /// The child of an agent of a class, with the gifts of a row.
-fn child(
+pub fn child(
     alloc: Global,
     class: &Class,
     gifts: &[Column],

@@ -71,7 +71,7 @@ fn outcome_of(
 }
 
 /// The columns that rules read.
-fn frame_of<'a>(
+pub fn frame_of<'a>(
     states: &'a [&'a [i64]],
     totals: &'a [&'a [i64]],
     draws: &'a [Draws<'a>],
@@ -178,7 +178,7 @@ fn batches_of<'a>(
 }
 
 /// Whether the agents that stand together are many enough for lanes to pay.
-fn pays(agents: &[Agent]) -> bool {
+pub fn pays(agents: &[Agent]) -> bool {
     let mut last = None;
     let mut changes = 0usize;
     for a in agents {

@@ -7,7 +7,7 @@ use crate::cells::Cells;
 use crate::columns::views;
 use crate::crowd::{Crowd, Depth, has_inner, has_outer};
 use brace_code::{Code, Draws, Frame, Redo};
-use brace_model::{Agent, Program};
+use brace_model::Program;
 use brace_num::List;
 use std::alloc::Global;
 
@@ -16,13 +16,12 @@ use std::alloc::Global;
 pub struct Scene<'a> {
     pub alloc: Global,
     pub program: &'a Program,
-    /// The agents, by rising id.
-    pub agents: &'a [Agent],
     pub seed: u64,
     pub tick: u64,
     /// A column for each state.
     pub states: &'a [&'a [i64]],
     pub classes: &'a [u32],
+    pub ids: &'a [u64],
     pub draws: &'a [Draws<'a>],
     pub cells: &'a Cells,
 }

@@ -1,7 +1,7 @@
 ghost use Rattle.std.specs.Prelude.{◌≡◌, ◌<◌, [], length, slice_set, IfOk, IfSome, OnOk, List};
 ghost use Rattle.brace_model.specs.declared.program.Program.{Program};
 ghost use Rattle.brace_model.specs.declared.world.Agent.{Agent};
-ghost use Rattle.brace_fold.specs.inner.Hears.{AreSummed, sum_at, sum_place, summed};
+ghost use Rattle.brace_fold.specs.Sums.{AreSummed, sum_at, sum_place, summed};
 
 use brace_code::Redo;
 use brace_comb::merged;
@@ -88,7 +88,8 @@ impl Table {
 
     /// The sum of an effect of a row.
     pub fn sum(&self, effect: u32, row: u32) -> Option<Sum>
-        ensures { IfSome result (λ sum. sum ≡ sum_at self.now effect row) }
+        ensures sum { IfSome result (λ sum. sum ≡ sum_at self.now effect row) }
+        ensures row { IfSome result (λ _. row < self.now.rows) }
     {
         let at = self.place_of(effect, row)?;
         Some(self.sums[at])

@@ -3,9 +3,13 @@ ghost use Rattle.std.specs.Prelude.{◌≡◌, IfOk, IsTrue};
 ghost use Rattle.std.specs.List.{list_all};
 ghost use Rattle.brace_model.specs.Lawful.{LawfulProgram, is_lawful_agent};
 ghost use Rattle.brace_model.specs.World.{RisesById};
+ghost use Rattle.brace_fold.specs.Rows.{AreRows};
 
 use brace_eval::Heard;
-use brace_fold::renew;
+use brace_fold::{
+    Columns, Moved, Redo, Renewed, Table, agents_of, columns_of, expect_wide, fold_rows,
+    most_effects, renew, renew_rows, views,
+};
 use brace_model::{Agent, Program};
 use brace_num::NoMemory;
 use brace_plan::{Left, Plans, Room, plan};
@@ -77,12 +81,62 @@ fn at_once(
     }
 }
 
-/// What was heard of all agents, and both.
-fn both(
+/// The numbers of so many rows.
+fn rows_to(alloc: Global, count: usize) -> Result<Vec<u32>, Redo> {
+    let mut rows = Vec::new(alloc);
+    for row in 0..count {
+        rows.push(u32::try_from(row).unwrap_or(u32::MAX))?;
+    }
+    Ok(rows)
+}
+
+/// The agents of columns.
+fn listed(alloc: Global, program: &Program, moved: &Moved) -> Result<Vec<Agent>, Redo> {
+    let states = views(alloc, &moved.states)?;
+    let columns = Columns {
+        classes: &moved.classes,
+        ids: &moved.ids,
+        states: &states,
+    };
+    agents_of(alloc, program, &columns, Vec::new(alloc))
+}
+
+/// What all agents in columns leave, by what they say there.
+fn renewed(alloc: Global, plans: &Plans, columns: &Columns) -> Result<Renewed, Redo>
+    requires { AreRows plans.now columns.now }
+{
+    let count = columns.ids.len();
+    let asking = rows_to(alloc, count)?;
+    let mut said = Table::nothing(alloc, count, most_effects(plans.program()))?;
+    fold_rows(alloc, plans, 7, 4, columns, &asking, &mut said)?;
+    renew_rows(alloc, plans, 7, 4, columns, count, &said)
+}
+
+/// The same as each leaves, of all in columns.
+fn in_columns(alloc: Global, plans: &Plans, agents: &[Agent]) -> Result<String, Redo>
+    requires lawful { IsTrue (list_all (is_lawful_agent plans.now) agents.now) }
+    requires rises { RisesById agents.now }
+{
+    let program = plans.program();
+    let rows = columns_of(alloc, program, agents, &[])?;
+    let states = views(alloc, &rows.states)?;
+    let columns = Columns {
+        classes: &rows.classes,
+        ids: &rows.ids,
+        states: &states,
+    };
+    expect_wide(program, &columns)?;
+    let renewed = renewed(alloc, plans, &columns)?;
+    let left = listed(alloc, program, &renewed.left)?;
+    Ok(format!(in alloc; "{:?} {:?}", left, renewed.born)?)
+}
+
+/// What was heard of all agents, and what each leaves, all at once, and all in columns.
+fn each_way(
     alloc: Global,
     program: &Program,
     agents: &[Agent],
-) -> Result<(Option<String>, Option<String>), NoMemory>
+) -> Result<[Option<String>; 3], NoMemory>
     requires lawful { LawfulProgram program.now }
     requires agents { IsTrue (list_all (is_lawful_agent program.now) agents.now) }
     requires rises { RisesById agents.now }
@@ -92,7 +146,8 @@ fn both(
     heard.hear(alloc, program, 7, 4, agents, agents)?;
     let one_by_one = one_by_one(alloc, &plans, agents, &heard)?;
     let at_once = at_once(alloc, &plans, agents, &heard)?;
-    Ok((one_by_one, at_once))
+    let in_columns = in_columns(alloc, &plans, agents).ok();
+    Ok([one_by_one, at_once, in_columns])
 }
 
 /// Two classes whose rules draw and read totals; deaths, and children with gifts.
@@ -117,13 +172,13 @@ fn renews_all_as_each(rt: HostRuntime) -> Result<(), Fail> {
     let Ok(world) = read_agents(alloc, &program, ROWS.as_bytes()) else {
         return Err("no agents".into());
     };
-    let (one_by_one, at_once) = both(alloc, &program, world.agents())?;
+    let [one_by_one, at_once, in_columns] = each_way(alloc, &program, world.agents())?;
     assert!(rt; one_by_one.is_some());
-    assert!(rt; one_by_one == at_once);
+    assert!(rt; one_by_one == at_once && one_by_one == in_columns);
     let Ok(world) = read_agents(alloc, &program, STOPS.as_bytes()) else {
         return Err("no agents".into());
     };
-    let (one_by_one, at_once) = both(alloc, &program, world.agents())?;
-    assert!(rt; one_by_one.is_none() && at_once.is_none());
+    let [one_by_one, at_once, in_columns] = each_way(alloc, &program, world.agents())?;
+    assert!(rt; one_by_one.is_none() && at_once.is_none() && in_columns.is_none());
     Ok(())
 }

@@ -1,5 +1,6 @@
 -- Crowds: the scopes that lanes stand for. Only the crate's own functions cite this.
 use Rattle.std.specs.Prelude.{◌≡◌, ℕ, ◌<◌, ◌≤◌, ℤ, pos, Bool, false, true, Option, None, Some, List, map, [], ◌∷◌, ◌++◌, if◌then◌else◌, ⊤, length, slice_get, slice_index_or, option_copied}
+use Rattle.std.specs.List.Sorted.{IsPermutation}
 use Rattle.brace_draw.specs.Draw.{draw_value}
 use Rattle.brace_model.specs.declared.world.Agent.{Agent}
 use Rattle.brace_model.specs.World.{RisesById, number, value_at}
@@ -13,16 +14,28 @@ use Rattle.brace_fold.specs.declared.crowd.Crowd.{Crowd}
 use Rattle.brace_fold.specs.declared.crowd.Depth.{Depth}
 use Rattle.brace_fold.specs.declared.crowd.Depth.TheVariants.{Outside, Once, Twice}
 use Rattle.brace_fold.specs.declared.scene.Scene.{Scene}
-use Rattle.brace_fold.specs.inner.Sights.{AreSorted, by_row}
+use Rattle.brace_fold.specs.Rows.{rows_in, world_in}
+use Rattle.brace_fold.specs.declared.columns.Columns.{Columns}
+use Rattle.brace_fold.specs.inner.Sights.{AreCells}
+
+-- the columns of a scene
+abbrev pub columns_of : Scene → Columns
+columns_of scene = record { classes = scene.classes; ids = scene.ids; states = scene.states }
 
 -- the agents of a scene, row by row
 abbrev pub rows : Scene → List Agent
-rows scene = by_row scene.agents.now scene.cells.now
+rows scene = rows_in scene.program.now (columns_of scene)
 
--- the ids of a scene's agents rise, its cells are theirs, and its columns are those of its rows
+-- the agents of a scene by rising id
+abbrev pub world : Scene → List Agent
+world scene = world_in scene.program.now (columns_of scene)
+
+-- the agents of a scene are its rows by strictly rising id, its cells are theirs, and its columns
+-- are those of its rows
 pub record IsScene (scene : Scene) : Type 0 where
-  pub rises : RisesById scene.agents.now
-  pub sorted : AreSorted scene.program.now scene.agents.now scene.cells.now
+  pub rises : RisesById (world scene)
+  pub moved : IsPermutation (world scene) (rows scene)
+  pub cells : AreCells scene.program.now (rows scene) scene.cells.now
   pub states : (i : ℕ) (column : List ℤ)
       → option_copied (slice_get scene.states.now i) ≡ Some column
       → column ≡ map (λ a. number (value_at a.states i)) (rows scene)

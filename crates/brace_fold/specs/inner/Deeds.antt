@@ -11,7 +11,7 @@ use Rattle.brace_plan.specs.Acts.{act, acts, near_by}
 use Rattle.brace_fold.specs.declared.crowd.Crowd.{Crowd}
 use Rattle.brace_fold.specs.declared.scene.Scene.{Scene}
 use Rattle.brace_fold.specs.declared.table.Table.{Table}
-use Rattle.brace_fold.specs.inner.Crowds.{Stands, rows}
+use Rattle.brace_fold.specs.inner.Crowds.{Stands, rows, world}
 use Rattle.brace_fold.specs.inner.Hears.{Hears}
 
 -- nothing faulted
@@ -34,10 +34,10 @@ pub record Worths (code : Code) (scopes : List Scope) (words : List ℤ) : Type 
 
 -- what an action does in the scene, and what a block does
 abbrev pub done_once : Scene → Action → Scope → Deed
-done_once scene = act scene.program.now scene.agents.now
+done_once scene = act scene.program.now (world scene)
 
 abbrev pub done_by : Scene → List Action → Scope → Deed
-done_by scene = acts scene.program.now scene.agents.now
+done_by scene = acts scene.program.now (world scene)
 
 -- a deed is done in the scopes of a crowd, and leaves a crowd of the scopes that it leaves
 pub record Leads (scene : Scene) (deed : Scope → Deed) (scopes : List Scope) (after : Crowd)

@@ -15,6 +15,7 @@ use Rattle.brace_plan.specs.declared.action.Bound.{Bound}
 use Rattle.brace_plan.specs.Acts.{coordinate, limit_in, stands}
 use Rattle.brace_fold.specs.Asked.{agents_at}
 use Rattle.brace_fold.specs.declared.cells.Cells.{Cells}
+use Rattle.brace_fold.specs.declared.cells.Sorted.{Sorted}
 use Rattle.brace_fold.specs.declared.cells.Run.{Run}
 use Rattle.brace_fold.specs.declared.cells.Runs.{Runs}
 use Rattle.brace_fold.specs.declared.cells.Spot.{Spot}
@@ -69,15 +70,15 @@ pub record AreCells (program : Program) (agents : List Agent) (cells : Cells) : 
 abbrev pub no_agent : Agent
 no_agent = record { class = 0; id = 0; states = [] }
 
--- the agents of a list, row by row of cells
-abbrev pub by_row : List Agent → Cells → List Agent
-by_row agents cells = agents_at agents no_agent cells.order.items
+-- the agents of a list, in an order of their places
+abbrev pub by_row : List Agent → List ℕ → List Agent
+by_row agents order = agents_at agents no_agent order
 
--- cells of the agents of a list, each of which has a row
-pub record AreSorted (program : Program) (agents : List Agent) (cells : Cells) : Type 0 where
-  pub are : AreCells program (by_row agents cells) cells
-  pub moved : IsPermutation agents (by_row agents cells)
-  pub within : All (λ place. place < length agents) cells.order.items
+-- cells of the agents of a list, each of which has a row in their order
+pub record AreSorted (program : Program) (agents : List Agent) (sorted : Sorted) : Type 0 where
+  pub are : AreCells program (by_row agents sorted.order.items) sorted.cells
+  pub moved : IsPermutation agents (by_row agents sorted.order.items)
+  pub within : All (λ place. place < length agents) sorted.order.items
 
 -- so many spots come before a cell
 pub record IsRank (spots : List Spot) (cell : ℤ) (rank : ℕ) : Type 0 where

@@ -3,7 +3,7 @@ use Rattle.brace_model.specs.declared.fault.Fault.{Fault}
 use Rattle.brace_model.specs.declared.world.Agent.{Agent}
 use Rattle.brace_model.specs.Query.{Saying}
 use Rattle.brace_eval.specs.Heard.{IsHeard}
-use Rattle.brace_fold.specs.inner.Hears.{AreSummed}
+use Rattle.brace_fold.specs.Sums.{AreSummed}
 use Rattle.brace_fold.specs.inner.Joins.{to_first}
 use Rattle.brace_fold.proofs.joining.join_agent.Given as goal
 

@@ -2,7 +2,7 @@ use Rattle.std.proofs.Common.{◌≡◌, ◌∙◌, ◌≤◌, sym, ap, subst, r
 use Rattle.std.proofs.lemmas.List.{drop_all, take_all}
 use Rattle.std.proofs.lemmas.List.Sorted.{IsPermutation-sym}
 use Rattle.brace_plan.specs.declared.action.Action.{Action}
-use Rattle.brace_fold.specs.inner.Crowds.{Stands, chosen, rows}
+use Rattle.brace_fold.specs.inner.Crowds.{Stands, chosen, rows, world}
 use Rattle.brace_fold.specs.inner.Deeds.{Does, Leads, done_by, done_once, into}
 use Rattle.brace_fold.proofs.Actions.{if-does, if-scopes, loop-does, loop-scopes}
 use Rattle.brace_fold.proofs.Doings.{does-none, does-more, does-nothing, does-left}
@@ -53,7 +53,7 @@ action-returns-in-Assign t c = on_ok c.tell.result _ _ (λ h scopes stands.
 pub iterations-returns : goal.iterations-returns
 iterations-returns t c = λ scopes offset stands.
     let scene = c.args.scene.now in
-    let moved = IsPermutation-sym scene.agents.now (rows scene) c.requires.sorted.moved in
+    let moved = IsPermutation-sym (world scene) (rows scene) c.requires.moved in
     let all : take c.loop-at.at scopes ≡ scopes = take_all c.loop-at.at scopes
     (subst (λ (n : ℕ). n ≤ c.loop-at.at) (ap length c.as_slice-lanes.ensures ∙ stands.long) c.loop-at-test.false) in
     record {

@@ -1,6 +1,6 @@
-use Rattle.std.proofs.Common.{◌∙◌, ℕ, List, ap, map, slice_get, subst}
+use Rattle.std.proofs.Common.{◌∙◌, List, ap, map, slice_get, subst}
 use Rattle.brace_fold.specs.declared.seeing.Cut.{Cut}
-use Rattle.brace_fold.specs.inner.Crowds.{rows}
+use Rattle.brace_fold.specs.inner.Crowds.{rows, world}
 use Rattle.brace_fold.specs.inner.Sights.{IsAround, found_around}
 use Rattle.brace_fold.proofs.Taking.{apart_moved, eye_cell, eye_stands, near_is}
 use Rattle.brace_fold.proofs.scene.Scene.find.Goals as goal
@@ -16,8 +16,9 @@ returns-clause-near c scope stands =
     let runs = c.lead.new.runs in
     let this = stands.stands.this in
     let looks = c.in_ok-eye.ensures scope.this this in
-    let are = c.requires.scene.sorted.are in
-    let apart = apart_moved scene.agents.now (rows scene) c.requires.scene.rises c.requires.scene.sorted.moved in
+    let are = c.requires.scene.cells in
+    let apart =
+    apart_moved (world scene) (rows scene) c.requires.scene.rises c.requires.scene.moved in
     let stand = eye_stands program scope class place bounds eye looks (rows scene) scene.cells.now are apart this in
     let cell = eye_cell program scope class place bounds eye looks (rows scene) scene.cells.now are apart this in
     let cuts = c.deref.ensures.value ∙ c.in_ok-cut.ensures scope stands in

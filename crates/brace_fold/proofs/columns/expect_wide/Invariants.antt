@@ -1,0 +1,6 @@
+use Rattle.std.proofs.Common.{◌≤◌, All, length, take}
+use Rattle.brace_fold.proofs.columns.expect_wide.Given as goal
+
+abbrev pub invariant-loop-class : goal.invariant-loop-class
+invariant-loop-class l =
+    All (λ c. length c.states ≤ length l.columns.states.now) (take l.class-index l.program.classes)

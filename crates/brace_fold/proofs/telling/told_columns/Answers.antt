@@ -1,0 +1,40 @@
+use Rattle.std.proofs.Common.{◌≡◌, ◌∙◌, ap, ap₂, Option, refl, rules, sym, drop, get_or, map, pos, take, List, Some, slice_get}
+use Rattle.std.proofs.lemmas.Option.{slice_get_read}
+use Rattle.brace_model.specs.declared.program.Class.{Class}
+use Rattle.brace_model.specs.declared.program.Effect.{Effect}
+use Rattle.brace_model.specs.declared.world.Agent.{Agent}
+use Rattle.brace_model.specs.Total.{said_to, total_of}
+use Rattle.brace_eval.specs.Heard.{effects_in, row_of}
+use Rattle.brace_fold.proofs.ColumnLemmas.{columns-more}
+use Rattle.brace_fold.proofs.Tellings.{effect-totals}
+use Rattle.brace_fold.proofs.telling.told_columns.Goals as goal
+
+pub loop-k-preserved : goal.loop-k-preserved
+loop-k-preserved c =
+    let k = c.loop-k.k in
+    let own = c.args.own.now in
+    let effects = c.as_slice-effects.result.now in
+    let effect = c.in-Some.effect.now in
+    let at : c.in-Ok.number ≡ k = search rules in
+    let there : slice_get effects k ≡ Some effect =
+    slice_get_read effects _ k effect refl c.in-Some.ensures.lookup.3.0
+    c.in-Some.ensures.lookup.1 in
+    let has : slice_get own.effects k ≡ Some effect = ap (λ (l : List Effect). slice_get l k)
+    (sym c.as_slice-effects.ensures) ∙ there in
+    record {
+      long = search rules;
+      each = λ program rows more are all.
+          let these = take c.args.count (drop c.args.from rows) in
+          let column = c.in_ok-column.ensures program rows effect more are refl
+          (λ j d low. ap₂ (λ (o : Option Class) n. slice_get (effects_in o) n) (all j d low) at
+          ∙ has) in
+          let is = column ∙ ap (λ n. map (λ (a : Agent). total_of effect.comb (said_to a.id n more))
+          these) at
+          ∙ effect-totals program more own k effect these has all
+          ∙ ap (λ n. map (λ (a : Agent). get_or (row_of program more a) n (pos 0)) these)
+          (sym c.loop-k.invariant.long) in
+          rw c.in_ok-push.ensures.items (columns-more (λ i. map (λ (a : Agent). get_or
+          (row_of program more a) i (pos 0)) these)
+          c.loop-k.columns.items c.in_ok-column.column (c.loop-k.invariant.each program rows more
+          are all) is);
+    }

@@ -1,0 +1,68 @@
+ghost use Rattle.std.specs.Prelude.{◌≡◌, ◌++◌, IfOk};
+ghost use Rattle.brace_fold.specs.Rows.{AreMoved, rows_in};
+
+use crate::columns::{
+    Columns, class_column, class_in, each, id_column, most_states, state_columns, states_of,
+};
+use crate::order::Moved;
+use crate::surviving::agent_in;
+use brace_code::Redo;
+use brace_model::{Agent, Program, Value};
+use std::alloc::Global;
+
+/// The agents of a list and then those of another in columns, as many as any class of a program has
+/// states.
+pub fn columns_of(
+    alloc: Global,
+    program: &Program,
+    first: &[Agent],
+    rest: &[Agent],
+) -> Result<Moved, Redo>
+    ensures { IfOk result (AreMoved (first.now ++ rest.now)) }
+{
+    let mut rows = each(alloc, first)?;
+    let mut more = each(alloc, rest)?;
+    rows.append(&mut more)?;
+    let values = states_of(alloc, &rows)?;
+    Ok(Moved {
+        classes: class_column(alloc, &rows)?,
+        ids: id_column(alloc, &rows)?,
+        states: state_columns(alloc, &values, most_states(program))?,
+    })
+}
+
+/// A vector for states: that of an agent that is not needed any more, where there is one.
+fn vector_of(alloc: Global, used: Option<Agent>) -> Vec<Value> {
+    match used {
+        Some(agent) => agent.states.into_vec(),
+        None => Vec::new(alloc),
+    }
+}
+
+/// The agents of columns, row by row, with their states in the vectors of agents that are not
+/// needed any more.
+pub fn agents_of(
+    alloc: Global,
+    program: &Program,
+    columns: &Columns,
+    mut used: Vec<Agent>,
+) -> Result<Vec<Agent>, Redo>
+    ensures { IfOk result (λ agents. agents.items ≡ rows_in program.now columns.now) }
+{
+    let mut agents = Vec::with_capacity(alloc, columns.ids.len())?;
+    for k in 0..columns.ids.len() {
+        let Ok(row) = u32::try_from(k) else {
+            return Err(Redo);
+        };
+        let Some(number) = class_in(columns, row) else {
+            return Err(Redo);
+        };
+        let Some(class) = program.classes.as_slice().get(number as usize) else {
+            return Err(Redo);
+        };
+        let values = vector_of(alloc, used.pop());
+        let agent = agent_in(class, number, columns, row, values)?;
+        agents.push(agent)?;
+    }
+    Ok(agents)
+}
