@@ -24,10 +24,11 @@ use Rattle.brace_eval.specs.Heard.{IsHeard, said_by, faults_by}
 use Rattle.brace_invert.specs.Split.{with_query, with_queries}
 use Rattle.brace_invert.proofs.Inverting.{class_same}
 use Rattle.brace_part.specs.declared.asking.Scene.{Scene}
+use Rattle.brace_part.proofs.LaneLemmas.{effects_same}
 use Rattle.brace_part.specs.inner.Asked.{CanAsk, HearsOf, HearsAllOf, HasRulesOf}
 
 pub own_rules : (m : Program) → HasRulesOf m m
-own_rules m = record { lawful = λ a. refl; next = λ seed tick totals a. refl }
+own_rules m = record { lawful = λ a. refl; effects = λ a. refl; next = λ seed tick totals a. refl }
 
 module _ (part : List Stmt → List Stmt) (m : Program) where
   abbrev p : Program
@@ -68,6 +69,7 @@ module _ (part : List Stmt → List Stmt) (m : Program) where
   pub rules_same : (q : Program) → q ≡ p → HasRulesOf m q
   rules_same q is = subst (HasRulesOf m) (sym is) (record {
     lawful = lawful_same;
+    effects = effects_same part m p refl;
     next = λ seed tick totals a. ap (λ o. next_in seed tick o totals a) (class_same part m a) ∙ next_same (class_of m a) seed tick totals a;
   })
 

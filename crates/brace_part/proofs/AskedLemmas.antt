@@ -63,7 +63,8 @@ module _ {A : Type 0} (p : A → Bool) where
       at true is = ap (λ l. x ∷ l) is
       at false is = is
 
-  filter_moved : (xs ys : List A) → IsPermutation xs ys → IsPermutation (filter p xs) (filter p ys)
+  pub filter_moved : (xs ys : List A) → IsPermutation xs ys
+      → IsPermutation (filter p xs) (filter p ys)
   filter_moved xs ys moved = subst (IsPermutation (filter p xs)) (filter_is ys) (subst (λ l. IsPermutation l (flat_map one_of ys)) (filter_is xs) (flat_map_moved one_of xs ys moved))
 
 module _ (said others : List Saying) (moved : IsPermutation said others) where

@@ -12,7 +12,7 @@ use Rattle.brace_pieces.specs.Steps.{steps}
 use Rattle.brace_pieces.specs.Continued.{on}
 use Rattle.brace_part.specs.declared.query.Queries.{Queries}
 use Rattle.brace_part.specs.declared.standing.Stance.{Stance}
-use Rattle.brace_part.specs.declared.standing.Stance.TheVariants.{Owns, Hears, Leaves}
+use Rattle.brace_part.specs.declared.standing.Stance.TheVariants.{Owns, Hears, Holds, Leaves}
 use Rattle.brace_part.specs.declared.standing.Standing.{Standing}
 use Rattle.brace_part.specs.Parts.{own_under, kept_at, found_in_work, keeps_before}
 use Rattle.brace_part.specs.inner.Ready.{IsReadyFor, IsReadyBehind, IsNextAt, next_behind, AreKept}
@@ -34,6 +34,7 @@ module _ (s : Setting) (p : ℕ) (t : ℕ) (low : s.job.first ≤ t) (next : ℕ
       (has ∙ sym (ap (λ cuts. own_under s p cuts (t + 1)) (shown_behind s (t + 1) t refl low)))
       next_is
   note_right (Hears agents heard) has = absurd has
+  note_right (Holds held) has = absurd has
   note_right (Leaves left born behind) has = absurd has
 
 -- worlds that it keeps stay so where it notes one more

@@ -19,7 +19,7 @@ use Rattle.brace_eval.specs.Heard.{IsHeard, table_of, row_of, effects_in, counte
 use Rattle.brace_fold.specs.Asked.{agents_at}
 use Rattle.brace_invert.specs.Split.{with_query, with_queries}
 use Rattle.brace_invert.proofs.Inverting.{class_same}
-use Rattle.brace_part.specs.inner.Asked.{ArePlaces}
+use Rattle.brace_part.specs.inner.Asked.{ArePlaces, HaveEffectsOf}
 
 -- ---- agents by their places
 
@@ -48,10 +48,6 @@ module _ (held : List Agent) where
       ap₂ (λ x xs. x ∷ xs) (get_or_from_slice_get held place a d here) (agents_there d asking places rest)
 
 -- ---- classes with the same effects
-
--- agents have the same effects in both programs
-abbrev pub HaveEffectsOf : Program → Program → Type 0
-HaveEffectsOf m p = (a : Agent) → effects_in (class_of p a) ≡ effects_in (class_of m a)
 
 counted_effects : (o : Option Class) → effects_in (option_map counting_class o) ≡ map counted (effects_in o)
 counted_effects None = refl

@@ -17,6 +17,7 @@ use Rattle.brace_eval.proofs.LawfulLemmas.{Leaves, AreLawful, AllLeave, all_more
 use Rattle.brace_pieces.specs.declared.setting.Setting.{Setting}
 use Rattle.brace_pieces.specs.Settings.{LawfulSetting}
 use Rattle.brace_pieces.specs.Continued.{said, totals_of, becomes, left_or_kept, all_left, fitting, continued, continued_after, on}
+use Rattle.brace_pieces.specs.Together.{left_of}
 use Rattle.brace_pieces.proofs.MoveLemmas.{left_each}
 use Rattle.brace_pieces.proofs.Origins.{of_take}
 use Rattle.brace_pieces.proofs.WorldLemmas.{seconds_both}
@@ -56,6 +57,14 @@ module _ (s : Setting) (lawful : LawfulSetting s) where
       → next_in s.job.seed t (class_of m a) totals a ≡ r → Leaves m a (left_or_kept a r)
   kept_lawful t totals a (Ok n) good is = next_lawful m s.job.seed t lawful.job_is_lawful.program_is_lawful (class_of m a) totals a n refl good is
   kept_lawful t totals a (Err e) good is = stays m a good
+
+  -- what is left of lawful agents is lawful
+  pub left_lawful : (t : ℕ) (world own : List Agent) → list_all (is_lawful_agent m) own ≡ true
+      → list_all (is_lawful_agent m) (left_of s t world own) ≡ true
+  left_lawful t world own good =
+      (all_leave m (λ a. left_or_kept a (becomes s t (said s t world) a))
+      (λ a lawful. kept_lawful t (totals_of (said s t world) a
+      (class_of m a)) a _ lawful refl) own good).lives
 
   lawful_step : (t : ℕ) (world : World) → world.next ≤ 2 ^ 63 → LawfulAgents m world.agents → LawfulAgents m (continued s t world).agents
   lawful_step t world low before =

@@ -9,6 +9,9 @@ pub mod LawfulOn
 pub mod AskLemmas
 pub mod AskedLemmas
 pub mod LaneLemmas
+pub mod SumsLemmas
+pub mod HoldLemmas
+pub mod HoldWork
 pub mod WorkTaken
 pub mod WorkHeard
 pub mod CensusWork

@@ -22,7 +22,7 @@ use Rattle.brace_pieces.specs.inner.Walks.{steps_from, ticks_from, behind_effect
 use Rattle.brace_pieces.proofs.EpochLemmas.{same_cuts, shown_behind, shown_first, last_ends}
 use Rattle.brace_pieces.proofs.WalkLemmas.{next_in, next_is, is_low, no_tick, first_of_tick, first_behind_tick}
 use Rattle.brace_part.specs.declared.standing.Stance.{Stance}
-use Rattle.brace_part.specs.declared.standing.Stance.TheVariants.{Owns, Hears, Leaves}
+use Rattle.brace_part.specs.declared.standing.Stance.TheVariants.{Owns, Hears, Holds, Leaves}
 use Rattle.brace_part.specs.Parts.{own_under, own_before, found_in_work}
 use Rattle.brace_part.specs.inner.Ready.{own_in, IsReadyFor, IsReady, IsReadyBehind, IsNextAt, next_behind, IsFaultlessBefore, IsFaultlessAt}
 use Rattle.brace_part.proofs.StepLemmas.{OfRun, of_run}
@@ -101,6 +101,7 @@ module _ (s : Setting) (p : ℕ) where
   }
   no_births t low none (Owns own) has = absurd has
   no_births t low none (Hears agents heard) has = absurd has
+  no_births t low none (Holds held) has = absurd has
 
   updated_ready : (t : ℕ) → s.job.first ≤ t → (stance : Stance) → IsReadyFor s p stage.Census t stance → IsReadyFor s p (behind_effects s) t stance
   updated_ready t low stance has = by_births (λ at. IsReadyFor s p at t stance) has (λ none. no_births t low none stance has)
@@ -114,6 +115,7 @@ module _ (s : Setting) (p : ℕ) where
       (λ other recut. has ∙ ap (λ c. own_under s p (cuts_of s c) (u + 1)) back)
       (λ other none. has ∙ sym (ap (λ cuts. own_under s p cuts (u + 1)) (not_recut s (u + 1) u refl low none))))
   moved_ready u low high (Hears agents heard) has = absurd has
+  moved_ready u low high (Holds held) has = absurd has
   moved_ready u low high (Leaves left born next) has = absurd has
 
   shown_ready : (t : ℕ) → s.job.first ≤ t → t ≤ s.job.last → (stance : Stance) → IsReadyFor s p stage.Show t stance → IsReady s p (slice_get (ticks_from s t) 0) stance
@@ -129,6 +131,7 @@ module _ (s : Setting) (p : ℕ) where
         | inr other ↦ shown_first s t (omega (arith, other, low))
       ]
   shown_ready t low high (Hears agents heard) has = absurd has
+  shown_ready t low high (Holds held) has = absurd has
   shown_ready t low high (Leaves left born next) has = absurd has
 
   next_ready : (st : Stage) (t : ℕ) → OfRun s st t → (stance : Stance) → IsReadyBehind s p st t stance → IsReady s p (next_in s st t) stance
@@ -155,6 +158,7 @@ module _ (s : Setting) (p : ℕ) where
       (reaches s (u + 1) (λ o. IsNextAt s o next) (omega (arith, high)) (λ e. has.next_is) (λ e r. has.next_is) (λ e r. has.next_is))
   moved_next u low high (Owns own) old has = absurd has
   moved_next u low high (Hears agents heard) old has = absurd has
+  moved_next u low high (Holds held) old has = absurd has
 
   next_next : (st : Stage) (t : ℕ) → OfRun s st t → (stance : Stance) (old : ℕ) → IsReadyFor s p st t stance → old ≡ (on s t).next → IsNextAt s (next_in s st t) (next_behind st stance old)
   next_next stage.Hand t run stance old has is = is
@@ -174,6 +178,7 @@ module _ (s : Setting) (p : ℕ) where
   numbered_moved t (Leaves left born next) old has = has.next_is
   numbered_moved t (Owns own) old has = absurd has
   numbered_moved t (Hears agents heard) old has = absurd has
+  numbered_moved t (Holds held) old has = absurd has
 
   -- ---- which faults it found
 

@@ -15,7 +15,7 @@ use Rattle.brace_pieces.specs.Owned.{owned}
 use Rattle.brace_pieces.specs.inner.Walks.{ticks_from}
 use Rattle.brace_pieces.proofs.WalkLemmas.{no_tick, first_behind_tick}
 use Rattle.brace_part.specs.declared.standing.Stance.{Stance}
-use Rattle.brace_part.specs.declared.standing.Stance.TheVariants.{Owns, Hears, Leaves}
+use Rattle.brace_part.specs.declared.standing.Stance.TheVariants.{Owns, Hears, Holds, Leaves}
 use Rattle.brace_part.specs.declared.standing.Standing.{Standing}
 use Rattle.brace_part.specs.Parts.{own_under, kept_at}
 use Rattle.brace_part.specs.Given.{no_counts}
@@ -62,6 +62,7 @@ module _ (s : Setting) (p : ℕ) where
       (λ e. has ∙ sym (ap (λ cuts. own_under s p cuts first) (shown_first s first refl)))
       (λ e r. no_recut (recut_behind s first r)) (λ e r. has)
   ready_first up (Hears agents heard) has = absurd has
+  ready_first up (Holds held) has = absurd has
   ready_first up (Leaves left born next) has = absurd has
 
   ready_last : s.job.last < first → (stance : Stance) → IsReadyFor s p stage.Border first stance → IsReadyFor s p stage.Show s.job.last stance
@@ -71,6 +72,7 @@ module _ (s : Setting) (p : ℕ) where
       has ∙ ap (λ n. owned s.job.program (cuts_of s first) p (continued_after s n).agents) same
       ∙ sym (ap (λ c. own_under s p (cuts_of s (if c then s.job.last - 1 else first)) s.job.last) none)
   ready_last down (Hears agents heard) has = absurd has
+  ready_last down (Holds held) has = absurd has
   ready_last down (Leaves left born next) has = absurd has
 
   faultless_first : first ≤ s.job.last → IsFaultlessAt s p (slice_get (steps s) 0)
@@ -94,6 +96,7 @@ module _ (s : Setting) (p : ℕ) where
       (has ∙ sym (ap (λ cuts. own_under s p cuts first) (shown_first s first refl)))
       next_first
   note_first (Hears agents heard) has = absurd has
+  note_first (Holds held) has = absurd has
   note_first (Leaves left born next) has = absurd has
 
   next_at_first : first ≤ s.job.last → (next : ℕ) → next ≡ s.job.start.next → IsNextAt s (slice_get (steps s) 0) next

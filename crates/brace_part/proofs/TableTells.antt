@@ -56,7 +56,8 @@ next_of xs i x le is =
     drop-cons xs i x le ∙ ap (λ y. y ∷ drop (suc i) xs) (sym is) ∙ ap (λ n. x ∷ drop n xs) (sym (add-one i))
 
 -- the same, whatever stands for one that is not there
-next_at : {A : Type 0} (xs : List A) (i : ℕ) (d : A) → i < length xs → drop i xs ≡ get_or xs i d ∷ drop (i + 1) xs
+pub next_at : {A : Type 0} (xs : List A) (i : ℕ) (d : A) → i < length xs
+    → drop i xs ≡ get_or xs i d ∷ drop (i + 1) xs
 next_at xs i d le = drop-cons xs i d le ∙ ap (λ n. get_or xs i d ∷ drop n xs) (sym (add-one i))
 
 module _ (program : Program) (held : List Agent) (said told : List Saying) (faults : List Fault) where

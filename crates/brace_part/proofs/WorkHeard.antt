@@ -56,12 +56,15 @@ use Rattle.brace_num.proofs.Lists.{filter_weaker}
 
 -- ---- lists
 
-mapped_alike : {A B : Type 0} (f g : A → B) (xs : List A) → ((x : A) → Contains xs x → f x ≡ g x) → map f xs ≡ map g xs
+pub mapped_alike : {A B : Type 0} (f g : A → B) (xs : List A)
+    → ((x : A) → Contains xs x → f x ≡ g x) → map f xs ≡ map g xs
 mapped_alike f g [] same = refl
 mapped_alike f g (x ∷ xs) same = ap₂ (λ y ys. y ∷ ys) (same x (0, omega arith, refl)) (mapped_alike f g xs (λ y h. same y (in_more x xs y h)))
 
 -- where no update faults, agents leave what becomes of them
-all_leave : (f : Agent → Result Next Fault) (xs : List Agent) → filter_map result_err (map f xs) ≡ [] → filter_map result_ok (map f xs) ≡ map (λ a. left_or_kept a (f a)) xs
+pub all_leave : (f : Agent → Result Next Fault) (xs : List Agent)
+    → filter_map result_err (map f xs) ≡ []
+    → filter_map result_ok (map f xs) ≡ map (λ a. left_or_kept a (f a)) xs
 all_leave f [] none = refl
 all_leave f (x ∷ xs) none = (elim (f x) as (λ r. cons_option (result_err r) (filter_map result_err (map f xs)) ≡ [] → cons_option (result_ok r) (filter_map result_ok (map f xs)) ≡ left_or_kept x r ∷ map (λ a. left_or_kept a (f a)) xs) [
   | Ok n ↦ λ none. ap (λ ns. n ∷ ns) (all_leave f xs none)
@@ -142,39 +145,64 @@ module _ (worker : Worker) (part : IsWorker worker) (t : ℕ) where
   inside = whole_inside s part.lawful t w whole
 
   -- with inversion what the queries say that it evaluates is all
+  pub becomes_asked : s.invert ≡ true → (a : Agent) → Contains (own_in s p t) a
+      → becomes s t (said s t w) a ≡ becomes s t (said_over s t (own_in s p t) (near s t p w)) a
+  becomes_asked inverted a there =
+      becomes_heard s part.lawful t w inside p part.is_part a there rises
+      ∙ ap (λ xs. becomes s t xs a) same
+    where
+      same : heard s t p w ≡ said_over s t (own_in s p t) (near s t p w)
+      same =
+          ap (λ c. if c then (said_here
+          (forward_program m) s t p w ++ said_in (inverse_program m) s.job.seed t
+          (near s t p w)) else (said_here m s t p w ++ flat_map (λ q. said_by s t q w)
+          (tellers s t p))) inverted
+          ∙ sym (ap (λ c. if c then (table.said_by (forward_program m) s.job.seed t (near s t p w)
+          (own s t p w) ++ table.said_by (inverse_program m) s.job.seed t (near s t p w)
+          (near s t p w)) else table.said_by m s.job.seed t (near s t p w) (own s t p w)) inverted)
+
   pub asked_all : s.invert ≡ true → (agents : List Agent) (it : Heard) → HearsAsked s p t agents it → HearsAll s p t agents it
   asked_all inverted agents it h = record {
     holds = h.holds;
     told = said_over s t (own_in s p t) agents;
     faults = faults_over s t (own_in s p t) agents;
     hears = h.hears;
-    becomes_so = λ a there. becomes_heard s part.lawful t w inside p part.is_part a there rises ∙ ap (λ xs. becomes s t xs a) same;
+    becomes_so = λ a there. becomes_asked inverted a there
+        ∙ sym (ap (λ xs. becomes s t (said_over s t (own_in s p t) xs) a) h.holds);
   }
-    where
-      same : heard s t p w ≡ said_over s t (own_in s p t) agents
-      same =
-          ap (λ c. if c then (said_here (forward_program m) s t p w ++ said_in (inverse_program m) s.job.seed t (near s t p w)) else (said_here m s t p w ++ flat_map (λ q. said_by s t q w) (tellers s t p))) inverted
-          ∙ sym (ap (λ xs. table.said_by (forward_program m) s.job.seed t xs (own s t p w) ++ table.said_by (inverse_program m) s.job.seed t xs xs) h.holds)
-          ∙ sym (ap (λ c. if c then (table.said_by (forward_program m) s.job.seed t agents (own s t p w) ++ table.said_by (inverse_program m) s.job.seed t agents agents) else table.said_by m s.job.seed t agents (own s t p w)) inverted)
 
   -- and without it what they say and what pieces tell
+  abbrev pub told_there : List Saying
+  told_there = flat_map (λ q. told s t q p w) (tellers s t p)
+
+  pub becomes_told : s.invert ≡ false → (a : Agent) → Contains (own_in s p t) a
+      → becomes s t (said s t w) a ≡ becomes s t
+      (said_over s t (own_in s p t) (near s t p w) ++ told_there) a
+  becomes_told plain a there =
+      becomes_joined s part.lawful t w inside p part.is_part plain rises a there
+      ∙ ap (λ xs. becomes s t xs a) same
+    where
+      same : joined s t p w ≡ said_over s t (own_in s p t) (near s t p w) ++ told_there
+      same =
+          sym (ap (λ c. (if c then (table.said_by (forward_program m) s.job.seed t (near s t p w)
+          (own s t p w) ++ table.said_by (inverse_program m) s.job.seed t (near s t p w)
+          (near s t p w)) else table.said_by m s.job.seed t (near s t p w)
+          (own s t p w)) ++ told_there) plain)
+
   pub told_all : s.invert ≡ false → (agents : List Agent) (it after : Heard) (pieces : List Piece) → HearsAsked s p t agents it
-      → TellBy m (near s t p w) pieces (flat_map (λ q. told s t q p w) (tellers s t p))
+      → TellBy m (near s t p w) pieces told_there
       → ((some more : List Saying) (faults : List Fault) → IsHeard m agents some faults it → TellBy m agents pieces more → IsHeard m agents (some ++ more) faults after)
       → HearsAll s p t agents after
   told_all plain agents it after pieces h tells joins = record {
     holds = h.holds;
-    told = said_over s t (own_in s p t) agents ++ flat_map (λ q. told s t q p w) (tellers s t p);
+    told = said_over s t (own_in s p t) agents ++ told_there;
     faults = faults_over s t (own_in s p t) agents;
-    hears = joins (said_over s t (own_in s p t) agents) (flat_map (λ q. told s t q p w) (tellers s t p)) (faults_over s t (own_in s p t) agents) h.hears
-        (subst (λ xs. TellBy m xs pieces (flat_map (λ q. told s t q p w) (tellers s t p))) (sym h.holds) tells);
-    becomes_so = λ a there. becomes_joined s part.lawful t w inside p part.is_part plain rises a there ∙ ap (λ xs. becomes s t xs a) same;
+    hears = joins (said_over s t (own_in s p t) agents) told_there
+        (faults_over s t (own_in s p t) agents) h.hears
+        (subst (λ xs. TellBy m xs pieces told_there) (sym h.holds) tells);
+    becomes_so = λ a there. becomes_told plain a there
+        ∙ sym (ap (λ xs. becomes s t (said_over s t (own_in s p t) xs ++ told_there) a) h.holds);
   }
-    where
-      same : joined s t p w ≡ said_over s t (own_in s p t) agents ++ flat_map (λ q. told s t q p w) (tellers s t p)
-      same =
-          sym (ap (λ xs. table.said_by m s.job.seed t xs (own s t p w) ++ flat_map (λ q. told s t q p w) (tellers s t p)) h.holds)
-          ∙ sym (ap (λ c. (if c then (table.said_by (forward_program m) s.job.seed t agents (own s t p w) ++ table.said_by (inverse_program m) s.job.seed t agents agents) else table.said_by m s.job.seed t agents (own s t p w)) ++ flat_map (λ q. told s t q p w) (tellers s t p)) plain)
 
   -- ---- what its agents leave
 

@@ -1,5 +1,6 @@
 -- What a part holds and owns behind what it took in a step.
 use Rattle.std.proofs.Common.{◌≡◌, ◌∙◌, sym, ap, ap₂, subst, ℕ, ◌+◌, ◌-◌, List, ◌++◌, flat_map}
+use Rattle.std.specs.List.Sorted.{IsPermutation}
 use Rattle.brace_model.specs.declared.world.Agent.{Agent}
 use Rattle.brace_model.specs.World.{World, RisesById}
 use Rattle.brace_cuts.specs.declared.space.Cuts.{Cuts}
@@ -12,7 +13,7 @@ use Rattle.brace_pieces.specs.Owned.{owned}
 use Rattle.brace_pieces.specs.Continued.{continued, on}
 use Rattle.brace_pieces.specs.Together.{AreWhole, IsSorted}
 use Rattle.brace_pieces.specs.Heard.{near}
-use Rattle.brace_pieces.proofs.HeldLemmas.{held_is, handed_is}
+use Rattle.brace_pieces.proofs.HeldLemmas.{held_is, held_together, handed_is}
 use Rattle.brace_pieces.proofs.MoveLemmas.{moved_is}
 use Rattle.brace_pieces.proofs.GivenLemmas.{given_with_births}
 use Rattle.brace_pieces.proofs.OnLemmas.{on_next}
@@ -57,3 +58,17 @@ module _ (worker : Worker) (part : IsWorker worker) (t : ℕ) (pieces : List Pie
       (subst (λ w. RisesById w.agents) next (rises worker part (t + 1)))
       (renamed _ _ given brings)
       ∙ sym (ap (λ w. owned s.job.program now worker.part w.agents) next)
+
+-- a part's own agents and those that pieces bring are what it holds, in some order
+pub near_moved : (worker : Worker) (part : IsWorker worker) (t : ℕ) (pieces : List Piece)
+    (mine : List Agent) → IsWork worker stage.Border t pieces
+    → mine ≡ own_in worker.setting.now worker.part t
+    → IsPermutation (mine ++ flat_map brought pieces)
+    (near worker.setting.now t worker.part (on worker.setting.now t).agents)
+near_moved worker part t pieces mine work same =
+    let s = worker.setting.now in
+    let brings = borders_bring s worker.number worker.part t work.stands
+    (met s (step stage.Border t) worker.part) pieces work.took in
+    subst (λ xs. IsPermutation xs (near s t worker.part (on s t).agents))
+    (sym (ap₂ (λ xs ys. xs ++ ys) same brings))
+    (held_together s part.lawful worker.part part.is_part t (on s t).agents (whole worker part t))

@@ -21,7 +21,7 @@ use Rattle.brace_pieces.specs.declared.piece.Piece.TheVariants as piece
 use Rattle.brace_pieces.specs.Steps.{step, steps}
 use Rattle.brace_pieces.specs.Continued.{on}
 use Rattle.brace_pieces.specs.Right.{Share, share_of, IsRight, IsRightIn, IsRightAt, border, handed, moved, census, said_by, shares}
-use Rattle.brace_pieces.specs.Heard.{own, near, sayings_of, told, IsShareOf}
+use Rattle.brace_pieces.specs.Heard.{own, sayings_of, told, IsShareOf}
 use Rattle.brace_part.specs.inner.Pieces.{brought, counts_brought, GoesOn, AreTaken, none_taken, more_taken}
 use Rattle.brace_part.specs.inner.Tables.{TellsOf, TellsBy, no_entry, one_entry, TellBy, no_piece, one_piece}
 use Rattle.brace_part.proofs.KindLemmas.{border_alone, hand_alone, move_alone, effects_alone, census_alone}
@@ -84,17 +84,21 @@ pub record Tells (m : Program) (held : List Agent) (x : Piece) (said : List Sayi
   pub is : x ≡ piece.Effects entries
   pub tells : TellsBy m held entries said
 
-effects_tell : (s : Setting) (k t q p : ℕ) (w : List Agent) → w ≡ (on s t).agents
-    → ((a : Agent) → Contains (own s t p w) a → Contains (near s t p w) a)
+effects_tell : (s : Setting) (k t q p : ℕ) (w held : List Agent) → w ≡ (on s t).agents
+    → ((a : Agent) → Contains (own s t p w) a → Contains held a)
     → ((g : Share) → Contains (shares s t q p w) g → IsShareOf s.job.program (own s t p w) (said_by s t q w) g)
-    → (x : Piece) → IsRightAt s k stage.Effects t q p x → GoesOn x → Tells s.job.program (near s t p w) x (told s t q p w)
-effects_tell s k t q p w world within each = effects_alone s k t q p (λ x. Tells s.job.program (near s t p w) x (told s t q p w)) (λ entries right.
+    → (x : Piece) → IsRightAt s k stage.Effects t q p x → GoesOn x
+    → Tells s.job.program held x (told s t q p w)
+effects_tell s k t q p w held world within each =
+    effects_alone s k t q p (λ x. Tells s.job.program held x (told s t q p w)) (λ entries right.
     let same : map share_of entries ≡ shares s t q p w = right ∙ ap (shares s t q p) (sym world) in
     record {
       entries = entries;
       is = refl;
-      tells = subst (λ gs. TellsBy s.job.program (near s t p w) entries (flat_map (sayings_of (said_by s t q w)) gs)) same
-          (tells_by s.job.program (near s t p w) (own s t p w) (said_by s t q w) within entries (λ g h. each g (subst (λ gs. Contains gs g) same h)));
+      tells = subst (λ gs. TellsBy s.job.program held entries
+          (flat_map (sayings_of (said_by s t q w)) gs)) same
+          (tells_by s.job.program held (own s t p w) (said_by s t q w) within entries
+          (λ g h. each g (subst (λ gs. Contains gs g) same h)));
     })
 
 -- ---- pieces that were taken, one by one
@@ -151,10 +155,12 @@ module _ (s : Setting) (k p : ℕ) where
         → flat_map counts_brought pieces ≡ map (λ q. census s t q (on s t).agents) others
     censuses_bring stands = taken_count (λ q. census s t q (on s t).agents) (λ q x right goes. census_brings s k t q p x (right_at stage.Census stands q x right) goes)
 
-    pub effects_told : ((a : Agent) → Contains (own s t p (on s t).agents) a → Contains (near s t p (on s t).agents) a)
+    pub effects_told : (held : List Agent) → ((a : Agent) → Contains (own s t p (on s t).agents) a
+        → Contains held a)
         → ((q : ℕ) (g : Share) → Contains (shares s t q p (on s t).agents) g → IsShareOf s.job.program (own s t p (on s t).agents) (said_by s t q (on s t).agents) g)
         → slice_get (steps s) k ≡ Some (step stage.Effects t) → (others : List ℕ) (pieces : List Piece) → AreTaken s k p others pieces
-        → TellBy s.job.program (near s t p (on s t).agents) pieces (flat_map (λ q. told s t q p (on s t).agents) others)
-    effects_told within each stands =
-        taken_tell s.job.program (near s t p (on s t).agents) (λ q. told s t q p (on s t).agents)
-        (λ q x right goes. effects_tell s k t q p (on s t).agents refl within (each q) x (right_at stage.Effects stands q x right) goes)
+        → TellBy s.job.program held pieces (flat_map (λ q. told s t q p (on s t).agents) others)
+    effects_told held within each stands =
+        taken_tell s.job.program held (λ q. told s t q p (on s t).agents)
+        (λ q x right goes. effects_tell s k t q p (on s t).agents held refl within (each q) x
+        (right_at stage.Effects stands q x right) goes)

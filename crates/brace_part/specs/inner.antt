@@ -4,3 +4,4 @@ pub mod Asked
 pub mod Ready
 pub mod Sound
 pub mod Hearing
+pub mod Holding

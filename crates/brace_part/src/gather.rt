@@ -42,6 +42,15 @@ pub fn gathered(mut agents: Vec<Agent>, pieces: &mut Vec<Piece>) -> Result<Vec<A
     Ok(agents)
 }
 
+/// The agents of two lists, by rising id.
+pub fn merged(mut agents: Vec<Agent>, mut more: Vec<Agent>) -> Result<Vec<Agent>, NoMemory>
+    ensures { IfOk result (λ all. IsSorted (agents.items ++ more.items) all.items) }
+{
+    agents.append(&mut more)?;
+    agents.sort_by_key(|a| a.id)?;
+    Ok(agents)
+}
+
 /// Those of some agents that a part owns under some cuts.
 pub fn kept(program: &Program, cuts: &Cuts, part: u32, mut agents: Vec<Agent>) -> Vec<Agent>
     requires { LawfulCuts cuts.now }

@@ -7,6 +7,8 @@ mod asking;
 mod census;
 mod counts;
 mod gather;
+mod holding;
+mod joining;
 pub mod laws;
 mod part;
 mod places;

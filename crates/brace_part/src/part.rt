@@ -140,7 +140,7 @@ fn owned_in(stance: &Stance) -> &[Agent]
 {
     match stance {
         Stance::Owns(own) => own.as_slice(),
-        Stance::Hears(_, _) | Stance::Leaves(_, _, _) => &[],
+        Stance::Hears(_, _) | Stance::Holds(_) | Stance::Leaves(_, _, _) => &[],
     }
 }
 

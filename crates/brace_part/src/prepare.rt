@@ -26,6 +26,7 @@ fn piece_for(worker: &Worker, at: Step, stance: &Stance, to: u32) -> Result<Piec
     ensures goes_on { IfOk result GoesOn }
 {
     let (alloc, setting, tick) = (worker.alloc, worker.setting, at.tick);
+    let cuts = setting.cuts.cuts_at(tick);
     match (at.stage, stance) {
         (Stage::Hand, Stance::Owns(own)) => {
             Ok(Piece::Hand(hand_of(alloc, setting, tick, own, to)?))
@@ -34,8 +35,11 @@ fn piece_for(worker: &Worker, at: Step, stance: &Stance, to: u32) -> Result<Piec
             Ok(Piece::Border(border_of(alloc, setting, tick, own, to)?))
         }
         (Stage::Effects, Stance::Hears(held, heard)) => {
-            let cuts = setting.cuts.cuts_at(tick);
             let entries = told_to(alloc, &setting.job.program, cuts, to, held, heard)?;
+            Ok(Piece::Effects(entries))
+        }
+        (Stage::Effects, Stance::Holds(held)) => {
+            let entries = held.told_sums(alloc, &setting.job.program, cuts, to)?;
             Ok(Piece::Effects(entries))
         }
         (Stage::Census, Stance::Leaves(left, born, _)) => {

@@ -1,4 +1,5 @@
 use crate::counts::Counts;
+use crate::holding::Held;
 use brace_eval::Heard;
 use brace_model::Agent;
 use brace_num::List;
@@ -11,6 +12,8 @@ pub enum Stance {
     Owns(Vec<Agent>),
     /// All agents that it holds, by rising id, and what its own said to them.
     Hears(Vec<Agent>, Heard),
+    /// The same in columns, where nothing that was said needs more than 64 bits.
+    Holds(Held),
     /// What its own agents leave, by rising id: those that live on, and the children; and the next
     /// free id. Children bear their parents' ids before the census, and ids of their own behind it.
     Leaves(Vec<Agent>, Vec<Agent>, u64),

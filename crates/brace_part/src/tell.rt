@@ -19,7 +19,7 @@ use std::alloc::Global;
 
 /// The entry of an effect, by its place, with the number and the count of its total; None exactly
 /// where there is no such entry.
-fn entry_of(target: u64, effect: usize, comb: Comb, number: i128, count: i128) -> Option<Entry>
+pub fn entry_of(target: u64, effect: usize, comb: Comb, number: i128, count: i128) -> Option<Entry>
     ensures share { IfSome result (λ e. share_of e ≡ share_with target effect comb number count) }
     ensures none { IfNone result (effect < 2 ^ 32 → (n : ℕ) → n < 2 ^ 64 → count ≡ pos n
         → ¬ (IsNumberOf comb number n)) }

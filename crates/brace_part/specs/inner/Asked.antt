@@ -12,7 +12,7 @@ use Rattle.brace_model.specs.Query.{Saying, query_of}
 use Rattle.brace_grid.specs.Grids.{grid_of}
 use Rattle.brace_plan.specs.Answers.{greatest_visible}
 use Rattle.brace_eval.specs.declared.heard.Heard.{Heard}
-use Rattle.brace_eval.specs.Heard.{IsHeard, said_by, faults_by}
+use Rattle.brace_eval.specs.Heard.{IsHeard, effects_in, said_by, faults_by}
 use Rattle.brace_part.specs.declared.asking.Asked.{Asked}
 use Rattle.brace_part.specs.declared.asking.Scene.{Scene}
 
@@ -51,10 +51,16 @@ HearsAllOf scene program seed asking before after =
     Hears scene (said_by program seed scene.tick scene.held.now asking)
     (faults_by program seed scene.tick scene.held.now asking) before after
 
--- a program has the agents and the rules of a script: the same agents are lawful, and each leaves
--- the same
+-- agents have the same effects in both programs
+abbrev pub HaveEffectsOf : Program → Program → Type 0
+HaveEffectsOf script program =
+    (a : Agent) → effects_in (class_of program a) ≡ effects_in (class_of script a)
+
+-- a program has the agents, the effects and the rules of a script: the same agents are lawful, and
+-- each leaves the same
 pub record HasRulesOf (script program : Program) : Type 0 where
   pub lawful : (a : Agent) → is_lawful_agent program a ≡ is_lawful_agent script a
+  pub effects : HaveEffectsOf script program
   pub next : (seed tick : ℕ) (totals : List ℤ) (a : Agent)
       → next_in seed tick (class_of program a) totals a
       ≡ next_in seed tick (class_of script a) totals a

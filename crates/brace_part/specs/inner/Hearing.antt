@@ -1,8 +1,8 @@
 -- What the queries of a part hear. Only the crate's own functions cite this.
-use Rattle.std.specs.Prelude.{◌≤◌, ◌<◌, ◌^◌, ℕ, List, length, IsTrue}
-use Rattle.std.specs.List.{All, list_all}
+use Rattle.std.specs.Prelude.{◌≤◌, ◌<◌, ◌^◌, ℕ, List, length, nat_eq, IsTrue}
+use Rattle.std.specs.List.{All, IsDistinct, list_all}
 use Rattle.brace_model.specs.declared.world.Agent.{Agent}
-use Rattle.brace_model.specs.World.{RisesById}
+use Rattle.brace_model.specs.World.{RisesById, ids}
 use Rattle.brace_model.specs.Lawful.{is_lawful_agent}
 use Rattle.brace_eval.specs.declared.heard.Heard.{Heard}
 use Rattle.brace_eval.specs.Heard.{IsHeard}
@@ -27,3 +27,10 @@ pub record CanHear (s : Setting) (asked : Queries) (tick : ℕ) (places : List �
 abbrev pub HearsOver : Setting → ℕ → List ℕ → List Agent → Heard → Type 0
 HearsOver s tick places held heard = (own : List Agent) → ArePlaces held own places
     → IsHeard s.job.program held (said_over s tick own held) (faults_over s tick own held) heard
+
+-- the queries of a run can be asked of these agents in rows
+pub record CanSum (s : Setting) (asked : Queries) (tick : ℕ) (agents : List Agent) : Type 0 where
+  pub queries : AreQueriesOf s asked
+  pub lawful : IsTrue (list_all (is_lawful_agent s.job.program) agents)
+  pub apart : IsDistinct nat_eq (ids agents)
+  pub ticks : tick ≤ 2 ^ 32

@@ -18,8 +18,9 @@ use Rattle.brace_pieces.specs.Heard.{own, near}
 use Rattle.brace_pieces.specs.Finds.{queries_found, updates_found}
 use Rattle.brace_pieces.specs.Right.{IsFaultless}
 use Rattle.brace_part.specs.declared.standing.Stance.{Stance}
-use Rattle.brace_part.specs.declared.standing.Stance.TheVariants.{Owns, Hears, Leaves}
+use Rattle.brace_part.specs.declared.standing.Stance.TheVariants.{Owns, Hears, Holds, Leaves}
 use Rattle.brace_part.specs.Parts.{own_under, own_before, kept_at, keeps_before}
+use Rattle.brace_part.specs.inner.Holding.{HoldsAsked}
 use Rattle.brace_part.specs.inner.Tables.{said_over, faults_over}
 
 -- the agents of a part in the world of a tick
@@ -78,6 +79,7 @@ IsReadyFor s p Border tick (Owns own) = own.items ≡ own_before s p Border tick
 IsReadyFor s p Show tick (Owns own) = own.items ≡ own_before s p Show tick
 IsReadyFor s p Effects tick (Hears agents heard) =
     (s.invert ≡ false) × HearsAsked s p tick agents.items heard
+IsReadyFor s p Effects tick (Holds held) = (s.invert ≡ false) × HoldsAsked s p tick held
 IsReadyFor s p Census tick (Leaves left born next) =
     HasLeft s p tick left.items born.items next
 IsReadyFor s p Move tick (Leaves left born next) = HasBorn s p tick left.items born.items next

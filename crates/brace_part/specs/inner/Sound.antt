@@ -17,7 +17,7 @@ use Rattle.brace_pieces.specs.Courses.{OnCourse, IsCourse, step_of, others_of}
 use Rattle.brace_part.specs.declared.query.Queries.{Queries}
 use Rattle.brace_part.specs.declared.query.Queries.TheVariants.{Script, Inverted}
 use Rattle.brace_part.specs.declared.standing.Stance.{Stance}
-use Rattle.brace_part.specs.declared.standing.Stance.TheVariants.{Owns, Hears, Leaves}
+use Rattle.brace_part.specs.declared.standing.Stance.TheVariants.{Owns, Hears, Holds, Leaves}
 use Rattle.brace_part.specs.declared.standing.Standing.{Standing}
 use Rattle.brace_part.specs.declared.work.Worker.{Worker}
 use Rattle.brace_part.specs.Parts.{keeps_at, IsCauseOfAll}
@@ -110,4 +110,5 @@ pub record IsSound (c : OnCourse) (queries : Queries) (standing : Standing)
 abbrev pub owns_in : Stance → List Agent
 owns_in (Owns own) = own.items
 owns_in (Hears agents heard) = []
+owns_in (Holds held) = []
 owns_in (Leaves left born next) = []

@@ -12,7 +12,8 @@ use Rattle.brace_part.specs.inner.Ready.{IsReadyFor}
 use Rattle.brace_part.specs.inner.Tables.{shares_in}
 use Rattle.brace_part.proofs.StepLemmas.{of_run}
 use Rattle.brace_part.proofs.OutLemmas.{met_is_part, right_in}
-use Rattle.brace_part.proofs.PieceLemmas.{moved_right, told_right}
+use Rattle.brace_part.proofs.PieceLemmas.{met_other, moved_right, sums_right, told_right}
+use Rattle.brace_part.proofs.HoldWork.{held_of}
 use Rattle.brace_part.proofs.prepare.piece_for.Goals as goal
 
 pub border_of-requires-clause-is_part : goal.border_of-requires-clause-is_part
@@ -71,5 +72,42 @@ returns-in_ok-entries-in-Effects-Hears c =
           (λ said faults h. c.in_ok-entries-in-Effects-Hears.ensures.told said faults (rw c.deref-in-Effects-Hears.ensures.value h)
           ∙ ap (λ cuts. shares_in s.job.program cuts c.args.to c.deref-in-Effects-Hears.result.now said) c.cuts_at-cuts.ensures
           ∙ ap (λ list. shares_in s.job.program (cuts_of s t) c.args.to list said) c.deref-in-Effects-Hears.ensures.value)));
+      goes_on = tt;
+    }
+
+pub told_sums-requires : goal.told_sums-requires
+told_sums-requires c =
+    let s = c.args.worker.now.setting.now in
+    record {
+      cuts = subst LawfulCuts (sym c.cuts_at-cuts.ensures)
+          (cuts_lawful s.epoch s.cuts c.args.at.tick c.requires.worker.lawful.plan_is_lawful);
+    }
+
+pub returns-in_ok-entries-in-Effects-Holds : goal.returns-in_ok-entries-in-Effects-Holds
+returns-in_ok-entries-in-Effects-Holds c =
+    let w = c.args.worker.now in
+    let s = w.setting.now in
+    let t = c.args.at.tick in
+    let entries = c.in_ok-entries-in-Effects-Holds.entries in
+    let held = c.in-Effects-Holds.held in
+    let ready = subst (λ st. IsReadyFor s w.part stage.Effects t st) c.in-Effects-Holds.is-1
+    (subst (λ a. IsReadyFor s w.part a t c.args.stance.now) c.in-Effects-Holds.is-0
+    c.requires.ready) in
+    let run = of_run s w.number c.args.at c.requires.next.stands in
+    let other = met_other s c.args.at w.part c.args.to
+    (All-head (λ q. Contains (met s c.args.at w.part) q) c.args.to [] c.requires.to) in
+    record {
+      right = right_in s w.number w.part c.args.to c.args.at
+          (piece.Effects entries) c.requires.next.stands
+          (subst (λ a. IsRightAt s w.number a t w.part c.args.to (piece.Effects entries))
+          (sym c.in-Effects-Holds.is-0)
+          (sums_right s c.requires.worker.lawful c.requires.worker.numbers t w.part
+          c.requires.worker.is_part
+          (run.apart c.in-Effects-Holds.is-0) c.args.to held entries ready.1
+          (held_of w c.requires.worker t held.own.items held.guests.items ready.1.holds c.args.to
+          other)
+          (λ said h. c.in_ok-entries-in-Effects-Holds.ensures.told said h
+          ∙ ap (λ cuts. shares_in s.job.program cuts c.args.to held.guests.items said)
+          c.cuts_at-cuts.ensures)));
       goes_on = tt;
     }

@@ -7,6 +7,7 @@ use Rattle.brace_eval.specs.Heard.{IsHeard}
 use Rattle.brace_pieces.specs.declared.setting.Stage.TheVariants as stage
 use Rattle.brace_pieces.specs.Steps.{step, met}
 use Rattle.brace_pieces.specs.Continued.{on}
+use Rattle.brace_pieces.specs.Heard.{near}
 use Rattle.brace_pieces.proofs.HeardHere.{told_is}
 use Rattle.brace_part.specs.inner.Tables.{TellBy}
 use Rattle.brace_part.proofs.WorkTaken.{effects_told}
@@ -26,7 +27,9 @@ update-requires-clause-heard c =
     let s = c.args.self.now.setting.now in
     let part = c.requires.worker in
     let tells =
-    effects_told s c.args.self.now.number c.args.self.now.part c.args.tick (own_is_near c.args.self.now c.requires.worker c.args.tick)
+    effects_told s c.args.self.now.number c.args.self.now.part c.args.tick
+    (near s c.args.tick c.args.self.now.part (on s c.args.tick).agents)
+    (own_is_near c.args.self.now c.requires.worker c.args.tick)
     (λ q g h. told_is s part.lawful c.args.tick (on s c.args.tick).agents (inside c.args.self.now c.requires.worker c.args.tick) c.args.self.now.part part.is_part q g h)
     c.requires.work.stands (met s (step stage.Effects c.args.tick) c.args.self.now.part) c.args.taken.now c.requires.work.took in
     told_all c.args.self.now c.requires.worker c.args.tick c.requires.plain c.args.held.items c.args.heard c.join_told.new.heard c.args.taken.now c.requires.heard tells

@@ -1,15 +1,14 @@
 use Rattle.std.proofs.Common.{◌∙◌, ◌<◌, ℕ, List, length, All, sym, subst}
 use Rattle.brace_eval.specs.Heard.{IsHeard}
-use Rattle.brace_pieces.specs.declared.setting.Stage.TheVariants as stage
 use Rattle.brace_cuts.specs.Space.{LawfulCuts}
 use Rattle.brace_pieces.specs.Owned.{owned}
 use Rattle.brace_pieces.proofs.CutLemmas.{cuts_lawful}
 use Rattle.brace_part.specs.inner.Asked.{ArePlaces}
 use Rattle.brace_part.specs.inner.Ready.{own_in}
 use Rattle.brace_part.specs.inner.Tables.{said_over, faults_over}
-use Rattle.brace_part.proofs.WorkHeard.{near_lawful, near_few, near_rises, own_at_places, tick_fits}
+use Rattle.brace_part.proofs.WorkHeard.{near_lawful, near_few, near_rises, own_at_places}
 use Rattle.brace_part.proofs.LaneLemmas.{places_within}
-use Rattle.brace_part.proofs.WorkOwned.{holds_near}
+use Rattle.brace_part.proofs.HoldWork.{held_merged}
 use Rattle.brace_part.proofs.work.Worker.query.Goals as goal
 
 pub heard-requires : goal.heard-requires
@@ -18,7 +17,8 @@ heard-requires c =
     let held = c.in_ok-held.held.items in
     let places = c.deref-2.result.now in
     let near = c.deref-3.ensures.value
-    ∙ holds_near w c.requires.worker c.args.tick c.args.taken.now.items c.args.own.items c.in_ok-held.held.items c.in_ok-held.ensures.sorted c.requires.work c.requires.own in
+    ∙ held_merged w c.requires.worker c.args.tick c.args.own.items c.args.guests.items
+    c.requires.held c.in_ok-held.held.items c.in_ok-held.ensures in
     record {
       queries = c.requires.worker.queries_are;
       lawful = near_lawful w c.requires.worker c.args.tick c.deref-3.result.now near;
@@ -27,7 +27,7 @@ heard-requires c =
       placed = subst (λ xs. All (λ (place : ℕ). place < length xs) places) (sym c.deref-3.ensures.value)
           (places_within held _ places (subst (ArePlaces held _) (sym {A = List ℕ} c.deref-2.ensures.value)
           (subst (λ xs. ArePlaces xs (owned w.setting.now.job.program c.cuts_at-cuts.result.now w.part xs) c.in_ok-places.places.items) c.deref.ensures.value c.in_ok-places.ensures)));
-      ticks = tick_fits w c.requires.worker c.args.tick stage.Border (λ e. absurd (cc)) c.requires.work.stands;
+      ticks = c.requires.ticks;
     }
 
 pub own_places-requires-clause-cuts : goal.own_places-requires-clause-cuts
@@ -38,21 +38,28 @@ own_places-requires-clause-cuts c =
 pub own_places-requires-clause-few : goal.own_places-requires-clause-few
 own_places-requires-clause-few c =
     near_few c.args.self.now c.requires.worker c.args.tick c.deref.result.now (c.deref.ensures.value
-    ∙ holds_near c.args.self.now c.requires.worker c.args.tick c.args.taken.now.items c.args.own.items c.in_ok-held.held.items c.in_ok-held.ensures.sorted c.requires.work c.requires.own)
+    ∙ held_merged c.args.self.now c.requires.worker c.args.tick c.args.own.items c.args.guests.items
+    c.requires.held c.in_ok-held.held.items c.in_ok-held.ensures)
 
-pub returns-clause-heard : goal.returns-clause-heard
-returns-clause-heard c =
+pub returns : goal.returns
+returns c =
     let w = c.args.self.now in
     let s = w.setting.now in
     let m = s.job.program in
     let t = c.args.tick in
     let held = c.in_ok-held.held.items in
-    let holds = holds_near c.args.self.now c.requires.worker c.args.tick c.args.taken.now.items c.args.own.items c.in_ok-held.held.items c.in_ok-held.ensures.sorted c.requires.work c.requires.own in
+    let holds = held_merged c.args.self.now c.requires.worker c.args.tick c.args.own.items
+    c.args.guests.items c.requires.held c.in_ok-held.held.items c.in_ok-held.ensures in
     let at = own_at_places w c.requires.worker t held c.cuts_at-cuts.result.now c.deref-2.result.now holds c.cuts_at-cuts.ensures
     (subst (ArePlaces held _) (sym {A = List ℕ} c.deref-2.ensures.value)
     (subst (λ xs. ArePlaces xs (owned m c.cuts_at-cuts.result.now w.part xs) c.in_ok-places.places.items) c.deref.ensures.value c.in_ok-places.ensures)) in
     record {
-      holds = holds;
-      hears = subst (λ xs. IsHeard m xs (said_over s t (own_in s w.part t) xs) (faults_over s t (own_in s w.part t) xs) c.in_ok-heard.heard) c.deref-3.ensures.value
-          (c.in_ok-heard.ensures (own_in s w.part t) (subst (λ xs. ArePlaces xs (own_in s w.part t) c.deref-2.result.now) (sym c.deref-3.ensures.value) at));
+      heard = record {
+        holds = holds;
+        hears = subst (λ xs. IsHeard m xs (said_over s t (own_in s w.part t) xs)
+            (faults_over s t (own_in s w.part t) xs) c.in_ok-heard.heard) c.deref-3.ensures.value
+            (c.in_ok-heard.ensures (own_in s w.part t)
+            (subst (λ xs. ArePlaces xs (own_in s w.part t) c.deref-2.result.now)
+            (sym c.deref-3.ensures.value) at));
+      };
     }

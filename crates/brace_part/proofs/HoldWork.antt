@@ -1,0 +1,282 @@
+-- What a part holds in rows in a step, and what is left of its agents.
+use Rattle.std.proofs.Common.{◌≡◌, ◌∙◌, refl, sym, ap, ap₂, subst, ℕ, ◌≤◌, ◌^◌, List, [], ◌∷◌, ◌++◌, map, filter, filter_map, flat_map, length, take, Bool, true, false, cond, Option, Some, None, Result, Ok, Err, IfOk, arith}
+use Rattle.std.specs.Prelude.{nat_eq}
+use Rattle.std.specs.List.{Contains, IsDistinct, list_all}
+use Rattle.std.specs.List.Sorted.{IsPermutation}
+use Rattle.std.specs.Result.{result_ok, result_err}
+use Rattle.std.proofs.lemmas.Bool.{eqb-true, ne_eqb}
+use Rattle.std.proofs.lemmas.List.Elements.{filter-append}
+use Rattle.std.proofs.lemmas.List.Sorted.{IsPermutation-sym, IsPermutation-trans, IsPermutation-refl, IsPermutation-append}
+use Rattle.brace_num.proofs.Lists.{in_more}
+use Rattle.brace_num.proofs.Orders.{filter_rises, one_moved, one_sorted, sorted_rises}
+use Rattle.brace_model.specs.declared.program.Program.{Program}
+use Rattle.brace_model.specs.declared.world.Agent.{Agent}
+use Rattle.brace_model.specs.declared.program.Class.{Class}
+use Rattle.brace_model.specs.World.{RisesById, class_of, ids, x_of, y_of}
+use Rattle.brace_model.specs.Total.{totals_from}
+use Rattle.brace_model.specs.Lawful.{is_lawful_agent}
+use Rattle.brace_model.specs.Step.{living, children}
+use Rattle.brace_cuts.specs.Space.{owner_of}
+use Rattle.brace_eval.specs.Heard.{row_of}
+use Rattle.brace_fold.specs.Becoming.{becomes_said}
+use Rattle.brace_fold.specs.Rows.{AreMoved, by_id}
+use Rattle.brace_fold.specs.Sums.{AreSummed}
+use Rattle.brace_fold.specs.declared.renewal.Renewed.{Renewed}
+use Rattle.brace_fold.specs.inner.Hears.{Hears}
+use Rattle.brace_fold.proofs.RowLemmas.{by_id_is, lawful_moved, rows_apart}
+use Rattle.brace_invert.proofs.Heard.{seen_in}
+use Rattle.brace_pieces.specs.declared.setting.Setting.{Setting}
+use Rattle.brace_pieces.specs.declared.setting.Stage.TheVariants as stage
+use Rattle.brace_pieces.specs.declared.piece.Piece.{Piece}
+use Rattle.brace_pieces.specs.Settings.{cuts_of}
+use Rattle.brace_pieces.specs.Steps.{step, met}
+use Rattle.brace_pieces.specs.Owned.{owns, owns_at, owned}
+use Rattle.brace_pieces.specs.Continued.{said, becomes, on}
+use Rattle.brace_pieces.specs.Finds.{queries_found, updates_found}
+use Rattle.brace_pieces.specs.Together.{IsSorted}
+use Rattle.brace_pieces.proofs.HeardHere.{finds_here, told_is}
+use Rattle.brace_part.specs.declared.holding.Held.{Held}
+use Rattle.brace_part.specs.declared.work.Worker.{Worker}
+use Rattle.brace_part.specs.inner.Asked.{HasRulesOf}
+use Rattle.brace_part.specs.inner.Hearing.{CanSum}
+use Rattle.brace_part.specs.inner.Holding.{HoldsAll, HoldsAsked, IsHeld, LeavesRows, mine, all_near}
+use Rattle.brace_part.specs.inner.Pieces.{brought}
+use Rattle.brace_part.specs.inner.Sound.{IsWorker, IsWork}
+use Rattle.brace_part.specs.inner.Tables.{said_over, faults_over, TellBy}
+use Rattle.brace_part.proofs.AskedLemmas.{filter_moved}
+use Rattle.brace_part.proofs.LawfulOn.{on_lawful, some_pass}
+use Rattle.brace_part.proofs.TableLeft.{becomes_row}
+use Rattle.brace_part.proofs.WorkHeard.{all_leave, becomes_asked, becomes_told, told_there, inside, mapped_alike, near_lawful, near_rises, rises}
+use Rattle.brace_part.proofs.WorkOwned.{near_moved}
+use Rattle.brace_part.proofs.WorkTaken.{effects_told}
+
+-- of items no two of which have one key the last ones have none either
+pub apart_behind : (xs ys : List Agent) → IsDistinct nat_eq (ids (xs ++ ys))
+    → IsDistinct nat_eq (ids ys)
+unfolding IsDistinct
+apart_behind [] ys apart = apart
+apart_behind (x ∷ xs) ys apart = apart_behind xs ys apart.1
+
+pub ok_always : {X Y : Type 0} (r : Result X Y) (P : Type 0) → P → IfOk r (λ x. P)
+ok_always (Ok x) P h = h
+ok_always (Err e) P h = tt
+
+pub take_first : (xs ys : List Agent) → take (length xs) (xs ++ ys) ≡ xs
+take_first [] ys = refl
+take_first (x ∷ xs) ys = ap (λ l. x ∷ l) (take_first xs ys)
+
+none_of : (test : Agent → Bool) (xs : List Agent) → ((a : Agent) → Contains xs a → test a ≡ false)
+    → filter test xs ≡ []
+none_of test [] none = refl
+none_of test (x ∷ xs) none = skipped (test x) (none x (0, omega arith, refl))
+    (none_of test xs (λ a h. none a (in_more x xs a h)))
+  where
+    skipped : (b : Bool) → b ≡ false → filter test xs ≡ []
+        → cond b (x ∷ filter test xs) (filter test xs) ≡ []
+    skipped true is rest = absurd (cc)
+    skipped false is rest = rest
+
+module _ (worker : Worker) (part : IsWorker worker) (t : ℕ) where
+  abbrev s : Setting
+  s = worker.setting.now
+
+  abbrev p : ℕ
+  p = worker.part
+
+  abbrev m : Program
+  m = s.job.program
+
+  abbrev all : List Agent
+  all = all_near s p t
+
+  all_rise : RisesById all
+  all_rise = near_rises worker part t all refl
+
+  pub mine_lawful : list_all (is_lawful_agent m) (mine s p t) ≡ true
+  mine_lawful = some_pass (is_lawful_agent m) (owns m (cuts_of s t) p) (on s t).agents
+      (on_lawful s part.lawful t).each_is_lawful
+
+  pub mine_rise : RisesById (mine s p t)
+  mine_rise = filter_rises (λ (a : Agent). a.id) (owns m (cuts_of s t) p) (on s t).agents
+      (rises worker part t)
+
+  -- ---- what it holds
+
+  -- another part owns none of its agents
+  one_owner : (q : ℕ) (a : Agent) → (p ≡ q → ⊥) → (o : Option Class)
+      → owns_at (cuts_of s t) p o a ≡ true → owns_at (cuts_of s t) q o a ≡ false
+  one_owner q a other None is = refl
+  one_owner q a other (Some c) is =
+      let owner = owner_of (cuts_of s t) (x_of c a) (y_of c a) in
+      ne_eqb owner q (λ same. other (sym (eqb-true owner p is) ∙ same))
+
+  not_theirs : (q : ℕ) → (p ≡ q → ⊥) → (a : Agent) → Contains (mine s p t) a
+      → owns m (cuts_of s t) q a ≡ false
+  not_theirs q other a there =
+      one_owner q a other (class_of m a) (seen_in (owns m (cuts_of s t) p)
+      (on s t).agents a there).1
+
+  -- its agents and those that pieces bring
+  pub is_held : (pieces : List Piece) (own guests : List Agent)
+      → IsWork worker stage.Border t pieces → own ≡ mine s p t
+      → IsSorted (flat_map brought pieces) guests → IsHeld s p t own guests
+  is_held pieces own guests work same sorted =
+      let id : Agent → ℕ = λ a. a.id in
+      let many : IsPermutation (own ++ flat_map brought pieces) all =
+      near_moved worker part t pieces own work same in
+      let moved = IsPermutation-trans _ _ _ (IsPermutation-append own own guests
+      (flat_map brought pieces) (IsPermutation-refl own)
+      (IsPermutation-sym _ _ sorted.same)) many in
+      let apart = rows_apart all (own ++ guests) all_rise (IsPermutation-sym _ _ moved) in
+      record {
+        own_is = same;
+        rises = sorted_rises id guests (apart_behind own guests apart) sorted.in_order;
+        moved = moved;
+      }
+
+  module _ (own guests : List Agent) (h : IsHeld s p t own guests) where
+    pub held_apart : IsDistinct nat_eq (ids (own ++ guests))
+    held_apart = rows_apart all (own ++ guests) all_rise (IsPermutation-sym _ _ h.moved)
+
+    pub held_lawful : list_all (is_lawful_agent m) (own ++ guests) ≡ true
+    held_lawful = lawful_moved m all (own ++ guests) (IsPermutation-sym _ _ h.moved)
+        (near_lawful worker part t all refl)
+
+    pub held_by_id : by_id (own ++ guests) ≡ all
+    held_by_id = by_id_is all (own ++ guests) all_rise (IsPermutation-sym _ _ h.moved)
+
+    -- all of them by rising id
+    pub held_merged : (list : List Agent) → IsSorted (own ++ guests) list → list ≡ all
+    held_merged list sorted =
+        one_sorted (λ (a : Agent). a.id) list all
+        (IsPermutation-trans _ _ _
+        (IsPermutation-sym _ _ h.moved) sorted.same) sorted.in_order all_rise
+
+    -- those of another part
+    pub held_of : (q : ℕ) → (p ≡ q → ⊥)
+        → owned m (cuts_of s t) q guests ≡ owned m (cuts_of s t) q all
+    held_of q other =
+        let theirs = owns m (cuts_of s t) q in
+        let none : owned m (cuts_of s t) q own ≡ [] =
+        ap (owned m (cuts_of s t) q) h.own_is ∙ none_of theirs (mine s p t)
+        (λ a there. not_theirs q other a there) in
+        let moved : IsPermutation (filter theirs guests) (filter theirs all) =
+        subst (λ l. IsPermutation l (filter theirs all))
+        (filter-append theirs own guests ∙ ap (λ l. l ++ filter theirs guests) none)
+        (filter_moved theirs (own ++ guests) all h.moved) in
+        let id : Agent → ℕ = λ a. a.id in
+        one_moved id (filter theirs guests) (filter theirs all) moved
+        (filter_rises id theirs guests h.rises) (filter_rises id theirs all all_rise)
+
+  -- ---- what is left of its agents
+
+  module _ (plans : Program) (rules : HasRulesOf m plans) (held : Held)
+      (h : HoldsAll s p t held) where
+    results : map (becomes_said plans s.job.seed t h.told)
+        (mine s p t) ≡ map (becomes s t (said s t (on s t).agents)) (mine s p t)
+    results =
+        mapped_alike (becomes_said plans s.job.seed t h.told)
+        (becomes s t (said s t (on s t).agents)) (mine s p t)
+        (λ a there.
+        rules.next s.job.seed t (row_of plans h.told a) a
+        ∙ sym (becomes_row s t h.told a (row_of plans h.told a)
+        (ap (λ effects. totals_from 0 a.id effects h.told) (rules.effects a)))
+        ∙ sym (h.becomes_so a there))
+
+    pub leaves_rows : (renewed : Renewed) (list : List Agent) → list ≡ mine s p t
+        → AreMoved (living (filter_map result_ok
+        (map (becomes_said plans s.job.seed t h.told) list))) renewed.left
+        → renewed.born.items ≡ children (filter_map result_ok
+        (map (becomes_said plans s.job.seed t h.told) list))
+        → filter_map result_err (map (becomes_said plans s.job.seed t h.told) list) ≡ []
+        → LeavesRows s p t renewed
+    leaves_rows renewed list is left born none =
+        let now : map (becomes_said plans s.job.seed t h.told) list ≡ map (becomes s t
+        (said s t (on s t).agents)) (mine s p t) =
+        ap (map (becomes_said plans s.job.seed t h.told)) is ∙ results in
+        let quiet : updates_found s t p (on s t).agents ≡ [] =
+        sym (ap (filter_map result_err) now) ∙ none in
+        let nexts = ap (filter_map result_ok) now
+        ∙ all_leave (becomes s t (said s t (on s t).agents)) (mine s p t) quiet in
+        record {
+          quiet = quiet;
+          lives = subst (λ l. AreMoved (living l) renewed.left) nexts left;
+          bears = born ∙ ap children nexts;
+        }
+
+  -- ---- what is said to those that it holds
+
+  -- its queries can be asked of these
+  pub can_sum : (own guests : List Agent) → IsHeld s p t own guests → t ≤ 2 ^ 32
+      → CanSum s worker.queries.now t (own ++ guests)
+  can_sum own guests h ticks = record {
+    queries = part.queries_are;
+    lawful = held_lawful own guests h;
+    apart = held_apart own guests h;
+    ticks = ticks;
+  }
+
+  -- in rows it holds what it was asked
+  pub holds_asked : (held : Held) → IsHeld s p t held.own.items held.guests.items
+      → AreMoved (held.own.items ++ held.guests.items) held.rows
+      → AreSummed m (held.own.items ++ held.guests.items)
+      (said_over s t held.own.items (by_id (held.own.items ++ held.guests.items))) held.said
+      → HoldsAsked s p t held
+  holds_asked held h rows sums = record {
+    holds = h;
+    rows = rows;
+    sums = subst (λ own. AreSummed m (held.own.items ++ held.guests.items)
+        (said_over s t own all) held.said) h.own_is
+        (subst (λ list. AreSummed m (held.own.items ++ held.guests.items)
+        (said_over s t held.own.items list) held.said)
+        (held_by_id held.own.items held.guests.items h) sums);
+  }
+
+  -- and none of its queries faults
+  pub asked_quiet : (own guests : List Agent) → IsHeld s p t own guests
+      → faults_over s t own (by_id (own ++ guests)) ≡ []
+      → queries_found s t p (on s t).agents ≡ []
+  asked_quiet own guests h none =
+      sym (finds_here s part.lawful t (on s t).agents (inside worker part t) p part.is_part)
+      ∙ ap (λ l. faults_over s t l all) (sym h.own_is)
+      ∙ ap (faults_over s t own) (sym (held_by_id own guests h)) ∙ none
+
+  -- with inversion that is all
+  pub all_asked : s.invert ≡ true → (held : Held) → HoldsAsked s p t held → HoldsAll s p t held
+  all_asked inverted held h = record {
+    holds = h.holds;
+    rows = h.rows;
+    told = said_over s t (mine s p t) all;
+    sums = h.sums;
+    becomes_so = becomes_asked worker part t inverted;
+  }
+
+  -- and without it what was asked, and what pieces tell
+  pub all_told : s.invert ≡ false → (before after : Held) → HoldsAsked s p t before
+      → after.own ≡ before.own → after.guests ≡ before.guests
+      → after.rows ≡ before.rows
+      → Hears m (before.own.items ++ before.guests.items)
+      (told_there worker part t) before.said after.said
+      → HoldsAll s p t after
+  all_told plain before after h own_is guests_is rows_is hears =
+      let told = said_over s t (mine s p t) all ++ told_there worker part t in
+      let agents = ap₂ (λ xs ys. xs ++ ys) (ap (λ v. v.items) (sym own_is))
+      (ap (λ v. v.items) (sym guests_is)) in
+      record {
+        holds = subst (λ own. IsHeld s p t own after.guests.items) (ap (λ v. v.items) (sym own_is))
+            (subst (IsHeld s p t before.own.items) (ap (λ v. v.items) (sym guests_is)) h.holds);
+        rows = subst (λ l. AreMoved l after.rows) agents
+            (subst (AreMoved (before.own.items ++ before.guests.items)) (sym rows_is) h.rows);
+        told = told;
+        sums = subst (λ l. AreSummed m l told after.said) agents
+            (hears.each (said_over s t (mine s p t) all) h.sums);
+        becomes_so = becomes_told worker part t plain;
+      }
+
+  -- what pieces tell of its own agents
+  pub tells_mine : (pieces : List Piece) → IsWork worker stage.Effects t pieces
+      → TellBy m (mine s p t) pieces (told_there worker part t)
+  tells_mine pieces work =
+      effects_told s worker.number p t (mine s p t) (λ a there. there)
+      (λ q g h. told_is s part.lawful t (on s t).agents (inside worker part t) p part.is_part q g h)
+      work.stands (met s (step stage.Effects t) p) pieces work.took

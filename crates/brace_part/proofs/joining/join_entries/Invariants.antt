@@ -1,0 +1,16 @@
+use Rattle.std.proofs.Common.{◌++◌, List, drop}
+use Rattle.std.specs.Prelude.{nat_eq}
+use Rattle.std.specs.List.{IsDistinct}
+use Rattle.brace_model.specs.declared.world.Agent.{Agent}
+use Rattle.brace_model.specs.World.{ids}
+use Rattle.brace_model.specs.Query.{Saying}
+use Rattle.brace_part.specs.inner.Tables.{TellsBy}
+use Rattle.brace_part.proofs.HoldLemmas.{SoFarJoined}
+use Rattle.brace_part.proofs.joining.join_entries.Given as goal
+
+abbrev pub invariant-loop-entry : goal.invariant-loop-entry
+invariant-loop-entry l = (guests : List Agent) (told : List Saying)
+    → IsDistinct nat_eq (ids (l.own ++ guests))
+    → TellsBy l.program l.own l.entries told
+    → SoFarJoined l.program (l.own ++ guests) told l.fn.said l.said
+    (TellsBy l.program l.own (drop l.entry-index l.entries))

@@ -1,0 +1,36 @@
+use Rattle.std.proofs.Common.{◌≡◌, sym, ap, subst, inr}
+use Rattle.brace_model.specs.FaultOrder.{least}
+use Rattle.brace_pieces.specs.declared.setting.Stage.TheVariants as stage
+use Rattle.brace_pieces.specs.declared.piece.Cause.TheVariants as cause
+use Rattle.brace_part.specs.Parts.{IsCauseOf, found_in_work}
+use Rattle.brace_part.specs.inner.Holding.{IsHeld}
+use Rattle.brace_part.proofs.HoldWork.{ok_always}
+use Rattle.brace_part.proofs.WorkHeard.{err_weaker, tick_fits}
+use Rattle.brace_part.proofs.work.Worker.behind_told_sums.Goals as goal
+
+pub leaves-requires-clause-next : goal.leaves-requires-clause-next
+leaves-requires-clause-next c = c.requires.work.next_is
+
+pub returns-in-Ok-clause-passes : goal.returns-in-Ok-clause-passes
+returns-in-Ok-clause-passes c = ok_always c.leaves.result _ (ap least c.in-Ok.ensures.leaves.quiet)
+
+pub returns-in-Ok-clause-faulted : goal.returns-in-Ok-clause-faulted
+returns-in-Ok-clause-faulted c =
+    let w = c.args.self.now in
+    err_weaker c.leaves.result (λ e. e ≡ cause.NoMemory)
+    (IsCauseOf (found_in_work w.setting.now w.part stage.Effects c.args.tick))
+    (λ e is. inr is) c.leaves.ensures.faulted
+
+pub query-requires-clause-held : goal.query-requires-clause-held
+query-requires-clause-held c =
+    let w = c.args.self.now in
+    let after = c.renewed_told.new.held in
+    subst (λ own. IsHeld w.setting.now w.part c.args.tick own after.guests.items)
+    (ap (λ v. v.items) (sym c.renewed_told.ensures.own))
+    (subst (λ guests. IsHeld w.setting.now w.part c.args.tick c.args.held.own.items guests)
+    (ap (λ v. v.items) (sym c.renewed_told.ensures.guests)) c.requires.held.holds)
+
+pub query-requires-clause-ticks : goal.query-requires-clause-ticks
+query-requires-clause-ticks c =
+    tick_fits c.args.self.now c.requires.worker c.args.tick stage.Effects
+    (λ e. absurd (cc)) c.requires.work.stands
