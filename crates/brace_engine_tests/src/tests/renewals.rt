@@ -136,7 +136,7 @@ fn each_way(
     alloc: Global,
     program: &Program,
     agents: &[Agent],
-) -> Result<[Option<String>; 3], NoMemory>
+) -> Result<(Option<String>, Option<String>, Option<String>), NoMemory>
     requires lawful { LawfulProgram program.now }
     requires agents { IsTrue (list_all (is_lawful_agent program.now) agents.now) }
     requires rises { RisesById agents.now }
@@ -147,7 +147,7 @@ fn each_way(
     let one_by_one = one_by_one(alloc, &plans, agents, &heard)?;
     let at_once = at_once(alloc, &plans, agents, &heard)?;
     let in_columns = in_columns(alloc, &plans, agents).ok();
-    Ok([one_by_one, at_once, in_columns])
+    Ok((one_by_one, at_once, in_columns))
 }
 
 /// Two classes whose rules draw and read totals; deaths, and children with gifts.
@@ -172,13 +172,13 @@ fn renews_all_as_each(rt: HostRuntime) -> Result<(), Fail> {
     let Ok(world) = read_agents(alloc, &program, ROWS.as_bytes()) else {
         return Err("no agents".into());
     };
-    let [one_by_one, at_once, in_columns] = each_way(alloc, &program, world.agents())?;
+    let (one_by_one, at_once, in_columns) = each_way(alloc, &program, world.agents())?;
     assert!(rt; one_by_one.is_some());
     assert!(rt; one_by_one == at_once && one_by_one == in_columns);
     let Ok(world) = read_agents(alloc, &program, STOPS.as_bytes()) else {
         return Err("no agents".into());
     };
-    let [one_by_one, at_once, in_columns] = each_way(alloc, &program, world.agents())?;
+    let (one_by_one, at_once, in_columns) = each_way(alloc, &program, world.agents())?;
     assert!(rt; one_by_one.is_none() && at_once.is_none() && in_columns.is_none());
     Ok(())
 }
