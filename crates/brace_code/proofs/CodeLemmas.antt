@@ -5,7 +5,6 @@ use Rattle.brace_model.specs.declared.program.UnOp.{UnOp}
 use Rattle.brace_model.specs.declared.program.BinOp.{BinOp}
 use Rattle.brace_model.specs.Value.{Scope}
 use Rattle.brace_code.specs.declared.code.Operand.{Operand}
-use Rattle.brace_code.specs.declared.code.Operand.TheVariants.{Word}
 use Rattle.brace_code.specs.declared.code.Instr.{Instr}
 use Rattle.brace_code.specs.declared.code.Instr.TheVariants.{Push, Unary, Binary, With, Choice, rolls-Push, rolls-Unary, rolls-Binary, rolls-With, rolls-Choice}
 use Rattle.brace_code.specs.declared.code.Instr.TheOpen as layer
@@ -52,10 +51,9 @@ pub run-push : (code : List Instr) (i : Instr) (room : ℕ) (scope : Scope) (sta
 run-push code i room scope stack =
     run-append code (i ∷ []) room scope stack ∙ ap (λ (f : List ℤ → Left). onward (run code room scope stack) f) (λ j s. run-one i room scope s j)
 
--- code that is a word alone
-pub word_alone : (code rest : List Instr) (first : Instr) (o : Operand) (w v : ℤ) → code ≡ first ∷ rest → first ≡ Push o → o ≡ Word w → length rest ≡ 0 → v ≡ w
-    → code ≡ Push (Word v) ∷ []
-word_alone code [] first o w v is f g none same = is ∙ ap (λ (i : Instr). i ∷ []) (f ∙ ap (λ (x : Operand). Push x) (g ∙ ap (λ (n : ℤ). Word n) (sym same)))
-word_alone code (next ∷ rest) first o w v is f g none same = absurd (omega (arith, none))
-
-pub ruleset word_rules = (word_alone)
+-- code that is an operand alone
+pub operand_alone : (code rest : List Instr) (first : Instr) (o p : Operand) → code ≡ first ∷ rest
+    → first ≡ Push o → length rest ≡ 0 → p ≡ o → code ≡ Push p ∷ []
+operand_alone code [] first o p is f none same =
+    is ∙ ap (λ (i : Instr). i ∷ []) (f ∙ ap (λ (x : Operand). Push x) (sym same))
+operand_alone code (next ∷ rest) first o p is f none same = absurd (omega (arith, none))

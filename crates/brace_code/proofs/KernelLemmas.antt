@@ -1,10 +1,10 @@
 -- What holds lane after lane.
-use Rattle.std.proofs.Common.{◌≡◌, ◌∙◌, ◌≢◌, sym, subst, arith, ℕ, ◌+◌, ◌<◌, ◌≤◌, ℤ, pos, Bool, false, List, length, slice_index_or, set, ⊎_elim}
+use Rattle.std.proofs.Common.{◌≡◌, ◌∙◌, ◌≢◌, sym, ap, subst, arith, ℕ, ◌+◌, ◌<◌, ◌≤◌, ℤ, pos, Bool, false, List, [], ◌∷◌, ◌++◌, length, slice_index_or, set, ⊎_elim}
 use Rattle.std.proofs.lemmas.Bool.{cases_lt}
-use Rattle.std.proofs.lemmas.List.{get_or_default, get_or-set_same, get_or-set_other}
+use Rattle.std.proofs.lemmas.List.{get_or_default, get_or-set_same, get_or-set_other, get_or_append_left, get_or_at}
 use Rattle.brace_code.specs.declared.lane.Lane.{Lane}
 use Rattle.brace_code.specs.declared.lane.Row.{Row}
-use Rattle.brace_code.specs.Columns.{row_at}
+use Rattle.brace_code.specs.Lanes.{row_at}
 
 -- what holds of the lanes before a place, and of the one there
 pub each_more : (P : ℕ → Lane → Type 0) (lanes : List Lane) (n : ℕ) (e : Lane) → n < length lanes
@@ -46,3 +46,26 @@ module _ (Q : ℤ → ℤ → ℤ → Bool → Type 0) (old column : List ℤ) (
       subst (λ (w : ℤ). Q (slice_index_or old k (pos 0)) other w false) kept (before k d l))
       (subst (λ (z : ℤ). Q first z (slice_index_or after n (pos 0)) false) (sym read)
       (subst (λ (w : ℤ). Q first y w false) written made_now))
+
+-- one word more that was read at a row of its lane
+module _ (column : List ℤ) (row : Row) where
+  abbrev Reads : List ℤ → ℕ → Lane → Type 0
+  Reads words k lane = (row_at row lane < length column)
+      × (slice_index_or column (row_at row lane) (pos 0) ≡ slice_index_or words k (pos 0))
+
+  pub read_more : (words after : List ℤ) (lanes : List Lane) (n : ℕ) (e : Lane) (word : ℤ)
+      → n < length lanes → length words ≡ n → after ≡ words ++ word ∷ []
+      → ((k : ℕ) (d : Lane) → k < n → Reads words k (slice_index_or lanes k d))
+      → row_at row (slice_index_or lanes n e) < length column
+      → slice_index_or column (row_at row (slice_index_or lanes n e)) (pos 0) ≡ word
+      → (k : ℕ) (d : Lane) → k < n + 1 → Reads after k (slice_index_or lanes k d)
+  read_more words after lanes n e word inside long is before there read =
+      each_more (Reads after) lanes n e inside
+      (λ k d l.
+      let (low, same) = before k d l in
+      let kept = get_or_append_left words (word ∷ []) (pos 0) k (omega (arith, l, long)) in
+      (low, same ∙ sym kept ∙ ap (λ (ws : List ℤ). slice_index_or ws k (pos 0)) (sym is))) (
+        there,
+        read ∙ sym (get_or_at words word [] (pos 0) n long)
+            ∙ ap (λ (ws : List ℤ). slice_index_or ws n (pos 0)) (sym is),
+      )

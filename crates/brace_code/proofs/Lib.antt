@@ -7,4 +7,5 @@ pub mod LaneLemmas
 pub mod KernelLemmas
 pub mod OperandLemmas
 pub mod RunLemmas
+pub mod ViewLemmas
 pub mod LawLemmas

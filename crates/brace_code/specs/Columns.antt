@@ -4,23 +4,14 @@ use Rattle.std.specs.Ordering.{int_eq}
 use Rattle.brace_num.specs.declared.kinds.Kind.{Kind}
 use Rattle.brace_model.specs.Value.{Scope}
 use Rattle.brace_code.specs.declared.lane.Lane.{Lane}
-use Rattle.brace_code.specs.declared.lane.Row.{Row}
-use Rattle.brace_code.specs.declared.lane.Row.TheVariants as row
 use Rattle.brace_code.specs.declared.lane.Frame.{Frame}
 use Rattle.brace_code.specs.declared.code.Operand.{Operand}
-use Rattle.brace_code.specs.declared.kernels.View.{View}
-use Rattle.brace_code.specs.declared.kernels.View.TheVariants.{Same, Each, At}
+use Rattle.brace_code.specs.declared.view.View.{View}
+use Rattle.brace_code.specs.declared.view.View.TheVariants.{Same, Each, At}
 use Rattle.brace_code.specs.declared.splitting.SideWords.{SideWords}
-use Rattle.brace_code.specs.Lanes.{Shows, number_in}
+use Rattle.brace_code.specs.Lanes.{Shows, number_in, row_at}
 use Rattle.brace_code.specs.inner.Words.{Outcome, choose_word}
 use Rattle.brace_code.specs.inner.Runs.{Deed}
-
--- the number of a lane's row
-abbrev pub row_at : Row → Lane → ℕ
-row_at row.This lane = lane.this
-row_at row.Outer lane = lane.outer
-row_at row.Inner lane = lane.inner
-row_at row.Place lane = lane.place
 
 -- the lane where there is none
 abbrev pub no_lane : Lane

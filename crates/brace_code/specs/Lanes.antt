@@ -1,5 +1,5 @@
 -- Lanes: many scopes at once, whose words stand in columns.
-use Rattle.std.specs.Prelude.{◌≡◌, ◌==◌, ◌<◌, ℕ, ℤ, pos, if◌then◌else◌, List, [], ◌∷◌, length, Option, Some, None, Ok, option_copied, slice_get, slice_index_or}
+use Rattle.std.specs.Prelude.{◌≡◌, ◌==◌, ◌<◌, ℕ, ℤ, pos, if◌then◌else◌, List, [], ◌∷◌, length, map, replicate, Option, Some, None, Ok, option_copied, slice_get, slice_index_or}
 use Rattle.brace_draw.specs.Draw.{draw_value}
 use Rattle.brace_model.specs.declared.program.Who.TheVariants.{This, Outer, Inner}
 use Rattle.brace_model.specs.World.{number, value_at}
@@ -8,9 +8,30 @@ use Rattle.brace_code.specs.declared.code.Operand.{Operand}
 use Rattle.brace_code.specs.declared.code.Operand.TheVariants.{Word, Field, Total, Local, Rand}
 use Rattle.brace_code.specs.declared.code.Code.{Code}
 use Rattle.brace_code.specs.declared.lane.Lane.{Lane}
+use Rattle.brace_code.specs.declared.lane.Row.{Row}
+use Rattle.brace_code.specs.declared.lane.Row.TheVariants as row
 use Rattle.brace_code.specs.declared.lane.Frame.{Frame}
 use Rattle.brace_code.specs.declared.lane.Draws.{Draws}
+use Rattle.brace_code.specs.declared.view.View.{View}
+use Rattle.brace_code.specs.declared.view.View.TheVariants.{Same, Each, At}
 use Rattle.brace_code.specs.Codes.{type_given, gives}
+
+-- the number of a lane's row
+abbrev pub row_at : Row → Lane → ℕ
+row_at row.This lane = lane.this
+row_at row.Outer lane = lane.outer
+row_at row.Inner lane = lane.inner
+row_at row.Place lane = lane.place
+
+-- the words of a column at a row of each lane
+unfoldable pub words_at : List ℤ → Row → List Lane → List ℤ
+words_at column row lanes = map (λ lane. slice_index_or column (row_at row lane) (pos 0)) lanes
+
+-- the words that so many lanes read
+abbrev pub words_of : ℕ → View → List ℤ
+words_of n (Same word) = replicate n word
+words_of n (Each words) = words.now
+words_of n (At column row lanes) = words_at column.now row lanes.now
 
 -- the draws of a site
 abbrev pub draws_at : List Draws → ℕ → Option (List ℤ)

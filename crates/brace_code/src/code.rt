@@ -1,4 +1,5 @@
-ghost use Rattle.std.specs.Prelude.{◌≡◌};
+ghost use Rattle.std.specs.Prelude.{◌≡◌, ◌∷◌, [], IfSome};
+ghost use Rattle.brace_code.specs.declared.code.Instr.TheVariants as instr;
 ghost use Rattle.brace_code.specs.Codes.{depth_of, type_given};
 
 use brace_model::{BinOp, Ty, UnOp, Who};
@@ -56,5 +57,17 @@ impl Code {
         ensures { result ≡ type_given self.now }
     {
         self.ty
+    }
+}
+
+/// The operand that code is, if it is nothing else.
+#[tactic(auto, using(crate::proofs::CodeLemmas::operand_alone))]
+pub fn operand_in(code: &List<Instr>) -> Option<Operand>
+    ensures { IfSome result (λ operand. code.now ≡ instr.Push operand ∷ []) }
+{
+    let (first, rest) = code.as_slice().split_first()?;
+    match first {
+        Instr::Push(operand) if rest.is_empty() => Some(*operand),
+        _ => None,
     }
 }

@@ -1,4 +1,4 @@
-ghost use Rattle.std.specs.Prelude.{◌≡◌, ◌<◌, ℕ, Option, pos, Ok, length, IfOk, IfSome, OnOk, IsFalse, slice_index_or, false, not, int_lt, int_le};
+ghost use Rattle.std.specs.Prelude.{◌≡◌, ◌<◌, ℕ, Option, pos, Ok, length, IfOk, OnOk, IsFalse, slice_index_or, false, not, int_lt, int_le};
 ghost use Rattle.std.specs.Ordering.{int_eq};
 ghost use Rattle.std.specs.Int.{int_min, int_max};
 ghost use Rattle.brace_num.specs.Exact.{exact_add, exact_sub, exact_neg, exact_abs, exact_sqrt, exact_to_fixed, exact_trunc, exact_int_mul, exact_int_div, exact_int_rem, exact_fixed_mul, exact_fixed_div};
@@ -8,10 +8,12 @@ ghost use Rattle.brace_model.specs.declared.program.Ty.TheVariants as ty;
 ghost use Rattle.brace_model.specs.Typing.{same_type};
 ghost use Rattle.brace_model.specs.Value.{total_read};
 ghost use Rattle.brace_code.specs.inner.Words.{word_of, flag, unary_word, binary_word, product_word, quotient_word};
-ghost use Rattle.brace_code.specs.Columns.{row_at, seen, Sees, Maps, Pairs};
+ghost use Rattle.brace_code.specs.Lanes.{row_at};
+ghost use Rattle.brace_code.specs.Columns.{seen, Sees, Maps, Pairs};
 
-use crate::lane::{Lane, Redo, Row, row_at};
+use crate::lane::{Lane, Redo, Row, word_at};
 use crate::operations::{fixed_product, fixed_quotient, flag, short_quotient};
+use crate::view::View;
 use brace_model::{BinOp, Ty, UnOp};
 use brace_num::{Kind, List, int_rem, sqrt, to_fixed, trunc};
 use std::alloc::Global;
@@ -74,17 +76,6 @@ fn same_pairs<F: Fn(i64, i64) -> (i64, bool)>(a: &mut [i64], b: i64, op: F) -> R
     Ok(())
 }
 
-/// The word of a column at a row of a lane.
-#[inline(always)]
-fn word_at(column: &[i64], row: Row, lane: &Lane) -> Option<i64>
-    ensures there { IfSome result (λ _. row_at row lane.now < length column.now) }
-    ensures word { IfSome result (λ word.
-        slice_index_or column.now (row_at row lane.now) (pos 0) ≡ word) }
-{
-    let word = column.get(row_at(row, lane) as usize)?;
-    Some(*word)
-}
-
 /// Replaces each word of a column by what an operation gives of it and of another column's word at
 /// a row of its lane; `Redo` where one failed or there is no such row.
 // Inlined where the row is known, so that its loop does not ask for it.
@@ -130,15 +121,6 @@ fn mapped<F: Fn(i64) -> (i64, bool)>(a: List<i64>, op: F) -> Result<List<i64>, R
     let mut a = a.into_vec();
     each(&mut a, op)?;
     Ok(List::from_vec(a))
-}
-
-/// What lanes read of an operand: one word, the words of a column in turn, or those of a column at
-/// a row of each lane.
-#[derive(Debug, Clone, Copy)]
-pub enum View<'a> {
-    Same(i64),
-    Each(&'a [i64]),
-    At(&'a [i64], Row, &'a [Lane]),
 }
 
 /// Replaces each word of a column by what an operation gives of it and of another column's word at
@@ -454,14 +436,14 @@ fn gather_at(alloc: Global, column: &[i64], row: Row, lanes: &List<Lane>) -> Res
         ≡ slice_index_or c k (pos 0))) }
 {
     let lanes = lanes.as_slice();
-    let mut out = vec![in alloc; 0i64; lanes.len()]?;
-    for (k, x) in out.iter_mut().enumerate() {
-        *x = match column.get(row_at(row, &lanes[k]) as usize) {
-            Some(word) => *word,
-            None => return Err(Redo),
+    let mut words = Vec::with_capacity(alloc, lanes.len())?;
+    for lane in lanes {
+        let Some(word) = word_at(column, row, lane) else {
+            return Err(Redo);
         };
+        words.push_reserved(word);
     }
-    Ok(List::from_vec(out))
+    Ok(List::from_vec(words))
 }
 
 /// The words of a column at a row of each lane.

@@ -1,7 +1,6 @@
-ghost use Rattle.std.specs.Prelude.{◌≡◌, IfSome, Some};
+ghost use Rattle.std.specs.Prelude.{◌≡◌, ◌<◌, IfSome, Some, length, pos, slice_index_or};
 ghost use Rattle.brace_code.specs.declared.lane.Lane.{Lane};
-ghost use Rattle.brace_code.specs.Lanes.{column_of, draws_at, row_of};
-ghost use Rattle.brace_code.specs.Columns.{row_at};
+ghost use Rattle.brace_code.specs.Lanes.{column_of, draws_at, row_at, row_of};
 
 use crate::code::Operand;
 use brace_model::Who;
@@ -113,6 +112,17 @@ pub fn row_at(row: Row, lane: &Lane) -> u32
         Row::Inner => lane.inner,
         Row::Place => lane.place,
     }
+}
+
+/// The word of a column at a row of a lane.
+#[inline(always)]
+pub fn word_at(column: &[i64], row: Row, lane: &Lane) -> Option<i64>
+    ensures there { IfSome result (λ _. row_at row lane.now < length column.now) }
+    ensures word { IfSome result (λ word.
+        slice_index_or column.now (row_at row lane.now) (pos 0) ≡ word) }
+{
+    let word = column.get(row_at(row, lane) as usize)?;
+    Some(*word)
 }
 
 /// The row at which an operand is read.

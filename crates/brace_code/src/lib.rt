@@ -13,10 +13,12 @@ mod running;
 mod single;
 mod splitting;
 mod stack;
+mod view;
 
 pub use code::Code;
 pub use compiling::compile;
-pub use lane::{Draws, Frame, Lane, Redo};
+pub use lane::{Draws, Frame, Lane, Redo, Row};
 pub use laws::{lanes_and_single_runs_agree, lanes_have_the_values_of_expressions};
 pub use names::Known;
 pub use stack::Stack;
+pub use view::View;

@@ -7,11 +7,12 @@ ghost use Rattle.brace_code.specs.inner.Words.{binary_word, operand_word};
 ghost use Rattle.brace_code.specs.inner.Runs.{deed, outcome};
 ghost use Rattle.brace_code.specs.Columns.{Joins, Leads, Numbers, Serves, Words, spread, taking};
 
-use crate::code::{Code, Instr, Operand};
+use crate::code::{Code, Instr, Operand, operand_in};
 use crate::columns::Columns;
-use crate::kernels::{View, binary_each, constant, gather, total_each, unary_each};
+use crate::kernels::{binary_each, constant, gather, total_each, unary_each};
 use crate::lane::{Frame, Lane, Redo, row_of};
 use crate::splitting::{SideWords, merged, part, same};
+use crate::view::View;
 use brace_model::{BinOp, Ty};
 use brace_num::List;
 use std::alloc::Global;
@@ -45,12 +46,13 @@ fn operand_column(
 {
     match operand {
         Operand::Word(word) => constant(alloc, word, lanes),
-        Operand::Field(_, _) => shown(alloc, operand, frame, lanes),
-        Operand::Local(_) => shown(alloc, operand, frame, lanes),
-        Operand::Rand(_) => shown(alloc, operand, frame, lanes),
         Operand::Total(_, ty, _) => {
             let totals = shown(alloc, operand, frame, lanes)?;
             total_each(ty, totals)
+        }
+        Operand::Field(_, _) | Operand::Local(_) | Operand::Rand(_) => {
+            let words = shown(alloc, operand, frame, lanes)?;
+            Ok(words)
         }
     }
 }
@@ -105,15 +107,7 @@ fn with_operand(
             let words = binary_each(op, ty, a, &View::Each(b.as_slice()))?;
             Ok(words)
         }
-        Operand::Field(_, _) => {
-            let words = with_numbers(op, ty, a, operand, frame, lanes)?;
-            Ok(words)
-        }
-        Operand::Local(_) => {
-            let words = with_numbers(op, ty, a, operand, frame, lanes)?;
-            Ok(words)
-        }
-        Operand::Rand(_) => {
+        Operand::Field(_, _) | Operand::Local(_) | Operand::Rand(_) => {
             let words = with_numbers(op, ty, a, operand, frame, lanes)?;
             Ok(words)
         }
@@ -188,13 +182,11 @@ fn taken(stack: &mut Columns, lanes: &List<Lane>) -> Result<List<i64>, Redo>
 }
 
 /// The word that code is, if it is nothing else.
-#[tactic(auto, using(crate::proofs::CodeLemmas::word_rules))]
 fn word_in(code: &List<Instr>) -> Option<i64>
     ensures { IfSome result (λ word. code.now ≡ instr.Push (operand.Word word) ∷ []) }
 {
-    let (first, rest) = code.as_slice().split_first()?;
-    match first {
-        Instr::Push(Operand::Word(word)) if rest.is_empty() => Some(*word),
+    match operand_in(code)? {
+        Operand::Word(word) => Some(word),
         _ => None,
     }
 }

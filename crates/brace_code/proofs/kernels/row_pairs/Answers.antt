@@ -1,5 +1,5 @@
 use Rattle.std.proofs.Common.{◌≡◌, ◌∙◌, ◌<◌, sym, pos, false, arith, rules, length, slice_index_or, to_z, of_z, w64}
-use Rattle.brace_code.specs.Columns.{row_at}
+use Rattle.brace_code.specs.Lanes.{row_at}
 use Rattle.brace_code.proofs.KernelLemmas.{each_more, made_more}
 use Rattle.brace_code.proofs.kernels.row_pairs.Given.{the-over}
 use Rattle.brace_code.proofs.kernels.row_pairs.Goals as goal

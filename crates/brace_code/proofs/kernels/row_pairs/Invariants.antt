@@ -1,6 +1,6 @@
 use Rattle.std.proofs.Common.{◌≡◌, ◌<◌, ◌≤◌, ℕ, pos, false, length, slice_index_or}
 use Rattle.brace_code.specs.declared.lane.Lane.{Lane}
-use Rattle.brace_code.specs.Columns.{row_at}
+use Rattle.brace_code.specs.Lanes.{row_at}
 use Rattle.brace_code.proofs.kernels.row_pairs.Given as goal
 
 abbrev pub invariant-loop-k : goal.invariant-loop-k

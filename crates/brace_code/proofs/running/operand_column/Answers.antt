@@ -1,11 +1,8 @@
-use Rattle.brace_code.proofs.OperandLemmas.{shown_field, shown_local, shown_rand}
+use Rattle.std.proofs.Common.{rules}
+use Rattle.brace_code.proofs.OperandLemmas.{plain_words}
 use Rattle.brace_code.proofs.running.operand_column.Goals as goal
 
-pub returns-in-Field : goal.returns-in-Field
-returns-in-Field c = shown_field _ _ _ _ _ _ c.in-Field.is c.shown.ensures
-
-pub returns-in-Local : goal.returns-in-Local
-returns-in-Local c = shown_local _ _ _ _ _ c.in-Local.is c.shown-in-Local.ensures
-
-pub returns-in-Rand : goal.returns-in-Rand
-returns-in-Rand c = shown_rand _ _ _ _ _ c.in-Rand.is c.shown-in-Rand.ensures
+pub returns-in_ok-words-in-Field : goal.returns-in_ok-words-in-Field
+returns-in_ok-words-in-Field c =
+    plain_words c.args.frame.now c.args.operand c.args.lanes.now c.in_ok-words-in-Field.words
+    (λ effect t site is. search (c.in-Field.is, is, rules)) c.in_ok-words-in-Field.ensures

@@ -1,5 +1,5 @@
 use Rattle.std.proofs.Common.{refl}
-use Rattle.brace_code.specs.declared.kernels.View.TheVariants.{At}
+use Rattle.brace_code.specs.declared.view.View.TheVariants.{At}
 use Rattle.brace_code.specs.inner.Words.{binary_word}
 use Rattle.brace_code.proofs.OperandLemmas.{join_at}
 use Rattle.brace_code.proofs.running.with_numbers.Goals as goal

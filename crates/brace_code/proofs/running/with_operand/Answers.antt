@@ -1,5 +1,5 @@
 use Rattle.std.proofs.Common.{refl}
-use Rattle.brace_code.specs.declared.kernels.View.TheVariants.{Each}
+use Rattle.brace_code.specs.declared.view.View.TheVariants.{Each}
 use Rattle.brace_code.specs.inner.Words.{binary_word}
 use Rattle.brace_code.proofs.OperandLemmas.{join_column}
 use Rattle.brace_code.proofs.running.with_operand.Goals as goal
