@@ -7,6 +7,7 @@ mod grids;
 mod inversion;
 mod lanes;
 mod models;
+mod owned;
 mod pieces;
 mod renewals;
 mod rules;

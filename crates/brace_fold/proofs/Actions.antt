@@ -21,11 +21,12 @@ use Rattle.brace_plan.specs.declared.action.Action.TheVariants.{Const, If, Forea
 use Rattle.brace_plan.specs.declared.action.Bound.{Bound}
 use Rattle.brace_plan.specs.Acts.{act, near_by}
 use Rattle.brace_plan.proofs.Steps.{act-Const, act-If, act-Foreach, act-Assign}
+use Rattle.brace_fold.specs.declared.crowd.Crowd.{Crowd}
 use Rattle.brace_fold.specs.declared.scene.Scene.{Scene}
 use Rattle.brace_fold.specs.declared.table.Table.{Table}
 use Rattle.brace_fold.specs.inner.Crowds as crowds
-use Rattle.brace_fold.specs.inner.Crowds.{bound_to, rows, world}
-use Rattle.brace_fold.specs.inner.Deeds.{IsQuiet, Does, Worths, done_by, into}
+use Rattle.brace_fold.specs.inner.Crowds.{Stands, bound_to, rows, world}
+use Rattle.brace_fold.specs.inner.Deeds.{IsQuiet, Does, Leads, Worths, done_by, into}
 use Rattle.brace_fold.specs.inner.Ears.{told_by}
 use Rattle.brace_fold.specs.inner.Hears.{Alike, Hears}
 use Rattle.brace_fold.proofs.Alikes.{alike-refl, alike-trans, alike-append, alike-turned, hears-none, hears-more, hears-alike}
@@ -111,18 +112,26 @@ module _ (scene : Scene) where
         ap₂ (λ a b. a ++ b) (ap (λ (d : Deed). d.said) (assign-is s w (worth-first code s scopes w words h)))
         (assign-said scopes words (worth-rest code s scopes w words h))
 
-    pub assign-scopes : (scopes : List Scope) (words : List ℤ) → Worths code scopes words → map (λ s. (in_scene (Assign who effect code) s).scope) scopes ≡ scopes
+    assign-scopes : (scopes : List Scope) (words : List ℤ) → Worths code scopes words
+        → map (λ s. (in_scene (Assign who effect code) s).scope) scopes ≡ scopes
     assign-scopes [] words h = refl
     assign-scopes (s ∷ scopes) [] h = no-words _ code s scopes h
     assign-scopes (s ∷ scopes) (w ∷ words) h =
         ap₂ (λ x l. x ∷ l) (ap (λ (d : Deed). d.scope) (assign-is s w (worth-first code s scopes w words h)))
         (assign-scopes scopes words (worth-rest code s scopes w words h))
 
-    pub assign-does : (scopes : List Scope) (words : List ℤ) (a b : Table) → Worths code scopes words
-        → Hears scene.program.now (rows scene) (told_by who effect (type_given code) scopes words) a b → Does scene (in_scene (Assign who effect code)) scopes a b
-    assign-does scopes words a b h said = record {
-      quiet = assign-quiet scopes words h;
-      hears = subst (λ l. Hears scene.program.now (rows scene) l a b) (sym (assign-said scopes words h)) said;
+    pub assign-leads : (crowd : Crowd) (scopes : List Scope) (words : List ℤ) (a b : Table)
+        → Worths code scopes words → Stands scene crowd scopes
+        → Hears scene.program.now (rows scene) (told_by who effect (type_given code) scopes words)
+        a b
+        → Leads scene (in_scene (Assign who effect code)) scopes crowd a b
+    assign-leads crowd scopes words a b h stands said = record {
+      does = record {
+        quiet = assign-quiet scopes words h;
+        hears = subst (λ l. Hears scene.program.now (rows scene) l a b)
+            (sym (assign-said scopes words h)) said;
+      };
+      stands = subst (Stands scene crowd) (sym (assign-scopes scopes words h)) stands;
     }
 
   -- ---- conditions

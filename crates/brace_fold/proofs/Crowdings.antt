@@ -174,10 +174,10 @@ number-words ty.Int words other = same-words words
 number-words ty.Fixed words other = same-words words
 number-words ty.Bool words other = absurd (other refl)
 
-value-set : (l : List Value) (n : ℕ) (v : Value) → n < length l → value_at (set l n v) n ≡ v
+pub value-set : (l : List Value) (n : ℕ) (v : Value) → n < length l → value_at (set l n v) n ≡ v
 value-set l n v low = unwrap_or-slice_get (set l n v) n no_value ∙ get_or-set_same l n v no_value low
 
-value-other : (l : List Value) (n m : ℕ) (v : Value) → (m ≡ n → ⊥) → value_at (set l n v) m ≡ value_at l m
+pub value-other : (l : List Value) (n m : ℕ) (v : Value) → (m ≡ n → ⊥) → value_at (set l n v) m ≡ value_at l m
 value-other l n m v ne =
     unwrap_or-slice_get (set l n v) m no_value ∙ get_or-set_other l n m v no_value ne ∙ sym (unwrap_or-slice_get l m no_value)
 

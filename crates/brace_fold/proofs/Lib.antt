@@ -29,6 +29,7 @@ pub mod Spottings
 pub mod MoveLemmas
 pub mod Bringings
 pub mod Survivings
+pub mod Ownings
 pub mod Tellings
 pub mod Slicings
 pub mod RenewalLemmas

@@ -28,7 +28,6 @@ use Rattle.brace_model.proofs.TypeLemmas.{one_type}
 use Rattle.brace_fold.specs.declared.columns.Columns.{Columns}
 use Rattle.brace_fold.specs.Rows.{AreColumns, AreMoved, AreRows, IsWide, by_id, row_in, rows_in, types_of, value_in, values_in, words_of}
 use Rattle.brace_fold.specs.declared.order.Moved.{Moved}
-use Rattle.brace_fold.proofs.ColumnLemmas.{by-rows, by-values}
 use Rattle.brace_fold.proofs.Crowdings.{got-mapped}
 use denote.Ref.{Bor}
 
@@ -156,22 +155,6 @@ module _ (program : Program) (agents : List Agent) (columns : Columns)
     where
       nobody : Agent
       nobody = record { class = 0; id = 0; states = [] }
-
--- what is read of agents row by row is theirs
-pub columns_are : (agents : List Agent) (refs : List (Bor Agent)) (values : List (Bor (List Value)))
-    (read : List (List ℤ)) (columns : Columns) → map (λ r. r.now) refs ≡ agents
-    → map (λ v. v.now) values ≡ map (λ r. r.now.states) refs
-    → ((i : ℕ) (column : List ℤ) → slice_get read i ≡ Some column
-    → column ≡ map (λ s. number (value_at s.now i)) values)
-    → words_of columns ≡ read → columns.classes.now ≡ map (λ r. r.now.class) refs
-    → columns.ids.now ≡ map (λ r. r.now.id) refs → AreColumns agents columns
-columns_are agents refs values read columns same values_is each words_is classes ids_is = record {
-  classes = classes ∙ by-rows (λ a. a.class) refs agents same;
-  ids_are = ids_is ∙ by-rows (λ a. a.id) refs agents same;
-  states = λ i column e.
-      each i column (subst (λ l. slice_get l i ≡ Some column) words_is e)
-      ∙ by-values i values agents (values_is ∙ by-rows (λ a. a.states) refs agents same);
-}
 
 -- ---- lawful agents
 

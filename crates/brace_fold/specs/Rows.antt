@@ -69,9 +69,13 @@ pub record AreMoved (agents : List Agent) (moved : Moved) : Type 0 where
   pub states : (i : ℕ) (column : List ℤ) → slice_get moved.states.items i ≡ Some column
       → column ≡ map (λ a. number (value_at a.states i)) agents
 
+-- no class has more states than so many
+abbrev pub HasRoom : Program → ℕ → Type 0
+HasRoom program count = All (λ c. length c.states ≤ count) program.classes
+
 -- each class has as many columns as states
 abbrev pub IsWide : Program → Columns → Type 0
-IsWide program columns = All (λ c. length c.states ≤ length columns.states.now) program.classes
+IsWide program columns = HasRoom program (length columns.states.now)
 
 -- columns are those of lawful agents, no two with one id
 pub record AreRows (program : Program) (columns : Columns) : Type 0 where

@@ -1,7 +1,7 @@
-ghost use Rattle.std.specs.Prelude.{◌≡◌, ℕ, ℤ, List, Some, map, slice_get, IfOk, IfSome, OnOk};
+ghost use Rattle.std.specs.Prelude.{◌≡◌, ℕ, ℤ, List, Some, length, map, slice_get, IfOk, IfSome, OnOk};
 ghost use Rattle.brace_model.specs.declared.world.Agent.{Agent};
 ghost use Rattle.brace_model.specs.World.{number, value_at};
-ghost use Rattle.brace_fold.specs.Rows.{AreColumns, IsWide};
+ghost use Rattle.brace_fold.specs.Rows.{AreColumns, HasRoom, IsWide};
 
 use brace_code::Redo;
 use brace_model::{Agent, Program, Value, number, value_at};
@@ -59,14 +59,18 @@ pub fn expect_wide(program: &Program, columns: &Columns) -> Result<(), Redo>
     Ok(())
 }
 
-/// How many states a class has at most.
-pub fn most_states(program: &Program) -> u32 {
+/// How many states a class has at most; `Redo` where they are more than 32 bits number.
+pub fn most_states(program: &Program) -> Result<u32, Redo>
+    ensures { IfOk result (HasRoom program.now) }
+{
     let mut most = 0;
     for class in program.classes.as_slice() {
-        let states = u32::try_from(class.states.as_slice().len()).unwrap_or(u32::MAX);
+        let Ok(states) = u32::try_from(class.states.as_slice().len()) else {
+            return Err(Redo);
+        };
         most = most.max(states);
     }
-    most
+    Ok(most)
 }
 
 /// Each agent of a list.
@@ -106,7 +110,8 @@ fn state_column(alloc: Global, states: &[&[Value]], place: u32) -> Result<List<i
 
 /// The first states of each agent, so many.
 pub fn state_columns(alloc: Global, states: &[&[Value]], count: u32) -> Result<Vec<List<i64>>, Redo>
-    ensures { IfOk result (λ columns. (i : ℕ) (column : List ℤ)
+    ensures many { IfOk result (λ columns. length columns.items ≡ count) }
+    ensures each { IfOk result (λ columns. (i : ℕ) (column : List ℤ)
         → slice_get columns.items i ≡ Some column
         → column ≡ map (λ s. number (value_at s.now i)) states.now) }
 {

@@ -16,13 +16,11 @@ ghost use Rattle.brace_fold.specs.inner.Sights.{AreCells};
 use crate::askers::{Asker, askers, of_class, sort_by_class};
 use crate::bringing::bring_all;
 use crate::cells::{Cells, Sorted};
-use crate::columns::{
-    Columns, class_column, each, expect_wide, id_column, most_states, state_columns, states_of,
-    views,
-};
+use crate::columns::{Columns, expect_wide, views};
 use crate::crowd::opening;
 use crate::drawn::{all_drawn, lent};
 use crate::joining::{join_all, most_effects};
+use crate::lists::columns_of;
 use crate::order::{Moved, places_at, places_by_row};
 use crate::scene::Scene;
 use crate::table::Table;
@@ -229,18 +227,13 @@ fn ask_agents(
     ensures { OnOk result ((d : Agent)
         → AsksIn program.now seed tick agents.now d asking.now said.old said.new) }
 {
-    let rows = each(alloc, agents)?;
-    let values = states_of(alloc, &rows)?;
-    let words = state_columns(alloc, &values, most_states(program))?;
-    let states = views(alloc, &words)?;
-    let classes = class_column(alloc, &rows)?;
-    let ids = id_column(alloc, &rows)?;
+    let rows = columns_of(alloc, program, agents, &[])?;
+    let states = views(alloc, &rows.states)?;
     let columns = Columns {
-        classes: &classes,
-        ids: &ids,
+        classes: &rows.classes,
+        ids: &rows.ids,
         states: &states,
     };
-    expect_wide(program, &columns)?;
     ask_rows(alloc, plans, program, seed, tick, &columns, asking, said)
 }
 

@@ -1,5 +1,5 @@
-ghost use Rattle.std.specs.Prelude.{◌≡◌, ◌++◌, IfOk};
-ghost use Rattle.brace_fold.specs.Rows.{AreMoved, rows_in};
+ghost use Rattle.std.specs.Prelude.{◌≡◌, ◌++◌, length, IfOk};
+ghost use Rattle.brace_fold.specs.Rows.{AreMoved, HasRoom, rows_in};
 
 use crate::columns::{
     Columns, class_column, class_in, each, id_column, most_states, state_columns, states_of,
@@ -18,7 +18,8 @@ pub fn columns_of(
     first: &[Agent],
     rest: &[Agent],
 ) -> Result<Moved, Redo>
-    ensures { IfOk result (AreMoved (first.now ++ rest.now)) }
+    ensures rows { IfOk result (AreMoved (first.now ++ rest.now)) }
+    ensures wide { IfOk result (λ moved. HasRoom program.now (length moved.states.items)) }
 {
     let mut rows = each(alloc, first)?;
     let mut more = each(alloc, rest)?;
@@ -27,7 +28,7 @@ pub fn columns_of(
     Ok(Moved {
         classes: class_column(alloc, &rows)?,
         ids: id_column(alloc, &rows)?,
-        states: state_columns(alloc, &values, most_states(program))?,
+        states: state_columns(alloc, &values, most_states(program)?)?,
     })
 }
 

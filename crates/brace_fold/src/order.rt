@@ -1,4 +1,4 @@
-ghost use Rattle.std.specs.Prelude.{◌≡◌, [], List, Some, map, slice_get, IfOk, IfSome};
+ghost use Rattle.std.specs.Prelude.{◌≡◌, [], List, Some, length, map, slice_get, IfOk, IfSome};
 ghost use Rattle.brace_model.specs.declared.world.Agent.{Agent};
 ghost use Rattle.brace_fold.specs.Rows.{AreColumns, AreMoved};
 ghost use Rattle.brace_fold.specs.inner.Moves.{IsPicked};
@@ -132,7 +132,8 @@ pub struct Moved {
 impl Moved {
     /// No agents, with so many columns of states.
     pub fn none(alloc: Global, states: usize) -> Result<Moved, Redo>
-        ensures { IfOk result (AreMoved []) }
+        ensures rows { IfOk result (AreMoved []) }
+        ensures wide { IfOk result (λ moved. length moved.states.items ≡ states) }
     {
         Ok(Moved {
             classes: Vec::new(alloc),
@@ -143,8 +144,10 @@ impl Moved {
 
     /// Columns in the order of rows.
     pub fn of(alloc: Global, columns: &Columns, order: &[u32]) -> Result<Moved, Redo>
-        ensures { IfOk result (λ moved. (agents : List Agent) → AreColumns agents columns.now
-            → AreMoved (by_row agents order.now) moved) }
+        ensures rows { IfOk result (λ moved. (agents : List Agent)
+            → AreColumns agents columns.now → AreMoved (by_row agents order.now) moved) }
+        ensures wide { IfOk result (λ moved.
+            length moved.states.items ≡ length columns.now.states.now) }
     {
         Ok(Moved {
             classes: picked_classes(alloc, columns.classes, order)?,

@@ -92,10 +92,12 @@ fn renew_slice(
 ) -> Result<(), Redo>
     requires rows { AreRows ground.now.plans.now columns.now }
     requires ticks { ground.now.tick ≤ 2 ^ 32 }
-    ensures { OnOk result ((said : List Saying) → AreSummed ground.now.plans.now
+    ensures leaves { OnOk result ((said : List Saying) → AreSummed ground.now.plans.now
         (rows_in ground.now.plans.now columns.now) said ground.now.said.now
         → LeavesRows ground.now.plans.now ground.now.seed ground.now.tick said columns.now from
         count renewed.old renewed.new) }
+    ensures wide { OnOk result
+        (length renewed.new.left.states.items ≡ length renewed.old.left.states.items) }
 {
     let alloc = ground.alloc;
     let program = ground.plans.program();
@@ -200,6 +202,8 @@ pub fn renew_rows(
         → AreSummed plans.now (rows_in plans.now columns.now) more said.now
         → filter_map result_err (map (becomes_said plans.now seed tick more)
         (take count (rows_in plans.now columns.now))) ≡ []) }
+    ensures wide { IfOk result (λ renewed.
+        length renewed.left.states.items ≡ length columns.now.states.now) }
 {
     let ground = Ground {
         alloc,

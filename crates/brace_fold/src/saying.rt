@@ -1,5 +1,6 @@
 ghost use Rattle.std.specs.Prelude.{◌≡◌, ◌<◌, ◌≤◌, ℕ, List, IfOk, IfSome, OnOk, length, map, slice_get, slice_index_or, Some, false, true};
 ghost use Rattle.brace_code.specs.declared.lane.Lane.{Lane};
+ghost use Rattle.brace_code.specs.Lanes.{words_of};
 ghost use Rattle.brace_model.specs.declared.world.Agent.{Agent};
 ghost use Rattle.brace_model.specs.Value.{Scope, typed};
 ghost use Rattle.brace_fold.specs.inner.Crowds.{IsScene, Stands, rows};
@@ -13,7 +14,7 @@ ghost use Rattle.brace_fold.specs.inner.Hears.{Hears};
 use crate::crowd::{Crowd, Depth, has_inner, has_outer};
 use crate::scene::Scene;
 use crate::table::{Table, narrow};
-use brace_code::{Lane, Redo};
+use brace_code::{Lane, Redo, Row, View};
 use brace_comb::{identity, joined};
 use brace_model::{Comb, Ty, Value, Who};
 
@@ -74,56 +75,83 @@ fn run_end(who: Who, row: u32, lanes: &[Lane], from: usize) -> usize
     next
 }
 
-/// The total of words of a type; None where 128 bits do not hold it.
+/// The total of words of a type that lanes read; None where 128 bits do not hold it.
 // Inlined where the combinator is known, so that its loop does not ask for it.
 #[inline(always)]
-fn total_of(comb: Comb, ty: Ty, words: &[i64]) -> Option<i128>
-    ensures { IfSome result (λ n. n ≡ total_of comb (map (typed ty) words.now)) }
+fn total_of(comb: Comb, ty: Ty, words: View, count: usize) -> Option<i128>
+    requires { length (words_of count words) ≡ count }
+    ensures { IfSome result (λ n. n ≡ total_of comb (map (typed ty) (words_of count words.entry))) }
 {
     let mut total = identity(comb);
-    for word in words {
-        total = joined(comb, total, typed(ty, *word))?;
+    for k in 0..count {
+        let word = words.word(k)?;
+        total = joined(comb, total, typed(ty, word))?;
     }
     Some(total)
 }
 
 /// The sum of words of a type that is no flag; None where 64 bits do not hold one on the way.
-#[tactic(auto, using(crate::proofs::Sayings::sum_more))]
-fn sum(ty: Ty, words: &[i64]) -> Option<i128>
-    requires { same_type ty types.Bool ≡ false }
-    ensures { IfSome result (λ n. n ≡ total_of combs.Sum (map (typed ty) words.now)) }
+// Inlined where it is known where the words stand, so that its loop does not ask for it.
+#[inline(always)]
+fn sum_of(ty: Ty, words: View, count: usize) -> Option<i128>
+    requires plain { same_type ty types.Bool ≡ false }
+    requires long { length (words_of count words) ≡ count }
+    ensures { IfSome result (λ n.
+        n ≡ total_of combs.Sum (map (typed ty) (words_of count words.entry))) }
 {
     let mut total = 0i64;
-    for word in words {
-        total = total.checked_add(*word)?;
+    for k in 0..count {
+        let word = words.word(k)?;
+        total = total.checked_add(word)?;
     }
     Some(i128::from(total))
 }
 
-/// How many words there are.
-fn count_of(words: &[i64]) -> Result<u32, Redo>
-    ensures { IfOk result (λ count. count ≡ length words.now) }
+/// The sum of words of a type that is no flag; None where 64 bits do not hold one on the way.
+fn sum(ty: Ty, words: View, count: usize) -> Option<i128>
+    requires plain { same_type ty types.Bool ≡ false }
+    requires long { length (words_of count words) ≡ count }
+    ensures { IfSome result (λ n.
+        n ≡ total_of combs.Sum (map (typed ty) (words_of count words.entry))) }
 {
-    match u32::try_from(words.len()) {
-        Ok(count) => Ok(count),
+    match words {
+        View::Same(word) => sum_of(ty, View::Same(word), count),
+        View::Each(words) => sum_of(ty, View::Each(words), count),
+        View::At(column, row, lanes) => match row {
+            Row::This => sum_of(ty, View::At(column, Row::This, lanes), count),
+            Row::Outer => sum_of(ty, View::At(column, Row::Outer, lanes), count),
+            Row::Inner => sum_of(ty, View::At(column, Row::Inner, lanes), count),
+            Row::Place => sum_of(ty, View::At(column, Row::Place, lanes), count),
+        },
+    }
+}
+
+/// How many words there are, in 32 bits.
+fn narrow_count(count: usize) -> Result<u32, Redo>
+    ensures { IfOk result (λ n. n ≡ count) }
+{
+    match u32::try_from(count) {
+        Ok(n) => Ok(n),
         Err(_) => Err(Redo),
     }
 }
 
-/// The total of words of a type; None where it is not made, as where 128 bits do not hold it.
+/// The total of words of a type that lanes read; None where it is not made, as where 128 bits do
+/// not hold it.
 #[tactic(auto, using(crate::proofs::Sayings::counted))]
-fn total(comb: Comb, ty: Ty, words: &[i64]) -> Option<i128>
-    ensures { IfSome result (λ n. n ≡ total_of comb (map (typed ty) words.now)) }
+fn total(comb: Comb, ty: Ty, words: View, count: usize) -> Option<i128>
+    requires { length (words_of count words) ≡ count }
+    ensures { IfSome result (λ n. n ≡ total_of comb (map (typed ty) (words_of count words.entry))) }
 {
     match comb {
         Comb::Sum => match ty {
-            Ty::Int | Ty::Fixed => sum(ty, words),
-            Ty::Bool => total_of(Comb::Sum, ty, words),
+            Ty::Int | Ty::Fixed => sum(ty, words, count),
+            Ty::Bool => total_of(Comb::Sum, ty, words, count),
         },
-        Comb::Min => total_of(Comb::Min, ty, words),
-        Comb::Max => total_of(Comb::Max, ty, words),
-        Comb::Count => Some(i128::from(count_of(words).ok()?)),
-        Comb::Or => total_of(Comb::Or, ty, words),
+        Comb::Min => total_of(Comb::Min, ty, words, count),
+        Comb::Max => total_of(Comb::Max, ty, words, count),
+        Comb::Count => Some(i128::from(narrow_count(count).ok()?)),
+        Comb::Or => total_of(Comb::Or, ty, words, count),
     }
 }
 
@@ -160,20 +188,29 @@ impl<'a> Scene<'a> {
         })
     }
 
-    /// Joins words said to the agent of a row.
-    fn say_to(&self, ear: &Ear, row: u32, words: &[i64], heard: &mut Table) -> Result<(), Redo>
+    /// Joins so many words said to the agent of a row.
+    fn say_to(
+        &self,
+        ear: &Ear,
+        row: u32,
+        words: View,
+        count: usize,
+        heard: &mut Table,
+    ) -> Result<(), Redo>
         requires scene { IsScene self.now }
         requires ear { IsEar self.now ear.now }
+        requires long { length (words_of count words) ≡ count }
         ensures { OnOk result ((a : Agent) → slice_get (rows self.now) row ≡ Some a
             → Hears self.now.program.now (rows self.now)
-            (told_at a ear.now.effect ear.now.ty words.now) heard.old heard.new) }
+            (told_at a ear.now.effect ear.now.ty (words_of count words.entry))
+            heard.old heard.new) }
     {
         self.expect_class(row, ear.class)?;
-        let Some(number) = total(ear.comb, ear.ty, words) else {
+        let Some(number) = total(ear.comb, ear.ty, words, count) else {
             return Err(Redo);
         };
         let number = narrow(number)?;
-        let count = count_of(words)?;
+        let count = narrow_count(count)?;
         heard.join(ear.effect, row, ear.comb, number, count)?;
         Ok(())
     }
@@ -185,19 +222,17 @@ impl<'a> Scene<'a> {
         who: Who,
         effect: u32,
         ty: Ty,
-        words: &[i64],
+        words: View,
         heard: &mut Table,
     ) -> Result<(), Redo>
         requires scene { IsScene self.now }
         ensures { OnOk result ((scopes : List Scope) → Stands self.now crowd.now scopes
-            → length words.now ≡ length scopes
+            → length (words_of (length scopes) words.entry) ≡ length scopes
             → Hears self.now.program.now (rows self.now)
-            (told_by who effect ty scopes words.now) heard.old heard.new) }
+            (told_by who effect ty scopes (words_of (length scopes) words.entry))
+            heard.old heard.new) }
     {
         let lanes = crowd.lanes.as_slice();
-        if words.len() != lanes.len() {
-            return Err(Redo);
-        }
         expect_there(crowd.depth, who)?;
         let Some(first) = lanes.first() else {
             return Ok(());
@@ -207,7 +242,10 @@ impl<'a> Scene<'a> {
         while at < lanes.len() {
             let row = row_of(who, &lanes[at]);
             let next = run_end(who, row, lanes, at + 1);
-            self.say_to(&ear, row, &words[at..next], heard)?;
+            let Some(these) = words.part(at, next) else {
+                return Err(Redo);
+            };
+            self.say_to(&ear, row, these, next - at, heard)?;
             at = next;
         }
         Ok(())

@@ -59,7 +59,7 @@ impl<'a> Scene<'a> {
     }
 
     /// What lanes of a depth read.
-    fn frame<'b>(&'b self, depth: Depth, locals: &'b [&'b [i64]]) -> Frame<'b>
+    pub fn frame<'b>(&'b self, depth: Depth, locals: &'b [&'b [i64]]) -> Frame<'b>
         ensures this { result.this.now ≡ self.now.states.now }
         ensures outer { result.outer.now ≡ (if has_outer depth then self.now.states.now else []) }
         ensures inner { result.inner.now ≡ (if has_inner depth then self.now.states.now else []) }

@@ -7,11 +7,12 @@ ghost use Rattle.brace_code.specs.Codes.{type_given};
 ghost use Rattle.brace_fold.specs.inner.Crowds.{IsScene, Stands, chosen};
 ghost use Rattle.brace_fold.specs.inner.Deeds.{Does, Leads, Worths, done_once, done_by};
 
+use crate::columns::views;
 use crate::crowd::Crowd;
 use crate::finding::Room;
 use crate::scene::Scene;
 use crate::table::Table;
-use brace_code::{Code, Redo};
+use brace_code::{Code, Redo, View};
 use brace_model::{Ty, Who};
 use brace_num::List;
 use brace_plan::{Action, Bound};
@@ -29,13 +30,13 @@ fn set(scene: &Scene, n: u32, code: &Code, crowd: &mut Crowd) -> Result<(), Redo
     Ok(())
 }
 
-/// Says a value in each lane.
-fn tell(
-    scene: &Scene,
+/// Says a value in each lane. No column is made of words that stand in one.
+fn tell<'a>(
+    scene: &'a Scene,
     who: Who,
     effect: u32,
     code: &Code,
-    crowd: &Crowd,
+    crowd: &'a Crowd,
     heard: &mut Table,
 ) -> Result<(), Redo>
     requires { IsScene scene.now }
@@ -43,8 +44,16 @@ fn tell(
         → Leads scene.now (done_once scene.now (action.Assign who effect code.now)) scopes
         crowd.now heard.old heard.new) }
 {
-    let words = scene.eval(code, crowd)?;
-    scene.say(crowd, who, effect, code.ty(), words.as_slice(), heard)?;
+    let locals = views(scene.alloc, &crowd.locals)?;
+    // Lent again, since a view has one lifetime for all that it reads.
+    let frame = (&*scene).frame(crowd.depth, &locals);
+    if let Some(view) = code.view(&frame, &crowd.lanes) {
+        scene.say(crowd, who, effect, code.ty(), view, heard)?;
+        return Ok(());
+    }
+    let words = code.eval_lanes(scene.alloc, &frame, &crowd.lanes)?;
+    let view = View::Each(words.as_slice());
+    scene.say(crowd, who, effect, code.ty(), view, heard)?;
     Ok(())
 }
 
@@ -101,7 +110,7 @@ fn action(scene: &Scene, action: &Action, crowd: &mut Crowd, heard: &mut Table) 
         Action::Foreach(class, bounds, body, _) => {
             iterations(scene, *class, bounds, body, crowd, heard)
         }
-        Action::Assign(who, effect, code) => tell(scene, *who, *effect, code, crowd, heard),
+        Action::Assign(who, effect, code) => tell(&*scene, *who, *effect, code, crowd, heard),
     }
 }
 

@@ -1,7 +1,7 @@
 -- Agents of one class in lanes, and what its rules come to there. Only the crate's own functions
 -- cite this.
-use Rattle.std.specs.Prelude.{◌≡◌, ℕ, ◌+◌, ◌<◌, ℤ, pos, Bool, false, true, Option, None, Some, List, [], ◌∷◌, ◌++◌, map, zip, filter_map, ⊤, length, slice_get, slice_index_or, slice_set, option_copied, Ok}
-use Rattle.std.specs.List.{All, AllZip, cons_option}
+use Rattle.std.specs.Prelude.{◌≡◌, ℕ, ◌+◌, ◌<◌, ℤ, pos, Bool, false, true, not, Option, None, Some, List, [], ◌∷◌, ◌++◌, map, zip, filter, filter_map, ⊤, length, slice_get, slice_index_or, slice_set, option_copied, Ok}
+use Rattle.std.specs.List.{All, AllZip, cons_option, range_with_len}
 use Rattle.std.specs.Result.{result_err}
 use Rattle.brace_num.specs.Exact.{clamped}
 use Rattle.brace_draw.specs.Draw.{draw_value}
@@ -11,7 +11,7 @@ use Rattle.brace_model.specs.declared.program.Value.TheVariants.{Fixed}
 use Rattle.brace_model.specs.declared.world.Agent.{Agent}
 use Rattle.brace_model.specs.World.{no_value, number, value_at}
 use Rattle.brace_model.specs.Value.{Scope, typed}
-use Rattle.brace_model.specs.Next.{changed, holds, with_gifts}
+use Rattle.brace_model.specs.Next.{changed, holds, with_gifts, within_reach}
 use Rattle.brace_code.specs.declared.code.Code.{Code}
 use Rattle.brace_code.specs.declared.lane.Frame.{Frame}
 use Rattle.brace_code.specs.declared.lane.Lane.{Lane}
@@ -20,8 +20,11 @@ use Rattle.brace_code.specs.Lanes.{Gives, draws_at}
 use Rattle.brace_plan.specs.declared.rules.Rules.{Rules}
 use Rattle.brace_plan.specs.Ruling.{gifts_of}
 use Rattle.brace_plan.specs.Leaving.{leaves_by, survivor, update_by}
+use Rattle.brace_fold.specs.declared.columns.Columns.{Columns}
 use Rattle.brace_fold.specs.declared.outcome.Column.{Column}
 use Rattle.brace_fold.specs.declared.outcome.Outcome.{Outcome}
+use Rattle.brace_fold.specs.declared.surviving.Words.{Words}
+use Rattle.brace_fold.specs.Rows.{values_in, words_of}
 
 -- the lane of an agent, whose words stand in a row
 abbrev pub row_lane : ℕ → Lane
@@ -106,6 +109,24 @@ abbrev pub living_from : Class → Outcome → ℕ → List Agent → List Agent
 living_from class out row [] = []
 living_from class out row (a ∷ agents) =
     cons_option (lives_in class out row a) (living_from class out (row + 1) agents)
+
+-- of so many rows those whose agents live on
+abbrev pub rows_left : Option Column → ℕ → List ℕ
+rows_left die count = filter (λ row. not (is_set die row)) (range_with_len 0 count)
+
+-- the number of the value that words have in a row
+abbrev pub number_in : Words → ℕ → ℤ
+number_in words row = number (typed words.ty (slice_index_or words.words.now row (pos 0)))
+
+-- the new number of a coordinate in a row, moved into reach of the old one
+abbrev pub moved_in : Class → Words → Words → ℕ → ℤ
+moved_in class old new row = clamped (number_in old row) (number_in new row) class.reach
+
+-- the number of the new value of a state in a row of columns
+abbrev pub new_number : Class → Class → Outcome → Columns → ℕ → ℕ → ℤ
+new_number own class out columns state row =
+    let old = values_in (map (λ s. s.ty) own.states) (words_of columns) row in
+    number (value_at (within_reach class old (new_states out.states.items row old)) state)
 
 -- the child of an agent, with the gifts of a row
 abbrev pub child_of : Class → List Column → ℕ → Agent → Agent

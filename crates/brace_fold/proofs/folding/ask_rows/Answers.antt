@@ -21,7 +21,7 @@ ask_moved-requires-clause-agents c =
     let rows = by_row agents sorted.order.items in
     let moved =
     subst (λ (l : List ℕ). AreMoved (by_row agents l) c.in_ok-moved.moved) c.deref.ensures.value
-    (c.in_ok-moved.ensures agents c.requires.rows.are) in (
+    (c.in_ok-moved.ensures.rows agents c.requires.rows.are) in (
       rows,
       (
         (
@@ -48,7 +48,7 @@ returns c = on_ok c.bring_all.result _ _ (λ brings d.
     (sym c.deref-3.ensures.value) ∙ c.in_ok-asking.ensures in
     let there = asking-at agents d order c.args.asking.now at is.within asked in
     let moved = subst (λ (l : List ℕ). AreMoved (by_row agents l) c.in_ok-moved.moved)
-    c.deref.ensures.value (c.in_ok-moved.ensures agents given.are) in
+    c.deref.ensures.value (c.in_ok-moved.ensures.rows agents given.are) in
     let asks = c.in_ok-ask_moved.ensures rows d
     (lawful_moved program agents rows is.moved given.lawful) moved in
     let many : c.len.result ≡ length order = search rules in

@@ -25,8 +25,8 @@ outcome_in-requires c = c.in-Some-ruled.ensures.reach
 pub keep_rows-requires : goal.keep_rows-requires
 keep_rows-requires c = c.in-Some-ruled.ensures.reach
 
-pub returns : goal.returns
-returns c = on_ok c.keep_rows.result _ _ (λ keeps more are.
+pub returns-clause-leaves : goal.returns-clause-leaves
+returns-clause-leaves c = on_ok c.keep_rows.result _ _ (λ keeps more are.
     let ground = c.args.ground.now in
     let program = ground.plans.now in
     let columns = c.args.columns.now in
@@ -93,4 +93,4 @@ returns c = on_ok c.keep_rows.result _ _ (λ keeps more are.
       kept = λ agents before.
           subst (λ l. AreMoved (agents ++ living_from class out 0 l) c.keep_rows.new.left) same
           (keeps program agents has before);
-    }) c.keep_rows.ensures
+    }) c.keep_rows.ensures.kept

@@ -27,7 +27,7 @@ returns-clause-renews c = λ totals rows.
     let are = rows-are ground.seed ground.tick totals agents frame c.in_ok-columns.columns.items c.in_ok-sums.sums.items
     c.deref-8.result.now c.deref-9.result.now c.deref-10.result.now c.in_ok-drawn.drawn.items is.states is.outer is.inner is.locals is.totals is.draws
     (ap (map (λ v. v.now)) c.deref-8.ensures.value ∙ c.in_ok-states.ensures ∙ c.deref-3.ensures.value)
-    (λ i column e. c.in_ok-columns.ensures i column e
+    (λ i column e. c.in_ok-columns.ensures.each i column e
     ∙ by-values i c.deref-2.result.now agents (ap (map (λ (s : Bor (List Value)). s.now)) c.deref-2.ensures.value ∙ c.in_ok-values.ensures
     ∙ by-rows (λ a. a.states) c.deref.result.now agents rows_are))
     (ap (map (λ v. v.now)) c.deref-9.ensures.value ∙ c.in_ok-totals.ensures ∙ c.deref-4.ensures.value)

@@ -1,44 +1,29 @@
-use Rattle.std.proofs.Common.{◌≡◌, ◌≤◌, ◌<◌, ◌++◌, append-nil, sym, subst, arith, length, rules, take}
-use Rattle.std.proofs.lemmas.List.{take_all}
-use Rattle.std.specs.Prelude.{option_to_list}
-use Rattle.brace_fold.specs.Rows.{AreMoved, row_in, rows_in}
-use Rattle.brace_fold.specs.inner.Rulings.{lives_in, living_from}
-use Rattle.brace_fold.proofs.Survivings.{living-more, row-at, rows-long}
+use Rattle.std.proofs.Common.{◌∙◌, ◌<◌, ◌++◌, ap, length, get_or, map, ℕ, ℤ, List, subst, sym}
+use Rattle.std.proofs.lemmas.List.{with_items_is}
+use Rattle.brace_fold.specs.inner.Rulings.{new_number}
+use Rattle.brace_fold.proofs.Survivings.{rows-more}
+use Rattle.brace_fold.proofs.Walks.{on_ok}
 use Rattle.brace_fold.proofs.surviving.keep_rows.Goals as goal
 
-pub loop-k-init : goal.loop-k-init
-loop-k-init c = λ program agents has is. subst (λ l. AreMoved l c.args.left.now)
-    (sym (append-nil agents)) is
-
-pub loop-k-preserved : goal.loop-k-preserved
-loop-k-preserved c = λ program agents has is.
+pub returns-clause-kept : goal.returns-clause-kept
+returns-clause-kept c = on_ok c.push_states.result _ _ (λ each program agents has is.
+    let old = c.args.left.now in
     let columns = c.args.columns.now in
-    let class = c.args.class.now in
-    let out = c.args.out.now in
-    let k = c.loop-k.k in
-    let at : c.in-Ok.row ≡ k = search rules in
-    let rows = rows_in program columns in
-    let a = row_in program columns k in
-    let within = subst (λ n. n < length columns.ids.now) at c.in_ok-values.ensures.within in
-    let low : k < length rows = omega (arith, within, rows-long program columns) in
-    let before = agents ++ living_from class out 0 (take k rows) in
-    let next = c.in_ok-values.ensures.kept program before has
-    (c.loop-k.invariant program agents has is) in
-    subst (λ l. AreMoved l c.keep_row.new.left) (living-more class out rows k a low
-    (row-at program columns k a within) agents)
-    (subst (λ n. AreMoved (before ++ option_to_list (lives_in class out n
-    (row_in program columns n))) c.keep_row.new.left) at next)
-
-pub returns : goal.returns
-returns c = λ program agents has is.
-    let columns = c.args.columns.now in
-    let rows = rows_in program columns in
-    let past : length rows ≤ c.loop-k.k = omega (
-      arith,
-      c.loop-k-test.false,
-      c.loop-k.auto.k-end,
-      rows-long program columns,
-    ) in
-    subst (λ l. AreMoved (agents ++ living_from c.args.class.now c.args.out.now 0 l) c.loop-k.left)
-    (take_all c.loop-k.k rows past)
-    (c.loop-k.invariant program agents has is)
+    let rows = c.in_ok-rows.rows.items in
+    let written : List (List ℤ) = c.push_states.new.left in
+    let new_is = with_items_is old.states written
+    (c.push_states.ensures.long ∙ c.deref_mut.ensures.len) in
+    rows-more program c.args.own.now c.args.class.now c.args.number c.args.out.now columns
+    rows agents old _ has c.in_ok-rows.ensures.rows c.in_ok-rows.ensures.alike is
+    (c.in_ok-push_rows.ensures ∙ ap (λ (l : List ℕ). old.classes.items
+    ++ map (λ row. get_or columns.classes.now row 0) l) c.deref.ensures.value)
+    (c.in_ok-push_rows-2.ensures ∙ ap (λ (l : List ℕ). old.ids.items
+    ++ map (λ row. get_or columns.ids.now row 0) l) c.deref-2.ensures.value)
+    (ap length new_is ∙ c.push_states.ensures.long ∙ ap length c.deref_mut.ensures.value)
+    (λ k x low. ap (λ (l : List (List ℤ)). get_or l k x) new_is
+    ∙ each k x (subst (λ (l : List (List ℤ)). k < length l) (sym c.deref_mut.ensures.value) low)
+    ∙ ap (λ (l : List (List ℤ)). get_or l k x ++ map (new_number c.args.own.now c.args.class.now
+    c.args.out.now columns k) c.deref-3.result.now) c.deref_mut.ensures.value
+    ∙ ap (λ (l : List ℕ). get_or old.states.items k x ++ map (new_number c.args.own.now
+    c.args.class.now c.args.out.now columns k) l) c.deref-3.ensures.value))
+    c.push_states.ensures.each

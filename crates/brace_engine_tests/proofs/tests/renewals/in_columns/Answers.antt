@@ -16,7 +16,7 @@ renewed-requires c =
       ids = c.deref-3.result;
       states = c.deref-4.result;
     } in
-    let moved = subst (λ l. AreMoved l rows) (append-nil agents) c.in_ok-rows.ensures in
+    let moved = subst (λ l. AreMoved l rows) (append-nil agents) c.in_ok-rows.ensures.rows in
     let are = moved_are agents rows columns moved c.deref-2.ensures.value c.deref-3.ensures.value
     (ap (map (λ v. v.now)) c.deref-4.ensures.value ∙ c.in_ok-states.ensures
     ∙ c.deref.ensures.value) in
