@@ -1,6 +1,7 @@
 -- What a part comes to by the censuses of all.
-use Rattle.std.proofs.Common.{◌≡◌, ◌∙◌, sym, ap, ap₂, subst, ℕ, ◌+◌, ◌≤◌, ◌^◌, List, [], ◌∷◌, map, filter_map, flat_map, length, Option, Some, None, arith, refl}
+use Rattle.std.proofs.Common.{◌≡◌, ◌∙◌, sym, ap, ap₂, subst, ℕ, ◌+◌, ◌≤◌, ◌^◌, List, [], ◌∷◌, map, filter_map, flat_map, length, Option, Some, None, arith, refl, true}
 use Rattle.std.specs.Prelude.{slice_get, option_map}
+use Rattle.std.specs.List.{list_all}
 use Rattle.std.specs.List.Sorted.{IsStrictlyIncreasing}
 use Rattle.std.specs.Option.{option_and_then}
 use Rattle.brace_model.specs.declared.fault.Fault.{Fault}
@@ -8,6 +9,7 @@ use Rattle.brace_model.specs.declared.world.Agent.{Agent}
 use Rattle.brace_model.specs.declared.world.Parent.{Parent}
 use Rattle.brace_model.specs.declared.world.Census.{Census}
 use Rattle.brace_model.specs.World.{World, ids}
+use Rattle.brace_model.specs.Lawful.{is_lawful_agent}
 use Rattle.brace_model.specs.Step.{children}
 use Rattle.brace_model.specs.FaultOrder.{least}
 use Rattle.brace_pieces.specs.declared.setting.Setting.{Setting}
@@ -26,8 +28,12 @@ use Rattle.brace_num.proofs.Orders.{keys_by_rises}
 use Rattle.brace_part.specs.declared.work.Worker.{Worker}
 use Rattle.brace_part.specs.Parts.{found_in_work}
 use Rattle.brace_part.specs.inner.Pieces.{counts_brought}
-use Rattle.brace_part.specs.inner.Ready.{own_in, HasLeft, HasBorn}
+use Rattle.brace_fold.specs.declared.order.Moved.{Moved}
+use Rattle.brace_fold.specs.Rows.{AreMoved}
+use Rattle.brace_part.specs.inner.Ready.{own_in, left_in, HasLeft, HasBorn}
 use Rattle.brace_part.specs.inner.Sound.{IsWorker, IsWork}
+use Rattle.brace_part.proofs.HoldWork.{mine_lawful}
+use Rattle.brace_part.proofs.LawfulOn.{left_lawful}
 use Rattle.brace_part.proofs.WorkTaken.{censuses_bring}
 use Rattle.brace_part.proofs.WorkHeard.{step_ticks}
 
@@ -41,8 +47,27 @@ parent_ids : (kids : List Agent) → map (λ (q : Parent). q.id) (census_of [] k
 parent_ids [] = refl
 parent_ids (c ∷ kids) = ap (λ ns. c.id ∷ ns) (parent_ids kids)
 
-module _ (worker : Worker) (part : IsWorker worker) (t : ℕ) (pieces : List Piece) (work : IsWork worker stage.Census t pieces) (left born : List Agent) (has : HasLeft worker.setting.now worker.part t left born worker.next)
-    (all : Census) (sum : IsSumOf (census_of left born ∷ flat_map counts_brought pieces) all) where
+-- what a part counts of its own in columns is added up with what pieces bring
+pub sum_is : (worker : Worker) (part : IsWorker worker) (t : ℕ) (left : Moved)
+    (born bears : List Agent) (next : ℕ) → HasLeft worker.setting.now worker.part t left born next
+    → bears ≡ born → (others : List Census) (own all : Census)
+    → ((agents : List Agent) → AreMoved agents left
+    → list_all (is_lawful_agent worker.setting.now.job.program) agents ≡ true
+    → own ≡ census_of agents bears)
+    → IsSumOf (own ∷ others) all
+    → IsSumOf (census_of (left_in worker.setting.now worker.part t) born ∷ others) all
+sum_is worker part t left born bears next has same others own all counts sum =
+    let s = worker.setting.now in
+    let lives = left_in s worker.part t in
+    let lawful = left_lawful s part.lawful t (on s t).agents _ (mine_lawful worker part t) in
+    subst (λ (c : Census). IsSumOf (c ∷ others) all)
+    (counts lives has.lives.moved lawful ∙ ap (census_of lives) same) sum
+
+module _ (worker : Worker) (part : IsWorker worker) (t : ℕ) (pieces : List Piece)
+    (work : IsWork worker stage.Census t pieces) (left : Moved) (born : List Agent)
+    (has : HasLeft worker.setting.now worker.part t left born worker.next)
+    (all : Census) (sum : IsSumOf (census_of
+    (left_in worker.setting.now worker.part t) born ∷ flat_map counts_brought pieces) all) where
   abbrev s : Setting
   s = worker.setting.now
 
@@ -60,7 +85,9 @@ module _ (worker : Worker) (part : IsWorker worker) (t : ℕ) (pieces : List Pie
     are_whole = on_whole s part.lawful part.numbers t;
     have_classes = on_classed s part.lawful part.numbers t;
     is_sum = subst (λ cs. IsSumOf cs all)
-        (ap₂ (λ c cs. c ∷ cs) (ap₂ census_of has.lives has.bears) (censuses_bring s worker.number p t work.stands (met s (step stage.Census t) p) pieces work.took)) sum;
+        (ap₂ (λ c cs. c ∷ cs) (ap (census_of (left_in s p t)) has.bears)
+        (censuses_bring s worker.number p t work.stands
+        (met s (step stage.Census t) p) pieces work.took)) sum;
   }
 
   -- the next free id is one

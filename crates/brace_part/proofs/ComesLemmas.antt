@@ -23,15 +23,17 @@ use Rattle.brace_part.proofs.NextLemmas.{ready_next, faultless_next, numbered_ne
 use Rattle.brace_part.proofs.ShownLemmas.{is_noted, one_noted, brings_next}
 
 -- what a part notes of a tick
-abbrev pub note_of : ℕ → Stance → ℕ → Shown
-note_of t stance next = record { tick = t; agents = owns_in stance; next = next }
+abbrev pub note_of : Setting → ℕ → Stance → ℕ → Shown
+note_of s t stance next =
+    record { tick = t; agents = owns_in s.job.program stance; next = next }
 
 module _ (s : Setting) (p : ℕ) (t : ℕ) (low : s.job.first ≤ t) (next : ℕ) (next_is : next ≡ (on s (t + 1)).next) where
   -- behind a move it is its part of that world
-  pub note_right : (stance : Stance) → IsReadyBehind s p stage.Move t stance → note_of (t + 1) stance next ≡ kept_at s p (t + 1)
+  pub note_right : (stance : Stance) → IsReadyBehind s p stage.Move t stance
+      → note_of s (t + 1) stance next ≡ kept_at s p (t + 1)
   note_right (Owns own) has =
       ap₂ (λ agents n. record { tick = t + 1; agents = agents; next = n })
-      (has ∙ sym (ap (λ cuts. own_under s p cuts (t + 1)) (shown_behind s (t + 1) t refl low)))
+      (has.are ∙ sym (ap (λ cuts. own_under s p cuts (t + 1)) (shown_behind s (t + 1) t refl low)))
       next_is
   note_right (Hears agents heard) has = absurd has
   note_right (Holds held) has = absurd has
@@ -48,18 +50,22 @@ module _ (s : Setting) (p : ℕ) (queries : Queries) (part : IsPartOf s p querie
   next = next_behind at.stage old.stance old.next
 
   abbrev noted_more : Stance → List Shown
-  noted_more stance = old.shown ++ (if is_noted s (at.tick + 1) then note_of (at.tick + 1) stance next ∷ [] else [])
+  noted_more stance =
+      old.shown ++ (if is_noted s (at.tick + 1) then note_of s
+      (at.tick + 1) stance next ∷ [] else [])
 
   next_moved : at.stage ≡ stage.Move → next ≡ (on s (at.tick + 1)).next
   next_moved move =
       ap (λ st. next_behind st old.stance old.next) move
       ∙ numbered_moved s p at.tick old.stance old.next (subst (λ st. IsReadyFor s p st at.tick old.stance) move h.ready)
 
-  note_at : (stance : Stance) → at.stage ≡ stage.Move → IsReadyBehind s p at.stage at.tick stance → note_of (at.tick + 1) stance next ≡ kept_at s p (at.tick + 1)
+  note_at : (stance : Stance) → at.stage ≡ stage.Move → IsReadyBehind s p at.stage at.tick stance
+      → note_of s (at.tick + 1) stance next ≡ kept_at s p (at.tick + 1)
   note_at stance move has = note_right s p at.tick (of_run s k at h.stands).low next (next_moved move) stance (subst (λ st. IsReadyBehind s p st at.tick stance) move has)
 
   pub kept_behind : (stance : Stance) → at.stage ≡ stage.Move → IsReadyBehind s p at.stage at.tick stance → AreKept s p old.shown → AreKept s p (noted_more stance)
-  kept_behind stance move has kept = kept_more s p old.shown (note_of (at.tick + 1) stance next) (is_noted s (at.tick + 1)) kept (note_at stance move has)
+  kept_behind stance move has kept = kept_more s p old.shown (note_of s (at.tick + 1) stance next)
+      (is_noted s (at.tick + 1)) kept (note_at stance move has)
 
   -- it comes to the next step with what that needs
   pub comes_next : (new : Standing) → new.next ≡ next → IsReadyBehind s p at.stage at.tick new.stance → least (found_in_work s p at.stage at.tick) ≡ None
@@ -69,7 +75,9 @@ module _ (s : Setting) (p : ℕ) (queries : Queries) (part : IsPartOf s p querie
     next_is = subst (IsNextAt s (slice_get (steps s) (k + 1))) (sym number) (numbered_next s p k at h.stands old.stance old.next h.ready h.next_is);
     faultless = faultless_next s p k at h.stands h.faultless none;
     brings = brings_next s p k at h.stands old.shown new.shown h.keeps
-        (λ move. moved move ∙ one_noted s p at.tick (at.tick + 1) old.shown (note_of (at.tick + 1) new.stance next) refl (of_run s k at h.stands).low (note_at new.stance move behind)
+        (λ move. moved move ∙ one_noted s p at.tick (at.tick + 1) old.shown
+        (note_of s (at.tick + 1) new.stance next) refl (of_run s k at h.stands).low
+        (note_at new.stance move behind)
         (subst (λ st. old.shown ≡ keeps_before s p st at.tick) move h.keeps)) stays;
     counted = counts ∙ h.counted;
   }
@@ -108,8 +116,13 @@ module _ (s : Setting) (p : ℕ) (queries : Queries) (part : IsPartOf s p querie
 -- the same where the setting and the part are known by other names
 pub kept_there : (s : Setting) (p : ℕ) (queries : Queries) → IsPartOf s p queries → (k : ℕ) (at : Step) (old : Standing) → IsAtWork s p k at old → AreKept s p old.shown
     → (r u : Setting) (q : ℕ) (stance : Stance) (new : List Shown) → r ≡ s → u ≡ s → q ≡ p → IsReadyBehind r q at.stage at.tick stance
-    → (at.stage ≡ stage.Move → new ≡ old.shown ++ (if is_noted u (at.tick + 1) then note_of (at.tick + 1) stance (next_behind at.stage old.stance old.next) ∷ [] else [])) → ((at.stage ≡ stage.Move → ⊥) → new ≡ old.shown) → AreKept s p new
+    → (at.stage ≡ stage.Move → new ≡ old.shown ++
+    (if is_noted u (at.tick + 1) then note_of u (at.tick + 1) stance
+    (next_behind at.stage old.stance old.next) ∷ [] else []))
+    → ((at.stage ≡ stage.Move → ⊥) → new ≡ old.shown) → AreKept s p new
 kept_there s p queries part k at old h kept r u q stance new first second third has moved stays =
     kept_next s p queries part k at old h stance new
     (subst (λ r. IsReadyBehind r p at.stage at.tick stance) first (subst (λ q. IsReadyBehind r q at.stage at.tick stance) third has)) kept
-    (λ m. subst (λ (r : Setting). new ≡ old.shown ++ (if is_noted r (at.tick + 1) then note_of (at.tick + 1) stance (next_behind at.stage old.stance old.next) ∷ [] else [])) second (moved m)) stays
+    (λ m. subst (λ (r : Setting). new ≡ old.shown ++
+    (if is_noted r (at.tick + 1) then note_of r (at.tick + 1) stance
+    (next_behind at.stage old.stance old.next) ∷ [] else [])) second (moved m)) stays

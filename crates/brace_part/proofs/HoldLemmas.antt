@@ -71,7 +71,8 @@ pub told_hears : (program : Program) (rows : List Agent) (a : Agent) (e : Effect
     → after.sums.items ≡ set before.sums.items (sum_place before.rows field row)
     (summed e.comb (sum_at before field row) number count)
     → Hears program rows told before after
-told_hears program rows a e row field count number told before after apart here has tells rows_is low
+told_hears program rows a e row field count number told before after apart here has tells rows_is
+    low
     inside sums =
     let same : tells.effect ≡ e = same_Some tells.effect e (sym tells.has ∙ has) in
     subst (λ l. Hears program rows l before after) (told_said a.id field told tells.alone)

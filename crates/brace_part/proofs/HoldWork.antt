@@ -1,26 +1,32 @@
 -- What a part holds in rows in a step, and what is left of its agents.
-use Rattle.std.proofs.Common.{◌≡◌, ◌∙◌, refl, sym, ap, ap₂, subst, ℕ, ◌≤◌, ◌^◌, List, [], ◌∷◌, ◌++◌, map, filter, filter_map, flat_map, length, take, Bool, true, false, cond, Option, Some, None, Result, Ok, Err, IfOk, arith}
+use Rattle.std.proofs.Common.{◌≡◌, ◌∙◌, refl, sym, ap, subst, ℕ, ◌+◌, ◌<◌, ◌≤◌, ◌^◌, List, [], ◌∷◌, ◌++◌, map, filter, filter_map, flat_map, length, drop, take, Bool, true, false, cond, Option, Some, None, Result, Ok, Err, IfOk, ◌⊎◌, inl, inr, get_or, arith}
 use Rattle.std.specs.Prelude.{nat_eq}
 use Rattle.std.specs.List.{Contains, IsDistinct, list_all}
-use Rattle.std.specs.List.Sorted.{IsPermutation}
+use Rattle.std.specs.List.Sorted.{IsNonDecreasingBy, IsPermutation}
 use Rattle.std.specs.Result.{result_ok, result_err}
 use Rattle.std.proofs.lemmas.Bool.{eqb-true, ne_eqb}
+use Rattle.std.proofs.lemmas.List.{length-map}
 use Rattle.std.proofs.lemmas.List.Elements.{filter-append}
-use Rattle.std.proofs.lemmas.List.Sorted.{IsPermutation-sym, IsPermutation-trans, IsPermutation-refl, IsPermutation-append}
+use Rattle.std.proofs.lemmas.List.Kept.{IsNonDecreasingBy-filter}
+use Rattle.std.proofs.lemmas.List.Sorted.{IsNonDecreasingBy-take, IsPermutation-sym, IsPermutation-trans, IsPermutation-refl, IsPermutation-append}
+use Rattle.std.proofs.Math.Nat.{eq-or-lt_of_le}
 use Rattle.brace_num.proofs.Lists.{in_more}
-use Rattle.brace_num.proofs.Orders.{filter_rises, one_moved, one_sorted, sorted_rises}
+use Rattle.brace_num.proofs.Orders.{filter_rises, one_moved, one_sorted, rises_by_keys, sorted_rises}
 use Rattle.brace_model.specs.declared.program.Program.{Program}
 use Rattle.brace_model.specs.declared.world.Agent.{Agent}
 use Rattle.brace_model.specs.declared.program.Class.{Class}
-use Rattle.brace_model.specs.World.{RisesById, class_of, ids, x_of, y_of}
+use Rattle.brace_model.specs.World.{World, RisesById, class_of, ids, x_of, y_of}
 use Rattle.brace_model.specs.Total.{totals_from}
 use Rattle.brace_model.specs.Lawful.{is_lawful_agent}
-use Rattle.brace_model.specs.Step.{living, children}
+use Rattle.brace_model.specs.Step.{living, children, numbered}
 use Rattle.brace_cuts.specs.Space.{owner_of}
+use Rattle.brace_cuts.specs.declared.space.Cuts.{Cuts}
 use Rattle.brace_eval.specs.Heard.{row_of}
 use Rattle.brace_fold.specs.Becoming.{becomes_said}
+use Rattle.brace_fold.specs.Listed.{AreListed, agents_in}
 use Rattle.brace_fold.specs.Rows.{AreMoved, by_id}
 use Rattle.brace_fold.specs.Sums.{AreSummed}
+use Rattle.brace_fold.specs.declared.order.Moved.{Moved}
 use Rattle.brace_fold.specs.declared.renewal.Renewed.{Renewed}
 use Rattle.brace_fold.specs.inner.Hears.{Hears}
 use Rattle.brace_fold.proofs.RowLemmas.{by_id_is, lawful_moved, rows_apart}
@@ -31,22 +37,28 @@ use Rattle.brace_pieces.specs.declared.piece.Piece.{Piece}
 use Rattle.brace_pieces.specs.Settings.{cuts_of}
 use Rattle.brace_pieces.specs.Steps.{step, met}
 use Rattle.brace_pieces.specs.Owned.{owns, owns_at, owned}
-use Rattle.brace_pieces.specs.Continued.{said, becomes, on}
+use Rattle.brace_pieces.specs.Continued.{all_left, becomes, fitting, on, said}
 use Rattle.brace_pieces.specs.Finds.{queries_found, updates_found}
 use Rattle.brace_pieces.specs.Together.{IsSorted}
+use Rattle.brace_pieces.proofs.GivenLemmas.{own_living}
 use Rattle.brace_pieces.proofs.HeardHere.{finds_here, told_is}
+use Rattle.brace_pieces.proofs.OnLemmas.{on_next}
+use Rattle.brace_pieces.proofs.WorldLemmas.{seconds_both}
 use Rattle.brace_part.specs.declared.holding.Held.{Held}
 use Rattle.brace_part.specs.declared.work.Worker.{Worker}
 use Rattle.brace_part.specs.inner.Asked.{HasRulesOf}
 use Rattle.brace_part.specs.inner.Hearing.{CanSum}
-use Rattle.brace_part.specs.inner.Holding.{HoldsAll, HoldsAsked, IsHeld, LeavesRows, mine, all_near}
+use Rattle.brace_part.specs.inner.Holding.{AreHeld, HoldsAll, HoldsAsked, HoldsRows, IsHeld, LeavesRows, mine, all_near}
+use Rattle.brace_part.specs.declared.joining.Own.{Own}
+use Rattle.brace_part.specs.inner.Owning.{AreOwn}
 use Rattle.brace_part.specs.inner.Pieces.{brought}
+use Rattle.brace_part.specs.inner.Ready.{left_in}
 use Rattle.brace_part.specs.inner.Sound.{IsWorker, IsWork}
 use Rattle.brace_part.specs.inner.Tables.{said_over, faults_over, TellBy}
 use Rattle.brace_part.proofs.AskedLemmas.{filter_moved}
 use Rattle.brace_part.proofs.LawfulOn.{on_lawful, some_pass}
 use Rattle.brace_part.proofs.TableLeft.{becomes_row}
-use Rattle.brace_part.proofs.WorkHeard.{all_leave, becomes_asked, becomes_told, told_there, inside, mapped_alike, near_lawful, near_rises, rises}
+use Rattle.brace_part.proofs.WorkHeard.{all_leave, becomes_asked, becomes_told, told_there, inside, mapped_alike, near_lawful, near_rises, rises, whole}
 use Rattle.brace_part.proofs.WorkOwned.{near_moved}
 use Rattle.brace_part.proofs.WorkTaken.{effects_told}
 
@@ -64,6 +76,10 @@ ok_always (Err e) P h = tt
 pub take_first : (xs ys : List Agent) → take (length xs) (xs ++ ys) ≡ xs
 take_first [] ys = refl
 take_first (x ∷ xs) ys = ap (λ l. x ∷ l) (take_first xs ys)
+
+first_mapped : (f : Agent → ℕ) (xs ys : List Agent) → take (length xs) (map f (xs ++ ys)) ≡ map f xs
+first_mapped f [] ys = refl
+first_mapped f (x ∷ xs) ys = ap (λ l. f x ∷ l) (first_mapped f xs ys)
 
 none_of : (test : Agent → Bool) (xs : List Agent) → ((a : Agent) → Contains xs a → test a ≡ false)
     → filter test xs ≡ []
@@ -100,6 +116,47 @@ module _ (worker : Worker) (part : IsWorker worker) (t : ℕ) where
   mine_rise = filter_rises (λ (a : Agent). a.id) (owns m (cuts_of s t) p) (on s t).agents
       (rises worker part t)
 
+  -- ---- in the order of ids
+
+  in_order : (tick : ℕ) → IsNonDecreasingBy (λ (a : Agent). a.id) (on s tick).agents
+  in_order tick i j d le low = by (eq-or-lt_of_le le)
+    where
+      id : Agent → ℕ
+      id a = a.id
+
+      agents : List Agent
+      agents = (on s tick).agents
+
+      by : (i ≡ j) ⊎ (i < j) → id (get_or agents i d) ≤ id (get_or agents j d)
+      by (inl same) = let one = ap (λ k. id (get_or agents k d)) same in omega (arith, one)
+      by (inr less) =
+          let up = rises_by_keys id agents (rises worker part tick) i j d less low in
+          omega (arith, up)
+
+  pub own_in_order : (cuts : Cuts)
+      → IsNonDecreasingBy (λ (a : Agent). a.id) (owned m cuts p (on s t).agents)
+  own_in_order cuts = IsNonDecreasingBy-filter (λ (a : Agent). a.id) (owns m cuts p)
+      (on s t).agents (in_order t)
+
+  -- what its agents leave
+  pub left_in_order : s.job.first ≤ t
+      → IsNonDecreasingBy (λ (a : Agent). a.id) (left_in s p t)
+  left_in_order low =
+      let id : Agent → ℕ = λ a. a.id in
+      let world : World = on s t in
+      let lives : List Agent = living (all_left s t world.agents) in
+      let born : List Agent =
+      fitting lives world.next (children (all_left s t world.agents)) in
+      let next : (on s (t + 1)).agents ≡ lives ++ numbered world.next born =
+      ap (λ (w : World). w.agents) (on_next s t low) ∙ seconds_both lives born world.next in
+      let first : IsNonDecreasingBy id lives = subst (IsNonDecreasingBy id)
+      (take_first lives (numbered world.next born))
+      (IsNonDecreasingBy-take id (length lives) (lives ++ numbered world.next born)
+      (subst (IsNonDecreasingBy id) next (in_order (t + 1)))) in
+      subst (IsNonDecreasingBy id)
+      (own_living s t part.lawful world.agents (rises worker part t) (whole worker part t) p)
+      (IsNonDecreasingBy-filter id _ lives first)
+
   -- ---- what it holds
 
   -- another part owns none of its agents
@@ -117,7 +174,7 @@ module _ (worker : Worker) (part : IsWorker worker) (t : ℕ) where
       (on s t).agents a there).1
 
   -- its agents and those that pieces bring
-  pub is_held : (pieces : List Piece) (own guests : List Agent)
+  is_held : (pieces : List Piece) (own guests : List Agent)
       → IsWork worker stage.Border t pieces → own ≡ mine s p t
       → IsSorted (flat_map brought pieces) guests → IsHeld s p t own guests
   is_held pieces own guests work same sorted =
@@ -168,6 +225,32 @@ module _ (worker : Worker) (part : IsWorker worker) (t : ℕ) where
         one_moved id (filter theirs guests) (filter theirs all) moved
         (filter_rises id theirs guests h.rises) (filter_rises id theirs all all_rise)
 
+  -- all that it holds in rows, by rising id
+  pub merged_is : (rows : Moved) → AreHeld s p t rows → (agents list : List Agent)
+      → agents ≡ agents_in m rows → IsSorted agents list
+      → list ≡ all
+  merged_is rows h agents list is sorted =
+      held_merged (mine s p t) h.guests h.holds list (subst (λ l. IsSorted l list) (is
+      ∙ h.listed.are) sorted)
+
+  -- its own agents in the first rows
+  pub first_own : (held : Held) → HoldsRows s p t held → (own : Own) (classes ids_of : List ℕ)
+      → classes ≡ held.rows.classes.items
+      → ids_of ≡ held.rows.ids.items → own.classes.now ≡ take held.count (drop 0 classes)
+      → own.ids.now ≡ take held.count (drop 0 ids_of)
+      → AreOwn (mine s p t) own
+  first_own held h own classes ids_of classes_are ids_are first_classes first_ids =
+      let mine_are : List Agent = mine s p t in
+      let guests : List Agent = held.guests.items in
+      record {
+        classes = first_classes ∙ ap (λ l. take held.count l) (classes_are ∙ h.listed.moved.classes)
+            ∙ ap (λ n. take n (map (λ (a : Agent). a.class) (mine_are ++ guests))) h.many
+            ∙ first_mapped (λ a. a.class) mine_are guests;
+        ids_are = first_ids ∙ ap (λ l. take held.count l) (ids_are ∙ h.listed.moved.ids_are)
+            ∙ ap (λ n. take n (map (λ (a : Agent). a.id) (mine_are ++ guests))) h.many
+            ∙ first_mapped (λ a. a.id) mine_are guests;
+      }
+
   -- ---- what is left of its agents
 
   module _ (plans : Program) (rules : HasRulesOf m plans) (held : Held)
@@ -206,30 +289,52 @@ module _ (worker : Worker) (part : IsWorker worker) (t : ℕ) where
 
   -- ---- what is said to those that it holds
 
+  -- its own agents and those that pieces bring in rows
+  pub rows_held : (pieces : List Piece) (none guests more : List Agent) (count : ℕ)
+      (own rows : Moved) → IsWork worker stage.Border t pieces → none ≡ []
+      → IsSorted (none ++ flat_map brought pieces) guests → AreListed m (mine s p t) own
+      → count ≡ length own.ids.items → more ≡ guests
+      → ((agents : List Agent) → AreMoved agents own → AreMoved (agents ++ more) rows)
+      → ((agents : List Agent) → AreMoved agents rows → list_all (is_lawful_agent m) agents ≡ true
+      → AreListed m agents rows)
+      → IsHeld s p t (mine s p t) guests × (count ≡ length (mine s p t))
+      × AreListed m (mine s p t ++ guests) rows
+  rows_held pieces none guests more count own rows work empty sorted listed many same moves reads =
+      let held = is_held pieces (mine s p t) guests work refl
+      (subst (λ l. IsSorted (l ++ flat_map brought pieces) guests) empty sorted) in
+      let moved = subst (λ l. AreMoved (mine s p t ++ l) rows) same
+      (moves (mine s p t) listed.moved) in (
+        held,
+        many ∙ ap length listed.moved.ids_are ∙ length-map (mine s p t) (λ (a : Agent). a.id),
+        reads (mine s p t ++ guests) moved (held_lawful (mine s p t) guests held),
+      )
+
   -- its queries can be asked of these
-  pub can_sum : (own guests : List Agent) → IsHeld s p t own guests → t ≤ 2 ^ 32
-      → CanSum s worker.queries.now t (own ++ guests)
-  can_sum own guests h ticks = record {
+  abbrev pub can_sum : (count : ℕ) (rows : Moved) (guests : List Agent)
+      → IsHeld s p t (mine s p t) guests → count ≡ length (mine s p t)
+      → AreMoved (mine s p t ++ guests) rows → t ≤ 2 ^ 32
+      → CanSum s worker.queries.now t count rows
+  can_sum count rows guests h many moved ticks = record {
+    own = mine s p t;
+    guests = guests;
+    many = many;
+    moved = moved;
     queries = part.queries_are;
-    lawful = held_lawful own guests h;
-    apart = held_apart own guests h;
+    lawful = held_lawful (mine s p t) guests h;
+    apart = held_apart (mine s p t) guests h;
     ticks = ticks;
   }
 
   -- in rows it holds what it was asked
-  pub holds_asked : (held : Held) → IsHeld s p t held.own.items held.guests.items
-      → AreMoved (held.own.items ++ held.guests.items) held.rows
-      → AreSummed m (held.own.items ++ held.guests.items)
-      (said_over s t held.own.items (by_id (held.own.items ++ held.guests.items))) held.said
+  pub holds_asked : (held : Held) → HoldsRows s p t held
+      → AreSummed m (mine s p t ++ held.guests.items)
+      (said_over s t (mine s p t) (by_id (mine s p t ++ held.guests.items))) held.said
       → HoldsAsked s p t held
-  holds_asked held h rows sums = record {
+  holds_asked held h sums = record {
     holds = h;
-    rows = rows;
-    sums = subst (λ own. AreSummed m (held.own.items ++ held.guests.items)
-        (said_over s t own all) held.said) h.own_is
-        (subst (λ list. AreSummed m (held.own.items ++ held.guests.items)
-        (said_over s t held.own.items list) held.said)
-        (held_by_id held.own.items held.guests.items h) sums);
+    sums = subst (λ list. AreSummed m (mine s p t ++ held.guests.items)
+        (said_over s t (mine s p t) list) held.said)
+        (held_by_id (mine s p t) held.guests.items h.holds) sums;
   }
 
   -- and none of its queries faults
@@ -241,11 +346,23 @@ module _ (worker : Worker) (part : IsWorker worker) (t : ℕ) where
       ∙ ap (λ l. faults_over s t l all) (sym h.own_is)
       ∙ ap (faults_over s t own) (sym (held_by_id own guests h)) ∙ none
 
+  -- the same rows
+  pub rows_too : (before after : Held) → HoldsRows s p t before → after.count ≡ before.count
+      → after.guests ≡ before.guests
+      → after.rows ≡ before.rows → HoldsRows s p t after
+  rows_too before after h count_is guests_is rows_is =
+      let guests = ap (λ v. v.items) (sym guests_is) in
+      record {
+        holds = subst (IsHeld s p t (mine s p t)) guests h.holds;
+        many = count_is ∙ h.many;
+        listed = subst (λ l. AreListed m (mine s p t ++ l) after.rows) guests
+            (subst (AreListed m (mine s p t ++ before.guests.items)) (sym rows_is) h.listed);
+      }
+
   -- with inversion that is all
   pub all_asked : s.invert ≡ true → (held : Held) → HoldsAsked s p t held → HoldsAll s p t held
   all_asked inverted held h = record {
     holds = h.holds;
-    rows = h.rows;
     told = said_over s t (mine s p t) all;
     sums = h.sums;
     becomes_so = becomes_asked worker part t inverted;
@@ -253,22 +370,17 @@ module _ (worker : Worker) (part : IsWorker worker) (t : ℕ) where
 
   -- and without it what was asked, and what pieces tell
   pub all_told : s.invert ≡ false → (before after : Held) → HoldsAsked s p t before
-      → after.own ≡ before.own → after.guests ≡ before.guests
-      → after.rows ≡ before.rows
-      → Hears m (before.own.items ++ before.guests.items)
+      → after.count ≡ before.count → after.guests ≡ before.guests
+      → after.rows ≡ before.rows → Hears m (mine s p t ++ before.guests.items)
       (told_there worker part t) before.said after.said
       → HoldsAll s p t after
-  all_told plain before after h own_is guests_is rows_is hears =
+  all_told plain before after h count_is guests_is rows_is hears =
       let told = said_over s t (mine s p t) all ++ told_there worker part t in
-      let agents = ap₂ (λ xs ys. xs ++ ys) (ap (λ v. v.items) (sym own_is))
-      (ap (λ v. v.items) (sym guests_is)) in
+      let guests = ap (λ v. v.items) (sym guests_is) in
       record {
-        holds = subst (λ own. IsHeld s p t own after.guests.items) (ap (λ v. v.items) (sym own_is))
-            (subst (IsHeld s p t before.own.items) (ap (λ v. v.items) (sym guests_is)) h.holds);
-        rows = subst (λ l. AreMoved l after.rows) agents
-            (subst (AreMoved (before.own.items ++ before.guests.items)) (sym rows_is) h.rows);
+        holds = rows_too before after h.holds count_is guests_is rows_is;
         told = told;
-        sums = subst (λ l. AreSummed m l told after.said) agents
+        sums = subst (λ l. AreSummed m (mine s p t ++ l) told after.said) guests
             (hears.each (said_over s t (mine s p t) all) h.sums);
         becomes_so = becomes_told worker part t plain;
       }

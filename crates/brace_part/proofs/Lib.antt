@@ -2,6 +2,7 @@ pub mod TableGather
 pub mod TableHeard
 pub mod TableLeft
 pub mod TableOnes
+pub mod IdLemmas
 pub mod TableShares
 pub mod TableTells
 pub mod KindLemmas
@@ -11,9 +12,11 @@ pub mod AskedLemmas
 pub mod LaneLemmas
 pub mod SumsLemmas
 pub mod HoldLemmas
+pub mod NearLemmas
 pub mod HoldWork
 pub mod WorkTaken
 pub mod WorkHeard
+pub mod CensusRows
 pub mod CensusWork
 pub mod CensusJoins
 pub mod WorkOwned

@@ -6,9 +6,11 @@ use Rattle.std.proofs.lemmas.Bool.{cases_lt, true≢false}
 use Rattle.std.proofs.lemmas.Bool.Decides.{nat_tests}
 use Rattle.brace_model.specs.declared.fault.Fault.{Fault}
 use Rattle.brace_model.specs.FaultOrder.{least}
+use Rattle.brace_model.specs.declared.world.Agent.{Agent}
 use Rattle.brace_model.specs.World.{World}
 use Rattle.brace_model.specs.Next.{has_births}
 use Rattle.brace_model.proofs.FaultLemmas.{least_none}
+use Rattle.brace_fold.specs.Listed.{AreListed}
 use Rattle.brace_pieces.specs.declared.setting.Setting.{Setting}
 use Rattle.brace_pieces.specs.declared.setting.Stage.{Stage}
 use Rattle.brace_pieces.specs.declared.setting.Stage.TheVariants as stage
@@ -109,11 +111,14 @@ module _ (s : Setting) (p : ℕ) where
   moved_ready : (u : ℕ) → s.job.first ≤ u → u < s.job.last → (stance : Stance) → IsReadyBehind s p stage.Move u stance → IsReady s p (behind_move s u) stance
   moved_ready u low high (Owns own) has =
       let back : u ≡ u + 1 - 1 = omega arith in
+      let Own : List Agent → Type 0 = λ l. AreListed s.job.program l own in
       subst (λ o. IsReady s p o (Owns own)) (behind_low s u high)
       (reaches s (u + 1) (λ o. IsReady s p o (Owns own)) (omega (arith, high))
-      (λ ends. has ∙ sym (ap (λ cuts. own_under s p cuts (u + 1)) (shown_behind s (u + 1) u refl low)))
-      (λ other recut. has ∙ ap (λ c. own_under s p (cuts_of s c) (u + 1)) back)
-      (λ other none. has ∙ sym (ap (λ cuts. own_under s p cuts (u + 1)) (not_recut s (u + 1) u refl low none))))
+      (λ ends. subst (λ cuts. Own (own_under s p cuts (u + 1)))
+      (sym (shown_behind s (u + 1) u refl low)) has)
+      (λ other recut. subst (λ c. Own (own_under s p (cuts_of s c) (u + 1))) back has)
+      (λ other none. subst (λ cuts. Own (own_under s p cuts (u + 1)))
+      (sym (not_recut s (u + 1) u refl low none)) has))
   moved_ready u low high (Hears agents heard) has = absurd has
   moved_ready u low high (Holds held) has = absurd has
   moved_ready u low high (Leaves left born next) has = absurd has
@@ -121,9 +126,12 @@ module _ (s : Setting) (p : ℕ) where
   shown_ready : (t : ℕ) → s.job.first ≤ t → t ≤ s.job.last → (stance : Stance) → IsReadyFor s p stage.Show t stance → IsReady s p (slice_get (ticks_from s t) 0) stance
   shown_ready t low high (Owns own) has =
       begins s t (λ o. IsReady s p o (Owns own)) high
-      (λ below recut. let first = recut_behind s t recut in has ∙ ap (λ cuts. own_under s p cuts t) (shown_behind s t (t - 1) (omega (arith, first)) (omega (arith, first))))
-      (λ below none. has ∙ ap (λ cuts. own_under s p cuts t) (by_first none))
-      (λ last. subst (λ u. own.items ≡ own_before s p stage.Show u) last has)
+      (λ below recut. let first = recut_behind s t recut in subst
+      (λ cuts. AreListed s.job.program (own_under s p cuts t) own)
+      (shown_behind s t (t - 1) (omega (arith, first)) (omega (arith, first))) has)
+      (λ below none. subst (λ cuts. AreListed s.job.program (own_under s p cuts t) own)
+      (by_first none) has)
+      (λ last. subst (λ u. AreListed s.job.program (own_before s p stage.Show u) own) last has)
     where
       by_first : is_recut s t ≡ false → cuts_shown s t ≡ cuts_of s t
       by_first none = elim (cases_lt s.job.first t) [

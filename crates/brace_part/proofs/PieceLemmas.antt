@@ -1,5 +1,5 @@
 -- The piece that a part makes for another is right.
-use Rattle.std.proofs.Common.{◌≡◌, ◌∙◌, sym, ap, ap₂, ℕ, ◌+◌, ◌<◌, List, ◌++◌, map, flat_map, false}
+use Rattle.std.proofs.Common.{◌≡◌, ◌∙◌, sym, ap, ap₂, ℕ, ◌+◌, ◌<◌, List, ◌++◌, map, flat_map, length, false}
 use Rattle.std.specs.Prelude.{if◌then◌else◌}
 use Rattle.std.specs.List.{Contains, range_with_len}
 use Rattle.std.proofs.lemmas.Bool.{true≢false}
@@ -37,10 +37,13 @@ module _ (s : Setting) (lawful : LawfulSetting s) (numbers : NumbersFit s) (t p 
   world = on s t
 
   -- what its agents leave for another
-  pub moved_right : (q : ℕ) (left born found : List Agent) → left ≡ left_in s p t → born ≡ born_in s p t → found ≡ owned s.job.program (cuts_of s t) q (left ++ born) → found ≡ moved s t p q world
+  pub moved_right : (q : ℕ) (left born found : List Agent) → left ≡ left_in s p t
+      → born ≡ born_in s p t → found ≡ owned s.job.program (cuts_of s t) q (left ++ born)
+      → found ≡ moved s t p q world
   moved_right q left born found lives bears given =
       given ∙ ap₂ (λ xs ys. owned s.job.program (cuts_of s t) q (xs ++ ys)) lives bears
-      ∙ sym (given_with_births s t lawful world.agents (on_rises s lawful t) (on_whole s lawful numbers t) p q world.next)
+      ∙ sym (given_with_births s t lawful world.agents (on_rises s lawful t)
+      (on_whole s lawful numbers t) p q world.next)
 
   pub inside : StandInside s t world.agents
   inside = whole_inside s lawful t world.agents (on_whole s lawful numbers t)
@@ -73,13 +76,14 @@ module _ (s : Setting) (lawful : LawfulSetting s) (numbers : NumbersFit s) (t p 
       (entries : List Entry) → HoldsAsked s p t held
       → owned s.job.program (cuts_of s t) q held.guests.items ≡ owned s.job.program (cuts_of s t) q
       (near s t p world.agents)
-      → ((said : List Saying)
-      → AreSummed s.job.program (held.own.items ++ held.guests.items) said held.said
+      → ((own : List Agent) (said : List Saying) → held.count ≡ length own
+      → AreSummed s.job.program (own ++ held.guests.items) said held.said
       → map share_of entries ≡ shares_in s.job.program (cuts_of s t) q held.guests.items said)
       → map share_of entries ≡ shares s t p q world.agents
   sums_right part plain q held entries h theirs told =
       let said = said_over s t (own_in s p t) (near s t p world.agents) in
-      told said h.sums ∙ ap (flat_map (λ b. shares_to said b (class_of s.job.program b))) theirs
+      told (own_in s p t) said h.holds.many h.sums
+      ∙ ap (flat_map (λ b. shares_to said b (class_of s.job.program b))) theirs
       ∙ over_all part plain q
 
 -- whom a part meets is another

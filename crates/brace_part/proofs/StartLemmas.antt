@@ -5,6 +5,7 @@ use Rattle.std.proofs.lemmas.Bool.{cases_lt}
 use Rattle.std.proofs.lemmas.Bool.Decides.{nat_tests}
 use Rattle.std.proofs.lemmas.List.Elements.{All-nil}
 use Rattle.brace_model.specs.declared.world.Agent.{Agent}
+use Rattle.brace_fold.specs.Listed.{AreListed}
 use Rattle.brace_pieces.specs.declared.setting.Setting.{Setting}
 use Rattle.brace_pieces.specs.declared.setting.Stage.TheVariants as stage
 use Rattle.brace_pieces.specs.declared.piece.Shown.{Shown}
@@ -59,7 +60,8 @@ module _ (s : Setting) (p : ℕ) where
   ready_first : first ≤ s.job.last → (stance : Stance) → IsReadyFor s p stage.Border first stance → IsReady s p (slice_get (steps s) 0) stance
   ready_first up (Owns own) has =
       reaches s first (λ o. IsReady s p o (Owns own)) up
-      (λ e. has ∙ sym (ap (λ cuts. own_under s p cuts first) (shown_first s first refl)))
+      (λ e. subst (λ cuts. AreListed s.job.program (own_under s p cuts first) own)
+      (sym (shown_first s first refl)) has)
       (λ e r. no_recut (recut_behind s first r)) (λ e r. has)
   ready_first up (Hears agents heard) has = absurd has
   ready_first up (Holds held) has = absurd has
@@ -69,8 +71,10 @@ module _ (s : Setting) (p : ℕ) where
   ready_last down (Owns own) has =
       let none : nat_lt first s.job.last ≡ false = grind (arith, nat_tests, down) in
       let same : first - first ≡ s.job.last - first = omega (arith, down) in
-      has ∙ ap (λ n. owned s.job.program (cuts_of s first) p (continued_after s n).agents) same
-      ∙ sym (ap (λ c. own_under s p (cuts_of s (if c then s.job.last - 1 else first)) s.job.last) none)
+      subst (λ l. AreListed s.job.program l own)
+      (ap (λ n. owned s.job.program (cuts_of s first) p (continued_after s n).agents) same
+      ∙ sym (ap (λ c. own_under s p (cuts_of s
+      (if c then s.job.last - 1 else first)) s.job.last) none)) has
   ready_last down (Hears agents heard) has = absurd has
   ready_last down (Holds held) has = absurd has
   ready_last down (Leaves left born next) has = absurd has
@@ -88,12 +92,12 @@ module _ (s : Setting) (p : ℕ) where
 
   -- what it notes of the first tick
   abbrev pub first_note : Stance → Shown
-  first_note stance = note_of first stance s.job.start.next
+  first_note stance = note_of s first stance s.job.start.next
 
   note_first : (stance : Stance) → IsReadyFor s p stage.Border first stance → first_note stance ≡ kept_at s p first
   note_first (Owns own) has =
       ap₂ (λ agents n. record { tick = first; agents = agents; next = n })
-      (has ∙ sym (ap (λ cuts. own_under s p cuts first) (shown_first s first refl)))
+      (has.are ∙ sym (ap (λ cuts. own_under s p cuts first) (shown_first s first refl)))
       next_first
   note_first (Hears agents heard) has = absurd has
   note_first (Holds held) has = absurd has
@@ -134,8 +138,12 @@ module _ (s : Setting) (p : ℕ) where
 
 -- what is noted of the first tick, by another name of the next free id
 pub noted_first : (s : Setting) (stance : Stance) (shown : List Shown) (next : ℕ) → next ≡ s.job.start.next
-    → shown ≡ (if is_noted s s.job.first then note_of s.job.first stance next ∷ [] else []) → shown ≡ (if is_noted s s.job.first then note_of s.job.first stance s.job.start.next ∷ [] else [])
-noted_first s stance shown next same is = subst (λ n. shown ≡ (if is_noted s s.job.first then note_of s.job.first stance n ∷ [] else [])) same is
+    → shown ≡ (if is_noted s s.job.first then note_of s s.job.first stance next ∷ [] else [])
+    → shown ≡ (if is_noted s s.job.first then note_of s s.job.first stance s.job.start.next ∷ []
+    else [])
+noted_first s stance shown next same is = subst
+    (λ n. shown ≡ (if is_noted s s.job.first then note_of s s.job.first stance n ∷ [] else [])) same
+    is
 
 -- what is added to nothing is all
 pub from_none : {A : Type 0} (old new more : List A) → old ≡ [] → new ≡ old ++ more → new ≡ more

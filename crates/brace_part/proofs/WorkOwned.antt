@@ -1,6 +1,9 @@
 -- What a part holds and owns behind what it took in a step.
-use Rattle.std.proofs.Common.{◌≡◌, ◌∙◌, sym, ap, ap₂, subst, ℕ, ◌+◌, ◌-◌, List, ◌++◌, flat_map}
-use Rattle.std.specs.List.Sorted.{IsPermutation}
+use Rattle.std.proofs.Common.{◌≡◌, ◌∙◌, sym, ap, ap₂, subst, ℕ, ◌+◌, ◌-◌, List, ◌++◌, flat_map, append_assoc}
+use Rattle.std.specs.List.Sorted.{IsPermutation, IsNonDecreasingBy}
+use Rattle.std.proofs.lemmas.List.Elements.{filter-append}
+use Rattle.std.proofs.lemmas.List.Sorted.{IsPermutation-append, IsPermutation-refl, IsPermutation-trans}
+use Rattle.brace_model.specs.declared.program.Program.{Program}
 use Rattle.brace_model.specs.declared.world.Agent.{Agent}
 use Rattle.brace_model.specs.World.{World, RisesById}
 use Rattle.brace_cuts.specs.declared.space.Cuts.{Cuts}
@@ -9,7 +12,10 @@ use Rattle.brace_pieces.specs.declared.setting.Stage.TheVariants as stage
 use Rattle.brace_pieces.specs.declared.piece.Piece.{Piece}
 use Rattle.brace_pieces.specs.Settings.{cuts_of}
 use Rattle.brace_pieces.specs.Steps.{step, met}
-use Rattle.brace_pieces.specs.Owned.{owned}
+use Rattle.brace_fold.specs.declared.order.Moved.{Moved}
+use Rattle.brace_fold.specs.Listed.{AreInOrder}
+use Rattle.brace_fold.specs.Rows.{AreMoved}
+use Rattle.brace_pieces.specs.Owned.{owned, owns}
 use Rattle.brace_pieces.specs.Continued.{continued, on}
 use Rattle.brace_pieces.specs.Together.{AreWhole, IsSorted}
 use Rattle.brace_pieces.specs.Heard.{near}
@@ -72,3 +78,30 @@ near_moved worker part t pieces mine work same =
     subst (λ xs. IsPermutation xs (near s t worker.part (on s t).agents))
     (sym (ap₂ (λ xs ys. xs ++ ys) same brings))
     (held_together s part.lawful worker.part part.is_part t (on s t).agents (whole worker part t))
+
+-- ---- lists in the order of ids
+
+-- columns in that order are those of a list that theirs is
+pub in_order_is : (these : List Agent) (rows : Moved) (all : List Agent)
+    (order : AreInOrder these rows) → order.agents ≡ all
+    → AreMoved all rows
+in_order_is these rows all order is = subst (λ l. AreMoved l rows) is order.moved
+
+-- what is sorted behind others is sorted with them
+pub sorted_behind : (own taken more all : List Agent) → IsSorted taken more
+    → IsPermutation (own ++ more) all
+    → IsNonDecreasingBy (λ a. a.id) all → IsSorted (own ++ taken) all
+sorted_behind own taken more all sorted same up = record {
+  same = IsPermutation-trans _ _ _
+      (IsPermutation-append own own taken more (IsPermutation-refl own) sorted.same) same;
+  in_order = up;
+}
+
+-- those that a part owns of two lists, before others
+pub kept_both : (program : Program) (cuts : Cuts) (p : ℕ) (left born taken all : List Agent)
+    → IsSorted (owned program cuts p left ++ (owned program cuts p born ++ taken)) all
+    → IsSorted (owned program cuts p (left ++ born) ++ taken) all
+kept_both program cuts p left born taken all sorted =
+    subst (λ l. IsSorted l all)
+    (sym (append_assoc (owned program cuts p left) (owned program cuts p born) taken)
+    ∙ ap (λ l. l ++ taken) (sym (filter-append (owns program cuts p) left born))) sorted

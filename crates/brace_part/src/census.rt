@@ -1,24 +1,39 @@
-ghost use Rattle.std.specs.Prelude.{◌≡◌, ◌≤◌, ◌+◌, ◌^◌, [], ◌∷◌, ◌++◌, map, filter_map, flat_map, length, slice_get, Option, IfOk, IfSome, IfNone};
+ghost use Rattle.std.specs.Prelude.{◌≡◌, ◌<◌, ◌≤◌, ◌+◌, ◌^◌, [], ◌∷◌, ◌++◌, List, IsTrue, map, filter_map, flat_map, length, slice_get, Option, IfOk, IfSome, IfNone};
+ghost use Rattle.std.specs.List.{list_all};
 ghost use Rattle.std.specs.List.Sorted.{IsStrictlyIncreasing};
 ghost use Rattle.std.specs.Option.{option_and_then};
 ghost use Rattle.std.specs.Vec.{vec_capacity};
+ghost use Rattle.brace_model.specs.declared.world.Agent.{Agent};
+ghost use Rattle.brace_model.specs.Lawful.{is_lawful_agent};
 ghost use Rattle.brace_cuts.specs.CutPlans.{IsPlan};
-ghost use Rattle.brace_pieces.specs.Settings.{cuts_of};
+ghost use Rattle.brace_fold.specs.Listed.{AreListed};
+ghost use Rattle.brace_fold.specs.Rows.{AreMoved};
+ghost use Rattle.brace_pieces.specs.Settings.{cuts_of, parts};
 ghost use Rattle.brace_pieces.specs.Owned.{owned};
 ghost use Rattle.brace_pieces.specs.Together.{with_number};
 ghost use Rattle.brace_pieces.specs.Right.{census_of};
 ghost use Rattle.brace_pieces.specs.Censuses.{IsSumOf, values_in, rank_too_far};
 ghost use Rattle.brace_part.specs.inner.Pieces.{counts_brought};
 
+use crate::near::agents_of;
 use brace_eval::is_too_far;
+use brace_fold::Moved;
 use brace_model::{Agent, Census, Parent, Program};
 use brace_num::{List, NoMemory};
 use brace_pieces::{Piece, Setting, moves_of};
 use std::alloc::Global;
 
-/// How many agents live on, how many values they have, and the parents of these children.
-pub fn census_of(alloc: Global, left: &[Agent], born: &[Agent]) -> Result<Census, NoMemory>
-    ensures { IfOk result (λ c. c ≡ census_of left.now born.now) }
+/// How many agents live on, which stand in columns, how many values they have, and the parents of
+/// these children.
+pub fn census_of(
+    alloc: Global,
+    program: &Program,
+    left: &Moved,
+    born: &[Agent],
+) -> Result<Census, NoMemory>
+    ensures { IfOk result (λ c. (agents : List Agent) → AreMoved agents left.now
+        → IsTrue (list_all (is_lawful_agent program.now) agents)
+        → c ≡ census_of agents born.now) }
 {
     let mut parents = Vec::with_capacity(alloc, born.len())?;
     for child in born {
@@ -28,11 +43,11 @@ pub fn census_of(alloc: Global, left: &[Agent], born: &[Agent]) -> Result<Census
         })?;
     }
     let mut values = 0u64;
-    for a in left {
-        values = more(values, a.states.as_slice().len() as u64)?;
+    for class in left.classes.as_slice() {
+        values = more(values, values_in(program, *class) as u64)?;
     }
     Ok(Census {
-        living: left.len() as u64,
+        living: left.classes.len() as u64,
         values,
         parents: List::from_vec(parents),
     })
@@ -84,11 +99,11 @@ pub fn joined(own: Census, taken: &mut Vec<Piece>) -> Result<Census, NoMemory>
     })
 }
 
-/// How many values an agent of a parent's class has.
-fn values_in(program: &Program, parent: &Parent) -> usize
-    ensures { result ≡ values_in (slice_get program.now.classes parent.now.class) }
+/// How many values an agent of a class has, by number.
+fn values_in(program: &Program, class: u32) -> usize
+    ensures { result ≡ values_in (slice_get program.now.classes class) }
 {
-    match program.classes.as_slice().get(parent.class as usize) {
+    match program.classes.as_slice().get(class as usize) {
         Some(class) => class.states.as_slice().len(),
         None => 0,
     }
@@ -106,7 +121,7 @@ pub fn first_too_far(program: &Program, next: u64, all: &Census) -> Option<Paren
     let mut id = next;
     for parent in all.parents.as_slice() {
         agents = agents.saturating_add(1);
-        values = values.saturating_add(values_in(program, parent));
+        values = values.saturating_add(values_in(program, parent.class));
         if is_too_far(agents, values, id) {
             return Some(*parent);
         }
@@ -141,21 +156,24 @@ pub fn numbered(
     Ok(all)
 }
 
-/// Of what a part's agents leave, those that live on and then the children, those that belong to a
-/// part.
+/// Of what a part's agents leave, those that live on, in columns, and then the children, those that
+/// belong to a part.
 pub fn moves_to(
     alloc: Global,
     setting: &Setting,
     tick: u64,
-    left: &[Agent],
+    left: &Moved,
     born: &[Agent],
     to: u32,
 ) -> Result<List<Agent>, NoMemory>
-    requires { IsPlan setting.now.epoch setting.now.cuts }
-    ensures theirs { IfOk result (λ found. found
-        ≡ owned setting.now.job.program (cuts_of setting.now tick) to (left.now ++ born.now)) }
+    requires plan { IsPlan setting.now.epoch setting.now.cuts }
+    requires is_part { to < parts setting.now }
+    ensures theirs { IfOk result (λ found. (agents : List Agent)
+        → AreListed setting.now.job.program agents left.now → found
+        ≡ owned setting.now.job.program (cuts_of setting.now tick) to (agents ++ born.now)) }
 {
-    let mut found = moves_of(alloc, setting, tick, left, to)?.into_vec();
+    let cuts = setting.cuts.cuts_at(tick);
+    let mut found = agents_of(alloc, &setting.job.program, cuts, to, left)?.into_vec();
     let mut more = moves_of(alloc, setting, tick, born, to)?.into_vec();
     found.append(&mut more)?;
     Ok(List::from_vec(found))

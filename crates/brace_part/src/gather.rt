@@ -42,11 +42,10 @@ pub fn gathered(mut agents: Vec<Agent>, pieces: &mut Vec<Piece>) -> Result<Vec<A
     Ok(agents)
 }
 
-/// The agents of two lists, by rising id.
-pub fn merged(mut agents: Vec<Agent>, mut more: Vec<Agent>) -> Result<Vec<Agent>, NoMemory>
-    ensures { IfOk result (λ all. IsSorted (agents.items ++ more.items) all.items) }
+/// Agents by rising id.
+pub fn sorted(mut agents: Vec<Agent>) -> Result<Vec<Agent>, NoMemory>
+    ensures { IfOk result (λ all. IsSorted agents.items all.items) }
 {
-    agents.append(&mut more)?;
     agents.sort_by_key(|a| a.id)?;
     Ok(agents)
 }

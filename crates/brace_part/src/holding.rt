@@ -6,7 +6,7 @@ ghost use Rattle.brace_model.specs.World.{class_of};
 ghost use Rattle.brace_cuts.specs.Space.{LawfulCuts};
 ghost use Rattle.brace_eval.specs.Heard.{effects_in};
 ghost use Rattle.brace_fold.specs.Asked.{agents_at};
-ghost use Rattle.brace_fold.specs.Rows.{AreMoved, by_id};
+ghost use Rattle.brace_fold.specs.Rows.{by_id};
 ghost use Rattle.brace_fold.specs.Sums.{AreSummed};
 ghost use Rattle.brace_pieces.specs.Right.{share_of, shares_from};
 ghost use Rattle.brace_part.specs.inner.Hearing.{CanSum};
@@ -17,9 +17,7 @@ use crate::tell::entry_of;
 use brace_comb::Entry;
 use brace_cuts::Cuts;
 use brace_eval::effects_of;
-use brace_fold::{
-    Columns, Moved, Redo, Table, columns_of, expect_wide, fold_rows, most_effects, pays, views,
-};
+use brace_fold::{Columns, Moved, Redo, Table, expect_wide, fold_rows, most_effects, views};
 use brace_model::{Agent, Effect, Program};
 use brace_num::{List, NoMemory};
 use brace_pieces::{Setting, owns};
@@ -29,7 +27,8 @@ use std::alloc::Global;
 /// what was said to them.
 #[derive(Debug, Drop)]
 pub struct Held {
-    pub own: Vec<Agent>,
+    /// How many its own agents are.
+    pub count: usize,
     pub guests: Vec<Agent>,
     /// Its own agents and then the others, in columns.
     pub rows: Moved,
@@ -53,30 +52,29 @@ fn first_rows(alloc: Global, count: usize) -> Result<Vec<u32>, Redo>
 }
 
 impl Queries {
-    /// The agents of a part and others that it holds in columns, and what the queries of the part
-    /// say to them: those of its own agents; with inversion those of the forward program of its own
-    /// agents, and of the inverse program of all. `Redo` where they are to be asked as lists, as
+    /// What the queries of a part say to the agents that it holds in columns, first its own, so
+    /// many: those of its own agents; with inversion those of the forward program of its own
+    /// agents, and of the inverse program of all. `Redo` where they are to be asked as a list, as
     /// where agents of several classes stand mixed.
     pub fn summed(
         &self,
         alloc: Global,
         setting: &Setting,
         tick: u64,
-        own: &[Agent],
-        guests: &[Agent],
-    ) -> Result<(Moved, Table), Redo>
-        requires { CanSum setting.now self.now tick (own.now ++ guests.now) }
-        ensures rows { IfOk result (λ r. AreMoved (own.now ++ guests.now) r.0) }
-        ensures said { IfOk result (λ r. AreSummed setting.now.job.program (own.now ++ guests.now)
-            (said_over setting.now tick own.now (by_id (own.now ++ guests.now))) r.1) }
-        ensures quiet { IfOk result (λ _.
-            faults_over setting.now tick own.now (by_id (own.now ++ guests.now)) ≡ []) }
+        count: usize,
+        rows: &Moved,
+    ) -> Result<Table, Redo>
+        requires { CanSum setting.now self.now tick count rows.now }
+        ensures said { IfOk result (λ said. (can : CanSum setting.now self.now tick count rows.now)
+            → AreSummed setting.now.job.program (can.own ++ can.guests)
+            (said_over setting.now tick can.own (by_id (can.own ++ can.guests))) said) }
+        ensures quiet { IfOk result (λ _. (can : CanSum setting.now self.now tick count rows.now)
+            → faults_over setting.now tick can.own (by_id (can.own ++ can.guests)) ≡ []) }
     {
-        if !pays(own) {
+        if !rows.pays() {
             return Err(Redo);
         }
         let (program, seed) = (&setting.job.program, setting.job.seed);
-        let rows = columns_of(alloc, program, own, guests)?;
         let states = views(alloc, &rows.states)?;
         let columns = Columns {
             classes: &rows.classes,
@@ -85,7 +83,7 @@ impl Queries {
         };
         expect_wide(program, &columns)?;
         let mut said = Table::nothing(alloc, columns.ids.len(), most_effects(program))?;
-        let mine = first_rows(alloc, own.len())?;
+        let mine = first_rows(alloc, count)?;
         match self {
             Queries::Script(plans) => {
                 fold_rows(alloc, plans, seed, tick, &columns, &mine, &mut said)?;
@@ -96,8 +94,7 @@ impl Queries {
                 fold_rows(alloc, inverse, seed, tick, &columns, &all, &mut said)?;
             }
         }
-        drop(states);
-        Ok((rows, said))
+        Ok(said)
     }
 }
 
@@ -154,15 +151,16 @@ impl Held {
         to: u32,
     ) -> Result<List<Entry>, NoMemory>
         requires cuts { LawfulCuts cuts.now }
-        ensures told { IfOk result (λ entries. (said : List Saying)
-            → AreSummed program.now (self.now.own.items ++ self.now.guests.items) said self.now.said
+        ensures told { IfOk result (λ entries. (own : List Agent) (said : List Saying)
+            → self.now.count ≡ length own
+            → AreSummed program.now (own ++ self.now.guests.items) said self.now.said
             → map share_of entries ≡ shares_in program.now cuts.now to self.now.guests.items said) }
     {
         let mut entries = List::new(alloc);
         for k in 0..self.guests.len() {
             let b = &self.guests[k];
             if owns(program, cuts, to, b) {
-                let row = row_behind(self.own.len(), k)?;
+                let row = row_behind(self.count, k)?;
                 add_sums(&mut entries, b.id, effects_of(program, b), &self.said, row)?;
             }
         }

@@ -10,6 +10,7 @@ mod gather;
 mod holding;
 mod joining;
 pub mod laws;
+mod near;
 mod part;
 mod places;
 mod prepare;

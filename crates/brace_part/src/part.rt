@@ -1,9 +1,12 @@
-ghost use Rattle.std.specs.Prelude.{◌≡◌, ◌⊎◌, ◌+◌, ◌^◌, ◌<◌, ◌≤◌, ◌++◌, [], ◌∷◌, Some, None, true, false, is_none, IfSome, IfOk, IfErr, if◌then◌else◌, ◌||◌, ◌%◌, ◌==◌, ℕ};
+ghost use Rattle.std.specs.Prelude.{◌≡◌, ◌⊎◌, ◌+◌, ◌^◌, ◌<◌, ◌≤◌, ◌++◌, [], ◌∷◌, Some, None, true, false, is_none, IsTrue, IfSome, IfOk, IfErr, if◌then◌else◌, ◌||◌, ◌%◌, ◌==◌, ℕ};
+ghost use Rattle.std.specs.List.{list_all};
 ghost use Rattle.std.specs.Vec.{vec_capacity};
 ghost use Rattle.brace_core.specs.declared.name.Name.{Name};
 ghost use Rattle.brace_core.specs.declared.name.Turn.TheVariants as turn;
 ghost use Rattle.brace_core.specs.Exchanges.{due, IsPut, IsTake};
+ghost use Rattle.brace_fold.specs.Listed.{AreListed};
 ghost use Rattle.brace_model.specs.FaultOrder.{least};
+ghost use Rattle.brace_model.specs.Lawful.{is_lawful_agent};
 ghost use Rattle.brace_pieces.specs.declared.setting.Stage.TheVariants as stage;
 ghost use Rattle.brace_pieces.specs.declared.setting.Step.{Step};
 ghost use Rattle.brace_pieces.specs.declared.piece.Cause.{Cause};
@@ -19,12 +22,14 @@ ghost use Rattle.brace_part.specs.inner.Ready.{AreKept, next_behind};
 ghost use Rattle.brace_part.specs.inner.Sound.{IsPartOf, IsAtWork, ComesTo, GoesOn, owns_in};
 
 use crate::counts::Counts;
+use crate::near::{all_agents, listed};
 use crate::prepare::{prepared, prepared_show};
 use crate::query::Queries;
 use crate::standing::{Stance, Standing};
-use crate::work::{Worker, copied};
+use crate::work::Worker;
 use brace_core::{Actor, Turn};
-use brace_model::Agent;
+use brace_fold::{Moved, Redo};
+use brace_model::{Agent, Program};
 use brace_num::{List, NoMemory};
 use brace_pieces::{Cause, Course, Piece, Setting, Shown, Stage, Step};
 use std::alloc::Global;
@@ -57,7 +62,7 @@ impl<'a> Model for Part<'a> {
 
     ghost view = { λ p. record {
       course = p.course;
-      owns = owns_in p.standing.stance;
+      owns = owns_in p.course.setting.job.program p.standing.stance;
       shown = p.standing.shown;
       cause = p.cause;
       counts = p.standing.counts;
@@ -80,14 +85,14 @@ fn note(
         ++ (if is_end setting.now tick || (tick % setting.now.job.every == 0)
         then record {
           tick = tick;
-          agents = owns_in stance.now;
+          agents = owns_in setting.now.job.program stance.now;
           next = next;
         } ∷ []
         else [])) }
     ensures kept { IfErr result (λ _. shown.new ≡ shown.old) }
 {
     if setting.is_end(tick) || tick.is_multiple_of(setting.job.every) {
-        let agents = copied(alloc, owned_in(stance))?;
+        let agents = owned_in(alloc, &setting.job.program, stance)?;
         shown.push(Shown {
             tick,
             agents: List::from_vec(agents),
@@ -111,7 +116,7 @@ fn note_next(
         ++ (if is_end setting.now (at.tick + 1) || ((at.tick + 1) % setting.now.job.every == 0)
         then record {
           tick = at.tick + 1;
-          agents = owns_in stance.now;
+          agents = owns_in setting.now.job.program stance.now;
           next = next;
         } ∷ []
         else [])) }
@@ -135,13 +140,33 @@ fn next_behind(at: Step, stance: &Stance, old: u64) -> u64
 }
 
 /// The agents that a part owns; none between the query of a tick and the move.
-fn owned_in(stance: &Stance) -> &[Agent]
-    ensures { result.now ≡ owns_in stance.now }
+fn owned_in(alloc: Global, program: &Program, stance: &Stance) -> Result<Vec<Agent>, NoMemory>
+    ensures { IfOk result (λ own. own.items ≡ owns_in program.now stance.now) }
 {
     match stance {
-        Stance::Owns(own) => own.as_slice(),
-        Stance::Hears(_, _) | Stance::Holds(_) | Stance::Leaves(_, _, _) => &[],
+        Stance::Owns(own) => all_agents(alloc, program, own),
+        Stance::Hears(_, _) | Stance::Holds(_) | Stance::Leaves(_, _, _) => Ok(Vec::new(alloc)),
     }
+}
+
+/// Agents in columns by rising id, from which they can be read.
+fn in_columns(alloc: Global, program: &Program, agents: &[Agent]) -> Result<Moved, NoMemory>
+    requires { IsTrue (list_all (is_lawful_agent program.now) agents.now) }
+    ensures { IfOk result (AreListed program.now agents.now) }
+{
+    match listed(alloc, program, agents) {
+        Ok(rows) => Ok(rows),
+        Err(Redo) => Err(NoMemory),
+    }
+}
+
+/// What a part has while it is at its work: nothing.
+fn nothing(alloc: Global) -> Stance {
+    Stance::Owns(Moved {
+        classes: Vec::new(alloc),
+        ids: Vec::new(alloc),
+        states: Vec::new(alloc),
+    })
 }
 
 /// Prepares what a part puts in its next step, in which it made no turn.
@@ -213,7 +238,7 @@ fn advance(
         next: standing.next,
     };
     standing.next = next_behind(at, &standing.stance, standing.next);
-    let stance = mem::replace(&mut standing.stance, Stance::Owns(Vec::new(alloc)));
+    let stance = mem::replace(&mut standing.stance, nothing(alloc));
     standing.stance = worker.worked(at, stance, &mut standing.taken)?;
     let (stance, shown) = (&standing.stance, &mut standing.shown);
     note_next(alloc, course.setting(), at, stance, standing.next, shown)?;
@@ -242,8 +267,9 @@ impl<'a> Part<'a> {
         setting.numbers_fit();
         let course = Course::make(alloc, setting, p)?;
         let queries = Queries::of(alloc, setting)?;
+        let own = in_columns(alloc, &setting.job.program, &owned)?;
         let mut standing = Standing {
-            stance: Stance::Owns(owned),
+            stance: Stance::Owns(own),
             next: setting.job.start.next(),
             out: Vec::new(alloc),
             taken: Vec::with_capacity(alloc, setting.parts() as usize)?,
@@ -272,13 +298,15 @@ impl<'a> Part<'a> {
     }
 
     /// The agents that it owns, by rising id; none between the query of a tick and the move.
-    pub fn owned(&self) -> &[Agent]
-        ensures same { result.now ≡ self.now.owns }
+    pub fn owned(&self, alloc: Global) -> Result<List<Agent>, NoMemory>
+        ensures same { IfOk result (λ own. own ≡ self.now.owns) }
         ensures owner { self.now.cause ≡ None → IsSettled (step_of self.now.course)
             → self.now.owns ≡ own_at self.now.course.setting self.now.course.actor
             (step_of self.now.course) }
     {
-        owned_in(&self.standing.stance)
+        let program = &self.course.setting().job.program;
+        let own = owned_in(alloc, program, &self.standing.stance)?;
+        Ok(List::from_vec(own))
     }
 
     /// How much it gave to others so far, that of its step included. Where it goes on, that is what

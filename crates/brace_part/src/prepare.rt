@@ -8,11 +8,13 @@ ghost use Rattle.brace_part.specs.inner.Sound.{IsWorker, IsNext, AreMet};
 
 use crate::census::{census_of, moves_to};
 use crate::counts::Counts;
+use crate::near::{agents_near, agents_of};
 use crate::standing::Stance;
 use crate::tell::told_to;
 use crate::work::Worker;
+use brace_invert::range;
 use brace_num::{List, NoMemory};
-use brace_pieces::{Piece, Shown, Stage, Step, border_of, hand_of};
+use brace_pieces::{Piece, Shown, Stage, Step};
 use std::alloc::Global;
 
 /// What a part puts to another in a step that shows nothing to the publisher.
@@ -26,24 +28,25 @@ fn piece_for(worker: &Worker, at: Step, stance: &Stance, to: u32) -> Result<Piec
     ensures goes_on { IfOk result GoesOn }
 {
     let (alloc, setting, tick) = (worker.alloc, worker.setting, at.tick);
-    let cuts = setting.cuts.cuts_at(tick);
+    let (program, cuts) = (&setting.job.program, setting.cuts.cuts_at(tick));
     match (at.stage, stance) {
         (Stage::Hand, Stance::Owns(own)) => {
-            Ok(Piece::Hand(hand_of(alloc, setting, tick, own, to)?))
+            Ok(Piece::Hand(agents_of(alloc, program, cuts, to, own)?))
         }
         (Stage::Border, Stance::Owns(own)) => {
-            Ok(Piece::Border(border_of(alloc, setting, tick, own, to)?))
+            let (area, range) = (cuts.area(to), range(program, setting.invert));
+            Ok(Piece::Border(agents_near(alloc, program, own, &area, range)?))
         }
         (Stage::Effects, Stance::Hears(held, heard)) => {
-            let entries = told_to(alloc, &setting.job.program, cuts, to, held, heard)?;
+            let entries = told_to(alloc, program, cuts, to, held, heard)?;
             Ok(Piece::Effects(entries))
         }
         (Stage::Effects, Stance::Holds(held)) => {
-            let entries = held.told_sums(alloc, &setting.job.program, cuts, to)?;
+            let entries = held.told_sums(alloc, program, cuts, to)?;
             Ok(Piece::Effects(entries))
         }
         (Stage::Census, Stance::Leaves(left, born, _)) => {
-            Ok(Piece::Census(census_of(alloc, left, born)?))
+            Ok(Piece::Census(census_of(alloc, program, left, born)?))
         }
         (Stage::Move, Stance::Leaves(left, born, _)) => {
             Ok(Piece::Move(moves_to(alloc, setting, tick, left, born, to)?))

@@ -1,7 +1,12 @@
-ghost use Rattle.std.specs.Prelude.{◌≡◌, ◌≤◌, ◌+◌, ◌^◌, [], true, false, None, IfOk, IfErr};
+ghost use Rattle.std.specs.Prelude.{◌≡◌, ◌≤◌, ◌+◌, ◌^◌, ◌++◌, [], List, IsTrue, true, false, None, IfOk, IfErr};
+ghost use Rattle.std.specs.List.{list_all};
+ghost use Rattle.std.specs.List.Sorted.{IsNonDecreasingBy};
 ghost use Rattle.std.specs.Vec.{vec_capacity};
+ghost use Rattle.brace_fold.specs.Listed.{AreInOrder, AreListed};
 ghost use Rattle.brace_fold.specs.Rows.{AreMoved};
+ghost use Rattle.brace_model.specs.declared.world.Agent.{Agent};
 ghost use Rattle.brace_model.specs.FaultOrder.{least};
+ghost use Rattle.brace_model.specs.Lawful.{is_lawful_agent};
 ghost use Rattle.brace_pieces.specs.declared.setting.Stage.TheVariants as stage;
 ghost use Rattle.brace_pieces.specs.Settings.{cuts_of};
 ghost use Rattle.brace_pieces.specs.Owned.{owned};
@@ -9,36 +14,28 @@ ghost use Rattle.brace_pieces.specs.Continued.{on};
 ghost use Rattle.brace_pieces.specs.Finds.{queries_found};
 ghost use Rattle.brace_pieces.specs.declared.piece.Cause.TheVariants as cause;
 ghost use Rattle.brace_part.specs.Parts.{own_under, own_before, found_in_work, IsCauseOf};
-ghost use Rattle.brace_part.specs.inner.Holding.{HoldsAll, HoldsAsked, IsHeld, LeavesRows};
+ghost use Rattle.brace_part.specs.inner.Holding.{AreHeld, HoldsAll, HoldsAsked, LeavesRows};
 ghost use Rattle.brace_part.specs.inner.Ready.{HearsAll, HearsAsked, IsReadyFor, IsReadyBehind, HasLeft, left_in, born_in, updates_in};
 ghost use Rattle.brace_part.specs.inner.Sound.{IsWorker, IsWork};
 
 use crate::census::{census_of, first_too_far, joined, numbered};
-use crate::gather::{gathered, kept, merged};
+use crate::gather::{gathered, kept, sorted};
 use crate::holding::Held;
-use crate::joining::join_sums;
+use crate::joining::{Own, join_sums};
+use crate::near::{all_agents, settled, with_more};
 use crate::places::own_places;
 use crate::query::Queries;
 use crate::standing::Stance;
 use crate::tell::join_told;
 use crate::update::updated;
 use brace_eval::{Heard, birth_fault};
-use brace_fold::{Columns, Moved, Redo, Renewed, agents_of, expect_wide, renew_rows, views};
+use brace_fold::{
+    Columns, Moved, Redo, Renewed, columns_of, expect_wide, renew_rows, slice_of, views,
+};
 use brace_model::Agent;
 use brace_num::NoMemory;
 use brace_pieces::{Cause, Piece, Setting, Stage, Step};
 use std::alloc::Global;
-
-/// Agents equal to these.
-pub fn copied(alloc: Global, agents: &[Agent]) -> Result<Vec<Agent>, NoMemory>
-    ensures { IfOk result (λ copy. copy.items ≡ agents.now) }
-{
-    let mut copy = Vec::with_capacity(alloc, agents.len())?;
-    for a in agents {
-        copy.push(a.copy(alloc)?)?;
-    }
-    Ok(copy)
-}
 
 /// A part at its work in the step of a number.
 #[derive(Drop)]
@@ -63,39 +60,53 @@ impl<'a> Worker<'a> {
         kept(&self.setting.job.program, cuts, self.part, agents)
     }
 
+    /// Of agents in columns, which stand by rising id, those that it owns under the cuts of a tick,
+    /// and those of a list, by rising id too.
+    fn settled(&self, tick: u64, rows: Moved, more: &[Agent]) -> Result<Moved, NoMemory>
+        requires { IsWorker self.now }
+        ensures order { IfOk result (λ all. (agents : List Agent) → AreMoved agents rows
+            → IsNonDecreasingBy (λ a. a.id) agents
+            → AreInOrder (owned self.now.setting.now.job.program
+            (cuts_of self.now.setting.now tick) self.now.part agents ++ more.now) all) }
+        ensures listed { IfOk result (λ all. (agents : List Agent) → AreMoved agents all
+            → IsTrue (list_all (is_lawful_agent self.now.setting.now.job.program) agents)
+            → AreListed self.now.setting.now.job.program agents all) }
+    {
+        let program = &self.setting.job.program;
+        let cuts = self.setting.cuts.cuts_at(tick);
+        match settled(self.alloc, program, cuts, self.part, rows, more) {
+            Ok(all) => Ok(all),
+            Err(Redo) => Err(NoMemory),
+        }
+    }
+
     /// The agents that it owns under the cuts that hold from a tick on.
-    fn recut(
-        &self,
-        tick: u64,
-        own: Vec<Agent>,
-        taken: &mut Vec<Piece>,
-    ) -> Result<Vec<Agent>, NoMemory>
+    fn recut(&self, tick: u64, own: Moved, taken: &mut Vec<Piece>) -> Result<Moved, NoMemory>
         requires worker { IsWorker self.now }
         requires work { IsWork self.now stage.Hand tick taken.old.items }
-        requires own { own.items ≡ own_before self.now.setting.now self.now.part stage.Hand tick }
-        ensures owns { IfOk result (λ r. r.items
-            ≡ own_before self.now.setting.now self.now.part stage.Border tick) }
+        requires own { AreListed self.now.setting.now.job.program
+            (own_before self.now.setting.now self.now.part stage.Hand tick) own }
+        ensures owns { IfOk result (AreListed self.now.setting.now.job.program
+            (own_before self.now.setting.now self.now.part stage.Border tick)) }
         ensures places { vec_capacity taken.new ≡ vec_capacity taken.old }
     {
-        gathered(self.kept(tick, own), taken)
+        let more = gathered(Vec::new(self.alloc), taken)?;
+        let all = self.settled(tick, own, &more)?;
+        Ok(all)
     }
 
     /// All that it holds as one list, what its agents and those that it holds say, and the least
     /// fault of their queries.
-    fn query(
-        &self,
-        tick: u64,
-        own: Vec<Agent>,
-        guests: Vec<Agent>,
-    ) -> Result<(Vec<Agent>, Heard), NoMemory>
+    fn query(&self, tick: u64, rows: &Moved) -> Result<(Vec<Agent>, Heard), NoMemory>
         requires worker { IsWorker self.now }
-        requires held { IsHeld self.now.setting.now self.now.part tick own.items guests.items }
+        requires held { AreHeld self.now.setting.now self.now.part tick rows.now }
         requires ticks { tick ≤ 2 ^ 32 }
         ensures heard { IfOk result (λ r.
             HearsAsked self.now.setting.now self.now.part tick r.0.items r.1) }
     {
         let (alloc, setting) = (self.alloc, self.setting);
-        let held = merged(own, guests)?;
+        let agents = all_agents(alloc, &setting.job.program, rows)?;
+        let held = sorted(agents)?;
         let cuts = setting.cuts.cuts_at(tick);
         let places = own_places(alloc, &setting.job.program, cuts, self.part, &held)?;
         let heard = self.queries.heard(alloc, setting, tick, &places, &held)?;
@@ -104,9 +115,9 @@ impl<'a> Worker<'a> {
 
     /// What it has behind the queries, which are asked over one list: with inversion all is said
     /// then.
-    fn behind_lists(&self, tick: u64, own: Vec<Agent>, guests: Vec<Agent>) -> Result<Stance, Cause>
+    fn behind_lists(&self, tick: u64, rows: &Moved) -> Result<Stance, Cause>
         requires worker { IsWorker self.now }
-        requires held { IsHeld self.now.setting.now self.now.part tick own.items guests.items }
+        requires held { AreHeld self.now.setting.now self.now.part tick rows.now }
         requires ticks { tick ≤ 2 ^ 32 }
         requires next { self.now.next ≡ (on self.now.setting.now tick).next }
         ensures ready { IfOk result
@@ -116,7 +127,7 @@ impl<'a> Worker<'a> {
         ensures faulted { IfErr result (IsCauseOf
             (found_in_work self.now.setting.now self.now.part stage.Border tick)) }
     {
-        let (held, heard) = self.query(tick, own, guests)?;
+        let (held, heard) = self.query(tick, rows)?;
         if let Some(fault) = heard.least {
             return Err(Cause::Fault(fault));
         }
@@ -127,15 +138,11 @@ impl<'a> Worker<'a> {
     }
 
     /// What it has behind the queries: with inversion all is said then.
-    fn behind_queries(
-        &self,
-        tick: u64,
-        own: Vec<Agent>,
-        taken: &mut Vec<Piece>,
-    ) -> Result<Stance, Cause>
+    fn behind_queries(&self, tick: u64, own: Moved, taken: &mut Vec<Piece>) -> Result<Stance, Cause>
         requires worker { IsWorker self.now }
         requires work { IsWork self.now stage.Border tick taken.old.items }
-        requires own { own.items ≡ own_before self.now.setting.now self.now.part stage.Border tick }
+        requires own { AreListed self.now.setting.now.job.program
+            (own_before self.now.setting.now self.now.part stage.Border tick) own }
         ensures ready { IfOk result
             (IsReadyBehind self.now.setting.now self.now.part stage.Border tick) }
         ensures passes { IfOk result (λ _. least
@@ -145,20 +152,34 @@ impl<'a> Worker<'a> {
         ensures places { vec_capacity taken.new ≡ vec_capacity taken.old }
     {
         let guests = gathered(Vec::new(self.alloc), taken)?;
-        match self
-            .queries
-            .summed(self.alloc, self.setting, tick, &own, &guests)
-        {
-            Err(Redo) => self.behind_lists(tick, own, guests),
-            Ok((rows, said)) => {
+        let count = own.ids.len();
+        let rows = self.beside(own, &guests)?;
+        let queries = self.queries;
+        match queries.summed(self.alloc, self.setting, tick, count, &rows) {
+            Err(Redo) => self.behind_lists(tick, &rows),
+            Ok(said) => {
                 let held = Held {
-                    own,
+                    count,
                     guests,
                     rows,
                     said,
                 };
                 self.behind_sums(tick, held)
             }
+        }
+    }
+
+    /// Its own agents in columns with others behind them.
+    fn beside(&self, own: Moved, guests: &[Agent]) -> Result<Moved, NoMemory>
+        ensures rows { IfOk result (λ rows. (agents : List Agent) → AreMoved agents own
+            → AreMoved (agents ++ guests.now) rows) }
+        ensures listed { IfOk result (λ rows. (agents : List Agent) → AreMoved agents rows
+            → IsTrue (list_all (is_lawful_agent self.now.setting.now.job.program) agents)
+            → AreListed self.now.setting.now.job.program agents rows) }
+    {
+        match with_more(self.alloc, &self.setting.job.program, own, guests) {
+            Ok(rows) => Ok(rows),
+            Err(Redo) => Err(NoMemory),
         }
     }
 
@@ -200,8 +221,8 @@ impl<'a> Worker<'a> {
             (found_in_work self.now.setting.now self.now.part stage.Border tick)) }
     {
         match self.renewed(tick, &held) {
-            Ok(renewed) => self.leaves(tick, held.own, renewed),
-            Err(Redo) => self.behind_lists(tick, held.own, held.guests),
+            Ok(renewed) => self.leaves(tick, renewed),
+            Err(Redo) => self.behind_lists(tick, &held.rows),
         }
     }
 
@@ -222,31 +243,13 @@ impl<'a> Worker<'a> {
             states: &states,
         };
         expect_wide(plans.program(), &columns)?;
-        let (seed, count) = (self.setting.job.seed, held.own.len());
-        let renewed = renew_rows(self.alloc, plans, seed, tick, &columns, count, &held.said)?;
+        let (seed, count, said) = (self.setting.job.seed, held.count, &held.said);
+        let renewed = renew_rows(self.alloc, plans, seed, tick, &columns, count, said)?;
         Ok(renewed)
     }
 
-    /// Agents in columns as a list, made of agents that are not needed any more.
-    fn listed(&self, tick: u64, moved: &Moved, used: Vec<Agent>) -> Result<Vec<Agent>, Redo>
-        requires worker { IsWorker self.now }
-        requires moved { AreMoved (left_in self.now.setting.now self.now.part tick) moved.now }
-        ensures { IfOk result (λ left.
-            left.items ≡ left_in self.now.setting.now self.now.part tick) }
-    {
-        let program = &self.setting.job.program;
-        let states = views(self.alloc, &moved.states)?;
-        let columns = Columns {
-            classes: &moved.classes,
-            ids: &moved.ids,
-            states: &states,
-        };
-        expect_wide(program, &columns)?;
-        agents_of(self.alloc, program, &columns, used)
-    }
-
-    /// What its agents leave, of which those that live on are made of its agents before.
-    fn leaves(&self, tick: u64, used: Vec<Agent>, renewed: Renewed) -> Result<Stance, Cause>
+    /// What its agents leave.
+    fn leaves(&self, tick: u64, renewed: Renewed) -> Result<Stance, Cause>
         requires worker { IsWorker self.now }
         requires leaves { LeavesRows self.now.setting.now self.now.part tick renewed }
         requires next { self.now.next ≡ (on self.now.setting.now tick).next }
@@ -254,8 +257,9 @@ impl<'a> Worker<'a> {
             (IsReadyFor self.now.setting.now self.now.part stage.Census tick) }
         ensures faulted { IfErr result (λ c. c ≡ cause.NoMemory) }
     {
-        match self.listed(tick, &renewed.left, used) {
-            Ok(left) => Ok(Stance::Leaves(left, renewed.born, self.next)),
+        let Renewed { left, born } = renewed;
+        match left.expect_listed(self.alloc, &self.setting.job.program) {
+            Ok(()) => Ok(Stance::Leaves(left, born, self.next)),
             Err(Redo) => Err(Cause::NoMemory),
         }
     }
@@ -283,7 +287,10 @@ impl<'a> Worker<'a> {
             held,
             heard,
         )?;
-        Ok(Stance::Leaves(left, born, self.next))
+        match columns_of(self.alloc, &self.setting.job.program, &left, &[]) {
+            Ok(left) => self.leaves(tick, Renewed { left, born }),
+            Err(Redo) => Err(Cause::NoMemory),
+        }
     }
 
     /// What its agents leave behind all that is told of what is said to them.
@@ -317,10 +324,14 @@ impl<'a> Worker<'a> {
         requires held { HoldsAsked self.now.setting.now self.now.part tick held.old }
         ensures leaves { IfOk result
             (LeavesRows self.now.setting.now self.now.part tick) }
-        ensures own { held.new.own ≡ held.old.own }
         ensures guests { held.new.guests ≡ held.old.guests }
+        ensures rows { held.new.rows ≡ held.old.rows }
     {
-        join_sums(&self.setting.job.program, &held.own, &mut held.said, taken)?;
+        let own = Own {
+            classes: slice_of(&held.rows.classes, 0, held.count)?,
+            ids: slice_of(&held.rows.ids, 0, held.count)?,
+        };
+        join_sums(&self.setting.job.program, &own, &mut held.said, taken)?;
         self.renewed(tick, held)
     }
 
@@ -339,9 +350,9 @@ impl<'a> Worker<'a> {
             (found_in_work self.now.setting.now self.now.part stage.Effects tick)) }
     {
         match self.renewed_told(tick, &mut held, taken) {
-            Ok(renewed) => self.leaves(tick, held.own, renewed),
+            Ok(renewed) => self.leaves(tick, renewed),
             Err(Redo) => {
-                let (held, heard) = self.query(tick, held.own, held.guests)?;
+                let (held, heard) = self.query(tick, &held.rows)?;
                 self.behind_told(tick, held, heard, taken)
             }
         }
@@ -352,13 +363,13 @@ impl<'a> Worker<'a> {
     fn behind_censuses(
         &self,
         tick: u64,
-        left: Vec<Agent>,
+        left: Moved,
         born: Vec<Agent>,
         taken: &mut Vec<Piece>,
     ) -> Result<Stance, Cause>
         requires worker { IsWorker self.now }
         requires work { IsWork self.now stage.Census tick taken.old.items }
-        requires left { HasLeft self.now.setting.now self.now.part tick left.items born.items
+        requires left { HasLeft self.now.setting.now self.now.part tick left born.items
             self.now.next }
         ensures ready { IfOk result
             (IsReadyFor self.now.setting.now self.now.part stage.Move tick) }
@@ -368,8 +379,8 @@ impl<'a> Worker<'a> {
             (found_in_work self.now.setting.now self.now.part stage.Census tick)) }
         ensures places { vec_capacity taken.new ≡ vec_capacity taken.old }
     {
-        let all = joined(census_of(self.alloc, &left, &born)?, taken)?;
         let program = &self.setting.job.program;
+        let all = joined(census_of(self.alloc, program, &left, &born)?, taken)?;
         if let Some(parent) = first_too_far(program, self.next, &all) {
             return Err(Cause::Fault(birth_fault(program, tick, parent)));
         }
@@ -382,20 +393,22 @@ impl<'a> Worker<'a> {
     fn arrived(
         &self,
         tick: u64,
-        mut left: Vec<Agent>,
-        mut born: Vec<Agent>,
+        left: Moved,
+        born: Vec<Agent>,
         taken: &mut Vec<Piece>,
-    ) -> Result<Vec<Agent>, NoMemory>
+    ) -> Result<Moved, NoMemory>
         requires worker { IsWorker self.now }
         requires work { IsWork self.now stage.Move tick taken.old.items }
-        requires left { left.items ≡ left_in self.now.setting.now self.now.part tick }
+        requires left { AreMoved (left_in self.now.setting.now self.now.part tick) left }
         requires born { born.items ≡ born_in self.now.setting.now self.now.part tick }
-        ensures owns { IfOk result (λ r. r.items ≡ own_under self.now.setting.now
-            self.now.part (cuts_of self.now.setting.now tick) (tick + 1)) }
+        ensures owns { IfOk result (AreListed self.now.setting.now.job.program
+            (own_under self.now.setting.now self.now.part
+            (cuts_of self.now.setting.now tick) (tick + 1))) }
         ensures places { vec_capacity taken.new ≡ vec_capacity taken.old }
     {
-        left.append(&mut born)?;
-        gathered(self.kept(tick, left), taken)
+        let more = gathered(self.kept(tick, born), taken)?;
+        let all = self.settled(tick, left, &more)?;
+        Ok(all)
     }
 
     /// What it has behind its work in a step, by what it had and what it took; or the least fault

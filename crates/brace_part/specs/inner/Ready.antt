@@ -6,6 +6,8 @@ use Rattle.brace_model.specs.declared.world.Agent.{Agent}
 use Rattle.brace_model.specs.Query.{Saying}
 use Rattle.brace_eval.specs.declared.heard.Heard.{Heard}
 use Rattle.brace_eval.specs.Heard.{IsHeard}
+use Rattle.brace_fold.specs.declared.order.Moved.{Moved}
+use Rattle.brace_fold.specs.Listed.{AreListed}
 use Rattle.brace_pieces.specs.declared.setting.Setting.{Setting}
 use Rattle.brace_pieces.specs.declared.setting.Stage.{Stage}
 use Rattle.brace_pieces.specs.declared.setting.Stage.TheVariants.{Hand, Border, Effects, Census, Move, Show}
@@ -61,28 +63,29 @@ pub record HearsAll (s : Setting) (p tick : ℕ) (agents : List Agent) (heard : 
       → becomes s tick (said s tick (on s tick).agents) a ≡ becomes s tick told a
 
 -- behind its updates a part has what its agents leave, where children bear their parents' ids
-pub record HasLeft (s : Setting) (p tick : ℕ) (left born : List Agent) (next : ℕ) : Type 0 where
-  pub lives : left ≡ left_in s p tick
+pub record HasLeft (s : Setting) (p tick : ℕ) (left : Moved) (born : List Agent) (next : ℕ)
+    : Type 0 where
+  pub lives : AreListed s.job.program (left_in s p tick) left
   pub bears : born ≡ children_in s p tick
   pub same_next : next ≡ (on s tick).next
 
 -- behind the census these have ids of their own, and the next free id is that of the next world
-pub record HasBorn (s : Setting) (p tick : ℕ) (left born : List Agent) (next : ℕ) : Type 0 where
-  pub lives : left ≡ left_in s p tick
+pub record HasBorn (s : Setting) (p tick : ℕ) (left : Moved) (born : List Agent) (next : ℕ)
+    : Type 0 where
+  pub lives : AreListed s.job.program (left_in s p tick) left
   pub born_so : born ≡ born_in s p tick
   pub next_is : next ≡ (on s (tick + 1)).next
 
 -- what a part has is what a step of a stage and tick needs
 abbrev pub IsReadyFor : Setting → ℕ → Stage → ℕ → Stance → Type 0
-IsReadyFor s p Hand tick (Owns own) = own.items ≡ own_before s p Hand tick
-IsReadyFor s p Border tick (Owns own) = own.items ≡ own_before s p Border tick
-IsReadyFor s p Show tick (Owns own) = own.items ≡ own_before s p Show tick
+IsReadyFor s p Hand tick (Owns own) = AreListed s.job.program (own_before s p Hand tick) own
+IsReadyFor s p Border tick (Owns own) = AreListed s.job.program (own_before s p Border tick) own
+IsReadyFor s p Show tick (Owns own) = AreListed s.job.program (own_before s p Show tick) own
 IsReadyFor s p Effects tick (Hears agents heard) =
     (s.invert ≡ false) × HearsAsked s p tick agents.items heard
 IsReadyFor s p Effects tick (Holds held) = (s.invert ≡ false) × HoldsAsked s p tick held
-IsReadyFor s p Census tick (Leaves left born next) =
-    HasLeft s p tick left.items born.items next
-IsReadyFor s p Move tick (Leaves left born next) = HasBorn s p tick left.items born.items next
+IsReadyFor s p Census tick (Leaves left born next) = HasLeft s p tick left born.items next
+IsReadyFor s p Move tick (Leaves left born next) = HasBorn s p tick left born.items next
 IsReadyFor s p at tick stance = ⊥
 
 abbrev pub IsReady : Setting → ℕ → Option Step → Stance → Type 0
@@ -97,7 +100,7 @@ IsReadyBehind s p Border tick stance =
 IsReadyBehind s p Effects tick stance = IsReadyFor s p Census tick stance
 IsReadyBehind s p Census tick stance = IsReadyFor s p Move tick stance
 IsReadyBehind s p Move tick (Owns own) =
-    own.items ≡ own_under s p (cuts_of s tick) (tick + 1)
+    AreListed s.job.program (own_under s p (cuts_of s tick) (tick + 1)) own
 IsReadyBehind s p Show tick stance = IsReadyFor s p Show tick stance
 IsReadyBehind s p at tick stance = ⊥
 

@@ -2,6 +2,8 @@
 use Rattle.std.specs.Prelude.{◌≡◌, ℕ, ◌-◌, ◌<◌, ◌≤◌, List, [], length, take, drop, false, true, Option, Some, None, IfSome, slice_get}
 use Rattle.std.specs.List.{All, Contains}
 use Rattle.brace_invert.specs.Split.{forward_program, inverse_program}
+use Rattle.brace_fold.specs.Listed.{agents_in}
+use Rattle.brace_model.specs.declared.program.Program.{Program}
 use Rattle.brace_model.specs.declared.world.Agent.{Agent}
 use Rattle.brace_pieces.specs.declared.setting.Setting.{Setting}
 use Rattle.brace_pieces.specs.declared.setting.Stage.{Stage}
@@ -107,8 +109,8 @@ pub record IsSound (c : OnCourse) (queries : Queries) (standing : Standing)
   pub has_room : parts c.setting ≤ room
 
 -- the agents that a part owns, if it is settled
-abbrev pub owns_in : Stance → List Agent
-owns_in (Owns own) = own.items
-owns_in (Hears agents heard) = []
-owns_in (Holds held) = []
-owns_in (Leaves left born next) = []
+abbrev pub owns_in : Program → Stance → List Agent
+owns_in program (Owns own) = agents_in program own
+owns_in program (Hears agents heard) = []
+owns_in program (Holds held) = []
+owns_in program (Leaves left born next) = []

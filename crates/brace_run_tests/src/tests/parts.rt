@@ -71,7 +71,8 @@ fn own(alloc: Global, setting: &Setting, p: u32) -> Result<Vec<Agent>, NoMemory>
 /// What a part says of itself before its first turn: its agents, its next turn, and what it gave.
 fn told(alloc: Global, part: &Part) -> Result<String, NoMemory> {
     let mut text = String::new(alloc);
-    for agent in part.owned() {
+    let own = part.owned(alloc)?;
+    for agent in own.as_slice() {
         text.push_str(format!(in alloc; "{} ", agent.id)?.as_str())?;
     }
     let put = match part.next() {

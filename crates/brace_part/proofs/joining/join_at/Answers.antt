@@ -1,8 +1,9 @@
 use Rattle.std.proofs.Common.{◌≡◌, ◌∙◌, ◌++◌, refl, sym, ap, subst, ℕ, ℤ, List, Some, slice_get, rules, to_z, of_z}
 use Rattle.std.specs.Int.{w64, w128}
-use Rattle.std.specs.Prelude.{FitsSigned}
+use Rattle.std.specs.Prelude.{FitsSigned, option_map}
 use Rattle.std.proofs.lemmas.Int.{to_z-of_z}
-use Rattle.std.proofs.lemmas.Option.{get_or_from_slice_get, slice_get_read}
+use Rattle.std.proofs.lemmas.Option.{same_Some, slice_get-map, slice_get_read}
+use Rattle.brace_model.specs.declared.program.Class.{Class}
 use Rattle.brace_model.specs.declared.program.Effect.{Effect}
 use Rattle.brace_model.specs.declared.world.Agent.{Agent}
 use Rattle.brace_model.specs.World.{class_of}
@@ -12,35 +13,46 @@ use Rattle.brace_part.proofs.HoldLemmas.{in_front, told_hears}
 use Rattle.brace_part.proofs.joining.join_at.Goals as goal
 
 pub returns : goal.returns
-returns c guests a told apart there tells =
+returns c agents guests a told own apart there tells =
     let entry = c.args.entry.now in
     let program = c.args.program.now in
-    let own : List Agent = c.args.own.now in
+    let place = c.args.place in
     let row = c.in-Ok-try_from-2.row in
     let number = to_z w64 (of_z w64 c.in-Ok.number) in
     let count = c.in-Ok-try_from.count in
-    let e : Effect = c.in-Some.effect.now in
+    let class : Class = c.in-Some-get.class.now in
+    let e : Effect = c.in-Some-get-2.effect.now in
     let fits : FitsSigned w128 c.number.result = search rules in
     let plain : to_z w128 (of_z w128 c.number.result) ≡ c.number.result =
     to_z-of_z w128 c.number.result fits in
     let small : FitsSigned w64 c.in-Ok.number = search rules in
     let read_is : c.in-Ok.number ≡ (tally entry.total).number = search (rules, plain) in
-    let at : row ≡ c.args.place = search rules in
+    let at : row ≡ place = search rules in
     let number_is : number ≡ (tally entry.total).number =
     to_z-of_z w64 c.in-Ok.number small ∙ read_is in
     let count_is : count ≡ (tally entry.total).count = search rules in
-    let same : c.index-own-place.result ≡ a =
-    c.index-own-place.is ∙ get_or_from_slice_get own c.args.place a c.index-own-place.result there in
-    let effects : c.effects_of.result.now ≡ effects_in (class_of program a) =
-    c.effects_of.ensures ∙ ap (λ (x : Agent). effects_in (class_of program x)) same in
-    let read : slice_get c.effects_of.result.now entry.field ≡ Some e =
-    slice_get_read c.effects_of.result.now _ entry.field e refl c.in-Some.ensures.lookup.3.0
-    c.in-Some.ensures.lookup.1 in
-    let here : slice_get own row ≡ Some a = subst (λ (n : ℕ). slice_get own n ≡ Some a)
+    let named : slice_get c.args.own.now.classes.now place ≡ Some c.in-Some.number =
+    c.in-Some.ensures.some in
+    let mine : c.in-Some.number ≡ a.class =
+    same_Some _ _ (sym named ∙ ap (λ l. slice_get l place) own.classes
+    ∙ slice_get-map (λ (b : Agent). b.class) agents place
+    ∙ ap (option_map (λ (b : Agent). b.class)) there) in
+    let known : slice_get c.as_slice.result.now c.in-Some.number ≡ Some class =
+    slice_get_read c.as_slice.result.now _ c.in-Some.number class refl
+    c.in-Some-get.ensures.lookup.3.0 c.in-Some-get.ensures.lookup.1 in
+    let has : class_of program a ≡ Some class =
+    ap (slice_get program.classes) (sym mine)
+    ∙ ap (λ (l : List Class). slice_get l c.in-Some.number) (sym c.as_slice.ensures) ∙ known in
+    let effects : c.as_slice-2.result.now ≡ effects_in (class_of program a) =
+    c.as_slice-2.ensures ∙ sym (ap effects_in has) in
+    let read : slice_get c.as_slice-2.result.now entry.field ≡ Some e =
+    slice_get_read c.as_slice-2.result.now _ entry.field e refl
+    c.in-Some-get-2.ensures.lookup.3.0 c.in-Some-get-2.ensures.lookup.1 in
+    let here : slice_get agents row ≡ Some a = subst (λ (n : ℕ). slice_get agents n ≡ Some a)
     (sym at) there in
-    told_hears program (own ++ guests) a e row entry.field count number told c.args.said.now
+    told_hears program (agents ++ guests) a e row entry.field count number told c.args.said.now
     c.join.new.self apart
-    (in_front own guests row a here)
+    (in_front agents guests row a here)
     (ap (λ (l : List Effect). slice_get l entry.field) (sym effects) ∙ read)
     (subst (λ (n : ℤ). AreTold program a entry.field n count told) (sym number_is)
     (subst (λ (k : ℕ). AreTold program a entry.field (tally entry.total).number k told)

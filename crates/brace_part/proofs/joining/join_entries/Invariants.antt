@@ -4,13 +4,14 @@ use Rattle.std.specs.List.{IsDistinct}
 use Rattle.brace_model.specs.declared.world.Agent.{Agent}
 use Rattle.brace_model.specs.World.{ids}
 use Rattle.brace_model.specs.Query.{Saying}
+use Rattle.brace_part.specs.inner.Owning.{AreOwn}
 use Rattle.brace_part.specs.inner.Tables.{TellsBy}
 use Rattle.brace_part.proofs.HoldLemmas.{SoFarJoined}
 use Rattle.brace_part.proofs.joining.join_entries.Given as goal
 
 abbrev pub invariant-loop-entry : goal.invariant-loop-entry
-invariant-loop-entry l = (guests : List Agent) (told : List Saying)
-    → IsDistinct nat_eq (ids (l.own ++ guests))
-    → TellsBy l.program l.own l.entries told
-    → SoFarJoined l.program (l.own ++ guests) told l.fn.said l.said
-    (TellsBy l.program l.own (drop l.entry-index l.entries))
+invariant-loop-entry l = (agents guests : List Agent) (told : List Saying)
+    → AreOwn agents l.own → IsDistinct nat_eq (ids (agents ++ guests))
+    → TellsBy l.program agents l.entries told
+    → SoFarJoined l.program (agents ++ guests) told l.fn.said l.said
+    (TellsBy l.program agents (drop l.entry-index l.entries))

@@ -9,46 +9,45 @@ use Rattle.brace_part.proofs.joining.join_sums.Goals as goal
 use Rattle.brace_part.proofs.joining.join_sums.Goals.{in-Effects+in_ok-join_entries, in_default}
 
 pub loop-piece-init : goal.loop-piece-init
-loop-piece-init c guests told apart tells =
-    joined_first c.args.program.now (c.args.own.now ++ guests) told c.args.said.now
-    (TellBy c.args.program.now c.args.own.now c.args.pieces.now) tells
+loop-piece-init c agents guests told own apart tells =
+    joined_first c.args.program.now (agents ++ guests) told c.args.said.now
+    (TellBy c.args.program.now agents c.args.pieces.now) tells
 
 pub loop-piece-preserved : goal.loop-piece-preserved
-loop-piece-preserved c guests told apart tells =
+loop-piece-preserved c agents guests told own apart tells =
     let program = c.args.program.now in
-    let own = c.args.own.now in
     let pieces : List Piece = c.args.pieces.now in
     let i = c.loop-piece.piece-index in
     let x = c.piece-item.result in
     let next = next_of pieces i x c.loop-piece-test.true c.piece-item.is in
-    let so = c.loop-piece.invariant guests told apart tells in
-    let Rest = TellBy program own (drop (i + 1) pieces) in
+    let so = c.loop-piece.invariant agents guests told own apart tells in
+    let Rest = TellBy program agents (drop (i + 1) pieces) in
     elim c.match-piece.branch [
       | in-Effects+in_ok-join_entries w ↦
-          subst (λ (h : Table). SoFarJoined program (own ++ guests) told c.args.said.now h Rest)
+          subst (λ (h : Table). SoFarJoined program (agents ++ guests) told c.args.said.now h Rest)
           (sym w.said-is)
-          (joined_next program (own ++ guests) told c.args.said.now c.loop-piece.said
+          (joined_next program (agents ++ guests) told c.args.said.now c.loop-piece.said
           w.join_entries.new.said
-          (TellBy program own (drop i pieces)) (TellsBy program own w.in-Effects.entries) Rest
-          (λ rest t. piece_more program own w.in-Effects.entries (drop (i + 1) pieces) rest
-          (subst (λ (l : List Piece). TellBy program own l rest) (next
+          (TellBy program agents (drop i pieces)) (TellsBy program agents w.in-Effects.entries) Rest
+          (λ rest t. piece_more program agents w.in-Effects.entries (drop (i + 1) pieces) rest
+          (subst (λ (l : List Piece). TellBy program agents l rest) (next
           ∙ ap (λ (y : Piece). y ∷ drop (i + 1) pieces) w.in-Effects.is) t))
-          (λ first one. w.in_ok-join_entries.ensures guests first apart
-          (subst (λ (l : List Entry). TellsBy program own l first) (sym w.as_slice.ensures) one))
+          (λ first one. w.in_ok-join_entries.ensures agents guests first own apart
+          (subst (λ (l : List Entry). TellsBy program agents l first) (sym w.as_slice.ensures) one))
           so)
       | in_default w ↦
-          absurd (is_telling program own x (drop (i + 1) pieces) so.rest
-          (subst (λ (l : List Piece). TellBy program own l so.rest) next so.tells)
+          absurd (is_telling program agents x (drop (i + 1) pieces) so.rest
+          (subst (λ (l : List Piece). TellBy program agents l so.rest) next so.tells)
           w.in_default.not-Effects)
     ]
 
 pub returns : goal.returns
-returns c guests told apart tells =
+returns c agents guests told own apart tells =
     let program = c.args.program.now in
-    let own = c.args.own.now in
     let pieces : List Piece = c.args.pieces.now in
-    joined_last program (own ++ guests) told c.args.said.now c.loop-piece.said
-    (TellBy program own (drop c.loop-piece.piece-index pieces))
-    (λ rest t. no_pieces program own rest (subst (λ (l : List Piece). TellBy program own l rest)
+    joined_last program (agents ++ guests) told c.args.said.now c.loop-piece.said
+    (TellBy program agents (drop c.loop-piece.piece-index pieces))
+    (λ rest t. no_pieces program agents rest
+    (subst (λ (l : List Piece). TellBy program agents l rest)
     (none_left pieces c.loop-piece.piece-index c.loop-piece-test.false) t))
-    (c.loop-piece.invariant guests told apart tells)
+    (c.loop-piece.invariant agents guests told own apart tells)

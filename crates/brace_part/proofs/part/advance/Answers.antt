@@ -16,9 +16,11 @@ use Rattle.brace_part.proofs.ComesLemmas.{note_of, comes_next, kept_there}
 use Rattle.brace_part.proofs.part.advance.Goals as goal
 
 -- the same by another name of the next free id
-noted_by : (t : ℕ) (s : Setting) (old new : List Shown) (stance : Stance) (m n : ℕ) → m ≡ n → new ≡ old ++ (if is_noted s (t + 1) then note_of (t + 1) stance m ∷ [] else [])
-    → new ≡ old ++ (if is_noted s (t + 1) then note_of (t + 1) stance n ∷ [] else [])
-noted_by t s old new stance m n same is = subst (λ k. new ≡ old ++ (if is_noted s (t + 1) then note_of (t + 1) stance k ∷ [] else [])) same is
+noted_by : (t : ℕ) (s : Setting) (old new : List Shown) (stance : Stance) (m n : ℕ) → m ≡ n
+    → new ≡ old ++ (if is_noted s (t + 1) then note_of s (t + 1) stance m ∷ [] else [])
+    → new ≡ old ++ (if is_noted s (t + 1) then note_of s (t + 1) stance n ∷ [] else [])
+noted_by t s old new stance m n same is = subst
+    (λ k. new ≡ old ++ (if is_noted s (t + 1) then note_of s (t + 1) stance k ∷ [] else [])) same is
 
 pub note_next-requires : goal.note_next-requires
 note_next-requires c =
@@ -36,8 +38,13 @@ prepare-requires-clause-comes c =
     let has = subst (λ r. IsReadyBehind r p at.stage at.tick st) c.setting.ensures.setting (subst (λ q. IsReadyBehind c.setting.result.now q at.stage at.tick st) c.actor.ensures.actor c.in_ok-standing.ensures.ready) in
     let none = subst (λ r. least (found_in_work r p at.stage at.tick) ≡ None) c.setting.ensures.setting (subst (λ q. least (found_in_work c.setting.result.now q at.stage at.tick) ≡ None) c.actor.ensures.actor c.in_ok-standing.ensures.passes) in
     let moved = λ (m : at.stage ≡ stage.Move).
-    subst (λ (n : ℕ). c.note_next.new.shown ≡ old.shown ++ (if is_noted s (at.tick + 1) then note_of (at.tick + 1) st n ∷ [] else [])) c.next_behind-standing.ensures
-    (subst (λ (r : Setting). c.note_next.new.shown ≡ old.shown ++ (if is_noted r (at.tick + 1) then note_of (at.tick + 1) st c.next_behind-standing.result ∷ [] else [])) c.setting-2.ensures.setting (c.in_ok-note_next.ensures.moved m)) in
+    subst (λ (n : ℕ). c.note_next.new.shown ≡ old.shown ++
+    (if is_noted s (at.tick + 1) then note_of s
+    (at.tick + 1) st n ∷ [] else [])) c.next_behind-standing.ensures
+    (subst (λ (r : Setting). c.note_next.new.shown ≡ old.shown ++
+    (if is_noted r (at.tick + 1) then note_of r
+    (at.tick + 1) st c.next_behind-standing.result ∷ [] else [])) c.setting-2.ensures.setting
+    (c.in_ok-note_next.ensures.moved m)) in
     let new : Standing = record { stance = st; next = c.next_behind-standing.result; out = old.out; taken = c.clear.new.self; shown = c.note_next.new.shown; counts = old.counts } in
     subst (λ n. ComesTo s p n (slice_get (steps s) n) new) (sym c.requires.behind)
     (comes_next s p c.args.queries.now c.requires.part c.args.number at old c.requires.work new c.next_behind-standing.ensures has none moved c.in_ok-note_next.ensures.stays refl)

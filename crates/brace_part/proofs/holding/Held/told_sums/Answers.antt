@@ -12,22 +12,21 @@ use Rattle.brace_part.proofs.holding.Held.told_sums.Goals as goal
 use Rattle.brace_part.proofs.holding.Held.told_sums.Goals.{then-owns+in_ok-row+in_ok-add_sums, else-owns}
 
 pub loop-k-preserved : goal.loop-k-preserved
-loop-k-preserved c said are =
+loop-k-preserved c own said many are =
     let program = c.args.program.now in
     let cuts = c.args.cuts.now in
     let to = c.args.to in
-    let own : List Agent = c.args.self.now.own.items in
     let guests : List Agent = c.args.self.now.guests.items in
     let k = c.loop-k.k in
     let b = c.index-b.result.now in
     let low : k < length guests = search rules in
-    let so = c.loop-k.invariant said are in
+    let so = c.loop-k.invariant own said many are in
     elim c.if-owns.branch [
       | then-owns+in_ok-row+in_ok-add_sums w ↦
           let there : slice_get guests k ≡ Some b =
           slice_get_read guests (length guests) k b refl low c.index-b.ensures in
           let test : owns program cuts to b ≡ true = sym c.owns.ensures ∙ w.if-owns.true in
-          let at : w.in_ok-row.row ≡ length own + k = w.in_ok-row.ensures ∙ search rules in
+          let at : w.in_ok-row.row ≡ length own + k = w.in_ok-row.ensures ∙ ap (λ n. n + k) many in
           let here = subst (λ (n : ℕ). slice_get (own ++ guests) n ≡ Some b) (sym at)
           (behind own guests k b there) in
           ap (map share_of) w.entries-is

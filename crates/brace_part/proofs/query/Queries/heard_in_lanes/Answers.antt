@@ -29,20 +29,27 @@ returns c =
           let added = adds_too m p seed tick held own places before after
           (own_effects m p script) at w.in_ok-fold-in-Script.ensures.heard [] [] nothing in
           let heard = over_script s tick own held after plain
-          (subst (λ (x : Program). IsHeard m held (said_by x seed tick held own) (faults_by x seed tick held own) after) script added) in
-          subst (IsHeard m held (said_over s tick own held) (faults_over s tick own held)) (sym w.heard-is) heard
+          (subst (λ (x : Program). IsHeard m held (said_by x seed tick held own)
+          (faults_by x seed tick held own) after) script added) in
+          subst (IsHeard m held (said_over s tick own held) (faults_over s tick own held))
+          (sym w.heard-is) heard
       | in-Inverted+in_ok-all-in-Inverted+in_ok-fold-in-Inverted+in_ok-fold-in-Inverted-2 w ↦
-          let (inverts, forward, inverse) = subst (AreQueriesOf s) w.in-Inverted.is c.requires.queries in
+          let (inverts, forward, inverse) =
+          subst (AreQueriesOf s) w.in-Inverted.is c.requires.queries in
           let p = w.in-Inverted.forward in
           let q = w.in-Inverted.inverse in
           let between = w.fold-in-Inverted.new.heard in
           let after = w.fold-in-Inverted-2.new.heard in
-          let all = subst (ArePlaces held held) (sym {A = List ℕ} w.deref.ensures.value) w.in_ok-all-in-Inverted.ensures in
+          let all = subst (ArePlaces held held)
+          (sym {A = List ℕ} w.deref.ensures.value) w.in_ok-all-in-Inverted.ensures in
           λ own at.
           let first = adds_too m p seed tick held own places before between
-          (effects_same forward_query m p forward) at w.in_ok-fold-in-Inverted.ensures.heard [] [] nothing in
+          (effects_same forward_query m p forward) at w.in_ok-fold-in-Inverted.ensures.heard [] []
+          nothing in
           let second = adds_too m q seed tick held held w.deref.result.now between after
-          (effects_same inverse_query m q inverse) all w.in_ok-fold-in-Inverted-2.ensures.heard _ _ first in
+          (effects_same inverse_query m q inverse) all w.in_ok-fold-in-Inverted-2.ensures.heard _ _
+          first in
           let heard = over_both s tick own held after p q inverts forward inverse second in
-          subst (IsHeard m held (said_over s tick own held) (faults_over s tick own held)) (sym w.heard-is) heard
+          subst (IsHeard m held (said_over s tick own held) (faults_over s tick own held))
+          (sym w.heard-is) heard
     ]

@@ -36,4 +36,6 @@ returns-in-Ok-clause-faulted c =
     (λ e is. inr is) c.leaves.ensures.faulted
 
 pub behind_lists-requires-clause-held : goal.behind_lists-requires-clause-held
-behind_lists-requires-clause-held c = c.requires.held.holds
+behind_lists-requires-clause-held c =
+    let h = c.requires.held.holds in
+    record { guests = c.args.held.guests.items; holds = h.holds; listed = h.listed }

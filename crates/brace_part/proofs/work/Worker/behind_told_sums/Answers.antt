@@ -3,7 +3,7 @@ use Rattle.brace_model.specs.FaultOrder.{least}
 use Rattle.brace_pieces.specs.declared.setting.Stage.TheVariants as stage
 use Rattle.brace_pieces.specs.declared.piece.Cause.TheVariants as cause
 use Rattle.brace_part.specs.Parts.{IsCauseOf, found_in_work}
-use Rattle.brace_part.specs.inner.Holding.{IsHeld}
+use Rattle.brace_part.specs.inner.Holding.{AreHeld}
 use Rattle.brace_part.proofs.HoldWork.{ok_always}
 use Rattle.brace_part.proofs.WorkHeard.{err_weaker, tick_fits}
 use Rattle.brace_part.proofs.work.Worker.behind_told_sums.Goals as goal
@@ -24,11 +24,9 @@ returns-in-Ok-clause-faulted c =
 pub query-requires-clause-held : goal.query-requires-clause-held
 query-requires-clause-held c =
     let w = c.args.self.now in
-    let after = c.renewed_told.new.held in
-    subst (λ own. IsHeld w.setting.now w.part c.args.tick own after.guests.items)
-    (ap (λ v. v.items) (sym c.renewed_told.ensures.own))
-    (subst (λ guests. IsHeld w.setting.now w.part c.args.tick c.args.held.own.items guests)
-    (ap (λ v. v.items) (sym c.renewed_told.ensures.guests)) c.requires.held.holds)
+    let h = c.requires.held.holds in
+    subst (AreHeld w.setting.now w.part c.args.tick) (sym c.renewed_told.ensures.rows)
+    (record { guests = c.args.held.guests.items; holds = h.holds; listed = h.listed })
 
 pub query-requires-clause-ticks : goal.query-requires-clause-ticks
 query-requires-clause-ticks c =

@@ -1,20 +1,26 @@
-use Rattle.std.proofs.Common.{◌≡◌, ◌∙◌, ◌++◌, List, refl, sym, subst}
-use Rattle.std.specs.Prelude.{nat_eq}
-use Rattle.std.specs.List.{IsDistinct}
-use Rattle.brace_model.specs.declared.world.Agent.{Agent}
-use Rattle.brace_model.specs.World.{RisesById, ids}
-use Rattle.brace_fold.specs.inner.Hears.{Hears}
+use Rattle.std.proofs.Common.{refl, sym, subst}
+use Rattle.std.specs.List.Sorted.{IsStrictlyIncreasing}
+use Rattle.brace_model.specs.World.{ids}
 use Rattle.brace_pieces.specs.declared.setting.Stage.TheVariants as stage
-use Rattle.brace_part.specs.inner.Tables.{TellBy}
-use Rattle.brace_part.proofs.HoldWork.{all_told, held_apart, mine_rise, tells_mine}
+use Rattle.brace_part.specs.declared.joining.Own.{Own}
+use Rattle.brace_part.specs.inner.Holding.{mine}
+use Rattle.brace_part.proofs.HoldWork.{all_told, first_own, held_apart, mine_rise, tells_mine}
 use Rattle.brace_part.proofs.WorkHeard.{tick_fits, told_there}
 use Rattle.brace_part.proofs.work.Worker.renewed_told.Goals as goal
 
 pub join_sums-requires : goal.join_sums-requires
 join_sums-requires c =
+    let w = c.args.self.now in
+    let t = c.args.tick in
+    let own : Own =
+    record { classes = c.in_ok-slice_of.field-0; ids = c.in_ok-slice_of-2.field-0 } in
+    let are = first_own w c.requires.worker t c.args.held.now c.requires.held.holds own
+    c.deref.result.now c.deref-2.result.now
+    c.deref.ensures.value c.deref-2.ensures.value c.in_ok-slice_of.ensures.same
+    c.in_ok-slice_of-2.ensures.same in
     record {
-      rises = subst RisesById (sym (c.deref.ensures.value ∙ c.requires.held.holds.own_is))
-          (mine_rise c.args.self.now c.requires.worker c.args.tick);
+      rises = subst IsStrictlyIncreasing (sym are.ids_are)
+          (mine_rise w c.requires.worker t);
     }
 
 pub renewed-requires-clause-ticks : goal.renewed-requires-clause-ticks
@@ -25,18 +31,18 @@ renewed-requires-clause-ticks c =
 pub renewed-requires-clause-held : goal.renewed-requires-clause-held
 renewed-requires-clause-held c =
     let w = c.args.self.now in
-    let s = w.setting.now in
     let t = c.args.tick in
     let before = c.args.held.now in
     let h = c.requires.held in
-    let own : c.deref.result.now ≡ before.own.items = c.deref.ensures.value in
     let guests = before.guests.items in
-    let apart = subst (λ (l : List Agent). IsDistinct nat_eq (ids (l ++ guests))) (sym own)
-    (held_apart w c.requires.worker t before.own.items guests h.holds) in
-    let tells = subst (λ l. TellBy s.job.program l c.args.taken.now
-    (told_there w c.requires.worker t)) (sym (own ∙ h.holds.own_is))
+    let own : Own =
+    record { classes = c.in_ok-slice_of.field-0; ids = c.in_ok-slice_of-2.field-0 } in
+    let are =
+    first_own w c.requires.worker t before h.holds own c.deref.result.now c.deref-2.result.now
+    c.deref.ensures.value c.deref-2.ensures.value c.in_ok-slice_of.ensures.same
+    c.in_ok-slice_of-2.ensures.same in
+    let hears = c.in_ok-join_sums.ensures (mine w.setting.now w.part t) guests
+    (told_there w c.requires.worker t) are
+    (held_apart w c.requires.worker t (mine w.setting.now w.part t) guests h.holds.holds)
     (tells_mine w c.requires.worker t c.args.taken.now c.requires.work) in
-    let hears = subst (λ l. Hears s.job.program (l ++ guests)
-    (told_there w c.requires.worker t) before.said c.join_sums.new.said) own
-    (c.in_ok-join_sums.ensures guests (told_there w c.requires.worker t) apart tells) in
     all_told w c.requires.worker t c.requires.plain before _ h refl refl refl hears

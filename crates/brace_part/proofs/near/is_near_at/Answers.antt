@@ -1,0 +1,22 @@
+use Rattle.std.proofs.Common.{◌∙◌, rules, w64}
+use Rattle.std.specs.Prelude.{FitsSigned}
+use Rattle.std.proofs.lemmas.Int.{to_z-of_z}
+use Rattle.brace_part.proofs.NearLemmas.{fit_there, near_there}
+use Rattle.brace_part.proofs.near.is_near_at.Goals as goal
+
+pub returns-clause-near : goal.returns-clause-near
+returns-clause-near c program rows agents a are moved there same =
+    let x : FitsSigned w64 c.in-Some.x = search rules in
+    let y : FitsSigned w64 c.in-Some-word_at.y = search rules in
+    let range : FitsSigned w64 c.args.range = c.ranges.range in
+    let near = simp to_z-of_z at c.is_around.ensures in
+    near ∙ near_there program rows c.args.axes.now are agents moved c.args.row a there same
+    c.in-Some.x c.in-Some-word_at.y c.in-Some.ensures c.in-Some-word_at.ensures c.args.area.now
+    c.args.range
+
+pub returns-clause-fit : goal.returns-clause-fit
+returns-clause-fit c program rows agents a are moved there same =
+    let f : FitsSigned w64 c.in-Some.x = search rules in
+    let g : FitsSigned w64 c.in-Some-word_at.y = search rules in
+    fit_there program rows c.args.axes.now are agents moved c.args.row a there same
+    c.in-Some.x c.in-Some-word_at.y c.in-Some.ensures c.in-Some-word_at.ensures f g

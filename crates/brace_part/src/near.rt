@@ -1,0 +1,308 @@
+ghost use Rattle.std.specs.Prelude.{◌≡◌, ◌<◌, ◌≤◌, ◌++◌, [], ◌∷◌, List, Some, pos, ◌≤ℤ◌, int_le, filter, if◌then◌else◌, length, slice_get, IsTrue, IfOk, IfSome, IfNone, OnOk};
+ghost use Rattle.std.specs.Bool.{OnTrue};
+ghost use Rattle.std.specs.List.{All, list_all};
+ghost use Rattle.std.specs.List.Sorted.{IsNonDecreasingBy};
+ghost use Rattle.brace_num.specs.Areas.{outside, gap_to};
+ghost use Rattle.brace_model.specs.declared.program.Program.{Program};
+ghost use Rattle.brace_model.specs.declared.world.Agent.{Agent};
+ghost use Rattle.brace_model.specs.Lawful.{is_lawful_agent};
+ghost use Rattle.brace_cuts.specs.Space.{LawfulCuts, parts_of};
+ghost use Rattle.brace_fold.specs.declared.order.Moved.{Moved};
+ghost use Rattle.brace_fold.specs.Listed.{AreInOrder, AreListed, agents_in};
+ghost use Rattle.brace_fold.specs.Rows.{AreMoved};
+ghost use Rattle.brace_invert.specs.Held.{is_near};
+ghost use Rattle.brace_pieces.specs.Owned.{owned};
+ghost use Rattle.brace_part.specs.inner.Asked.{ArePlaces};
+ghost use Rattle.brace_part.specs.inner.Near.{AreAxes, AreNear, StandsFit};
+
+use brace_cuts::Cuts;
+use brace_fold::{Moved, Redo, columns_of};
+use brace_model::{Agent, Area, Program};
+use brace_num::{List, NoMemory};
+use std::alloc::Global;
+
+/// Where the agents of a class stand, in millionths: columns of x and of y.
+#[derive(Debug, Clone, Copy)]
+pub struct Axes<'a> {
+    pub class: u32,
+    pub xs: &'a [i64],
+    pub ys: &'a [i64],
+}
+
+/// The class of a row, by number.
+pub fn class_at(classes: &[u32], row: usize) -> Option<u32>
+    ensures some { IfSome result (λ number. slice_get classes.now row ≡ Some number) }
+    ensures none { IfNone result (length classes.now ≤ row) }
+{
+    classes.get(row).copied()
+}
+
+/// The word of a row.
+fn word_at(words: &[i64], row: usize) -> Option<i64>
+    ensures { IfSome result (λ word. slice_get words.now row ≡ Some word) }
+{
+    words.get(row).copied()
+}
+
+/// The columns of x and of y of a class of a number.
+fn axes_of<'a>(program: &Program, rows: &'a Moved, number: u32) -> Result<Axes<'a>, Redo>
+    ensures class { IfOk result (λ axes. axes.class ≡ number) }
+    ensures axes { IfOk result (AreAxes program.now rows.now) }
+{
+    let Some(own) = program.classes.as_slice().get(number as usize) else {
+        return Err(Redo);
+    };
+    let Some(xs) = rows.states.get(own.x as usize) else {
+        return Err(Redo);
+    };
+    let Some(ys) = rows.states.get(own.y as usize) else {
+        return Err(Redo);
+    };
+    Ok(Axes {
+        class: number,
+        xs: xs.as_slice(),
+        ys: ys.as_slice(),
+    })
+}
+
+/// The columns of a class, where those of another one may be known.
+fn led<'a>(
+    program: &Program,
+    rows: &'a Moved,
+    axes: Axes<'a>,
+    number: u32,
+) -> Result<Axes<'a>, Redo>
+    requires { AreAxes program.now rows.now axes }
+    ensures class { IfOk result (λ led. led.class ≡ number) }
+    ensures axes { IfOk result (AreAxes program.now rows.now) }
+{
+    if axes.class == number {
+        return Ok(axes);
+    }
+    let axes = axes_of(program, rows, number)?;
+    Ok(axes)
+}
+
+/// Whether a number is within a range of a span.
+fn is_within(low: i64, high: i64, range: i64, p: i64) -> bool
+    requires { pos 0 ≤ℤ range }
+    ensures { result ≡ int_le (outside low high p) range }
+{
+    let (least, greatest) = (low.saturating_sub(range), high.saturating_add(range));
+    (least <= p) & (p <= greatest)
+}
+
+/// Whether a point is within a range of an area.
+fn is_around(area: &Area, range: i64, x: i64, y: i64) -> bool
+    requires { pos 0 ≤ℤ range }
+    ensures { result ≡ int_le (gap_to area.now x y) range }
+{
+    is_within(area.x0, area.x1, range, x) & is_within(area.y0, area.y1, range, y)
+}
+
+/// Whether the agent of a row stands within a range of an area.
+fn is_near_at(axes: &Axes, area: &Area, range: i64, row: usize) -> Result<bool, Redo>
+    requires { pos 0 ≤ℤ range }
+    ensures near { IfOk result (λ near. (program : Program) (rows : Moved) (agents : List Agent)
+        (a : Agent) → AreAxes program rows axes.now → AreMoved agents rows
+        → slice_get agents row ≡ Some a → a.class ≡ axes.now.class
+        → near ≡ is_near program area.now range a) }
+    ensures fit { IfOk result (λ _. (program : Program) (rows : Moved) (agents : List Agent)
+        (a : Agent) → AreAxes program rows axes.now → AreMoved agents rows
+        → slice_get agents row ≡ Some a → a.class ≡ axes.now.class → StandsFit program a) }
+{
+    let Some(x) = word_at(axes.xs, row) else {
+        return Err(Redo);
+    };
+    let Some(y) = word_at(axes.ys, row) else {
+        return Err(Redo);
+    };
+    Ok(is_around(area, range, x, y))
+}
+
+/// Adds a row that is wanted.
+fn add_row(rows: &mut Vec<u32>, row: u32, wanted: bool) -> Result<(), Redo>
+    ensures { OnOk result (rows.new.items ≡ rows.old.items ++ (if wanted then row ∷ [] else [])) }
+{
+    if wanted {
+        rows.push(row)?;
+    }
+    Ok(())
+}
+
+/// The rows of the agents that stand within a range of an area.
+fn rows_near(
+    alloc: Global,
+    program: &Program,
+    rows: &Moved,
+    area: &Area,
+    range: i64,
+) -> Result<Vec<u32>, Redo>
+    requires { pos 0 ≤ℤ range }
+    ensures { IfOk result (λ near. (agents : List Agent) → AreMoved agents rows.now
+        → AreNear program.now area.now range agents agents near.items) }
+{
+    let mut near = Vec::new(alloc);
+    let Some(first) = class_at(&rows.classes, 0) else {
+        return Ok(near);
+    };
+    let mut axes = axes_of(program, rows, first)?;
+    for k in 0..rows.classes.len() {
+        let Ok(row) = u32::try_from(k) else {
+            return Err(Redo);
+        };
+        let Some(number) = class_at(&rows.classes, k) else {
+            return Err(Redo);
+        };
+        let known = led(program, rows, axes, number)?;
+        axes = known;
+        let wanted = is_near_at(&axes, area, range, k)?;
+        add_row(&mut near, row, wanted)?;
+    }
+    Ok(near)
+}
+
+/// Of agents in columns those that stand within a range of an area, in their order.
+pub fn agents_near(
+    alloc: Global,
+    program: &Program,
+    rows: &Moved,
+    area: &Area,
+    range: i64,
+) -> Result<List<Agent>, NoMemory>
+    requires { pos 0 ≤ℤ range }
+    ensures near { IfOk result (λ near. (agents : List Agent)
+        → AreListed program.now agents rows.now
+        → near ≡ filter (is_near program.now area.now range) agents) }
+    ensures fit { IfOk result (λ _. (agents : List Agent) → AreListed program.now agents rows.now
+        → All (StandsFit program.now) agents) }
+{
+    let Ok(places) = rows_near(alloc, program, rows, area, range) else {
+        return Err(NoMemory);
+    };
+    let Ok(near) = rows.agents_at(alloc, program, &places) else {
+        return Err(NoMemory);
+    };
+    Ok(List::from_vec(near))
+}
+
+/// Of agents in columns those that a part owns under some cuts, in their order.
+pub fn agents_of(
+    alloc: Global,
+    program: &Program,
+    cuts: &Cuts,
+    part: u32,
+    rows: &Moved,
+) -> Result<List<Agent>, NoMemory>
+    requires cuts { LawfulCuts cuts.now }
+    requires part { part < parts_of cuts.now }
+    ensures { IfOk result (λ theirs. (agents : List Agent) → AreListed program.now agents rows.now
+        → theirs ≡ owned program.now cuts.now part agents) }
+{
+    let theirs = agents_near(alloc, program, rows, &cuts.area(part), 0)?;
+    Ok(theirs)
+}
+
+/// Adds the rows from one on, so many.
+fn add_rows(rows: &mut Vec<u32>, from: usize, count: usize) -> Result<(), Redo>
+    ensures { OnOk result ((agents these more : List Agent) → from ≡ length agents
+        → count ≡ length more → ArePlaces agents these rows.old.items
+        → ArePlaces (agents ++ more) (these ++ more) rows.new.items) }
+{
+    for k in 0..count {
+        let Some(at) = from.checked_add(k) else {
+            return Err(Redo);
+        };
+        let Ok(row) = u32::try_from(at) else {
+            return Err(Redo);
+        };
+        rows.push(row)?;
+    }
+    Ok(())
+}
+
+/// The agents of columns.
+pub fn all_agents(alloc: Global, program: &Program, rows: &Moved) -> Result<Vec<Agent>, NoMemory>
+    ensures { IfOk result (λ agents. agents.items ≡ agents_in program.now rows.now) }
+{
+    match rows.agents(alloc, program) {
+        Ok(agents) => Ok(agents),
+        Err(Redo) => Err(NoMemory),
+    }
+}
+
+/// Agents in columns with those of a list behind them.
+pub fn with_more(
+    alloc: Global,
+    program: &Program,
+    mut rows: Moved,
+    more: &[Agent],
+) -> Result<Moved, Redo>
+    ensures rows { IfOk result (λ all. (agents : List Agent) → AreMoved agents rows
+        → AreMoved (agents ++ more.now) all) }
+    ensures listed { IfOk result (λ all. (agents : List Agent) → AreMoved agents all
+        → IsTrue (list_all (is_lawful_agent program.now) agents)
+        → AreListed program.now agents all) }
+{
+    rows.add(more)?;
+    rows.expect_listed(alloc, program)?;
+    Ok(rows)
+}
+
+/// Lawful agents in columns.
+pub fn listed(alloc: Global, program: &Program, agents: &[Agent]) -> Result<Moved, Redo>
+    requires { IsTrue (list_all (is_lawful_agent program.now) agents.now) }
+    ensures { IfOk result (AreListed program.now agents.now) }
+{
+    let rows = columns_of(alloc, program, agents, &[])?;
+    rows.expect_listed(alloc, program)?;
+    Ok(rows)
+}
+
+/// Whether all of so many rows stay, and nobody comes.
+fn is_still(stay: &[u32], count: usize, more: &[Agent]) -> bool
+    ensures all { OnTrue result (length stay.now ≡ count) }
+    ensures none { OnTrue result (more.now ≡ []) }
+{
+    stay.len() == count && more.is_empty()
+}
+
+/// Those of some rows of columns, and those of a list, by rising id.
+fn merged(alloc: Global, mut rows: Moved, mut stay: Vec<u32>, more: &[Agent]) -> Result<Moved, Redo>
+    ensures { IfOk result (λ all. (agents these : List Agent) → AreMoved agents rows
+        → ArePlaces agents these stay.items → AreInOrder (these ++ more.now) all) }
+{
+    add_rows(&mut stay, rows.ids.len(), more.len())?;
+    rows.add(more)?;
+    let all = rows.in_order(alloc, &stay)?;
+    Ok(all)
+}
+
+/// Of agents in columns, which stand by rising id, those that a part owns under some cuts, and
+/// those of a list, by rising id too.
+pub fn settled(
+    alloc: Global,
+    program: &Program,
+    cuts: &Cuts,
+    part: u32,
+    rows: Moved,
+    more: &[Agent],
+) -> Result<Moved, Redo>
+    requires cuts { LawfulCuts cuts.now }
+    requires part { part < parts_of cuts.now }
+    ensures order { IfOk result (λ all. (agents : List Agent) → AreMoved agents rows
+        → IsNonDecreasingBy (λ a. a.id) agents
+        → AreInOrder (owned program.now cuts.now part agents ++ more.now) all) }
+    ensures listed { IfOk result (λ all. (agents : List Agent) → AreMoved agents all
+        → IsTrue (list_all (is_lawful_agent program.now) agents)
+        → AreListed program.now agents all) }
+{
+    let stay = rows_near(alloc, program, &rows, &cuts.area(part), 0)?;
+    let all = if is_still(&stay, rows.ids.len(), more) {
+        rows
+    } else {
+        merged(alloc, rows, stay, more)?
+    };
+    all.expect_listed(alloc, program)?;
+    Ok(all)
+}
