@@ -7,13 +7,30 @@ ghost use Rattle.brace_crew.specs.Benches.{AreServed, IsUnused, IsUsedUp, IsSame
 ghost use Rattle.brace_crew.specs.inner.Teams.{HasEnded};
 ghost use Rattle.brace_crew.specs.inner.Driven.{AreCounted, AreSame, WentAll, both};
 
+use crate::crowd::Crowd;
 use crate::{Member, Publisher};
 use brace_core::{Actor, Turn, Went, make_turn};
 use brace_io::Gate;
 use brace_lanes::{LaneEnd, LaneSeat};
 use brace_pieces::Piece;
 use std::marker::Model;
+use std::sync::Wait;
 use std::thread;
+use std::thread::Parker;
+use std::time::Duration;
+
+/// In how many rounds, one behind the other, no member of a bench may make a turn before it naps.
+/// They last longer than most waits of an exchange, and many of these are shorter than a nap.
+const PATIENCE: u64 = 16_384;
+
+/// The same where no bench is awake: there it soon leaves, so that others have its thread.
+const PATIENCE_ALONE: u64 = 128;
+
+/// How long a nap lasts, in microseconds: many rounds, and yet short, since nobody ends it.
+const NAP: u64 = 100;
+
+/// How often the first bench naps until another one begins: longer than a thread takes to start.
+const NAPS: u64 = 256;
 
 /// What driving a bench came to.
 #[derive(Debug, Clone, Copy, PartialEq, Eq, Drop)]
@@ -96,6 +113,65 @@ impl<'a, P: Publisher> Bench<'a, P> {
         drive_members(members, end, gate, self.number, patience)
     }
 
+    /// Drives it as one of a crowd, until all members are Done or no other can help it on. The
+    /// first one waits until another begins; where none does, nobody can.
+    pub(crate) fn drive_among<R: Wait, G: Gate>(&mut self, rt: &R, gate: &G, crowd: &Crowd)
+        ensures { IsSameBench self.old self.new }
+    {
+        let first = crowd.begin();
+        self.drive(gate, 1);
+        if first {
+            await_another(rt, crowd);
+        }
+        crowd.sleep();
+        if crowd.has_met() {
+            self.go_along(rt, gate, crowd);
+        }
+    }
+
+    /// Drives it again and again, until all members are Done, or until nobody was awake before a
+    /// nap and behind it.
+    fn go_along<R: Wait, G: Gate>(&mut self, rt: &R, gate: &G, crowd: &Crowd)
+        ensures { IsSameBench self.old self.new }
+    {
+        let mut idle = 0u64;
+        for _ in rt.forever() {
+            let alone = idle >= PATIENCE_ALONE && !crowd.is_awake();
+            if alone || idle >= PATIENCE {
+                nap(rt);
+            } else {
+                thread::yield_now();
+            }
+            match self.go_on(gate, crowd) {
+                Went::On => idle = 0,
+                Went::Nowhere if !alone || crowd.is_awake() => idle = idle.saturating_add(1),
+                _ => return,
+            }
+        }
+    }
+
+    /// Lets each member make its next turn, if it can, and drives the bench on where one could. It
+    /// wakes behind these turns: where all members waited they are takes, and no work.
+    fn go_on<G: Gate>(&mut self, gate: &G, crowd: &Crowd) -> Went
+        ensures { IsSameBench self.old self.new }
+    {
+        let went = self.round(gate);
+        if went == Went::On {
+            crowd.wake();
+            self.drive(gate, 1);
+            crowd.sleep();
+        }
+        went
+    }
+
+    /// Lets each member make its next turn, if it can.
+    fn round<G: Gate>(&mut self, gate: &G) -> Went
+        ensures { IsSameBench self.old self.new }
+    {
+        let (members, end) = (&mut self.members, &mut self.end);
+        make_turns(members, end, gate, self.number)
+    }
+
     /// Whether all members are Done.
     pub(crate) fn is_complete(&self) -> bool
         ensures { result ≡ true → HasEnded self.now }
@@ -118,6 +194,21 @@ impl<'a, P: Publisher> Bench<'a, P> {
         let LaneEnd { seat, .. } = end;
         (members, seat)
     }
+}
+
+/// Naps until another bench of a crowd begins, if one does.
+fn await_another<R: Wait>(rt: &R, crowd: &Crowd) {
+    for _ in 0..NAPS {
+        if crowd.has_met() {
+            return;
+        }
+        nap(rt);
+    }
+}
+
+/// Gives the processor away for a while.
+fn nap<R: Wait>(rt: &R) {
+    Parker::new().park_timeout(rt, Duration::from_micros(NAP));
 }
 
 /// Lets each member make its next turn, if it can, and before the query of a tick passes the gate.
@@ -183,10 +274,7 @@ fn drive_members<P: Publisher, G: Gate>(
     while idle < patience {
         match make_turns(members, end, gate, bench) {
             Went::On => idle = 0,
-            Went::Nowhere => {
-                idle += 1;
-                thread::yield_now();
-            }
+            Went::Nowhere => idle += 1,
             Went::Over => return Drive::Complete,
         }
     }

@@ -4,6 +4,7 @@
 
 mod bench;
 mod crew;
+mod crowd;
 mod desk;
 mod file_publisher;
 mod files;

@@ -14,6 +14,7 @@ ghost use Rattle.brace_crew.specs.inner.Crews.{AreMembers, all_numbers};
 ghost use Rattle.brace_crew.specs.inner.Teams.{AreRosters, IsTeam, HasEnded, AreLater, seat_of};
 
 use crate::crew::concluded;
+use crate::crowd::Crowd;
 use crate::roster::benches;
 use crate::{Bench, CrewFault, Member, Publisher, crew_run_alone};
 use brace_core::PlainLanes;
@@ -28,11 +29,6 @@ use std::thread;
 use std::thread::Threads;
 use std::vec::IntoIter;
 
-/// In how many rounds, one behind the other, no member of a bench may make a turn before the bench
-/// waits. They last longer than a work of a large part does, so that a bench that waits for one is
-/// still there when its pieces come.
-const PATIENCE: u64 = 1_048_576;
-
 /// Whether no turn is left of any member of benches.
 fn are_complete<P: Publisher>(benches: &[Bench<P>]) -> bool
     ensures { result ≡ true → All HasEnded benches.now }
@@ -40,27 +36,77 @@ fn are_complete<P: Publisher>(benches: &[Bench<P>]) -> bool
     benches.iter().all(|bench| bench.is_complete())
 }
 
-/// Drives each bench once, beside the others.
-fn drive_all<R: Threads + Wait + Sync, P: Publisher + Send, G: Gate + Sync>(
+/// Whether a thread can be made now.
+fn can_fork<R: Threads>(rt: &R) -> bool {
+    match thread::spawn(rt, || {}) {
+        Ok(handle) => {
+            handle.join(rt);
+            true
+        }
+        Err(_) => false,
+    }
+}
+
+/// Drives each bench beside the others, in a thread of its own where one can be made; tells whether
+/// two were driven at one time.
+fn drive_beside<R: Threads + Wait + Sync, P: Publisher + Send, G: Gate + Sync>(
     rt: &R,
     benches: &mut [Bench<P>],
     gate: &G,
-)
+) -> bool
     requires some_bench { 0 < length benches.old }
     ensures same { AreLater benches.old benches.new }
 {
     let workers = benches.len();
+    let crowd = Crowd::new();
     thread::for_each_mut(
         rt,
         benches,
         workers,
         &|_, bench| {
-            bench.drive(gate, PATIENCE);
+            bench.drive_among(rt, gate, &crowd);
+        },
+    );
+    crowd.has_met()
+}
+
+/// Drives each bench as far as it can go by itself, one behind the other in one thread.
+fn drive_each<R: Threads + Wait + Sync, P: Publisher + Send, G: Gate + Sync>(
+    rt: &R,
+    benches: &mut [Bench<P>],
+    gate: &G,
+)
+    ensures same { AreLater benches.old benches.new }
+{
+    thread::for_each_mut(
+        rt,
+        benches,
+        1,
+        &|_, bench| {
+            bench.drive(gate, 1);
         },
     );
 }
 
-/// Drives benches beside each other, again and again, until all are complete.
+/// Drives the benches in turn, so often, or until all are complete.
+fn drive_in_turn<R: Threads + Wait + Sync, P: Publisher + Send, G: Gate + Sync>(
+    rt: &R,
+    benches: &mut [Bench<P>],
+    gate: &G,
+    times: u64,
+)
+    ensures same { AreLater benches.old benches.new }
+{
+    for _ in 0..times {
+        if are_complete(benches) {
+            return;
+        }
+        drive_each(rt, benches, gate);
+    }
+}
+
+/// Drives benches beside each other, again and again, until all are complete. While no thread can
+/// be made it drives them in turn, and asks for threads less and less often.
 fn drive_through<R: Threads + Wait + Sync, P: Publisher + Send, G: Gate + Sync>(
     rt: &R,
     benches: &mut [Bench<P>],
@@ -70,11 +116,17 @@ fn drive_through<R: Threads + Wait + Sync, P: Publisher + Send, G: Gate + Sync>(
     ensures same { AreLater benches.old benches.new }
     ensures complete { All HasEnded benches.new }
 {
+    let mut times = 1u64;
     for _ in rt.forever() {
         if are_complete(benches) {
             return;
         }
-        drive_all(rt, benches, gate);
+        if can_fork(rt) && drive_beside(rt, benches, gate) {
+            times = 1;
+        } else {
+            drive_in_turn(rt, benches, gate, times);
+            times = times.saturating_mul(2);
+        }
     }
 }
 
