@@ -1,8 +1,0 @@
-use Rattle.std.proofs.Common.{rules}
-use Rattle.std.proofs.lemmas.List.Sorted.{answers_always}
-use Rattle.brace_herd.proofs.SpotLemmas.{rise_from_sort, cell_key}
-use Rattle.brace_herd.proofs.order.sort_by_cell.Goals as goal
-
-pub returns-clause-rise : goal.returns-clause-rise
-returns-clause-rise c =
-    rise_from_sort c.sort_unstable_by_key.new.self.items (c.sort_unstable_by_key.ensures.sorted cell_key (answers_always _ _ _ (λ f a r q k. search rules)))

@@ -1,4 +1,0 @@
-pub mod Moved
-pub mod Orders
-pub mod Ranks
-pub mod Windows
