@@ -1,151 +1,223 @@
--- Splits and merges of lanes.
-use Rattle.std.proofs.Common.{◌≡◌, ◌∙◌, refl, sym, ap, subst, arith, ℕ, zero, suc, ◌+◌, ◌<◌, ◌≤◌, ℤ, pos, Bool, true, false, if◌then◌else◌, List, [], ◌∷◌, ◌++◌, append_assoc, ⊎_elim, length, take, set, drop, get_or, Ok, slice_index_or, drop-cons, add-one, add-zero, Some}
-use Rattle.std.proofs.lemmas.Bool.{cases_Bool}
-use Rattle.std.proofs.lemmas.List.{take_more_set, take-set, append-nil, length-replicate, get_or-replicate}
-use Rattle.std.proofs.lemmas.Option.{slice_get_within, slice_get-get_or, get_or_from_slice_get}
-use Rattle.std.specs.Prelude.{not, replicate, slice_get}
+-- Sides of a test: which lanes are on them, and their words put back.
+use Rattle.std.proofs.Common.{◌≡◌, ◌≢◌, ◌∙◌, refl, sym, ap, subst, arith, ℕ, ◌+◌, ◌<◌, ◌≤◌, ℤ, pos, Bool, true, false, if◌then◌else◌, List, [], ◌∷◌, ◌++◌, ⊎_elim, length, take, set, slice_index_or, slice_get, Some, add-zero}
+use Rattle.std.proofs.lemmas.Bool.{cases_eq, cases_lt, true≢false, false≢true}
+use Rattle.std.proofs.lemmas.List.{append-nil, get_or-set_same, get_or-set_other, get_or_append_left, get_or_at, length-append, length-set, take_more_set, take-set}
+use Rattle.std.proofs.lemmas.Option.{slice_get_within, get_or_from_slice_get}
+use Rattle.std.specs.Prelude.{not}
 use Rattle.std.specs.Ordering.{int_eq}
 use Rattle.brace_code.specs.declared.lane.Lane.{Lane}
-use Rattle.brace_code.specs.inner.Words.{Outcome, choose_word}
 use Rattle.brace_code.specs.declared.splitting.SideWords.{SideWords}
-use Rattle.brace_code.specs.Columns.{Chosen, side, spread, taking, merged}
+use Rattle.brace_code.specs.declared.splitting.SideWords.TheVariants.{Same, Each}
+use Rattle.brace_code.specs.Columns.{AreMerged, AreNumbers, ArePut, HasWord, IsSide, Puts, same_word, side}
 
--- each lane has an outcome that is the column's word there
-pub record Holds (f : Lane → Outcome) (lanes : List Lane) (column : List ℤ) : Type 0 where
-  pub long : length lanes ≤ length column
-  pub each : (k : ℕ) (d : Lane) → k < length lanes → f (slice_index_or lanes k d) ≡ Ok (slice_index_or column k (pos 0))
+-- a number written at the end of the front, and kept or not
+pub put_kept : (out : List ℕ) (place number : ℕ) (keeps : Bool) → place < length out
+    → take (place + (if keeps then 1 else 0)) (set out place number)
+    ≡ take place out ++ (if keeps then number ∷ [] else [])
+put_kept out place number true h = take_more_set out place number h
+put_kept out place number false h = rw (add-zero, append-nil) (take-set out place number)
 
-moved : {A : Type 0} (out w rest whole all : List A) → whole ≡ w ++ rest → out ++ whole ≡ all → (out ++ w) ++ rest ≡ all
-moved out w rest whole all e f = append_assoc out w rest ∙ (ap (λ xs. out ++ xs) (sym e) ∙ f)
+-- ---- the numbers of a side
 
--- an element written at the end of the front, and kept or not
-pub put_kept : (out : List Lane) (place : ℕ) (lane : Lane) (keeps : Bool) → place < length out →
-    take (place + (if keeps then 1 else 0)) (set out place lane) ≡ take place out ++ (if keeps then lane ∷ [] else [])
-put_kept out place lane true h = take_more_set out place lane h
-put_kept out place lane false h = rw (add-zero, append-nil) (take-set out place lane)
+module _ (on : Bool) (ts : List ℤ) where
+  abbrev IsOn : ℕ → Type 0
+  IsOn k = side on (slice_index_or ts k (pos 0)) ≡ true
 
--- the next word of the side that a test takes
-next_set : (ts ys ns : List ℤ) (k i : ℕ) (w : ℤ) → k < length ts → side true (get_or ts k (pos 0)) ≡ true → slice_get ys i ≡ Some w
-    → merged (drop k ts) (drop i ys) ns ≡ w ∷ merged (drop (k + 1) ts) (drop (i + 1) ys) ns
-next_set ts ys ns k i w h s q =
-    let inside : i < length ys = slice_get_within ys i w q in
-    let word : get_or ys i (pos 0) ≡ w = get_or_from_slice_get ys i w (pos 0) q in
-    rw (add-one, drop-cons ts k (pos 0), s, drop-cons ys i (pos 0), word, add-one) refl
+  -- from a number to one that is the same
+  moved : (m k : ℕ) → m ≡ k → IsOn m → IsOn k
+  moved m k is held = subst IsOn is held
 
-next_unset : (ts ys ns : List ℤ) (k j : ℕ) (w : ℤ) → k < length ts → side true (get_or ts k (pos 0)) ≡ false → slice_get ns j ≡ Some w
-    → merged (drop k ts) ys (drop j ns) ≡ w ∷ merged (drop (k + 1) ts) ys (drop (j + 1) ns)
-next_unset ts ys ns k j w h s q =
-    let inside : j < length ns = slice_get_within ns j w q in
-    let word : get_or ns j (pos 0) ≡ w = get_or_from_slice_get ns j w (pos 0) q in
-    rw (add-one, drop-cons ts k (pos 0), s, drop-cons ns j (pos 0), word, add-one) refl
+  pub no_numbers : AreNumbers on ts 0 []
+  no_numbers = record {
+    are = λ i low. absurd (omega (arith, low));
+    all = λ k low held. absurd (omega (arith, low));
+  }
 
--- the word of a side at a lane
-spread-at : (same : Bool) (words : List ℤ) (n i place : ℕ) (w : ℤ) → place ≡ (if same then 0 else i) → i < n → slice_get words place ≡ Some w
-    → slice_get (if same then replicate n (slice_index_or words 0 (pos 0)) else words) i ≡ Some w
-spread-at false words n i place w is low q = subst (λ (m : ℕ). slice_get words m ≡ Some w) is q
-spread-at true words n i place w is low q =
-    let first : slice_get words 0 ≡ Some w = subst (λ (m : ℕ). slice_get words m ≡ Some w) is q in
-    let word : get_or words 0 (pos 0) ≡ w = get_or_from_slice_get words 0 w (pos 0) first in
-    let all = replicate n (slice_index_or words 0 (pos 0)) in
-    let within : i < length all = subst (λ (m : ℕ). i < m) (sym (length-replicate n (slice_index_or words 0 (pos 0)))) low in
-    slice_get-get_or all i (pos 0) within ∙ ap (λ (x : ℤ). Some x) (get_or-replicate n i (slice_index_or words 0 (pos 0)) (pos 0) low ∙ word)
+  pub all_numbers : (n count : ℕ) (numbers : List ℕ) → n ≡ count → AreNumbers on ts n numbers
+      → AreNumbers on ts count numbers
+  all_numbers n count numbers is p = subst (λ (m : ℕ). AreNumbers on ts m numbers) is p
 
--- one word for all lanes of a side
-pub same_spread : (n : ℕ) (words : List ℤ) (w : ℤ) → words ≡ w ∷ [] → replicate n (slice_index_or words 0 (pos 0)) ≡ replicate n w
-same_spread n words w is = ap (λ (l : List ℤ). replicate n (slice_index_or l 0 (pos 0))) is
+  -- one word more
+  pub numbers_more : (n : ℕ) (before after : List ℕ) (keeps : Bool)
+      → keeps ≡ side on (slice_index_or ts n (pos 0))
+      → after ≡ before ++ (if keeps then n ∷ [] else []) → AreNumbers on ts n before
+      → AreNumbers on ts (n + 1) after
+  numbers_more n before after false off is p =
+      let same : after ≡ before = is ∙ append-nil before in
+      subst (λ (l : List ℕ). AreNumbers on ts (n + 1) l) (sym same) (record {
+        are = λ i low. let (less, held) = p.are i low in (omega (arith, less), held);
+        all = λ k low held. ⊎_elim (λ (l : k < n). p.all k l held)
+            (λ (l : n ≤ k). let here : k ≡ n = omega (arith, low, l) in
+            absurd (false≢true (off ∙ moved k n here held)))
+            (cases_lt k n);
+      })
+  numbers_more n before after true kept is p =
+      let long : length after ≡ length before + 1 =
+      ap (λ (l : List ℕ). length l) is ∙ length-append before (n ∷ []) in
+      let last : slice_index_or after (length before) 0 ≡ n =
+      ap (λ (l : List ℕ). slice_index_or l (length before) 0) is
+      ∙ get_or_at before n [] 0 (length before) refl in
+      let front : (i : ℕ) → i < length before
+      → slice_index_or after i 0 ≡ slice_index_or before i 0 =
+      λ i l. ap (λ (l : List ℕ). slice_index_or l i 0) is
+      ∙ get_or_append_left before (n ∷ []) 0 i l in
+      record {
+        are = λ i low. ⊎_elim
+            (λ (l : i < length before). let (less, held) = p.are i l in
+            subst (λ (m : ℕ). (m < n + 1) × IsOn m) (sym (front i l)) (omega (arith, less), held))
+            (λ (l : length before ≤ i).
+            let here : i ≡ length before = omega (arith, low, long, l) in
+            let is : slice_index_or after i 0 ≡ n =
+            ap (λ (m : ℕ). slice_index_or after m 0) here ∙ last in
+            subst (λ (m : ℕ). (m < n + 1) × IsOn m) (sym is) (omega arith, sym kept))
+            (cases_lt i (length before));
+        all = λ k low held. ⊎_elim
+            (λ (l : k < n). let (i, inside, at) = p.all k l held in
+            (i, omega (arith, long, inside), front i inside ∙ at))
+            (λ (l : n ≤ k). let here : k ≡ n = omega (arith, low, l) in
+            (length before, omega (arith, long), last ∙ sym here))
+            (cases_lt k n);
+      }
 
--- a loop's step of `merged`
-pub merged_more : (ts : List ℤ) (ys ns : SideWords) (us vs out all : List ℤ) (k i j n m y z : ℕ) (w word : ℤ) (b : Bool) → k < length ts → k < length out
-    → side true (get_or ts k (pos 0)) ≡ b → i ≤ k → j ≤ k → y ≡ (if ys.same then 0 else i) → z ≡ (if ns.same then 0 else j)
-    → us ≡ ys.words → vs ≡ ns.words → slice_get (if b then us else vs) (if b then y else z) ≡ Some w → word ≡ w → n ≡ (if b then 1 else 0) → m ≡ (if not b then 1 else 0)
-    → take k out ++ merged (drop k ts) (drop i (spread (length ts) ys)) (drop j (spread (length ts) ns)) ≡ all
-    → take (k + 1) (set out k word) ++ merged (drop (k + 1) ts) (drop (i + n) (spread (length ts) ys)) (drop (j + m) (spread (length ts) ns)) ≡ all
-merged_more ts ys ns us vs out all k i j n m y z w word true h l s ik jk yp zp u v q e p r a =
-    let served : slice_get (spread (length ts) ys) i ≡ Some w = spread-at ys.same ys.words (length ts) i y w yp (omega (arith, ik, h)) (subst (λ (l : List ℤ). slice_get l y ≡ Some w) u q) in
-    rw (e, p, r, take_more_set out k w l, add-zero) (moved (take k out) (w ∷ []) _ _ all (next_set ts (spread (length ts) ys) (drop j (spread (length ts) ns)) k i w h s served) a)
-merged_more ts ys ns us vs out all k i j n m y z w word false h l s ik jk yp zp u v q e p r a =
-    let served : slice_get (spread (length ts) ns) j ≡ Some w = spread-at ns.same ns.words (length ts) j z w zp (omega (arith, jk, h)) (subst (λ (l : List ℤ). slice_get l z ≡ Some w) v q) in
-    rw (e, p, r, take_more_set out k w l, add-zero) (moved (take k out) (w ∷ []) _ _ all (next_unset ts (drop i (spread (length ts) ys)) (spread (length ts) ns) k j w h s served) a)
+pub ruleset number_rules = (no_numbers, all_numbers)
 
--- a side has no more lanes than there are tests
-pub taking-short : (set : Bool) (lanes : List Lane) (ts : List ℤ) → length (taking set lanes ts) ≤ length ts
-taking-short set [] ts = omega arith
-taking-short set (lane ∷ lanes) [] = omega arith
-taking-short set (lane ∷ lanes) (t ∷ ts) = by (side set t) (taking-short set lanes ts)
+-- ---- the lanes of some numbers
+
+abbrev Picks : List Lane → List ℕ → List Lane → ℕ → Lane → Type 0
+Picks lanes numbers part i d = (slice_index_or numbers i 0 < length lanes)
+    × (slice_index_or part i d ≡ slice_index_or lanes (slice_index_or numbers i 0) d)
+
+-- one lane more
+pub picked_more : (lanes part after : List Lane) (numbers : List ℕ) (n number : ℕ) (lane : Lane)
+    → length part ≡ n → after ≡ part ++ lane ∷ [] → number ≡ slice_index_or numbers n 0
+    → slice_get lanes number ≡ Some lane
+    → ((i : ℕ) (d : Lane) → i < n → Picks lanes numbers part i d)
+    → (i : ℕ) (d : Lane) → i < n + 1 → Picks lanes numbers after i d
+picked_more lanes part after numbers n number lane long is at read before i d low = ⊎_elim
+    (λ (l : i < n). let (inside, same) = before i d l in (
+      inside,
+      ap (λ (x : List Lane). slice_index_or x i d) is
+          ∙ get_or_append_left part (lane ∷ []) d i (omega (arith, l, long)) ∙ same,
+    ))
+    (λ (l : n ≤ i). let here : i ≡ n = omega (arith, low, l) in
+    let there : number ≡ slice_index_or numbers i 0 =
+    at ∙ ap (λ (m : ℕ). slice_index_or numbers m 0) (sym here) in (
+      subst (λ (m : ℕ). m < length lanes) there (slice_get_within lanes number lane read),
+      ap (λ (x : List Lane). slice_index_or x i d) is
+          ∙ get_or_at part lane [] d i (long ∙ sym here)
+          ∙ sym (get_or_from_slice_get lanes number lane d read)
+          ∙ ap (λ (m : ℕ). slice_index_or lanes m d) there,
+    ))
+    (cases_lt i n)
+
+-- ---- words put in the places of some numbers
+
+module _ (numbers : List ℕ) (words : List ℤ) where
+  pub none_put : (old : List ℤ) → ArePut numbers words 0 old old
+  none_put old = record {
+    long = refl;
+    put = λ i low. absurd (omega (arith, low));
+    left = λ k none. refl;
+  }
+
+  -- one word more
+  pub put_more : (n : ℕ) (old out : List ℤ) (place : ℕ) (word : ℤ) → n < length numbers
+      → place ≡ slice_index_or numbers n 0 → word ≡ slice_index_or words n (pos 0)
+      → place < length out → ArePut numbers words n old out
+      → ArePut numbers words (n + 1) old (set out place word)
+  put_more n old out place word low at is within p =
+      let after = set out place word in
+      record {
+        long = length-set out place word ∙ p.long;
+        put = λ i less.
+            let x = slice_index_or numbers i 0 in
+            ⊎_elim
+            (λ (e : x ≡ place). (
+              n,
+              low,
+              sym at ∙ sym e,
+              ap (λ (m : ℕ). slice_index_or after m (pos 0)) e
+                  ∙ get_or-set_same out place word (pos 0) within ∙ is,
+            ))
+            (λ (apart : x ≢ place).
+            let before : i < n = ⊎_elim (λ (l : i < n). l)
+            (λ (l : n ≤ i). let here : i ≡ n = omega (arith, less, l) in
+            absurd (apart (ap (λ (m : ℕ). slice_index_or numbers m 0) here ∙ sym at)))
+            (cases_lt i n) in
+            subst (λ (w : ℤ). HasWord (Each numbers words) x w)
+            (sym (get_or-set_other out place x word (pos 0) apart)) (p.put i before))
+            (cases_eq x place);
+        left = λ k none.
+            let apart : k ≢ place = λ (e : k ≡ place). none n (omega arith) (sym at ∙ sym e) in
+            get_or-set_other out place k word (pos 0) apart
+            ∙ p.left k (λ i less. none i (omega (arith, less)));
+      }
+
+-- ---- both sides
+
+-- a test is on one side
+off-other : (on : Bool) (t : ℤ) → side on t ≡ true → side (not on) t ≡ false
+off-other on t = by on (int_eq t (pos 0))
   where
-    by : (b : Bool) → length (taking set lanes ts) ≤ length ts → length ((if b then lane ∷ [] else []) ++ taking set lanes ts) ≤ length (t ∷ ts)
-    by true h = omega (arith, h)
-    by false h = omega (arith, h)
+    by : (on e : Bool) → (if e then not on else on) ≡ true
+        → (if e then not (not on) else not on) ≡ false
+    by true true held = absurd (false≢true held)
+    by true false held = refl
+    by false true held = refl
+    by false false held = absurd (false≢true held)
 
--- a loop's step of `taking`
-pub taking_more : (set : Bool) (lanes : List Lane) (ts : List ℤ) (out all : List Lane) (k : ℕ) (d : Lane) → k < length lanes → k < length ts →
-    out ++ taking set (drop k lanes) (drop k ts) ≡ all →
-    (out ++ (if side set (get_or ts k (pos 0)) then get_or lanes k d ∷ [] else [])) ++ taking set (drop (k + 1) lanes) (drop (k + 1) ts) ≡ all
-taking_more set lanes ts out all k d h i e =
-    moved out (if side set (get_or ts k (pos 0)) then get_or lanes k d ∷ [] else []) (taking set (drop (k + 1) lanes) (drop (k + 1) ts)) (taking set (drop k lanes) (drop k ts)) all
-    (rw (add-one, drop-cons lanes k d, drop-cons ts k (pos 0)) refl) e
+puts-long : (s : SideWords) (old new : List ℤ) → Puts s old new → length new ≡ length old
+puts-long (Same word) old new p = ap (λ (l : List ℤ). length l) p
+puts-long (Each numbers words) old new p = p.long
 
--- the same fact by recursion
-unfoldable All_give : (Lane → Outcome) → List Lane → List ℤ → Type 0
-All_give f [] [] = Unit {0}
-All_give f [] (w ∷ ws) = Unit {0}
-All_give f (lane ∷ lanes) [] = ⊥
-All_give f (lane ∷ lanes) (w ∷ ws) = (f lane ≡ Ok w) × All_give f lanes ws
+module _ (on : Bool) (ts : List ℤ) (s : SideWords) (old new : List ℤ) (k : ℕ) where
+  abbrev Here : Bool → Type 0
+  Here b = side on (slice_index_or ts k (pos 0)) ≡ b
 
-to_all : (f : Lane → Outcome) (lanes : List Lane) (ws : List ℤ) → Holds f lanes ws → All_give f lanes ws
-unfolding All_give
-to_all f [] [] g = tt
-to_all f [] (w ∷ ws) g = tt
-to_all f (lane ∷ lanes) [] g = absurd (omega (arith, g.long))
-to_all f (lane ∷ lanes) (w ∷ ws) g = (g.each 0 lane (omega arith), to_all f lanes ws (record { long = omega (arith, g.long); each = λ k d h. g.each (suc k) d (omega arith) }))
+  -- where a test is not on a side, the word is left
+  pub kept : IsSide on ts s → Puts s old new → Here false
+      → slice_index_or new k (pos 0) ≡ slice_index_or old k (pos 0)
+  kept = by s
+    where
+      by : (x : SideWords) → IsSide on ts x → Puts x old new → Here false
+          → slice_index_or new k (pos 0) ≡ slice_index_or old k (pos 0)
+      by (Same word) is p off = ap (λ (l : List ℤ). slice_index_or l k (pos 0)) p
+      by (Each numbers words) is p off = p.left k (λ i low at.
+          let held : Here true = moved on ts (slice_index_or numbers i 0) k at (is.are i low).1 in
+          true≢false (sym held ∙ off))
 
--- a choice in each lane, by recursion
-All_chosen : (f g : Lane → Outcome) → List Lane → List ℤ → List ℤ → Type 0
-All_chosen f g [] ts [] = Unit {0}
-All_chosen f g [] ts (w ∷ ws) = ⊥
-All_chosen f g (lane ∷ lanes) [] ws = ⊥
-All_chosen f g (lane ∷ lanes) (t ∷ ts) [] = ⊥
-All_chosen f g (lane ∷ lanes) (t ∷ ts) (w ∷ ws) = (choose_word t (f lane) (g lane) ≡ Ok w) × All_chosen f g lanes ts ws
+  -- where it is, the word is the side's
+  pub held : k < length ts → IsSide on ts s → Puts s old new → Here true
+      → slice_index_or old k (pos 0) ≡ same_word s → HasWord s k (slice_index_or new k (pos 0))
+  held low = by s
+    where
+      by : (x : SideWords) → IsSide on ts x → Puts x old new → Here true
+          → slice_index_or old k (pos 0) ≡ same_word x → HasWord x k (slice_index_or new k (pos 0))
+      by (Same word) is p here same = ap (λ (l : List ℤ). slice_index_or l k (pos 0)) p ∙ same
+      by (Each numbers words) is p here same =
+          let (i, inside, at) = is.all k low here in
+          subst (λ (m : ℕ). HasWord (Each numbers words) m (slice_index_or new m (pos 0))) at
+          (p.put i inside)
 
-chosen_from_all : (f g : Lane → Outcome) (lanes : List Lane) (ts ws : List ℤ) → All_chosen f g lanes ts ws → Chosen f g lanes ts ws
-unfolding All_chosen
-chosen_from_all f g [] ts [] p = record { long = refl; each = λ k d h. absurd (omega arith) }
-chosen_from_all f g [] ts (w ∷ ws) p = absurd p
-chosen_from_all f g (lane ∷ lanes) [] ws p = absurd p
-chosen_from_all f g (lane ∷ lanes) (t ∷ ts) [] p = absurd p
-chosen_from_all f g (lane ∷ lanes) (t ∷ ts) (w ∷ ws) p =
-    let rest = chosen_from_all f g lanes ts ws p.1 in
-    record { long = ap suc rest.long; each = λ k d h. elim k as (λ k. k < length (lane ∷ lanes) → choose_word (slice_index_or (t ∷ ts) k (pos 0)) (f (slice_index_or (lane ∷ lanes) k d)) (g (slice_index_or (lane ∷ lanes) k d)) ≡ Ok (slice_index_or (w ∷ ws) k (pos 0))) [ zero ↦ λ h. p.0 | suc k ↦ λ h. rest.each k d (omega arith) ] h }
-
-module _ (f g : Lane → Outcome) where
-  abbrev Merging : List Lane → List ℤ → Type 0
-  Merging lanes ts = (ys ns : List ℤ) → All_give f (taking true lanes ts) ys → All_give g (taking false lanes ts) ns → All_chosen f g lanes ts (merged ts ys ns)
-
-  set_case : (lane : Lane) (lanes : List Lane) (t : ℤ) (ts ys ns : List ℤ) → int_eq t (pos 0) ≡ false → Merging lanes ts →
-      All_give f (taking true (lane ∷ lanes) (t ∷ ts)) ys → All_give g (taking false (lane ∷ lanes) (t ∷ ts)) ns → All_chosen f g (lane ∷ lanes) (t ∷ ts) (merged (t ∷ ts) ys ns)
-  unfolding All_give All_chosen
-  set_case lane lanes t ts [] ns e next q r = absurd (rw e at q)
-  set_case lane lanes t ts (y ∷ ys) ns e next q r =
-      let q' = rw e at q in let r' = rw e at r in rw e (rw e q'.0, next ys ns q'.1 r')
-
-  unset_case : (lane : Lane) (lanes : List Lane) (t : ℤ) (ts ys ns : List ℤ) → int_eq t (pos 0) ≡ true → Merging lanes ts →
-      All_give f (taking true (lane ∷ lanes) (t ∷ ts)) ys → All_give g (taking false (lane ∷ lanes) (t ∷ ts)) ns → All_chosen f g (lane ∷ lanes) (t ∷ ts) (merged (t ∷ ts) ys ns)
-  unfolding All_give All_chosen
-  unset_case lane lanes t ts ys [] e next q r = absurd (rw e at r)
-  unset_case lane lanes t ts ys (n ∷ ns) e next q r =
-      let q' = rw e at q in let r' = rw e at r in rw e (rw e r'.0, next ys ns q' r'.1)
-
-  all_merged : (lanes : List Lane) (ts : List ℤ) → length ts ≡ length lanes → Merging lanes ts
-  unfolding All_chosen
-  all_merged [] [] l ys ns q r = tt
-  all_merged [] (t ∷ ts) l ys ns q r = absurd (omega (arith, l))
-  all_merged (lane ∷ lanes) [] l ys ns q r = absurd (omega (arith, l))
-  all_merged (lane ∷ lanes) (t ∷ ts) l ys ns q r =
-      let next : Merging lanes ts = all_merged lanes ts (omega (arith, l)) in
-      ⊎_elim (λ e. unset_case lane lanes t ts ys ns e next q r) (λ e. set_case lane lanes t ts ys ns e next q r) (cases_Bool (int_eq t (pos 0)))
-
-  -- the words of each side, merged, are the choice's in each lane
-  pub merged_chosen : (lanes set unset : List Lane) (ts ys ns words : List ℤ) → length ts ≡ length lanes →
-      set ≡ taking true lanes ts → unset ≡ taking false lanes ts → Holds f set ys → Holds g unset ns → words ≡ merged ts ys ns → Chosen f g lanes ts words
-  merged_chosen lanes set unset ts ys ns words l d e q r h =
-      rw h (chosen_from_all f g _ _ _ (all_merged lanes ts l ys ns (to_all f _ _ (rw d at q)) (to_all g _ _ (rw e at r))))
+-- one of two words in each lane, and then the words of the sides in the places of their lanes
+pub sides_merged : (ts base mid words : List ℤ) (ys ns : SideWords) (y n : ℤ)
+    → length base ≡ length ts
+    → ((k : ℕ) → k < length ts → slice_index_or base k (pos 0)
+    ≡ (if side true (slice_index_or ts k (pos 0)) then y else n))
+    → y ≡ same_word ys → n ≡ same_word ns → IsSide true ts ys → IsSide false ts ns
+    → Puts ys base mid → Puts ns mid words → AreMerged ts ys ns words
+sides_merged ts base mid words ys ns y n long each first second left right p q = record {
+  long = puts-long ns mid words q ∙ puts-long ys base mid p ∙ long;
+  set = λ k low on.
+      let off = off-other true (slice_index_or ts k (pos 0)) on in
+      let here : slice_index_or base k (pos 0) ≡ y =
+      each k low ∙ ap (λ (b : Bool). if b then y else n) on in
+      subst (λ (w : ℤ). HasWord ys k w) (sym (kept false ts ns mid words k right q off))
+      (held true ts ys base mid k low left p on (here ∙ first));
+  unset = λ k low on.
+      let off = off-other false (slice_index_or ts k (pos 0)) on in
+      let here : slice_index_or mid k (pos 0) ≡ n =
+      kept true ts ys base mid k left p off ∙ each k low
+      ∙ ap (λ (b : Bool). if b then y else n) off in
+      held false ts ns mid words k low right q on (here ∙ second);
+}

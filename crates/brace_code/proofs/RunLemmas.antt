@@ -1,8 +1,8 @@
 -- What each instruction does in each lane.
-use Rattle.std.proofs.Common.{◌≡◌, ◌∙◌, refl, sym, ap, subst, ℕ, suc, ◌+◌, ◌-◌, ◌<◌, ◌≤◌, ℤ, pos, Bool, true, false, List, [], ◌∷◌, length, take, Result, Ok, slice_index_or, get_or, arith}
-use Rattle.std.specs.Prelude.{if◌then◌else◌, replicate}
+use Rattle.std.proofs.Common.{◌≡◌, ◌∙◌, refl, sym, ap, ℕ, suc, ◌+◌, ◌-◌, ◌<◌, ◌≤◌, ℤ, pos, Bool, true, false, List, [], ◌∷◌, length, take, Result, Ok, slice_index_or, get_or, arith}
+use Rattle.std.specs.Prelude.{not, if◌then◌else◌}
 use Rattle.std.specs.Ordering.{int_eq}
-use Rattle.std.proofs.lemmas.List.{take_more, take_all, length-replicate, get_or-replicate}
+use Rattle.std.proofs.lemmas.List.{take_more, take_all}
 use Rattle.brace_num.specs.declared.kinds.Kind.{Kind}
 use Rattle.brace_model.specs.declared.program.Ty.{Ty}
 use Rattle.brace_model.specs.declared.program.UnOp.{UnOp}
@@ -16,11 +16,11 @@ use Rattle.brace_code.specs.declared.code.Instr.TheVariants.{Push, Unary, Binary
 use Rattle.brace_code.specs.declared.lane.Lane.{Lane}
 use Rattle.brace_code.specs.declared.lane.Frame.{Frame}
 use Rattle.brace_code.specs.declared.splitting.SideWords.{SideWords}
+use Rattle.brace_code.specs.declared.splitting.SideWords.TheVariants as sides
 use Rattle.brace_code.specs.Lanes.{Shows, Gives}
 use Rattle.brace_code.specs.inner.Words.{Outcome, value_of, made_word, with_word, unary_word, binary_word, choose_word, operand_word}
 use Rattle.brace_code.specs.inner.Runs.{Left, onward, pushed, top, deed, run, outcome}
-use Rattle.brace_code.specs.Columns.{Joins, Words, Maps, Pairs, Leads, Serves, stack_at, spread, taking, merged}
-use Rattle.brace_code.proofs.LaneLemmas.{merged_chosen, taking-short}
+use Rattle.brace_code.specs.Columns.{AreMerged, ArePicked, Joins, Words, Maps, Pairs, Leads, Serves, stack_at}
 use Rattle.brace_code.proofs.CodeLemmas.{run-one, run-push}
 use Rattle.brace_code.proofs.SingleLemmas.{push_does, unary_does, binary_does, with_does, choice_does}
 
@@ -62,42 +62,60 @@ module _ (frame : Frame) (lanes : List Lane) (room : ℕ) (before after : List (
       ∙ ap (λ (w : Outcome). pushed (stack_at rest k) (with_word w (λ y. made_word site (binary_word op t (slice_index_or a k (pos 0)) y)))) read
       ∙ ap (λ (w : Result ℤ Kind). pushed (stack_at rest k) (made_word site w)) made)
 
-  pub choice_leads : (a b : List Instr) (set unset : List Lane) (ts ys ns : List ℤ) (rest : List (List ℤ)) (left : ℕ) → i ≡ Choice a b → before ≡ ts ∷ rest
-      → length ts ≡ length lanes → left ≡ room - length rest → set ≡ taking true lanes ts → unset ≡ taking false lanes ts
-      → Serves frame (outcome a left) set ys → Serves frame (outcome b left) unset ns → words ≡ merged ts ys ns → after ≡ words ∷ rest
+  pub choice_leads : (a b : List Instr) (ts : List ℤ) (ys ns : SideWords)
+      (rest : List (List ℤ)) (left : ℕ) → i ≡ Choice a b → before ≡ ts ∷ rest
+      → length ts ≡ length lanes → left ≡ room - length rest
+      → Serves frame (outcome a left) lanes ys → Serves frame (outcome b left) lanes ns
+      → AreMerged ts ys ns words → after ≡ words ∷ rest
       → Leads (deed i) room frame lanes before after
-  choice_leads a b set unset ts ys ns rest left is s long r p q f g m h = puts rest h (λ scope shows k d l.
-      let below : room - length (stack_at rest k) ≡ left = ap (λ (n : ℕ). room - n) (high rest k) ∙ sym r in
-      let c = merged_chosen (λ lane. outcome a left (scope lane)) (λ lane. outcome b left (scope lane)) lanes set unset ts ys ns words long p q
-      (record { long = f.long; each = f.each scope shows }) (record { long = g.long; each = g.each scope shows }) m in
-      choice_does i room (scope (slice_index_or lanes k d)) (stack_at before k) a b (slice_index_or ts k (pos 0)) (stack_at rest k) is (ap (λ (s : List (List ℤ)). stack_at s k) s)
-      ∙ ap (λ (n : ℕ). pushed (stack_at rest k) (outcome (choose_word (slice_index_or ts k (pos 0)) a b) n (scope (slice_index_or lanes k d)))) below
-      ∙ ap (pushed (stack_at rest k)) (apart (int_eq (slice_index_or ts k (pos 0)) (pos 0)) (scope (slice_index_or lanes k d)) ∙ c.each k d l))
+  choice_leads a b ts ys ns rest left is s long r f g m h = puts rest h (λ scope shows k d l.
+      let below : room - length (stack_at rest k) ≡ left =
+      ap (λ (n : ℕ). room - n) (high rest k) ∙ sym r in
+      let low : k < length ts = omega (arith, l, long) in
+      let at = scope (slice_index_or lanes k d) in
+      let t = slice_index_or ts k (pos 0) in
+      let w = slice_index_or words k (pos 0) in
+      choice_does i room at (stack_at before k) a b t (stack_at rest k) is
+      (ap (λ (s : List (List ℤ)). stack_at s k) s)
+      ∙ ap (λ (n : ℕ). pushed (stack_at rest k) (outcome (choose_word t a b) n at)) below
+      ∙ ap (pushed (stack_at rest k)) (by (int_eq t (pos 0)) at w
+      (λ on. f.each scope shows k d w l (m.set k low on))
+      (λ on. g.each scope shows k d w l (m.unset k low on))))
     where
-      apart : (e : Bool) (scope : Scope) → outcome (if e then b else a) left scope ≡ (if e then outcome b left scope else outcome a left scope)
-      apart true scope = refl
-      apart false scope = refl
+      by : (e : Bool) (at : Scope) (w : ℤ)
+          → ((if e then not true else true) ≡ true → outcome a left at ≡ Ok w)
+          → ((if e then not false else false) ≡ true → outcome b left at ≡ Ok w)
+          → outcome (if e then b else a) left at ≡ Ok w
+      by true at w set unset = unset refl
+      by false at w set unset = set refl
 
 -- code that is a word serves any lanes
-pub same_serves : (frame : Frame) (lanes : List Lane) (ts : List ℤ) (set : Bool) (code : List Instr) (room : ℕ) (w v : ℤ) (s : SideWords) → code ≡ Push (Word w) ∷ [] → 0 < room
-    → v ≡ w → ((n : ℕ) → spread n s ≡ replicate n v) → Serves frame (outcome code room) (taking set lanes ts) (spread (length ts) s)
-same_serves frame lanes ts set code room w v s is some word all =
-    let short = taking-short set lanes ts in
-    let base : Serves frame (outcome code room) (taking set lanes ts) (replicate (length ts) w) = record {
-      long = subst (λ (m : ℕ). length (taking set lanes ts) ≤ m) (sym (length-replicate (length ts) w)) short;
-      each = λ scope shows k d l.
-          let at = scope (slice_index_or (taking set lanes ts) k d) in
-          ap (λ (c : List Instr). outcome c room at) is
-          ∙ ap top (run-one (Push (Word w)) room at [] ∙ push_does (Push (Word w)) room at [] (Word w) refl some)
-          ∙ ap (λ (x : ℤ). let r : Outcome = Ok x in r) (sym (get_or-replicate (length ts) k w (pos 0) (omega (arith, short, l))));
-    } in
-    subst (λ (ws : List ℤ). Serves frame (outcome code room) (taking set lanes ts) ws) (sym (all (length ts) ∙ ap (replicate (length ts)) word)) base
+pub same_serves : (frame : Frame) (lanes : List Lane) (code : List Instr) (room : ℕ) (w v : ℤ)
+    → code ≡ Push (Word w) ∷ [] → 0 < room → v ≡ w
+    → Serves frame (outcome code room) lanes (sides.Same v)
+same_serves frame lanes code room w v is some word = record {
+  each = λ scope shows k d x low has.
+      let at = scope (slice_index_or lanes k d) in
+      ap (λ (c : List Instr). outcome c room at) is
+      ∙ ap top (run-one (Push (Word w)) room at []
+      ∙ push_does (Push (Word w)) room at [] (Word w) refl some)
+      ∙ ap (λ (n : ℤ). let r : Outcome = Ok n in r) (sym (has ∙ word));
+}
 
--- words of lanes serve them
-pub words_serve : (frame : Frame) (f : Scope → Outcome) (lanes these : List Lane) (words : List ℤ) → these ≡ lanes → Words frame f these words → Serves frame f lanes words
-words_serve frame f lanes these words is p =
-    let base : Serves frame f these words = record { long = omega (arith, p.long); each = p.each } in
-    subst (λ (l : List Lane). Serves frame f l words) is base
+-- the words of the lanes of some numbers serve those lanes
+pub words_serve : (frame : Frame) (f : Scope → Outcome) (lanes part : List Lane)
+    (numbers : List ℕ) (words : List ℤ) → ArePicked lanes numbers part
+    → Words frame f part words → Serves frame f lanes (sides.Each numbers words)
+words_serve frame f lanes part numbers words picked p = record {
+  each = λ scope shows k d w low has.
+      let (i, inside, at, is) = has in
+      let (there, same) = picked.each i d inside in
+      let lane : slice_index_or part i d ≡ slice_index_or lanes k d =
+      same ∙ ap (λ (m : ℕ). slice_index_or lanes m d) at in
+      ap (λ (x : Lane). f (scope x)) (sym lane)
+      ∙ p.each scope shows i d (omega (arith, inside, picked.long))
+      ∙ ap (λ (n : ℤ). let r : Outcome = Ok n in r) (sym is);
+}
 
 pub ruleset side_rules = (same_serves, words_serve)
 

@@ -1,5 +1,5 @@
 -- Columns: what operations, splits and merges of lanes make of them.
-use Rattle.std.specs.Prelude.{◌≡◌, ◌<◌, ◌≤◌, ℕ, ℤ, pos, Bool, true, not, if◌then◌else◌, List, [], ◌∷◌, ◌++◌, length, map, replicate, ⊤, Result, Ok, slice_index_or}
+use Rattle.std.specs.Prelude.{◌≡◌, ◌≢◌, ◌<◌, ℕ, ℤ, pos, Bool, true, false, not, if◌then◌else◌, List, [], ◌∷◌, ◌++◌, length, map, ⊤, Result, Ok, slice_index_or}
 use Rattle.std.specs.Ordering.{int_eq}
 use Rattle.brace_num.specs.declared.kinds.Kind.{Kind}
 use Rattle.brace_model.specs.Value.{Scope}
@@ -9,8 +9,9 @@ use Rattle.brace_code.specs.declared.code.Operand.{Operand}
 use Rattle.brace_code.specs.declared.view.View.{View}
 use Rattle.brace_code.specs.declared.view.View.TheVariants.{Same, Each, At}
 use Rattle.brace_code.specs.declared.splitting.SideWords.{SideWords}
+use Rattle.brace_code.specs.declared.splitting.SideWords.TheVariants as sides
 use Rattle.brace_code.specs.Lanes.{Shows, number_in, row_at}
-use Rattle.brace_code.specs.inner.Words.{Outcome, choose_word}
+use Rattle.brace_code.specs.inner.Words.{Outcome}
 use Rattle.brace_code.specs.inner.Runs.{Deed}
 
 -- the lane where there is none
@@ -75,36 +76,62 @@ taking set [] ts = []
 taking set (lane ∷ lanes) [] = []
 taking set (lane ∷ lanes) (t ∷ ts) = (if side set t then lane ∷ [] else []) ++ taking set lanes ts
 
--- the first of a list before the rest of a list that is made without it; none where there is none
-abbrev pub before : List ℤ → (List ℤ → List ℤ) → List ℤ
-before [] rest = []
-before (x ∷ xs) rest = x ∷ rest xs
+-- the numbers of those of the first lanes whose words are on a side of a test
+pub record AreNumbers (set : Bool) (ts : List ℤ) (count : ℕ) (numbers : List ℕ) : Type 0 where
+  pub are : (i : ℕ) → i < length numbers → (slice_index_or numbers i 0 < count)
+      × (side set (slice_index_or ts (slice_index_or numbers i 0) (pos 0)) ≡ true)
+  pub all : (k : ℕ) → k < count → side set (slice_index_or ts k (pos 0)) ≡ true
+      → (i : ℕ) × (i < length numbers) × (slice_index_or numbers i 0 ≡ k)
 
--- the words of the lanes that were taken and of those that were not, back in the lanes' order
-abbrev pub merged : List ℤ → List ℤ → List ℤ → List ℤ
-merged [] ys ns = []
-merged (t ∷ ts) ys ns =
-    if side true t then before ys (λ rest. merged ts rest ns)
-    else before ns (λ rest. merged ts ys rest)
+-- lanes are those of some numbers
+pub record ArePicked (lanes : List Lane) (numbers : List ℕ) (part : List Lane) : Type 0 where
+  pub long : length part ≡ length numbers
+  pub each : (i : ℕ) (d : Lane) → i < length numbers → (slice_index_or numbers i 0 < length lanes)
+      × (slice_index_or part i d ≡ slice_index_or lanes (slice_index_or numbers i 0) d)
 
--- the words of a side: one for each lane, or one that all of its at most so many lanes have
-abbrev pub spread : ℕ → SideWords → List ℤ
-spread n s = if s.same then replicate n (slice_index_or s.words 0 (pos 0)) else s.words
+-- the word that all lanes of a side have; 0 where each has its own
+abbrev pub same_word : SideWords → ℤ
+same_word (sides.Same word) = word
+same_word (sides.Each numbers words) = pos 0
 
--- each lane's scope has an outcome that is a word, the one that a column has there, which may be
--- longer
-pub record Serves (frame : Frame) (f : Scope → Outcome) (lanes : List Lane) (column : List ℤ)
+-- a side of a test has a word for the lane of a number
+abbrev pub HasWord : SideWords → ℕ → ℤ → Type 0
+HasWord (sides.Same word) k w = w ≡ word
+HasWord (sides.Each numbers words) k w = (i : ℕ) × (i < length numbers)
+    × (slice_index_or numbers i 0 ≡ k) × (w ≡ slice_index_or words i (pos 0))
+
+-- where the lanes of a side have a word each, they are those of the side
+abbrev pub IsSide : Bool → List ℤ → SideWords → Type 0
+IsSide set ts (sides.Same word) = ⊤
+IsSide set ts (sides.Each numbers words) = AreNumbers set ts (length ts) numbers
+
+-- words were put in the places of the first of some numbers, and what stands elsewhere is left
+pub record ArePut (numbers : List ℕ) (words : List ℤ) (count : ℕ) (old new : List ℤ)
     : Type 0 where
-  pub long : length lanes ≤ length column
-  pub each : (scope : Lane → Scope) → Shows frame scope → (k : ℕ) (d : Lane) → k < length lanes
-      → f (scope (slice_index_or lanes k d)) ≡ Ok (slice_index_or column k (pos 0))
+  pub long : length new ≡ length old
+  pub put : (i : ℕ) → i < count → HasWord (sides.Each numbers words) (slice_index_or numbers i 0)
+      (slice_index_or new (slice_index_or numbers i 0) (pos 0))
+  pub left : (k : ℕ) → ((i : ℕ) → i < count → slice_index_or numbers i 0 ≢ k)
+      → slice_index_or new k (pos 0) ≡ slice_index_or old k (pos 0)
 
--- by the word of each lane, one of two outcomes, which is the word that a column has there
-pub record Chosen (f g : Lane → Outcome) (lanes : List Lane) (ts words : List ℤ) : Type 0 where
-  pub long : length words ≡ length lanes
-  pub each : (k : ℕ) (d : Lane) → k < length lanes
-      → choose_word (slice_index_or ts k (pos 0)) (f (slice_index_or lanes k d))
-      (g (slice_index_or lanes k d)) ≡ Ok (slice_index_or words k (pos 0))
+-- the words of a side were put in the places of its lanes
+abbrev pub Puts : SideWords → List ℤ → List ℤ → Type 0
+Puts (sides.Same word) old new = new ≡ old
+Puts (sides.Each numbers words) old new = ArePut numbers words (length numbers) old new
+
+-- each lane has a word of the side on which its test is
+pub record AreMerged (ts : List ℤ) (ys ns : SideWords) (words : List ℤ) : Type 0 where
+  pub long : length words ≡ length ts
+  pub set : (k : ℕ) → k < length ts → side true (slice_index_or ts k (pos 0)) ≡ true
+      → HasWord ys k (slice_index_or words k (pos 0))
+  pub unset : (k : ℕ) → k < length ts → side false (slice_index_or ts k (pos 0)) ≡ true
+      → HasWord ns k (slice_index_or words k (pos 0))
+
+-- a word that a side has for a lane is the outcome in the lane's scope
+pub record Serves (frame : Frame) (f : Scope → Outcome) (lanes : List Lane) (s : SideWords)
+    : Type 0 where
+  pub each : (scope : Lane → Scope) → Shows frame scope → (k : ℕ) (d : Lane) (w : ℤ)
+      → k < length lanes → HasWord s k w → f (scope (slice_index_or lanes k d)) ≡ Ok w
 
 -- the stack of one lane, of a stack of columns
 abbrev pub stack_at : List (List ℤ) → ℕ → List ℤ

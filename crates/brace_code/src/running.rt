@@ -5,13 +5,13 @@ ghost use Rattle.brace_code.specs.declared.code.Operand.TheVariants as operand;
 ghost use Rattle.brace_code.specs.Lanes.{Gives, number_in};
 ghost use Rattle.brace_code.specs.inner.Words.{binary_word, operand_word};
 ghost use Rattle.brace_code.specs.inner.Runs.{deed, outcome};
-ghost use Rattle.brace_code.specs.Columns.{Joins, Leads, Numbers, Serves, Words, spread, taking};
+ghost use Rattle.brace_code.specs.Columns.{IsSide, Joins, Leads, Numbers, Serves, Words};
 
 use crate::code::{Code, Instr, Operand, operand_in};
 use crate::columns::Columns;
 use crate::kernels::{binary_each, constant, gather, total_each, unary_each};
 use crate::lane::{Frame, Lane, Redo, row_of};
-use crate::splitting::{SideWords, merged, part, same};
+use crate::splitting::{SideWords, merged, numbers, picked};
 use crate::view::View;
 use brace_model::{BinOp, Ty};
 use brace_num::List;
@@ -205,19 +205,19 @@ fn side_words(
     test: &List<i64>,
 ) -> Result<SideWords, Redo>
     requires { length test.now ≡ length lanes.now }
-    ensures { IfOk result (λ side. Serves frame.now (outcome code.now room)
-        (taking set lanes.now test.now) (spread (length test.now) side)) }
+    ensures side { IfOk result (IsSide set test.now) }
+    ensures serves { IfOk result (Serves frame.now (outcome code.now room) lanes.now) }
 {
     if room == 0 {
         return Err(Redo);
     }
     if let Some(word) = word_in(code) {
-        let side = same(alloc, word)?;
-        return Ok(side);
+        return Ok(SideWords::Same(word));
     }
-    let these = part(alloc, set, lanes, test)?;
+    let at = numbers(alloc, set, test)?;
+    let these = picked(alloc, lanes, &at)?;
     let words = run_lanes(alloc, code, room, frame, &these)?;
-    Ok(SideWords { words, same: false })
+    Ok(SideWords::Each(at, words))
 }
 
 /// What code leaves on top in each lane; where a lane faults or memory runs out, `Redo`.

@@ -1,25 +1,28 @@
-ghost use Rattle.std.specs.Prelude.{◌≡◌, ◌<◌, ◌≤◌, ◌+◌, ◌∷◌, ◌++◌, ℕ, [], length, replicate, take, if◌then◌else◌, IfOk, slice_get};
-ghost use Rattle.brace_code.specs.Columns.{side, spread, taking, merged};
+ghost use Rattle.std.specs.Prelude.{◌≡◌, ◌<◌, ◌≤◌, ◌+◌, ◌∷◌, ◌++◌, ℕ, [], Some, pos, length, take, true, false, if◌then◌else◌, IfOk, IfSome, OnOk, slice_get, slice_index_or};
+ghost use Rattle.brace_code.specs.Columns.{AreMerged, AreNumbers, ArePicked, ArePut, IsSide, Puts, same_word, side};
 
 use crate::lane::{Lane, Redo};
 use brace_num::List;
 use std::alloc::Global;
 
-/// The words of the lanes of one side of a test, one each; or the first of them, which all have.
+/// The words of the lanes on one side of a test: one that all of them have, or the numbers of those
+/// lanes and a word for each.
 #[derive(Drop)]
-pub struct SideWords {
-    pub words: List<i64>,
-    pub same: bool,
+pub enum SideWords {
+    Same(i64),
+    Each(List<u32>, List<i64>),
 }
 
-// Writes a lane at a place, and goes on from the next place if it is kept: no branch depends on it.
+// Writes a number at a place, and goes on from the next place if it is kept: no branch depends on
+// it.
 #[tactic(auto, using(crate::proofs::LaneLemmas::put_kept))]
-fn put_kept(out: &mut [Lane], place: usize, lane: Lane, keeps: bool) -> usize
+fn put_kept(out: &mut [u32], place: usize, number: u32, keeps: bool) -> usize
     requires { place < length out.old }
-    ensures front { take result out.new ≡ take place out.old ++ (if keeps then lane ∷ [] else []) }
+    ensures front { take result out.new
+        ≡ take place out.old ++ (if keeps then number ∷ [] else []) }
     ensures next { result ≤ place + 1 }
 {
-    out[place] = lane;
+    out[place] = number;
     place + usize::from(keeps)
 }
 
@@ -29,77 +32,123 @@ fn on_side(set: bool, word: i64) -> bool
     (word != 0) == set
 }
 
-/// The lanes whose word is set, or those whose word is 0.
-#[tactic(auto, using(crate::proofs::LaneLemmas::taking_more))]
-pub fn part(
-    alloc: Global,
-    set: bool,
-    lanes: &List<Lane>,
-    test: &List<i64>,
-) -> Result<List<Lane>, Redo>
-    requires { length test.now ≡ length lanes.now }
-    ensures { IfOk result (λ part. part ≡ taking set lanes.now test.now) }
+/// The numbers of the lanes whose word is set, or of those whose word is 0.
+#[tactic(auto, using(crate::proofs::LaneLemmas::number_rules))]
+pub fn numbers(alloc: Global, set: bool, test: &List<i64>) -> Result<List<u32>, Redo>
+    ensures { IfOk result (AreNumbers set test.now (length test.now)) }
 {
-    let (lanes, test) = (lanes.as_slice(), test.as_slice());
-    let mut out = vec![in alloc; Lane {
-        this: 0,
-        outer: 0,
-        inner: 0,
-        place: 0
-    }; lanes.len()]?;
-    let mut i = 0;
-    for (k, lane) in lanes.iter().enumerate() {
-        i = put_kept(&mut out, i, *lane, on_side(set, test[k]));
+    let test = test.as_slice();
+    let Ok(count) = u32::try_from(test.len()) else {
+        return Err(Redo);
+    };
+    let mut out = vec![in alloc; 0u32; test.len()]?;
+    let mut place = 0;
+    for k in 0..count {
+        place = put_kept(&mut out, place, k, on_side(set, test[k as usize]));
     }
-    out.truncate(i);
+    out.truncate(place);
     Ok(List::from_vec(out))
 }
 
-/// The words of a side whose lanes all have one word.
-#[tactic(auto, using(crate::proofs::LaneLemmas::same_spread))]
-pub fn same(alloc: Global, word: i64) -> Result<SideWords, Redo>
-    ensures { IfOk result (λ side. (n : ℕ) → spread n side ≡ replicate n word) }
+/// The lane of a number.
+fn lane_of(lanes: &[Lane], number: u32) -> Option<Lane>
+    ensures { IfSome result (λ lane. slice_get lanes.now number ≡ Some lane) }
 {
-    let mut words = List::new(alloc);
-    words.push(word)?;
-    Ok(SideWords { words, same: true })
+    lanes.get(number as usize).copied()
 }
 
-// The next word of a side: the first side's at `i`, or the second's at `j`.
-fn next_word(first: bool, a: &[i64], i: usize, b: &[i64], j: usize) -> Option<i64>
-    ensures { result ≡ slice_get (if first then a.now else b.now) (if first then i else j) }
+/// The lanes of some numbers.
+pub fn picked(alloc: Global, lanes: &List<Lane>, numbers: &List<u32>) -> Result<List<Lane>, Redo>
+    ensures { IfOk result (ArePicked lanes.now numbers.now) }
 {
-    let (words, place) = if first { (a, i) } else { (b, j) };
-    words.get(place).copied()
-}
-
-/// Where a side has the word of its lane of a number.
-fn place_of(side: &SideWords, number: usize) -> usize
-    ensures { result ≡ (if side.now.same then 0 else number) }
-{
-    if side.same { 0 } else { number }
-}
-
-/// The words of both sides, back in the order of the tests, in whose places they are put.
-#[tactic(auto, using(crate::proofs::LaneLemmas::merged_more))]
-pub fn merged(test: List<i64>, ys: &SideWords, ns: &SideWords) -> Result<List<i64>, Redo>
-    ensures { IfOk result (λ v.
-        v ≡ merged test (spread (length test) ys.now) (spread (length test) ns.now)) }
-{
-    let mut out = test.into_vec();
-    let us = ys.words.as_slice();
-    let vs = ns.words.as_slice();
-    let (mut i, mut j) = (0, 0);
-    for x in out.iter_mut() {
-        let set = on_side(true, *x);
-        let y = place_of(ys, i);
-        let n = place_of(ns, j);
-        let Some(word) = next_word(set, us, y, vs, n) else {
+    let lanes = lanes.as_slice();
+    let numbers = numbers.as_slice();
+    let mut out = Vec::with_capacity(alloc, numbers.len())?;
+    for number in numbers {
+        let Some(lane) = lane_of(lanes, *number) else {
             return Err(Redo);
         };
-        *x = word;
-        i += usize::from(set);
-        j += usize::from(!set);
+        out.push_reserved(lane);
     }
     Ok(List::from_vec(out))
+}
+
+/// Puts words in the places of some numbers, one behind the other.
+#[tactic(auto, using(crate::proofs::LaneLemmas::none_put))]
+fn put_each(out: &mut [i64], numbers: &[u32], words: &[i64]) -> Result<(), Redo>
+    ensures { OnOk result (ArePut numbers.now words.now (length numbers.now)
+        out.old out.new) }
+{
+    if words.len() != numbers.len() {
+        return Err(Redo);
+    }
+    for (k, number) in numbers.iter().enumerate() {
+        let place = *number as usize;
+        if place >= out.len() {
+            return Err(Redo);
+        }
+        out[place] = words[k];
+    }
+    Ok(())
+}
+
+/// Puts the words of a side in the places of its lanes; one that all have stands there already.
+fn put(out: &mut [i64], side: &SideWords) -> Result<(), Redo>
+    ensures { OnOk result (Puts side.now out.old out.new) }
+{
+    match side {
+        SideWords::Same(_) => Ok(()),
+        SideWords::Each(numbers, words) => put_each(out, numbers.as_slice(), words.as_slice()),
+    }
+}
+
+/// The word that all lanes of a side have; 0 where each has its own.
+fn same_word(side: &SideWords) -> i64
+    ensures { result ≡ same_word side.now }
+{
+    match side {
+        SideWords::Same(word) => *word,
+        SideWords::Each(_, _) => 0,
+    }
+}
+
+/// One of two words.
+fn chosen(first: bool, a: i64, b: i64) -> i64
+    ensures { result ≡ (if first then a else b) }
+{
+    if first { a } else { b }
+}
+
+/// Replaces each word by one of two: by the first where it is set.
+fn choose(words: &mut [i64], set: i64, unset: i64)
+    ensures long { length words.new ≡ length words.old }
+    ensures each { (k : ℕ) → k < length words.old → slice_index_or words.new k (pos 0)
+        ≡ (if side true (slice_index_or words.old k (pos 0)) then set else unset) }
+{
+    for (k, word) in words.iter_mut().enumerate() {
+        *word = chosen(on_side(true, *word), set, unset);
+    }
+}
+
+/// Puts the words of both sides in the place of the words of their test.
+fn merge(words: &mut [i64], ys: &SideWords, ns: &SideWords) -> Result<(), Redo>
+    requires set { IsSide true words.old ys.now }
+    requires unset { IsSide false words.old ns.now }
+    ensures { OnOk result (AreMerged words.old ys.now ns.now words.new) }
+{
+    choose(words, same_word(ys), same_word(ns));
+    put(words, ys)?;
+    put(words, ns)?;
+    Ok(())
+}
+
+/// The words of both sides of a test, each in the place of its lane.
+pub fn merged(test: List<i64>, ys: &SideWords, ns: &SideWords) -> Result<List<i64>, Redo>
+    requires set { IsSide true test ys.now }
+    requires unset { IsSide false test ns.now }
+    ensures { IfOk result (AreMerged test ys.now ns.now) }
+{
+    let mut words = test.into_vec();
+    merge(&mut words, ys, ns)?;
+    Ok(List::from_vec(words))
 }
