@@ -28,7 +28,7 @@ use Rattle.brace_fold.specs.inner.Crowds as crowds
 use Rattle.brace_fold.specs.inner.Crowds.{Stands, bound_to, rows, world}
 use Rattle.brace_fold.specs.inner.Deeds.{IsQuiet, Does, Leads, Worths, done_by, into}
 use Rattle.brace_fold.specs.inner.Ears.{told_by}
-use Rattle.brace_fold.specs.inner.Hears.{Alike, Hears}
+use Rattle.brace_fold.specs.Hears.{Alike, Hears}
 use Rattle.brace_fold.proofs.Alikes.{alike-refl, alike-trans, alike-append, alike-turned, hears-none, hears-more, hears-alike}
 use Rattle.brace_fold.proofs.Doings.{does-loop, mapped-said}
 use Rattle.brace_fold.proofs.Drawings.{mapped}

@@ -21,7 +21,7 @@ use Rattle.brace_eval.specs.declared.heard.Heard.{Heard}
 use Rattle.brace_eval.specs.Heard.{IsHeard, table_of, effects_in, counting}
 use Rattle.brace_fold.specs.declared.table.Table.{Table}
 use Rattle.brace_fold.specs.Sums.{AreSummed}
-use Rattle.brace_fold.specs.inner.Hears.{Alike, Hears}
+use Rattle.brace_fold.specs.Hears.{Alike, Hears}
 
 pub alike-refl : (xs : List Saying) → Alike xs xs
 alike-refl xs = record { each = λ comb start id field. refl }
@@ -162,7 +162,8 @@ same-many id field xs ys h = omega (
   fold-counted (pos 0) (said_to id field ys),
 )
 
-summed-alike : (program : Program) (rows : List Agent) (xs ys : List Saying) (table : Table) → Alike xs ys
+pub summed-alike : (program : Program) (rows : List Agent) (xs ys : List Saying) (table : Table)
+    → Alike xs ys
     → AreSummed program rows xs table → AreSummed program rows ys table
 summed-alike program rows xs ys table h k = record {
   long = k.long;

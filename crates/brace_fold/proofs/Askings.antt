@@ -19,14 +19,13 @@ use Rattle.brace_eval.specs.Heard.{said_by, faults_by}
 use Rattle.brace_fold.specs.declared.askers.Asker.{Asker}
 use Rattle.brace_fold.specs.declared.scene.Scene.{Scene}
 use Rattle.brace_fold.specs.declared.table.Table.{Table}
-use Rattle.brace_fold.specs.Asked.{agents_at}
+use Rattle.brace_fold.specs.Asked.{agents_at, no_agent}
 use Rattle.brace_fold.specs.Rows.{by_id}
 use Rattle.brace_fold.specs.Sums.{AreSummed}
 use Rattle.brace_fold.specs.inner.Asks.{Asks, AsksIn, asked, asked_in, openings, rows_of}
 use Rattle.brace_fold.specs.inner.Crowds.{IsOfClass, rows, world}
 use Rattle.brace_fold.specs.inner.Deeds.{Does, IsQuiet, done_by}
-use Rattle.brace_fold.specs.inner.Hears.{Hears}
-use Rattle.brace_fold.specs.inner.Sights.{no_agent}
+use Rattle.brace_fold.specs.Hears.{Hears}
 use Rattle.brace_fold.proofs.Alikes.{alike-permuted, hears-alike, hears-more, hears-none}
 use Rattle.brace_fold.proofs.Crowdings.{got-mapped}
 use Rattle.brace_fold.proofs.Doings.{All-back, All-both, mapped-said, no-faults, same-said}

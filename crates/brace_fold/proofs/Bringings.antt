@@ -23,9 +23,9 @@ use Rattle.brace_eval.specs.Heard.{effects_in}
 use Rattle.brace_fold.specs.declared.table.Sum.{Sum}
 use Rattle.brace_fold.specs.declared.table.Table.{Table}
 use Rattle.brace_fold.specs.Sums.{AreSummed, IsSum, sum_at, sum_place, summed}
-use Rattle.brace_fold.specs.inner.Hears.{Hears}
+use Rattle.brace_fold.specs.Hears.{Hears}
 use Rattle.brace_fold.specs.inner.Joins.{said_of, to_effect}
-use Rattle.brace_fold.specs.inner.Sights.{by_row, no_agent}
+use Rattle.brace_fold.specs.Asked.{by_row, no_agent}
 use Rattle.brace_fold.proofs.Alikes.{alike-permuted, hears-alike}
 use Rattle.brace_fold.proofs.Joinings.{one-is}
 use Rattle.brace_fold.proofs.Summings.{hears-sum}

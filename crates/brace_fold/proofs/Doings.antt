@@ -12,7 +12,7 @@ use Rattle.brace_plan.specs.Acts.{act}
 use Rattle.brace_fold.specs.declared.scene.Scene.{Scene}
 use Rattle.brace_fold.specs.declared.table.Table.{Table}
 use Rattle.brace_fold.specs.inner.Crowds.{rows, world}
-use Rattle.brace_fold.specs.inner.Hears.{Hears}
+use Rattle.brace_fold.specs.Hears.{Hears}
 use Rattle.brace_fold.specs.inner.Deeds.{IsQuiet, Does, done_by}
 use Rattle.brace_fold.proofs.Alikes.{alike-woven, hears-none, hears-more, hears-alike}
 

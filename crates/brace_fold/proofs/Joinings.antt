@@ -20,12 +20,11 @@ use Rattle.brace_comb.proofs.Said.{said_to-append}
 use Rattle.brace_eval.specs.declared.heard.Heard.{Heard}
 use Rattle.brace_eval.specs.Heard.{AreTold, IsHeard, counted, counting, effects_in, table_of}
 use Rattle.brace_eval.proofs.CountLemmas.{counted-effects}
-use Rattle.brace_fold.specs.Asked.{agents_at}
+use Rattle.brace_fold.specs.Asked.{agents_at, no_agent}
 use Rattle.brace_fold.specs.declared.table.Sum.{Sum}
 use Rattle.brace_fold.specs.declared.table.Table.{Table}
 use Rattle.brace_fold.specs.Sums.{AreSummed, sum_at}
 use Rattle.brace_fold.specs.inner.Joins.{said_of, to_effect, to_first}
-use Rattle.brace_fold.specs.inner.Sights.{no_agent}
 use Rattle.brace_fold.proofs.Counting.{some_item}
 use Rattle.brace_fold.proofs.Taking.{AreApart, apart_moved}
 

@@ -31,5 +31,5 @@ pub mod Bringings
 pub mod Survivings
 pub mod Ownings
 pub mod Tellings
-pub mod Slicings
+pub mod ArrangedLemmas
 pub mod RenewalLemmas

@@ -14,7 +14,7 @@ use Rattle.brace_model.specs.Query.{Saying}
 use Rattle.brace_grid.specs.Grids.{place_of}
 use Rattle.brace_plan.specs.declared.action.Bound.{Bound}
 use Rattle.brace_plan.specs.Acts.{meets, near_by}
-use Rattle.brace_fold.specs.inner.Hears.{Alike}
+use Rattle.brace_fold.specs.Hears.{Alike}
 use Rattle.brace_fold.proofs.Alikes.{alike-append, alike-permuted, alike-refl}
 use Rattle.brace_fold.proofs.Doings.{no-faults}
 

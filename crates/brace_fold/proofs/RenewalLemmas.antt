@@ -1,38 +1,33 @@
 -- What agents of rows leave, those of one class at once.
-use Rattle.std.proofs.Common.{◌≡◌, ◌∙◌, refl, sym, ap, subst, ℕ, zero, suc, ◌+◌, ℤ, List, [], ◌∷◌, ◌++◌, map, filter_map, take, drop, slice_get, Some}
+use Rattle.std.proofs.Common.{◌≡◌, ◌∙◌, refl, sym, ap, subst, ℕ, ◌<◌, ℤ, List, [], ◌∷◌, ◌++◌, append-nil, append_assoc, map, length, get_or, slice_get, Some, None}
 use Rattle.std.specs.List.{All}
-use Rattle.std.specs.Result.{result_ok, result_err}
+use Rattle.std.specs.List.Sorted.{IsPermutation}
+use Rattle.std.proofs.lemmas.List.{map-append}
 use Rattle.std.proofs.lemmas.List.Elements.{All-head, All-nil, All-cons, All-tail}
+use Rattle.std.proofs.lemmas.Option.{none-some}
 use Rattle.brace_model.specs.declared.program.Class.{Class}
 use Rattle.brace_model.specs.declared.program.Program.{Program}
 use Rattle.brace_model.specs.declared.world.Agent.{Agent}
 use Rattle.brace_model.specs.Query.{Saying}
-use Rattle.brace_model.specs.Step.{living, children}
 use Rattle.brace_model.specs.World.{class_of}
 use Rattle.brace_eval.specs.Heard.{row_of}
-use Rattle.brace_fold.specs.declared.columns.Columns.{Columns}
+use Rattle.brace_fold.specs.declared.askers.Asker.{Asker}
 use Rattle.brace_fold.specs.declared.renewal.Renewed.{Renewed}
-use Rattle.brace_fold.specs.Becoming.{becomes_said}
-use Rattle.brace_fold.specs.Rows.{AreMoved, rows_in}
-use Rattle.brace_fold.specs.inner.Renewals.{LeavesRows, Renews}
+use Rattle.brace_fold.specs.Asked.{by_row, no_agent}
+use Rattle.brace_fold.specs.Becoming.{AreLeft}
+use Rattle.brace_fold.specs.Rows.{AreMoved}
+use Rattle.brace_fold.specs.inner.Asks.{rows_of}
+use Rattle.brace_fold.specs.inner.Renewals.{LeavesSome, Renews}
 use Rattle.brace_fold.proofs.RenewLemmas.{born-of, left-of, quiet-of, renews-more, renews-none}
-use Rattle.brace_fold.proofs.Slicings.{take-on}
 
--- each of some rows' agents is lawful
-all-front : {A : Type 0} (P : A → Type 0) (n : ℕ) (xs : List A) → All P xs → All P (take n xs)
-all-front P zero xs all = All-nil P
-all-front P (suc n) [] all = All-nil P
-all-front P (suc n) (x ∷ xs) all =
-    All-cons P x (take n xs) (All-head P x xs all) (all-front P n xs (All-tail P x xs all))
-
-all-back : {A : Type 0} (P : A → Type 0) (n : ℕ) (xs : List A) → All P xs → All P (drop n xs)
-all-back P zero xs all = all
-all-back P (suc n) [] all = All-nil P
-all-back P (suc n) (x ∷ xs) all = all-back P n xs (All-tail P x xs all)
-
-pub all-part : {A : Type 0} (P : A → Type 0) (from count : ℕ) (xs : List A) → All P xs
-    → All P (take count (drop from xs))
-all-part P from count xs all = all-front P count (drop from xs) (all-back P from xs all)
+-- what holds of all agents holds of those of some rows
+pub all-picked : (P : Agent → Type 0) (agents : List Agent) (rows : List ℕ) → All P agents
+    → All (λ row. row < length agents) rows → All P (by_row agents rows)
+all-picked P agents [] all inside = All-nil P
+all-picked P agents (r ∷ rows) all inside =
+    All-cons P (get_or agents r no_agent) (by_row agents rows)
+    (all r no_agent (All-head (λ row. row < length agents) r rows inside))
+    (all-picked P agents rows all (All-tail (λ row. row < length agents) r rows inside))
 
 -- agents whose classes are one number
 pub alike-by : (agents : List Agent) (number : ℕ) (classes : List ℕ)
@@ -52,65 +47,59 @@ pub classes-by : (program : Program) (own : Class) (agents : List Agent) (number
 classes-by program own agents number has all = λ k d low.
     ap (slice_get program.classes) (all k d low) ∙ has
 
--- what was left by the first rows, so many
-pub record IsLeft (program : Program) (seed tick : ℕ) (more : List Saying) (rows : List Agent)
-    (from : ℕ) (renewed : Renewed) : Type 0 where
-  pub left : List Agent
-  pub renews : Renews program seed tick (row_of program more) (take from rows) left []
-      renewed.born.items
-  pub are : AreMoved left renewed.left
+-- ---- some agents, and then others
 
-pub left-none : (program : Program) (seed tick : ℕ) (more : List Saying) (rows : List Agent)
-    (renewed : Renewed) → AreMoved [] renewed.left → renewed.born.items ≡ []
-    → IsLeft program seed tick more rows 0 renewed
-left-none program seed tick more rows renewed none nobody = record {
-  left = [];
-  renews = subst (λ l. Renews program seed tick (row_of program more) [] [] [] l) (sym nobody)
-      (renews-none program seed tick (row_of program more) []);
-  are = none;
-}
+module _ (program : Program) (seed tick : ℕ) (said : List Saying) where
+  leaves-none : (renewed : Renewed) → LeavesSome program seed tick said [] renewed renewed
+  leaves-none renewed = record {
+    left = [];
+    renews = renews-none program seed tick (row_of program said) renewed.born.items;
+    kept = λ before is. subst (λ l. AreMoved l renewed.left) (sym (append-nil before)) is;
+  }
 
-pub left-more : (program : Program) (seed tick : ℕ) (more : List Saying) (columns : Columns)
-    (from count : ℕ) (old new : Renewed)
-    → IsLeft program seed tick more (rows_in program columns) from old
-    → LeavesRows program seed tick more columns from count old new
-    → IsLeft program seed tick more (rows_in program columns) (from + count) new
-left-more program seed tick more columns from count old new is next =
-    let rows = rows_in program columns in
-    record {
-      left = is.left ++ next.left;
-      renews = subst (λ l. Renews program seed tick (row_of program more) l (is.left ++ next.left)
-          [] new.born.items)
-          (take-on from count rows)
-          (renews-more program seed tick (row_of program more) (take from rows)
-          (take count (drop from rows))
-          is.left next.left [] old.born.items new.born.items is.renews next.renews);
-      are = next.kept is.left is.are;
-    }
+  pub leaves-nobody : (agents : List Agent) (asking : List Asker) (renewed : Renewed)
+      → slice_get asking 0 ≡ None
+      → LeavesSome program seed tick said (by_row agents (rows_of asking)) renewed renewed
+  leaves-nobody agents [] renewed e = leaves-none renewed
+  leaves-nobody agents (x ∷ asking) renewed e = absurd (none-some x (sym e))
 
--- what was left by all of them
-module _ (program : Program) (seed tick : ℕ) (more : List Saying) (rows : List Agent)
-    (from count : ℕ) (renewed : Renewed) (is : IsLeft program seed tick more rows from renewed)
-    (end : from ≡ count) where
-  abbrev totals : Agent → List ℤ
-  totals = row_of program more
+  leaves-more : (xs ys : List Agent) (a b c : Renewed) → LeavesSome program seed tick said xs a b
+      → LeavesSome program seed tick said ys b c → LeavesSome program seed tick said (xs ++ ys) a c
+  leaves-more xs ys a b c h k = record {
+    left = h.left ++ k.left;
+    renews = renews-more program seed tick (row_of program said) xs ys h.left k.left a.born.items
+        b.born.items c.born.items h.renews k.renews;
+    kept = λ before is.
+        subst (λ l. AreMoved l c.left) (append_assoc before h.left k.left)
+        (k.kept (before ++ h.left) (h.kept before is));
+  }
 
-  abbrev first : List Agent
-  first = take count rows
+  pub leaves-on : (agents : List Agent) (these rest all : List ℕ) (a b c : Renewed)
+      → these ++ rest ≡ all
+      → LeavesSome program seed tick said (by_row agents these) a b
+      → LeavesSome program seed tick said (by_row agents rest) b c
+      → LeavesSome program seed tick said (by_row agents all) a c
+  leaves-on agents these rest all a b c split h k =
+      let reads : ℕ → Agent = λ row. get_or agents row no_agent in
+      subst (λ l. LeavesSome program seed tick said l a c)
+      (sym (map-append reads these rest) ∙ ap (by_row agents) split)
+      (leaves-more (by_row agents these) (by_row agents rest) a b c h k)
 
-  nexts : Renews program seed tick totals first is.left [] renewed.born.items
-  nexts = subst (λ n. Renews program seed tick totals (take n rows) is.left [] renewed.born.items)
-      end is.renews
-
-  pub all-left : AreMoved (living (filter_map result_ok (map (becomes_said program seed tick more)
-      first)))
-      renewed.left
-  all-left = subst (λ l. AreMoved l renewed.left)
-      (left-of program seed tick totals first is.left renewed.born.items nexts) is.are
-
-  pub all-born : renewed.born.items
-      ≡ children (filter_map result_ok (map (becomes_said program seed tick more) first))
-  all-born = born-of program seed tick totals first is.left renewed.born.items nexts
-
-  pub all-quiet : filter_map result_err (map (becomes_said program seed tick more) first) ≡ []
-  all-quiet = quiet-of program seed tick totals first is.left renewed.born.items nexts
+  -- what is left of all
+  pub all-left : (agents those : List Agent) (old new : Renewed) → IsPermutation agents those
+      → AreMoved [] old.left → old.born.items ≡ []
+      → LeavesSome program seed tick said those old new
+      → AreLeft program seed tick said agents new
+  all-left agents those old new perm none nobody h =
+      let totals : Agent → List ℤ = row_of program said in
+      let nexts : Renews program seed tick totals those h.left [] new.born.items =
+      subst (λ l. Renews program seed tick totals those h.left l new.born.items) nobody h.renews in
+      record {
+        those = those;
+        same = perm;
+        left = subst (λ l. AreMoved l new.left)
+            (left-of program seed tick totals those h.left new.born.items nexts)
+            (h.kept [] none);
+        born = born-of program seed tick totals those h.left new.born.items nexts;
+        quiet = quiet-of program seed tick totals those h.left new.born.items nexts;
+      }

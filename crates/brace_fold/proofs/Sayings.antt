@@ -31,8 +31,8 @@ use Rattle.brace_fold.specs.inner.Crowds.{IsLane, IsFound, IsOfClass, IsScene, S
 use Rattle.brace_fold.specs.inner.Deeds.{between}
 use Rattle.brace_fold.specs.inner.Ears.{IsEar, row_of, is_there, told, told_at, told_by}
 use Rattle.brace_fold.specs.Sums.{sum_at, sum_place, summed}
-use Rattle.brace_fold.specs.inner.Hears.{Hears}
-use Rattle.brace_fold.specs.inner.Sights.{no_agent}
+use Rattle.brace_fold.specs.Hears.{Hears}
+use Rattle.brace_fold.specs.Asked.{no_agent}
 use Rattle.brace_fold.proofs.Alikes.{hears-more}
 use Rattle.brace_fold.proofs.Drawings.{mapped}
 use Rattle.brace_fold.proofs.Summings.{hears-sum}

@@ -25,7 +25,7 @@ use Rattle.brace_eval.specs.Heard.{effects_in}
 use Rattle.brace_fold.specs.declared.table.Sum.{Sum}
 use Rattle.brace_fold.specs.declared.table.Table.{Table}
 use Rattle.brace_fold.specs.Sums.{AreSummed, IsSum, no_sum, sum_at, sum_place, summed}
-use Rattle.brace_fold.specs.inner.Hears.{Hears}
+use Rattle.brace_fold.specs.Hears.{Hears}
 use Rattle.brace_fold.proofs.Taking.{AreApart}
 
 -- two places of a table are one only where their effects and rows are

@@ -1,5 +1,7 @@
+pub mod Arranged
 pub mod Asked
 pub mod Becoming
+pub mod Hears
 pub mod inner
 pub mod Listed
 pub mod Rows

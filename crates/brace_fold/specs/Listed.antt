@@ -1,9 +1,11 @@
 -- Agents in columns that are owned, as lists of agents.
 use Rattle.std.specs.Prelude.{◌≡◌, ℕ, ℤ, List, map, length, slice_get, slice_index_or}
 use Rattle.std.specs.List.{range_with_len}
-use Rattle.std.specs.List.Sorted.{IsPermutation, IsNonDecreasingBy}
+use Rattle.std.specs.List.Sorted.{IsPermutation}
+use denote.Ref.{Bor}
 use Rattle.brace_model.specs.declared.program.Program.{Program}
 use Rattle.brace_model.specs.declared.world.Agent.{Agent}
+use Rattle.brace_model.specs.World.{RisesById}
 use Rattle.brace_fold.specs.declared.order.Moved.{Moved}
 use Rattle.brace_fold.specs.Rows.{AreMoved, types_of, values_in}
 
@@ -32,9 +34,13 @@ pub record AreListed (program : Program) (agents : List Agent) (rows : Moved) : 
   pub moved : AreMoved agents rows
   pub are : agents_in program rows ≡ agents
 
--- columns are those of these agents, in an order in which ids do not fall
-pub record AreInOrder (these : List Agent) (rows : Moved) : Type 0 where
-  pub agents : List Agent
-  pub same : IsPermutation these agents
-  pub in_order : IsNonDecreasingBy (λ a. a.id) agents
-  pub moved : AreMoved agents rows
+-- agents by rising id are stored in columns, in some order
+pub record AreStored (program : Program) (agents : List Agent) (rows : Moved) : Type 0 where
+  pub rises : RisesById agents
+  pub those : List Agent
+  pub same : IsPermutation agents those
+  pub listed : AreListed program those rows
+
+-- views of the states of columns
+abbrev pub AreLent : Moved → List (Bor (List ℤ)) → Type 0
+AreLent moved states = map (λ v. v.now) states ≡ moved.states.items

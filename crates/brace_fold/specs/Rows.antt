@@ -55,6 +55,10 @@ by_id agents = by_key (λ a. a.id) agents
 abbrev pub world_in : Program → Columns → List Agent
 world_in program columns = by_id (rows_in program columns)
 
+-- what a column has in some rows
+abbrev pub IsPicked : {A : Type 0} → List ℕ → List A → List A → Type 0
+IsPicked rows column out = map (slice_get column) rows ≡ map Some out
+
 -- the columns are those of these agents, row by row
 pub record AreColumns (agents : List Agent) (columns : Columns) : Type 0 where
   pub classes : columns.classes.now ≡ map (λ a. a.class) agents

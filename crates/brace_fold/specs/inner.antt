@@ -2,9 +2,7 @@ pub mod Asks
 pub mod Crowds
 pub mod Deeds
 pub mod Ears
-pub mod Hears
 pub mod Joins
-pub mod Moves
 pub mod Renewals
 pub mod Rulings
 pub mod Sights

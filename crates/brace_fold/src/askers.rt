@@ -6,7 +6,7 @@ use brace_code::Redo;
 use std::alloc::Global;
 
 /// How many agents ask at once.
-const MANY: usize = 512;
+const MANY: usize = 2048;
 
 /// The row of an agent that asks, and its class.
 #[derive(Debug, Clone, Copy, Drop)]
@@ -45,4 +45,15 @@ pub fn of_class(all: &[Asker], class: u32) -> usize
         count += 1;
     }
     count
+}
+
+/// The rows of those who ask.
+pub fn rows_of(alloc: Global, all: &[Asker]) -> Result<Vec<u32>, Redo>
+    ensures { IfOk result (λ rows. rows.items ≡ rows_of all.now) }
+{
+    let mut rows = Vec::with_capacity(alloc, all.len())?;
+    for one in all {
+        rows.push(one.row)?;
+    }
+    Ok(rows)
 }

@@ -9,12 +9,11 @@ ghost use Rattle.brace_model.specs.World.{class_of, ids};
 ghost use Rattle.brace_eval.specs.Heard.{effects_in};
 ghost use Rattle.brace_fold.specs.Rows.{AreColumns};
 ghost use Rattle.brace_fold.specs.Sums.{AreSummed};
-ghost use Rattle.brace_fold.specs.inner.Hears.{Hears};
+ghost use Rattle.brace_fold.specs.Hears.{Hears};
 ghost use Rattle.brace_fold.specs.inner.Joins.{said_of, to_effect};
-ghost use Rattle.brace_fold.specs.inner.Sights.{by_row};
+ghost use Rattle.brace_fold.specs.Asked.{by_row};
 
-use crate::columns::{Columns, class_in};
-use crate::order::number_at;
+use crate::columns::{Columns, class_in, item_at};
 use crate::table::Table;
 use brace_code::Redo;
 use brace_model::{Class, Comb, Program};
@@ -92,7 +91,7 @@ pub fn bring_all(
         let Ok(place) = u32::try_from(k) else {
             return Err(Redo);
         };
-        let Some(row) = number_at(order, place) else {
+        let Some(row) = item_at(order, place) else {
             return Err(Redo);
         };
         let Some(number) = class_in(columns, row) else {

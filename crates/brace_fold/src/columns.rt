@@ -18,12 +18,19 @@ pub struct Columns<'a> {
     pub states: &'a [&'a [i64]],
 }
 
+/// What a column has in a row.
+pub fn item_at<T: Copy>(column: &[T], row: u32) -> Option<T>
+    ensures { IfSome result (λ item. slice_get column.now row ≡ Some item) }
+{
+    column.get(row as usize).copied()
+}
+
 /// The word of a column in a row.
 pub fn read(column: &[i64], row: u32) -> Result<i64, Redo>
     ensures { IfOk result (λ word. slice_get column.now row ≡ Some word) }
 {
-    match column.get(row as usize) {
-        Some(word) => Ok(*word),
+    match item_at(column, row) {
+        Some(word) => Ok(word),
         None => Err(Redo),
     }
 }

@@ -12,7 +12,7 @@ use brace_num::List;
 use brace_plan::Bound;
 
 /// A crowd takes no more agents once it has so many lanes.
-const MANY: usize = 512;
+const MANY: usize = 4096;
 
 /// A part of a loop's lanes, and the place of the first lane whose agents are not yet in it.
 #[derive(Debug, Drop)]

@@ -2,7 +2,9 @@
 //! rules, what they all leave.
 #![tactic(auto)]
 
+mod arranged;
 mod askers;
+mod asking;
 mod bringing;
 mod cells;
 mod columns;
@@ -24,20 +26,19 @@ mod saying;
 mod scene;
 mod seeing;
 mod sites;
-mod slicing;
 mod spotting;
 mod surviving;
 mod table;
 mod telling;
 mod walk;
 
+pub use arranged::Arranged;
 pub use brace_code::Redo;
-pub use columns::{Columns, expect_wide, most_states, views};
-pub use folding::{fold, fold_rows};
+pub use columns::{Columns, expect_wide, views};
+pub use folding::fold;
 pub use joining::most_effects;
-pub use lists::{agents_of, columns_of};
-pub use order::Moved;
+pub use lists::columns_of;
+pub use order::{Moved, add_row};
 pub use renewal::{Renewed, renew_rows};
-pub use renewing::{pays, renew};
-pub use slicing::slice_of;
+pub use renewing::renew;
 pub use table::{Sum, Table};

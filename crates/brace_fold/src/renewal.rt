@@ -1,19 +1,20 @@
-ghost use Rattle.std.specs.Prelude.{◌≡◌, ◌≤◌, ◌^◌, [], List, Some, pos, ◌≤ℤ◌, map, filter_map, length, slice_get, take, IfOk, OnOk};
+ghost use Rattle.std.specs.Prelude.{◌≡◌, ◌≤◌, ◌^◌, List, Some, pos, ◌≤ℤ◌, length, slice_get, IfOk, OnOk};
 ghost use Rattle.std.specs.List.{All};
-ghost use Rattle.std.specs.Result.{result_ok, result_err};
 ghost use Rattle.brace_model.specs.declared.program.Program.{Program};
 ghost use Rattle.brace_model.specs.declared.world.Agent.{Agent};
 ghost use Rattle.brace_model.specs.Query.{Saying};
-ghost use Rattle.brace_model.specs.Step.{living, children};
 ghost use Rattle.brace_model.specs.Value.{Scope};
 ghost use Rattle.brace_code.specs.declared.lane.Lane.{Lane};
 ghost use Rattle.brace_code.specs.Lanes.{Shows};
-ghost use Rattle.brace_fold.specs.Becoming.{becomes_said};
-ghost use Rattle.brace_fold.specs.Rows.{AreMoved, AreRows, rows_in};
+ghost use Rattle.brace_fold.specs.Asked.{by_row};
+ghost use Rattle.brace_fold.specs.Becoming.{AreLeft};
+ghost use Rattle.brace_fold.specs.Rows.{AreRows, rows_in};
 ghost use Rattle.brace_fold.specs.Sums.{AreSummed};
-ghost use Rattle.brace_fold.specs.inner.Renewals.{LeavesRows};
+ghost use Rattle.brace_fold.specs.inner.Asks.{rows_of};
+ghost use Rattle.brace_fold.specs.inner.Renewals.{LeavesSome};
 ghost use Rattle.brace_fold.specs.inner.Rulings.{AreLanes, Leaves};
 
+use crate::askers::{Asker, askers, of_class, rows_of, sort_by_class};
 use crate::columns::{Columns, expect_wide, views};
 use crate::drawn::{drawn_of, lent};
 use crate::leaving::lanes_set;
@@ -22,7 +23,6 @@ use crate::outcome::{Outcome, run_all, run_gifts};
 use crate::renewing::frame_of;
 use crate::rows::lanes_of;
 use crate::sites::rule_sites;
-use crate::slicing::{slice_of, slices_of};
 use crate::surviving::{children_in, keep_rows};
 use crate::table::Table;
 use crate::telling::told_columns;
@@ -30,9 +30,6 @@ use brace_code::{Frame, Redo};
 use brace_model::{Agent, Class};
 use brace_plan::{Plans, Ruled};
 use std::alloc::Global;
-
-/// How many agents are renewed at once.
-const MANY: usize = 512;
 
 /// What is left of agents in columns: those that live on, and the children.
 #[derive(Debug, Drop)]
@@ -80,22 +77,22 @@ fn outcome_in(
     Ok(out)
 }
 
-/// Renews the agents of rows from one on, so many, which are of one class: those that live on and
-/// the children are added.
-fn renew_slice(
+/// Renews the agents of some rows, which are of one class of a number: those that live on and the
+/// children are added.
+fn renew_some(
     ground: &Ground,
     columns: &Columns,
     number: u32,
-    from: usize,
-    count: usize,
+    rows: &[u32],
     renewed: &mut Renewed,
 ) -> Result<(), Redo>
     requires rows { AreRows ground.now.plans.now columns.now }
     requires ticks { ground.now.tick ≤ 2 ^ 32 }
-    ensures leaves { OnOk result ((said : List Saying) → AreSummed ground.now.plans.now
-        (rows_in ground.now.plans.now columns.now) said ground.now.said.now
-        → LeavesRows ground.now.plans.now ground.now.seed ground.now.tick said columns.now from
-        count renewed.old renewed.new) }
+    ensures leaves { OnOk result ((said : List Saying)
+        → AreSummed ground.now.plans.now (rows_in ground.now.plans.now columns.now) said
+        ground.now.said.now
+        → LeavesSome ground.now.plans.now ground.now.seed ground.now.tick said
+        (by_row (rows_in ground.now.plans.now columns.now) rows.now) renewed.old renewed.new) }
     ensures wide { OnOk result
         (length renewed.new.left.states.items ≡ length renewed.old.left.states.items) }
 {
@@ -107,15 +104,12 @@ fn renew_slice(
     let Some(ruled) = ground.plans.ruled(number) else {
         return Err(Redo);
     };
-    let states = slices_of(alloc, columns.states, from, count)?;
-    let these = Columns {
-        classes: slice_of(columns.classes, from, count)?,
-        ids: slice_of(columns.ids, from, count)?,
-        states: &states,
-    };
+    let picked = Moved::of(alloc, columns, rows)?;
+    let states = views(alloc, &picked.states)?;
+    let these = picked.as_columns(&states);
     expect_wide(program, &these)?;
     expect_alike(these.classes, number)?;
-    let sums = told_columns(alloc, own, ground.said, from, count)?;
+    let sums = told_columns(alloc, own, ground.said, rows)?;
     let totals = views(alloc, &sums)?;
     let mut sites = Vec::new(alloc);
     rule_sites(ruled.class, &mut sites)?;
@@ -154,54 +148,59 @@ fn expect_alike(classes: &[u32], number: u32) -> Result<(), Redo>
     Ok(())
 }
 
-/// Whether the agent of a row is of a class.
-fn is_of(columns: &Columns, number: u32, row: usize) -> bool {
-    columns.classes.get(row).copied() == Some(number)
-}
-
-/// How many agents from a row on, so many at most, are of a class; no more than are renewed at
-/// once.
-fn of_class(columns: &Columns, number: u32, from: usize, most: usize) -> usize
-    ensures { result ≤ most }
+/// Renews the agents of some rows, those that stand together and are of one class at once: those
+/// that live on and the children are added.
+fn renew_all(
+    ground: &Ground,
+    columns: &Columns,
+    these: &[Asker],
+    renewed: &mut Renewed,
+) -> Result<(), Redo>
+    requires rows { AreRows ground.now.plans.now columns.now }
+    requires ticks { ground.now.tick ≤ 2 ^ 32 }
+    ensures leaves { OnOk result ((said : List Saying)
+        → AreSummed ground.now.plans.now (rows_in ground.now.plans.now columns.now) said
+        ground.now.said.now
+        → LeavesSome ground.now.plans.now ground.now.seed ground.now.tick said
+        (by_row (rows_in ground.now.plans.now columns.now) (rows_of these.now))
+        renewed.old renewed.new) }
+    ensures wide { OnOk result
+        (length renewed.new.left.states.items ≡ length renewed.old.left.states.items) }
 {
-    let most = most.min(MANY);
-    let mut count = 0;
-    while count < most && is_of(columns, number, from.saturating_add(count)) {
-        count += 1;
+    let mut left = these;
+    while let Some(first) = left.first() {
+        let count = of_class(left, first.class);
+        if count == 0 {
+            return Err(Redo);
+        }
+        let (some, rest) = left.split_at(count);
+        let rows = rows_of(ground.alloc, some)?;
+        renew_some(ground, columns, first.class, &rows, renewed)?;
+        left = rest;
     }
-    count
+    Ok(())
 }
 
-/// Renews the agents of the first rows of columns, so many, by what was said to them, with the
-/// draws of a seed: those that live on, in their order, and the children, which bear their parents'
-/// ids. `Redo` says nothing: an update may have faulted, or a total needs more than 64 bits, or
-/// memory was refused.
+/// Renews the agents of some rows of columns by what was said to them, with the draws of a seed:
+/// class by class those that live on, and the children, which bear their parents' ids. `Redo` says
+/// nothing: an update may have faulted, or a total needs more than 64 bits, or memory was refused.
 ///
-/// The agents are lawful ones of the program, no two with one id, and the tick is at most 2^32. It
-/// takes least time where agents of one class stand together.
+/// The agents are lawful ones of the program, no two with one id, and the tick is at most 2^32.
 pub fn renew_rows(
     alloc: Global,
     plans: &Plans,
     seed: u64,
     tick: u64,
     columns: &Columns,
-    count: usize,
+    rows: &[u32],
     said: &Table,
 ) -> Result<Renewed, Redo>
     requires rows { AreRows plans.now columns.now }
     requires ticks { tick ≤ 2 ^ 32 }
-    ensures left { IfOk result (λ renewed. (more : List Saying)
+    ensures leaves { IfOk result (λ renewed. (more : List Saying)
         → AreSummed plans.now (rows_in plans.now columns.now) more said.now
-        → AreMoved (living (filter_map result_ok (map (becomes_said plans.now seed tick more)
-        (take count (rows_in plans.now columns.now))))) renewed.left) }
-    ensures born { IfOk result (λ renewed. (more : List Saying)
-        → AreSummed plans.now (rows_in plans.now columns.now) more said.now → renewed.born.items
-        ≡ children (filter_map result_ok (map (becomes_said plans.now seed tick more)
-        (take count (rows_in plans.now columns.now))))) }
-    ensures quiet { IfOk result (λ _. (more : List Saying)
-        → AreSummed plans.now (rows_in plans.now columns.now) more said.now
-        → filter_map result_err (map (becomes_said plans.now seed tick more)
-        (take count (rows_in plans.now columns.now))) ≡ []) }
+        → AreLeft plans.now seed tick more (by_row (rows_in plans.now columns.now) rows.now)
+        renewed) }
     ensures wide { IfOk result (λ renewed.
         length renewed.left.states.items ≡ length columns.now.states.now) }
 {
@@ -217,17 +216,8 @@ pub fn renew_rows(
         left: none,
         born: Vec::new(alloc),
     };
-    let mut from = 0;
-    while from < count {
-        let Some(number) = columns.classes.get(from).copied() else {
-            return Err(Redo);
-        };
-        let many = of_class(columns, number, from, count - from);
-        if many == 0 {
-            return Err(Redo);
-        }
-        renew_slice(&ground, columns, number, from, many, &mut renewed)?;
-        from += many;
-    }
+    let mut these = askers(alloc, columns.classes, rows)?;
+    sort_by_class(&mut these);
+    renew_all(&ground, columns, &these, &mut renewed)?;
     Ok(renewed)
 }

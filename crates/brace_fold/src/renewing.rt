@@ -25,7 +25,7 @@ use std::alloc::Global;
 use std::mem;
 
 /// So many agents of one class are to stand together on average.
-pub const FEW: usize = 16;
+const FEW: usize = 16;
 
 /// By what agents of a tick are renewed.
 #[derive(Debug, Clone, Copy)]

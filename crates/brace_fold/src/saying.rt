@@ -9,7 +9,7 @@ ghost use Rattle.brace_model.specs.declared.program.Ty.TheVariants as types;
 ghost use Rattle.brace_model.specs.Total.{total_of};
 ghost use Rattle.brace_model.specs.Typing.{same_type};
 ghost use Rattle.brace_fold.specs.inner.Ears.{IsEar, row_of, is_there, told_at, told_by};
-ghost use Rattle.brace_fold.specs.inner.Hears.{Hears};
+ghost use Rattle.brace_fold.specs.Hears.{Hears};
 
 use crate::crowd::{Crowd, Depth, has_inner, has_outer};
 use crate::scene::Scene;

@@ -7,9 +7,9 @@ ghost use Rattle.brace_model.specs.Value.{typed};
 ghost use Rattle.brace_fold.specs.Rows.{AreMoved, row_in, rows_in, values_in, words_of};
 ghost use Rattle.brace_fold.specs.inner.Rulings.{AreBorn, living_from, moved_in, new_number, number_in, rows_left, value_in};
 
-use crate::columns::{Columns, class_in, read};
+use crate::columns::{Columns, class_in, item_at, read};
 use crate::leaving::child;
-use crate::order::{Moved, id_at};
+use crate::order::Moved;
 use crate::outcome::{Column, Outcome, is_set};
 use crate::saying::typed;
 use brace_code::{Lane, Redo};
@@ -60,7 +60,7 @@ pub fn agent_in(
     if class != number {
         return Err(Redo);
     }
-    let Some(id) = id_at(columns.ids, row) else {
+    let Some(id) = item_at(columns.ids, row) else {
         return Err(Redo);
     };
     let mut values = values;

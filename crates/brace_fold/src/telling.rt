@@ -1,4 +1,4 @@
-ghost use Rattle.std.specs.Prelude.{◌≡◌, ◌<◌, ℕ, ℤ, List, Some, pos, map, take, drop, slice_get, slice_index_or, IfOk};
+ghost use Rattle.std.specs.Prelude.{◌≡◌, ◌<◌, ℕ, ℤ, List, Some, pos, map, slice_get, slice_index_or, IfOk};
 ghost use Rattle.std.specs.List.{All};
 ghost use Rattle.brace_model.specs.declared.program.Effect.{Effect};
 ghost use Rattle.brace_model.specs.declared.program.Program.{Program};
@@ -7,6 +7,7 @@ ghost use Rattle.brace_model.specs.Query.{Saying};
 ghost use Rattle.brace_model.specs.Total.{said_to, total_of};
 ghost use Rattle.brace_model.specs.World.{class_of};
 ghost use Rattle.brace_eval.specs.Heard.{effects_in, row_of};
+ghost use Rattle.brace_fold.specs.Asked.{by_row};
 ghost use Rattle.brace_fold.specs.Sums.{AreSummed};
 
 use crate::table::{Table, narrow};
@@ -34,50 +35,41 @@ fn total_at(comb: Comb, said: &Table, effect: u32, row: u32) -> Result<i64, Redo
     Ok(sum.number)
 }
 
-/// The totals of an effect of a class in rows from one on, so many.
+/// The totals of an effect of a class in some rows.
 fn total_column(
     alloc: Global,
     comb: Comb,
     said: &Table,
     effect: u32,
-    from: usize,
-    count: usize,
+    rows: &[u32],
 ) -> Result<List<i64>, Redo>
-    ensures { IfOk result (λ words. (program : Program) (rows : List Agent) (e : Effect)
-        (more : List Saying) → AreSummed program rows more said.now → e.comb ≡ comb
+    ensures { IfOk result (λ words. (program : Program) (agents : List Agent) (e : Effect)
+        (more : List Saying) → AreSummed program agents more said.now → e.comb ≡ comb
         → All (λ a. slice_get (effects_in (class_of program a)) effect ≡ Some e)
-        (take count (drop from rows))
-        → words ≡ map (λ a. total_of e.comb (said_to a.id effect more))
-        (take count (drop from rows))) }
+        (by_row agents rows.now)
+        → words ≡ map (λ a. total_of e.comb (said_to a.id effect more)) (by_row agents rows.now)) }
 {
-    let mut words = Vec::with_capacity(alloc, count)?;
-    for k in 0..count {
-        let Some(at) = from.checked_add(k) else {
-            return Err(Redo);
-        };
-        let Ok(row) = u32::try_from(at) else {
-            return Err(Redo);
-        };
-        let word = total_at(comb, said, effect, row)?;
+    let mut words = Vec::with_capacity(alloc, rows.len())?;
+    for row in rows {
+        let word = total_at(comb, said, effect, *row)?;
         words.push(word)?;
     }
     Ok(List::from_vec(words))
 }
 
-/// The totals of the effects of a class in rows from one on, so many.
+/// The totals of the effects of a class in some rows.
 pub fn told_columns(
     alloc: Global,
     own: &Class,
     said: &Table,
-    from: usize,
-    count: usize,
+    rows: &[u32],
 ) -> Result<Vec<List<i64>>, Redo>
-    ensures { IfOk result (λ columns. (program : Program) (rows : List Agent) (more : List Saying)
-        → AreSummed program rows more said.now
-        → All (λ a. class_of program a ≡ Some own.now) (take count (drop from rows))
+    ensures { IfOk result (λ columns. (program : Program) (agents : List Agent)
+        (more : List Saying) → AreSummed program agents more said.now
+        → All (λ a. class_of program a ≡ Some own.now) (by_row agents rows.now)
         → (i : ℕ) (column : List ℤ) → slice_get columns.items i ≡ Some column
         → column ≡ map (λ a. slice_index_or (row_of program more a) i (pos 0))
-        (take count (drop from rows))) }
+        (by_row agents rows.now)) }
 {
     let effects = own.effects.as_slice();
     let mut columns = Vec::with_capacity(alloc, effects.len())?;
@@ -88,7 +80,7 @@ pub fn told_columns(
         let Some(effect) = effects.get(k) else {
             return Err(Redo);
         };
-        let column = total_column(alloc, effect.comb, said, number, from, count)?;
+        let column = total_column(alloc, effect.comb, said, number, rows)?;
         columns.push(column)?;
     }
     Ok(columns)

@@ -1,4 +1,4 @@
-// Agents in columns that are owned: as lists, with more behind, and by rising id.
+// Agents in columns that are owned: as lists, with more behind, and some of them.
 use brace_fold::{Redo, columns_of};
 use brace_model::{Agent, Program};
 use brace_rows::read_agents;
@@ -15,7 +15,7 @@ fn told(alloc: Global, agents: &[Agent]) -> Result<String, Redo> {
     Ok(format!(in alloc; "{:?}", ids)?)
 }
 
-/// Of agents in columns those of some rows, these by rising id, and all with them behind.
+/// Of agents in columns those of some rows, as a list and in columns, and all with them behind.
 fn each_way(
     alloc: Global,
     program: &Program,
@@ -23,10 +23,10 @@ fn each_way(
 ) -> Result<(String, String, String), Redo> {
     let mut rows = columns_of(alloc, program, agents, &[])?;
     let some = rows.agents_at(alloc, program, &[4, 0, 2])?;
-    let sorted = rows.in_order(alloc, &[4, 0, 2])?;
+    let picked = rows.picked(alloc, &[2, 0, 4])?;
     rows.add(&some)?;
     rows.expect_listed(alloc, program)?;
-    let few = sorted.agents(alloc, program)?;
+    let few = picked.agents(alloc, program)?;
     let all = rows.agents(alloc, program)?;
     Ok((told(alloc, &some)?, told(alloc, &few)?, told(alloc, &all)?))
 }
@@ -38,7 +38,7 @@ const SCRIPT: &str = "class P{#visible[4];#reach[1];public state fixed x;public 
 const ROWS: &str = "P,1,0,0,3\nP,2,1,2,4\nQ,4,2,2\nP,5,1,1,10\nQ,6,0,0\n";
 
 #[test]
-fn puts_agents_in_order(rt: HostRuntime) -> Result<(), Fail> {
+fn picks_agents_of_rows(rt: HostRuntime) -> Result<(), Fail> {
     let alloc = rt.alloc();
     let program = program(alloc, SCRIPT)?;
     let Ok(world) = read_agents(alloc, &program, ROWS.as_bytes()) else {
@@ -48,7 +48,7 @@ fn puts_agents_in_order(rt: HostRuntime) -> Result<(), Fail> {
         return Err("no columns".into());
     };
     assert_eq!(rt; some.as_str(), "[(6, 2), (1, 3), (4, 2)]");
-    assert_eq!(rt; few.as_str(), "[(1, 3), (4, 2), (6, 2)]");
+    assert_eq!(rt; few.as_str(), "[(4, 2), (1, 3), (6, 2)]");
     assert_eq!(rt;
         all.as_str(),
         "[(1, 3), (2, 3), (4, 2), (5, 3), (6, 2), (6, 2), (1, 3), (4, 2)]"

@@ -1,14 +1,16 @@
 // What many agents leave, beside what each leaves by itself.
-ghost use Rattle.std.specs.Prelude.{◌≡◌, IfOk, IsTrue};
+ghost use Rattle.std.specs.Prelude.{◌≡◌, List, IfOk, IsTrue};
 ghost use Rattle.std.specs.List.{list_all};
 ghost use Rattle.brace_model.specs.Lawful.{LawfulProgram, is_lawful_agent};
 ghost use Rattle.brace_model.specs.World.{RisesById};
-ghost use Rattle.brace_fold.specs.Rows.{AreRows};
+ghost use Rattle.brace_model.specs.declared.world.Agent.{Agent};
+ghost use Rattle.brace_fold.specs.Arranged.{AreArranged};
+ghost use Rattle.brace_fold.specs.Rows.{AreRows, rows_in};
 
 use brace_eval::Heard;
 use brace_fold::{
-    Columns, Moved, Redo, Renewed, Table, agents_of, columns_of, expect_wide, fold_rows,
-    most_effects, renew, renew_rows, views,
+    Arranged, Columns, Redo, Renewed, Table, columns_of, expect_wide, most_effects, renew,
+    renew_rows, views,
 };
 use brace_model::{Agent, Program};
 use brace_num::NoMemory;
@@ -81,38 +83,30 @@ fn at_once(
     }
 }
 
-/// The numbers of so many rows.
-fn rows_to(alloc: Global, count: usize) -> Result<Vec<u32>, Redo> {
-    let mut rows = Vec::new(alloc);
-    for row in 0..count {
-        rows.push(u32::try_from(row).unwrap_or(u32::MAX))?;
-    }
-    Ok(rows)
-}
-
-/// The agents of columns.
-fn listed(alloc: Global, program: &Program, moved: &Moved) -> Result<Vec<Agent>, Redo> {
-    let states = views(alloc, &moved.states)?;
-    let columns = Columns {
-        classes: &moved.classes,
-        ids: &moved.ids,
-        states: &states,
-    };
-    agents_of(alloc, program, &columns, Vec::new(alloc))
-}
-
-/// What all agents in columns leave, by what they say there.
-fn renewed(alloc: Global, plans: &Plans, columns: &Columns) -> Result<Renewed, Redo>
-    requires { AreRows plans.now columns.now }
+/// What all agents leave that stand in the order of cells, by what they say there.
+fn renewed(alloc: Global, plans: &Plans, arranged: &Arranged) -> Result<Renewed, Redo>
+    requires { (agents : List Agent) × AreArranged plans.now agents arranged.now }
 {
-    let count = columns.ids.len();
-    let asking = rows_to(alloc, count)?;
-    let mut said = Table::nothing(alloc, count, most_effects(plans.program()))?;
-    fold_rows(alloc, plans, 7, 4, columns, &asking, &mut said)?;
-    renew_rows(alloc, plans, 7, 4, columns, count, &said)
+    let program = plans.program();
+    let all = arranged.all(alloc)?;
+    let mut said = Table::nothing(alloc, all.len(), most_effects(program))?;
+    arranged.ask(alloc, plans, 7, 4, &all, &mut said)?;
+    let states = views(alloc, &arranged.rows.states)?;
+    let columns = arranged.rows.as_columns(&states);
+    expect_wide(program, &columns)?;
+    renew_rows(alloc, plans, 7, 4, &columns, &all, &said)
 }
 
-/// The same as each leaves, of all in columns.
+/// The agents of columns in the order of cells.
+fn arranged(alloc: Global, plans: &Plans, columns: &Columns) -> Result<Arranged, Redo>
+    requires { AreRows plans.now columns.now }
+    ensures { IfOk result (AreArranged plans.now (rows_in plans.now columns.now)) }
+{
+    let arranged = Arranged::of(alloc, plans.program(), columns)?;
+    Ok(arranged)
+}
+
+/// The same as each leaves, of all in columns, by rising id.
 fn in_columns(alloc: Global, plans: &Plans, agents: &[Agent]) -> Result<String, Redo>
     requires lawful { IsTrue (list_all (is_lawful_agent plans.now) agents.now) }
     requires rises { RisesById agents.now }
@@ -120,15 +114,15 @@ fn in_columns(alloc: Global, plans: &Plans, agents: &[Agent]) -> Result<String, 
     let program = plans.program();
     let rows = columns_of(alloc, program, agents, &[])?;
     let states = views(alloc, &rows.states)?;
-    let columns = Columns {
-        classes: &rows.classes,
-        ids: &rows.ids,
-        states: &states,
-    };
+    let columns = rows.as_columns(&states);
     expect_wide(program, &columns)?;
-    let renewed = renewed(alloc, plans, &columns)?;
-    let left = listed(alloc, program, &renewed.left)?;
-    Ok(format!(in alloc; "{:?} {:?}", left, renewed.born)?)
+    let arranged = arranged(alloc, plans, &columns)?;
+    let renewed = renewed(alloc, plans, &arranged)?;
+    let mut left = renewed.left.agents(alloc, program)?;
+    let mut born = renewed.born;
+    left.sort_by_key(|a| a.id)?;
+    born.sort_by_key(|a| a.id)?;
+    Ok(format!(in alloc; "{:?} {:?}", left, born)?)
 }
 
 /// What was heard of all agents, and what each leaves, all at once, and all in columns.

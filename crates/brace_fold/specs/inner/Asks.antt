@@ -14,7 +14,7 @@ use Rattle.brace_fold.specs.declared.drawn.Drawn.{Drawn}
 use Rattle.brace_fold.specs.declared.scene.Scene.{Scene}
 use Rattle.brace_fold.specs.declared.table.Table.{Table}
 use Rattle.brace_fold.specs.inner.Crowds.{rows}
-use Rattle.brace_fold.specs.inner.Hears.{Hears}
+use Rattle.brace_fold.specs.Hears.{Hears}
 
 -- what the query of the agent of a row does
 abbrev pub asked_in : Program → ℕ → ℕ → List Agent → Agent → ℕ → Deed

@@ -12,7 +12,7 @@ use Rattle.brace_fold.specs.declared.crowd.Crowd.{Crowd}
 use Rattle.brace_fold.specs.declared.scene.Scene.{Scene}
 use Rattle.brace_fold.specs.declared.table.Table.{Table}
 use Rattle.brace_fold.specs.inner.Crowds.{Stands, rows, world}
-use Rattle.brace_fold.specs.inner.Hears.{Hears}
+use Rattle.brace_fold.specs.Hears.{Hears}
 
 -- nothing faulted
 pub record IsQuiet (deed : Deed) : Type 0 where

@@ -6,10 +6,9 @@ use Rattle.brace_model.specs.Next.{Next}
 use Rattle.brace_model.specs.Step.{living, children}
 use Rattle.brace_model.specs.Query.{Saying}
 use Rattle.brace_eval.specs.Heard.{row_of}
-use Rattle.brace_fold.specs.declared.columns.Columns.{Columns}
 use Rattle.brace_fold.specs.declared.renewal.Renewed.{Renewed}
 use Rattle.brace_fold.specs.declared.renewing.Batch.{Batch}
-use Rattle.brace_fold.specs.Rows.{AreMoved, rows_in}
+use Rattle.brace_fold.specs.Rows.{AreMoved}
 use Rattle.brace_fold.specs.Becoming.{becomes_by}
 use Rattle.brace_fold.specs.inner.Rulings.{living_from}
 
@@ -35,11 +34,10 @@ pub record Renews (program : Program) (seed tick : ℕ) (totals : Agent → List
   pub lives : left ≡ living nexts
   pub births : new ≡ old ++ children nexts
 
--- the agents of rows from one on, so many, are renewed: those that live on and the children are
--- added
-pub record LeavesRows (program : Program) (seed tick : ℕ) (said : List Saying) (columns : Columns)
-    (from count : ℕ) (old new : Renewed) : Type 0 where
+-- some agents are renewed: those that live on and the children are added
+pub record LeavesSome (program : Program) (seed tick : ℕ) (said : List Saying)
+    (agents : List Agent) (old new : Renewed) : Type 0 where
   pub left : List Agent
-  pub renews : Renews program seed tick (row_of program said)
-      (take count (drop from (rows_in program columns))) left old.born.items new.born.items
-  pub kept : (agents : List Agent) → AreMoved agents old.left → AreMoved (agents ++ left) new.left
+  pub renews : Renews program seed tick (row_of program said) agents left old.born.items
+      new.born.items
+  pub kept : (before : List Agent) → AreMoved before old.left → AreMoved (before ++ left) new.left

@@ -1,7 +1,7 @@
 -- Agents in cells, the runs of the cells around one, and which agents are found there. Only the
 -- crate's own functions cite this.
-use Rattle.std.specs.Prelude.{◌≡◌, ℕ, ◌-◌, ◌<◌, ◌≤◌, ℤ, pos, ◌+ℤ◌, ◌-ℤ◌, ◌*ℤ◌, ◌<ℤ◌, ◌≤ℤ◌, Bool, true, not, ◌&&◌, ◌==◌, List, [], ◌++◌, map, filter, take, drop, length, slice_index_or, Some, is_some}
-use Rattle.std.specs.List.{All, list_all}
+use Rattle.std.specs.Prelude.{◌≡◌, ℕ, ◌-◌, ◌<◌, ◌≤◌, ℤ, pos, ◌+ℤ◌, ◌-ℤ◌, ◌*ℤ◌, ◌<ℤ◌, ◌≤ℤ◌, Bool, true, not, ◌&&◌, ◌==◌, List, ◌++◌, map, filter, take, drop, length, slice_index_or, Some, is_some}
+use Rattle.std.specs.List.{All, list_all, range_with_len}
 use Rattle.std.specs.List.Sorted.{IsPermutation}
 use Rattle.brace_model.specs.declared.program.Class.{Class}
 use Rattle.brace_model.specs.declared.program.Program.{Program}
@@ -13,7 +13,7 @@ use Rattle.brace_grid.specs.Grids as grids
 use Rattle.brace_plan.specs.Answers.{greatest_visible}
 use Rattle.brace_plan.specs.declared.action.Bound.{Bound}
 use Rattle.brace_plan.specs.Acts.{coordinate, limit_in, stands}
-use Rattle.brace_fold.specs.Asked.{agents_at}
+use Rattle.brace_fold.specs.Asked.{by_row}
 use Rattle.brace_fold.specs.declared.cells.Cells.{Cells}
 use Rattle.brace_fold.specs.declared.cells.Sorted.{Sorted}
 use Rattle.brace_fold.specs.declared.cells.Run.{Run}
@@ -66,17 +66,10 @@ pub record AreCells (program : Program) (agents : List Agent) (cells : Cells) : 
   pub theirs : AreSpots program side agents cells.spots.items
   pub rise : CellsRise cells.spots.items
 
--- the agent where there is none
-abbrev pub no_agent : Agent
-no_agent = record { class = 0; id = 0; states = [] }
-
--- the agents of a list, in an order of their places
-abbrev pub by_row : List Agent → List ℕ → List Agent
-by_row agents order = agents_at agents no_agent order
-
 -- cells of the agents of a list, each of which has a row in their order
 pub record AreSorted (program : Program) (agents : List Agent) (sorted : Sorted) : Type 0 where
   pub are : AreCells program (by_row agents sorted.order.items) sorted.cells
+  pub places : IsPermutation (range_with_len 0 (length agents)) sorted.order.items
   pub moved : IsPermutation agents (by_row agents sorted.order.items)
   pub within : All (λ place. place < length agents) sorted.order.items
 

@@ -3,7 +3,7 @@ use Rattle.std.proofs.lemmas.Option.{slice_get_read}
 use Rattle.brace_model.specs.declared.program.Effect.{Effect}
 use Rattle.brace_model.specs.World.{class_of}
 use Rattle.brace_eval.specs.Heard.{effects_in}
-use Rattle.brace_fold.specs.inner.Hears.{Hears}
+use Rattle.brace_fold.specs.Hears.{Hears}
 use Rattle.brace_fold.specs.inner.Joins.{to_effect, to_first}
 use Rattle.brace_fold.proofs.Alikes.{hears-more, hears-none}
 use Rattle.brace_fold.proofs.bringing.bring_agent.Goals as goal

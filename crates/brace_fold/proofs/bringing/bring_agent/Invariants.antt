@@ -5,7 +5,7 @@ use Rattle.brace_model.specs.declared.world.Agent.{Agent}
 use Rattle.brace_model.specs.Query.{Saying}
 use Rattle.brace_model.specs.World.{class_of, ids}
 use Rattle.brace_fold.specs.Sums.{AreSummed}
-use Rattle.brace_fold.specs.inner.Hears.{Hears}
+use Rattle.brace_fold.specs.Hears.{Hears}
 use Rattle.brace_fold.specs.inner.Joins.{to_first}
 use Rattle.brace_fold.proofs.bringing.bring_agent.Given as goal
 

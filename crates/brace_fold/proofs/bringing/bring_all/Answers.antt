@@ -3,9 +3,9 @@ use Rattle.std.proofs.lemmas.List.{length-map, take_all}
 use Rattle.std.proofs.lemmas.Option.{slice_get-get_or, slice_get_read, slice_get_within}
 use Rattle.brace_model.specs.declared.program.Class.{Class}
 use Rattle.brace_model.specs.declared.world.Agent.{Agent}
-use Rattle.brace_fold.specs.inner.Hears.{Hears}
+use Rattle.brace_fold.specs.Hears.{Hears}
 use Rattle.brace_fold.specs.inner.Joins.{said_of}
-use Rattle.brace_fold.specs.inner.Sights.{by_row, no_agent}
+use Rattle.brace_fold.specs.Asked.{by_row, no_agent}
 use Rattle.brace_fold.proofs.Alikes.{hears-more, hears-none}
 use Rattle.brace_fold.proofs.Bringings.{hears-all, order-more}
 use Rattle.brace_fold.proofs.Joinings.{row-has}

@@ -5,9 +5,9 @@ use Rattle.brace_model.specs.Query.{Saying}
 use Rattle.brace_model.specs.World.{ids}
 use Rattle.brace_fold.specs.Rows.{AreColumns}
 use Rattle.brace_fold.specs.Sums.{AreSummed}
-use Rattle.brace_fold.specs.inner.Hears.{Hears}
+use Rattle.brace_fold.specs.Hears.{Hears}
 use Rattle.brace_fold.specs.inner.Joins.{said_of}
-use Rattle.brace_fold.specs.inner.Sights.{by_row}
+use Rattle.brace_fold.specs.Asked.{by_row}
 use Rattle.brace_fold.proofs.bringing.bring_all.Given as goal
 
 abbrev pub invariant-loop-k : goal.invariant-loop-k

@@ -1,6 +1,6 @@
 use Rattle.std.proofs.Common.{◌≡◌, sym, subst, rules, List}
 use Rattle.brace_model.specs.Query.{Saying}
-use Rattle.brace_fold.specs.inner.Hears.{Hears}
+use Rattle.brace_fold.specs.Hears.{Hears}
 use Rattle.brace_fold.proofs.Alikes.{hears-none}
 use Rattle.brace_fold.proofs.Bringings.{sum-hears}
 use Rattle.brace_fold.proofs.Joinings.{sum-none}

@@ -5,7 +5,7 @@ use Rattle.brace_model.specs.declared.world.Agent.{Agent}
 use Rattle.brace_model.specs.Query.{Saying}
 use Rattle.brace_eval.specs.Heard.{IsHeard}
 use Rattle.brace_fold.specs.inner.Joins.{said_of}
-use Rattle.brace_fold.specs.inner.Sights.{no_agent}
+use Rattle.brace_fold.specs.Asked.{no_agent}
 use Rattle.brace_fold.proofs.Joinings.{agents-more}
 use Rattle.brace_fold.proofs.joining.join_all.Goals as goal
 

@@ -1,45 +1,30 @@
-use Rattle.std.proofs.Common.{◌∙◌, arith}
+use Rattle.std.proofs.Common.{◌∙◌, sym, subst, ℕ, List, get_or}
+use Rattle.std.specs.List.Sorted.{IsPermutation}
+use Rattle.std.proofs.lemmas.List.Sorted.{IsPermutation-map}
+use Rattle.brace_fold.specs.declared.askers.Asker.{Asker}
+use Rattle.brace_fold.specs.declared.renewal.Renewed.{Renewed}
+use Rattle.brace_fold.specs.Asked.{by_row, no_agent}
 use Rattle.brace_fold.specs.Rows.{rows_in}
-use Rattle.brace_fold.proofs.RenewalLemmas.{all-born, all-left, all-quiet, left-more, left-none}
+use Rattle.brace_fold.specs.inner.Asks.{rows_of}
+use Rattle.brace_fold.proofs.RenewalLemmas.{all-left}
 use Rattle.brace_fold.proofs.renewal.renew_rows.Goals as goal
 
-pub loop-from-init : goal.loop-from-init
-loop-from-init c = record {
-  within = omega arith;
-  wide = c.in_ok-none.ensures.wide;
-  left = λ more are.
-      left-none c.args.plans.now c.args.seed c.args.tick more
-      (rows_in c.args.plans.now c.args.columns.now) _ c.in_ok-none.ensures.rows c.new.ensures.items;
-}
+pub returns-clause-leaves : goal.returns-clause-leaves
+returns-clause-leaves c = λ more are.
+    let program = c.args.plans.now in
+    let agents = rows_in program c.args.columns.now in
+    let rows = c.args.rows.now in
+    let sorted = rows_of c.deref.result.now in
+    let moved : IsPermutation rows sorted =
+    subst (λ l. IsPermutation l sorted) c.in_ok-these.ensures
+    (subst (λ (l : List Asker). IsPermutation (rows_of c.in_ok-these.these.items) (rows_of l))
+    (sym c.deref.ensures.value)
+    (IsPermutation-map (λ (one : Asker). one.row) _ _ c.sort_by_class.ensures)) in
+    let old : Renewed = record { left = c.in_ok-none.none; born = c.new.result } in
+    all-left program c.args.seed c.args.tick more (by_row agents rows) (by_row agents sorted) old
+    c.renew_all.new.renewed
+    (IsPermutation-map (λ (row : ℕ). get_or agents row no_agent) rows sorted moved)
+    c.in_ok-none.ensures.rows c.new.ensures.items (c.in_ok-renew_all.ensures.leaves more are)
 
-pub loop-from-preserved : goal.loop-from-preserved
-loop-from-preserved c = record {
-  within = omega (arith, c.loop-from.invariant.within, c.of_class-many.ensures);
-  wide = c.in_ok-renew_slice.ensures.wide ∙ c.loop-from.invariant.wide;
-  left = λ more are.
-      left-more c.args.plans.now c.args.seed c.args.tick more c.args.columns.now c.loop-from.from
-      c.of_class-many.result c.loop-from.renewed
-      c.renew_slice.new.renewed (c.loop-from.invariant.left more are)
-      (c.in_ok-renew_slice.ensures.leaves more are);
-}
-
-pub returns-clause-left : goal.returns-clause-left
-returns-clause-left c = λ more are.
-    all-left c.args.plans.now c.args.seed c.args.tick more (rows_in c.args.plans.now
-    c.args.columns.now) c.loop-from.from c.args.count
-    c.loop-from.renewed (c.loop-from.invariant.left more are)
-    (omega (arith, c.loop-from-test.false, c.loop-from.invariant.within))
-
-pub returns-clause-born : goal.returns-clause-born
-returns-clause-born c = λ more are.
-    all-born c.args.plans.now c.args.seed c.args.tick more (rows_in c.args.plans.now
-    c.args.columns.now) c.loop-from.from c.args.count
-    c.loop-from.renewed (c.loop-from.invariant.left more are)
-    (omega (arith, c.loop-from-test.false, c.loop-from.invariant.within))
-
-pub returns-clause-quiet : goal.returns-clause-quiet
-returns-clause-quiet c = λ more are.
-    all-quiet c.args.plans.now c.args.seed c.args.tick more (rows_in c.args.plans.now
-    c.args.columns.now) c.loop-from.from c.args.count
-    c.loop-from.renewed (c.loop-from.invariant.left more are)
-    (omega (arith, c.loop-from-test.false, c.loop-from.invariant.within))
+pub returns-clause-wide : goal.returns-clause-wide
+returns-clause-wide c = c.in_ok-renew_all.ensures.wide ∙ c.in_ok-none.ensures.wide

@@ -1,10 +1,11 @@
-use Rattle.std.proofs.Common.{◌≡◌, ◌∙◌, ap, ap₂, Option, refl, rules, sym, drop, get_or, map, pos, take, List, Some, slice_get}
+use Rattle.std.proofs.Common.{◌≡◌, ◌∙◌, ap, ap₂, Option, refl, rules, sym, get_or, map, pos, List, Some, slice_get}
 use Rattle.std.proofs.lemmas.Option.{slice_get_read}
 use Rattle.brace_model.specs.declared.program.Class.{Class}
 use Rattle.brace_model.specs.declared.program.Effect.{Effect}
 use Rattle.brace_model.specs.declared.world.Agent.{Agent}
 use Rattle.brace_model.specs.Total.{said_to, total_of}
 use Rattle.brace_eval.specs.Heard.{effects_in, row_of}
+use Rattle.brace_fold.specs.Asked.{by_row}
 use Rattle.brace_fold.proofs.ColumnLemmas.{columns-more}
 use Rattle.brace_fold.proofs.Tellings.{effect-totals}
 use Rattle.brace_fold.proofs.telling.told_columns.Goals as goal
@@ -23,9 +24,9 @@ loop-k-preserved c =
     (sym c.as_slice-effects.ensures) ∙ there in
     record {
       long = search rules;
-      each = λ program rows more are all.
-          let these = take c.args.count (drop c.args.from rows) in
-          let column = c.in_ok-column.ensures program rows effect more are refl
+      each = λ program agents more are all.
+          let these = by_row agents c.args.rows.now in
+          let column = c.in_ok-column.ensures program agents effect more are refl
           (λ j d low. ap₂ (λ (o : Option Class) n. slice_get (effects_in o) n) (all j d low) at
           ∙ has) in
           let is = column ∙ ap (λ n. map (λ (a : Agent). total_of effect.comb (said_to a.id n more))
@@ -35,6 +36,6 @@ loop-k-preserved c =
           (sym c.loop-k.invariant.long) in
           rw c.in_ok-push.ensures.items (columns-more (λ i. map (λ (a : Agent). get_or
           (row_of program more a) i (pos 0)) these)
-          c.loop-k.columns.items c.in_ok-column.column (c.loop-k.invariant.each program rows more
+          c.loop-k.columns.items c.in_ok-column.column (c.loop-k.invariant.each program agents more
           are all) is);
     }

@@ -1,4 +1,4 @@
-use Rattle.std.proofs.Common.{◌≡◌, All, List, Some, drop, map, slice_get, take}
+use Rattle.std.proofs.Common.{◌≡◌, All, List, Some, map, slice_get, take}
 use Rattle.brace_model.specs.declared.program.Effect.{Effect}
 use Rattle.brace_model.specs.declared.program.Program.{Program}
 use Rattle.brace_model.specs.declared.world.Agent.{Agent}
@@ -6,13 +6,14 @@ use Rattle.brace_model.specs.Query.{Saying}
 use Rattle.brace_model.specs.Total.{said_to, total_of}
 use Rattle.brace_model.specs.World.{class_of}
 use Rattle.brace_eval.specs.Heard.{effects_in}
+use Rattle.brace_fold.specs.Asked.{by_row}
 use Rattle.brace_fold.specs.Sums.{AreSummed}
 use Rattle.brace_fold.proofs.telling.total_column.Given as goal
 
-abbrev pub invariant-loop-k : goal.invariant-loop-k
-invariant-loop-k l = (program : Program) (rows : List Agent) (e : Effect) (more : List Saying)
-    → AreSummed program rows more l.said → e.comb ≡ l.comb
+abbrev pub invariant-loop-row : goal.invariant-loop-row
+invariant-loop-row l = (program : Program) (agents : List Agent) (e : Effect) (more : List Saying)
+    → AreSummed program agents more l.said → e.comb ≡ l.comb
     → All (λ (a : Agent). slice_get (effects_in (class_of program a)) l.effect ≡ Some e)
-    (take l.count (drop l.from rows))
+    (by_row agents l.rows)
     → l.words.items ≡ map (λ (a : Agent). total_of e.comb (said_to a.id l.effect more))
-    (take l.k (drop l.from rows))
+    (by_row agents (take l.row-index l.rows))

@@ -3,7 +3,7 @@ use Rattle.brace_model.specs.declared.program.Ty.{Ty}
 use Rattle.brace_code.specs.Lanes.{Gives, words_of}
 use Rattle.brace_fold.specs.inner.Crowds.{rows}
 use Rattle.brace_fold.specs.inner.Ears.{told_by}
-use Rattle.brace_fold.specs.inner.Hears.{Hears}
+use Rattle.brace_fold.specs.Hears.{Hears}
 use Rattle.brace_fold.proofs.Actions.{assign-leads}
 use Rattle.brace_fold.proofs.Evals.{worths-of}
 use Rattle.brace_fold.proofs.walk.tell.Goals as goal

@@ -5,7 +5,7 @@ use Rattle.std.proofs.lemmas.Int.{to_z-of_z}
 use Rattle.std.proofs.lemmas.List.{with_items_is}
 use Rattle.brace_fold.specs.declared.cells.Spot.{Spot}
 use Rattle.brace_fold.specs.inner.Sights.{AreSpots, CellsRise, in_row}
-use Rattle.brace_fold.proofs.Sortings.{rows_are, rows_moved, rows_rise, rows_within}
+use Rattle.brace_fold.proofs.Sortings.{rows_are, rows_moved, rows_places, rows_rise, rows_within}
 use Rattle.brace_fold.proofs.cells.Sorted.of.Goals as goal
 
 pub returns : goal.returns
@@ -20,7 +20,7 @@ returns c = λ agents columns.
     let are = subst (λ z. AreSpots program z agents spots) (to_z-of_z w64 side c.ranges.side)
     (c.in_ok-spots.ensures agents columns) in
     let same = sym c.deref_mut.ensures.value in
-    let perm = subst (IsPermutation spots) same c.sort_by_cell.ensures.moved in
+    let perm = subst (IsPermutation spots) same c.in_ok-sort_by_cell.ensures.moved in
     let order_is : order ≡ map (λ (s : Spot). s.place) sorted =
     c.in_ok-order.ensures ∙ ap (map (λ (s : Spot). s.place)) (c.deref.ensures.value ∙ same) in
     let kept : length written ≡ length sorted = c.in_ok-number_rows.ensures.long in
@@ -38,8 +38,9 @@ returns c = λ agents columns.
         wide = c.requires.wide;
         theirs = rows_are program side agents spots sorted new order are perm order_is long each;
         rise = rows_rise program side agents spots sorted new order are perm order_is long each
-            (subst CellsRise same c.sort_by_cell.ensures.rise);
+            (subst CellsRise same c.in_ok-sort_by_cell.ensures.rise);
       };
+      places = rows_places program side agents spots sorted new order are perm order_is long each;
       moved = rows_moved program side agents spots sorted new order are perm order_is long each;
       within = rows_within program side agents spots sorted new order are perm order_is long each;
     }

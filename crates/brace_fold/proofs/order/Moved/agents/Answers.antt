@@ -1,14 +1,8 @@
 use Rattle.std.proofs.Common.{◌∙◌, ap, map}
-use Rattle.brace_fold.specs.declared.columns.Columns.{Columns}
-use Rattle.brace_fold.proofs.Ownings.{lent-are}
 use Rattle.brace_fold.proofs.order.Moved.agents.Goals as goal
 
 pub returns : goal.returns
 returns c =
-    let columns : Columns =
-    record { classes = c.deref-2.result; ids = c.deref-3.result; states = c.deref-4.result } in
-    let words = ap (map (λ v. v.now)) c.deref-4.ensures.value ∙ c.in_ok-states.ensures
+    let lent = ap (map (λ v. v.now)) c.deref-2.ensures.value ∙ c.in_ok-states.ensures
     ∙ c.deref.ensures.value in
-    let lent = lent-are c.args.program.now c.args.self.now columns c.deref-2.ensures.value
-    c.deref-3.ensures.value words in
-    c.in_ok-agents.ensures ∙ lent
+    c.in_ok-agents.ensures ∙ c.as_columns.ensures.rows lent c.args.program.now

@@ -2,7 +2,7 @@ use Rattle.std.proofs.Common.{◌∙◌, ◌≤◌, ap, subst, length, arith, �
 use Rattle.brace_model.specs.Query.{Saying}
 use Rattle.brace_code.specs.Lanes.{words_of}
 use Rattle.brace_fold.specs.inner.Crowds.{rows}
-use Rattle.brace_fold.specs.inner.Hears.{Hears}
+use Rattle.brace_fold.specs.Hears.{Hears}
 use Rattle.brace_fold.proofs.Alikes.{hears-none}
 use Rattle.brace_fold.proofs.Sayings.{says-all, says-more}
 use Rattle.brace_fold.proofs.scene.Scene.say.Goals as goal

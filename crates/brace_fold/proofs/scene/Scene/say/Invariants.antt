@@ -3,7 +3,7 @@ use Rattle.brace_model.specs.Value.{Scope}
 use Rattle.brace_code.specs.Lanes.{words_of}
 use Rattle.brace_fold.specs.inner.Crowds.{Stands, rows}
 use Rattle.brace_fold.specs.inner.Ears.{told_by}
-use Rattle.brace_fold.specs.inner.Hears.{Hears}
+use Rattle.brace_fold.specs.Hears.{Hears}
 use Rattle.brace_fold.proofs.scene.Scene.say.Given as goal
 
 abbrev pub invariant-loop-at : goal.invariant-loop-at

@@ -1,5 +1,0 @@
-use Rattle.std.proofs.Common.{◌≡◌, Some, map, slice_get, take}
-use Rattle.brace_fold.proofs.order.picked_words.Given as goal
-
-abbrev pub invariant-loop-row : goal.invariant-loop-row
-invariant-loop-row l = map (slice_get l.column) (take l.row-index l.order) ≡ map Some l.out.items

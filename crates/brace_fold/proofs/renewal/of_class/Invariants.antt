@@ -1,8 +1,0 @@
-use Rattle.std.proofs.Common.{◌-◌, ◌≤◌}
-use Rattle.brace_fold.proofs.renewal.of_class.Given as goal
-
-abbrev pub invariant-loop-count : goal.invariant-loop-count
-invariant-loop-count l = l.count ≤ l.most
-
-abbrev pub decreases-loop-count : goal.decreases-loop-count
-decreases-loop-count l = l.most - l.count
