@@ -1,7 +1,7 @@
 -- What the queries of a program are asked over serves those of one with other queries too, whose rules
 -- are the same; and what is heard of agents, one after another.
 use Rattle.std.proofs.Common.{◌≡◌, ◌∙◌, refl, sym, ap, subst, ℕ, zero, suc, ◌+◌, ◌<◌, ◌≤◌, ℤ, pos, List, [], ◌∷◌, ◌++◌, map, flat_map, fold, take, length, append_assoc, Option, Some, None, arith}
-use Rattle.std.specs.Prelude.{◌≤ℤ◌, ◌&&◌, nat_le, slice_get, option_map, unwrap_or}
+use Rattle.std.specs.Prelude.{◌≤ℤ◌, ◌&&◌, is_some, nat_le, slice_get, option_map, unwrap_or}
 use Rattle.std.specs.Int.{int_max}
 use Rattle.std.specs.List.{list_all}
 use Rattle.std.proofs.lemmas.List.{take_all}
@@ -21,6 +21,7 @@ use Rattle.brace_grid.specs.Grids.{Point, origin, place_of, grid_of}
 use Rattle.brace_plan.specs.Answers.{greatest_visible, id_at}
 use Rattle.brace_eval.specs.declared.heard.Heard.{Heard}
 use Rattle.brace_eval.specs.Heard.{IsHeard, said_by, faults_by}
+use Rattle.brace_fold.proofs.ArrangedLemmas.{SeesAs}
 use Rattle.brace_invert.specs.Split.{with_query, with_queries}
 use Rattle.brace_invert.proofs.Inverting.{class_same}
 use Rattle.brace_part.specs.declared.asking.Scene.{Scene}
@@ -71,6 +72,19 @@ module _ (part : List Stmt → List Stmt) (m : Program) where
     lawful = lawful_same;
     effects = effects_same part m p refl;
     next = λ seed tick totals a. ap (λ o. next_in seed tick o totals a) (class_same part m a) ∙ next_same (class_of m a) seed tick totals a;
+  })
+
+  known_same : (o : Option Class) → is_some (option_map (with_query part) o) ≡ is_some o
+  known_same None = refl
+  known_same (Some c) = refl
+
+  -- and agents where they are seen
+  pub sees_same : (q : Program) → q ≡ p → SeesAs m q
+  sees_same q is = subst (SeesAs m) (sym is) (record {
+    places = place_same;
+    known = λ a. ap is_some (class_same part m a) ∙ known_same (class_of m a);
+    lawful = lawful_same;
+    range = visible_same;
   })
 
   pub can_ask_too : (q : Program) → q ≡ p → (scene : Scene) → CanAsk m scene → CanAsk q scene

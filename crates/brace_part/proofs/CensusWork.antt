@@ -29,7 +29,7 @@ use Rattle.brace_part.specs.declared.work.Worker.{Worker}
 use Rattle.brace_part.specs.Parts.{found_in_work}
 use Rattle.brace_part.specs.inner.Pieces.{counts_brought}
 use Rattle.brace_fold.specs.declared.order.Moved.{Moved}
-use Rattle.brace_fold.specs.Rows.{AreMoved}
+use Rattle.brace_fold.specs.Listed.{AreStored}
 use Rattle.brace_part.specs.inner.Ready.{own_in, left_in, HasLeft, HasBorn}
 use Rattle.brace_part.specs.inner.Sound.{IsWorker, IsWork}
 use Rattle.brace_part.proofs.HoldWork.{mine_lawful}
@@ -51,7 +51,7 @@ parent_ids (c ∷ kids) = ap (λ ns. c.id ∷ ns) (parent_ids kids)
 pub sum_is : (worker : Worker) (part : IsWorker worker) (t : ℕ) (left : Moved)
     (born bears : List Agent) (next : ℕ) → HasLeft worker.setting.now worker.part t left born next
     → bears ≡ born → (others : List Census) (own all : Census)
-    → ((agents : List Agent) → AreMoved agents left
+    → ((agents : List Agent) → AreStored worker.setting.now.job.program agents left
     → list_all (is_lawful_agent worker.setting.now.job.program) agents ≡ true
     → own ≡ census_of agents bears)
     → IsSumOf (own ∷ others) all
@@ -61,7 +61,7 @@ sum_is worker part t left born bears next has same others own all counts sum =
     let lives = left_in s worker.part t in
     let lawful = left_lawful s part.lawful t (on s t).agents _ (mine_lawful worker part t) in
     subst (λ (c : Census). IsSumOf (c ∷ others) all)
-    (counts lives has.lives.moved lawful ∙ ap (census_of lives) same) sum
+    (counts lives has.lives lawful ∙ ap (census_of lives) same) sum
 
 module _ (worker : Worker) (part : IsWorker worker) (t : ℕ) (pieces : List Piece)
     (work : IsWork worker stage.Census t pieces) (left : Moved) (born : List Agent)

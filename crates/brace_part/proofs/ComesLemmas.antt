@@ -20,6 +20,7 @@ use Rattle.brace_part.specs.inner.Sound.{IsPartOf, IsAtWork, ComesTo, owns_in}
 use Rattle.brace_part.proofs.StepLemmas.{of_run}
 use Rattle.brace_pieces.proofs.EpochLemmas.{shown_behind}
 use Rattle.brace_part.proofs.NextLemmas.{ready_next, faultless_next, numbered_next, numbered_moved}
+use Rattle.brace_part.proofs.CellLemmas.{stored_are}
 use Rattle.brace_part.proofs.ShownLemmas.{is_noted, one_noted, brings_next}
 
 -- what a part notes of a tick
@@ -33,7 +34,8 @@ module _ (s : Setting) (p : ℕ) (t : ℕ) (low : s.job.first ≤ t) (next : ℕ
       → note_of s (t + 1) stance next ≡ kept_at s p (t + 1)
   note_right (Owns own) has =
       ap₂ (λ agents n. record { tick = t + 1; agents = agents; next = n })
-      (has.are ∙ sym (ap (λ cuts. own_under s p cuts (t + 1)) (shown_behind s (t + 1) t refl low)))
+      (stored_are s.job.program _ own has
+      ∙ sym (ap (λ cuts. own_under s p cuts (t + 1)) (shown_behind s (t + 1) t refl low)))
       next_is
   note_right (Hears agents heard) has = absurd has
   note_right (Holds held) has = absurd has

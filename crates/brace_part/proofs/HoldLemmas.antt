@@ -1,10 +1,11 @@
 -- What is summed of agents in rows: what entries and pieces tell of them, and what is told of them.
-use Rattle.std.proofs.Common.{◌≡◌, ◌∙◌, refl, sym, ap, ap₂, subst, ℕ, zero, suc, ◌+◌, ◌<◌, ℤ, pos, List, [], ◌∷◌, ◌++◌, map, length, set, drop, get_or, take, slice_get, Some, arith, append_assoc, append-nil}
-use Rattle.std.specs.Prelude.{nat_eq}
+use Rattle.std.proofs.Common.{◌≡◌, ◌∙◌, refl, sym, ap, ap₂, subst, ℕ, ◌+◌, ◌<◌, ℤ, pos, List, [], ◌∷◌, ◌++◌, map, length, set, drop, get_or, slice_get, Bool, true, false, Option, Some, append_assoc, append-nil}
+use Rattle.std.specs.Prelude.{nat_eq, option_map}
+use Rattle.std.specs.Bool.{OnTrue}
 use Rattle.std.specs.List.{All, IsDistinct}
 use Rattle.std.proofs.lemmas.List.Elements.{All-head, All-tail}
-use Rattle.std.proofs.lemmas.Option.{same_Some, get_or_from_slice_get, slice_get-get_or, slice_get_read}
-use Rattle.std.proofs.lemmas.List.{length-map, map-append, take_more}
+use Rattle.std.proofs.lemmas.Option.{same_Some, slice_get-map, slice_get_read}
+use Rattle.std.proofs.lemmas.List.{length-map}
 use Rattle.brace_num.proofs.Orders.{pairs_differ}
 use Rattle.brace_model.specs.declared.program.Effect.{Effect}
 use Rattle.brace_model.specs.declared.program.Program.{Program}
@@ -17,31 +18,52 @@ use Rattle.brace_comb.specs.Partials.{sayings_to}
 use Rattle.brace_eval.specs.Heard.{AreTold, effects_in}
 use Rattle.brace_fold.specs.declared.table.Sum.{Sum}
 use Rattle.brace_fold.specs.declared.table.Table.{Table}
-use Rattle.brace_fold.specs.Asked.{agents_at}
 use Rattle.brace_fold.specs.Sums.{AreSummed, sum_at, sum_place, summed}
-use Rattle.brace_fold.specs.inner.Hears.{Hears}
+use Rattle.brace_fold.specs.Hears.{Hears}
 use Rattle.brace_fold.proofs.Alikes.{hears-none, hears-more}
 use Rattle.brace_fold.proofs.Summings.{hears-sum}
-use Rattle.brace_part.specs.inner.Tables.{TellsOf, TellsBy}
+use Rattle.brace_pieces.specs.declared.piece.Piece.{Piece}
+use Rattle.brace_pieces.specs.declared.piece.Piece.TheVariants.{Effects}
+use Rattle.brace_part.specs.inner.Asked.{ArePlaces}
+use Rattle.brace_part.specs.inner.Tables.{IsSilent, TellsOf, TellsBy, TellBy, no_piece, one_piece}
 use Rattle.brace_part.proofs.TableShares.{Reads}
-use Rattle.brace_part.proofs.TableTells.{OneMore, entry_more, next_at}
+use Rattle.brace_part.proofs.TableTells.{OneMore, entry_more, next_at, no_entries}
 
--- ---- rows of two lists
+-- the agent at a place
+pub stands_at : (all these : List Agent) (places : List ℕ) (k place : ℕ) (a : Agent)
+    → ArePlaces all these places → slice_get places k ≡ Some place → slice_get these k ≡ Some a
+    → slice_get all place ≡ Some a
+stands_at all these places k place a e at there =
+    let reads : ℕ → Option Agent = λ p. slice_get all p in
+    let first : slice_get (map reads places) k ≡ Some (reads place) =
+    slice_get-map reads places k ∙ ap (option_map reads) at in
+    let second : slice_get (map Some these) k ≡ Some (Some a) =
+    slice_get-map Some these k ∙ ap (option_map Some) there in
+    same_Some (reads place) (Some a) (sym first ∙ ap (λ l. slice_get l k) e ∙ second)
 
-pub in_front : (xs ys : List Agent) (k : ℕ) (a : Agent) → slice_get xs k ≡ Some a
-    → slice_get (xs ++ ys) k ≡ Some a
-in_front [] ys k a there = absurd (cc)
-in_front (x ∷ xs) ys zero a there = there
-in_front (x ∷ xs) ys (suc k) a there = in_front xs ys k a there
+-- ---- pieces that tell of no values
 
-pub behind : (xs ys : List Agent) (k : ℕ) (a : Agent) → slice_get ys k ≡ Some a
-    → slice_get (xs ++ ys) (length xs + k) ≡ Some a
-behind [] ys k a there =
-    let at : 0 + k ≡ k = omega arith in
-    subst (λ (n : ℕ). slice_get ys n ≡ Some a) (sym at) there
-behind (x ∷ xs) ys k a there =
-    let at : suc (length xs) + k ≡ suc (length xs + k) = omega arith in
-    subst (λ (n : ℕ). slice_get (x ∷ (xs ++ ys)) n ≡ Some a) (sym at) (behind xs ys k a there)
+pub on_true : {P Q : Type 0} (b : Bool) → OnTrue b P → (P → Q) → OnTrue b Q
+on_true true h f = f h
+on_true false h f = h
+
+pub one_list_told : (piece : Piece) (xs ys : List Entry) → piece ≡ Effects xs → piece ≡ Effects ys
+    → ys ≡ xs
+one_list_told piece xs ys is are = let same : Effects ys ≡ Effects xs = sym are ∙ is in cc
+
+none_of_them : (program : Program) (held : List Agent) (entries : List Entry) (told : List Saying)
+    → entries ≡ [] → TellsBy program held entries told → told ≡ []
+none_of_them program held entries told none tells =
+    no_entries program held told (subst (λ l. TellsBy program held l told) none tells)
+
+pub silent_told : (program : Program) (held : List Agent) (pieces : List Piece)
+    (told : List Saying) → All IsSilent pieces → TellBy program held pieces told → told ≡ []
+silent_told program held _ _ silent no_piece = refl
+silent_told program held _ _ silent (one_piece entries pieces first more of rest) =
+    ap (λ l. l ++ more)
+    (none_of_them program held entries first
+    (All-head IsSilent (Effects entries) pieces silent entries refl) of)
+    ∙ silent_told program held pieces more (All-tail IsSilent (Effects entries) pieces silent) rest
 
 -- ---- what is told of one
 
@@ -188,15 +210,3 @@ none_reads program rows more table row i target a effects e sum are here named i
           ∙ ap pos ((are.sums row i a e here there).many
           ∙ ap (λ n. length (said_to n i more)) named);
     }
-
--- ---- the first rows
-
-pub rows_more : (first rest : List Agent) (d : Agent) (rows : List ℕ) (k : ℕ) → k < length first
-    → agents_at (first ++ rest) d rows ≡ take k first
-    → agents_at (first ++ rest) d (rows ++ k ∷ []) ≡ take (k + 1) first
-rows_more first rest d rows k low so =
-    let there = in_front first rest k (get_or first k d) (slice_get-get_or first k d low) in
-    map-append (λ place. get_or (first ++ rest) place d) rows (k ∷ [])
-    ∙ ap₂ (λ xs x. xs ++ x ∷ []) so
-    (get_or_from_slice_get (first ++ rest) k (get_or first k d) d there)
-    ∙ sym (take_more first k d low)

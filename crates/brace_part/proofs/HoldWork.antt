@@ -1,34 +1,34 @@
 -- What a part holds in rows in a step, and what is left of its agents.
-use Rattle.std.proofs.Common.{◌≡◌, ◌∙◌, refl, sym, ap, subst, ℕ, ◌+◌, ◌<◌, ◌≤◌, ◌^◌, List, [], ◌∷◌, ◌++◌, map, filter, filter_map, flat_map, length, drop, take, Bool, true, false, cond, Option, Some, None, Result, Ok, Err, IfOk, ◌⊎◌, inl, inr, get_or, arith}
+use Rattle.std.proofs.Common.{◌≡◌, ◌∙◌, refl, sym, ap, subst, ℕ, ◌≤◌, ◌^◌, List, [], ◌∷◌, ◌++◌, map, filter, filter_map, flat_map, length, Bool, true, false, cond, Option, Some, None, Result, Ok, Err, IfOk, arith}
 use Rattle.std.specs.Prelude.{nat_eq}
 use Rattle.std.specs.List.{Contains, IsDistinct, list_all}
-use Rattle.std.specs.List.Sorted.{IsNonDecreasingBy, IsPermutation}
+use Rattle.std.specs.List.Sorted.{IsPermutation}
 use Rattle.std.specs.Result.{result_ok, result_err}
 use Rattle.std.proofs.lemmas.Bool.{eqb-true, ne_eqb}
 use Rattle.std.proofs.lemmas.List.{length-map}
 use Rattle.std.proofs.lemmas.List.Elements.{filter-append}
-use Rattle.std.proofs.lemmas.List.Kept.{IsNonDecreasingBy-filter}
-use Rattle.std.proofs.lemmas.List.Sorted.{IsNonDecreasingBy-take, IsPermutation-sym, IsPermutation-trans, IsPermutation-refl, IsPermutation-append}
-use Rattle.std.proofs.Math.Nat.{eq-or-lt_of_le}
+use Rattle.std.proofs.lemmas.List.Sorted.{IsPermutation-append, IsPermutation-map, IsPermutation-refl, IsPermutation-sym, IsPermutation-trans}
 use Rattle.brace_num.proofs.Lists.{in_more}
-use Rattle.brace_num.proofs.Orders.{filter_rises, one_moved, one_sorted, rises_by_keys, sorted_rises}
+use Rattle.brace_num.proofs.Orders.{filter_rises, keys_by_rises, one_moved, one_sorted, rises_by_keys, sorted_rises}
 use Rattle.brace_model.specs.declared.program.Program.{Program}
 use Rattle.brace_model.specs.declared.world.Agent.{Agent}
 use Rattle.brace_model.specs.declared.program.Class.{Class}
-use Rattle.brace_model.specs.World.{World, RisesById, class_of, ids, x_of, y_of}
+use Rattle.brace_model.specs.World.{RisesById, class_of, ids, x_of, y_of}
 use Rattle.brace_model.specs.Total.{totals_from}
 use Rattle.brace_model.specs.Lawful.{is_lawful_agent}
-use Rattle.brace_model.specs.Step.{living, children, numbered}
+use Rattle.brace_model.specs.declared.fault.Fault.{Fault}
+use Rattle.brace_model.specs.Next.{Next}
+use Rattle.brace_model.specs.Step.{living, children}
 use Rattle.brace_cuts.specs.Space.{owner_of}
-use Rattle.brace_cuts.specs.declared.space.Cuts.{Cuts}
 use Rattle.brace_eval.specs.Heard.{row_of}
-use Rattle.brace_fold.specs.Becoming.{becomes_said}
-use Rattle.brace_fold.specs.Listed.{AreListed, agents_in}
+use Rattle.brace_fold.specs.Becoming.{AreLeft, becomes_said}
+use Rattle.brace_fold.specs.Listed.{AreListed, AreStored, agents_in}
 use Rattle.brace_fold.specs.Rows.{AreMoved, by_id}
 use Rattle.brace_fold.specs.Sums.{AreSummed}
 use Rattle.brace_fold.specs.declared.order.Moved.{Moved}
+use Rattle.brace_fold.specs.declared.table.Table.{Table}
 use Rattle.brace_fold.specs.declared.renewal.Renewed.{Renewed}
-use Rattle.brace_fold.specs.inner.Hears.{Hears}
+use Rattle.brace_fold.specs.Hears.{Hears}
 use Rattle.brace_fold.proofs.RowLemmas.{by_id_is, lawful_moved, rows_apart}
 use Rattle.brace_invert.proofs.Heard.{seen_in}
 use Rattle.brace_pieces.specs.declared.setting.Setting.{Setting}
@@ -37,25 +37,24 @@ use Rattle.brace_pieces.specs.declared.piece.Piece.{Piece}
 use Rattle.brace_pieces.specs.Settings.{cuts_of}
 use Rattle.brace_pieces.specs.Steps.{step, met}
 use Rattle.brace_pieces.specs.Owned.{owns, owns_at, owned}
-use Rattle.brace_pieces.specs.Continued.{all_left, becomes, fitting, on, said}
+use Rattle.brace_pieces.specs.Continued.{all_left, becomes, left_or_kept, on, said, totals_of}
 use Rattle.brace_pieces.specs.Finds.{queries_found, updates_found}
 use Rattle.brace_pieces.specs.Together.{IsSorted}
-use Rattle.brace_pieces.proofs.GivenLemmas.{own_living}
+use Rattle.brace_pieces.proofs.GivenLemmas.{children_rise, own_children}
 use Rattle.brace_pieces.proofs.HeardHere.{finds_here, told_is}
-use Rattle.brace_pieces.proofs.OnLemmas.{on_next}
-use Rattle.brace_pieces.proofs.WorldLemmas.{seconds_both}
+use Rattle.brace_pieces.proofs.OnLemmas.{id_stays, kept_rise, living_each}
 use Rattle.brace_part.specs.declared.holding.Held.{Held}
 use Rattle.brace_part.specs.declared.work.Worker.{Worker}
 use Rattle.brace_part.specs.inner.Asked.{HasRulesOf}
 use Rattle.brace_part.specs.inner.Hearing.{CanSum}
-use Rattle.brace_part.specs.inner.Holding.{AreHeld, HoldsAll, HoldsAsked, HoldsRows, IsHeld, LeavesRows, mine, all_near}
-use Rattle.brace_part.specs.declared.joining.Own.{Own}
-use Rattle.brace_part.specs.inner.Owning.{AreOwn}
+use Rattle.brace_part.specs.inner.Holding.{AreHeld, HoldsAll, HoldsAsked, IsHeld, IsSummed, LeavesRows, mine, all_near}
 use Rattle.brace_part.specs.inner.Pieces.{brought}
-use Rattle.brace_part.specs.inner.Ready.{left_in}
+use Rattle.brace_part.specs.inner.Ready.{children_in, left_in}
 use Rattle.brace_part.specs.inner.Sound.{IsWorker, IsWork}
 use Rattle.brace_part.specs.inner.Tables.{said_over, faults_over, TellBy}
 use Rattle.brace_part.proofs.AskedLemmas.{filter_moved}
+use Rattle.brace_part.proofs.CellLemmas.{both_moved, filter_map_moved}
+use Rattle.brace_part.proofs.SumsLemmas.{nothing_moved}
 use Rattle.brace_part.proofs.LawfulOn.{on_lawful, some_pass}
 use Rattle.brace_part.proofs.TableLeft.{becomes_row}
 use Rattle.brace_part.proofs.WorkHeard.{all_leave, becomes_asked, becomes_told, told_there, inside, mapped_alike, near_lawful, near_rises, rises, whole}
@@ -72,14 +71,6 @@ apart_behind (x ∷ xs) ys apart = apart_behind xs ys apart.1
 pub ok_always : {X Y : Type 0} (r : Result X Y) (P : Type 0) → P → IfOk r (λ x. P)
 ok_always (Ok x) P h = h
 ok_always (Err e) P h = tt
-
-pub take_first : (xs ys : List Agent) → take (length xs) (xs ++ ys) ≡ xs
-take_first [] ys = refl
-take_first (x ∷ xs) ys = ap (λ l. x ∷ l) (take_first xs ys)
-
-first_mapped : (f : Agent → ℕ) (xs ys : List Agent) → take (length xs) (map f (xs ++ ys)) ≡ map f xs
-first_mapped f [] ys = refl
-first_mapped f (x ∷ xs) ys = ap (λ l. f x ∷ l) (first_mapped f xs ys)
 
 none_of : (test : Agent → Bool) (xs : List Agent) → ((a : Agent) → Contains xs a → test a ≡ false)
     → filter test xs ≡ []
@@ -116,46 +107,28 @@ module _ (worker : Worker) (part : IsWorker worker) (t : ℕ) where
   mine_rise = filter_rises (λ (a : Agent). a.id) (owns m (cuts_of s t) p) (on s t).agents
       (rises worker part t)
 
-  -- ---- in the order of ids
-
-  in_order : (tick : ℕ) → IsNonDecreasingBy (λ (a : Agent). a.id) (on s tick).agents
-  in_order tick i j d le low = by (eq-or-lt_of_le le)
-    where
-      id : Agent → ℕ
-      id a = a.id
-
-      agents : List Agent
-      agents = (on s tick).agents
-
-      by : (i ≡ j) ⊎ (i < j) → id (get_or agents i d) ≤ id (get_or agents j d)
-      by (inl same) = let one = ap (λ k. id (get_or agents k d)) same in omega (arith, one)
-      by (inr less) =
-          let up = rises_by_keys id agents (rises worker part tick) i j d less low in
-          omega (arith, up)
-
-  pub own_in_order : (cuts : Cuts)
-      → IsNonDecreasingBy (λ (a : Agent). a.id) (owned m cuts p (on s t).agents)
-  own_in_order cuts = IsNonDecreasingBy-filter (λ (a : Agent). a.id) (owns m cuts p)
-      (on s t).agents (in_order t)
-
   -- what its agents leave
-  pub left_in_order : s.job.first ≤ t
-      → IsNonDecreasingBy (λ (a : Agent). a.id) (left_in s p t)
-  left_in_order low =
+  pub left_rises : RisesById (left_in s p t)
+  left_rises =
       let id : Agent → ℕ = λ a. a.id in
-      let world : World = on s t in
-      let lives : List Agent = living (all_left s t world.agents) in
-      let born : List Agent =
-      fitting lives world.next (children (all_left s t world.agents)) in
-      let next : (on s (t + 1)).agents ≡ lives ++ numbered world.next born =
-      ap (λ (w : World). w.agents) (on_next s t low) ∙ seconds_both lives born world.next in
-      let first : IsNonDecreasingBy id lives = subst (IsNonDecreasingBy id)
-      (take_first lives (numbered world.next born))
-      (IsNonDecreasingBy-take id (length lives) (lives ++ numbered world.next born)
-      (subst (IsNonDecreasingBy id) next (in_order (t + 1)))) in
-      subst (IsNonDecreasingBy id)
-      (own_living s t part.lawful world.agents (rises worker part t) (whole worker part t) p)
-      (IsNonDecreasingBy-filter id _ lives first)
+      let w : List Agent = (on s t).agents in
+      let leaves : Agent → Next = λ a. left_or_kept a (becomes s t (said s t w) a) in
+      subst RisesById (sym (living_each leaves (mine s p t)))
+      (keys_by_rises id (filter_map (λ a. (leaves a).agent) (mine s p t))
+      (kept_rise (λ a. (leaves a).agent)
+      (λ a b e. id_stays s.job.seed t (class_of m a)
+      (totals_of (said s t w) a (class_of m a)) a b e)
+      (mine s p t) (rises_by_keys id (mine s p t) mine_rise)))
+
+  -- and their children
+  pub kids_rise : RisesById (children_in s p t)
+  kids_rise =
+      let id : Agent → ℕ = λ a. a.id in
+      let w : List Agent = (on s t).agents in
+      let kids : List Agent = children (all_left s t w) in
+      subst RisesById (own_children s t part.lawful w (rises worker part t) (whole worker part t) p)
+      (filter_rises id _ kids (keys_by_rises id kids
+      (children_rise s t part.lawful w (rises worker part t) (whole worker part t) p)))
 
   -- ---- what it holds
 
@@ -202,13 +175,6 @@ module _ (worker : Worker) (part : IsWorker worker) (t : ℕ) where
     pub held_by_id : by_id (own ++ guests) ≡ all
     held_by_id = by_id_is all (own ++ guests) all_rise (IsPermutation-sym _ _ h.moved)
 
-    -- all of them by rising id
-    pub held_merged : (list : List Agent) → IsSorted (own ++ guests) list → list ≡ all
-    held_merged list sorted =
-        one_sorted (λ (a : Agent). a.id) list all
-        (IsPermutation-trans _ _ _
-        (IsPermutation-sym _ _ h.moved) sorted.same) sorted.in_order all_rise
-
     -- those of another part
     pub held_of : (q : ℕ) → (p ≡ q → ⊥)
         → owned m (cuts_of s t) q guests ≡ owned m (cuts_of s t) q all
@@ -225,31 +191,27 @@ module _ (worker : Worker) (part : IsWorker worker) (t : ℕ) where
         one_moved id (filter theirs guests) (filter theirs all) moved
         (filter_rises id theirs guests h.rises) (filter_rises id theirs all all_rise)
 
-  -- all that it holds in rows, by rising id
+  -- all that it holds in columns, by rising id
   pub merged_is : (rows : Moved) → AreHeld s p t rows → (agents list : List Agent)
       → agents ≡ agents_in m rows → IsSorted agents list
       → list ≡ all
   merged_is rows h agents list is sorted =
-      held_merged (mine s p t) h.guests h.holds list (subst (λ l. IsSorted l list) (is
-      ∙ h.listed.are) sorted)
+      one_sorted (λ (a : Agent). a.id) list all
+      (IsPermutation-trans all h.those list h.same
+      (subst (λ l. IsPermutation l list) (is ∙ h.listed.are) sorted.same))
+      sorted.in_order all_rise
 
-  -- its own agents in the first rows
-  pub first_own : (held : Held) → HoldsRows s p t held → (own : Own) (classes ids_of : List ℕ)
-      → classes ≡ held.rows.classes.items
-      → ids_of ≡ held.rows.ids.items → own.classes.now ≡ take held.count (drop 0 classes)
-      → own.ids.now ≡ take held.count (drop 0 ids_of)
-      → AreOwn (mine s p t) own
-  first_own held h own classes ids_of classes_are ids_are first_classes first_ids =
-      let mine_are : List Agent = mine s p t in
-      let guests : List Agent = held.guests.items in
-      record {
-        classes = first_classes ∙ ap (λ l. take held.count l) (classes_are ∙ h.listed.moved.classes)
-            ∙ ap (λ n. take n (map (λ (a : Agent). a.class) (mine_are ++ guests))) h.many
-            ∙ first_mapped (λ a. a.class) mine_are guests;
-        ids_are = first_ids ∙ ap (λ l. take held.count l) (ids_are ∙ h.listed.moved.ids_are)
-            ∙ ap (λ n. take n (map (λ (a : Agent). a.id) (mine_are ++ guests))) h.many
-            ∙ first_mapped (λ a. a.id) mine_are guests;
-      }
+  -- what stands in columns is what it holds
+  pub held_stored : (own guests : List Agent) → IsHeld s p t own guests → (those : List Agent)
+      (rows : Moved) → IsPermutation (own ++ guests) those → AreListed m those rows
+      → AreHeld s p t rows
+  held_stored own guests h those rows moved listed = record {
+    rises = all_rise;
+    those = those;
+    same = IsPermutation-trans all (own ++ guests) those
+        (IsPermutation-sym (own ++ guests) all h.moved) moved;
+    listed = listed;
+  }
 
   -- ---- what is left of its agents
 
@@ -266,57 +228,68 @@ module _ (worker : Worker) (part : IsWorker worker) (t : ℕ) where
         (ap (λ effects. totals_from 0 a.id effects h.told) (rules.effects a)))
         ∙ sym (h.becomes_so a there))
 
-    pub leaves_rows : (renewed : Renewed) (list : List Agent) → list ≡ mine s p t
-        → AreMoved (living (filter_map result_ok
-        (map (becomes_said plans s.job.seed t h.told) list))) renewed.left
-        → renewed.born.items ≡ children (filter_map result_ok
-        (map (becomes_said plans s.job.seed t h.told) list))
-        → filter_map result_err (map (becomes_said plans s.job.seed t h.told) list) ≡ []
-        → LeavesRows s p t renewed
-    leaves_rows renewed list is left born none =
-        let now : map (becomes_said plans s.job.seed t h.told) list ≡ map (becomes s t
-        (said s t (on s t).agents)) (mine s p t) =
-        ap (map (becomes_said plans s.job.seed t h.told)) is ∙ results in
+    pub leaves_rows : (renewed : Renewed) (list : List Agent) → IsPermutation (mine s p t) list
+        → AreLeft plans s.job.seed t h.told list renewed → LeavesRows s p t renewed
+    leaves_rows renewed list moved left =
+        let f : Agent → Result Next Fault = becomes_said plans s.job.seed t h.told in
+        let g : Agent → Result Next Fault = becomes s t (said s t (on s t).agents) in
+        let own = mine s p t in
+        let perm = IsPermutation-map f own left.those
+        (IsPermutation-trans own list left.those moved left.same) in
+        let errs = filter_map_moved result_err (map f own) (map f left.those) perm in
         let quiet : updates_found s t p (on s t).agents ≡ [] =
-        sym (ap (filter_map result_err) now) ∙ none in
-        let nexts = ap (filter_map result_ok) now
-        ∙ all_leave (becomes s t (said s t (on s t).agents)) (mine s p t) quiet in
+        sym (ap (filter_map result_err) results)
+        ∙ nothing_moved (filter_map result_err (map f left.those))
+        (filter_map result_err (map f own)) (IsPermutation-sym _ _ errs) left.quiet in
+        let nexts = ap (filter_map result_ok) results ∙ all_leave g own quiet in
+        let oks = filter_map_moved result_ok (map f own) (map f left.those) perm in
         record {
           quiet = quiet;
-          lives = subst (λ l. AreMoved (living l) renewed.left) nexts left;
-          bears = born ∙ ap children nexts;
+          those = living (filter_map result_ok (map f left.those));
+          same = subst (λ l. IsPermutation (living l)
+              (living (filter_map result_ok (map f left.those)))) nexts
+              (filter_map_moved (λ (n : Next). n.agent) _ _ oks);
+          lives = left.left;
+          bears = subst (λ l. IsPermutation (children l) renewed.born.items) nexts
+              (subst (IsPermutation (children (filter_map result_ok (map f own)))) (sym left.born)
+              (filter_map_moved (λ (n : Next). n.child) _ _ oks));
         }
 
   -- ---- what is said to those that it holds
 
-  -- its own agents and those that pieces bring in rows
+  -- its own agents and those that pieces bring in columns
   pub rows_held : (pieces : List Piece) (none guests more : List Agent) (count : ℕ)
       (own rows : Moved) → IsWork worker stage.Border t pieces → none ≡ []
-      → IsSorted (none ++ flat_map brought pieces) guests → AreListed m (mine s p t) own
-      → count ≡ length own.ids.items → more ≡ guests
+      → IsSorted (none ++ flat_map brought pieces) guests
+      → (stored : AreStored m (mine s p t) own) → count ≡ length own.ids.items → more ≡ guests
       → ((agents : List Agent) → AreMoved agents own → AreMoved (agents ++ more) rows)
       → ((agents : List Agent) → AreMoved agents rows → list_all (is_lawful_agent m) agents ≡ true
       → AreListed m agents rows)
-      → IsHeld s p t (mine s p t) guests × (count ≡ length (mine s p t))
-      × AreListed m (mine s p t ++ guests) rows
-  rows_held pieces none guests more count own rows work empty sorted listed many same moves reads =
+      → IsHeld s p t (mine s p t) guests × (count ≡ length stored.those)
+      × AreListed m (stored.those ++ guests) rows
+  rows_held pieces none guests more count own rows work empty sorted stored many same moves reads =
       let held = is_held pieces (mine s p t) guests work refl
       (subst (λ l. IsSorted (l ++ flat_map brought pieces) guests) empty sorted) in
-      let moved = subst (λ l. AreMoved (mine s p t ++ l) rows) same
-      (moves (mine s p t) listed.moved) in (
+      let those = stored.those in
+      let moved = subst (λ l. AreMoved (those ++ l) rows) same
+      (moves those stored.listed.moved) in (
         held,
-        many ∙ ap length listed.moved.ids_are ∙ length-map (mine s p t) (λ (a : Agent). a.id),
-        reads (mine s p t ++ guests) moved (held_lawful (mine s p t) guests held),
+        many ∙ ap length stored.listed.moved.ids_are ∙ length-map those (λ (a : Agent). a.id),
+        reads (those ++ guests) moved
+            (lawful_moved m (mine s p t ++ guests) (those ++ guests)
+            (both_moved (mine s p t) those guests stored.same)
+            (held_lawful (mine s p t) guests held)),
       )
 
   -- its queries can be asked of these
-  abbrev pub can_sum : (count : ℕ) (rows : Moved) (guests : List Agent)
-      → IsHeld s p t (mine s p t) guests → count ≡ length (mine s p t)
-      → AreMoved (mine s p t ++ guests) rows → t ≤ 2 ^ 32
-      → CanSum s worker.queries.now t count rows
-  can_sum count rows guests h many moved ticks = record {
+  abbrev pub can_sum : (count : ℕ) (own rows : Moved) (guests : List Agent)
+      → (stored : AreStored m (mine s p t) own) → IsHeld s p t (mine s p t) guests
+      → count ≡ length stored.those → AreMoved (stored.those ++ guests) rows → t ≤ 2 ^ 32
+      → CanSum s worker.queries.now t count guests rows
+  can_sum count own rows guests stored h many moved ticks = record {
     own = mine s p t;
-    guests = guests;
+    those = stored.those;
+    same = stored.same;
     many = many;
     moved = moved;
     queries = part.queries_are;
@@ -325,16 +298,13 @@ module _ (worker : Worker) (part : IsWorker worker) (t : ℕ) where
     ticks = ticks;
   }
 
-  -- in rows it holds what it was asked
-  pub holds_asked : (held : Held) → HoldsRows s p t held
-      → AreSummed m (mine s p t ++ held.guests.items)
-      (said_over s t (mine s p t) (by_id (mine s p t ++ held.guests.items))) held.said
-      → HoldsAsked s p t held
-  holds_asked held h sums = record {
-    holds = h;
-    sums = subst (λ list. AreSummed m (mine s p t ++ held.guests.items)
-        (said_over s t (mine s p t) list) held.said)
-        (held_by_id (mine s p t) held.guests.items h.holds) sums;
+  -- in columns it holds what it was asked
+  pub holds_asked : (held : Held) → IsHeld s p t (mine s p t) held.guests.items
+      → IsSummed s t (mine s p t) held.guests.items held → HoldsAsked s p t held
+  holds_asked held h summed = record {
+    holds = record { holds = h; stand = summed.stand };
+    sums = subst (λ list. AreSummed m summed.stand.all (said_over s t (mine s p t) list) held.said)
+        (held_by_id (mine s p t) held.guests.items h) summed.sums;
   }
 
   -- and none of its queries faults
@@ -346,19 +316,6 @@ module _ (worker : Worker) (part : IsWorker worker) (t : ℕ) where
       ∙ ap (λ l. faults_over s t l all) (sym h.own_is)
       ∙ ap (faults_over s t own) (sym (held_by_id own guests h)) ∙ none
 
-  -- the same rows
-  pub rows_too : (before after : Held) → HoldsRows s p t before → after.count ≡ before.count
-      → after.guests ≡ before.guests
-      → after.rows ≡ before.rows → HoldsRows s p t after
-  rows_too before after h count_is guests_is rows_is =
-      let guests = ap (λ v. v.items) (sym guests_is) in
-      record {
-        holds = subst (IsHeld s p t (mine s p t)) guests h.holds;
-        many = count_is ∙ h.many;
-        listed = subst (λ l. AreListed m (mine s p t ++ l) after.rows) guests
-            (subst (AreListed m (mine s p t ++ before.guests.items)) (sym rows_is) h.listed);
-      }
-
   -- with inversion that is all
   pub all_asked : s.invert ≡ true → (held : Held) → HoldsAsked s p t held → HoldsAll s p t held
   all_asked inverted held h = record {
@@ -369,19 +326,28 @@ module _ (worker : Worker) (part : IsWorker worker) (t : ℕ) where
   }
 
   -- and without it what was asked, and what pieces tell
-  pub all_told : s.invert ≡ false → (before after : Held) → HoldsAsked s p t before
-      → after.count ≡ before.count → after.guests ≡ before.guests
-      → after.rows ≡ before.rows → Hears m (mine s p t ++ before.guests.items)
-      (told_there worker part t) before.said after.said
-      → HoldsAll s p t after
-  all_told plain before after h count_is guests_is rows_is hears =
+  pub all_told : s.invert ≡ false → (before : Held) (after : Table)
+      → (h : HoldsAsked s p t before)
+      → Hears m h.holds.stand.all (told_there worker part t) before.said after
+      → HoldsAll s p t (record before { said = after })
+  all_told plain before after h hears =
       let told = said_over s t (mine s p t) all ++ told_there worker part t in
-      let guests = ap (λ v. v.items) (sym guests_is) in
+      let stand = h.holds.stand in
       record {
-        holds = rows_too before after h.holds count_is guests_is rows_is;
+        holds = record {
+          holds = h.holds.holds;
+          stand = record {
+            all = stand.all;
+            theirs = stand.theirs;
+            moved = stand.moved;
+            listed = stand.listed;
+            same = stand.same;
+            own_stand = stand.own_stand;
+            guests_stand = stand.guests_stand;
+          };
+        };
         told = told;
-        sums = subst (λ l. AreSummed m (mine s p t ++ l) told after.said) guests
-            (hears.each (said_over s t (mine s p t) all) h.sums);
+        sums = hears.each (said_over s t (mine s p t) all) h.sums;
         becomes_so = becomes_told worker part t plain;
       }
 

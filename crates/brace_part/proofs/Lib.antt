@@ -12,6 +12,7 @@ pub mod AskedLemmas
 pub mod LaneLemmas
 pub mod SumsLemmas
 pub mod HoldLemmas
+pub mod NamedLemmas
 pub mod NearLemmas
 pub mod HoldWork
 pub mod WorkTaken
@@ -29,6 +30,7 @@ pub mod ShownLemmas
 pub mod PartLemmas
 pub mod TurnLemmas
 pub mod CauseLemmas
+pub mod CellLemmas
 pub mod SoundLemmas
 pub mod ComesLemmas
 pub mod StartLemmas

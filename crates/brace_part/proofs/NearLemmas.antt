@@ -1,16 +1,14 @@
 -- Which agents in columns stand near an area, and which of them a part owns.
-use Rattle.std.proofs.Common.{◌≡◌, ◌∙◌, refl, sym, ap, ap₂, subst, ℕ, ◌+◌, ◌<◌, ◌≤◌, ℤ, pos, negsuc, ◌+ℤ◌, ◌-ℤ◌, ◌≤ℤ◌, FitsSigned, w64, int_le, Bool, true, false, ◌&&◌, cond, List, [], ◌∷◌, ◌++◌, map, filter, take, length, get_or, slice_get, Option, Some, None, arith, append-nil}
+use Rattle.std.proofs.Common.{◌≡◌, ◌∙◌, refl, sym, ap, ap₂, subst, ℕ, ◌+◌, ◌<◌, ◌≤◌, ℤ, pos, negsuc, ◌+ℤ◌, ◌-ℤ◌, ◌≤ℤ◌, FitsSigned, w64, int_le, Bool, true, false, ◌&&◌, cond, List, [], ◌∷◌, ◌++◌, map, filter, take, length, get_or, slice_get, Option, Some, None, arith}
 use Rattle.std.specs.Prelude.{option_map, if◌then◌else◌, ◌==◌}
 use Rattle.std.specs.Int.{int_max, saturate_signed}
 use Rattle.std.specs.List.{All}
-use Rattle.std.specs.List.Sorted.{IsNonDecreasingBy, IsPermutation}
 use Rattle.std.proofs.lemmas.Bool.{and_parts, and_from, eq-eqb, eqb-true}
 use Rattle.std.proofs.lemmas.Int.{ints}
-use Rattle.std.proofs.lemmas.List.{length-map, map-append, take_more}
+use Rattle.std.proofs.lemmas.List.{map-append, take_more}
 use Rattle.std.proofs.lemmas.List.Elements.{All-nil, All-cons, All-append, All-contains, filter-append}
-use Rattle.std.proofs.lemmas.List.Sorted.{IsPermutation-refl}
 use Rattle.std.proofs.lemmas.List.Sums.{count_by-le-length, length-filter}
-use Rattle.std.proofs.lemmas.Option.{same_Some, slice_get-map, slice_get-get_or}
+use Rattle.std.proofs.lemmas.Option.{same_Some, slice_get-map}
 use Rattle.brace_num.specs.declared.kinds.Area.{Area}
 use Rattle.brace_num.specs.Areas.{gap_to, outside}
 use Rattle.brace_num.proofs.Lists.{filter_alike, same_parts}
@@ -23,14 +21,11 @@ use Rattle.brace_cuts.specs.Space.{LawfulCuts, area_of, owner_of, parts_of}
 use Rattle.brace_cuts.specs.declared.space.Cuts.{Cuts}
 use Rattle.brace_cuts.proofs.Areas.{owner_only}
 use Rattle.brace_fold.specs.declared.order.Moved.{Moved}
-use Rattle.brace_fold.specs.Listed.{AreInOrder}
 use Rattle.brace_fold.specs.Rows.{AreMoved}
 use Rattle.brace_invert.specs.Held.{is_near, stands_near}
 use Rattle.brace_pieces.specs.Owned.{owned, owns, owns_at}
 use Rattle.brace_part.specs.declared.near.Axes.{Axes}
-use Rattle.brace_part.specs.inner.Asked.{ArePlaces}
 use Rattle.brace_part.specs.inner.Near.{AreAxes, AreNear, StandsFit, stands_fit}
-use Rattle.brace_part.proofs.HoldLemmas.{behind, in_front}
 
 -- ---- a number within a range of a span
 
@@ -177,48 +172,6 @@ module _ (program : Program) (area : Area) (range : ℤ) (agents : List Agent) w
       here true = ap (λ (o : Option Agent). o ∷ []) there
       here false = refl
 
--- ---- rows behind others
-
--- the same agents stand at the same places where others come behind
-places_front : (agents more these : List Agent) (places : List ℕ) → ArePlaces agents these places
-    → ArePlaces (agents ++ more) these places
-places_front agents more [] [] e = refl
-places_front agents more (a ∷ these) [] e =
-    absurd (let none : [] ≡ Some a ∷ map Some these = e in cc)
-places_front agents more [] (p ∷ places) e =
-    absurd (let none : slice_get agents p ∷ map (λ q. slice_get agents q) places ≡ [] = e in cc)
-places_front agents more (a ∷ these) (p ∷ places) e =
-    let (here, rest) =
-    same_parts (slice_get agents p) (Some a) (map (λ q. slice_get agents q) places)
-    (map Some these) e in
-    ap₂ (λ (o : Option Agent) l. o ∷ l) (in_front agents more p a here)
-    (places_front agents more these places rest)
-
-pub behind_first : (agents more these : List Agent) (places : List ℕ)
-    → ArePlaces agents these places
-    → ArePlaces (agents ++ more) (these ++ take 0 more) places
-behind_first agents more these places e =
-    subst (λ l. ArePlaces (agents ++ more) l places) (sym (append-nil these))
-    (places_front agents more these places e)
-
-pub behind_more : (agents more these : List Agent) (places : List ℕ) (k : ℕ) (d : Agent) (row : ℕ)
-    → k < length more → row ≡ length agents + k
-    → ArePlaces (agents ++ more) (these ++ take k more) places
-    → ArePlaces (agents ++ more) (these ++ take (k + 1) more) (places ++ row ∷ [])
-behind_more agents more these places k d row low is so =
-    let a = get_or more k d in
-    let there : slice_get (agents ++ more) row ≡ Some a =
-    ap (slice_get (agents ++ more)) is ∙ behind agents more k a (slice_get-get_or more k d low) in
-    map-append (λ p. slice_get (agents ++ more) p) places (row ∷ [])
-    ∙ ap₂ (λ (xs ys : List (Option Agent)). xs ++ ys) so (ap (λ (o : Option Agent). o ∷ []) there)
-    ∙ sym (map-append Some (these ++ take k more) (a ∷ []))
-    ∙ ap (map Some) (append_one these (take k more) a
-    ∙ ap (λ l. these ++ l) (sym (take_more more k d low)))
-  where
-    append_one : (xs ys : List Agent) (x : Agent) → (xs ++ ys) ++ x ∷ [] ≡ xs ++ (ys ++ x ∷ [])
-    append_one [] ys x = refl
-    append_one (z ∷ xs) ys x = ap (λ l. z ∷ l) (append_one xs ys x)
-
 -- ---- agents by their places
 
 -- one list of agents at places
@@ -268,7 +221,7 @@ module _ (cuts : Cuts) (lawful : LawfulCuts cuts) (p : ℕ) (part : p < parts_of
 
 -- ---- where all stay
 
-kept_all : (pass : Agent → Bool) (agents : List Agent)
+pub kept_all : (pass : Agent → Bool) (agents : List Agent)
     → length (filter pass agents) ≡ length agents → filter pass agents ≡ agents
 kept_all pass [] e = refl
 kept_all pass (a ∷ agents) e =
@@ -280,21 +233,3 @@ kept_all pass (a ∷ agents) e =
         → cond b (a ∷ kept) kept ≡ a ∷ agents
     one true kept rest few e = ap (λ l. a ∷ l) (rest (omega (arith, e)))
     one false kept rest few e = absurd (omega (arith, e, few))
-
--- as many rows as there are agents are all of them, and nobody comes: columns stand as they are
-pub all_stay : (pass : Agent → Bool) (rows : Moved) (agents more : List Agent) (places : List ℕ)
-    → AreMoved agents rows → IsNonDecreasingBy (λ a. a.id) agents
-    → ArePlaces agents (filter pass agents) places → length places ≡ length agents → more ≡ []
-    → AreInOrder (filter pass agents ++ more) rows
-all_stay pass rows agents more places moved up are long none =
-    let kept : filter pass agents ≡ agents = kept_all pass agents
-    (sym (length-map (filter pass agents) (λ (a : Agent). Some a)) ∙ ap length (sym are)
-    ∙ length-map places (λ p. slice_get agents p) ∙ long) in
-    record {
-      agents = agents;
-      same = subst (λ l. IsPermutation l agents)
-          (sym (ap₂ (λ (xs ys : List Agent). xs ++ ys) kept none ∙ append-nil agents))
-          (IsPermutation-refl agents);
-      in_order = up;
-      moved = moved;
-    }

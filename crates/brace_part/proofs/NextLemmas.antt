@@ -10,7 +10,7 @@ use Rattle.brace_model.specs.declared.world.Agent.{Agent}
 use Rattle.brace_model.specs.World.{World}
 use Rattle.brace_model.specs.Next.{has_births}
 use Rattle.brace_model.proofs.FaultLemmas.{least_none}
-use Rattle.brace_fold.specs.Listed.{AreListed}
+use Rattle.brace_fold.specs.Listed.{AreStored}
 use Rattle.brace_pieces.specs.declared.setting.Setting.{Setting}
 use Rattle.brace_pieces.specs.declared.setting.Stage.{Stage}
 use Rattle.brace_pieces.specs.declared.setting.Stage.TheVariants as stage
@@ -111,7 +111,7 @@ module _ (s : Setting) (p : ℕ) where
   moved_ready : (u : ℕ) → s.job.first ≤ u → u < s.job.last → (stance : Stance) → IsReadyBehind s p stage.Move u stance → IsReady s p (behind_move s u) stance
   moved_ready u low high (Owns own) has =
       let back : u ≡ u + 1 - 1 = omega arith in
-      let Own : List Agent → Type 0 = λ l. AreListed s.job.program l own in
+      let Own : List Agent → Type 0 = λ l. AreStored s.job.program l own in
       subst (λ o. IsReady s p o (Owns own)) (behind_low s u high)
       (reaches s (u + 1) (λ o. IsReady s p o (Owns own)) (omega (arith, high))
       (λ ends. subst (λ cuts. Own (own_under s p cuts (u + 1)))
@@ -127,11 +127,11 @@ module _ (s : Setting) (p : ℕ) where
   shown_ready t low high (Owns own) has =
       begins s t (λ o. IsReady s p o (Owns own)) high
       (λ below recut. let first = recut_behind s t recut in subst
-      (λ cuts. AreListed s.job.program (own_under s p cuts t) own)
+      (λ cuts. AreStored s.job.program (own_under s p cuts t) own)
       (shown_behind s t (t - 1) (omega (arith, first)) (omega (arith, first))) has)
-      (λ below none. subst (λ cuts. AreListed s.job.program (own_under s p cuts t) own)
+      (λ below none. subst (λ cuts. AreStored s.job.program (own_under s p cuts t) own)
       (by_first none) has)
-      (λ last. subst (λ u. AreListed s.job.program (own_before s p stage.Show u) own) last has)
+      (λ last. subst (λ u. AreStored s.job.program (own_before s p stage.Show u) own) last has)
     where
       by_first : is_recut s t ≡ false → cuts_shown s t ≡ cuts_of s t
       by_first none = elim (cases_lt s.job.first t) [

@@ -9,22 +9,23 @@ use Rattle.brace_part.specs.declared.standing.Stance.TheVariants.{Owns, Hears, H
 use Rattle.brace_part.specs.Parts.{own_before, own_at, is_settled, IsSettled}
 use Rattle.brace_part.specs.inner.Ready.{IsReadyFor, IsReady}
 use Rattle.brace_part.specs.inner.Sound.{owns_in}
+use Rattle.brace_part.proofs.CellLemmas.{stored_are}
 
 module _ (s : Setting) (p : ℕ) where
   owns_for : (st : Stage) (t : ℕ) (stance : Stance) → is_settled st → IsReadyFor s p st t stance
       → owns_in s.job.program stance ≡ own_before s p st t
-  owns_for stage.Hand t (Owns own) settled has = has.are
+  owns_for stage.Hand t (Owns own) settled has = stored_are s.job.program _ own has
   owns_for stage.Hand t (Hears agents heard) settled has = absurd has
   owns_for stage.Hand t (Holds held) settled has = absurd has
   owns_for stage.Hand t (Leaves left born next) settled has = absurd has
-  owns_for stage.Border t (Owns own) settled has = has.are
+  owns_for stage.Border t (Owns own) settled has = stored_are s.job.program _ own has
   owns_for stage.Border t (Hears agents heard) settled has = absurd has
   owns_for stage.Border t (Holds held) settled has = absurd has
   owns_for stage.Border t (Leaves left born next) settled has = absurd has
   owns_for stage.Effects t stance settled has = absurd settled
   owns_for stage.Census t stance settled has = absurd settled
   owns_for stage.Move t stance settled has = absurd settled
-  owns_for stage.Show t (Owns own) settled has = has.are
+  owns_for stage.Show t (Owns own) settled has = stored_are s.job.program _ own has
   owns_for stage.Show t (Hears agents heard) settled has = absurd has
   owns_for stage.Show t (Holds held) settled has = absurd has
   owns_for stage.Show t (Leaves left born next) settled has = absurd has

@@ -1,5 +1,5 @@
 -- The piece that a part makes for another is right.
-use Rattle.std.proofs.Common.{◌≡◌, ◌∙◌, sym, ap, ap₂, ℕ, ◌+◌, ◌<◌, List, ◌++◌, map, flat_map, length, false}
+use Rattle.std.proofs.Common.{◌≡◌, ◌∙◌, sym, ap, ap₂, ℕ, ◌+◌, ◌<◌, List, ◌++◌, map, flat_map, false}
 use Rattle.std.specs.Prelude.{if◌then◌else◌}
 use Rattle.std.specs.List.{Contains, range_with_len}
 use Rattle.std.proofs.lemmas.Bool.{true≢false}
@@ -28,6 +28,7 @@ use Rattle.brace_pieces.proofs.GivenLemmas.{given_with_births}
 use Rattle.brace_pieces.proofs.ScheduleLemmas.{meets_no_self}
 use Rattle.brace_pieces.proofs.OnLemmas.{on_rises, on_whole}
 use Rattle.brace_part.specs.declared.holding.Held.{Held}
+use Rattle.brace_part.specs.inner.Asked.{ArePlaces}
 use Rattle.brace_part.specs.inner.Holding.{HoldsAsked}
 use Rattle.brace_part.specs.inner.Tables.{said_over, faults_over, shares_in}
 use Rattle.brace_part.specs.inner.Ready.{HearsAsked, own_in, left_in, born_in}
@@ -76,13 +77,14 @@ module _ (s : Setting) (lawful : LawfulSetting s) (numbers : NumbersFit s) (t p 
       (entries : List Entry) → HoldsAsked s p t held
       → owned s.job.program (cuts_of s t) q held.guests.items ≡ owned s.job.program (cuts_of s t) q
       (near s t p world.agents)
-      → ((own : List Agent) (said : List Saying) → held.count ≡ length own
-      → AreSummed s.job.program (own ++ held.guests.items) said held.said
+      → ((all : List Agent) (said : List Saying)
+      → ArePlaces all held.guests.items held.places.items
+      → AreSummed s.job.program all said held.said
       → map share_of entries ≡ shares_in s.job.program (cuts_of s t) q held.guests.items said)
       → map share_of entries ≡ shares s t p q world.agents
   sums_right part plain q held entries h theirs told =
       let said = said_over s t (own_in s p t) (near s t p world.agents) in
-      told (own_in s p t) said h.holds.many h.sums
+      told h.holds.stand.all said h.holds.stand.guests_stand h.sums
       ∙ ap (flat_map (λ b. shares_to said b (class_of s.job.program b))) theirs
       ∙ over_all part plain q
 

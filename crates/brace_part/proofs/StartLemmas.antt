@@ -5,7 +5,7 @@ use Rattle.std.proofs.lemmas.Bool.{cases_lt}
 use Rattle.std.proofs.lemmas.Bool.Decides.{nat_tests}
 use Rattle.std.proofs.lemmas.List.Elements.{All-nil}
 use Rattle.brace_model.specs.declared.world.Agent.{Agent}
-use Rattle.brace_fold.specs.Listed.{AreListed}
+use Rattle.brace_fold.specs.Listed.{AreStored}
 use Rattle.brace_pieces.specs.declared.setting.Setting.{Setting}
 use Rattle.brace_pieces.specs.declared.setting.Stage.TheVariants as stage
 use Rattle.brace_pieces.specs.declared.piece.Shown.{Shown}
@@ -23,6 +23,7 @@ use Rattle.brace_part.specs.Given.{no_counts}
 use Rattle.brace_part.specs.inner.Ready.{IsReady, IsReadyFor, IsNextAt, IsFaultlessAt, AreKept}
 use Rattle.brace_part.specs.inner.Sound.{ComesTo}
 use Rattle.brace_pieces.proofs.EpochLemmas.{shown_first}
+use Rattle.brace_part.proofs.CellLemmas.{stored_are}
 use Rattle.brace_part.proofs.NextLemmas.{recut_behind, reaches}
 use Rattle.brace_part.proofs.ShownLemmas.{is_noted, first_noted, brings_first}
 use Rattle.brace_part.proofs.ComesLemmas.{note_of, kept_more}
@@ -60,7 +61,7 @@ module _ (s : Setting) (p : ℕ) where
   ready_first : first ≤ s.job.last → (stance : Stance) → IsReadyFor s p stage.Border first stance → IsReady s p (slice_get (steps s) 0) stance
   ready_first up (Owns own) has =
       reaches s first (λ o. IsReady s p o (Owns own)) up
-      (λ e. subst (λ cuts. AreListed s.job.program (own_under s p cuts first) own)
+      (λ e. subst (λ cuts. AreStored s.job.program (own_under s p cuts first) own)
       (sym (shown_first s first refl)) has)
       (λ e r. no_recut (recut_behind s first r)) (λ e r. has)
   ready_first up (Hears agents heard) has = absurd has
@@ -71,7 +72,7 @@ module _ (s : Setting) (p : ℕ) where
   ready_last down (Owns own) has =
       let none : nat_lt first s.job.last ≡ false = grind (arith, nat_tests, down) in
       let same : first - first ≡ s.job.last - first = omega (arith, down) in
-      subst (λ l. AreListed s.job.program l own)
+      subst (λ l. AreStored s.job.program l own)
       (ap (λ n. owned s.job.program (cuts_of s first) p (continued_after s n).agents) same
       ∙ sym (ap (λ c. own_under s p (cuts_of s
       (if c then s.job.last - 1 else first)) s.job.last) none)) has
@@ -97,7 +98,8 @@ module _ (s : Setting) (p : ℕ) where
   note_first : (stance : Stance) → IsReadyFor s p stage.Border first stance → first_note stance ≡ kept_at s p first
   note_first (Owns own) has =
       ap₂ (λ agents n. record { tick = first; agents = agents; next = n })
-      (has.are ∙ sym (ap (λ cuts. own_under s p cuts first) (shown_first s first refl)))
+      (stored_are s.job.program _ own has
+      ∙ sym (ap (λ cuts. own_under s p cuts first) (shown_first s first refl)))
       next_first
   note_first (Hears agents heard) has = absurd has
   note_first (Holds held) has = absurd has

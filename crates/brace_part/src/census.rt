@@ -6,8 +6,7 @@ ghost use Rattle.std.specs.Vec.{vec_capacity};
 ghost use Rattle.brace_model.specs.declared.world.Agent.{Agent};
 ghost use Rattle.brace_model.specs.Lawful.{is_lawful_agent};
 ghost use Rattle.brace_cuts.specs.CutPlans.{IsPlan};
-ghost use Rattle.brace_fold.specs.Listed.{AreListed};
-ghost use Rattle.brace_fold.specs.Rows.{AreMoved};
+ghost use Rattle.brace_fold.specs.Listed.{AreStored};
 ghost use Rattle.brace_pieces.specs.Settings.{cuts_of, parts};
 ghost use Rattle.brace_pieces.specs.Owned.{owned};
 ghost use Rattle.brace_pieces.specs.Together.{with_number};
@@ -31,7 +30,7 @@ pub fn census_of(
     left: &Moved,
     born: &[Agent],
 ) -> Result<Census, NoMemory>
-    ensures { IfOk result (λ c. (agents : List Agent) → AreMoved agents left.now
+    ensures { IfOk result (λ c. (agents : List Agent) → AreStored program.now agents left.now
         → IsTrue (list_all (is_lawful_agent program.now) agents)
         → c ≡ census_of agents born.now) }
 {
@@ -156,8 +155,8 @@ pub fn numbered(
     Ok(all)
 }
 
-/// Of what a part's agents leave, those that live on, in columns, and then the children, those that
-/// belong to a part.
+/// Of what a part's agents leave those that belong to a part: of those that live on, which stand in
+/// columns, by rising id, and then of the children.
 pub fn moves_to(
     alloc: Global,
     setting: &Setting,
@@ -169,7 +168,7 @@ pub fn moves_to(
     requires plan { IsPlan setting.now.epoch setting.now.cuts }
     requires is_part { to < parts setting.now }
     ensures theirs { IfOk result (λ found. (agents : List Agent)
-        → AreListed setting.now.job.program agents left.now → found
+        → AreStored setting.now.job.program agents left.now → found
         ≡ owned setting.now.job.program (cuts_of setting.now tick) to (agents ++ born.now)) }
 {
     let cuts = setting.cuts.cuts_at(tick);

@@ -1,6 +1,8 @@
-ghost use Rattle.std.specs.Prelude.{◌≡◌, ◌++◌, [], flat_map, IfOk, IfSome, IfNone};
+ghost use Rattle.std.specs.Prelude.{◌≡◌, ◌++◌, [], flat_map, IfOk, IfSome, IfNone, OnOk};
 ghost use Rattle.std.specs.Vec.{vec_capacity};
+ghost use Rattle.brace_model.specs.World.{RisesById};
 ghost use Rattle.brace_cuts.specs.Space.{LawfulCuts};
+ghost use Rattle.brace_fold.specs.Rows.{by_id};
 ghost use Rattle.brace_pieces.specs.Owned.{owned};
 ghost use Rattle.brace_pieces.specs.Together.{IsSorted};
 ghost use Rattle.brace_part.specs.inner.Pieces.{brought};
@@ -48,6 +50,27 @@ pub fn sorted(mut agents: Vec<Agent>) -> Result<Vec<Agent>, NoMemory>
 {
     agents.sort_by_key(|a| a.id)?;
     Ok(agents)
+}
+
+/// Answers NoMemory where ids do not rise.
+fn expect_rising(agents: &[Agent]) -> Result<(), NoMemory>
+    ensures { OnOk result (RisesById agents.now) }
+{
+    for i in 1..agents.len() {
+        if agents[i - 1].id >= agents[i].id {
+            return Err(NoMemory);
+        }
+    }
+    Ok(())
+}
+
+/// Agents by rising id; `NoMemory` where two have one id.
+pub fn by_rising_id(agents: Vec<Agent>) -> Result<Vec<Agent>, NoMemory>
+    ensures { IfOk result (λ all. all.items ≡ by_id agents.items) }
+{
+    let all = sorted(agents)?;
+    expect_rising(&all)?;
+    Ok(all)
 }
 
 /// Those of some agents that a part owns under some cuts.

@@ -1,100 +1,120 @@
-ghost use Rattle.std.specs.Prelude.{◌≡◌, ◌++◌, ◌+◌, [], List, length, map, slice_get, Some, IfOk, OnOk};
+ghost use Rattle.std.specs.Prelude.{◌≡◌, ◌≤◌, ◌^◌, ◌++◌, [], List, map, slice_get, Some, IfOk, OnOk};
+ghost use Rattle.std.specs.List.Sorted.{IsPermutation};
 ghost use Rattle.brace_model.specs.declared.program.Program.{Program};
 ghost use Rattle.brace_model.specs.declared.world.Agent.{Agent};
 ghost use Rattle.brace_model.specs.Query.{Saying};
 ghost use Rattle.brace_model.specs.World.{class_of};
 ghost use Rattle.brace_cuts.specs.Space.{LawfulCuts};
 ghost use Rattle.brace_eval.specs.Heard.{effects_in};
-ghost use Rattle.brace_fold.specs.Asked.{agents_at};
+ghost use Rattle.brace_fold.specs.Arranged.{in_places};
+ghost use Rattle.brace_fold.specs.Asked.{by_row};
 ghost use Rattle.brace_fold.specs.Rows.{by_id};
 ghost use Rattle.brace_fold.specs.Sums.{AreSummed};
 ghost use Rattle.brace_pieces.specs.Right.{share_of, shares_from};
-ghost use Rattle.brace_part.specs.inner.Hearing.{CanSum};
+ghost use Rattle.brace_part.specs.inner.Asked.{ArePlaces};
+ghost use Rattle.brace_part.specs.inner.Hearing.{CanSay, CanSum};
+ghost use Rattle.brace_part.specs.inner.Holding.{IsSummed};
 ghost use Rattle.brace_part.specs.inner.Tables.{said_over, faults_over, shares_in};
 
+use crate::near::number_at;
 use crate::query::Queries;
 use crate::tell::entry_of;
 use brace_comb::Entry;
 use brace_cuts::Cuts;
 use brace_eval::effects_of;
-use brace_fold::{Columns, Moved, Redo, Table, expect_wide, fold_rows, most_effects, views};
+use brace_fold::{Arranged, Moved, Redo, Table, expect_wide, most_effects, views};
 use brace_model::{Agent, Effect, Program};
 use brace_num::{List, NoMemory};
 use brace_pieces::{Setting, owns};
 use std::alloc::Global;
 
-/// The agents that a part holds in a tick, its own ones and those of others, both by rising id; and
-/// what was said to them.
+/// The agents that a part holds in a tick, its own ones and those of others, in columns in the
+/// order of cells; and what was said to them.
 #[derive(Debug, Drop)]
 pub struct Held {
-    /// How many its own agents are.
-    pub count: usize,
+    /// The places of its own agents.
+    pub own: Vec<u32>,
+    /// The others, by rising id.
     pub guests: Vec<Agent>,
-    /// Its own agents and then the others, in columns.
+    /// The places of the others.
+    pub places: Vec<u32>,
     pub rows: Moved,
-    /// What was said to them, row by row.
+    /// What was said to them, place by place.
     pub said: Table,
 }
 
-/// The first rows, so many.
-fn first_rows(alloc: Global, count: usize) -> Result<Vec<u32>, Redo>
-    ensures { IfOk result (λ rows. (first rest : List Agent) (d : Agent) → count ≡ length first
-        → agents_at (first ++ rest) d rows.items ≡ first) }
-{
-    let mut rows = Vec::with_capacity(alloc, count)?;
-    for k in 0..count {
-        let Ok(row) = u32::try_from(k) else {
-            return Err(Redo);
-        };
-        rows.push(row)?;
-    }
-    Ok(rows)
-}
-
 impl Queries {
-    /// What the queries of a part say to the agents that it holds in columns, first its own, so
-    /// many: those of its own agents; with inversion those of the forward program of its own
-    /// agents, and of the inverse program of all. `Redo` where they are to be asked as a list, as
-    /// where agents of several classes stand mixed.
+    /// What the queries of a part say over all that it holds: those of its own agents, at some
+    /// places; with inversion those of the forward program of its own agents, and of the inverse
+    /// program of all.
+    fn said_to(
+        &self,
+        alloc: Global,
+        setting: &Setting,
+        tick: u64,
+        arranged: &Arranged,
+        own: &[u32],
+    ) -> Result<Table, Redo>
+        requires can { (agents : List Agent) × CanSay setting.now self.now agents arranged.now }
+        requires ticks { tick ≤ 2 ^ 32 }
+        ensures said { IfOk result (λ said. (agents mine : List Agent)
+            → CanSay setting.now self.now agents arranged.now
+            → IsPermutation mine (by_row (in_places agents arranged.now) own.now)
+            → AreSummed setting.now.job.program (in_places agents arranged.now)
+            (said_over setting.now tick mine (by_id agents)) said) }
+        ensures quiet { IfOk result (λ _. (agents mine : List Agent)
+            → CanSay setting.now self.now agents arranged.now
+            → IsPermutation mine (by_row (in_places agents arranged.now) own.now)
+            → faults_over setting.now tick mine (by_id agents) ≡ []) }
+    {
+        let (count, seed) = (arranged.order.len(), setting.job.seed);
+        let mut said = Table::nothing(alloc, count, most_effects(&setting.job.program))?;
+        match self {
+            Queries::Script(plans) => {
+                arranged.ask(alloc, plans, seed, tick, own, &mut said)?;
+            }
+            Queries::Inverted(forward, inverse) => {
+                let all = arranged.all(alloc)?;
+                arranged.ask(alloc, forward, seed, tick, own, &mut said)?;
+                arranged.ask(alloc, inverse, seed, tick, &all, &mut said)?;
+            }
+        }
+        Ok(said)
+    }
+
+    /// What a part holds behind its queries, where it holds agents in columns, first its own, so
+    /// many, and then its guests. `Redo` where they are to be asked as a list.
     pub fn summed(
         &self,
         alloc: Global,
         setting: &Setting,
         tick: u64,
         count: usize,
+        guests: Vec<Agent>,
         rows: &Moved,
-    ) -> Result<Table, Redo>
-        requires { CanSum setting.now self.now tick count rows.now }
-        ensures said { IfOk result (λ said. (can : CanSum setting.now self.now tick count rows.now)
-            → AreSummed setting.now.job.program (can.own ++ can.guests)
-            (said_over setting.now tick can.own (by_id (can.own ++ can.guests))) said) }
-        ensures quiet { IfOk result (λ _. (can : CanSum setting.now self.now tick count rows.now)
-            → faults_over setting.now tick can.own (by_id (can.own ++ can.guests)) ≡ []) }
+    ) -> Result<Held, Redo>
+        requires { CanSum setting.now self.now tick count guests.items rows.now }
+        ensures summed { IfOk result (λ held.
+            (can : CanSum setting.now self.now tick count guests.items rows.now)
+            → IsSummed setting.now tick can.own held.guests.items held) }
+        ensures guests { IfOk result (λ held. held.guests ≡ guests) }
     {
-        if !rows.pays() {
-            return Err(Redo);
-        }
-        let (program, seed) = (&setting.job.program, setting.job.seed);
+        let program = &setting.job.program;
         let states = views(alloc, &rows.states)?;
-        let columns = Columns {
-            classes: &rows.classes,
-            ids: &rows.ids,
-            states: &states,
-        };
+        let columns = rows.as_columns(&states);
         expect_wide(program, &columns)?;
-        let mut said = Table::nothing(alloc, columns.ids.len(), most_effects(program))?;
-        let mine = first_rows(alloc, count)?;
-        match self {
-            Queries::Script(plans) => {
-                fold_rows(alloc, plans, seed, tick, &columns, &mine, &mut said)?;
-            }
-            Queries::Inverted(forward, inverse) => {
-                let all = first_rows(alloc, columns.ids.len())?;
-                fold_rows(alloc, forward, seed, tick, &columns, &mine, &mut said)?;
-                fold_rows(alloc, inverse, seed, tick, &columns, &all, &mut said)?;
-            }
-        }
-        Ok(said)
+        let arranged = Arranged::of(alloc, program, &columns)?;
+        arranged.rows.expect_listed(alloc, program)?;
+        let own = arranged.first(alloc, count)?;
+        let places = arranged.rest(alloc, count, guests.len())?;
+        let said = self.said_to(alloc, setting, tick, &arranged, &own)?;
+        Ok(Held {
+            own,
+            guests,
+            places,
+            rows: arranged.rows,
+            said,
+        })
     }
 }
 
@@ -128,19 +148,6 @@ fn add_sums(
     Ok(())
 }
 
-/// The row of a place behind so many rows.
-fn row_behind(first: usize, place: usize) -> Result<u32, NoMemory>
-    ensures { IfOk result (λ row. row ≡ first + place) }
-{
-    let Some(at) = first.checked_add(place) else {
-        return Err(NoMemory);
-    };
-    match u32::try_from(at) {
-        Ok(row) => Ok(row),
-        Err(_) => Err(NoMemory),
-    }
-}
-
 impl Held {
     /// What was said to the agents of another part, by rising id, then effect.
     pub fn told_sums(
@@ -151,17 +158,25 @@ impl Held {
         to: u32,
     ) -> Result<List<Entry>, NoMemory>
         requires cuts { LawfulCuts cuts.now }
-        ensures told { IfOk result (λ entries. (own : List Agent) (said : List Saying)
-            → self.now.count ≡ length own
-            → AreSummed program.now (own ++ self.now.guests.items) said self.now.said
+        ensures told { IfOk result (λ entries. (all : List Agent) (said : List Saying)
+            → ArePlaces all self.now.guests.items self.now.places.items
+            → AreSummed program.now all said self.now.said
             → map share_of entries ≡ shares_in program.now cuts.now to self.now.guests.items said) }
     {
         let mut entries = List::new(alloc);
         for k in 0..self.guests.len() {
             let b = &self.guests[k];
             if owns(program, cuts, to, b) {
-                let row = row_behind(self.count, k)?;
-                add_sums(&mut entries, b.id, effects_of(program, b), &self.said, row)?;
+                let Some(place) = number_at(&self.places, k) else {
+                    return Err(NoMemory);
+                };
+                add_sums(
+                    &mut entries,
+                    b.id,
+                    effects_of(program, b),
+                    &self.said,
+                    place,
+                )?;
             }
         }
         Ok(entries)

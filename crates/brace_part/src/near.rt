@@ -1,22 +1,24 @@
-ghost use Rattle.std.specs.Prelude.{◌≡◌, ◌<◌, ◌≤◌, ◌++◌, [], ◌∷◌, List, Some, pos, ◌≤ℤ◌, int_le, filter, if◌then◌else◌, length, slice_get, IsTrue, IfOk, IfSome, IfNone, OnOk};
+ghost use Rattle.std.specs.Prelude.{◌≡◌, ◌<◌, ◌≤◌, ◌++◌, List, Some, Bool, pos, ◌≤ℤ◌, int_le, filter, length, slice_get, IsTrue, IfOk, IfSome, IfNone};
 ghost use Rattle.std.specs.Bool.{OnTrue};
 ghost use Rattle.std.specs.List.{All, list_all};
-ghost use Rattle.std.specs.List.Sorted.{IsNonDecreasingBy};
+ghost use Rattle.std.specs.List.Sorted.{IsPermutation};
 ghost use Rattle.brace_num.specs.Areas.{outside, gap_to};
 ghost use Rattle.brace_model.specs.declared.program.Program.{Program};
 ghost use Rattle.brace_model.specs.declared.world.Agent.{Agent};
 ghost use Rattle.brace_model.specs.Lawful.{is_lawful_agent};
+ghost use Rattle.brace_model.specs.World.{RisesById};
 ghost use Rattle.brace_cuts.specs.Space.{LawfulCuts, parts_of};
 ghost use Rattle.brace_fold.specs.declared.order.Moved.{Moved};
-ghost use Rattle.brace_fold.specs.Listed.{AreInOrder, AreListed, agents_in};
+ghost use Rattle.brace_fold.specs.Listed.{AreListed, AreStored, agents_in};
 ghost use Rattle.brace_fold.specs.Rows.{AreMoved};
 ghost use Rattle.brace_invert.specs.Held.{is_near};
 ghost use Rattle.brace_pieces.specs.Owned.{owned};
 ghost use Rattle.brace_part.specs.inner.Asked.{ArePlaces};
 ghost use Rattle.brace_part.specs.inner.Near.{AreAxes, AreNear, StandsFit};
 
+use crate::gather::sorted;
 use brace_cuts::Cuts;
-use brace_fold::{Moved, Redo, columns_of};
+use brace_fold::{Moved, Redo, add_row, columns_of};
 use brace_model::{Agent, Area, Program};
 use brace_num::{List, NoMemory};
 use std::alloc::Global;
@@ -29,19 +31,19 @@ pub struct Axes<'a> {
     pub ys: &'a [i64],
 }
 
-/// The class of a row, by number.
-pub fn class_at(classes: &[u32], row: usize) -> Option<u32>
-    ensures some { IfSome result (λ number. slice_get classes.now row ≡ Some number) }
-    ensures none { IfNone result (length classes.now ≤ row) }
+/// The number at a place of a column.
+pub fn number_at(numbers: &[u32], place: usize) -> Option<u32>
+    ensures some { IfSome result (λ number. slice_get numbers.now place ≡ Some number) }
+    ensures none { IfNone result (length numbers.now ≤ place) }
 {
-    classes.get(row).copied()
+    numbers.get(place).copied()
 }
 
-/// The word of a row.
-fn word_at(words: &[i64], row: usize) -> Option<i64>
-    ensures { IfSome result (λ word. slice_get words.now row ≡ Some word) }
+/// What a column has in a row.
+pub fn item_at<T: Copy>(column: &[T], row: usize) -> Option<T>
+    ensures { IfSome result (λ item. slice_get column.now row ≡ Some item) }
 {
-    words.get(row).copied()
+    column.get(row).copied()
 }
 
 /// The columns of x and of y of a class of a number.
@@ -111,23 +113,13 @@ fn is_near_at(axes: &Axes, area: &Area, range: i64, row: usize) -> Result<bool, 
         (a : Agent) → AreAxes program rows axes.now → AreMoved agents rows
         → slice_get agents row ≡ Some a → a.class ≡ axes.now.class → StandsFit program a) }
 {
-    let Some(x) = word_at(axes.xs, row) else {
+    let Some(x) = item_at(axes.xs, row) else {
         return Err(Redo);
     };
-    let Some(y) = word_at(axes.ys, row) else {
+    let Some(y) = item_at(axes.ys, row) else {
         return Err(Redo);
     };
     Ok(is_around(area, range, x, y))
-}
-
-/// Adds a row that is wanted.
-fn add_row(rows: &mut Vec<u32>, row: u32, wanted: bool) -> Result<(), Redo>
-    ensures { OnOk result (rows.new.items ≡ rows.old.items ++ (if wanted then row ∷ [] else [])) }
-{
-    if wanted {
-        rows.push(row)?;
-    }
-    Ok(())
 }
 
 /// The rows of the agents that stand within a range of an area.
@@ -143,7 +135,7 @@ fn rows_near(
         → AreNear program.now area.now range agents agents near.items) }
 {
     let mut near = Vec::new(alloc);
-    let Some(first) = class_at(&rows.classes, 0) else {
+    let Some(first) = number_at(&rows.classes, 0) else {
         return Ok(near);
     };
     let mut axes = axes_of(program, rows, first)?;
@@ -151,7 +143,7 @@ fn rows_near(
         let Ok(row) = u32::try_from(k) else {
             return Err(Redo);
         };
-        let Some(number) = class_at(&rows.classes, k) else {
+        let Some(number) = number_at(&rows.classes, k) else {
             return Err(Redo);
         };
         let known = led(program, rows, axes, number)?;
@@ -162,7 +154,7 @@ fn rows_near(
     Ok(near)
 }
 
-/// Of agents in columns those that stand within a range of an area, in their order.
+/// Of agents in columns those that stand within a range of an area, by rising id.
 pub fn agents_near(
     alloc: Global,
     program: &Program,
@@ -172,9 +164,9 @@ pub fn agents_near(
 ) -> Result<List<Agent>, NoMemory>
     requires { pos 0 ≤ℤ range }
     ensures near { IfOk result (λ near. (agents : List Agent)
-        → AreListed program.now agents rows.now
+        → AreStored program.now agents rows.now
         → near ≡ filter (is_near program.now area.now range) agents) }
-    ensures fit { IfOk result (λ _. (agents : List Agent) → AreListed program.now agents rows.now
+    ensures fit { IfOk result (λ _. (agents : List Agent) → AreStored program.now agents rows.now
         → All (StandsFit program.now) agents) }
 {
     let Ok(places) = rows_near(alloc, program, rows, area, range) else {
@@ -183,10 +175,11 @@ pub fn agents_near(
     let Ok(near) = rows.agents_at(alloc, program, &places) else {
         return Err(NoMemory);
     };
+    let near = sorted(near)?;
     Ok(List::from_vec(near))
 }
 
-/// Of agents in columns those that a part owns under some cuts, in their order.
+/// Of agents in columns those that a part owns under some cuts, by rising id.
 pub fn agents_of(
     alloc: Global,
     program: &Program,
@@ -196,29 +189,11 @@ pub fn agents_of(
 ) -> Result<List<Agent>, NoMemory>
     requires cuts { LawfulCuts cuts.now }
     requires part { part < parts_of cuts.now }
-    ensures { IfOk result (λ theirs. (agents : List Agent) → AreListed program.now agents rows.now
+    ensures { IfOk result (λ theirs. (agents : List Agent) → AreStored program.now agents rows.now
         → theirs ≡ owned program.now cuts.now part agents) }
 {
     let theirs = agents_near(alloc, program, rows, &cuts.area(part), 0)?;
     Ok(theirs)
-}
-
-/// Adds the rows from one on, so many.
-fn add_rows(rows: &mut Vec<u32>, from: usize, count: usize) -> Result<(), Redo>
-    ensures { OnOk result ((agents these more : List Agent) → from ≡ length agents
-        → count ≡ length more → ArePlaces agents these rows.old.items
-        → ArePlaces (agents ++ more) (these ++ more) rows.new.items) }
-{
-    for k in 0..count {
-        let Some(at) = from.checked_add(k) else {
-            return Err(Redo);
-        };
-        let Ok(row) = u32::try_from(at) else {
-            return Err(Redo);
-        };
-        rows.push(row)?;
-    }
-    Ok(())
 }
 
 /// The agents of columns.
@@ -259,27 +234,27 @@ pub fn listed(alloc: Global, program: &Program, agents: &[Agent]) -> Result<Move
     Ok(rows)
 }
 
-/// Whether all of so many rows stay, and nobody comes.
-fn is_still(stay: &[u32], count: usize, more: &[Agent]) -> bool
-    ensures all { OnTrue result (length stay.now ≡ count) }
-    ensures none { OnTrue result (more.now ≡ []) }
+/// Whether so many rows are all.
+fn is_all(rows: &[u32], count: usize) -> bool
+    ensures { OnTrue result (length rows.now ≡ count) }
 {
-    stay.len() == count && more.is_empty()
+    rows.len() == count
 }
 
-/// Those of some rows of columns, and those of a list, by rising id.
-fn merged(alloc: Global, mut rows: Moved, mut stay: Vec<u32>, more: &[Agent]) -> Result<Moved, Redo>
-    ensures { IfOk result (λ all. (agents these : List Agent) → AreMoved agents rows
-        → ArePlaces agents these stay.items → AreInOrder (these ++ more.now) all) }
+/// The agents of some rows of columns: all of them, where the rows are as many.
+fn staying(alloc: Global, rows: Moved, stay: &[u32]) -> Result<Moved, Redo>
+    ensures { IfOk result (λ these. (agents : List Agent) (pass : Agent → Bool)
+        → AreMoved agents rows → ArePlaces agents (filter pass agents) stay.now
+        → AreMoved (filter pass agents) these) }
 {
-    add_rows(&mut stay, rows.ids.len(), more.len())?;
-    rows.add(more)?;
-    let all = rows.in_order(alloc, &stay)?;
-    Ok(all)
+    if is_all(stay, rows.ids.len()) {
+        return Ok(rows);
+    }
+    let these = rows.picked(alloc, stay)?;
+    Ok(these)
 }
 
-/// Of agents in columns, which stand by rising id, those that a part owns under some cuts, and
-/// those of a list, by rising id too.
+/// Of agents in columns those that a part owns under some cuts, and then those of a list.
 pub fn settled(
     alloc: Global,
     program: &Program,
@@ -290,19 +265,14 @@ pub fn settled(
 ) -> Result<Moved, Redo>
     requires cuts { LawfulCuts cuts.now }
     requires part { part < parts_of cuts.now }
-    ensures order { IfOk result (λ all. (agents : List Agent) → AreMoved agents rows
-        → IsNonDecreasingBy (λ a. a.id) agents
-        → AreInOrder (owned program.now cuts.now part agents ++ more.now) all) }
-    ensures listed { IfOk result (λ all. (agents : List Agent) → AreMoved agents all
-        → IsTrue (list_all (is_lawful_agent program.now) agents)
-        → AreListed program.now agents all) }
+    ensures { IfOk result (λ all. (agents these : List Agent)
+        → AreStored program.now agents rows → RisesById these
+        → IsPermutation these (owned program.now cuts.now part agents ++ more.now)
+        → IsTrue (list_all (is_lawful_agent program.now) these)
+        → AreStored program.now these all) }
 {
     let stay = rows_near(alloc, program, &rows, &cuts.area(part), 0)?;
-    let all = if is_still(&stay, rows.ids.len(), more) {
-        rows
-    } else {
-        merged(alloc, rows, stay, more)?
-    };
-    all.expect_listed(alloc, program)?;
+    let these = staying(alloc, rows, &stay)?;
+    let all = with_more(alloc, program, these, more)?;
     Ok(all)
 }

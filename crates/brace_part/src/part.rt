@@ -22,6 +22,7 @@ ghost use Rattle.brace_part.specs.inner.Ready.{AreKept, next_behind};
 ghost use Rattle.brace_part.specs.inner.Sound.{IsPartOf, IsAtWork, ComesTo, GoesOn, owns_in};
 
 use crate::counts::Counts;
+use crate::gather::by_rising_id;
 use crate::near::{all_agents, listed};
 use crate::prepare::{prepared, prepared_show};
 use crate::query::Queries;
@@ -139,17 +140,20 @@ fn next_behind(at: Step, stance: &Stance, old: u64) -> u64
     }
 }
 
-/// The agents that a part owns; none between the query of a tick and the move.
+/// The agents that a part owns, by rising id; none between the query of a tick and the move.
 fn owned_in(alloc: Global, program: &Program, stance: &Stance) -> Result<Vec<Agent>, NoMemory>
     ensures { IfOk result (λ own. own.items ≡ owns_in program.now stance.now) }
 {
     match stance {
-        Stance::Owns(own) => all_agents(alloc, program, own),
+        Stance::Owns(own) => {
+            let agents = all_agents(alloc, program, own)?;
+            by_rising_id(agents)
+        }
         Stance::Hears(_, _) | Stance::Holds(_) | Stance::Leaves(_, _, _) => Ok(Vec::new(alloc)),
     }
 }
 
-/// Agents in columns by rising id, from which they can be read.
+/// Agents in columns, from which they can be read.
 fn in_columns(alloc: Global, program: &Program, agents: &[Agent]) -> Result<Moved, NoMemory>
     requires { IsTrue (list_all (is_lawful_agent program.now) agents.now) }
     ensures { IfOk result (AreListed program.now agents.now) }

@@ -1,12 +1,13 @@
 ghost use Rattle.std.specs.Prelude.{◌≡◌, ◌≤◌, ◌+◌, ◌^◌, ◌++◌, [], List, IsTrue, true, false, None, IfOk, IfErr};
 ghost use Rattle.std.specs.List.{list_all};
-ghost use Rattle.std.specs.List.Sorted.{IsNonDecreasingBy};
+ghost use Rattle.std.specs.List.Sorted.{IsPermutation};
 ghost use Rattle.std.specs.Vec.{vec_capacity};
-ghost use Rattle.brace_fold.specs.Listed.{AreInOrder, AreListed};
+ghost use Rattle.brace_fold.specs.Listed.{AreListed, AreStored};
 ghost use Rattle.brace_fold.specs.Rows.{AreMoved};
 ghost use Rattle.brace_model.specs.declared.world.Agent.{Agent};
 ghost use Rattle.brace_model.specs.FaultOrder.{least};
 ghost use Rattle.brace_model.specs.Lawful.{is_lawful_agent};
+ghost use Rattle.brace_model.specs.World.{RisesById};
 ghost use Rattle.brace_pieces.specs.declared.setting.Stage.TheVariants as stage;
 ghost use Rattle.brace_pieces.specs.Settings.{cuts_of};
 ghost use Rattle.brace_pieces.specs.Owned.{owned};
@@ -21,7 +22,7 @@ ghost use Rattle.brace_part.specs.inner.Sound.{IsWorker, IsWork};
 use crate::census::{census_of, first_too_far, joined, numbered};
 use crate::gather::{gathered, kept, sorted};
 use crate::holding::Held;
-use crate::joining::{Own, join_sums};
+use crate::joining::join_sums;
 use crate::near::{all_agents, settled, with_more};
 use crate::places::own_places;
 use crate::query::Queries;
@@ -29,9 +30,7 @@ use crate::standing::Stance;
 use crate::tell::join_told;
 use crate::update::updated;
 use brace_eval::{Heard, birth_fault};
-use brace_fold::{
-    Columns, Moved, Redo, Renewed, columns_of, expect_wide, renew_rows, slice_of, views,
-};
+use brace_fold::{Moved, Redo, Renewed, columns_of, expect_wide, renew_rows, views};
 use brace_model::Agent;
 use brace_num::NoMemory;
 use brace_pieces::{Cause, Piece, Setting, Stage, Step};
@@ -60,17 +59,15 @@ impl<'a> Worker<'a> {
         kept(&self.setting.job.program, cuts, self.part, agents)
     }
 
-    /// Of agents in columns, which stand by rising id, those that it owns under the cuts of a tick,
-    /// and those of a list, by rising id too.
+    /// Of agents in columns those that it owns under the cuts of a tick, and then those of a list.
     fn settled(&self, tick: u64, rows: Moved, more: &[Agent]) -> Result<Moved, NoMemory>
         requires { IsWorker self.now }
-        ensures order { IfOk result (λ all. (agents : List Agent) → AreMoved agents rows
-            → IsNonDecreasingBy (λ a. a.id) agents
-            → AreInOrder (owned self.now.setting.now.job.program
-            (cuts_of self.now.setting.now tick) self.now.part agents ++ more.now) all) }
-        ensures listed { IfOk result (λ all. (agents : List Agent) → AreMoved agents all
-            → IsTrue (list_all (is_lawful_agent self.now.setting.now.job.program) agents)
-            → AreListed self.now.setting.now.job.program agents all) }
+        ensures { IfOk result (λ all. (agents these : List Agent)
+            → AreStored self.now.setting.now.job.program agents rows → RisesById these
+            → IsPermutation these (owned self.now.setting.now.job.program
+            (cuts_of self.now.setting.now tick) self.now.part agents ++ more.now)
+            → IsTrue (list_all (is_lawful_agent self.now.setting.now.job.program) these)
+            → AreStored self.now.setting.now.job.program these all) }
     {
         let program = &self.setting.job.program;
         let cuts = self.setting.cuts.cuts_at(tick);
@@ -84,9 +81,9 @@ impl<'a> Worker<'a> {
     fn recut(&self, tick: u64, own: Moved, taken: &mut Vec<Piece>) -> Result<Moved, NoMemory>
         requires worker { IsWorker self.now }
         requires work { IsWork self.now stage.Hand tick taken.old.items }
-        requires own { AreListed self.now.setting.now.job.program
+        requires own { AreStored self.now.setting.now.job.program
             (own_before self.now.setting.now self.now.part stage.Hand tick) own }
-        ensures owns { IfOk result (AreListed self.now.setting.now.job.program
+        ensures owns { IfOk result (AreStored self.now.setting.now.job.program
             (own_before self.now.setting.now self.now.part stage.Border tick)) }
         ensures places { vec_capacity taken.new ≡ vec_capacity taken.old }
     {
@@ -141,7 +138,7 @@ impl<'a> Worker<'a> {
     fn behind_queries(&self, tick: u64, own: Moved, taken: &mut Vec<Piece>) -> Result<Stance, Cause>
         requires worker { IsWorker self.now }
         requires work { IsWork self.now stage.Border tick taken.old.items }
-        requires own { AreListed self.now.setting.now.job.program
+        requires own { AreStored self.now.setting.now.job.program
             (own_before self.now.setting.now self.now.part stage.Border tick) own }
         ensures ready { IfOk result
             (IsReadyBehind self.now.setting.now self.now.part stage.Border tick) }
@@ -155,17 +152,9 @@ impl<'a> Worker<'a> {
         let count = own.ids.len();
         let rows = self.beside(own, &guests)?;
         let queries = self.queries;
-        match queries.summed(self.alloc, self.setting, tick, count, &rows) {
+        match queries.summed(self.alloc, self.setting, tick, count, guests, &rows) {
             Err(Redo) => self.behind_lists(tick, &rows),
-            Ok(said) => {
-                let held = Held {
-                    count,
-                    guests,
-                    rows,
-                    said,
-                };
-                self.behind_sums(tick, held)
-            }
+            Ok(held) => self.behind_sums(tick, held),
         }
     }
 
@@ -237,14 +226,10 @@ impl<'a> Worker<'a> {
     {
         let plans = self.queries.rules();
         let states = views(self.alloc, &held.rows.states)?;
-        let columns = Columns {
-            classes: &held.rows.classes,
-            ids: &held.rows.ids,
-            states: &states,
-        };
+        let columns = held.rows.as_columns(&states);
         expect_wide(plans.program(), &columns)?;
-        let (seed, count, said) = (self.setting.job.seed, held.count, &held.said);
-        let renewed = renew_rows(self.alloc, plans, seed, tick, &columns, count, said)?;
+        let (seed, own, said) = (self.setting.job.seed, &held.own, &held.said);
+        let renewed = renew_rows(self.alloc, plans, seed, tick, &columns, own, said)?;
         Ok(renewed)
     }
 
@@ -258,6 +243,7 @@ impl<'a> Worker<'a> {
         ensures faulted { IfErr result (λ c. c ≡ cause.NoMemory) }
     {
         let Renewed { left, born } = renewed;
+        let born = sorted(born)?;
         match left.expect_listed(self.alloc, &self.setting.job.program) {
             Ok(()) => Ok(Stance::Leaves(left, born, self.next)),
             Err(Redo) => Err(Cause::NoMemory),
@@ -324,14 +310,11 @@ impl<'a> Worker<'a> {
         requires held { HoldsAsked self.now.setting.now self.now.part tick held.old }
         ensures leaves { IfOk result
             (LeavesRows self.now.setting.now self.now.part tick) }
-        ensures guests { held.new.guests ≡ held.old.guests }
         ensures rows { held.new.rows ≡ held.old.rows }
     {
-        let own = Own {
-            classes: slice_of(&held.rows.classes, 0, held.count)?,
-            ids: slice_of(&held.rows.ids, 0, held.count)?,
-        };
-        join_sums(&self.setting.job.program, &own, &mut held.said, taken)?;
+        let program = &self.setting.job.program;
+        let (rows, own, said) = (&held.rows, &held.own, &mut held.said);
+        join_sums(self.alloc, program, rows, own, said, taken)?;
         self.renewed(tick, held)
     }
 
@@ -399,9 +382,10 @@ impl<'a> Worker<'a> {
     ) -> Result<Moved, NoMemory>
         requires worker { IsWorker self.now }
         requires work { IsWork self.now stage.Move tick taken.old.items }
-        requires left { AreMoved (left_in self.now.setting.now self.now.part tick) left }
+        requires left { AreStored self.now.setting.now.job.program
+            (left_in self.now.setting.now self.now.part tick) left }
         requires born { born.items ≡ born_in self.now.setting.now self.now.part tick }
-        ensures owns { IfOk result (AreListed self.now.setting.now.job.program
+        ensures owns { IfOk result (AreStored self.now.setting.now.job.program
             (own_under self.now.setting.now self.now.part
             (cuts_of self.now.setting.now tick) (tick + 1))) }
         ensures places { vec_capacity taken.new ≡ vec_capacity taken.old }

@@ -1,12 +1,15 @@
 -- What the queries of a part hear. Only the crate's own functions cite this.
 use Rattle.std.specs.Prelude.{◌≡◌, ◌≤◌, ◌<◌, ◌^◌, ◌++◌, ℕ, List, length, nat_eq, IsTrue}
 use Rattle.std.specs.List.{All, IsDistinct, list_all}
+use Rattle.std.specs.List.Sorted.{IsPermutation}
 use Rattle.brace_model.specs.declared.world.Agent.{Agent}
 use Rattle.brace_model.specs.World.{RisesById, ids}
 use Rattle.brace_model.specs.Lawful.{is_lawful_agent}
 use Rattle.brace_eval.specs.declared.heard.Heard.{Heard}
 use Rattle.brace_eval.specs.Heard.{IsHeard}
+use Rattle.brace_fold.specs.declared.arranged.Arranged.{Arranged}
 use Rattle.brace_fold.specs.declared.order.Moved.{Moved}
+use Rattle.brace_fold.specs.Arranged.{AreArranged}
 use Rattle.brace_fold.specs.Rows.{AreMoved}
 use Rattle.brace_pieces.specs.declared.setting.Setting.{Setting}
 use Rattle.brace_part.specs.declared.query.Queries.{Queries}
@@ -30,13 +33,22 @@ abbrev pub HearsOver : Setting → ℕ → List ℕ → List Agent → Heard →
 HearsOver s tick places held heard = (own : List Agent) → ArePlaces held own places
     → IsHeard s.job.program held (said_over s tick own held) (faults_over s tick own held) heard
 
--- the queries of a run can be asked of agents in rows, of which the first are a part's own, so many
-pub record CanSum (s : Setting) (asked : Queries) (tick count : ℕ) (rows : Moved) : Type 0 where
+-- the queries of a run can be asked of a part's own agents, which stand in the first rows, so many,
+-- in some order, and of guests, who stand behind them
+pub record CanSum (s : Setting) (asked : Queries) (tick count : ℕ) (guests : List Agent)
+    (rows : Moved) : Type 0 where
   pub own : List Agent
-  pub guests : List Agent
-  pub many : count ≡ length own
-  pub moved : AreMoved (own ++ guests) rows
+  pub those : List Agent
+  pub same : IsPermutation own those
+  pub many : count ≡ length those
+  pub moved : AreMoved (those ++ guests) rows
   pub queries : AreQueriesOf s asked
   pub lawful : IsTrue (list_all (is_lawful_agent s.job.program) (own ++ guests))
   pub apart : IsDistinct nat_eq (ids (own ++ guests))
   pub ticks : tick ≤ 2 ^ 32
+
+-- they can be asked of agents in the order of cells
+pub record CanSay (s : Setting) (asked : Queries) (agents : List Agent) (arranged : Arranged)
+    : Type 0 where
+  pub queries : AreQueriesOf s asked
+  pub arranged_so : AreArranged s.job.program agents arranged

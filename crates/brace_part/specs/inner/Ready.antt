@@ -7,7 +7,7 @@ use Rattle.brace_model.specs.Query.{Saying}
 use Rattle.brace_eval.specs.declared.heard.Heard.{Heard}
 use Rattle.brace_eval.specs.Heard.{IsHeard}
 use Rattle.brace_fold.specs.declared.order.Moved.{Moved}
-use Rattle.brace_fold.specs.Listed.{AreListed}
+use Rattle.brace_fold.specs.Listed.{AreStored}
 use Rattle.brace_pieces.specs.declared.setting.Setting.{Setting}
 use Rattle.brace_pieces.specs.declared.setting.Stage.{Stage}
 use Rattle.brace_pieces.specs.declared.setting.Stage.TheVariants.{Hand, Border, Effects, Census, Move, Show}
@@ -65,22 +65,22 @@ pub record HearsAll (s : Setting) (p tick : ℕ) (agents : List Agent) (heard : 
 -- behind its updates a part has what its agents leave, where children bear their parents' ids
 pub record HasLeft (s : Setting) (p tick : ℕ) (left : Moved) (born : List Agent) (next : ℕ)
     : Type 0 where
-  pub lives : AreListed s.job.program (left_in s p tick) left
+  pub lives : AreStored s.job.program (left_in s p tick) left
   pub bears : born ≡ children_in s p tick
   pub same_next : next ≡ (on s tick).next
 
 -- behind the census these have ids of their own, and the next free id is that of the next world
 pub record HasBorn (s : Setting) (p tick : ℕ) (left : Moved) (born : List Agent) (next : ℕ)
     : Type 0 where
-  pub lives : AreListed s.job.program (left_in s p tick) left
+  pub lives : AreStored s.job.program (left_in s p tick) left
   pub born_so : born ≡ born_in s p tick
   pub next_is : next ≡ (on s (tick + 1)).next
 
 -- what a part has is what a step of a stage and tick needs
 abbrev pub IsReadyFor : Setting → ℕ → Stage → ℕ → Stance → Type 0
-IsReadyFor s p Hand tick (Owns own) = AreListed s.job.program (own_before s p Hand tick) own
-IsReadyFor s p Border tick (Owns own) = AreListed s.job.program (own_before s p Border tick) own
-IsReadyFor s p Show tick (Owns own) = AreListed s.job.program (own_before s p Show tick) own
+IsReadyFor s p Hand tick (Owns own) = AreStored s.job.program (own_before s p Hand tick) own
+IsReadyFor s p Border tick (Owns own) = AreStored s.job.program (own_before s p Border tick) own
+IsReadyFor s p Show tick (Owns own) = AreStored s.job.program (own_before s p Show tick) own
 IsReadyFor s p Effects tick (Hears agents heard) =
     (s.invert ≡ false) × HearsAsked s p tick agents.items heard
 IsReadyFor s p Effects tick (Holds held) = (s.invert ≡ false) × HoldsAsked s p tick held
@@ -100,7 +100,7 @@ IsReadyBehind s p Border tick stance =
 IsReadyBehind s p Effects tick stance = IsReadyFor s p Census tick stance
 IsReadyBehind s p Census tick stance = IsReadyFor s p Move tick stance
 IsReadyBehind s p Move tick (Owns own) =
-    AreListed s.job.program (own_under s p (cuts_of s tick) (tick + 1)) own
+    AreStored s.job.program (own_under s p (cuts_of s tick) (tick + 1)) own
 IsReadyBehind s p Show tick stance = IsReadyFor s p Show tick stance
 IsReadyBehind s p at tick stance = ⊥
 

@@ -3,6 +3,7 @@ use Rattle.std.specs.Prelude.{◌≡◌, ℕ, ◌-◌, ◌<◌, ◌≤◌, List,
 use Rattle.std.specs.List.{All, Contains}
 use Rattle.brace_invert.specs.Split.{forward_program, inverse_program}
 use Rattle.brace_fold.specs.Listed.{agents_in}
+use Rattle.brace_fold.specs.Rows.{by_id}
 use Rattle.brace_model.specs.declared.program.Program.{Program}
 use Rattle.brace_model.specs.declared.world.Agent.{Agent}
 use Rattle.brace_pieces.specs.declared.setting.Setting.{Setting}
@@ -108,9 +109,9 @@ pub record IsSound (c : OnCourse) (queries : Queries) (standing : Standing)
   pub kept : AreKept c.setting c.actor standing.shown
   pub has_room : parts c.setting ≤ room
 
--- the agents that a part owns, if it is settled
+-- the agents that a part owns, by rising id, if it is settled
 abbrev pub owns_in : Program → Stance → List Agent
-owns_in program (Owns own) = agents_in program own
+owns_in program (Owns own) = by_id (agents_in program own)
 owns_in program (Hears agents heard) = []
 owns_in program (Holds held) = []
 owns_in program (Leaves left born next) = []

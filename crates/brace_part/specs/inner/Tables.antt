@@ -72,3 +72,7 @@ pub data TellBy (program : Program) (held : List Agent) : List Piece → List Sa
   one_piece : (entries : List Entry) (pieces : List Piece) (told more : List Saying)
       → TellsBy program held entries told → TellBy program held pieces more
       → TellBy program held (Effects entries ∷ pieces) (told ++ more)
+
+-- a piece tells of no values
+abbrev pub IsSilent : Piece → Type 0
+IsSilent piece = (entries : List Entry) → piece ≡ Effects entries → entries ≡ []

@@ -21,8 +21,8 @@ returns c =
     let m = s.job.program in
     let cuts = cuts_of s c.args.tick in
     record {
-      theirs = λ agents listed.
-          let lives = c.in_ok-agents_of.ensures agents listed
+      theirs = λ agents stored.
+          let lives = c.in_ok-agents_of.ensures agents stored
           ∙ ap (λ (k : Cuts). owned m k c.args.to agents) c.cuts_at-cuts.ensures in
           let first = c.into_vec-found.ensures ∙ lives in
           let second = c.into_vec-more.ensures ∙ c.in_ok-moves_of.ensures.theirs in

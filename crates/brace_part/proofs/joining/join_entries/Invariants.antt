@@ -1,4 +1,4 @@
-use Rattle.std.proofs.Common.{◌++◌, List, drop}
+use Rattle.std.proofs.Common.{List, drop}
 use Rattle.std.specs.Prelude.{nat_eq}
 use Rattle.std.specs.List.{IsDistinct}
 use Rattle.brace_model.specs.declared.world.Agent.{Agent}
@@ -10,8 +10,8 @@ use Rattle.brace_part.proofs.HoldLemmas.{SoFarJoined}
 use Rattle.brace_part.proofs.joining.join_entries.Given as goal
 
 abbrev pub invariant-loop-entry : goal.invariant-loop-entry
-invariant-loop-entry l = (agents guests : List Agent) (told : List Saying)
-    → AreOwn agents l.own → IsDistinct nat_eq (ids (agents ++ guests))
-    → TellsBy l.program agents l.entries told
-    → SoFarJoined l.program (agents ++ guests) told l.fn.said l.said
-    (TellsBy l.program agents (drop l.entry-index l.entries))
+invariant-loop-entry l = (all mine : List Agent) (told : List Saying)
+    → AreOwn all mine l.own → IsDistinct nat_eq (ids all)
+    → TellsBy l.program mine l.entries told
+    → SoFarJoined l.program all told l.fn.said l.said
+    (TellsBy l.program mine (drop l.entry-index l.entries))

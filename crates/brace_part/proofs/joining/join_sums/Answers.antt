@@ -1,53 +1,40 @@
-use Rattle.std.proofs.Common.{◌∙◌, ◌++◌, ◌∷◌, ◌+◌, List, drop, subst, sym, ap}
-use Rattle.brace_pieces.specs.declared.piece.Piece.{Piece}
-use Rattle.brace_comb.specs.declared.entry.Entry.{Entry}
-use Rattle.brace_fold.specs.declared.table.Table.{Table}
-use Rattle.brace_part.specs.inner.Tables.{TellsBy, TellBy}
-use Rattle.brace_part.proofs.HoldLemmas.{SoFarJoined, joined_first, joined_next, joined_last}
-use Rattle.brace_part.proofs.TableTells.{piece_more, no_pieces, is_telling, next_of, none_left}
+use Rattle.std.proofs.Common.{◌∙◌, ℕ, All, List, sym, ap, subst, map}
+use Rattle.std.specs.Bool.{OnTrue}
+use Rattle.brace_fold.specs.Hears.{Hears}
+use Rattle.brace_fold.proofs.Alikes.{hears-none}
+use Rattle.brace_part.specs.declared.joining.Named.{Named}
+use Rattle.brace_part.specs.inner.Asked.{ArePlaces}
+use Rattle.brace_part.specs.inner.Tables.{IsSilent}
+use Rattle.brace_part.proofs.HoldLemmas.{silent_told}
+use Rattle.brace_part.proofs.NamedLemmas.{named_mine}
+use Rattle.brace_part.proofs.TableTells.{on_ok}
 use Rattle.brace_part.proofs.joining.join_sums.Goals as goal
-use Rattle.brace_part.proofs.joining.join_sums.Goals.{in-Effects+in_ok-join_entries, in_default}
 
-pub loop-piece-init : goal.loop-piece-init
-loop-piece-init c agents guests told own apart tells =
-    joined_first c.args.program.now (agents ++ guests) told c.args.said.now
-    (TellBy c.args.program.now agents c.args.pieces.now) tells
-
-pub loop-piece-preserved : goal.loop-piece-preserved
-loop-piece-preserved c agents guests told own apart tells =
+pub returns-then-are_silent : goal.returns-then-are_silent
+returns-then-are_silent c all theirs mine told moved apart stand same rises tells =
     let program = c.args.program.now in
-    let pieces : List Piece = c.args.pieces.now in
-    let i = c.loop-piece.piece-index in
-    let x = c.piece-item.result in
-    let next = next_of pieces i x c.loop-piece-test.true c.piece-item.is in
-    let so = c.loop-piece.invariant agents guests told own apart tells in
-    let Rest = TellBy program agents (drop (i + 1) pieces) in
-    elim c.match-piece.branch [
-      | in-Effects+in_ok-join_entries w ↦
-          subst (λ (h : Table). SoFarJoined program (agents ++ guests) told c.args.said.now h Rest)
-          (sym w.said-is)
-          (joined_next program (agents ++ guests) told c.args.said.now c.loop-piece.said
-          w.join_entries.new.said
-          (TellBy program agents (drop i pieces)) (TellsBy program agents w.in-Effects.entries) Rest
-          (λ rest t. piece_more program agents w.in-Effects.entries (drop (i + 1) pieces) rest
-          (subst (λ (l : List Piece). TellBy program agents l rest) (next
-          ∙ ap (λ (y : Piece). y ∷ drop (i + 1) pieces) w.in-Effects.is) t))
-          (λ first one. w.in_ok-join_entries.ensures agents guests first own apart
-          (subst (λ (l : List Entry). TellsBy program agents l first) (sym w.as_slice.ensures) one))
-          so)
-      | in_default w ↦
-          absurd (is_telling program agents x (drop (i + 1) pieces) so.rest
-          (subst (λ (l : List Piece). TellBy program agents l so.rest) next so.tells)
-          w.in_default.not-Effects)
-    ]
+    let none = silent_told program mine c.args.pieces.now told
+    (subst (λ b. OnTrue b (All IsSilent c.args.pieces.now)) c.if-are_silent.true
+    c.are_silent.ensures) tells in
+    subst (λ l. Hears program all l c.args.said.now c.args.said.now) (sym none)
+    (hears-none program all c.args.said.now)
 
 pub returns : goal.returns
-returns c agents guests told own apart tells =
-    let program = c.args.program.now in
-    let pieces : List Piece = c.args.pieces.now in
-    joined_last program (agents ++ guests) told c.args.said.now c.loop-piece.said
-    (TellBy program agents (drop c.loop-piece.piece-index pieces))
-    (λ rest t. no_pieces program agents rest
-    (subst (λ (l : List Piece). TellBy program agents l rest)
-    (none_left pieces c.loop-piece.piece-index c.loop-piece-test.false) t))
-    (c.loop-piece.invariant agents guests told own apart tells)
+returns c =
+    on_ok c.join_pieces.result c.join_pieces.ensures
+    (λ join all theirs mine told moved apart stand same rises tells.
+    let named = c.in_ok-named.named.items in
+    let sorted = c.sort_by_id.new.named.items in
+    let (ids_are, rows_are) = named_mine all theirs mine c.deref.result.now c.args.own.now named
+    sorted (c.deref.ensures.value ∙ moved.ids_are) stand same rises c.in_ok-named.ensures.rows
+    c.in_ok-named.ensures.ids c.in_ok-sort_by_id.ensures.moved c.in_ok-sort_by_id.ensures.rise in
+    join all mine told
+    (record {
+      classes = c.deref-4.ensures.value ∙ moved.classes;
+      ids_are = c.deref-5.ensures.value ∙ c.in_ok-ids.ensures
+          ∙ ap (map (λ (n : Named). n.id)) c.deref-2.ensures.value ∙ ids_are;
+      rises = rises;
+      stand = subst (ArePlaces all mine)
+          (sym {A = List ℕ} (c.deref-6.ensures.value ∙ c.in_ok-places.ensures
+          ∙ ap (map (λ (n : Named). n.row)) c.deref-3.ensures.value)) rows_are;
+    }) apart tells)

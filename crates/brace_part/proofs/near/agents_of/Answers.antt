@@ -5,11 +5,11 @@ use Rattle.brace_part.proofs.NearLemmas.{owned_near}
 use Rattle.brace_part.proofs.near.agents_of.Goals as goal
 
 pub returns : goal.returns
-returns c agents listed =
+returns c agents stored =
     let program = c.args.program.now in
     let near : c.in_ok-theirs.theirs ≡ filter (is_near program c.area.result (pos 0)) agents =
-    c.in_ok-theirs.ensures.near agents listed in
+    c.in_ok-theirs.ensures.near agents stored in
     near
     ∙ ap (λ (area : Area). filter (is_near program area (pos 0)) agents) c.area.ensures
     ∙ owned_near c.args.cuts.now c.requires.cuts c.args.part c.requires.part program agents
-    (c.in_ok-theirs.ensures.fit agents listed)
+    (c.in_ok-theirs.ensures.fit agents stored)

@@ -42,7 +42,7 @@ loop-k-preserved c =
     let program = c.args.program.now in
     let area = c.args.area.now in
     let range = to_z w64 (of_z w64 c.args.range) in
-    let number = c.in-Some-class_at.number in
+    let number = c.in-Some-number_at.number in
     record {
       axes = c.in_ok-known.ensures.axes;
       near = λ agents moved.
@@ -55,7 +55,7 @@ loop-k-preserved c =
           let its : get_or agents k a ≡ a = get_or_from_slice_get agents k a a there in
           let read : slice_get rows.classes.items k ≡ Some number =
           subst (λ (l : List ℕ). slice_get l k
-          ≡ Some number) c.deref-in-loop-k.ensures.value c.in-Some-class_at.ensures.some in
+          ≡ Some number) c.deref-in-loop-k.ensures.value c.in-Some-number_at.ensures.some in
           let class : number ≡ a.class =
           same_Some _ _ (sym read ∙ ap (λ l. slice_get l k) moved.classes
           ∙ slice_get-map (λ (b : Agent). b.class) agents k

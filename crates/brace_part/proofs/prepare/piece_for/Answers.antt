@@ -147,7 +147,7 @@ returns-in_ok-census_of-in-Census-Leaves c =
     c.requires.ready) in
     let lawful = left_lawful s c.requires.worker.lawful t (on s t).agents _
     (mine_lawful w c.requires.worker t) in
-    let given = c.in_ok-census_of-in-Census-Leaves.ensures _ ready.lives.moved lawful
+    let given = c.in_ok-census_of-in-Census-Leaves.ensures _ ready.lives lawful
     ∙ ap (census_of (left_in s w.part t)) (c.deref-in-Census-Leaves.ensures.value ∙ ready.bears) in
     record {
       right =
@@ -219,7 +219,7 @@ returns-in_ok-entries-in-Effects-Holds c =
           ready.1
           (held_of w c.requires.worker t (mine s w.part t) held.guests.items ready.1.holds.holds
           c.args.to other)
-          (λ own said many h. c.in_ok-entries-in-Effects-Holds.ensures.told own said many h
+          (λ all said stand h. c.in_ok-entries-in-Effects-Holds.ensures.told all said stand h
           ∙ ap (λ cuts. shares_in s.job.program cuts c.args.to held.guests.items said)
           c.cuts_at-cuts.ensures)));
       goes_on = tt;

@@ -1,12 +1,14 @@
-use Rattle.std.proofs.Common.{◌≡◌, ◌++◌, List, length, map, take}
+use Rattle.std.proofs.Common.{◌≡◌, List, map, take}
 use Rattle.brace_model.specs.declared.world.Agent.{Agent}
 use Rattle.brace_model.specs.Query.{Saying}
 use Rattle.brace_fold.specs.Sums.{AreSummed}
 use Rattle.brace_pieces.specs.Right.{share_of}
+use Rattle.brace_part.specs.inner.Asked.{ArePlaces}
 use Rattle.brace_part.specs.inner.Tables.{shares_in}
 use Rattle.brace_part.proofs.holding.Held.told_sums.Given as goal
 
 abbrev pub invariant-loop-k : goal.invariant-loop-k
-invariant-loop-k l = (own : List Agent) (said : List Saying) → l.self.count ≡ length own
-    → AreSummed l.program (own ++ l.self.guests.items) said l.self.said
+invariant-loop-k l = (all : List Agent) (said : List Saying)
+    → ArePlaces all l.self.guests.items l.self.places.items
+    → AreSummed l.program all said l.self.said
     → map share_of l.entries ≡ shares_in l.program l.cuts l.to (take l.k l.self.guests.items) said

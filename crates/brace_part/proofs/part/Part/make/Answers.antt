@@ -18,6 +18,7 @@ use Rattle.brace_part.specs.Parts.{kept_at, IsCauseOfAll}
 use Rattle.brace_part.specs.inner.Ready.{AreKept}
 use Rattle.brace_part.specs.inner.Sound.{IsPartOf, ComesTo}
 use Rattle.brace_part.proofs.CauseLemmas.{found_first}
+use Rattle.brace_part.proofs.CellLemmas.{listed_stored, own_rises}
 use Rattle.brace_part.proofs.StartLemmas.{comes_first, kept_first, noted_first, from_none}
 use Rattle.brace_part.proofs.part.Part.make.Goals as goal
 use Rattle.brace_part.proofs.part.Part.make.Goals.{then-is_some+in_ok-note, else-is_some}
@@ -34,8 +35,10 @@ in_columns-requires c =
 pub prepare-requires-clause-comes : goal.prepare-requires-clause-comes
 prepare-requires-clause-comes c =
     let s = c.args.setting.now in
-    let mine = subst (λ l. AreListed s.job.program l c.in_ok-own.own) (c.deref.ensures.value
-    ∙ c.requires.owns) c.in_ok-own.ensures in
+    let mine = listed_stored s.job.program _ c.in_ok-own.own
+    (own_rises s c.requires.lawful c.args.p (cuts_of s s.job.first) s.job.first)
+    (subst (λ l. AreListed s.job.program l c.in_ok-own.own) (c.deref.ensures.value
+    ∙ c.requires.owns) c.in_ok-own.ensures) in
     let start = c.in_ok-course.ensures.start in
     let some_is : c.is_some.result ≡ is_some (slice_get (steps s) 0) = c.is_some.ensures ∙ ap is_some (c.step.ensures ∙ ap step_of start) in
     subst (λ (d : OnCourse). ComesTo d.setting d.actor d.number (step_of d) c.if-is_some.standing) (sym start)
@@ -55,8 +58,10 @@ pub invariant_of-result : goal.invariant_of-result
 invariant_of-result c =
     let s = c.args.setting.now in
     let p = c.args.p in
-    let mine = subst (λ l. AreListed s.job.program l c.in_ok-own.own) (c.deref.ensures.value
-    ∙ c.requires.owns) c.in_ok-own.ensures in
+    let mine = listed_stored s.job.program _ c.in_ok-own.own
+    (own_rises s c.requires.lawful c.args.p (cuts_of s s.job.first) s.job.first)
+    (subst (λ l. AreListed s.job.program l c.in_ok-own.own) (c.deref.ensures.value
+    ∙ c.requires.owns) c.in_ok-own.ensures) in
     let start = c.in_ok-course.ensures.start in
     let kept : AreKept s p c.if-is_some.standing.shown = elim c.if-is_some.branch [
       | then-is_some+in_ok-note w ↦ subst (λ (x : Standing). AreKept s p x.shown) (sym w.standing-is)

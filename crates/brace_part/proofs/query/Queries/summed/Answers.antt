@@ -1,209 +1,115 @@
-use Rattle.std.proofs.Common.{◌≡◌, ◌∙◌, ◌++◌, [], ℕ, List, sym, ap, subst, map, length, append-nil, rules}
-use Rattle.std.proofs.lemmas.List.{length-map}
-use Rattle.brace_model.specs.declared.program.Program.{Program}
+use Rattle.std.proofs.Common.{◌≡◌, ◌∙◌, ◌++◌, [], ℕ, List, sym, ap, subst, map, length, rules}
+use Rattle.std.specs.Prelude.{filter, nat_lt}
+use Rattle.std.specs.List.{range_with_len}
+use Rattle.std.specs.List.Sorted.{IsPermutation}
+use Rattle.std.proofs.lemmas.List.Sorted.{IsPermutation-trans}
+use Rattle.brace_num.proofs.Orders.{distinct_moved}
 use Rattle.brace_model.specs.declared.world.Agent.{Agent}
-use Rattle.brace_eval.specs.Heard.{said_by}
-use Rattle.brace_fold.specs.Asked.{agents_at}
-use Rattle.brace_fold.specs.Rows.{IsWide, by_id}
+use Rattle.brace_fold.specs.Arranged.{AreArranged, in_places}
+use Rattle.brace_fold.specs.Asked.{by_row}
+use Rattle.brace_fold.specs.Rows.{IsPicked}
 use Rattle.brace_fold.specs.Sums.{AreSummed}
-use Rattle.brace_fold.specs.declared.columns.Columns.{Columns}
-use Rattle.brace_fold.proofs.RowLemmas.{are_rows, moved_are}
-use Rattle.brace_invert.specs.Split.{forward_query, inverse_query}
-use Rattle.brace_part.specs.inner.Asked.{HasRulesOf}
-use Rattle.brace_part.specs.inner.Sound.{AreQueriesOf}
-use Rattle.brace_part.specs.inner.Tables.{said_over}
-use Rattle.brace_part.proofs.AskLemmas.{own_rules, rules_same}
-use Rattle.brace_part.proofs.SumsLemmas.{quiet_both, quiet_by_id, quiet_in, quiet_script, said_both, said_script, says_by_id, says_in, wide_too}
-use Rattle.brace_part.proofs.LaneLemmas.{effects_same, own_effects}
-use Rattle.brace_part.proofs.TableLeft.{lawful_too}
+use Rattle.brace_fold.proofs.ArrangedLemmas.{in-order}
+use Rattle.brace_fold.proofs.MoveLemmas.{picked-by, rows-back}
+use Rattle.brace_fold.proofs.Ownings.{picked-row}
+use Rattle.brace_fold.proofs.RowLemmas.{all_lawful, are_rows, by_id_moved, lawful_moved, rows_are}
+use Rattle.brace_part.specs.inner.Asked.{ArePlaces}
+use Rattle.brace_part.specs.inner.Hearing.{CanSay}
+use Rattle.brace_part.specs.inner.Tables.{faults_over, said_over}
+use Rattle.brace_part.proofs.CellLemmas.{both_moved, first_moved}
 use Rattle.brace_part.proofs.query.Queries.summed.Goals as goal
-use Rattle.brace_part.proofs.query.Queries.summed.Goals.{in-Script+in_ok-fold_rows-in-Script, in-Inverted+in_ok-all-in-Inverted+in_ok-fold_rows-in-Inverted+in_ok-fold_rows-in-Inverted-2}
 
-pub fold_rows-requires-clause-rows : goal.fold_rows-requires-clause-rows
-fold_rows-requires-clause-rows c =
+pub of-requires : goal.of-requires
+of-requires c =
     let can = c.requires in
-    let s = c.args.setting.now in
-    let m = s.job.program in
-    let (plain, script) = subst (AreQueriesOf s) c.in-Script.is can.queries in
-    let p = c.in-Script.plans in
-    let agents = can.own ++ can.guests in
-    let columns : Columns =
-    record { classes = c.deref-2.result; ids = c.deref-3.result; states = c.deref-4.result } in
-    let are = moved_are agents c.args.rows.now columns can.moved
-    c.deref-2.ensures.value c.deref-3.ensures.value
-    (ap (map (λ v. v.now)) c.deref-4.ensures.value ∙ c.in_ok-states.ensures
-    ∙ c.deref.ensures.value) in
-    are_rows p agents columns are
-    (subst (λ (x : Program). IsWide x columns) (sym script) c.in_ok-expect_wide.ensures)
-    (lawful_too s p (subst (HasRulesOf m) (sym script) (own_rules m)) agents can.lawful)
-    can.apart
+    let m = c.args.setting.now.job.program in
+    let guests = c.args.guests.items in
+    let agents = can.those ++ guests in
+    let both = both_moved can.own can.those guests can.same in
+    let lent = ap (map (λ v. v.now)) c.deref-2.ensures.value ∙ c.in_ok-states.ensures
+    ∙ c.deref.ensures.value in
+    are_rows m agents c.as_columns-columns.result
+    (c.as_columns-columns.ensures.are lent agents can.moved) c.in_ok-expect_wide.ensures
+    (lawful_moved m (can.own ++ guests) agents both can.lawful)
+    (distinct_moved (λ (a : Agent). a.id) (can.own ++ guests) agents both can.apart)
 
-pub fold_rows-requires-in-Inverted-clause-rows : goal.fold_rows-requires-in-Inverted-clause-rows
-fold_rows-requires-in-Inverted-clause-rows c =
+pub said_to-requires-clause-can : goal.said_to-requires-clause-can
+said_to-requires-clause-can c =
     let can = c.requires in
-    let s = c.args.setting.now in
-    let m = s.job.program in
-    let (inverts, forward, inverse) = subst (AreQueriesOf s) c.in-Inverted.is can.queries in
-    let p = c.in-Inverted.forward in
-    let agents = can.own ++ can.guests in
-    let columns : Columns =
-    record { classes = c.deref-2.result; ids = c.deref-3.result; states = c.deref-4.result } in
-    let are = moved_are agents c.args.rows.now columns can.moved
-    c.deref-2.ensures.value c.deref-3.ensures.value
-    (ap (map (λ v. v.now)) c.deref-4.ensures.value ∙ c.in_ok-states.ensures
-    ∙ c.deref.ensures.value) in
-    are_rows p agents columns are
-    (wide_too forward_query m p columns forward c.in_ok-expect_wide.ensures)
-    (lawful_too s p (rules_same forward_query m p forward) agents can.lawful)
-    can.apart
+    let m = c.args.setting.now.job.program in
+    let guests = c.args.guests.items in
+    let agents = can.those ++ guests in
+    let both = both_moved can.own can.those guests can.same in
+    let lent = ap (map (λ v. v.now)) c.deref-2.ensures.value ∙ c.in_ok-states.ensures
+    ∙ c.deref.ensures.value in
+    let lawful = lawful_moved m (can.own ++ guests) agents both can.lawful in
+    let same = rows_are m agents c.as_columns-columns.result
+    (c.as_columns-columns.ensures.are lent agents can.moved) c.in_ok-expect_wide.ensures
+    (all_lawful m agents lawful) in (
+      agents,
+      record {
+        queries = can.queries;
+        arranged_so = subst (λ l. AreArranged m l c.in_ok-arranged.arranged) same
+            c.in_ok-arranged.ensures;
+      },
+    )
 
-pub fold_rows-requires-in-Inverted-2-clause-rows : goal.fold_rows-requires-in-Inverted-2-clause-rows
-fold_rows-requires-in-Inverted-2-clause-rows c =
-    let can = c.requires in
+pub returns-clause-summed : goal.returns-clause-summed
+returns-clause-summed c can =
     let s = c.args.setting.now in
     let m = s.job.program in
-    let (inverts, forward, inverse) = subst (AreQueriesOf s) c.in-Inverted.is can.queries in
-    let q = c.in-Inverted.inverse in
-    let agents = can.own ++ can.guests in
-    let columns : Columns =
-    record { classes = c.deref-2.result; ids = c.deref-3.result; states = c.deref-4.result } in
-    let are = moved_are agents c.args.rows.now columns can.moved
-    c.deref-2.ensures.value c.deref-3.ensures.value
-    (ap (map (λ v. v.now)) c.deref-4.ensures.value ∙ c.in_ok-states.ensures
-    ∙ c.deref.ensures.value) in
-    are_rows q agents columns are
-    (wide_too inverse_query m q columns inverse c.in_ok-expect_wide.ensures)
-    (lawful_too s q (rules_same inverse_query m q inverse) agents can.lawful)
-    can.apart
-
-pub returns-clause-said : goal.returns-clause-said
-returns-clause-said c can =
-    let s = c.args.setting.now in
-    let m = s.job.program in
-    let seed = s.job.seed in
     let tick = c.args.tick in
-    let own = can.own in
-    let guests = can.guests in
-    let agents = own ++ guests in
-    let world = by_id agents in
-    let columns : Columns =
-    record { classes = c.deref-2.result; ids = c.deref-3.result; states = c.deref-4.result } in
-    let are = moved_are agents c.args.rows.now columns can.moved
-    c.deref-2.ensures.value c.deref-3.ensures.value
-    (ap (map (λ v. v.now)) c.deref-4.ensures.value ∙ c.in_ok-states.ensures
-    ∙ c.deref.ensures.value) in
-    let many : length columns.ids.now ≡ length agents = ap length are.ids_are
-    ∙ length-map agents (λ (a : Agent). a.id) in
-    let start = c.in_ok-said.said in
-    let nothing : AreSummed m agents [] start = c.in_ok-said.ensures m agents
-    (search (rules, many)) in
-    let Out = AreSummed m agents (said_over s tick own world) in
-    let lawful = can.lawful in
-    elim c.match-self.branch [
-      | in-Script+in_ok-fold_rows-in-Script w ↦
-          let (plain, script) = subst (AreQueriesOf s) w.in-Script.is can.queries in
-          let p = w.in-Script.plans in
-          let after = w.fold_rows.new.said in
-          let at = λ (d : Agent). subst (λ (l : List ℕ). agents_at agents d l ≡ own)
-          (sym {A = List ℕ} w.deref-in-Script.ensures.value)
-          (c.in_ok-mine.ensures own guests d can.many) in
-          let heard = says_in p agents columns are
-          (subst (λ (x : Program). IsWide x columns) (sym script) c.in_ok-expect_wide.ensures)
-          (lawful_too s p (subst (HasRulesOf m) (sym script) (own_rules m)) agents lawful) seed tick
-          own w.deref-in-Script.result.now at
-          m (own_effects m p script) start after w.in_ok-fold_rows-in-Script.ensures.said in
-          subst Out (sym w.said-is)
-          (subst (λ l. AreSummed m agents l after) (said_script s tick own world p plain script)
-          (heard.each [] nothing))
-      | in-Inverted+in_ok-all-in-Inverted+in_ok-fold_rows-in-Inverted+in_ok-fold_rows-in-Inverted-2
-          w ↦
-          let (inverts, forward, inverse) = subst (AreQueriesOf s) w.in-Inverted.is
-          can.queries in
-          let p = w.in-Inverted.forward in
-          let q = w.in-Inverted.inverse in
-          let between = w.fold_rows-in-Inverted.new.said in
-          let after = w.fold_rows-in-Inverted-2.new.said in
-          let at = λ (d : Agent). subst (λ (l : List ℕ). agents_at agents d l ≡ own)
-          (sym {A = List ℕ} w.deref-in-Inverted.ensures.value)
-          (c.in_ok-mine.ensures own guests d can.many) in
-          let all = λ (d : Agent). subst (λ (l : List ℕ). agents_at agents d l ≡ agents)
-          (sym {A = List ℕ} w.deref-in-Inverted-2.ensures.value)
-          (subst (λ l. agents_at l d w.in_ok-all-in-Inverted.all.items ≡ agents) (append-nil agents)
-          (w.in_ok-all-in-Inverted.ensures agents [] d (search (rules, many)))) in
-          let first = says_in p agents columns are
-          (wide_too forward_query m p columns forward c.in_ok-expect_wide.ensures)
-          (lawful_too s p (rules_same forward_query m p forward) agents lawful) seed tick own
-          w.deref-in-Inverted.result.now at
-          m (effects_same forward_query m p forward) start between
-          w.in_ok-fold_rows-in-Inverted.ensures.said in
-          let second = says_by_id q seed tick agents m between after
-          (says_in q agents columns are
-          (wide_too inverse_query m q columns inverse c.in_ok-expect_wide.ensures)
-          (lawful_too s q (rules_same inverse_query m q inverse) agents lawful) seed tick agents
-          w.deref-in-Inverted-2.result.now all
-          m (effects_same inverse_query m q inverse) between after
-          w.in_ok-fold_rows-in-Inverted-2.ensures.said) in
-          subst Out (sym w.said-is)
-          (subst (λ l. AreSummed m agents l after)
-          (said_both s tick own world p q inverts forward inverse)
-          (second.each (said_by p seed tick world own) (first.each [] nothing)))
-    ]
-
-pub returns-clause-quiet : goal.returns-clause-quiet
-returns-clause-quiet c can =
-    let s = c.args.setting.now in
-    let m = s.job.program in
-    let seed = s.job.seed in
-    let tick = c.args.tick in
-    let own = can.own in
-    let guests = can.guests in
-    let agents = own ++ guests in
-    let world = by_id agents in
-    let columns : Columns =
-    record { classes = c.deref-2.result; ids = c.deref-3.result; states = c.deref-4.result } in
-    let are = moved_are agents c.args.rows.now columns can.moved
-    c.deref-2.ensures.value c.deref-3.ensures.value
-    (ap (map (λ v. v.now)) c.deref-4.ensures.value ∙ c.in_ok-states.ensures
-    ∙ c.deref.ensures.value) in
-    let many : length columns.ids.now ≡ length agents = ap length are.ids_are
-    ∙ length-map agents (λ (a : Agent). a.id) in
-    let lawful = can.lawful in
-    elim c.match-self.branch [
-      | in-Script+in_ok-fold_rows-in-Script w ↦
-          let (plain, script) = subst (AreQueriesOf s) w.in-Script.is can.queries in
-          let p = w.in-Script.plans in
-          let at = λ (d : Agent). subst (λ (l : List ℕ). agents_at agents d l ≡ own)
-          (sym {A = List ℕ} w.deref-in-Script.ensures.value)
-          (c.in_ok-mine.ensures own guests d can.many) in
-          quiet_script s tick own world p plain script
-          (quiet_in p agents columns are
-          (subst (λ (x : Program). IsWide x columns) (sym script) c.in_ok-expect_wide.ensures)
-          (lawful_too s p (subst (HasRulesOf m) (sym script) (own_rules m)) agents lawful) seed tick
-          own w.deref-in-Script.result.now at
-          w.in_ok-fold_rows-in-Script.ensures.quiet)
-      | in-Inverted+in_ok-all-in-Inverted+in_ok-fold_rows-in-Inverted+in_ok-fold_rows-in-Inverted-2
-          w ↦
-          let (inverts, forward, inverse) = subst (AreQueriesOf s) w.in-Inverted.is
-          can.queries in
-          let p = w.in-Inverted.forward in
-          let q = w.in-Inverted.inverse in
-          let at = λ (d : Agent). subst (λ (l : List ℕ). agents_at agents d l ≡ own)
-          (sym {A = List ℕ} w.deref-in-Inverted.ensures.value)
-          (c.in_ok-mine.ensures own guests d can.many) in
-          let all = λ (d : Agent). subst (λ (l : List ℕ). agents_at agents d l ≡ agents)
-          (sym {A = List ℕ} w.deref-in-Inverted-2.ensures.value)
-          (subst (λ l. agents_at l d w.in_ok-all-in-Inverted.all.items ≡ agents) (append-nil agents)
-          (w.in_ok-all-in-Inverted.ensures agents [] d (search (rules, many)))) in
-          quiet_both s tick own world p q inverts forward inverse
-          (quiet_in p agents columns are
-          (wide_too forward_query m p columns forward c.in_ok-expect_wide.ensures)
-          (lawful_too s p (rules_same forward_query m p forward) agents lawful) seed tick own
-          w.deref-in-Inverted.result.now at
-          w.in_ok-fold_rows-in-Inverted.ensures.quiet)
-          (quiet_by_id q seed tick agents
-          (quiet_in q agents columns are
-          (wide_too inverse_query m q columns inverse c.in_ok-expect_wide.ensures)
-          (lawful_too s q (rules_same inverse_query m q inverse) agents lawful) seed tick agents
-          w.deref-in-Inverted-2.result.now all
-          w.in_ok-fold_rows-in-Inverted-2.ensures.quiet))
-    ]
+    let guests = c.args.guests.items in
+    let agents = can.those ++ guests in
+    let both = both_moved can.own can.those guests can.same in
+    let lent = ap (map (λ v. v.now)) c.deref-2.ensures.value ∙ c.in_ok-states.ensures
+    ∙ c.deref.ensures.value in
+    let lawful = lawful_moved m (can.own ++ guests) agents both can.lawful in
+    let same = rows_are m agents c.as_columns-columns.result
+    (c.as_columns-columns.ensures.are lent agents can.moved) c.in_ok-expect_wide.ensures
+    (all_lawful m agents lawful) in
+    let arranged = c.in_ok-arranged.arranged in
+    let is = subst (λ l. AreArranged m l arranged) same c.in_ok-arranged.ensures in
+    let order = arranged.order.items in
+    let all = in_places agents arranged in
+    let first : List ℕ = filter (λ row. nat_lt row (length can.those)) order in
+    let theirs = by_row agents first in
+    let own = c.in_ok-own.own.items in
+    let moved = in-order m agents arranged is in
+    let stand : ArePlaces all theirs own = picked-by agents order own first
+    (subst (λ n. IsPicked own order (filter (λ row. nat_lt row n) order)) can.many
+    c.in_ok-own.ensures) in
+    let many : c.len.result ≡ length guests = search rules in
+    let behind : IsPicked c.in_ok-places.places.items order
+    (range_with_len (length can.those) (length guests)) =
+    subst (λ n. IsPicked c.in_ok-places.places.items order
+    (range_with_len (length can.those) n)) many
+    (subst (λ n. IsPicked c.in_ok-places.places.items order (range_with_len n c.len.result))
+    can.many c.in_ok-places.ensures) in
+    let there = IsPermutation-trans can.own can.those theirs can.same
+    (first_moved can.those guests order is.places) in
+    let asked : IsPermutation can.own (by_row all c.deref-3.result.now) =
+    subst (IsPermutation can.own) (sym (ap (by_row all) c.deref-3.ensures.value
+    ∙ picked-row all theirs own stand)) there in
+    let says : CanSay s c.args.self.now agents arranged =
+    record { queries = can.queries; arranged_so = is } in
+    let world = by_id_moved (can.own ++ guests) agents can.apart both in
+    record {
+      stand = record {
+        all = all;
+        theirs = theirs;
+        moved = IsPermutation-trans (can.own ++ guests) agents all both moved;
+        listed = c.in_ok-expect_listed.ensures all is.moved
+            (lawful_moved m agents all moved lawful);
+        same = there;
+        own_stand = stand;
+        guests_stand = subst (λ l. ArePlaces all l c.in_ok-places.places.items)
+            (rows-back can.those guests)
+            (picked-by agents order c.in_ok-places.places.items
+            (range_with_len (length can.those) (length guests)) behind);
+      };
+      sums = subst (λ w. AreSummed m all (said_over s tick can.own w) c.in_ok-said.said) world
+          (c.in_ok-said.ensures.said agents can.own says asked);
+      quiet = subst (λ w. faults_over s tick can.own w ≡ []) world
+          (c.in_ok-said.ensures.quiet agents can.own says asked);
+    }

@@ -4,8 +4,9 @@ use Rattle.brace_model.specs.FaultOrder.{least}
 use Rattle.brace_pieces.specs.declared.setting.Stage.TheVariants as stage
 use Rattle.brace_pieces.specs.declared.piece.Cause.TheVariants as cause
 use Rattle.brace_part.specs.Parts.{IsCauseOf, found_in_work}
+use Rattle.brace_part.specs.inner.Holding.{mine}
 use Rattle.brace_part.specs.inner.Ready.{IsReadyFor}
-use Rattle.brace_part.proofs.HoldWork.{all_asked, ok_always}
+use Rattle.brace_part.proofs.HoldWork.{all_asked, held_stored, ok_always}
 use Rattle.brace_part.proofs.WorkHeard.{err_weaker, found_inverted}
 use Rattle.brace_part.proofs.work.Worker.behind_all.Goals as goal
 
@@ -37,5 +38,7 @@ returns-in-Ok-clause-faulted c =
 
 pub behind_lists-requires-clause-held : goal.behind_lists-requires-clause-held
 behind_lists-requires-clause-held c =
+    let w = c.args.self.now in
     let h = c.requires.held.holds in
-    record { guests = c.args.held.guests.items; holds = h.holds; listed = h.listed }
+    held_stored w c.requires.worker c.args.tick (mine w.setting.now w.part c.args.tick)
+    c.args.held.guests.items h.holds h.stand.all c.args.held.rows h.stand.moved h.stand.listed

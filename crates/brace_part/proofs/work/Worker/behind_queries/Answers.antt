@@ -1,7 +1,8 @@
-use Rattle.std.proofs.Common.{rules}
+use Rattle.std.proofs.Common.{◌++◌, ap, rules, subst, sym}
 use Rattle.brace_pieces.specs.declared.setting.Stage.TheVariants as stage
-use Rattle.brace_part.specs.inner.Holding.{mine}
-use Rattle.brace_part.proofs.HoldWork.{can_sum, holds_asked, asked_quiet, rows_held}
+use Rattle.brace_part.specs.inner.Holding.{IsHeld, mine}
+use Rattle.brace_part.proofs.CellLemmas.{both_moved}
+use Rattle.brace_part.proofs.HoldWork.{asked_quiet, can_sum, held_stored, holds_asked, rows_held}
 use Rattle.brace_part.proofs.WorkHeard.{tick_fits}
 use Rattle.brace_part.proofs.work.Worker.behind_queries.Goals as goal
 
@@ -17,7 +18,8 @@ summed-requires c =
     c.deref.ensures.value c.in_ok-rows.ensures.rows c.in_ok-rows.ensures.listed in
     let ticks =
     tick_fits w c.requires.worker t stage.Border (λ e. absurd (cc)) c.requires.work.stands in
-    can_sum w c.requires.worker t c.len-count.result rows guests held many listed.moved ticks
+    can_sum w c.requires.worker t c.len-count.result c.args.own rows guests c.requires.own held many
+    listed.moved ticks
 
 pub behind_lists-requires-clause-held : goal.behind_lists-requires-clause-held
 behind_lists-requires-clause-held c =
@@ -29,7 +31,10 @@ behind_lists-requires-clause-held c =
     c.new.result.items guests c.deref.result.now c.len-count.result c.args.own rows
     c.requires.work (search rules) c.in_ok-guests.ensures.sorted c.requires.own (search rules)
     c.deref.ensures.value c.in_ok-rows.ensures.rows c.in_ok-rows.ensures.listed in
-    record { guests = guests; holds = held; listed = listed }
+    let own = mine w.setting.now w.part t in
+    let those = c.requires.own.those in
+    held_stored w c.requires.worker t own guests held (those ++ guests) rows
+    (both_moved own those guests c.requires.own.same) listed
 
 pub behind_lists-requires-clause-ticks : goal.behind_lists-requires-clause-ticks
 behind_lists-requires-clause-ticks c =
@@ -51,10 +56,11 @@ behind_sums-requires-clause-held c =
     c.deref.ensures.value c.in_ok-rows.ensures.rows c.in_ok-rows.ensures.listed in
     let ticks =
     tick_fits w c.requires.worker t stage.Border (λ e. absurd (cc)) c.requires.work.stands in
-    let can = can_sum w c.requires.worker t c.len-count.result rows guests held many
-    listed.moved ticks in
-    holds_asked w c.requires.worker t _ (record { holds = held; many = many; listed = listed })
-    (c.in-Ok.ensures.said can)
+    let can = can_sum w c.requires.worker t c.len-count.result c.args.own rows guests
+    c.requires.own held many listed.moved ticks in
+    let same = ap (λ v. v.items) (sym c.in-Ok.ensures.guests) in
+    let theirs = subst (IsHeld w.setting.now w.part t (mine w.setting.now w.part t)) same held in
+    holds_asked w c.requires.worker t c.in-Ok.held theirs (c.in-Ok.ensures.summed can)
 
 pub behind_sums-requires-clause-quiet : goal.behind_sums-requires-clause-quiet
 behind_sums-requires-clause-quiet c =
@@ -68,10 +74,12 @@ behind_sums-requires-clause-quiet c =
     c.deref.ensures.value c.in_ok-rows.ensures.rows c.in_ok-rows.ensures.listed in
     let ticks =
     tick_fits w c.requires.worker t stage.Border (λ e. absurd (cc)) c.requires.work.stands in
-    let can = can_sum w c.requires.worker t c.len-count.result rows guests held many
-    listed.moved ticks in
-    asked_quiet w c.requires.worker t (mine w.setting.now w.part t) guests held
-    (c.in-Ok.ensures.quiet can)
+    let can = can_sum w c.requires.worker t c.len-count.result c.args.own rows guests
+    c.requires.own held many listed.moved ticks in
+    let same = ap (λ v. v.items) (sym c.in-Ok.ensures.guests) in
+    let theirs = subst (IsHeld w.setting.now w.part t (mine w.setting.now w.part t)) same held in
+    asked_quiet w c.requires.worker t (mine w.setting.now w.part t) c.in-Ok.held.guests.items theirs
+    (c.in-Ok.ensures.summed can).quiet
 
 pub behind_sums-requires-clause-ticks : goal.behind_sums-requires-clause-ticks
 behind_sums-requires-clause-ticks c =

@@ -3,8 +3,8 @@ use Rattle.brace_model.specs.FaultOrder.{least}
 use Rattle.brace_pieces.specs.declared.setting.Stage.TheVariants as stage
 use Rattle.brace_pieces.specs.declared.piece.Cause.TheVariants as cause
 use Rattle.brace_part.specs.Parts.{IsCauseOf, found_in_work}
-use Rattle.brace_part.specs.inner.Holding.{AreHeld}
-use Rattle.brace_part.proofs.HoldWork.{ok_always}
+use Rattle.brace_part.specs.inner.Holding.{AreHeld, mine}
+use Rattle.brace_part.proofs.HoldWork.{held_stored, ok_always}
 use Rattle.brace_part.proofs.WorkHeard.{err_weaker, tick_fits}
 use Rattle.brace_part.proofs.work.Worker.behind_told_sums.Goals as goal
 
@@ -26,7 +26,8 @@ query-requires-clause-held c =
     let w = c.args.self.now in
     let h = c.requires.held.holds in
     subst (AreHeld w.setting.now w.part c.args.tick) (sym c.renewed_told.ensures.rows)
-    (record { guests = c.args.held.guests.items; holds = h.holds; listed = h.listed })
+    (held_stored w c.requires.worker c.args.tick (mine w.setting.now w.part c.args.tick)
+    c.args.held.guests.items h.holds h.stand.all c.args.held.rows h.stand.moved h.stand.listed)
 
 pub query-requires-clause-ticks : goal.query-requires-clause-ticks
 query-requires-clause-ticks c =

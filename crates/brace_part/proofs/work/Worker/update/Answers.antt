@@ -1,10 +1,12 @@
-use Rattle.std.proofs.Common.{◌≡◌, ◌∙◌, filter_map, subst, inr, append-nil, rules}
+use Rattle.std.proofs.Common.{◌≡◌, ◌∙◌, filter_map, subst, sym, inr, append-nil, rules}
+use Rattle.std.specs.List.Sorted.{IsPermutation}
 use Rattle.std.specs.Result.{result_err}
+use Rattle.std.proofs.lemmas.List.Sorted.{IsPermutation-refl}
 use Rattle.brace_model.proofs.FaultLemmas.{least_none}
 use Rattle.brace_fold.specs.Rows.{AreMoved}
 use Rattle.brace_pieces.specs.declared.piece.Cause.TheVariants as cause
 use Rattle.brace_part.specs.Parts.{IsCauseOf}
-use Rattle.brace_part.specs.inner.Ready.{updates_in}
+use Rattle.brace_part.specs.inner.Ready.{children_in, left_in, updates_in}
 use Rattle.brace_part.proofs.HoldWork.{ok_always}
 use Rattle.brace_part.proofs.WorkHeard.{OfResults, err_weaker, left_is, born_is, none_found, cause_found, near_lawful}
 use Rattle.brace_part.proofs.work.Worker.update.Goals as goal
@@ -19,10 +21,14 @@ leaves-requires-clause-leaves c =
       quiet = (least_none (updates_in w.setting.now w.part c.args.tick)).0
           (none_found w c.requires.worker c.args.tick c.args.held.items c.args.heard.now
           c.requires.heard left.ensures.passes);
+      those = left_in w.setting.now w.part c.args.tick;
+      same = IsPermutation-refl (left_in w.setting.now w.part c.args.tick);
       lives = subst (λ l. AreMoved l c.in-Ok.left) (append-nil c.deref.result.now
           ∙ c.deref.ensures.value ∙ is) c.in-Ok.ensures.rows;
-      bears = born_is w c.requires.worker c.args.tick c.args.held.items c.args.heard.now
-          c.requires.heard left.born.items left.ensures.born left.ensures.passes;
+      bears = subst (IsPermutation (children_in w.setting.now w.part c.args.tick))
+          (sym (born_is w c.requires.worker c.args.tick c.args.held.items c.args.heard.now
+          c.requires.heard left.born.items left.ensures.born left.ensures.passes))
+          (IsPermutation-refl (children_in w.setting.now w.part c.args.tick));
     }
 
 pub returns-in-Ok-clause-passes : goal.returns-in-Ok-clause-passes
