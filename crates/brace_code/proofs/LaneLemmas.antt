@@ -1,11 +1,9 @@
 -- Sides of a test: which lanes are on them, and their words put back.
-use Rattle.std.proofs.Common.{◌≡◌, ◌≢◌, ◌∙◌, refl, sym, ap, subst, arith, ℕ, ◌+◌, ◌<◌, ◌≤◌, ℤ, pos, Bool, true, false, if◌then◌else◌, List, [], ◌∷◌, ◌++◌, ⊎_elim, length, take, set, slice_index_or, slice_get, Some, add-zero}
+use Rattle.std.proofs.Common.{◌≡◌, ◌≢◌, ◌∙◌, refl, sym, ap, subst, arith, ℕ, ◌+◌, ◌<◌, ◌≤◌, ℤ, pos, Bool, true, false, if◌then◌else◌, List, [], ◌∷◌, ◌++◌, ⊎_elim, length, take, set, slice_index_or, add-zero}
 use Rattle.std.proofs.lemmas.Bool.{cases_eq, cases_lt, true≢false, false≢true}
 use Rattle.std.proofs.lemmas.List.{append-nil, get_or-set_same, get_or-set_other, get_or_append_left, get_or_at, length-append, length-set, take_more_set, take-set}
-use Rattle.std.proofs.lemmas.Option.{slice_get_within, get_or_from_slice_get}
 use Rattle.std.specs.Prelude.{not}
 use Rattle.std.specs.Ordering.{int_eq}
-use Rattle.brace_code.specs.declared.lane.Lane.{Lane}
 use Rattle.brace_code.specs.declared.splitting.SideWords.{SideWords}
 use Rattle.brace_code.specs.declared.splitting.SideWords.TheVariants.{Same, Each}
 use Rattle.brace_code.specs.Columns.{AreMerged, AreNumbers, ArePut, HasWord, IsSide, Puts, same_word, side}
@@ -80,35 +78,6 @@ module _ (on : Bool) (ts : List ℤ) where
       }
 
 pub ruleset number_rules = (no_numbers, all_numbers)
-
--- ---- the lanes of some numbers
-
-abbrev Picks : List Lane → List ℕ → List Lane → ℕ → Lane → Type 0
-Picks lanes numbers part i d = (slice_index_or numbers i 0 < length lanes)
-    × (slice_index_or part i d ≡ slice_index_or lanes (slice_index_or numbers i 0) d)
-
--- one lane more
-pub picked_more : (lanes part after : List Lane) (numbers : List ℕ) (n number : ℕ) (lane : Lane)
-    → length part ≡ n → after ≡ part ++ lane ∷ [] → number ≡ slice_index_or numbers n 0
-    → slice_get lanes number ≡ Some lane
-    → ((i : ℕ) (d : Lane) → i < n → Picks lanes numbers part i d)
-    → (i : ℕ) (d : Lane) → i < n + 1 → Picks lanes numbers after i d
-picked_more lanes part after numbers n number lane long is at read before i d low = ⊎_elim
-    (λ (l : i < n). let (inside, same) = before i d l in (
-      inside,
-      ap (λ (x : List Lane). slice_index_or x i d) is
-          ∙ get_or_append_left part (lane ∷ []) d i (omega (arith, l, long)) ∙ same,
-    ))
-    (λ (l : n ≤ i). let here : i ≡ n = omega (arith, low, l) in
-    let there : number ≡ slice_index_or numbers i 0 =
-    at ∙ ap (λ (m : ℕ). slice_index_or numbers m 0) (sym here) in (
-      subst (λ (m : ℕ). m < length lanes) there (slice_get_within lanes number lane read),
-      ap (λ (x : List Lane). slice_index_or x i d) is
-          ∙ get_or_at part lane [] d i (long ∙ sym here)
-          ∙ sym (get_or_from_slice_get lanes number lane d read)
-          ∙ ap (λ (m : ℕ). slice_index_or lanes m d) there,
-    ))
-    (cases_lt i n)
 
 -- ---- words put in the places of some numbers
 

@@ -5,6 +5,7 @@ pub mod CompileLemmas
 pub mod SingleLemmas
 pub mod LaneLemmas
 pub mod KernelLemmas
+pub mod RowLemmas
 pub mod OperandLemmas
 pub mod RunLemmas
 pub mod ViewLemmas

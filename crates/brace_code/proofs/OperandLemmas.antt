@@ -1,22 +1,20 @@
 -- Columns of operands.
-use Rattle.std.proofs.Common.{◌≡◌, ◌≢◌, ◌∙◌, refl, sym, ap, subst, ℕ, ◌+◌, ◌<◌, ℤ, pos, List, length, drop, get_or, drop-cons, add-one, Option, Some, Result, Ok, slice_index_or, if◌then◌else◌}
-use Rattle.std.specs.Prelude.{◌==◌}
-use Rattle.std.proofs.lemmas.List.{get_or_default}
+use Rattle.std.proofs.Common.{◌≡◌, ◌≢◌, ◌∙◌, refl, sym, ap, subst, arith, ℕ, ◌+◌, ◌<◌, ℤ, pos, List, length, drop, get_or, drop-cons, add-one, Option, Some, Result, Ok, slice_index_or, if◌then◌else◌}
+use Rattle.std.specs.Prelude.{◌==◌, replicate}
+use Rattle.std.proofs.lemmas.List.{get_or-map, get_or-replicate, length-map, length-replicate}
 use Rattle.brace_num.specs.declared.kinds.Kind.{Kind}
 use Rattle.brace_model.specs.declared.program.Ty.{Ty}
 use Rattle.brace_model.specs.Value.{Scope, total_read}
 use Rattle.brace_code.specs.declared.code.Operand.{Operand}
 use Rattle.brace_code.specs.declared.code.Operand.TheVariants.{Word, Field, Total, Local, Rand}
 use Rattle.brace_code.specs.declared.lane.Lane.{Lane}
-use Rattle.brace_code.specs.declared.lane.Row.{Row}
 use Rattle.brace_code.specs.declared.lane.Frame.{Frame}
 use Rattle.brace_code.specs.declared.lane.Draws.{Draws}
-use Rattle.brace_code.specs.Lanes.{column_of, row_at, row_of, number_in, draws_at}
+use Rattle.brace_code.specs.Lanes.{draws_at, number_in, words_of}
 use Rattle.brace_code.specs.inner.Words.{Outcome, word_of, operand_word}
 use Rattle.brace_code.specs.declared.view.View.{View}
 use Rattle.brace_code.specs.declared.view.View.TheVariants.{Same, Each, At}
-use Rattle.brace_code.specs.Columns.{Joins, Numbers, Pairs, Sees, Words, no_lane, seen}
-use denote.Ref.{Bor}
+use Rattle.brace_code.specs.Columns.{Joins, Numbers, Pairs, Sees, Words, seen}
 
 pub draws_more : (draws : List Draws) (k site : ℕ) (d : Draws) → k < length draws
     → draws_at (drop k draws) site ≡ (if (get_or draws k d).site == site then Some (get_or draws k d).words.now else draws_at (drop (k + 1) draws) site)
@@ -33,25 +31,15 @@ plain_operand (Rand site) plain scope = refl
 plain_operand (Total effect t site) plain scope = absurd (plain effect t site refl)
 
 module _ (frame : Frame) (o : Operand) (lanes : List Lane) (words : List ℤ) where
-  pub shown_numbers : (column : List ℤ) (row : Row) → column_of frame o ≡ Some column → ((lane : Lane) → row_at row lane ≡ row_of o lane)
-      → length words ≡ length lanes
-      → ((k : ℕ) (d : Lane) → k < length lanes → (row_at row (slice_index_or lanes k d) < length column)
-      × (slice_index_or column (row_at row (slice_index_or lanes k d)) (pos 0) ≡ slice_index_or words k (pos 0)))
-      → Numbers frame o lanes words
-  shown_numbers column row is rows long each = record {
-    long = long;
-    each = λ scope shows k d l.
-        let (inside, same) = each k d l in
-        let at = slice_index_or lanes k d in
-        sym (shows.each o column at is (subst (λ (n : ℕ). n < length column) (rows at) inside))
-        ∙ ap (λ (n : ℕ). slice_index_or column n (pos 0)) (sym (rows at)) ∙ same;
-  }
-
-  pub word_words : (n : ℤ) → o ≡ Word n → length words ≡ length lanes → ((k : ℕ) → k < length lanes → slice_index_or words k (pos 0) ≡ n)
+  pub word_words : (n : ℤ) → o ≡ Word n → words ≡ replicate (length lanes) n
       → Words frame (λ scope. operand_word scope o) lanes words
-  word_words n is long each = record {
-    long = long;
-    each = λ scope shows k d l. ap (operand_word (scope (slice_index_or lanes k d))) is ∙ ap (λ (x : ℤ). let w : Outcome = Ok x in w) (sym (each k l));
+  word_words n is same = record {
+    long = ap (λ (l : List ℤ). length l) same ∙ length-replicate (length lanes) n;
+    each = λ scope shows k d l.
+        ap (operand_word (scope (slice_index_or lanes k d))) is
+        ∙ ap (λ (x : ℤ). let w : Outcome = Ok x in w)
+        (sym (ap (λ (l : List ℤ). slice_index_or l k (pos 0)) same
+        ∙ get_or-replicate (length lanes) k n (pos 0) l));
   }
 
   -- an operand whose word is its number
@@ -78,49 +66,53 @@ module _ (frame : Frame) (o : Operand) (lanes : List Lane) (words : List ℤ) wh
 
 pub ruleset operand_rules = (word_words, plain_words, total_words)
 
+-- ---- what lanes read
+
+-- a view that has a word for a lane has it among the words that so many lanes read
+pub seen_word : (n k : ℕ) (view : View) → k < n → Sees view k → (k < length (words_of n view))
+    × (slice_index_or (words_of n view) k (pos 0) ≡ seen view k)
+seen_word n k (Same word) low sees = (
+  subst (λ (m : ℕ). k < m) (sym (length-replicate n word)) low,
+  get_or-replicate n k word (pos 0) low,
+)
+seen_word n k (Each words) low sees = (sees, refl)
+seen_word n k (At column rows) low sees =
+    let read : ℕ → ℤ = λ row. slice_index_or column.now row (pos 0) in (
+      subst (λ (m : ℕ). k < m) (sym (length-map rows.now read)) sees.0,
+      get_or-map read rows.now k 0 (pos 0) sees.0,
+    )
+
+-- a column of what lanes read of an operand
+pub shown_numbers : (frame : Frame) (o : Operand) (lanes : List Lane) (words : List ℤ)
+    (view : View) (count : ℕ) → count ≡ length lanes
+    → (((k : ℕ) → k < length lanes → Sees view k)
+    → Numbers frame o lanes (words_of (length lanes) view))
+    → ((k : ℕ) → k < count → Sees view k) → words ≡ words_of count view
+    → Numbers frame o lanes words
+shown_numbers frame o lanes words view count many numbers sees is =
+    subst (Numbers frame o lanes) (ap (λ (n : ℕ). words_of n view) (sym many) ∙ sym is)
+    (numbers (λ k low. sees k (omega (arith, many, low))))
+
 -- what an operation gives of words and of what lanes read
-module _ (frame : Frame) (o : Operand) (op : ℤ → ℤ → Result ℤ Kind) (lanes : List Lane) (a words : List ℤ) (v : View) where
+module _ (frame : Frame) (o : Operand) (op : ℤ → ℤ → Result ℤ Kind) (lanes : List Lane)
+    (a words : List ℤ) (view : View) where
   abbrev Joined : Type 0
   Joined = Joins frame (λ scope. operand_word scope o) op lanes a words
 
-  pub join_word : (n : ℤ) → o ≡ Word n → v ≡ Same n → length a ≡ length lanes → Pairs op a (seen v) words → Joined
-  join_word n is view long p = record {
+  pub join_words : length a ≡ length lanes
+      → Words frame (λ scope. operand_word scope o) lanes (words_of (length lanes) view)
+      → ((k : ℕ) → k < length a → Sees view k) → Pairs op a (seen view) words → Joined
+  join_words long q sees p = record {
     long = p.long;
     each = λ scope shows k d l.
-        let made : op (slice_index_or a k (pos 0)) n ≡ Ok (slice_index_or words k (pos 0)) =
-        subst (λ (x : View). op (slice_index_or a k (pos 0)) (seen x k) ≡ Ok (slice_index_or words k (pos 0))) view (p.each k (rw long l)) in
-        (n, ap (operand_word (scope (slice_index_or lanes k d))) is, made);
+        let low : k < length a = omega (arith, long, l) in
+        let (inside, read) = seen_word (length lanes) k view l (sees k low) in
+        (seen view k, q.each scope shows k d l ∙ ap Ok read, p.each k low);
   }
 
-  pub join_column : (b : List ℤ) (r : Bor (List ℤ)) → v ≡ Each r → r.now ≡ b → length a ≡ length lanes → Words frame (λ scope. operand_word scope o) lanes b
-      → Pairs op a (seen v) words → Joined
-  join_column b r view now long q p = record {
-    long = p.long;
-    each = λ scope shows k d l.
-        let read : seen v k ≡ slice_index_or b k (pos 0) = ap (λ (x : View). seen x k) view ∙ ap (λ (c : List ℤ). slice_index_or c k (pos 0)) now in
-        let made : op (slice_index_or a k (pos 0)) (slice_index_or b k (pos 0)) ≡ Ok (slice_index_or words k (pos 0)) =
-        subst (λ (n : ℤ). op (slice_index_or a k (pos 0)) n ≡ Ok (slice_index_or words k (pos 0))) read (p.each k (rw long l)) in
-        (slice_index_or b k (pos 0), q.each scope shows k d l, made);
-  }
-
-  -- an operand whose word is its number, read where it stands
-  pub join_at : ((scope : Scope) → operand_word scope o ≡ Ok (number_in scope o)) → (column : Bor (List ℤ)) (row : Row) (r : Bor (List Lane)) → v ≡ At column row r
-      → r.now ≡ lanes → column_of frame o ≡ Some column.now → ((lane : Lane) → row_at row lane ≡ row_of o lane) → length a ≡ length lanes
-      → ((k : ℕ) → k < length a → Sees v k) → Pairs op a (seen v) words → Joined
-  join_at number column row r view now is rows long sees p = record {
-    long = p.long;
-    each = λ scope shows k d l.
-        let low : k < length a = rw long l in
-        let lane = slice_index_or lanes k d in
-        let here : slice_index_or r.now k no_lane ≡ lane = ap (λ (xs : List Lane). slice_index_or xs k no_lane) now ∙ get_or_default lanes k no_lane d l in
-        let at : row_at row (slice_index_or r.now k no_lane) ≡ row_of o lane = ap (row_at row) here ∙ rows lane in
-        let sight : Sees (At column row r) k = subst (λ (x : View). Sees x k) view (sees k low) in
-        let inside : row_of o lane < length column.now = subst (λ (n : ℕ). n < length column.now) at sight.1 in
-        let read : seen v k ≡ number_in (scope lane) o =
-        ap (λ (x : View). seen x k) view ∙ ap (λ (n : ℕ). slice_index_or column.now n (pos 0)) at ∙ shows.each o column.now lane is inside in
-        let made : op (slice_index_or a k (pos 0)) (number_in (scope lane) o) ≡ Ok (slice_index_or words k (pos 0)) =
-        subst (λ (n : ℤ). op (slice_index_or a k (pos 0)) n ≡ Ok (slice_index_or words k (pos 0))) read (p.each k low) in
-        (number_in (scope lane) o, number (scope lane), made);
-  }
-
-pub ruleset join_rules = (join_word, join_column, plain_operand)
+  pub join_word : (n : ℤ) → o ≡ Word n → view ≡ Same n → length a ≡ length lanes
+      → Pairs op a (seen view) words → Joined
+  join_word n is same long p = join_words long
+      (word_words frame o lanes (words_of (length lanes) view) n is
+      (ap (words_of (length lanes)) same))
+      (λ k low. subst (λ (v : View). Sees v k) (sym same) tt) p

@@ -10,7 +10,7 @@ use Rattle.brace_code.specs.declared.view.View.{View}
 use Rattle.brace_code.specs.declared.view.View.TheVariants.{Same, Each, At}
 use Rattle.brace_code.specs.declared.splitting.SideWords.{SideWords}
 use Rattle.brace_code.specs.declared.splitting.SideWords.TheVariants as sides
-use Rattle.brace_code.specs.Lanes.{Shows, number_in, row_at}
+use Rattle.brace_code.specs.Lanes.{Shows, number_in}
 use Rattle.brace_code.specs.inner.Words.{Outcome}
 use Rattle.brace_code.specs.inner.Runs.{Deed}
 
@@ -42,15 +42,14 @@ pub record Maps (op : ℤ → Result ℤ Kind) (a c : List ℤ) : Type 0 where
 abbrev pub seen : View → ℕ → ℤ
 seen (Same word) k = word
 seen (Each words) k = slice_index_or words.now k (pos 0)
-seen (At column row lanes) k =
-    slice_index_or column.now (row_at row (slice_index_or lanes.now k no_lane)) (pos 0)
+seen (At column rows) k = slice_index_or column.now (slice_index_or rows.now k 0) (pos 0)
 
 -- a view has a word for the lane of a number
 abbrev pub Sees : View → ℕ → Type 0
 Sees (Same word) k = ⊤
 Sees (Each words) k = k < length words.now
-Sees (At column row lanes) k = (k < length lanes.now)
-    × (row_at row (slice_index_or lanes.now k no_lane) < length column.now)
+Sees (At column rows) k =
+    (k < length rows.now) × (slice_index_or rows.now k 0 < length column.now)
 
 -- an operation on the words of a column and on others, pairwise
 pub record Pairs (op : ℤ → ℤ → Result ℤ Kind) (a : List ℤ) (b : ℕ → ℤ) (c : List ℤ)

@@ -31,7 +31,7 @@ words_at column row lanes = map (λ lane. slice_index_or column (row_at row lane
 abbrev pub words_of : ℕ → View → List ℤ
 words_of n (Same word) = replicate n word
 words_of n (Each words) = words.now
-words_of n (At column row lanes) = words_at column.now row lanes.now
+words_of n (At column rows) = map (λ row. slice_index_or column.now row (pos 0)) rows.now
 
 -- the draws of a site
 abbrev pub draws_at : List Draws → ℕ → Option (List ℤ)

@@ -1,17 +1,16 @@
-ghost use Rattle.std.specs.Prelude.{◌≡◌, ◌<◌, ℕ, Option, pos, Ok, length, IfOk, OnOk, IsFalse, slice_index_or, false, not, int_lt, int_le};
+ghost use Rattle.std.specs.Prelude.{◌≡◌, ◌<◌, ℕ, Option, pos, Ok, length, map, replicate, IfOk, OnOk, IsFalse, slice_index_or, false, not, int_lt, int_le};
 ghost use Rattle.std.specs.Ordering.{int_eq};
 ghost use Rattle.std.specs.Int.{int_min, int_max};
 ghost use Rattle.brace_num.specs.Exact.{exact_add, exact_sub, exact_neg, exact_abs, exact_sqrt, exact_to_fixed, exact_trunc, exact_int_mul, exact_int_div, exact_int_rem, exact_fixed_mul, exact_fixed_div};
-ghost use Rattle.brace_code.specs.declared.lane.Lane.{Lane};
 ghost use Rattle.brace_model.specs.declared.program.Ty.{Ty};
 ghost use Rattle.brace_model.specs.declared.program.Ty.TheVariants as ty;
 ghost use Rattle.brace_model.specs.Typing.{same_type};
 ghost use Rattle.brace_model.specs.Value.{total_read};
 ghost use Rattle.brace_code.specs.inner.Words.{word_of, flag, unary_word, binary_word, product_word, quotient_word};
-ghost use Rattle.brace_code.specs.Lanes.{row_at};
+ghost use Rattle.brace_code.specs.Lanes.{words_of};
 ghost use Rattle.brace_code.specs.Columns.{seen, Sees, Maps, Pairs};
 
-use crate::lane::{Lane, Redo, Row, word_at};
+use crate::lane::Redo;
 use crate::operations::{fixed_product, fixed_quotient, flag, short_quotient};
 use crate::view::View;
 use brace_model::{BinOp, Ty, UnOp};
@@ -77,28 +76,25 @@ fn same_pairs<F: Fn(i64, i64) -> (i64, bool)>(a: &mut [i64], b: i64, op: F) -> R
 }
 
 /// Replaces each word of a column by what an operation gives of it and of another column's word at
-/// a row of its lane; `Redo` where one failed or there is no such row.
-// Inlined where the row is known, so that its loop does not ask for it.
-#[inline(always)]
+/// its row; `Redo` where one failed or there is no such row.
 fn row_pairs<F: Fn(i64, i64) -> (i64, bool)>(
     a: &mut [i64],
     column: &[i64],
-    row: Row,
-    lanes: &[Lane],
+    rows: &[u32],
     op: F,
 ) -> Result<(), Redo>
     requires callable { F.IsAlwaysCallable op }
-    requires long { length lanes.now ≡ length a.old }
-    ensures sees { OnOk result ((k : ℕ) (d : Lane) → k < length a.old
-        → row_at row (slice_index_or lanes.now k d) < length column.now) }
-    ensures each { OnOk result ((k : ℕ) (d : Lane) → k < length a.old
+    requires long { length rows.now ≡ length a.old }
+    ensures sees { OnOk result ((k : ℕ) → k < length a.old
+        → slice_index_or rows.now k 0 < length column.now) }
+    ensures each { OnOk result ((k : ℕ) → k < length a.old
         → F.post op (slice_index_or a.old k (pos 0))
-        (slice_index_or column.now (row_at row (slice_index_or lanes.now k d)) (pos 0))
+        (slice_index_or column.now (slice_index_or rows.now k 0) (pos 0))
         (slice_index_or a.new k (pos 0), false)) }
 {
     let mut failed = false;
     for (k, x) in a.iter_mut().enumerate() {
-        let Some(other) = word_at(column, row, &lanes[k]) else {
+        let Some(other) = column.get(rows[k] as usize).copied() else {
             return Err(Redo);
         };
         let (word, fails) = op(*x, other);
@@ -123,32 +119,6 @@ fn mapped<F: Fn(i64) -> (i64, bool)>(a: List<i64>, op: F) -> Result<List<i64>, R
     Ok(List::from_vec(a))
 }
 
-/// Replaces each word of a column by what an operation gives of it and of another column's word at
-/// a row of its lane; `Redo` where one failed or there is no such row.
-fn at_pairs<F: Fn(i64, i64) -> (i64, bool)>(
-    a: &mut [i64],
-    column: &[i64],
-    row: Row,
-    lanes: &[Lane],
-    op: F,
-) -> Result<(), Redo>
-    requires callable { F.IsAlwaysCallable op }
-    requires long { length lanes.now ≡ length a.old }
-    ensures sees { OnOk result ((k : ℕ) (d : Lane) → k < length a.old
-        → row_at row (slice_index_or lanes.now k d) < length column.now) }
-    ensures each { OnOk result ((k : ℕ) (d : Lane) → k < length a.old
-        → F.post op (slice_index_or a.old k (pos 0))
-        (slice_index_or column.now (row_at row (slice_index_or lanes.now k d)) (pos 0))
-        (slice_index_or a.new k (pos 0), false)) }
-{
-    match row {
-        Row::This => row_pairs(a, column, Row::This, lanes, op),
-        Row::Outer => row_pairs(a, column, Row::Outer, lanes, op),
-        Row::Inner => row_pairs(a, column, Row::Inner, lanes, op),
-        Row::Place => row_pairs(a, column, Row::Place, lanes, op),
-    }
-}
-
 /// Replaces each word of a column by what an operation gives of it and of what lanes read; `Redo`
 /// where one failed or has nothing to read.
 fn view_pairs<F: Fn(i64, i64) -> (i64, bool)>(a: &mut [i64], b: &View, op: F) -> Result<(), Redo>
@@ -166,11 +136,11 @@ fn view_pairs<F: Fn(i64, i64) -> (i64, bool)>(a: &mut [i64], b: &View, op: F) ->
             }
             pairs(a, words, op)
         }
-        View::At(column, row, lanes) => {
-            if lanes.len() != a.len() {
+        View::At(column, rows) => {
+            if rows.len() != a.len() {
                 return Err(Redo);
             }
-            at_pairs(a, column, row, lanes, op)
+            row_pairs(a, column, rows, op)
         }
     }
 }
@@ -415,30 +385,33 @@ pub fn binary_each(op: BinOp, ty: Ty, a: List<i64>, b: &View) -> Result<List<i64
     }
 }
 
-/// The same word in each lane.
-pub fn constant(alloc: Global, word: i64, lanes: &List<Lane>) -> Result<List<i64>, Redo>
-    ensures long { IfOk result (λ c. length c ≡ length lanes.now) }
-    ensures each { IfOk result (λ c. (k : ℕ) → k < length lanes.now
-        → slice_index_or c k (pos 0) ≡ word) }
+/// The same word, so often.
+fn constant(alloc: Global, word: i64, count: usize) -> Result<List<i64>, Redo>
+    ensures { IfOk result (λ c. c ≡ replicate count word) }
 {
-    let words = vec![in alloc; word; lanes.as_slice().len()]?;
+    let words = vec![in alloc; word; count]?;
     Ok(List::from_vec(words))
 }
 
-/// The words of a column at a row of each lane.
-// Inlined where the row is known, so that its loop does not ask for it.
-#[inline(always)]
-fn gather_at(alloc: Global, column: &[i64], row: Row, lanes: &List<Lane>) -> Result<List<i64>, Redo>
-    ensures long { IfOk result (λ c. length c ≡ length lanes.now) }
-    ensures each { IfOk result (λ c. (k : ℕ) (d : Lane) → k < length lanes.now
-        → (row_at row (slice_index_or lanes.now k d) < length column.now)
-        × (slice_index_or column.now (row_at row (slice_index_or lanes.now k d)) (pos 0)
-        ≡ slice_index_or c k (pos 0))) }
+/// Words as a column of their own.
+fn copied(alloc: Global, words: &[i64]) -> Result<List<i64>, Redo>
+    ensures { IfOk result (λ c. c ≡ words.now) }
 {
-    let lanes = lanes.as_slice();
-    let mut words = Vec::with_capacity(alloc, lanes.len())?;
-    for lane in lanes {
-        let Some(word) = word_at(column, row, lane) else {
+    let mut out = Vec::with_capacity(alloc, words.len())?;
+    out.extend_from_slice(words)?;
+    Ok(List::from_vec(out))
+}
+
+/// The words of a column at some rows.
+fn gather(alloc: Global, column: &[i64], rows: &[u32]) -> Result<List<i64>, Redo>
+    ensures words { IfOk result (λ c.
+        c ≡ map (λ row. slice_index_or column.now row (pos 0)) rows.now) }
+    ensures within { IfOk result (λ _. (k : ℕ) → k < length rows.now
+        → slice_index_or rows.now k 0 < length column.now) }
+{
+    let mut words = Vec::with_capacity(alloc, rows.len())?;
+    for row in rows {
+        let Some(word) = column.get(*row as usize).copied() else {
             return Err(Redo);
         };
         words.push_reserved(word);
@@ -446,23 +419,26 @@ fn gather_at(alloc: Global, column: &[i64], row: Row, lanes: &List<Lane>) -> Res
     Ok(List::from_vec(words))
 }
 
-/// The words of a column at a row of each lane.
-pub fn gather(
-    alloc: Global,
-    column: &[i64],
-    row: Row,
-    lanes: &List<Lane>,
-) -> Result<List<i64>, Redo>
-    ensures long { IfOk result (λ c. length c ≡ length lanes.now) }
-    ensures each { IfOk result (λ c. (k : ℕ) (d : Lane) → k < length lanes.now
-        → (row_at row (slice_index_or lanes.now k d) < length column.now)
-        × (slice_index_or column.now (row_at row (slice_index_or lanes.now k d)) (pos 0)
-        ≡ slice_index_or c k (pos 0))) }
+/// A column of what so many lanes read.
+#[tactic(auto, using(crate::proofs::ViewLemmas::part_rules))]
+pub fn column_of(alloc: Global, view: View, count: usize) -> Result<List<i64>, Redo>
+    ensures words { IfOk result (λ c. c ≡ words_of count view.entry) }
+    ensures long { IfOk result (λ c. length c ≡ count) }
+    ensures sees { IfOk result (λ _. (k : ℕ) → k < count → Sees view.entry k) }
 {
-    match row {
-        Row::This => gather_at(alloc, column, Row::This, lanes),
-        Row::Outer => gather_at(alloc, column, Row::Outer, lanes),
-        Row::Inner => gather_at(alloc, column, Row::Inner, lanes),
-        Row::Place => gather_at(alloc, column, Row::Place, lanes),
+    match view {
+        View::Same(word) => constant(alloc, word, count),
+        View::Each(words) => {
+            if words.len() != count {
+                return Err(Redo);
+            }
+            copied(alloc, words)
+        }
+        View::At(column, rows) => {
+            if rows.len() != count {
+                return Err(Redo);
+            }
+            gather(alloc, column, rows)
+        }
     }
 }

@@ -1,4 +1,4 @@
-ghost use Rattle.std.specs.Prelude.{◌≡◌, ◌<◌, IfSome, Some, length, pos, slice_index_or};
+ghost use Rattle.std.specs.Prelude.{◌≡◌, IfSome, Some};
 ghost use Rattle.brace_code.specs.declared.lane.Lane.{Lane};
 ghost use Rattle.brace_code.specs.Lanes.{column_of, draws_at, row_at, row_of};
 
@@ -99,30 +99,6 @@ impl<'a> Frame<'a> {
             Operand::Rand(site) => self.draws_at(site),
         }
     }
-}
-
-/// The number of a lane's row.
-#[inline(always)]
-pub fn row_at(row: Row, lane: &Lane) -> u32
-    ensures { result ≡ row_at row lane.now }
-{
-    match row {
-        Row::This => lane.this,
-        Row::Outer => lane.outer,
-        Row::Inner => lane.inner,
-        Row::Place => lane.place,
-    }
-}
-
-/// The word of a column at a row of a lane.
-#[inline(always)]
-pub fn word_at(column: &[i64], row: Row, lane: &Lane) -> Option<i64>
-    ensures there { IfSome result (λ _. row_at row lane.now < length column.now) }
-    ensures word { IfSome result (λ word.
-        slice_index_or column.now (row_at row lane.now) (pos 0) ≡ word) }
-{
-    let word = column.get(row_at(row, lane) as usize)?;
-    Some(*word)
 }
 
 /// The row at which an operand is read.

@@ -6,6 +6,7 @@ mod columns;
 mod compiling;
 mod kernels;
 mod lane;
+mod lanes;
 mod laws;
 mod names;
 mod operations;
@@ -17,7 +18,9 @@ mod view;
 
 pub use code::Code;
 pub use compiling::compile;
+pub use kernels::column_of;
 pub use lane::{Draws, Frame, Lane, Redo, Row};
+pub use lanes::{Lanes, Rows};
 pub use laws::{lanes_and_single_runs_agree, lanes_have_the_values_of_expressions};
 pub use names::Known;
 pub use stack::Stack;

@@ -1,36 +1,30 @@
-ghost use Rattle.std.specs.Prelude.{◌≡◌, ◌∷◌, [], IfOk, IfSome, Ok, OnOk, length};
-ghost use Rattle.brace_model.specs.Value.{Scope};
+ghost use Rattle.std.specs.Prelude.{◌≡◌, ◌∷◌, [], IfOk, IfSome, OnOk, length};
 ghost use Rattle.brace_code.specs.declared.code.Instr.TheVariants as instr;
 ghost use Rattle.brace_code.specs.declared.code.Operand.TheVariants as operand;
-ghost use Rattle.brace_code.specs.Lanes.{Gives, number_in};
+ghost use Rattle.brace_code.specs.Lanes.{Gives};
 ghost use Rattle.brace_code.specs.inner.Words.{binary_word, operand_word};
 ghost use Rattle.brace_code.specs.inner.Runs.{deed, outcome};
 ghost use Rattle.brace_code.specs.Columns.{IsSide, Joins, Leads, Numbers, Serves, Words};
 
 use crate::code::{Code, Instr, Operand, operand_in};
 use crate::columns::Columns;
-use crate::kernels::{binary_each, constant, gather, total_each, unary_each};
-use crate::lane::{Frame, Lane, Redo, row_of};
-use crate::splitting::{SideWords, merged, numbers, picked};
-use crate::view::View;
+use crate::kernels::{binary_each, column_of, total_each, unary_each};
+use crate::lane::{Frame, Redo};
+use crate::lanes::Lanes;
+use crate::splitting::{SideWords, merged, numbers};
+use crate::view::{View, read};
 use brace_model::{BinOp, Ty};
 use brace_num::List;
 use std::alloc::Global;
 
 /// The number that each lane reads of an operand.
 #[tactic(auto, using(crate::proofs::OperandLemmas::shown_numbers))]
-fn shown(
-    alloc: Global,
-    operand: Operand,
-    frame: &Frame,
-    lanes: &List<Lane>,
-) -> Result<List<i64>, Redo>
+fn shown(alloc: Global, operand: Operand, frame: &Frame, lanes: &Lanes) -> Result<List<i64>, Redo>
     ensures { IfOk result (λ words. Numbers frame.now operand lanes.now words) }
 {
-    let Some(column) = frame.column(operand) else {
-        return Err(Redo);
-    };
-    gather(alloc, column, row_of(operand), lanes)
+    let view = read(operand, frame, lanes)?;
+    let words = column_of(alloc, view, lanes.len())?;
+    Ok(words)
 }
 
 /// The word of an operand in each lane.
@@ -39,13 +33,13 @@ fn operand_column(
     alloc: Global,
     operand: Operand,
     frame: &Frame,
-    lanes: &List<Lane>,
+    lanes: &Lanes,
 ) -> Result<List<i64>, Redo>
     ensures { IfOk result (λ words.
         Words frame.now (λ scope. operand_word scope operand) lanes.now words) }
 {
     match operand {
-        Operand::Word(word) => constant(alloc, word, lanes),
+        Operand::Word(word) => column_of(alloc, View::Same(word), lanes.len()),
         Operand::Total(_, ty, _) => {
             let totals = shown(alloc, operand, frame, lanes)?;
             total_each(ty, totals)
@@ -57,33 +51,9 @@ fn operand_column(
     }
 }
 
-/// What an operation gives of a word and of the number that each lane reads of an operand.
-#[tactic(auto, using(crate::proofs::OperandLemmas::join_at))]
-fn with_numbers(
-    op: BinOp,
-    ty: Ty,
-    a: List<i64>,
-    operand: Operand,
-    frame: &Frame,
-    lanes: &List<Lane>,
-) -> Result<List<i64>, Redo>
-    requires { length a ≡ length lanes.now }
-    ensures { IfOk result (λ words. ((scope : Scope)
-        → operand_word scope operand ≡ Ok (number_in scope operand))
-        → Joins frame.now (λ scope. operand_word scope operand) (binary_word op ty) lanes.now
-        a words) }
-{
-    let Some(column) = frame.column(operand) else {
-        return Err(Redo);
-    };
-    let view = View::At(column, row_of(operand), lanes.as_slice());
-    let words = binary_each(op, ty, a, &view)?;
-    Ok(words)
-}
-
 /// What an operation gives of a word and of an operand in each lane. No column is made of an
 /// operand whose word is its number.
-#[tactic(auto, using(crate::proofs::OperandLemmas::join_rules))]
+#[tactic(auto, using(crate::proofs::OperandLemmas::join_word))]
 fn with_operand(
     alloc: Global,
     op: BinOp,
@@ -91,7 +61,7 @@ fn with_operand(
     a: List<i64>,
     operand: Operand,
     frame: &Frame,
-    lanes: &List<Lane>,
+    lanes: &Lanes,
 ) -> Result<List<i64>, Redo>
     requires { length a ≡ length lanes.now }
     ensures { IfOk result (λ words. Joins frame.now (λ scope. operand_word scope operand)
@@ -108,7 +78,8 @@ fn with_operand(
             Ok(words)
         }
         Operand::Field(_, _) | Operand::Local(_) | Operand::Rand(_) => {
-            let words = with_numbers(op, ty, a, operand, frame, lanes)?;
+            let view = read(operand, frame, lanes)?;
+            let words = binary_each(op, ty, a, &view)?;
             Ok(words)
         }
     }
@@ -122,7 +93,7 @@ fn step(
     instr: &Instr,
     room: usize,
     frame: &Frame,
-    lanes: &List<Lane>,
+    lanes: &Lanes,
     stack: &mut Columns,
 ) -> Result<(), Redo>
     ensures { OnOk result
@@ -168,14 +139,14 @@ fn step(
 }
 
 /// The column on top, which has a word for each lane.
-fn taken(stack: &mut Columns, lanes: &List<Lane>) -> Result<List<i64>, Redo>
+fn taken(stack: &mut Columns, lanes: &Lanes) -> Result<List<i64>, Redo>
     ensures top { IfOk result (λ top. stack.old ≡ top ∷ stack.new) }
     ensures long { IfOk result (λ top. length top ≡ length lanes.now) }
 {
     let Some(top) = stack.pop() else {
         return Err(Redo);
     };
-    if top.as_slice().len() != lanes.as_slice().len() {
+    if top.as_slice().len() != lanes.len() {
         return Err(Redo);
     }
     Ok(top)
@@ -201,7 +172,7 @@ fn side_words(
     code: &List<Instr>,
     room: usize,
     frame: &Frame,
-    lanes: &List<Lane>,
+    lanes: &Lanes,
     test: &List<i64>,
 ) -> Result<SideWords, Redo>
     requires { length test.now ≡ length lanes.now }
@@ -215,7 +186,7 @@ fn side_words(
         return Ok(SideWords::Same(word));
     }
     let at = numbers(alloc, set, test)?;
-    let these = picked(alloc, lanes, &at)?;
+    let these = lanes.picked(alloc, at.as_slice())?;
     let words = run_lanes(alloc, code, room, frame, &these)?;
     Ok(SideWords::Each(at, words))
 }
@@ -228,7 +199,7 @@ fn run_lanes(
     code: &List<Instr>,
     room: usize,
     frame: &Frame,
-    lanes: &List<Lane>,
+    lanes: &Lanes,
 ) -> Result<List<i64>, Redo>
     ensures { IfOk result (λ words. Words frame.now (outcome code.now room) lanes.now words) }
 {
@@ -243,12 +214,7 @@ impl Code {
     #[tactic(auto, using(crate::proofs::RunLemmas::code_gives))]
     /// The word of each lane's value, of the code's type: at each lane the code has a value in the
     /// lane's scope, and its word stands at the lane's place. `Redo` says nothing.
-    pub fn eval_lanes(
-        &self,
-        alloc: Global,
-        frame: &Frame,
-        lanes: &List<Lane>,
-    ) -> Result<List<i64>, Redo>
+    pub fn eval_lanes(&self, alloc: Global, frame: &Frame, lanes: &Lanes) -> Result<List<i64>, Redo>
         ensures { IfOk result (λ words. Gives self.now frame.now lanes.now words) }
     {
         let words = run_lanes(alloc, &self.instrs, self.depth, frame, lanes)?;

@@ -1,7 +1,7 @@
-ghost use Rattle.std.specs.Prelude.{◌≡◌, ◌<◌, ◌≤◌, ◌+◌, ◌∷◌, ◌++◌, ℕ, [], Some, pos, length, take, true, false, if◌then◌else◌, IfOk, IfSome, OnOk, slice_get, slice_index_or};
-ghost use Rattle.brace_code.specs.Columns.{AreMerged, AreNumbers, ArePicked, ArePut, IsSide, Puts, same_word, side};
+ghost use Rattle.std.specs.Prelude.{◌≡◌, ◌<◌, ◌≤◌, ◌+◌, ◌∷◌, ◌++◌, ℕ, [], pos, length, take, true, false, if◌then◌else◌, IfOk, OnOk, slice_index_or};
+ghost use Rattle.brace_code.specs.Columns.{AreMerged, AreNumbers, ArePut, IsSide, Puts, same_word, side};
 
-use crate::lane::{Lane, Redo};
+use crate::lane::Redo;
 use brace_num::List;
 use std::alloc::Global;
 
@@ -47,29 +47,6 @@ pub fn numbers(alloc: Global, set: bool, test: &List<i64>) -> Result<List<u32>, 
         place = put_kept(&mut out, place, k, on_side(set, test[k as usize]));
     }
     out.truncate(place);
-    Ok(List::from_vec(out))
-}
-
-/// The lane of a number.
-fn lane_of(lanes: &[Lane], number: u32) -> Option<Lane>
-    ensures { IfSome result (λ lane. slice_get lanes.now number ≡ Some lane) }
-{
-    lanes.get(number as usize).copied()
-}
-
-/// The lanes of some numbers.
-pub fn picked(alloc: Global, lanes: &List<Lane>, numbers: &List<u32>) -> Result<List<Lane>, Redo>
-    ensures { IfOk result (ArePicked lanes.now numbers.now) }
-{
-    let lanes = lanes.as_slice();
-    let numbers = numbers.as_slice();
-    let mut out = Vec::with_capacity(alloc, numbers.len())?;
-    for number in numbers {
-        let Some(lane) = lane_of(lanes, *number) else {
-            return Err(Redo);
-        };
-        out.push_reserved(lane);
-    }
     Ok(List::from_vec(out))
 }
 

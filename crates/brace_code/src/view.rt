@@ -1,27 +1,27 @@
-ghost use Rattle.std.specs.Prelude.{◌≡◌, ◌<◌, ◌≤◌, ◌-◌, ℕ, pos, IfSome, IsTrue, drop, length, slice_index_or, take};
-ghost use Rattle.brace_code.specs.declared.lane.Lane.{Lane};
-ghost use Rattle.brace_code.specs.Lanes.{Gives, row_at, words_of};
+ghost use Rattle.std.specs.Prelude.{◌≡◌, ◌<◌, ◌≤◌, ◌-◌, ℕ, pos, IfOk, IfSome, IsTrue, drop, length, slice_index_or, take};
+ghost use Rattle.brace_code.specs.Lanes.{Gives, words_of};
 ghost use Rattle.brace_code.specs.inner.Words.{operand_word};
-ghost use Rattle.brace_code.specs.Columns.{Numbers, Words};
+ghost use Rattle.brace_code.specs.Columns.{Numbers, Sees, Words};
 
 use crate::code::{Code, Operand, operand_in};
-use crate::lane::{Frame, Lane, Row, row_at, row_of, word_at};
+use crate::lane::{Frame, Redo, row_of};
+use crate::lanes::Lanes;
 use brace_num::List;
 
-/// What lanes read: the same word, the words of a column in turn, or those of a column at a row of
-/// each lane.
+/// What lanes read: the same word, the words of a column in turn, or those of a column at some
+/// rows.
 #[derive(Debug, Clone, Copy)]
 pub enum View<'a> {
     Same(i64),
     Each(&'a [i64]),
-    At(&'a [i64], Row, &'a [Lane]),
+    At(&'a [i64], &'a [u32]),
 }
 
 impl<'a> View<'a> {
     /// The word of the lane of a number.
     // Inlined where the kind is known, so that a loop does not ask for it.
     #[inline(always)]
-    #[tactic(auto, using(crate::proofs::ViewLemmas::same_word))]
+    #[tactic(auto, using(crate::proofs::OperandLemmas::seen_word))]
     pub fn word(self, k: usize) -> Option<i64>
         ensures { IfSome result (λ word. (n : ℕ) → k < n → (k < length (words_of n self.entry))
             × (slice_index_or (words_of n self.entry) k (pos 0) ≡ word)) }
@@ -32,10 +32,10 @@ impl<'a> View<'a> {
                 let word = words.get(k)?;
                 Some(*word)
             }
-            View::At(column, row, lanes) => {
-                let lane = lanes.get(k)?;
-                let word = word_at(column, row, lane)?;
-                Some(word)
+            View::At(column, rows) => {
+                let row = rows.get(k)?;
+                let word = column.get(*row as usize)?;
+                Some(*word)
             }
         }
     }
@@ -54,59 +54,69 @@ impl<'a> View<'a> {
                 let words = words.get(from..next)?;
                 Some(View::Each(words))
             }
-            View::At(column, row, lanes) => {
-                let lanes = lanes.get(from..next)?;
-                Some(View::At(column, row, lanes))
+            View::At(column, rows) => {
+                let rows = rows.get(from..next)?;
+                Some(View::At(column, rows))
             }
         }
     }
 }
 
-/// Whether a row of each lane is one of so many.
-// Inlined where the row is known, so that its loop does not ask for it.
-#[inline(always)]
-fn row_within(row: Row, lanes: &[Lane], rows: usize) -> bool
-    ensures { IsTrue result → (k : ℕ) (d : Lane) → k < length lanes.now
-        → row_at row (slice_index_or lanes.now k d) < rows }
+/// Whether each of some rows is one of so many.
+pub fn are_within(rows: &[u32], count: usize) -> bool
+    ensures { IsTrue result → (k : ℕ) → k < length rows.now
+        → slice_index_or rows.now k 0 < count }
 {
     let mut within = true;
-    for lane in lanes {
-        within &= (row_at(row, lane) as usize) < rows;
+    for row in rows {
+        within &= (*row as usize) < count;
     }
     within
 }
 
-/// Whether a row of each lane is one of so many.
-fn are_within(row: Row, lanes: &[Lane], rows: usize) -> bool
-    ensures { IsTrue result → (k : ℕ) (d : Lane) → k < length lanes.now
-        → row_at row (slice_index_or lanes.now k d) < rows }
+/// Whether a view has a word for each of so many lanes.
+fn sees_all(view: View, count: usize) -> bool
+    ensures { IsTrue result → (k : ℕ) → k < count → Sees view.entry k }
 {
-    match row {
-        Row::This => row_within(Row::This, lanes, rows),
-        Row::Outer => row_within(Row::Outer, lanes, rows),
-        Row::Inner => row_within(Row::Inner, lanes, rows),
-        Row::Place => row_within(Row::Place, lanes, rows),
+    match view {
+        View::Same(_) => true,
+        View::Each(words) => words.len() == count,
+        View::At(column, rows) => rows.len() == count && are_within(rows, column.len()),
     }
 }
 
+/// What lanes read of an operand that is no word: its numbers, if each lane finds one.
+#[tactic(auto, using(crate::proofs::ViewLemmas::read_numbers))]
+pub fn read<'a>(operand: Operand, frame: &Frame<'a>, lanes: &'a Lanes) -> Result<View<'a>, Redo>
+    ensures { IfOk result (λ view. ((k : ℕ) → k < length lanes.now → Sees view k)
+        → Numbers frame.now operand lanes.now (words_of (length lanes.now) view)) }
+{
+    let Some(column) = frame.column(operand) else {
+        return Err(Redo);
+    };
+    let Some(view) = lanes.view(column, row_of(operand)) else {
+        return Err(Redo);
+    };
+    Ok(view)
+}
+
 /// The numbers of an operand, where they stand; None where a lane finds none.
-#[tactic(auto, using(crate::proofs::ViewLemmas::at_numbers))]
-fn numbers<'a>(operand: Operand, frame: &Frame<'a>, lanes: &'a List<Lane>) -> Option<View<'a>>
+fn numbers<'a>(operand: Operand, frame: &Frame<'a>, lanes: &'a Lanes) -> Option<View<'a>>
     ensures { IfSome result (λ view. Numbers frame.now operand lanes.now
         (words_of (length lanes.now) view)) }
 {
-    let column = frame.column(operand)?;
-    let row = row_of(operand);
-    let lanes = lanes.as_slice();
-    if !are_within(row, lanes, column.len()) {
+    let Ok(view) = read(operand, frame, lanes) else {
+        return None;
+    };
+    if !sees_all(view, lanes.len()) {
         return None;
     }
-    Some(View::At(column, row, lanes))
+    Some(view)
 }
 
 /// The words of an operand, where they stand; None where a lane finds none.
 #[tactic(auto, using(crate::proofs::ViewLemmas::operand_rules))]
-fn operand_view<'a>(operand: Operand, frame: &Frame<'a>, lanes: &'a List<Lane>) -> Option<View<'a>>
+fn operand_view<'a>(operand: Operand, frame: &Frame<'a>, lanes: &'a Lanes) -> Option<View<'a>>
     ensures { IfSome result (λ view. Words frame.now (λ scope. operand_word scope operand)
         lanes.now (words_of (length lanes.now) view)) }
 {
@@ -124,7 +134,7 @@ impl Code {
     /// The word of each lane's value, of the code's type, read where it stands; None where the code
     /// is no single operand, or nothing can be said.
     #[tactic(auto, using(crate::proofs::ViewLemmas::operand_gives))]
-    pub fn view<'a>(&self, frame: &Frame<'a>, lanes: &'a List<Lane>) -> Option<View<'a>>
+    pub fn view<'a>(&self, frame: &Frame<'a>, lanes: &'a Lanes) -> Option<View<'a>>
         ensures { IfSome result (λ view.
             Gives self.now frame.now lanes.now (words_of (length lanes.now) view)) }
     {

@@ -1,12 +1,12 @@
 // Code in lanes, at values worked by hand: that lanes answer where no lane faults, and that each
 // kind of fault is told.
-use brace_code::{Code, Draws, Frame, Known, Lane, compile};
+use brace_code::{Code, Draws, Frame, Known, Lanes, Rows, compile};
 use brace_model::BinOp::{
     self, Add, And, Div, Eq, Ge, Gt, Le, Lt, Max, Min, Mul, Ne, Or, Rem, Sub,
 };
 use brace_model::UnOp::{self, Abs, Neg, Not, Sqrt, ToFixed, Trunc};
 use brace_model::{Expr, Ty, Value, Who};
-use brace_num::{Boxed, List, NoMemory};
+use brace_num::{Boxed, NoMemory};
 use std::alloc::Global;
 
 /// Code where the constants 0 and 1 are of a type.
@@ -23,17 +23,18 @@ fn compiled(alloc: Global, ty: Ty, e: &Expr) -> Result<Code, NoMemory> {
 }
 
 /// Lanes whose constants stand at rows 0 and up, and their agents at rows `count - 1` and down.
-fn lanes(alloc: Global, count: u32) -> Result<List<Lane>, NoMemory> {
-    let mut lanes = List::new(alloc);
+fn lanes(alloc: Global, count: u32) -> Result<Lanes, NoMemory> {
+    let mut this = Vec::new(alloc);
     for k in 0..count {
-        lanes.push(Lane {
-            this: count - 1 - k,
-            outer: 0,
-            inner: 1,
-            place: k,
-        })?;
+        this.push(count - 1 - k)?;
     }
-    Ok(lanes)
+    Ok(Lanes::of(
+        count as usize,
+        Rows::Each(this),
+        Rows::Same(0),
+        Rows::Same(1),
+        Rows::Number,
+    ))
 }
 
 /// The word of the middle one of three lanes of two constants, whose other lanes have 1 and 1.
