@@ -1,33 +1,25 @@
 -- Sayings that come to the same totals, whatever their order.
-use Rattle.std.proofs.Common.{◌≡◌, ◌∙◌, refl, sym, ap, ap₂, subst, ℕ, suc, ℤ, pos, List, [], ◌∷◌, ◌++◌, fold, flat_map, length, append-nil, append_assoc, arith}
+use Rattle.std.proofs.Common.{◌≡◌, ◌∙◌, refl, sym, ap, subst, ℕ, ℤ, pos, List, [], ◌∷◌, ◌++◌, fold, flat_map, length, append-nil, append_assoc, arith}
 use Rattle.std.specs.List.Sorted.{IsPermutation}
 use Rattle.std.proofs.lemmas.Int.{ints}
 use Rattle.std.proofs.lemmas.List.Sums.{fold-append}
 use Rattle.brace_model.specs.declared.program.Comb.{Comb}
-use Rattle.brace_model.specs.declared.program.Effect.{Effect}
 use Rattle.brace_model.specs.declared.program.Program.{Program}
 use Rattle.brace_model.specs.declared.program.Value.{Value}
-use Rattle.brace_model.specs.declared.fault.Fault.{Fault}
 use Rattle.brace_model.specs.declared.world.Agent.{Agent}
-use Rattle.brace_model.specs.World.{class_of}
 use Rattle.brace_model.specs.Query.{Saying}
-use Rattle.brace_model.specs.Total.{identity, joined, said_to, totals_from}
+use Rattle.brace_model.specs.Total.{identity, joined, said_to}
 use Rattle.brace_model.specs.declared.program.Comb.TheVariants.{Sum, Min, Max, Count, Or}
 use Rattle.brace_comb.specs.Totals.{Tally, brought, merged}
 use Rattle.brace_comb.proofs.Joins.{fold-counted, join-turn}
 use Rattle.brace_comb.proofs.Permutations.{fold-IsPermutation}
 use Rattle.brace_comb.proofs.Said.{said_to-append}
-use Rattle.brace_eval.specs.declared.heard.Heard.{Heard}
-use Rattle.brace_eval.specs.Heard.{IsHeard, table_of, effects_in, counting}
 use Rattle.brace_fold.specs.declared.table.Table.{Table}
 use Rattle.brace_fold.specs.Sums.{AreSummed}
 use Rattle.brace_fold.specs.Hears.{Alike, Hears}
 
 pub alike-refl : (xs : List Saying) → Alike xs xs
 alike-refl xs = record { each = λ comb start id field. refl }
-
-pub alike-sym : (xs ys : List Saying) → Alike xs ys → Alike ys xs
-alike-sym xs ys h = record { each = λ comb start id field. sym (h.each comb start id field) }
 
 pub alike-trans : (xs ys zs : List Saying) → Alike xs ys → Alike ys zs → Alike xs zs
 alike-trans xs ys zs h k = record { each = λ comb start id field. h.each comb start id field ∙ k.each comb start id field }
@@ -128,28 +120,6 @@ module _ {A : Type 0} (f : A → List Saying) where
         (λ t x y p q. over comb t (said_to id field (f x)) (said_to id field (f y))) start xs ys (λ k d low. tt) perm
         ∙ along comb start id field ys;
   }
-
--- ---- totals of sayings that are alike
-
-row-alike : (n id : ℕ) (effects : List Effect) (xs ys : List Saying) → Alike xs ys → totals_from n id effects xs ≡ totals_from n id effects ys
-row-alike n id [] xs ys h = refl
-row-alike n id (e ∷ effects) xs ys h =
-    ap₂ (λ t l. t ∷ l) (h.each e.comb (identity e.comb) id n) (row-alike (suc n) id effects xs ys h)
-
-table-alike : (program : Program) (agents : List Agent) (xs ys : List Saying) → Alike xs ys → table_of program xs agents ≡ table_of program ys agents
-table-alike program [] xs ys h = refl
-table-alike program (a ∷ agents) xs ys h =
-    ap₂ (λ r l. r ++ l) (row-alike 0 a.id (effects_in (class_of program a)) xs ys h) (table-alike program agents xs ys h)
-
-pub heard-alike : (program : Program) (agents : List Agent) (xs ys : List Saying) (faults : List Fault) (heard : Heard) → Alike xs ys
-    → IsHeard program agents xs faults heard → IsHeard program agents ys faults heard
-heard-alike program agents xs ys faults heard h k = record {
-  totals = k.totals ∙ table-alike program agents xs ys h;
-  counts = k.counts ∙ table-alike (counting program) agents xs ys h;
-  least = k.least;
-  each_starts = k.each_starts;
-  starts = k.starts;
-}
 
 -- ---- sums of sayings that are alike
 

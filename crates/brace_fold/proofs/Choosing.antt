@@ -1,8 +1,10 @@
 -- Lists of which some elements are chosen, and others are left out.
-use Rattle.std.proofs.Common.{◌≡◌, ◌∙◌, refl, sym, ap, ap₂, subst, ℕ, zero, suc, ◌+◌, ◌<◌, List, [], ◌∷◌, filter, filter_map, length, take, get_or, Bool, true, false, cond, Option, Some, None, arith}
+use Rattle.std.proofs.Common.{◌≡◌, ◌∙◌, refl, sym, ap, ap₂, subst, ℕ, zero, suc, ◌+◌, ◌<◌, List, [], ◌∷◌, ◌++◌, filter, filter_map, length, map, take, get_or, slice_get, Bool, true, false, cond, Option, Some, None, arith}
 use Rattle.std.specs.List.{All, cons_option}
-use Rattle.std.proofs.lemmas.List.{take_more}
-use Rattle.std.proofs.lemmas.List.Elements.{All-nil, All-cons, All-head, All-tail, All-append}
+use Rattle.std.specs.Prelude.{if◌then◌else◌}
+use Rattle.std.proofs.lemmas.List.{map-append, take_more}
+use Rattle.std.proofs.lemmas.List.Elements.{All-nil, All-cons, All-head, All-tail, All-append, filter-append}
+use Rattle.std.proofs.lemmas.Option.{get_or_from_slice_get, slice_get_within}
 
 -- one element more of which something holds
 pub all-more : {A : Type 0} (P : A → Type 0) (xs : List A) (i : ℕ) (x : A) → i < length xs → x ≡ get_or xs i x → All P (take i xs) → P x → All P (take (i + 1) xs)
@@ -61,3 +63,23 @@ module _ {A : Type 0} (P : A → Bool) (Q : A → Type 0) where
   pub chosen-all : (xs : List A) → All Q (filter P xs) → All (λ x. P x ≡ true → Q x) xs
   chosen-all [] all = All-nil (λ y. P y ≡ true → Q y)
   chosen-all (x ∷ xs) all = back-case x xs (P x) refl all (chosen-all xs)
+
+-- one element more, of whose chosen ones there are the numbers
+pub numbers-more : {A : Type 0} (P : A → Bool) (xs : List A) (numbers new : List ℕ) (k : ℕ)
+    (x d : A) (here : Bool) → slice_get xs k ≡ Some x → P x ≡ here
+    → new ≡ numbers ++ (if here then k ∷ [] else [])
+    → map (λ n. get_or xs n d) numbers ≡ filter P (take k xs)
+    → map (λ n. get_or xs n d) new ≡ filter P (take (k + 1) xs)
+numbers-more {A = A} P xs numbers new k x d here got on is before =
+    ap (map at) is
+    ∙ map-append at numbers (if here then k ∷ [] else [])
+    ∙ ap₂ (λ l m. l ++ m) before (one here (ap P (get_or_from_slice_get xs k x d got) ∙ on))
+    ∙ sym (filter-append P (take k xs) (at k ∷ []))
+    ∙ ap (filter P) (sym (take_more xs k d (slice_get_within xs k x got)))
+  where
+    at : ℕ → A
+    at n = get_or xs n d
+
+    one : (c : Bool) → P (at k) ≡ c → map at (if c then k ∷ [] else []) ≡ filter P (at k ∷ [])
+    one true e = ap (λ b. cond b (at k ∷ []) []) (sym e)
+    one false e = ap (λ b. cond b (at k ∷ []) []) (sym e)

@@ -3,7 +3,7 @@ use Rattle.std.proofs.Common.{◌≡◌, ◌∙◌, refl, sym, ap, ap₂, subst,
 use Rattle.std.specs.Prelude.{if◌then◌else◌}
 use Rattle.std.specs.List.{All}
 use Rattle.std.proofs.lemmas.Bool.{cases_eq}
-use Rattle.std.proofs.lemmas.List.{length-map, length-set, length-replicate, length_push, map-append, drop_more, take_more, get_or_default, get_or-set_same, get_or-set_other}
+use Rattle.std.proofs.lemmas.List.{ext_get_or, length-map, length-set, length-replicate, length_push, map-append, drop_more, take_more, get_or_default, get_or-set_same, get_or-set_other}
 use Rattle.std.proofs.lemmas.List.Elements.{All-append, All-cons, All-nil}
 use Rattle.std.proofs.lemmas.Option.{none-some, same_Some, get_or_from_slice_get, unwrap_or-slice_get}
 use Rattle.brace_model.specs.declared.program.Ty.{Ty}
@@ -14,7 +14,14 @@ use Rattle.brace_model.specs.World.{no_value, number, value_at}
 use Rattle.brace_model.specs.Value.{Scope, typed}
 use Rattle.brace_model.specs.Query.{bound}
 use Rattle.brace_code.specs.declared.lane.Lane.{Lane}
-use Rattle.brace_code.specs.Columns.{taking, side}
+use Rattle.brace_code.specs.declared.lane.Row.TheVariants.{Place}
+use Rattle.brace_code.specs.declared.lanes.Rows.{Rows}
+use Rattle.brace_code.specs.declared.lanes.Rows.TheVariants.{Number, Same}
+use Rattle.brace_code.specs.declared.view.View.{View}
+use Rattle.brace_code.specs.Columns.{ArePicked, Sees, taking, side}
+use Rattle.brace_code.specs.Lanes.{words_at, words_of}
+use Rattle.brace_code.specs.RowLists.{lanes_of, row_in}
+use Rattle.brace_code.proofs.RowLemmas.{lane_at, long}
 use Rattle.brace_plan.specs.Planning.{opening_of}
 use Rattle.brace_fold.specs.declared.askers.Asker.{Asker}
 use Rattle.brace_fold.specs.declared.crowd.Crowd.{Crowd}
@@ -24,6 +31,11 @@ use Rattle.brace_fold.specs.declared.scene.Scene.{Scene}
 use Rattle.brace_fold.specs.inner.Asks.{openings, rows_of}
 use Rattle.brace_fold.specs.inner.Crowds.{Stands, IsLane, IsLocal, IsOf, AreOf, IsGathered, AreGathered, AreNumbered, IsOfClass, asking_at, placed_at, bound_to, chosen, rows}
 use Rattle.brace_fold.proofs.Evals.{at-mapped}
+
+pub got-mapped : {A B : Type 0} (f : A → B) (xs : List A) (p : ℕ) (d : A) (e : B) → p < length xs → get_or (map f xs) p e ≡ f (get_or xs p d)
+got-mapped f [] p d e low = absurd (omega (arith, low))
+got-mapped f (x ∷ xs) zero d e low = refl
+got-mapped f (x ∷ xs) (suc p) d e low = got-mapped f xs p d e (omega (arith, low))
 
 module _ (scene : Scene) (depth : Depth) (scopes : List Scope) where
   of-long : (lanes : List Lane) (kids : List Scope) → AreOf scene depth scopes lanes kids → length lanes ≡ length kids
@@ -148,19 +160,62 @@ gathered-more lanes columns outs column out h is = record {
     by (c ∷ cs) (p ∷ os) long each zero o got = each zero o got
     by (c ∷ cs) (p ∷ os) long each (suc n) o got = by cs os (omega (arith, long)) (λ m q e. each (suc m) q e) n o got
 
--- the lanes that are left, of one side
-pub taken-more : (set : Bool) (lanes out new all : List Lane) (words : List ℤ) (k : ℕ) (d : Lane) (here : Bool) → k < length lanes → length words ≡ length lanes
-    → side set (get_or words k (pos 0)) ≡ here → new ≡ out ++ (if here then get_or lanes k d ∷ [] else [])
-    → out ++ taking set (drop k lanes) (drop k words) ≡ all → new ++ taking set (drop (k + 1) lanes) (drop (k + 1) words) ≡ all
-taken-more set lanes out new all words k d here low long on is so =
-    let within : k < length words = omega (arith, low, long) in
-    let lane = get_or lanes k d in
+-- what a view has at the places of lanes
+pub viewed : (lanes : List Lane) (column out : List ℤ) (view : View) (count : ℕ)
+    → count ≡ length lanes → out ≡ words_of count view
+    → ((k : ℕ) → k < count → Sees view k)
+    → words_of (length lanes) view ≡ words_at column Place lanes
+    → ((k : ℕ) (l : Lane) → k < length lanes → Sees view k
+    → (get_or lanes k l).place < length column)
+    → IsGathered lanes column out
+unfolding words_at
+viewed lanes column out view count many is sees words within =
+    let at : Lane → ℤ = λ l. get_or column l.place (pos 0) in
+    let all : out ≡ map at lanes = is ∙ ap (λ n. words_of n view) many ∙ words in
+    let long : length out ≡ length lanes = ap length all ∙ length-map lanes at in
+    record {
+      short = omega (arith, long);
+      each = λ k l low.
+          let inside : k < length lanes = omega (arith, low, long) in (
+            within k l inside (sees k (omega (arith, many, inside))),
+            ap (λ ws. get_or ws k (pos 0)) all ∙ got-mapped at lanes k l (pos 0) inside,
+          );
+    }
+
+-- the lanes of some numbers
+pub picked-are : (lanes part : List Lane) (numbers : List ℕ) (d : Lane)
+    → ArePicked lanes numbers part
+    → part ≡ map (λ n. get_or lanes n d) numbers
+picked-are lanes part numbers d picked =
+    let at : ℕ → Lane = λ n. get_or lanes n d in
+    ext_get_or d part (map at numbers) (picked.long ∙ sym (length-map numbers at))
+    (λ k low.
+    let within : k < length numbers = omega (arith, low, picked.long) in
+    (picked.each k d within).1 ∙ sym (got-mapped at numbers k 0 d within))
+
+-- the numbers of the lanes of one side, and the lanes that are left
+pub taken-more : (set : Bool) (lanes all : List Lane) (numbers new : List ℕ) (words : List ℤ)
+    (k : ℕ) (d : Lane) (here : Bool)
+    → k < length words → length words ≡ length lanes → side set (get_or words k (pos 0)) ≡ here
+    → new ≡ numbers ++ (if here then k ∷ [] else [])
+    → map (λ n. get_or lanes n d) numbers ++ taking set (drop k lanes) (drop k words) ≡ all
+    → map (λ n. get_or lanes n d) new ++ taking set (drop (k + 1) lanes) (drop (k + 1) words) ≡ all
+taken-more set lanes all numbers new words k d here low long on is so =
+    let at : ℕ → Lane = λ n. get_or lanes n d in
+    let within : k < length lanes = omega (arith, low, long) in
     let rest = taking set (drop (k + 1) lanes) (drop (k + 1) words) in
-    ap (λ l. l ++ rest) is
-    ∙ append_assoc out (if here then lane ∷ [] else []) rest
-    ∙ ap (λ (c : Bool). out ++ ((if c then lane ∷ [] else []) ++ rest)) (sym on)
-    ∙ ap (λ l. out ++ l) (sym (ap₂ (taking set) (drop_more lanes k d low) (drop_more words k (pos 0) within)))
+    ap (λ l. map at l ++ rest) is
+    ∙ ap (λ l. l ++ rest) (one here)
+    ∙ append_assoc (map at numbers) (if here then at k ∷ [] else []) rest
+    ∙ ap (λ (c : Bool). map at numbers ++ ((if c then at k ∷ [] else []) ++ rest)) (sym on)
+    ∙ ap (λ l. map at numbers ++ l)
+    (sym (ap₂ (taking set) (drop_more lanes k d within) (drop_more words k (pos 0) low)))
     ∙ so
+  where
+    one : (c : Bool) → map (λ n. get_or lanes n d) (numbers ++ (if c then k ∷ [] else []))
+        ≡ map (λ n. get_or lanes n d) numbers ++ (if c then get_or lanes k d ∷ [] else [])
+    one true = map-append (λ n. get_or lanes n d) numbers (k ∷ [])
+    one false = map-append (λ n. get_or lanes n d) numbers []
 
 -- ---- constants
 
@@ -289,24 +344,30 @@ none-set zero n column e = absurd (none-some column e)
 none-set (suc count) zero column e = sym (same_Some [] column e)
 none-set (suc count) (suc n) column e = none-set count n column e
 
-pub got-mapped : {A B : Type 0} (f : A → B) (xs : List A) (p : ℕ) (d : A) (e : B) → p < length xs → get_or (map f xs) p e ≡ f (get_or xs p d)
-got-mapped f [] p d e low = absurd (omega (arith, low))
-got-mapped f (x ∷ xs) zero d e low = refl
-got-mapped f (x ∷ xs) (suc p) d e low = got-mapped f xs p d e (omega (arith, low))
-
 rows-more : (asking : List Asker) (i : ℕ) (d : Asker) → i < length asking
     → rows_of (take i asking) ++ (get_or asking i d).row ∷ [] ≡ rows_of (take (i + 1) asking)
 rows-more asking i d low =
     sym (map-append (λ (one : Asker). one.row) (take i asking) (get_or asking i d ∷ [])) ∙ ap rows_of (sym (take_more asking i d low))
 
 -- one more who asks
-pub asking-more : (asking : List Asker) (i : ℕ) (d : Asker) (lanes : List Lane) → i < length asking → lanes ≡ map asking_at (rows_of (take i asking))
-    → lanes ++ asking_at (get_or asking i d).row ∷ [] ≡ map asking_at (rows_of (take (i + 1) asking))
-asking-more asking i d lanes low before =
-    let x = get_or asking i d in
-    ap (λ l. l ++ asking_at x.row ∷ []) before
-    ∙ sym (map-append asking_at (rows_of (take i asking)) (x.row ∷ []))
-    ∙ ap (map asking_at) (rows-more asking i d low)
+pub asking-more : (asking : List Asker) (i : ℕ) (d : Asker) (these : List ℕ) → i < length asking
+    → these ≡ rows_of (take i asking)
+    → these ++ (get_or asking i d).row ∷ [] ≡ rows_of (take (i + 1) asking)
+asking-more asking i d these low before =
+    ap (λ l. l ++ (get_or asking i d).row ∷ []) before ∙ rows-more asking i d low
+
+-- lanes of those who ask
+pub asking-lanes : (rows : Rows) (asking : List ℕ) (count : ℕ) → count ≡ length asking
+    → ((k : ℕ) → row_in rows k ≡ get_or asking k 0)
+    → AreNumbered (map asking_at asking) (lanes_of count rows (Same 0) (Same 0) Number)
+asking-lanes rows asking count many is = record {
+  long = long count rows (Same 0) (Same 0) Number ∙ many ∙ sym (length-map asking asking_at);
+  each = λ k l low.
+      let within : k < length asking = omega (arith, low, length-map asking asking_at) in
+      lane_at count rows (Same 0) (Same 0) Number k l (omega (arith, within, many))
+      ∙ ap (λ row. placed_at k (asking_at row)) (is k)
+      ∙ ap (placed_at k) (sym (got-mapped asking_at asking k 0 l within));
+}
 
 pub of-class-more : (agents : List Agent) (class : ℕ) (asking : List Asker) (i : ℕ) (d : Asker) → i < length asking
     → IsOfClass agents class (get_or asking i d).row → All (IsOfClass agents class) (rows_of (take i asking))
@@ -316,12 +377,14 @@ of-class-more agents class asking i d low here before =
     subst (All P) (rows-more asking i d low)
     (All-append P (rows_of (take i asking)) ((get_or asking i d).row ∷ []) before (All-cons P (get_or asking i d).row [] here (All-nil P)))
 
-pub opening-stands : (scene : Scene) (crowd : Crowd) (class constants : ℕ) (places : List ℕ) (lanes : List Lane) (d : Agent)
-    → crowd.depth ≡ Outside → AreNumbered lanes crowd.lanes → lanes ≡ map asking_at places → crowd.locals.items ≡ replicate constants []
+pub opening-stands : (scene : Scene) (crowd : Crowd) (class constants : ℕ) (places : List ℕ)
+    (d : Agent)
+    → crowd.depth ≡ Outside → AreNumbered (map asking_at places) crowd.lanes
+    → crowd.locals.items ≡ replicate constants []
     → All (IsOfClass (rows scene) class) places → Stands scene crowd (openings scene constants d places)
-opening-stands scene crowd class constants places lanes d depth numbered is locals all =
+opening-stands scene crowd class constants places d depth numbered locals all =
     let opens : ℕ → Scope = λ place. opening_of constants scene.seed scene.tick (get_or (rows scene) place d) in
-    let many : length lanes ≡ length places = ap length is ∙ length-map places asking_at in
+    let many : length (map asking_at places) ≡ length places = length-map places asking_at in
     let scopes_many : length (map opens places) ≡ length places = length-map places opens in
     record {
       long = numbered.long ∙ many ∙ sym scopes_many;
@@ -340,7 +403,6 @@ opening-stands scene crowd class constants places lanes d depth numbered is loca
           } in
           let lane : get_or crowd.lanes k l ≡ placed_at k (asking_at place) =
           numbered.each k l (omega (arith, within, many))
-          ∙ ap (λ (xs : List Lane). placed_at k (get_or xs k l)) is
           ∙ ap (placed_at k) (got-mapped asking_at places k 0 l within) in
           subst (λ (t : Scope). IsLane scene crowd.depth (get_or crowd.lanes k l) t) (sym (got-mapped opens places k 0 s within))
           (subst (λ (x : Lane). IsLane scene crowd.depth x (opens place)) (sym lane)

@@ -1,9 +1,8 @@
 -- Draws, as they were made and as lanes read them.
-use Rattle.std.proofs.Common.{◌≡◌, ◌∙◌, refl, sym, ap, ap₂, ℕ, ◌+◌, ◌<◌, ℤ, pos, List, [], ◌∷◌, ◌++◌, map, length, take, get_or, Bool, true, false, Some}
+use Rattle.std.proofs.Common.{◌≡◌, ◌∙◌, refl, sym, ap, ℕ, ℤ, pos, List, [], ◌∷◌, map, Bool, true, false, Some}
 use Rattle.std.specs.Prelude.{◌==◌, if◌then◌else◌}
 use Rattle.std.specs.List.{All}
 use Rattle.std.proofs.lemmas.Bool.{eqb-true}
-use Rattle.std.proofs.lemmas.List.{map-append, take_more}
 use Rattle.std.proofs.lemmas.List.Elements.{All-head, All-tail}
 use Rattle.std.proofs.lemmas.Option.{none-some, same_Some}
 use Rattle.brace_draw.specs.Draw.{draw_value}
@@ -26,16 +25,6 @@ drawn-of seed tick agents drawn s site ids seed_is ids_are site_is words =
     ∙ ap (map (λ id. pos (draw_value seed tick id site))) ids_are
     ∙ mapped (λ (a : Agent). a.id) (λ id. pos (draw_value seed tick id site)) agents
     ∙ ap (λ (n : ℕ). map (λ (a : Agent). pos (draw_value seed tick a.id n)) agents) (sym site_is)
-
--- one more of the draws
-pub lent-more : (draws : List Draws) (all : List Drawn) (i : ℕ) (x : Draws) (one : Drawn) → i < length all → one ≡ get_or all i one
-    → x.site ≡ one.site → x.words.now ≡ one.words → map lent draws ≡ map made (take i all) → map lent (draws ++ x ∷ []) ≡ map made (take (i + 1) all)
-lent-more draws all i x one low is site words before =
-    let same : lent x ≡ made one = ap₂ (λ n w. let p : ℕ × List ℤ = (n, w) in p) site words in
-    map-append lent draws (x ∷ [])
-    ∙ ap₂ (λ l p. l ++ p ∷ []) before (same ∙ ap made is)
-    ∙ sym (map-append made (take i all) (get_or all i one ∷ []))
-    ∙ ap (map made) (sym (take_more all i one low))
 
 module _ (seed tick : ℕ) (agents : List Agent) where
   abbrev column_at : ℕ → List ℤ

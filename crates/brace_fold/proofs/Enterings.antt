@@ -1,20 +1,29 @@
 -- Lanes of a loop, at the agents that it takes.
-use Rattle.std.proofs.Common.{◌≡◌, ◌∙◌, refl, sym, ap, subst, ℕ, ◌+◌, ◌-◌, ◌<◌, ◌≤◌, List, [], ◌∷◌, ◌++◌, append-nil, map, flat_map, length, take, drop, get_or, Bool, true, false, Option, Some, None, arith, slice_get}
-use Rattle.std.specs.Prelude.{is_none, if◌then◌else◌}
+use Rattle.std.proofs.Common.{◌≡◌, ◌∙◌, refl, sym, ap, ap₂, subst, ℕ, ◌+◌, ◌-◌, ◌<◌, ◌≤◌, List, [], ◌∷◌, ◌++◌, append-nil, map, flat_map, length, take, drop, get_or, Bool, true, false, Option, Some, None, arith, slice_get, ⊎_elim}
+use Rattle.std.specs.Prelude.{is_none, if◌then◌else◌, replicate}
+use Rattle.std.proofs.lemmas.Bool.{cases_lt}
 use Rattle.std.proofs.lemmas.Grind.{flat_map-append}
-use Rattle.std.proofs.lemmas.List.{get_or_default, get_or-drop, length-drop, take_more}
+use Rattle.std.proofs.lemmas.List.{get_or_append_left, get_or-append_right, get_or_default, get_or-drop, get_or-map, get_or-replicate, get_or-take, length-append, length-drop, length-map, length-replicate, length-take-le, take_all, take_more}
+use Rattle.std.proofs.lemmas.List.FromFn.{fill_by_all}
+use Rattle.std.proofs.lemmas.Option.{get_or_from_slice_get, slice_get_within}
 use Rattle.brace_model.specs.declared.world.Agent.{Agent}
 use Rattle.brace_model.specs.World.{number, value_at}
 use Rattle.brace_model.specs.Value.{Scope}
 use Rattle.brace_model.specs.Query.{inside}
 use Rattle.brace_code.specs.declared.lane.Lane.{Lane}
+use Rattle.brace_code.specs.declared.lanes.Rows.{Rows}
+use Rattle.brace_code.specs.declared.lanes.Rows.TheVariants.{Each, Same}
+use Rattle.brace_code.specs.Columns.{no_lane}
+use Rattle.brace_code.specs.RowLists.{lane_in, lanes_of, row_in}
+use Rattle.brace_code.proofs.RowLemmas.{lane_at, long as rows_long}
 use Rattle.brace_plan.specs.declared.action.Bound.{Bound}
 use Rattle.brace_plan.specs.Acts.{near_by}
 use Rattle.brace_fold.specs.declared.crowd.Crowd.{Crowd}
 use Rattle.brace_fold.specs.declared.crowd.Depth.{Depth}
 use Rattle.brace_fold.specs.declared.crowd.Depth.TheVariants.{Outside, Once, Twice}
+use Rattle.brace_fold.specs.declared.gathering.Entered.{Entered}
 use Rattle.brace_fold.specs.declared.scene.Scene.{Scene}
-use Rattle.brace_fold.specs.inner.Crowds.{AreOf, IsIn, IsLane, IsOf, Stands, deeper, entered, rows}
+use Rattle.brace_fold.specs.inner.Crowds.{AreOf, IsIn, IsLane, IsOf, Stands, deeper, entered, has_outer, lanes_inside, rows}
 use Rattle.brace_fold.specs.inner.Deeds.{between, into}
 use Rattle.brace_fold.proofs.Crowdings.{of-append}
 use Rattle.brace_fold.proofs.Sayings.{nowhere}
@@ -36,7 +45,7 @@ entered-lane : (scene : Scene) (depth : Depth) (lane : Lane) (place : ℕ) (s : 
     → slice_get (rows scene) place ≡ Some b → IsLane scene (deeper depth) (entered depth lane place) (inside s b)
 entered-lane scene Outside lane place s b h got =
     let empty : s.outer ≡ None = h.outer in
-    subst (λ (t : Scope). IsLane scene Once (record lane { outer = place }) t)
+    subst (λ (t : Scope). IsLane scene Once (entered Outside lane place) t)
     (sym (ap (λ (o : Option Agent). if is_none o then record s { outer = Some b } else record s { inner = Some b }) empty))
     (record { tick = h.tick; seed = h.seed; this = h.this; outer = (b, refl, got); inner = h.inner; totals = h.totals })
 entered-lane scene Once lane place s b h got =
@@ -106,29 +115,43 @@ between-more {A = A} from next xs d le low = ap (λ n. take n (drop from xs)) on
     by : (n : ℕ) (ys : List A) → n < length ys → take (n + 1) ys ≡ take n ys ++ get_or ys n d ∷ []
     by n ys less = take_more ys n d less
 
-pub between-none : {A : Type 0} (from : ℕ) (xs : List A) → between from from xs ≡ []
+between-none : {A : Type 0} (from : ℕ) (xs : List A) → between from from xs ≡ []
 between-none {A = A} from xs = ap (λ n. take n (drop from xs)) (let e : from - from ≡ 0 = omega arith in e)
 
+-- no lanes yet
+pub enters-none : (scene : Scene) (depth : Depth) (scopes : List Scope) (class : ℕ)
+    (bounds : List Bound) (from : ℕ) (lanes : List Lane) → lanes ≡ []
+    → AreOf scene depth scopes lanes (flat_map (into scene class bounds) (between from from scopes))
+enters-none scene depth scopes class bounds from lanes none =
+    let kids : List Scope → List Scope = flat_map (into scene class bounds) in
+    subst (λ (l : List Lane). AreOf scene depth scopes l (kids (between from from scopes)))
+    (sym none)
+    (subst (λ (l : List Scope). AreOf scene depth scopes [] (kids l))
+    (sym (between-none from scopes)) tt)
+
 -- a loop's step: the agents that it takes in one lane more
-pub enters-more : (scene : Scene) (crowd : Crowd) (scopes : List Scope) (class : ℕ) (bounds : List Bound) (from next : ℕ) (all : List Lane) (d : Lane)
-    (lanes new : List Lane) (near passed : List ℕ) → Stands scene crowd scopes → from ≤ next → all ≡ crowd.lanes → next < length all
-    → ((s : Scope) → IsIn scene crowd (get_or all next d) s
+pub enters-more : (scene : Scene) (crowd : Crowd) (scopes : List Scope) (class : ℕ)
+    (bounds : List Bound) (from next : ℕ) (lane : Lane)
+    (lanes new : List Lane) (near passed : List ℕ) → Stands scene crowd scopes → from ≤ next
+    → slice_get crowd.lanes next ≡ Some lane
+    → ((s : Scope) → IsIn scene crowd lane s
     → map (slice_get (rows scene)) near ≡ map Some (near_by scene.program.now (rows scene) s class bounds))
-    → passed ≡ near → new ≡ lanes ++ map (entered crowd.depth (get_or all next d)) passed
+    → passed ≡ near → new ≡ lanes ++ map (entered crowd.depth lane) passed
     → AreOf scene (deeper crowd.depth) scopes lanes (flat_map (into scene class bounds) (between from next scopes))
     → AreOf scene (deeper crowd.depth) scopes new (flat_map (into scene class bounds) (between from (next + 1) scopes))
-enters-more scene crowd scopes class bounds from next all d lanes new near passed stands le same low finds pass new_is before =
+enters-more scene crowd scopes class bounds from next lane lanes new near passed stands le got finds
+    pass new_is before =
     let s = get_or scopes next nowhere in
-    let lane = get_or all next d in
     let enters = into scene class bounds in
-    let inside_all : next < length crowd.lanes = subst (λ (l : List Lane). next < length l) same low in
-    let within : next < length scopes = subst (λ n. next < n) stands.long inside_all in
+    let within : next < length scopes =
+    subst (λ n. next < n) stands.long (slice_get_within crowd.lanes next lane got) in
     let is : lane ≡ get_or crowd.lanes next lane =
-    ap (λ (l : List Lane). get_or l next d) same ∙ get_or_default crowd.lanes next d lane inside_all in
+    sym (get_or_from_slice_get crowd.lanes next lane lane got) in
+    let h = stands-in scene crowd scopes next lane nowhere stands within is in
     let at : lane.place ≡ next = ap (λ (l : Lane). l.place) is ∙ stands.numbered next lane within in
-    let h : IsLane scene crowd.depth lane s = subst (λ (l : Lane). IsLane scene crowd.depth l s) (sym is) (stands.lanes next lane nowhere within) in
-    let found = finds s (stands-in scene crowd scopes next lane nowhere stands within is) in
-    let here = entered-all scene crowd.depth scopes lane next nowhere h at within near (near_by scene.program.now (rows scene) s class bounds) found in
+    let here =
+    entered-all scene crowd.depth scopes lane next nowhere h.stands at within near
+    (near_by scene.program.now (rows scene) s class bounds) (finds s h) in
     let kids : flat_map enters (between from (next + 1) scopes) ≡ flat_map enters (between from next scopes) ++ enters s =
     ap (flat_map enters) (between-more from next scopes nowhere le within)
     ∙ flat_map-append enters (between from next scopes) (s ∷ [])
@@ -138,3 +161,161 @@ enters-more scene crowd scopes class bounds from next all d lanes new near passe
     subst (λ (l : List Lane). AreOf scene (deeper crowd.depth) scopes l (flat_map enters (between from (next + 1) scopes))) (sym new_at)
     (subst (AreOf scene (deeper crowd.depth) scopes (lanes ++ map (entered crowd.depth lane) near)) (sym kids)
     (of-append scene (deeper crowd.depth) scopes lanes (map (entered crowd.depth lane) near) (flat_map enters (between from next scopes)) (enters s) before here))
+
+-- ---- lanes inside a loop by their rows
+
+-- rows grew by those of more lanes
+pub record Grows (count more : ℕ) (row : ℕ → ℕ) (old new : List ℕ) : Type 0 where
+  pub front : (k : ℕ) → k < count → get_or new k 0 ≡ get_or old k 0
+  pub back : (k : ℕ) → count ≤ k → k < count + more → get_or new k 0 ≡ row (k - count)
+
+pub appended : (old more new : List ℕ) (count : ℕ) → new ≡ old ++ more → length old ≡ count
+    → Grows count (length more) (λ j. get_or more j 0) old new
+appended old more new count is had = record {
+  front = λ k l. ap (λ r. get_or r k 0) is
+      ∙ get_or_append_left old more 0 k (omega (arith, l, had));
+  back = λ k l m. ap (λ r. get_or r k 0) is ∙ get_or-append_right old more count k 0 had l;
+}
+
+pub repeated : (old new : List ℕ) (n len count more row : ℕ)
+    → new ≡ take n old ++ replicate (n - len) row → len ≡ length old → length old ≡ count
+    → n ≡ count + more → Grows count more (λ j. row) old new
+repeated old new n len count more row is len_is had all =
+    let many : n - len ≡ more = omega (arith, len_is, had, all) in
+    let same : new ≡ old ++ replicate more row =
+    is ∙ ap₂ (λ l m. l ++ replicate m row) (take_all n old (omega (arith, had, all))) many in
+    let grown = appended old (replicate more row) new count same had in
+    record {
+      front = grown.front;
+      back = λ k l m.
+          grown.back k l (omega (arith, m, length-replicate more row))
+          ∙ get_or-replicate more (k - count) row 0 (omega (arith, l, m));
+    }
+
+abbrev lane-with : ℕ → ℕ → ℕ → ℕ → Lane
+lane-with this outer inner place =
+    record { this = this; outer = outer; inner = inner; place = place }
+
+lane-is : {this outer inner place a b c e : ℕ} → this ≡ a → outer ≡ b → inner ≡ c → place ≡ e
+    → lane-with this outer inner place ≡ lane-with a b c e
+lane-is p q r s = λ i. lane-with (p i) (q i) (r i) (s i)
+
+-- the same lanes by other lists, as far as they reach
+lanes-same : (count : ℕ) (this outer inner place outer_new inner_new : Rows)
+    → ((k : ℕ) → k < count → row_in outer_new k ≡ row_in outer k)
+    → ((k : ℕ) → k < count → row_in inner_new k ≡ row_in inner k)
+    → lanes_of count this outer_new inner_new place ≡ lanes_of count this outer inner place
+lanes-same count this outer inner place outer_new inner_new outer_same inner_same =
+    sym (fill_by_all (lane_in this outer_new inner_new place)
+    (lanes_of count this outer inner place) count no_lane
+    (rows_long count this outer inner place)
+    (λ k low. lane_at count this outer inner place k no_lane low
+    ∙ sym (lane-is refl (outer_same k low) (inner_same k low) refl)))
+
+-- lanes whose agents stand in another list, the same as far as they count
+pub kept_inside : (old new : Entered)
+    → ((k : ℕ) → k < old.count → get_or new.near.items k 0 ≡ get_or old.near.items k 0)
+    → (depth : Depth)
+    → lanes_inside depth (record old { near = new.near }) ≡ lanes_inside depth old
+kept_inside old new same Outside =
+    lanes-same old.count (Each old.this) (Each old.near) (Same 0) (Each old.place) (Each new.near)
+    (Same 0) same (λ k low. refl)
+kept_inside old new same Once =
+    lanes-same old.count (Each old.this) (Each old.outer) (Each old.near) (Each old.place)
+    (Each old.outer) (Each new.near) (λ k low. refl) same
+kept_inside old new same Twice =
+    lanes-same old.count (Each old.this) (Each old.outer) (Each old.near) (Each old.place)
+    (Each old.outer) (Each new.near) (λ k low. refl) same
+
+-- lists agree as far as their fronts do
+pub same_front : (old new : List ℕ) (count : ℕ) → take count new ≡ take count old → (k : ℕ)
+    → k < count → get_or new k 0 ≡ get_or old k 0
+same_front old new count is k low =
+    sym (get_or-take count new k 0 low) ∙ ap (λ l. get_or l k 0) is ∙ get_or-take count old k 0 low
+
+-- lanes whose agents' list was cut to those that count
+pub cut_inside : (old new : Entered) → new.near.items ≡ take old.count old.near.items
+    → (depth : Depth)
+    → lanes_inside depth (record old { near = new.near }) ≡ lanes_inside depth old
+cut_inside old new is =
+    kept_inside old new
+    (λ k low. ap (λ l. get_or l k 0) is ∙ get_or-take old.count old.near.items k 0 low)
+
+-- rows that stood behind those of the lanes are taken in
+pub reached : (all : List ℕ) (from count : ℕ) → from ≤ count → count ≤ length all
+    → length (between from count all) ≡ count - from
+reached all from count le within =
+    length-take-le (count - from) (drop from all)
+    (omega (arith, length-drop from all, le, within))
+
+pub reaching : (all : List ℕ) (from count more : ℕ) → more ≡ count - from → from ≤ count
+    → Grows from more (λ j. get_or (between from count all) j 0) all all
+reaching all from count more many le = record {
+  front = λ k low. refl;
+  back = λ k l m.
+      ap (λ n. get_or all n 0) (let e : k ≡ from + (k - from) = omega (arith, l) in e)
+      ∙ sym (get_or-take (count - from) (drop from all) (k - from) 0
+      (omega (arith, l, m, many, le)) ∙ get_or-drop from all (k - from) 0);
+}
+
+module _ (old new : Entered) (lane : Lane) (near : List ℕ) (count : ℕ)
+    (many : old.count ≡ count) (long : new.count ≡ count + length near)
+    (near_grow : Grows count (length near) (λ j. get_or near j 0) old.near.items new.near.items)
+    (this_grow : Grows count (length near) (λ j. lane.this) old.this.items new.this.items)
+    (place_grow : Grows count (length near) (λ j. lane.place) old.place.items new.place.items) where
+  -- lanes of these rows, of which those of other loops grew too
+  grown : (enters : ℕ → Lane) (outer inner outer_new inner_new : Rows)
+      → ((k : ℕ) → k < count → row_in outer_new k ≡ row_in outer k)
+      → ((k : ℕ) → k < count → row_in inner_new k ≡ row_in inner k)
+      → ((k : ℕ) → count ≤ k → k < count + length near
+      → lane_in (Each new.this) outer_new inner_new (Each new.place) k
+      ≡ enters (get_or near (k - count) 0))
+      → lanes_of (new.count) (Each new.this) outer_new inner_new (Each new.place)
+      ≡ lanes_of (old.count) (Each old.this) outer inner (Each old.place)
+      ++ map enters near
+  grown enters outer inner outer_new inner_new outer_same inner_same behind =
+      let before = lanes_of (old.count) (Each old.this) outer inner (Each old.place) in
+      let had : length before ≡ count =
+      rows_long (old.count) (Each old.this) outer inner (Each old.place) ∙ many in
+      let at = lane_in (Each new.this) outer_new inner_new (Each new.place) in
+      sym (fill_by_all at (before ++ map enters near) (new.count) no_lane
+      (length-append before (map enters near) ∙ omega (arith, had, length-map near enters, long))
+      (λ k low. ⊎_elim
+      (λ (l : k < count).
+      get_or_append_left before (map enters near) no_lane k (omega (arith, l, had))
+      ∙ lane_at (old.count) (Each old.this) outer inner (Each old.place) k no_lane
+      (omega (arith, l, many))
+      ∙ sym (lane-is (this_grow.front k l) (outer_same k l) (inner_same k l)
+      (place_grow.front k l)))
+      (λ (l : count ≤ k).
+      let last : k - count < length near = omega (arith, l, low, long) in
+      get_or-append_right before (map enters near) count k no_lane had l
+      ∙ get_or-map enters near (k - count) 0 no_lane last
+      ∙ sym (behind k l (omega (arith, low, long))))
+      (cases_lt k count)))
+
+  -- at agents of the inner loop
+  within-inner : (enters : ℕ → Lane)
+      → ((row : ℕ) → lane-with lane.this lane.outer row lane.place ≡ enters row)
+      → Grows count (length near) (λ j. lane.outer) old.outer.items new.outer.items
+      → lanes_of (new.count) (Each new.this) (Each new.outer) (Each new.near)
+      (Each new.place)
+      ≡ lanes_of (old.count) (Each old.this) (Each old.outer) (Each old.near)
+      (Each old.place) ++ map enters near
+  within-inner enters are outer =
+      grown enters (Each old.outer) (Each old.near) (Each new.outer) (Each new.near) outer.front
+      near_grow.front
+      (λ k l m. lane-is (this_grow.back k l m) (outer.back k l m) (near_grow.back k l m)
+      (place_grow.back k l m) ∙ are (get_or near (k - count) 0))
+
+  -- the lanes of a loop at more agents
+  pub entered-in : (depth : Depth)
+      → (has_outer depth ≡ true
+      → Grows count (length near) (λ j. lane.outer) old.outer.items new.outer.items)
+      → lanes_inside depth new ≡ lanes_inside depth old ++ map (entered depth lane) near
+  entered-in Outside outer =
+      grown (entered Outside lane) (Each old.near) (Same 0) (Each new.near) (Same 0) near_grow.front
+      (λ k l. refl)
+      (λ k l m. lane-is (this_grow.back k l m) (near_grow.back k l m) refl (place_grow.back k l m))
+  entered-in Once outer = within-inner (entered Once lane) (λ row. refl) (outer refl)
+  entered-in Twice outer = within-inner (entered Twice lane) (λ row. refl) (outer refl)

@@ -13,9 +13,12 @@ pub mod Walks
 pub mod CellNumbers
 pub mod CellOrder
 pub mod Sortings
+pub mod Merging
 pub mod Counting
 pub mod Risings
 pub mod Looks
+pub mod Glances
+pub mod Spans
 pub mod Taking
 pub mod Readings
 pub mod Askings

@@ -1,8 +1,6 @@
 -- What is read in a scene.
-use Rattle.std.proofs.Common.{◌≡◌, ◌∙◌, ℕ, ℤ, pos, negsuc, List, Some, Result, Ok, Err, nat_abs, arith, sym, ap, slice_get}
+use Rattle.std.proofs.Common.{◌≡◌, ◌∙◌, ℕ, ℤ, pos, List, Some, Result, Ok, Err, sym, ap, slice_get}
 use Rattle.std.specs.Prelude.{option_copied, option_map, IfOk}
-use Rattle.std.specs.Int.{FitsUnsignedBits}
-use Rattle.std.proofs.lemmas.Int.{ints}
 use Rattle.std.proofs.lemmas.Option.{get_or_from_slice_get, same_Some, slice_get-map, slice_get_within}
 use Rattle.brace_model.specs.declared.world.Agent.{Agent}
 use Rattle.brace_model.specs.World.{number, value_at}
@@ -17,11 +15,6 @@ pub if_ok : {T E : Type 0} (r : Result T E) (P Q : T → Type 0) → ((x : T) �
     → IfOk r Q
 if_ok (Ok x) P Q f h = f x h
 if_ok (Err e) P Q f h = h
-
--- a number that has no sign is that of its bits
-pub range_is : (z : ℤ) (n : ℕ) → FitsUnsignedBits 64 z → n ≡ nat_abs z → pos n ≡ z
-range_is (pos m) n fits e = ap (λ (k : ℕ). pos k) e
-range_is (negsuc m) n fits e = absurd (omega (arith, ints, fits))
 
 module _ (scene : Scene) (is : IsScene scene) where
   -- a word of a state's column is the state of the agent at the place

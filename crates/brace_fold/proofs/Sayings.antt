@@ -3,7 +3,7 @@ use Rattle.std.proofs.Common.{◌≡◌, ◌∙◌, refl, sym, ap, ap₂, subst,
 use Rattle.std.specs.Prelude.{min, unwrap_or}
 use Rattle.std.proofs.lemmas.Bool.{cases_lt, true≢false}
 use Rattle.std.proofs.lemmas.Int.{ints}
-use Rattle.std.proofs.lemmas.List.{get_or_default, take_all, length-map, length-take, map-append, take_more}
+use Rattle.std.proofs.lemmas.List.{get_or-map, take_all, length-map, length-take, map-append, take_more}
 use Rattle.std.proofs.lemmas.List.Sums.{fold-append}
 use Rattle.std.proofs.lemmas.Option.{same_Some}
 use Rattle.brace_model.specs.declared.program.Comb.{Comb}
@@ -20,6 +20,7 @@ use Rattle.brace_model.specs.Value.{Scope, agent_of, typed}
 use Rattle.brace_model.specs.Query.{Saying}
 use Rattle.brace_model.specs.Total.{identity, joined, total_of}
 use Rattle.brace_code.specs.declared.lane.Lane.{Lane}
+use Rattle.brace_code.specs.Columns.{no_lane}
 use Rattle.brace_comb.proofs.Joins.{fold-counted}
 use Rattle.brace_eval.specs.Heard.{effects_in}
 use Rattle.brace_fold.specs.declared.crowd.Crowd.{Crowd}
@@ -29,7 +30,7 @@ use Rattle.brace_fold.specs.declared.scene.Scene.{Scene}
 use Rattle.brace_fold.specs.declared.table.Table.{Table}
 use Rattle.brace_fold.specs.inner.Crowds.{IsLane, IsFound, IsOfClass, IsScene, Stands, has_outer, has_inner, rows, world}
 use Rattle.brace_fold.specs.inner.Deeds.{between}
-use Rattle.brace_fold.specs.inner.Ears.{IsEar, row_of, is_there, told, told_at, told_by}
+use Rattle.brace_fold.specs.inner.Ears.{AreTold, IsEar, row_of, is_there, told, told_at, told_by}
 use Rattle.brace_fold.specs.Sums.{sum_at, sum_place, summed}
 use Rattle.brace_fold.specs.Hears.{Hears}
 use Rattle.brace_fold.specs.Asked.{no_agent}
@@ -142,39 +143,52 @@ module _ (who : Who) (effect : ℕ) (type : Ty) where
       (length-take from words ∙ ap (λ n. min from n) long ∙ sym (length-take from scopes)))
       ∙ ap₂ (told_by who effect type) (front from next scopes le) (front from next words le)
 
--- what the lanes up to another place say to one agent
-pub says-more : (scene : Scene) (crowd : Crowd) (who : Who) (effect : ℕ) (type : Ty) (scopes : List Scope) (words these : List ℤ) (ear : Ear)
-    (from next : ℕ) (all : List Lane) (d : Lane) (place : ℕ) (a b c : Table) → Stands scene crowd scopes → length words ≡ length scopes
-    → all ≡ crowd.lanes → from < next → next ≤ length all → is_there crowd.depth who ≡ true → place ≡ row_of who (get_or all from d)
-    → ((k : ℕ) (l : Lane) → from + 1 ≤ k → k < next → row_of who (get_or all k l) ≡ place)
-    → these ≡ between from next words → ear.effect ≡ effect → ear.ty ≡ type
+-- the agents that a name stands for in the scopes of lanes stand in the lanes' rows
+pub are-told : (scene : Scene) (crowd : Crowd) (who : Who) (all : List ℕ) (scopes : List Scope)
+    → Stands scene crowd scopes → all ≡ map (row_of who) crowd.lanes
+    → is_there crowd.depth who ≡ true → AreTold scene who all scopes
+are-told scene crowd who all scopes stands same there = record {
+  long = ap length same ∙ length-map crowd.lanes (row_of who) ∙ stands.long;
+  each = λ k s low.
+      let lane = get_or crowd.lanes k no_lane in
+      let row : get_or all k 0 ≡ row_of who lane =
+      ap (λ (l : List ℕ). get_or l k 0) same
+      ∙ get_or-map (row_of who) crowd.lanes k no_lane 0
+      (subst (λ n. k < n) (sym stands.long) low) in
+      ap (slice_get (rows scene)) row
+      ∙ agent-there scene crowd.depth who lane (get_or scopes k s) (stands.lanes k no_lane s low)
+      there;
+}
+
+-- what the scopes up to another place say to one agent
+pub says-more : (scene : Scene) (who : Who) (effect : ℕ) (type : Ty) (scopes : List Scope)
+    (words these : List ℤ) (from next : ℕ) (all : List ℕ) (place : ℕ) (a b c : Table)
+    → AreTold scene who all scopes
+    → length words ≡ length scopes → from < next → next ≤ length all → place ≡ get_or all from 0
+    → ((k : ℕ) → from + 1 ≤ k → k < next → get_or all k 0 ≡ place)
+    → these ≡ between from next words
     → ((x : Agent) → slice_get (rows scene) place ≡ Some x
-    → Hears scene.program.now (rows scene) (told_at x ear.effect ear.ty these) b c)
+    → Hears scene.program.now (rows scene) (told_at x effect type these) b c)
     → Hears scene.program.now (rows scene) (told_by who effect type (take from scopes) (take from words)) a b
     → Hears scene.program.now (rows scene) (told_by who effect type (take next scopes) (take next words)) a c
-says-more scene crowd who effect type scopes words these ear from next all d place a b c stands long same less most there place_is run these_are same_effect same_type one before =
+says-more scene who effect type scopes words these from next all place a b c heard_by long less
+    most place_is run these_are one before =
     subst (λ l. Hears scene.program.now (rows scene) l a c) (told-between who effect type scopes words from next (omega (arith, less)) long)
     (hears-more scene.program.now (rows scene) _ _ a b c before now)
   where
     last : next ≤ length scopes
-    last = subst (λ n. next ≤ n) (ap length same ∙ stands.long) most
+    last = subst (λ n. next ≤ n) heard_by.long most
 
-    at_place : (k : ℕ) → from ≤ k → k < next → row_of who (get_or all k d) ≡ place
-    at_place k le low = ⊎_elim (λ (l : from < k). run k d (omega (arith, l)) low)
-        (λ (l : k ≤ from). let e : k ≡ from = omega (arith, le, l) in ap (λ n. row_of who (get_or all n d)) e ∙ sym place_is)
+    at_place : (k : ℕ) → from ≤ k → k < next → get_or all k 0 ≡ place
+    at_place k le low = ⊎_elim (λ (l : from < k). run k (omega (arith, l)) low)
+        (λ (l : k ≤ from). let e : k ≡ from =
+        omega (arith, le, l) in ap (λ n. get_or all n 0) e ∙ sym place_is)
         (cases_lt from k)
 
     agent_at : (k : ℕ) → from ≤ k → k < next → slice_get (rows scene) place ≡ Some (agent_of (get_or scopes k nowhere) who)
     agent_at k le low =
-        let s = get_or scopes k nowhere in
-        let lane = get_or all k d in
-        let within : k < length scopes = omega (arith, low, last) in
-        let inside_all : k < length crowd.lanes = subst (λ n. k < n) (sym stands.long) within in
-        let lane_is : lane ≡ get_or crowd.lanes k lane =
-        ap (λ (l : List Lane). get_or l k d) same ∙ get_or_default crowd.lanes k d lane inside_all in
-        let h : IsLane scene crowd.depth lane s =
-        subst (λ (l : Lane). IsLane scene crowd.depth l s) (sym lane_is) (stands.lanes k lane nowhere within) in
-        ap (slice_get (rows scene)) (sym (at_place k le low)) ∙ agent-there scene crowd.depth who lane s h there
+        ap (slice_get (rows scene)) (sym (at_place k le low))
+        ∙ heard_by.each k nowhere (omega (arith, low, last))
 
     x : Agent
     x = agent_of (get_or scopes from nowhere) who
@@ -187,8 +201,7 @@ says-more scene crowd who effect type scopes words these ear from next all d pla
 
     now : Hears scene.program.now (rows scene) (told_by who effect type (between from next scopes) (between from next words)) b c
     now = subst (λ l. Hears scene.program.now (rows scene) l b c)
-        (ap₂ (λ (n : ℕ) (t : Ty). told_at x n t these) same_effect same_type
-        ∙ ap (told_at x effect type) these_are
+        (ap (told_at x effect type) these_are
         ∙ told-one who effect type x (between from next scopes) (between from next words)
         (between-long from next words (subst (λ n. next ≤ n) (sym long) last) ∙ sym (between-long from next scopes last)) alone)
         (one x (agent_at from (omega arith) less))
@@ -198,8 +211,3 @@ pub says-all : (who : Who) (effect : ℕ) (type : Ty) (scopes : List Scope) (wor
     → told_by who effect type (take n scopes) (take n words) ≡ told_by who effect type scopes words
 says-all who effect type scopes words n low long =
     ap₂ (told_by who effect type) (take_all n scopes low) (take_all n words (omega (arith, low, long)))
-
--- nobody says anything
-pub says-none : (who : Who) (effect : ℕ) (type : Ty) (scopes : List Scope) (words : List ℤ) → length scopes ≡ 0 → told_by who effect type scopes words ≡ []
-says-none who effect type [] words e = refl
-says-none who effect type (s ∷ scopes) words e = absurd (omega (arith, e))

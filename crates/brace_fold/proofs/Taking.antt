@@ -1,5 +1,5 @@
 -- What an eye finds are the agents that a loop takes.
-use Rattle.std.proofs.Common.{◌≡◌, ◌∙◌, ℕ, suc, ◌<◌, ℤ, pos, ◌≤ℤ◌, Bool, true, false, cond, not, ◌&&◌, List, [], ◌∷◌, length, map, filter, get_or, slice_get, Option, Some, None, refl, sym, ap, ap₂, arith, ⊎_elim}
+use Rattle.std.proofs.Common.{◌≡◌, ◌∙◌, ℕ, suc, ◌<◌, ℤ, pos, ◌≤ℤ◌, Bool, true, false, cond, not, ◌&&◌, List, [], ◌∷◌, length, map, filter, get_or, slice_get, Option, Some, None, refl, sym, ap, ap₂, arith, subst, ⊎_elim}
 use Rattle.std.specs.Prelude.{◌==◌, nat_eq, is_some, option_map, unwrap_or}
 use Rattle.std.specs.List.{AllPairs, list_all}
 use Rattle.std.specs.List.Sorted.{IsPermutation}
@@ -21,10 +21,14 @@ use Rattle.brace_plan.specs.declared.action.Axis.TheVariants.{X, Y}
 use Rattle.brace_plan.specs.declared.action.Bound.{Bound}
 use Rattle.brace_plan.specs.Acts.{coordinate, limit_in, meets, near_by, stands}
 use Rattle.brace_plan.proofs.NearLemmas.{visible-most}
+use Rattle.brace_code.specs.declared.lane.Lane.{Lane}
 use Rattle.brace_fold.specs.declared.cells.Cells.{Cells}
 use Rattle.brace_fold.specs.declared.cells.Runs.{Runs}
 use Rattle.brace_fold.specs.declared.cells.Spot.{Spot}
+use Rattle.brace_fold.specs.declared.crowd.Crowd.{Crowd}
+use Rattle.brace_fold.specs.declared.scene.Scene.{Scene}
 use Rattle.brace_fold.specs.declared.seeing.Eye.{Eye}
+use Rattle.brace_fold.specs.inner.Crowds.{IsIn, IsScene, rows, world}
 use Rattle.brace_fold.specs.inner.Sights.{AreCells, IsAround, IsEye, cell_number, cut_in, found_around, is_found, meets_cut, spot_of}
 use Rattle.brace_fold.proofs.Counting.{all_found}
 use Rattle.brace_fold.proofs.Risings.{around_rises}
@@ -39,12 +43,12 @@ regroup true true false false m = refl
 regroup true true true true m = refl
 regroup true true true false m = refl
 
-by_some : {A P : Type 0} (o : Option A) → is_some o ≡ true → ((x : A) → o ≡ Some x → P) → P
+pub by_some : {A P : Type 0} (o : Option A) → is_some o ≡ true → ((x : A) → o ≡ Some x → P) → P
 by_some None h f = absurd (cc)
 by_some (Some x) h f = f x refl
 
 -- where an agent of a class stands
-place_is : (program : Program) (b : Agent) (d : Class) → class_of program b ≡ Some d
+pub place_is : (program : Program) (b : Agent) (d : Class) → class_of program b ≡ Some d
     → place_of program b ≡ record { x = x_of d b; y = y_of d b }
 place_is program b d has =
     ap (λ o. unwrap_or (option_map (λ c. record { x = x_of c b; y = y_of c b }) o) origin) has
@@ -224,3 +228,25 @@ module _ (program : Program) (scope : Scope) (class place : ℕ) (bounds : List 
         ∙ ap (map (λ b. Some b))
         (sym (filter_twice (λ b. list_all (meets scope (place_of program b)) bounds)
         (λ b. (b.class == class) && sees program scope.this b) agents))
+
+-- what is found around an agent are those that the loop takes in its lane
+pub takes_near : (scene : Scene) (crowd : Crowd) (lane : Lane) (scope : Scope) (class : ℕ)
+    (bounds : List Bound) (eye : Eye) (runs : Runs) → IsScene scene → IsIn scene crowd lane scope
+    → IsEye scene.program.now lane.this scope.this class eye
+    → ((spot : Spot) → slice_get scene.cells.now.spots.items lane.this ≡ Some spot
+    → IsAround scene.cells.now spot.cell runs)
+    → map (slice_get (rows scene))
+    (found_around eye (map (cut_in scope) bounds) scene.cells.now.spots.items runs)
+    ≡ map (λ b. Some b) (near_by scene.program.now (rows scene) scope class bounds)
+takes_near scene crowd lane scope class bounds eye runs is stands looks around =
+    let program = scene.program.now in
+    let agents = rows scene in
+    let cells = scene.cells.now in
+    let this = stands.stands.this in
+    let apart = apart_moved (world scene) agents is.rises is.moved in
+    let stand =
+    eye_stands program scope class lane.this bounds eye looks agents cells is.cells apart this in
+    let cell =
+    eye_cell program scope class lane.this bounds eye looks agents cells is.cells apart this in
+    near_is program scope class lane.this bounds eye looks agents cells is.cells apart this runs
+    (subst (λ n. IsAround cells n runs) cell (around _ stand))

@@ -2,6 +2,7 @@ pub mod Asks
 pub mod Crowds
 pub mod Deeds
 pub mod Ears
+pub mod Glances
 pub mod Joins
 pub mod Renewals
 pub mod Rulings

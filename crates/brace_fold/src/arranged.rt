@@ -78,7 +78,7 @@ impl Arranged {
     }
 
     /// Asks the agents at some places.
-    pub fn ask_in(
+    pub(crate) fn ask_in(
         &self,
         alloc: Global,
         plans: &Plans,

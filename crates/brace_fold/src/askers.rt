@@ -24,7 +24,7 @@ pub fn askers(alloc: Global, classes: &[u32], rows: &[u32]) -> Result<Vec<Asker>
         let Some(class) = classes.get(*row as usize).copied() else {
             return Err(Redo);
         };
-        all.push(Asker { class, row: *row })?;
+        all.push_reserved(Asker { class, row: *row });
     }
     Ok(all)
 }
@@ -53,7 +53,7 @@ pub fn rows_of(alloc: Global, all: &[Asker]) -> Result<Vec<u32>, Redo>
 {
     let mut rows = Vec::with_capacity(alloc, all.len())?;
     for one in all {
-        rows.push(one.row)?;
+        rows.push_reserved(one.row);
     }
     Ok(rows)
 }

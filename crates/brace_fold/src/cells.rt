@@ -1,5 +1,4 @@
 ghost use Rattle.std.specs.Prelude.{◌≡◌, ◌<◌, ◌≤◌, ℕ, ℤ, List, pos, ◌<ℤ◌, ◌≤ℤ◌, true, length, map, slice_get, slice_index_or, Some, IfOk, IfSome, OnOk};
-ghost use Rattle.std.specs.List.Sorted.{IsPermutation};
 ghost use Rattle.brace_model.specs.declared.world.Agent.{Agent};
 ghost use Rattle.brace_plan.specs.Answers.{greatest_visible};
 ghost use Rattle.brace_fold.specs.declared.cells.Cells.{Cells};
@@ -7,6 +6,7 @@ ghost use Rattle.brace_fold.specs.Rows.{AreColumns};
 ghost use Rattle.brace_fold.specs.inner.Sights.{AreLed, AreSorted, CellsRise, IsAround, IsRank, IsRun, cell_number, in_row};
 
 use crate::columns::Columns;
+use crate::sorting::sort_by_cell;
 use crate::spotting::spots_in;
 use brace_code::Redo;
 use brace_model::Program;
@@ -57,7 +57,7 @@ fn order_of(alloc: Global, spots: &[Spot]) -> Result<Vec<u32>, Redo>
 {
     let mut order = Vec::with_capacity(alloc, spots.len())?;
     for spot in spots {
-        order.push(spot.place)?;
+        order.push_reserved(spot.place);
     }
     Ok(order)
 }
@@ -77,16 +77,6 @@ fn number_rows(spots: &mut [Spot]) -> Result<(), Redo>
     Ok(())
 }
 
-/// Puts spots in the order of their cells. A sort that keeps ties takes least time where they
-/// nearly stand so: it goes on from the runs that it finds.
-fn sort_by_cell(spots: &mut Vec<Spot>) -> Result<(), Redo>
-    ensures moved { OnOk result (IsPermutation spots.old.items spots.new.items) }
-    ensures rise { OnOk result (CellsRise spots.new.items) }
-{
-    spots.sort_by_key(|spot: &Spot| spot.cell)?;
-    Ok(())
-}
-
 impl Sorted {
     /// The agents of columns in the order of cells of some side, which is above 0 and no less than
     /// any of them sees.
@@ -102,7 +92,7 @@ impl Sorted {
             → AreSorted program.now agents sorted) }
     {
         let mut spots = spots_in(alloc, program, columns, side)?;
-        sort_by_cell(&mut spots)?;
+        sort_by_cell(alloc, &mut spots)?;
         let order = order_of(alloc, &spots)?;
         number_rows(&mut spots)?;
         Ok(Sorted {
@@ -140,7 +130,7 @@ fn start_of(spots: &[Spot], hint: usize, cell: i64) -> usize
 }
 
 /// How many spots come before a cell, looked for from a place on that may be near.
-fn rank(spots: &[Spot], hint: usize, cell: i64) -> usize
+pub fn rank(spots: &[Spot], hint: usize, cell: i64) -> usize
     requires { CellsRise spots.now }
     ensures { IsRank spots.now cell result }
 {

@@ -1,4 +1,4 @@
-ghost use Rattle.std.specs.Prelude.{◌≡◌, ◌<◌, ℕ, List, [], length, map, replicate, slice_index_or, IfOk, OnOk};
+ghost use Rattle.std.specs.Prelude.{◌≡◌, List, [], length, map, replicate, slice_index_or, IfOk, OnOk};
 ghost use Rattle.std.specs.List.{All};
 ghost use Rattle.brace_model.specs.declared.program.Ty.TheVariants as ty;
 ghost use Rattle.brace_model.specs.declared.world.Agent.{Agent};
@@ -8,11 +8,11 @@ ghost use Rattle.brace_code.specs.declared.lane.Lane.{Lane};
 ghost use Rattle.brace_code.specs.Columns.{taking, side};
 ghost use Rattle.brace_fold.specs.declared.scene.Scene.{Scene};
 ghost use Rattle.brace_fold.specs.inner.Asks.{rows_of, openings};
-ghost use Rattle.brace_fold.specs.inner.Crowds.{Stands, AreOf, AreGathered, AreNumbered, IsGathered, IsOfClass, asking_at, bound_to, chosen, has_outer, has_inner, IsScene, placed_at, rows};
+ghost use Rattle.brace_fold.specs.inner.Crowds.{Stands, AreOf, AreGathered, AreNumbered, IsGathered, IsOfClass, asking_at, bound_to, chosen, has_outer, has_inner, IsScene, rows};
 
 use crate::askers::Asker;
 use crate::scene::Scene;
-use brace_code::{Lane, Redo};
+use brace_code::{Lanes, Redo, Row, Rows, column_of};
 use brace_model::Ty;
 use brace_num::List;
 use std::alloc::Global;
@@ -49,7 +49,7 @@ pub fn has_inner(depth: Depth) -> bool
 #[derive(Debug, Drop)]
 pub struct Crowd {
     pub depth: Depth,
-    pub lanes: List<Lane>,
+    pub lanes: Lanes,
     /// A column for each constant of the class, by place; empty where it is not set.
     pub locals: Vec<List<i64>>,
 }
@@ -76,24 +76,21 @@ pub fn constant(alloc: Global, ty: Ty, words: List<i64>) -> Result<List<i64>, Re
 }
 
 /// The words of a column at the places of lanes; none of a column that is empty.
-fn gather(alloc: Global, column: &[i64], lanes: &[Lane]) -> Result<List<i64>, Redo>
+fn gather(alloc: Global, column: &[i64], lanes: &Lanes) -> Result<List<i64>, Redo>
     ensures { IfOk result (λ out. IsGathered lanes.now column.now out) }
 {
     if column.is_empty() {
         return Ok(List::new(alloc));
     }
-    let mut out = vec![in alloc; 0i64; lanes.len()]?;
-    for (k, x) in out.iter_mut().enumerate() {
-        *x = match column.get(lanes[k].place as usize) {
-            Some(word) => *word,
-            None => return Err(Redo),
-        };
-    }
-    Ok(List::from_vec(out))
+    let Some(view) = lanes.view(column, Row::Place) else {
+        return Err(Redo);
+    };
+    let words = column_of(alloc, view, lanes.len())?;
+    Ok(words)
 }
 
 /// The words of each column at the places of lanes.
-fn gather_all(alloc: Global, columns: &[List<i64>], lanes: &[Lane]) -> Result<Vec<List<i64>>, Redo>
+fn gather_all(alloc: Global, columns: &[List<i64>], lanes: &Lanes) -> Result<Vec<List<i64>>, Redo>
     ensures { IfOk result (λ outs. AreGathered lanes.now columns.now outs.items) }
 {
     let mut outs = Vec::with_capacity(alloc, columns.len())?;
@@ -102,30 +99,6 @@ fn gather_all(alloc: Global, columns: &[List<i64>], lanes: &[Lane]) -> Result<Ve
         outs.push(out)?;
     }
     Ok(outs)
-}
-
-/// Gives lanes their numbers in the list.
-fn number_all(lanes: &mut [Lane]) -> Result<(), Redo>
-    ensures long { length lanes.new ≡ length lanes.old }
-    ensures each { OnOk result ((k : ℕ) (l : Lane) → k < length lanes.old
-        → slice_index_or lanes.new k l ≡ placed_at k (slice_index_or lanes.old k l)) }
-{
-    for (k, lane) in lanes.iter_mut().enumerate() {
-        let Ok(place) = u32::try_from(k) else {
-            return Err(Redo);
-        };
-        lane.place = place;
-    }
-    Ok(())
-}
-
-/// Lanes with their numbers in the list.
-fn numbered(lanes: Vec<Lane>) -> Result<List<Lane>, Redo>
-    ensures { IfOk result (λ out. AreNumbered lanes.items out) }
-{
-    let mut lanes = lanes;
-    number_all(&mut lanes)?;
-    Ok(List::from_vec(lanes))
 }
 
 /// No column for each of some constants.
@@ -146,32 +119,35 @@ fn is_on_side(set: bool, word: i64) -> bool
     (word != 0) == set
 }
 
-/// The lanes whose word is set, or those whose word is 0.
-fn taken(alloc: Global, set: bool, lanes: &[Lane], words: &[i64]) -> Result<Vec<Lane>, Redo>
-    requires { length words.now ≡ length lanes.now }
-    ensures { IfOk result (λ out. out.items ≡ taking set lanes.now words.now) }
+/// The numbers of the lanes whose word is set, or of those whose word is 0.
+fn taken(alloc: Global, set: bool, words: &[i64]) -> Result<Vec<u32>, Redo>
+    ensures { IfOk result (λ numbers. (lanes : List Lane) (d : Lane)
+        → length words.now ≡ length lanes
+        → map (λ n. slice_index_or lanes n d) numbers.items ≡ taking set lanes words.now) }
 {
-    let mut out = Vec::with_capacity(alloc, lanes.len())?;
-    for k in 0..lanes.len() {
-        if is_on_side(set, words[k]) {
-            out.push(lanes[k])?;
+    let Ok(count) = u32::try_from(words.len()) else {
+        return Err(Redo);
+    };
+    let mut numbers = Vec::with_capacity(alloc, words.len())?;
+    for k in 0..count {
+        if is_on_side(set, words[k as usize]) {
+            numbers.push(k)?;
         }
     }
-    Ok(out)
+    Ok(numbers)
 }
 
 impl Crowd {
     /// Lanes whose places are those of lanes of this crowd, with the constants of these.
-    pub fn part(&self, alloc: Global, depth: Depth, lanes: Vec<Lane>) -> Result<Crowd, Redo>
+    pub fn part(&self, alloc: Global, depth: Depth, lanes: Lanes) -> Result<Crowd, Redo>
         ensures { IfOk result (λ part. (scene : Scene) (scopes kids : List Scope)
-            → Stands scene self.now scopes → AreOf scene depth scopes lanes.items kids
+            → Stands scene self.now scopes → AreOf scene depth scopes lanes kids
             → Stands scene part kids) }
     {
         let locals = gather_all(alloc, &self.locals, &lanes)?;
-        let lanes = numbered(lanes)?;
         Ok(Crowd {
             depth,
-            lanes,
+            lanes: lanes.numbered(),
             locals,
         })
     }
@@ -181,11 +157,11 @@ impl Crowd {
         ensures { IfOk result (λ part. (scene : Scene) (scopes : List Scope)
             → Stands scene self.now scopes → Stands scene part (chosen set scopes words.now)) }
     {
-        let lanes = self.lanes.as_slice();
-        if words.len() != lanes.len() {
+        if words.len() != self.lanes.len() {
             return Err(Redo);
         }
-        let lanes = taken(alloc, set, lanes, words)?;
+        let numbers = taken(alloc, set, words)?;
+        let lanes = self.lanes.picked(alloc, &numbers)?;
         self.part(alloc, self.depth, lanes)
     }
 
@@ -206,23 +182,19 @@ impl Crowd {
 }
 
 /// A lane for each agent that asks, all of which are of one class.
-fn asking_lanes(scene: &Scene, class: u32, asking: &[Asker]) -> Result<Vec<Lane>, Redo>
+fn asking_lanes(scene: &Scene, class: u32, asking: &[Asker]) -> Result<Lanes, Redo>
     requires { IsScene scene.now }
-    ensures lanes { IfOk result (λ lanes. lanes.items ≡ map asking_at (rows_of asking.now)) }
+    ensures lanes { IfOk result (AreNumbered (map asking_at (rows_of asking.now))) }
     ensures of_class { IfOk result (λ _.
         All (IsOfClass (rows scene.now) class) (rows_of asking.now)) }
 {
-    let mut lanes = Vec::with_capacity(scene.alloc, asking.len())?;
+    let mut rows = Vec::with_capacity(scene.alloc, asking.len())?;
     for one in asking {
         scene.expect_class(one.row, class)?;
-        lanes.push(Lane {
-            this: one.row,
-            outer: 0,
-            inner: 0,
-            place: 0,
-        })?;
+        rows.push(one.row)?;
     }
-    Ok(lanes)
+    let (this, place) = (Rows::Each(rows), Rows::Number);
+    Ok(Lanes::of(asking.len(), this, Rows::Same(0), Rows::Same(0), place))
 }
 
 /// The crowd of agents of a class that ask, none of whose constants is set.
@@ -234,7 +206,6 @@ pub fn opening(scene: &Scene, class: u32, asking: &[Asker], constants: usize) ->
         (openings scene.now constants d (rows_of asking.now))) }
 {
     let lanes = asking_lanes(scene, class, asking)?;
-    let lanes = numbered(lanes)?;
     let locals = unset(scene.alloc, constants)?;
     Ok(Crowd {
         depth: Depth::Outside,

@@ -1,18 +1,21 @@
-ghost use Rattle.std.specs.Prelude.{◌≡◌, map, slice_get, Some, IfOk, OnOk};
+ghost use Rattle.std.specs.Prelude.{◌≡◌, ◌≤◌, pos, length, map, slice_get, Some, IfOk, IfSome, OnOk};
 ghost use Rattle.brace_model.specs.declared.world.Agent.{Agent};
 ghost use Rattle.brace_model.specs.World.{number, value_at};
 ghost use Rattle.brace_model.specs.Value.{Scope};
-ghost use Rattle.brace_plan.specs.Acts.{limit_in, near_by};
+ghost use Rattle.brace_plan.specs.Acts.{limit_in};
 ghost use Rattle.brace_fold.specs.declared.cells.Cells.{Cells};
 ghost use Rattle.brace_fold.specs.inner.Crowds.{IsScene, IsIn, rows};
+ghost use Rattle.brace_fold.specs.inner.Glances.{Finds, IsGlance, IsSought};
 ghost use Rattle.brace_fold.specs.inner.Sights.{AreLed, IsEye, cut_in};
 
 use crate::cells::Runs;
 use crate::columns::read;
 use crate::crowd::Crowd;
+use crate::glancing::Glance;
 use crate::scene::Scene;
 use crate::seeing::{Cut, Eye, look_around};
 use brace_code::{Lane, Redo};
+use brace_model::Class;
 use brace_num::List;
 use brace_plan::{Bound, Limit};
 use std::alloc::Global;
@@ -22,8 +25,6 @@ use std::alloc::Global;
 pub struct Room {
     pub runs: Runs,
     pub cuts: Vec<Cut>,
-    pub found: Vec<u32>,
-    pub near: Vec<u32>,
 }
 
 impl Room {
@@ -34,9 +35,28 @@ impl Room {
         Room {
             runs: Runs::none(),
             cuts: Vec::new(alloc),
-            found: Vec::new(alloc),
-            near: Vec::new(alloc),
         }
+    }
+}
+
+/// What a loop looks for: agents of a class within bounds. A glance shows all there are.
+#[derive(Debug, Clone, Copy)]
+pub struct Sought<'a> {
+    pub class: u32,
+    pub bounds: &'a List<Bound>,
+    pub glance: Option<Glance<'a>>,
+}
+
+/// As many rows as 32 bits number.
+const MOST_ROWS: usize = 4_294_967_295;
+
+/// How far agents of a class see.
+fn range_of(class: &Class) -> Result<u64, Redo>
+    ensures { IfOk result (λ range. pos range ≡ class.now.visible) }
+{
+    match u64::try_from(class.visible) {
+        Ok(range) => Ok(range),
+        Err(_) => Err(Redo),
     }
 }
 
@@ -106,46 +126,89 @@ impl<'a> Scene<'a> {
         let Some(own) = self.program.classes.as_slice().get(*number as usize) else {
             return Err(Redo);
         };
-        let Ok(range) = u64::try_from(own.visible) else {
-            return Err(Redo);
-        };
         Ok(Eye {
             x: self.state(own.x, row)?,
             y: self.state(own.y, row)?,
-            range,
+            range: range_of(own)?,
             class,
             place: row,
         })
     }
 
-    /// Finds the rows, rising, of the agents that a loop takes in a lane.
+    /// Where all agents stand, if all are of a class.
+    fn glance(&self, class: u32) -> Option<Glance<'a>>
+        requires { IsScene self.now }
+        ensures { IfSome result (IsGlance self.now class) }
+    {
+        let classes = self.program.classes.as_slice();
+        if class != 0 || classes.len() != 1 {
+            return None;
+        }
+        let own = &classes[0];
+        let Ok(range) = range_of(own) else {
+            return None;
+        };
+        let (Some(xs), Some(ys)) = (
+            self.states.get(own.x as usize),
+            self.states.get(own.y as usize),
+        ) else {
+            return None;
+        };
+        if ys.len() != xs.len() || xs.len() > MOST_ROWS {
+            return None;
+        }
+        Some(Glance {
+            xs: *xs,
+            ys: *ys,
+            range,
+            class,
+        })
+    }
+
+    /// What a loop looks for.
+    pub fn sought<'b>(&'b self, class: u32, bounds: &'b List<Bound>) -> Sought<'b>
+        requires { IsScene self.now }
+        ensures class { result.class ≡ class }
+        ensures bounds { result.bounds.now ≡ bounds.now }
+        ensures is { IsSought self.now result }
+    {
+        let glance = if bounds.as_slice().is_empty() {
+            self.glance(class)
+        } else {
+            None
+        };
+        Sought {
+            class,
+            bounds,
+            glance,
+        }
+    }
+
+    /// Appends the rows, rising, of the agents that a loop takes in a lane behind so many rows, and
+    /// gives the count of rows with them.
     pub fn find(
         &self,
         crowd: &Crowd,
         lane: &Lane,
-        class: u32,
-        bounds: &List<Bound>,
+        sought: &Sought,
         room: &mut Room,
-    ) -> Result<(), Redo>
+        near: &mut Vec<u32>,
+        from: usize,
+    ) -> Result<usize, Redo>
         requires scene { IsScene self.now }
         requires led { AreLed self.now.cells.now room.old.runs }
-        ensures led { OnOk result (AreLed self.now.cells.now room.new.runs) }
-        ensures near { OnOk result ((scope : Scope) → IsIn self.now crowd.now lane.now scope
-            → map (slice_get (rows self.now)) room.new.near.items
-            ≡ map Some (near_by self.now.program.now (rows self.now) scope class bounds.now)) }
+        requires sought { IsSought self.now sought.now }
+        requires from { from ≤ length near.old.items }
+        ensures led { IfOk result (λ _. AreLed self.now.cells.now room.new.runs) }
+        ensures finds { IfOk result (λ count. Finds self.now crowd.now lane.now sought.now from
+            count near.old.items near.new.items) }
     {
-        let eye = self.eye(lane.this, class)?;
         self.cells.lead(&mut room.runs, lane.this)?;
-        self.cut(crowd, lane, bounds, &mut room.cuts)?;
-        look_around(
-            self.alloc,
-            self.cells,
-            &room.runs,
-            &eye,
-            &room.cuts,
-            &mut room.found,
-            &mut room.near,
-        )?;
-        Ok(())
+        if let Some(glance) = &sought.glance {
+            return glance.look_around(&room.runs, lane.this, near, from);
+        }
+        let eye = self.eye(lane.this, sought.class)?;
+        self.cut(crowd, lane, sought.bounds, &mut room.cuts)?;
+        look_around(self.cells, &room.runs, &eye, &room.cuts, near, from)
     }
 }

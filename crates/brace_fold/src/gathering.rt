@@ -1,15 +1,19 @@
-ghost use Rattle.std.specs.Prelude.{◌≡◌, ◌<◌, ◌≤◌, ◌++◌, List, length, map, flat_map, IfOk, OnOk};
+ghost use Rattle.std.specs.Prelude.{◌≡◌, ◌<◌, ◌≤◌, ◌-◌, ◌++◌, [], List, true, length, map, flat_map, replicate, take, IfOk, OnOk};
+ghost use Rattle.std.specs.Vec.{vec_len};
 ghost use Rattle.brace_model.specs.Value.{Scope};
-ghost use Rattle.brace_fold.specs.inner.Crowds.{IsScene, Stands, deeper, entered};
+ghost use Rattle.brace_fold.specs.declared.crowd.Depth.{Depth};
+ghost use Rattle.brace_fold.specs.inner.Crowds.{IsFull, IsScene, Stands, deeper, entered, has_outer, lanes_inside};
 ghost use Rattle.brace_fold.specs.inner.Deeds.{into, between};
 ghost use Rattle.brace_fold.specs.inner.Sights.{AreLed};
 
-use crate::crowd::{Crowd, Depth};
+use crate::crowd::{Crowd, Depth, has_outer};
 use crate::finding::Room;
+use crate::rows::lane_at;
 use crate::scene::Scene;
-use brace_code::{Lane, Redo};
+use brace_code::{Lane, Lanes, Redo, Rows};
 use brace_num::List;
 use brace_plan::Bound;
+use std::alloc::Global;
 
 /// A crowd takes no more agents once it has so many lanes.
 const MANY: usize = 4096;
@@ -31,26 +35,75 @@ fn deeper(depth: Depth) -> Depth
     }
 }
 
-/// A lane inside a loop, at the agent of a row.
-fn entered(depth: Depth, lane: Lane, row: u32) -> Lane
-    ensures { result ≡ entered depth lane row }
-{
-    match depth {
-        Depth::Outside => Lane { outer: row, ..lane },
-        Depth::Once | Depth::Twice => Lane { inner: row, ..lane },
-    }
+/// Rows of lanes inside a loop: those of its agents, of the agents that ask and of constants, and
+/// inside two loops those of the agents of the outer one. There are so many; the list of those of
+/// the agents may be longer.
+#[derive(Debug, Drop)]
+struct Entered {
+    count: usize,
+    near: Vec<u32>,
+    this: Vec<u32>,
+    place: Vec<u32>,
+    outer: Vec<u32>,
 }
 
-/// Appends the lanes of a loop at agents of some rows.
-fn enter(depth: Depth, lane: Lane, near: &[u32], lanes: &mut Vec<Lane>) -> Result<(), Redo>
-    ensures { OnOk result (lanes.new.items
-        ≡ lanes.old.items ++ map (entered depth lane) near.now) }
+/// No lanes, with room for so many.
+fn none_entered(alloc: Global, room: usize) -> Result<Entered, Redo>
+    ensures full { IfOk result (λ lanes. (depth : Depth) → IsFull depth lanes) }
+    ensures none { IfOk result (λ lanes. (depth : Depth) → lanes_inside depth lanes ≡ []) }
 {
-    lanes.reserve(near.len())?;
-    for row in near {
-        lanes.push_reserved(entered(depth, lane, *row));
+    Ok(Entered {
+        count: 0,
+        near: vec![in alloc; 0u32; room]?,
+        this: Vec::with_capacity(alloc, room)?,
+        place: Vec::with_capacity(alloc, room)?,
+        outer: Vec::with_capacity(alloc, room)?,
+    })
+}
+
+/// Fills rows up to so many with one, where lanes of a depth have an agent of the outer loop.
+fn fill_outer(depth: Depth, row: u32, count: usize, rows: &mut Vec<u32>) -> Result<(), Redo>
+    ensures items { OnOk result (has_outer depth ≡ true → rows.new.items
+        ≡ take count rows.old.items ++ replicate (count - vec_len rows.old) row) }
+    ensures len { OnOk result (has_outer depth ≡ true → length rows.new.items ≡ count) }
+{
+    if !has_outer(depth) {
+        return Ok(());
     }
+    rows.resize(count, row)?;
     Ok(())
+}
+
+/// Appends the lanes of a loop at agents of the rows that stand up to a count.
+fn enter(depth: Depth, lane: Lane, count: usize, lanes: &mut Entered) -> Result<(), Redo>
+    requires full { IsFull depth lanes.old }
+    requires rises { lanes.old.count ≤ count }
+    requires within { count ≤ length lanes.old.near.items }
+    ensures full { OnOk result (IsFull depth lanes.new) }
+    ensures lanes { OnOk result (lanes_inside depth lanes.new ≡ lanes_inside depth lanes.old
+        ++ map (entered depth lane) (between lanes.old.count count lanes.old.near.items)) }
+{
+    lanes.this.resize(count, lane.this)?;
+    lanes.place.resize(count, lane.place)?;
+    fill_outer(depth, lane.outer, count, &mut lanes.outer)?;
+    lanes.count = count;
+    Ok(())
+}
+
+/// The lanes of a loop.
+fn lanes_inside(depth: Depth, mut lanes: Entered) -> Lanes
+    ensures { result ≡ lanes_inside depth lanes }
+{
+    let count = lanes.count;
+    lanes.near.truncate(count);
+    let (this, place) = (Rows::Each(lanes.this), Rows::Each(lanes.place));
+    let near = Rows::Each(lanes.near);
+    match depth {
+        Depth::Outside => Lanes::of(count, this, near, Rows::Same(0), place),
+        Depth::Once | Depth::Twice => {
+            Lanes::of(count, this, Rows::Each(lanes.outer), near, place)
+        }
+    }
 }
 
 impl<'a> Scene<'a> {
@@ -73,18 +126,19 @@ impl<'a> Scene<'a> {
             → Stands self.now crowd.now scopes → Stands self.now part.inside
             (flat_map (into self.now class bounds.now) (between from part.next scopes))) }
     {
-        let mut lanes = Vec::with_capacity(self.alloc, 2 * MANY)?;
-        let all = crowd.lanes.as_slice();
+        let sought = self.sought(class, bounds);
+        let mut lanes = none_entered(self.alloc, 2 * MANY)?;
         let mut next = from;
-        while next < all.len() && lanes.len() < MANY {
-            let lane = all[next];
-            self.find(crowd, &lane, class, bounds, room)?;
-            enter(crowd.depth, lane, &room.near, &mut lanes)?;
+        while next < crowd.lanes.len() && lanes.count < MANY {
+            let lane = lane_at(&crowd.lanes, next)?;
+            let count = self.find(crowd, &lane, &sought, room, &mut lanes.near, lanes.count)?;
+            enter(crowd.depth, lane, count, &mut lanes)?;
             next += 1;
         }
         if next == from {
             return Err(Redo);
         }
+        let lanes = lanes_inside(crowd.depth, lanes);
         let inside = crowd.part(self.alloc, deeper(crowd.depth), lanes)?;
         Ok(Part { inside, next })
     }

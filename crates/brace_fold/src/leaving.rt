@@ -4,7 +4,8 @@ ghost use Rattle.brace_model.specs.Next.{changed};
 ghost use Rattle.brace_fold.specs.inner.Rulings.{AreBorn, child_of, given_at, is_set, lives_in, living_from, moved_from, new_states};
 
 use crate::outcome::{Column, Outcome, is_set, value_in, word_value};
-use brace_code::{Lane, Redo};
+use crate::rows::lane_at;
+use brace_code::{Lanes, Redo};
 use brace_model::{Agent, Class, Value, number, value_at};
 use brace_num::{List, clamp};
 use brace_plan::{changed, gifts_of, give};
@@ -106,20 +107,22 @@ pub fn keep_living(
 }
 
 /// The lanes in which a condition holds.
-pub fn lanes_set(
-    alloc: Global,
-    condition: &Option<Column>,
-    lanes: &[Lane],
-) -> Result<List<Lane>, Redo>
+pub fn lanes_set(alloc: Global, condition: &Option<Column>, lanes: &Lanes) -> Result<Lanes, Redo>
     ensures { IfOk result (λ set. set ≡ filter (λ l. is_set condition.now l.this) lanes.now) }
 {
-    let mut set = Vec::new(alloc);
-    for lane in lanes {
+    let Ok(count) = u32::try_from(lanes.len()) else {
+        return Err(Redo);
+    };
+    let mut numbers = Vec::new(alloc);
+    for number in 0..count {
+        let Some(lane) = lanes.get(number) else {
+            return Err(Redo);
+        };
         if is_set(condition, lane.this as usize) {
-            set.push(*lane)?;
+            numbers.push(number)?;
         }
     }
-    Ok(List::from_vec(set))
+    lanes.picked(alloc, &numbers)
 }
 
 /// The values of gifts in a row.
@@ -157,14 +160,15 @@ pub fn children(
     class: &Class,
     gifts: &[Column],
     agents: &[Agent],
-    lanes: &[Lane],
+    lanes: &Lanes,
 ) -> Result<Vec<Agent>, Redo>
     requires { pos 0 ≤ℤ class.now.reach }
     ensures { IfOk result (λ born. AreBorn class.now gifts.now agents.now lanes.now born.items) }
 {
     let mut born = Vec::with_capacity(alloc, lanes.len())?;
     for k in 0..lanes.len() {
-        let Some(a) = agents.get(lanes[k].place as usize) else {
+        let lane = lane_at(lanes, k)?;
+        let Some(a) = agents.get(lane.place as usize) else {
             return Err(Redo);
         };
         let child = child(alloc, class, gifts, k, a)?;

@@ -57,7 +57,7 @@ pub fn places_at(
 {
     let mut all = Vec::with_capacity(alloc, rows.len())?;
     for row in rows {
-        all.push(place_at(order, places, first, *row)?)?;
+        all.push_reserved(place_at(order, places, first, *row)?);
     }
     Ok(all)
 }
@@ -102,7 +102,7 @@ pub fn rows_from(alloc: Global, first: usize, count: usize) -> Result<Vec<u32>, 
         let Ok(row) = u32::try_from(at) else {
             return Err(Redo);
         };
-        rows.push(row)?;
+        rows.push_reserved(row);
     }
     Ok(rows)
 }
@@ -116,7 +116,7 @@ fn picked<T: Copy>(alloc: Global, column: &[T], rows: &[u32]) -> Result<Vec<T>, 
         let Some(item) = item_at(column, *row) else {
             return Err(Redo);
         };
-        out.push(item)?;
+        out.push_reserved(item);
     }
     Ok(out)
 }

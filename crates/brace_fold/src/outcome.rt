@@ -4,7 +4,7 @@ ghost use Rattle.brace_model.specs.Next.{holds};
 ghost use Rattle.brace_fold.specs.inner.Rulings.{IsOutcome, IsRun, IsRunIf, is_set, value_in, word_value};
 
 use crate::saying::typed;
-use brace_code::{Code, Frame, Lane, Redo};
+use brace_code::{Code, Frame, Lanes, Redo};
 use brace_model::{Ty, Value};
 use brace_num::List;
 use brace_plan::Rules;
@@ -27,7 +27,7 @@ pub struct Outcome {
 }
 
 /// What code gives in each lane.
-fn run(alloc: Global, code: &Code, frame: &Frame, lanes: &List<Lane>) -> Result<Column, Redo>
+fn run(alloc: Global, code: &Code, frame: &Frame, lanes: &Lanes) -> Result<Column, Redo>
     ensures { IfOk result (IsRun frame.now lanes.now code.now) }
 {
     let words = code.eval_lanes(alloc, frame, lanes)?;
@@ -42,7 +42,7 @@ fn run_if(
     alloc: Global,
     rule: &Option<Code>,
     frame: &Frame,
-    lanes: &List<Lane>,
+    lanes: &Lanes,
 ) -> Result<Option<Column>, Redo>
     ensures { IfOk result (IsRunIf frame.now lanes.now rule.now) }
 {
@@ -57,7 +57,7 @@ fn run_rules(
     alloc: Global,
     rules: &[Option<Code>],
     frame: &Frame,
-    lanes: &List<Lane>,
+    lanes: &Lanes,
 ) -> Result<Vec<Option<Column>>, Redo>
     ensures { IfOk result (λ columns.
         AllZip (IsRunIf frame.now lanes.now) rules.now columns.items) }
@@ -75,7 +75,7 @@ pub fn run_gifts(
     alloc: Global,
     gifts: &[Code],
     frame: &Frame,
-    lanes: &List<Lane>,
+    lanes: &Lanes,
 ) -> Result<Vec<Column>, Redo>
     ensures { IfOk result (λ columns. AllZip (IsRun frame.now lanes.now) gifts.now columns.items) }
 {
@@ -88,12 +88,7 @@ pub fn run_gifts(
 }
 
 /// What the rules of a class come to in each lane.
-pub fn run_all(
-    alloc: Global,
-    rules: &Rules,
-    frame: &Frame,
-    lanes: &List<Lane>,
-) -> Result<Outcome, Redo>
+pub fn run_all(alloc: Global, rules: &Rules, frame: &Frame, lanes: &Lanes) -> Result<Outcome, Redo>
     ensures { IfOk result (IsOutcome frame.now lanes.now rules.now) }
 {
     let states = run_rules(alloc, rules.states.as_slice(), frame, lanes)?;

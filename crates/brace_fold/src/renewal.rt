@@ -66,13 +66,13 @@ fn outcome_in(
         × ((d : Agent) → Leaves ruled.now.class.now ruled.now.rules.now
         (rows_in program columns.now) lanes scope d out born.old.items born.new.items))) }
 {
-    let lanes = lanes_of(alloc, columns.ids.len())?;
+    let lanes = lanes_of(columns.ids.len());
     let out = run_all(alloc, ruled.rules, frame, &lanes)?;
-    let parents = lanes_set(alloc, &out.spawn, lanes.as_slice())?;
+    let parents = lanes_set(alloc, &out.spawn, &lanes)?;
     let codes = ruled.rules.gifts.as_slice();
     let gifts = run_gifts(alloc, codes, frame, &parents)?;
-    let bearing = parents.as_slice();
-    let mut more = children_in(alloc, own, number, ruled.class, &gifts, columns, bearing)?;
+    let class = ruled.class;
+    let mut more = children_in(alloc, own, number, class, &gifts, columns, &parents)?;
     born.append(&mut more)?;
     Ok(out)
 }

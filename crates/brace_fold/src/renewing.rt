@@ -59,13 +59,12 @@ fn outcome_of(
         × ((d : Agent) → Leaves ruled.now.class.now ruled.now.rules.now agents.now lanes scope d
         out born.old.items born.new.items))) }
 {
-    let lanes = lanes_of(alloc, agents.len())?;
+    let lanes = lanes_of(agents.len());
     let out = run_all(alloc, ruled.rules, frame, &lanes)?;
-    let parents = lanes_set(alloc, &out.spawn, lanes.as_slice())?;
+    let parents = lanes_set(alloc, &out.spawn, &lanes)?;
     let codes = ruled.rules.gifts.as_slice();
     let gifts = run_gifts(alloc, codes, frame, &parents)?;
-    let bearing = parents.as_slice();
-    let mut more = children(alloc, ruled.class, &gifts, agents, bearing)?;
+    let mut more = children(alloc, ruled.class, &gifts, agents, &parents)?;
     born.append(&mut more)?;
     Ok(out)
 }

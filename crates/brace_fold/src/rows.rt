@@ -2,7 +2,7 @@ ghost use Rattle.std.specs.Prelude.{◌≡◌, ◌≤◌, ℕ, ℤ, List, Some, 
 ghost use Rattle.std.specs.List.{All};
 ghost use Rattle.brace_fold.specs.inner.Rulings.{AreLanes};
 
-use brace_code::{Lane, Redo};
+use brace_code::{Lane, Lanes, Redo, Rows};
 use brace_model::Agent;
 use brace_num::List;
 use std::alloc::Global;
@@ -25,22 +25,24 @@ pub fn of_class(agents: &[Agent], class: u32) -> usize
 }
 
 /// A lane for each of so many agents, whose words stand in a row each.
-pub fn lanes_of(alloc: Global, count: usize) -> Result<List<Lane>, Redo>
-    ensures { IfOk result (AreLanes count) }
+pub fn lanes_of(count: usize) -> Lanes
+    ensures { AreLanes count result }
 {
-    let mut lanes = Vec::with_capacity(alloc, count)?;
-    for k in 0..count {
-        let Ok(row) = u32::try_from(k) else {
-            return Err(Redo);
-        };
-        lanes.push(Lane {
-            this: row,
-            outer: 0,
-            inner: 0,
-            place: row,
-        })?;
+    let (this, place) = (Rows::Number, Rows::Number);
+    Lanes::of(count, this, Rows::Same(0), Rows::Same(0), place)
+}
+
+/// The lane of a number.
+pub fn lane_at(lanes: &Lanes, number: usize) -> Result<Lane, Redo>
+    ensures { IfOk result (λ lane. slice_get lanes.now number ≡ Some lane) }
+{
+    let Ok(number) = u32::try_from(number) else {
+        return Err(Redo);
+    };
+    match lanes.get(number) {
+        Some(lane) => Ok(lane),
+        None => Err(Redo),
     }
-    Ok(List::from_vec(lanes))
 }
 
 /// The total of an effect, where it fits a word.

@@ -1,5 +1,4 @@
 ghost use Rattle.std.specs.Prelude.{◌≡◌, ◌<◌, ◌≤◌, ℕ, List, IfOk, IfSome, OnOk, length, map, slice_get, slice_index_or, Some, false, true};
-ghost use Rattle.brace_code.specs.declared.lane.Lane.{Lane};
 ghost use Rattle.brace_code.specs.Lanes.{words_of};
 ghost use Rattle.brace_model.specs.declared.world.Agent.{Agent};
 ghost use Rattle.brace_model.specs.Value.{Scope, typed};
@@ -8,13 +7,13 @@ ghost use Rattle.brace_model.specs.declared.program.Comb.TheVariants as combs;
 ghost use Rattle.brace_model.specs.declared.program.Ty.TheVariants as types;
 ghost use Rattle.brace_model.specs.Total.{total_of};
 ghost use Rattle.brace_model.specs.Typing.{same_type};
-ghost use Rattle.brace_fold.specs.inner.Ears.{IsEar, row_of, is_there, told_at, told_by};
+ghost use Rattle.brace_fold.specs.inner.Ears.{AreHeard, IsEar, row_of, is_there, told_at, told_by};
 ghost use Rattle.brace_fold.specs.Hears.{Hears};
 
 use crate::crowd::{Crowd, Depth, has_inner, has_outer};
 use crate::scene::Scene;
 use crate::table::{Table, narrow};
-use brace_code::{Lane, Redo, Row, View};
+use brace_code::{Lanes, Redo, Row, View};
 use brace_comb::{identity, joined};
 use brace_model::{Comb, Ty, Value, Who};
 
@@ -29,14 +28,14 @@ pub fn typed(ty: Ty, word: i64) -> Value
     }
 }
 
-/// The row of the agent that a name stands for in a lane.
-fn row_of(who: Who, lane: &Lane) -> u32
-    ensures { result ≡ row_of who lane.now }
+/// The rows of the agents that a name stands for in lanes.
+fn rows_of<'a>(who: Who, lanes: &'a Lanes) -> Option<&'a [u32]>
+    ensures { IfSome result (λ rows. rows.now ≡ map (row_of who) lanes.now) }
 {
     match who {
-        Who::This => lane.this,
-        Who::Outer => lane.outer,
-        Who::Inner => lane.inner,
+        Who::This => lanes.rows(Row::This),
+        Who::Outer => lanes.rows(Row::Outer),
+        Who::Inner => lanes.rows(Row::Inner),
     }
 }
 
@@ -61,15 +60,14 @@ fn expect_there(depth: Depth, who: Who) -> Result<(), Redo>
     }
 }
 
-/// Behind the lanes from a place on in which a name stands for the agent of one row.
-fn run_end(who: Who, row: u32, lanes: &[Lane], from: usize) -> usize
-    requires { from ≤ length lanes.now }
-    ensures within { (from ≤ result) × (result ≤ length lanes.now) }
-    ensures same { (k : ℕ) (l : Lane) → from ≤ k → k < result
-        → row_of who (slice_index_or lanes.now k l) ≡ row }
+/// Behind the places from one on at which a row stands.
+fn run_end(row: u32, rows: &[u32], from: usize) -> usize
+    requires { from ≤ length rows.now }
+    ensures within { (from ≤ result) × (result ≤ length rows.now) }
+    ensures same { (k : ℕ) → from ≤ k → k < result → slice_index_or rows.now k 0 ≡ row }
 {
     let mut next = from;
-    while next < lanes.len() && row_of(who, &lanes[next]) == row {
+    while next < rows.len() && rows[next] == row {
         next += 1;
     }
     next
@@ -108,6 +106,7 @@ fn sum_of(ty: Ty, words: View, count: usize) -> Option<i128>
 }
 
 /// The sum of words of a type that is no flag; None where 64 bits do not hold one on the way.
+#[inline(always)]
 fn sum(ty: Ty, words: View, count: usize) -> Option<i128>
     requires plain { same_type ty types.Bool ≡ false }
     requires long { length (words_of count words) ≡ count }
@@ -117,12 +116,7 @@ fn sum(ty: Ty, words: View, count: usize) -> Option<i128>
     match words {
         View::Same(word) => sum_of(ty, View::Same(word), count),
         View::Each(words) => sum_of(ty, View::Each(words), count),
-        View::At(column, row, lanes) => match row {
-            Row::This => sum_of(ty, View::At(column, Row::This, lanes), count),
-            Row::Outer => sum_of(ty, View::At(column, Row::Outer, lanes), count),
-            Row::Inner => sum_of(ty, View::At(column, Row::Inner, lanes), count),
-            Row::Place => sum_of(ty, View::At(column, Row::Place, lanes), count),
-        },
+        View::At(column, rows) => sum_of(ty, View::At(column, rows), count),
     }
 }
 
@@ -138,6 +132,7 @@ fn narrow_count(count: usize) -> Result<u32, Redo>
 
 /// The total of words of a type that lanes read; None where it is not made, as where 128 bits do
 /// not hold it.
+#[inline(always)]
 #[tactic(auto, using(crate::proofs::Sayings::counted))]
 fn total(comb: Comb, ty: Ty, words: View, count: usize) -> Option<i128>
     requires { length (words_of count words) ≡ count }
@@ -189,6 +184,8 @@ impl<'a> Scene<'a> {
     }
 
     /// Joins so many words said to the agent of a row.
+    // Inlined, as all that it calls, where the combinator and the kind of view are known.
+    #[inline(always)]
     fn say_to(
         &self,
         ear: &Ear,
@@ -215,6 +212,72 @@ impl<'a> Scene<'a> {
         Ok(())
     }
 
+    /// Joins the words that lanes say to the agents of rows, run by run of one row.
+    // Inlined where the combinator and the kind of view are known, so that no run asks for them.
+    #[inline(always)]
+    fn say_runs(
+        &self,
+        ear: &Ear,
+        hearers: &[u32],
+        words: View,
+        heard: &mut Table,
+    ) -> Result<(), Redo>
+        requires scene { IsScene self.now }
+        requires ear { IsEar self.now ear.now }
+        ensures { OnOk result (AreHeard self.now ear.now.effect ear.now.ty hearers.now
+            words.entry heard.old heard.new) }
+    {
+        let mut at = 0;
+        while at < hearers.len() {
+            let row = hearers[at];
+            let next = run_end(row, hearers, at + 1);
+            let Some(these) = words.part(at, next) else {
+                return Err(Redo);
+            };
+            self.say_to(ear, row, these, next - at, heard)?;
+            at = next;
+        }
+        Ok(())
+    }
+
+    /// Joins the words that lanes say to the agents of rows.
+    fn say_rows(
+        &self,
+        ear: &Ear,
+        hearers: &[u32],
+        words: View,
+        heard: &mut Table,
+    ) -> Result<(), Redo>
+        requires scene { IsScene self.now }
+        requires ear { IsEar self.now ear.now }
+        ensures { OnOk result (AreHeard self.now ear.now.effect ear.now.ty hearers.now
+            words.entry heard.old heard.new) }
+    {
+        match (ear.comb, ear.ty) {
+            (Comb::Count, _) => {
+                let ear = Ear {
+                    comb: Comb::Count,
+                    ..*ear
+                };
+                self.say_runs(&ear, hearers, words, heard)
+            }
+            (Comb::Sum, Ty::Int | Ty::Fixed) => {
+                let ear = Ear {
+                    comb: Comb::Sum,
+                    ..*ear
+                };
+                match words {
+                    View::Same(word) => self.say_runs(&ear, hearers, View::Same(word), heard),
+                    View::Each(words) => self.say_runs(&ear, hearers, View::Each(words), heard),
+                    View::At(column, rows) => {
+                        self.say_runs(&ear, hearers, View::At(column, rows), heard)
+                    }
+                }
+            }
+            _ => self.say_runs(ear, hearers, words, heard),
+        }
+    }
+
     /// Joins the words that lanes say to an effect.
     pub fn say(
         &self,
@@ -232,22 +295,15 @@ impl<'a> Scene<'a> {
             (told_by who effect ty scopes (words_of (length scopes) words.entry))
             heard.old heard.new) }
     {
-        let lanes = crowd.lanes.as_slice();
         expect_there(crowd.depth, who)?;
-        let Some(first) = lanes.first() else {
+        let Some(rows) = rows_of(who, &crowd.lanes) else {
+            return Err(Redo);
+        };
+        let Some(first) = rows.first() else {
             return Ok(());
         };
-        let ear = self.ear(row_of(who, first), effect, ty)?;
-        let mut at = 0;
-        while at < lanes.len() {
-            let row = row_of(who, &lanes[at]);
-            let next = run_end(who, row, lanes, at + 1);
-            let Some(these) = words.part(at, next) else {
-                return Err(Redo);
-            };
-            self.say_to(&ear, row, these, next - at, heard)?;
-            at = next;
-        }
+        let ear = self.ear(*first, effect, ty)?;
+        self.say_rows(&ear, rows, words, heard)?;
         Ok(())
     }
 }

@@ -1,12 +1,11 @@
-ghost use Rattle.std.specs.Prelude.{◌≡◌, ◌<◌, ◌≤◌, ◌+◌, ◌++◌, ◌∷◌, [], length, take, if◌then◌else◌, IfOk, OnOk};
+ghost use Rattle.std.specs.Prelude.{◌≡◌, ℕ, ◌<◌, ◌≤◌, ◌+◌, ◌++◌, ◌∷◌, [], length, take, if◌then◌else◌, IfOk, OnOk};
 ghost use Rattle.std.specs.List.{list_all};
 ghost use Rattle.brace_plan.specs.Acts.{stands};
-ghost use Rattle.brace_fold.specs.inner.Sights.{found_around, found_in, is_found, is_seen, meets_cut, spots_along};
+ghost use Rattle.brace_fold.specs.inner.Sights.{Appended, found_around, found_in, is_found, is_seen, meets_cut, spots_along};
 
 use crate::cells::{Cells, Run, Runs, Spot};
 use brace_code::Redo;
 use brace_plan::{Axis, Side};
-use std::alloc::Global;
 
 /// A bound whose limit is known.
 #[derive(Debug, Clone, Copy, Drop)]
@@ -86,7 +85,7 @@ fn is_sought(eye: &Eye, spot: &Spot) -> bool
 
 // Writes a row at a place, and goes on from the next place if it is kept: no branch depends on it.
 #[tactic(auto, using(crate::proofs::Looks::put_kept))]
-fn put_kept(out: &mut [u32], at: usize, row: u32, keeps: bool) -> usize
+pub fn put_kept(out: &mut [u32], at: usize, row: u32, keeps: bool) -> usize
     requires { at < length out.old }
     ensures front { take result out.new ≡ take at out.old ++ (if keeps then row ∷ [] else []) }
     ensures next { result ≤ at + 1 }
@@ -110,6 +109,18 @@ fn scan_into(spots: &[Spot], eye: Eye, out: &mut [u32], from: usize) -> usize
     count
 }
 
+/// Makes rows no fewer than so many.
+pub fn make_room(rows: &mut Vec<u32>, count: usize) -> Result<(), Redo>
+    ensures long { OnOk result (count ≤ length rows.new.items) }
+    ensures kept { OnOk result ((n : ℕ) → n ≤ length rows.old.items
+        → take n rows.new.items ≡ take n rows.old.items) }
+{
+    if rows.len() < count {
+        rows.resize(count, 0)?;
+    }
+    Ok(())
+}
+
 /// The spots of a run.
 fn along<'a>(cells: &'a Cells, run: &Run) -> Result<&'a [Spot], Redo>
     ensures { IfOk result (λ spots.
@@ -121,46 +132,43 @@ fn along<'a>(cells: &'a Cells, run: &Run) -> Result<&'a [Spot], Redo>
     Ok(&cells.spots[run.start..run.end])
 }
 
-/// How many spots there are in three runs.
-fn all_of(west: &[Spot], middle: &[Spot], east: &[Spot]) -> Result<usize, Redo>
-    ensures { IfOk result (λ n. n ≡ length west.now + length middle.now + length east.now) }
+/// How many come with three counts more.
+pub fn past_all(from: usize, west: usize, middle: usize, east: usize) -> Result<usize, Redo>
+    ensures { IfOk result (λ n. n ≡ from + west + middle + east) }
 {
-    let Some(most) = west.len().checked_add(middle.len()) else {
+    let Some(first) = from.checked_add(west) else {
         return Err(Redo);
     };
-    let Some(most) = most.checked_add(east.len()) else {
+    let Some(second) = first.checked_add(middle) else {
         return Err(Redo);
     };
-    Ok(most)
+    match second.checked_add(east) {
+        Some(all) => Ok(all),
+        None => Err(Redo),
+    }
 }
 
-/// Replaces `near` by the places of the agents in runs that are looked for, run by run. They are
-/// written into `found` first, which is used again from call to call.
+/// Appends the places of the agents in runs that are looked for, run by run, behind so many rows.
 #[tactic(auto, using(crate::proofs::Looks::found_runs))]
 fn scan_around(
-    alloc: Global,
     cells: &Cells,
     runs: &Runs,
     eye: &Eye,
-    found: &mut Vec<u32>,
     near: &mut Vec<u32>,
-) -> Result<(), Redo>
-    ensures { OnOk result (near.new.items
-        ≡ found_around eye.now [] cells.now.spots.items runs.now) }
+    from: usize,
+) -> Result<usize, Redo>
+    requires { from ≤ length near.old.items }
+    ensures { IfOk result (λ count. Appended from count near.old.items near.new.items
+        (found_around eye.now [] cells.now.spots.items runs.now)) }
 {
     let west = along(cells, &runs.west)?;
     let middle = along(cells, &runs.middle)?;
     let east = along(cells, &runs.east)?;
-    let most = all_of(west, middle, east)?;
-    if found.len() < most {
-        *found = vec![in alloc; 0u32; most]?;
-    }
-    let first = scan_into(west, *eye, found, 0);
-    let second = scan_into(middle, *eye, found, first);
-    let third = scan_into(east, *eye, found, second);
-    near.clear();
-    near.extend_from_slice(&found[..third])?;
-    Ok(())
+    let most = past_all(from, west.len(), middle.len(), east.len())?;
+    make_room(near, most)?;
+    let first = scan_into(west, *eye, near, from);
+    let second = scan_into(middle, *eye, near, first);
+    Ok(scan_into(east, *eye, near, second))
 }
 
 /// Appends the places of the agents at spots that are found.
@@ -192,27 +200,26 @@ fn look_along(
     Ok(())
 }
 
-/// Replaces `near` by the places of the agents in runs that are found, run by run.
-#[tactic(auto, using(crate::proofs::Looks::around_uncut))]
+/// Appends the places of the agents in runs that are found, run by run, behind so many rows, and
+/// gives the count of rows with them.
 pub fn look_around(
-    alloc: Global,
     cells: &Cells,
     runs: &Runs,
     eye: &Eye,
     cuts: &[Cut],
-    found: &mut Vec<u32>,
     near: &mut Vec<u32>,
-) -> Result<(), Redo>
-    ensures { OnOk result (near.new.items
-        ≡ found_around eye.now cuts.now cells.now.spots.items runs.now) }
+    from: usize,
+) -> Result<usize, Redo>
+    requires { from ≤ length near.old.items }
+    ensures { IfOk result (λ count. Appended from count near.old.items near.new.items
+        (found_around eye.now cuts.now cells.now.spots.items runs.now)) }
 {
     if cuts.is_empty() {
-        scan_around(alloc, cells, runs, eye, found, near)?;
-        return Ok(());
+        return scan_around(cells, runs, eye, near, from);
     }
-    near.clear();
+    near.truncate(from);
     look_along(cells, &runs.west, eye, cuts, near)?;
     look_along(cells, &runs.middle, eye, cuts, near)?;
     look_along(cells, &runs.east, eye, cuts, near)?;
-    Ok(())
+    Ok(near.len())
 }

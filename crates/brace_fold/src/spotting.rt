@@ -57,7 +57,7 @@ pub fn spots_in(
         let Ok(row) = u32::try_from(i) else {
             return Err(Redo);
         };
-        spots.push(spot_in(program, columns, row, side)?)?;
+        spots.push_reserved(spot_in(program, columns, row, side)?);
     }
     Ok(spots)
 }

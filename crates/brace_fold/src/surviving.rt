@@ -11,11 +11,13 @@ use crate::columns::{Columns, class_in, item_at, read};
 use crate::leaving::child;
 use crate::order::Moved;
 use crate::outcome::{Column, Outcome, is_set};
+use crate::rows::lane_at;
 use crate::saying::typed;
-use brace_code::{Lane, Redo};
+use brace_code::{Lanes, Redo};
 use brace_model::{Agent, Class, Ty, Value, number, value_at};
 use brace_num::{List, clamp};
 use std::alloc::Global;
+use std::mem;
 
 /// Replaces values by the states of a class in a row.
 fn read_states(
@@ -80,7 +82,7 @@ pub fn children_in(
     class: &Class,
     gifts: &[Column],
     columns: &Columns,
-    lanes: &[Lane],
+    lanes: &Lanes,
 ) -> Result<Vec<Agent>, Redo>
     requires { pos 0 ≤ℤ class.now.reach }
     ensures { IfOk result (λ born. (program : Program)
@@ -89,9 +91,7 @@ pub fn children_in(
 {
     let mut born = Vec::with_capacity(alloc, lanes.len())?;
     for k in 0..lanes.len() {
-        let Some(lane) = lanes.get(k) else {
-            return Err(Redo);
-        };
+        let lane = lane_at(lanes, k)?;
         let parent = agent_in(own, number, columns, lane.place, Vec::new(alloc))?;
         let child = child(alloc, class, gifts, k, &parent)?;
         born.push(child)?;
@@ -164,8 +164,9 @@ fn push_rows<T: Copy>(
     ensures { OnOk result (left.new.items
         ≡ left.old.items ++ map (λ row. slice_index_or column.now row default) rows.now) }
 {
+    left.reserve(rows.len())?;
     for row in rows {
-        left.push(column.get(*row).copied().unwrap_or(default))?;
+        left.push_reserved(column.get(*row).copied().unwrap_or(default));
     }
     Ok(())
 }
@@ -197,17 +198,26 @@ fn moved_in(class: &Class, old: &Words, new: &Words, row: usize) -> i64
 }
 
 /// Adds the numbers of the values in rows.
-fn push_numbers(words: &Words, rows: &[usize], left: &mut List<i64>) -> Result<(), Redo>
+fn push_numbers(
+    alloc: Global,
+    words: &Words,
+    rows: &[usize],
+    left: &mut List<i64>,
+) -> Result<(), Redo>
     ensures { OnOk result (left.new ≡ left.old ++ map (number_in words.now) rows.now) }
 {
+    let mut all = mem::replace(left, List::new(alloc)).into_vec();
+    all.reserve(rows.len())?;
     for row in rows {
-        left.push(number_in(words, *row))?;
+        all.push_reserved(number_in(words, *row));
     }
+    *left = List::from_vec(all);
     Ok(())
 }
 
 /// Adds the new numbers of a coordinate in rows.
 fn push_moved(
+    alloc: Global,
     class: &Class,
     old: &Words,
     new: &Words,
@@ -218,9 +228,12 @@ fn push_moved(
     ensures { OnOk result
         (left.new ≡ left.old ++ map (moved_in class.now old.now new.now) rows.now) }
 {
+    let mut all = mem::replace(left, List::new(alloc)).into_vec();
+    all.reserve(rows.len())?;
     for row in rows {
-        left.push(moved_in(class, old, new, *row))?;
+        all.push_reserved(moved_in(class, old, new, *row));
     }
+    *left = List::from_vec(all);
     Ok(())
 }
 
@@ -241,6 +254,7 @@ fn ruled<'a>(rule: &'a Option<Column>, old: &Words<'a>) -> Words<'a>
 /// Adds a state of the agents of rows, which are of a class, by what its rules came to; 0 where it
 /// has no such state.
 fn push_state(
+    alloc: Global,
     own: &Class,
     class: &Class,
     out: &Outcome,
@@ -258,10 +272,10 @@ fn push_state(
         words: &[],
     };
     let Some(of) = own.states.as_slice().get(state) else {
-        return push_numbers(&none, rows, left);
+        return push_numbers(alloc, &none, rows, left);
     };
     let Some(rule) = out.states.get(state) else {
-        return push_numbers(&none, rows, left);
+        return push_numbers(alloc, &none, rows, left);
     };
     let Some(column) = columns.states.get(state) else {
         return Err(Redo);
@@ -272,14 +286,15 @@ fn push_state(
     };
     let new = ruled(rule, &old);
     if state == class.x as usize || state == class.y as usize {
-        push_moved(class, &old, &new, rows, left)
+        push_moved(alloc, class, &old, &new, rows, left)
     } else {
-        push_numbers(&new, rows, left)
+        push_numbers(alloc, &new, rows, left)
     }
 }
 
 /// Adds the states of the agents of rows, which are of a class, by what its rules came to.
 fn push_states(
+    alloc: Global,
     own: &Class,
     class: &Class,
     out: &Outcome,
@@ -294,7 +309,7 @@ fn push_states(
         ++ map (new_number own.now class.now out.now columns.now k) rows.now) }
 {
     for (state, column) in left.iter_mut().enumerate() {
-        push_state(own, class, out, columns, state, rows, column)?;
+        push_state(alloc, own, class, out, columns, state, rows, column)?;
     }
     Ok(())
 }
@@ -320,5 +335,5 @@ pub fn keep_rows(
     let rows = living_rows(alloc, number, out, columns)?;
     push_rows(columns.classes, 0, &rows, &mut left.classes)?;
     push_rows(columns.ids, 0, &rows, &mut left.ids)?;
-    push_states(own, class, out, columns, &rows, &mut left.states)
+    push_states(alloc, own, class, out, columns, &rows, &mut left.states)
 }

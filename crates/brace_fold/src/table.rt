@@ -1,10 +1,10 @@
 ghost use Rattle.std.specs.Prelude.{◌≡◌, ◌<◌, [], length, slice_set, IfOk, IfSome, OnOk, List};
 ghost use Rattle.brace_model.specs.declared.program.Program.{Program};
 ghost use Rattle.brace_model.specs.declared.world.Agent.{Agent};
+ghost use Rattle.brace_comb.specs.Totals.{merged};
 ghost use Rattle.brace_fold.specs.Sums.{AreSummed, sum_at, sum_place, summed};
 
 use brace_code::Redo;
-use brace_comb::merged;
 use brace_model::Comb;
 use std::alloc::Global;
 
@@ -34,7 +34,21 @@ pub fn narrow(number: i128) -> Result<i64, Redo>
     }
 }
 
+/// The numbers of two totals of a combinator in one; None where 64 bits do not hold it.
+// Inlined, as what calls it, where the combinator is known.
+#[inline(always)]
+fn merged(comb: Comb, number: i64, more: i64) -> Option<i64>
+    ensures { IfSome result (λ n. n ≡ merged comb number more) }
+{
+    match comb {
+        Comb::Sum | Comb::Count => number.checked_add(more),
+        Comb::Min => Some(number.min(more)),
+        Comb::Max | Comb::Or => Some(number.max(more)),
+    }
+}
+
 /// A sum and the total of so many values more.
+#[inline(always)]
 fn summed(comb: Comb, sum: Sum, number: i64, count: u32) -> Result<Sum, Redo>
     ensures { IfOk result (λ s. s ≡ summed comb sum number count) }
 {
@@ -44,10 +58,9 @@ fn summed(comb: Comb, sum: Sum, number: i64, count: u32) -> Result<Sum, Redo>
     if sum.count == 0 {
         return Ok(Sum { number, count });
     }
-    let Some(total) = merged(comb, i128::from(sum.number), i128::from(number)) else {
+    let Some(number) = merged(comb, sum.number, number) else {
         return Err(Redo);
     };
-    let number = narrow(total)?;
     Ok(Sum { number, count })
 }
 
@@ -69,6 +82,7 @@ impl Table {
     }
 
     /// Where the sum of an effect of a row stands.
+    #[inline(always)]
     fn place_of(&self, effect: u32, row: u32) -> Option<usize>
         ensures at { IfSome result (λ at. at ≡ sum_place self.now.rows effect row) }
         ensures row { IfSome result (λ _. row < self.now.rows) }
@@ -96,6 +110,7 @@ impl Table {
     }
 
     /// Joins the total of so many values to an effect of a row.
+    #[inline(always)]
     pub fn join(
         &mut self,
         effect: u32,

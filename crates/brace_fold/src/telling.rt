@@ -52,7 +52,7 @@ fn total_column(
     let mut words = Vec::with_capacity(alloc, rows.len())?;
     for row in rows {
         let word = total_at(comb, said, effect, *row)?;
-        words.push(word)?;
+        words.push_reserved(word);
     }
     Ok(List::from_vec(words))
 }

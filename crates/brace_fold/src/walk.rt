@@ -131,7 +131,7 @@ fn iterations(
         crowd.now heard.old heard.new) }
 {
     let mut room = Room::new(scene.alloc);
-    let lanes = crowd.lanes.as_slice();
+    let lanes = &crowd.lanes;
     let mut at = 0;
     while at < lanes.len() {
         let part = scene.gather(crowd, at, class, bounds, &mut room)?;
@@ -153,7 +153,7 @@ pub fn block(
     ensures { OnOk result ((scopes : List Scope) → Stands scene.now crowd scopes
         → Does scene.now (done_by scene.now actions.now) scopes heard.old heard.new) }
 {
-    if crowd.lanes.as_slice().is_empty() {
+    if crowd.lanes.is_empty() {
         return Ok(());
     }
     let mut crowd = crowd;

@@ -8,11 +8,15 @@ use Rattle.brace_model.specs.declared.program.Ty.{Ty}
 use Rattle.brace_model.specs.Value.{Scope, typed}
 use Rattle.brace_model.specs.Query.{bound}
 use Rattle.brace_code.specs.declared.lane.Lane.{Lane}
+use Rattle.brace_code.specs.declared.lanes.Rows.{Rows}
+use Rattle.brace_code.specs.declared.lanes.Rows.TheVariants.{Same, Each}
+use Rattle.brace_code.specs.RowLists.{lanes_of}
 use Rattle.brace_code.specs.Lanes.{draws_at}
 use Rattle.brace_code.specs.Columns.{side}
 use Rattle.brace_fold.specs.declared.crowd.Crowd.{Crowd}
 use Rattle.brace_fold.specs.declared.crowd.Depth.{Depth}
 use Rattle.brace_fold.specs.declared.crowd.Depth.TheVariants.{Outside, Once, Twice}
+use Rattle.brace_fold.specs.declared.gathering.Entered.{Entered}
 use Rattle.brace_fold.specs.declared.scene.Scene.{Scene}
 use Rattle.brace_fold.specs.Rows.{rows_in, world_in}
 use Rattle.brace_fold.specs.declared.columns.Columns.{Columns}
@@ -147,8 +151,31 @@ deeper _ = Twice
 
 -- a lane inside a loop, at the agent of a row
 abbrev pub entered : Depth → Lane → ℕ → Lane
-entered Outside lane row = record lane { outer = row }
+entered Outside lane row =
+    record { this = lane.this; outer = row; inner = 0; place = lane.place }
 entered _ lane row = record lane { inner = row }
+
+-- where the agents of the outer loop stand, of lanes inside a loop, and those of the inner one
+abbrev pub outer_rows : Depth → Entered → Rows
+outer_rows Outside lanes = Each lanes.near
+outer_rows _ lanes = Each lanes.outer
+
+abbrev pub inner_rows : Depth → Entered → Rows
+inner_rows Outside lanes = Same 0
+inner_rows _ lanes = Each lanes.near
+
+-- the lanes inside a loop
+abbrev pub lanes_inside : Depth → Entered → List Lane
+lanes_inside depth lanes =
+    lanes_of lanes.count (Each lanes.this) (outer_rows depth lanes)
+    (inner_rows depth lanes) (Each lanes.place)
+
+-- there are as many rows of each kind as agents of a loop, and no fewer of these
+pub record IsFull (depth : Depth) (lanes : Entered) : Type 0 where
+  pub near : lanes.count ≤ length lanes.near.items
+  pub this : length lanes.this.items ≡ lanes.count
+  pub place : length lanes.place.items ≡ lanes.count
+  pub outer : has_outer depth ≡ true → length lanes.outer.items ≡ lanes.count
 
 -- the scopes whose word is set, or those whose word is 0
 abbrev pub chosen : Bool → List Scope → List ℤ → List Scope

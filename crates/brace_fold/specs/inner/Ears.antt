@@ -1,5 +1,5 @@
 -- To whom lanes say values. Only the crate's own functions cite this.
-use Rattle.std.specs.Prelude.{◌≡◌, ℕ, ℤ, Bool, true, List, [], ◌∷◌, map, Some, slice_get}
+use Rattle.std.specs.Prelude.{◌≡◌, ◌<◌, ℕ, ℤ, Bool, true, List, [], ◌∷◌, length, map, Some, slice_get, slice_index_or}
 use Rattle.brace_model.specs.declared.program.Class.{Class}
 use Rattle.brace_model.specs.declared.program.Effect.{Effect}
 use Rattle.brace_model.specs.declared.program.Ty.{Ty}
@@ -9,10 +9,14 @@ use Rattle.brace_model.specs.declared.world.Agent.{Agent}
 use Rattle.brace_model.specs.Value.{Scope, agent_of, typed}
 use Rattle.brace_model.specs.Query.{Saying}
 use Rattle.brace_code.specs.declared.lane.Lane.{Lane}
+use Rattle.brace_code.specs.declared.view.View.{View}
+use Rattle.brace_code.specs.Lanes.{words_of}
 use Rattle.brace_fold.specs.declared.crowd.Depth.{Depth}
 use Rattle.brace_fold.specs.declared.saying.Ear.{Ear}
 use Rattle.brace_fold.specs.declared.scene.Scene.{Scene}
-use Rattle.brace_fold.specs.inner.Crowds.{has_outer, has_inner}
+use Rattle.brace_fold.specs.declared.table.Table.{Table}
+use Rattle.brace_fold.specs.Hears.{Hears}
+use Rattle.brace_fold.specs.inner.Crowds.{has_outer, has_inner, rows}
 
 -- the row of the agent that a name stands for in a lane
 abbrev pub row_of : Who → Lane → ℕ
@@ -34,6 +38,14 @@ pub record IsEar (scene : Scene) (ear : Ear) : Type 0 where
   pub there : slice_get class.effects ear.effect ≡ Some effect
   pub comb : ear.comb ≡ effect.comb
 
+-- the agents that a name stands for in scopes stand in these rows, one each
+pub record AreTold (scene : Scene) (who : Who) (hearers : List ℕ) (scopes : List Scope)
+    : Type 0 where
+  pub long : length hearers ≡ length scopes
+  pub each : (k : ℕ) (s : Scope) → k < length scopes
+      → slice_get (rows scene) (slice_index_or hearers k 0)
+      ≡ Some (agent_of (slice_index_or scopes k s) who)
+
 -- what a scope says with a word
 abbrev pub told : Who → ℕ → Ty → Scope → ℤ → Saying
 told who effect type s word =
@@ -50,3 +62,11 @@ told_by who effect type (s ∷ scopes) (w ∷ words) =
 abbrev pub told_at : Agent → ℕ → Ty → List ℤ → List Saying
 told_at a effect type words =
     map (λ word. record { target = a.id; field = effect; value = typed type word }) words
+
+-- what scopes say with the words of a view to an effect of the agents of rows, a table hears
+pub record AreHeard (scene : Scene) (effect : ℕ) (type : Ty) (hearers : List ℕ) (words : View)
+    (before after : Table) : Type 0 where
+  pub each : (who : Who) (scopes : List Scope) → AreTold scene who hearers scopes
+      → length (words_of (length scopes) words) ≡ length scopes
+      → Hears scene.program.now (rows scene)
+      (told_by who effect type scopes (words_of (length scopes) words)) before after

@@ -122,6 +122,11 @@ found_around eye cuts spots runs = found_in eye cuts (spots_along runs.west spot
     ++ (found_in eye cuts (spots_along runs.middle spots)
     ++ found_in eye cuts (spots_along runs.east spots))
 
+-- rows stand behind so many of a list, up to a count, which keeps those before them
+pub record Appended (from count : ℕ) (old new more : List ℕ) : Type 0 where
+  pub within : count ≤ length new
+  pub rows : take count new ≡ take from old ++ more
+
 -- a bound with its limit in a scope
 abbrev pub cut_in : Scope → Bound → Cut
 cut_in scope bound =

@@ -1,10 +1,10 @@
-use Rattle.std.proofs.Common.{◌≡◌, All, map, take}
+use Rattle.std.proofs.Common.{◌≡◌, All, take}
 use Rattle.brace_fold.specs.inner.Asks.{rows_of}
-use Rattle.brace_fold.specs.inner.Crowds.{IsOfClass, asking_at, rows}
+use Rattle.brace_fold.specs.inner.Crowds.{IsOfClass, rows}
 use Rattle.brace_fold.proofs.crowd.asking_lanes.Given as goal
 
 abbrev pub invariant-loop-one : goal.invariant-loop-one
 invariant-loop-one l = record {
-  lanes : l.lanes.items ≡ map asking_at (rows_of (take l.one-index l.asking));
+  these : l.rows.items ≡ rows_of (take l.one-index l.asking);
   of_class : All (IsOfClass (rows l.scene) l.class) (rows_of (take l.one-index l.asking));
 }

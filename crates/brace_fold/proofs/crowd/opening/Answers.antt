@@ -5,5 +5,7 @@ use Rattle.brace_fold.proofs.crowd.opening.Goals as goal
 
 pub returns-clause-stands : goal.returns-clause-stands
 returns-clause-stands c = λ d.
-    opening-stands c.args.scene.now (record { depth = Outside; lanes = c.in_ok-lanes-2.lanes; locals = c.in_ok-locals.locals }) c.args.class c.args.constants _ _ d
-    refl c.in_ok-lanes-2.ensures c.in_ok-lanes.ensures.lanes c.in_ok-locals.ensures c.in_ok-lanes.ensures.of_class
+    opening-stands c.args.scene.now
+    (record { depth = Outside; lanes = c.in_ok-lanes.lanes; locals = c.in_ok-locals.locals })
+    c.args.class c.args.constants _ d
+    refl c.in_ok-lanes.ensures.lanes c.in_ok-locals.ensures c.in_ok-lanes.ensures.of_class

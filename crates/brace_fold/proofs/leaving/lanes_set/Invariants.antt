@@ -1,6 +1,8 @@
-use Rattle.std.proofs.Common.{◌≡◌, filter, take}
+use Rattle.std.proofs.Common.{◌≡◌, filter, map, slice_index_or, take}
+use Rattle.brace_code.specs.declared.lane.Lane.{Lane}
 use Rattle.brace_fold.specs.inner.Rulings.{is_set}
 use Rattle.brace_fold.proofs.leaving.lanes_set.Given as goal
 
-abbrev pub invariant-loop-lane : goal.invariant-loop-lane
-invariant-loop-lane l = l.set.items ≡ filter (λ x. is_set l.condition x.this) (take l.lane-index l.lanes)
+abbrev pub invariant-loop-number : goal.invariant-loop-number
+invariant-loop-number l = (d : Lane) → map (λ n. slice_index_or l.lanes n d) l.numbers.items
+    ≡ filter (λ x. is_set l.condition x.this) (take l.number l.lanes)

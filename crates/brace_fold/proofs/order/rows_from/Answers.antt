@@ -10,11 +10,14 @@ loop-k-preserved c =
     let at : c.in-Some.at ≡ first + k = search rules in
     let same : c.in-Ok.row ≡ c.in-Some.at = search rules in
     let more : suc k ≡ k + 1 = omega arith in
-    c.in_ok-push.ensures.items
-    ∙ ap₂ (λ (l : List ℕ) n. l ++ n ∷ []) c.loop-k.invariant (same ∙ at)
-    ∙ sym (row_more first k) ∙ ap (range_with_len first) more
+    record {
+      so_far = c.push_reserved.ensures.items
+          ∙ ap₂ (λ (l : List ℕ) n. l ++ n ∷ []) c.loop-k.invariant.so_far (same ∙ at)
+          ∙ sym (row_more first k) ∙ ap (range_with_len first) more;
+      room = search rules;
+    }
 
 pub returns : goal.returns
 returns c =
     let end : c.loop-k.k ≡ c.args.count = search rules in
-    c.loop-k.invariant ∙ ap (range_with_len c.args.first) end
+    c.loop-k.invariant.so_far ∙ ap (range_with_len c.args.first) end

@@ -1,9 +1,8 @@
-use Rattle.std.proofs.Common.{◌∙◌, ap, subst, filter, List}
+use Rattle.std.proofs.Common.{subst, List}
 use Rattle.std.specs.List.{AllZip}
 use Rattle.brace_code.specs.declared.code.Code.{Code}
-use Rattle.brace_code.specs.declared.lane.Lane.{Lane}
 use Rattle.brace_fold.specs.declared.outcome.Column.{Column}
-use Rattle.brace_fold.specs.inner.Rulings.{AreBorn, IsRun, is_set}
+use Rattle.brace_fold.specs.inner.Rulings.{AreBorn, IsRun}
 use Rattle.brace_fold.proofs.LeavingLemmas.{leaves-of}
 use Rattle.brace_fold.proofs.renewing.outcome_of.Goals as goal
 
@@ -14,20 +13,21 @@ returns c = λ scope shows.
     let agents = c.args.agents.now in
     let frame = c.args.frame.now in
     let out = c.in_ok-out.out in
-    let lanes = c.in_ok-lanes.lanes in
+    let lanes = c.lanes_of-lanes.result in
     let parents = c.in_ok-parents.parents in
     let gifts : List Column = c.in_ok-gifts.gifts.items in
     let born = c.in_ok-more.more.items in (
       lanes,
       (
-        c.in_ok-lanes.ensures,
+        c.lanes_of-lanes.ensures,
         λ d.
-            leaves-of class rules agents d frame lanes parents scope shows c.in_ok-lanes.ensures out c.in_ok-out.ensures
-            (c.in_ok-parents.ensures ∙ ap (filter (λ (l : Lane). is_set out.spawn l.this)) c.as_slice.ensures)
+            leaves-of class rules agents d frame lanes parents scope shows c.lanes_of-lanes.ensures
+            out c.in_ok-out.ensures
+            c.in_ok-parents.ensures
             gifts (subst (λ (l : List Code). AllZip (IsRun frame parents) l gifts) c.as_slice-codes.ensures c.in_ok-gifts.ensures)
             born c.args.born.now.items _
-            (subst (λ (l : List Lane). AreBorn class gifts agents l born) c.as_slice-bearing.ensures
-            (subst (λ (g : List Column). AreBorn class g agents c.as_slice-bearing.result.now born) c.deref.ensures.value c.in_ok-more.ensures))
+            (subst (λ (g : List Column). AreBorn class g agents parents born) c.deref.ensures.value
+            c.in_ok-more.ensures)
             c.in_ok-append.ensures.items,
       ),
     )

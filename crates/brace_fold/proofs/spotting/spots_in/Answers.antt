@@ -14,6 +14,7 @@ loop-i-preserved c =
     let row : c.in-Ok.row ≡ i = search rules in
     record {
       long = search rules;
+      room = search rules;
       known = λ agents are.
           let many = ap length are.ids_are ∙ length-map agents (λ (a : Agent). a.id) in
           let low : i < length agents = omega (arith, c.loop-i-test.true, many) in
@@ -28,7 +29,7 @@ loop-i-preserved c =
           let low : i < length agents = omega (arith, c.loop-i-test.true, many) in
           let at : (a : Agent) → slice_get agents c.in-Ok.row ≡ Some (get_or agents i a) =
           λ a. ap (slice_get agents) row ∙ slice_get-get_or agents i a low in
-          rw c.in_ok-push.ensures.items
+          rw c.push_reserved.ensures.items
           (more-spots c.args.program.now side agents c.loop-i.spots.items i
           c.in_ok-spot_in.field-0 c.loop-i.invariant.long
           (c.loop-i.invariant.each agents are)

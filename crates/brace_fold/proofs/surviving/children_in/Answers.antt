@@ -1,5 +1,5 @@
-use Rattle.std.proofs.Common.{◌≡◌, ◌∙◌, refl, sym, ap, arith, length, rules, Some, slice_get}
-use Rattle.std.proofs.lemmas.Option.{get_or_from_slice_get, slice_get_read}
+use Rattle.std.proofs.Common.{◌≡◌, ◌∙◌, sym, ap, arith, length, rules}
+use Rattle.std.proofs.lemmas.Option.{get_or_from_slice_get}
 use Rattle.brace_fold.specs.Rows.{rows_in}
 use Rattle.brace_fold.specs.inner.Rulings.{agent_at, child_of}
 use Rattle.brace_fold.proofs.Survivings.{born-more, row-at}
@@ -12,9 +12,7 @@ loop-k-preserved c =
     let columns = c.args.columns.now in
     let class = c.args.class.now in
     let gifts = c.args.gifts.now in
-    let lane = c.in-Some.lane.now in
-    let there : slice_get lanes k ≡ Some lane =
-    slice_get_read lanes _ k lane refl c.in-Some.ensures.lookup.3.0 c.in-Some.ensures.lookup.1 in
+    let lane = c.in_ok-lane.lane in
     record {
       long = search rules;
       each = λ program has.
@@ -25,7 +23,8 @@ loop-k-preserved c =
           (c.loop-k.invariant.each program has) (λ d l.
           c.in_ok-child.ensures ∙ ap (child_of class gifts k)
           (parent ∙ sym (row-at program columns lane.place d c.in_ok-parent.ensures.within)
-          ∙ ap (agent_at rows d) (sym (get_or_from_slice_get lanes k lane l there)))));
+          ∙ ap (agent_at rows d)
+          (sym (get_or_from_slice_get lanes k lane l c.in_ok-lane.ensures)))));
     }
 
 pub returns : goal.returns

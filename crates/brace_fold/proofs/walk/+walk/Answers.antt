@@ -1,4 +1,4 @@
-use Rattle.std.proofs.Common.{◌≡◌, ◌∙◌, ◌≤◌, sym, ap, subst, rules, ℕ, ℤ, List, map, flat_map, take, length, true, false, arith}
+use Rattle.std.proofs.Common.{◌≡◌, ◌≤◌, sym, subst, rules, ℕ, ℤ, List, map, flat_map, take, length, true, false, arith}
 use Rattle.std.proofs.lemmas.List.{drop_all, take_all}
 use Rattle.std.proofs.lemmas.List.Sorted.{IsPermutation-sym}
 use Rattle.brace_plan.specs.declared.action.Action.{Action}
@@ -55,7 +55,7 @@ iterations-returns t c = λ scopes offset stands.
     let scene = c.args.scene.now in
     let moved = IsPermutation-sym (world scene) (rows scene) c.requires.moved in
     let all : take c.loop-at.at scopes ≡ scopes = take_all c.loop-at.at scopes
-    (subst (λ (n : ℕ). n ≤ c.loop-at.at) (ap length c.as_slice-lanes.ensures ∙ stands.long) c.loop-at-test.false) in
+    (subst (λ (n : ℕ). n ≤ c.loop-at.at) stands.long (search rules)) in
     record {
       does = loop-does scene c.args.class c.args.bounds.now c.args.body.now offset moved scopes c.args.heard.now c.loop-at.heard
           (subst (λ l. Does scene (done_by scene c.args.body.now) (flat_map (into scene c.args.class c.args.bounds.now) l) c.args.heard.now c.loop-at.heard) all

@@ -2,7 +2,7 @@ use Rattle.std.proofs.Common.{rules, ◌≡◌, ◌∙◌, List, Some, refl, sym
 use Rattle.std.proofs.lemmas.Int.{to_z-of_z}
 use Rattle.std.proofs.lemmas.Option.{slice_get_read}
 use Rattle.brace_model.specs.declared.program.Class.{Class}
-use Rattle.brace_fold.proofs.Readings.{class_there, range_is}
+use Rattle.brace_fold.proofs.Readings.{class_there}
 use Rattle.brace_fold.proofs.scene.Scene.eye.Goals as goal
 
 pub returns : goal.returns
@@ -17,7 +17,6 @@ returns c a this =
     let has : slice_get c.as_slice.result.now number ≡ Some own =
     slice_get_read c.as_slice.result.now _ number own refl c.in-Some-get.ensures.lookup.3.0
     c.in-Some-get.ensures.lookup.1 in
-    let visible : to_z w64 (of_z w64 own.visible) ≡ own.visible = search (rules, to_z-of_z) in
     let x : to_z w64 (of_z w64 c.in_ok-state.field-0) ≡ c.in_ok-state.field-0 =
     search (rules, to_z-of_z) in
     let y : to_z w64 (of_z w64 c.in_ok-state-2.field-0) ≡ c.in_ok-state-2.field-0 =
@@ -26,7 +25,7 @@ returns c a this =
       own = own;
       has = ap (slice_get scene.program.now.classes) (sym class)
           ∙ ap (λ (l : List Class). slice_get l number) (sym c.as_slice.ensures) ∙ has;
-      range = range_is _ _ c.in-Ok.ensures.0 c.in-Ok.ensures.1 ∙ visible;
+      range = c.in_ok-range_of.ensures;
       x = x ∙ c.in_ok-state.ensures a this;
       y = y ∙ c.in_ok-state-2.ensures a this;
       sought = refl;

@@ -1,28 +1,55 @@
-use Rattle.std.proofs.Common.{◌∙◌, List, ap, map, slice_get, subst}
-use Rattle.brace_fold.specs.declared.seeing.Cut.{Cut}
-use Rattle.brace_fold.specs.inner.Crowds.{rows, world}
-use Rattle.brace_fold.specs.inner.Sights.{IsAround, found_around}
-use Rattle.brace_fold.proofs.Taking.{apart_moved, eye_cell, eye_stands, near_is}
+use Rattle.std.proofs.Common.{◌∙◌, [], Some, ap, map, slice_get, sym}
+use Rattle.brace_plan.specs.Acts.{near_by}
+use Rattle.brace_fold.specs.inner.Crowds.{rows}
+use Rattle.brace_fold.specs.inner.Glances.{eye_at}
+use Rattle.brace_fold.specs.inner.Sights.{found_around}
+use Rattle.brace_fold.proofs.Readings.{if_ok}
+use Rattle.brace_fold.proofs.Taking.{takes_near}
 use Rattle.brace_fold.proofs.scene.Scene.find.Goals as goal
 
-pub returns-clause-near : goal.returns-clause-near
-returns-clause-near c scope stands =
+pub look_around-requires-clause-rows : goal.look_around-requires-clause-rows
+look_around-requires-clause-rows c =
+    (c.requires.sought.glance c.in-Some.glance c.in-Some.is).has
+
+pub returns-in-Some-clause-finds : goal.returns-in-Some-clause-finds
+returns-in-Some-clause-finds c =
     let scene = c.args.self.now in
-    let place = c.args.lane.now.this in
-    let program = scene.program.now in
-    let class = c.args.class in
-    let bounds = c.args.bounds.now in
-    let eye = c.in_ok-eye.eye in
+    let lane = c.args.lane.now in
+    let sought = c.args.sought.now in
+    let spots = scene.cells.now.spots.items in
     let runs = c.lead.new.runs in
-    let this = stands.stands.this in
-    let looks = c.in_ok-eye.ensures scope.this this in
-    let are = c.requires.scene.cells in
-    let apart =
-    apart_moved (world scene) (rows scene) c.requires.scene.rises c.requires.scene.moved in
-    let stand = eye_stands program scope class place bounds eye looks (rows scene) scene.cells.now are apart this in
-    let cell = eye_cell program scope class place bounds eye looks (rows scene) scene.cells.now are apart this in
-    let cuts = c.deref.ensures.value ∙ c.in_ok-cut.ensures scope stands in
-    let found = c.in_ok-look_around.ensures ∙ ap (λ (l : List Cut). found_around eye l scene.cells.now.spots.items runs) cuts in
-    ap (map (slice_get (rows scene))) found
-    ∙ near_is program scope class place bounds eye looks (rows scene) scene.cells.now are apart this runs
-    (subst (λ n. IsAround scene.cells.now n runs) cell (c.in_ok-lead.ensures.around _ stand))
+    let eye = eye_at c.in-Some.glance lane.this in
+    let shows = c.requires.sought.glance c.in-Some.glance c.in-Some.is in
+    let uncut = c.requires.sought.uncut c.in-Some.glance c.in-Some.is in
+    if_ok c.look_around.result _ _
+    (λ count appended. record {
+      found = found_around eye [] spots runs;
+      appended = appended spots shows.shown;
+      near = λ scope stands.
+          takes_near scene c.args.crowd.now lane scope sought.class [] eye runs c.requires.scene
+          stands (shows.eye lane.this scope.this stands.stands.this) c.in_ok-lead.ensures.around
+          ∙ ap (λ l. map (λ b. Some b)
+          (near_by scene.program.now (rows scene) scope sought.class l)) (sym uncut);
+    })
+    c.look_around.ensures
+
+pub returns-clause-finds : goal.returns-clause-finds
+returns-clause-finds c =
+    let scene = c.args.self.now in
+    let lane = c.args.lane.now in
+    let sought = c.args.sought.now in
+    let spots = scene.cells.now.spots.items in
+    let runs = c.lead.new.runs in
+    let eye = c.in_ok-eye.eye in
+    if_ok c.look_around-2.result _ _
+    (λ count appended. record {
+      found = found_around eye c.deref.result.now spots runs;
+      appended = appended;
+      near = λ scope stands.
+          ap (λ l. map (slice_get (rows scene)) (found_around eye l spots runs))
+          (c.deref.ensures.value ∙ c.in_ok-cut.ensures scope stands)
+          ∙ takes_near scene c.args.crowd.now lane scope sought.class sought.bounds.now eye runs
+          c.requires.scene stands (c.in_ok-eye.ensures scope.this stands.stands.this)
+          c.in_ok-lead.ensures.around;
+    })
+    c.look_around-2.ensures

@@ -1,6 +1,6 @@
 use Rattle.std.proofs.Common.{◌≤◌, ◌-◌, List, flat_map, length}
 use Rattle.brace_model.specs.Value.{Scope}
-use Rattle.brace_fold.specs.inner.Crowds.{AreOf, Stands, deeper}
+use Rattle.brace_fold.specs.inner.Crowds.{AreOf, IsFull, Stands, deeper, lanes_inside}
 use Rattle.brace_fold.specs.inner.Deeds.{between, into}
 use Rattle.brace_fold.specs.inner.Sights.{AreLed}
 use Rattle.brace_fold.proofs.scene.Scene.gather.Given as goal
@@ -10,7 +10,9 @@ invariant-loop-next l = record {
   from : l.from ≤ l.next;
   within : l.next ≤ length l.crowd.lanes;
   led : AreLed l.self.cells.now l.room.runs;
-  of : (scopes : List Scope) → Stands l.self l.crowd scopes → AreOf l.self (deeper l.crowd.depth) scopes l.lanes.items
+  full : IsFull l.crowd.depth l.lanes;
+  of : (scopes : List Scope) → Stands l.self l.crowd scopes
+      → AreOf l.self (deeper l.crowd.depth) scopes (lanes_inside l.crowd.depth l.lanes)
       (flat_map (into l.self l.class l.bounds) (between l.from l.next scopes));
 }
 

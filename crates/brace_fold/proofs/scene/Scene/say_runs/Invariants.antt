@@ -1,21 +1,22 @@
 use Rattle.std.proofs.Common.{◌≡◌, ◌≤◌, ◌-◌, List, take, length}
+use Rattle.brace_model.specs.declared.program.Who.{Who}
 use Rattle.brace_model.specs.Value.{Scope}
 use Rattle.brace_code.specs.Lanes.{words_of}
-use Rattle.brace_fold.specs.inner.Crowds.{Stands, rows}
-use Rattle.brace_fold.specs.inner.Ears.{told_by}
+use Rattle.brace_fold.specs.inner.Crowds.{rows}
+use Rattle.brace_fold.specs.inner.Ears.{AreTold, told_by}
 use Rattle.brace_fold.specs.Hears.{Hears}
-use Rattle.brace_fold.proofs.scene.Scene.say.Given as goal
+use Rattle.brace_fold.proofs.scene.Scene.say_runs.Given as goal
 
 abbrev pub invariant-loop-at : goal.invariant-loop-at
 invariant-loop-at l = record {
-  within : l.at ≤ length l.lanes;
-  said : (scopes : List Scope) → Stands l.self l.crowd scopes
+  within : l.at ≤ length l.hearers;
+  said : (who : Who) (scopes : List Scope) → AreTold l.self who l.hearers scopes
       → length (words_of (length scopes) l.words) ≡ length scopes
       → Hears l.self.program.now (rows l.self)
-      (told_by l.who l.effect l.fn.ty (take l.at scopes)
+      (told_by who l.ear.effect l.ear.ty (take l.at scopes)
       (take l.at (words_of (length scopes) l.words)))
       l.fn.heard l.heard;
 }
 
 abbrev pub decreases-loop-at : goal.decreases-loop-at
-decreases-loop-at l = length l.lanes - l.at
+decreases-loop-at l = length l.hearers - l.at
