@@ -123,7 +123,7 @@ front_of_nothing [] f = refl
 front_of_nothing {A} (x ∷ xs) (rest, e) = absurd (let nothing : List A = [] in let no : nothing ≡ x ∷ (xs ++ rest) = e in cc)
 
 module _ (s : Schedule) (events : List ℕ) (lawful : IsLawful s) (run : IsRun s events) (done : AllDone s (end_of s events)) where
-  turns_past : (p : ℕ) → p < s.actors → length (turns s p) ≤ (end_of s events).place p
+  pub turns_past : (p : ℕ) → p < s.actors → length (turns s p) ≤ (end_of s events).place p
   turns_past p l = done_past p (turns s p) ((end_of s events).place p) (own_turns 0 s.actors s.steps p) (done p l)
 
   pub puts_all : (p q : ℕ) → put_on s events p q ≡ lane s p q
@@ -206,7 +206,7 @@ sum_one_more f e a (suc n) h l =
     ]
 
 -- each event is one turn
-places_sum : (s : Schedule) (x : State) (events : List ℕ) → are_enabled s x events ≡ true →
+pub places_sum : (s : Schedule) (x : State) (events : List ℕ) → are_enabled s x events ≡ true →
     sum_by (after_all s x events).place (range_with_len 0 s.actors) ≡ sum_by x.place (range_with_len 0 s.actors) + length events
 places_sum s x [] run = omega arith
 places_sum s x (e ∷ events) run =

@@ -2,12 +2,13 @@
 use Rattle.std.proofs.Common.{◌≡◌, ℕ, zero, suc, ◌+◌, ◌<◌, ◌≤◌, true, false, cond, ◌==◌, ◌&&◌, nat_lt, IsTrue, List, [], ◌∷◌, ◌++◌, length, take, get_or, refl, sym, ap, ◌∙◌, ◌⊎◌, subst, arith, inl, inr}
 use Rattle.std.specs.List.{filter}
 use Rattle.std.proofs.lemmas.Bool.{eq-eqb, and_parts, and_from, ltb-true, cond-true, cases_lt}
-use Rattle.std.proofs.lemmas.List.{append_assoc, length-append, get_or_append_left, get_or_past}
+use Rattle.std.proofs.lemmas.List.{append_assoc, length-append, get_or_append_left, get_or_past, take-take}
 use Rattle.std.proofs.lemmas.List.Elements.{All-take}
 use Rattle.brace_core.specs.declared.name.Turn.{Turn}
 use Rattle.brace_core.specs.declared.name.Turn.TheVariants.{Work, Done}
 use Rattle.brace_core.specs.Schedule.{Pair, Schedule, IsLawful, IsLawfulStep, name, meets, met, puts, takes, names_from, lane, turns, turns_from, turn_at, front}
 use Rattle.brace_core.specs.Events.{State, opening, next, is_ready, is_enabled, after, are_enabled, after_all, turns_made, flight_after, is_on, names_put, names_taken, AllDone, OnRuns, IsRun, end_of, put_on, taken_from, AreFirst, IsWithin}
+use Rattle.brace_core.specs.Exchanges.{IsCounted}
 use Rattle.brace_core.proofs.Lists.{IsFront, front_takes}
 use Rattle.brace_core.proofs.CoreLaw.{all_put, all_taken, progress}
 
@@ -56,6 +57,25 @@ due_same s n p i some = elim (cases_lt i (length (turns (front s n) p))) [
   | inr high ↦ absurd (some (get_or_past (turns (front s n) p) i Done high))
 ]
 
+-- who made no turn behind a front is counted there as in the whole
+module _ (s : Schedule) (n a past : ℕ) (serves : ℕ → Type 0) (puts takes : ℕ → ℕ → ℕ) (within : past ≤ length (turns (front s n) a)) where
+  turns_alike : take past (turns (front s n) a) ≡ take past (turns s a)
+  turns_alike = ap (take past) (turns_first s n a) ∙ take-take past (length (turns (front s n) a)) (turns s a) within
+
+  pub counted_whole : IsCounted (front s n) a past serves puts takes → IsCounted s a past serves puts takes
+  counted_whole is = record {
+    served = is.served;
+    put = λ q. is.put q ∙ ap (λ ts. length (filter (is_on a q) (names_put ts))) turns_alike;
+    taken = λ q. is.taken q ∙ ap (λ ts. length (filter (is_on q a) (names_taken ts))) turns_alike;
+  }
+
+  pub counted_front : IsCounted s a past serves puts takes → IsCounted (front s n) a past serves puts takes
+  counted_front is = record {
+    served = is.served;
+    put = λ q. is.put q ∙ ap (λ ts. length (filter (is_on a q) (names_put ts))) (sym turns_alike);
+    taken = λ q. is.taken q ∙ ap (λ ts. length (filter (is_on q a) (names_taken ts))) (sym turns_alike);
+  }
+
 -- a longer front has no fewer turns
 longer_in : (k actors : ℕ) (steps : List (List Pair)) (n e p : ℕ) → n ≤ e → length (turns_from k actors (take n steps) p) ≤ length (turns_from k actors (take e steps) p)
 longer_in k actors [] zero zero p up = omega arith
@@ -98,7 +118,7 @@ module _ (s : Schedule) (n : ℕ) where
   abbrev behind : State → ℕ → Turn → State
   behind x p t = record { place = λ a. cond (a == p) (x.place a + 1) (x.place a); flight = flight_after x.flight t }
 
-  same_after : (x : State) (p : ℕ) → turn_at f p (x.place p) ≡ turn_at s p (x.place p) → after f x p ≡ after s x p
+  pub same_after : (x : State) (p : ℕ) → turn_at f p (x.place p) ≡ turn_at s p (x.place p) → after f x p ≡ after s x p
   same_after x p same = ap (behind x p) same
 
   run_in : (x : State) (events : List ℕ) → IsTrue (are_enabled s x events) → ((p : ℕ) → p < s.actors → (after_all s x events).place p ≤ length (turns f p))

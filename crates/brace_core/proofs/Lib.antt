@@ -10,8 +10,9 @@ pub mod CoreLaw
 pub mod Fronts
 pub mod LaneLemmas
 pub mod Calls
+pub mod Lawful
+pub mod Counts
+pub mod Starts
 pub mod ActorLemmas
 pub mod OrderLemmas
-pub mod Lawful
 pub mod SmallLawful
-pub mod Counts

@@ -1,29 +1,32 @@
 -- The loop over drawn events: where actors and lanes stand after a run, one event more, and the end.
-use Rattle.std.proofs.Common.{◌≡◌, ℕ, zero, suc, ◌+◌, ◌-◌, ◌*◌, ◌/◌, ◌%◌, ◌^◌, ◌<◌, Bool, true, false, cond, ◌==◌, ◌&&◌, nat_lt, List, [], ◌∷◌, ◌++◌, map, length, get_or, set, slice_index, refl, sym, ap, ◌∙◌, subst, arith, inl, inr}
+use Rattle.std.proofs.Common.{◌≡◌, ℕ, ◌+◌, ◌-◌, ◌*◌, ◌/◌, ◌%◌, ◌^◌, ◌<◌, ◌≤◌, Bool, true, false, cond, ◌==◌, ◌&&◌, nat_lt, List, [], ◌∷◌, ◌++◌, map, length, get_or, set, slice_index, refl, sym, ap, ◌∙◌, subst, arith, inl, inr}
 use Rattle.std.specs.List.{All, range_with_len, sum_by}
 use Rattle.std.proofs.lemmas.Bool.{eq-eqb, ne_eqb, and_parts, lt-ltb, ltb-true, cases_lt, cases_eq, cond-true, cond-false}
-use Rattle.std.proofs.lemmas.List.{get_or-set_same, get_or-set_other, length-map, map-set, get_or_default}
+use Rattle.std.proofs.lemmas.List.{get_or-set_same, get_or-set_other, length-map, map-set}
 use Rattle.std.proofs.lemmas.Nat.{mod-mul-add}
 use Rattle.brace_num.specs.Generator.{following}
 use Rattle.brace_core.specs.declared.name.Turn.{Turn}
 use Rattle.brace_core.specs.declared.name.Turn.TheVariants.{Put, Take, Work, Done}
 use Rattle.brace_core.specs.declared.turn.Went.{Went}
 use Rattle.brace_core.specs.declared.turn.Went.TheVariants.{On, Nowhere, Over}
-use Rattle.brace_core.specs.Schedule.{Schedule, IsLawful, lane, turns, turn_at}
+use Rattle.brace_core.specs.Schedule.{Schedule, IsLawful, front, lane, turns, turn_at}
 use Rattle.brace_core.specs.Events.{State, opening, next, is_ready, is_enabled, AllDone, IsRun, end_of, put_on, taken_from}
 use Rattle.brace_core.specs.Exchanges.{IsCounted, WentBy, made_by, put_by, taken_by, turns_left}
 use Rattle.brace_core.specs.Lanes.{OnLanes, puts_of, takes_of}
-use Rattle.brace_core.specs.Order.{IsChosen, IsDrawn, none, one_more, StandsAfter, HasRun}
+use Rattle.brace_core.specs.Order.{IsChosen, IsDrawn, none, one_more, StandsAfter, StandsAt, HasRun}
 use Rattle.brace_core.specs.inner.Turns.{can_make, IsFirst}
 use Rattle.brace_core.proofs.ActorLemmas.{count, setting_at, number_at, past_at, turn_is, all_set, map_kept, left_smaller}
 use Rattle.brace_core.proofs.Turns.{put_first, taken_first}
 use Rattle.brace_core.proofs.Counted.{moved}
-use Rattle.brace_core.proofs.CoreLaw.{put_is, taken_is, progress, all_put, all_taken}
+use Rattle.brace_core.proofs.Owners.{own_turns, done_past}
+use Rattle.brace_core.proofs.CoreLaw.{kept, put_is, taken_is, progress, all_put, all_taken}
+use Rattle.brace_core.proofs.Fronts.{front_lawful, counted_whole}
+use Rattle.brace_core.proofs.Starts.{start_run}
 use Rattle.brace_core.proofs.Calls.{take_is_found, end_more, run_more, put_on_more, taken_from_more}
 
-pub drawn_run : (s : Schedule) (order : ℕ) (events : List ℕ) (g : ℕ) → IsDrawn s order events g → IsRun s events
-drawn_run s order [] g none = refl
-drawn_run s order _ _ (one_more events g p drawn chosen) = run_more s opening events p (drawn_run s order events g drawn) chosen.enabled
+pub drawn_run : (s : Schedule) (order : ℕ) (before events : List ℕ) (g : ℕ) → IsRun s before → IsDrawn s order before events g → IsRun s events
+drawn_run s order before _ _ run none = run
+drawn_run s order before _ _ run (one_more events g p drawn chosen) = run_more s opening events p (drawn_run s order before events g run drawn) chosen.enabled
 
 -- from a drawn number onward each number is met
 pub met_from : (drawn n p : ℕ) → p < n → (i : ℕ) × (i < n) × ((drawn + i) % n ≡ p)
@@ -52,9 +55,10 @@ went_on past v t a b On can (on, some) = (on, refl)
 went_on past v t a b Nowhere can (same, (n, is, missed)) = absurd (let no : true ≡ false = sym can ∙ ap (can_make v) is ∙ missed in cc)
 went_on past v t a b Over can (same, done) = absurd (not_done v t can done)
 
-module _ {F S : Type 0} (s : Schedule) (lawful : IsLawful s) (order : ℕ) (pasts : List ℕ) (v : OnLanes F S) (has : HasRun s order pasts (puts_of v) (takes_of v)) where
+module _ {F S : Type 0} (s : Schedule) (lawful : IsLawful s) (order : ℕ) (first : List ℕ) (u : OnLanes F S) (pasts : List ℕ) (v : OnLanes F S)
+    (has : HasRun s order first (puts_of u) (takes_of u) pasts (puts_of v) (takes_of v)) where
   run : IsRun s has.events
-  run = drawn_run s order has.events has.last has.drawn
+  run = drawn_run s order has.before has.events has.last has.run has.drawn
 
   abbrev x : State
   x = end_of s has.events
@@ -86,28 +90,42 @@ module _ {F S : Type 0} (s : Schedule) (lawful : IsLawful s) (order : ℕ) (past
     taken = λ q. has.stands.taken q p ∙ ap length (taken_is s has.events lawful run q p) ∙ ap (λ n. length (taken_first q p (turns s p) n)) (sym (has.stands.places p low));
   }
 
+  pub within : (p : ℕ) → p < s.actors → slice_index pasts p ≤ length (turns s p)
+  within p low = let place = has.stands.places p low in let low_place = (kept s has.events lawful run).within p low in omega (arith, place, low_place)
+
   chosen : (drawn p : ℕ) → IsFirst (λ a. can_make v (turn a)) s.actors drawn p → IsChosen s x drawn p
-  chosen drawn p first =
-      let low : p < s.actors = let is : p ≡ (drawn + first.steps) % s.actors = first.is in let some : first.steps < s.actors = first.within in omega arith in
+  chosen drawn p is_first =
+      let low : p < s.actors = let is : p ≡ (drawn + is_first.steps) % s.actors = is_first.is in let some : is_first.steps < s.actors = is_first.within in omega arith in
       record {
-        steps = first.steps;
-        within = first.within;
-        actor = first.is;
-        enabled = enabled_is p low ∙ first.passes;
+        steps = is_first.steps;
+        within = is_first.within;
+        actor = is_first.is;
+        enabled = enabled_is p low ∙ is_first.passes;
         first = λ i l.
-            let below : (drawn + i) % s.actors < s.actors = let some : first.steps < s.actors = first.within in omega arith in
-            enabled_is ((drawn + i) % s.actors) below ∙ first.first i l;
+            let below : (drawn + i) % s.actors < s.actors = let some : is_first.steps < s.actors = is_first.within in omega arith in
+            enabled_is ((drawn + i) % s.actors) below ∙ is_first.first i l;
       }
 
   -- the state after the event that was chosen
   pub has_more : (p : ℕ) → IsFirst (λ a. can_make v (turn a)) s.actors (following has.last) p → (pasts' : List ℕ) (w : OnLanes F S) → length pasts ≡ s.actors →
       pasts' ≡ set pasts p (slice_index pasts p + 1) →
       ((a b : ℕ) → puts_of w a b ≡ puts_of v a b + put_by (turn p) a b) → ((a b : ℕ) → takes_of w a b ≡ takes_of v a b + taken_by (turn p) a b) →
-      (h : HasRun s order pasts' (puts_of w) (takes_of w)) × (h.last ≡ following has.last)
-  has_more p first pasts' w all now put taken = (record { events = has.events ++ p ∷ []; last = following has.last; drawn = one_more has.events has.last p has.drawn (chosen (following has.last) p first); stands = stands }, refl)
+      (h : HasRun s order first (puts_of u) (takes_of u) pasts' (puts_of w) (takes_of w)) × (h.last ≡ following has.last)
+  has_more p is_first pasts' w all now put taken = (
+    record {
+      before = has.before;
+      run = has.run;
+      stood = has.stood;
+      events = has.events ++ p ∷ [];
+      last = following has.last;
+      drawn = one_more has.events has.last p has.drawn (chosen (following has.last) p is_first);
+      stands = stands;
+    },
+    refl,
+  )
     where
       low : p < s.actors
-      low = let is : p ≡ (following has.last + first.steps) % s.actors = first.is in let some : first.steps < s.actors = first.within in omega arith
+      low = let is : p ≡ (following has.last + is_first.steps) % s.actors = is_first.is in let some : is_first.steps < s.actors = is_first.within in omega arith
 
       places : (q : ℕ) → q < s.actors → slice_index pasts' q ≡ (end_of s (has.events ++ p ∷ [])).place q
       places q q_low =
@@ -150,8 +168,10 @@ module _ {F S : Type 0} (s : Schedule) (lawful : IsLawful s) (order : ℕ) (past
           cc)
     ]
 
-    pub turns_done : (p : ℕ) → p < s.actors → turn p ≡ Done
-    turns_done p low = sym (turn_now p low) ∙ all_done p low
+    pub places_done : (p : ℕ) → p < s.actors → slice_index pasts p ≡ length (turns s p)
+    places_done p low =
+        let over : length (turns s p) ≤ slice_index pasts p = done_past p (turns s p) (slice_index pasts p) (own_turns 0 s.actors s.steps p) (sym (turn_now p low) ∙ all_done p low) in
+        omega (arith, over, within p low)
 
     pub puts_done : (p q : ℕ) → puts_of v p q ≡ length (lane s p q)
     puts_done p q = has.stands.put p q ∙ ap length (all_put s has.events lawful run all_done p q)
@@ -160,36 +180,37 @@ module _ {F S : Type 0} (s : Schedule) (lawful : IsLawful s) (order : ℕ) (past
     takes_done p q = has.stands.taken p q ∙ ap length (all_taken s has.events lawful run all_done p q)
 
 -- before the first event
-pub has_none : {F S : Type 0} (s : Schedule) (order : ℕ) (pasts : List ℕ) (v : OnLanes F S) → ((p : ℕ) → p < s.actors → slice_index pasts p ≡ 0) → ((p q : ℕ) → puts_of v p q ≡ 0) →
-    (h : HasRun s order pasts (puts_of v) (takes_of v)) × (h.last ≡ order % 2 ^ 32)
-has_none s order pasts v first nothing = (record { events = []; last = order % 2 ^ 32; drawn = none; stands = record { places = first; put = nothing; taken = λ p q. omega (arith, nothing p q) } }, refl)
+pub has_none : {F S : Type 0} (s : Schedule) (order : ℕ) (pasts : List ℕ) (v : OnLanes F S) (before : List ℕ) → IsRun s before → StandsAfter s before pasts (puts_of v) (takes_of v) →
+    (h : HasRun s order pasts (puts_of v) (takes_of v) pasts (puts_of v) (takes_of v)) × (h.last ≡ order % 2 ^ 32)
+has_none s order pasts v before run stood = (record { before = before; run = run; stood = stood; events = before; last = order % 2 ^ 32; drawn = none; stands = stood }, refl)
 
--- What the loop keeps.
-module _ {F S A O : Type 0} (setting : A → S) (number past : A → ℕ) (opening : A → O) (schedule : S → Schedule) (given : S) (order : ℕ) (first : List A) where
+-- What the loop keeps, in the first steps of the schedule, so many.
+module _ {F S A O : Type 0} (setting : A → S) (number past : A → ℕ) (opening : A → O) (plan : S → Schedule) (end : ℕ) (given : S) (order : ℕ) (first : List A) (u : OnLanes F S) where
+  abbrev schedule : S → Schedule
+  schedule s = front (plan s) end
+
   pub record IsRunning (actors : List A) (v : OnLanes F S) (g : ℕ) : Type 0 where
     pub lanes_setting : v.setting ≡ given
-    pub lanes_actors : v.actors ≡ (schedule given).actors
+    pub lanes_actors : v.actors ≡ (plan given).actors
     pub settings : All (λ a. setting a ≡ given) actors
-    pub numbers : map number actors ≡ range_with_len 0 (schedule given).actors
+    pub numbers : map number actors ≡ range_with_len 0 (plan given).actors
     pub same_settings : map setting actors ≡ map setting first
     pub same_numbers : map number actors ≡ map number first
     pub same_openings : map opening actors ≡ map opening first
-    pub run : HasRun (schedule given) order (map past actors) (puts_of v) (takes_of v)
+    pub run : HasRun (front (plan given) end) order (map past first) (puts_of u) (takes_of u) (map past actors) (puts_of v) (takes_of v)
     pub last : run.last ≡ g
 
-  pub running_start : (v : OnLanes F S) (g : ℕ) → v.setting ≡ given → v.actors ≡ (schedule given).actors → All (λ a. setting a ≡ given) first → map number first ≡ range_with_len 0 (schedule given).actors →
-      All (λ a. past a ≡ 0) first → ((p q : ℕ) → puts_of v p q ≡ 0) → g ≡ order % 2 ^ 32 → IsRunning first v g
-  running_start v g same for settings numbers turns nothing drawn =
-      let pasts : (p : ℕ) → p < (schedule given).actors → slice_index (map past first) p ≡ 0 = λ p low. past_zero first p turns in
-      let (run, last) = has_none (schedule given) order (map past first) v pasts nothing in
+  pub running_start : (g : ℕ) → IsLawful (plan given) → u.setting ≡ given → u.actors ≡ (plan given).actors → All (λ a. setting a ≡ given) first → map number first ≡ range_with_len 0 (plan given).actors →
+      ((m : ℕ) × (m ≤ end) × StandsAt (plan given) m (map past first) (puts_of u) (takes_of u)) → g ≡ order % 2 ^ 32 → IsRunning first u g
+  running_start g lawful same for settings numbers (m, up, at) drawn =
+      let (before, ran, stood, long) = start_run (plan given) lawful m end up (map past first) (puts_of u) (takes_of u) at in
+      let (run, last) = has_none (schedule given) order (map past first) u before ran stood in
       record { lanes_setting = same; lanes_actors = for; settings = settings; numbers = numbers; same_settings = refl; same_numbers = refl; same_openings = refl; run = run; last = last ∙ sym drawn }
-    where
-      past_zero : (xs : List A) (p : ℕ) → All (λ a. past a ≡ 0) xs → slice_index (map past xs) p ≡ 0
-      past_zero [] p all = refl
-      past_zero (x ∷ xs) zero all = all 0 x (omega arith)
-      past_zero (x ∷ xs) (suc p) all = past_zero xs p (λ i d l. all (suc i) d (omega arith))
 
-  module _ (lawful : IsLawful (schedule given)) (actors : List A) (v : OnLanes F S) (g : ℕ) (running : IsRunning actors v g) where
+  module _ (lawful : IsLawful (plan given)) (actors : List A) (v : OnLanes F S) (g : ℕ) (running : IsRunning actors v g) where
+    lawful_here : IsLawful (schedule given)
+    lawful_here = front_lawful (plan given) end lawful
+
     abbrev test : ℕ → Bool
     test a = can_make v (turn_at (schedule given) a (slice_index (map past actors) a))
 
@@ -212,12 +233,14 @@ module _ {F S A O : Type 0} (setting : A → S) (number past : A → ℕ) (openi
       pub setting_here : setting a ≡ v.setting
       setting_here = setting_at setting number past schedule actors given (schedule given).actors running.settings running.numbers p low a here ∙ sym running.lanes_setting
 
-      pub counted_here : IsCounted (schedule v.setting) (number a) (past a) (λ a. Unit {0}) (puts_of v) (takes_of v)
-      counted_here = moved (schedule given) (schedule v.setting) p (number a) (slice_index (map past actors) p) (past a) (λ a. Unit {0}) (puts_of v) (takes_of v)
-          (ap schedule running.lanes_setting)
+      pub counted_here : IsCounted (plan v.setting) (number a) (past a) (λ a. Unit {0}) (puts_of v) (takes_of v)
+      counted_here = moved (plan given) (plan v.setting) p (number a) (slice_index (map past actors) p) (past a) (λ a. Unit {0}) (puts_of v) (takes_of v)
+          (ap plan running.lanes_setting)
           (number_at setting number past schedule actors given (schedule given).actors running.settings running.numbers p low a here)
           (past_at setting number past schedule actors given (schedule given).actors running.settings running.numbers p low a here)
-          (counted (schedule given) lawful order (map past actors) v running.run p low)
+          (counted_whole (plan given) end p (slice_index (map past actors) p) (λ a. Unit {0}) (puts_of v) (takes_of v)
+          (within (schedule given) lawful_here order (map past first) u (map past actors) v running.run p low)
+          (counted (schedule given) lawful_here order (map past first) u (map past actors) v running.run p low))
 
       module _ (b : A) (w : OnLanes F S) (went : Went)
           (by : WentBy past (λ n. nat_lt (takes_of v n.from n.to) (puts_of v n.from n.to) ≡ false) (turn_at (schedule (setting a)) (number a) (past a)) a b went)
@@ -243,7 +266,7 @@ module _ {F S A O : Type 0} (setting : A → S) (number past : A → ℕ) (openi
             ap (made_by (turn_at (schedule (setting a)) (number a) (past a))) gone.1 ∙ turn_here in
             let now : map past (set actors p b) ≡ set (map past actors) p (slice_index (map past actors) p + 1) =
             map-set past actors p b ∙ ap (set (map past actors) p) (gone.0 ∙ ap (λ n. n + 1) (past_at setting number past schedule actors given (schedule given).actors running.settings running.numbers p low a here)) in
-            let (run, last) = has_more (schedule given) lawful order (map past actors) v running.run p chosen_first (map past (set actors p b)) w (length-map actors past ∙ all) now
+            let (run, last) = has_more (schedule given) lawful_here order (map past first) u (map past actors) v running.run p chosen_first (map past (set actors p b)) w (length-map actors past ∙ all) now
             (λ c d. put c d ∙ ap (λ t. puts_of v c d + put_by t c d) made) (λ c d. taken c d ∙ ap (λ t. takes_of v c d + taken_by t c d) made) in
             record {
               lanes_setting = lanes_setting ∙ running.lanes_setting;
@@ -262,14 +285,9 @@ module _ {F S A O : Type 0} (setting : A → S) (number past : A → ℕ) (openi
       none_of = subst (λ n. (i : ℕ) → i < n → test ((drawn + i) % n) ≡ false) running.lanes_actors
           (subst (λ (s : S). (i : ℕ) → i < v.actors → can_make v (turn_at (schedule s) ((drawn + i) % v.actors) (slice_index (map past actors) ((drawn + i) % v.actors))) ≡ false) running.lanes_setting none_can)
 
-      pub running_done : All (λ a. turn_at (schedule (setting a)) (number a) (past a) ≡ Done) actors
-      running_done i d l =
-          let i_low : i < (schedule given).actors = omega (arith, count setting number past schedule actors given (schedule given).actors running.settings running.numbers) in
-          turn_is setting number past schedule actors given (schedule given).actors running.settings running.numbers i i_low (get_or actors i d) (get_or_default actors i d (get_or actors i d) l)
-          ∙ turns_done (schedule given) lawful order (map past actors) v running.run drawn none_of i i_low
-
-      pub running_put : (p q : ℕ) → puts_of v p q ≡ length (lane (schedule given) p q)
-      running_put = puts_done (schedule given) lawful order (map past actors) v running.run drawn none_of
-
-      pub running_taken : (p q : ℕ) → takes_of v p q ≡ length (lane (schedule given) p q)
-      running_taken = takes_done (schedule given) lawful order (map past actors) v running.run drawn none_of
+      pub running_stands : StandsAt (plan given) end (map past actors) (puts_of v) (takes_of v)
+      running_stands = record {
+        places = places_done (schedule given) lawful_here order (map past first) u (map past actors) v running.run drawn none_of;
+        put = puts_done (schedule given) lawful_here order (map past first) u (map past actors) v running.run drawn none_of;
+        taken = takes_done (schedule given) lawful_here order (map past first) u (map past actors) v running.run drawn none_of;
+      }

@@ -6,7 +6,7 @@ use Rattle.brace_core.specs.declared.name.Turn.{Turn}
 use Rattle.brace_core.specs.declared.name.Turn.TheVariants.{Put, Take, Work, Done}
 use Rattle.brace_core.specs.declared.turn.Went.{Went}
 use Rattle.brace_core.specs.declared.turn.Went.TheVariants.{On, Nowhere, Over}
-use Rattle.brace_core.specs.Schedule.{Schedule, lane, turns, turn_at}
+use Rattle.brace_core.specs.Schedule.{Schedule, front, lane, turns, turn_at}
 use Rattle.brace_core.specs.Events.{is_on, names_put, names_taken}
 
 -- the name stands behind the first n of its lane
@@ -28,6 +28,10 @@ AreAllOf s numbers = numbers ≡ range_with_len 0 s.actors
 -- the turn of an actor of this number that has made so many
 abbrev pub due : {S : Type 0} → (S → Schedule) → S → ℕ → ℕ → Turn
 due schedule setting number past = turn_at (schedule setting) number past
+
+-- the same in the first steps of the schedule, so many
+abbrev pub due_to : {S : Type 0} → (S → Schedule) → S → ℕ → ℕ → ℕ → Turn
+due_to schedule setting end number past = turn_at (front (schedule setting) end) number past
 
 -- 1 at the name's lane, 0 at every other
 abbrev pub one_on : Name → ℕ → ℕ → ℕ

@@ -1,7 +1,7 @@
 ghost use Rattle.std.specs.Prelude.{◌≡◌, ◌+◌};
 ghost use Rattle.brace_core.specs.declared.name.Name.{Name};
 ghost use Rattle.brace_core.specs.declared.name.Turn.TheVariants.{Put, Take, Work};
-ghost use Rattle.brace_core.specs.Exchanges.{IsPut, IsTake, due};
+ghost use Rattle.brace_core.specs.Exchanges.{IsPut, IsTake, due, due_to};
 
 use crate::{Freight, Turn};
 
@@ -24,9 +24,10 @@ pub trait Actor<F: Freight> {
     /// How many of its turns it has made.
     ghost past: { Self → ℕ };
 
-    /// Its first turn that is left, or Done.
-    fn next(&self) -> Turn
-        ensures { result ≡ due F.schedule (setting self.now) (number self.now) (past self.now) };
+    /// Its first turn that is left in the first steps of its schedule, so many, or Done.
+    fn next(&self, end: u64) -> Turn
+        ensures { result
+            ≡ due_to F.schedule (setting self.now) end (number self.now) (past self.now) };
 
     /// The piece of the name that it puts next. It is asked after `next` gave Put.
     fn piece(&mut self) -> F

@@ -1,5 +1,5 @@
 ghost use Rattle.std.specs.Prelude.{◌≡◌, ◌<◌};
-ghost use Rattle.brace_core.specs.Schedule.{turns};
+ghost use Rattle.brace_core.specs.Schedule.{front, turns};
 ghost use Rattle.brace_core.specs.inner.Small.{small};
 
 use super::*;
@@ -82,6 +82,19 @@ fn turns_of(number: u32) -> &'static [Turn]
     }
 }
 
+/// Those in its first steps, so many.
+fn turns_to(number: u32, end: u64) -> &'static [Turn]
+    requires { number < 3 }
+    ensures { result.now ≡ turns (front small end) number }
+{
+    let turns = turns_of(number);
+    if 3 < end {
+        return turns;
+    }
+    let each = if number == 2 { 1 } else { 3 };
+    &turns[..each * end as usize]
+}
+
 /// The setting whose schedule is the small one.
 struct Small;
 
@@ -137,15 +150,15 @@ impl Actor<Parcel> for Walker<'_> {
 
     ghost past = { λ walker. walker.past };
 
-    fn next(&self) -> Turn {
-        match turns_of(self.number).get(self.past) {
+    fn next(&self, end: u64) -> Turn {
+        match turns_to(self.number, end).get(self.past) {
             Some(turn) => *turn,
             None => Turn::Done,
         }
     }
 
     fn piece(&mut self) -> Parcel {
-        let Turn::Put(name) = self.next() else {
+        let Turn::Put(name) = self.next(4) else {
             unreachable!()
         };
         self.past += 1;
@@ -209,10 +222,43 @@ fn every_order_makes_as_many_events_as_there_are_turns(rt: HostRuntime) -> Resul
             },
         ];
         let mut lanes = PlainLanes::<Parcel>::make(rt.alloc(), &Small, 3)?;
-        run_in_order(&mut actors, &mut lanes, order as u64);
+        run_in_order(&mut actors, &mut lanes, order as u64, 4);
         assert_eq!(rt; log.events.get(), 32, "order {order}");
         assert_eq!(rt; log.trace.get(), *trace, "order {order}");
     }
+    Ok(())
+}
+
+#[test]
+fn fronts_one_behind_the_other_make_all_turns(rt: HostRuntime) -> Result<(), Fail> {
+    let log = Log {
+        events: Cell::new(0),
+        trace: Cell::new(0),
+    };
+    let mut actors = [
+        Walker {
+            number: 0,
+            past: 0,
+            log: &log,
+        },
+        Walker {
+            number: 1,
+            past: 0,
+            log: &log,
+        },
+        Walker {
+            number: 2,
+            past: 0,
+            log: &log,
+        },
+    ];
+    let mut lanes = PlainLanes::<Parcel>::make(rt.alloc(), &Small, 3)?;
+    run_in_order(&mut actors, &mut lanes, 5, 0);
+    assert_eq!(rt; log.events.get(), 0);
+    run_in_order(&mut actors, &mut lanes, 5, 3);
+    assert_eq!(rt; log.events.get(), 21);
+    run_in_order(&mut actors, &mut lanes, 5, 4);
+    assert_eq!(rt; log.events.get(), 32);
     Ok(())
 }
 

@@ -2,15 +2,17 @@
 use Rattle.std.proofs.Common.{◌≡◌, ◌∙◌, refl, sym, ap, subst, ℕ, zero, suc, ◌+◌, ◌%◌, ◌<◌, ◌≤◌, ◌==◌, Bool, true, false, cond, List, [], ◌∷◌, map, length, take, get_or, set, arith, inl, inr}
 use Rattle.std.specs.List.{All, Contains, filter, range_with_len, sum_by}
 use Rattle.std.proofs.lemmas.Bool.{cases_eq, cases_lt, eq-eqb, eqb-true}
-use Rattle.std.proofs.lemmas.List.{length-map, length-set, get_or-set_same, get_or-set_other, get_or_default, set-get_or, take_all}
+use Rattle.std.proofs.lemmas.List.{length-map, length-set, get_or-set_same, get_or-set_other, get_or_default, get_or_past, set-get_or, take_all}
 use Rattle.std.proofs.lemmas.List.Elements.{All-nil, All-cons, All-map, All-more, All-contains, All-filter, filter_passes}
 use Rattle.brace_core.specs.declared.name.Name.{Name}
 use Rattle.brace_core.specs.declared.name.Turn.TheVariants.{Take, Done}
 use Rattle.brace_core.specs.declared.turn.Went.{Went}
 use Rattle.brace_core.specs.declared.turn.Went.TheVariants as went
-use Rattle.brace_core.specs.Schedule.{Schedule, lane, turn_at}
+use Rattle.brace_core.specs.Schedule.{Schedule, front, lane, turns, turn_at}
 use Rattle.brace_core.specs.Exchanges.{IsCounted, WentBy, made_by, put_by, taken_by}
-use Rattle.brace_core.proofs.ActorLemmas.{map_kept, left_smaller}
+use Rattle.brace_core.proofs.ActorLemmas.{all_set, map_kept, left_smaller}
+use Rattle.brace_core.proofs.Fronts.{front_lawful, due_same, counted_front}
+use Rattle.brace_core.proofs.Owners.{own_turns, done_past, left_before}
 use Rattle.brace_core.proofs.Counted.{counted_still, puts_none, takes_none, all_put, all_taken}
 use Rattle.brace_lanes.specs.declared.table.View.{View}
 use Rattle.brace_lanes.specs.Seats.{OnSeat, IsSameSeat, IsLater, puts_of, takes_of, misses_of}
@@ -20,8 +22,8 @@ use Rattle.brace_pieces.specs.Steps.{schedule}
 use Rattle.brace_pieces.specs.Courses.{past_of}
 use Rattle.brace_pieces.proofs.ScheduleLemmas.{schedule_lawful}
 use Rattle.brace_crew.specs.declared.member.Member.{Member}
-use Rattle.brace_crew.specs.Members.{course_of, opening_of, next_of, IsDone}
-use Rattle.brace_crew.specs.Benches.{served_by, IsUnused, IsUsedUp, AreServed, Waits, AreWaiting}
+use Rattle.brace_crew.specs.Members.{course_of, opening_of, next_of, turns_to, IsDone, IsWithin, IsAt}
+use Rattle.brace_crew.specs.Benches.{served_by, IsUnused, IsUsedTo, AreServed, Waits, AreWaiting}
 use Rattle.brace_crew.specs.inner.Driven.{Counts, AreCounted, AreSame, WentAll, turns_left, both}
 use Rattle.brace_crew.proofs.RunMembers.{of_all_map}
 use Rattle.brace_num.proofs.Lists.{in_filter}
@@ -62,9 +64,11 @@ same_served v w same =
 serves_still : (v w : View Setting) → IsSameSeat v w → (a : ℕ) → Serves v a → Serves w a
 serves_still v w same a serves = ap (λ k. a % k) same.seats ∙ serves ∙ sym same.number
 
--- a seat put all names of an actor, and took all
-abbrev AllUsed : View Setting → ℕ → Type 0
-AllUsed v a = ((q : ℕ) → puts_of v a q ≡ length (lane (schedule v.setting) a q)) × ((q : ℕ) → takes_of v q a ≡ length (lane (schedule v.setting) q a))
+-- a seat put all names of an actor in the first steps, so many, and took all
+abbrev AllUsed : ℕ → View Setting → ℕ → Type 0
+AllUsed end v a =
+    ((q : ℕ) → puts_of v a q ≡ length (lane (front (schedule v.setting) end) a q))
+    × ((q : ℕ) → takes_of v q a ≡ length (lane (front (schedule v.setting) end) q a))
 
 module _ {P : Type 0} where
   abbrev number_of : Member P → ℕ
@@ -90,10 +94,10 @@ module _ {P : Type 0} where
       at_number (m ∷ ms) (suc i) d low = at_number ms i d (omega (arith, low))
 
   -- one member went on, and the counts of all others are left
-  pub all_counted : (v w : View Setting) (ms : List (Member P)) (i : ℕ) (m n : Member P) (by : Went) → AreCounted v ms → IsSameSeat v w → i < length ms → m ≡ get_or ms i m
-      → number_of n ≡ number_of m → Counts w n → ((p q : ℕ) → puts_of w p q ≡ puts_of v p q + put_by (made_by (next_of m) by) p q)
-      → ((p q : ℕ) → takes_of w p q ≡ takes_of v p q + taken_by (made_by (next_of m) by) p q) → AreCounted w (set ms i n)
-  all_counted v w ms i m n by counted seat low at same here put taken = record {
+  pub all_counted : (end : ℕ) (v w : View Setting) (ms : List (Member P)) (i : ℕ) (m n : Member P) (by : Went) → AreCounted v ms → IsSameSeat v w → i < length ms → m ≡ get_or ms i m
+      → number_of n ≡ number_of m → Counts w n → ((p q : ℕ) → puts_of w p q ≡ puts_of v p q + put_by (made_by (next_of end m) by) p q)
+      → ((p q : ℕ) → takes_of w p q ≡ takes_of v p q + taken_by (made_by (next_of end m) by) p q) → AreCounted w (set ms i n)
+  all_counted end v w ms i m n by counted seat low at same here put taken = record {
     numbers = map_kept number_of ms i m n at same ∙ counted.numbers ∙ sym (same_served v w seat);
     counted = each;
   }
@@ -102,7 +106,7 @@ module _ {P : Type 0} where
       still x two (setting, is) =
           let a : ℕ = number_of x in
           let past : ℕ = past_of (course_of x) in
-          let plan : Schedule = schedule (course_of m).setting in (
+          let plan : Schedule = front (schedule (course_of m).setting) end in (
             setting ∙ sym seat.setting,
             counted_still (schedule v.setting) a past (Serves v) (puts_of v) (takes_of v) is (schedule w.setting) a past (Serves w) (puts_of w) (takes_of w) (ap schedule seat.setting) refl
                 (serves_still v w seat a is.served) refl
@@ -141,27 +145,41 @@ module _ {P : Type 0} where
                 (record { served = eqb-true (a % v.seats) v.number (served k d low); put = λ q. unused.nothing_put a q; taken = λ q. unused.nothing_taken q a }),
           )
 
-  pub used_up : (v : View Setting) (ms : List (Member P)) → AreCounted v ms → All IsDone ms → IsUsedUp v
-  used_up v ms are done = record {
+  -- who has no turn left in the first steps, and made none behind them, stands at their end
+  pub at_end : (end : ℕ) (m : Member P) → IsWithin end m → IsDone end m → IsAt end m
+  at_end end m within done =
+      let plan : Schedule = front (schedule (course_of m).setting) end in
+      let over : turns_to end m ≤ past_of (course_of m) = done_past (number_of m) (turns plan (number_of m)) (past_of (course_of m)) (own_turns 0 plan.actors plan.steps (number_of m)) done in
+      omega (arith, over, within)
+
+  pub all_at_end : (end : ℕ) (ms : List (Member P)) → All (IsWithin end) ms → All (IsDone end) ms → All (IsAt end) ms
+  all_at_end end ms within done k d low = at_end end (get_or ms k d) (within k d low) (done k d low)
+
+  pub used_to : (end : ℕ) (v : View Setting) (ms : List (Member P)) → AreCounted v ms → All (IsAt end) ms → IsUsedTo end v
+  used_to end v ms are come = record {
     all_put = λ a q low serves. (at a low serves).0 q;
     all_taken = λ a q low serves. (at a low serves).1 q;
   }
     where
-      each : All (λ m. AllUsed v (number_of m)) ms
+      each : All (λ m. AllUsed end v (number_of m)) ms
       each k d low =
           let m : Member P = get_or ms k d in
           let a : ℕ = number_of m in
           let past : ℕ = past_of (course_of m) in
+          let plan : Schedule = front (schedule v.setting) end in
           let (setting, is) = are.counted k d low in
-          let over : turn_at (schedule v.setting) a past ≡ Done = ap (λ (s : Setting). turn_at (schedule s) a past) (sym setting) ∙ done k d low in (
-            all_put (schedule v.setting) a past (Serves v) (puts_of v) (takes_of v) is (schedule_lawful v.setting) over,
-            all_taken (schedule v.setting) a past (Serves v) (puts_of v) (takes_of v) is (schedule_lawful v.setting) over,
+          let long : past ≡ length (turns plan a) = come k d low ∙ ap (λ (s : Setting). length (turns (front (schedule s) end) a)) setting in
+          let over : turn_at plan a past ≡ Done = get_or_past (turns plan a) past Done (omega (arith, long)) in
+          let counted = counted_front (schedule v.setting) end a past (Serves v) (puts_of v) (takes_of v) (omega (arith, long)) is in
+          let lawful = front_lawful (schedule v.setting) end (schedule_lawful v.setting) in (
+            all_put plan a past (Serves v) (puts_of v) (takes_of v) counted lawful over,
+            all_taken plan a past (Serves v) (puts_of v) (takes_of v) counted lawful over,
           )
 
-      at : (a : ℕ) → a < v.actors → Serves v a → AllUsed v a
+      at : (a : ℕ) → a < v.actors → Serves v a → AllUsed end v a
       at a low serves =
           let has : Contains (served_by v) a = in_filter (λ b. b % v.seats == v.number) (range_with_len 0 v.actors) a (row_has 0 v.actors a (omega arith) (omega (arith, low))) (eq-eqb (a % v.seats) v.number serves) in
-          All-contains (AllUsed v) (served_by v) a (subst (All (AllUsed v)) are.numbers (All-map (AllUsed v) number_of ms each)) has
+          All-contains (AllUsed end v) (served_by v) a (subst (All (AllUsed end v)) are.numbers (All-map (AllUsed end v) number_of ms each)) has
 
   -- ---- a later time
 
@@ -193,21 +211,21 @@ later_on u v w one two = record {
 
 -- ---- how members went on
 
-module _ {P : Type 0} where
+module _ {P : Type 0} (end : ℕ) where
   abbrev WaitsOne : View Setting → View Setting → Member P → Type 0
-  WaitsOne v w m = (IsDone m → ⊥) → Waits v w 1 m
+  WaitsOne v w m = (IsDone end m → ⊥) → Waits end v w 1 m
 
   -- how one member went on
   abbrev WentOne : View Setting → View Setting → Member P → Member P → Went → Type 0
-  WentOne v w m n by = WentBy (λ x. past_of (course_of x)) (λ (name : Name). misses_of v name.from name.to + 1 ≤ misses_of w name.from name.to) (next_of m) m n by
+  WentOne v w m n by = WentBy (λ x. past_of (course_of x)) (λ (name : Name). misses_of v name.from name.to + 1 ≤ misses_of w name.from name.to) (next_of end m) m n by
 
-  waits_open : (v w : View Setting) (k : ℕ) (m : Member P) → Waits v w k m → IsDone m → ⊥
+  waits_open : (v w : View Setting) (k : ℕ) (m : Member P) → Waits end v w k m → IsDone end m → ⊥
   waits_open v w k m (name, is, few) done = let no : Take name ≡ Done = sym is ∙ done in absurd cc
 
-  waits_longer : (u v w : View Setting) (k : ℕ) (m : Member P) → ((p q : ℕ) → misses_of v p q ≤ misses_of w p q) → Waits u v k m → Waits u w k m
+  waits_longer : (u v w : View Setting) (k : ℕ) (m : Member P) → ((p q : ℕ) → misses_of v p q ≤ misses_of w p q) → Waits end u v k m → Waits end u w k m
   waits_longer u v w k m more (name, is, few) = (name, is, (let up = more name.from name.to in omega (arith, up, few)))
 
-  waits_before : (u v w : View Setting) (k : ℕ) (m : Member P) → ((p q : ℕ) → misses_of u p q ≤ misses_of v p q) → Waits v w k m → Waits u w k m
+  waits_before : (u v w : View Setting) (k : ℕ) (m : Member P) → ((p q : ℕ) → misses_of u p q ≤ misses_of v p q) → Waits end v w k m → Waits end u w k m
   waits_before u v w k m more (name, is, few) = (name, is, (let up = more name.from name.to in omega (arith, up, few)))
 
   all_weaker : (Q R : Member P → Type 0) → ((m : Member P) → Q m → R m) → (ms : List (Member P)) → All Q ms → All R ms
@@ -220,7 +238,23 @@ module _ {P : Type 0} where
     still is = ap (set ns i) (is ∙ at) ∙ set-get_or ns i m
 
     sum_on : WentOne v w m n went.On → sum_by turns_left (set ns i n) < sum_by turns_left ns
-    sum_on (on, some) = left_smaller (λ x. (course_of x).setting) (λ x. (course_of x).actor) (λ x. past_of (course_of x)) schedule ns i m n low at setting number on some
+    sum_on (on, some) = left_smaller (λ x. (course_of x).setting) (λ x. (course_of x).actor) (λ x. past_of (course_of x)) schedule ns i m n low at setting number on
+        (λ done. some (sym (due_same (schedule (course_of m).setting) end (course_of m).actor (past_of (course_of m)) some) ∙ done))
+
+    -- and made no turn behind the end
+    within_one : (by : Went) → WentOne v w m n by → IsWithin end m → IsWithin end n
+    within_one went.On (on, some) within =
+        let ts = turns (front (schedule (course_of m).setting) end) (course_of m).actor in
+        let left : past_of (course_of m) < length ts = left_before ts (past_of (course_of m)) some in
+        let same : turns_to end n ≡ length ts =
+        ap (λ (s : Setting). length (turns (front (schedule s) end) (course_of n).actor)) setting
+        ∙ ap (λ a. length (turns (front (schedule (course_of m).setting) end) a)) number in
+        omega (arith, on, left, same)
+    within_one went.Nowhere (is, rest) within = subst (IsWithin end) (sym is) within
+    within_one went.Over (is, rest) within = subst (IsWithin end) (sym is) within
+
+    pub within_on : (by : Went) → WentOne v w m n by → All (IsWithin end) ns → All (IsWithin end) (set ns i n)
+    within_on by went all = all_set (IsWithin end) ns i n all (within_one by went (subst (IsWithin end) (sym at) (all i m low)))
 
     long_as : ns ≡ ms → i < length ms
     long_as is = subst (λ xs. i < length xs) is low
@@ -228,13 +262,13 @@ module _ {P : Type 0} where
     at_of : ns ≡ ms → m ≡ get_or ms i m
     at_of is = at ∙ ap (λ xs. get_or xs i m) is
 
-    on_where_still : ns ≡ ms → WentOne v w m n went.On → WentAll u ms w (set ns i n) (i + 1) went.On
+    on_where_still : ns ≡ ms → WentOne v w m n went.On → WentAll end u ms w (set ns i n) (i + 1) went.On
     on_where_still is by = subst (λ xs. sum_by turns_left (set ns i n) < sum_by turns_left xs) is (sum_on by)
 
     one_more : (Q : Member P → Type 0) → ns ≡ ms → All Q (take i ms) → Q m → All Q (take (i + 1) ms)
     one_more Q is all here = All-more Q ms i m (long_as is) all (subst Q (at_of is) here)
 
-    pub went_more : (all one : Went) → WentAll u ms v ns i all → WentOne v w m n one → WentAll u ms w (set ns i n) (i + 1) (both all one)
+    pub went_more : (all one : Went) → WentAll end u ms v ns i all → WentOne v w m n one → WentAll end u ms w (set ns i n) (i + 1) (both all one)
     went_more went.On went.On less by = let less' = sum_on by in omega (arith, less, less')
     went_more went.On went.Nowhere less (is, waits) = subst (λ xs. sum_by turns_left xs < sum_by turns_left ms) (sym (still is)) less
     went_more went.On went.Over less (is, rest) = subst (λ xs. sum_by turns_left xs < sum_by turns_left ms) (sym (still is)) less
@@ -252,37 +286,37 @@ module _ {P : Type 0} where
     went_more went.Over went.On (is, done) by = on_where_still is by
     went_more went.Over went.Nowhere (is, done) (same_one, waits_here) = (
       still same_one ∙ is,
-      (λ all. waits_open v w 1 m waits_here (subst IsDone (sym (at_of is)) (all i m (long_as is)))),
-      one_more (WaitsOne u w) is (all_weaker IsDone (WaitsOne u w) (λ x over going. absurd (going over)) (take i ms) done) (λ going. waits_before u v w 1 m before waits_here),
+      (λ all. waits_open v w 1 m waits_here (subst (IsDone end) (sym (at_of is)) (all i m (long_as is)))),
+      one_more (WaitsOne u w) is (all_weaker (IsDone end) (WaitsOne u w) (λ x over going. absurd (going over)) (take i ms) done) (λ going. waits_before u v w 1 m before waits_here),
     )
-    went_more went.Over went.Over (is, done) (same_one, over) = (still same_one ∙ is, one_more IsDone is done over)
+    went_more went.Over went.Over (is, done) (same_one, over) = (still same_one ∙ is, one_more (IsDone end) is done over)
 
   -- all went on
-  pub went_through : (u w : View Setting) (ms ns : List (Member P)) (i : ℕ) (all : Went) → length ms ≤ i → i ≤ length ms → WentAll u ms w ns i all → WentAll u ms w ns (length ms) all
-  went_through u w ms ns i all high low went = let is : i ≡ length ms = omega (arith, high, low) in subst (λ k. WentAll u ms w ns k all) is went
+  pub went_through : (u w : View Setting) (ms ns : List (Member P)) (i : ℕ) (all : Went) → length ms ≤ i → i ≤ length ms → WentAll end u ms w ns i all → WentAll end u ms w ns (length ms) all
+  went_through u w ms ns i all high low went = let is : i ≡ length ms = omega (arith, high, low) in subst (λ k. WentAll end u ms w ns k all) is went
 
-  pub over_done : (u w : View Setting) (ms ns : List (Member P)) → WentAll u ms w ns (length ms) went.Over → All IsDone ns
-  over_done u w ms ns (is, done) = subst (All IsDone) (take_all (length ms) ms (omega arith) ∙ sym is) done
+  pub over_done : (u w : View Setting) (ms ns : List (Member P)) → WentAll end u ms w ns (length ms) went.Over → All (IsDone end) ns
+  over_done u w ms ns (is, done) = subst (All (IsDone end)) (take_all (length ms) ms (omega arith) ∙ sym is) done
 
   -- ---- rounds that lead nowhere
 
   pub waits_more : (u v w : View Setting) (idle : ℕ) (ms ns : List (Member P)) → ((p q : ℕ) → misses_of u p q ≤ misses_of v p q)
-      → (0 < idle → AreWaiting u v idle ms) → WentAll v ms w ns (length ms) went.Nowhere → AreWaiting u w (idle + 1) ns
-  waits_more u v w idle ms ns before waited (is, some, waits) = subst (AreWaiting u w (idle + 1)) (sym is) (record { is_left = some; waits = each })
+      → (0 < idle → AreWaiting end u v idle ms) → WentAll end v ms w ns (length ms) went.Nowhere → AreWaiting end u w (idle + 1) ns
+  waits_more u v w idle ms ns before waited (is, some, waits) = subst (AreWaiting end u w (idle + 1)) (sym is) (record { is_left = some; waits = each })
     where
       now : All (WaitsOne v w) ms
       now = subst (All (WaitsOne v w)) (take_all (length ms) ms (omega arith)) waits
 
-      longer : (m : Member P) → Waits u v idle m → Waits v w 1 m → Waits u w (idle + 1) m
+      longer : (m : Member P) → Waits end u v idle m → Waits end v w 1 m → Waits end u w (idle + 1) m
       longer m (name, is, few) (other, is', few') =
           let same : name ≡ other = let takes : Take name ≡ Take other = sym is ∙ is' in cc in
           let more : misses_of v name.from name.to + 1 ≤ misses_of w name.from name.to = subst (λ (n : Name). misses_of v n.from n.to + 1 ≤ misses_of w n.from n.to) (sym same) few' in
           (name, is, omega (arith, few, more))
 
-      one : (m : Member P) → Waits v w 1 m → idle ≡ 0 → Waits u w (idle + 1) m
+      one : (m : Member P) → Waits end v w 1 m → idle ≡ 0 → Waits end u w (idle + 1) m
       one m (name, is, few) none = (name, is, (let low = before name.from name.to in omega (arith, low, few, none)))
 
-      each : All (λ m. (IsDone m → ⊥) → Waits u w (idle + 1) m) ms
+      each : All (λ m. (IsDone end m → ⊥) → Waits end u w (idle + 1) m) ms
       each k d low going = elim (cases_lt 0 idle) [
         | inl some_idle ↦ longer (get_or ms k d) ((waited some_idle).waits k d low going) (now k d low going)
         | inr none ↦ one (get_or ms k d) (now k d low going) (omega (arith, none))

@@ -6,7 +6,7 @@ use Rattle.std.proofs.lemmas.Bool.Decides.{nat_tests}
 use Rattle.std.proofs.lemmas.Option.{slice_get_within}
 use Rattle.std.proofs.lemmas.List.{take-map, length-map}
 use Rattle.std.proofs.lemmas.List.Concat.{flat_map-cons}
-use Rattle.std.proofs.lemmas.List.Elements.{All-head, All-tail, All-contains, All-contains_itself, All-weaker, Contains-append_left, Contains-append_right, filter-append}
+use Rattle.std.proofs.lemmas.List.Elements.{All-head, All-tail, All-contains, All-weaker, Contains-append_left, Contains-append_right, filter-append}
 use Rattle.brace_model.specs.declared.fault.Fault.{Fault}
 use Rattle.brace_model.specs.declared.fault.Phase.{Phase}
 use Rattle.brace_model.specs.declared.fault.Phase.TheVariants.{Query, Update, Birth}
@@ -191,7 +191,7 @@ module _ (s : Setting) where
         (All-from_contains (λ e. All HasWorld (shown_ticks s e)) (take count (ends s)) (λ e has. worlds_shown e (end_within e (of_take count (ends s) e has)).0 (All-contains NoneBefore (take count (ends s)) e none has)))
 
     -- these ends are not behind the first fault
-    ends_low : (count : ℕ) → AreFaultless s count → (g : Fault) → first_fault s.job ≡ Some g → All (λ e. e ≤ g.tick) (take count (ends s))
+    pub ends_low : (count : ℕ) → AreFaultless s count → (g : Fault) → first_fault s.job ≡ Some g → All (λ e. e ≤ g.tick) (take count (ends s))
     ends_low count none g first = All-from_contains (λ e. e ≤ g.tick) (take count (ends s)) (λ e has. not_behind e (All-contains NoneBefore (take count (ends s)) e none has))
       where
         not_behind : (e : ℕ) → NoneBefore e → e ≤ g.tick

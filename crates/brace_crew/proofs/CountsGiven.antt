@@ -1,6 +1,5 @@
 -- What all parts of a run gave, where all went to its end.
-use Rattle.std.proofs.Common.{◌≡◌, ◌∙◌, refl, sym, ap, ap₂, subst, ℕ, ◌+◌, ◌<◌, ◌≤◌, List, [], ◌∷◌, map, take, take_all, length, get_or, sum_by, Contains, arith}
-use Rattle.std.specs.Prelude.{Option, Some, None, is_none, true}
+use Rattle.std.proofs.Common.{◌≡◌, ◌∙◌, refl, sym, ap, ap₂, subst, ℕ, ◌+◌, ◌<◌, ◌≤◌, List, [], ◌∷◌, map, take, take_all, length, get_or, sum_by, All, Contains, arith}
 use Rattle.std.proofs.lemmas.List.Sums.{sum_by-cons, sum_by_more}
 use Rattle.std.proofs.lemmas.List.Elements.{All-contains, Contains-get_or}
 use Rattle.brace_pieces.specs.declared.setting.Setting.{Setting}
@@ -11,9 +10,9 @@ use Rattle.brace_part.specs.Parts.{OnPart}
 use Rattle.brace_crew.specs.declared.member.Member.{Member}
 use Rattle.brace_crew.specs.declared.member.Member.TheVariants as member
 use Rattle.brace_part.specs.Given.{summed, together, given_in, counts_up_to}
-use Rattle.brace_crew.specs.Members.{course_of, IsDone}
+use Rattle.brace_crew.specs.Members.{course_of, IsAt}
 use Rattle.brace_crew.specs.inner.Crews.{AreParts}
-use Rattle.brace_crew.proofs.DeskCourses.{last_behind}
+use Rattle.brace_pieces.proofs.CourseLemmas.{stands_there}
 
 -- what a member gives in all steps of a run
 abbrev pub gives : {P : Type 0} → Setting → Member P → Counts
@@ -38,12 +37,14 @@ sum_of_map f h (x ∷ xs) = sum_by-cons (λ x. f (h x)) x xs ∙ ap (λ n. f (h 
 ends_given : (s : Setting) (p number : ℕ) → length (steps s) ≤ number → counts_up_to s p number ≡ counts_up_to s p (length (steps s))
 ends_given s p number high = ap (summed (given_in s p)) (take_all (number + 1) (steps s) (omega (arith, high)) ∙ sym (take_all (length (steps s) + 1) (steps s) (omega arith)))
 
-module _ {P : Type 0} (s : Setting) (members : List (Member P)) (are : AreParts s members) where
-  pub part_gave : (m : Member P) → IsDone m → (course_of m).setting ≡ s → (p : OnPart) → m ≡ member.Part p → IsCourse p.course → p.counts ≡ counts_up_to p.course.setting p.course.actor p.course.number → p.counts ≡ gives s m
-  part_gave m done of p is on_course counted =
-      let done_there = subst IsDone is done in
+module _ {P : Type 0} (s : Setting) (members : List (Member P)) (are : AreParts s members) (at_end : All (IsAt (length (steps s))) members) where
+  pub part_gave : (m : Member P) → IsAt (length (steps s)) m → (course_of m).setting ≡ s → (p : OnPart) → m ≡ member.Part p → IsCourse p.course → p.counts ≡ counts_up_to p.course.setting p.course.actor p.course.number → p.counts ≡ gives s m
+  part_gave m stands of p is on_course counted =
+      let at_there = subst (IsAt (length (steps s))) is stands in
       let of_there : p.course.setting ≡ s = ap (λ n. (course_of n).setting) (sym is) ∙ of in
-      counted ∙ ends_given p.course.setting p.course.actor p.course.number (last_behind p.course on_course done_there)
+      let all : length (steps s) ≡ length (steps p.course.setting) = ap (λ r. length (steps r)) (sym of_there) in
+      let behind = (stands_there p.course on_course (length (steps s)) (omega (arith, all)) at_there).behind in
+      counted ∙ ends_given p.course.setting p.course.actor p.course.number (omega (arith, behind, all))
       ∙ ap (λ r. counts_up_to r p.course.actor (length (steps r))) of_there
       ∙ ap (gives s) (sym is)
 
@@ -52,5 +53,5 @@ module _ {P : Type 0} (s : Setting) (members : List (Member P)) (are : AreParts 
       → all ≡ summed (gives s) (take i members) → together all p.counts ≡ summed (gives s) (take (i + 1) members)
   one_given i m low at p is on_course counted all so =
       let has = subst (Contains members) at (Contains-get_or members i m low) in
-      ap₂ together so (part_gave m (All-contains IsDone members m are.done has) (All-contains (λ m. (course_of m).setting ≡ s) members m are.settings has) p is on_course counted)
+      ap₂ together so (part_gave m (All-contains (IsAt (length (steps s))) members m at_end has) (All-contains (λ m. (course_of m).setting ≡ s) members m are.settings has) p is on_course counted)
       ∙ sym (one_summed (gives s) members i m low at)

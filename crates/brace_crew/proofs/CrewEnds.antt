@@ -1,5 +1,5 @@
 -- What a run comes to, by what its desk published and where it halted.
-use Rattle.std.proofs.Common.{◌≡◌, ◌∙◌, refl, sym, ap, subst, ℕ, ◌+◌, ◌-◌, ◌%◌, ◌<◌, ◌≤◌, List, [], ◌∷◌, ◌++◌, map, take, take_all, length, Bool, true, false, if◌then◌else◌, Some, None, Ok, Err, slice_get, All, Contains, IsTrue, ◌==◌, ◌||◌, append-nil, arith, inl, inr}
+use Rattle.std.proofs.Common.{◌≡◌, ◌∙◌, refl, sym, ap, subst, ℕ, zero, suc, ◌+◌, ◌-◌, ◌%◌, ◌<◌, ◌≤◌, List, [], ◌∷◌, ◌++◌, map, filter, take, take_all, drop, length, Bool, true, false, if◌then◌else◌, Some, None, Ok, Err, slice_get, All, Contains, IsTrue, ◌==◌, ◌||◌, ◌⊎◌, append-nil, arith, inl, inr}
 use Rattle.std.specs.List.{range_with_len}
 use Rattle.std.specs.Result.{result_err}
 use Rattle.std.proofs.lemmas.Bool.{cases_lt}
@@ -7,8 +7,6 @@ use Rattle.std.proofs.lemmas.Option.{slice_get_within, get_or_from_slice_get}
 use Rattle.std.proofs.lemmas.List.Sums.{fold-append}
 use Rattle.std.proofs.lemmas.List.Elements.{All-contains}
 use Rattle.brace_io.specs.Counts.{Rose}
-use Rattle.brace_core.specs.declared.name.Turn.TheVariants.{Done}
-use Rattle.brace_core.specs.Exchanges.{due}
 use Rattle.brace_model.specs.declared.fault.Fault.{Fault}
 use Rattle.brace_model.specs.declared.fault.Phase.{Phase}
 use Rattle.brace_model.specs.declared.fault.Phase.TheVariants.{Query, Update, Birth}
@@ -35,13 +33,18 @@ use Rattle.brace_crew.specs.declared.desk.Lot.{Lot}
 use Rattle.brace_crew.specs.Refusals.{tick_of}
 use Rattle.brace_crew.specs.Calls.{Call, ticks_left, call_of, calls_to, calls, call_at, behind, IsCut, IsFront, HasRun, Rises, CameTo}
 use Rattle.brace_crew.specs.Desks.{OnDesk, whole_at, end_calls, ends_before, AreFaultless, HasShown, HasHalted, HasRefused}
-use Rattle.brace_crew.specs.inner.Crews.{IsDeskOf}
-use Rattle.brace_crew.proofs.EndCalls.{end_there}
-use Rattle.brace_pieces.specs.Courses.{past_of}
+use Rattle.brace_crew.specs.Workers.{ends_until}
+use Rattle.brace_crew.specs.inner.Crews.{AreEarly, IsReached, IsDeskOf}
+use Rattle.brace_crew.proofs.EndCalls.{end_there, ends_all}
+use Rattle.brace_pieces.specs.Courses.{OnCourse, IsCourse, past_of}
+use Rattle.brace_core.specs.Schedule.{front, turns}
+use Rattle.brace_pieces.specs.Fronts.{to_show, steps_to}
+use Rattle.brace_pieces.proofs.CourseLemmas.{StandsThere, stands_there}
+use Rattle.brace_pieces.proofs.FrontLemmas.{steps_within, shown_few, shown_all, steps_over}
 use Rattle.brace_pieces.proofs.EpochLemmas.{last_is_end}
 use Rattle.brace_pieces.proofs.OrderLemmas.{shows_later}
 use Rattle.brace_crew.proofs.FirstFault.{IsRun, EndsIn, none_sooner}
-use Rattle.brace_crew.proofs.CallsMade.{StopsAt, all_calls, same_from, calls_begin, calls_front, worlds_there, cut_of_run}
+use Rattle.brace_crew.proofs.CallsMade.{StopsAt, ends_low, ends_up_to, all_calls, same_from, calls_begin, calls_front, worlds_there, cut_of_run}
 use Rattle.brace_crew.proofs.RiseLemmas.{rose_from, then_rises}
 use Rattle.brace_num.proofs.Lists.{All-from_contains, in_filter}
 use Rattle.brace_num.proofs.Rows.{in_row, row_has}
@@ -109,36 +112,36 @@ module _ {P : Type 0} (of : publisher.Ghosts P) (s : Setting) (run : IsRun s) (o
 
     -- and all that is left to be shown is the worlds since the end before
     module _ (worlds : List Shown) (are : worlds ≡ map (whole_at s) (ticks_left s g.tick)) where
-      abbrev front : List Call
-      front = take (ends_before s h.number) (end_calls s)
+      abbrev published : List Call
+      published = take (ends_before s h.number) (end_calls s)
 
-      rest_is : calls s ≡ front ++ call_of g.tick worlds
-      rest_is = all_calls s g (ends_before s h.number) h.end stops_at ∙ ap (λ ws. front ++ call_of g.tick ws) (sym are)
+      rest_is : calls s ≡ published ++ call_of g.tick worlds
+      rest_is = all_calls s g (ends_before s h.number) h.end stops_at ∙ ap (λ ws. published ++ call_of g.tick ws) (sym are)
 
       one_call : (x : Shown) (xs : List Shown) → worlds ≡ x ∷ xs → call_of g.tick worlds ≡ record { tick = g.tick; worlds = worlds } ∷ []
       one_call x xs is = ap (call_of g.tick) is ∙ ap (λ ws. record { tick = g.tick; worlds = ws } ∷ []) (sym is)
 
       pub nothing_left : worlds ≡ [] → of.state now ≡ behind of s opening (calls s)
-      nothing_left none = h.is_behind ∙ ap (behind of s opening) (sym (rest_is ∙ ap (λ ws. front ++ call_of g.tick ws) none ∙ append-nil front))
+      nothing_left none = h.is_behind ∙ ap (behind of s opening) (sym (rest_is ∙ ap (λ ws. published ++ call_of g.tick ws) none ∙ append-nil published))
 
       pub rest_shown : (x : Shown) (xs : List Shown) → worlds ≡ x ∷ xs → (last : P) → of.state last ≡ of.after (of.state now) s g.tick worlds → of.state last ≡ behind of s opening (calls s)
       rest_shown x xs is last done =
           done ∙ ap (λ v. of.after v s g.tick worlds) h.is_behind
-          ∙ sym (ap (behind of s opening) (rest_is ∙ ap (λ cs. front ++ cs) (one_call x xs is))
-          ∙ fold-append (λ v c. of.after v s c.tick c.worlds) (of.state opening) front (record { tick = g.tick; worlds = worlds } ∷ []))
+          ∙ sym (ap (behind of s opening) (rest_is ∙ ap (λ cs. published ++ cs) (one_call x xs is))
+          ∙ fold-append (λ v c. of.after v s c.tick c.worlds) (of.state opening) published (record { tick = g.tick; worlds = worlds } ∷ []))
 
       pub rest_cut : (x : Shown) (xs : List Shown) → worlds ≡ x ∷ xs → Rises of opening now → (last : P) (y : PubFault) → of.cut (of.state now) s g.tick worlds y (of.state last) → ((k : ℕ) → tick_of y ≡ Some k → (k ≡ g.tick) × Rose (of.saves now) (of.saves last))
           → (y ≡ refusal.Write → Rose (of.writes now) (of.writes last)) → IsCut of s opening last (calls s) y
       rest_cut x xs is rises last y cut saved written =
-          let all = rest_is ∙ ap (λ cs. front ++ cs) (one_call x xs is) in
+          let all = rest_is ∙ ap (λ cs. published ++ cs) (one_call x xs is) in
           let writes = rises.writes_rise in
           let saves = rises.saves_rise in
-          let made = front_length front (record { tick = g.tick; worlds = worlds }) in
+          let made = front_length published (record { tick = g.tick; worlds = worlds }) in
           record {
-            made = length front;
+            made = length published;
             call = record { tick = g.tick; worlds = worlds };
-            is_next = ap (λ cs. slice_get cs (length front)) all ∙ made.0;
-            is_cut = subst (λ v. of.cut v s g.tick worlds y (of.state last)) (h.is_behind ∙ ap (behind of s opening) (sym (ap (take (length front)) all ∙ made.1))) cut;
+            is_next = ap (λ cs. slice_get cs (length published)) all ∙ made.0;
+            is_cut = subst (λ v. of.cut v s g.tick worlds y (of.state last)) (h.is_behind ∙ ap (behind of s opening) (sym (ap (take (length published)) all ∙ made.1))) cut;
             is_named = λ k named. (saved k named).0;
             written = λ named. rose_from _ _ _ writes (written named);
             saved = λ k named. rose_from _ _ _ saves (saved k named).1;
@@ -186,22 +189,19 @@ module _ {P : Type 0} (of : publisher.Ghosts P) (s : Setting) (run : IsRun s) (n
   all_shown opening now is =
       is ∙ ap (behind of s opening) (calls_front s run (length (ends s)) none ∙ ap (map (call_at s)) (take_all (length (ends s)) (ends s) (omega arith)) ∙ sym (ap (calls_to s) no_fault))
 
--- ---- what a desk tells behind its last turn
+-- ---- what a desk tells where its run ends
 
-module _ {P : Type 0} (of : publisher.Ghosts P) (s : Setting) (d : OnDesk P) (desk : IsDeskOf s d) where
-  pub turned : due schedule d.course.setting d.course.actor (past_of d.course) ≡ Done
-  turned = subst (λ r. due schedule r d.course.actor (past_of d.course) ≡ Done) (sym desk.setting_is) desk.done
+module _ {P : Type 0} (of : publisher.Ghosts P) (s : Setting) (d : OnDesk P) (of_run : d.course.setting ≡ s) where
+  shown_so : (count : ℕ) → HasShown of d count → (of.state d.publisher ≡ behind of s d.opening (take count (end_calls s))) × AreFaultless s count
+  shown_so count h = subst (λ r. (of.state d.publisher ≡ behind of r d.opening (take count (end_calls r))) × AreFaultless r count) of_run (h.is_behind, h.faultless)
 
-  shown_all : HasShown of d (length (ends d.course.setting)) → (of.state d.publisher ≡ behind of s d.opening (take (length (ends s)) (end_calls s))) × AreFaultless s (length (ends s))
-  shown_all h = subst (λ r. (of.state d.publisher ≡ behind of r d.opening (take (length (ends r)) (end_calls r))) × AreFaultless r (length (ends r))) desk.setting_is (h.is_behind, h.faultless)
-
-  refused_all : (x : PubFault) → HasRefused of d x → (cut : IsCut of s d.opening d.publisher (end_calls s) x) × AreFaultless s (cut.made + 1)
-  refused_all x h = subst (λ r. (cut : IsCut of r d.opening d.publisher (end_calls r) x) × AreFaultless r (cut.made + 1)) desk.setting_is (h.cut_there, h.faultless)
+  refused_so : (x : PubFault) → HasRefused of d x → (cut : IsCut of s d.opening d.publisher (end_calls s) x) × AreFaultless s (cut.made + 1)
+  refused_so x h = subst (λ r. (cut : IsCut of r d.opening d.publisher (end_calls r) x) × AreFaultless r (cut.made + 1)) of_run (h.cut_there, h.faultless)
 
   module _ (run : IsRun s) where
-    pub has_run : HasShown of d (length (ends d.course.setting)) → (counts : Counts) → counts ≡ all_given s → HasRun of s d.opening d.publisher counts
+    pub has_run : HasShown of d (length (ends s)) → (counts : Counts) → counts ≡ all_given s → HasRun of s d.opening d.publisher counts
     has_run h counts are =
-        let (shown, none) = shown_all h in
+        let (shown, none) = shown_so (length (ends s)) h in
         let worlds = all_there of s run none in
         record {
           no_fault = no_fault of s run none;
@@ -212,16 +212,154 @@ module _ {P : Type 0} (of : publisher.Ghosts P) (s : Setting) (d : OnDesk P) (de
           handed = ap (λ c. c.handed) are ∙ handed_counted s run.lawful run.numbers worlds;
         }
 
-    pub shown_front : HasShown of d (length (ends d.course.setting)) → IsFront of s d.opening d.publisher (calls s)
-    shown_front h = let (shown, none) = shown_all h in in_front of s run d.opening d.publisher (length (ends s)) none shown
+    pub shown_front : (count : ℕ) → HasShown of d count → IsFront of s d.opening d.publisher (calls s)
+    shown_front count h = let (shown, none) = shown_so count h in in_front of s run d.opening d.publisher count none shown
 
     pub halted_front : (x : Cause) → HasHalted of d x → IsFront of s d.opening d.publisher (calls s)
     halted_front x h =
-        let there = halted_at of s d x desk.setting_is h in
+        let there = halted_at of s d x of_run h in
         in_front of s run d.opening d.publisher (ends_before s there.number) there.faultless there.is_behind
 
     pub refused_cut : (x : PubFault) → HasRefused of d x → IsCut of s d.opening d.publisher (calls s) x
-    refused_cut x h = let (cut, none) = refused_all x h in cut_of_run s run of d.opening d.publisher x cut none
+    refused_cut x h = let (cut, none) = refused_so x h in cut_of_run s run of d.opening d.publisher x cut none
+
+-- ---- behind how many steps a run ends
+
+at_low : {A : Type 0} (Q : A → Type 0) (es : List A) (k c : ℕ) (x : A) → All Q (take k es) → slice_get es c ≡ Some x → c < k → Q x
+at_low Q [] k c x all is low = absurd cc
+at_low Q (e ∷ es) zero c x all is low = absurd (omega (arith, low))
+at_low Q (e ∷ es) (suc k) zero x all is low = let same : e ≡ x = cc in subst Q same (all 0 e (omega arith))
+at_low Q (e ∷ es) (suc k) (suc c) x all is low = at_low Q es k c x (λ i d l. all (suc i) d (omega (arith, l))) is (omega (arith, low))
+
+all_taken : {A : Type 0} (es : List A) (c : ℕ) (x : A) → slice_get es c ≡ Some x → length (take c es) ≡ c
+all_taken [] c x is = absurd cc
+all_taken (e ∷ es) zero x is = refl
+all_taken (e ∷ es) (suc c) x is = omega (arith, all_taken es c x is)
+
+-- a run that was driven from end to end has steps up to there
+pub reached_within : (s : Setting) (n : ℕ) → IsReached s n → n ≤ length (steps s)
+reached_within s n at = let within = steps_within s at.count in omega (arith, within, at.is)
+
+-- before the first step
+pub reached_first : (s : Setting) → IsReached s 0
+reached_first s = record { count = 0; is = refl; goes_on = λ k e. absurd (omega (arith, e)) }
+
+pub early_first : (s : Setting) → AreEarly s 0
+early_first s =
+    let none : ends_before s 0 - 1 ≡ 0 = omega (arith, shown_few s 0) in
+    let Q : ℕ → Type 0 = λ end. (p : ℕ) → p < parts s → IsFaultless s end p in
+    subst (AreFaultless s) (sym none) (nothing Q (ends s))
+  where
+    nothing : (Q : ℕ → Type 0) (es : List ℕ) → All Q (take 0 es)
+    nothing Q [] = λ i d l. absurd (omega (arith, l))
+    nothing Q (e ∷ es) = λ i d l. absurd (omega (arith, l))
+
+-- and on to the next end
+pub reached_next : (s : Setting) (m n : ℕ) → IsReached s m → AreEarly s m → n ≡ m + to_show (drop m (steps s)) → m < n → IsReached s n
+reached_next s m n at early place up = record {
+  count = suc at.count;
+  is = place ∙ ap (λ k. k + to_show (drop k (steps s))) at.is;
+  goes_on = λ k e.
+      let same : at.count ≡ k = omega (arith, e) in
+      subst (λ j. (steps_to s j < n) × AreEarly s (steps_to s j)) same (subst (λ j. (j < n) × AreEarly s j) at.is (up, early));
+}
+
+module _ (s : Setting) (run : IsRun s) (g : Fault) (c end : ℕ) (stops : StopsAt s g c end) where
+  -- ends before which no part found a fault are none behind the first fault
+  few_early : (k : ℕ) → AreFaultless s k → k ≤ c
+  few_early k faultless = elim (cases_lt c k) [
+    | inl low ↦
+        let before : end ≤ g.tick = at_low (λ e. e ≤ g.tick) (ends s) k c end (ends_low s run k faultless g stops.ended.first) stops.next low in
+        let behind = stops.behind in
+        absurd (omega (arith, before, behind))
+    | inr high ↦ high
+  ]
+
+  ends_are : ends_until s g.tick ≡ c
+  ends_are = ap length (ends_up_to s g c end stops) ∙ all_taken (ends s) c end stops.next
+
+  -- the run ends at the second end behind the fault, where the desk has told by then, or no step is left
+  pub ends_second : (n : ℕ) → IsReached s n → ((c + 2 ≤ ends_before s n) ⊎ (n ≡ length (steps s))) → n ≡ steps_to s (ends_until s g.tick + 2)
+  ends_second n at over = by_count at.count at.is at.goes_on over ∙ ap (λ k. steps_to s (k + 2)) (sym ends_are)
+    where
+      to_all : (j : ℕ) → n ≡ steps_to s j → n ≡ length (steps s) → j ≤ c + 2 → n ≡ steps_to s (c + 2)
+      to_all j is all few = all ∙ sym (steps_over s j (c + 2) few (sym is ∙ all))
+
+      by_count : (j : ℕ) → n ≡ steps_to s j → ((k : ℕ) → j ≡ suc k → (steps_to s k < n) × AreEarly s (steps_to s k)) → ((c + 2 ≤ ends_before s n) ⊎ (n ≡ length (steps s))) → n ≡ steps_to s (c + 2)
+      by_count zero is on (inl told) = absurd (let none = shown_few s 0 in let same : ends_before s n ≡ ends_before s 0 = ap (ends_before s) is in omega (arith, told, none, same))
+      by_count zero is on (inr all) = to_all 0 is all (omega arith)
+      by_count (suc k) is on (inl told) =
+          let (up, early) = on k refl in
+          let within = steps_within s (suc k) in
+          let exact : k ≤ ends_before s (steps_to s k) = shown_all s k (omega (arith, up, is, within)) in
+          let few : ends_before s (steps_to s k) - 1 ≤ c = few_early (ends_before s (steps_to s k) - 1) early in
+          let same : ends_before s n ≡ ends_before s (steps_to s (suc k)) = ap (ends_before s) is in
+          let one : suc k ≡ c + 2 = omega (arith, told, exact, few, same, shown_few s (suc k)) in
+          is ∙ ap (steps_to s) one
+      by_count (suc k) is on (inr all) =
+          let (up, early) = on k refl in
+          let within = steps_within s (suc k) in
+          let exact : k ≤ ends_before s (steps_to s k) = shown_all s k (omega (arith, up, is, within)) in
+          let few : ends_before s (steps_to s k) - 1 ≤ c = few_early (ends_before s (steps_to s k) - 1) early in
+          to_all (suc k) is all (omega (arith, exact, few))
+
+-- a desk that stands at the end of the first steps
+pub early_there : (c : OnCourse) → IsCourse c → (n : ℕ) → n ≤ length (steps c.setting) → past_of c ≡ length (turns (front (schedule c.setting) n) c.actor)
+    → AreFaultless c.setting (ends_before c.setting c.number - 1) → AreEarly c.setting n
+early_there c course n within at none =
+    subst (λ ats. AreFaultless c.setting (length (filter (λ at. is_show at.stage) ats) - 1)) (stands_there c course n within at).same_steps none
+
+-- a desk where its run ends
+module _ {P : Type 0} (s : Setting) (n : ℕ) (reached : IsReached s n) (d : OnDesk P) (desk : IsDeskOf s n d) (course : IsCourse d.course) where
+  stands : StandsThere d.course n
+  stands = stands_there d.course course n (subst (λ r. n ≤ length (steps r)) (sym desk.setting_is) (reached_within s n reached)) desk.last.0
+
+  pub between : d.course.made ≡ 0
+  between = stands.no_turn
+
+  pub ends_there : ends_before d.course.setting d.course.number ≡ ends_before d.course.setting n
+  ends_there = ap (λ ats. length (filter (λ at. is_show at.stage) ats)) stands.same_steps
+
+  -- where nothing stopped, it is behind the last step, and all ends were shown
+  module _ (none : d.stop ≡ None) (no_told : d.told ≡ true → d.stop ≡ None → ⊥) where
+    pub goes_through : n ≡ length (steps s)
+    goes_through = elim desk.last.1 [
+      | inl told ↦ absurd (no_told told none)
+      | inr all ↦ all ∙ ap (λ r. length (steps r)) desk.setting_is
+    ]
+
+    pub all_were_shown : (of : publisher.Ghosts P) → HasShown of d (ends_before d.course.setting d.course.number) → HasShown of d (length (ends s))
+    all_were_shown of = subst (HasShown of d) (ends_there ∙ ap (λ r. ends_before r n) desk.setting_is ∙ ends_all s n (omega (arith, goes_through)))
+
+  -- where a fault was told
+  module _ (of : publisher.Ghosts P) (run : IsRun s) (f g : Fault) (h : HasHalted of d (cause.Fault f)) (e : EndsIn s g) where
+    -- the desk halted in its run, and where it has told that was one end before at least
+    abbrev Late : Setting → Type 0
+    Late r = (at : HaltedAt of r d.opening d.publisher d.lots (cause.Fault f)) × (d.told ≡ true → ends_before r at.number + 2 ≤ ends_before r d.course.number)
+
+    late : Late s
+    late = subst Late desk.setting_is (
+      record {
+        number = h.number;
+        end = h.end;
+        stands = h.stands;
+        is_behind = h.shown.is_behind;
+        faultless = h.shown.faultless;
+        right = h.right;
+        brought = h.brought;
+      },
+      h.stopped.has_told,
+    )
+
+    ends_in_run : ends_before s d.course.number ≡ ends_before s n
+    ends_in_run = subst (λ r. ends_before r d.course.number ≡ ends_before r n) desk.setting_is ends_there
+
+    pub fault_ends : n ≡ steps_to s (ends_until s g.tick + 2)
+    fault_ends =
+        ends_second s run g (ends_before s late.0.number) late.0.end (stops_at of s run d.opening d.publisher d.lots f g late.0 e) n reached (elim desk.last.1 [
+          | inl told ↦ inl (let up = late.1 told in omega (arith, up, ends_in_run))
+          | inr all ↦ inr (all ∙ ap (λ r. length (steps r)) desk.setting_is)
+        ])
 
 -- ---- where a part told a fault
 

@@ -1,11 +1,9 @@
 -- The publisher's course: it meets all parts where all is shown, and nobody else.
-use Rattle.std.proofs.Common.{◌≡◌, ◌∙◌, refl, sym, ap, ap₂, subst, ℕ, zero, suc, ◌+◌, ◌-◌, ◌<◌, ◌≤◌, List, [], ◌∷◌, ◌++◌, filter, length, get_or, slice_get, nat_lt, if◌then◌else◌, Bool, true, false, cond, not, ◌&&◌, ◌==◌, Option, Some, None, arith, append-nil, true≢false, inl, inr}
+use Rattle.std.proofs.Common.{◌≡◌, ◌∙◌, refl, sym, ap, ap₂, subst, ℕ, ◌+◌, ◌-◌, ◌<◌, List, [], ◌∷◌, ◌++◌, length, get_or, slice_get, nat_lt, if◌then◌else◌, Bool, true, false, cond, not, ◌&&◌, ◌==◌, Some, arith, append-nil, true≢false}
 use Rattle.std.specs.List.{range_with_len}
-use Rattle.std.proofs.lemmas.Bool.{and_right, ne_eqb, eq-eqb, cases_lt, le-ltb}
+use Rattle.std.proofs.lemmas.Bool.{and_right, ne_eqb, eq-eqb, le-ltb}
 use Rattle.std.proofs.lemmas.List.FromFn.{length-range_with_len, get_or-range_with_len}
 use Rattle.brace_core.specs.declared.name.Name.{Name}
-use Rattle.brace_core.specs.declared.name.Turn.TheVariants.{Put, Take, Work, Done}
-use Rattle.brace_core.specs.Schedule.{turn_at}
 use Rattle.brace_pieces.specs.declared.setting.Setting.{Setting}
 use Rattle.brace_pieces.specs.declared.setting.Stage.{Stage}
 use Rattle.brace_pieces.specs.declared.setting.Stage.TheVariants as stage
@@ -15,10 +13,10 @@ use Rattle.brace_pieces.specs.declared.piece.Piece.TheVariants as piece
 use Rattle.brace_pieces.specs.declared.piece.Cause.{Cause}
 use Rattle.brace_pieces.specs.declared.piece.Shown.{Shown}
 use Rattle.brace_pieces.specs.Settings.{parts}
-use Rattle.brace_pieces.specs.Steps.{step, steps, met, meet, parts_meet, is_show, schedule}
+use Rattle.brace_pieces.specs.Steps.{step, steps, met, meet, parts_meet, is_show}
 use Rattle.brace_pieces.specs.Right.{IsRight, IsRightIn, IsRightAt, IsShown}
-use Rattle.brace_pieces.specs.Courses.{OnCourse, IsCourse, met_in, step_of, others_of, turn_in, past_of}
-use Rattle.brace_pieces.proofs.CourseLemmas.{kept_more, put_there, take_there, work_there, course_turn}
+use Rattle.brace_pieces.specs.Courses.{OnCourse, met_in, step_of, others_of}
+use Rattle.brace_pieces.proofs.CourseLemmas.{kept_more}
 use Rattle.brace_part.proofs.OutLemmas.{right_in}
 use Rattle.brace_part.proofs.TurnLemmas.{PutsNext, TakesNext}
 use Rattle.brace_num.proofs.Rows.{row_alike}
@@ -123,39 +121,3 @@ module _ (c : OnCourse) (last : c.actor ≡ parts c.setting) where
     -- or it goes no further
     pub nothing_else : (x : Piece) → IsRight c.setting n x → ((a : Cause) → x ≡ piece.Halt a → ⊥) → ((a : List Shown) → x ≡ piece.Show a → ⊥) → ⊥
     nothing_else x right halts shows = no_other x n.step takes_shown.tick n.to halts shows (right_there x right)
-
--- ---- behind the last step
-
-done_turn : (k p : ℕ) (others : List ℕ) (made : ℕ) (o : Option Step) → turn_in k p others made o ≡ Done → o ≡ None
-done_turn k p others made None is = refl
-done_turn k p others made (Some at) is = elim (cases_lt made (length others)) [
-  | inl low ↦ absurd (no_put (sym (put_there k p others made 0 low) ∙ is))
-  | inr high ↦ elim (cases_lt (made - length others) (length others)) [
-    | inl low ↦ absurd (no_take (sym (take_there k p others made (made - length others) 0 (omega (arith, high)) low) ∙ is))
-    | inr up ↦ absurd (no_work (sym (work_there k p others made (omega (arith, high, up))) ∙ is))
-  ]
-]
-  where
-    no_put : {n : Name} → Put n ≡ Done → ⊥
-    no_put e = cc
-
-    no_take : {n : Name} → Take n ≡ Done → ⊥
-    no_take e = cc
-
-    no_work : Work ≡ Done → ⊥
-    no_work e = cc
-
-module _ (c : OnCourse) (h : IsCourse c) (done : turn_at (schedule c.setting) c.actor (past_of c) ≡ Done) where
-  pub no_step : step_of c ≡ None
-  no_step = done_turn c.number c.actor (others_of c) c.made (step_of c) (course_turn c h ∙ done)
-
-  pub none_made : c.made ≡ 0
-  none_made = let nobody = ap (λ o. length (met_in c.setting o c.actor)) no_step in omega (arith, h.before_work, nobody)
-
-  pub last_behind : length (steps c.setting) ≤ c.number
-  last_behind = past (steps c.setting) c.number no_step
-    where
-      past : (xs : List Step) (n : ℕ) → slice_get xs n ≡ None → length xs ≤ n
-      past [] n is = omega arith
-      past (x ∷ xs) zero is = absurd (cc)
-      past (x ∷ xs) (suc n) is = omega (arith, past xs n is)

@@ -1,5 +1,5 @@
 -- A desk is sound behind each of its turns.
-use Rattle.std.proofs.Common.{◌≡◌, ◌∙◌, refl, sym, ap, ap₂, subst, ℕ, zero, suc, ◌+◌, ◌-◌, ◌*◌, ◌<◌, ◌≤◌, List, [], ◌∷◌, ◌++◌, map, take, take_all, length, get_or, slice_get, length-append, All, Bool, false, Option, Some, None, arith, inl, inr}
+use Rattle.std.proofs.Common.{◌≡◌, ◌∙◌, refl, sym, ap, ap₂, subst, ℕ, zero, suc, ◌+◌, ◌-◌, ◌*◌, ◌<◌, ◌≤◌, List, [], ◌∷◌, ◌++◌, map, take, take_all, length, get_or, slice_get, length-append, All, Bool, true, false, ◌||◌, Option, Some, None, arith, inl, inr}
 use Rattle.std.specs.List.{range_with_len}
 use Rattle.std.proofs.lemmas.Bool.{cases_eq}
 use Rattle.std.proofs.lemmas.List.{take_more, map-append, nil_from_length}
@@ -27,7 +27,7 @@ use Rattle.brace_crew.specs.declared.desk.Stop.{Stop}
 use Rattle.brace_crew.specs.declared.desk.Stop.TheVariants as stop
 use Rattle.brace_crew.specs.Refusals.{tick_of}
 use Rattle.brace_crew.specs.Calls.{Rises}
-use Rattle.brace_crew.specs.Desks.{OnDesk, HasShown, HasHalted, HasRefused, whole_at, ends_before}
+use Rattle.brace_crew.specs.Desks.{OnDesk, StoppedAt, HasShown, HasHalted, HasRefused, whole_at, ends_before}
 use Rattle.brace_crew.specs.inner.Lots.{brought, tick_shown}
 use Rattle.brace_crew.specs.inner.Sound.{IsLot, HalfHalted, IsOpen, IsClosedBy, IsAsItStands, IsDesk}
 use Rattle.brace_crew.proofs.EndCalls.{ends_more, ends_same, end_there, whole_call, call_there, faultless_more, behind_more}
@@ -66,18 +66,19 @@ desk_fits of d room h s same = subst (λ (r : Setting). of.fits d.publisher r.jo
 
 module _ {P : Type 0} (of : publisher.Ghosts P) (d : OnDesk P) where
   -- it stands behind so many turns of a step, with another publisher and other lots
-  abbrev pub desk_at : ℕ → ℕ → P → List Lot → Option Stop → Bool → OnDesk P
-  desk_at number made now lots why closed = record {
+  abbrev pub desk_at : ℕ → ℕ → P → List Lot → Option Stop → Bool → Bool → OnDesk P
+  desk_at number made now lots why closed told = record {
     course = record { setting = d.course.setting; actor = d.course.actor; number = number; made = made };
     opening = d.opening;
     publisher = now;
     stop = why;
     lots = lots;
     closed = closed;
+    told = told;
   }
 
-  abbrev pub desk_on : OnCourse → P → List Lot → Option Stop → Bool → OnDesk P
-  desk_on course now lots why closed = record { course = course; opening = d.opening; publisher = now; stop = why; lots = lots; closed = closed }
+  abbrev pub desk_on : OnCourse → P → List Lot → Option Stop → Bool → Bool → OnDesk P
+  desk_on course now lots why closed told = record { course = course; opening = d.opening; publisher = now; stop = why; lots = lots; closed = closed; told = told }
 
   pub rises_on : (now : P) → Rises of d.opening d.publisher → Rises of d.publisher now → Rises of d.opening now
   rises_on now before on = then_rises of d.opening d.publisher now before on
@@ -85,9 +86,9 @@ module _ {P : Type 0} (of : publisher.Ghosts P) (d : OnDesk P) where
   module _ (room : ℕ) (h : IsDesk of d room) (course : OnCourse) (place : course ≡ gone_on d.course) (places : ℕ) (same : places ≡ room) where
     -- behind a put or a take
     pub desk_within : d.course.made < 2 * length (others_of d.course) → (lots : List Lot) (why : Option Stop)
-        → IsAsItStands of (desk_at d.course.number (d.course.made + 1) d.publisher lots why d.closed) d.closed → IsDesk of (desk_on course d.publisher lots why d.closed) places
+        → IsAsItStands of (desk_at d.course.number (d.course.made + 1) d.publisher lots why d.closed d.told) d.closed → IsDesk of (desk_on course d.publisher lots why d.closed d.told) places
     desk_within low lots why stands =
-        subst (λ k. IsDesk of (desk_on k d.publisher lots why d.closed) places) (sym (place ∙ goes_within d.course low)) (record {
+        subst (λ k. IsDesk of (desk_on k d.publisher lots why d.closed d.told) places) (sym (place ∙ goes_within d.course low)) (record {
           lawful = h.lawful;
           numbers = h.numbers;
           is_last = h.is_last;
@@ -99,10 +100,10 @@ module _ {P : Type 0} (of : publisher.Ghosts P) (d : OnDesk P) where
         })
 
     -- behind its work
-    pub desk_behind : WorksNext d.course → (now : P) (lots : List Lot) (why : Option Stop) (closed : Bool) → Rises of d.publisher now
-        → IsAsItStands of (desk_at (d.course.number + 1) 0 now lots why closed) closed → IsDesk of (desk_on course now lots why closed) places
-    desk_behind turn now lots why closed rises stands =
-        subst (λ k. IsDesk of (desk_on k now lots why closed) places) (sym (place ∙ gone_is d.course turn)) (record {
+    pub desk_behind : WorksNext d.course → (now : P) (lots : List Lot) (why : Option Stop) (closed told : Bool) → Rises of d.publisher now
+        → IsAsItStands of (desk_at (d.course.number + 1) 0 now lots why closed told) closed → IsDesk of (desk_on course now lots why closed told) places
+    desk_behind turn now lots why closed told rises stands =
+        subst (λ k. IsDesk of (desk_on k now lots why closed told) places) (sym (place ∙ gone_is d.course turn)) (record {
           lawful = h.lawful;
           numbers = h.numbers;
           is_last = h.is_last;
@@ -115,27 +116,72 @@ module _ {P : Type 0} (of : publisher.Ghosts P) (d : OnDesk P) where
 
   -- ---- closed
 
-  module _ (n m : ℕ) (lots : List Lot) (why : Option Stop) (closed : Bool) where
-    shown_kept : (count : ℕ) → HasShown of d count → HasShown of (desk_at n m d.publisher lots why closed) count
+  module _ (n m : ℕ) (lots : List Lot) (why : Option Stop) (closed told : Bool) where
+    shown_kept : (count : ℕ) → HasShown of d count → HasShown of (desk_at n m d.publisher lots why closed told) count
     shown_kept count h = record { is_behind = h.is_behind; faultless = h.faultless }
 
-    halted_with : (x : Cause) (h : HasHalted of d x) → All (λ lot. IsShown d.course.setting h.end lot.part lot.worlds) lots → HasHalted of (desk_at n m d.publisher lots why closed) x
-    halted_with x h brought = record {
-      number = h.number;
-      end = h.end;
-      stands = h.stands;
-      shown = shown_kept (ends_before d.course.setting h.number) h.shown;
-      right = h.right;
-      brought = brought;
-    }
+    module _ (stopped : (count : ℕ) → StoppedAt d count → StoppedAt (desk_at n m d.publisher lots why closed told) count) where
+      halted_with : (x : Cause) (h : HasHalted of d x) → All (λ lot. IsShown d.course.setting h.end lot.part lot.worlds) lots → HasHalted of (desk_at n m d.publisher lots why closed told) x
+      halted_with x h brought = record {
+        number = h.number;
+        end = h.end;
+        stands = h.stands;
+        shown = shown_kept (ends_before d.course.setting h.number) h.shown;
+        right = h.right;
+        brought = brought;
+        stopped = stopped (ends_before d.course.setting h.number) h.stopped;
+      }
 
-    refused_kept : (x : PubFault) → HasRefused of d x → HasRefused of (desk_at n m d.publisher lots why closed) x
-    refused_kept x h = record { cut_there = h.cut_there; faultless = h.faultless }
+      refused_kept : (x : PubFault) → HasRefused of d x → HasRefused of (desk_at n m d.publisher lots why closed told) x
+      refused_kept x h = record { cut_there = h.cut_there; faultless = h.faultless; stopped = stopped h.cut_there.made h.stopped }
 
-  pub closed_kept : (n m : ℕ) (was why : Option Stop) (closed : Bool) → d.course.number ≤ n → IsClosedBy of d was → IsClosedBy of (desk_at n m d.publisher d.lots why closed) was
-  closed_kept n m None why closed up h = h
-  closed_kept n m (Some (stop.Halt x)) why closed up h = (halted_with n m d.lots why closed x h.0 h.0.brought, right_later d.course.setting d.course.number n x up h.1)
-  closed_kept n m (Some (stop.Refusal x)) why closed up h = refused_kept n m d.lots why closed x h
+  module _ (n m : ℕ) (why : Option Stop) (closed told : Bool) (stopped : (count : ℕ) → StoppedAt d count → StoppedAt (desk_at n m d.publisher d.lots why closed told) count) where
+    pub closed_kept : (was : Option Stop) → d.course.number ≤ n → IsClosedBy of d was → IsClosedBy of (desk_at n m d.publisher d.lots why closed told) was
+    closed_kept None up h = h
+    closed_kept (Some (stop.Halt x)) up h = (halted_with n m d.lots why closed told stopped x h.0 h.0.brought, right_later d.course.setting d.course.number n x up h.1)
+    closed_kept (Some (stop.Refusal x)) up h = refused_kept n m d.lots why closed told stopped x h
+
+  -- it stopped as long ago behind another turn of the step
+  pub stopped_same : (m : ℕ) (lots : List Lot) (why : Option Stop) (closed : Bool) (count : ℕ) → StoppedAt d count → StoppedAt (desk_at d.course.number m d.publisher lots why closed d.told) count
+  stopped_same m lots why closed count h = record { not_yet = h.not_yet; has_told = h.has_told }
+
+  -- behind the work of a step that shows all it has told
+  pub stopped_on : (at : Step) → step_of d.course ≡ Some at → (lots : List Lot) (why : Option Stop) (closed told : Bool) → told ≡ (d.told || is_show at.stage) → (count : ℕ) → StoppedAt d count
+      → StoppedAt (desk_at (d.course.number + 1) 0 d.publisher lots why closed told) count
+  stopped_on at is lots why closed told same count h = by_test (is_show at.stage) refl d.told refl
+    where
+      or_false : (b : Bool) → (b || false) ≡ b
+      or_false true = refl
+      or_false false = refl
+
+      or_true : (b : Bool) → (b || true) ≡ true
+      or_true true = refl
+      or_true false = refl
+
+      late : (w : Bool) → d.told ≡ w → ends_before d.course.setting (d.course.number + 1) ≡ ends_before d.course.setting d.course.number + 1 → count + 2 ≤ ends_before d.course.setting (d.course.number + 1)
+      late true was ends = let up = h.has_told was in omega (arith, up, ends)
+      late false was ends = let one = h.not_yet was in omega (arith, one, ends)
+
+      by_test : (v : Bool) → is_show at.stage ≡ v → (w : Bool) → d.told ≡ w → StoppedAt (desk_at (d.course.number + 1) 0 d.publisher lots why closed told) count
+      by_test false none w was =
+          let still : told ≡ d.told = same ∙ ap (λ v. d.told || v) none ∙ or_false d.told in
+          let ends : ends_before d.course.setting (d.course.number + 1) ≡ ends_before d.course.setting d.course.number = ends_same d.course.setting d.course.number at is none in
+          record {
+            not_yet = λ e. ends ∙ h.not_yet (sym still ∙ e);
+            has_told = λ e. (let up = h.has_told (sym still ∙ e) in omega (arith, up, ends));
+          }
+      by_test true shows w was =
+          let now : told ≡ true = same ∙ ap (λ v. d.told || v) shows ∙ or_true d.told in
+          let ends : ends_before d.course.setting (d.course.number + 1) ≡ ends_before d.course.setting d.course.number + 1 = ends_more d.course.setting d.course.number at is shows in
+          record { not_yet = λ e. absurd (let no : true ≡ false = sym now ∙ e in cc); has_told = λ e. late w was ends }
+
+  -- it stopped in a step that shows all
+  stopped_there : (now : P) (t : ℕ) → step_of d.course ≡ Some (step Show t) → d.told ≡ false → (lots : List Lot) (why : Option Stop) (closed : Bool)
+      → StoppedAt (desk_at (d.course.number + 1) 0 now lots why closed d.told) (ends_before d.course.setting d.course.number)
+  stopped_there now t is untold lots why closed = record {
+    not_yet = λ e. ends_more d.course.setting d.course.number (step Show t) is refl;
+    has_told = λ e. absurd (let no : true ≡ false = sym e ∙ untold in cc);
+  }
 
   -- why it was closed is right to be told
   pub halt_told : (was : Option Stop) (x : Cause) → IsClosedBy of d was → was ≡ Some (stop.Halt x) → IsRightCause d.course.setting d.course.number x
@@ -162,54 +208,58 @@ module _ {P : Type 0} (of : publisher.Ghosts P) (d : OnDesk P) where
     pub nothing_yet : d.course.made ≤ count → d.stop ≡ None
     nothing_yet few = no_halt d.stop few h.halting
 
-    pub open_put : (n : Name) → PutsNext d.course n → (closed : Bool) → IsOpen of (desk_at d.course.number (d.course.made + 1) d.publisher d.lots d.stop closed)
+    pub open_put : (n : Name) → PutsNext d.course n → (closed : Bool) → IsOpen of (desk_at d.course.number (d.course.made + 1) d.publisher d.lots d.stop closed d.told)
     open_put n turn closed =
         let none : d.course.made - count ≡ d.course.made + 1 - count = omega (arith, turn.low) in
         record {
-          shown = shown_kept d.course.number (d.course.made + 1) d.lots d.stop closed (ends_before d.course.setting d.course.number) h.shown;
+          shown = shown_kept d.course.number (d.course.made + 1) d.lots d.stop closed d.told (ends_before d.course.setting d.course.number) h.shown;
           brought = h.brought;
           took = λ e. h.took e ∙ ap (λ i. take i others) none;
           few = omega (arith, h.few);
           halting = halting_on (d.course.made + 1) d.stop (omega arith) h.halting;
+          untold = h.untold;
         }
 
     -- behind a take of a cause
     pub open_halt : (n : Name) → TakesNext d.course n → (x : Cause) (closed : Bool) → IsRightCause d.course.setting d.course.number x
-        → IsOpen of (desk_at d.course.number (d.course.made + 1) d.publisher d.lots (Some (stop.Halt x)) closed)
+        → IsOpen of (desk_at d.course.number (d.course.made + 1) d.publisher d.lots (Some (stop.Halt x)) closed d.told)
     open_halt n turn x closed right = record {
-      shown = shown_kept d.course.number (d.course.made + 1) d.lots (Some (stop.Halt x)) closed (ends_before d.course.setting d.course.number) h.shown;
+      shown = shown_kept d.course.number (d.course.made + 1) d.lots (Some (stop.Halt x)) closed d.told (ends_before d.course.setting d.course.number) h.shown;
       brought = h.brought;
       took = λ e. absurd (cc);
       few = omega (arith, h.few);
       halting = record { cause = x; halts = refl; right = right; takes = omega (arith, turn.high) };
+      untold = h.untold;
     }
 
     -- of one more cause
-    pub open_again : (closed : Bool) → (d.stop ≡ None → ⊥) → IsOpen of (desk_at d.course.number (d.course.made + 1) d.publisher d.lots d.stop closed)
+    pub open_again : (closed : Bool) → (d.stop ≡ None → ⊥) → IsOpen of (desk_at d.course.number (d.course.made + 1) d.publisher d.lots d.stop closed d.told)
     open_again closed some = record {
-      shown = shown_kept d.course.number (d.course.made + 1) d.lots d.stop closed (ends_before d.course.setting d.course.number) h.shown;
+      shown = shown_kept d.course.number (d.course.made + 1) d.lots d.stop closed d.told (ends_before d.course.setting d.course.number) h.shown;
       brought = h.brought;
       took = λ e. absurd (some e);
       few = omega (arith, h.few);
       halting = halting_on (d.course.made + 1) d.stop (omega arith) h.halting;
+      untold = h.untold;
     }
 
     -- of what a part shows
     pub open_lot : (n : Name) → TakesNext d.course n → (next : ShowsNext d.course) (lot : Lot) (lots : List Lot) (closed : Bool) → lots ≡ d.lots ++ lot ∷ []
         → lot.part ≡ get_or others (d.course.made - count) 0 → IsShown d.course.setting next.tick lot.part lot.worlds
-        → IsOpen of (desk_at d.course.number (d.course.made + 1) d.publisher lots d.stop closed)
+        → IsOpen of (desk_at d.course.number (d.course.made + 1) d.publisher lots d.stop closed d.told)
     open_lot n turn next lot lots closed more from shown =
         let i : ℕ = d.course.made - count in
         let on : i + 1 ≡ d.course.made + 1 - count = omega (arith, turn.high) in
         let here : IsLot d.course.setting (step_of d.course) lot = subst (λ o. IsLot d.course.setting o lot) (sym next.stands) shown in
         record {
-          shown = shown_kept d.course.number (d.course.made + 1) lots d.stop closed (ends_before d.course.setting d.course.number) h.shown;
+          shown = shown_kept d.course.number (d.course.made + 1) lots d.stop closed d.told (ends_before d.course.setting d.course.number) h.shown;
           brought = subst (All (IsLot d.course.setting (step_of d.course))) (sym more) (All-push (IsLot d.course.setting (step_of d.course)) d.lots lot h.brought here);
           took = λ e.
               ap (map (λ lot. lot.part)) more ∙ map-append (λ lot. lot.part) d.lots (lot ∷ []) ∙ ap₂ (λ xs x. xs ++ x ∷ []) (h.took e) from
               ∙ sym (take_more others i 0 turn.low) ∙ ap (λ j. take j others) on;
           few = omega (arith, h.few, on, ap length more ∙ length-append d.lots (lot ∷ []));
           halting = halting_on (d.course.made + 1) d.stop (omega arith) h.halting;
+          untold = h.untold;
         }
 
     -- it has a place for one more
@@ -229,7 +279,7 @@ module _ {P : Type 0} (of : publisher.Ghosts P) (d : OnDesk P) where
       s = d.course.setting
 
       abbrev behind_work : P → List Lot → Option Stop → Bool → OnDesk P
-      behind_work now lots why closed = desk_at (n + 1) 0 now lots why closed
+      behind_work now lots why closed = desk_at (n + 1) 0 now lots why closed d.told
 
       -- a step in which nothing is shown
       pub open_other : (at : Step) (closed : Bool) → step_of d.course ≡ Some at → is_show at.stage ≡ false → IsOpen of (behind_work d.publisher d.lots d.stop closed)
@@ -239,11 +289,12 @@ module _ {P : Type 0} (of : publisher.Ghosts P) (d : OnDesk P) where
           let went : d.stop ≡ None = nothing_yet (omega (arith, before_work, nobody)) in
           record {
             shown = subst (HasShown of (behind_work d.publisher d.lots d.stop closed)) (sym (ends_same s n at is none))
-                (shown_kept (n + 1) 0 d.lots d.stop closed (ends_before s n) h.shown);
+                (shown_kept (n + 1) 0 d.lots d.stop closed d.told (ends_before s n) h.shown);
             brought = subst (All (IsLot s (slice_get (steps s) (n + 1)))) (sym no_lot) (All-nil (IsLot s (slice_get (steps s) (n + 1))));
             took = λ e. no_lots (behind_work d.publisher d.lots d.stop closed).course d.lots no_lot;
             few = omega (arith, ap length no_lot);
             halting = subst (HalfHalted (behind_work d.publisher d.lots d.stop closed).course) (sym went) tt;
+            untold = h.untold;
           }
 
       module _ (t : ℕ) (is : step_of d.course ≡ Some (step Show t)) where
@@ -276,6 +327,7 @@ module _ {P : Type 0} (of : publisher.Ghosts P) (d : OnDesk P) where
             took = λ e. no_lots (behind_work now lots why closed).course lots none;
             few = omega (arith, ap length none);
             halting = subst (HalfHalted (behind_work now lots why closed).course) (sym goes) tt;
+            untold = h.untold;
           }
 
           -- it refused
@@ -294,6 +346,7 @@ module _ {P : Type 0} (of : publisher.Ghosts P) (d : OnDesk P) where
               saved = λ k e. rose_from _ _ _ rises.saves_rise (saved k e);
             };
             faultless = faultless_more s (ends_before s n) t (end_there s n t is) h.shown.faultless all_faultless;
+            stopped = stopped_there now t is h.untold lots o closed;
           }
 
         -- a part told a cause there, or memory was refused
@@ -304,9 +357,10 @@ module _ {P : Type 0} (of : publisher.Ghosts P) (d : OnDesk P) where
             number = n;
             end = t;
             stands = is;
-            shown = shown_kept (n + 1) 0 lots o closed (ends_before s n) h.shown;
+            shown = shown_kept (n + 1) 0 lots o closed d.told (ends_before s n) h.shown;
             right = right;
             brought = brought;
+            stopped = stopped_there d.publisher t is h.untold lots o closed;
           },
           right_later s n (n + 1) x (omega arith) right,
         )

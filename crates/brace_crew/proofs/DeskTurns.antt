@@ -1,5 +1,7 @@
 -- What a desk puts and takes is right, and it is sound behind each of its turns.
-use Rattle.std.proofs.Common.{◌≡◌, ◌∙◌, refl, sym, ap, subst, ℕ, ◌+◌, ◌<◌, List, [], ◌∷◌, ◌++◌, length, Bool, true, false, Option, Some, None, is_some, true≢false, arith}
+use Rattle.std.proofs.Common.{◌≡◌, ◌∙◌, refl, sym, ap, subst, ℕ, ◌+◌, ◌-◌, ◌<◌, ◌≤◌, List, [], ◌∷◌, ◌++◌, length, take, All, Bool, true, false, Option, Some, None, is_some, true≢false, arith}
+use Rattle.std.proofs.lemmas.List.{take-take}
+use Rattle.std.proofs.lemmas.List.Elements.{All-take}
 use Rattle.brace_core.specs.declared.name.Name.{Name}
 use Rattle.brace_core.specs.declared.name.Turn.{Turn}
 use Rattle.brace_core.specs.declared.name.Turn.TheVariants.{Put, Take, Done}
@@ -11,7 +13,7 @@ use Rattle.brace_pieces.specs.declared.piece.Piece.{Piece}
 use Rattle.brace_pieces.specs.declared.piece.Piece.TheVariants as piece
 use Rattle.brace_pieces.specs.declared.piece.Shown.{Shown}
 use Rattle.brace_pieces.specs.Steps.{schedule}
-use Rattle.brace_pieces.specs.Right.{IsRight, IsShown}
+use Rattle.brace_pieces.specs.Right.{IsRight, IsShown, IsFaultless}
 use Rattle.brace_pieces.specs.Courses.{OnCourse, turn_of, past_of, gone_on}
 use Rattle.brace_pieces.proofs.CourseLemmas.{course_turn}
 use Rattle.brace_part.proofs.TurnLemmas.{PutsNext, TakesNext, put_due, take_due, take_of, put_named, take_named, some_put}
@@ -21,12 +23,12 @@ use Rattle.brace_crew.specs.declared.publisher.Publisher as publisher
 use Rattle.brace_crew.specs.declared.desk.Lot.{Lot}
 use Rattle.brace_crew.specs.declared.desk.Stop.{Stop}
 use Rattle.brace_crew.specs.declared.desk.Stop.TheVariants as stop
-use Rattle.brace_pieces.specs.Settings.{ends}
-use Rattle.brace_crew.specs.Desks.{OnDesk, HasShown, HasHalted, HasRefused, ends_before}
+use Rattle.brace_pieces.specs.declared.setting.Setting.{Setting}
+use Rattle.brace_pieces.specs.Settings.{parts, ends}
+use Rattle.brace_crew.specs.Desks.{OnDesk, AreFaultless, HasShown, HasHalted, HasRefused, ends_before}
 use Rattle.brace_crew.specs.inner.Sound.{HalfHalted, IsOpen, IsClosedBy, IsAsItStands, IsDesk}
-use Rattle.brace_crew.proofs.EndCalls.{ends_all}
-use Rattle.brace_crew.proofs.DeskCourses.{ack_right, takes_shown, takes_from, shown_taken, nothing_else, none_made, last_behind}
-use Rattle.brace_crew.proofs.DeskKept.{desk_at, desk_on, desk_within, closed_kept, halt_told, nothing_yet, open_put, open_halt, open_again, open_lot, has_place}
+use Rattle.brace_crew.proofs.DeskCourses.{ack_right, takes_shown, takes_from, shown_taken, nothing_else}
+use Rattle.brace_crew.proofs.DeskKept.{desk_at, desk_on, desk_within, closed_kept, stopped_same, halt_told, nothing_yet, open_put, open_halt, open_again, open_lot, has_place}
 use Rattle.brace_num.proofs.Options.{some_none}
 
 -- the turn of the schedule that a desk is due
@@ -40,22 +42,55 @@ some_left o some none = true≢false (sym some ∙ ap is_some none)
 take_same : (m n : Name) → Take m ≡ Take n → m ≡ n
 take_same m n e = cc
 
+-- of ends before which no part found a fault these are the first
+pub fewer_faultless : (s : Setting) (m k : ℕ) → k ≤ m → AreFaultless s m → AreFaultless s k
+fewer_faultless s m k up all =
+    let Q : ℕ → Type 0 = λ end. (p : ℕ) → p < parts s → IsFaultless s end p in
+    subst (All Q) (take-take k m (ends s) up) (All-take Q k (take m (ends s)) all)
+
 module _ {P : Type 0} (of : publisher.Ghosts P) (d : OnDesk P) (room : ℕ) (h : IsDesk of d room) where
   -- ---- why it publishes nothing any more
 
-  pub stop_none : d.stop ≡ None → turn_due d ≡ Done → HasShown of d (length (ends d.course.setting))
-  stop_none none done = by_closed d.closed h.stands
+  pub stop_none : d.stop ≡ None → HasShown of d (ends_before d.course.setting d.course.number)
+  stop_none none = by_closed d.closed h.stands
     where
-      by_closed : (b : Bool) → IsAsItStands of d b → HasShown of d (length (ends d.course.setting))
+      by_closed : (b : Bool) → IsAsItStands of d b → HasShown of d (ends_before d.course.setting d.course.number)
       by_closed true by = absurd (subst (IsClosedBy of d) none by)
-      by_closed false goes = subst (HasShown of d) (ends_all d.course.setting d.course.number (last_behind d.course h.on_course done)) goes.shown
+      by_closed false goes = goes.shown
 
-  pub stop_halted : (x : Cause) → d.stop ≡ Some (stop.Halt x) → turn_due d ≡ Done → HasHalted of d x
-  stop_halted x is done = by_closed d.closed h.stands
+  pub stop_halted : (x : Cause) → d.stop ≡ Some (stop.Halt x) → d.course.made ≡ 0 → HasHalted of d x
+  stop_halted x is between = by_closed d.closed h.stands
     where
       by_closed : (b : Bool) → IsAsItStands of d b → HasHalted of d x
       by_closed true by = (subst (IsClosedBy of d) is by).0
-      by_closed false goes = absurd (some_none d.stop (stop.Halt x) is (nothing_yet of d goes (omega (arith, none_made d.course h.on_course done))))
+      by_closed false goes = absurd (some_none d.stop (stop.Halt x) is (nothing_yet of d goes (omega (arith, between))))
+
+  -- ---- whether its Halt was put to all
+
+  pub told_stopped : d.told ≡ true → d.stop ≡ None → ⊥
+  told_stopped told none = by_closed d.closed h.stands
+    where
+      by_closed : (b : Bool) → IsAsItStands of d b → ⊥
+      by_closed true by = subst (IsClosedBy of d) none by
+      by_closed false goes = absurd (let no : true ≡ false = sym told ∙ goes.untold in cc)
+
+  abbrev ends_here : ℕ
+  ends_here = ends_before d.course.setting d.course.number
+
+  pub told_early : d.told ≡ false → AreFaultless d.course.setting (ends_here - 1)
+  told_early untold = by_closed d.closed h.stands
+    where
+      by_stop : (o : Option Stop) → d.stop ≡ o → IsClosedBy of d o → AreFaultless d.course.setting (ends_here - 1)
+      by_stop None is by = absurd by
+      by_stop (Some (stop.Halt x)) is by =
+          let one = by.0.stopped.not_yet untold in
+          let there : ends_before d.course.setting by.0.number ≡ ends_here - 1 = omega (arith, one) in
+          subst (AreFaultless d.course.setting) there by.0.shown.faultless
+      by_stop (Some (stop.Refusal x)) is by = let one = by.stopped.not_yet untold in fewer_faultless d.course.setting (by.cut_there.made + 1) (ends_here - 1) (omega (arith, one)) by.faultless
+
+      by_closed : (b : Bool) → IsAsItStands of d b → AreFaultless d.course.setting (ends_here - 1)
+      by_closed true by = by_stop d.stop refl by
+      by_closed false goes = fewer_faultless d.course.setting ends_here (ends_here - 1) (omega arith) goes.shown.faultless
 
   pub stop_refused : (x : PubFault) → d.stop ≡ Some (stop.Refusal x) → HasRefused of d x
   stop_refused x is = by_closed d.closed h.stands
@@ -93,11 +128,11 @@ module _ {P : Type 0} (of : publisher.Ghosts P) (d : OnDesk P) (room : ℕ) (h :
       next_put : (n : Name) × PutsNext d.course n
       next_put = some_put d.course h.on_course due_put
 
-      pub desk_put : (course : OnCourse) → course ≡ gone_on d.course → IsDesk of (desk_on of d course d.publisher d.lots d.stop d.closed) room
+      pub desk_put : (course : OnCourse) → course ≡ gone_on d.course → IsDesk of (desk_on of d course d.publisher d.lots d.stop d.closed d.told) room
       desk_put course place = desk_within of d room h course place room refl (omega (arith, next_put.1.low)) d.lots d.stop (by_closed d.closed h.stands)
         where
-          by_closed : (b : Bool) → IsAsItStands of d b → IsAsItStands of (desk_at of d d.course.number (d.course.made + 1) d.publisher d.lots d.stop d.closed) b
-          by_closed true by = closed_kept of d d.course.number (d.course.made + 1) d.stop d.stop d.closed (omega arith) by
+          by_closed : (b : Bool) → IsAsItStands of d b → IsAsItStands of (desk_at of d d.course.number (d.course.made + 1) d.publisher d.lots d.stop d.closed d.told) b
+          by_closed true by = closed_kept of d d.course.number (d.course.made + 1) d.stop d.closed d.told (stopped_same of d (d.course.made + 1) d.lots d.stop d.closed) d.stop (omega arith) by
           by_closed false goes = open_put of d goes next_put.0 next_put.1 d.closed
 
     -- each piece that it puts is right
@@ -139,17 +174,17 @@ module _ {P : Type 0} (of : publisher.Ghosts P) (d : OnDesk P) (room : ℕ) (h :
       take_turn = (named.0, course_turn d.course h.on_course ∙ named.1)
 
       abbrev pub taken : List Lot → Option Stop → OnDesk P
-      taken lots why = desk_at of d d.course.number (d.course.made + 1) d.publisher lots why d.closed
+      taken lots why = desk_at of d d.course.number (d.course.made + 1) d.publisher lots why d.closed d.told
 
       pub desk_take : (course : OnCourse) → course ≡ gone_on d.course → (lots : List Lot) (why : Option Stop) (places : ℕ) → places ≡ room
-          → IsAsItStands of (taken lots why) d.closed → IsDesk of (desk_on of d course d.publisher lots why d.closed) places
+          → IsAsItStands of (taken lots why) d.closed → IsDesk of (desk_on of d course d.publisher lots why d.closed d.told) places
       desk_take course place lots why places same stands = desk_within of d room h course place places same (omega (arith, next_take.low, next_take.high)) lots why stands
 
       -- closed it takes nothing
-      pub take_closed : (course : OnCourse) → course ≡ gone_on d.course → d.closed ≡ true → IsDesk of (desk_on of d course d.publisher d.lots d.stop d.closed) room
+      pub take_closed : (course : OnCourse) → course ≡ gone_on d.course → d.closed ≡ true → IsDesk of (desk_on of d course d.publisher d.lots d.stop d.closed d.told) room
       take_closed course place is =
           desk_take course place d.lots d.stop room refl
-          (subst (IsAsItStands of (taken d.lots d.stop)) (sym is) (closed_kept of d d.course.number (d.course.made + 1) d.stop d.stop d.closed (omega arith) (subst (IsAsItStands of d) is h.stands)))
+          (subst (IsAsItStands of (taken d.lots d.stop)) (sym is) (closed_kept of d d.course.number (d.course.made + 1) d.stop d.closed d.told (stopped_same of d (d.course.made + 1) d.lots d.stop d.closed) d.stop (omega arith) (subst (IsAsItStands of d) is h.stands)))
 
       module _ (x : Piece) (right : (n : Name) → turn_due now ≡ Take n → IsRight now.course.setting n x) (is : d.closed ≡ false) where
         right_here : IsRight d.course.setting named.0 x
@@ -161,17 +196,17 @@ module _ {P : Type 0} (of : publisher.Ghosts P) (d : OnDesk P) (room : ℕ) (h :
         goes = subst (IsAsItStands of d) is h.stands
 
         open_taken : (course : OnCourse) → course ≡ gone_on d.course → (lots : List Lot) (why : Option Stop) (places : ℕ) → places ≡ room
-            → IsOpen of (taken lots why) → IsDesk of (desk_on of d course d.publisher lots why d.closed) places
+            → IsOpen of (taken lots why) → IsDesk of (desk_on of d course d.publisher lots why d.closed d.told) places
         open_taken course place lots why places same stands = desk_take course place lots why places same (subst (IsAsItStands of (taken lots why)) (sym is) stands)
 
         -- the first cause
-        pub take_first : (course : OnCourse) → course ≡ gone_on d.course → (y : Cause) → x ≡ piece.Halt y → IsDesk of (desk_on of d course d.publisher d.lots (Some (stop.Halt y)) d.closed) room
+        pub take_first : (course : OnCourse) → course ≡ gone_on d.course → (y : Cause) → x ≡ piece.Halt y → IsDesk of (desk_on of d course d.publisher d.lots (Some (stop.Halt y)) d.closed d.told) room
         take_first course place y halts =
             open_taken course place d.lots (Some (stop.Halt y)) room refl
             (open_halt of d goes named.0 next_take y d.closed (take_halt d.course named.0 y next_take (subst (IsRight d.course.setting named.0) halts right_here)))
 
         -- another one
-        pub take_again : (course : OnCourse) → course ≡ gone_on d.course → (d.stop ≡ None → ⊥) → IsDesk of (desk_on of d course d.publisher d.lots d.stop d.closed) room
+        pub take_again : (course : OnCourse) → course ≡ gone_on d.course → (d.stop ≡ None → ⊥) → IsDesk of (desk_on of d course d.publisher d.lots d.stop d.closed d.told) room
         take_again course place some = open_taken course place d.lots d.stop room refl (open_again of d goes d.closed some)
 
         -- it has a place for what a part shows
@@ -181,7 +216,7 @@ module _ {P : Type 0} (of : publisher.Ghosts P) (d : OnDesk P) (room : ℕ) (h :
         -- what a part shows
         pub take_lot : (course : OnCourse) → course ≡ gone_on d.course → (m : Name) → turn_of d.course ≡ Take m → (worlds : List Shown) → x ≡ piece.Show worlds
             → (lots : List Lot) → lots ≡ d.lots ++ record { part = m.from; worlds = worlds } ∷ [] → (places : ℕ) → places ≡ room
-            → IsDesk of (desk_on of d course d.publisher lots d.stop d.closed) places
+            → IsDesk of (desk_on of d course d.publisher lots d.stop d.closed d.told) places
         take_lot course place m due worlds shows lots more places same =
             let n : Name = named.0 in
             let turn = next_take in

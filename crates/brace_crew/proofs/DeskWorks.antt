@@ -1,5 +1,5 @@
 -- A desk is sound behind its work.
-use Rattle.std.proofs.Common.{◌≡◌, ◌∙◌, refl, sym, ap, subst, ℕ, ◌+◌, List, [], map, All, Bool, true, false, Option, Some, None, is_some, Result, Err, arith}
+use Rattle.std.proofs.Common.{◌≡◌, ◌∙◌, refl, sym, ap, subst, ℕ, ◌+◌, List, [], map, All, Bool, true, false, ◌||◌, Option, Some, None, is_some, Result, Err, arith}
 use Rattle.std.specs.List.{range_with_len}
 use Rattle.std.proofs.lemmas.List.Elements.{All-nil}
 use Rattle.brace_core.specs.declared.name.Turn.TheVariants.{Work, Done}
@@ -24,8 +24,8 @@ use Rattle.brace_crew.specs.Refusals.{tick_of}
 use Rattle.brace_crew.specs.Calls.{Rises}
 use Rattle.brace_crew.specs.Desks.{OnDesk, whole_at}
 use Rattle.brace_crew.specs.inner.Lots.{brought, tick_shown}
-use Rattle.brace_crew.specs.inner.Sound.{IsOpen, IsClosedBy, IsAsItStands, IsDesk}
-use Rattle.brace_crew.proofs.DeskKept.{desk_at, desk_on, desk_behind, closed_kept, open_other, lots_whole, open_shown, refused_shown, halted_shown, stopped_shown}
+use Rattle.brace_crew.specs.inner.Sound.{IsOpen, IsClosedBy, IsAsItStands, IsDesk, shows_in}
+use Rattle.brace_crew.proofs.DeskKept.{desk_at, desk_on, desk_behind, closed_kept, stopped_on, open_other, lots_whole, open_shown, refused_shown, halted_shown, stopped_shown}
 use Rattle.brace_crew.proofs.DeskTurns.{turn_due}
 use Rattle.brace_crew.proofs.RiseLemmas.{stays_risen}
 
@@ -44,30 +44,31 @@ module _ {P : Type 0} (of : publisher.Ghosts P) (d : OnDesk P) (room : ℕ) (h :
   pub next_work : WorksNext d.course
   next_work = work_named d.course h.on_course due_work
 
-  abbrev pub worked : P → List Lot → Option Stop → Bool → OnDesk P
-  worked p lots why closed = desk_at of d (d.course.number + 1) 0 p lots why closed
+  abbrev pub worked : P → List Lot → Option Stop → Bool → Bool → OnDesk P
+  worked p lots why closed told = desk_at of d (d.course.number + 1) 0 p lots why closed told
 
   module _ (course : OnCourse) (place : course ≡ gone_on d.course) where
-    desk_work : (p : P) (lots : List Lot) (why : Option Stop) (closed : Bool) (places : ℕ) → places ≡ room → Rises of d.publisher p
-        → IsAsItStands of (worked p lots why closed) closed → IsDesk of (desk_on of d course p lots why closed) places
-    desk_work p lots why closed places same rises stands = desk_behind of d room h course place places same next_work p lots why closed rises stands
+    desk_work : (p : P) (lots : List Lot) (why : Option Stop) (closed told : Bool) (places : ℕ) → places ≡ room → Rises of d.publisher p
+        → IsAsItStands of (worked p lots why closed told) closed → IsDesk of (desk_on of d course p lots why closed told) places
+    desk_work p lots why closed told places same rises stands = desk_behind of d room h course place places same next_work p lots why closed told rises stands
 
-    -- closed it does nothing
-    pub work_closed : d.closed ≡ true → IsDesk of (desk_on of d course d.publisher d.lots d.stop d.closed) room
-    work_closed is =
-        desk_work d.publisher d.lots d.stop d.closed room refl (stays_risen of d.publisher)
-        (subst (IsAsItStands of (worked d.publisher d.lots d.stop d.closed)) (sym is)
-        (closed_kept of d (d.course.number + 1) 0 d.stop d.stop d.closed (omega arith) (subst (IsAsItStands of d) is h.stands)))
+    -- closed it notes whether its Halt was put to all
+    pub work_closed : d.closed ≡ true → (told : Bool) → told ≡ (d.told || shows_in (step_of d.course)) → IsDesk of (desk_on of d course d.publisher d.lots d.stop d.closed told) room
+    work_closed is told same =
+        let at : told ≡ (d.told || is_show next_work.at.stage) = same ∙ ap (λ o. d.told || shows_in o) next_work.stands in
+        desk_work d.publisher d.lots d.stop d.closed told room refl (stays_risen of d.publisher)
+        (subst (IsAsItStands of (worked d.publisher d.lots d.stop d.closed told)) (sym is)
+        (closed_kept of d (d.course.number + 1) 0 d.stop d.closed told (stopped_on of d next_work.at next_work.stands d.lots d.stop d.closed told at) d.stop (omega arith) (subst (IsAsItStands of d) is h.stands)))
 
     module _ (is_open : d.closed ≡ false) where
       goes : IsOpen of d
       goes = subst (IsAsItStands of d) is_open h.stands
 
       -- nothing is shown
-      pub work_other : (at : Step) → step_of d.course ≡ Some at → is_show at.stage ≡ false → IsDesk of (desk_on of d course d.publisher d.lots d.stop d.closed) room
+      pub work_other : (at : Step) → step_of d.course ≡ Some at → is_show at.stage ≡ false → IsDesk of (desk_on of d course d.publisher d.lots d.stop d.closed d.told) room
       work_other at is none =
-          desk_work d.publisher d.lots d.stop d.closed room refl (stays_risen of d.publisher)
-          (subst (IsAsItStands of (worked d.publisher d.lots d.stop d.closed)) (sym is_open)
+          desk_work d.publisher d.lots d.stop d.closed d.told room refl (stays_risen of d.publisher)
+          (subst (IsAsItStands of (worked d.publisher d.lots d.stop d.closed d.told)) (sym is_open)
           (open_other of d goes next_work h.is_last h.on_course.before_work at d.closed is none))
 
       module _ (at : Step) (stands : step_of d.course ≡ Some at) (shows : at.stage ≡ Show) (s : Setting) (same_setting : s ≡ d.course.setting) where
@@ -84,18 +85,18 @@ module _ {P : Type 0} (of : publisher.Ghosts P) (d : OnDesk P) (room : ℕ) (h :
             (lots_whole of d goes next_work h.is_last h.on_course.before_work t is went)
 
         -- it stopped in this step
-        pub work_stopped : (closed : Bool) → (d.stop ≡ None → ⊥) → closed ≡ is_some d.stop → IsDesk of (desk_on of d course d.publisher d.lots d.stop closed) room
+        pub work_stopped : (closed : Bool) → (d.stop ≡ None → ⊥) → closed ≡ is_some d.stop → IsDesk of (desk_on of d course d.publisher d.lots d.stop closed d.told) room
         work_stopped closed some ends =
-            desk_work d.publisher d.lots d.stop closed room refl (stays_risen of d.publisher)
-            (subst (IsAsItStands of (worked d.publisher d.lots d.stop closed)) (sym ends)
-            (closed_by of (worked d.publisher d.lots d.stop closed) d.stop some (stopped_shown of d goes next_work h.is_last h.on_course.before_work t is d.stop closed some) refl))
+            desk_work d.publisher d.lots d.stop closed d.told room refl (stays_risen of d.publisher)
+            (subst (IsAsItStands of (worked d.publisher d.lots d.stop closed d.told)) (sym ends)
+            (closed_by of (worked d.publisher d.lots d.stop closed d.told) d.stop some (stopped_shown of d goes next_work h.is_last h.on_course.before_work t is d.stop closed some) refl))
 
         module _ (went : d.stop ≡ None) (p : P) (lots : List Lot) (none : lots ≡ []) (places : ℕ) (same : places ≡ room) (rises : Rises of d.publisher p) (closed : Bool) where
           -- the publisher took all
-          pub work_shown : closed ≡ is_some d.stop → of.state p ≡ of.after (of.state d.publisher) s t (map (whole_at s) (shown_ticks s t)) → IsDesk of (desk_on of d course p lots d.stop closed) places
+          pub work_shown : closed ≡ is_some d.stop → of.state p ≡ of.after (of.state d.publisher) s t (map (whole_at s) (shown_ticks s t)) → IsDesk of (desk_on of d course p lots d.stop closed d.told) places
           work_shown ends done =
-              desk_work p lots d.stop closed places same rises
-              (subst (IsAsItStands of (worked p lots d.stop closed)) (sym (ends ∙ ap is_some went))
+              desk_work p lots d.stop closed d.told places same rises
+              (subst (IsAsItStands of (worked p lots d.stop closed d.told)) (sym (ends ∙ ap is_some went))
               (open_shown of d goes next_work h.is_last h.on_course.before_work t is went p lots d.stop closed none went
               (subst (λ (r : Setting). of.state p ≡ of.after (of.state d.publisher) r t (map (whole_at r) (shown_ticks r t))) same_setting done)))
 
@@ -106,10 +107,10 @@ module _ {P : Type 0} (of : publisher.Ghosts P) (d : OnDesk P) (room : ℕ) (h :
               (halted : (c : Cause) → r ≡ Err (stop.Halt c) → (c ≡ cause.NoMemory) × (p ≡ d.publisher))
               (written : r ≡ Err (stop.Refusal fault.Write) → Rose (of.writes d.publisher) (of.writes p))
               (saved : (x : PubFault) (k : ℕ) → r ≡ Err (stop.Refusal x) → tick_of x ≡ Some k → Rose (of.saves d.publisher) (of.saves p)) where
-            closed_so : (y : Stop) → r ≡ Err y → IsClosedBy of (worked p lots (Some y) closed) (Some y)
+            closed_so : (y : Stop) → r ≡ Err y → IsClosedBy of (worked p lots (Some y) closed d.told) (Some y)
             closed_so (stop.Halt c) e =
                 let (memory, kept) = halted c e in
-                subst (λ q. IsClosedBy of (worked q lots (Some (stop.Halt c)) closed) (Some (stop.Halt c))) (sym kept)
+                subst (λ q. IsClosedBy of (worked q lots (Some (stop.Halt c)) closed d.told) (Some (stop.Halt c))) (sym kept)
                 (halted_shown of d goes next_work h.is_last h.on_course.before_work t is c lots (Some (stop.Halt c)) closed
                 (subst (All (λ lot. IsShown d.course.setting t lot.part lot.worlds)) (sym none) (All-nil (λ lot. IsShown d.course.setting t lot.part lot.worlds)))
                 (subst (IsRightCause d.course.setting d.course.number) (sym memory) tt))
@@ -118,6 +119,6 @@ module _ {P : Type 0} (of : publisher.Ghosts P) (d : OnDesk P) (room : ℕ) (h :
                 (subst (λ (r : Setting). of.cut (of.state d.publisher) r t (map (whole_at r) (shown_ticks r t)) x (of.state p)) same_setting (refused x e))
                 (λ k is. named x k e is) (λ same. written (e ∙ ap (λ z. Err (stop.Refusal z)) same)) (λ k is. saved x k e is)
 
-            pub work_refused : (y : Stop) → r ≡ Err y → closed ≡ is_some (Some y) → IsDesk of (desk_on of d course p lots (Some y) closed) places
+            pub work_refused : (y : Stop) → r ≡ Err y → closed ≡ is_some (Some y) → IsDesk of (desk_on of d course p lots (Some y) closed d.told) places
             work_refused y e ends =
-                desk_work p lots (Some y) closed places same rises (subst (IsAsItStands of (worked p lots (Some y) closed)) (sym ends) (closed_so y e))
+                desk_work p lots (Some y) closed d.told places same rises (subst (IsAsItStands of (worked p lots (Some y) closed d.told)) (sym ends) (closed_so y e))

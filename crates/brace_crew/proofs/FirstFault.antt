@@ -1,9 +1,8 @@
 -- What the parts of a run tell: where they tell faults and nothing else, the least of these is the run's first.
-use Rattle.std.proofs.Common.{◌≡◌, ◌∙◌, refl, sym, ap, subst, ℕ, ◌+◌, ◌-◌, ◌<◌, ◌≤◌, List, [], flat_map, length, Bool, true, false, if◌then◌else◌, Option, Some, None, IfSome, slice_get, All, Contains, arith, ⊎_elim}
-use Rattle.std.specs.List.{range_with_len}
+use Rattle.std.proofs.Common.{◌≡◌, ◌∙◌, refl, sym, ap, subst, ℕ, ◌<◌, ◌≤◌, List, [], flat_map, length, Bool, true, false, if◌then◌else◌, Option, Some, None, IfSome, slice_get, All, Contains, arith, ⊎_elim}
 use Rattle.std.proofs.lemmas.Option.{slice_get_within}
-use Rattle.std.proofs.lemmas.List.FromFn.{length-range_with_len, get_or-range_with_len}
 use Rattle.std.proofs.lemmas.List.Elements.{All-contains, All-contains_itself, All-weaker, Contains-append_left, Contains-append_right}
+use Rattle.brace_core.specs.Schedule.{front, turns}
 use Rattle.brace_model.specs.declared.fault.Fault.{Fault}
 use Rattle.brace_model.specs.declared.fault.Phase.{Phase}
 use Rattle.brace_model.specs.declared.fault.Phase.TheVariants.{Query, Update, Birth}
@@ -17,12 +16,13 @@ use Rattle.brace_pieces.specs.declared.piece.Cause.{Cause}
 use Rattle.brace_pieces.specs.declared.piece.Cause.TheVariants as cause
 use Rattle.brace_pieces.specs.Settings.{LawfulSetting, parts}
 use Rattle.brace_pieces.specs.Numbers.{NumbersFit}
-use Rattle.brace_pieces.specs.Steps.{steps}
+use Rattle.brace_pieces.specs.Steps.{steps, schedule}
 use Rattle.brace_pieces.specs.Continued.{on}
 use Rattle.brace_pieces.specs.Finds.{queries_found, updates_found, found_at, stage_of}
 use Rattle.brace_pieces.specs.Right.{IsTold, IsRightCause}
 use Rattle.brace_pieces.specs.Halts.{StandsFirst, FollowsFirst}
-use Rattle.brace_pieces.specs.Courses.{OnCourse}
+use Rattle.brace_pieces.specs.Courses.{OnCourse, IsCourse, past_of}
+use Rattle.brace_pieces.proofs.CourseLemmas.{StandsThere, stands_there}
 use Rattle.brace_pieces.proofs.HaltLemmas.{halt_found}
 use Rattle.brace_pieces.proofs.Origins.{of_map, of_flat_map, flat_map_of}
 use Rattle.brace_pieces.proofs.OrderLemmas.{stands_once}
@@ -31,9 +31,8 @@ use Rattle.brace_part.specs.Parts.{found_in_work}
 use Rattle.brace_crew.specs.declared.member.Member.{Member}
 use Rattle.brace_crew.specs.declared.member.Member.TheVariants as member
 use Rattle.brace_pieces.specs.Finds.{found_by}
-use Rattle.brace_crew.specs.Members.{course_of, IsDone}
+use Rattle.brace_crew.specs.Members.{course_of, IsAt}
 use Rattle.brace_crew.specs.inner.Crews.{AreParts, fault_in, told_by, TellsAll, IsTelling}
-use Rattle.brace_crew.proofs.DeskCourses.{last_behind}
 use Rattle.brace_num.proofs.Rows.{row_has}
 
 -- a lawful run
@@ -86,7 +85,7 @@ module _ (s : Setting) (g : Fault) (e : EndsIn s g) (number : ℕ) (f : Fault) (
 
 -- ---- a part that finds the first fault tells it
 
-module _ (c : OnCourse) (o : Option Cause) (tells : TellsAll c o) (behind : length (steps c.setting) ≤ c.number) (g : Fault) where
+module _ (c : OnCourse) (o : Option Cause) (tells : TellsAll c o) (g : Fault) where
   -- it tells nothing that it had before
   nothing_before : EndsIn c.setting g → (k : ℕ) → slice_get (steps c.setting) k ≡ Some (found_at c.setting g) → (f : Fault) → IsTold c.setting k f → ⊥
   nothing_before e k stands f told =
@@ -96,20 +95,19 @@ module _ (c : OnCourse) (o : Option Cause) (tells : TellsAll c o) (behind : leng
       let least = h.none_before told.behind.place told.behind.stands_there in
       omega (arith, there, low, least)
 
-  pub tells_first : EndsIn c.setting g → (k : ℕ) → slice_get (steps c.setting) k ≡ Some (found_at c.setting g) → Contains (found_by c.setting g.tick c.actor g.phase) g → o ≡ Some (cause.Fault g)
-  tells_first e k stands finds =
+  pub tells_first : EndsIn c.setting g → (k : ℕ) → slice_get (steps c.setting) k ≡ Some (found_at c.setting g) → k < c.number → Contains (found_by c.setting g.tick c.actor g.phase) g → o ≡ Some (cause.Fault g)
+  tells_first e k stands low finds =
       let work = found_in_work c.setting c.actor (stage_of c.setting g.phase) g.tick in
       let has : Contains work g = in_work c.setting g.tick c.actor g.phase g finds in
       let (f, is) = some_least work g has in
-      let (among, low) = (least_is work f).0 is in
-      let within = slice_get_within (steps c.setting) k (found_at c.setting g) stands in
+      let (among, no_less) = (least_is work f).0 is in
       ⊎_elim (λ (told : o ≡ Some (cause.Fault f)).
       let right : IsTold c.setting c.number f = subst (λ v. IfSome v (IsRightCause c.setting c.number)) told tells.right in
-      told ∙ ap (λ x. Some (cause.Fault x)) (one_before f g (none_less c.setting g e c.number f right) (All-contains (λ x. comes_before x f ≡ false) work g low has)))
+      told ∙ ap (λ x. Some (cause.Fault x)) (one_before f g (none_less c.setting g e c.number f right) (All-contains (λ x. comes_before x f ≡ false) work g no_less has)))
       (λ (had : (d : Cause) × ((o ≡ Some d) × IsRightCause c.setting k d)).
       let (f, is) = tells.no_other had.0 had.1.0 in
       absurd (nothing_before e k stands f (subst (IsRightCause c.setting k) is had.1.1)))
-      (tells.found k (found_at c.setting g) (omega (arith, within, behind)) stands f is)
+      (tells.found k (found_at c.setting g) (omega (arith, low)) stands f is)
 
 -- ---- all parts together
 
@@ -119,39 +117,56 @@ told_cause (Some (cause.Fault g)) f has = only_one (λ x. Some (cause.Fault g) �
 told_cause (Some cause.NoMemory) f has = none_within _ f has
 told_cause (Some cause.Closed) f has = none_within _ f has
 
-module _ {P : Type 0} (s : Setting) where
-  -- what a member tells is told in its run
-  told_right : (m : Member P) → IsTelling m → (course_of m).setting ≡ s → (f : Fault) → Contains (told_by m) f → (number : ℕ) × IsTold s number f
-  told_right (member.Part p) tells of f has =
+-- the parts stand at the end of the first steps of their run, so many
+there : (s : Setting) (n : ℕ) → n ≤ length (steps s) → (c : OnCourse) → IsCourse c → c.setting ≡ s → past_of c ≡ length (turns (front (schedule c.setting) n) c.actor) → StandsThere c n
+there s n within c course of at = stands_there c course n (subst (λ r. n ≤ length (steps r)) (sym of) within) at
+
+module _ {P : Type 0} (s : Setting) (n : ℕ) (within : n ≤ length (steps s)) where
+  -- what a member tells is told in its run, before that end
+  told_right : (m : Member P) → IsTelling m → IsAt n m → (course_of m).setting ≡ s → (f : Fault) → Contains (told_by m) f
+      → (number : ℕ) × (IsTold s number f × ((k : ℕ) → k < number → k < length (steps s) → k < n))
+  told_right (member.Part p) tells at of f has =
       let right : IsTold p.course.setting p.course.number f = subst (λ o. IfSome o (IsRightCause p.course.setting p.course.number)) (told_cause p.cause f has) tells.right in
-      (p.course.number, subst (λ r. IsTold r p.course.number f) of right)
-  told_right (member.Desk d) tells of f has = absurd tells
+      let early = (there s n within p.course tells.on_course of at).no_later in (
+        p.course.number,
+        (
+          subst (λ r. IsTold r p.course.number f) of right,
+          subst (λ r. (k : ℕ) → k < p.course.number → k < length (steps r) → k < n) of early,
+        ),
+      )
+  told_right (member.Desk d) tells at of f has = absurd tells
 
-  finder_tells : (m : Member P) → IsTelling m → IsDone m → (course_of m).setting ≡ s → (g : Fault) → EndsIn s g → (k : ℕ) → slice_get (steps s) k ≡ Some (found_at s g)
+  finder_tells : (m : Member P) → IsTelling m → IsAt n m → (course_of m).setting ≡ s → (g : Fault) → EndsIn s g → (k : ℕ) → slice_get (steps s) k ≡ Some (found_at s g) → k < n
       → Contains (found_by s g.tick (course_of m).actor g.phase) g → Contains (told_by m) g
-  finder_tells (member.Part p) tells done of g e k stands finds =
+  finder_tells (member.Part p) tells at of g e k stands low finds =
       let c = p.course in
+      let behind = (there s n within p.course tells.on_course of at).behind in
       let cause_is = subst (λ r. EndsIn r g → slice_get (steps r) k ≡ Some (found_at r g) → Contains (found_by r g.tick c.actor g.phase) g → p.cause ≡ Some (cause.Fault g)) of
-      (λ e stands finds. tells_first c p.cause tells (last_behind c tells.on_course done) g e k stands finds) e stands finds in
+      (λ e stands finds. tells_first c p.cause tells g e k stands (omega (arith, low, behind)) finds) e stands finds in
       subst (λ o. Contains (fault_in o) g) (sym cause_is) (0, omega arith, refl)
-  finder_tells (member.Desk d) tells done of g e k stands finds = absurd tells
+  finder_tells (member.Desk d) tells at of g e k stands low finds = absurd tells
 
-  module _ (members : List (Member P)) (are : AreParts s members) (telling : All IsTelling members) where
+  module _ (members : List (Member P)) (are : AreParts s members) (telling : All IsTelling members) (at : All (IsAt n) members) where
     -- each fault that is told is told by one of them
-    told_of : (f : Fault) → Contains (flat_map told_by members) f → (number : ℕ) × IsTold s number f
+    told_of : (f : Fault) → Contains (flat_map told_by members) f → (number : ℕ) × (IsTold s number f × ((k : ℕ) → k < number → k < length (steps s) → k < n))
     told_of f has =
         let by = of_flat_map told_by members f has in
-        told_right by.from (All-contains IsTelling members by.from telling by.there) (All-contains (λ m. (course_of m).setting ≡ s) members by.from are.settings by.there) f by.gives
+        told_right by.from (All-contains IsTelling members by.from telling by.there) (All-contains (IsAt n) members by.from at by.there)
+        (All-contains (λ m. (course_of m).setting ≡ s) members by.from are.settings by.there) f by.gives
 
-    first_among : (g : Fault) → EndsIn s g → (number : ℕ) (f : Fault) → IsTold s number f → Contains (flat_map told_by members) g
-    first_among g e number f told =
+    first_among : (g : Fault) → EndsIn s g → (number : ℕ) (f : Fault) → IsTold s number f → ((k : ℕ) → k < number → k < length (steps s) → k < n) → Contains (flat_map told_by members) g
+    first_among g e number f told early =
         let found = found_by_part s e.run.lawful e.run.numbers g.tick g.phase g (first_found s e.run.lawful g e.first) in
         let by = of_map (λ m. (course_of m).actor) members found.part (subst (λ numbers. Contains numbers found.part) (sym are.numbers) (row_has 0 (parts s) found.part (omega arith) (omega (arith, found.is_part)))) in
         let actor : (course_of by.from).actor ≡ found.part = some_same _ _ by.made in
         let sooner = none_sooner s g e number f told in
+        let before = told.behind.before in
+        let least = sooner.none_before told.behind.place told.behind.stands_there in
+        let low : sooner.place < n = early sooner.place (omega (arith, before, least)) (omega (arith, slice_get_within (steps s) sooner.place (found_at s g) sooner.stands_there)) in
         flat_map_of told_by members by.from g by.there
-        (finder_tells by.from (All-contains IsTelling members by.from telling by.there) (All-contains IsDone members by.from are.done by.there) (All-contains (λ m. (course_of m).setting ≡ s) members by.from are.settings by.there)
-        g e sooner.place sooner.stands_there (subst (λ p. Contains (found_by s g.tick p g.phase) g) (sym actor) found.finds))
+        (finder_tells by.from (All-contains IsTelling members by.from telling by.there) (All-contains (IsAt n) members by.from at by.there)
+        (All-contains (λ m. (course_of m).setting ≡ s) members by.from are.settings by.there)
+        g e sooner.place sooner.stands_there low (subst (λ p. Contains (found_by s g.tick p g.phase) g) (sym actor) found.finds))
       where
         some_same : (a b : ℕ) → Some a ≡ Some b → a ≡ b
         some_same a b is = cc
@@ -161,13 +176,13 @@ module _ {P : Type 0} (s : Setting) where
     first_told run f is =
         let told = flat_map told_by members in
         let among = ((least_is told f).0 is).0 in
-        let (number, right) = told_of f among in
+        let (number, (right, early)) = told_of f among in
         let h = told_follows s run.lawful number f right in
         let g = h.first in
         let e : EndsIn s g = record { run = run; first = h.ends_there } in
         let low : All (λ x. comes_before x g ≡ false) told =
-        All-weaker (Contains told) (λ x. comes_before x g ≡ false) (λ x has. let (n, r) = told_of x has in none_less s g e n x r) told (All-contains_itself told) in
-        let least_too = (least_is told g).1 (first_among g e number f right, low) in
+        All-weaker (Contains told) (λ x. comes_before x g ≡ false) (λ x has. let (n, (r, b)) = told_of x has in none_less s g e n x r) told (All-contains_itself told) in
+        let least_too = (least_is told g).1 (first_among g e number f right early, low) in
         let both : Some g ≡ Some f = sym least_too ∙ is in
         let same : g ≡ f = cc in
         subst (EndsIn s) same e

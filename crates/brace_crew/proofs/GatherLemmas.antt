@@ -10,11 +10,11 @@ use Rattle.brace_lanes.specs.Seats.{OnSeat}
 use Rattle.brace_pieces.specs.declared.setting.Setting.{Setting}
 use Rattle.brace_pieces.specs.Settings.{parts}
 use Rattle.brace_crew.specs.declared.member.Member.{Member}
-use Rattle.brace_crew.specs.Benches.{OnBench, IsUsedUp}
-use Rattle.brace_crew.specs.Members.{course_of, opening_of, IsDone}
-use Rattle.brace_crew.specs.Workers.{IsSeatOf, AreUsedUp}
+use Rattle.brace_crew.specs.Benches.{OnBench, IsUsedTo}
+use Rattle.brace_crew.specs.Members.{course_of, opening_of, IsLast}
+use Rattle.brace_crew.specs.Workers.{IsSeatOf, AreSeatsTo}
 use Rattle.brace_crew.specs.inner.Crews.{AreMembers, opening_in, all_numbers, served}
-use Rattle.brace_crew.specs.inner.Teams.{AreRosters, IsTeam, HasEnded, AreLater, seat_of}
+use Rattle.brace_crew.specs.inner.Teams.{AreRosters, IsTeam, HasCome, AreLater, seat_of}
 use Rattle.brace_crew.proofs.MemberLemmas.{row_more}
 use Rattle.brace_crew.proofs.RunMembers.{of_all_map}
 use Rattle.brace_crew.proofs.TeamLemmas.{team_later}
@@ -128,17 +128,17 @@ module _ {A : Type 0} {P : Type 0} (f : A → List (Member P)) (lists : List A) 
   pub list_here : get_or (map f lists) k [] ≡ f old
   list_here = get_or-map f lists k old [] low ∙ ap f (sym at)
 
-  -- where no turn is left of any member, none is left of one that is taken, and of those that are left
-  pub done_more : (r : Option (Member P)) → f old ≡ option_to_list r ++ f new → All (λ l. All IsDone (f l)) lists
-      → All (λ l. All IsDone (f l)) (set lists k new) × All IsDone (option_to_list r)
-  done_more r is all = (All-set (λ l. All IsDone (f l)) lists k new (split r opened).0 all, (split r opened).1)
+  -- what holds of all members holds of one that is taken, and of those that are left
+  pub kept_more : (Q : Member P → Type 0) (r : Option (Member P)) → f old ≡ option_to_list r ++ f new → All (λ l. All Q (f l)) lists
+      → All (λ l. All Q (f l)) (set lists k new) × All Q (option_to_list r)
+  kept_more Q r is all = (All-set (λ l. All Q (f l)) lists k new (split r opened).0 all, (split r opened).1)
     where
-      opened : All IsDone (option_to_list r ++ f new)
-      opened = subst (All IsDone) is (subst (λ l. All IsDone (f l)) (sym at) (all k old low))
+      opened : All Q (option_to_list r ++ f new)
+      opened = subst (All Q) is (subst (λ l. All Q (f l)) (sym at) (all k old low))
 
-      split : (r : Option (Member P)) → All IsDone (option_to_list r ++ f new) → All IsDone (f new) × All IsDone (option_to_list r)
-      split None every = (every, All-nil IsDone)
-      split (Some m) every = (All-tail IsDone m (f new) every, All-cons IsDone m [] (All-head IsDone m (f new) every) (All-nil IsDone))
+      split : (r : Option (Member P)) → All Q (option_to_list r ++ f new) → All Q (f new) × All Q (option_to_list r)
+      split None every = (every, All-nil Q)
+      split (Some m) every = (All-tail Q m (f new) every, All-cons Q m [] (All-head Q m (f new) every) (All-nil Q))
 
 -- ---- so many of each
 
@@ -153,7 +153,7 @@ place_left gone left all x rest n capacity whole opens so_many fits =
 -- ---- the benches that were lent to a run, and that came back, with all taken off them
 
 module _ {P A : Type 0} (f : A → List (Member P)) (s : Setting) (publisher : P) (workers : ℕ) (before lent after rest : List (OnBench P)) (n : ℕ) (lists : List A)
-    (team : IsTeam s publisher workers (all_numbers s) before) (value : lent ≡ before) (many : length lent ≡ n) (later : AreLater lent after) (ended : All HasEnded after)
+    (team : IsTeam s publisher workers (all_numbers s) before) (value : lent ≡ before) (many : length lent ≡ n) (later : AreLater lent after)
   where
     abbrev members_of : OnBench P → List (Member P)
     members_of b = b.members
@@ -174,17 +174,17 @@ module _ {P A : Type 0} (f : A → List (Member P)) (s : Setting) (publisher : P
           let long : length lists ≡ workers = sym (length-map lists f) ∙ at.one_each in
           subst (λ w. AreRosters s publisher w (all_numbers s) (map f lists)) (sym long) at
 
-      pub done_left : All (λ l. All IsDone (f l)) lists
-      done_left = of_all_map f (All IsDone) lists (subst (All (All IsDone)) (sym all_lists) (All-map (All IsDone) members_of after (λ k d low. (ended k d low).done)))
+      pub last_left : (end : ℕ) → All (λ b. All (IsLast end) b.members) after → All (λ l. All (IsLast end) (f l)) lists
+      last_left end last = of_all_map f (All (IsLast end)) lists (subst (All (All (IsLast end))) (sym all_lists) (All-map (All (IsLast end)) members_of after last))
 
-    pub seats_left : (seats : List (OnSeat Setting)) → seats ≡ map seat_of (take n (after ++ rest)) → AreUsedUp s workers seats
-    seats_left seats are = record {
+    pub seats_left : (end : ℕ) → All (HasCome end) after → (seats : List (OnSeat Setting)) → seats ≡ map seat_of (take n (after ++ rest)) → AreSeatsTo s end workers seats
+    seats_left end come seats are = record {
       one_each = ap length is ∙ length-map after seat_of ∙ long;
       by_number = λ k d low.
           let b : OnBench P = record { number = 0; members = []; lanes = d.lanes; seat = d.view } in
           let here : get_or seats k d ≡ seat_of (get_or after k b) = ap (λ l. get_or l k d) is ∙ get_or-map seat_of after k b d (omega (arith, low, long)) in
           subst (λ (seat : OnSeat Setting). IsSeatOf s workers k seat.view) (sym here) (team_now.seats k b low);
-      used_up = subst (All (λ seat. IsUsedUp seat.view)) (sym is) (All-map (λ seat. IsUsedUp seat.view) seat_of after (λ k d low. (ended k d low).used_up));
+      used_to = subst (All (λ seat. IsUsedTo end seat.view)) (sym is) (All-map (λ seat. IsUsedTo end seat.view) seat_of after (λ k d low. (come k d low).used_to));
     }
       where
         is : seats ≡ map seat_of after

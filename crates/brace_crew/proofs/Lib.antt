@@ -16,6 +16,7 @@ pub mod CountsGiven
 pub mod RunMembers
 pub mod ToldLemmas
 pub mod RunEnds
+pub mod FrontEnds
 pub mod BenchRounds
 pub mod RosterLemmas
 pub mod GatherLemmas

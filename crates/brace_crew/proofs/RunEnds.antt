@@ -1,11 +1,11 @@
 -- The members behind a run are as many as before it.
-use Rattle.std.proofs.Common.{◌≡◌, ◌∙◌, sym, ap, subst, ℕ, List, ◌++◌, length, map, take, All}
+use Rattle.std.proofs.Common.{◌≡◌, ◌∙◌, sym, ap, subst, ℕ, List, ◌++◌, length, map, take}
 use Rattle.std.proofs.Math.Seq.{take-append_seam}
 use Rattle.std.proofs.lemmas.List.{length-map}
 use Rattle.brace_pieces.specs.declared.setting.Setting.{Setting}
 use Rattle.brace_crew.specs.declared.member.Member.{Member}
-use Rattle.brace_crew.specs.Members.{course_of, opening_of, IsDone}
-use Rattle.brace_crew.specs.inner.Crews.{AreMembers}
+use Rattle.brace_crew.specs.Members.{course_of, opening_of}
+use Rattle.brace_crew.specs.inner.Crews.{AreMembers, AreEnded}
 use Rattle.brace_crew.proofs.RunMembers.{are_later}
 
 as_many : {A B : Type 0} (f : A → B) (after before : List A) → map f after ≡ map f before → length after ≡ length before
@@ -31,5 +31,5 @@ module _ {P : Type 0} (before lent after rest : List (Member P)) (n : ℕ) (valu
   members_back s publisher numbers are actors opened = subst (AreMembers s publisher numbers) (sym is)
       (are_later s publisher numbers before after are same_setting (actors ∙ ap (map (λ m. (course_of m).actor)) value) (opened ∙ ap (map opening_of) value))
 
-  pub done_back : All IsDone after → All IsDone (take n (after ++ rest))
-  done_back = subst (All IsDone) (sym is)
+  pub ended_back : (s : Setting) (end : ℕ) → AreEnded s end after → AreEnded s end (take n (after ++ rest))
+  ended_back s end = subst (AreEnded s end) (sym is)

@@ -1,20 +1,16 @@
 -- The members of a run behind it: its parts, and its desk behind them.
-use Rattle.std.proofs.Common.{◌≡◌, ◌∙◌, refl, sym, ap, subst, ℕ, ◌<◌, List, [], ◌∷◌, ◌++◌, map, Some, None, All, arith}
+use Rattle.std.proofs.Common.{◌≡◌, ◌∙◌, sym, ap, subst, ℕ, ◌<◌, List, [], ◌∷◌, ◌++◌, map, Some, None, All, arith}
 use Rattle.std.specs.List.{range_with_len}
 use Rattle.std.proofs.lemmas.List.{map-append, same_from_push}
 use Rattle.std.proofs.lemmas.List.Elements.{All-nil, All-cons, All-head, All-tail, All-map}
 use Rattle.std.proofs.lemmas.List.FromFn.{length-map-range_with_len, get_or-map-range_with_len}
-use Rattle.brace_core.specs.declared.name.Turn.TheVariants.{Done}
-use Rattle.brace_core.specs.Exchanges.{due}
 use Rattle.brace_pieces.specs.declared.setting.Setting.{Setting}
 use Rattle.brace_pieces.specs.Settings.{parts}
-use Rattle.brace_pieces.specs.Steps.{schedule}
-use Rattle.brace_pieces.specs.Courses.{past_of}
 use Rattle.brace_crew.specs.declared.member.Member.{Member}
 use Rattle.brace_crew.specs.declared.member.Member.TheVariants as member
 use Rattle.brace_crew.specs.Desks.{OnDesk}
-use Rattle.brace_crew.specs.Members.{course_of, opening_of, IsDone}
-use Rattle.brace_crew.specs.inner.Crews.{AreParts, AreMembers, IsDeskOf, opening_in, all_numbers}
+use Rattle.brace_crew.specs.Members.{course_of, opening_of, IsAt, IsLast}
+use Rattle.brace_crew.specs.inner.Crews.{AreParts, AreMembers, AreEnded, IsDeskOf, opening_in, all_numbers}
 use Rattle.brace_crew.proofs.MemberLemmas.{row_more, part_opens, desk_opens}
 
 -- ---- lists
@@ -86,20 +82,23 @@ module _ {P : Type 0} (s : Setting) (publisher : P) (members : List (Member P)) 
   pub desk_setting : (d : OnDesk P) → last ≡ member.Desk d → d.course.setting ≡ s
   desk_setting d desk = ap setting_of (sym desk) ∙ all_last (λ m. setting_of m ≡ s) front last of_setting
 
-  module _ (done : All IsDone members) where
-    all_done : All IsDone (front ++ last ∷ [])
-    all_done = subst (All IsDone) is done
+  pub parts_behind : AreParts s front
+  parts_behind = record {
+    settings = all_front (λ m. setting_of m ≡ s) front last of_setting;
+    numbers = in_order.0;
+    are_parts = of_all_map opening_of (λ o. o ≡ None) front (subst (All (λ o. o ≡ None)) (sym opened.0) opens_none);
+  }
 
-    pub parts_behind : AreParts s front
-    parts_behind = record {
-      settings = all_front (λ m. setting_of m ≡ s) front last of_setting;
-      numbers = in_order.0;
-      are_parts = of_all_map opening_of (λ o. o ≡ None) front (subst (All (λ o. o ≡ None)) (sym opened.0) opens_none);
-      done = all_front IsDone front last all_done;
+  -- where the run ends
+  module _ (n : ℕ) (ended : AreEnded s n members) where
+    all_last_there : All (IsLast n) (front ++ last ∷ [])
+    all_last_there = subst (All (IsLast n)) is ended.last
+
+    pub parts_at : All (IsAt n) front
+    parts_at i d low = (all_front (IsLast n) front last all_last_there i d low).0
+
+    pub desk_behind : (d : OnDesk P) → last ≡ member.Desk d → IsDeskOf s n d
+    desk_behind d desk = record {
+      setting_is = ap setting_of (sym desk) ∙ all_last (λ m. setting_of m ≡ s) front last of_setting;
+      last = subst (IsLast n) desk (all_last (IsLast n) front last all_last_there);
     }
-
-    pub desk_behind : (d : OnDesk P) → last ≡ member.Desk d → IsDeskOf s d
-    desk_behind d desk =
-        let of = ap setting_of (sym desk) ∙ all_last (λ m. setting_of m ≡ s) front last of_setting in
-        let turn = subst IsDone desk (all_last IsDone front last all_done) in
-        record { setting_is = of; done = subst (λ r. due schedule r d.course.actor (past_of d.course) ≡ Done) of turn }

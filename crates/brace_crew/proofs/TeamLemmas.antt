@@ -1,14 +1,16 @@
 -- The benches of a run at a later time.
-use Rattle.std.proofs.Common.{◌≡◌, ◌∙◌, sym, ap, subst, ℕ, ◌<◌, List, [], ◌∷◌, map, length, get_or, arith}
+use Rattle.std.proofs.Common.{◌≡◌, ◌∙◌, refl, sym, ap, subst, ℕ, ◌<◌, ◌≤◌, List, [], ◌∷◌, map, length, get_or, arith, inl}
 use Rattle.std.specs.List.{All}
 use Rattle.std.proofs.lemmas.List.{length-map, get_or-map}
 use Rattle.brace_pieces.specs.declared.setting.Setting.{Setting}
 use Rattle.brace_crew.specs.declared.member.Member.{Member}
-use Rattle.brace_crew.specs.Members.{course_of}
+use Rattle.brace_pieces.specs.Steps.{steps}
+use Rattle.brace_crew.specs.Members.{course_of, HasTold, IsAt, IsLast}
 use Rattle.brace_crew.specs.Benches.{OnBench, IsSameBench}
 use Rattle.brace_crew.specs.Workers.{IsSeatOf}
-use Rattle.brace_crew.specs.inner.Crews.{AreMembers, served}
-use Rattle.brace_crew.specs.inner.Teams.{IsTeam, AreLater}
+use Rattle.brace_crew.specs.inner.Crews.{AreMembers, all_numbers, served}
+use Rattle.brace_crew.specs.inner.Teams.{IsTeam, HasCome, StaysWithin, AreLater}
+use Rattle.brace_crew.proofs.FrontEnds.{all_within, all_last}
 
 module _ {P : Type 0} where
   -- members of one setting stay members of it
@@ -68,3 +70,70 @@ module _ {P : Type 0} where
           subst (AreMembers s publisher (served workers k numbers)) (get_or-map members_of xs k e d in_xs) (team.rosters.each k d low) in
           subst (AreMembers s publisher (served workers k numbers)) (sym (get_or-map members_of ys k e d in_ys))
           (members_later s publisher (served workers k numbers) (get_or xs k e) (get_or ys k e) (later.each k e in_xs) here)
+
+  -- ---- a later time, and a time behind it
+
+  bench_still : (b : OnBench P) → IsSameBench b b
+  bench_still b = record {
+    number = refl;
+    settings = refl;
+    numbers = refl;
+    openings = refl;
+    lanes = refl;
+    seat = record { setting = refl; actors = refl; seats = refl; number = refl };
+  }
+
+  pub same_still : (xs : List (OnBench P)) → AreLater xs xs
+  same_still xs = record { one_each = refl; each = λ k d low. bench_still (get_or xs k d) }
+
+  bench_further : (a b c : OnBench P) → IsSameBench a b → IsSameBench b c → IsSameBench a c
+  bench_further a b c one two = record {
+    number = two.number ∙ one.number;
+    settings = two.settings ∙ one.settings;
+    numbers = two.numbers ∙ one.numbers;
+    openings = two.openings ∙ one.openings;
+    lanes = two.lanes ∙ one.lanes;
+    seat = record {
+      setting = two.seat.setting ∙ one.seat.setting;
+      actors = two.seat.actors ∙ one.seat.actors;
+      seats = two.seat.seats ∙ one.seat.seats;
+      number = two.seat.number ∙ one.seat.number;
+    };
+  }
+
+  pub later_further : (xs ys zs : List (OnBench P)) → AreLater xs ys → AreLater ys zs → AreLater xs zs
+  later_further xs ys zs one two = record {
+    one_each = two.one_each ∙ one.one_each;
+    each = λ k d low. bench_further (get_or xs k d) (get_or ys k d) (get_or zs k d) (one.each k d low) (two.each k d (omega (arith, one.one_each, low)));
+  }
+
+  -- none of them made a turn behind some steps
+  pub still_within : (n : ℕ) (xs ys : List (OnBench P)) → AreLater xs ys
+      → ((k : ℕ) (d : OnBench P) → k < length xs → StaysWithin n (get_or xs k d) → StaysWithin n (get_or ys k d))
+      → All (StaysWithin n) xs → All (StaysWithin n) ys
+  still_within n xs ys later still within k d low =
+      let there : k < length xs = omega (arith, low, later.one_each) in
+      still k d there (within k d there)
+
+  -- ---- benches between two ends
+
+  abbrev OfRun : Setting → OnBench P → Type 0
+  OfRun s b = All (λ m. (course_of m).setting ≡ s) b.members
+
+  pub team_settings : (s : Setting) (publisher : P) (workers : ℕ) (xs : List (OnBench P)) → IsTeam s publisher workers (all_numbers s) xs → All (OfRun s) xs
+  team_settings s publisher workers xs team k d low =
+      let many : length xs ≡ workers = sym (length-map xs members_of) ∙ team.rosters.one_each in
+      let b : OnBench P = get_or xs k d in
+      subst (All (λ m. (course_of m).setting ≡ s)) (get_or-map members_of xs k d b.members low) (team.rosters.each k b.members (omega (arith, low, many))).settings
+
+  pub benches_within : (m n : ℕ) → m ≤ n → (xs : List (OnBench P)) → All (HasCome m) xs → All (StaysWithin n) xs
+  benches_within m n up xs come k d low = all_within m n up (get_or xs k d).members (come k d low).at
+
+  pub benches_at : (n : ℕ) (xs : List (OnBench P)) → All (HasCome n) xs → All (λ b. All (IsAt n) b.members) xs
+  benches_at n xs come k d low = (come k d low).at
+
+  pub benches_told : (n : ℕ) (xs : List (OnBench P)) → All (HasCome n) xs → All (λ b. All HasTold b.members) xs → All (λ b. All (IsLast n) b.members) xs
+  benches_told n xs come told k d low i e l = ((come k d low).at i e l, inl (told k d low i e l))
+
+  pub benches_last : (s : Setting) (n : ℕ) (xs : List (OnBench P)) → All (OfRun s) xs → n ≡ length (steps s) → All (HasCome n) xs → All (λ b. All (IsLast n) b.members) xs
+  benches_last s n xs settings all come k d low = all_last s n (get_or xs k d).members (settings k d low) all (come k d low).at

@@ -5,7 +5,7 @@ use Rattle.std.specs.List.{All, range_with_len}
 use Rattle.atomic_table.specs.Seated.{TableId}
 use Rattle.brace_core.specs.declared.name.Name.{Name}
 use Rattle.brace_core.specs.declared.name.Turn.TheVariants.{Take}
-use Rattle.brace_core.specs.Schedule.{lane}
+use Rattle.brace_core.specs.Schedule.{front, lane}
 use Rattle.brace_lanes.specs.declared.table.View.{View}
 use Rattle.brace_lanes.specs.Seats.{IsSameSeat, puts_of, takes_of, misses_of}
 use Rattle.brace_lanes.specs.Views.{Serves}
@@ -32,12 +32,13 @@ pub record IsUnused (v : View Setting) : Type 0 where
   pub nothing_put : (p q : ℕ) → puts_of v p q ≡ 0
   pub nothing_taken : (p q : ℕ) → takes_of v p q ≡ 0
 
--- through a seat every name was put from each actor that it serves, and every name taken to it
-pub record IsUsedUp (v : View Setting) : Type 0 where
+-- through a seat every name of the first steps, so many, was put from each actor that it serves,
+-- and taken to it, and no other
+pub record IsUsedTo (n : ℕ) (v : View Setting) : Type 0 where
   pub all_put : (a q : ℕ) → a < v.actors → Serves v a →
-      puts_of v a q ≡ length (lane (schedule v.setting) a q)
+      puts_of v a q ≡ length (lane (front (schedule v.setting) n) a q)
   pub all_taken : (a q : ℕ) → a < v.actors → Serves v a →
-      takes_of v q a ≡ length (lane (schedule v.setting) q a)
+      takes_of v q a ≡ length (lane (front (schedule v.setting) n) q a)
 
 -- members are all those that a seat serves, by rising number, before their first turns
 pub record AreServed {P : Type 0} (v : View Setting) (members : List (Member P)) : Type 0 where
@@ -56,13 +57,14 @@ pub record IsSameBench {P : Type 0} (a b : OnBench P) : Type 0 where
   pub lanes : b.lanes ≡ a.lanes
   pub seat : IsSameSeat a.seat b.seat
 
--- a member's next turn is to take a name, of whose lane so many more looks of the seat found none
-abbrev pub Waits : {P : Type 0} → View Setting → View Setting → ℕ → Member P → Type 0
-Waits before now count m = (name : Name) × (next_of m ≡ Take name)
+-- a member's next turn in the first steps, so many, is to take a name, of whose lane so many more
+-- looks of the seat found none
+abbrev pub Waits : {P : Type 0} → ℕ → View Setting → View Setting → ℕ → Member P → Type 0
+Waits end before now count m = (name : Name) × (next_of end m ≡ Take name)
     × (misses_of before name.from name.to + count ≤ misses_of now name.from name.to)
 
 -- not all members are Done, and each that is not waits for a name, for so many looks
-pub record AreWaiting {P : Type 0} (before now : View Setting) (looks : ℕ)
+pub record AreWaiting {P : Type 0} (end : ℕ) (before now : View Setting) (looks : ℕ)
     (members : List (Member P)) : Type 0 where
-  pub is_left : All IsDone members → ⊥
-  pub waits : All (λ m. (IsDone m → ⊥) → Waits before now looks m) members
+  pub is_left : All (IsDone end) members → ⊥
+  pub waits : All (λ m. (IsDone end m → ⊥) → Waits end before now looks m) members

@@ -1,6 +1,6 @@
 -- The desk of a run as contracts see it: what its publisher got of the continued worlds, and why it
 -- gets no more.
-use Rattle.std.specs.Prelude.{◌≡◌, ℕ, ◌+◌, ◌<◌, List, map, filter, take, length, Bool, Option, Some, slice_get}
+use Rattle.std.specs.Prelude.{◌≡◌, ℕ, ◌+◌, ◌<◌, ◌≤◌, List, map, filter, take, length, Bool, true, false, Option, Some, slice_get}
 use Rattle.std.specs.List.{All}
 use Rattle.brace_pieces.specs.declared.setting.Setting.{Setting}
 use Rattle.brace_pieces.specs.declared.setting.Stage.TheVariants.{Show}
@@ -18,7 +18,8 @@ use Rattle.brace_crew.specs.declared.desk.Stop.{Stop}
 use Rattle.brace_crew.specs.Calls.{Call, behind, IsCut}
 
 -- a desk: where it stands in the schedule of its setting, what its publisher was when it was made
--- and what it is, why it publishes nothing any more, and what parts brought last
+-- and what it is, why it publishes nothing any more, what parts brought last, and whether it
+-- stopped in a step before and has put its Halt to all since
 pub record OnDesk (P : Type 0) : Type 0 where
   pub course : OnCourse
   pub opening : P
@@ -26,6 +27,7 @@ pub record OnDesk (P : Type 0) : Type 0 where
   pub stop : Option Stop
   pub lots : List Lot
   pub closed : Bool
+  pub told : Bool
 
 -- the whole continued world of a tick
 abbrev pub whole_at : Setting → ℕ → Shown
@@ -52,6 +54,14 @@ pub record HasShown {P : Type 0} (of : publisher.Ghosts P) (d : OnDesk P) (count
         ≡ behind of d.course.setting d.opening (take count (end_calls d.course.setting))
     pub faultless : AreFaultless d.course.setting count
 
+-- a desk stopped at the end behind the first ones, so many: at the next it puts its Halt to all,
+-- and behind that it has told
+pub record StoppedAt {P : Type 0} (d : OnDesk P) (count : ℕ) : Type 0 where
+  pub not_yet : d.told ≡ false
+      → ends_before d.course.setting d.course.number ≡ count + 1
+  pub has_told : d.told ≡ true
+      → count + 2 ≤ ends_before d.course.setting d.course.number
+
 -- the publisher was shown all ends before that of a step, in which a part told a cause, or memory
 -- was refused; each lot is what a part showed there
 pub record HasHalted {P : Type 0} (of : publisher.Ghosts P) (d : OnDesk P) (cause : Cause) : Type 0
@@ -62,9 +72,11 @@ pub record HasHalted {P : Type 0} (of : publisher.Ghosts P) (d : OnDesk P) (caus
     pub shown : HasShown of d (ends_before d.course.setting number)
     pub right : IsRightCause d.course.setting number cause
     pub brought : All (λ lot. IsShown d.course.setting end lot.part lot.worlds) d.lots
+    pub stopped : StoppedAt d (ends_before d.course.setting number)
 
 -- the publisher refused at an end, before which no part found a fault
 pub record HasRefused {P : Type 0} (of : publisher.Ghosts P) (d : OnDesk P) (x : PubFault) : Type 0
   where
     pub cut_there : IsCut of d.course.setting d.opening d.publisher (end_calls d.course.setting) x
     pub faultless : AreFaultless d.course.setting (cut_there.made + 1)
+    pub stopped : StoppedAt d cut_there.made

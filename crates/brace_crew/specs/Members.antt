@@ -1,9 +1,10 @@
 -- The members of a crew as contracts see them.
-use Rattle.std.specs.Prelude.{◌≡◌, ℕ, Option, Some, None}
+use Rattle.std.specs.Prelude.{◌≡◌, ◌⊎◌, ℕ, ◌≤◌, length, true, Option, Some, None}
 use Rattle.brace_core.specs.declared.name.Turn.{Turn}
 use Rattle.brace_core.specs.declared.name.Turn.TheVariants.{Done}
-use Rattle.brace_core.specs.Exchanges.{due}
-use Rattle.brace_pieces.specs.Steps.{schedule}
+use Rattle.brace_core.specs.Schedule.{front, turns}
+use Rattle.brace_core.specs.Exchanges.{due_to}
+use Rattle.brace_pieces.specs.Steps.{steps, schedule}
 use Rattle.brace_pieces.specs.Courses.{OnCourse, past_of}
 use Rattle.brace_part.specs.Parts.{asks_next}
 use Rattle.brace_crew.specs.declared.member.Member.{Member}
@@ -19,15 +20,42 @@ abbrev pub opening_of : {P : Type 0} → Member P → Option P
 opening_of (member.Part p) = None
 opening_of (member.Desk d) = Some d.opening
 
--- a member's next turn
-abbrev pub next_of : {P : Type 0} → Member P → Turn
-next_of m =
+-- a member's next turn in the first steps of its run, so many
+abbrev pub next_of : {P : Type 0} → ℕ → Member P → Turn
+next_of end m =
     let c = course_of m in
-    due schedule c.setting c.actor (past_of c)
+    due_to schedule c.setting end c.actor (past_of c)
 
--- a member has no turn left
-abbrev pub IsDone : {P : Type 0} → Member P → Type 0
-IsDone m = next_of m ≡ Done
+-- a member has no turn left in these
+abbrev pub IsDone : {P : Type 0} → ℕ → Member P → Type 0
+IsDone end m = next_of end m ≡ Done
+
+-- how many turns a member has in these
+abbrev pub turns_to : {P : Type 0} → ℕ → Member P → ℕ
+turns_to end m =
+    let c = course_of m in
+    length (turns (front (schedule c.setting) end) c.actor)
+
+-- a member made no turn behind these
+abbrev pub IsWithin : {P : Type 0} → ℕ → Member P → Type 0
+IsWithin end m = past_of (course_of m) ≤ turns_to end m
+
+-- a member stands at their end: it made all turns of these, and no other
+abbrev pub IsAt : {P : Type 0} → ℕ → Member P → Type 0
+IsAt end m = past_of (course_of m) ≡ turns_to end m
+
+-- a member that is the desk put its Halt to all
+abbrev pub HasTold : {P : Type 0} → Member P → Type 0
+HasTold (member.Part p) = Unit {0}
+HasTold (member.Desk d) = d.told ≡ true
+
+-- no member holds up the end of a run behind so many steps
+abbrev pub IsOver : {P : Type 0} → ℕ → Member P → Type 0
+IsOver n m = HasTold m ⊎ (n ≡ length (steps (course_of m).setting))
+
+-- a member stands where its run ends
+abbrev pub IsLast : {P : Type 0} → ℕ → Member P → Type 0
+IsLast n m = IsAt n m × IsOver n m
 
 -- the tick whose query a member evaluates in its next turn, if it evaluates one there; the desk
 -- evaluates none

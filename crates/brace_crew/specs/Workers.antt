@@ -1,11 +1,42 @@
--- The seats of a run's workers, once the run has ended.
-use Rattle.std.specs.Prelude.{◌≡◌, ℕ, ◌+◌, ◌<◌, List, length, slice_index_or}
+-- Behind how many steps a run ends, and what of its lanes was used by then.
+use Rattle.std.specs.Prelude.{◌≡◌, ◌⊎◌, ℕ, ◌+◌, ◌<◌, nat_le, List, [], filter, length, slice_index_or, Result, Ok, Err}
 use Rattle.std.specs.List.{All}
+use Rattle.brace_core.specs.Schedule.{front, lane}
 use Rattle.brace_lanes.specs.declared.table.View.{View}
 use Rattle.brace_lanes.specs.Seats.{OnSeat}
 use Rattle.brace_pieces.specs.declared.setting.Setting.{Setting}
-use Rattle.brace_pieces.specs.Settings.{parts}
-use Rattle.brace_crew.specs.Benches.{IsUsedUp}
+use Rattle.brace_pieces.specs.Settings.{parts, ends}
+use Rattle.brace_pieces.specs.Steps.{steps, schedule}
+use Rattle.brace_pieces.specs.Fronts.{steps_to}
+use Rattle.brace_part.specs.declared.counts.Counts.{Counts}
+use Rattle.brace_crew.specs.declared.crew.CrewFault.{CrewFault}
+use Rattle.brace_crew.specs.declared.crew.CrewFault.TheVariants as crew
+use Rattle.brace_crew.specs.Benches.{IsUsedTo}
+
+-- how many ends a run has up to a tick
+abbrev pub ends_until : Setting → ℕ → ℕ
+ends_until s tick = length (filter (λ end. nat_le end tick) (ends s))
+
+-- behind how many steps a run ends, by its answer: behind all, where it came to its last tick;
+-- where it met a fault, behind the second end behind the fault's tick, if it has two: at the first
+-- the desk is told, and at the second it puts its Halt to all; else behind some end, or before the
+-- first step
+abbrev pub EndsBehind : Setting → ℕ → Result Counts CrewFault → Type 0
+EndsBehind s n (Ok counts) = n ≡ length (steps s)
+EndsBehind s n (Err (crew.Fault f)) = n ≡ steps_to s (ends_until s f.tick + 2)
+EndsBehind s n (Err x) = (k : ℕ) × (n ≡ steps_to s k)
+
+-- of lanes with these counts every name of a run's first steps, so many, was put and taken, and no
+-- other
+pub record AreUsedTo (s : Setting) (n : ℕ) (puts takes : ℕ → ℕ → ℕ) : Type 0 where
+  pub all_put : (p q : ℕ) → puts p q ≡ length (lane (front (schedule s) n) p q)
+  pub all_taken : (p q : ℕ) → takes p q ≡ length (lane (front (schedule s) n) p q)
+
+-- an answer that tells behind how many steps a run over links ended
+abbrev pub TellsEnd : Result Counts CrewFault → Type 0
+TellsEnd (Ok counts) = Unit {0}
+TellsEnd (Err (crew.Fault f)) = Unit {0}
+TellsEnd (Err x) = ⊥
 
 -- what the seat of a worker knows, among so many workers: which run it is of, and its number
 pub record IsSeatOf (s : Setting) (workers number : ℕ) (v : View Setting) : Type 0 where
@@ -14,9 +45,16 @@ pub record IsSeatOf (s : Setting) (workers number : ℕ) (v : View Setting) : Ty
   pub seats_are : v.seats ≡ workers
   pub number_is : v.number ≡ number
 
--- one seat a worker, by rising number, and all are used up
-pub record AreUsedUp (s : Setting) (workers : ℕ) (seats : List (OnSeat Setting)) : Type 0 where
+-- one seat a worker, by rising number, and all are used to the end of the first steps, so many
+pub record AreSeatsTo (s : Setting) (n workers : ℕ) (seats : List (OnSeat Setting)) : Type 0 where
   pub one_each : length seats ≡ workers
   pub by_number : (k : ℕ) (d : OnSeat Setting) → k < workers →
       IsSeatOf s workers k (slice_index_or seats k d).view
-  pub used_up : All (λ seat. IsUsedUp seat.view) seats
+  pub used_to : All (λ seat. IsUsedTo n seat.view) seats
+
+-- the seats behind a run, by its answer: used to where it ended; none, where memory was refused
+-- before its first turn
+abbrev pub AreLeft : Setting → ℕ → Result Counts CrewFault → List (OnSeat Setting) → Type 0
+AreLeft s workers answer seats =
+    ((n : ℕ) × (EndsBehind s n answer × AreSeatsTo s n workers seats))
+    ⊎ ((answer ≡ Err crew.NoMemory) × (seats ≡ []))

@@ -1,12 +1,14 @@
-ghost use Rattle.std.specs.Prelude.{◌≡◌, ◌≤◌, ℕ, length, true};
+ghost use Rattle.std.specs.Prelude.{◌≡◌, ◌≤◌, length, true, false};
 ghost use Rattle.std.specs.List.{All};
 ghost use Rattle.brace_lanes.specs.Seats.{IsLater};
 ghost use Rattle.brace_crew.specs.declared.bench.Drive.TheVariants as drive;
-ghost use Rattle.brace_crew.specs.Members.{IsDone};
-ghost use Rattle.brace_crew.specs.Benches.{AreServed, IsUnused, IsUsedUp, IsSameBench, AreWaiting};
-ghost use Rattle.brace_crew.specs.inner.Teams.{HasEnded};
+ghost use Rattle.brace_crew.specs.Members.{HasTold, IsAt, IsWithin};
+ghost use Rattle.brace_crew.specs.Benches.{AreServed, IsUnused, IsUsedTo, IsSameBench, AreWaiting};
+ghost use Rattle.brace_crew.specs.inner.Crews.{AreEarlyFor};
+ghost use Rattle.brace_crew.specs.inner.Teams.{HasCome, StaysWithin};
 ghost use Rattle.brace_crew.specs.inner.Driven.{AreCounted, AreSame, WentAll, both};
 
+use crate::crew::have_told;
 use crate::crowd::Crowd;
 use crate::{Member, Publisher};
 use brace_core::{Actor, Turn, Went, make_turn};
@@ -89,6 +91,7 @@ impl<'a, P: Publisher> Bench<'a, P> {
         ensures members { result.members ≡ members.entry.items }
         ensures lanes { result.lanes ≡ end.entry.seat.lanes }
         ensures seat { result.seat ≡ end.entry.seat.view }
+        ensures start { HasCome 0 result }
     {
         Bench {
             members,
@@ -97,42 +100,57 @@ impl<'a, P: Publisher> Bench<'a, P> {
         }
     }
 
-    /// Lets each member make its turns, round by round, until all are Done, or until in so many
-    /// rounds one behind the other no member made a turn. Before a part evaluates the query of a
-    /// tick the gate is passed with the worker's number and that tick; before a work of the desk it
-    /// is not. No memory is taken but by the members' works.
-    pub fn drive<G: Gate>(&mut self, gate: &G, patience: u64) -> Drive
+    /// Lets each member make its turns in the first steps of the run, so many, round by round,
+    /// until all are Done there, or until in so many rounds one behind the other no member made a
+    /// turn. Before a part evaluates the query of a tick the gate is passed with the worker's
+    /// number and that tick; before a work of the desk it is not. No memory is taken but by the
+    /// members' works. What is said of the members' and of the seat's end holds where no member was
+    /// behind it before.
+    pub fn drive<G: Gate>(&mut self, gate: &G, patience: u64, steps: u64) -> Drive
         requires some_patience { 1 ≤ patience }
         ensures same { IsSameBench self.old self.new }
-        ensures done { result ≡ drive.Complete → All IsDone self.new.members }
-        ensures used_up { result ≡ drive.Complete → IsUsedUp self.new.seat }
-        ensures dry { result ≡ drive.Dry → AreWaiting self.old.seat self.new.seat patience
+        ensures within { All (IsWithin steps) self.old.members
+            → All (IsWithin steps) self.new.members }
+        ensures done { result ≡ drive.Complete → All (IsWithin steps) self.old.members
+            → All (IsAt steps) self.new.members }
+        ensures used_to { result ≡ drive.Complete → All (IsWithin steps) self.old.members
+            → IsUsedTo steps self.new.seat }
+        ensures dry { result ≡ drive.Dry → AreWaiting steps self.old.seat self.new.seat patience
             self.new.members }
     {
         let (members, end) = (&mut self.members, &mut self.end);
-        drive_members(members, end, gate, self.number, patience)
+        drive_members(members, end, gate, self.number, patience, steps)
     }
 
-    /// Drives it as one of a crowd, until all members are Done or no other can help it on. The
-    /// first one waits until another begins; where none does, nobody can.
-    pub(crate) fn drive_among<R: Wait, G: Gate>(&mut self, rt: &R, gate: &G, crowd: &Crowd)
-        ensures { IsSameBench self.old self.new }
+    /// Drives it through the first steps of the run, so many, as one of a crowd, until all members
+    /// are Done there or no other can help it on. The first one waits until another begins; where
+    /// none does, nobody can.
+    pub(crate) fn drive_among<R: Wait, G: Gate>(
+        &mut self,
+        rt: &R,
+        gate: &G,
+        crowd: &Crowd,
+        steps: u64,
+    )
+        ensures same { IsSameBench self.old self.new }
+        ensures within { StaysWithin steps self.old → StaysWithin steps self.new }
     {
         let first = crowd.begin();
-        self.drive(gate, 1);
+        self.drive(gate, 1, steps);
         if first {
             await_another(rt, crowd);
         }
         crowd.sleep();
         if crowd.has_met() {
-            self.go_along(rt, gate, crowd);
+            self.go_along(rt, gate, crowd, steps);
         }
     }
 
     /// Drives it again and again, until all members are Done, or until nobody was awake before a
     /// nap and behind it.
-    fn go_along<R: Wait, G: Gate>(&mut self, rt: &R, gate: &G, crowd: &Crowd)
-        ensures { IsSameBench self.old self.new }
+    fn go_along<R: Wait, G: Gate>(&mut self, rt: &R, gate: &G, crowd: &Crowd, steps: u64)
+        ensures same { IsSameBench self.old self.new }
+        ensures within { StaysWithin steps self.old → StaysWithin steps self.new }
     {
         let mut idle = 0u64;
         for _ in rt.forever() {
@@ -142,7 +160,7 @@ impl<'a, P: Publisher> Bench<'a, P> {
             } else {
                 thread::yield_now();
             }
-            match self.go_on(gate, crowd) {
+            match self.go_on(gate, crowd, steps) {
                 Went::On => idle = 0,
                 Went::Nowhere if !alone || crowd.is_awake() => idle = idle.saturating_add(1),
                 _ => return,
@@ -152,36 +170,46 @@ impl<'a, P: Publisher> Bench<'a, P> {
 
     /// Lets each member make its next turn, if it can, and drives the bench on where one could. It
     /// wakes behind these turns: where all members waited they are takes, and no work.
-    fn go_on<G: Gate>(&mut self, gate: &G, crowd: &Crowd) -> Went
-        ensures { IsSameBench self.old self.new }
+    fn go_on<G: Gate>(&mut self, gate: &G, crowd: &Crowd, steps: u64) -> Went
+        ensures same { IsSameBench self.old self.new }
+        ensures within { StaysWithin steps self.old → StaysWithin steps self.new }
     {
-        let went = self.round(gate);
+        let went = self.round(gate, steps);
         if went == Went::On {
             crowd.wake();
-            self.drive(gate, 1);
+            self.drive(gate, 1, steps);
             crowd.sleep();
         }
         went
     }
 
     /// Lets each member make its next turn, if it can.
-    fn round<G: Gate>(&mut self, gate: &G) -> Went
-        ensures { IsSameBench self.old self.new }
+    fn round<G: Gate>(&mut self, gate: &G, steps: u64) -> Went
+        ensures same { IsSameBench self.old self.new }
+        ensures within { StaysWithin steps self.old → StaysWithin steps self.new }
     {
         let (members, end) = (&mut self.members, &mut self.end);
-        make_turns(members, end, gate, self.number)
+        make_turns(members, end, gate, self.number, steps)
     }
 
-    /// Whether all members are Done.
-    pub(crate) fn is_complete(&self) -> bool
-        ensures { result ≡ true → HasEnded self.now }
+    /// Whether all members are Done in the first steps of the run, so many.
+    pub(crate) fn is_complete(&self, steps: u64) -> bool
+        ensures { result ≡ true → StaysWithin steps self.now → HasCome steps self.now }
     {
         for member in self.members.as_slice() {
-            if member.next() != Turn::Done {
+            if member.next(steps) != Turn::Done {
                 return false;
             }
         }
         true
+    }
+
+    /// Whether no member is a desk that is still to put its Halt to all.
+    pub(crate) fn has_told(&self) -> bool
+        ensures told { result ≡ true → All HasTold self.now.members }
+        ensures left { result ≡ false → AreEarlyFor self.now.members }
+    {
+        have_told(self.members.as_slice())
     }
 
     /// The members, by rising number, and their seat.
@@ -211,18 +239,20 @@ fn nap<R: Wait>(rt: &R) {
     Parker::new().park_timeout(rt, Duration::from_micros(NAP));
 }
 
-/// Lets each member make its next turn, if it can, and before the query of a tick passes the gate.
-/// They went on where one of them did; they are over where all are.
+/// Lets each member make its next turn in the first steps, so many, if it can, and before the query
+/// of a tick passes the gate. They went on where one of them did; they are over where all are.
 fn make_turns<P: Publisher, G: Gate>(
     members: &mut [Member<P>],
     end: &mut LaneEnd<Piece>,
     gate: &G,
     bench: usize,
+    steps: u64,
 ) -> Went
     requires at_lanes { end.old.seat.lanes ≡ end.old.lanes.now }
     requires counted { AreCounted end.old.seat.view members.old }
-    ensures went { WentAll end.old.seat.view members.old end.new.seat.view members.new
+    ensures went { WentAll steps end.old.seat.view members.old end.new.seat.view members.new
         (length members.old) result }
+    ensures within { All (IsWithin steps) members.old → All (IsWithin steps) members.new }
     ensures counted { AreCounted end.new.seat.view members.new }
     ensures same { AreSame members.old members.new }
     ensures later { IsLater end.old.seat end.new.seat }
@@ -233,7 +263,7 @@ fn make_turns<P: Publisher, G: Gate>(
         if let Some(tick) = members[i].query_tick() {
             gate.pass(bench, tick);
         }
-        let one = make_turn(&mut members[i], end);
+        let one = make_turn(&mut members[i], end, steps);
         all = behind(all, one);
     }
     all
@@ -250,21 +280,26 @@ fn behind(all: Went, one: Went) -> Went
     }
 }
 
-/// Drives members until all are Done, or until so many rounds led nowhere, one behind the other.
+/// Drives members until all are Done in the first steps, so many, or until so many rounds led
+/// nowhere, one behind the other.
 fn drive_members<P: Publisher, G: Gate>(
     members: &mut [Member<P>],
     end: &mut LaneEnd<Piece>,
     gate: &G,
     bench: usize,
     patience: u64,
+    steps: u64,
 ) -> Drive
     requires at_lanes { end.old.seat.lanes ≡ end.old.lanes.now }
     requires counted { AreCounted end.old.seat.view members.old }
     requires some_patience { 1 ≤ patience }
-    ensures done { result ≡ drive.Complete → All IsDone members.new }
-    ensures used_up { result ≡ drive.Complete → IsUsedUp end.new.seat.view }
-    ensures dry { result ≡ drive.Dry → AreWaiting end.old.seat.view end.new.seat.view patience
-        members.new }
+    ensures within { All (IsWithin steps) members.old → All (IsWithin steps) members.new }
+    ensures done { result ≡ drive.Complete → All (IsWithin steps) members.old
+        → All (IsAt steps) members.new }
+    ensures used_to { result ≡ drive.Complete → All (IsWithin steps) members.old
+        → IsUsedTo steps end.new.seat.view }
+    ensures dry { result ≡ drive.Dry → AreWaiting steps end.old.seat.view end.new.seat.view
+        patience members.new }
     ensures counted { AreCounted end.new.seat.view members.new }
     ensures same { AreSame members.old members.new }
     ensures later { IsLater end.old.seat end.new.seat }
@@ -272,7 +307,7 @@ fn drive_members<P: Publisher, G: Gate>(
 {
     let mut idle = 0;
     while idle < patience {
-        match make_turns(members, end, gate, bench) {
+        match make_turns(members, end, gate, bench, steps) {
             Went::On => idle = 0,
             Went::Nowhere => idle += 1,
             Went::Over => return Drive::Complete,

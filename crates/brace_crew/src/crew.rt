@@ -1,31 +1,26 @@
-ghost use Rattle.std.specs.Prelude.{◌≡◌, ◌⊎◌, ℕ, ◌+◌, ◌<◌, ◌≤◌, ◌^◌, ◌==◌, List, [], map, flat_map, replicate, length, IfOk, IfErr, IfSome, Ok, Err, Some, None, IsTrue};
+ghost use Rattle.std.specs.Prelude.{◌≡◌, ℕ, ◌+◌, ◌<◌, ◌≤◌, ◌^◌, ◌==◌, true, false, List, map, flat_map, length, IfOk, IfErr, IfSome, Ok, Err, Some, None, IsTrue};
 ghost use Rattle.std.specs.List.{All, Contains, find, range_with_len};
 ghost use Rattle.std.specs.Option.{option_copied};
 ghost use Rattle.std.specs.Vec.{vec_len, vec_capacity};
-ghost use Rattle.brace_core.specs.Exchanges.{due};
 ghost use Rattle.brace_core.specs.Lanes.{puts_of, takes_of};
-ghost use Rattle.brace_core.specs.Schedule.{lane};
-ghost use Rattle.brace_core.specs.declared.name.Turn.TheVariants as turn;
 ghost use Rattle.brace_model.specs.declared.fault.Fault.{Fault};
 ghost use Rattle.brace_model.specs.FaultOrder.{least};
-ghost use Rattle.brace_model.specs.Run.{first_fault};
 ghost use Rattle.brace_pieces.specs.declared.setting.Setting.{Setting};
 ghost use Rattle.brace_pieces.specs.declared.piece.Cause.TheVariants as cause;
 ghost use Rattle.brace_pieces.specs.Settings.{LawfulSetting, parts, is_end, shown_from, shown_ticks};
-ghost use Rattle.brace_pieces.specs.Steps.{schedule};
-ghost use Rattle.brace_pieces.specs.Counts.{count_border, count_effects, count_moved, count_handed};
+ghost use Rattle.brace_pieces.specs.Steps.{steps};
 ghost use Rattle.brace_pieces.specs.Right.{IsShown};
-ghost use Rattle.brace_pieces.specs.Courses.{at_start};
+ghost use Rattle.brace_pieces.specs.Courses.{IsCourse, at_start};
 ghost use Rattle.brace_part.specs.declared.counts.Counts.{Counts};
 ghost use Rattle.brace_part.specs.Given.{all_given};
 ghost use Rattle.brace_crew.specs.declared.publisher.PubFault.{PubFault};
 ghost use Rattle.brace_crew.specs.declared.publisher.PubFault.TheVariants as refusal;
-ghost use Rattle.brace_crew.specs.declared.crew.CrewFault.TheVariants as fault;
 ghost use Rattle.brace_crew.specs.Calls.{ticks_left, Rises, CameTo};
 ghost use Rattle.brace_crew.specs.Desks.{whole_at, HasHalted};
-ghost use Rattle.brace_crew.specs.Members.{IsDone};
+ghost use Rattle.brace_crew.specs.Members.{course_of, opening_of, HasTold, IsAt};
+ghost use Rattle.brace_crew.specs.Workers.{AreUsedTo, EndsBehind};
 ghost use Rattle.brace_crew.specs.inner.Lots.{world_of, brought, tick_shown};
-ghost use Rattle.brace_crew.specs.inner.Crews.{AreParts, AreMembers, AreNew, IsDeskOf, told_by, IsTelling, AreOf, all_numbers, part_numbers, served};
+ghost use Rattle.brace_crew.specs.inner.Crews.{AreParts, AreMembers, AreNew, IsReached, AreEnded, AreEarlyFor, IsDeskOf, told_by, IsTelling, AreOf, all_numbers, part_numbers, served};
 
 use crate::desk::{Lot, Stop};
 use crate::join::joined;
@@ -35,7 +30,7 @@ use brace_eval::with_earlier;
 use brace_model::Fault;
 use brace_num::{List, NoMemory};
 use brace_part::{Counts, Part};
-use brace_pieces::{Cause, Piece, Setting, Shown, moves_of};
+use brace_pieces::{Cause, Fronts, Piece, Setting, Shown, moves_of};
 use std::alloc::Global;
 
 /// Why a run did not come to its last tick, or not all of it was published.
@@ -116,7 +111,7 @@ pub(crate) fn members<'a, P: Publisher>(
 
 /// What all parts gave, where all went to the end.
 fn counts_of<P: Publisher>(members: &[Member<P>]) -> Result<Counts, NoMemory>
-    ensures { (s : Setting) → AreParts s members.now
+    ensures { (s : Setting) → AreParts s members.now → All (IsAt (length (steps s))) members.now
         → IfOk result (λ counts. counts ≡ all_given s) }
 {
     let mut all = Counts::none();
@@ -290,6 +285,19 @@ fn worlds_left<P: Publisher>(
     }
 }
 
+/// Whether no member is a desk that is still to put its Halt to all.
+pub(crate) fn have_told<P: Publisher>(members: &[Member<P>]) -> bool
+    ensures told { result ≡ true → All HasTold members.now }
+    ensures left { result ≡ false → AreEarlyFor members.now }
+{
+    for member in members {
+        if !member.has_told() {
+            return false;
+        }
+    }
+    true
+}
+
 /// What a run comes to whose parts met faults: the least of these, where all up to its tick is
 /// published.
 fn ended<P: Publisher>(
@@ -303,7 +311,12 @@ fn ended<P: Publisher>(
     requires desk { desk.course.setting ≡ setting.now }
     requires halted { (f : Fault) × HasHalted P.Publisher desk (cause.Fault f) }
     requires rises { Rises P.Publisher desk.opening desk.publisher }
+    requires course { IsCourse desk.course }
+    requires ended { (n : ℕ) × (IsReached setting.now n × All (IsAt n) members.now
+        × IsDeskOf setting.now n desk) }
     ensures came { CameTo P.Publisher setting.now desk.entry.opening result.0 (Err result.1) }
+    ensures ends { (n : ℕ) → IsReached setting.now n → All (IsAt n) members.now
+        → IsDeskOf setting.now n desk.entry → EndsBehind setting.now n (Err result.1) }
 {
     setting.numbers_fit();
     let Some(fault) = least_fault(members) else {
@@ -323,7 +336,7 @@ fn ended<P: Publisher>(
     (publisher, CrewFault::Fault(fault))
 }
 
-/// What a run came to, by its parts and its desk, of which no turn is left.
+/// What a run came to, by its parts and its desk, which stand where it ends.
 fn settled<P: Publisher>(
     alloc: Global,
     setting: &Setting,
@@ -332,8 +345,11 @@ fn settled<P: Publisher>(
 ) -> (P, Result<Counts, CrewFault>)
     requires lawful { LawfulSetting setting.now }
     requires parts { AreParts setting.now members.now }
-    requires desk { IsDeskOf setting.now desk }
+    requires ended { (n : ℕ) × (IsReached setting.now n × All (IsAt n) members.now
+        × IsDeskOf setting.now n desk) }
     ensures came { CameTo P.Publisher setting.now desk.entry.opening result.0 result.1 }
+    ensures ends { (n : ℕ) → IsReached setting.now n → All (IsAt n) members.now
+        → IsDeskOf setting.now n desk.entry → EndsBehind setting.now n result.1 }
 {
     setting.numbers_fit();
     match desk.stop() {
@@ -354,7 +370,7 @@ fn settled<P: Publisher>(
     }
 }
 
-/// What a run came to, by all its members, of which no turn is left.
+/// What a run came to, by all its members, which stand where it ends.
 pub(crate) fn concluded<P: Publisher>(
     alloc: Global,
     setting: &Setting,
@@ -363,10 +379,12 @@ pub(crate) fn concluded<P: Publisher>(
     requires lawful { LawfulSetting setting.now }
     requires members { (publisher : P)
         × AreMembers setting.now publisher (all_numbers setting.now) members.items }
-    requires done { All IsDone members.items }
+    requires ended { (n : ℕ) × AreEnded setting.now n members.items }
     ensures came { (publisher : P)
         → AreMembers setting.now publisher (all_numbers setting.now) members.entry.items
         → CameTo P.Publisher setting.now publisher result.0 result.1 }
+    ensures ends { (n : ℕ) → AreEnded setting.now n members.entry.items
+        → EndsBehind setting.now n result.1 }
 {
     match members.pop() {
         Some(Member::Desk(desk)) => settled(alloc, setting, &members, desk),
@@ -375,11 +393,47 @@ pub(crate) fn concluded<P: Publisher>(
     }
 }
 
-/// Runs the parts of a setting and its publisher over plain lanes, in the order that a number
-/// draws, and gives the publisher back with what all parts gave, or why not all was published.
+/// Runs all members of a run over plain lanes from end to end, up to the last, or to the one at
+/// which the desk put its Halt to all.
+fn run_through<P: Publisher>(
+    setting: &Setting,
+    members: &mut [Member<P>],
+    lanes: &mut PlainLanes<Piece>,
+    order: u64,
+)
+    requires lawful { LawfulSetting setting.now }
+    requires members { (publisher : P)
+        × AreMembers setting.now publisher (all_numbers setting.now) members.old }
+    requires first_turns { AreNew members.old }
+    requires lanes_setting { lanes.old.setting ≡ setting.now }
+    requires lanes_for { lanes.old.actors ≡ parts setting.now + 1 }
+    requires nothing_put { (p q : ℕ) → puts_of lanes.old p q ≡ 0 }
+    ensures same_settings { map (λ m. (course_of m).setting) members.new
+        ≡ map (λ m. (course_of m).setting) members.old }
+    ensures same_numbers { map (λ m. (course_of m).actor) members.new
+        ≡ map (λ m. (course_of m).actor) members.old }
+    ensures same_openings { map opening_of members.new ≡ map opening_of members.old }
+    ensures ended { (n : ℕ) × (AreEnded setting.now n members.new
+        × AreUsedTo setting.now n (puts_of lanes.new) (takes_of lanes.new)) }
+    ensures lanes_setting { lanes.new.setting ≡ lanes.old.setting }
+    ensures lanes_actors { lanes.new.actors ≡ lanes.old.actors }
+{
+    let mut fronts = Fronts::of(setting);
+    while let Some(end) = fronts.next() {
+        run_in_order(members, lanes, order, end);
+        if have_told(members) {
+            return;
+        }
+    }
+}
+
+/// Runs the parts of a setting and its publisher over plain lanes, from each end of the run to the
+/// next in the order that a number draws, and gives the publisher back with what all parts gave, or
+/// why not all was published.
 ///
 /// The setting is lawful and the publisher fits it. The lanes are made for it, with one actor more
-/// than it has parts, and nothing was put on them.
+/// than it has parts, and nothing was put on them. They are used to the end of the steps behind
+/// which the run ends.
 pub fn crew_run_alone<P: Publisher>(
     alloc: Global,
     setting: &Setting,
@@ -393,10 +447,8 @@ pub fn crew_run_alone<P: Publisher>(
     requires lanes_for { lanes.old.actors ≡ parts setting.now + 1 }
     requires nothing_put { (p q : ℕ) → puts_of lanes.old p q ≡ 0 }
     ensures came { CameTo P.Publisher setting.now publisher result.0 result.1 }
-    ensures all_put { (result.1 ≡ Err fault.NoMemory → ⊥) → (p q : ℕ)
-        → puts_of lanes.new p q ≡ length (lane (schedule setting.now) p q) }
-    ensures all_taken { (result.1 ≡ Err fault.NoMemory → ⊥) → (p q : ℕ)
-        → takes_of lanes.new p q ≡ length (lane (schedule setting.now) p q) }
+    ensures used { (n : ℕ) × (EndsBehind setting.now n result.1
+        × AreUsedTo setting.now n (puts_of lanes.new) (takes_of lanes.new)) }
     ensures lanes_setting { lanes.new.setting ≡ lanes.old.setting }
     ensures lanes_actors { lanes.new.actors ≡ lanes.old.actors }
 {
@@ -404,6 +456,6 @@ pub fn crew_run_alone<P: Publisher>(
         Ok(members) => members,
         Err(publisher) => return (publisher, Err(CrewFault::NoMemory)),
     };
-    run_in_order(&mut members, lanes, order);
+    run_through(setting, &mut members, lanes, order);
     concluded(alloc, setting, members)
 }

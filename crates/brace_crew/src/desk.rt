@@ -1,28 +1,26 @@
-ghost use Rattle.std.specs.Prelude.{◌≡◌, ℕ, ◌≤◌, map, length, IfOk, IfErr, Err, Some, None};
+ghost use Rattle.std.specs.Prelude.{◌≡◌, ℕ, ◌-◌, map, IfOk, IfErr, Err, Some, None, true, false};
 ghost use Rattle.std.specs.List.{range_with_len};
 ghost use Rattle.std.specs.Vec.{vec_capacity};
 ghost use Rattle.brace_io.specs.Counts.{Rose};
-ghost use Rattle.brace_core.specs.Exchanges.{due};
-ghost use Rattle.brace_core.specs.declared.name.Turn.TheVariants as turn;
 ghost use Rattle.brace_pieces.specs.declared.piece.Cause.{Cause};
 ghost use Rattle.brace_pieces.specs.declared.piece.Cause.TheVariants as cause;
-ghost use Rattle.brace_pieces.specs.Settings.{LawfulSetting, parts, shown_ticks, ends};
+ghost use Rattle.brace_pieces.specs.Settings.{LawfulSetting, parts, shown_ticks};
 ghost use Rattle.brace_pieces.specs.Numbers.{NumbersFit};
-ghost use Rattle.brace_pieces.specs.Steps.{schedule};
-ghost use Rattle.brace_pieces.specs.Courses.{at_start, past_of};
+ghost use Rattle.brace_pieces.specs.Courses.{IsCourse, at_start};
 ghost use Rattle.brace_crew.specs.declared.publisher.PubFault.{PubFault};
 ghost use Rattle.brace_crew.specs.declared.publisher.PubFault.TheVariants as fault;
 ghost use Rattle.brace_crew.specs.declared.desk.Stop.TheVariants as stop;
 ghost use Rattle.brace_crew.specs.Calls.{Rises};
 ghost use Rattle.brace_crew.specs.Refusals.{tick_of};
-ghost use Rattle.brace_crew.specs.Desks.{whole_at, HasShown, HasHalted, HasRefused};
+ghost use Rattle.brace_crew.specs.Desks.{whole_at, ends_before, AreFaultless, HasShown, HasHalted, HasRefused};
 ghost use Rattle.brace_crew.specs.inner.Lots.{tick_shown, brought};
+ghost use Rattle.brace_crew.specs.inner.Sound.{shows_in};
 
 use crate::join::joined;
 use crate::{PubFault, Publisher};
 use brace_core::{Actor, Turn};
 use brace_num::{List, NoMemory};
-use brace_pieces::{Cause, Course, Piece, Setting, Shown, Stage};
+use brace_pieces::{Cause, Course, Piece, Setting, Shown, Stage, Step};
 use std::alloc::Global;
 use std::marker::Model;
 use std::snapshot::Snapshot;
@@ -59,6 +57,8 @@ pub struct Desk<'a, P: Publisher> {
     stop: Option<Stop>,
     /// Whether it stopped in a step before.
     closed: bool,
+    /// Whether it has put its Halt to all since.
+    told: bool,
 }
 
 impl<'a, P: Publisher> Model for Desk<'a, P> {
@@ -81,9 +81,11 @@ impl<'a, P: Publisher> Model for Desk<'a, P> {
       stop = d.stop;
       lots = d.lots.items;
       closed = d.closed;
+      told = d.told;
     } };
 
     ghost invariant = { λ d. IsDesk P.Publisher (record {
+      told = d.told;
       closed = d.closed;
       lots = d.lots.items;
       stop = d.stop;
@@ -120,6 +122,7 @@ impl<'a, P: Publisher> Desk<'a, P> {
             lots,
             stop: None,
             closed: false,
+            told: false,
         })
     }
 
@@ -132,24 +135,37 @@ impl<'a, P: Publisher> Desk<'a, P> {
         publisher
     }
 
-    /// Why it publishes nothing any more. Where it went on to its last turn its publisher was shown
-    /// all ends; where a part halted, all ends before; where the publisher refused, all ends before
-    /// that; and at any time the first ends, where it did not refuse.
+    /// Why it publishes nothing any more. Where it goes on its publisher was shown all ends before
+    /// the step that it stands in; where a part halted, all ends before that, as can be told
+    /// between steps; where the publisher refused, all ends before that; and at any time the first
+    /// ends, where it did not refuse.
     pub fn stop(&self) -> Option<Stop>
         ensures same { result ≡ self.now.stop }
-        ensures all { self.now.stop ≡ None → due schedule self.now.course.setting
-            self.now.course.actor (past_of self.now.course) ≡ turn.Done
-            → HasShown P.Publisher self.now (length (ends self.now.course.setting)) }
+        ensures all { self.now.stop ≡ None → HasShown P.Publisher self.now
+            (ends_before self.now.course.setting self.now.course.number) }
         ensures halted { (c : Cause) → self.now.stop ≡ Some (stop.Halt c)
-            → due schedule self.now.course.setting self.now.course.actor
-            (past_of self.now.course) ≡ turn.Done → HasHalted P.Publisher self.now c }
+            → self.now.course.made ≡ 0 → HasHalted P.Publisher self.now c }
         ensures refused { (x : PubFault) → self.now.stop ≡ Some (stop.Refusal x)
             → HasRefused P.Publisher self.now x }
         ensures shown { ((x : PubFault) → self.now.stop ≡ Some (stop.Refusal x) → ⊥)
             → (count : ℕ) × HasShown P.Publisher self.now count }
         ensures rises { Rises P.Publisher self.now.opening self.now.publisher }
+        ensures told { self.now.told ≡ true → self.now.stop ≡ None → ⊥ }
+        ensures course { IsCourse self.now.course }
     {
         self.stop
+    }
+
+    /// Whether it put its Halt to all: a step in which all is shown was made since it stopped.
+    /// Where it has not, no part found a fault before the ends behind which it stands, but the last
+    /// of them.
+    pub fn has_told(&self) -> bool
+        ensures same { result ≡ self.now.told }
+        ensures course { IsCourse self.now.course }
+        ensures early { self.now.told ≡ false → AreFaultless self.now.course.setting
+            (ends_before self.now.course.setting self.now.course.number - 1) }
+    {
+        self.told
     }
 
     /// What came in the step in which the first part halted, by rising part.
@@ -157,6 +173,16 @@ impl<'a, P: Publisher> Desk<'a, P> {
         ensures { result.now ≡ self.now.lots }
     {
         self.lots.as_slice()
+    }
+}
+
+/// Whether a step that may be there shows all.
+fn shows_all(at: Option<Step>) -> bool
+    ensures { result ≡ shows_in at }
+{
+    match at {
+        Some(at) => at.stage == Stage::Show,
+        None => false,
     }
 }
 
@@ -212,8 +238,8 @@ impl<'a, P: Publisher> Actor<Piece> for Desk<'a, P> {
 
     ghost past = { λ desk. past_of desk.course };
 
-    fn next(&self) -> Turn {
-        self.course.turn()
+    fn next(&self, end: u64) -> Turn {
+        self.course.turn_to(end)
     }
 
     fn piece(&mut self) -> Piece {
@@ -251,6 +277,7 @@ impl<'a, P: Publisher> Actor<Piece> for Desk<'a, P> {
         let at = self.course.step();
         self.course.go_on();
         if self.closed {
+            self.told |= shows_all(at);
             return;
         }
         if let Some(at) = at {

@@ -1,5 +1,7 @@
-ghost use Rattle.std.specs.Prelude.{◌≡◌};
-ghost use Rattle.brace_crew.specs.Members.{asked_of};
+ghost use Rattle.std.specs.Prelude.{◌≡◌, ◌≤◌, ℕ, length, true, false};
+ghost use Rattle.brace_pieces.specs.Steps.{steps};
+ghost use Rattle.brace_crew.specs.Members.{asked_of, course_of, HasTold, IsAt};
+ghost use Rattle.brace_crew.specs.inner.Crews.{AreEarly};
 
 use crate::{Desk, Publisher};
 use brace_core::{Actor, Turn};
@@ -23,6 +25,18 @@ impl<'a, P: Publisher> Member<'a, P> {
             Member::Desk(_) => None,
         }
     }
+
+    /// Whether it is a part, or the desk and put its Halt to all.
+    pub(crate) fn has_told(&self) -> bool
+        ensures told { result ≡ true → HasTold self.now }
+        ensures left { result ≡ false → (n : ℕ) → n ≤ length (steps (course_of self.now).setting)
+            → IsAt n self.now → AreEarly (course_of self.now).setting n }
+    {
+        match self {
+            Member::Part(_) => true,
+            Member::Desk(desk) => desk.has_told(),
+        }
+    }
 }
 
 impl<'a, P: Publisher> Actor<Piece> for Member<'a, P> {
@@ -39,10 +53,10 @@ impl<'a, P: Publisher> Actor<Piece> for Member<'a, P> {
 
     ghost past = { λ m. past_of (course_of m) };
 
-    fn next(&self) -> Turn {
+    fn next(&self, end: u64) -> Turn {
         match self {
-            Member::Part(part) => part.next(),
-            Member::Desk(desk) => desk.next(),
+            Member::Part(part) => part.next(end),
+            Member::Desk(desk) => desk.next(end),
         }
     }
 

@@ -5,7 +5,7 @@ ghost use Rattle.std.specs.Vec.{vec_len, vec_capacity};
 ghost use Rattle.brace_lanes.specs.Seats.{new_seats};
 ghost use Rattle.brace_pieces.specs.Settings.{LawfulSetting, parts};
 ghost use Rattle.brace_crew.specs.inner.Crews.{AreNew, all_numbers, part_numbers};
-ghost use Rattle.brace_crew.specs.inner.Teams.{AreRosters, IsTeam};
+ghost use Rattle.brace_crew.specs.inner.Teams.{AreRosters, HasCome, IsTeam};
 
 use crate::crew::parts;
 use crate::{Bench, Desk, Member, Publisher};
@@ -77,6 +77,7 @@ pub fn benches<'a, P: Publisher>(
         ≡ new_seats lanes.now setting.now (parts setting.now + 1) workers workers }
     ensures team { IfOk result (λ all. IsTeam setting.now publisher workers
         (all_numbers setting.now) all.items) }
+    ensures start { IfOk result (λ all. All (HasCome 0) all.items) }
     ensures back { IfErr result (λ p. p ≡ publisher) }
 {
     let Ok(mut all) = Vec::with_capacity(alloc, workers as usize) else {

@@ -1,17 +1,18 @@
 //! A run on several workers.
-ghost use Rattle.std.specs.Prelude.{◌≡◌, ◌≤◌, ◌<◌, ◌+◌, [], true, length, map, IfOk, Err};
+ghost use Rattle.std.specs.Prelude.{◌≡◌, ◌≤◌, ◌<◌, ◌+◌, ℕ, [], true, false, length, map, slice_index_or, IfOk};
 ghost use Rattle.std.specs.List.{All};
 ghost use Rattle.std.specs.Vec.{vec_capacity};
 ghost use Rattle.std.specs.Vec.Iter.{into_iter_items};
 ghost use Rattle.brace_pieces.specs.declared.setting.Setting.{Setting};
 ghost use Rattle.brace_lanes.specs.Seats.{new_seats};
 ghost use Rattle.brace_pieces.specs.Settings.{LawfulSetting, parts};
-ghost use Rattle.brace_crew.specs.declared.crew.CrewFault.TheVariants as fault;
+ghost use Rattle.brace_pieces.specs.Steps.{steps};
 ghost use Rattle.brace_crew.specs.Calls.{CameTo};
-ghost use Rattle.brace_crew.specs.Members.{IsDone};
-ghost use Rattle.brace_crew.specs.Workers.{AreUsedUp};
-ghost use Rattle.brace_crew.specs.inner.Crews.{AreMembers, all_numbers};
-ghost use Rattle.brace_crew.specs.inner.Teams.{AreRosters, IsTeam, HasEnded, AreLater, seat_of};
+ghost use Rattle.brace_crew.specs.Benches.{OnBench, IsSameBench};
+ghost use Rattle.brace_crew.specs.Members.{course_of, HasTold, IsAt, IsLast};
+ghost use Rattle.brace_crew.specs.Workers.{AreLeft};
+ghost use Rattle.brace_crew.specs.inner.Crews.{AreMembers, AreEarly, IsReached, all_numbers};
+ghost use Rattle.brace_crew.specs.inner.Teams.{AreRosters, IsTeam, HasCome, StaysWithin, AreLater, seat_of};
 
 use crate::crew::concluded;
 use crate::crowd::Crowd;
@@ -22,18 +23,39 @@ use brace_io::Gate;
 use brace_lanes::{LaneSeat, Lanes};
 use brace_num::NoMemory;
 use brace_part::Counts;
-use brace_pieces::{Piece, Setting};
+use brace_pieces::{Fronts, Piece, Setting};
 use std::alloc::Global;
 use std::sync::Wait;
 use std::thread;
 use std::thread::Threads;
 use std::vec::IntoIter;
 
-/// Whether no turn is left of any member of benches.
-fn are_complete<P: Publisher>(benches: &[Bench<P>]) -> bool
-    ensures { result ≡ true → All HasEnded benches.now }
+/// Whether no member of benches has a turn left in the first steps, so many.
+fn are_complete<P: Publisher>(benches: &[Bench<P>], steps: u64) -> bool
+    ensures { result ≡ true → All (StaysWithin steps) benches.now
+        → All (HasCome steps) benches.now }
 {
-    benches.iter().all(|bench| bench.is_complete())
+    for bench in benches {
+        if !bench.is_complete(steps) {
+            return false;
+        }
+    }
+    true
+}
+
+/// Whether no member of benches is a desk that is still to put its Halt to all.
+fn have_told<P: Publisher>(benches: &[Bench<P>]) -> bool
+    ensures told { result ≡ true → All (λ b. All HasTold b.members) benches.now }
+    ensures left { result ≡ false → (s : Setting) (n : ℕ) → n ≤ length (steps s)
+        → All (λ b. All (λ m. (course_of m).setting ≡ s) b.members) benches.now
+        → All (λ b. All (IsAt n) b.members) benches.now → AreEarly s n }
+{
+    for bench in benches {
+        if !bench.has_told() {
+            return false;
+        }
+    }
+    true
 }
 
 /// Whether a thread can be made now.
@@ -47,15 +69,19 @@ fn can_fork<R: Threads>(rt: &R) -> bool {
     }
 }
 
-/// Drives each bench beside the others, in a thread of its own where one can be made; tells whether
-/// two were driven at one time.
+/// Drives each bench through the first steps, so many, beside the others, in a thread of its own
+/// where one can be made; tells whether two were driven at one time.
 fn drive_beside<R: Threads + Wait + Sync, P: Publisher + Send, G: Gate + Sync>(
     rt: &R,
     benches: &mut [Bench<P>],
     gate: &G,
+    steps: u64,
 ) -> bool
     requires some_bench { 0 < length benches.old }
     ensures same { AreLater benches.old benches.new }
+    ensures within { (k : ℕ) (d : OnBench P) → k < length benches.old
+        → StaysWithin steps (slice_index_or benches.old k d)
+        → StaysWithin steps (slice_index_or benches.new k d) }
 {
     let workers = benches.len();
     let crowd = Crowd::new();
@@ -63,69 +89,113 @@ fn drive_beside<R: Threads + Wait + Sync, P: Publisher + Send, G: Gate + Sync>(
         rt,
         benches,
         workers,
-        &|_, bench| {
-            bench.drive_among(rt, gate, &crowd);
+        &|_, bench|
+            ensures { IsSameBench bench.old bench.new
+                × (StaysWithin steps bench.old → StaysWithin steps bench.new) }
+        {
+            bench.drive_among(rt, gate, &crowd, steps);
         },
     );
     crowd.has_met()
 }
 
-/// Drives each bench as far as it can go by itself, one behind the other in one thread.
+/// Drives each bench as far as it can go by itself in the first steps, so many, one behind the
+/// other in one thread.
 fn drive_each<R: Threads + Wait + Sync, P: Publisher + Send, G: Gate + Sync>(
     rt: &R,
     benches: &mut [Bench<P>],
     gate: &G,
+    steps: u64,
 )
     ensures same { AreLater benches.old benches.new }
+    ensures within { (k : ℕ) (d : OnBench P) → k < length benches.old
+        → StaysWithin steps (slice_index_or benches.old k d)
+        → StaysWithin steps (slice_index_or benches.new k d) }
 {
     thread::for_each_mut(
         rt,
         benches,
         1,
-        &|_, bench| {
-            bench.drive(gate, 1);
+        &|_, bench|
+            ensures { IsSameBench bench.old bench.new
+                × (StaysWithin steps bench.old → StaysWithin steps bench.new) }
+        {
+            bench.drive(gate, 1, steps);
         },
     );
 }
 
-/// Drives the benches in turn, so often, or until all are complete.
+/// Drives the benches in turn, so often, or until all are complete in the first steps, so many.
 fn drive_in_turn<R: Threads + Wait + Sync, P: Publisher + Send, G: Gate + Sync>(
     rt: &R,
     benches: &mut [Bench<P>],
     gate: &G,
     times: u64,
+    steps: u64,
 )
     ensures same { AreLater benches.old benches.new }
+    ensures within { (k : ℕ) (d : OnBench P) → k < length benches.old
+        → StaysWithin steps (slice_index_or benches.old k d)
+        → StaysWithin steps (slice_index_or benches.new k d) }
 {
     for _ in 0..times {
-        if are_complete(benches) {
+        if are_complete(benches, steps) {
             return;
         }
-        drive_each(rt, benches, gate);
+        drive_each(rt, benches, gate, steps);
     }
 }
 
-/// Drives benches beside each other, again and again, until all are complete. While no thread can
-/// be made it drives them in turn, and asks for threads less and less often.
-fn drive_through<R: Threads + Wait + Sync, P: Publisher + Send, G: Gate + Sync>(
+/// Drives benches through the first steps, so many, beside each other, again and again, until all
+/// are complete. While no thread can be made it drives them in turn, and asks for threads less and
+/// less often.
+fn drive_to<R: Threads + Wait + Sync, P: Publisher + Send, G: Gate + Sync>(
     rt: &R,
     benches: &mut [Bench<P>],
     gate: &G,
+    steps: u64,
 )
     requires some_bench { 0 < length benches.old }
+    requires within { All (StaysWithin steps) benches.old }
     ensures same { AreLater benches.old benches.new }
-    ensures complete { All HasEnded benches.new }
+    ensures come { All (HasCome steps) benches.new }
 {
     let mut times = 1u64;
     for _ in rt.forever() {
-        if are_complete(benches) {
+        if are_complete(benches, steps) {
             return;
         }
-        if can_fork(rt) && drive_beside(rt, benches, gate) {
+        if can_fork(rt) && drive_beside(rt, benches, gate, steps) {
             times = 1;
         } else {
-            drive_in_turn(rt, benches, gate, times);
+            drive_in_turn(rt, benches, gate, times, steps);
             times = times.saturating_mul(2);
+        }
+    }
+}
+
+/// Drives the benches of a run from end to end, up to the last, or to the one at which the desk put
+/// its Halt to all.
+fn drive_through<R: Threads + Wait + Sync, P: Publisher + Send, G: Gate + Sync>(
+    rt: &R,
+    setting: &Setting,
+    benches: &mut [Bench<P>],
+    gate: &G,
+)
+    requires lawful { LawfulSetting setting.now }
+    requires some_bench { 0 < length benches.old }
+    requires team { (publisher : P) × ((workers : ℕ) × IsTeam setting.now publisher workers
+        (all_numbers setting.now) benches.old) }
+    requires start { All (HasCome 0) benches.old }
+    ensures same { AreLater benches.old benches.new }
+    ensures come { (n : ℕ) × (IsReached setting.now n × All (HasCome n) benches.new
+        × All (λ b. All (IsLast n) b.members) benches.new) }
+{
+    let mut fronts = Fronts::of(setting);
+    while let Some(end) = fronts.next() {
+        drive_to(rt, benches, gate, end);
+        if have_told(benches) {
+            return;
         }
     }
 }
@@ -188,8 +258,8 @@ fn take_in_turn<'a, P: Publisher>(
     ensures members { (s : Setting) (publisher : P) → count ≡ parts s + 1
         → AreRosters s publisher (length lists.old) (all_numbers s) (map into_iter_items lists.old)
         → AreMembers s publisher (all_numbers s) members.new.items }
-    ensures done { All (λ list. All IsDone (into_iter_items list)) lists.old
-        → All IsDone members.new.items }
+    ensures last { (n : ℕ) → All (λ list. All (IsLast n) (into_iter_items list)) lists.old
+        → All (IsLast n) members.new.items }
 {
     let workers = lists.len();
     for number in 0..count {
@@ -216,8 +286,7 @@ fn run_on<'a, R: Threads + Wait + Sync, P: Publisher + Send, G: Gate + Sync>(
     requires seats { seats.items
         ≡ new_seats lanes.now setting.now (parts setting.now + 1) workers workers }
     ensures came { CameTo P.Publisher setting.now publisher result.0 result.2 }
-    ensures used_up { (result.2 ≡ Err fault.NoMemory → ⊥)
-        → AreUsedUp setting.now workers result.1.items }
+    ensures left { AreLeft setting.now workers result.2 result.1.items }
 {
     let count = setting.parts() as usize + 1;
     let Ok(mut room) = Room::make(alloc, workers as usize, count) else {
@@ -227,7 +296,7 @@ fn run_on<'a, R: Threads + Wait + Sync, P: Publisher + Send, G: Gate + Sync>(
         Ok(team) => team,
         Err(publisher) => return (publisher, Vec::new(alloc), Err(CrewFault::NoMemory)),
     };
-    drive_through(rt, &mut team, gate);
+    drive_through(rt, setting, &mut team, gate);
     let Room {
         mut lists,
         mut members,
@@ -281,8 +350,7 @@ pub fn crew_run<R: Threads + Wait + Sync, P: Publisher + Send, G: Gate + Sync>(
     requires few_workers { workers ≤ 16 }
     ensures came { CameTo P.Publisher setting.now publisher result.0 result.2 }
     ensures alone { workers ≡ 1 → result.1.items ≡ [] }
-    ensures used_up { 2 ≤ workers → (result.2 ≡ Err fault.NoMemory → ⊥)
-        → AreUsedUp setting.now workers result.1.items }
+    ensures left { 2 ≤ workers → AreLeft setting.now workers result.2 result.1.items }
 {
     if workers == 1 {
         let (publisher, answer) = crew_run_on_one(alloc, setting, order, publisher);

@@ -1,8 +1,8 @@
-ghost use Rattle.std.specs.Prelude.{◌≡◌, ◌<◌, ◌≤◌, ◌++◌, List, Some, Bool, pos, ◌≤ℤ◌, int_le, filter, length, slice_get, IsTrue, IfOk, IfSome, IfNone};
+ghost use Rattle.std.specs.Prelude.{◌≡◌, ℤ, ◌<◌, ◌≤◌, ◌++◌, List, Some, Bool, pos, ◌≤ℤ◌, filter, length, slice_get, IsTrue, IfOk, IfSome, IfNone};
 ghost use Rattle.std.specs.Bool.{OnTrue};
 ghost use Rattle.std.specs.List.{All, list_all};
 ghost use Rattle.std.specs.List.Sorted.{IsPermutation};
-ghost use Rattle.brace_num.specs.Areas.{outside, gap_to};
+ghost use Rattle.brace_num.specs.declared.kinds.Area.{Area};
 ghost use Rattle.brace_model.specs.declared.program.Program.{Program};
 ghost use Rattle.brace_model.specs.declared.world.Agent.{Agent};
 ghost use Rattle.brace_model.specs.Lawful.{is_lawful_agent};
@@ -14,7 +14,7 @@ ghost use Rattle.brace_fold.specs.Rows.{AreMoved};
 ghost use Rattle.brace_invert.specs.Held.{is_near};
 ghost use Rattle.brace_pieces.specs.Owned.{owned};
 ghost use Rattle.brace_part.specs.inner.Asked.{ArePlaces};
-ghost use Rattle.brace_part.specs.inner.Near.{AreAxes, AreNear, StandsFit};
+ghost use Rattle.brace_part.specs.inner.Near.{AreAxes, AreNear, IsWidened, StandsFit, has_point};
 
 use crate::gather::sorted;
 use brace_cuts::Cuts;
@@ -85,30 +85,31 @@ fn led<'a>(
     Ok(axes)
 }
 
-/// Whether a number is within a range of a span.
-fn is_within(low: i64, high: i64, range: i64, p: i64) -> bool
+/// The area of the points within a range of another one.
+fn widened(area: &Area, range: i64) -> Area
     requires { pos 0 ≤ℤ range }
-    ensures { result ≡ int_le (outside low high p) range }
+    ensures { IsWidened area.now range result }
 {
-    let (least, greatest) = (low.saturating_sub(range), high.saturating_add(range));
-    (least <= p) & (p <= greatest)
+    let (x0, x1) = (area.x0.saturating_sub(range), area.x1.saturating_add(range));
+    let (y0, y1) = (area.y0.saturating_sub(range), area.y1.saturating_add(range));
+    Area { x0, x1, y0, y1 }
 }
 
-/// Whether a point is within a range of an area.
-fn is_around(area: &Area, range: i64, x: i64, y: i64) -> bool
-    requires { pos 0 ≤ℤ range }
-    ensures { result ≡ int_le (gap_to area.now x y) range }
+/// Whether a point is in an area.
+fn is_in(area: &Area, x: i64, y: i64) -> bool
+    ensures { result ≡ has_point area.now x y }
 {
-    is_within(area.x0, area.x1, range, x) & is_within(area.y0, area.y1, range, y)
+    let along = (area.x0 <= x) & (x <= area.x1);
+    let up = (area.y0 <= y) & (y <= area.y1);
+    along & up
 }
 
-/// Whether the agent of a row stands within a range of an area.
-fn is_near_at(axes: &Axes, area: &Area, range: i64, row: usize) -> Result<bool, Redo>
-    requires { pos 0 ≤ℤ range }
+/// Whether the agent of a row stands in an area: within a range of the one that it widens.
+fn is_near_at(axes: &Axes, wide: &Area, row: usize) -> Result<bool, Redo>
     ensures near { IfOk result (λ near. (program : Program) (rows : Moved) (agents : List Agent)
-        (a : Agent) → AreAxes program rows axes.now → AreMoved agents rows
-        → slice_get agents row ≡ Some a → a.class ≡ axes.now.class
-        → near ≡ is_near program area.now range a) }
+        (a : Agent) (area : Area) (range : ℤ) → AreAxes program rows axes.now
+        → AreMoved agents rows → slice_get agents row ≡ Some a → a.class ≡ axes.now.class
+        → IsWidened area range wide.now → near ≡ is_near program area range a) }
     ensures fit { IfOk result (λ _. (program : Program) (rows : Moved) (agents : List Agent)
         (a : Agent) → AreAxes program rows axes.now → AreMoved agents rows
         → slice_get agents row ≡ Some a → a.class ≡ axes.now.class → StandsFit program a) }
@@ -119,7 +120,7 @@ fn is_near_at(axes: &Axes, area: &Area, range: i64, row: usize) -> Result<bool, 
     let Some(y) = item_at(axes.ys, row) else {
         return Err(Redo);
     };
-    Ok(is_around(area, range, x, y))
+    Ok(is_in(wide, x, y))
 }
 
 /// The rows of the agents that stand within a range of an area.
@@ -134,11 +135,12 @@ fn rows_near(
     ensures { IfOk result (λ near. (agents : List Agent) → AreMoved agents rows.now
         → AreNear program.now area.now range agents agents near.items) }
 {
-    let mut near = Vec::new(alloc);
+    let mut near = Vec::with_capacity(alloc, rows.classes.len())?;
     let Some(first) = number_at(&rows.classes, 0) else {
         return Ok(near);
     };
     let mut axes = axes_of(program, rows, first)?;
+    let wide = widened(area, range);
     for k in 0..rows.classes.len() {
         let Ok(row) = u32::try_from(k) else {
             return Err(Redo);
@@ -148,7 +150,7 @@ fn rows_near(
         };
         let known = led(program, rows, axes, number)?;
         axes = known;
-        let wanted = is_near_at(&axes, area, range, k)?;
+        let wanted = is_near_at(&axes, &wide, k)?;
         add_row(&mut near, row, wanted)?;
     }
     Ok(near)

@@ -375,8 +375,8 @@ impl<'a> Actor<Piece> for Part<'a> {
 
     ghost past = { λ part. past_of part.course };
 
-    fn next(&self) -> Turn {
-        self.course.turn()
+    fn next(&self, end: u64) -> Turn {
+        self.course.turn_to(end)
     }
 
     fn piece(&mut self) -> Piece

@@ -5,12 +5,13 @@ use Rattle.std.specs.List.{range_with_len}
 use Rattle.std.proofs.lemmas.Bool.{eq-eqb, cases_lt}
 use Rattle.std.proofs.lemmas.List.Elements.{filter-append}
 use Rattle.std.proofs.lemmas.List.Sums.{sum_by-cons}
-use Rattle.std.proofs.lemmas.List.{append_assoc, length-append, length-map, get_or_append_left, get_or-append_right, get_or_past, get_or_default}
+use Rattle.std.proofs.lemmas.List.{append_assoc, length-append, length-map, get_or_append_left, get_or-append_right, get_or_past, get_or_default, take-take, take_all}
 use Rattle.brace_core.specs.declared.name.Turn.{Turn}
 use Rattle.brace_core.specs.declared.name.Turn.TheVariants.{Put, Take, Work, Done}
-use Rattle.brace_core.specs.Schedule.{Pair, meets, name, puts, takes, turns_from, turn_at}
+use Rattle.brace_core.specs.Schedule.{Pair, front, meets, name, puts, takes, turns, turns_from, turn_at}
 use Rattle.brace_core.specs.Schedule as core
 use Rattle.brace_core.proofs.Lists.{at_map}
+use Rattle.brace_core.proofs.Fronts.{longer}
 use Rattle.brace_pieces.specs.declared.setting.Setting.{Setting}
 use Rattle.brace_pieces.specs.declared.setting.Step.{Step}
 use Rattle.brace_pieces.specs.Settings.{parts}
@@ -101,6 +102,59 @@ course_turn c h =
     sym (ap (λ ts. get_or ts (past_of c) Done) (turns_are s p h.is_actor 0 (steps s))
     ∙ turn_there s p h.is_actor 0 c.number (steps s) c.made h.before_work
     ∙ ap (λ k. turn_in k p (others_of c) c.made (step_of c)) first)
+
+-- ---- the first steps
+
+rows_to : {A : Type 0} (f : Step → A) (n : ℕ) (ats : List Step) → take n (map f ats) ≡ map f (take n ats)
+rows_to f zero [] = refl
+rows_to f (suc n) [] = refl
+rows_to f zero (at ∷ ats) = refl
+rows_to f (suc n) (at ∷ ats) = ap (λ xs. f at ∷ xs) (rows_to f n ats)
+
+got_to : (n e : ℕ) (ats : List Step) → n < e → slice_get (take e ats) n ≡ slice_get ats n
+got_to n zero ats low = absurd (omega (arith, low))
+got_to n (suc e) [] low = refl
+got_to zero (suc e) (at ∷ ats) low = refl
+got_to (suc n) (suc e) (at ∷ ats) low = got_to n e ats (omega (arith, low))
+
+module _ (s : Setting) (p : ℕ) (is_actor : p < parts s + 1) where
+  -- the turns of the first steps, so many, and how many these are
+  turns_to : (e : ℕ) → turns (front (schedule s) e) p ≡ walk s p is_actor 0 (take e (steps s))
+  turns_to e = ap (λ rows. turns_from 0 (parts s + 1) rows p) (rows_to (pairs_in s p is_actor) e (steps s)) ∙ turns_are s p is_actor 0 (take e (steps s))
+
+  walk_long : (k : ℕ) (ats : List Step) → length (walk s p is_actor k ats) ≡ sum_by (turns_in s p) ats
+  walk_long k [] = refl
+  walk_long k (at ∷ ats) =
+      let others : List ℕ = met s at p in
+      omega (arith, length-append (exchanges k p others) (Work ∷ walk s p is_actor (suc k) ats), exchanges_long k p others, walk_long (suc k) ats, sum_by-cons (turns_in s p) at ats)
+
+  pub turns_count : (e : ℕ) → length (turns (front (schedule s) e) p) ≡ sum_by (turns_in s p) (take e (steps s))
+  turns_count e = ap length (turns_to e) ∙ walk_long 0 (take e (steps s))
+
+-- its next turn up to an end behind the step that it stands in
+pub turn_until : (c : OnCourse) → IsCourse c → (e : ℕ) → c.number < e → turn_of c ≡ turn_at (front (schedule c.setting) e) c.actor (past_of c)
+turn_until c h e low =
+    let s : Setting = c.setting in
+    let p : ℕ = c.actor in
+    let at : slice_get (take e (steps s)) c.number ≡ step_of c = got_to c.number e (steps s) low in
+    let before : sum_by (turns_in s p) (take c.number (take e (steps s))) ≡ sum_by (turns_in s p) (take c.number (steps s)) =
+    ap (sum_by (turns_in s p)) (take-take c.number e (steps s) (omega (arith, low))) in
+    let few : c.made ≤ 2 * length (met_in s (slice_get (take e (steps s)) c.number) p) = subst (λ o. c.made ≤ 2 * length (met_in s o p)) (sym at) h.before_work in
+    let first : 0 + c.number ≡ c.number = omega arith in
+    sym (ap (λ ts. get_or ts (past_of c) Done) (turns_to s p h.is_actor e)
+    ∙ ap (λ n. get_or (walk s p h.is_actor 0 (take e (steps s))) (n + c.made) Done) (sym before)
+    ∙ turn_there s p h.is_actor 0 c.number (take e (steps s)) c.made few
+    ∙ ap (λ o. turn_in (0 + c.number) p (met_in s o p) c.made o) at
+    ∙ ap (λ k. turn_in k p (others_of c) c.made (step_of c)) first)
+
+-- and up to one that is not
+pub turn_over : (c : OnCourse) → IsCourse c → (e : ℕ) → e ≤ c.number → Done ≡ turn_at (front (schedule c.setting) e) c.actor (past_of c)
+turn_over c h e high =
+    let s : Setting = c.setting in
+    let p : ℕ = c.actor in
+    let more = longer (schedule s) e c.number p high in
+    let long : length (turns (front (schedule s) e) p) ≤ past_of c = omega (arith, more, turns_count s p h.is_actor c.number) in
+    sym (get_or_past (turns (front (schedule s) e) p) (past_of c) Done long)
 
 -- ---- the turns in a step
 
@@ -211,6 +265,55 @@ pub there_within : (xs : List Step) (n : ℕ) (at : Step) → slice_get xs n ≡
 there_within [] n at is = absurd (cc)
 there_within (x ∷ xs) zero at is = omega arith
 there_within (x ∷ xs) (suc n) at is = omega (arith, there_within xs n at is)
+
+-- ---- at the end of the first steps
+
+-- each place below the end has a step
+some_at : (xs : List Step) (k : ℕ) → k < length xs → (at : Step) × (slice_get xs k ≡ Some at)
+some_at [] k low = absurd (omega (arith, low))
+some_at (x ∷ xs) zero low = (x, refl)
+some_at (x ∷ xs) (suc k) low = some_at xs k (omega (arith, low))
+
+-- it stands no step before this end, before all turns of a step, and behind the same steps
+pub record StandsThere (c : OnCourse) (n : ℕ) : Type 0 where
+  pub behind : n ≤ c.number
+  pub no_turn : c.made ≡ 0
+  pub same_steps : take c.number (steps c.setting) ≡ take n (steps c.setting)
+  pub no_later : (k : ℕ) → k < c.number → k < length (steps c.setting) → k < n
+
+pub stands_there : (c : OnCourse) → IsCourse c → (n : ℕ) → n ≤ length (steps c.setting) → past_of c ≡ length (turns (front (schedule c.setting) n) c.actor) → StandsThere c n
+stands_there c h n within at = elim (cases_lt c.number n) [
+  | inl low ↦
+      let (there, is) = some_at (steps c.setting) c.number (omega (arith, low, within)) in
+      let one = one_more (turns_in c.setting c.actor) (steps c.setting) c.number there is in
+      let longest = longer (schedule c.setting) (suc c.number) n c.actor (omega (arith, low)) in
+      let others : length (others_of c) ≡ length (met c.setting there c.actor) = ap (λ o. length (met_in c.setting o c.actor)) is in
+      absurd (omega (arith, one, longest, others, at, h.before_work, turns_count c.setting c.actor h.is_actor (suc c.number)))
+  | inr high ↦
+      let up = longer (schedule c.setting) n c.number c.actor high in
+      let none : c.made ≡ 0 = omega (arith, at, up, turns_count c.setting c.actor h.is_actor c.number) in
+      elim (cases_lt n c.number) [
+        | inl over ↦ elim (cases_lt n (length (steps c.setting))) [
+          | inl left ↦
+              let (there, is) = some_at (steps c.setting) n left in
+              let one = one_more (turns_in c.setting c.actor) (steps c.setting) n there is in
+              let longest = longer (schedule c.setting) (suc n) c.number c.actor (omega (arith, over)) in
+              absurd (omega (arith, one, longest, at, turns_count c.setting c.actor h.is_actor n, turns_count c.setting c.actor h.is_actor (suc n), turns_count c.setting c.actor h.is_actor c.number))
+          | inr all ↦ record {
+            behind = high;
+            no_turn = none;
+            same_steps = take_all c.number (steps c.setting) (omega (arith, all, high)) ∙ sym (take_all n (steps c.setting) all);
+            no_later = λ k before there. omega (arith, there, all);
+          }
+        ]
+        | inr same ↦ let is : c.number ≡ n = omega (arith, high, same) in record {
+          behind = high;
+          no_turn = none;
+          same_steps = ap (λ k. take k (steps c.setting)) is;
+          no_later = λ k before there. omega (arith, before, is);
+        }
+      ]
+]
 
 -- ---- numbers in a row, one by one
 

@@ -28,6 +28,7 @@ pub mod Sayings
 pub mod ShareLemmas
 pub mod WalkLemmas
 pub mod CourseLemmas
+pub mod FrontLemmas
 pub mod AllLemmas
 pub mod FoundLemmas
 pub mod EpochLemmas

@@ -11,4 +11,5 @@ pub mod Heard
 pub mod Counts
 pub mod Halts
 pub mod Courses
+pub mod Fronts
 pub mod inner

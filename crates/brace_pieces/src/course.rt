@@ -2,7 +2,7 @@ ghost use Rattle.std.specs.Prelude.{◌≡◌, ◌+◌, ◌<◌, ◌≤◌, IfOk
 ghost use Rattle.std.specs.Int.{int_max};
 ghost use Rattle.std.specs.Vec.{vec_capacity};
 ghost use Rattle.brace_core.specs.declared.name.Turn.TheVariants.{Done};
-ghost use Rattle.brace_core.specs.Exchanges.{due};
+ghost use Rattle.brace_core.specs.Exchanges.{due, due_to};
 ghost use Rattle.brace_cuts.specs.CutPlans.{IsPlan};
 ghost use Rattle.brace_pieces.specs.Settings.{LawfulSetting, greatest_reach, range, parts};
 ghost use Rattle.brace_pieces.specs.Steps.{schedule};
@@ -149,6 +149,16 @@ impl<'a> Course<'a> {
             });
         }
         Turn::Work
+    }
+
+    /// Its next turn in the first steps of the run, so many; Done behind them.
+    pub fn turn_to(&self, end: u64) -> Turn
+        ensures { result ≡ due_to schedule self.now.setting end self.now.actor (past_of self.now) }
+    {
+        if end <= self.number {
+            return Turn::Done;
+        }
+        self.turn()
     }
 
     /// Goes on behind its next turn. It takes no memory.

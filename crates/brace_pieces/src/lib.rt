@@ -3,6 +3,7 @@
 #![tactic(auto)]
 
 mod course;
+mod fronts;
 pub mod laws;
 mod lists;
 mod meet;
@@ -12,6 +13,7 @@ mod setting;
 mod steps;
 
 pub use course::Course;
+pub use fronts::Fronts;
 pub use lists::{border_of, hand_of, moves_of, owns};
 pub use piece::{Cause, Piece, Shown};
 pub use setting::{Setting, Stage, Step};

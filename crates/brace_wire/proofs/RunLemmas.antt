@@ -1,8 +1,8 @@
 -- The loop over events and rounds: where actors and lanes stand, and how many rounds there are.
-use Rattle.std.proofs.Common.{◌≡◌, ◌∙◌, ℕ, zero, suc, ◌+◌, ◌-◌, ◌*◌, ◌/◌, ◌%◌, ◌^◌, ◌<◌, ◌≤◌, min, Bool, true, false, cond, ◌&&◌, ◌==◌, nat_lt, List, [], ◌∷◌, ◌++◌, map, length, get_or, set, slice_index, refl, sym, ap, arith, inl, inr}
+use Rattle.std.proofs.Common.{◌≡◌, ◌∙◌, ℕ, suc, ◌+◌, ◌-◌, ◌*◌, ◌/◌, ◌%◌, ◌^◌, ◌<◌, ◌≤◌, min, Bool, true, false, cond, ◌&&◌, ◌==◌, nat_lt, List, [], ◌∷◌, ◌++◌, map, length, get_or, set, slice_index, refl, sym, ap, subst, arith, inl, inr}
 use Rattle.std.specs.List.{All, range_with_len, sum_by}
 use Rattle.std.proofs.lemmas.Bool.{eq-eqb, ne_eqb, and_parts, lt-ltb, ltb-true, cases_eq, cond-true, cond-false}
-use Rattle.std.proofs.lemmas.List.{get_or-set_same, get_or-set_other, length-map, length-append, map-set, get_or_default}
+use Rattle.std.proofs.lemmas.List.{get_or-set_same, get_or-set_other, length-map, length-append, map-set}
 use Rattle.std.proofs.lemmas.List.Sums.{sum_by-cons}
 use Rattle.std.proofs.lemmas.Nat.{mul-le}
 use Rattle.std.proofs.Math.Nat.{mul-suc, suc-mul}
@@ -10,7 +10,7 @@ use Rattle.brace_core.specs.declared.name.Turn.{Turn}
 use Rattle.brace_core.specs.declared.name.Turn.TheVariants.{Put, Take, Work, Done}
 use Rattle.brace_core.specs.declared.turn.Went.{Went}
 use Rattle.brace_core.specs.declared.turn.Went.TheVariants.{On, Nowhere, Over}
-use Rattle.brace_core.specs.Schedule.{Schedule, IsLawful, lane, turns, turn_at}
+use Rattle.brace_core.specs.Schedule.{Schedule, IsLawful, front, lane, turns, turn_at}
 use Rattle.brace_core.specs.Events.{State, opening, next, is_ready, is_enabled, AllDone, IsRun, end_of, put_on, taken_from, events_of}
 use Rattle.brace_core.specs.Exchanges.{IsCounted, WentBy, made_by, put_by, taken_by, turns_left}
 use Rattle.brace_core.specs.Order.{StandsAfter}
@@ -18,7 +18,10 @@ use Rattle.brace_core.specs.inner.Turns.{IsFirst}
 use Rattle.brace_core.proofs.ActorLemmas.{count, setting_at, number_at, past_at, turn_is, all_set, map_kept, left_smaller}
 use Rattle.brace_core.proofs.Turns.{put_first, taken_first}
 use Rattle.brace_core.proofs.Counted.{moved}
-use Rattle.brace_core.proofs.CoreLaw.{put_is, taken_is, progress, all_put, all_taken}
+use Rattle.brace_core.proofs.Owners.{own_turns, done_past}
+use Rattle.brace_core.proofs.CoreLaw.{kept as kept_along, put_is, taken_is, progress, all_put, all_taken}
+use Rattle.brace_core.proofs.Fronts.{front_lawful, counted_whole}
+use Rattle.brace_core.proofs.Starts.{start_run, no_names, stands_first}
 use Rattle.brace_core.proofs.Counts.{counted as all_counted}
 use Rattle.brace_core.proofs.Calls.{take_is_found, end_more, run_more, put_on_more, taken_from_more}
 use Rattle.brace_core.proofs.OrderLemmas.{met_from}
@@ -26,9 +29,10 @@ use Rattle.brace_pieces.specs.declared.setting.Setting.{Setting}
 use Rattle.brace_pieces.specs.Steps.{schedule}
 use Rattle.brace_pieces.proofs.ScheduleLemmas.{schedule_lawful}
 use Rattle.brace_wire.specs.declared.fate.Fate.{Fate}
-use Rattle.brace_wire.specs.Links.{OnLink, OnLinks, fresh, link_of, puts_on, takes_on, received_on}
-use Rattle.brace_wire.specs.Hope.{hope, all_hope}
+use Rattle.brace_wire.specs.Links.{OnLink, OnLinks, fresh, link_of, puts_on, takes_on, received, received_on}
+use Rattle.brace_wire.specs.Hope.{rounds_left, hope, all_hope}
 use Rattle.brace_wire.specs.Keeps.{Keeps}
+use Rattle.brace_wire.specs.Stands.{StandsOn}
 use Rattle.brace_wire.specs.inner.Going.{can_make, can_go_on}
 
 -- actors that have made so many turns each, and lanes with these counts, stand where some run ends
@@ -74,6 +78,9 @@ module _ (s : Schedule) (lawful : IsLawful s) (pasts : List ℕ) (puts takes : �
     put = λ q. gone.stands.put p q ∙ ap length (put_is s gone.events lawful gone.run p q) ∙ ap (λ n. length (put_first p q (turns s p) n)) (sym (gone.stands.places p low));
     taken = λ q. gone.stands.taken q p ∙ ap length (taken_is s gone.events lawful gone.run q p) ∙ ap (λ n. length (taken_first q p (turns s p) n)) (sym (gone.stands.places p low));
   }
+
+  pub gone_within : (p : ℕ) → p < s.actors → slice_index pasts p ≤ length (turns s p)
+  gone_within p low = let place = gone.stands.places p low in let few = (kept_along s gone.events lawful gone.run).within p low in omega (arith, place, few)
 
   -- one event more
   pub gone_more : (p : ℕ) → p < s.actors → is_open puts takes (turn p) ≡ true → (pasts' : List ℕ) (puts' takes' : ℕ → ℕ → ℕ) → length pasts ≡ s.actors →
@@ -123,8 +130,10 @@ module _ (s : Schedule) (lawful : IsLawful s) (pasts : List ℕ) (puts takes : �
           cc)
     ]
 
-    pub gone_done : (p : ℕ) → p < s.actors → turn p ≡ Done
-    gone_done p low = sym (turn_now p low) ∙ all_done p low
+    pub gone_places : (p : ℕ) → p < s.actors → slice_index pasts p ≡ length (turns s p)
+    gone_places p low =
+        let over : length (turns s p) ≤ slice_index pasts p = done_past p (turns s p) (slice_index pasts p) (own_turns 0 s.actors s.steps p) (sym (turn_now p low) ∙ all_done p low) in
+        omega (arith, over, gone_within p low)
 
     pub gone_puts : (p q : ℕ) → puts p q ≡ length (lane s p q)
     gone_puts p q = gone.stands.put p q ∙ ap length (all_put s gone.events lawful gone.run all_done p q)
@@ -179,36 +188,60 @@ less_behind n a b lt = omega (arith, lt)
 times_more : (a n m : ℕ) → m ≡ n + 1 → a * m ≡ a * n + a
 times_more a n m more = ap (λ k. a * k) (let is : m ≡ suc n = omega (arith, more) in is) ∙ mul-suc a n
 
--- nothing is hoped for on lanes on which nothing was put
-pub no_hope : (v : OnLinks) → 0 < v.actors → ((p q : ℕ) → link_of v p q ≡ fresh) → all_hope v ≡ 0
-no_hope v some all_fresh = none v.links each
-  where
-    none : (xs : List OnLink) → ((i : ℕ) → get_or xs i fresh ≡ fresh) → sum_by (hope v.fates) xs ≡ 0
-    none [] e = refl
-    none (l ∷ ls) e = let one : hope v.fates l ≡ 0 = ap (hope v.fates) (e 0) in omega (arith, sum_by-cons (hope v.fates) l ls, one, none ls (λ i. e (suc i)))
+-- nothing is hoped for on lanes where all was received that was put
+abbrev IsQuiet : OnLink → Type 0
+IsQuiet l = received l.receiver ≡ l.put
 
-    each : (i : ℕ) → get_or v.links i fresh ≡ fresh
+hopes_none : (fates : List Fate) (xs : List OnLink) → ((i : ℕ) → IsQuiet (get_or xs i fresh)) → sum_by (hope fates) xs ≡ 0
+hopes_none fates [] quiet = refl
+hopes_none fates (l ∷ ls) quiet =
+    let left : l.put - received l.receiver ≡ 0 = omega (arith, quiet 0) in
+    let one : hope fates l ≡ 0 = ap (rounds_left fates l.late l.older l.newer (received l.receiver)) left in
+    omega (arith, sum_by-cons (hope fates) l ls, one, hopes_none fates ls (λ i. quiet (suc i)))
+
+pub no_hope : (v : OnLinks) → 0 < v.actors → ((p q : ℕ) → received_on v p q ≡ puts_on v p q) → all_hope v ≡ 0
+no_hope v some quiet = hopes_none v.fates v.links each
+  where
+    each : (i : ℕ) → IsQuiet (get_or v.links i fresh)
     each i =
         let low : i % v.actors < v.actors = omega (arith, some) in
         let is : i / v.actors * v.actors + i % v.actors ≡ i = omega (arith, some) in
-        ap (λ k. get_or v.links k fresh) (sym is) ∙ sym (cond-true (nat_lt (i % v.actors) v.actors) _ _ (lt-ltb _ _ low)) ∙ all_fresh (i / v.actors) (i % v.actors)
+        let here : link_of v (i / v.actors) (i % v.actors) ≡ get_or v.links i fresh =
+        cond-true (nat_lt (i % v.actors) v.actors) _ _ (lt-ltb _ _ low) ∙ ap (λ k. get_or v.links k fresh) is in
+        subst IsQuiet here (quiet (i / v.actors) (i % v.actors))
 
-module _ {A O : Type 0} (setting : A → Setting) (number past : A → ℕ) (opening_of : A → O) (given : Setting) (fates : List Fate) (first : List A) where
+-- before their first turns actors stand at the end of no steps, with lanes on which nothing was put
+pub stands_new : (s : Setting) (pasts : List ℕ) (v : OnLinks) → ((p : ℕ) → p < (schedule s).actors → slice_index pasts p ≡ 0) → ((p q : ℕ) → link_of v p q ≡ fresh) → v.rounds ≡ 0 → StandsOn s 0 pasts v
+stands_new s pasts v first nothing none = record {
+  stands = stands_first (schedule s) pasts (puts_on v) (takes_on v) first (λ p q. ap (λ (l : OnLink). l.put) (nothing p q)) (λ p q. ap (λ (l : OnLink). l.receiver.taken) (nothing p q));
+  all_received = λ p q. ap (λ (l : OnLink). received l.receiver) (nothing p q) ∙ sym (no_names (schedule s) p q);
+  few_rounds = omega (arith, none);
+}
+
+module _ {A O : Type 0} (setting : A → Setting) (number past : A → ℕ) (opening_of : A → O) (end : ℕ) (given : Setting) (fates : List Fate) (first : List A) where
+  -- the first steps of a run, so many
+  abbrev plan : Setting → Schedule
+  plan s = front (schedule s) end
+
   pub record IsRunning (actors : List A) (v : OnLinks) : Type 0 where
     pub lanes_setting : v.setting ≡ given
-    pub lanes_actors : v.actors ≡ (schedule given).actors
+    pub lanes_actors : v.actors ≡ (plan given).actors
     pub lanes_fates : v.fates ≡ fates
     pub settings : All (λ a. setting a ≡ given) actors
-    pub numbers : map number actors ≡ range_with_len 0 (schedule given).actors
+    pub numbers : map number actors ≡ range_with_len 0 (plan given).actors
     pub same_settings : map setting actors ≡ map setting first
     pub same_numbers : map number actors ≡ map number first
     pub same_openings : map opening_of actors ≡ map opening_of first
-    pub gone : HasGone (schedule given) (map past actors) (puts_on v) (takes_on v)
+    pub gone : HasGone (plan given) (map past actors) (puts_on v) (takes_on v)
     pub few : v.rounds + all_hope v ≤ (length fates + 1) * length gone.events
 
   pub running_start : (v : OnLinks) → v.setting ≡ given → v.actors ≡ (schedule given).actors → v.fates ≡ fates → All (λ a. setting a ≡ given) first →
-      map number first ≡ range_with_len 0 (schedule given).actors → All (λ a. past a ≡ 0) first → ((p q : ℕ) → link_of v p q ≡ fresh) → all_hope v ≡ 0 → v.rounds ≡ 0 → IsRunning first v
-  running_start v same for fated settings numbers turns nothing hopeless none =
+      map number first ≡ range_with_len 0 (schedule given).actors → ((m : ℕ) × (m ≤ end) × StandsOn given m (map past first) v) → 0 < v.actors → IsRunning first v
+  running_start v same for fated settings numbers (m, up, on) some =
+      let (events, run, stands, long) = start_run (schedule given) (schedule_lawful given) m end up (map past first) (puts_on v) (takes_on v) on.stands in
+      let hopeless : all_hope v ≡ 0 = no_hope v some (λ p q. on.all_received p q ∙ sym (on.stands.put p q)) in
+      let few : (length fates + 1) * events_of (front (schedule given) m) ≡ (length v.fates + 1) * events_of (front (schedule given) m) = ap (λ f. (length f + 1) * events_of (front (schedule given) m)) (sym fated) in
+      let counted : (length fates + 1) * length events ≡ (length fates + 1) * events_of (front (schedule given) m) = ap (λ k. (length fates + 1) * k) long in
       record {
         lanes_setting = same;
         lanes_actors = for;
@@ -218,79 +251,72 @@ module _ {A O : Type 0} (setting : A → Setting) (number past : A → ℕ) (ope
         same_settings = refl;
         same_numbers = refl;
         same_openings = refl;
-        gone = record {
-          events = [];
-          run = refl;
-          stands = record { places = λ p low. past_zero first p turns; put = λ p q. ap (λ (l : OnLink). l.put) (nothing p q); taken = λ p q. ap (λ (l : OnLink). l.receiver.taken) (nothing p q) };
-        };
-        few = omega (arith, hopeless, none);
+        gone = record { events = events; run = run; stands = stands };
+        few = omega (arith, hopeless, few, counted, on.few_rounds);
       }
-    where
-      past_zero : (xs : List A) (p : ℕ) → All (λ a. past a ≡ 0) xs → slice_index (map past xs) p ≡ 0
-      past_zero [] p all = refl
-      past_zero (a ∷ xs) zero all = all 0 a (omega arith)
-      past_zero (a ∷ xs) (suc p) all = past_zero xs p (λ i d l. all (suc i) d (omega (arith, l)))
 
-  lawful : IsLawful (schedule given)
-  lawful = schedule_lawful given
+  lawful : IsLawful (plan given)
+  lawful = front_lawful (schedule given) end (schedule_lawful given)
 
   module _ (actors : List A) (v : OnLinks) (running : IsRunning actors v) where
     abbrev test : ℕ → Bool
-    test a = can_make v (turn_at (schedule given) a (slice_index (map past actors) a))
+    test a = can_make v (turn_at (plan given) a (slice_index (map past actors) a))
 
-    module _ (drawn p : ℕ) (is : IsFirst (can_go_on (schedule v.setting) v (map past actors)) v.actors drawn p) (low_received : (a b : ℕ) → received_on v a b ≤ puts_on v a b)
+    module _ (drawn p : ℕ) (is : IsFirst (can_go_on (plan v.setting) v (map past actors)) v.actors drawn p) (low_received : (a b : ℕ) → received_on v a b ≤ puts_on v a b)
         (a : A) (here : a ≡ get_or actors p a) where
-      low : p < (schedule given).actors
+      low : p < (plan given).actors
       low = let at : p ≡ (drawn + is.steps) % v.actors = is.is in let some : is.steps < v.actors = is.within in omega (arith, at, some, running.lanes_actors)
 
       passes : test p ≡ true
-      passes = ap (λ (s : Setting). can_make v (turn_at (schedule s) p (slice_index (map past actors) p))) (sym running.lanes_setting) ∙ is.passes
+      passes = ap (λ (s : Setting). can_make v (turn_at (plan s) p (slice_index (map past actors) p))) (sym running.lanes_setting) ∙ is.passes
 
-      turn_here : turn_at (schedule (setting a)) (number a) (past a) ≡ turn_at (schedule given) p (slice_index (map past actors) p)
-      turn_here = turn_is setting number past schedule actors given (schedule given).actors running.settings running.numbers p low a here
+      turn_here : turn_at (plan (setting a)) (number a) (past a) ≡ turn_at (plan given) p (slice_index (map past actors) p)
+      turn_here = turn_is setting number past plan actors given (plan given).actors running.settings running.numbers p low a here
 
       pub setting_here : setting a ≡ v.setting
-      setting_here = setting_at setting number past schedule actors given (schedule given).actors running.settings running.numbers p low a here ∙ sym running.lanes_setting
+      setting_here = setting_at setting number past plan actors given (plan given).actors running.settings running.numbers p low a here ∙ sym running.lanes_setting
 
       pub counted_here : IsCounted (schedule v.setting) (number a) (past a) (λ a. Unit {0}) (puts_on v) (takes_on v)
       counted_here = moved (schedule given) (schedule v.setting) p (number a) (slice_index (map past actors) p) (past a) (λ a. Unit {0}) (puts_on v) (takes_on v)
           (ap schedule running.lanes_setting)
-          (number_at setting number past schedule actors given (schedule given).actors running.settings running.numbers p low a here)
-          (past_at setting number past schedule actors given (schedule given).actors running.settings running.numbers p low a here)
-          (gone_counted (schedule given) lawful (map past actors) (puts_on v) (takes_on v) running.gone p low)
+          (number_at setting number past plan actors given (plan given).actors running.settings running.numbers p low a here)
+          (past_at setting number past plan actors given (plan given).actors running.settings running.numbers p low a here)
+          (counted_whole (schedule given) end p (slice_index (map past actors) p) (λ a. Unit {0}) (puts_on v) (takes_on v)
+          (gone_within (plan given) lawful (map past actors) (puts_on v) (takes_on v) running.gone p low)
+          (gone_counted (plan given) lawful (map past actors) (puts_on v) (takes_on v) running.gone p low))
 
       module _ (b : A) (w : OnLinks) (went : Went)
-          (by : WentBy past (λ n. takes_on v n.from n.to ≡ received_on v n.from n.to) (turn_at (schedule (setting a)) (number a) (past a)) a b went)
+          (by : WentBy past (λ n. takes_on v n.from n.to ≡ received_on v n.from n.to) (turn_at (plan (setting a)) (number a) (past a)) a b went)
           (same_setting : setting b ≡ setting a) (same_number : number b ≡ number a) (kept : Keeps v w) where
-        can : can_make v (turn_at (schedule (setting a)) (number a) (past a)) ≡ true
+        can : can_make v (turn_at (plan (setting a)) (number a) (past a)) ≡ true
         can = ap (can_make v) turn_here ∙ passes
 
         made : (past b ≡ past a + 1) × (went ≡ On)
-        made = went_on past v (turn_at (schedule (setting a)) (number a) (past a)) a b went can by
+        made = went_on past v (turn_at (plan (setting a)) (number a) (past a)) a b went can by
 
-        all : length actors ≡ (schedule given).actors
-        all = count setting number past schedule actors given (schedule given).actors running.settings running.numbers
+        all : length actors ≡ (plan given).actors
+        all = count setting number past plan actors given (plan given).actors running.settings running.numbers
 
-        one_turn_less : sum_by (turns_left setting number past schedule) (set actors p b) < sum_by (turns_left setting number past schedule) actors
-        one_turn_less = left_smaller setting number past schedule actors p a b (omega (arith, low, all)) here same_setting same_number made.0
-            (not_done v (turn_at (schedule (setting a)) (number a) (past a)) can)
+        one_turn_less : sum_by (turns_left setting number past plan) (set actors p b) < sum_by (turns_left setting number past plan) actors
+        one_turn_less = left_smaller setting number past plan actors p a b (omega (arith, low, all)) here same_setting same_number made.0
+            (not_done v (turn_at (plan (setting a)) (number a) (past a)) can)
 
         -- one turn less is left, and at most those rounds are needed more that one piece takes
-        pub running_smaller : sum_by (turns_left setting number past schedule) (set actors p b) * (length fates + 2) + all_hope w < sum_by (turns_left setting number past schedule) actors * (length fates + 2) + all_hope v
-        running_smaller = fewer (sum_by (turns_left setting number past schedule) (set actors p b)) (sum_by (turns_left setting number past schedule) actors) (length fates)
+        pub running_smaller : sum_by (turns_left setting number past plan) (set actors p b) * (length fates + 2) + all_hope w < sum_by (turns_left setting number past plan) actors * (length fates + 2) + all_hope v
+        running_smaller = fewer (sum_by (turns_left setting number past plan) (set actors p b)) (sum_by (turns_left setting number past plan) actors) (length fates)
             (all_hope w) (all_hope v) one_turn_less (omega (arith, kept.hope, ap length running.lanes_fates))
 
         pub running_more : opening_of b ≡ opening_of a → w.setting ≡ v.setting →
-            ((c d : ℕ) → puts_on w c d ≡ puts_on v c d + put_by (made_by (turn_at (schedule (setting a)) (number a) (past a)) went) c d) →
-            ((c d : ℕ) → takes_on w c d ≡ takes_on v c d + taken_by (made_by (turn_at (schedule (setting a)) (number a) (past a)) went) c d) → IsRunning (set actors p b) w
+            ((c d : ℕ) → puts_on w c d ≡ puts_on v c d + put_by (made_by (turn_at (plan (setting a)) (number a) (past a)) went) c d) →
+            ((c d : ℕ) → takes_on w c d ≡ takes_on v c d + taken_by (made_by (turn_at (plan (setting a)) (number a) (past a)) went) c d) → IsRunning (set actors p b) w
         running_more same_opening lanes_setting put taken =
-            let turn_made : made_by (turn_at (schedule (setting a)) (number a) (past a)) went ≡ turn_at (schedule given) p (slice_index (map past actors) p) =
-            ap (made_by (turn_at (schedule (setting a)) (number a) (past a))) made.1 ∙ turn_here in
+            let turn_made : made_by (turn_at (plan (setting a)) (number a) (past a)) went ≡ turn_at (plan given) p (slice_index (map past actors) p) =
+            ap (made_by (turn_at (plan (setting a)) (number a) (past a))) made.1 ∙ turn_here in
             let now : map past (set actors p b) ≡ set (map past actors) p (slice_index (map past actors) p + 1) =
-            map-set past actors p b ∙ ap (set (map past actors) p) (made.0 ∙ ap (λ n. n + 1) (past_at setting number past schedule actors given (schedule given).actors running.settings running.numbers p low a here)) in
-            let ready : is_open (puts_on v) (takes_on v) (turn_at (schedule given) p (slice_index (map past actors) p)) ≡ true =
-            open_is v low_received (turn_at (schedule given) p (slice_index (map past actors) p)) passes in
-            let (gone, more) = gone_more (schedule given) lawful (map past actors) (puts_on v) (takes_on v) running.gone p low ready (map past (set actors p b)) (puts_on w) (takes_on w) (length-map actors past ∙ all) now
+            map-set past actors p b ∙ ap (set (map past actors) p) (made.0 ∙ ap (λ n. n + 1) (past_at setting number past plan actors given (plan given).actors running.settings running.numbers p low a here)) in
+            let ready : is_open (puts_on v) (takes_on v) (turn_at (plan given) p (slice_index (map past actors) p)) ≡ true =
+            open_is v low_received (turn_at (plan given) p (slice_index (map past actors) p)) passes in
+            let (gone, more) = gone_more (plan given) lawful (map past actors) (puts_on v) (takes_on v) running.gone p low ready (map past (set actors p b)) (puts_on w) (takes_on w) (length-map actors past ∙ all) now
             (λ c d. put c d ∙ ap (λ t. puts_on v c d + put_by t c d) turn_made) (λ c d. taken c d ∙ ap (λ t. takes_on v c d + taken_by t c d) turn_made) in
             record {
               lanes_setting = lanes_setting ∙ running.lanes_setting;
@@ -334,33 +360,31 @@ module _ {A O : Type 0} (setting : A → Setting) (number past : A → ℕ) (ope
       running_round counted nearer = running_kept (omega (arith, running.few, counted, nearer))
 
     -- where no actor can go on and all was received
-    module _ (drawn : ℕ) (none_can : (i : ℕ) → i < v.actors → can_go_on (schedule v.setting) v (map past actors) ((drawn + i) % v.actors) ≡ false)
+    module _ (drawn : ℕ) (none_can : (i : ℕ) → i < v.actors → can_go_on (plan v.setting) v (map past actors) ((drawn + i) % v.actors) ≡ false)
         (quiet : (p q : ℕ) → puts_on v p q ≡ received_on v p q) where
-      none_open : (p : ℕ) → p < (schedule given).actors → is_open (puts_on v) (takes_on v) (turn_at (schedule given) p (slice_index (map past actors) p)) ≡ false
+      none_open : (p : ℕ) → p < (plan given).actors → is_open (puts_on v) (takes_on v) (turn_at (plan given) p (slice_index (map past actors) p)) ≡ false
       none_open p p_low =
           let (i, i_low, at) = met_from drawn v.actors p (omega (arith, p_low, running.lanes_actors)) in
           let cannot : test p ≡ false =
-          ap (λ (s : Setting). can_make v (turn_at (schedule s) p (slice_index (map past actors) p))) (sym running.lanes_setting)
-          ∙ ap (λ k. can_go_on (schedule v.setting) v (map past actors) k) (sym at) ∙ none_can i i_low in
-          closed_is v quiet (turn_at (schedule given) p (slice_index (map past actors) p)) cannot
+          ap (λ (s : Setting). can_make v (turn_at (plan s) p (slice_index (map past actors) p))) (sym running.lanes_setting)
+          ∙ ap (λ k. can_go_on (plan v.setting) v (map past actors) k) (sym at) ∙ none_can i i_low in
+          closed_is v quiet (turn_at (plan given) p (slice_index (map past actors) p)) cannot
 
-      pub running_done : All (λ a. turn_at (schedule (setting a)) (number a) (past a) ≡ Done) actors
-      running_done i d l =
-          let i_low : i < (schedule given).actors = omega (arith, l, count setting number past schedule actors given (schedule given).actors running.settings running.numbers) in
-          turn_is setting number past schedule actors given (schedule given).actors running.settings running.numbers i i_low (get_or actors i d) (get_or_default actors i d (get_or actors i d) l)
-          ∙ gone_done (schedule given) lawful (map past actors) (puts_on v) (takes_on v) running.gone none_open i i_low
-
-      pub running_put : (p q : ℕ) → puts_on v p q ≡ length (lane (schedule given) p q)
-      running_put = gone_puts (schedule given) lawful (map past actors) (puts_on v) (takes_on v) running.gone none_open
-
-      pub running_taken : (p q : ℕ) → takes_on v p q ≡ length (lane (schedule given) p q)
-      running_taken = gone_takes (schedule given) lawful (map past actors) (puts_on v) (takes_on v) running.gone none_open
-
-      pub running_few : v.rounds ≤ (length fates + 1) * events_of (schedule given)
-      running_few =
-          let events : length running.gone.events ≡ events_of (schedule given) = gone_events (schedule given) lawful (map past actors) (puts_on v) (takes_on v) running.gone none_open in
-          let same : (length fates + 1) * length running.gone.events ≡ (length fates + 1) * events_of (schedule given) = ap (λ k. (length fates + 1) * k) events in
-          omega (arith, running.few, same)
+      pub running_stands : StandsOn given end (map past actors) v
+      running_stands =
+          let events : length running.gone.events ≡ events_of (plan given) = gone_events (plan given) lawful (map past actors) (puts_on v) (takes_on v) running.gone none_open in
+          let all : (length fates + 1) * length running.gone.events ≡ (length fates + 1) * events_of (plan given) = ap (λ k. (length fates + 1) * k) events in
+          let same : (length v.fates + 1) * events_of (plan given) ≡ (length fates + 1) * events_of (plan given) = ap (λ f. (length f + 1) * events_of (plan given)) running.lanes_fates in
+          let put = gone_puts (plan given) lawful (map past actors) (puts_on v) (takes_on v) running.gone none_open in
+          record {
+            stands = record {
+              places = gone_places (plan given) lawful (map past actors) (puts_on v) (takes_on v) running.gone none_open;
+              put = put;
+              taken = gone_takes (plan given) lawful (map past actors) (puts_on v) (takes_on v) running.gone none_open;
+            };
+            all_received = λ p q. sym (quiet p q) ∙ put p q;
+            few_rounds = omega (arith, running.few, all, same);
+          }
 
 -- what a test said of a turn, at an equal turn
 pub said_of : (v : OnLinks) (t u : Turn) (said answer : Bool) → t ≡ u → said ≡ can_make v t → said ≡ answer → can_make v u ≡ answer

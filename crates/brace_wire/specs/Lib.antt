@@ -6,4 +6,5 @@ pub mod Links
 pub mod Shown
 pub mod Hope
 pub mod Keeps
+pub mod Stands
 pub mod inner

@@ -1,30 +1,28 @@
 -- The members of a crew before a run and behind it. Only the crate's own functions cite this.
-use Rattle.std.specs.Prelude.{◌≡◌, ℕ, ◌+◌, ◌%◌, ◌==◌, List, [], ◌∷◌, map, filter, if◌then◌else◌, Option, Some, None, IfSome}
+use Rattle.std.specs.Prelude.{◌≡◌, ℕ, suc, ◌+◌, ◌-◌, ◌%◌, ◌<◌, ◌≤◌, ◌==◌, List, [], ◌∷◌, length, map, filter, if◌then◌else◌, Option, Some, None, IfSome}
 use Rattle.std.specs.List.{All, Contains, range_with_len}
-use Rattle.brace_core.specs.declared.name.Turn.TheVariants.{Done}
-use Rattle.brace_core.specs.Exchanges.{due}
 use Rattle.brace_model.specs.declared.fault.Fault.{Fault}
 use Rattle.brace_pieces.specs.declared.setting.Setting.{Setting}
 use Rattle.brace_pieces.specs.declared.piece.Cause.{Cause}
 use Rattle.brace_pieces.specs.declared.piece.Cause.TheVariants as cause
 use Rattle.brace_pieces.specs.declared.piece.Shown.{Shown}
 use Rattle.brace_pieces.specs.Settings.{parts}
-use Rattle.brace_pieces.specs.Steps.{schedule}
+use Rattle.brace_pieces.specs.Steps.{steps}
+use Rattle.brace_pieces.specs.Fronts.{steps_to}
 use Rattle.brace_pieces.specs.Right.{IsRightCause}
 use Rattle.brace_pieces.specs.Courses.{OnCourse, IsCourse, past_of}
 use Rattle.brace_part.specs.Parts.{IsCauseOfAll}
-use Rattle.brace_crew.specs.Desks.{OnDesk}
+use Rattle.brace_crew.specs.Desks.{OnDesk, AreFaultless, ends_before}
 use Rattle.brace_crew.specs.declared.member.Member.{Member}
 use Rattle.brace_crew.specs.declared.member.Member.TheVariants as member
-use Rattle.brace_crew.specs.Members.{course_of, opening_of, IsDone}
+use Rattle.brace_crew.specs.Members.{course_of, opening_of, IsAt, IsLast}
 use Rattle.brace_crew.specs.inner.Lots.{world_of}
 
--- all parts of a run, by rising number, and of none is a turn left
+-- all parts of a run, by rising number
 pub record AreParts {P : Type 0} (s : Setting) (members : List (Member P)) : Type 0 where
   pub settings : All (λ m. (course_of m).setting ≡ s) members
   pub numbers : map (λ m. (course_of m).actor) members ≡ range_with_len 0 (parts s)
   pub are_parts : All (λ m. opening_of m ≡ None) members
-  pub done : All IsDone members
 
 -- what a member of a number is made for: the desk, which stands behind all parts, for the publisher
 abbrev pub opening_in : {P : Type 0} → Setting → P → ℕ → Option P
@@ -52,10 +50,30 @@ part_numbers s = range_with_len 0 (parts s)
 abbrev pub served : ℕ → ℕ → List ℕ → List ℕ
 served workers worker numbers = filter (λ a. a % workers == worker) numbers
 
--- the desk of a run, of which no turn is left
-pub record IsDeskOf {P : Type 0} (s : Setting) (d : OnDesk P) : Type 0 where
+-- no part found a fault before the ends that the first steps show, so many, but the last of these
+abbrev pub AreEarly : Setting → ℕ → Type 0
+AreEarly s n = AreFaultless s (ends_before s n - 1)
+
+-- the same of the run of members that stand at the end of the first steps
+abbrev pub AreEarlyFor : {P : Type 0} → List (Member P) → Type 0
+AreEarlyFor members = (s : Setting) (n : ℕ) → n ≤ length (steps s)
+    → All (λ m. (course_of m).setting ≡ s) members → All (IsAt n) members → AreEarly s n
+
+-- a run was driven from end to end, and so to the end of its first steps, so many
+pub record IsReached (s : Setting) (n : ℕ) : Type 0 where
+  pub count : ℕ
+  pub is : n ≡ steps_to s count
+  pub goes_on : (k : ℕ) → count ≡ suc k → (steps_to s k < n) × AreEarly s (steps_to s k)
+
+-- members stand where their run ends, behind so many steps
+pub record AreEnded {P : Type 0} (s : Setting) (n : ℕ) (members : List (Member P)) : Type 0 where
+  pub reached : IsReached s n
+  pub last : All (IsLast n) members
+
+-- the desk of a run that ends there
+pub record IsDeskOf {P : Type 0} (s : Setting) (n : ℕ) (d : OnDesk P) : Type 0 where
   pub setting_is : d.course.setting ≡ s
-  pub done : due schedule s d.course.actor (past_of d.course) ≡ Done
+  pub last : IsLast n (member.Desk d)
 
 -- the fault that a part tells, if it tells one
 abbrev pub fault_in : Option Cause → List Fault

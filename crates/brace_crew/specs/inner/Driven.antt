@@ -47,12 +47,12 @@ pub record AreSame {P : Type 0} (ms ns : List (Member P)) : Type 0 where
 
 -- how the first members of a bench went on: one at least by a turn; none, and one at least waits;
 -- or none, and all are Done
-abbrev pub WentAll : {P : Type 0} → View Setting → List (Member P) → View Setting
+abbrev pub WentAll : {P : Type 0} → ℕ → View Setting → List (Member P) → View Setting
     → List (Member P) → ℕ → Went → Type 0
-WentAll v ms w ns count went.On = sum_by turns_left ns < sum_by turns_left ms
-WentAll v ms w ns count went.Nowhere = (ns ≡ ms) × (All IsDone ms → ⊥)
-    × All (λ m. (IsDone m → ⊥) → Waits v w 1 m) (take count ms)
-WentAll v ms w ns count went.Over = (ns ≡ ms) × All IsDone (take count ms)
+WentAll end v ms w ns count went.On = sum_by turns_left ns < sum_by turns_left ms
+WentAll end v ms w ns count went.Nowhere = (ns ≡ ms) × (All (IsDone end) ms → ⊥)
+    × All (λ m. (IsDone end m → ⊥) → Waits end v w 1 m) (take count ms)
+WentAll end v ms w ns count went.Over = (ns ≡ ms) × All (IsDone end) (take count ms)
 
 -- how members went on with one more
 abbrev pub both : Went → Went → Went

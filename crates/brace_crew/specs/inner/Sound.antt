@@ -8,6 +8,7 @@ use Rattle.brace_pieces.specs.declared.setting.Step.{Step}
 use Rattle.brace_pieces.specs.declared.piece.Cause.{Cause}
 use Rattle.brace_pieces.specs.Settings.{LawfulSetting, parts}
 use Rattle.brace_pieces.specs.Numbers.{NumbersFit}
+use Rattle.brace_pieces.specs.Steps.{is_show}
 use Rattle.brace_pieces.specs.Right.{IsShown, IsRightCause}
 use Rattle.brace_pieces.specs.Courses.{OnCourse, IsCourse, step_of, others_of}
 use Rattle.brace_crew.specs.declared.publisher.Publisher as publisher
@@ -16,6 +17,11 @@ use Rattle.brace_crew.specs.declared.desk.Stop.{Stop}
 use Rattle.brace_crew.specs.declared.desk.Stop.TheVariants as stop
 use Rattle.brace_crew.specs.Calls.{Rises}
 use Rattle.brace_crew.specs.Desks.{OnDesk, HasShown, HasHalted, HasRefused, ends_before}
+
+-- a step that may be there shows all
+abbrev pub shows_in : Option Step → Bool
+shows_in None = false
+shows_in (Some at) = is_show at.stage
 
 -- a lot is what its part shows in a step
 abbrev pub IsLotIn : Setting → Stage → ℕ → Lot → Type 0
@@ -45,6 +51,7 @@ pub record IsOpen {P : Type 0} (of : publisher.Ghosts P) (d : OnDesk P) : Type 0
       ≡ take (d.course.made - length (others_of d.course)) (others_of d.course)
   pub few : length d.lots ≤ d.course.made - length (others_of d.course)
   pub halting : HalfHalted d.course d.stop
+  pub untold : d.told ≡ false
 
 -- why a desk was closed
 abbrev pub IsClosedBy : {P : Type 0} → publisher.Ghosts P → OnDesk P → Option Stop → Type 0

@@ -5,8 +5,8 @@ use Rattle.std.specs.List.{All}
 use Rattle.brace_lanes.specs.Seats.{OnSeat}
 use Rattle.brace_pieces.specs.declared.setting.Setting.{Setting}
 use Rattle.brace_crew.specs.declared.member.Member.{Member}
-use Rattle.brace_crew.specs.Members.{IsDone}
-use Rattle.brace_crew.specs.Benches.{OnBench, IsUsedUp, IsSameBench}
+use Rattle.brace_crew.specs.Members.{IsAt, IsWithin}
+use Rattle.brace_crew.specs.Benches.{OnBench, IsUsedTo, IsSameBench}
 use Rattle.brace_crew.specs.Workers.{IsSeatOf}
 use Rattle.brace_crew.specs.inner.Crews.{AreMembers, served}
 
@@ -24,10 +24,14 @@ pub record IsTeam {P : Type 0} (s : Setting) (publisher : P) (workers : ℕ) (nu
   pub seats : (k : ℕ) (d : OnBench P) → k < workers →
       IsSeatOf s workers k (slice_index_or benches k d).seat
 
--- all members of a bench are Done, and its seat is used up
-pub record HasEnded {P : Type 0} (b : OnBench P) : Type 0 where
-  pub done : All IsDone b.members
-  pub used_up : IsUsedUp b.seat
+-- all members of a bench stand at the end of the first steps, so many, and its seat is used to it
+pub record HasCome {P : Type 0} (end : ℕ) (b : OnBench P) : Type 0 where
+  pub at : All (IsAt end) b.members
+  pub used_to : IsUsedTo end b.seat
+
+-- no member of a bench made a turn behind these
+abbrev pub StaysWithin : {P : Type 0} → ℕ → OnBench P → Type 0
+StaysWithin end b = All (IsWithin end) b.members
 
 -- the same benches at a later time
 pub record AreLater {P : Type 0} (xs ys : List (OnBench P)) : Type 0 where

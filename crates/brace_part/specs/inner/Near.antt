@@ -1,8 +1,9 @@
 -- Which agents in columns stand near an area. Only the crate's own functions cite this.
-use Rattle.std.specs.Prelude.{◌≡◌, ℕ, ℤ, List, filter, FitsSigned, Option, None, Some, slice_get, ⊤}
+use Rattle.std.specs.Prelude.{◌≡◌, ◌&&◌, ℕ, ℤ, Bool, List, filter, int_le, FitsSigned, Option, None, Some, slice_get, ⊤}
 use Rattle.std.specs.Int.{w64}
 use Rattle.std.specs.List.{All}
 use Rattle.brace_num.specs.declared.kinds.Area.{Area}
+use Rattle.brace_num.specs.Areas.{gap_to}
 use Rattle.brace_model.specs.declared.program.Class.{Class}
 use Rattle.brace_model.specs.declared.program.Program.{Program}
 use Rattle.brace_model.specs.declared.world.Agent.{Agent}
@@ -11,6 +12,16 @@ use Rattle.brace_fold.specs.declared.order.Moved.{Moved}
 use Rattle.brace_invert.specs.Held.{is_near}
 use Rattle.brace_part.specs.declared.near.Axes.{Axes}
 use Rattle.brace_part.specs.inner.Asked.{ArePlaces}
+
+-- whether a point is in an area
+abbrev pub has_point : Area → ℤ → ℤ → Bool
+has_point area x y =
+    (int_le area.x0 x && int_le x area.x1) && (int_le area.y0 y && int_le y area.y1)
+
+-- of the points at numbers of 64 bits an area has those that are within a range of another one
+abbrev pub IsWidened : Area → ℤ → Area → Type 0
+IsWidened area range wide = (x y : ℤ) → FitsSigned w64 x → FitsSigned w64 y
+    → has_point wide x y ≡ int_le (gap_to area x y) range
 
 -- an agent of a class stands at numbers of 64 bits
 abbrev pub stands_fit : Option Class → Agent → Type 0

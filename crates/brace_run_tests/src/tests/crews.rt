@@ -307,10 +307,10 @@ fn driven(alloc: Global, setting: &Setting) -> Result<(Drive, bool), Fail>
 {
     let (lanes, seats) = Lanes::make(alloc, setting, setting.parts() + 1, 2)?;
     let (mut first, mut second) = two_benches(alloc, setting, &lanes, seats)?;
-    let alone = first.drive(&OpenGate, 3);
+    let alone = first.drive(&OpenGate, 3, u64::MAX);
     for _ in 0..1000 {
-        let one = first.drive(&OpenGate, 3);
-        let two = second.drive(&OpenGate, 3);
+        let one = first.drive(&OpenGate, 3, u64::MAX);
+        let two = second.drive(&OpenGate, 3, u64::MAX);
         if one == Drive::Complete && two == Drive::Complete {
             let (members, _) = first.into_members();
             return Ok((alone, members.len() == 2));

@@ -75,7 +75,7 @@ fn told(alloc: Global, part: &Part) -> Result<String, NoMemory> {
     for agent in own.as_slice() {
         text.push_str(format!(in alloc; "{} ", agent.id)?.as_str())?;
     }
-    let put = match part.next() {
+    let put = match part.next(u64::MAX) {
         Turn::Put(name) => name.to,
         Turn::Take(_) | Turn::Work | Turn::Done => 99,
     };

@@ -1,4 +1,5 @@
 use Rattle.std.proofs.Common.{◌+◌, ◌%◌, ◌<◌, map, true, false, arith}
+use Rattle.brace_core.specs.Schedule.{front}
 use Rattle.brace_core.specs.inner.Turns.{can_go_on}
 use Rattle.brace_core.proofs.ActorLemmas.{count, turn_is, found_first, passed_more, said_of}
 use Rattle.brace_core.proofs.order.first_that_can.Goals as goal
@@ -15,17 +16,17 @@ returns-then-is_free-clause-below g c = omega (arith, count g.A.Actor.setting g.
 pub returns-then-is_free-clause-first : goal.returns-then-is_free-clause-first
 returns-then-is_free-clause-first g c =
     let low : (c.args.drawn + c.loop-i.i) % c.actors-count.result < c.args.lanes.now.actors = omega arith in
-    let turn = turn_is g.A.Actor.setting g.A.Actor.number g.A.Actor.past g.F.Freight.schedule c.args.actors.now c.args.lanes.now.setting c.args.lanes.now.actors c.requires.settings c.requires.numbers
+    let turn = turn_is g.A.Actor.setting g.A.Actor.number g.A.Actor.past (λ s. front (g.F.Freight.schedule s) c.args.end) c.args.actors.now c.args.lanes.now.setting c.args.lanes.now.actors c.requires.settings c.requires.numbers
     _ low c.index-actors-number.result c.index-actors-number.is in
-    found_first (can_go_on (g.F.Freight.schedule c.args.lanes.now.setting) c.args.lanes.now (map g.A.Actor.past c.args.actors.now))
+    found_first (can_go_on (front (g.F.Freight.schedule c.args.lanes.now.setting) c.args.end) c.args.lanes.now (map g.A.Actor.past c.args.actors.now))
     c.args.lanes.now.actors c.actors-count.result c.args.drawn c.loop-i.i c.actors-count.ensures.count c.loop-i-test.true c.loop-i.invariant
     (said_of c.args.lanes.now _ _ c.is_free.result true turn c.is_free.ensures c.if-is_free.true)
 
 pub loop-i-preserved : goal.loop-i-preserved
 loop-i-preserved g c =
     let low : (c.args.drawn + c.loop-i.i) % c.actors-count.result < c.args.lanes.now.actors = omega arith in
-    let turn = turn_is g.A.Actor.setting g.A.Actor.number g.A.Actor.past g.F.Freight.schedule c.args.actors.now c.args.lanes.now.setting c.args.lanes.now.actors c.requires.settings c.requires.numbers
+    let turn = turn_is g.A.Actor.setting g.A.Actor.number g.A.Actor.past (λ s. front (g.F.Freight.schedule s) c.args.end) c.args.actors.now c.args.lanes.now.setting c.args.lanes.now.actors c.requires.settings c.requires.numbers
     _ low c.index-actors-number.result c.index-actors-number.is in
-    passed_more (can_go_on (g.F.Freight.schedule c.args.lanes.now.setting) c.args.lanes.now (map g.A.Actor.past c.args.actors.now))
+    passed_more (can_go_on (front (g.F.Freight.schedule c.args.lanes.now.setting) c.args.end) c.args.lanes.now (map g.A.Actor.past c.args.actors.now))
     c.args.lanes.now.actors c.actors-count.result c.args.drawn c.loop-i.i c.actors-count.ensures.count c.loop-i-test.true c.loop-i.invariant
     (said_of c.args.lanes.now _ _ c.is_free.result false turn c.is_free.ensures c.if-is_free.false)

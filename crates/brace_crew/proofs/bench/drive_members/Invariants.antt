@@ -1,5 +1,6 @@
 use Rattle.std.proofs.Common.{◌≡◌, ◌+◌, ◌-◌, ◌*◌, ◌<◌, ◌≤◌}
-use Rattle.std.specs.List.{sum_by}
+use Rattle.std.specs.List.{All, sum_by}
+use Rattle.brace_crew.specs.Members.{IsWithin}
 use Rattle.brace_crew.specs.Benches.{AreWaiting}
 use Rattle.brace_lanes.specs.Seats.{IsLater}
 use Rattle.brace_crew.specs.inner.Driven.{AreCounted, AreSame, turns_left}
@@ -11,8 +12,9 @@ invariant-loop-idle g l = record {
   same : AreSame l.initial.members l.members;
   later : IsLater l.initial.end.seat l.end.seat;
   lanes : l.end.lanes.now ≡ l.initial.end.lanes.now;
-  within : l.idle ≤ l.patience;
-  waits : 0 < l.idle → AreWaiting l.initial.end.seat.view l.end.seat.view l.idle l.members;
+  few : l.idle ≤ l.patience;
+  within : All (IsWithin l.steps) l.initial.members → All (IsWithin l.steps) l.members;
+  waits : 0 < l.idle → AreWaiting l.steps l.initial.end.seat.view l.end.seat.view l.idle l.members;
 }
 
 -- a turn made outweighs all rounds that led nowhere

@@ -4,7 +4,7 @@ use Rattle.brace_pieces.specs.declared.setting.Setting.{Setting}
 use Rattle.brace_pieces.proofs.ScheduleLemmas.{schedule_lawful}
 use Rattle.brace_crew.specs.declared.member.Member.{Member}
 use Rattle.brace_crew.specs.inner.Driven.{Counts, AreCounted, WentAll}
-use Rattle.brace_crew.proofs.BenchRounds.{all_counted, same_members, same_count, same_on, later_on, went_more, went_through}
+use Rattle.brace_crew.proofs.BenchRounds.{all_counted, same_members, same_count, same_on, later_on, within_on, went_more, went_through}
 use Rattle.brace_crew.proofs.bench.make_turns.Goals as goal
 
 -- the seat counts the member at a place
@@ -49,17 +49,18 @@ loop-i-preserved g c =
     let low : i < length ms = omega (arith, long, c.loop-i-test.true) in
     let (lanes, later) = e.kept in
     record {
-      counted = all_counted before.view after.view ms i m n c.make_turn-one.result so.counted later.same low at e.same_number
+      counted = all_counted c.args.steps before.view after.view ms i m n c.make_turn-one.result so.counted later.same low at e.same_number
           (e.same_setting ∙ (counts_at before.view ms i m so.counted low at).0 ∙ sym later.same.setting, record { served = e.counted.served.1; put = e.counted.put; taken = e.counted.taken }) e.put e.taken;
       same = same_on first ms (set ms i n) so.same (same_members ms i m n at e.same_setting e.same_number e.same_opening);
       later = later_on start before after so.later later;
       lanes = lanes ∙ so.lanes;
       few = omega (arith, c.loop-i-test.true);
-      went = subst (WentAll start.view first after.view (set ms i n) (i + 1)) (sym c.behind-all.ensures)
-          (went_more start.view before.view after.view so.later.misses later.misses first ms i m n low at e.same_setting e.same_number c.loop-i.all c.make_turn-one.result so.went e.went);
+      within = λ all. within_on c.args.steps start.view before.view after.view so.later.misses later.misses first ms i m n low at e.same_setting e.same_number c.make_turn-one.result e.went (so.within all);
+      went = subst (WentAll c.args.steps start.view first after.view (set ms i n) (i + 1)) (sym c.behind-all.ensures)
+          (went_more c.args.steps start.view before.view after.view so.later.misses later.misses first ms i m n low at e.same_setting e.same_number c.loop-i.all c.make_turn-one.result so.went e.went);
     }
 
 pub returns-clause-went : goal.returns-clause-went
 returns-clause-went g c =
-    went_through c.args.end.now.seat.view c.loop-i.end.seat.view c.args.members.now c.loop-i.members c.loop-i.i c.loop-i.all
+    went_through c.args.steps c.args.end.now.seat.view c.loop-i.end.seat.view c.args.members.now c.loop-i.members c.loop-i.i c.loop-i.all
     (omega (arith, c.loop-i-test.false)) c.loop-i.invariant.few c.loop-i.invariant.went

@@ -5,7 +5,7 @@ use Rattle.brace_crew.proofs.crew.counts_of.Goals as goal
 use Rattle.brace_num.proofs.Options.{none_there}
 
 pub loop-member-preserved : goal.loop-member-preserved
-loop-member-preserved g c s are =
+loop-member-preserved g c s are at_end =
     let members = c.args.members.now in
     let i = c.loop-member.member-index in
     let m = c.member-item.result in
@@ -15,4 +15,4 @@ loop-member-preserved g c s are =
     let none : p.cause ≡ None = sym c.cause.ensures.same ∙ none_there c.cause.result here in
     c.in_ok-join-in-Part.ensures
     ∙ ap (together c.loop-member.all) c.counts.ensures.same
-    ∙ one_given s members are i m c.loop-member-test.true at p c.in-Part.is c.cause.ensures.course (c.counts.ensures.given none) c.loop-member.all (c.loop-member.invariant s are)
+    ∙ one_given s members are at_end i m c.loop-member-test.true at p c.in-Part.is c.cause.ensures.course (c.counts.ensures.given none) c.loop-member.all (c.loop-member.invariant s are at_end)

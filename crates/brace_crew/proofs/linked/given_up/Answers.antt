@@ -1,4 +1,4 @@
-use Rattle.std.proofs.Common.{sym, ap, subst, Err}
+use Rattle.std.proofs.Common.{ap, subst, Err}
 use Rattle.brace_crew.specs.Calls.{CameTo}
 use Rattle.brace_crew.specs.Members.{opening_of}
 use Rattle.brace_crew.proofs.RunMembers.{no_part, desk_opening, desk_setting}
@@ -23,4 +23,5 @@ returns g c = record {
       (desk_opening c.args.setting.now publisher c.args.members.items are c.pop.new.self.items c.in-Some-Desk.field-0 c.in-Some-Desk.ensures.items
       c.in-Some-Desk.desk c.in-Some-Desk.field-0-is)
       c.left.ensures.came;
+  no_end = c.left.ensures.no_end;
 }

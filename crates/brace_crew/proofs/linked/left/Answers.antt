@@ -3,7 +3,8 @@ use Rattle.brace_crew.specs.declared.desk.Stop.TheVariants as stop
 use Rattle.brace_crew.specs.declared.crew.CrewFault.TheVariants as fault
 use Rattle.brace_crew.specs.Calls.{CameTo}
 use Rattle.brace_crew.proofs.FirstFault.{IsRun}
-use Rattle.brace_crew.proofs.LinkedEnds.{none_refused, halted_unrefused, given_front, given_cut}
+use Rattle.brace_crew.proofs.CrewEnds.{shown_front, refused_cut}
+use Rattle.brace_crew.proofs.LinkedEnds.{none_refused, halted_unrefused}
 use Rattle.brace_crew.proofs.linked.left.Goals as goal
 
 pub returns-in-None : goal.returns-in-None
@@ -15,9 +16,10 @@ returns-in-None g c =
     let (count, shown) = c.stop.ensures.shown (none_refused d.stop none) in
     record {
       came = subst (λ v. CameTo g.P.Publisher s d.opening v (Err fault.NoMemory)) (sym c.into_publisher.ensures.same) (record {
-        came = given_front g.P.Publisher s run d c.requires.desk count shown;
+        came = shown_front g.P.Publisher s d c.requires.desk run count shown;
         rises = c.stop.ensures.rises;
       });
+      no_end = λ tells. tells;
     }
 
 pub returns-in-Some-Halt : goal.returns-in-Some-Halt
@@ -30,9 +32,10 @@ returns-in-Some-Halt g c =
     let (count, shown) = c.stop.ensures.shown (halted_unrefused d.stop x halted) in
     record {
       came = subst (λ v. CameTo g.P.Publisher s d.opening v (Err fault.NoMemory)) (sym c.into_publisher-in-Some-Halt.ensures.same) (record {
-        came = given_front g.P.Publisher s run d c.requires.desk count shown;
+        came = shown_front g.P.Publisher s d c.requires.desk run count shown;
         rises = c.stop.ensures.rises;
       });
+      no_end = λ tells. tells;
     }
 
 pub returns-in-Some-Refusal : goal.returns-in-Some-Refusal
@@ -44,7 +47,8 @@ returns-in-Some-Refusal g c =
     let is : d.stop ≡ Some (stop.Refusal x) = search rules in
     record {
       came = subst (λ v. CameTo g.P.Publisher s d.opening v (Err (fault.Publish x))) (sym c.into_publisher-in-Some-Refusal.ensures.same) (record {
-        came = given_cut g.P.Publisher s run d c.requires.desk x (c.stop.ensures.refused x is);
+        came = refused_cut g.P.Publisher s d c.requires.desk run x (c.stop.ensures.refused x is);
         rises = c.stop.ensures.rises;
       });
+      no_end = λ tells. tells;
     }

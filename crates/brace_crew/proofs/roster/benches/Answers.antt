@@ -3,10 +3,11 @@ use Rattle.std.specs.List.{All}
 use Rattle.std.specs.Vec.{vec_len}
 use Rattle.std.specs.Vec.Iter.{into_iter_items}
 use Rattle.std.proofs.lemmas.List.{nil_from_length, length-map, length-append, map-append}
-use Rattle.std.proofs.lemmas.List.Elements.{All-head, All-tail}
+use Rattle.std.proofs.lemmas.List.Elements.{All-nil, All-head, All-tail, All-push}
 use Rattle.brace_pieces.specs.Settings.{parts}
 use Rattle.brace_crew.specs.Benches.{IsUnused, AreServed}
 use Rattle.brace_crew.specs.inner.Crews.{AreNew}
+use Rattle.brace_crew.specs.inner.Teams.{HasCome}
 use Rattle.brace_crew.proofs.RosterLemmas.{seat_next, unused, served_next, team_is}
 use Rattle.brace_crew.proofs.roster.benches.Goals as goal
 
@@ -22,6 +23,7 @@ loop-seat-init g c =
       many_lists = (let long : vec_len c.in_ok-rosters.field-0 ≡ length c.in_ok-rosters.field-0.items = search rules in r.ensures.len ∙ long ∙ ap length (sym r.ensures.rest));
       new = subst (All (λ v. AreNew v.items)) (sym r.ensures.rest) c.in_ok-rosters.ensures.first_turns;
       seats_so_far = ap (map (λ b. b.seat)) none.items;
+      start = subst (All (HasCome 0)) (sym none.items) (All-nil (HasCome 0));
       room = omega (arith, none.capacity);
     }
 
@@ -101,6 +103,7 @@ loop-seat-preserved-in-Some-next g c =
       new = All-tail (λ v. AreNew v.items) one left (subst (All (λ v. AreNew v.items)) lists so.new);
       seats_so_far = ap (map (λ b. b.seat)) more ∙ map-append (λ b. b.seat) at.all.items (bench ∷ [])
           ∙ ap₂ (λ l v. l ++ v ∷ []) so.seats_so_far c.make.ensures.seat ∙ sym (map-append (λ y. y.view) at.yielded (x ∷ []));
+      start = subst (All (HasCome 0)) (sym more) (All-push (HasCome 0) at.all.items bench so.start c.make.ensures.start);
       room = omega (arith, so.room, c.push_reserved.ensures.capacity);
     }
 
@@ -130,3 +133,6 @@ returns-clause-team g c =
     let whole = sym (append-nil at.yielded) ∙ ap (λ l. at.yielded ++ l) (sym none) ∙ so.seats_left ∙ c.requires.seats in
     team_is c.args.setting.now c.args.publisher c.args.workers (map (λ v. v.items) c.in_ok-rosters.field-0.items) c.in_ok-rosters.ensures.rosters
     c.args.lanes.now at.all.items (map (λ v. v.items) (into_iter_items at.rosters)) at.yielded c.requires.some_worker (so.lists_left ∙ lists) so.seats_so_far whole
+
+pub returns-clause-start : goal.returns-clause-start
+returns-clause-start g c = c.loop-seat.invariant.start

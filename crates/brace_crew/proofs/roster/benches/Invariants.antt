@@ -3,6 +3,7 @@ use Rattle.std.specs.List.{All}
 use Rattle.std.specs.Vec.{vec_capacity}
 use Rattle.std.specs.Vec.Iter.{into_iter_items, into_iter_len}
 use Rattle.brace_crew.specs.inner.Crews.{AreNew}
+use Rattle.brace_crew.specs.inner.Teams.{HasCome}
 use Rattle.brace_crew.proofs.roster.benches.Given as goal
 
 abbrev pub invariant-loop-seat : goal.invariant-loop-seat
@@ -13,5 +14,6 @@ invariant-loop-seat g l = record {
   many_lists : into_iter_len l.rosters ≡ length (into_iter_items l.rosters);
   new : All (λ v. AreNew v.items) (into_iter_items l.rosters);
   seats_so_far : map (λ b. b.seat) l.all.items ≡ map (λ x. x.view) l.yielded;
+  start : All (HasCome 0) l.all.items;
   room : l.fn.workers ≤ vec_capacity l.all;
 }

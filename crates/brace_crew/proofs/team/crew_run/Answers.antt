@@ -1,4 +1,4 @@
-use Rattle.std.proofs.Common.{sym, subst, ◌+◌, arith}
+use Rattle.std.proofs.Common.{refl, sym, subst, ◌+◌, arith, inr}
 use Rattle.brace_core.specs.Lanes.{AreBelow}
 use Rattle.brace_pieces.specs.Steps.{schedule}
 use Rattle.brace_pieces.proofs.LanesFor.{few_actors, parts_below, schedule_short}
@@ -15,3 +15,7 @@ make-requires-clause-below g c = subst (λ n. AreBelow (schedule c.args.setting.
 
 pub make-requires-clause-short : goal.make-requires-clause-short
 make-requires-clause-short g c = schedule_short c.args.setting.now c.requires.lawful
+
+-- where the lanes found no memory there is no seat
+pub returns-in-Err-clause-left : goal.returns-in-Err-clause-left
+returns-in-Err-clause-left g c two = inr (refl, c.new-in-Err.ensures.items)

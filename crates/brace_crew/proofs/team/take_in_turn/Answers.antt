@@ -3,8 +3,8 @@ use Rattle.std.specs.Vec.Iter.{into_iter_items}
 use Rattle.std.proofs.lemmas.List.{length-map, length-set, length-append, map-set, nil_from_length}
 use Rattle.std.specs.List.{All}
 use Rattle.std.proofs.lemmas.List.Elements.{All-append}
-use Rattle.brace_crew.specs.Members.{IsDone}
-use Rattle.brace_crew.proofs.GatherLemmas.{IsTaking, taking_more, taken_all, some_taken, list_here, done_more}
+use Rattle.brace_crew.specs.Members.{IsLast}
+use Rattle.brace_crew.proofs.GatherLemmas.{IsTaking, taking_more, taken_all, some_taken, list_here, kept_more}
 use Rattle.brace_crew.proofs.team.take_in_turn.Goals as goal
 use Rattle.brace_crew.proofs.team.take_in_turn.Goals.{in-Some, in_default}
 
@@ -38,10 +38,10 @@ loop-number-preserved g c =
                 (subst (IsTaking s publisher workers c.args.count (i + 1) (set (map into_iter_items lists) k (into_iter_items new))) (sym all)
                 (taking_more s publisher workers c.args.count i (map into_iter_items lists) c.loop-number.members.items c.loop-number-test.true (so.taking s publisher is are) few []
                 (into_iter_items old) (list_here into_iter_items lists k old new low at) m (into_iter_items new) (length-map lists into_iter_items ∙ long) opened));
-            done = λ all_done.
-                let before = so.done all_done in
-                let after = done_more into_iter_items lists k old new low at (Some m) opened before.0 in
-                (after.0, subst (All IsDone) (sym all) (All-append IsDone c.loop-number.members.items (m ∷ []) before.1 after.1));
+            last = λ n all_last.
+                let before = so.last n all_last in
+                let after = kept_more into_iter_items lists k old new low at (IsLast n) (Some m) opened before.0 in
+                (after.0, subst (All (IsLast n)) (sym all) (All-append (IsLast n) c.loop-number.members.items (m ∷ []) before.1 after.1));
           }
       | in_default w ↦
           let nothing : into_iter_items old ≡ [] = nil_from_length (into_iter_items old) (search rules) in
@@ -53,10 +53,10 @@ loop-number-preserved g c =
             taking = λ s publisher is are.
                 absurd (some_taken s publisher workers c.args.count i (map into_iter_items lists) c.loop-number.members.items c.loop-number-test.true (so.taking s publisher is are) few []
                 (into_iter_items old) (list_here into_iter_items lists k old new low at) nothing);
-            done = λ all_done.
-                let before = so.done all_done in
+            last = λ n all_last.
+                let before = so.last n all_last in
                 let same : c.loop-number.members.items ≡ c.match-next.members.items = ap (λ v. v.items) (sym w.members-is) in
-                ((done_more into_iter_items lists k old new low at None (ap into_iter_items at ∙ w.in_default.ensures.items) before.0).0, subst (All IsDone) same before.1);
+                ((kept_more into_iter_items lists k old new low at (IsLast n) None (ap into_iter_items at ∙ w.in_default.ensures.items) before.0).0, subst (All (IsLast n)) same before.1);
           }
     ]
 
@@ -65,3 +65,6 @@ returns-clause-members g c s publisher is are =
     let so = c.loop-number.invariant in
     taken_all s publisher (length c.args.lists.now) c.args.count c.loop-number.number (map into_iter_items c.loop-number.lists) c.loop-number.members.items is
     (omega (arith, c.loop-number-test.false, so.within)) (so.taking s publisher is are)
+
+pub returns-clause-last : goal.returns-clause-last
+returns-clause-last g c n all = (c.loop-number.invariant.last n all).1

@@ -1,9 +1,9 @@
-use Rattle.std.proofs.Common.{◌≡◌, ◌+◌, ◌≤◌, length, map, vec_capacity}
+use Rattle.std.proofs.Common.{◌≡◌, ℕ, ◌+◌, ◌≤◌, length, map, vec_capacity}
 use Rattle.std.specs.List.{All}
 use Rattle.std.specs.Vec.Iter.{into_iter_items}
 use Rattle.brace_pieces.specs.declared.setting.Setting.{Setting}
 use Rattle.brace_pieces.specs.Settings.{parts}
-use Rattle.brace_crew.specs.Members.{IsDone}
+use Rattle.brace_crew.specs.Members.{IsLast}
 use Rattle.brace_crew.specs.inner.Crews.{all_numbers}
 use Rattle.brace_crew.specs.inner.Teams.{AreRosters}
 use Rattle.brace_crew.proofs.GatherLemmas.{IsTaking}
@@ -17,5 +17,5 @@ invariant-loop-number g l = record {
   room : vec_capacity l.members ≡ vec_capacity l.initial.members;
   taking : (s : Setting) (publisher : _) → l.count ≡ parts s + 1 → AreRosters s publisher (length l.initial.lists) (all_numbers s) (map into_iter_items l.initial.lists)
       → IsTaking s publisher (length l.initial.lists) l.count l.number (map into_iter_items l.lists) l.members.items;
-  done : All (λ list. All IsDone (into_iter_items list)) l.initial.lists → All (λ list. All IsDone (into_iter_items list)) l.lists × All IsDone l.members.items;
+  last : (n : ℕ) → All (λ list. All (IsLast n) (into_iter_items list)) l.initial.lists → All (λ list. All (IsLast n) (into_iter_items list)) l.lists × All (IsLast n) l.members.items;
 }

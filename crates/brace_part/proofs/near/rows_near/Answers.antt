@@ -20,7 +20,7 @@ returns-in_default c agents moved =
       length-map agents (λ (a : Agent). a.class),
     ) in
     subst (AreNear c.args.program.now c.args.area.now c.args.range agents agents)
-    (sym c.new-near.ensures.items)
+    (sym c.in_ok-near.ensures.items)
     (none_near c.args.program.now c.args.area.now c.args.range agents long)
 
 pub loop-k-init : goal.loop-k-init
@@ -31,7 +31,7 @@ loop-k-init c =
     record {
       axes = c.in_ok-axes.ensures.axes;
       near = λ agents moved.
-          subst (AreNear program area range agents []) (sym c.new-near.ensures.items)
+          subst (AreNear program area range agents []) (sym c.in_ok-near.ensures.items)
           (near_first program area range agents);
     }
 
@@ -61,8 +61,8 @@ loop-k-preserved c =
           ∙ slice_get-map (λ (b : Agent). b.class) agents k
           ∙ ap (option_map (λ (b : Agent). b.class)) there) in
           let same = sym class ∙ sym c.in_ok-known.ensures.class in
-          let near = c.in_ok-wanted.ensures.near program rows agents a c.in_ok-known.ensures.axes
-          moved there same in
+          let near = c.in_ok-wanted.ensures.near program rows agents a area range
+          c.in_ok-known.ensures.axes moved there same c.widened-wide.ensures in
           let fit = c.in_ok-wanted.ensures.fit program rows agents a c.in_ok-known.ensures.axes
           moved there same in
           let at : c.in-Ok.row ≡ k = search rules in

@@ -1,38 +1,37 @@
-use Rattle.std.proofs.Common.{◌∙◌, get_or, refl, sym, ap, arith}
+use Rattle.std.proofs.Common.{get_or, refl, ap, arith}
 use Rattle.brace_pieces.proofs.ScheduleLemmas.{schedule_lawful}
-use Rattle.brace_wire.proofs.RunLemmas.{less_behind, no_hope, running_start, setting_here, counted_here, running_smaller, running_more, running_round, running_done, running_put, running_taken, running_few}
+use Rattle.brace_wire.proofs.RunLemmas.{less_behind, running_start, setting_here, counted_here, running_smaller, running_more, running_round, running_stands}
 use Rattle.brace_wire.proofs.run.run_over_links.Goals as goal
 
 pub loop-number-init : goal.loop-number-init
-loop-number-init g c = running_start g.A.Actor.setting g.A.Actor.number g.A.Actor.past g.A.Actor.opening c.args.lanes.now.setting c.args.lanes.now.fates c.args.actors.now
-    c.args.lanes.now refl c.requires.lanes_for refl c.requires.settings c.requires.numbers c.requires.first_turns c.requires.nothing_put
-    (no_hope c.args.lanes.now (let count = c.requires.lanes_for in omega (arith, count)) c.requires.nothing_put) c.requires.no_round
+loop-number-init g c = running_start g.A.Actor.setting g.A.Actor.number g.A.Actor.past g.A.Actor.opening c.args.end c.args.lanes.now.setting c.args.lanes.now.fates c.args.actors.now
+    c.args.lanes.now refl c.requires.lanes_for refl c.requires.settings c.requires.numbers c.requires.start (let count = c.requires.lanes_for in omega (arith, count))
 
 pub make_turn-requires-clause-lawful : goal.make_turn-requires-clause-lawful
 make_turn-requires-clause-lawful g c κs within = schedule_lawful c.loop-number.lanes.setting
 
 pub make_turn-requires-clause-setting : goal.make_turn-requires-clause-setting
 make_turn-requires-clause-setting g c κs within =
-    setting_here g.A.Actor.setting g.A.Actor.number g.A.Actor.past g.A.Actor.opening c.args.lanes.now.setting c.args.lanes.now.fates c.args.actors.now
+    setting_here g.A.Actor.setting g.A.Actor.number g.A.Actor.past g.A.Actor.opening c.args.end c.args.lanes.now.setting c.args.lanes.now.fates c.args.actors.now
     c.loop-number.actors c.loop-number.lanes c.loop-number.invariant c.draw.result c.in-Some.number c.in-Some.ensures.first c.in-Some.ensures.received
     (get_or c.loop-number.actors c.in-Some.number c.index-actors-number.result) (ap (get_or c.loop-number.actors c.in-Some.number) c.index-actors-number.is)
 
 pub make_turn-requires-clause-counted : goal.make_turn-requires-clause-counted
 make_turn-requires-clause-counted g c κs within =
-    counted_here g.A.Actor.setting g.A.Actor.number g.A.Actor.past g.A.Actor.opening c.args.lanes.now.setting c.args.lanes.now.fates c.args.actors.now
+    counted_here g.A.Actor.setting g.A.Actor.number g.A.Actor.past g.A.Actor.opening c.args.end c.args.lanes.now.setting c.args.lanes.now.fates c.args.actors.now
     c.loop-number.actors c.loop-number.lanes c.loop-number.invariant c.draw.result c.in-Some.number c.in-Some.ensures.first c.in-Some.ensures.received
     (get_or c.loop-number.actors c.in-Some.number c.index-actors-number.result) (ap (get_or c.loop-number.actors c.in-Some.number) c.index-actors-number.is)
 
 pub loop-number-smaller-in-Some : goal.loop-number-smaller-in-Some
 loop-number-smaller-in-Some g c =
-    running_smaller g.A.Actor.setting g.A.Actor.number g.A.Actor.past g.A.Actor.opening c.args.lanes.now.setting c.args.lanes.now.fates c.args.actors.now
+    running_smaller g.A.Actor.setting g.A.Actor.number g.A.Actor.past g.A.Actor.opening c.args.end c.args.lanes.now.setting c.args.lanes.now.fates c.args.actors.now
     c.loop-number.actors c.loop-number.lanes c.loop-number.invariant c.draw.result c.in-Some.number c.in-Some.ensures.first c.in-Some.ensures.received
     (get_or c.loop-number.actors c.in-Some.number c.index-actors-number.result) (ap (get_or c.loop-number.actors c.in-Some.number) c.index-actors-number.is)
     c.make_turn.new.actor c.make_turn.new.exchange c.make_turn.result c.make_turn.ensures.went c.make_turn.ensures.same_setting c.make_turn.ensures.same_number c.make_turn.ensures.kept
 
 pub loop-number-preserved-in-Some : goal.loop-number-preserved-in-Some
 loop-number-preserved-in-Some g c =
-    running_more g.A.Actor.setting g.A.Actor.number g.A.Actor.past g.A.Actor.opening c.args.lanes.now.setting c.args.lanes.now.fates c.args.actors.now
+    running_more g.A.Actor.setting g.A.Actor.number g.A.Actor.past g.A.Actor.opening c.args.end c.args.lanes.now.setting c.args.lanes.now.fates c.args.actors.now
     c.loop-number.actors c.loop-number.lanes c.loop-number.invariant c.draw.result c.in-Some.number c.in-Some.ensures.first c.in-Some.ensures.received
     (get_or c.loop-number.actors c.in-Some.number c.index-actors-number.result) (ap (get_or c.loop-number.actors c.in-Some.number) c.index-actors-number.is)
     c.make_turn.new.actor c.make_turn.new.exchange c.make_turn.result c.make_turn.ensures.went c.make_turn.ensures.same_setting c.make_turn.ensures.same_number c.make_turn.ensures.kept
@@ -43,33 +42,11 @@ loop-number-smaller g c = less_behind _ _ _ (c.in_ok-round-in-None-2.ensures.nea
 
 pub loop-number-preserved : goal.loop-number-preserved
 loop-number-preserved g c =
-    running_round g.A.Actor.setting g.A.Actor.number g.A.Actor.past g.A.Actor.opening c.args.lanes.now.setting c.args.lanes.now.fates c.args.actors.now
+    running_round g.A.Actor.setting g.A.Actor.number g.A.Actor.past g.A.Actor.opening c.args.end c.args.lanes.now.setting c.args.lanes.now.fates c.args.actors.now
     c.loop-number.actors c.loop-number.lanes c.loop-number.invariant c.round.new.self c.round.ensures.setting c.round.ensures.actors c.round.ensures.fates c.round.ensures.put c.round.ensures.taken
     c.in_ok-round-in-None-2.ensures.counted (c.in_ok-round-in-None-2.ensures.nearer (c.is_quiet.ensures.hope c.if-is_quiet.false))
 
-pub returns-in-None-clause-done : goal.returns-in-None-clause-done
-returns-in-None-clause-done g c =
-    running_done g.A.Actor.setting g.A.Actor.number g.A.Actor.past g.A.Actor.opening c.args.lanes.now.setting c.args.lanes.now.fates c.args.actors.now
-    c.loop-number.actors c.loop-number.lanes c.loop-number.invariant c.draw.result c.in-None.ensures.none (c.is_quiet.ensures.quiet c.if-is_quiet.true)
-
-pub returns-in-None-clause-all_put : goal.returns-in-None-clause-all_put
-returns-in-None-clause-all_put g c =
-    running_put g.A.Actor.setting g.A.Actor.number g.A.Actor.past g.A.Actor.opening c.args.lanes.now.setting c.args.lanes.now.fates c.args.actors.now
-    c.loop-number.actors c.loop-number.lanes c.loop-number.invariant c.draw.result c.in-None.ensures.none (c.is_quiet.ensures.quiet c.if-is_quiet.true)
-
-pub returns-in-None-clause-all_received : goal.returns-in-None-clause-all_received
-returns-in-None-clause-all_received g c p q =
-    let quiet = c.is_quiet.ensures.quiet c.if-is_quiet.true in
-    sym (quiet p q)
-    ∙ running_put g.A.Actor.setting g.A.Actor.number g.A.Actor.past g.A.Actor.opening c.args.lanes.now.setting c.args.lanes.now.fates c.args.actors.now
-    c.loop-number.actors c.loop-number.lanes c.loop-number.invariant c.draw.result c.in-None.ensures.none quiet p q
-
-pub returns-in-None-clause-all_taken : goal.returns-in-None-clause-all_taken
-returns-in-None-clause-all_taken g c =
-    running_taken g.A.Actor.setting g.A.Actor.number g.A.Actor.past g.A.Actor.opening c.args.lanes.now.setting c.args.lanes.now.fates c.args.actors.now
-    c.loop-number.actors c.loop-number.lanes c.loop-number.invariant c.draw.result c.in-None.ensures.none (c.is_quiet.ensures.quiet c.if-is_quiet.true)
-
-pub returns-in-None-clause-few_rounds : goal.returns-in-None-clause-few_rounds
-returns-in-None-clause-few_rounds g c =
-    running_few g.A.Actor.setting g.A.Actor.number g.A.Actor.past g.A.Actor.opening c.args.lanes.now.setting c.args.lanes.now.fates c.args.actors.now
+pub returns-in-None-clause-stands : goal.returns-in-None-clause-stands
+returns-in-None-clause-stands g c =
+    running_stands g.A.Actor.setting g.A.Actor.number g.A.Actor.past g.A.Actor.opening c.args.end c.args.lanes.now.setting c.args.lanes.now.fates c.args.actors.now
     c.loop-number.actors c.loop-number.lanes c.loop-number.invariant c.draw.result c.in-None.ensures.none (c.is_quiet.ensures.quiet c.if-is_quiet.true)

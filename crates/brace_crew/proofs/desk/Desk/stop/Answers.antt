@@ -1,22 +1,21 @@
-use Rattle.std.proofs.Common.{◌≡◌, ℕ, subst, length, Some, None}
+use Rattle.std.proofs.Common.{◌≡◌, ℕ, subst, true, Some, None}
 use Rattle.std.specs.Vec.{vec_capacity}
-use Rattle.brace_core.specs.declared.name.Turn.TheVariants as turn
 use Rattle.brace_pieces.specs.declared.piece.Cause.{Cause}
+use Rattle.brace_pieces.specs.Courses.{IsCourse}
 use Rattle.brace_crew.specs.declared.publisher.PubFault.{PubFault}
 use Rattle.brace_crew.specs.declared.desk.Stop.TheVariants as stop
-use Rattle.brace_pieces.specs.Settings.{ends}
-use Rattle.brace_crew.specs.Desks.{OnDesk, HasShown, HasHalted, HasRefused}
-use Rattle.brace_crew.proofs.DeskTurns.{turn_due, stop_none, stop_halted, stop_refused, stop_shown}
+use Rattle.brace_crew.specs.Desks.{OnDesk, ends_before, HasShown, HasHalted, HasRefused}
+use Rattle.brace_crew.proofs.DeskTurns.{stop_none, stop_halted, stop_refused, stop_shown, told_stopped}
 use Rattle.brace_crew.proofs.desk.Desk.stop.Goals as goal
 
 pub returns-clause-all : goal.returns-clause-all
 returns-clause-all g c =
-    subst (λ (v : OnDesk g.row.P.Denot). v.stop ≡ None → turn_due v ≡ turn.Done → HasShown g.P.Publisher v (length (ends v.course.setting))) c.self.view_is
+    subst (λ (v : OnDesk g.row.P.Denot). v.stop ≡ None → HasShown g.P.Publisher v (ends_before v.course.setting v.course.number)) c.self.view_is
     (stop_none g.P.Publisher _ (vec_capacity c.self.inside.lots) c.self.invariant)
 
 pub returns-clause-halted : goal.returns-clause-halted
 returns-clause-halted g c =
-    subst (λ (v : OnDesk g.row.P.Denot). (x : Cause) → v.stop ≡ Some (stop.Halt x) → turn_due v ≡ turn.Done → HasHalted g.P.Publisher v x) c.self.view_is
+    subst (λ (v : OnDesk g.row.P.Denot). (x : Cause) → v.stop ≡ Some (stop.Halt x) → v.course.made ≡ 0 → HasHalted g.P.Publisher v x) c.self.view_is
     (stop_halted g.P.Publisher _ (vec_capacity c.self.inside.lots) c.self.invariant)
 
 pub returns-clause-refused : goal.returns-clause-refused
@@ -28,3 +27,11 @@ pub returns-clause-shown : goal.returns-clause-shown
 returns-clause-shown g c =
     subst (λ (v : OnDesk g.row.P.Denot). ((x : PubFault) → v.stop ≡ Some (stop.Refusal x) → ⊥) → (count : ℕ) × HasShown g.P.Publisher v count) c.self.view_is
     (stop_shown g.P.Publisher _ (vec_capacity c.self.inside.lots) c.self.invariant)
+
+pub returns-clause-told : goal.returns-clause-told
+returns-clause-told g c =
+    subst (λ (v : OnDesk g.row.P.Denot). v.told ≡ true → v.stop ≡ None → ⊥) c.self.view_is
+    (told_stopped g.P.Publisher _ (vec_capacity c.self.inside.lots) c.self.invariant)
+
+pub returns-clause-course : goal.returns-clause-course
+returns-clause-course g c = subst (λ (v : OnDesk g.row.P.Denot). IsCourse v.course) c.self.view_is c.self.invariant.on_course

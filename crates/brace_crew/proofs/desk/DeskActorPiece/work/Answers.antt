@@ -1,10 +1,10 @@
-use Rattle.std.proofs.Common.{rules, ◌≡◌, ◌∙◌, refl, sym, ap, subst, Some, false, is_some, not}
+use Rattle.std.proofs.Common.{rules, ◌≡◌, ◌∙◌, refl, sym, ap, subst, Some, false, ◌||◌, is_some, not}
 use Rattle.std.specs.Vec.{vec_capacity}
 use Rattle.brace_pieces.specs.declared.setting.Stage.TheVariants as stage
 use Rattle.brace_pieces.specs.Courses.{step_of}
 use Rattle.brace_pieces.specs.Steps.{is_show}
 use Rattle.brace_crew.specs.declared.desk.Desk.TheInside.{Inside}
-use Rattle.brace_crew.specs.inner.Sound.{IsDesk}
+use Rattle.brace_crew.specs.inner.Sound.{IsDesk, shows_in}
 use Rattle.brace_crew.proofs.DeskKept.{desk_fits}
 use Rattle.brace_crew.proofs.DeskTurns.{some_left}
 use Rattle.brace_crew.proofs.DeskWorks.{next_work, work_left, work_closed, work_other, work_brought, work_stopped, work_shown, work_refused}
@@ -16,7 +16,9 @@ pub go_on-requires : goal.go_on-requires
 go_on-requires g c = record { is_left = work_left g.P.Publisher _ (vec_capacity c.self.inside.lots) c.self.invariant _ c.self.view_is c.requires }
 
 pub invariant_of-self : goal.invariant_of-self
-invariant_of-self g c = work_closed g.P.Publisher _ (vec_capacity c.self.inside.lots) c.self.invariant _ c.self.view_is c.requires c.go_on.new.self c.go_on.ensures.place c.if-self.true
+invariant_of-self g c =
+    work_closed g.P.Publisher _ (vec_capacity c.self.inside.lots) c.self.invariant _ c.self.view_is c.requires c.go_on.new.self c.go_on.ensures.place c.if-self.true
+    _ (ap (λ b. c.self.inside.told || b) (c.shows_all.ensures ∙ ap shows_in c.step-at.ensures))
 
 pub publish-shown-requires-clause-brought : goal.publish-shown-requires-clause-brought
 publish-shown-requires-clause-brought g c =
@@ -39,7 +41,7 @@ invariant_of-self-then-eq g c =
     elim c.if-is_none.branch [
       | then-is_none+in-Err w ↦
           subst (λ (x : Inside g.row.P.Denot).
-          IsDesk g.P.Publisher (record { course = x.course; opening = x.opening.value; publisher = x.publisher; stop = x.stop; lots = x.lots.items; closed = closed }) (vec_capacity x.lots)) (sym w.self-inside-is)
+          IsDesk g.P.Publisher (record { course = x.course; opening = x.opening.value; publisher = x.publisher; stop = x.stop; lots = x.lots.items; closed = closed; told = x.told }) (vec_capacity x.lots)) (sym w.self-inside-is)
           (work_refused g.P.Publisher _ (vec_capacity c.self.inside.lots) c.self.invariant _ c.self.view_is c.requires
           c.go_on.new.self c.go_on.ensures.place c.if-self.false at stands shows w.setting.result.now (w.setting.ensures.setting ∙ c.go_on.ensures.same_setting)
           (not_some c.self.inside.stop (c.is_none.ensures ∙ ap not w.if-is_none.true)) w.publish-shown.new.publisher w.clear.new.self.items w.clear.ensures.items
@@ -48,7 +50,7 @@ invariant_of-self-then-eq g c =
           w.in-Err.stop w.in-Err.is (c.is_some-self-inside.ensures ∙ ap (λ (x : Inside g.row.P.Denot). is_some x.stop) w.self-inside-is))
       | then-is_none+in_default-shown w ↦
           subst (λ (x : Inside g.row.P.Denot).
-          IsDesk g.P.Publisher (record { course = x.course; opening = x.opening.value; publisher = x.publisher; stop = x.stop; lots = x.lots.items; closed = closed }) (vec_capacity x.lots)) (sym w.self-inside-is)
+          IsDesk g.P.Publisher (record { course = x.course; opening = x.opening.value; publisher = x.publisher; stop = x.stop; lots = x.lots.items; closed = closed; told = x.told }) (vec_capacity x.lots)) (sym w.self-inside-is)
           (work_shown g.P.Publisher _ (vec_capacity c.self.inside.lots) c.self.invariant _ c.self.view_is c.requires
           c.go_on.new.self c.go_on.ensures.place c.if-self.false at stands shows w.setting.result.now (w.setting.ensures.setting ∙ c.go_on.ensures.same_setting)
           (not_some c.self.inside.stop (c.is_none.ensures ∙ ap not w.if-is_none.true)) w.publish-shown.new.publisher w.clear.new.self.items w.clear.ensures.items
@@ -56,7 +58,7 @@ invariant_of-self-then-eq g c =
           (c.is_some-self-inside.ensures ∙ ap (λ (x : Inside g.row.P.Denot). is_some x.stop) w.self-inside-is) w.in_default-shown.ensures.done)
       | else-is_none w ↦
           subst (λ (x : Inside g.row.P.Denot).
-          IsDesk g.P.Publisher (record { course = x.course; opening = x.opening.value; publisher = x.publisher; stop = x.stop; lots = x.lots.items; closed = closed }) (vec_capacity x.lots)) (sym w.self-inside-is)
+          IsDesk g.P.Publisher (record { course = x.course; opening = x.opening.value; publisher = x.publisher; stop = x.stop; lots = x.lots.items; closed = closed; told = x.told }) (vec_capacity x.lots)) (sym w.self-inside-is)
           (work_stopped g.P.Publisher _ (vec_capacity c.self.inside.lots) c.self.invariant _ c.self.view_is c.requires
           c.go_on.new.self c.go_on.ensures.place c.if-self.false at stands shows c.self.inside.course.setting refl closed
           (some_left c.self.inside.stop (c.is_none.ensures ∙ ap not w.if-is_none.false))

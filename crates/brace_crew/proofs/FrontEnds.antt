@@ -1,0 +1,143 @@
+-- The members of a run that is driven from end to end.
+use Rattle.std.proofs.Common.{◌≡◌, ◌∙◌, refl, sym, ap, ℕ, zero, suc, ◌+◌, ◌<◌, ◌≤◌, List, [], ◌∷◌, map, length, get_or, drop, slice_index, All, arith, inl, inr}
+use Rattle.std.proofs.lemmas.List.{get_or_default}
+use Rattle.brace_core.specs.Schedule.{front, turns}
+use Rattle.brace_core.specs.Order.{StandsAt}
+use Rattle.brace_core.proofs.ActorLemmas.{count, setting_at, number_at, past_at}
+use Rattle.brace_core.proofs.Fronts.{longer}
+use Rattle.brace_core.proofs.Starts.{no_turns, no_names}
+use Rattle.brace_pieces.specs.declared.setting.Setting.{Setting}
+use Rattle.brace_pieces.specs.Settings.{parts}
+use Rattle.brace_pieces.specs.Steps.{steps, schedule}
+use Rattle.brace_pieces.specs.Fronts.{to_show}
+use Rattle.brace_pieces.specs.Courses.{past_of}
+use Rattle.brace_crew.specs.declared.member.Member.{Member}
+use Rattle.brace_crew.specs.Members.{course_of, opening_of, HasTold, IsAt, IsLast, IsWithin}
+use Rattle.brace_crew.specs.Benches.{OnBench, IsUnused}
+use Rattle.brace_crew.specs.Workers.{AreUsedTo}
+use Rattle.brace_crew.specs.inner.Teams.{HasCome}
+use Rattle.brace_crew.specs.inner.Crews.{AreMembers, AreNew, AreEarly, AreEarlyFor, IsReached, AreEnded, all_numbers}
+use Rattle.brace_crew.proofs.CrewEnds.{reached_first, early_first, reached_next}
+use Rattle.brace_crew.proofs.RunMembers.{are_later}
+
+module _ {P : Type 0} where
+  abbrev setting_of : Member P → Setting
+  setting_of m = (course_of m).setting
+
+  abbrev number_of : Member P → ℕ
+  number_of m = (course_of m).actor
+
+  abbrev past : Member P → ℕ
+  past m = past_of (course_of m)
+
+  -- before their first turns
+  pub first_at : (members : List (Member P)) → AreNew members → All (IsAt 0) members
+  first_at members new i d low = let m : Member P = get_or members i d in new i d low ∙ sym (no_turns (schedule (setting_of m)) (number_of m))
+
+  pub come_first : (b : OnBench P) → AreNew b.members → IsUnused b.seat → HasCome 0 b
+  come_first b new unused = record {
+    at = first_at b.members new;
+    used_to = record {
+      all_put = λ a q low serves. unused.nothing_put a q ∙ sym (no_names (schedule b.seat.setting) a q);
+      all_taken = λ a q low serves. unused.nothing_taken q a ∙ sym (no_names (schedule b.seat.setting) q a);
+    };
+  }
+
+  pub first_pasts : (members : List (Member P)) → AreNew members → (p : ℕ) → slice_index (map past members) p ≡ 0
+  first_pasts [] new p = refl
+  first_pasts (m ∷ members) new zero = new 0 m (omega arith)
+  first_pasts (m ∷ members) new (suc p) = first_pasts members (λ i d l. new (suc i) d (omega (arith, l))) p
+
+  -- all stand at the end of the first steps, as the drivers count it
+  pub all_at : (s : Setting) (n : ℕ) (members : List (Member P)) (puts takes : ℕ → ℕ → ℕ) → All (λ m. setting_of m ≡ s) members → map number_of members ≡ all_numbers s
+      → StandsAt (schedule s) n (map past members) puts takes → All (IsAt n) members
+  all_at s n members puts takes settings numbers at i d low =
+      let m : Member P = get_or members i d in
+      let here : m ≡ get_or members i m = get_or_default members i d m low in
+      let many = count setting_of number_of past schedule members s (parts s + 1) settings numbers in
+      let p_low : i < parts s + 1 = omega (arith, low, many) in
+      past_at setting_of number_of past schedule members s (parts s + 1) settings numbers i p_low m here
+      ∙ at.places i p_low
+      ∙ sym (ap (λ a. length (turns (front (schedule s) n) a)) (number_at setting_of number_of past schedule members s (parts s + 1) settings numbers i p_low m here))
+      ∙ sym (ap (λ r. length (turns (front (schedule r) n) (number_of m))) (setting_at setting_of number_of past schedule members s (parts s + 1) settings numbers i p_low m here))
+
+  -- at the end of fewer steps they made no turn behind more
+  pub all_within : (m n : ℕ) → m ≤ n → (members : List (Member P)) → All (IsAt m) members → All (IsWithin n) members
+  all_within m n up members at i d low =
+      let x : Member P = get_or members i d in
+      let more = longer (schedule (setting_of x)) m n (number_of x) up in
+      omega (arith, more, at i d low)
+
+  -- where no step is left the run ends
+  pub all_last : (s : Setting) (n : ℕ) (members : List (Member P)) → All (λ m. setting_of m ≡ s) members → n ≡ length (steps s) → All (IsAt n) members → All (IsLast n) members
+  all_last s n members settings all at i d low = (at i d low, inr (all ∙ ap (λ r. length (steps r)) (sym (settings i d low))))
+
+  -- ---- between two ends
+
+  pub record IsBetween (s : Setting) (n : ℕ) (first members : List (Member P)) : Type 0 where
+    pub same_settings : map setting_of members ≡ map setting_of first
+    pub same_numbers : map number_of members ≡ map number_of first
+    pub same_openings : map opening_of members ≡ map opening_of first
+    pub reached : IsReached s n
+    pub early : AreEarly s n
+
+  pub between_first : (s : Setting) (members : List (Member P)) → IsBetween s 0 members members
+  between_first s members = record { same_settings = refl; same_numbers = refl; same_openings = refl; reached = reached_first s; early = early_first s }
+
+  module _ (s : Setting) (publisher : P) (first : List (Member P)) (are : AreMembers s publisher (all_numbers s) first) where
+    -- they are the members of the run
+    pub still : (members : List (Member P)) → map setting_of members ≡ map setting_of first → map number_of members ≡ map number_of first → map opening_of members ≡ map opening_of first
+        → AreMembers s publisher (all_numbers s) members
+    still members settings numbers openings = are_later s publisher (all_numbers s) first members are settings numbers openings
+
+    -- at the next end
+    module _ (m n : ℕ) (members after : List (Member P)) (so : IsBetween s m first members) (place : n ≡ m + to_show (drop m (steps s))) (up : m < n)
+        (settings : map setting_of after ≡ map setting_of members) (numbers : map number_of after ≡ map number_of members) (openings : map opening_of after ≡ map opening_of members) where
+      pub next_reached : IsReached s n
+      next_reached = reached_next s m n so.reached so.early place up
+
+      pub next_members : AreMembers s publisher (all_numbers s) after
+      next_members = still after (settings ∙ so.same_settings) (numbers ∙ so.same_numbers) (openings ∙ so.same_openings)
+
+      pub next_between : AreEarly s n → IsBetween s n first after
+      next_between early = record {
+        same_settings = settings ∙ so.same_settings;
+        same_numbers = numbers ∙ so.same_numbers;
+        same_openings = openings ∙ so.same_openings;
+        reached = next_reached;
+        early = early;
+      }
+
+-- what a run through plain lanes or links knows behind the drive to an end
+module _ {P : Type 0} (s : Setting) (publisher : P) (first : List (Member P)) (are : AreMembers s publisher (all_numbers s) first) (m n : ℕ) (members after : List (Member P)) (so : IsBetween s m first members)
+    (place : n ≡ m + to_show (drop m (steps s))) (up : m < n) (within : n ≤ length (steps s))
+    (settings : map setting_of after ≡ map setting_of members) (numbers : map number_of after ≡ map number_of members) (openings : map opening_of after ≡ map opening_of members)
+    (puts takes : ℕ → ℕ → ℕ) (stands : StandsAt (schedule s) n (map past after) puts takes) where
+  now : AreMembers s publisher (all_numbers s) after
+  now = next_members s publisher first are m n members after so place up settings numbers openings
+
+  at_next : All (IsAt n) after
+  at_next = all_at s n after puts takes now.settings now.numbered stands
+
+  -- the run goes on
+  pub goes_between : AreEarlyFor after → IsBetween s n first after
+  goes_between early = next_between s publisher first are m n members after so place up settings numbers openings (early s n within now.settings at_next)
+
+  -- or ends there
+  pub ends_told : All HasTold after → AreEnded s n after
+  ends_told told = record { reached = next_reached s publisher first are m n members after so place up settings numbers openings; last = λ i d low. (at_next i d low, inl (told i d low)) }
+
+  pub used_there : AreUsedTo s n puts takes
+  used_there = record { all_put = stands.put; all_taken = stands.taken }
+
+-- and where no step is left
+module _ {P : Type 0} (s : Setting) (publisher : P) (first : List (Member P)) (are : AreMembers s publisher (all_numbers s) first) (n : ℕ) (members : List (Member P)) (so : IsBetween s n first members)
+    (puts takes : ℕ → ℕ → ℕ) (stands : StandsAt (schedule s) n (map past members) puts takes) (all : n ≡ length (steps s)) where
+  here : AreMembers s publisher (all_numbers s) members
+  here = still s publisher first are members so.same_settings so.same_numbers so.same_openings
+
+  pub ends_last : AreEnded s n members
+  ends_last = record { reached = so.reached; last = all_last s n members here.settings all (all_at s n members puts takes here.settings here.numbered stands) }
+
+  pub used_last : AreUsedTo s n puts takes
+  used_last = record { all_put = stands.put; all_taken = stands.taken }

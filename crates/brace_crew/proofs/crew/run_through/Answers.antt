@@ -1,0 +1,146 @@
+use Rattle.std.proofs.Common.{◌≡◌, ◌∙◌, refl, sym, ap, subst, ◌+◌, ◌<◌, ◌≤◌, map, drop, length, All, arith}
+use Rattle.brace_core.specs.Lanes.{puts_of, takes_of}
+use Rattle.brace_core.specs.Order.{StandsAt}
+use Rattle.brace_core.proofs.Starts.{stands_first}
+use Rattle.brace_pieces.specs.declared.setting.Setting.{Setting}
+use Rattle.brace_pieces.specs.Settings.{parts}
+use Rattle.brace_pieces.specs.Steps.{steps, schedule}
+use Rattle.brace_pieces.specs.Courses.{past_of}
+use Rattle.brace_pieces.specs.Fronts.{OnFronts, to_show}
+use Rattle.brace_pieces.proofs.ScheduleLemmas.{schedule_lawful}
+use Rattle.brace_crew.specs.Members.{course_of}
+use Rattle.brace_crew.specs.inner.Crews.{all_numbers}
+use Rattle.brace_crew.proofs.FrontEnds.{IsBetween, first_pasts, between_first, still, goes_between, ends_told, used_there, ends_last, used_last}
+use Rattle.brace_crew.proofs.crew.run_through.Goals as goal
+
+pub loop-end-init : goal.loop-end-init
+loop-end-init g c =
+    let s = c.args.setting.now in
+    let start = c.of-fronts.ensures in
+    let number : c.of-fronts.result.number ≡ 0 = ap (λ (f : OnFronts). f.number) start in
+    record {
+      of = ap (λ (f : OnFronts). f.setting) start;
+      between = subst (λ n. IsBetween s n c.args.members.now c.args.members.now) (sym number) (between_first s c.args.members.now);
+      stands = subst (λ n. StandsAt (schedule s) n (map (λ m. past_of (course_of m)) c.args.members.now) (puts_of c.args.lanes.now) (takes_of c.args.lanes.now)) (sym number)
+          (stands_first (schedule s) _ (puts_of c.args.lanes.now) (takes_of c.args.lanes.now) (λ p low. first_pasts c.args.members.now c.requires.first_turns p)
+          c.requires.nothing_put (λ p q. (let none = c.requires.nothing_put p q in omega (arith, none))));
+      lanes_setting = refl;
+      lanes_actors = refl;
+    }
+
+pub run_in_order-requires-clause-lawful : goal.run_in_order-requires-clause-lawful
+run_in_order-requires-clause-lawful g c κs within = schedule_lawful c.loop-end.lanes.setting
+
+pub run_in_order-requires-clause-settings : goal.run_in_order-requires-clause-settings
+run_in_order-requires-clause-settings g c κs within =
+    let so = c.loop-end.invariant in
+    let (publisher, are) = c.requires.members in
+    let now = still c.args.setting.now publisher c.args.members.now are c.loop-end.members so.between.same_settings so.between.same_numbers so.between.same_openings in
+    subst (λ r. All (λ m. (course_of m).setting ≡ r) c.loop-end.members) (sym (so.lanes_setting ∙ c.requires.lanes_setting)) now.settings
+
+pub run_in_order-requires-clause-numbers : goal.run_in_order-requires-clause-numbers
+run_in_order-requires-clause-numbers g c κs within =
+    let so = c.loop-end.invariant in
+    let (publisher, are) = c.requires.members in
+    let now = still c.args.setting.now publisher c.args.members.now are c.loop-end.members so.between.same_settings so.between.same_numbers so.between.same_openings in
+    now.numbered ∙ ap all_numbers (sym (so.lanes_setting ∙ c.requires.lanes_setting))
+
+pub run_in_order-requires-clause-lanes_for : goal.run_in_order-requires-clause-lanes_for
+run_in_order-requires-clause-lanes_for g c κs within =
+    let so = c.loop-end.invariant in
+    so.lanes_actors ∙ c.requires.lanes_for ∙ ap (λ s. parts s + 1) (sym (so.lanes_setting ∙ c.requires.lanes_setting))
+
+pub run_in_order-requires-clause-start : goal.run_in_order-requires-clause-start
+run_in_order-requires-clause-start g c κs within =
+    let so = c.loop-end.invariant in
+    let up = c.in-Some.ensures.on.1 in (
+      c.loop-end.fronts.number,
+      omega (arith, up),
+      subst (λ s. StandsAt (schedule s) c.loop-end.fronts.number (map (λ m. past_of (course_of m)) c.loop-end.members) (puts_of c.loop-end.lanes) (takes_of c.loop-end.lanes))
+          (sym (so.lanes_setting ∙ c.requires.lanes_setting)) so.stands,
+    )
+
+pub loop-end-smaller : goal.loop-end-smaller
+loop-end-smaller g c =
+    let so = c.loop-end.invariant in
+    let up = c.in-Some.ensures.on in
+    omega (arith, up.0, up.1, c.next.ensures.within, ap (λ s. length (steps s)) so.of)
+
+-- the front is the next one, and the lanes are of the run
+place_of : (f h : OnFronts) (s : Setting) → f.setting ≡ s → h.number ≡ f.number + to_show (drop f.number (steps f.setting)) → h.number ≡ f.number + to_show (drop f.number (steps s))
+place_of f h s of place = place ∙ ap (λ r. f.number + to_show (drop f.number (steps r))) of
+
+pub loop-end-preserved : goal.loop-end-preserved
+loop-end-preserved g c =
+    let s = c.args.setting.now in
+    let so = c.loop-end.invariant in
+    let ran = c.run_in_order.ensures in
+    let (publisher, are) = c.requires.members in
+    let before = c.loop-end.fronts in
+    let after = c.next.new.self in
+    let lanes = so.lanes_setting ∙ c.requires.lanes_setting in
+    let (is, up) = c.in-Some.ensures.on in
+    let stands = subst (λ k. StandsAt (schedule s) k (map (λ m. past_of (course_of m)) c.run_in_order.new.actors) (puts_of c.run_in_order.new.lanes) (takes_of c.run_in_order.new.lanes)) is
+    (subst (λ r. StandsAt (schedule r) c.in-Some.end (map (λ m. past_of (course_of m)) c.run_in_order.new.actors) (puts_of c.run_in_order.new.lanes) (takes_of c.run_in_order.new.lanes)) lanes ran.stands) in
+    record {
+      of = c.next.ensures.same ∙ so.of;
+      between = goes_between s publisher c.args.members.now are before.number after.number c.loop-end.members c.run_in_order.new.actors so.between
+          (place_of before after s so.of c.next.ensures.place) (omega (arith, is, up)) (omega (arith, c.next.ensures.within, ap (λ r. length (steps r)) so.of))
+          ran.same_settings ran.same_numbers ran.same_openings _ _ stands (c.have_told.ensures.left c.if-have_told.false);
+      stands = stands;
+      lanes_setting = ran.lanes_setting ∙ so.lanes_setting;
+      lanes_actors = ran.lanes_actors ∙ so.lanes_actors;
+    }
+
+pub returns-then-have_told : goal.returns-then-have_told
+returns-then-have_told g c =
+    let s = c.args.setting.now in
+    let so = c.loop-end.invariant in
+    let ran = c.run_in_order.ensures in
+    let (publisher, are) = c.requires.members in
+    let before = c.loop-end.fronts in
+    let after = c.next.new.self in
+    let lanes = so.lanes_setting ∙ c.requires.lanes_setting in
+    let (is, up) = c.in-Some.ensures.on in
+    let stands = subst (λ k. StandsAt (schedule s) k (map (λ m. past_of (course_of m)) c.run_in_order.new.actors) (puts_of c.run_in_order.new.lanes) (takes_of c.run_in_order.new.lanes)) is
+    (subst (λ r. StandsAt (schedule r) c.in-Some.end (map (λ m. past_of (course_of m)) c.run_in_order.new.actors) (puts_of c.run_in_order.new.lanes) (takes_of c.run_in_order.new.lanes)) lanes ran.stands) in
+    let place = place_of before after s so.of c.next.ensures.place in
+    let on : before.number < after.number = omega (arith, is, up) in
+    let within : after.number ≤ length (steps s) = omega (arith, c.next.ensures.within, ap (λ r. length (steps r)) so.of) in
+    record {
+      same_settings = ran.same_settings ∙ so.between.same_settings;
+      same_numbers = ran.same_numbers ∙ so.between.same_numbers;
+      same_openings = ran.same_openings ∙ so.between.same_openings;
+      ended = (
+        after.number,
+        (
+          ends_told s publisher c.args.members.now are before.number after.number c.loop-end.members c.run_in_order.new.actors so.between place on within
+              ran.same_settings ran.same_numbers ran.same_openings _ _ stands (c.have_told.ensures.told c.if-have_told.true),
+          used_there s publisher c.args.members.now are before.number after.number c.loop-end.members c.run_in_order.new.actors so.between place on within
+              ran.same_settings ran.same_numbers ran.same_openings _ _ stands,
+        ),
+      );
+      lanes_setting = ran.lanes_setting ∙ so.lanes_setting;
+      lanes_actors = ran.lanes_actors ∙ so.lanes_actors;
+    }
+
+pub returns : goal.returns
+returns g c =
+    let s = c.args.setting.now in
+    let so = c.loop-end.invariant in
+    let (publisher, are) = c.requires.members in
+    let all : c.loop-end.fronts.number ≡ length (steps s) = c.in_default.ensures.over.1 ∙ ap (λ r. length (steps r)) so.of in
+    record {
+      same_settings = so.between.same_settings;
+      same_numbers = so.between.same_numbers;
+      same_openings = so.between.same_openings;
+      ended = (
+        c.loop-end.fronts.number,
+        (
+          ends_last s publisher c.args.members.now are c.loop-end.fronts.number c.loop-end.members so.between _ _ so.stands all,
+          used_last s publisher c.args.members.now are c.loop-end.fronts.number c.loop-end.members so.between _ _ so.stands all,
+        ),
+      );
+      lanes_setting = so.lanes_setting;
+      lanes_actors = so.lanes_actors;
+    }
