@@ -1,7 +1,7 @@
 // Words of four streams side by side: each word of the state is a vector with a lane a stream.
 
 ghost use Rattle.std.specs.Prelude.{◌≡◌, ℕ, ◌+◌, ◌*◌, ◌/◌, ◌%◌, ◌^◌, ◌<◌, slice_index};
-ghost use Rattle.rand_chacha.specs.Block.{add32, xor_rotate, quarter_round, column_round, diagonal_round, initial_state};
+ghost use Rattle.rand_chacha.specs.Block.{add32, xor_rotate, quarter_round, column_round, diagonal_round, double_rounds, initial_state};
 ghost use Rattle.rand_chacha.specs.ChaCha.{word_at};
 ghost use Rattle.rand_chacha.specs.Lanes.{lane};
 
@@ -116,16 +116,53 @@ fn initial_states(key: &[u32; 8], block: u64, streams: [u64; 4]) -> [u32x4; 16]
     ]
 }
 
+// The states of four streams after the rounds.
+#[inline(always)]
+fn rounds(first: [u32x4; 16]) -> [u32x4; 16]
+    ensures { (j : ℕ) → j < 4 → lane j result ≡ double_rounds 4 (lane j first) }
+{
+    let mut x = first;
+    'rounds: for _round in 0..4u32 {
+        x = diagonal_round(column_round(x));
+    }
+    x
+}
+
+// One word of a block of four streams, of which the states before and after the rounds are given.
+#[inline(always)]
+fn word(first: &[u32x4; 16], last: &[u32x4; 16], k: usize) -> [u32; 4]
+    requires { k < 16 }
+    ensures { (j : ℕ) → j < 4 → slice_index result j
+        ≡ add32 (slice_index (lane j last.now) k) (slice_index (lane j first.now) k) }
+{
+    add(last[k], first[k]).to_array()
+}
+
 /// The words of four streams at one place.
 pub fn words(key: &[u32; 8], place: u64, streams: [u64; 4]) -> [u32; 4]
     ensures { (j : ℕ) → j < 4
         → slice_index result j ≡ word_at 4 key.now (slice_index streams j) place }
 {
     let first = initial_states(key, place / 16, streams);
-    let mut x = first;
-    'rounds: for _round in 0..4u32 {
-        x = diagonal_round(column_round(x));
+    let last = rounds(first);
+    word(&first, &last, (place % 16) as usize)
+}
+
+/// The words of four streams at two places. Those of one block take one computation.
+pub fn pairs(key: &[u32; 8], places: (u64, u64), streams: [u64; 4]) -> ([u32; 4], [u32; 4])
+    ensures first { (j : ℕ) → j < 4
+        → slice_index result.0 j ≡ word_at 4 key.now (slice_index streams j) places.0 }
+    ensures second { (j : ℕ) → j < 4
+        → slice_index result.1 j ≡ word_at 4 key.now (slice_index streams j) places.1 }
+{
+    let (one, other) = places;
+    if one / 16 != other / 16 {
+        return (words(key, one, streams), words(key, other, streams));
     }
-    let k = (place % 16) as usize;
-    add(x[k], first[k]).to_array()
+    let first = initial_states(key, one / 16, streams);
+    let last = rounds(first);
+    (
+        word(&first, &last, (one % 16) as usize),
+        word(&first, &last, (other % 16) as usize),
+    )
 }

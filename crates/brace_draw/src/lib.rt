@@ -76,6 +76,36 @@ fn millionths(word: u32) -> i64
     (u64::from(word) * 1_000_000 / 4_294_967_296) as i64
 }
 
+#[inline(always)]
+fn all_millionths(words: [u32; 4]) -> [i64; 4]
+    ensures { (j : ℕ) → j < 4
+        → slice_index_or result j (pos 0) ≡ pos (slice_index words j * 1000000 / 2 ^ 32) }
+{
+    let [w0, w1, w2, w3] = words;
+    [
+        millionths(w0),
+        millionths(w1),
+        millionths(w2),
+        millionths(w3),
+    ]
+}
+
+// Four agents from a place of the list on; past its end they are the last one.
+#[inline(always)]
+fn four_from(ids: &[u64], i: usize) -> [u64; 4]
+    requires { i < length ids.now }
+    ensures { (j : ℕ) → i + j < length ids.now → j < 4
+        → slice_index result j ≡ slice_index ids.now (i + j) }
+{
+    let last = ids.len() - 1;
+    [
+        ids[i],
+        ids[last.min(i + 1)],
+        ids[last.min(i + 2)],
+        ids[last.min(i + 3)],
+    ]
+}
+
 impl Drawer {
     /// The draws of a seed.
     pub fn make(seed: u64) -> Drawer
@@ -117,7 +147,34 @@ impl Drawer {
         }
     }
 
-    // The draws of four agents from a place of the list on; past its end they are the last one's.
+    /// The draws of many agents at two sites of a tick, those of a site as `column` gives them. Two
+    /// sites of one block, which has 16, take one computation. The tick is at most 2^32.
+    pub fn columns(
+        &self,
+        tick: u64,
+        sites: (u32, u32),
+        ids: &[u64],
+        first: &mut [i64],
+        second: &mut [i64],
+    )
+        requires tick { tick ≤ 2 ^ 32 }
+        requires places { (length first.old ≡ length ids.now) × (length second.old ≡ length ids.now) }
+        ensures first { first.new
+            ≡ map (λ id. pos (draw_value self.now.seed tick id sites.0)) ids.now }
+        ensures second { second.new
+            ≡ map (λ id. pos (draw_value self.now.seed tick id sites.1)) ids.now }
+    {
+        let mut values = ([0; 4], [0; 4]);
+        'agents: for i in 0..ids.len() {
+            if i % 4 == 0 {
+                values = self.four_twice(tick, sites, ids, i);
+            }
+            first[i] = values.0[i % 4];
+            second[i] = values.1[i % 4];
+        }
+    }
+
+    // The draws of four agents from a place of the list on.
     #[tactic(auto, unfolding(crate::specs::Draw::draw_word))]
     fn four(&self, tick: u64, site: u32, ids: &[u64], i: usize) -> [i64; 4]
         requires tick { tick ≤ 2 ^ 32 }
@@ -126,20 +183,30 @@ impl Drawer {
             → slice_index_or result j (pos 0)
             ≡ pos (draw_value self.now.seed tick (slice_index ids.now (i + j)) site) }
     {
-        let last = ids.len() - 1;
-        let agents = [
-            ids[i],
-            ids[last.min(i + 1)],
-            ids[last.min(i + 2)],
-            ids[last.min(i + 3)],
-        ];
-        let [w0, w1, w2, w3] = lanes::words(&self.key, place_of(tick, site), agents);
-        [
-            millionths(w0),
-            millionths(w1),
-            millionths(w2),
-            millionths(w3),
-        ]
+        all_millionths(lanes::words(&self.key, place_of(tick, site), four_from(ids, i)))
+    }
+
+    // The draws of four agents from a place of the list on, at two sites.
+    #[tactic(auto, unfolding(crate::specs::Draw::draw_word))]
+    fn four_twice(
+        &self,
+        tick: u64,
+        sites: (u32, u32),
+        ids: &[u64],
+        i: usize,
+    ) -> ([i64; 4], [i64; 4])
+        requires tick { tick ≤ 2 ^ 32 }
+        requires within { i < length ids.now }
+        ensures first { (j : ℕ) → i + j < length ids.now → j < 4
+            → slice_index_or result.0 j (pos 0)
+            ≡ pos (draw_value self.now.seed tick (slice_index ids.now (i + j)) sites.0) }
+        ensures second { (j : ℕ) → i + j < length ids.now → j < 4
+            → slice_index_or result.1 j (pos 0)
+            ≡ pos (draw_value self.now.seed tick (slice_index ids.now (i + j)) sites.1) }
+    {
+        let places = (place_of(tick, sites.0), place_of(tick, sites.1));
+        let (first, second) = lanes::pairs(&self.key, places, four_from(ids, i));
+        (all_millionths(first), all_millionths(second))
     }
 
     #[tactic(auto, unfolding(crate::specs::Draw::draw_word))]

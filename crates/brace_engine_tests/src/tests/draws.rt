@@ -67,3 +67,38 @@ fn a_column_is_what_single_draws_give(rt: HostRuntime) {
         }
     }
 }
+
+#[test]
+fn columns_of_two_sites_are_what_single_draws_give(rt: HostRuntime) {
+    let ids: [u64; 6] = [0, 3, 4294967296, 18446744073709551615, 77, 78];
+    let mut drawer = Drawer::make(42);
+    for (tick, sites) in [
+        // Of one block, rising and falling, and one site twice.
+        (7, (0, 5)),
+        (0, (31, 16)),
+        (7, (3, 3)),
+        // Of two blocks.
+        (7, (15, 16)),
+        (7, (1, 17)),
+        (4294967296, (4294967295, 0)),
+    ] {
+        for count in 0..7 {
+            let mut first = [-1; 6];
+            let mut second = [-1; 6];
+            drawer.columns(
+                tick,
+                sites,
+                &ids[0..count],
+                &mut first[0..count],
+                &mut second[0..count],
+            );
+            for i in 0..count {
+                assert_eq!(rt; first[i], drawer.draw(tick, ids[i], sites.0));
+                assert_eq!(rt; second[i], drawer.draw(tick, ids[i], sites.1));
+            }
+            for i in count..6 {
+                assert_eq!(rt; (first[i], second[i]), (-1, -1));
+            }
+        }
+    }
+}
