@@ -12,7 +12,7 @@ ghost use Rattle.brace_code.specs.Columns.{seen, Sees, Maps, Pairs};
 
 use crate::lane::Redo;
 use crate::operations::{fixed_product, fixed_quotient, flag, short_quotient};
-use crate::view::View;
+use crate::view::{View, are_within};
 use brace_model::{BinOp, Ty, UnOp};
 use brace_num::{Kind, List, int_rem, sqrt, to_fixed, trunc};
 use std::alloc::Global;
@@ -92,11 +92,12 @@ fn row_pairs<F: Fn(i64, i64) -> (i64, bool)>(
         (slice_index_or column.now (slice_index_or rows.now k 0) (pos 0))
         (slice_index_or a.new k (pos 0), false)) }
 {
+    if !are_within(rows, column.len()) {
+        return Err(Redo);
+    }
     let mut failed = false;
     for (k, x) in a.iter_mut().enumerate() {
-        let Some(other) = column.get(rows[k] as usize).copied() else {
-            return Err(Redo);
-        };
+        let other = column[rows[k] as usize];
         let (word, fails) = op(*x, other);
         *x = word;
         failed |= fails;
@@ -409,12 +410,12 @@ fn gather(alloc: Global, column: &[i64], rows: &[u32]) -> Result<List<i64>, Redo
     ensures within { IfOk result (λ _. (k : ℕ) → k < length rows.now
         → slice_index_or rows.now k 0 < length column.now) }
 {
+    if !are_within(rows, column.len()) {
+        return Err(Redo);
+    }
     let mut words = Vec::with_capacity(alloc, rows.len())?;
     for row in rows {
-        let Some(word) = column.get(*row as usize).copied() else {
-            return Err(Redo);
-        };
-        words.push_reserved(word);
+        words.push_reserved(column[*row as usize]);
     }
     Ok(List::from_vec(words))
 }

@@ -2,6 +2,7 @@ ghost use Rattle.std.specs.Prelude.{◌≡◌, ◌<◌, ◌≤◌, ◌+◌, ◌�
 ghost use Rattle.brace_code.specs.Columns.{AreMerged, AreNumbers, ArePut, IsSide, Puts, same_word, side};
 
 use crate::lane::Redo;
+use crate::view::are_within;
 use brace_num::List;
 use std::alloc::Global;
 
@@ -32,8 +33,23 @@ fn on_side(set: bool, word: i64) -> bool
     (word != 0) == set
 }
 
-/// The numbers of the lanes whose word is set, or of those whose word is 0.
+/// Puts the numbers of the lanes on a side in front, and tells how many they are.
+// Inlined where the side is known, so that the loop does not ask for it.
+#[inline(always)]
 #[tactic(auto, using(crate::proofs::LaneLemmas::number_rules))]
+fn put_numbers(out: &mut [u32], set: bool, test: &[i64], count: u32) -> usize
+    requires count { count ≡ length test.now }
+    requires long { length out.old ≡ length test.now }
+    ensures { AreNumbers set test.now (length test.now) (take result out.new) }
+{
+    let mut place = 0;
+    for k in 0..count {
+        place = put_kept(out, place, k, on_side(set, test[k as usize]));
+    }
+    place
+}
+
+/// The numbers of the lanes whose word is set, or of those whose word is 0.
 pub fn numbers(alloc: Global, set: bool, test: &List<i64>) -> Result<List<u32>, Redo>
     ensures { IfOk result (AreNumbers set test.now (length test.now)) }
 {
@@ -42,10 +58,11 @@ pub fn numbers(alloc: Global, set: bool, test: &List<i64>) -> Result<List<u32>, 
         return Err(Redo);
     };
     let mut out = vec![in alloc; 0u32; test.len()]?;
-    let mut place = 0;
-    for k in 0..count {
-        place = put_kept(&mut out, place, k, on_side(set, test[k as usize]));
-    }
+    let place = if set {
+        put_numbers(&mut out, true, test, count)
+    } else {
+        put_numbers(&mut out, false, test, count)
+    };
     out.truncate(place);
     Ok(List::from_vec(out))
 }
@@ -59,12 +76,11 @@ fn put_each(out: &mut [i64], numbers: &[u32], words: &[i64]) -> Result<(), Redo>
     if words.len() != numbers.len() {
         return Err(Redo);
     }
+    if !are_within(numbers, out.len()) {
+        return Err(Redo);
+    }
     for (k, number) in numbers.iter().enumerate() {
-        let place = *number as usize;
-        if place >= out.len() {
-            return Err(Redo);
-        }
-        out[place] = words[k];
+        out[*number as usize] = words[k];
     }
     Ok(())
 }

@@ -62,16 +62,23 @@ impl<'a> View<'a> {
     }
 }
 
+/// The highest of some rows; 0 where there is none.
+fn highest(rows: &[u32]) -> u32
+    ensures { (k : ℕ) → k < length rows.now → slice_index_or rows.now k 0 ≤ result }
+{
+    let mut highest = 0;
+    for row in rows {
+        highest = highest.max(*row);
+    }
+    highest
+}
+
 /// Whether each of some rows is one of so many.
 pub fn are_within(rows: &[u32], count: usize) -> bool
     ensures { IsTrue result → (k : ℕ) → k < length rows.now
         → slice_index_or rows.now k 0 < count }
 {
-    let mut within = true;
-    for row in rows {
-        within &= (*row as usize) < count;
-    }
-    within
+    rows.is_empty() || (highest(rows) as usize) < count
 }
 
 /// Whether a view has a word for each of so many lanes.

@@ -1,4 +1,4 @@
-use Rattle.std.proofs.Common.{◌≡◌, ◌∙◌, ◌<◌, sym, pos, false, arith, rules, length, slice_index_or, to_z, of_z, w64}
+use Rattle.std.proofs.Common.{◌≡◌, ◌∙◌, ◌<◌, pos, false, arith, rules, length, slice_index_or, to_z, of_z, w64}
 use Rattle.brace_code.proofs.KernelLemmas.{made_more}
 use Rattle.brace_code.proofs.kernels.row_pairs.Given.{the-over}
 use Rattle.brace_code.proofs.kernels.row_pairs.Goals as goal
@@ -11,22 +11,20 @@ loop-k-preserved g c =
     let k = c.loop-k.k in
     let rows = c.args.rows.now in
     let column = c.args.column.now in
-    let other = c.in-Some.other in
+    let other = slice_index_or column (slice_index_or rows k 0) (pos 0) in
     let made = c.op-word.result.0 in
     let within : k < length a = search rules in
     let first = slice_index_or a k (pos 0) in
-    let read : slice_index_or column (slice_index_or rows k 0) (pos 0) ≡ other = search rules in
     let x : to_z w64 (of_z w64 first) ≡ first = search rules in
     let y : to_z w64 (of_z w64 other) ≡ other = search rules in
     let word : to_z w64 (of_z w64 made) ≡ made = search rules in
     record {
-      sees = search rules;
       done = λ quiet.
           let was : c.loop-k.failed ≡ false = search rules in
           let now : c.op-word.result.1 ≡ false = search rules in
           made_more (λ x y w fails. goal.F-post given c.args.op x y (w, fails)) c.args.a.now
           (λ k. slice_index_or column (slice_index_or rows k 0) (pos 0)) a k _ _ made _
           c.op-word.result.1 within (c.loop-k.invariant.done was) c.op-word.ensures
-          (x ∙ c.loop-k.invariant.left k (omega arith)) (y ∙ sym read) word now;
+          (x ∙ c.loop-k.invariant.left k (omega arith)) y word now;
       left = search rules;
     }

@@ -1,6 +1,0 @@
-use Rattle.std.proofs.Common.{◌≡◌, ◌<◌, ℕ, true, slice_index_or}
-use Rattle.brace_code.proofs.view.are_within.Given as goal
-
-abbrev pub invariant-loop-row : goal.invariant-loop-row
-invariant-loop-row l = l.within ≡ true → (k : ℕ) → k < l.row-index
-    → slice_index_or l.rows k 0 < l.count
