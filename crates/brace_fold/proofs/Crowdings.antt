@@ -1,5 +1,5 @@
 -- Crowds: their parts, and a constant that is set.
-use Rattle.std.proofs.Common.{◌≡◌, ◌∙◌, refl, sym, ap, ap₂, subst, ℕ, zero, suc, ◌+◌, ◌<◌, ◌≤◌, ℤ, pos, List, [], ◌∷◌, ◌++◌, append_assoc, map, length, take, drop, replicate, get_or, set, Bool, true, false, Some, arith, slice_get, ⊎_elim}
+use Rattle.std.proofs.Common.{◌≡◌, ◌∙◌, refl, sym, ap, ap₂, subst, ℕ, zero, suc, ◌+◌, ◌<◌, ◌≤◌, ℤ, pos, List, [], ◌∷◌, ◌++◌, append_assoc, map, length, take, drop, replicate, get_or, set, Bool, true, false, Some, None, arith, slice_get, Option, ⊎_elim}
 use Rattle.std.specs.Prelude.{if◌then◌else◌}
 use Rattle.std.specs.List.{All}
 use Rattle.std.proofs.lemmas.Bool.{cases_eq}
@@ -26,10 +26,11 @@ use Rattle.brace_plan.specs.Planning.{opening_of}
 use Rattle.brace_fold.specs.declared.askers.Asker.{Asker}
 use Rattle.brace_fold.specs.declared.crowd.Crowd.{Crowd}
 use Rattle.brace_fold.specs.declared.crowd.Depth.{Depth}
+use Rattle.brace_fold.specs.declared.crowd.Stretch.{Stretch}
 use Rattle.brace_fold.specs.declared.crowd.Depth.TheVariants.{Outside}
 use Rattle.brace_fold.specs.declared.scene.Scene.{Scene}
 use Rattle.brace_fold.specs.inner.Asks.{openings, rows_of}
-use Rattle.brace_fold.specs.inner.Crowds.{Stands, IsLane, IsLocal, IsOf, AreOf, IsGathered, AreGathered, AreNumbered, IsOfClass, asking_at, placed_at, bound_to, chosen, rows}
+use Rattle.brace_fold.specs.inner.Crowds.{Stands, AreStretches, IsLane, IsLocal, IsOf, AreOf, IsGathered, AreGathered, AreNumbered, IsOfClass, asking_at, placed_at, bound_to, chosen, rows}
 use Rattle.brace_fold.proofs.Evals.{at-mapped}
 
 pub got-mapped : {A B : Type 0} (f : A → B) (xs : List A) (p : ℕ) (d : A) (e : B) → p < length xs → get_or (map f xs) p e ≡ f (get_or xs p d)
@@ -119,10 +120,31 @@ module _ (scene : Scene) (depth : Depth) (scopes kids : List Scope) (lanes : Lis
         same ∙ local.each (get_or lanes k none).place (get_or kids k s) inside ∙ ap (λ (l : List Value). number (value_at l n)) (sym at.locals);
   }
 
+-- the stretches of lanes whose rows This are the same
+stretched : (lanes out : List Lane) (stretches : Option (List Stretch))
+    → map (λ (l : Lane). l.this) lanes ≡ map (λ (l : Lane). l.this) out
+    → AreStretches lanes stretches → AreStretches out stretches
+stretched lanes out None same known = tt
+stretched lanes out (Some s) same known = known ∙ same
+
+-- the rows This of lanes that were numbered
+this-numbered : (lanes out : List Lane) → AreNumbered lanes out
+    → map (λ (l : Lane). l.this) lanes ≡ map (λ (l : Lane). l.this) out
+this-numbered lanes out h =
+    let this : Lane → ℕ = λ l. l.this in
+    ext_get_or 0 (map this lanes) (map this out)
+    (length-map lanes this ∙ sym h.long ∙ sym (length-map out this))
+    (λ k low.
+    let within : k < length lanes = omega (arith, low, length-map lanes this) in
+    got-mapped this lanes k none 0 within
+    ∙ sym (ap this (h.each k none within))
+    ∙ sym (got-mapped this out k none 0 (omega (arith, within, h.long))))
+
 pub part-stands : (scene : Scene) (crowd part : Crowd) (scopes kids : List Scope) (lanes : List Lane)
     → AreNumbered lanes part.lanes → AreGathered lanes crowd.locals.items part.locals.items → Stands scene crowd scopes
-    → AreOf scene part.depth scopes lanes kids → Stands scene part kids
-part-stands scene crowd part scopes kids lanes numbered gathered stands of =
+    → AreOf scene part.depth scopes lanes kids → AreStretches lanes part.stretches
+    → Stands scene part kids
+part-stands scene crowd part scopes kids lanes numbered gathered stands of known =
     let long : length lanes ≡ length kids = of-long scene part.depth scopes lanes kids of in
     record {
       long = numbered.long ∙ long;
@@ -138,6 +160,8 @@ part-stands scene crowd part scopes kids lanes numbered gathered stands of =
           ap (λ (l : List Value). length l) at.locals
           ∙ stands.room (get_or lanes k none).place (get_or kids k s) at.within
           ∙ sym gathered.long;
+      stretches = stretched lanes part.lanes part.stretches
+          (this-numbered lanes part.lanes numbered) known;
     }
 
 -- one column more is gathered
@@ -265,7 +289,9 @@ module _ (n : ℕ) (type : Ty) where
   bound-at (x ∷ scopes) (w ∷ words) e (suc k) s low = bound-at scopes words (omega (arith, e)) k s (omega (arith, low))
 
 module _ (scene : Scene) (old new : Crowd) (n : ℕ) (type : Ty) (scopes : List Scope) (words column : List ℤ)
-    (depth : new.depth ≡ old.depth) (lanes : new.lanes ≡ old.lanes) (locals : new.locals.items ≡ set old.locals.items n column)
+    (depth : new.depth ≡ old.depth) (lanes : new.lanes ≡ old.lanes)
+    (known : new.stretches ≡ old.stretches)
+    (locals : new.locals.items ≡ set old.locals.items n column)
     (low : n < length old.locals.items) (is : column ≡ map (λ w. number (typed type w)) words)
     (long : length words ≡ length scopes) (stands : Stands scene old scopes) where
   abbrev kids : List Scope
@@ -335,6 +361,8 @@ module _ (scene : Scene) (old new : Crowd) (n : ℕ) (type : Ty) (scopes : List 
         ∙ length-set (get_or scopes k s).locals n (value_of k)
         ∙ stands.room k s within
         ∙ sym (ap length locals ∙ length-set old.locals.items n column);
+    stretches = subst (AreStretches new.lanes) (sym known)
+        (subst (λ (l : List Lane). AreStretches l old.stretches) (sym lanes) stands.stretches);
   }
 
 -- ---- agents that ask
@@ -380,9 +408,9 @@ of-class-more agents class asking i d low here before =
 pub opening-stands : (scene : Scene) (crowd : Crowd) (class constants : ℕ) (places : List ℕ)
     (d : Agent)
     → crowd.depth ≡ Outside → AreNumbered (map asking_at places) crowd.lanes
-    → crowd.locals.items ≡ replicate constants []
+    → crowd.locals.items ≡ replicate constants [] → crowd.stretches ≡ None
     → All (IsOfClass (rows scene) class) places → Stands scene crowd (openings scene constants d places)
-opening-stands scene crowd class constants places d depth numbered locals all =
+opening-stands scene crowd class constants places d depth numbered locals unknown all =
     let opens : ℕ → Scope = λ place. opening_of constants scene.seed scene.tick (get_or (rows scene) place d) in
     let many : length (map asking_at places) ≡ length places = length-map places asking_at in
     let scopes_many : length (map opens places) ≡ length places = length-map places opens in
@@ -416,4 +444,5 @@ opening-stands scene crowd class constants places d depth numbered locals all =
           ap (λ (t : Scope). length t.locals) (got-mapped opens places k 0 s within)
           ∙ length-replicate constants no_value
           ∙ sym (ap length locals ∙ length-replicate {A = List ℤ} constants []);
+      stretches = subst (AreStretches crowd.lanes) (sym unknown) tt;
     }

@@ -1,9 +1,9 @@
 -- Draws, as they were made and as lanes read them.
-use Rattle.std.proofs.Common.{◌≡◌, ◌∙◌, refl, sym, ap, ℕ, ℤ, pos, List, [], ◌∷◌, map, Bool, true, false, Some}
+use Rattle.std.proofs.Common.{◌≡◌, ◌∙◌, refl, sym, ap, ℕ, ℤ, pos, List, [], ◌∷◌, ◌++◌, subst, map, Bool, true, false, Some}
 use Rattle.std.specs.Prelude.{◌==◌, if◌then◌else◌}
 use Rattle.std.specs.List.{All}
 use Rattle.std.proofs.lemmas.Bool.{eqb-true}
-use Rattle.std.proofs.lemmas.List.Elements.{All-head, All-tail}
+use Rattle.std.proofs.lemmas.List.Elements.{All-append, All-cons, All-head, All-nil, All-tail}
 use Rattle.std.proofs.lemmas.Option.{none-some, same_Some}
 use Rattle.brace_draw.specs.Draw.{draw_value}
 use Rattle.brace_model.specs.declared.world.Agent.{Agent}
@@ -25,6 +25,12 @@ drawn-of seed tick agents drawn s site ids seed_is ids_are site_is words =
     ∙ ap (map (λ id. pos (draw_value seed tick id site))) ids_are
     ∙ mapped (λ (a : Agent). a.id) (λ id. pos (draw_value seed tick id site)) agents
     ∙ ap (λ (n : ℕ). map (λ (a : Agent). pos (draw_value seed tick a.id n)) agents) (sym site_is)
+
+-- what holds of each of a list, and of one more
+pub and-one : (P : Drawn → Type 0) (all new : List Drawn) (x : Drawn) → new ≡ all ++ x ∷ []
+    → All P all → P x → All P new
+and-one P all new x is each holds =
+    subst (All P) (sym is) (All-append P all (x ∷ []) each (All-cons P x [] holds (All-nil P)))
 
 module _ (seed tick : ℕ) (agents : List Agent) where
   abbrev column_at : ℕ → List ℤ

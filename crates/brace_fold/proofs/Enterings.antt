@@ -3,7 +3,7 @@ use Rattle.std.proofs.Common.{◌≡◌, ◌∙◌, refl, sym, ap, ap₂, subst,
 use Rattle.std.specs.Prelude.{is_none, if◌then◌else◌, replicate}
 use Rattle.std.proofs.lemmas.Bool.{cases_lt}
 use Rattle.std.proofs.lemmas.Grind.{flat_map-append}
-use Rattle.std.proofs.lemmas.List.{get_or_append_left, get_or-append_right, get_or_default, get_or-drop, get_or-map, get_or-replicate, get_or-take, length-append, length-drop, length-map, length-replicate, length-take-le, take_all, take_more}
+use Rattle.std.proofs.lemmas.List.{get_or_append_left, get_or-append_right, get_or_default, get_or-drop, get_or-map, get_or-replicate, get_or-take, length-append, length-drop, length-map, length-replicate, length-take-le, map-append, take_all, take_more}
 use Rattle.std.proofs.lemmas.List.FromFn.{fill_by_all}
 use Rattle.std.proofs.lemmas.Option.{get_or_from_slice_get, slice_get_within}
 use Rattle.brace_model.specs.declared.world.Agent.{Agent}
@@ -20,10 +20,11 @@ use Rattle.brace_plan.specs.declared.action.Bound.{Bound}
 use Rattle.brace_plan.specs.Acts.{near_by}
 use Rattle.brace_fold.specs.declared.crowd.Crowd.{Crowd}
 use Rattle.brace_fold.specs.declared.crowd.Depth.{Depth}
+use Rattle.brace_fold.specs.declared.crowd.Stretch.{Stretch}
 use Rattle.brace_fold.specs.declared.crowd.Depth.TheVariants.{Outside, Once, Twice}
 use Rattle.brace_fold.specs.declared.gathering.Entered.{Entered}
 use Rattle.brace_fold.specs.declared.scene.Scene.{Scene}
-use Rattle.brace_fold.specs.inner.Crowds.{AreOf, IsIn, IsLane, IsOf, Stands, deeper, entered, has_outer, lanes_inside, rows}
+use Rattle.brace_fold.specs.inner.Crowds.{AreOf, IsIn, IsLane, IsOf, Stands, deeper, entered, has_outer, lanes_inside, rows, spread}
 use Rattle.brace_fold.specs.inner.Deeds.{between, into}
 use Rattle.brace_fold.proofs.Crowdings.{of-append}
 use Rattle.brace_fold.proofs.Sayings.{nowhere}
@@ -97,6 +98,36 @@ module _ (scene : Scene) (depth : Depth) (scopes : List Scope) (lane : Lane) (k 
       let here : slice_get (rows scene) p ≡ Some b = cc in
       let rest : map (slice_get (rows scene)) near ≡ map Some found = cc in
       (entered-of p b here, entered-all near found rest)
+
+-- the agent This of lanes inside a loop is that of the lane outside
+all-this : (depth : Depth) (lane : Lane) (near : List ℕ)
+    → map (λ (l : Lane). l.this) (map (entered depth lane) near) ≡ replicate (length near) lane.this
+all-this depth lane [] = refl
+all-this Outside lane (row ∷ near) = ap (λ l. lane.this ∷ l) (all-this Outside lane near)
+all-this Once lane (row ∷ near) = ap (λ l. lane.this ∷ l) (all-this Once lane near)
+all-this Twice lane (row ∷ near) = ap (λ l. lane.this ∷ l) (all-this Twice lane near)
+
+-- one stretch more
+pub stretch_more : (before : List Stretch) (s : Stretch)
+    → spread (before ++ s ∷ []) ≡ spread before ++ replicate s.count s.row
+stretch_more before s =
+    flat_map-append (λ (x : Stretch). replicate x.count x.row) before (s ∷ [])
+    ∙ ap (λ l. spread before ++ l) (append-nil (replicate s.count s.row))
+
+-- a loop's step: one more stretch is that of the lanes that it adds
+pub stretches-more : (depth : Depth) (lane : Lane) (old new : List Lane) (near : List ℕ) (n : ℕ)
+    (before after : List Stretch)
+    → spread before ≡ map (λ (l : Lane). l.this) old
+    → spread after ≡ spread before ++ replicate n lane.this → length near ≡ n
+    → new ≡ old ++ map (entered depth lane) near
+    → spread after ≡ map (λ (l : Lane). l.this) new
+stretches-more depth lane old new near n before after had is long new_is =
+    let this : Lane → ℕ = λ l. l.this in
+    is
+    ∙ ap₂ (λ l (m : ℕ). l ++ replicate m lane.this) had (sym long)
+    ∙ ap (λ l. map this old ++ l) (sym (all-this depth lane near))
+    ∙ sym (map-append this old (map (entered depth lane) near))
+    ∙ ap (map this) (sym new_is)
 
 -- one more of the elements from a place on
 pub between-more : {A : Type 0} (from next : ℕ) (xs : List A) (d : A) → from ≤ next → next < length xs

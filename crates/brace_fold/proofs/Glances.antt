@@ -1,5 +1,5 @@
 -- A glance at the columns of one class shows what an eye finds.
-use Rattle.std.proofs.Common.{◌≡◌, ◌∙◌, refl, sym, ap, subst, arith, ℕ, ◌+◌, ◌-◌, ◌<◌, ◌≤◌, ℤ, pos, Bool, true, false, not, ◌&&◌, if◌then◌else◌, List, [], ◌∷◌, ◌++◌, length, map, take, drop, get_or, slice_get, Some}
+use Rattle.std.proofs.Common.{◌≡◌, ◌∙◌, refl, sym, ap, subst, arith, ℕ, ◌+◌, ◌-◌, ◌<◌, ◌≤◌, ℤ, pos, Bool, true, false, not, ◌&&◌, if◌then◌else◌, List, [], ◌∷◌, ◌++◌, append_assoc, length, map, take, drop, get_or, slice_get, Some}
 use Rattle.std.specs.Prelude.{◌==◌, is_some}
 use Rattle.std.proofs.lemmas.Bool.{eq-eqb}
 use Rattle.std.proofs.lemmas.List.{get_or-drop, get_or-map, length-drop, length-map}
@@ -15,9 +15,9 @@ use Rattle.brace_fold.specs.declared.scene.Scene.{Scene}
 use Rattle.brace_fold.specs.declared.seeing.Eye.{Eye}
 use Rattle.brace_fold.specs.inner.Crowds.{IsScene, rows}
 use Rattle.brace_fold.specs.inner.Deeds.{between}
-use Rattle.brace_fold.specs.inner.Glances.{AreShown, HasRows, IsGlance, IsShown, eye_at}
+use Rattle.brace_fold.specs.inner.Glances.{AreShown, HasRows, IsGlance, IsShown, eye_at, kept, near_at}
 use Rattle.brace_fold.specs.inner.Sights.{found_in, is_found}
-use Rattle.brace_fold.proofs.Looks.{found_more}
+use Rattle.brace_fold.proofs.Looks.{found_more, joined}
 use Rattle.brace_fold.proofs.Sayings.{nowhere}
 use Rattle.brace_fold.proofs.Taking.{by_some, place_is}
 
@@ -79,6 +79,43 @@ scans_more eye xs ys spots start row written x y seen front before after d shown
     so_far
     ∙ ap (λ n. front ++ found_in eye [] (take n (drop start spots)))
     (let e : row - start + 1 ≡ row + 1 - start = omega (arith, le) in e)
+
+-- a loop's step: those of four rows written that are near
+pub scans_four : (eye : Eye) (xs ys : List ℤ) (spots : List Spot) (start row : ℕ)
+    (front before after : List ℕ) (d : Spot) → AreShown eye.class xs ys spots → start ≤ row
+    → row + 4 ≤ length xs
+    → after ≡ before
+    ++ (kept (near_at eye xs ys (row + 0)) (row + 0)
+    ++ (kept (near_at eye xs ys (row + 1)) (row + 1)
+    ++ (kept (near_at eye xs ys (row + 2)) (row + 2)
+    ++ kept (near_at eye xs ys (row + 3)) (row + 3))))
+    → before ≡ front ++ found_in eye [] (between start row spots)
+    → after ≡ front ++ found_in eye [] (between start (row + 4) spots)
+scans_four eye xs ys spots start row front before after d shown le low is so_far =
+    let found : ℕ → List ℕ = λ n. front ++ found_in eye [] (between start n spots) in
+    let one : ℕ → List ℕ = λ n. kept (near_at eye xs ys n) n in
+    let more : (n : ℕ) (old : List ℕ) → start ≤ n → n < length xs → old ≡ found n
+    → old ++ one n ≡ found (n + 1) = λ n old from within found_old.
+    scans_more eye xs ys spots start n n (get_or xs n (pos 0)) (get_or ys n (pos 0))
+    (near_at eye xs ys n) front old (old ++ one n) d shown from within refl refl refl refl refl
+    found_old in
+    let none : before ≡ found (row + 0) =
+    so_far ∙ ap found (let e : row ≡ row + 0 = omega arith in e) in
+    let first : before ++ one (row + 0) ≡ found (row + 1) =
+    more (row + 0) before (omega (arith, le)) (omega (arith, low)) none
+    ∙ ap found (let e : row + 0 + 1 ≡ row + 1 = omega arith in e) in
+    let second : (before ++ one (row + 0)) ++ one (row + 1) ≡ found (row + 2) =
+    more (row + 1) _ (omega (arith, le)) (omega (arith, low)) first
+    ∙ ap found (let e : row + 1 + 1 ≡ row + 2 = omega arith in e) in
+    let third : ((before ++ one (row + 0)) ++ one (row + 1)) ++ one (row + 2) ≡ found (row + 3) =
+    more (row + 2) _ (omega (arith, le)) (omega (arith, low)) second
+    ∙ ap found (let e : row + 2 + 1 ≡ row + 3 = omega arith in e) in
+    is
+    ∙ sym (append_assoc before (one (row + 0))
+    (one (row + 1) ++ (one (row + 2) ++ one (row + 3))))
+    ∙ sym (joined (before ++ one (row + 0)) (one (row + 1)) (one (row + 2)) (one (row + 3)))
+    ∙ more (row + 3) _ (omega (arith, le)) (omega (arith, low)) third
+    ∙ ap found (let e : row + 3 + 1 ≡ row + 4 = omega arith in e)
 
 -- where a program has one class, its columns show where all agents are
 module _ (scene : Scene) (is : IsScene scene) (own : Class)

@@ -17,6 +17,7 @@ pub mod Merging
 pub mod Counting
 pub mod Risings
 pub mod Looks
+pub mod Fours
 pub mod Glances
 pub mod Spans
 pub mod Taking
@@ -30,6 +31,7 @@ pub mod RenewLemmas
 pub mod RowLemmas
 pub mod Spottings
 pub mod MoveLemmas
+pub mod Pickings
 pub mod Bringings
 pub mod Survivings
 pub mod Ownings

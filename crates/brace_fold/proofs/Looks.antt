@@ -16,7 +16,7 @@ put_kept out place row true h = take_more_set out place row h
 put_kept out place row false h = rw (add-zero, append-nil) (take-set out place row)
 
 -- pieces of a list, joined from the right
-joined : (a b c d : List ℕ) → ((a ++ b) ++ c) ++ d ≡ a ++ (b ++ (c ++ d))
+pub joined : (a b c d : List ℕ) → ((a ++ b) ++ c) ++ d ≡ a ++ (b ++ (c ++ d))
 joined a b c d = append_assoc (a ++ b) c d ∙ append_assoc a b (c ++ d)
 
 module _ (eye : Eye) (cuts : List Cut) where

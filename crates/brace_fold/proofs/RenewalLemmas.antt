@@ -50,7 +50,7 @@ classes-by program own agents number has all = λ k d low.
 -- ---- some agents, and then others
 
 module _ (program : Program) (seed tick : ℕ) (said : List Saying) where
-  leaves-none : (renewed : Renewed) → LeavesSome program seed tick said [] renewed renewed
+  pub leaves-none : (renewed : Renewed) → LeavesSome program seed tick said [] renewed renewed
   leaves-none renewed = record {
     left = [];
     renews = renews-none program seed tick (row_of program said) renewed.born.items;

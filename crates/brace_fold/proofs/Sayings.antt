@@ -1,9 +1,10 @@
 -- What lanes say, joined run by run of lanes that say to one agent.
-use Rattle.std.proofs.Common.{◌≡◌, ◌∙◌, refl, sym, ap, ap₂, subst, ℕ, suc, ◌+◌, ◌<◌, ◌≤◌, ℤ, pos, List, [], ◌∷◌, ◌++◌, map, length, take, get_or, set, true, false, Some, None, arith, slice_get, Bool, Option, ◌+ℤ◌, ⊎_elim}
-use Rattle.std.specs.Prelude.{min, unwrap_or}
+use Rattle.std.proofs.Common.{◌≡◌, ◌∙◌, refl, sym, ap, ap₂, subst, ℕ, suc, ◌+◌, ◌-◌, ◌<◌, ◌≤◌, ℤ, pos, List, [], ◌∷◌, ◌++◌, append-nil, map, length, take, drop, take-append-drop, get_or, set, true, false, Some, None, arith, slice_get, Bool, Option, ◌+ℤ◌, ⊎_elim}
+use Rattle.std.specs.Prelude.{min, replicate, unwrap_or}
 use Rattle.std.proofs.lemmas.Bool.{cases_lt, true≢false}
+use Rattle.std.proofs.lemmas.Grind.{flat_map-append}
 use Rattle.std.proofs.lemmas.Int.{ints}
-use Rattle.std.proofs.lemmas.List.{get_or-map, take_all, length-map, length-take, map-append, take_more}
+use Rattle.std.proofs.lemmas.List.{drop_more, get_or_append_left, get_or-append_right, get_or-map, get_or-replicate, length-append, length-map, length-replicate, length-take, map-append, take_all, take_more}
 use Rattle.std.proofs.lemmas.List.Sums.{fold-append}
 use Rattle.std.proofs.lemmas.Option.{same_Some}
 use Rattle.brace_model.specs.declared.program.Comb.{Comb}
@@ -25,10 +26,11 @@ use Rattle.brace_comb.proofs.Joins.{fold-counted}
 use Rattle.brace_eval.specs.Heard.{effects_in}
 use Rattle.brace_fold.specs.declared.crowd.Crowd.{Crowd}
 use Rattle.brace_fold.specs.declared.crowd.Depth.{Depth}
+use Rattle.brace_fold.specs.declared.crowd.Stretch.{Stretch}
 use Rattle.brace_fold.specs.declared.saying.Ear.{Ear}
 use Rattle.brace_fold.specs.declared.scene.Scene.{Scene}
 use Rattle.brace_fold.specs.declared.table.Table.{Table}
-use Rattle.brace_fold.specs.inner.Crowds.{IsLane, IsFound, IsOfClass, IsScene, Stands, has_outer, has_inner, rows, world}
+use Rattle.brace_fold.specs.inner.Crowds.{IsLane, IsFound, IsOfClass, IsScene, Stands, has_outer, has_inner, rows, spread, world}
 use Rattle.brace_fold.specs.inner.Deeds.{between}
 use Rattle.brace_fold.specs.inner.Ears.{AreTold, IsEar, row_of, is_there, told, told_at, told_by}
 use Rattle.brace_fold.specs.Sums.{sum_at, sum_place, summed}
@@ -205,6 +207,61 @@ says-more scene who effect type scopes words these from next all place a b c hea
         ∙ told-one who effect type x (between from next scopes) (between from next words)
         (between-long from next words (subst (λ n. next ≤ n) (sym long) last) ∙ sym (between-long from next scopes last)) alone)
         (one x (agent_at from (omega arith) less))
+
+-- ---- stretches
+
+-- a stretch among others
+module _ (all : List Stretch) (i : ℕ) (d : Stretch) (low : i < length all) where
+  abbrev rows_in : Stretch → List ℕ
+  rows_in s = replicate s.count s.row
+
+  abbrev here : Stretch
+  here = get_or all i d
+
+  abbrev front_rows : List ℕ
+  front_rows = spread (take i all)
+
+  abbrev rest_rows : List ℕ
+  rest_rows = spread (drop (i + 1) all)
+
+  parts : spread all ≡ front_rows ++ (rows_in here ++ rest_rows)
+  parts =
+      ap spread (sym (take-append-drop i all) ∙ ap (λ l. take i all ++ l) (drop_more all i d low))
+      ∙ flat_map-append rows_in (take i all) (here ∷ drop (i + 1) all)
+
+  spread-next : length (spread (take (i + 1) all)) ≡ length front_rows + here.count
+  spread-next =
+      ap (λ l. length (spread l)) (take_more all i d low)
+      ∙ ap length (flat_map-append rows_in (take i all) (here ∷ [])
+      ∙ ap (λ l. front_rows ++ l) (append-nil (rows_in here)))
+      ∙ length-append front_rows (rows_in here)
+      ∙ ap (λ n. length front_rows + n) (length-replicate here.count here.row)
+
+  spread-within : length front_rows + here.count ≤ length (spread all)
+  spread-within =
+      let many = ap length parts ∙ length-append front_rows (rows_in here ++ rest_rows) in
+      let more = length-append (rows_in here) rest_rows in
+      omega (arith, many, more, length-replicate here.count here.row)
+
+  module _ (at next : ℕ) (front : at ≡ length front_rows) (ends : next ≡ at + here.count) where
+    -- its last row
+    pub stretch-next : next ≡ length (spread (take (i + 1) all))
+    stretch-next = omega (arith, front, ends, spread-next)
+
+    pub stretch-within : next ≤ length (spread all)
+    stretch-within = omega (arith, front, ends, spread-within)
+
+    -- its rows
+    pub stretch-at : (k : ℕ) → at ≤ k → k < next → get_or (spread all) k 0 ≡ here.row
+    stretch-at k le less =
+        let n = k - length front_rows in
+        let within : n < here.count = omega (arith, front, ends, le, less) in
+        ap (λ l. get_or l k 0) parts
+        ∙ get_or-append_right front_rows (rows_in here ++ rest_rows) (length front_rows) k 0 refl
+        (omega (arith, front, le))
+        ∙ get_or_append_left (rows_in here) rest_rows 0 n
+        (omega (arith, within, length-replicate here.count here.row))
+        ∙ get_or-replicate here.count n here.row 0 within
 
 -- what all lanes say
 pub says-all : (who : Who) (effect : ℕ) (type : Ty) (scopes : List Scope) (words : List ℤ) (n : ℕ) → length scopes ≤ n → length words ≡ length scopes

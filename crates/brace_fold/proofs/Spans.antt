@@ -1,27 +1,11 @@
 -- Words within a range of one, told by one comparison.
-use Rattle.std.proofs.Common.{◌≡◌, ◌∙◌, refl, sym, ap, arith, ℕ, ◌+◌, ◌-◌, ◌*◌, ◌<◌, ◌≤◌, ◌%◌, ℤ, pos, negsuc, ◌+ℤ◌, ◌-ℤ◌, ◌<ℤ◌, ◌≤ℤ◌, Bool, true, false, ◌&&◌, FitsSigned, of_z, w64, ◌⊎◌, inl, inr, ⊎_elim, nat_abs, int_le, nat_le}
-use Rattle.std.specs.Int.{cast_unsigned, int_wrapping_sub, saturate_signed}
+use Rattle.std.proofs.Common.{◌≡◌, ◌∙◌, refl, sym, ap, arith, ℕ, ◌+◌, ◌-◌, ◌*◌, ◌<◌, ◌≤◌, ◌%◌, ℤ, pos, negsuc, ◌+ℤ◌, ◌-ℤ◌, ◌<ℤ◌, ◌≤ℤ◌, Bool, true, false, not, ◌&&◌, ◌||◌, FitsSigned, of_z, to_z, w64, ◌⊎◌, inl, inr, ⊎_elim, int_lt}
 use Rattle.std.proofs.lemmas.Bool.{cases_lt}
-use Rattle.std.proofs.lemmas.Int.{by_lt_z, ints, of_z-to_z}
-use Rattle.std.proofs.lemmas.Nat.{mod-mul-add, mod_below}
+use Rattle.std.proofs.lemmas.Int.{by_lt_z, clamps, ints, to_z-of_z}
+use Rattle.std.proofs.lemmas.Nat.{mod-mul-add}
 use Rattle.brace_model.specs.World.{is_within}
 use Rattle.brace_fold.specs.declared.glancing.Span.{Span}
-use Rattle.brace_fold.specs.inner.Glances.{IsSpan, in_span}
-
--- tests that follow of one another are the same
-same_test : (b c : Bool) → (b ≡ true → c ≡ true) → (c ≡ true → b ≡ true) → b ≡ c
-same_test true c on back = sym (on refl)
-same_test false true on back = back refl
-same_test false false on back = refl
-
-and_both : (b c : Bool) → (b && c) ≡ true → (b ≡ true) × (c ≡ true)
-and_both true c h = (refl, h)
-and_both false c h = absurd (let e : false ≡ true = h in cc)
-
-both_and : (b c : Bool) → b ≡ true → c ≡ true → (b && c) ≡ true
-both_and true true p q = refl
-both_and false c p q = p
-both_and true false p q = q
+use Rattle.brace_fold.specs.inner.Glances.{IsAround, greatest, least}
 
 -- the bits of a word are its number, or come 2^64 above it
 bits_of : (z : ℤ) → FitsSigned w64 z
@@ -30,7 +14,7 @@ bits_of : (z : ℤ) → FitsSigned w64 z
 bits_of (pos n) fits = inl (omega (arith, ints), refl)
 bits_of (negsuc n) fits = inr (omega (arith, ints), omega (arith, ints, fits))
 
-abbrev apart : ℤ → ℤ → ℕ
+abbrev pub apart : ℤ → ℤ → ℕ
 apart v low = (of_z w64 v + (18446744073709551616 - of_z w64 low)) % 18446744073709551616
 
 -- what is left of a difference of bits
@@ -60,69 +44,102 @@ bound : (z : ℤ) → FitsSigned w64 z → of_z w64 z < 18446744073709551616
 bound (pos n) fits = omega (arith, ints, fits)
 bound (negsuc n) fits = omega (arith, ints, fits)
 
--- a word behind another is as far from it as their bits, and one before it comes 2^64 above that
-apart_behind : (v low : ℤ) → FitsSigned w64 v → FitsSigned w64 low → low ≤ℤ v
-    → pos (apart v low) ≡ v -ℤ low
-apart_behind v low fits fits_low le =
+-- a word less the base of a span: half of all words below where it stands to the least, or above
+behind : (v base low z : ℤ) → FitsSigned w64 v → FitsSigned w64 base → FitsSigned w64 z
+    → pos (of_z w64 base) ≡ low +ℤ pos 9223372036854775808 → low ≤ℤ v
+    → z ≡ (v -ℤ low) -ℤ pos 9223372036854775808 → to_z w64 (apart v base) ≡ z
+behind v base low z fits fits_base fits_z is le away =
+    let same : apart v base ≡ of_z w64 z =
     grind (
       arith,
       ints,
       le,
+      is,
+      away,
       fits,
-      fits_low,
       bits_of v fits,
-      bits_of low fits_low,
-      apart_is (of_z w64 v) (of_z w64 low) (bound v fits) (bound low fits_low),
-    )
+      bits_of z fits_z,
+      apart_is (of_z w64 v) (of_z w64 base) (bound v fits) (bound base fits_base),
+    ) in
+    ap (to_z w64) same ∙ to_z-of_z w64 z fits_z
 
-apart_before : (v low : ℤ) → FitsSigned w64 v → FitsSigned w64 low → v <ℤ low
-    → pos (apart v low) ≡ (v -ℤ low) +ℤ pos 18446744073709551616
-apart_before v low fits fits_low less =
+before : (v base low z : ℤ) → FitsSigned w64 v → FitsSigned w64 base → FitsSigned w64 z
+    → pos (of_z w64 base) ≡ low +ℤ pos 9223372036854775808 → v <ℤ low
+    → z ≡ (v -ℤ low) +ℤ pos 9223372036854775808 → to_z w64 (apart v base) ≡ z
+before v base low z fits fits_base fits_z is less away =
+    let same : apart v base ≡ of_z w64 z =
     grind (
       arith,
       ints,
       less,
+      is,
+      away,
       fits,
-      fits_low,
       bits_of v fits,
-      bits_of low fits_low,
-      apart_is (of_z w64 v) (of_z w64 low) (bound v fits) (bound low fits_low),
-    )
+      bits_of z fits_z,
+      apart_is (of_z w64 v) (of_z w64 base) (bound v fits) (bound base fits_base),
+    ) in
+    ap (to_z w64) same ∙ to_z-of_z w64 z fits_z
 
--- one comparison tells whether a word is in a span
-pub told : (low v : ℤ) (width : ℕ) → FitsSigned w64 v → FitsSigned w64 low
-    → (low +ℤ pos width) ≤ℤ pos 9223372036854775807
-    → nat_le (cast_unsigned w64 (int_wrapping_sub w64 v low)) width
-    ≡ (int_le low v && int_le v (low +ℤ pos width))
-told low v width fits fits_low ends =
-    ap (λ n. nat_le n width)
-    (of_z-to_z w64 (apart v low) (mod_below (of_z w64 v + (18446744073709551616 - of_z w64 low))
-    18446744073709551616 (omega arith)))
-    ∙ by_lt_z v low
+-- words outside of a range of a number, on either side of it, and within
+below_it : (p v : ℤ) (range : ℕ) → v <ℤ (p -ℤ pos range) → is_within (pos range) p v ≡ false
+below_it p v range less = grind (arith, ints, less)
+
+above_it : (p v : ℤ) (range : ℕ) → (p +ℤ pos range) <ℤ v → is_within (pos range) p v ≡ false
+above_it p v range less = grind (arith, ints, less)
+
+within_it : (p v : ℤ) (range : ℕ) → (p -ℤ pos range) ≤ℤ v → v ≤ℤ (p +ℤ pos range)
+    → is_within (pos range) p v ≡ true
+within_it p v range low high = grind (arith, ints, low, high)
+
+-- one comparison tells whether a word is outside of a span
+pub told : (p v : ℤ) (range : ℕ) (span : Span) → FitsSigned w64 v → FitsSigned w64 span.base
+    → FitsSigned w64 span.reach → IsAround p range span
+    → int_lt (to_z w64 (of_z w64 span.reach)) (to_z w64 (apart v span.base))
+    ≡ not (is_within (pos range) p v)
+told p v range span fits fits_base fits_reach around =
+    let low = least p range in
+    let is = around.base in
+    let ends = around.reach in
+    let under = bound span.base fits_base in
+    let kept = to_z-of_z w64 span.reach fits_reach in
+    by_lt_z v low
     (λ less.
-    let is = apart_before v low fits fits_low less in
-    let far : nat_le (apart v low) width ≡ false =
-    grind (arith, ints, is, less, fits, fits_low, ends) in
-    let out : int_le low v ≡ false = grind (arith, ints, less) in
-    far ∙ ap (λ b. b && int_le v (low +ℤ pos width)) (sym out))
+    let z : ℤ = (v -ℤ low) +ℤ pos 9223372036854775808 in
+    let fits_z : FitsSigned w64 z = omega (arith, ints, less, fits, is, under) in
+    let far : int_lt span.reach z ≡ true = grind (arith, ints, less, fits, ends) in
+    let out = below_it p v range (omega (arith, ints, clamps, less, fits)) in
+    (λ i. int_lt (kept i) (before v span.base low z fits fits_base fits_z is less refl i))
+    ∙ far ∙ sym (ap not out))
     (λ le.
-    let is = apart_behind v low fits fits_low le in
-    let inside : int_le low v ≡ true = grind (arith, ints, le) in
-    same_test (nat_le (apart v low) width) (int_le v (low +ℤ pos width))
-    (λ h. grind (arith, ints, is, h)) (λ h. grind (arith, ints, is, h))
-    ∙ ap (λ b. b && int_le v (low +ℤ pos width)) (sym inside))
+    let z : ℤ = (v -ℤ low) -ℤ pos 9223372036854775808 in
+    let fits_z : FitsSigned w64 z = omega (arith, ints, clamps, le, fits) in
+    (λ i. int_lt (kept i) (behind v span.base low z fits fits_base fits_z is le refl i))
+    ∙ by_lt_z (greatest p range) v
+    (λ over.
+    let past : span.reach <ℤ z = omega (arith, ints, over, ends) in
+    let far : int_lt span.reach z ≡ true = grind (arith, ints, past) in
+    let out = above_it p v range (omega (arith, ints, clamps, over, fits)) in
+    far ∙ sym (ap not out))
+    (λ under_it.
+    let not_past : z ≤ℤ span.reach = omega (arith, ints, under_it, ends) in
+    let near : int_lt span.reach z ≡ false = grind (arith, ints, not_past) in
+    let inside = within_it p v range (omega (arith, ints, clamps, le, fits))
+    (omega (arith, ints, clamps, under_it, fits)) in
+    near ∙ sym (ap not inside)))
 
--- a range of a word, cut to the words
-pub spans : (v : ℤ) (range : ℕ) (span : Span) → FitsSigned w64 v
-    → span.low ≡ saturate_signed w64 (v -ℤ pos range)
-    → span.width ≡ nat_abs (saturate_signed w64 (v +ℤ pos range) -ℤ span.low)
-    → IsSpan range v span
-spans v range span fits low width = record {
-  ends = grind (arith, ints, fits, low, width);
-  has = λ q within. same_test (in_span span q) (is_within (pos range) v q)
-      (λ h. let both = and_both (int_le span.low q) (int_le q (span.low +ℤ pos span.width)) h in
-      grind (arith, ints, fits, within, low, width, both.0, both.1))
-      (λ h. both_and (int_le span.low q) (int_le q (span.low +ℤ pos span.width))
-      (grind (arith, ints, fits, within, low, width, h))
-      (grind (arith, ints, fits, within, low, width, h)));
-}
+-- a test that fails twice over
+pub twice : (b : Bool) → not (not b) ≡ b
+twice true = refl
+twice false = refl
+
+none_of : (x y o : Bool) → ((not x || not y) || o) ≡ not ((x && y) && not o)
+none_of true true true = refl
+none_of true true false = refl
+none_of true false o = refl
+none_of false y o = refl
+
+-- outside along an axis, or an agent's own
+pub any_of : (x y o far high : Bool) → far ≡ not x → high ≡ not y
+    → ((far || high) || o) ≡ not ((x && y) && not o)
+any_of x y o far high far_is high_is = (λ i. (far_is i || high_is i) || o) ∙ none_of x y o

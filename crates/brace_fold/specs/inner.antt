@@ -4,6 +4,7 @@ pub mod Deeds
 pub mod Ears
 pub mod Glances
 pub mod Joins
+pub mod Picks
 pub mod Renewals
 pub mod Rulings
 pub mod Sights

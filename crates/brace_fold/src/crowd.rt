@@ -8,7 +8,7 @@ ghost use Rattle.brace_code.specs.declared.lane.Lane.{Lane};
 ghost use Rattle.brace_code.specs.Columns.{taking, side};
 ghost use Rattle.brace_fold.specs.declared.scene.Scene.{Scene};
 ghost use Rattle.brace_fold.specs.inner.Asks.{rows_of, openings};
-ghost use Rattle.brace_fold.specs.inner.Crowds.{Stands, AreOf, AreGathered, AreNumbered, IsGathered, IsOfClass, asking_at, bound_to, chosen, has_outer, has_inner, IsScene, rows};
+ghost use Rattle.brace_fold.specs.inner.Crowds.{Stands, AreOf, AreGathered, AreNumbered, AreStretches, IsGathered, IsOfClass, asking_at, bound_to, chosen, has_outer, has_inner, IsScene, rows};
 
 use crate::askers::Asker;
 use crate::scene::Scene;
@@ -45,6 +45,13 @@ pub fn has_inner(depth: Depth) -> bool
     }
 }
 
+/// Lanes in turn that have the agent of one row as This.
+#[derive(Debug, Clone, Copy, Drop)]
+pub struct Stretch {
+    pub row: u32,
+    pub count: u32,
+}
+
 /// Lanes that do a block together. They are numbered: the place of each is its own in the list.
 #[derive(Debug, Drop)]
 pub struct Crowd {
@@ -52,6 +59,8 @@ pub struct Crowd {
     pub lanes: Lanes,
     /// A column for each constant of the class, by place; empty where it is not set.
     pub locals: Vec<List<i64>>,
+    /// The stretches of all lanes, where they are known.
+    pub stretches: Option<List<Stretch>>,
 }
 
 /// Words that are 0 or 1.
@@ -139,16 +148,23 @@ fn taken(alloc: Global, set: bool, words: &[i64]) -> Result<Vec<u32>, Redo>
 
 impl Crowd {
     /// Lanes whose places are those of lanes of this crowd, with the constants of these.
-    pub fn part(&self, alloc: Global, depth: Depth, lanes: Lanes) -> Result<Crowd, Redo>
+    pub fn part(
+        &self,
+        alloc: Global,
+        depth: Depth,
+        lanes: Lanes,
+        stretches: Option<List<Stretch>>,
+    ) -> Result<Crowd, Redo>
         ensures { IfOk result (λ part. (scene : Scene) (scopes kids : List Scope)
             → Stands scene self.now scopes → AreOf scene depth scopes lanes kids
-            → Stands scene part kids) }
+            → AreStretches lanes stretches → Stands scene part kids) }
     {
         let locals = gather_all(alloc, &self.locals, &lanes)?;
         Ok(Crowd {
             depth,
             lanes: lanes.numbered(),
             locals,
+            stretches,
         })
     }
 
@@ -162,7 +178,7 @@ impl Crowd {
         }
         let numbers = taken(alloc, set, words)?;
         let lanes = self.lanes.picked(alloc, &numbers)?;
-        self.part(alloc, self.depth, lanes)
+        self.part(alloc, self.depth, lanes, None)
     }
 
     /// Sets a constant to words.
@@ -211,5 +227,6 @@ pub fn opening(scene: &Scene, class: u32, asking: &[Asker], constants: usize) ->
         depth: Depth::Outside,
         lanes,
         locals,
+        stretches: None,
     })
 }

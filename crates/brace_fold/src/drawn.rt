@@ -40,7 +40,36 @@ fn drawn_at(
     })
 }
 
-/// The draws of the agents of ids at some sites.
+/// The draws of agents at two sites.
+fn drawn_at_two(
+    alloc: Global,
+    drawer: &Drawer,
+    tick: u64,
+    sites: (u32, u32),
+    ids: &[u64],
+) -> Result<(Drawn, Drawn), Redo>
+    requires { tick ≤ 2 ^ 32 }
+    ensures sites { IfOk result (λ two. (two.0.site ≡ sites.0) × (two.1.site ≡ sites.1)) }
+    ensures first { IfOk result (λ two. two.0.words
+        ≡ map (λ id. pos (draw_value drawer.now.seed tick id sites.0)) ids.now) }
+    ensures second { IfOk result (λ two. two.1.words
+        ≡ map (λ id. pos (draw_value drawer.now.seed tick id sites.1)) ids.now) }
+{
+    let mut first = vec![in alloc; 0i64; ids.len()]?;
+    let mut second = vec![in alloc; 0i64; ids.len()]?;
+    drawer.columns(tick, sites, ids, &mut first, &mut second);
+    let first = Drawn {
+        site: sites.0,
+        words: List::from_vec(first),
+    };
+    let second = Drawn {
+        site: sites.1,
+        words: List::from_vec(second),
+    };
+    Ok((first, second))
+}
+
+/// The draws of the agents of ids at some sites, made two by two.
 pub fn drawn_of(
     alloc: Global,
     seed: u64,
@@ -54,8 +83,15 @@ pub fn drawn_of(
 {
     let drawer = Drawer::make(seed);
     let mut all = Vec::with_capacity(alloc, sites.len())?;
-    for site in sites {
-        all.push(drawn_at(alloc, &drawer, tick, *site, ids)?)?;
+    let mut rest = sites;
+    while let [one, other, more @ ..] = rest {
+        let (first, second) = drawn_at_two(alloc, &drawer, tick, (*one, *other), ids)?;
+        all.push(first)?;
+        all.push(second)?;
+        rest = more;
+    }
+    for last in rest {
+        all.push(drawn_at(alloc, &drawer, tick, *last, ids)?)?;
     }
     Ok(all)
 }

@@ -2,11 +2,11 @@ ghost use Rattle.std.specs.Prelude.{◌≡◌, ◌<◌, ◌≤◌, ◌-◌, ◌+
 ghost use Rattle.std.specs.Vec.{vec_len};
 ghost use Rattle.brace_model.specs.Value.{Scope};
 ghost use Rattle.brace_fold.specs.declared.crowd.Depth.{Depth};
-ghost use Rattle.brace_fold.specs.inner.Crowds.{IsFull, IsScene, Stands, deeper, entered, has_outer, lanes_inside};
+ghost use Rattle.brace_fold.specs.inner.Crowds.{IsFull, IsScene, Stands, deeper, entered, has_outer, lanes_inside, spread};
 ghost use Rattle.brace_fold.specs.inner.Deeds.{into, between};
 ghost use Rattle.brace_fold.specs.inner.Sights.{AreLed};
 
-use crate::crowd::{Crowd, Depth, has_outer};
+use crate::crowd::{Crowd, Depth, Stretch, has_outer};
 use crate::finding::Room;
 use crate::rows::lane_at;
 use crate::scene::Scene;
@@ -17,6 +17,9 @@ use std::alloc::Global;
 
 /// A crowd takes no more agents once it has so many lanes.
 const MANY: usize = 4096;
+
+/// Rows have room for so many lanes before they grow.
+const ROOM: usize = MANY + 512;
 
 /// A part of a loop's lanes, and the place of the first lane whose agents are not yet in it.
 #[derive(Debug, Drop)]
@@ -75,6 +78,7 @@ fn fill_outer(depth: Depth, row: u32, count: usize, rows: &mut Vec<u32>) -> Resu
 }
 
 /// Appends the lanes of a loop at agents of the rows that stand up to a count.
+#[inline(always)]
 fn enter(depth: Depth, lane: Lane, count: usize, lanes: &mut Entered) -> Result<(), Redo>
     requires full { IsFull depth lanes.old }
     requires rises { lanes.old.count ≤ count }
@@ -87,6 +91,20 @@ fn enter(depth: Depth, lane: Lane, count: usize, lanes: &mut Entered) -> Result<
     lanes.place.resize(count, lane.place)?;
     fill_outer(depth, lane.outer, count, &mut lanes.outer)?;
     lanes.count = count;
+    Ok(())
+}
+
+/// Appends the stretch of the lanes from a place up to another; none where there is no lane.
+fn stretch(row: u32, from: usize, next: usize, stretches: &mut Vec<Stretch>) -> Result<(), Redo>
+    ensures { OnOk result (spread stretches.new.items
+        ≡ spread stretches.old.items ++ replicate (next - from) row) }
+{
+    let Ok(count) = u32::try_from(next.saturating_sub(from)) else {
+        return Err(Redo);
+    };
+    if count > 0 {
+        stretches.push(Stretch { row, count })?;
+    }
     Ok(())
 }
 
@@ -127,11 +145,13 @@ impl<'a> Scene<'a> {
             (flat_map (into self.now class bounds.now) (between from part.next scopes))) }
     {
         let sought = self.sought(class, bounds);
-        let mut lanes = none_entered(self.alloc, 2 * MANY)?;
+        let mut lanes = none_entered(self.alloc, ROOM)?;
+        let mut stretches = Vec::new(self.alloc);
         let mut next = from;
         while next < crowd.lanes.len() && lanes.count < MANY {
             let lane = lane_at(&crowd.lanes, next)?;
             let count = self.find(crowd, &lane, &sought, room, &mut lanes.near, lanes.count)?;
+            stretch(lane.this, lanes.count, count, &mut stretches)?;
             enter(crowd.depth, lane, count, &mut lanes)?;
             next += 1;
         }
@@ -139,7 +159,12 @@ impl<'a> Scene<'a> {
             return Err(Redo);
         }
         let lanes = lanes_inside(crowd.depth, lanes);
-        let inside = crowd.part(self.alloc, deeper(crowd.depth), lanes)?;
+        let inside = crowd.part(
+            self.alloc,
+            deeper(crowd.depth),
+            lanes,
+            Some(List::from_vec(stretches)),
+        )?;
         Ok(Part { inside, next })
     }
 }

@@ -1,13 +1,13 @@
-ghost use Rattle.std.specs.Prelude.{◌≡◌, ◌<◌, ◌++◌, [], ◌∷◌, List, Some, filter, if◌then◌else◌, length, map, nat_lt, slice_get, IfOk, OnOk};
+ghost use Rattle.std.specs.Prelude.{◌≡◌, ◌<◌, ◌++◌, [], ◌∷◌, ℕ, List, Some, filter, if◌then◌else◌, length, map, nat_lt, replicate, slice_get, IfOk, IfSome, OnOk};
 ghost use Rattle.std.specs.List.{All, range_with_len};
 ghost use Rattle.brace_model.specs.declared.program.Program.{Program};
 ghost use Rattle.brace_model.specs.declared.world.Agent.{Agent};
 ghost use Rattle.brace_fold.specs.Asked.{by_row};
 ghost use Rattle.brace_fold.specs.Listed.{AreLent, agents_in};
 ghost use Rattle.brace_fold.specs.Rows.{AreColumns, AreMoved, IsPicked, rows_in};
+ghost use Rattle.brace_fold.specs.inner.Picks.{rows_along, rows_between, rows_picked};
 
 use crate::columns::{Columns, item_at};
-use crate::crowd::unset;
 use brace_code::Redo;
 use brace_num::List;
 use std::alloc::Global;
@@ -107,8 +107,56 @@ pub fn rows_from(alloc: Global, first: usize, count: usize) -> Result<Vec<u32>, 
     Ok(rows)
 }
 
+/// Of how many rows a slice has to be on average, that it pays to take them at once.
+const LONG: usize = 8;
+
+/// Rows in turn: from one on, up to another.
+#[derive(Debug, Clone, Copy, Drop)]
+struct Slice {
+    from: usize,
+    to: usize,
+}
+
+/// Rows of columns: each by itself, or in long slices, of which there are so many rows.
+#[derive(Debug, Drop)]
+enum Picks<'a> {
+    Each(&'a [u32]),
+    Slices(Vec<Slice>, usize),
+}
+
+/// The slices of rows, where they are not more than so many.
+fn slices_of(alloc: Global, rows: &[u32], most: usize) -> Result<Option<Vec<Slice>>, Redo>
+    ensures { IfOk result (λ found. IfSome found (λ all. rows_along all.items ≡ rows.now)) }
+{
+    let mut all = Vec::new(alloc);
+    let (mut from, mut to) = (0, 0);
+    for row in rows {
+        let row = *row as usize;
+        if row != to {
+            if all.len() >= most {
+                return Ok(None);
+            }
+            all.push(Slice { from, to })?;
+            from = row;
+        }
+        to = row + 1;
+    }
+    all.push(Slice { from, to })?;
+    Ok(Some(all))
+}
+
+/// Rows to be picked, in slices where these are long.
+fn picks_of<'a>(alloc: Global, rows: &'a [u32]) -> Result<Picks<'a>, Redo>
+    ensures { IfOk result (λ picks. rows_picked picks ≡ rows.now) }
+{
+    match slices_of(alloc, rows, rows.len() / LONG)? {
+        Some(all) => Ok(Picks::Slices(all, rows.len())),
+        None => Ok(Picks::Each(rows)),
+    }
+}
+
 /// What a column has in some rows.
-fn picked<T: Copy>(alloc: Global, column: &[T], rows: &[u32]) -> Result<Vec<T>, Redo>
+fn picked_each<T: Copy>(alloc: Global, column: &[T], rows: &[u32]) -> Result<Vec<T>, Redo>
     ensures { IfOk result (λ out. IsPicked rows.now column.now out.items) }
 {
     let mut out = Vec::with_capacity(alloc, rows.len())?;
@@ -121,17 +169,66 @@ fn picked<T: Copy>(alloc: Global, column: &[T], rows: &[u32]) -> Result<Vec<T>, 
     Ok(out)
 }
 
-/// The words of each column in the order of rows.
-fn picked_columns(alloc: Global, columns: &[&[i64]], order: &[u32]) -> Result<Vec<List<i64>>, Redo>
-    ensures { IfOk result (λ outs. map (λ c. map (slice_get c.now) order.now) columns.now
-        ≡ map (λ out. map Some out) outs.items) }
+/// Adds what a column has in a slice of rows.
+fn push_between<T: Copy>(column: &[T], slice: &Slice, out: &mut Vec<T>) -> Result<(), Redo>
+    ensures { OnOk result ((rows : List ℕ) → IsPicked rows column.now out.old.items
+        → IsPicked (rows ++ rows_between slice.now) column.now out.new.items) }
+{
+    if slice.to < slice.from || column.len() < slice.to {
+        return Err(Redo);
+    }
+    out.extend_from_slice(&column[slice.from..slice.to])?;
+    Ok(())
+}
+
+/// What a column has in slices of rows.
+fn picked_all<T: Copy>(
+    alloc: Global,
+    column: &[T],
+    slices: &[Slice],
+    count: usize,
+) -> Result<Vec<T>, Redo>
+    ensures { IfOk result (λ out. IsPicked (rows_along slices.now) column.now out.items) }
+{
+    let mut out = Vec::with_capacity(alloc, count)?;
+    for slice in slices {
+        push_between(column, slice, &mut out)?;
+    }
+    Ok(out)
+}
+
+/// What a column has in some rows.
+fn picked<T: Copy>(alloc: Global, column: &[T], picks: &Picks) -> Result<Vec<T>, Redo>
+    ensures { IfOk result (λ out. IsPicked (rows_picked picks.now) column.now out.items) }
+{
+    match picks {
+        Picks::Each(rows) => picked_each(alloc, column, rows),
+        Picks::Slices(all, count) => picked_all(alloc, column, all, *count),
+    }
+}
+
+/// The words of each column in some rows.
+fn picked_columns(alloc: Global, columns: &[&[i64]], picks: &Picks) -> Result<Vec<List<i64>>, Redo>
+    ensures { IfOk result (λ outs. map (λ c. map (slice_get c.now) (rows_picked picks.now))
+        columns.now ≡ map (λ out. map Some out) outs.items) }
 {
     let mut outs = Vec::with_capacity(alloc, columns.len())?;
     for column in columns {
-        let out = picked(alloc, column, order)?;
+        let out = picked(alloc, column, picks)?;
         outs.push(List::from_vec(out))?;
     }
     Ok(outs)
+}
+
+/// Empty columns, so many, with room for so many rows.
+fn empty(alloc: Global, columns: usize, rows: usize) -> Result<Vec<List<i64>>, Redo>
+    ensures { IfOk result (λ all. all.items ≡ replicate columns []) }
+{
+    let mut all = Vec::with_capacity(alloc, columns)?;
+    for _ in 0..columns {
+        all.push(List::from_vec(Vec::with_capacity(alloc, rows)?))?;
+    }
+    Ok(all)
 }
 
 /// Columns whose rows stand in another order.
@@ -143,15 +240,15 @@ pub struct Moved {
 }
 
 impl Moved {
-    /// No agents, with so many columns of states.
-    pub fn none(alloc: Global, states: usize) -> Result<Moved, Redo>
+    /// No agents, with so many columns of states, and room for so many rows.
+    pub fn with_room(alloc: Global, states: usize, rows: usize) -> Result<Moved, Redo>
         ensures rows { IfOk result (AreMoved []) }
         ensures wide { IfOk result (λ moved. length moved.states.items ≡ states) }
     {
         Ok(Moved {
-            classes: Vec::new(alloc),
-            ids: Vec::new(alloc),
-            states: unset(alloc, states)?,
+            classes: Vec::with_capacity(alloc, rows)?,
+            ids: Vec::with_capacity(alloc, rows)?,
+            states: empty(alloc, states, rows)?,
         })
     }
 
@@ -164,10 +261,11 @@ impl Moved {
         ensures within { IfOk result (λ _.
             All (λ row. row < length columns.now.ids.now) order.now) }
     {
+        let picks = picks_of(alloc, order)?;
         Ok(Moved {
-            classes: picked(alloc, columns.classes, order)?,
-            ids: picked(alloc, columns.ids, order)?,
-            states: picked_columns(alloc, columns.states, order)?,
+            classes: picked(alloc, columns.classes, &picks)?,
+            ids: picked(alloc, columns.ids, &picks)?,
+            states: picked_columns(alloc, columns.states, &picks)?,
         })
     }
 

@@ -15,7 +15,7 @@ ghost use Rattle.brace_fold.specs.inner.Renewals.{LeavesSome};
 ghost use Rattle.brace_fold.specs.inner.Rulings.{AreLanes, Leaves};
 
 use crate::askers::{Asker, askers, of_class, rows_of, sort_by_class};
-use crate::columns::{Columns, expect_wide, views};
+use crate::columns::{Columns, expect_wide, item_at, views};
 use crate::drawn::{drawn_of, lent};
 use crate::leaving::lanes_set;
 use crate::order::Moved;
@@ -181,6 +181,53 @@ fn renew_all(
     Ok(())
 }
 
+/// How many agents are renewed at once.
+const MANY: usize = 2048;
+
+/// Renews the agents of some rows, which are of one class of a number, many at once: those that
+/// live on and the children are added.
+fn renew_alike(
+    ground: &Ground,
+    columns: &Columns,
+    number: u32,
+    rows: &[u32],
+    renewed: &mut Renewed,
+) -> Result<(), Redo>
+    requires rows { AreRows ground.now.plans.now columns.now }
+    requires ticks { ground.now.tick ≤ 2 ^ 32 }
+    ensures leaves { OnOk result ((said : List Saying)
+        → AreSummed ground.now.plans.now (rows_in ground.now.plans.now columns.now) said
+        ground.now.said.now
+        → LeavesSome ground.now.plans.now ground.now.seed ground.now.tick said
+        (by_row (rows_in ground.now.plans.now columns.now) rows.now) renewed.old renewed.new) }
+    ensures wide { OnOk result
+        (length renewed.new.left.states.items ≡ length renewed.old.left.states.items) }
+{
+    let mut left = rows;
+    while !left.is_empty() {
+        let (some, rest) = left.split_at(left.len().min(MANY));
+        renew_some(ground, columns, number, some, renewed)?;
+        left = rest;
+    }
+    Ok(())
+}
+
+/// The number of the class of all agents of some rows, where it is one.
+fn only_class(classes: &[u32], rows: &[u32]) -> Option<u32> {
+    let first = item_at(classes, *rows.first()?)?;
+    for row in rows {
+        if item_at(classes, *row) != Some(first) {
+            return None;
+        }
+    }
+    Some(first)
+}
+
+/// So many rows and some more, as guests come behind a part's own agents.
+fn roomy(rows: usize) -> usize {
+    rows.saturating_add(rows / 4)
+}
+
 /// Renews the agents of some rows of columns by what was said to them, with the draws of a seed:
 /// class by class those that live on, and the children, which bear their parents' ids. `Redo` says
 /// nothing: an update may have faulted, or a total needs more than 64 bits, or memory was refused.
@@ -211,11 +258,15 @@ pub fn renew_rows(
         tick,
         said,
     };
-    let none = Moved::none(alloc, columns.states.len())?;
+    let none = Moved::with_room(alloc, columns.states.len(), roomy(rows.len()))?;
     let mut renewed = Renewed {
         left: none,
         born: Vec::new(alloc),
     };
+    if let Some(number) = only_class(columns.classes, rows) {
+        renew_alike(&ground, columns, number, rows, &mut renewed)?;
+        return Ok(renewed);
+    }
     let mut these = askers(alloc, columns.classes, rows)?;
     sort_by_class(&mut these);
     renew_all(&ground, columns, &these, &mut renewed)?;

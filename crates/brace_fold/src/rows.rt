@@ -33,6 +33,7 @@ pub fn lanes_of(count: usize) -> Lanes
 }
 
 /// The lane of a number.
+#[inline(always)]
 pub fn lane_at(lanes: &Lanes, number: usize) -> Result<Lane, Redo>
     ensures { IfOk result (λ lane. slice_get lanes.now number ≡ Some lane) }
 {

@@ -1,16 +1,17 @@
-ghost use Rattle.std.specs.Prelude.{◌≡◌, ◌<◌, ◌≤◌, ℕ, List, IfOk, IfSome, OnOk, length, map, slice_get, slice_index_or, Some, false, true};
+ghost use Rattle.std.specs.Prelude.{◌≡◌, ◌<◌, ◌≤◌, ◌+◌, ℕ, List, IfOk, IfSome, OnOk, length, map, slice_get, slice_index_or, Some, false, true};
 ghost use Rattle.brace_code.specs.Lanes.{words_of};
 ghost use Rattle.brace_model.specs.declared.world.Agent.{Agent};
 ghost use Rattle.brace_model.specs.Value.{Scope, typed};
-ghost use Rattle.brace_fold.specs.inner.Crowds.{IsScene, Stands, rows};
+ghost use Rattle.brace_fold.specs.inner.Crowds.{IsScene, Stands, rows, spread};
+ghost use Rattle.brace_fold.specs.declared.scene.Scene.{Scene};
 ghost use Rattle.brace_model.specs.declared.program.Comb.TheVariants as combs;
 ghost use Rattle.brace_model.specs.declared.program.Ty.TheVariants as types;
 ghost use Rattle.brace_model.specs.Total.{total_of};
 ghost use Rattle.brace_model.specs.Typing.{same_type};
-ghost use Rattle.brace_fold.specs.inner.Ears.{AreHeard, IsEar, row_of, is_there, told_at, told_by};
+ghost use Rattle.brace_fold.specs.inner.Ears.{AreHeard, IsEar, hearing, row_of, is_there, told_at, told_by};
 ghost use Rattle.brace_fold.specs.Hears.{Hears};
 
-use crate::crowd::{Crowd, Depth, has_inner, has_outer};
+use crate::crowd::{Crowd, Depth, Stretch, has_inner, has_outer};
 use crate::scene::Scene;
 use crate::table::{Table, narrow};
 use brace_code::{Lanes, Redo, Row, View};
@@ -36,6 +37,37 @@ fn rows_of<'a>(who: Who, lanes: &'a Lanes) -> Option<&'a [u32]>
         Who::This => lanes.rows(Row::This),
         Who::Outer => lanes.rows(Row::Outer),
         Who::Inner => lanes.rows(Row::Inner),
+    }
+}
+
+/// Those who hear what lanes say: an agent for each lane, or for each stretch of lanes.
+#[derive(Debug, Clone, Copy)]
+pub enum Hearers<'a> {
+    Each(&'a [u32]),
+    Stretches(&'a [Stretch]),
+}
+
+impl<'a> Hearers<'a> {
+    /// The row of the first agent.
+    fn first(self) -> Option<u32> {
+        match self {
+            Hearers::Each(rows) => rows.first().copied(),
+            Hearers::Stretches(stretches) => Some(stretches.first()?.row),
+        }
+    }
+}
+
+/// The agents that a name stands for in lanes.
+fn those_of<'a>(who: Who, crowd: &'a Crowd) -> Option<Hearers<'a>>
+    ensures { IfSome result (λ hearers. (scene : Scene) (scopes : List Scope)
+        → Stands scene crowd.now scopes → hearing hearers ≡ map (row_of who) crowd.now.lanes) }
+{
+    match (who, &crowd.stretches) {
+        (Who::This, Some(stretches)) => Some(Hearers::Stretches(stretches.as_slice())),
+        _ => {
+            let rows = rows_of(who, &crowd.lanes)?;
+            Some(Hearers::Each(rows))
+        }
     }
 }
 
@@ -71,6 +103,19 @@ fn run_end(row: u32, rows: &[u32], from: usize) -> usize
         next += 1;
     }
     next
+}
+
+/// Behind so many places from one on; None where there are none.
+#[inline(always)]
+fn behind(from: usize, count: u32) -> Option<usize>
+    ensures some { IfSome result (λ next. from < next) }
+    ensures next { IfSome result (λ next. next ≡ from + count) }
+{
+    if count == 0 {
+        return None;
+    }
+    let next = from.checked_add(count as usize)?;
+    Some(next)
 }
 
 /// The total of words of a type that lanes read; None where 128 bits do not hold it.
@@ -240,17 +285,65 @@ impl<'a> Scene<'a> {
         Ok(())
     }
 
-    /// Joins the words that lanes say to the agents of rows.
-    fn say_rows(
+    /// Joins the words that lanes say to the agents of stretches.
+    #[inline(always)]
+    fn say_stretches(
         &self,
         ear: &Ear,
-        hearers: &[u32],
+        stretches: &[Stretch],
         words: View,
         heard: &mut Table,
     ) -> Result<(), Redo>
         requires scene { IsScene self.now }
         requires ear { IsEar self.now ear.now }
-        ensures { OnOk result (AreHeard self.now ear.now.effect ear.now.ty hearers.now
+        ensures { OnOk result (AreHeard self.now ear.now.effect ear.now.ty (spread stretches.now)
+            words.entry heard.old heard.new) }
+    {
+        let mut at = 0usize;
+        for stretch in stretches {
+            let Some(next) = behind(at, stretch.count) else {
+                return Err(Redo);
+            };
+            let Some(these) = words.part(at, next) else {
+                return Err(Redo);
+            };
+            self.say_to(ear, stretch.row, these, next - at, heard)?;
+            at = next;
+        }
+        Ok(())
+    }
+
+    /// Joins the words that lanes say to those who hear them.
+    #[inline(always)]
+    fn say_all(
+        &self,
+        ear: &Ear,
+        hearers: Hearers,
+        words: View,
+        heard: &mut Table,
+    ) -> Result<(), Redo>
+        requires scene { IsScene self.now }
+        requires ear { IsEar self.now ear.now }
+        ensures { OnOk result (AreHeard self.now ear.now.effect ear.now.ty (hearing hearers.entry)
+            words.entry heard.old heard.new) }
+    {
+        match hearers {
+            Hearers::Each(rows) => self.say_runs(ear, rows, words, heard),
+            Hearers::Stretches(stretches) => self.say_stretches(ear, stretches, words, heard),
+        }
+    }
+
+    /// Joins the words that lanes say to those who hear them.
+    fn say_hearers(
+        &self,
+        ear: &Ear,
+        hearers: Hearers,
+        words: View,
+        heard: &mut Table,
+    ) -> Result<(), Redo>
+        requires scene { IsScene self.now }
+        requires ear { IsEar self.now ear.now }
+        ensures { OnOk result (AreHeard self.now ear.now.effect ear.now.ty (hearing hearers.entry)
             words.entry heard.old heard.new) }
     {
         match (ear.comb, ear.ty) {
@@ -259,7 +352,7 @@ impl<'a> Scene<'a> {
                     comb: Comb::Count,
                     ..*ear
                 };
-                self.say_runs(&ear, hearers, words, heard)
+                self.say_all(&ear, hearers, words, heard)
             }
             (Comb::Sum, Ty::Int | Ty::Fixed) => {
                 let ear = Ear {
@@ -267,14 +360,14 @@ impl<'a> Scene<'a> {
                     ..*ear
                 };
                 match words {
-                    View::Same(word) => self.say_runs(&ear, hearers, View::Same(word), heard),
-                    View::Each(words) => self.say_runs(&ear, hearers, View::Each(words), heard),
+                    View::Same(word) => self.say_all(&ear, hearers, View::Same(word), heard),
+                    View::Each(words) => self.say_all(&ear, hearers, View::Each(words), heard),
                     View::At(column, rows) => {
-                        self.say_runs(&ear, hearers, View::At(column, rows), heard)
+                        self.say_all(&ear, hearers, View::At(column, rows), heard)
                     }
                 }
             }
-            _ => self.say_runs(ear, hearers, words, heard),
+            _ => self.say_all(ear, hearers, words, heard),
         }
     }
 
@@ -296,14 +389,14 @@ impl<'a> Scene<'a> {
             heard.old heard.new) }
     {
         expect_there(crowd.depth, who)?;
-        let Some(rows) = rows_of(who, &crowd.lanes) else {
+        let Some(hearers) = those_of(who, crowd) else {
             return Err(Redo);
         };
-        let Some(first) = rows.first() else {
-            return Ok(());
+        let Some(first) = hearers.first() else {
+            return Err(Redo);
         };
-        let ear = self.ear(*first, effect, ty)?;
-        self.say_rows(&ear, rows, words, heard)?;
+        let ear = self.ear(first, effect, ty)?;
+        self.say_hearers(&ear, hearers, words, heard)?;
         Ok(())
     }
 }

@@ -1,11 +1,12 @@
 ghost use Rattle.std.specs.Prelude.{◌≡◌, ◌<◌, ◌++◌, ◌∷◌, [], ℕ, ℤ, List, Some, pos, ◌≤ℤ◌, length, map, slice_get, slice_index_or, IfOk, OnOk};
-ghost use Rattle.std.specs.List.{All};
+ghost use Rattle.std.specs.Bool.{OnTrue};
+ghost use Rattle.std.specs.List.{All, range_with_len};
 ghost use Rattle.brace_model.specs.declared.program.Program.{Program};
 ghost use Rattle.brace_model.specs.declared.world.Agent.{Agent};
 ghost use Rattle.brace_model.specs.World.{number, value_at};
 ghost use Rattle.brace_model.specs.Value.{typed};
 ghost use Rattle.brace_fold.specs.Rows.{AreMoved, row_in, rows_in, values_in, words_of};
-ghost use Rattle.brace_fold.specs.inner.Rulings.{AreBorn, living_from, moved_in, new_number, number_in, rows_left, value_in};
+ghost use Rattle.brace_fold.specs.inner.Rulings.{AreBorn, living_from, moved_at, moved_in, new_number, number_in, rows_left, rows_of, value_in};
 
 use crate::columns::{Columns, class_in, item_at, read};
 use crate::leaving::child;
@@ -127,8 +128,34 @@ pub fn push_agent(left: &mut Moved, a: &Agent) -> Result<(), Redo>
     Ok(())
 }
 
-/// The rows of those agents of a class of a number that live on, by what its rules came to.
-fn living_rows(
+/// The rows whose agents live on: the first, so many, or some.
+#[derive(Debug, Drop)]
+enum Living {
+    First(usize),
+    These(Vec<usize>),
+}
+
+/// Whether all agents are of a class of a number and live on, by what its rules came to.
+fn all_live(number: u32, out: &Outcome, columns: &Columns) -> bool
+    ensures rows { OnTrue result (range_with_len 0 (length columns.now.ids.now)
+        ≡ rows_left out.now.die (length columns.now.ids.now)) }
+    ensures alike { OnTrue result
+        (All (λ row. slice_get columns.now.classes.now row ≡ Some number)
+        (range_with_len 0 (length columns.now.ids.now))) }
+{
+    for row in 0..columns.ids.len() {
+        let Some(class) = columns.classes.get(row) else {
+            return false;
+        };
+        if *class != number || is_set(&out.die, row) {
+            return false;
+        }
+    }
+    true
+}
+
+/// The rows of those agents of a class of a number that live on, one by one.
+fn some_living(
     alloc: Global,
     number: u32,
     out: &Outcome,
@@ -154,8 +181,29 @@ fn living_rows(
     Ok(rows)
 }
 
+/// The rows of those agents of a class of a number that live on, by what its rules came to.
+fn living_rows(alloc: Global, number: u32, out: &Outcome, columns: &Columns) -> Result<Living, Redo>
+    ensures rows { IfOk result (λ living.
+        rows_of living ≡ rows_left out.now.die (length columns.now.ids.now)) }
+    ensures alike { IfOk result (λ living.
+        All (λ row. slice_get columns.now.classes.now row ≡ Some number) (rows_of living)) }
+{
+    if all_live(number, out, columns) {
+        return Ok(Living::First(columns.ids.len()));
+    }
+    let rows = some_living(alloc, number, out, columns)?;
+    Ok(Living::These(rows))
+}
+
+/// What a column has in a row; a default where it has nothing.
+fn item_or<T: Copy>(column: &[T], row: usize, default: T) -> T
+    ensures { result ≡ slice_index_or column.now row default }
+{
+    column.get(row).copied().unwrap_or(default)
+}
+
 /// Adds what a column has in rows; a default where it has nothing.
-fn push_rows<T: Copy>(
+fn push_some<T: Copy>(
     column: &[T],
     default: T,
     rows: &[usize],
@@ -166,9 +214,46 @@ fn push_rows<T: Copy>(
 {
     left.reserve(rows.len())?;
     for row in rows {
-        left.push_reserved(column.get(*row).copied().unwrap_or(default));
+        left.push_reserved(item_or(column, *row, default));
     }
     Ok(())
+}
+
+/// Adds what a column has in the first rows, so many; a default where it has nothing.
+fn push_first<T: Copy>(
+    column: &[T],
+    default: T,
+    count: usize,
+    left: &mut Vec<T>,
+) -> Result<(), Redo>
+    ensures { OnOk result (left.new.items ≡ left.old.items
+        ++ map (λ row. slice_index_or column.now row default) (range_with_len 0 count)) }
+{
+    if column.len() == count {
+        left.extend_from_slice(column)?;
+        return Ok(());
+    }
+    left.reserve(count)?;
+    for row in 0..count {
+        left.push_reserved(item_or(column, row, default));
+    }
+    Ok(())
+}
+
+/// Adds what a column has in the rows of those that live on; a default where it has nothing.
+fn push_rows<T: Copy>(
+    column: &[T],
+    default: T,
+    living: &Living,
+    left: &mut Vec<T>,
+) -> Result<(), Redo>
+    ensures { OnOk result (left.new.items ≡ left.old.items
+        ++ map (λ row. slice_index_or column.now row default) (rows_of living.now)) }
+{
+    match living {
+        Living::First(count) => push_first(column, default, *count, left),
+        Living::These(rows) => push_some(column, default, rows, left),
+    }
 }
 
 /// Words of a type, one in each row.
@@ -189,49 +274,130 @@ fn number_in(words: &Words, row: usize) -> i64
     }
 }
 
-/// The new number of a coordinate in a row, moved into reach of the old one.
-fn moved_in(class: &Class, old: &Words, new: &Words, row: usize) -> i64
-    requires { pos 0 ≤ℤ class.now.reach }
-    ensures { result ≡ moved_in class.now old.now new.now row }
+/// Words that are numbers; `Redo` where they are flags.
+fn plain<'a>(words: &Words<'a>) -> Result<&'a [i64], Redo>
+    ensures { IfOk result (λ column. (row : ℕ)
+        → slice_index_or column.now row (pos 0) ≡ number_in words.now row) }
 {
-    clamp(number_in(old, row), number_in(new, row), class.reach)
+    match words.ty {
+        Ty::Bool => Err(Redo),
+        Ty::Int | Ty::Fixed => Ok(words.words),
+    }
 }
 
 /// Adds the numbers of the values in rows.
+fn push_some_numbers(words: &Words, rows: &[usize], left: &mut Vec<i64>) -> Result<(), Redo>
+    ensures { OnOk result
+        (left.new.items ≡ left.old.items ++ map (number_in words.now) rows.now) }
+{
+    left.reserve(rows.len())?;
+    for row in rows {
+        left.push_reserved(number_in(words, *row));
+    }
+    Ok(())
+}
+
+/// Adds the numbers of the values in the first rows, so many.
+fn push_first_numbers(words: &Words, count: usize, left: &mut Vec<i64>) -> Result<(), Redo>
+    ensures { OnOk result (left.new.items
+        ≡ left.old.items ++ map (number_in words.now) (range_with_len 0 count)) }
+{
+    if let Ok(column) = plain(words) {
+        return push_first(column, 0, count, left);
+    }
+    left.reserve(count)?;
+    for row in 0..count {
+        left.push_reserved(number_in(words, row));
+    }
+    Ok(())
+}
+
+/// Adds the numbers of the values in the rows of those that live on.
 fn push_numbers(
     alloc: Global,
     words: &Words,
-    rows: &[usize],
+    living: &Living,
     left: &mut List<i64>,
 ) -> Result<(), Redo>
-    ensures { OnOk result (left.new ≡ left.old ++ map (number_in words.now) rows.now) }
+    ensures { OnOk result
+        (left.new ≡ left.old ++ map (number_in words.now) (rows_of living.now)) }
 {
     let mut all = mem::replace(left, List::new(alloc)).into_vec();
-    all.reserve(rows.len())?;
-    for row in rows {
-        all.push_reserved(number_in(words, *row));
+    match living {
+        Living::First(count) => push_first_numbers(words, *count, &mut all)?,
+        Living::These(rows) => push_some_numbers(words, rows, &mut all)?,
     }
     *left = List::from_vec(all);
     Ok(())
 }
 
+/// The new number of a coordinate in a row, moved into reach of the old one.
+fn moved_at(class: &Class, old: &[i64], new: &[i64], row: usize) -> i64
+    requires { pos 0 ≤ℤ class.now.reach }
+    ensures { result ≡ moved_at class.now old.now new.now row }
+{
+    clamp(item_or(old, row, 0), item_or(new, row, 0), class.reach)
+}
+
 /// Adds the new numbers of a coordinate in rows.
+fn push_some_moved(
+    class: &Class,
+    old: &[i64],
+    new: &[i64],
+    rows: &[usize],
+    left: &mut Vec<i64>,
+) -> Result<(), Redo>
+    requires { pos 0 ≤ℤ class.now.reach }
+    ensures { OnOk result (left.new.items
+        ≡ left.old.items ++ map (moved_at class.now old.now new.now) rows.now) }
+{
+    left.reserve(rows.len())?;
+    for row in rows {
+        left.push_reserved(moved_at(class, old, new, *row));
+    }
+    Ok(())
+}
+
+/// Adds the new numbers of a coordinate in so many rows.
+fn push_first_moved(
+    class: &Class,
+    old: &[i64],
+    new: &[i64],
+    count: usize,
+    left: &mut Vec<i64>,
+) -> Result<(), Redo>
+    requires { pos 0 ≤ℤ class.now.reach }
+    ensures { OnOk result (left.new.items ≡ left.old.items
+        ++ map (moved_at class.now old.now new.now) (range_with_len 0 count)) }
+{
+    if old.len() != count || new.len() != count {
+        return Err(Redo);
+    }
+    left.reserve(count)?;
+    for row in 0..count {
+        left.push_reserved(moved_at(class, old, new, row));
+    }
+    Ok(())
+}
+
+/// Adds the new numbers of a coordinate in the rows of those that live on.
 fn push_moved(
     alloc: Global,
     class: &Class,
     old: &Words,
     new: &Words,
-    rows: &[usize],
+    living: &Living,
     left: &mut List<i64>,
 ) -> Result<(), Redo>
     requires { pos 0 ≤ℤ class.now.reach }
-    ensures { OnOk result
-        (left.new ≡ left.old ++ map (moved_in class.now old.now new.now) rows.now) }
+    ensures { OnOk result (left.new ≡ left.old
+        ++ map (moved_in class.now old.now new.now) (rows_of living.now)) }
 {
+    let (old, new) = (plain(old)?, plain(new)?);
     let mut all = mem::replace(left, List::new(alloc)).into_vec();
-    all.reserve(rows.len())?;
-    for row in rows {
-        all.push_reserved(moved_in(class, old, new, *row));
+    match living {
+        Living::First(count) => push_first_moved(class, old, new, *count, &mut all)?,
+        Living::These(rows) => push_some_moved(class, old, new, rows, &mut all)?,
     }
     *left = List::from_vec(all);
     Ok(())
@@ -251,7 +417,7 @@ fn ruled<'a>(rule: &'a Option<Column>, old: &Words<'a>) -> Words<'a>
     }
 }
 
-/// Adds a state of the agents of rows, which are of a class, by what its rules came to; 0 where it
+/// Adds a state of those agents that live on, which are of a class, by what its rules came to; 0 where it
 /// has no such state.
 fn push_state(
     alloc: Global,
@@ -260,22 +426,23 @@ fn push_state(
     out: &Outcome,
     columns: &Columns,
     state: usize,
-    rows: &[usize],
+    living: &Living,
     left: &mut List<i64>,
 ) -> Result<(), Redo>
     requires { pos 0 ≤ℤ class.now.reach }
     ensures { OnOk result (left.new ≡ left.old
-        ++ map (new_number own.now class.now out.now columns.now state) rows.now) }
+        ++ map (new_number own.now class.now out.now columns.now state)
+        (rows_of living.now)) }
 {
     let none = Words {
         ty: Ty::Int,
         words: &[],
     };
     let Some(of) = own.states.as_slice().get(state) else {
-        return push_numbers(alloc, &none, rows, left);
+        return push_numbers(alloc, &none, living, left);
     };
     let Some(rule) = out.states.get(state) else {
-        return push_numbers(alloc, &none, rows, left);
+        return push_numbers(alloc, &none, living, left);
     };
     let Some(column) = columns.states.get(state) else {
         return Err(Redo);
@@ -286,30 +453,31 @@ fn push_state(
     };
     let new = ruled(rule, &old);
     if state == class.x as usize || state == class.y as usize {
-        push_moved(alloc, class, &old, &new, rows, left)
+        push_moved(alloc, class, &old, &new, living, left)
     } else {
-        push_numbers(alloc, &new, rows, left)
+        push_numbers(alloc, &new, living, left)
     }
 }
 
-/// Adds the states of the agents of rows, which are of a class, by what its rules came to.
+/// Adds the states of those agents that live on, which are of a class, by what its rules came to.
 fn push_states(
     alloc: Global,
     own: &Class,
     class: &Class,
     out: &Outcome,
     columns: &Columns,
-    rows: &[usize],
+    living: &Living,
     left: &mut [List<i64>],
 ) -> Result<(), Redo>
     requires { pos 0 ≤ℤ class.now.reach }
     ensures long { length left.new ≡ length left.old }
     ensures each { OnOk result ((k : ℕ) (c : List ℤ) → k < length left.old
         → slice_index_or left.new k c ≡ slice_index_or left.old k c
-        ++ map (new_number own.now class.now out.now columns.now k) rows.now) }
+        ++ map (new_number own.now class.now out.now columns.now k)
+        (rows_of living.now)) }
 {
     for (state, column) in left.iter_mut().enumerate() {
-        push_state(alloc, own, class, out, columns, state, rows, column)?;
+        push_state(alloc, own, class, out, columns, state, living, column)?;
     }
     Ok(())
 }
@@ -332,8 +500,8 @@ pub fn keep_rows(
     ensures wide { OnOk result
         (length left.new.states.items ≡ length left.old.states.items) }
 {
-    let rows = living_rows(alloc, number, out, columns)?;
-    push_rows(columns.classes, 0, &rows, &mut left.classes)?;
-    push_rows(columns.ids, 0, &rows, &mut left.ids)?;
-    push_states(alloc, own, class, out, columns, &rows, &mut left.states)
+    let living = living_rows(alloc, number, out, columns)?;
+    push_rows(columns.classes, 0, &living, &mut left.classes)?;
+    push_rows(columns.ids, 0, &living, &mut left.ids)?;
+    push_states(alloc, own, class, out, columns, &living, &mut left.states)
 }

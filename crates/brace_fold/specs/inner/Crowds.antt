@@ -1,5 +1,5 @@
 -- Crowds: the scopes that lanes stand for. Only the crate's own functions cite this.
-use Rattle.std.specs.Prelude.{◌≡◌, ℕ, ◌<◌, ◌≤◌, ℤ, pos, Bool, false, true, Option, None, Some, List, map, [], ◌∷◌, ◌++◌, if◌then◌else◌, ⊤, length, slice_get, slice_index_or, option_copied}
+use Rattle.std.specs.Prelude.{◌≡◌, ℕ, ◌<◌, ◌≤◌, ℤ, pos, Bool, false, true, Option, None, Some, List, map, flat_map, replicate, [], ◌∷◌, ◌++◌, if◌then◌else◌, ⊤, IfSome, length, slice_get, slice_index_or, option_copied}
 use Rattle.std.specs.List.Sorted.{IsPermutation}
 use Rattle.brace_draw.specs.Draw.{draw_value}
 use Rattle.brace_model.specs.declared.world.Agent.{Agent}
@@ -15,6 +15,7 @@ use Rattle.brace_code.specs.Lanes.{draws_at}
 use Rattle.brace_code.specs.Columns.{side}
 use Rattle.brace_fold.specs.declared.crowd.Crowd.{Crowd}
 use Rattle.brace_fold.specs.declared.crowd.Depth.{Depth}
+use Rattle.brace_fold.specs.declared.crowd.Stretch.{Stretch}
 use Rattle.brace_fold.specs.declared.crowd.Depth.TheVariants.{Outside, Once, Twice}
 use Rattle.brace_fold.specs.declared.gathering.Entered.{Entered}
 use Rattle.brace_fold.specs.declared.scene.Scene.{Scene}
@@ -77,6 +78,15 @@ pub record IsLocal (n : ℕ) (scopes : List Scope) (column : List ℤ) : Type 0 
   pub each : (k : ℕ) (s : Scope) → k < length column
       → slice_index_or column k (pos 0) ≡ number (value_at (slice_index_or scopes k s).locals n)
 
+-- the row of each lane of stretches
+abbrev pub spread : List Stretch → List ℕ
+spread stretches = flat_map (λ s. replicate s.count s.row) stretches
+
+-- stretches, where they are known, are those of all lanes
+abbrev pub AreStretches : List Lane → Option (List Stretch) → Type 0
+AreStretches lanes stretches =
+    IfSome stretches (λ known. spread known ≡ map (λ l. l.this) lanes)
+
 -- the lanes of a crowd stand for scopes, one for each
 pub record Stands (scene : Scene) (crowd : Crowd) (scopes : List Scope) : Type 0 where
   pub long : length crowd.lanes ≡ length scopes
@@ -88,6 +98,7 @@ pub record Stands (scene : Scene) (crowd : Crowd) (scopes : List Scope) : Type 0
       → IsLocal n scopes column
   pub room : (k : ℕ) (s : Scope) → k < length scopes
       → length (slice_index_or scopes k s).locals ≡ length crowd.locals.items
+  pub stretches : AreStretches crowd.lanes crowd.stretches
 
 -- a lane of a crowd stands for a scope, of which it finds the constants at its place
 pub record IsIn (scene : Scene) (crowd : Crowd) (lane : Lane) (scope : Scope) : Type 0 where

@@ -13,10 +13,12 @@ use Rattle.brace_code.specs.declared.view.View.{View}
 use Rattle.brace_code.specs.Lanes.{words_of}
 use Rattle.brace_fold.specs.declared.crowd.Depth.{Depth}
 use Rattle.brace_fold.specs.declared.saying.Ear.{Ear}
+use Rattle.brace_fold.specs.declared.saying.Hearers.{Hearers}
+use Rattle.brace_fold.specs.declared.saying.Hearers.TheVariants.{Each, Stretches}
 use Rattle.brace_fold.specs.declared.scene.Scene.{Scene}
 use Rattle.brace_fold.specs.declared.table.Table.{Table}
 use Rattle.brace_fold.specs.Hears.{Hears}
-use Rattle.brace_fold.specs.inner.Crowds.{has_outer, has_inner, rows}
+use Rattle.brace_fold.specs.inner.Crowds.{has_outer, has_inner, rows, spread}
 
 -- the row of the agent that a name stands for in a lane
 abbrev pub row_of : Who → Lane → ℕ
@@ -29,6 +31,11 @@ abbrev pub is_there : Depth → Who → Bool
 is_there depth This = true
 is_there depth Outer = has_outer depth
 is_there depth Inner = has_inner depth
+
+-- the row of the agent who hears what each lane says
+abbrev pub hearing : Hearers → List ℕ
+hearing (Each rows) = rows.now
+hearing (Stretches stretches) = spread stretches.now
 
 -- an ear has the combinator of an effect of its class
 pub record IsEar (scene : Scene) (ear : Ear) : Type 0 where

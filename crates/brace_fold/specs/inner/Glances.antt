@@ -1,6 +1,6 @@
 -- Where agents of one class stand, in columns. Only the crate's own functions cite this.
-use Rattle.std.specs.Prelude.{◌≡◌, ℕ, ◌≤◌, ◌<◌, ℤ, pos, ◌+ℤ◌, ◌≤ℤ◌, int_le, Bool, ◌&&◌, FitsSigned, List, [], map, length, Some, slice_get, slice_index_or}
-use Rattle.std.specs.Int.{w64}
+use Rattle.std.specs.Prelude.{◌≡◌, ℕ, ◌≤◌, ◌<◌, ℤ, pos, negsuc, ◌+ℤ◌, ◌-ℤ◌, Bool, not, ◌&&◌, ◌==◌, if◌then◌else◌, List, [], ◌∷◌, map, length, Some, slice_get, slice_index_or}
+use Rattle.std.specs.Int.{cast_unsigned, int_max, int_min, w64}
 use Rattle.brace_model.specs.declared.world.Agent.{Agent}
 use Rattle.brace_model.specs.Value.{Scope}
 use Rattle.brace_model.specs.World.{is_within}
@@ -17,19 +17,36 @@ use Rattle.brace_fold.specs.declared.seeing.Eye.{Eye}
 use Rattle.brace_fold.specs.inner.Crowds.{IsIn, rows}
 use Rattle.brace_fold.specs.inner.Sights.{Appended, IsEye}
 
--- a word is in a span
-abbrev pub in_span : Span → ℤ → Bool
-in_span span v = int_le span.low v && int_le v (span.low +ℤ pos span.width)
+-- the least word within a range of a number, and the greatest one
+abbrev pub least : ℤ → ℕ → ℤ
+least p range = int_max (p -ℤ pos range) (negsuc 9223372036854775807)
+
+abbrev pub greatest : ℤ → ℕ → ℤ
+greatest p range = int_min (p +ℤ pos range) (pos 9223372036854775807)
 
 -- a span has the words within a range of one
-pub record IsSpan (range : ℕ) (v : ℤ) (span : Span) : Type 0 where
-  pub ends : (span.low +ℤ pos span.width) ≤ℤ pos 9223372036854775807
-  pub has : (q : ℤ) → FitsSigned w64 q → in_span span q ≡ is_within (pos range) v q
+pub record IsAround (p : ℤ) (range : ℕ) (span : Span) : Type 0 where
+  pub base : pos (cast_unsigned w64 span.base) ≡ least p range +ℤ pos 9223372036854775808
+  pub reach : (span.reach +ℤ pos 9223372036854775808) +ℤ least p range ≡ greatest p range
 
 -- the words of the square that an eye sees
 pub record IsSquare (square : Square) : Type 0 where
-  pub across : IsSpan square.eye.range square.eye.x square.across
-  pub along : IsSpan square.eye.range square.eye.y square.along
+  pub across : IsAround square.eye.x square.eye.range square.across
+  pub along : IsAround square.eye.y square.eye.range square.along
+
+-- an agent in a row at a point is another one within an eye's range
+abbrev pub near : Eye → ℤ → ℤ → ℕ → Bool
+near eye x y row = (is_within (pos eye.range) eye.x x && is_within (pos eye.range) eye.y y)
+    && not (row == eye.place)
+
+-- the same of the agent of a row of columns
+abbrev pub near_at : Eye → List ℤ → List ℤ → ℕ → Bool
+near_at eye xs ys row =
+    near eye (slice_index_or xs row (pos 0)) (slice_index_or ys row (pos 0)) row
+
+-- a row that is kept, or none
+abbrev pub kept : Bool → ℕ → List ℕ
+kept keeps row = if keeps then row ∷ [] else []
 
 -- a spot is the one of a row of columns, and of a class
 pub record IsShown (class row : ℕ) (xs ys : List ℤ) (s : Spot) : Type 0 where

@@ -23,6 +23,8 @@ use Rattle.brace_plan.specs.Leaving.{leaves_by, survivor, update_by}
 use Rattle.brace_fold.specs.declared.columns.Columns.{Columns}
 use Rattle.brace_fold.specs.declared.outcome.Column.{Column}
 use Rattle.brace_fold.specs.declared.outcome.Outcome.{Outcome}
+use Rattle.brace_fold.specs.declared.surviving.Living.{Living}
+use Rattle.brace_fold.specs.declared.surviving.Living.TheVariants.{First, These}
 use Rattle.brace_fold.specs.declared.surviving.Words.{Words}
 use Rattle.brace_fold.specs.Rows.{values_in, words_of}
 
@@ -114,11 +116,21 @@ living_from class out row (a ∷ agents) =
 abbrev pub rows_left : Option Column → ℕ → List ℕ
 rows_left die count = filter (λ row. not (is_set die row)) (range_with_len 0 count)
 
+-- the rows of those that live on
+abbrev pub rows_of : Living → List ℕ
+rows_of (First count) = range_with_len 0 count
+rows_of (These rows) = rows.items
+
 -- the number of the value that words have in a row
 abbrev pub number_in : Words → ℕ → ℤ
 number_in words row = number (typed words.ty (slice_index_or words.words.now row (pos 0)))
 
--- the new number of a coordinate in a row, moved into reach of the old one
+-- the new number of a coordinate in a row of columns, moved into reach of the old one
+abbrev pub moved_at : Class → List ℤ → List ℤ → ℕ → ℤ
+moved_at class old new row =
+    clamped (slice_index_or old row (pos 0)) (slice_index_or new row (pos 0)) class.reach
+
+-- the same of words of a type
 abbrev pub moved_in : Class → Words → Words → ℕ → ℤ
 moved_in class old new row = clamped (number_in old row) (number_in new row) class.reach
 

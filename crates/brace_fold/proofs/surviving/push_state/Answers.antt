@@ -4,6 +4,7 @@ use Rattle.std.proofs.lemmas.Bool.{eqb-false, eqb-true}
 use Rattle.std.proofs.lemmas.Option.{slice_get_read}
 use Rattle.brace_model.specs.declared.program.State.{State}
 use Rattle.brace_fold.specs.declared.outcome.Column.{Column}
+use Rattle.brace_fold.specs.inner.Rulings.{rows_of}
 use Rattle.brace_fold.proofs.Survivings.{held-number, no-state, outside, plain-number}
 use Rattle.brace_fold.proofs.Walks.{on_ok}
 use Rattle.brace_fold.proofs.surviving.push_state.Goals.{then-state-class, else-state-class}
@@ -15,7 +16,7 @@ returns-in_default c =
     let past = subst (λ (l : List State). length l ≤ state) c.as_slice.ensures
     (outside c.as_slice.result.now state c.in_default.ensures.lookup.0) in
     on_ok c.push_numbers.result _ _ (λ is. is
-    ∙ ap (λ (f : ℕ → ℤ). c.args.left.now ++ map f c.args.rows.now) (λ i row. no-state
+    ∙ ap (λ (f : ℕ → ℤ). c.args.left.now ++ map f (rows_of c.args.living.now)) (λ i row. no-state
     c.args.own.now c.args.class.now c.args.out.now c.args.columns.now state row (inr past) i))
     c.push_numbers.ensures
 
@@ -25,7 +26,7 @@ returns-in_default-get c =
     let past = subst (λ (l : List (Option Column)). length l ≤ state) c.deref.ensures.value
     (outside c.deref.result.now state c.in_default-get.ensures.lookup.0) in
     on_ok c.push_numbers-in_default-get.result _ _ (λ is. is
-    ∙ ap (λ (f : ℕ → ℤ). c.args.left.now ++ map f c.args.rows.now) (λ i row. no-state
+    ∙ ap (λ (f : ℕ → ℤ). c.args.left.now ++ map f (rows_of c.args.living.now)) (λ i row. no-state
     c.args.own.now c.args.class.now c.args.out.now c.args.columns.now state row (inl past) i))
     c.push_numbers-in_default-get.ensures
 
@@ -53,7 +54,7 @@ returns-then-state-class-2 c =
           inr (eqb-true state class.y (sym w.value-is ∙ c.if-state-class-2.true))
     ] in
     on_ok c.push_moved.result _ _ (λ is. is
-    ∙ ap (λ (f : ℕ → ℤ). c.args.left.now ++ map f c.args.rows.now) (λ i row. held-number
+    ∙ ap (λ (f : ℕ → ℤ). c.args.left.now ++ map f (rows_of c.args.living.now)) (λ i row. held-number
     own class out columns state row of column rule has there shown _
     (c.ruled-new.ensures row) c.requires which i)) c.push_moved.ensures
 
@@ -86,6 +87,6 @@ returns-else-state-class-2 c =
           eqb-false state class.y (sym w.value-is ∙ c.if-state-class-2.false)
     ] in
     on_ok c.push_numbers-else-state-class-2.result _ _ (λ is. is
-    ∙ ap (λ (f : ℕ → ℤ). c.args.left.now ++ map f c.args.rows.now) (λ i row. plain-number
+    ∙ ap (λ (f : ℕ → ℤ). c.args.left.now ++ map f (rows_of c.args.living.now)) (λ i row. plain-number
     own class out columns state row of column rule has there shown _
     (c.ruled-new.ensures row) off-x off-y i)) c.push_numbers-else-state-class-2.ensures

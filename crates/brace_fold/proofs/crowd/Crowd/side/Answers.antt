@@ -18,4 +18,4 @@ returns c = if_ok c.part.result _ _ (λ part h scene scopes stands.
     ∙ c.in_ok-numbers.ensures self.lanes no_lane many in
     h scene scopes kids stands
     (subst (λ (l : List Lane). AreOf scene self.depth scopes l kids) (sym is)
-    (side-of scene self scopes c.args.set words stands))) c.part.ensures
+    (side-of scene self scopes c.args.set words stands)) tt) c.part.ensures

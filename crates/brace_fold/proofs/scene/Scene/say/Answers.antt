@@ -1,12 +1,13 @@
 use Rattle.std.proofs.Common.{rules}
-use Rattle.brace_fold.specs.inner.Ears.{AreHeard}
+use Rattle.brace_fold.specs.inner.Ears.{AreHeard, hearing}
 use Rattle.brace_fold.proofs.Sayings.{are-told}
 use Rattle.brace_fold.proofs.scene.Scene.say.Goals as goal
 
 pub returns : goal.returns
 returns c = λ scopes stands long.
-    let heard : AreHeard c.args.self.now c.args.effect c.args.ty c.in-Some.rows.now c.args.words
-    c.args.heard.now c.say_rows.new.heard = search rules in
+    let all = hearing c.in-Some.hearers in
+    let heard : AreHeard c.args.self.now c.args.effect c.args.ty all c.args.words
+    c.args.heard.now c.say_hearers.new.heard = search rules in
     heard.each c.args.who scopes
-    (are-told c.args.self.now c.args.crowd.now c.args.who c.in-Some.rows.now scopes stands
-    c.in-Some.ensures c.in_ok-expect_there.ensures) long
+    (are-told c.args.self.now c.args.crowd.now c.args.who all scopes stands
+    (c.in-Some.ensures c.args.self.now scopes stands) c.in_ok-expect_there.ensures) long

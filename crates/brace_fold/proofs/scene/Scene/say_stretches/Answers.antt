@@ -1,0 +1,57 @@
+use Rattle.std.proofs.Common.{◌<◌, ◌≤◌, ap, sym, subst, refl, length, arith, ℕ, List}
+use Rattle.std.proofs.lemmas.List.{take_all}
+use Rattle.brace_model.specs.Query.{Saying}
+use Rattle.brace_code.specs.Lanes.{words_of}
+use Rattle.brace_fold.specs.inner.Crowds.{rows, spread}
+use Rattle.brace_fold.specs.Hears.{Hears}
+use Rattle.brace_fold.proofs.Alikes.{hears-none}
+use Rattle.brace_fold.proofs.Sayings.{says-all, says-more, stretch-at, stretch-next, stretch-within}
+use Rattle.brace_fold.proofs.scene.Scene.say_stretches.Goals as goal
+
+pub loop-stretch-init : goal.loop-stretch-init
+loop-stretch-init c = record {
+  at = refl;
+  said = λ who scopes told long.
+      hears-none c.args.self.now.program.now (rows c.args.self.now) c.args.heard.now;
+}
+
+pub loop-stretch-preserved : goal.loop-stretch-preserved
+loop-stretch-preserved c =
+    let all = c.args.stretches.now in
+    let i = c.loop-stretch.stretch-index in
+    let low : i < length all = c.loop-stretch-test.true in
+    let at = c.loop-stretch.at in
+    let next = c.in-Some.next in
+    let front = c.loop-stretch.invariant.at in
+    let ends = c.in-Some.ensures.next in
+    let some = c.in-Some.ensures.some in
+    record {
+      at = stretch-next all i _ low at next front ends;
+      said = λ who scopes told long.
+          let most = stretch-within all i _ low at next front ends in
+          let rows_at = stretch-at all i _ low at next front ends in
+          says-more c.args.self.now who c.args.ear.now.effect c.args.ear.now.ty scopes
+          (words_of (length scopes) c.args.words) _ at next (spread all) _ c.args.heard.now
+          c.loop-stretch.heard c.say_to.new.heard told long some most
+          (sym (rows_at at (omega arith) some))
+          (λ k from less. rows_at k (omega (arith, from)) less)
+          (c.in-Some-part.ensures.words (length scopes)
+          (subst (λ (n : ℕ). next ≤ n) told.long most)) c.in_ok-say_to.ensures
+          (c.loop-stretch.invariant.said who scopes told long);
+    }
+
+pub returns : goal.returns
+returns c = record {
+  each = λ who scopes told long.
+      let all = c.args.stretches.now in
+      let whole = ap (λ l. length (spread l))
+      (take_all c.loop-stretch.stretch-index all c.loop-stretch-test.false) in
+      let low : length scopes ≤ c.loop-stretch.at =
+      omega (arith, whole, c.loop-stretch.invariant.at, told.long) in
+      subst (λ (l : List Saying).
+      Hears c.args.self.now.program.now (rows c.args.self.now) l c.args.heard.now
+      c.loop-stretch.heard)
+      (says-all who c.args.ear.now.effect c.args.ear.now.ty scopes
+      (words_of (length scopes) c.args.words) c.loop-stretch.at low long)
+      (c.loop-stretch.invariant.said who scopes told long);
+}
