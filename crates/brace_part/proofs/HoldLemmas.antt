@@ -1,16 +1,19 @@
 -- What is summed of agents in rows: what entries and pieces tell of them, and what is told of them.
-use Rattle.std.proofs.Common.{◌≡◌, ◌∙◌, refl, sym, ap, ap₂, subst, ℕ, ◌+◌, ◌<◌, ℤ, pos, List, [], ◌∷◌, ◌++◌, map, length, set, drop, get_or, slice_get, Bool, true, false, Option, Some, append_assoc, append-nil}
+use Rattle.std.proofs.Common.{◌≡◌, ◌∙◌, refl, sym, ap, ap₂, subst, ℕ, ◌+◌, ◌<◌, ℤ, pos, List, [], ◌∷◌, ◌++◌, map, length, set, drop, get_or, slice_get, Bool, true, false, Option, Some, append_assoc, append-nil, arith, ◌≤◌, ⊎_elim, eq-eqb}
 use Rattle.std.specs.Prelude.{nat_eq, option_map}
 use Rattle.std.specs.Bool.{OnTrue}
-use Rattle.std.specs.List.{All, IsDistinct}
+use Rattle.std.specs.List.{All, Contains, IsDistinct}
+use Rattle.std.proofs.lemmas.Bool.{cases_lt}
 use Rattle.std.proofs.lemmas.List.Elements.{All-head, All-tail}
-use Rattle.std.proofs.lemmas.Option.{same_Some, slice_get-map, slice_get_read}
+use Rattle.std.proofs.lemmas.Option.{get_or_from_slice_get, same_Some, slice_get-get_or, slice_get-map, slice_get_read, slice_get_within}
+use Rattle.std.proofs.lemmas.Map.Keys.{apart_from_distinct}
 use Rattle.std.proofs.lemmas.List.{length-map}
 use Rattle.brace_num.proofs.Orders.{pairs_differ}
 use Rattle.brace_model.specs.declared.program.Effect.{Effect}
 use Rattle.brace_model.specs.declared.program.Program.{Program}
 use Rattle.brace_model.specs.declared.world.Agent.{Agent}
 use Rattle.brace_model.specs.World.{class_of, ids}
+use Rattle.brace_model.proofs.WorldLemmas.{id_at}
 use Rattle.brace_model.specs.Query.{Saying}
 use Rattle.brace_model.specs.Total.{said_to, total_of}
 use Rattle.brace_comb.specs.declared.entry.Entry.{Entry}
@@ -25,7 +28,7 @@ use Rattle.brace_fold.proofs.Summings.{hears-sum}
 use Rattle.brace_pieces.specs.declared.piece.Piece.{Piece}
 use Rattle.brace_pieces.specs.declared.piece.Piece.TheVariants.{Effects}
 use Rattle.brace_part.specs.inner.Asked.{ArePlaces}
-use Rattle.brace_part.specs.inner.Tables.{IsSilent, TellsOf, TellsBy, TellBy, no_piece, one_piece}
+use Rattle.brace_part.specs.inner.Tables.{IsSilent, TellsOf, TellsBy, TellBy, no_entry, one_entry, no_piece, one_piece}
 use Rattle.brace_part.proofs.TableShares.{Reads}
 use Rattle.brace_part.proofs.TableTells.{OneMore, entry_more, next_at, no_entries}
 
@@ -40,6 +43,65 @@ stands_at all these places k place a e at there =
     let second : slice_get (map Some these) k ≡ Some (Some a) =
     slice_get-map Some these k ∙ ap (option_map Some) there in
     same_Some (reads place) (Some a) (sym first ∙ ap (λ l. slice_get l k) e ∙ second)
+
+-- those at places of agents are among them
+pub are_among : (all these : List Agent) (places : List ℕ) → ArePlaces all these places
+    → (a : Agent) → Contains these a → Contains all a
+are_among all these places stand a (k, low, is) =
+    let long : length places ≡ length these =
+    sym (length-map places (λ p. slice_get all p)) ∙ ap length stand ∙ length-map these Some in
+    let place = get_or places k 0 in
+    let here = stands_at all these places k place a stand
+    (slice_get-get_or places k 0 (omega (arith, long, low)))
+    (slice_get_read these (length these) k a refl low (sym is)) in
+    (place, slice_get_within all place a here, get_or_from_slice_get all place a a here)
+
+-- of agents whose ids differ the one of an id stands where the id does
+pub stands_where : (all : List Agent) (row : ℕ) (a : Agent) → IsDistinct nat_eq (ids all)
+    → slice_get (ids all) row ≡ Some a.id → Contains all a → slice_get all row ≡ Some a
+stands_where all row a apart named (k, low, is) =
+    let many : length (ids all) ≡ length all = length-map all (λ (b : Agent). b.id) in
+    let within : row < length (ids all) = slice_get_within (ids all) row a.id named in
+    let here : get_or (ids all) row 0 ≡ a.id = get_or_from_slice_get (ids all) row a.id 0 named in
+    let there : get_or (ids all) k 0 ≡ a.id = id_at all k a low ∙ ap (λ (b : Agent). b.id) is in
+    let same : row ≡ k =
+    ⊎_elim (λ (less : row < k). absurd (differ row k less (omega (arith, low, many))
+    (here ∙ sym there)))
+    (λ (more : k ≤ row). ⊎_elim
+    (λ (less : k < row). absurd (differ k row less within (there ∙ sym here)))
+    (λ (back : row ≤ k). omega (arith, more, back)) (cases_lt k row)) (cases_lt row k) in
+    slice_get_read all (length all) row a refl (omega (arith, within, many))
+    (sym (ap (λ (n : ℕ). get_or all n a) same ∙ is))
+  where
+    differ : (i j : ℕ) → i < j → j < length (ids all)
+        → get_or (ids all) i 0 ≡ get_or (ids all) j 0 → ⊥
+    differ i j lt high is =
+        let no : true ≡ false =
+        sym (eq-eqb _ _ is) ∙ apart_from_distinct nat_eq (ids all) i j 0 apart lt high in cc
+
+-- ---- what is told of some of the agents
+
+module _ (program : Program) (these all : List Agent)
+    (among : (a : Agent) → Contains these a → Contains all a) where
+  entries_among : (entries : List Entry) (told : List Saying)
+      → TellsBy program these entries told → TellsBy program all entries told
+  entries_among _ _ no_entry = no_entry
+  entries_among _ _ (one_entry entry entries told more of rest) =
+      one_entry entry entries told more
+      (record {
+        agent = of.agent;
+        is_held = among of.agent of.is_held;
+        is_target = of.is_target;
+        values = of.values;
+      })
+      (entries_among entries more rest)
+
+  pub tell_among : (pieces : List Piece) (told : List Saying)
+      → TellBy program these pieces told → TellBy program all pieces told
+  tell_among _ _ no_piece = no_piece
+  tell_among _ _ (one_piece entries pieces told more of rest) =
+      one_piece entries pieces told more (entries_among entries told of)
+      (tell_among pieces more rest)
 
 -- ---- pieces that tell of no values
 

@@ -2,7 +2,6 @@ pub mod TableGather
 pub mod TableHeard
 pub mod TableLeft
 pub mod TableOnes
-pub mod IdLemmas
 pub mod TableShares
 pub mod TableTells
 pub mod KindLemmas
@@ -12,7 +11,6 @@ pub mod AskedLemmas
 pub mod LaneLemmas
 pub mod SumsLemmas
 pub mod HoldLemmas
-pub mod NamedLemmas
 pub mod NearLemmas
 pub mod HoldWork
 pub mod WorkTaken

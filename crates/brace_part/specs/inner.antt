@@ -6,4 +6,3 @@ pub mod Ready
 pub mod Sound
 pub mod Hearing
 pub mod Holding
-pub mod Owning

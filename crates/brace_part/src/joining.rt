@@ -1,7 +1,7 @@
-ghost use Rattle.std.specs.Prelude.{◌≡◌, [], List, Some, map, nat_eq, slice_get, IfOk, OnOk};
+ghost use Rattle.std.specs.Prelude.{◌≡◌, ◌<◌, [], List, Some, nat_eq, slice_get, IfOk, OnOk};
 ghost use Rattle.std.specs.Bool.{OnTrue};
 ghost use Rattle.std.specs.List.{All, IsDistinct};
-ghost use Rattle.std.specs.List.Sorted.{IsNonDecreasingBy, IsPermutation};
+ghost use Rattle.std.specs.List.Sorted.{IsPermutation};
 ghost use Rattle.brace_model.specs.declared.world.Agent.{Agent};
 ghost use Rattle.brace_model.specs.World.{RisesById, ids};
 ghost use Rattle.brace_model.specs.Query.{Saying};
@@ -10,7 +10,6 @@ ghost use Rattle.brace_eval.specs.Heard.{AreTold};
 ghost use Rattle.brace_fold.specs.Hears.{Hears};
 ghost use Rattle.brace_fold.specs.Rows.{AreMoved};
 ghost use Rattle.brace_part.specs.inner.Asked.{ArePlaces};
-ghost use Rattle.brace_part.specs.inner.Owning.{AreOwn};
 ghost use Rattle.brace_part.specs.inner.Tables.{IsSilent, TellsOf, TellsBy, TellBy};
 
 use crate::near::{item_at, number_at};
@@ -27,77 +26,81 @@ pub struct Named {
     pub row: u32,
 }
 
-/// Of agents in rows the classes of all, by number; and of a part's own the ids, which rise, and
-/// the rows.
-#[derive(Debug, Clone, Copy)]
-pub struct Own<'a> {
-    pub classes: &'a [u32],
-    pub ids: &'a [u64],
-    pub rows: &'a [u32],
+/// Where the mark of an id stands: ids of one remainder share it.
+fn mark_of(id: u64) -> usize
+    ensures { result < 4096 }
+{
+    (id % 4096) as usize
 }
 
-/// Some rows with the ids of their agents.
-fn with_ids(alloc: Global, ids: &[u64], rows: &[u32]) -> Result<Vec<Named>, Redo>
-    ensures rows { IfOk result (λ named. map (λ n. n.row) named.items ≡ rows.now) }
-    ensures ids { IfOk result (λ named. map (λ n. slice_get ids.now n.row) named.items
-        ≡ map (λ n. Some n.id) named.items) }
-{
-    let mut named = Vec::with_capacity(alloc, rows.len())?;
+/// Marks the ids that entries tell of.
+fn mark(marks: &mut [bool; 4096], entries: &[Entry]) {
+    for entry in entries {
+        marks[mark_of(entry.target)] = true;
+    }
+}
+
+/// Marks the ids that pieces tell of.
+fn mark_all(marks: &mut [bool; 4096], pieces: &[Piece]) {
+    for piece in pieces {
+        if let Piece::Effects(entries) = piece {
+            mark(marks, entries.as_slice());
+        }
+    }
+}
+
+/// Of some rows those of ids that are marked, by rising id.
+fn named_rows(
+    alloc: Global,
+    marks: &[bool; 4096],
+    ids: &[u64],
+    rows: &[u32],
+) -> Result<Vec<Named>, Redo> {
+    let mut named = Vec::new(alloc);
     for row in rows {
         let Some(id) = item_at(ids, *row as usize) else {
             return Err(Redo);
         };
-        named.push(Named { id, row: *row })?;
+        if marks[mark_of(id)] {
+            named.push(Named { id, row: *row })?;
+        }
     }
+    named.sort_by_key(|n| n.id)?;
     Ok(named)
 }
 
-/// Puts rows in the order of ids.
-fn sort_by_id(named: &mut Vec<Named>) -> Result<(), Redo>
-    ensures moved { OnOk result (IsPermutation named.old.items named.new.items) }
-    ensures rise { OnOk result (IsNonDecreasingBy (λ n. n.id) named.new.items) }
+/// The row of an id among rows by rising id, where it stands there.
+fn row_of(ids: &[u64], named: &[Named], id: u64) -> Result<u32, Redo>
+    ensures { IfOk result (λ row. slice_get ids.now row ≡ Some id) }
 {
-    named.sort_by_key(|n| n.id)?;
-    Ok(())
-}
-
-/// Ids without their rows.
-fn ids_of(alloc: Global, named: &[Named]) -> Result<Vec<u64>, Redo>
-    ensures { IfOk result (λ ids. ids.items ≡ map (λ n. n.id) named.now) }
-{
-    let mut ids = Vec::with_capacity(alloc, named.len())?;
-    for n in named {
-        ids.push(n.id)?;
+    let Ok(place) = named.binary_search_by_key(&id, |n| n.id) else {
+        return Err(Redo);
+    };
+    let row = named[place].row;
+    let Some(there) = item_at(ids, row as usize) else {
+        return Err(Redo);
+    };
+    if there != id {
+        return Err(Redo);
     }
-    Ok(ids)
-}
-
-/// Rows without their ids.
-fn rows_of(alloc: Global, named: &[Named]) -> Result<Vec<u32>, Redo>
-    ensures { IfOk result (λ rows. rows.items ≡ map (λ n. n.row) named.now) }
-{
-    let mut rows = Vec::with_capacity(alloc, named.len())?;
-    for n in named {
-        rows.push(n.row)?;
-    }
-    Ok(rows)
+    Ok(row)
 }
 
 /// Joins what an entry tells to the sum of the agent of a row.
 fn join_at(
     program: &Program,
-    own: &Own,
+    rows: &Moved,
     row: u32,
     said: &mut Table,
     entry: &Entry,
 ) -> Result<(), Redo>
-    ensures { OnOk result ((all mine : List Agent) (a : Agent) (told : List Saying)
-        → AreOwn all mine own.now → IsDistinct nat_eq (ids all) → slice_get all row ≡ Some a
+    ensures { OnOk result ((all : List Agent) (a : Agent) (told : List Saying)
+        → AreMoved all rows.now → IsDistinct nat_eq (ids all) → slice_get all row ≡ Some a
         → AreTold program.now a entry.now.field (tally entry.now.total).number
         (tally entry.now.total).count told
         → Hears program.now all told said.old said.new) }
 {
-    let Some(number) = number_at(own.classes, row as usize) else {
+    let Some(number) = number_at(&rows.classes, row as usize) else {
         return Err(Redo);
     };
     let Some(class) = program.classes.as_slice().get(number as usize) else {
@@ -116,67 +119,58 @@ fn join_at(
     Ok(())
 }
 
-/// Joins what an entry tells to the sum of an agent at a place of a part.
-fn join_there(
+/// Joins what an entry tells of an agent in rows.
+fn join_entry(
     program: &Program,
-    own: &Own,
-    place: usize,
+    rows: &Moved,
+    named: &[Named],
     said: &mut Table,
     entry: &Entry,
 ) -> Result<(), Redo>
-    ensures { OnOk result ((all mine : List Agent) (a : Agent) (told : List Saying)
-        → AreOwn all mine own.now → IsDistinct nat_eq (ids all) → slice_get mine place ≡ Some a
-        → AreTold program.now a entry.now.field (tally entry.now.total).number
-        (tally entry.now.total).count told
+    ensures { OnOk result ((all : List Agent) (told : List Saying)
+        → AreMoved all rows.now → IsDistinct nat_eq (ids all)
+        → TellsOf program.now all entry.now told
         → Hears program.now all told said.old said.new) }
 {
-    let Some(row) = number_at(own.rows, place) else {
-        return Err(Redo);
-    };
-    join_at(program, own, row, said, entry)
+    let row = row_of(&rows.ids, named, entry.target)?;
+    join_at(program, rows, row, said, entry)
 }
 
-/// Joins what an entry tells of an agent of a part.
-fn join_entry(program: &Program, own: &Own, said: &mut Table, entry: &Entry) -> Result<(), Redo>
-    ensures { OnOk result ((all mine : List Agent) (told : List Saying)
-        → AreOwn all mine own.now → IsDistinct nat_eq (ids all)
-        → TellsOf program.now mine entry.now told
-        → Hears program.now all told said.old said.new) }
-{
-    match own.ids.binary_search_by_key(&entry.target, |id| *id) {
-        Ok(place) => join_there(program, own, place, said, entry),
-        Err(_) => Ok(()),
-    }
-}
-
-/// Joins what entries tell of agents of a part.
+/// Joins what entries tell of agents in rows.
 fn join_entries(
     program: &Program,
-    own: &Own,
+    rows: &Moved,
+    named: &[Named],
     said: &mut Table,
     entries: &[Entry],
 ) -> Result<(), Redo>
-    ensures { OnOk result ((all mine : List Agent) (told : List Saying)
-        → AreOwn all mine own.now → IsDistinct nat_eq (ids all)
-        → TellsBy program.now mine entries.now told
+    ensures { OnOk result ((all : List Agent) (told : List Saying)
+        → AreMoved all rows.now → IsDistinct nat_eq (ids all)
+        → TellsBy program.now all entries.now told
         → Hears program.now all told said.old said.new) }
 {
     for entry in entries {
-        join_entry(program, own, said, entry)?;
+        join_entry(program, rows, named, said, entry)?;
     }
     Ok(())
 }
 
-/// Joins what pieces tell of values said to agents of a part.
-fn join_pieces(program: &Program, own: &Own, said: &mut Table, pieces: &[Piece]) -> Result<(), Redo>
-    ensures { OnOk result ((all mine : List Agent) (told : List Saying)
-        → AreOwn all mine own.now → IsDistinct nat_eq (ids all)
-        → TellBy program.now mine pieces.now told
+/// Joins what pieces tell of values said to agents in rows.
+fn join_pieces(
+    program: &Program,
+    rows: &Moved,
+    named: &[Named],
+    said: &mut Table,
+    pieces: &[Piece],
+) -> Result<(), Redo>
+    ensures { OnOk result ((all : List Agent) (told : List Saying)
+        → AreMoved all rows.now → IsDistinct nat_eq (ids all)
+        → TellBy program.now all pieces.now told
         → Hears program.now all told said.old said.new) }
 {
     for piece in pieces {
         if let Piece::Effects(entries) = piece {
-            join_entries(program, own, said, entries.as_slice())?;
+            join_entries(program, rows, named, said, entries.as_slice())?;
         }
     }
     Ok(())
@@ -228,14 +222,8 @@ pub fn join_sums(
     if are_silent(pieces) {
         return Ok(());
     }
-    let mut named = with_ids(alloc, &rows.ids, own)?;
-    sort_by_id(&mut named)?;
-    let ids = ids_of(alloc, &named)?;
-    let places = rows_of(alloc, &named)?;
-    let own = Own {
-        classes: &rows.classes,
-        ids: &ids,
-        rows: &places,
-    };
-    join_pieces(program, &own, said, pieces)
+    let mut marks = [false; 4096];
+    mark_all(&mut marks, pieces);
+    let named = named_rows(alloc, &marks, &rows.ids, own)?;
+    join_pieces(program, rows, &named, said, pieces)
 }

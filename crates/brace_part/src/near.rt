@@ -1,7 +1,8 @@
-ghost use Rattle.std.specs.Prelude.{◌≡◌, ℤ, ◌<◌, ◌≤◌, ◌++◌, List, Some, Bool, pos, ◌≤ℤ◌, filter, length, slice_get, IsTrue, IfOk, IfSome, IfNone};
+ghost use Rattle.std.specs.Prelude.{◌≡◌, ℤ, ◌<◌, ◌≤◌, ◌+◌, ◌++◌, [], ◌∷◌, List, Some, Bool, pos, ◌≤ℤ◌, filter, if◌then◌else◌, length, slice_get, IsTrue, IfOk, IfSome, IfNone};
 ghost use Rattle.std.specs.Bool.{OnTrue};
 ghost use Rattle.std.specs.List.{All, list_all};
 ghost use Rattle.std.specs.List.Sorted.{IsPermutation};
+ghost use Rattle.std.specs.Vec.{vec_len, vec_capacity};
 ghost use Rattle.brace_num.specs.declared.kinds.Area.{Area};
 ghost use Rattle.brace_model.specs.declared.program.Program.{Program};
 ghost use Rattle.brace_model.specs.declared.world.Agent.{Agent};
@@ -18,7 +19,7 @@ ghost use Rattle.brace_part.specs.inner.Near.{AreAxes, AreNear, IsWidened, Stand
 
 use crate::gather::sorted;
 use brace_cuts::Cuts;
-use brace_fold::{Moved, Redo, add_row, columns_of};
+use brace_fold::{Moved, Redo, columns_of};
 use brace_model::{Agent, Area, Program};
 use brace_num::{List, NoMemory};
 use std::alloc::Global;
@@ -46,6 +47,21 @@ pub fn item_at<T: Copy>(column: &[T], row: usize) -> Option<T>
     column.get(row).copied()
 }
 
+/// A column of states of a number, of as many rows as there are.
+fn column(rows: &Moved, state: usize) -> Result<&[i64], Redo>
+    ensures is { IfOk result (λ column. slice_get rows.now.states.items state ≡ Some column.now) }
+    ensures long { IfOk result (λ column. length column.now ≡ length rows.now.classes.items) }
+{
+    let Some(column) = rows.states.get(state) else {
+        return Err(Redo);
+    };
+    let column = column.as_slice();
+    if column.len() != rows.classes.len() {
+        return Err(Redo);
+    }
+    Ok(column)
+}
+
 /// The columns of x and of y of a class of a number.
 fn axes_of<'a>(program: &Program, rows: &'a Moved, number: u32) -> Result<Axes<'a>, Redo>
     ensures class { IfOk result (λ axes. axes.class ≡ number) }
@@ -54,16 +70,12 @@ fn axes_of<'a>(program: &Program, rows: &'a Moved, number: u32) -> Result<Axes<'
     let Some(own) = program.classes.as_slice().get(number as usize) else {
         return Err(Redo);
     };
-    let Some(xs) = rows.states.get(own.x as usize) else {
-        return Err(Redo);
-    };
-    let Some(ys) = rows.states.get(own.y as usize) else {
-        return Err(Redo);
-    };
+    let xs = column(rows, own.x as usize)?;
+    let ys = column(rows, own.y as usize)?;
     Ok(Axes {
         class: number,
-        xs: xs.as_slice(),
-        ys: ys.as_slice(),
+        xs,
+        ys,
     })
 }
 
@@ -105,22 +117,30 @@ fn is_in(area: &Area, x: i64, y: i64) -> bool
 }
 
 /// Whether the agent of a row stands in an area: within a range of the one that it widens.
-fn is_near_at(axes: &Axes, wide: &Area, row: usize) -> Result<bool, Redo>
-    ensures near { IfOk result (λ near. (program : Program) (rows : Moved) (agents : List Agent)
-        (a : Agent) (area : Area) (range : ℤ) → AreAxes program rows axes.now
-        → AreMoved agents rows → slice_get agents row ≡ Some a → a.class ≡ axes.now.class
-        → IsWidened area range wide.now → near ≡ is_near program area range a) }
-    ensures fit { IfOk result (λ _. (program : Program) (rows : Moved) (agents : List Agent)
-        (a : Agent) → AreAxes program rows axes.now → AreMoved agents rows
-        → slice_get agents row ≡ Some a → a.class ≡ axes.now.class → StandsFit program a) }
+fn is_near_at(axes: &Axes, wide: &Area, row: usize) -> bool
+    requires xs { row < length axes.now.xs.now }
+    requires ys { row < length axes.now.ys.now }
+    ensures near { (program : Program) (rows : Moved) (agents : List Agent) (a : Agent)
+        (area : Area) (range : ℤ) → AreAxes program rows axes.now → AreMoved agents rows
+        → slice_get agents row ≡ Some a → a.class ≡ axes.now.class
+        → IsWidened area range wide.now → result ≡ is_near program area range a }
+    ensures fit { (program : Program) (rows : Moved) (agents : List Agent) (a : Agent)
+        → AreAxes program rows axes.now → AreMoved agents rows → slice_get agents row ≡ Some a
+        → a.class ≡ axes.now.class → StandsFit program a }
 {
-    let Some(x) = item_at(axes.xs, row) else {
-        return Err(Redo);
-    };
-    let Some(y) = item_at(axes.ys, row) else {
-        return Err(Redo);
-    };
-    Ok(is_in(wide, x, y))
+    is_in(wide, axes.xs[row], axes.ys[row])
+}
+
+/// Adds a row that is wanted, where there is room.
+fn add_near(near: &mut Vec<u32>, row: u32, wanted: bool)
+    requires { vec_len near.old < vec_capacity near.old }
+    ensures items { near.new.items ≡ near.old.items ++ (if wanted then row ∷ [] else []) }
+    ensures len { vec_len near.new ≤ vec_len near.old + 1 }
+    ensures room { vec_capacity near.new ≡ vec_capacity near.old }
+{
+    if wanted {
+        near.push_reserved(row);
+    }
 }
 
 /// The rows of the agents that stand within a range of an area.
@@ -135,23 +155,21 @@ fn rows_near(
     ensures { IfOk result (λ near. (agents : List Agent) → AreMoved agents rows.now
         → AreNear program.now area.now range agents agents near.items) }
 {
-    let mut near = Vec::with_capacity(alloc, rows.classes.len())?;
-    let Some(first) = number_at(&rows.classes, 0) else {
+    let classes = rows.classes.as_slice();
+    let mut near = Vec::with_capacity(alloc, classes.len())?;
+    let Some(first) = number_at(classes, 0) else {
         return Ok(near);
+    };
+    let Ok(count) = u32::try_from(classes.len()) else {
+        return Err(Redo);
     };
     let mut axes = axes_of(program, rows, first)?;
     let wide = widened(area, range);
-    for k in 0..rows.classes.len() {
-        let Ok(row) = u32::try_from(k) else {
-            return Err(Redo);
-        };
-        let Some(number) = number_at(&rows.classes, k) else {
-            return Err(Redo);
-        };
-        let known = led(program, rows, axes, number)?;
+    for row in 0..count {
+        let known = led(program, rows, axes, classes[row as usize])?;
         axes = known;
-        let wanted = is_near_at(&axes, &wide, k)?;
-        add_row(&mut near, row, wanted)?;
+        let wanted = is_near_at(&axes, &wide, row as usize);
+        add_near(&mut near, row, wanted);
     }
     Ok(near)
 }

@@ -1,5 +1,5 @@
 -- Which agents in columns stand near an area. Only the crate's own functions cite this.
-use Rattle.std.specs.Prelude.{◌≡◌, ◌&&◌, ℕ, ℤ, Bool, List, filter, int_le, FitsSigned, Option, None, Some, slice_get, ⊤}
+use Rattle.std.specs.Prelude.{◌≡◌, ◌&&◌, ℕ, ℤ, Bool, List, filter, int_le, length, FitsSigned, Option, None, Some, slice_get, ⊤}
 use Rattle.std.specs.Int.{w64}
 use Rattle.std.specs.List.{All}
 use Rattle.brace_num.specs.declared.kinds.Area.{Area}
@@ -31,12 +31,14 @@ stands_fit (Some c) a = FitsSigned w64 (x_of c a) × FitsSigned w64 (y_of c a)
 abbrev pub StandsFit : Program → Agent → Type 0
 StandsFit program a = stands_fit (class_of program a) a
 
--- columns of x and of y are those of a class
+-- columns of x and of y are those of a class, of as many rows as there are
 pub record AreAxes (program : Program) (rows : Moved) (axes : Axes) : Type 0 where
   pub own : Class
   pub has : slice_get program.classes axes.class ≡ Some own
   pub xs : slice_get rows.states.items own.x ≡ Some axes.xs.now
   pub ys : slice_get rows.states.items own.y ≡ Some axes.ys.now
+  pub xs_long : length axes.xs.now ≡ length rows.classes.items
+  pub ys_long : length axes.ys.now ≡ length rows.classes.items
 
 -- the places among agents of those of some of them that stand within a range of an area; these all
 -- stand at numbers of 64 bits

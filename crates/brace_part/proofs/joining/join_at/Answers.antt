@@ -13,7 +13,7 @@ use Rattle.brace_part.proofs.HoldLemmas.{told_hears}
 use Rattle.brace_part.proofs.joining.join_at.Goals as goal
 
 pub returns : goal.returns
-returns c all mine a told own apart there tells =
+returns c all a told moved apart there tells =
     let entry = c.args.entry.now in
     let program = c.args.program.now in
     let row = c.args.row in
@@ -29,10 +29,10 @@ returns c all mine a told own apart there tells =
     let number_is : number ≡ (tally entry.total).number =
     to_z-of_z w64 c.in-Ok.number small ∙ read_is in
     let count_is : count ≡ (tally entry.total).count = search rules in
-    let named : slice_get c.args.own.now.classes.now row ≡ Some c.in-Some.number =
-    c.in-Some.ensures.some in
+    let named : slice_get c.deref.result.now row ≡ Some c.in-Some.number = c.in-Some.ensures.some in
     let its : c.in-Some.number ≡ a.class =
-    same_Some _ _ (sym named ∙ ap (λ l. slice_get l row) own.classes
+    same_Some _ _ (sym named
+    ∙ ap (λ (l : List ℕ). slice_get l row) (c.deref.ensures.value ∙ moved.classes)
     ∙ slice_get-map (λ (b : Agent). b.class) all row
     ∙ ap (option_map (λ (b : Agent). b.class)) there) in
     let known : slice_get c.as_slice.result.now c.in-Some.number ≡ Some class =

@@ -4,14 +4,14 @@ use Rattle.std.specs.List.{IsDistinct}
 use Rattle.brace_model.specs.declared.world.Agent.{Agent}
 use Rattle.brace_model.specs.World.{ids}
 use Rattle.brace_model.specs.Query.{Saying}
-use Rattle.brace_part.specs.inner.Owning.{AreOwn}
+use Rattle.brace_fold.specs.Rows.{AreMoved}
 use Rattle.brace_part.specs.inner.Tables.{TellsBy}
 use Rattle.brace_part.proofs.HoldLemmas.{SoFarJoined}
 use Rattle.brace_part.proofs.joining.join_entries.Given as goal
 
 abbrev pub invariant-loop-entry : goal.invariant-loop-entry
-invariant-loop-entry l = (all mine : List Agent) (told : List Saying)
-    → AreOwn all mine l.own → IsDistinct nat_eq (ids all)
-    → TellsBy l.program mine l.entries told
+invariant-loop-entry l = (all : List Agent) (told : List Saying)
+    → AreMoved all l.rows → IsDistinct nat_eq (ids all)
+    → TellsBy l.program all l.entries told
     → SoFarJoined l.program all told l.fn.said l.said
-    (TellsBy l.program mine (drop l.entry-index l.entries))
+    (TellsBy l.program all (drop l.entry-index l.entries))

@@ -1,12 +1,10 @@
-use Rattle.std.proofs.Common.{◌∙◌, ℕ, All, List, sym, ap, subst, map}
+use Rattle.std.proofs.Common.{All, sym, subst}
 use Rattle.std.specs.Bool.{OnTrue}
+use Rattle.std.proofs.lemmas.List.Sorted.{Contains-permutation}
 use Rattle.brace_fold.specs.Hears.{Hears}
 use Rattle.brace_fold.proofs.Alikes.{hears-none}
-use Rattle.brace_part.specs.declared.joining.Named.{Named}
-use Rattle.brace_part.specs.inner.Asked.{ArePlaces}
 use Rattle.brace_part.specs.inner.Tables.{IsSilent}
-use Rattle.brace_part.proofs.HoldLemmas.{silent_told}
-use Rattle.brace_part.proofs.NamedLemmas.{named_mine}
+use Rattle.brace_part.proofs.HoldLemmas.{are_among, silent_told, tell_among}
 use Rattle.brace_part.proofs.TableTells.{on_ok}
 use Rattle.brace_part.proofs.joining.join_sums.Goals as goal
 
@@ -23,18 +21,6 @@ pub returns : goal.returns
 returns c =
     on_ok c.join_pieces.result c.join_pieces.ensures
     (λ join all theirs mine told moved apart stand same rises tells.
-    let named = c.in_ok-named.named.items in
-    let sorted = c.sort_by_id.new.named.items in
-    let (ids_are, rows_are) = named_mine all theirs mine c.deref.result.now c.args.own.now named
-    sorted (c.deref.ensures.value ∙ moved.ids_are) stand same rises c.in_ok-named.ensures.rows
-    c.in_ok-named.ensures.ids c.in_ok-sort_by_id.ensures.moved c.in_ok-sort_by_id.ensures.rise in
-    join all mine told
-    (record {
-      classes = c.deref-4.ensures.value ∙ moved.classes;
-      ids_are = c.deref-5.ensures.value ∙ c.in_ok-ids.ensures
-          ∙ ap (map (λ (n : Named). n.id)) c.deref-2.ensures.value ∙ ids_are;
-      rises = rises;
-      stand = subst (ArePlaces all mine)
-          (sym {A = List ℕ} (c.deref-6.ensures.value ∙ c.in_ok-places.ensures
-          ∙ ap (map (λ (n : Named). n.row)) c.deref-3.ensures.value)) rows_are;
-    }) apart tells)
+    join all told moved apart
+    (tell_among c.args.program.now mine all (λ a at. are_among all theirs c.args.own.now stand a
+    (Contains-permutation mine theirs a same at)) c.args.pieces.now told tells))
