@@ -22,10 +22,11 @@ use Rattle.brace_pieces.specs.Steps.{schedule}
 use Rattle.brace_pieces.specs.Courses.{past_of}
 use Rattle.brace_pieces.proofs.ScheduleLemmas.{schedule_lawful}
 use Rattle.brace_crew.specs.declared.member.Member.{Member}
-use Rattle.brace_crew.specs.Members.{course_of, opening_of, next_of, turns_to, IsDone, IsWithin, IsAt}
+use Rattle.brace_crew.specs.Members.{course_of, kept_of, next_of, turns_to, IsDone, IsWithin, IsAt}
 use Rattle.brace_crew.specs.Benches.{served_by, IsUnused, IsUsedTo, AreServed, Waits, AreWaiting}
 use Rattle.brace_crew.specs.inner.Driven.{Counts, AreCounted, AreSame, WentAll, turns_left, both}
-use Rattle.brace_crew.proofs.RunMembers.{of_all_map}
+use Rattle.brace_crew.proofs.MemberLemmas.{of_all_map}
+use Rattle.brace_crew.proofs.RunMembers.{all_same, same_of}
 use Rattle.brace_num.proofs.Lists.{in_filter}
 use Rattle.brace_num.proofs.Rows.{row_has}
 
@@ -181,21 +182,28 @@ module _ {P : Type 0} where
           let has : Contains (served_by v) a = in_filter (λ b. b % v.seats == v.number) (range_with_len 0 v.actors) a (row_has 0 v.actors a (omega arith) (omega (arith, low))) (eq-eqb (a % v.seats) v.number serves) in
           All-contains (AllUsed end v) (served_by v) a (subst (All (AllUsed end v)) are.numbers (All-map (AllUsed end v) number_of ms each)) has
 
+  -- members that stand where they stood are counted still
+  pub still_counted : (v : View Setting) (ms ns : List (Member P)) → map course_of ns ≡ map course_of ms → AreCounted v ms → AreCounted v ns
+  still_counted v ms ns same are = record {
+    numbers = same_of course_of (λ c. c.actor) ms ns same ∙ are.numbers;
+    counted = all_same course_of (λ c. (c.setting ≡ v.setting) × IsCounted (schedule v.setting) c.actor (past_of c) (Serves v) (puts_of v) (takes_of v)) ms ns same are.counted;
+  }
+
   -- ---- a later time
 
   pub same_members : (ms : List (Member P)) (i : ℕ) (m n : Member P) → m ≡ get_or ms i m → (course_of n).setting ≡ (course_of m).setting → number_of n ≡ number_of m
-      → opening_of n ≡ opening_of m → AreSame ms (set ms i n)
+      → kept_of n ≡ kept_of m → AreSame ms (set ms i n)
   same_members ms i m n at setting number opening = record {
     settings = map_kept (λ m. (course_of m).setting) ms i m n at setting;
     numbers = map_kept number_of ms i m n at number;
-    openings = map_kept opening_of ms i m n at opening;
+    kept = map_kept kept_of ms i m n at opening;
   }
 
   pub same_count : (ms ns : List (Member P)) → AreSame ms ns → length ns ≡ length ms
   same_count ms ns same = sym (length-map ns number_of) ∙ ap length same.numbers ∙ length-map ms number_of
 
   pub same_on : (ms ns os : List (Member P)) → AreSame ms ns → AreSame ns os → AreSame ms os
-  same_on ms ns os one two = record { settings = two.settings ∙ one.settings; numbers = two.numbers ∙ one.numbers; openings = two.openings ∙ one.openings }
+  same_on ms ns os one two = record { settings = two.settings ∙ one.settings; numbers = two.numbers ∙ one.numbers; kept = two.kept ∙ one.kept }
 
 pub later_on : {S : Type 0} (u v w : OnSeat S) → IsLater u v → IsLater v w → IsLater u w
 later_on u v w one two = record {

@@ -239,7 +239,10 @@ module _ (κ : NamedLft) (P : RattleType) (of : Ghosts P.Denot) (sent : IsSend P
             search (crosses, sendable) depth 30,
             (
               search (sent, sendable) depth 30,
-              (search (lot_send, crosses, sendable) depth 30, (search (stop.the_send, sendable) depth 30, (search sendable depth 30, (search sendable depth 30, tt)))),
+              (
+                search (lot_send, crosses, sendable) depth 30,
+                (search (stop.the_send, sendable) depth 30, (search sendable depth 30, (search sendable depth 30, (search (crosses, sendable) depth 30, tt)))),
+              ),
             ),
           ),
         ),

@@ -30,7 +30,7 @@ use Rattle.brace_pieces.specs.Right.{IsRight, IsRightIn, IsRightAt, border, hand
 use Rattle.brace_pieces.proofs.OnLemmas.{on_next}
 use Rattle.brace_pieces.proofs.OrderLemmas.{steps_tick}
 use Rattle.brace_part.proofs.LawfulOn.{some_pass}
-use Rattle.brace_crew.proofs.RunMembers.{of_all_map}
+use Rattle.brace_crew.proofs.MemberLemmas.{of_all_map}
 use Rattle.brace_wire.specs.Fitting.{layout, are_of, is_of, IsOf}
 use Rattle.brace_wire.specs.Shown.{HasBytes}
 use Rattle.brace_wire.proofs.StreamLemmas.{all_append}

@@ -227,23 +227,26 @@ module _ (s : Setting) where
     calls_begin count none = front_of count none (first_fault s.job) refl ∙ sym (calls_front count none)
 
     -- a publisher that refused a call at an end refused one of the run
-    pub cut_of_run : {P : Type 0} (of : publisher.Ghosts P) (opening now : P) (x : PubFault) → (cut : IsCut of s opening now (end_calls s) x) → AreFaultless s (cut.made + 1) → IsCut of s opening now (calls s) x
+    pub cut_of_run : {P : Type 0} (of : publisher.Ghosts P) (opening now : P) (x : PubFault) → (cut : IsCut of s opening now (end_calls s) x) → AreFaultless s (cut.made + 1)
+        → (one : IsCut of s opening now (calls s) x) × (one.made ≡ cut.made)
     cut_of_run of opening now x cut none =
         let m = cut.made in
         let within : m < length (ends s) = subst (λ n. m < n) (length-map (ends s) (whole_call s)) (slice_get_within (end_calls s) m cut.call cut.is_next) in
         let long : length (take (m + 1) (ends s)) ≡ m + 1 = length-take-le (m + 1) (ends s) (omega (arith, within)) in
         let more : m + 1 ≡ suc m = omega arith in
         let same : take (suc m) (calls s) ≡ take (suc m) (end_calls s) =
-        subst (λ n. take n (calls s) ≡ take n (end_calls s)) more (subst (λ n. take n (calls s) ≡ take (m + 1) (end_calls s)) long (calls_begin (m + 1) none)) in
-        record {
-          made = m;
-          call = cut.call;
-          is_next = sym (get_front m (calls s)) ∙ ap (λ all. slice_get all m) same ∙ get_front m (end_calls s) ∙ cut.is_next;
-          is_cut = subst (λ made. of.cut (behind of s opening made) s cut.call.tick cut.call.worlds x (of.state now)) (sym (take_front m (end_calls s)) ∙ ap (take m) (sym same) ∙ take_front m (calls s)) cut.is_cut;
-          is_named = cut.is_named;
-          written = cut.written;
-          saved = cut.saved;
-        }
+        subst (λ n. take n (calls s) ≡ take n (end_calls s)) more (subst (λ n. take n (calls s) ≡ take (m + 1) (end_calls s)) long (calls_begin (m + 1) none)) in (
+          record {
+            made = m;
+            call = cut.call;
+            is_next = sym (get_front m (calls s)) ∙ ap (λ all. slice_get all m) same ∙ get_front m (end_calls s) ∙ cut.is_next;
+            is_cut = subst (λ made. of.cut (behind of s opening made) s cut.call.tick cut.call.worlds x (of.state now)) (sym (take_front m (end_calls s)) ∙ ap (take m) (sym same) ∙ take_front m (calls s)) cut.is_cut;
+            is_named = cut.is_named;
+            written = cut.written;
+            saved = cut.saved;
+          },
+          refl,
+        )
 
   -- ---- a run that ends in a fault before an end
 

@@ -1,5 +1,5 @@
 -- What a run comes to, by what its desk published and where it halted.
-use Rattle.std.proofs.Common.{◌≡◌, ◌∙◌, refl, sym, ap, subst, ℕ, zero, suc, ◌+◌, ◌-◌, ◌%◌, ◌<◌, ◌≤◌, List, [], ◌∷◌, ◌++◌, map, filter, take, take_all, drop, length, Bool, true, false, if◌then◌else◌, Some, None, Ok, Err, slice_get, All, Contains, IsTrue, ◌==◌, ◌||◌, ◌⊎◌, append-nil, arith, inl, inr}
+use Rattle.std.proofs.Common.{◌≡◌, ◌∙◌, refl, sym, ap, subst, ℕ, zero, suc, ◌+◌, ◌-◌, ◌%◌, ◌<◌, ◌≤◌, List, [], ◌∷◌, ◌++◌, map, filter, take, take_all, length, Bool, true, false, cond, if◌then◌else◌, Some, None, Ok, Err, slice_get, All, Contains, IsTrue, ◌==◌, ◌||◌, ◌⊎◌, append-nil, arith, inl, inr}
 use Rattle.std.specs.List.{range_with_len}
 use Rattle.std.specs.Result.{result_err}
 use Rattle.std.proofs.lemmas.Bool.{cases_lt}
@@ -14,11 +14,12 @@ use Rattle.brace_model.specs.Run.{world_after, first_fault}
 use Rattle.brace_invert.proofs.Heard.{seen_in}
 use Rattle.brace_pieces.specs.declared.setting.Setting.{Setting}
 use Rattle.brace_pieces.specs.declared.setting.Stage.TheVariants as stage
+use Rattle.brace_pieces.specs.declared.setting.Step.{Step}
 use Rattle.brace_pieces.specs.declared.piece.Cause.{Cause}
 use Rattle.brace_pieces.specs.declared.piece.Cause.TheVariants as cause
 use Rattle.brace_pieces.specs.declared.piece.Shown.{Shown}
 use Rattle.brace_pieces.specs.Settings.{parts, is_end, ends, shown_from, shown_ticks}
-use Rattle.brace_pieces.specs.Steps.{step, steps, is_show, schedule}
+use Rattle.brace_pieces.specs.Steps.{step, steps, is_show}
 use Rattle.brace_pieces.specs.Continued.{on}
 use Rattle.brace_pieces.specs.Finds.{stage_of, found_at}
 use Rattle.brace_pieces.specs.Right.{IsFaultless, IsShown, IsRightCause}
@@ -32,24 +33,30 @@ use Rattle.brace_crew.specs.declared.crew.CrewFault.TheVariants as fault
 use Rattle.brace_crew.specs.declared.desk.Lot.{Lot}
 use Rattle.brace_crew.specs.Refusals.{tick_of}
 use Rattle.brace_crew.specs.Calls.{Call, ticks_left, call_of, calls_to, calls, call_at, behind, IsCut, IsFront, HasRun, Rises, CameTo}
-use Rattle.brace_crew.specs.Desks.{OnDesk, whole_at, end_calls, ends_before, AreFaultless, HasShown, HasHalted, HasRefused}
-use Rattle.brace_crew.specs.Workers.{ends_until}
-use Rattle.brace_crew.specs.inner.Crews.{AreEarly, IsReached, IsDeskOf}
-use Rattle.brace_crew.proofs.EndCalls.{end_there, ends_all}
-use Rattle.brace_pieces.specs.Courses.{OnCourse, IsCourse, past_of}
-use Rattle.brace_core.specs.Schedule.{front, turns}
-use Rattle.brace_pieces.specs.Fronts.{to_show, steps_to}
+use Rattle.brace_crew.specs.Desks.{OnDesk, whole_at, end_calls, ends_before, AreFaultless, StoppedAt, HasShown, HasHalted, HasRefused}
+use Rattle.brace_crew.specs.declared.member.Member.TheVariants as member
+use Rattle.brace_crew.specs.Members.{IsAt, WasUntold}
+use Rattle.brace_crew.specs.Workers.{ends_until, EndsBehind}
+use Rattle.brace_crew.specs.inner.Crews.{IsReached, IsDeskOf}
+use Rattle.brace_crew.proofs.EndCalls.{end_there, ends_all, whole_call, call_there}
+use Rattle.brace_pieces.specs.Courses.{IsCourse}
+use Rattle.brace_pieces.specs.Fronts.{steps_to}
 use Rattle.brace_pieces.proofs.CourseLemmas.{StandsThere, stands_there}
 use Rattle.brace_pieces.proofs.FrontLemmas.{steps_within, shown_few, shown_all, steps_over}
 use Rattle.brace_pieces.proofs.EpochLemmas.{last_is_end}
 use Rattle.brace_pieces.proofs.OrderLemmas.{shows_later}
 use Rattle.brace_crew.proofs.FirstFault.{IsRun, EndsIn, none_sooner}
-use Rattle.brace_crew.proofs.CallsMade.{StopsAt, ends_low, ends_up_to, all_calls, same_from, calls_begin, calls_front, worlds_there, cut_of_run}
+use Rattle.brace_crew.proofs.CallsMade.{StopsAt, ends_up_to, all_calls, same_from, calls_begin, calls_front, worlds_there, cut_of_run}
 use Rattle.brace_crew.proofs.RiseLemmas.{rose_from, then_rises}
 use Rattle.brace_num.proofs.Lists.{All-from_contains, in_filter}
 use Rattle.brace_num.proofs.Rows.{in_row, row_has}
 
 -- ---- where a desk halted
+
+all_taken : {A : Type 0} (es : List A) (c : ℕ) (x : A) → slice_get es c ≡ Some x → length (take c es) ≡ c
+all_taken [] c x is = absurd cc
+all_taken (e ∷ es) zero x is = refl
+all_taken (e ∷ es) (suc c) x is = omega (arith, all_taken es c x is)
 
 -- a publisher was shown all ends before that of a step, in which a cause was told
 pub record HaltedAt {P : Type 0} (of : publisher.Ghosts P) (s : Setting) (opening now : P) (lots : List Lot) (x : Cause) : Type 0 where
@@ -61,17 +68,24 @@ pub record HaltedAt {P : Type 0} (of : publisher.Ghosts P) (s : Setting) (openin
   pub right : IsRightCause s number x
   pub brought : All (λ lot. IsShown s end lot.part lot.worlds) lots
 
+halted_so : {P : Type 0} (of : publisher.Ghosts P) (s : Setting) (d : OnDesk P) (x : Cause) → d.course.setting ≡ s → (h : HasHalted of d x)
+    → (at : HaltedAt of s d.opening d.publisher d.lots x) × (ends_before d.course.setting h.number ≡ ends_before s at.number)
+halted_so of s d x is h =
+    subst (λ r. (at : HaltedAt of r d.opening d.publisher d.lots x) × (ends_before d.course.setting h.number ≡ ends_before r at.number)) is (
+      record {
+        number = h.number;
+        end = h.end;
+        stands = h.stands;
+        is_behind = h.shown.is_behind;
+        faultless = h.shown.faultless;
+        right = h.right;
+        brought = h.brought;
+      },
+      refl,
+    )
+
 pub halted_at : {P : Type 0} (of : publisher.Ghosts P) (s : Setting) (d : OnDesk P) (x : Cause) → d.course.setting ≡ s → HasHalted of d x → HaltedAt of s d.opening d.publisher d.lots x
-halted_at of s d x is h =
-    subst (λ r. HaltedAt of r d.opening d.publisher d.lots x) is (record {
-      number = h.number;
-      end = h.end;
-      stands = h.stands;
-      is_behind = h.shown.is_behind;
-      faultless = h.shown.faultless;
-      right = h.right;
-      brought = h.brought;
-    })
+halted_at of s d x is h = (halted_so of s d x is h).0
 
 no_show : (s : Setting) (phase : Phase) → is_show (stage_of s phase) ≡ false
 no_show s Query = refl
@@ -84,8 +98,11 @@ no_show s Birth = refl
 
 module _ {P : Type 0} (of : publisher.Ghosts P) (s : Setting) (run : IsRun s) (opening : P) where
   -- a publisher that was shown the first ends was made the first calls of the run
+  made_first : (now : P) (count : ℕ) → AreFaultless s count → of.state now ≡ behind of s opening (take count (end_calls s)) → (front : IsFront of s opening now (calls s)) × (front.made ≡ length (take count (ends s)))
+  made_first now count none is = (record { made = length (take count (ends s)); is_behind = is ∙ ap (behind of s opening) (sym (calls_begin s run count none)) }, refl)
+
   pub in_front : (now : P) (count : ℕ) → AreFaultless s count → of.state now ≡ behind of s opening (take count (end_calls s)) → IsFront of s opening now (calls s)
-  in_front now count none is = record { made = length (take count (ends s)); is_behind = is ∙ ap (behind of s opening) (sym (calls_begin s run count none)) }
+  in_front now count none is = (made_first now count none is).0
 
   -- where a fault was told the run ends in one, before the end that was next
   module _ (now : P) (lots : List Lot) (f g : Fault) (h : HaltedAt of s opening now lots (cause.Fault f)) (e : EndsIn s g) where
@@ -131,21 +148,23 @@ module _ {P : Type 0} (of : publisher.Ghosts P) (s : Setting) (run : IsRun s) (o
           ∙ fold-append (λ v c. of.after v s c.tick c.worlds) (of.state opening) published (record { tick = g.tick; worlds = worlds } ∷ []))
 
       pub rest_cut : (x : Shown) (xs : List Shown) → worlds ≡ x ∷ xs → Rises of opening now → (last : P) (y : PubFault) → of.cut (of.state now) s g.tick worlds y (of.state last) → ((k : ℕ) → tick_of y ≡ Some k → (k ≡ g.tick) × Rose (of.saves now) (of.saves last))
-          → (y ≡ refusal.Write → Rose (of.writes now) (of.writes last)) → IsCut of s opening last (calls s) y
+          → (y ≡ refusal.Write → Rose (of.writes now) (of.writes last)) → (cut : IsCut of s opening last (calls s) y) × (cut.made ≡ ends_before s h.number)
       rest_cut x xs is rises last y cut saved written =
           let all = rest_is ∙ ap (λ cs. published ++ cs) (one_call x xs is) in
           let writes = rises.writes_rise in
           let saves = rises.saves_rise in
-          let made = front_length published (record { tick = g.tick; worlds = worlds }) in
-          record {
-            made = length published;
-            call = record { tick = g.tick; worlds = worlds };
-            is_next = ap (λ cs. slice_get cs (length published)) all ∙ made.0;
-            is_cut = subst (λ v. of.cut v s g.tick worlds y (of.state last)) (h.is_behind ∙ ap (behind of s opening) (sym (ap (take (length published)) all ∙ made.1))) cut;
-            is_named = λ k named. (saved k named).0;
-            written = λ named. rose_from _ _ _ writes (written named);
-            saved = λ k named. rose_from _ _ _ saves (saved k named).1;
-          }
+          let made = front_length published (record { tick = g.tick; worlds = worlds }) in (
+            record {
+              made = length published;
+              call = record { tick = g.tick; worlds = worlds };
+              is_next = ap (λ cs. slice_get cs (length published)) all ∙ made.0;
+              is_cut = subst (λ v. of.cut v s g.tick worlds y (of.state last)) (h.is_behind ∙ ap (behind of s opening) (sym (ap (take (length published)) all ∙ made.1))) cut;
+              is_named = λ k named. (saved k named).0;
+              written = λ named. rose_from _ _ _ writes (written named);
+              saved = λ k named. rose_from _ _ _ saves (saved k named).1;
+            },
+            all_taken (end_calls s) (ends_before s h.number) (whole_call s h.end) (call_there s h.number h.end h.stands),
+          )
         where
           front_length : (cs : List Call) (c : Call) → (slice_get (cs ++ c ∷ []) (length cs) ≡ Some c) × (take (length cs) (cs ++ c ∷ []) ≡ cs)
           front_length [] c = (refl, refl)
@@ -195,8 +214,8 @@ module _ {P : Type 0} (of : publisher.Ghosts P) (s : Setting) (d : OnDesk P) (of
   shown_so : (count : ℕ) → HasShown of d count → (of.state d.publisher ≡ behind of s d.opening (take count (end_calls s))) × AreFaultless s count
   shown_so count h = subst (λ r. (of.state d.publisher ≡ behind of r d.opening (take count (end_calls r))) × AreFaultless r count) of_run (h.is_behind, h.faultless)
 
-  refused_so : (x : PubFault) → HasRefused of d x → (cut : IsCut of s d.opening d.publisher (end_calls s) x) × AreFaultless s (cut.made + 1)
-  refused_so x h = subst (λ r. (cut : IsCut of r d.opening d.publisher (end_calls r) x) × AreFaultless r (cut.made + 1)) of_run (h.cut_there, h.faultless)
+  refused_so : (x : PubFault) (h : HasRefused of d x) → (cut : IsCut of s d.opening d.publisher (end_calls s) x) × (AreFaultless s (cut.made + 1) × (cut.made ≡ h.cut_there.made))
+  refused_so x h = subst (λ r. (cut : IsCut of r d.opening d.publisher (end_calls r) x) × (AreFaultless r (cut.made + 1) × (cut.made ≡ h.cut_there.made))) of_run (h.cut_there, (h.faultless, refl))
 
   module _ (run : IsRun s) where
     pub has_run : HasShown of d (length (ends s)) → (counts : Counts) → counts ≡ all_given s → HasRun of s d.opening d.publisher counts
@@ -220,110 +239,82 @@ module _ {P : Type 0} (of : publisher.Ghosts P) (s : Setting) (d : OnDesk P) (of
         let there = halted_at of s d x of_run h in
         in_front of s run d.opening d.publisher (ends_before s there.number) there.faultless there.is_behind
 
+    -- a publisher that refused refused a call of the run, behind as many
+    refused_made : (x : PubFault) (h : HasRefused of d x) → (cut : IsCut of s d.opening d.publisher (calls s) x) × (cut.made ≡ h.cut_there.made)
+    refused_made x h =
+        let (cut, (none, same)) = refused_so x h in
+        let (one, as_many) = cut_of_run s run of d.opening d.publisher x cut none in
+        (one, as_many ∙ same)
+
     pub refused_cut : (x : PubFault) → HasRefused of d x → IsCut of s d.opening d.publisher (calls s) x
-    refused_cut x h = let (cut, none) = refused_so x h in cut_of_run s run of d.opening d.publisher x cut none
+    refused_cut x h = (refused_made x h).0
 
 -- ---- behind how many steps a run ends
 
-at_low : {A : Type 0} (Q : A → Type 0) (es : List A) (k c : ℕ) (x : A) → All Q (take k es) → slice_get es c ≡ Some x → c < k → Q x
-at_low Q [] k c x all is low = absurd cc
-at_low Q (e ∷ es) zero c x all is low = absurd (omega (arith, low))
-at_low Q (e ∷ es) (suc k) zero x all is low = let same : e ≡ x = cc in subst Q same (all 0 e (omega arith))
-at_low Q (e ∷ es) (suc k) (suc c) x all is low = at_low Q es k c x (λ i d l. all (suc i) d (omega (arith, l))) is (omega (arith, low))
+-- the first steps show no more ends than all
+few_shown : (ats : List Step) (n : ℕ) → length (filter (λ at. is_show at.stage) (take n ats)) ≤ length (filter (λ at. is_show at.stage) ats)
+few_shown [] zero = omega arith
+few_shown [] (suc n) = omega arith
+few_shown (at ∷ ats) zero = omega arith
+few_shown (at ∷ ats) (suc n) = by_test (is_show at.stage) (filter (λ at. is_show at.stage) (take n ats)) (filter (λ at. is_show at.stage) ats) (few_shown ats n)
+  where
+    by_test : (v : Bool) (xs ys : List Step) → length xs ≤ length ys → length (cond v (at ∷ xs) xs) ≤ length (cond v (at ∷ ys) ys)
+    by_test true xs ys low = omega (arith, low)
+    by_test false xs ys low = low
 
-all_taken : {A : Type 0} (es : List A) (c : ℕ) (x : A) → slice_get es c ≡ Some x → length (take c es) ≡ c
-all_taken [] c x is = absurd cc
-all_taken (e ∷ es) zero x is = refl
-all_taken (e ∷ es) (suc c) x is = omega (arith, all_taken es c x is)
+-- so behind more ends than there are no step is left
+steps_gone : (s : Setting) (k : ℕ) → ends_before s (length (steps s)) < k → steps_to s k ≡ length (steps s)
+steps_gone s k over = elim (cases_lt (steps_to s k) (length (steps s))) [
+  | inl left ↦
+      let whole : ends_before s (length (steps s)) ≡ length (filter (λ at. is_show at.stage) (steps s)) = ap (λ ats. length (filter (λ at. is_show at.stage) ats)) (take_all (length (steps s)) (steps s) (omega arith)) in
+      absurd (omega (arith, shown_all s k left, few_shown (steps s) (steps_to s k), whole, over))
+  | inr gone ↦ omega (arith, gone, steps_within s k)
+]
 
 -- a run that was driven from end to end has steps up to there
 pub reached_within : (s : Setting) (n : ℕ) → IsReached s n → n ≤ length (steps s)
-reached_within s n at = let within = steps_within s at.count in omega (arith, within, at.is)
+reached_within s n at = let within = steps_within s (suc at.count) in omega (arith, within, at.is)
 
--- before the first step
-pub reached_first : (s : Setting) → IsReached s 0
-reached_first s = record { count = 0; is = refl; goes_on = λ k e. absurd (omega (arith, e)) }
+-- the run ends at the second end behind some, where the desk has told by then, or no step is left, and at the end before it had not
+ends_second : (s : Setting) (n c : ℕ) (at : IsReached s n) → ends_before s at.before ≤ c + 1 → ((c + 2 ≤ ends_before s n) ⊎ (n ≡ length (steps s))) → n ≡ steps_to s (c + 2)
+ends_second s n c at early over = elim (cases_lt at.before (length (steps s))) [
+  | inl left ↦
+      let there : ends_before s at.before ≡ ends_before s (steps_to s at.count) = ap (ends_before s) at.was in
+      let few : at.count ≤ c + 1 = omega (arith, shown_all s at.count (omega (arith, left, at.was)), there, early) in
+      elim over [
+        | inl told ↦
+            let here : ends_before s n ≡ ends_before s (steps_to s (suc at.count)) = ap (ends_before s) at.is in
+            let one : suc at.count ≡ c + 2 = omega (arith, told, few, here, shown_few s (suc at.count)) in
+            at.is ∙ ap (steps_to s) one
+        | inr all ↦ all ∙ sym (steps_over s (suc at.count) (c + 2) (omega (arith, few)) (sym at.is ∙ all))
+      ]
+  | inr gone ↦
+      let whole : steps_to s at.count ≡ length (steps s) = omega (arith, gone, at.was, steps_within s at.count) in
+      let there : ends_before s at.before ≡ ends_before s (length (steps s)) = ap (ends_before s) (at.was ∙ whole) in
+      at.is ∙ steps_over s at.count (suc at.count) (omega arith) whole ∙ sym (steps_gone s (c + 2) (omega (arith, early, there)))
+]
 
-pub early_first : (s : Setting) → AreEarly s 0
-early_first s =
-    let none : ends_before s 0 - 1 ≡ 0 = omega (arith, shown_few s 0) in
-    let Q : ℕ → Type 0 = λ end. (p : ℕ) → p < parts s → IsFaultless s end p in
-    subst (AreFaultless s) (sym none) (nothing Q (ends s))
-  where
-    nothing : (Q : ℕ → Type 0) (es : List ℕ) → All Q (take 0 es)
-    nothing Q [] = λ i d l. absurd (omega (arith, l))
-    nothing Q (e ∷ es) = λ i d l. absurd (omega (arith, l))
-
--- and on to the next end
-pub reached_next : (s : Setting) (m n : ℕ) → IsReached s m → AreEarly s m → n ≡ m + to_show (drop m (steps s)) → m < n → IsReached s n
-reached_next s m n at early place up = record {
-  count = suc at.count;
-  is = place ∙ ap (λ k. k + to_show (drop k (steps s))) at.is;
-  goes_on = λ k e.
-      let same : at.count ≡ k = omega (arith, e) in
-      subst (λ j. (steps_to s j < n) × AreEarly s (steps_to s j)) same (subst (λ j. (j < n) × AreEarly s j) at.is (up, early));
-}
-
-module _ (s : Setting) (run : IsRun s) (g : Fault) (c end : ℕ) (stops : StopsAt s g c end) where
-  -- ends before which no part found a fault are none behind the first fault
-  few_early : (k : ℕ) → AreFaultless s k → k ≤ c
-  few_early k faultless = elim (cases_lt c k) [
-    | inl low ↦
-        let before : end ≤ g.tick = at_low (λ e. e ≤ g.tick) (ends s) k c end (ends_low s run k faultless g stops.ended.first) stops.next low in
-        let behind = stops.behind in
-        absurd (omega (arith, before, behind))
-    | inr high ↦ high
-  ]
-
-  ends_are : ends_until s g.tick ≡ c
-  ends_are = ap length (ends_up_to s g c end stops) ∙ all_taken (ends s) c end stops.next
-
-  -- the run ends at the second end behind the fault, where the desk has told by then, or no step is left
-  pub ends_second : (n : ℕ) → IsReached s n → ((c + 2 ≤ ends_before s n) ⊎ (n ≡ length (steps s))) → n ≡ steps_to s (ends_until s g.tick + 2)
-  ends_second n at over = by_count at.count at.is at.goes_on over ∙ ap (λ k. steps_to s (k + 2)) (sym ends_are)
-    where
-      to_all : (j : ℕ) → n ≡ steps_to s j → n ≡ length (steps s) → j ≤ c + 2 → n ≡ steps_to s (c + 2)
-      to_all j is all few = all ∙ sym (steps_over s j (c + 2) few (sym is ∙ all))
-
-      by_count : (j : ℕ) → n ≡ steps_to s j → ((k : ℕ) → j ≡ suc k → (steps_to s k < n) × AreEarly s (steps_to s k)) → ((c + 2 ≤ ends_before s n) ⊎ (n ≡ length (steps s))) → n ≡ steps_to s (c + 2)
-      by_count zero is on (inl told) = absurd (let none = shown_few s 0 in let same : ends_before s n ≡ ends_before s 0 = ap (ends_before s) is in omega (arith, told, none, same))
-      by_count zero is on (inr all) = to_all 0 is all (omega arith)
-      by_count (suc k) is on (inl told) =
-          let (up, early) = on k refl in
-          let within = steps_within s (suc k) in
-          let exact : k ≤ ends_before s (steps_to s k) = shown_all s k (omega (arith, up, is, within)) in
-          let few : ends_before s (steps_to s k) - 1 ≤ c = few_early (ends_before s (steps_to s k) - 1) early in
-          let same : ends_before s n ≡ ends_before s (steps_to s (suc k)) = ap (ends_before s) is in
-          let one : suc k ≡ c + 2 = omega (arith, told, exact, few, same, shown_few s (suc k)) in
-          is ∙ ap (steps_to s) one
-      by_count (suc k) is on (inr all) =
-          let (up, early) = on k refl in
-          let within = steps_within s (suc k) in
-          let exact : k ≤ ends_before s (steps_to s k) = shown_all s k (omega (arith, up, is, within)) in
-          let few : ends_before s (steps_to s k) - 1 ≤ c = few_early (ends_before s (steps_to s k) - 1) early in
-          to_all (suc k) is all (omega (arith, exact, few))
-
--- a desk that stands at the end of the first steps
-pub early_there : (c : OnCourse) → IsCourse c → (n : ℕ) → n ≤ length (steps c.setting) → past_of c ≡ length (turns (front (schedule c.setting) n) c.actor)
-    → AreFaultless c.setting (ends_before c.setting c.number - 1) → AreEarly c.setting n
-early_there c course n within at none =
-    subst (λ ats. AreFaultless c.setting (length (filter (λ at. is_show at.stage) ats) - 1)) (stands_there c course n within at).same_steps none
+-- a desk that stands at the end of the first steps was seen there
+pub untold_there : {P : Type 0} (d : OnDesk P) → IsCourse d.course → (n : ℕ) → n ≤ length (steps d.course.setting) → IsAt n (member.Desk d) → WasUntold d.course.setting n (member.Desk (record d { untold = d.course.number }))
+untold_there d course n within at =
+    let same : ends_before d.course.setting d.course.number ≡ ends_before d.course.setting n = ap (λ ats. length (filter (λ at. is_show at.stage) ats)) (stands_there d.course course n within at).same_steps in
+    omega (arith, same)
 
 -- a desk where its run ends
-module _ {P : Type 0} (s : Setting) (n : ℕ) (reached : IsReached s n) (d : OnDesk P) (desk : IsDeskOf s n d) (course : IsCourse d.course) where
+module _ {P : Type 0} (s : Setting) (n : ℕ) (d : OnDesk P) (desk : IsDeskOf s n d) (course : IsCourse d.course) where
   stands : StandsThere d.course n
-  stands = stands_there d.course course n (subst (λ r. n ≤ length (steps r)) (sym desk.setting_is) (reached_within s n reached)) desk.last.0
+  stands = stands_there d.course course n (subst (λ r. n ≤ length (steps r)) (sym desk.setting_is) (reached_within s n desk.reached)) desk.last.0
 
   pub between : d.course.made ≡ 0
   between = stands.no_turn
 
-  pub ends_there : ends_before d.course.setting d.course.number ≡ ends_before d.course.setting n
+  ends_there : ends_before d.course.setting d.course.number ≡ ends_before d.course.setting n
   ends_there = ap (λ ats. length (filter (λ at. is_show at.stage) ats)) stands.same_steps
 
   -- where nothing stopped, it is behind the last step, and all ends were shown
   module _ (none : d.stop ≡ None) (no_told : d.told ≡ true → d.stop ≡ None → ⊥) where
     pub goes_through : n ≡ length (steps s)
-    goes_through = elim desk.last.1 [
+    goes_through = elim desk.last.1.0 [
       | inl told ↦ absurd (no_told told none)
       | inr all ↦ all ∙ ap (λ r. length (steps r)) desk.setting_is
     ]
@@ -331,35 +322,57 @@ module _ {P : Type 0} (s : Setting) (n : ℕ) (reached : IsReached s n) (d : OnD
     pub all_were_shown : (of : publisher.Ghosts P) → HasShown of d (ends_before d.course.setting d.course.number) → HasShown of d (length (ends s))
     all_were_shown of = subst (HasShown of d) (ends_there ∙ ap (λ r. ends_before r n) desk.setting_is ∙ ends_all s n (omega (arith, goes_through)))
 
-  -- where a fault was told
-  module _ (of : publisher.Ghosts P) (run : IsRun s) (f g : Fault) (h : HasHalted of d (cause.Fault f)) (e : EndsIn s g) where
-    -- the desk halted in its run, and where it has told that was one end before at least
-    abbrev Late : Setting → Type 0
-    Late r = (at : HaltedAt of r d.opening d.publisher d.lots (cause.Fault f)) × (d.told ≡ true → ends_before r at.number + 2 ≤ ends_before r d.course.number)
+    -- what it shows ends behind the second end behind all, too, since there is none
+    pub shown_ends : (of : publisher.Ghosts P) → IsRun s → HasShown of d (length (ends s)) → EndsBehind of s d.opening d.publisher n (Err fault.NoMemory)
+    shown_ends of run h =
+        let (shown, faultless) = shown_so of s d desk.setting_is (length (ends s)) h in
+        let (front, made) = made_first of s run d.opening d.publisher (length (ends s)) faultless shown in
+        let all : front.made ≡ length (ends s) = made ∙ ap length (take_all (length (ends s)) (ends s) (omega arith)) in
+        (front, goes_through ∙ sym (steps_gone s (front.made + 2) (omega (arith, all, ends_all s (length (steps s)) (omega arith)))))
 
-    late : Late s
-    late = subst Late desk.setting_is (
-      record {
-        number = h.number;
-        end = h.end;
-        stands = h.stands;
-        is_behind = h.shown.is_behind;
-        faultless = h.shown.faultless;
-        right = h.right;
-        brought = h.brought;
-      },
-      h.stopped.has_told,
-    )
+  -- where it stopped behind some ends, it ends at the second end behind these
+  pub stop_ends : (c : ℕ) → StoppedAt d c → n ≡ steps_to s (c + 2)
+  stop_ends c h =
+      let here : ends_before d.course.setting d.course.number ≡ ends_before s n = ends_there ∙ ap (λ r. ends_before r n) desk.setting_is in
+      let seen : ends_before d.course.setting d.untold ≡ ends_before s d.untold = ap (λ r. ends_before r d.untold) desk.setting_is in
+      let was : ends_before s desk.reached.before ≤ ends_before s d.untold = desk.last.1.1 in
+      let few = h.seen in
+      ends_second s n c desk.reached (omega (arith, was, seen, few)) (elim desk.last.1.0 [
+        | inl told ↦ inl (let up = h.has_told told in omega (arith, up, here))
+        | inr all ↦ inr (all ∙ ap (λ r. length (steps r)) desk.setting_is)
+      ])
 
-    ends_in_run : ends_before s d.course.number ≡ ends_before s n
-    ends_in_run = subst (λ r. ends_before r d.course.number ≡ ends_before r n) desk.setting_is ends_there
+  module _ (of : publisher.Ghosts P) (run : IsRun s) where
+    -- where something stopped, its publisher was shown all ends before
+    module _ (x : Cause) (h : HasHalted of d x) where
+      halt_so : (at : HaltedAt of s d.opening d.publisher d.lots x) × (ends_before d.course.setting h.number ≡ ends_before s at.number)
+      halt_so = halted_so of s d x desk.setting_is h
 
-    pub fault_ends : n ≡ steps_to s (ends_until s g.tick + 2)
-    fault_ends =
-        ends_second s run g (ends_before s late.0.number) late.0.end (stops_at of s run d.opening d.publisher d.lots f g late.0 e) n reached (elim desk.last.1 [
-          | inl told ↦ inl (let up = late.1 told in omega (arith, up, ends_in_run))
-          | inr all ↦ inr (all ∙ ap (λ r. length (steps r)) desk.setting_is)
-        ])
+      abbrev halt : HaltedAt of s d.opening d.publisher d.lots x
+      halt = halt_so.0
+
+      halt_ends : n ≡ steps_to s (ends_before s halt.number + 2)
+      halt_ends = stop_ends (ends_before d.course.setting h.number) h.stopped ∙ ap (λ k. steps_to s (k + 2)) halt_so.1
+
+      pub halted_ends : (v : P) → v ≡ d.publisher → EndsBehind of s d.opening v n (Err fault.NoMemory)
+      halted_ends v is =
+          let (front, made) = made_first of s run d.opening d.publisher (ends_before s halt.number) halt.faultless halt.is_behind in
+          let all : length (take (ends_before s halt.number) (ends s)) ≡ ends_before s halt.number = all_taken (ends s) (ends_before s halt.number) halt.end (end_there s halt.number halt.end halt.stands) in
+          subst (λ v. EndsBehind of s d.opening v n (Err fault.NoMemory)) (sym is) (front, halt_ends ∙ ap (λ k. steps_to s (k + 2)) (sym (made ∙ all)))
+
+    -- the publisher refused
+    pub refused_ends : (x : PubFault) → HasRefused of d x → EndsBehind of s d.opening d.publisher n (Err (fault.Publish x))
+    refused_ends x h =
+        let (cut, made) = refused_made of s d desk.setting_is run x h in
+        (cut, stop_ends h.cut_there.made h.stopped ∙ ap (λ k. steps_to s (k + 2)) (sym made))
+
+    -- a fault was told
+    pub fault_ends : (f g : Fault) → HasHalted of d (cause.Fault f) → EndsIn s g → n ≡ steps_to s (ends_until s g.tick + 2)
+    fault_ends f g h e =
+        let at = (halt_so (cause.Fault f) h).0 in
+        let stops = stops_at of s run d.opening d.publisher d.lots f g at e in
+        let are : ends_until s g.tick ≡ ends_before s at.number = ap length (ends_up_to s g (ends_before s at.number) at.end stops) ∙ all_taken (ends s) (ends_before s at.number) at.end stops.next in
+        halt_ends (cause.Fault f) h ∙ ap (λ k. steps_to s (k + 2)) (sym are)
 
 -- ---- where a part told a fault
 
@@ -372,8 +385,11 @@ some_of [] e = absurd (e refl)
 some_of (w ∷ ws) e = (w, (ws, refl))
 
 module _ {P : Type 0} (of : publisher.Ghosts P) (s : Setting) (run : IsRun s) (d : OnDesk P) (of_run : d.course.setting ≡ s) (halted : (f : Fault) × HasHalted of d (cause.Fault f)) (rises : Rises of d.opening d.publisher) where
-  there : HaltedAt of s d.opening d.publisher d.lots (cause.Fault halted.0)
-  there = halted_at of s d (cause.Fault halted.0) of_run halted.1
+  there_so : (at : HaltedAt of s d.opening d.publisher d.lots (cause.Fault halted.0)) × (ends_before d.course.setting halted.1.number ≡ ends_before s at.number)
+  there_so = halted_so of s d (cause.Fault halted.0) of_run halted.1
+
+  abbrev there : HaltedAt of s d.opening d.publisher d.lots (cause.Fault halted.0)
+  there = there_so.0
 
   pub gave_up : (v : P) → v ≡ d.publisher → CameTo of s d.opening v (Err fault.NoMemory)
   gave_up v is =
@@ -382,8 +398,11 @@ module _ {P : Type 0} (of : publisher.Ghosts P) (s : Setting) (run : IsRun s) (d
 
   module _ (f : Fault) (e : EndsIn s f) (v : P) (is : v ≡ d.publisher) (worlds : List Shown)
       (left : (end : ℕ) → IsTrue (is_end s end) → f.tick < end → shown_from s end ≡ shown_from s (f.tick + 1) → All (λ lot. IsShown s end lot.part lot.worlds) d.lots → worlds ≡ map (whole_at s) (ticks_left s f.tick)) where
-    halts : HaltedAt of s d.opening v d.lots (cause.Fault halted.0)
-    halts = subst (λ v. HaltedAt of s d.opening v d.lots (cause.Fault halted.0)) (sym is) there
+    halts_so : (at : HaltedAt of s d.opening v d.lots (cause.Fault halted.0)) × (ends_before d.course.setting halted.1.number ≡ ends_before s at.number)
+    halts_so = subst (λ v. (at : HaltedAt of s d.opening v d.lots (cause.Fault halted.0)) × (ends_before d.course.setting halted.1.number ≡ ends_before s at.number)) (sym is) there_so
+
+    abbrev halts : HaltedAt of s d.opening v d.lots (cause.Fault halted.0)
+    halts = halts_so.0
 
     rises_there : Rises of d.opening v
     rises_there = subst (Rises of d.opening) (sym is) rises
@@ -413,6 +432,14 @@ module _ {P : Type 0} (of : publisher.Ghosts P) (s : Setting) (run : IsRun s) (d
       rest_was_refused y cut saved written =
           let (x, (xs, filled)) = some_of worlds some in
           record {
-            came = rest_cut of s run d.opening v d.lots halted.0 f halts e worlds are x xs filled rises_there last y cut saved written;
+            came = (rest_cut of s run d.opening v d.lots halted.0 f halts e worlds are x xs filled rises_there last y cut saved written).0;
             rises = then_rises of d.opening v last rises_there more;
           }
+
+      -- and there it ends where it ends for all that was shown in full
+      pub rest_ends : (n : ℕ) → n ≡ steps_to s (ends_before d.course.setting halted.1.number + 2) → (y : PubFault) → of.cut (of.state v) s f.tick worlds y (of.state last) → ((k : ℕ) → tick_of y ≡ Some k → (k ≡ f.tick) × Rose (of.saves v) (of.saves last))
+          → (y ≡ refusal.Write → Rose (of.writes v) (of.writes last)) → EndsBehind of s d.opening last n (Err (fault.Publish y))
+      rest_ends n is y cut saved written =
+          let (x, (xs, filled)) = some_of worlds some in
+          let (refused, made) = rest_cut of s run d.opening v d.lots halted.0 f halts e worlds are x xs filled rises_there last y cut saved written in
+          (refused, is ∙ ap (λ k. steps_to s (k + 2)) (halts_so.1 ∙ sym made))

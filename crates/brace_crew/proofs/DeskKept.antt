@@ -75,10 +75,11 @@ module _ {P : Type 0} (of : publisher.Ghosts P) (d : OnDesk P) where
     lots = lots;
     closed = closed;
     told = told;
+    untold = d.untold;
   }
 
   abbrev pub desk_on : OnCourse → P → List Lot → Option Stop → Bool → Bool → OnDesk P
-  desk_on course now lots why closed told = record { course = course; opening = d.opening; publisher = now; stop = why; lots = lots; closed = closed; told = told }
+  desk_on course now lots why closed told = record { course = course; opening = d.opening; publisher = now; stop = why; lots = lots; closed = closed; told = told; untold = d.untold }
 
   pub rises_on : (now : P) → Rises of d.opening d.publisher → Rises of d.publisher now → Rises of d.opening now
   rises_on now before on = then_rises of d.opening d.publisher now before on
@@ -143,7 +144,7 @@ module _ {P : Type 0} (of : publisher.Ghosts P) (d : OnDesk P) where
 
   -- it stopped as long ago behind another turn of the step
   pub stopped_same : (m : ℕ) (lots : List Lot) (why : Option Stop) (closed : Bool) (count : ℕ) → StoppedAt d count → StoppedAt (desk_at d.course.number m d.publisher lots why closed d.told) count
-  stopped_same m lots why closed count h = record { not_yet = h.not_yet; has_told = h.has_told }
+  stopped_same m lots why closed count h = record { not_yet = h.not_yet; has_told = h.has_told; seen = h.seen }
 
   -- behind the work of a step that shows all it has told
   pub stopped_on : (at : Step) → step_of d.course ≡ Some at → (lots : List Lot) (why : Option Stop) (closed told : Bool) → told ≡ (d.told || is_show at.stage) → (count : ℕ) → StoppedAt d count
@@ -169,18 +170,20 @@ module _ {P : Type 0} (of : publisher.Ghosts P) (d : OnDesk P) where
           record {
             not_yet = λ e. ends ∙ h.not_yet (sym still ∙ e);
             has_told = λ e. (let up = h.has_told (sym still ∙ e) in omega (arith, up, ends));
+            seen = h.seen;
           }
       by_test true shows w was =
           let now : told ≡ true = same ∙ ap (λ v. d.told || v) shows ∙ or_true d.told in
           let ends : ends_before d.course.setting (d.course.number + 1) ≡ ends_before d.course.setting d.course.number + 1 = ends_more d.course.setting d.course.number at is shows in
-          record { not_yet = λ e. absurd (let no : true ≡ false = sym now ∙ e in cc); has_told = λ e. late w was ends }
+          record { not_yet = λ e. absurd (let no : true ≡ false = sym now ∙ e in cc); has_told = λ e. late w was ends; seen = h.seen }
 
   -- it stopped in a step that shows all
-  stopped_there : (now : P) (t : ℕ) → step_of d.course ≡ Some (step Show t) → d.told ≡ false → (lots : List Lot) (why : Option Stop) (closed : Bool)
+  stopped_there : (now : P) (t : ℕ) → step_of d.course ≡ Some (step Show t) → d.told ≡ false → ends_before d.course.setting d.untold ≤ ends_before d.course.setting d.course.number → (lots : List Lot) (why : Option Stop) (closed : Bool)
       → StoppedAt (desk_at (d.course.number + 1) 0 now lots why closed d.told) (ends_before d.course.setting d.course.number)
-  stopped_there now t is untold lots why closed = record {
+  stopped_there now t is untold seen lots why closed = record {
     not_yet = λ e. ends_more d.course.setting d.course.number (step Show t) is refl;
     has_told = λ e. absurd (let no : true ≡ false = sym e ∙ untold in cc);
+    seen = omega (arith, seen);
   }
 
   -- why it was closed is right to be told
@@ -218,6 +221,7 @@ module _ {P : Type 0} (of : publisher.Ghosts P) (d : OnDesk P) where
           few = omega (arith, h.few);
           halting = halting_on (d.course.made + 1) d.stop (omega arith) h.halting;
           untold = h.untold;
+          seen = h.seen;
         }
 
     -- behind a take of a cause
@@ -230,6 +234,7 @@ module _ {P : Type 0} (of : publisher.Ghosts P) (d : OnDesk P) where
       few = omega (arith, h.few);
       halting = record { cause = x; halts = refl; right = right; takes = omega (arith, turn.high) };
       untold = h.untold;
+      seen = h.seen;
     }
 
     -- of one more cause
@@ -241,6 +246,7 @@ module _ {P : Type 0} (of : publisher.Ghosts P) (d : OnDesk P) where
       few = omega (arith, h.few);
       halting = halting_on (d.course.made + 1) d.stop (omega arith) h.halting;
       untold = h.untold;
+      seen = h.seen;
     }
 
     -- of what a part shows
@@ -260,6 +266,7 @@ module _ {P : Type 0} (of : publisher.Ghosts P) (d : OnDesk P) where
           few = omega (arith, h.few, on, ap length more ∙ length-append d.lots (lot ∷ []));
           halting = halting_on (d.course.made + 1) d.stop (omega arith) h.halting;
           untold = h.untold;
+          seen = h.seen;
         }
 
     -- it has a place for one more
@@ -295,6 +302,7 @@ module _ {P : Type 0} (of : publisher.Ghosts P) (d : OnDesk P) where
             few = omega (arith, ap length no_lot);
             halting = subst (HalfHalted (behind_work d.publisher d.lots d.stop closed).course) (sym went) tt;
             untold = h.untold;
+            seen = (let ends = ends_same s n at is none in let was = h.seen in omega (arith, ends, was));
           }
 
       module _ (t : ℕ) (is : step_of d.course ≡ Some (step Show t)) where
@@ -328,6 +336,7 @@ module _ {P : Type 0} (of : publisher.Ghosts P) (d : OnDesk P) where
             few = omega (arith, ap length none);
             halting = subst (HalfHalted (behind_work now lots why closed).course) (sym goes) tt;
             untold = h.untold;
+            seen = (let ends = ends_more s n (step Show t) is refl in let was = h.seen in omega (arith, ends, was));
           }
 
           -- it refused
@@ -346,7 +355,7 @@ module _ {P : Type 0} (of : publisher.Ghosts P) (d : OnDesk P) where
               saved = λ k e. rose_from _ _ _ rises.saves_rise (saved k e);
             };
             faultless = faultless_more s (ends_before s n) t (end_there s n t is) h.shown.faultless all_faultless;
-            stopped = stopped_there now t is h.untold lots o closed;
+            stopped = stopped_there now t is h.untold h.seen lots o closed;
           }
 
         -- a part told a cause there, or memory was refused
@@ -360,7 +369,7 @@ module _ {P : Type 0} (of : publisher.Ghosts P) (d : OnDesk P) where
             shown = shown_kept (n + 1) 0 lots o closed d.told (ends_before s n) h.shown;
             right = right;
             brought = brought;
-            stopped = stopped_there d.publisher t is h.untold lots o closed;
+            stopped = stopped_there d.publisher t is h.untold h.seen lots o closed;
           },
           right_later s n (n + 1) x (omega arith) right,
         )

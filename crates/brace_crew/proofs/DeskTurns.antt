@@ -1,7 +1,5 @@
 -- What a desk puts and takes is right, and it is sound behind each of its turns.
-use Rattle.std.proofs.Common.{◌≡◌, ◌∙◌, refl, sym, ap, subst, ℕ, ◌+◌, ◌-◌, ◌<◌, ◌≤◌, List, [], ◌∷◌, ◌++◌, length, take, All, Bool, true, false, Option, Some, None, is_some, true≢false, arith}
-use Rattle.std.proofs.lemmas.List.{take-take}
-use Rattle.std.proofs.lemmas.List.Elements.{All-take}
+use Rattle.std.proofs.Common.{◌≡◌, ◌∙◌, refl, sym, ap, subst, ℕ, ◌+◌, ◌<◌, List, [], ◌∷◌, ◌++◌, length, take, Bool, true, false, Option, Some, None, is_some, true≢false, arith}
 use Rattle.brace_core.specs.declared.name.Name.{Name}
 use Rattle.brace_core.specs.declared.name.Turn.{Turn}
 use Rattle.brace_core.specs.declared.name.Turn.TheVariants.{Put, Take, Done}
@@ -13,7 +11,7 @@ use Rattle.brace_pieces.specs.declared.piece.Piece.{Piece}
 use Rattle.brace_pieces.specs.declared.piece.Piece.TheVariants as piece
 use Rattle.brace_pieces.specs.declared.piece.Shown.{Shown}
 use Rattle.brace_pieces.specs.Steps.{schedule}
-use Rattle.brace_pieces.specs.Right.{IsRight, IsShown, IsFaultless}
+use Rattle.brace_pieces.specs.Right.{IsRight, IsShown}
 use Rattle.brace_pieces.specs.Courses.{OnCourse, turn_of, past_of, gone_on}
 use Rattle.brace_pieces.proofs.CourseLemmas.{course_turn}
 use Rattle.brace_part.proofs.TurnLemmas.{PutsNext, TakesNext, put_due, take_due, take_of, put_named, take_named, some_put}
@@ -23,9 +21,7 @@ use Rattle.brace_crew.specs.declared.publisher.Publisher as publisher
 use Rattle.brace_crew.specs.declared.desk.Lot.{Lot}
 use Rattle.brace_crew.specs.declared.desk.Stop.{Stop}
 use Rattle.brace_crew.specs.declared.desk.Stop.TheVariants as stop
-use Rattle.brace_pieces.specs.declared.setting.Setting.{Setting}
-use Rattle.brace_pieces.specs.Settings.{parts, ends}
-use Rattle.brace_crew.specs.Desks.{OnDesk, AreFaultless, HasShown, HasHalted, HasRefused, ends_before}
+use Rattle.brace_crew.specs.Desks.{OnDesk, StoppedAt, HasShown, HasHalted, HasRefused, ends_before}
 use Rattle.brace_crew.specs.inner.Sound.{HalfHalted, IsOpen, IsClosedBy, IsAsItStands, IsDesk}
 use Rattle.brace_crew.proofs.DeskCourses.{ack_right, takes_shown, takes_from, shown_taken, nothing_else}
 use Rattle.brace_crew.proofs.DeskKept.{desk_at, desk_on, desk_within, closed_kept, stopped_same, halt_told, nothing_yet, open_put, open_halt, open_again, open_lot, has_place}
@@ -41,12 +37,6 @@ some_left o some none = true≢false (sym some ∙ ap is_some none)
 
 take_same : (m n : Name) → Take m ≡ Take n → m ≡ n
 take_same m n e = cc
-
--- of ends before which no part found a fault these are the first
-pub fewer_faultless : (s : Setting) (m k : ℕ) → k ≤ m → AreFaultless s m → AreFaultless s k
-fewer_faultless s m k up all =
-    let Q : ℕ → Type 0 = λ end. (p : ℕ) → p < parts s → IsFaultless s end p in
-    subst (All Q) (take-take k m (ends s) up) (All-take Q k (take m (ends s)) all)
 
 module _ {P : Type 0} (of : publisher.Ghosts P) (d : OnDesk P) (room : ℕ) (h : IsDesk of d room) where
   -- ---- why it publishes nothing any more
@@ -74,23 +64,52 @@ module _ {P : Type 0} (of : publisher.Ghosts P) (d : OnDesk P) (room : ℕ) (h :
       by_closed true by = subst (IsClosedBy of d) none by
       by_closed false goes = absurd (let no : true ≡ false = sym told ∙ goes.untold in cc)
 
-  abbrev ends_here : ℕ
-  ends_here = ends_before d.course.setting d.course.number
-
-  pub told_early : d.told ≡ false → AreFaultless d.course.setting (ends_here - 1)
-  told_early untold = by_closed d.closed h.stands
+  -- where it has not it keeps in which step that was seen
+  pub seen_untold : d.told ≡ false → IsDesk of (record d { untold = d.course.number }) room
+  seen_untold untold = record {
+    lawful = h.lawful;
+    numbers = h.numbers;
+    is_last = h.is_last;
+    on_course = h.on_course;
+    has_room = h.has_room;
+    stands = by_closed d.closed h.stands;
+    fits = h.fits;
+    rises = h.rises;
+  }
     where
-      by_stop : (o : Option Stop) → d.stop ≡ o → IsClosedBy of d o → AreFaultless d.course.setting (ends_here - 1)
-      by_stop None is by = absurd by
-      by_stop (Some (stop.Halt x)) is by =
-          let one = by.0.stopped.not_yet untold in
-          let there : ends_before d.course.setting by.0.number ≡ ends_here - 1 = omega (arith, one) in
-          subst (AreFaultless d.course.setting) there by.0.shown.faultless
-      by_stop (Some (stop.Refusal x)) is by = let one = by.stopped.not_yet untold in fewer_faultless d.course.setting (by.cut_there.made + 1) (ends_here - 1) (omega (arith, one)) by.faultless
+      stopped : (count : ℕ) → StoppedAt d count → StoppedAt (record d { untold = d.course.number }) count
+      stopped count was = record { not_yet = was.not_yet; has_told = was.has_told; seen = (let here = was.not_yet untold in omega (arith, here)) }
 
-      by_closed : (b : Bool) → IsAsItStands of d b → AreFaultless d.course.setting (ends_here - 1)
-      by_closed true by = by_stop d.stop refl by
-      by_closed false goes = fewer_faultless d.course.setting ends_here (ends_here - 1) (omega arith) goes.shown.faultless
+      shown : (count : ℕ) → HasShown of d count → HasShown of (record d { untold = d.course.number }) count
+      shown count was = record { is_behind = was.is_behind; faultless = was.faultless }
+
+      by_stop : (o : Option Stop) → IsClosedBy of d o → IsClosedBy of (record d { untold = d.course.number }) o
+      by_stop None by = by
+      by_stop (Some (stop.Halt x)) by = (
+        record {
+          number = by.0.number;
+          end = by.0.end;
+          stands = by.0.stands;
+          shown = shown (ends_before d.course.setting by.0.number) by.0.shown;
+          right = by.0.right;
+          brought = by.0.brought;
+          stopped = stopped (ends_before d.course.setting by.0.number) by.0.stopped;
+        },
+        by.1,
+      )
+      by_stop (Some (stop.Refusal x)) by = record { cut_there = by.cut_there; faultless = by.faultless; stopped = stopped by.cut_there.made by.stopped }
+
+      by_closed : (b : Bool) → IsAsItStands of d b → IsAsItStands of (record d { untold = d.course.number }) b
+      by_closed true by = by_stop d.stop by
+      by_closed false goes = record {
+        shown = shown (ends_before d.course.setting d.course.number) goes.shown;
+        brought = goes.brought;
+        took = goes.took;
+        few = goes.few;
+        halting = goes.halting;
+        untold = goes.untold;
+        seen = omega arith;
+      }
 
   pub stop_refused : (x : PubFault) → d.stop ≡ Some (stop.Refusal x) → HasRefused of d x
   stop_refused x is = by_closed d.closed h.stands

@@ -1,5 +1,5 @@
 -- The members of a run that is driven from end to end.
-use Rattle.std.proofs.Common.{◌≡◌, ◌∙◌, refl, sym, ap, ℕ, zero, suc, ◌+◌, ◌<◌, ◌≤◌, List, [], ◌∷◌, map, length, get_or, drop, slice_index, All, arith, inl, inr}
+use Rattle.std.proofs.Common.{◌≡◌, ◌∙◌, refl, sym, ap, subst, ℕ, zero, suc, ◌+◌, ◌<◌, ◌≤◌, List, [], ◌∷◌, map, length, get_or, drop, slice_index, All, arith, inl, inr}
 use Rattle.std.proofs.lemmas.List.{get_or_default}
 use Rattle.brace_core.specs.Schedule.{front, turns}
 use Rattle.brace_core.specs.Order.{StandsAt}
@@ -9,16 +9,18 @@ use Rattle.brace_core.proofs.Starts.{no_turns, no_names}
 use Rattle.brace_pieces.specs.declared.setting.Setting.{Setting}
 use Rattle.brace_pieces.specs.Settings.{parts}
 use Rattle.brace_pieces.specs.Steps.{steps, schedule}
-use Rattle.brace_pieces.specs.Fronts.{to_show}
+use Rattle.brace_pieces.specs.Fronts.{to_show, steps_to}
+use Rattle.brace_pieces.proofs.FrontLemmas.{shown_few, steps_over}
 use Rattle.brace_pieces.specs.Courses.{past_of}
 use Rattle.brace_crew.specs.declared.member.Member.{Member}
-use Rattle.brace_crew.specs.Members.{course_of, opening_of, HasTold, IsAt, IsLast, IsWithin}
+use Rattle.brace_crew.specs.declared.member.Member.TheVariants as member
+use Rattle.brace_crew.specs.Members.{course_of, opening_of, kept_of, HasTold, IsAt, IsLast, IsWithin, WasUntold}
 use Rattle.brace_crew.specs.Benches.{OnBench, IsUnused}
 use Rattle.brace_crew.specs.Workers.{AreUsedTo}
 use Rattle.brace_crew.specs.inner.Teams.{HasCome}
-use Rattle.brace_crew.specs.inner.Crews.{AreMembers, AreNew, AreEarly, AreEarlyFor, IsReached, AreEnded, all_numbers}
-use Rattle.brace_crew.proofs.CrewEnds.{reached_first, early_first, reached_next}
-use Rattle.brace_crew.proofs.RunMembers.{are_later}
+use Rattle.brace_crew.specs.inner.Crews.{AreMembers, AreNew, IsReached, AreEnded, HaveDeskLast, all_numbers}
+use Rattle.brace_crew.proofs.MemberLemmas.{all_desk_last}
+use Rattle.brace_crew.proofs.RunMembers.{same_of, same_openings, still_untold, are_later}
 
 module _ {P : Type 0} where
   abbrev setting_of : Member P → Setting
@@ -69,8 +71,17 @@ module _ {P : Type 0} where
       omega (arith, more, at i d low)
 
   -- where no step is left the run ends
-  pub all_last : (s : Setting) (n : ℕ) (members : List (Member P)) → All (λ m. setting_of m ≡ s) members → n ≡ length (steps s) → All (IsAt n) members → All (IsLast n) members
-  all_last s n members settings all at i d low = (at i d low, inr (all ∙ ap (λ r. length (steps r)) (sym (settings i d low))))
+  pub all_last : (s : Setting) (before n : ℕ) (members : List (Member P)) → All (λ m. setting_of m ≡ s) members → n ≡ length (steps s) → All (IsAt n) members → All (WasUntold s before) members → All (IsLast s before n) members
+  all_last s before n members settings all at untold i d low = (at i d low, (inr (all ∙ ap (λ r. length (steps r)) (sym (settings i d low))), untold i d low))
+
+  -- and where its desk has told
+  pub told_last : (s : Setting) (before n : ℕ) (members : List (Member P)) → All (IsAt n) members → All HasTold members → All (WasUntold s before) members → All (IsLast s before n) members
+  told_last s before n members at told untold i d low = (at i d low, (inl (told i d low), untold i d low))
+
+  -- before the first step nobody has told
+  pub first_untold : (s : Setting) (m : Member P) → WasUntold s 0 m
+  first_untold s (member.Part p) = tt
+  first_untold s (member.Desk d) = omega (arith, shown_few s 0)
 
   -- ---- between two ends
 
@@ -78,11 +89,12 @@ module _ {P : Type 0} where
     pub same_settings : map setting_of members ≡ map setting_of first
     pub same_numbers : map number_of members ≡ map number_of first
     pub same_openings : map opening_of members ≡ map opening_of first
-    pub reached : IsReached s n
-    pub early : AreEarly s n
+    pub count : ℕ
+    pub reached : n ≡ steps_to s count
+    pub untold : All (WasUntold s n) members
 
   pub between_first : (s : Setting) (members : List (Member P)) → IsBetween s 0 members members
-  between_first s members = record { same_settings = refl; same_numbers = refl; same_openings = refl; reached = reached_first s; early = early_first s }
+  between_first s members = record { same_settings = refl; same_numbers = refl; same_openings = refl; count = 0; reached = refl; untold = λ i d low. first_untold s (get_or members i d) }
 
   module _ (s : Setting) (publisher : P) (first : List (Member P)) (are : AreMembers s publisher (all_numbers s) first) where
     -- they are the members of the run
@@ -90,42 +102,51 @@ module _ {P : Type 0} where
         → AreMembers s publisher (all_numbers s) members
     still members settings numbers openings = are_later s publisher (all_numbers s) first members are settings numbers openings
 
-    -- at the next end
-    module _ (m n : ℕ) (members after : List (Member P)) (so : IsBetween s m first members) (place : n ≡ m + to_show (drop m (steps s))) (up : m < n)
-        (settings : map setting_of after ≡ map setting_of members) (numbers : map number_of after ≡ map number_of members) (openings : map opening_of after ≡ map opening_of members) where
-      pub next_reached : IsReached s n
-      next_reached = reached_next s m n so.reached so.early place up
+-- a run that was driven on to the next end
+pub reached_to : (s : Setting) (m n count : ℕ) → m ≡ steps_to s count → n ≡ m + to_show (drop m (steps s)) → (at : IsReached s n) × (at.before ≡ m)
+reached_to s m n count was place = (record { before = m; count = count; was = was; is = place ∙ ap (λ k. k + to_show (drop k (steps s))) was }, refl)
 
-      pub next_members : AreMembers s publisher (all_numbers s) after
-      next_members = still after (settings ∙ so.same_settings) (numbers ∙ so.same_numbers) (openings ∙ so.same_openings)
-
-      pub next_between : AreEarly s n → IsBetween s n first after
-      next_between early = record {
-        same_settings = settings ∙ so.same_settings;
-        same_numbers = numbers ∙ so.same_numbers;
-        same_openings = openings ∙ so.same_openings;
-        reached = next_reached;
-        early = early;
-      }
+-- and one of which no step is left
+pub reached_all : (s : Setting) (n count : ℕ) → n ≡ steps_to s count → n ≡ length (steps s) → (at : IsReached s n) × (at.before ≡ n)
+reached_all s n count is all = (record { before = n; count = count; was = is; is = all ∙ sym (steps_over s count (suc count) (omega arith) (sym is ∙ all)) }, refl)
 
 -- what a run through plain lanes or links knows behind the drive to an end
 module _ {P : Type 0} (s : Setting) (publisher : P) (first : List (Member P)) (are : AreMembers s publisher (all_numbers s) first) (m n : ℕ) (members after : List (Member P)) (so : IsBetween s m first members)
-    (place : n ≡ m + to_show (drop m (steps s))) (up : m < n) (within : n ≤ length (steps s))
-    (settings : map setting_of after ≡ map setting_of members) (numbers : map number_of after ≡ map number_of members) (openings : map opening_of after ≡ map opening_of members)
+    (place : n ≡ m + to_show (drop m (steps s))) (within : n ≤ length (steps s))
+    (settings : map setting_of after ≡ map setting_of members) (numbers : map number_of after ≡ map number_of members) (kept : map kept_of after ≡ map kept_of members)
     (puts takes : ℕ → ℕ → ℕ) (stands : StandsAt (schedule s) n (map past after) puts takes) where
+  openings : map opening_of after ≡ map opening_of first
+  openings = same_openings members after kept ∙ so.same_openings
+
   now : AreMembers s publisher (all_numbers s) after
-  now = next_members s publisher first are m n members after so place up settings numbers openings
+  now = still s publisher first are after (settings ∙ so.same_settings) (numbers ∙ so.same_numbers) openings
 
   at_next : All (IsAt n) after
   at_next = all_at s n after puts takes now.settings now.numbered stands
 
+  pub has_desk_last : HaveDeskLast after
+  has_desk_last = all_desk_last s publisher after now
+
   -- the run goes on
-  pub goes_between : AreEarlyFor after → IsBetween s n first after
-  goes_between early = next_between s publisher first are m n members after so place up settings numbers openings (early s n within now.settings at_next)
+  pub goes_between : (last : List (Member P)) → map course_of last ≡ map course_of after → map opening_of last ≡ map opening_of after
+      → ((r : Setting) (k : ℕ) → k ≤ length (steps r) → All (λ m. setting_of m ≡ r) after → All (IsAt k) after → All (WasUntold r k) last) → IsBetween s n first last
+  goes_between last courses opened untold = record {
+    same_settings = same_of course_of (λ c. c.setting) after last courses ∙ settings ∙ so.same_settings;
+    same_numbers = same_of course_of (λ c. c.actor) after last courses ∙ numbers ∙ so.same_numbers;
+    same_openings = opened ∙ openings;
+    count = suc so.count;
+    reached = place ∙ ap (λ k. k + to_show (drop k (steps s))) so.reached;
+    untold = untold s n within now.settings at_next;
+  }
 
   -- or ends there
-  pub ends_told : All HasTold after → AreEnded s n after
-  ends_told told = record { reached = next_reached s publisher first are m n members after so place up settings numbers openings; last = λ i d low. (at_next i d low, inl (told i d low)) }
+  pub ends_told : (last : List (Member P)) → last ≡ after → All HasTold last
+      → (map setting_of last ≡ map setting_of first) × (map number_of last ≡ map number_of first) × (map opening_of last ≡ map opening_of first) × AreEnded s n last
+  ends_told last same told =
+      let (at, back) = reached_to s m n so.count so.reached place in
+      let all = told_last s m n after at_next (subst (All HasTold) same told) (still_untold s m members after kept so.untold) in
+      subst (λ ms. (map setting_of ms ≡ map setting_of first) × (map number_of ms ≡ map number_of first) × (map opening_of ms ≡ map opening_of first) × AreEnded s n ms) (sym same)
+      (settings ∙ so.same_settings, numbers ∙ so.same_numbers, openings, record { reached = at; last = subst (λ k. All (IsLast s k n) after) (sym back) all })
 
   pub used_there : AreUsedTo s n puts takes
   used_there = record { all_put = stands.put; all_taken = stands.taken }
@@ -137,7 +158,10 @@ module _ {P : Type 0} (s : Setting) (publisher : P) (first : List (Member P)) (a
   here = still s publisher first are members so.same_settings so.same_numbers so.same_openings
 
   pub ends_last : AreEnded s n members
-  ends_last = record { reached = so.reached; last = all_last s n members here.settings all (all_at s n members puts takes here.settings here.numbered stands) }
+  ends_last =
+      let (reached, same) = reached_all s n so.count so.reached all in
+      let at = all_at s n members puts takes here.settings here.numbered stands in
+      record { reached = reached; last = subst (λ k. All (IsLast s k n) members) (sym same) (all_last s n n members here.settings all at so.untold) }
 
   pub used_last : AreUsedTo s n puts takes
   used_last = record { all_put = stands.put; all_taken = stands.taken }

@@ -14,9 +14,9 @@ use Rattle.brace_crew.specs.Benches.{OnBench, IsUsedTo}
 use Rattle.brace_crew.specs.Members.{course_of, opening_of, IsLast}
 use Rattle.brace_crew.specs.Workers.{IsSeatOf, AreSeatsTo}
 use Rattle.brace_crew.specs.inner.Crews.{AreMembers, opening_in, all_numbers, served}
-use Rattle.brace_crew.specs.inner.Teams.{AreRosters, IsTeam, HasCome, AreLater, seat_of}
+use Rattle.brace_crew.specs.inner.Teams.{AreRosters, IsTeam, HasCome, AreStill, seat_of}
 use Rattle.brace_crew.proofs.MemberLemmas.{row_more}
-use Rattle.brace_crew.proofs.RunMembers.{of_all_map}
+use Rattle.brace_crew.proofs.MemberLemmas.{of_all_map}
 use Rattle.brace_crew.proofs.TeamLemmas.{team_later}
 
 -- ---- one member more, and one less
@@ -153,7 +153,7 @@ place_left gone left all x rest n capacity whole opens so_many fits =
 -- ---- the benches that were lent to a run, and that came back, with all taken off them
 
 module _ {P A : Type 0} (f : A → List (Member P)) (s : Setting) (publisher : P) (workers : ℕ) (before lent after rest : List (OnBench P)) (n : ℕ) (lists : List A)
-    (team : IsTeam s publisher workers (all_numbers s) before) (value : lent ≡ before) (many : length lent ≡ n) (later : AreLater lent after)
+    (team : IsTeam s publisher workers (all_numbers s) before) (value : lent ≡ before) (many : length lent ≡ n) (later : AreStill lent after)
   where
     abbrev members_of : OnBench P → List (Member P)
     members_of b = b.members
@@ -162,20 +162,22 @@ module _ {P A : Type 0} (f : A → List (Member P)) (s : Setting) (publisher : P
     back = ap (λ k. take k (after ++ rest)) (sym many ∙ sym later.one_each) ∙ take-append_seam after rest
 
     team_now : IsTeam s publisher workers (all_numbers s) after
-    team_now = team_later s publisher workers (all_numbers s) before after team (subst (λ l. AreLater l after) value later)
+    team_now = team_later s publisher workers (all_numbers s) before after team (subst (λ l. AreStill l after) value later)
 
     module _ (are : map f lists ≡ map members_of (take n (after ++ rest))) where
       all_lists : map f lists ≡ map members_of after
       all_lists = are ∙ ap (map members_of) back
 
+      pub many_lists : length lists ≡ workers
+      many_lists = sym (length-map lists f) ∙ ap length all_lists ∙ team_now.rosters.one_each
+
       pub rosters_left : AreRosters s publisher (length lists) (all_numbers s) (map f lists)
       rosters_left =
           let at : AreRosters s publisher workers (all_numbers s) (map f lists) = subst (AreRosters s publisher workers (all_numbers s)) (sym all_lists) team_now.rosters in
-          let long : length lists ≡ workers = sym (length-map lists f) ∙ at.one_each in
-          subst (λ w. AreRosters s publisher w (all_numbers s) (map f lists)) (sym long) at
+          subst (λ w. AreRosters s publisher w (all_numbers s) (map f lists)) (sym many_lists) at
 
-      pub last_left : (end : ℕ) → All (λ b. All (IsLast end) b.members) after → All (λ l. All (IsLast end) (f l)) lists
-      last_left end last = of_all_map f (All (IsLast end)) lists (subst (All (All (IsLast end))) (sym all_lists) (All-map (All (IsLast end)) members_of after last))
+      pub last_left : (before end : ℕ) → All (λ b. All (IsLast s before end) b.members) after → All (λ l. All (IsLast s before end) (f l)) lists
+      last_left before end last = let Q : Member P → Type 0 = IsLast s before end in of_all_map f (All Q) lists (subst (All (All Q)) (sym all_lists) (All-map (All Q) members_of after last))
 
     pub seats_left : (end : ℕ) → All (HasCome end) after → (seats : List (OnSeat Setting)) → seats ≡ map seat_of (take n (after ++ rest)) → AreSeatsTo s end workers seats
     seats_left end come seats are = record {

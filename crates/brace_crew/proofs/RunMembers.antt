@@ -1,17 +1,18 @@
 -- The members of a run behind it: its parts, and its desk behind them.
-use Rattle.std.proofs.Common.{◌≡◌, ◌∙◌, sym, ap, subst, ℕ, ◌<◌, List, [], ◌∷◌, ◌++◌, map, Some, None, All, arith}
+use Rattle.std.proofs.Common.{◌≡◌, ◌∙◌, refl, sym, ap, subst, ℕ, ◌+◌, ◌<◌, ◌≤◌, List, [], ◌∷◌, ◌++◌, length, get_or, set, map, Option, Some, None, IfSome, All, arith, inl, inr}
 use Rattle.std.specs.List.{range_with_len}
-use Rattle.std.proofs.lemmas.List.{map-append, same_from_push}
+use Rattle.std.proofs.lemmas.Bool.{cases_eq}
+use Rattle.std.proofs.lemmas.List.{map-append, same_from_push, length-map, length-set, get_or-set_same, get_or-set_other, set-get_or}
 use Rattle.std.proofs.lemmas.List.Elements.{All-nil, All-cons, All-head, All-tail, All-map}
 use Rattle.std.proofs.lemmas.List.FromFn.{length-map-range_with_len, get_or-map-range_with_len}
 use Rattle.brace_pieces.specs.declared.setting.Setting.{Setting}
 use Rattle.brace_pieces.specs.Settings.{parts}
 use Rattle.brace_crew.specs.declared.member.Member.{Member}
 use Rattle.brace_crew.specs.declared.member.Member.TheVariants as member
-use Rattle.brace_crew.specs.Desks.{OnDesk}
-use Rattle.brace_crew.specs.Members.{course_of, opening_of, IsAt, IsLast}
+use Rattle.brace_crew.specs.Desks.{OnDesk, ends_before}
+use Rattle.brace_crew.specs.Members.{course_of, opening_of, kept_of, IsAt, IsLast, WasUntold}
 use Rattle.brace_crew.specs.inner.Crews.{AreParts, AreMembers, AreEnded, IsDeskOf, opening_in, all_numbers}
-use Rattle.brace_crew.proofs.MemberLemmas.{row_more, part_opens, desk_opens}
+use Rattle.brace_crew.proofs.MemberLemmas.{of_all_map, row_more, part_opens, desk_opens}
 
 -- ---- lists
 
@@ -23,9 +24,44 @@ all_last : {A : Type 0} (P : A → Type 0) (xs : List A) (x : A) → All P (xs +
 all_last P [] x all = All-head P x [] all
 all_last P (y ∷ xs) x all = all_last P xs x (All-tail P y (xs ++ x ∷ []) all)
 
-pub of_all_map : {A B : Type 0} (f : A → B) (P : B → Type 0) (xs : List A) → All P (map f xs) → All (λ x. P (f x)) xs
-of_all_map f P [] all = All-nil (λ x. P (f x))
-of_all_map f P (x ∷ xs) all = All-cons (λ x. P (f x)) x xs (All-head P (f x) (map f xs) all) (of_all_map f P xs (All-tail P (f x) (map f xs) all))
+mapped : {A B C : Type 0} (f : A → B) (g : B → C) (xs : List A) → map g (map f xs) ≡ map (λ x. g (f x)) xs
+mapped f g [] = refl
+mapped f g (x ∷ xs) = ap (λ ys. g (f x) ∷ ys) (mapped f g xs)
+
+pub same_of : {A B C : Type 0} (f : A → B) (g : B → C) (xs ys : List A) → map f ys ≡ map f xs → map (λ x. g (f x)) ys ≡ map (λ x. g (f x)) xs
+same_of f g xs ys same = sym (mapped f g ys) ∙ ap (map g) same ∙ mapped f g xs
+
+-- what holds by what is the same of all holds still
+pub all_same : {A B : Type 0} (f : A → B) (Q : B → Type 0) (xs ys : List A) → map f ys ≡ map f xs → All (λ x. Q (f x)) xs → All (λ x. Q (f x)) ys
+all_same f Q xs ys same all = of_all_map f Q ys (subst (All Q) (sym same) (All-map Q f xs all))
+
+-- what holds of all but one holds of all, where that is another now
+pub others_set : {A : Type 0} (Q : A → Type 0) (xs : List A) (w : ℕ) (b : A) → w < length xs → Q b → ((k : ℕ) (d : A) → k < length xs → (k ≡ w → ⊥) → Q (get_or xs k d)) → All Q (set xs w b)
+others_set Q xs w b low here others k d within = elim (cases_eq k w) [
+  | inl is ↦ subst Q (sym (ap (λ j. get_or (set xs w b) j d) is ∙ get_or-set_same xs w b d low)) here
+  | inr other ↦ subst Q (sym (get_or-set_other xs w k b d other)) (others k d (subst (λ n. k < n) (length-set xs w b) within) other)
+]
+
+pub set_back : {A : Type 0} (xs : List A) (w : ℕ) (a b : A) → a ≡ get_or xs w a → b ≡ a → set xs w b ≡ xs
+set_back xs w a b at same = ap (set xs w) (same ∙ at) ∙ set-get_or xs w a
+
+-- ---- what no turn changes
+
+module _ {P : Type 0} where
+  abbrev opening_kept : Option (P × ℕ) → Option P
+  opening_kept None = None
+  opening_kept (Some kept) = Some kept.0
+
+  opens : (members : List (Member P)) → map opening_of members ≡ map opening_kept (map kept_of members)
+  opens [] = refl
+  opens (member.Part p ∷ members) = ap (λ os. None ∷ os) (opens members)
+  opens (member.Desk d ∷ members) = ap (λ os. Some d.opening ∷ os) (opens members)
+
+  pub same_openings : (before after : List (Member P)) → map kept_of after ≡ map kept_of before → map opening_of after ≡ map opening_of before
+  same_openings before after same = opens after ∙ ap (map opening_kept) same ∙ sym (opens before)
+
+  pub still_untold : (s : Setting) (n : ℕ) (before after : List (Member P)) → map kept_of after ≡ map kept_of before → All (WasUntold s n) before → All (WasUntold s n) after
+  still_untold s n = all_same kept_of (λ o. IfSome o (λ kept. ends_before s n ≤ ends_before s kept.1))
 
 -- ---- the members behind a run
 
@@ -41,6 +77,12 @@ module _ {P : Type 0} (s : Setting) (publisher : P) where
     numbered = actors ∙ are.numbered;
     openings = opened ∙ are.openings;
   }
+
+-- there are some
+pub some_member : {P : Type 0} (s : Setting) (publisher : P) (members : List (Member P)) → AreMembers s publisher (all_numbers s) members → length members ≡ 0 → ⊥
+some_member s publisher members are none =
+    let many = sym (length-map members opening_of) ∙ ap length are.openings ∙ length-map-range_with_len (opening_in s publisher) 0 (parts s + 1) in
+    omega (arith, many, none)
 
 module _ {P : Type 0} (s : Setting) (publisher : P) (members : List (Member P)) (are : AreMembers s publisher (all_numbers s) members)
     (front : List (Member P)) (last : Member P) (is : members ≡ front ++ last ∷ []) where
@@ -91,14 +133,18 @@ module _ {P : Type 0} (s : Setting) (publisher : P) (members : List (Member P)) 
 
   -- where the run ends
   module _ (n : ℕ) (ended : AreEnded s n members) where
-    all_last_there : All (IsLast n) (front ++ last ∷ [])
-    all_last_there = subst (All (IsLast n)) is ended.last
+    abbrev Last : Member P → Type 0
+    Last = IsLast s ended.reached.before n
+
+    all_last_there : All (IsLast s ended.reached.before n) (front ++ last ∷ [])
+    all_last_there = subst (All (IsLast s ended.reached.before n)) is ended.last
 
     pub parts_at : All (IsAt n) front
-    parts_at i d low = (all_front (IsLast n) front last all_last_there i d low).0
+    parts_at i d low = (all_front Last front last all_last_there i d low).0
 
     pub desk_behind : (d : OnDesk P) → last ≡ member.Desk d → IsDeskOf s n d
     desk_behind d desk = record {
       setting_is = ap setting_of (sym desk) ∙ all_last (λ m. setting_of m ≡ s) front last of_setting;
-      last = subst (IsLast n) desk (all_last (IsLast n) front last all_last_there);
+      reached = ended.reached;
+      last = subst (IsLast s ended.reached.before n) desk (all_last Last front last all_last_there);
     }

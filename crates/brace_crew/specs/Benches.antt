@@ -13,7 +13,7 @@ use Rattle.brace_pieces.specs.declared.setting.Setting.{Setting}
 use Rattle.brace_pieces.specs.Steps.{schedule}
 use Rattle.brace_pieces.specs.Courses.{past_of}
 use Rattle.brace_crew.specs.declared.member.Member.{Member}
-use Rattle.brace_crew.specs.Members.{course_of, opening_of, next_of, IsDone}
+use Rattle.brace_crew.specs.Members.{course_of, kept_of, next_of, IsDone}
 
 -- a bench: its number among the workers, its members, the lanes that they put to and take from, and
 -- what its seat knows of these
@@ -53,7 +53,7 @@ pub record IsSameBench {P : Type 0} (a b : OnBench P) : Type 0 where
       ≡ map (λ m. (course_of m).setting) a.members
   pub numbers : map (λ m. (course_of m).actor) b.members
       ≡ map (λ m. (course_of m).actor) a.members
-  pub openings : map opening_of b.members ≡ map opening_of a.members
+  pub kept : map kept_of b.members ≡ map kept_of a.members
   pub lanes : b.lanes ≡ a.lanes
   pub seat : IsSameSeat a.seat b.seat
 

@@ -18,8 +18,8 @@ use Rattle.brace_crew.specs.declared.desk.Stop.{Stop}
 use Rattle.brace_crew.specs.Calls.{Call, behind, IsCut}
 
 -- a desk: where it stands in the schedule of its setting, what its publisher was when it was made
--- and what it is, why it publishes nothing any more, what parts brought last, and whether it
--- stopped in a step before and has put its Halt to all since
+-- and what it is, why it publishes nothing any more, what parts brought last, whether it stopped in
+-- a step before and has put its Halt to all since, and in which step it was seen last not to have
 pub record OnDesk (P : Type 0) : Type 0 where
   pub course : OnCourse
   pub opening : P
@@ -28,6 +28,7 @@ pub record OnDesk (P : Type 0) : Type 0 where
   pub lots : List Lot
   pub closed : Bool
   pub told : Bool
+  pub untold : ℕ
 
 -- the whole continued world of a tick
 abbrev pub whole_at : Setting → ℕ → Shown
@@ -55,12 +56,13 @@ pub record HasShown {P : Type 0} (of : publisher.Ghosts P) (d : OnDesk P) (count
     pub faultless : AreFaultless d.course.setting count
 
 -- a desk stopped at the end behind the first ones, so many: at the next it puts its Halt to all,
--- and behind that it has told
+-- and behind that it has told; where it was seen not to have, no end behind that was shown
 pub record StoppedAt {P : Type 0} (d : OnDesk P) (count : ℕ) : Type 0 where
   pub not_yet : d.told ≡ false
       → ends_before d.course.setting d.course.number ≡ count + 1
   pub has_told : d.told ≡ true
       → count + 2 ≤ ends_before d.course.setting d.course.number
+  pub seen : ends_before d.course.setting d.untold ≤ count + 1
 
 -- the publisher was shown all ends before that of a step, in which a part told a cause, or memory
 -- was refused; each lot is what a part showed there

@@ -1,14 +1,16 @@
 -- The members of a crew as contracts see them.
-use Rattle.std.specs.Prelude.{◌≡◌, ◌⊎◌, ℕ, ◌≤◌, length, true, Option, Some, None}
+use Rattle.std.specs.Prelude.{◌≡◌, ◌⊎◌, ℕ, ◌≤◌, length, true, Option, Some, None, IfSome}
 use Rattle.brace_core.specs.declared.name.Turn.{Turn}
 use Rattle.brace_core.specs.declared.name.Turn.TheVariants.{Done}
 use Rattle.brace_core.specs.Schedule.{front, turns}
 use Rattle.brace_core.specs.Exchanges.{due_to}
+use Rattle.brace_pieces.specs.declared.setting.Setting.{Setting}
 use Rattle.brace_pieces.specs.Steps.{steps, schedule}
 use Rattle.brace_pieces.specs.Courses.{OnCourse, past_of}
 use Rattle.brace_part.specs.Parts.{asks_next}
 use Rattle.brace_crew.specs.declared.member.Member.{Member}
 use Rattle.brace_crew.specs.declared.member.Member.TheVariants as member
+use Rattle.brace_crew.specs.Desks.{ends_before}
 
 -- where a member stands
 abbrev pub course_of : {P : Type 0} → Member P → OnCourse
@@ -19,6 +21,12 @@ course_of (member.Desk d) = d.course
 abbrev pub opening_of : {P : Type 0} → Member P → Option P
 opening_of (member.Part p) = None
 opening_of (member.Desk d) = Some d.opening
+
+-- what no turn of a member changes, where it is the desk: what its publisher was when it was made,
+-- and in which step it was seen last not to have put its Halt to all
+abbrev pub kept_of : {P : Type 0} → Member P → Option (P × ℕ)
+kept_of (member.Part p) = None
+kept_of (member.Desk d) = Some (d.opening, d.untold)
 
 -- a member's next turn in the first steps of its run, so many
 abbrev pub next_of : {P : Type 0} → ℕ → Member P → Turn
@@ -53,9 +61,14 @@ HasTold (member.Desk d) = d.told ≡ true
 abbrev pub IsOver : {P : Type 0} → ℕ → Member P → Type 0
 IsOver n m = HasTold m ⊎ (n ≡ length (steps (course_of m).setting))
 
--- a member stands where its run ends
-abbrev pub IsLast : {P : Type 0} → ℕ → Member P → Type 0
-IsLast n m = IsAt n m × IsOver n m
+-- a member, where it is the desk, was seen not to have put its Halt to all where the first steps of
+-- its run, so many, were made
+abbrev pub WasUntold : {P : Type 0} → Setting → ℕ → Member P → Type 0
+WasUntold s n m = IfSome (kept_of m) (λ kept. ends_before s n ≤ ends_before s kept.1)
+
+-- a member stands where its run ends, which did not end before, behind so many steps
+abbrev pub IsLast : {P : Type 0} → Setting → ℕ → ℕ → Member P → Type 0
+IsLast s before n m = IsAt n m × (IsOver n m × WasUntold s before m)
 
 -- the tick whose query a member evaluates in its next turn, if it evaluates one there; the desk
 -- evaluates none

@@ -11,20 +11,38 @@ use Rattle.brace_pieces.specs.Fronts.{steps_to}
 use Rattle.brace_part.specs.declared.counts.Counts.{Counts}
 use Rattle.brace_crew.specs.declared.crew.CrewFault.{CrewFault}
 use Rattle.brace_crew.specs.declared.crew.CrewFault.TheVariants as crew
+use Rattle.brace_crew.specs.declared.publisher.Publisher as publisher
+use Rattle.brace_crew.specs.Calls.{calls, IsCut, IsFront}
 use Rattle.brace_crew.specs.Benches.{IsUsedTo}
 
 -- how many ends a run has up to a tick
 abbrev pub ends_until : Setting → ℕ → ℕ
 ends_until s tick = length (filter (λ end. nat_le end tick) (ends s))
 
--- behind how many steps a run ends, by its answer: behind all, where it came to its last tick;
--- where it met a fault, behind the second end behind the fault's tick, if it has two: at the first
--- the desk is told, and at the second it puts its Halt to all; else behind some end, or before the
--- first step
-abbrev pub EndsBehind : Setting → ℕ → Result Counts CrewFault → Type 0
-EndsBehind s n (Ok counts) = n ≡ length (steps s)
-EndsBehind s n (Err (crew.Fault f)) = n ≡ steps_to s (ends_until s f.tick + 2)
-EndsBehind s n (Err x) = (k : ℕ) × (n ≡ steps_to s k)
+-- behind how many steps a run ends, by what it came to: behind all, where it came to its last tick;
+-- else behind the second end behind those that were shown to the publisher in full, if it has two:
+-- at the first the desk is told, or the publisher refuses, and at the second the desk puts its Halt
+-- to all
+abbrev pub EndsBehind : {P : Type 0} → publisher.Ghosts P → Setting → P → P → ℕ
+    → Result Counts CrewFault → Type 0
+EndsBehind of s opening now n (Ok counts) = n ≡ length (steps s)
+EndsBehind of s opening now n (Err (crew.Fault f)) = n ≡ steps_to s (ends_until s f.tick + 2)
+EndsBehind of s opening now n (Err (crew.Publish x)) =
+    (cut : IsCut of s opening now (calls s) x) × (n ≡ steps_to s (cut.made + 2))
+EndsBehind of s opening now n (Err crew.NoMemory) =
+    (shown : IsFront of s opening now (calls s)) × (n ≡ steps_to s (shown.made + 2))
+
+-- a run did not begin: memory was refused before its first turn
+pub record HasNotBegun {P : Type 0} (opening now : P) (answer : Result Counts CrewFault) : Type 0
+  where
+    pub no_memory : answer ≡ Err crew.NoMemory
+    pub same : now ≡ opening
+
+-- a run ended behind so many steps, or did not begin
+abbrev pub HasEnded : {P : Type 0} → publisher.Ghosts P → Setting → P → P → ℕ
+    → Result Counts CrewFault → Type 0
+HasEnded of s opening now n answer =
+    EndsBehind of s opening now n answer ⊎ (HasNotBegun opening now answer × (n ≡ 0))
 
 -- of lanes with these counts every name of a run's first steps, so many, was put and taken, and no
 -- other
@@ -52,9 +70,9 @@ pub record AreSeatsTo (s : Setting) (n workers : ℕ) (seats : List (OnSeat Sett
       IsSeatOf s workers k (slice_index_or seats k d).view
   pub used_to : All (λ seat. IsUsedTo n seat.view) seats
 
--- the seats behind a run, by its answer: used to where it ended; none, where memory was refused
--- before its first turn
-abbrev pub AreLeft : Setting → ℕ → Result Counts CrewFault → List (OnSeat Setting) → Type 0
-AreLeft s workers answer seats =
-    ((n : ℕ) × (EndsBehind s n answer × AreSeatsTo s n workers seats))
-    ⊎ ((answer ≡ Err crew.NoMemory) × (seats ≡ []))
+-- the seats behind a run: used to where it ended; none, where it did not begin
+abbrev pub AreLeft : {P : Type 0} → publisher.Ghosts P → Setting → ℕ → P → P
+    → Result Counts CrewFault → List (OnSeat Setting) → Type 0
+AreLeft of s workers opening now answer seats =
+    ((n : ℕ) × (EndsBehind of s opening now n answer × AreSeatsTo s n workers seats))
+    ⊎ (HasNotBegun opening now answer × (seats ≡ []))

@@ -1,14 +1,16 @@
-ghost use Rattle.std.specs.Prelude.{◌≡◌, ◌≤◌, length, true, false};
+ghost use Rattle.std.specs.Prelude.{◌≡◌, ◌≤◌, ℕ, length, map, true, false};
 ghost use Rattle.std.specs.List.{All};
 ghost use Rattle.brace_lanes.specs.Seats.{IsLater};
+ghost use Rattle.brace_pieces.specs.declared.setting.Setting.{Setting};
+ghost use Rattle.brace_pieces.specs.Steps.{steps};
 ghost use Rattle.brace_crew.specs.declared.bench.Drive.TheVariants as drive;
-ghost use Rattle.brace_crew.specs.Members.{HasTold, IsAt, IsWithin};
+ghost use Rattle.brace_crew.specs.Members.{course_of, opening_of, HasTold, IsAt, IsWithin, WasUntold};
 ghost use Rattle.brace_crew.specs.Benches.{AreServed, IsUnused, IsUsedTo, IsSameBench, AreWaiting};
-ghost use Rattle.brace_crew.specs.inner.Crews.{AreEarlyFor};
+ghost use Rattle.brace_crew.specs.inner.Crews.{HaveDeskLast};
 ghost use Rattle.brace_crew.specs.inner.Teams.{HasCome, StaysWithin};
 ghost use Rattle.brace_crew.specs.inner.Driven.{AreCounted, AreSame, WentAll, both};
 
-use crate::crew::have_told;
+use crate::crew::end_here;
 use crate::crowd::Crowd;
 use crate::{Member, Publisher};
 use brace_core::{Actor, Turn, Went, make_turn};
@@ -204,12 +206,19 @@ impl<'a, P: Publisher> Bench<'a, P> {
         true
     }
 
-    /// Whether no member is a desk that is still to put its Halt to all.
-    pub(crate) fn has_told(&self) -> bool
-        ensures told { result ≡ true → All HasTold self.now.members }
-        ensures left { result ≡ false → AreEarlyFor self.now.members }
+    /// Whether the run may end here: no member is a desk that is still to put its Halt to all.
+    pub(crate) fn ends_here(&mut self) -> bool
+        requires desk_last { HaveDeskLast self.old.members }
+        ensures told { result ≡ true → All HasTold self.new.members }
+        ensures untold { result ≡ false → (s : Setting) (n : ℕ) → n ≤ length (steps s)
+            → All (λ m. (course_of m).setting ≡ s) self.old.members
+            → All (IsAt n) self.old.members → All (WasUntold s n) self.new.members }
+        ensures same { result ≡ true → self.new ≡ self.old }
+        ensures courses { map course_of self.new.members ≡ map course_of self.old.members }
+        ensures openings { map opening_of self.new.members ≡ map opening_of self.old.members }
+        ensures seat { self.new.seat ≡ self.old.seat }
     {
-        have_told(self.members.as_slice())
+        end_here(&mut self.members)
     }
 
     /// The members, by rising number, and their seat.

@@ -17,10 +17,10 @@ ghost use Rattle.brace_crew.specs.declared.publisher.PubFault.{PubFault};
 ghost use Rattle.brace_crew.specs.declared.publisher.PubFault.TheVariants as refusal;
 ghost use Rattle.brace_crew.specs.Calls.{ticks_left, Rises, CameTo};
 ghost use Rattle.brace_crew.specs.Desks.{whole_at, HasHalted};
-ghost use Rattle.brace_crew.specs.Members.{course_of, opening_of, HasTold, IsAt};
-ghost use Rattle.brace_crew.specs.Workers.{AreUsedTo, EndsBehind};
+ghost use Rattle.brace_crew.specs.Members.{course_of, opening_of, HasTold, IsAt, WasUntold};
+ghost use Rattle.brace_crew.specs.Workers.{AreUsedTo, EndsBehind, HasEnded};
 ghost use Rattle.brace_crew.specs.inner.Lots.{world_of, brought, tick_shown};
-ghost use Rattle.brace_crew.specs.inner.Crews.{AreParts, AreMembers, AreNew, IsReached, AreEnded, AreEarlyFor, IsDeskOf, told_by, IsTelling, AreOf, all_numbers, part_numbers, served};
+ghost use Rattle.brace_crew.specs.inner.Crews.{AreParts, AreMembers, AreNew, AreEnded, HaveDeskLast, IsDeskOf, told_by, IsTelling, AreOf, all_numbers, part_numbers, served};
 
 use crate::desk::{Lot, Stop};
 use crate::join::joined;
@@ -285,17 +285,23 @@ fn worlds_left<P: Publisher>(
     }
 }
 
-/// Whether no member is a desk that is still to put its Halt to all.
-pub(crate) fn have_told<P: Publisher>(members: &[Member<P>]) -> bool
-    ensures told { result ≡ true → All HasTold members.now }
-    ensures left { result ≡ false → AreEarlyFor members.now }
+/// Whether a run of members may end here: none of them is a desk that is still to put its Halt to
+/// all.
+pub(crate) fn end_here<P: Publisher>(members: &mut [Member<P>]) -> bool
+    requires desk_last { HaveDeskLast members.old }
+    ensures told { result ≡ true → All HasTold members.new }
+    ensures untold { result ≡ false → (s : Setting) (n : ℕ) → n ≤ length (steps s)
+        → All (λ m. (course_of m).setting ≡ s) members.old → All (IsAt n) members.old
+        → All (WasUntold s n) members.new }
+    ensures same { result ≡ true → members.new ≡ members.old }
+    ensures courses { map course_of members.new ≡ map course_of members.old }
+    ensures openings { map opening_of members.new ≡ map opening_of members.old }
 {
-    for member in members {
-        if !member.has_told() {
-            return false;
-        }
+    if members.is_empty() {
+        return true;
     }
-    true
+    let last = members.len() - 1;
+    members[last].ends_here()
 }
 
 /// What a run comes to whose parts met faults: the least of these, where all up to its tick is
@@ -312,11 +318,10 @@ fn ended<P: Publisher>(
     requires halted { (f : Fault) × HasHalted P.Publisher desk (cause.Fault f) }
     requires rises { Rises P.Publisher desk.opening desk.publisher }
     requires course { IsCourse desk.course }
-    requires ended { (n : ℕ) × (IsReached setting.now n × All (IsAt n) members.now
-        × IsDeskOf setting.now n desk) }
+    requires ended { (n : ℕ) × (All (IsAt n) members.now × IsDeskOf setting.now n desk) }
     ensures came { CameTo P.Publisher setting.now desk.entry.opening result.0 (Err result.1) }
-    ensures ends { (n : ℕ) → IsReached setting.now n → All (IsAt n) members.now
-        → IsDeskOf setting.now n desk.entry → EndsBehind setting.now n (Err result.1) }
+    ensures ends { (n : ℕ) → All (IsAt n) members.now → IsDeskOf setting.now n desk.entry
+        → EndsBehind P.Publisher setting.now desk.entry.opening result.0 n (Err result.1) }
 {
     setting.numbers_fit();
     let Some(fault) = least_fault(members) else {
@@ -345,11 +350,10 @@ fn settled<P: Publisher>(
 ) -> (P, Result<Counts, CrewFault>)
     requires lawful { LawfulSetting setting.now }
     requires parts { AreParts setting.now members.now }
-    requires ended { (n : ℕ) × (IsReached setting.now n × All (IsAt n) members.now
-        × IsDeskOf setting.now n desk) }
+    requires ended { (n : ℕ) × (All (IsAt n) members.now × IsDeskOf setting.now n desk) }
     ensures came { CameTo P.Publisher setting.now desk.entry.opening result.0 result.1 }
-    ensures ends { (n : ℕ) → IsReached setting.now n → All (IsAt n) members.now
-        → IsDeskOf setting.now n desk.entry → EndsBehind setting.now n result.1 }
+    ensures ends { (n : ℕ) → All (IsAt n) members.now → IsDeskOf setting.now n desk.entry
+        → EndsBehind P.Publisher setting.now desk.entry.opening result.0 n result.1 }
 {
     setting.numbers_fit();
     match desk.stop() {
@@ -383,8 +387,10 @@ pub(crate) fn concluded<P: Publisher>(
     ensures came { (publisher : P)
         → AreMembers setting.now publisher (all_numbers setting.now) members.entry.items
         → CameTo P.Publisher setting.now publisher result.0 result.1 }
-    ensures ends { (n : ℕ) → AreEnded setting.now n members.entry.items
-        → EndsBehind setting.now n result.1 }
+    ensures ends { (publisher : P) (n : ℕ)
+        → AreMembers setting.now publisher (all_numbers setting.now) members.entry.items
+        → AreEnded setting.now n members.entry.items
+        → EndsBehind P.Publisher setting.now publisher result.0 n result.1 }
 {
     match members.pop() {
         Some(Member::Desk(desk)) => settled(alloc, setting, &members, desk),
@@ -421,7 +427,7 @@ fn run_through<P: Publisher>(
     let mut fronts = Fronts::of(setting);
     while let Some(end) = fronts.next() {
         run_in_order(members, lanes, order, end);
-        if have_told(members) {
+        if end_here(members) {
             return;
         }
     }
@@ -447,7 +453,7 @@ pub fn crew_run_alone<P: Publisher>(
     requires lanes_for { lanes.old.actors ≡ parts setting.now + 1 }
     requires nothing_put { (p q : ℕ) → puts_of lanes.old p q ≡ 0 }
     ensures came { CameTo P.Publisher setting.now publisher result.0 result.1 }
-    ensures used { (n : ℕ) × (EndsBehind setting.now n result.1
+    ensures used { (n : ℕ) × (HasEnded P.Publisher setting.now publisher result.0 n result.1
         × AreUsedTo setting.now n (puts_of lanes.new) (takes_of lanes.new)) }
     ensures lanes_setting { lanes.new.setting ≡ lanes.old.setting }
     ensures lanes_actors { lanes.new.actors ≡ lanes.old.actors }

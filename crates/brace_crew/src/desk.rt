@@ -1,4 +1,4 @@
-ghost use Rattle.std.specs.Prelude.{◌≡◌, ℕ, ◌-◌, map, IfOk, IfErr, Err, Some, None, true, false};
+ghost use Rattle.std.specs.Prelude.{◌≡◌, ℕ, map, IfOk, IfErr, Err, Some, None, true, false};
 ghost use Rattle.std.specs.List.{range_with_len};
 ghost use Rattle.std.specs.Vec.{vec_capacity};
 ghost use Rattle.brace_io.specs.Counts.{Rose};
@@ -12,7 +12,7 @@ ghost use Rattle.brace_crew.specs.declared.publisher.PubFault.TheVariants as fau
 ghost use Rattle.brace_crew.specs.declared.desk.Stop.TheVariants as stop;
 ghost use Rattle.brace_crew.specs.Calls.{Rises};
 ghost use Rattle.brace_crew.specs.Refusals.{tick_of};
-ghost use Rattle.brace_crew.specs.Desks.{whole_at, ends_before, AreFaultless, HasShown, HasHalted, HasRefused};
+ghost use Rattle.brace_crew.specs.Desks.{whole_at, ends_before, HasShown, HasHalted, HasRefused};
 ghost use Rattle.brace_crew.specs.inner.Lots.{tick_shown, brought};
 ghost use Rattle.brace_crew.specs.inner.Sound.{shows_in};
 
@@ -59,6 +59,8 @@ pub struct Desk<'a, P: Publisher> {
     closed: bool,
     /// Whether it has put its Halt to all since.
     told: bool,
+    /// Where it was asked for that last, and had not.
+    untold: Snapshot<Course<'a>>,
 }
 
 impl<'a, P: Publisher> Model for Desk<'a, P> {
@@ -82,9 +84,11 @@ impl<'a, P: Publisher> Model for Desk<'a, P> {
       lots = d.lots.items;
       closed = d.closed;
       told = d.told;
+      untold = d.untold.value.number;
     } };
 
     ghost invariant = { λ d. IsDesk P.Publisher (record {
+      untold = d.untold.value.number;
       told = d.told;
       closed = d.closed;
       lots = d.lots.items;
@@ -116,6 +120,7 @@ impl<'a, P: Publisher> Desk<'a, P> {
         };
         Ok(Desk {
             alloc,
+            untold: Snapshot::of(&course),
             course,
             opening: Snapshot::of(&publisher),
             publisher,
@@ -156,15 +161,18 @@ impl<'a, P: Publisher> Desk<'a, P> {
         self.stop
     }
 
-    /// Whether it put its Halt to all: a step in which all is shown was made since it stopped.
-    /// Where it has not, no part found a fault before the ends behind which it stands, but the last
-    /// of them.
-    pub fn has_told(&self) -> bool
-        ensures same { result ≡ self.now.told }
-        ensures course { IsCourse self.now.course }
-        ensures early { self.now.told ≡ false → AreFaultless self.now.course.setting
-            (ends_before self.now.course.setting self.now.course.number - 1) }
+    /// Whether its run ends here: it put its Halt to all, which is where a step in which all is
+    /// shown was made since it stopped. Where it has not, it keeps in which step that was seen.
+    pub fn ends_here(&mut self) -> bool
+        ensures told { result ≡ self.old.told }
+        ensures untold { result ≡ false
+            → self.new ≡ record self.old { untold = self.old.course.number } }
+        ensures same { result ≡ true → self.new ≡ self.old }
+        ensures course { IsCourse self.old.course }
     {
+        if !self.told {
+            self.untold = Snapshot::of(&self.course);
+        }
         self.told
     }
 
@@ -228,13 +236,13 @@ fn publish<P: Publisher>(
 impl<'a, P: Publisher> Actor<Piece> for Desk<'a, P> {
     ghost use Rattle.brace_pieces.specs.Courses.{past_of};
 
-    type Opening = P;
+    type Opening = (P, u64);
 
     ghost setting = { λ desk. desk.course.setting };
 
     ghost number = { λ desk. desk.course.actor };
 
-    ghost opening = { λ desk. desk.opening };
+    ghost opening = { λ desk. (desk.opening, desk.untold) };
 
     ghost past = { λ desk. past_of desk.course };
 

@@ -11,7 +11,7 @@ ghost use Rattle.brace_crew.specs.Members.{course_of, opening_of};
 ghost use Rattle.brace_crew.specs.Workers.{AreUsedTo, EndsBehind, TellsEnd};
 ghost use Rattle.brace_crew.specs.inner.Crews.{AreMembers, AreNew, AreEnded, all_numbers};
 
-use crate::crew::{concluded, have_told, members};
+use crate::crew::{concluded, end_here, members};
 use crate::desk::Stop;
 use crate::{CrewFault, Desk, Member, Publisher};
 use brace_num::NoMemory;
@@ -83,7 +83,7 @@ fn run_through<P: Publisher>(
     let mut fronts = Fronts::of(setting);
     while let Some(end) = fronts.next() {
         run_over_links(members, lanes, order, end)?;
-        if have_told(members) {
+        if end_here(members) {
             return Ok(());
         }
     }
@@ -109,7 +109,8 @@ pub fn crew_run_linked<P: Publisher>(
     requires nothing_put { (p q : ℕ) → link_of lanes.old p q ≡ fresh }
     requires no_round { lanes.old.rounds ≡ 0 }
     ensures came { CameTo P.Publisher setting.now publisher result.0 result.1 }
-    ensures used { TellsEnd result.1 → (n : ℕ) × (EndsBehind setting.now n result.1
+    ensures used { TellsEnd result.1 → (n : ℕ) × (
+        EndsBehind P.Publisher setting.now publisher result.0 n result.1
         × AreUsedTo setting.now n (puts_on lanes.new) (takes_on lanes.new)
         × ((p q : ℕ) → received_on lanes.new p q
         ≡ length (lane (front (schedule setting.now) n) p q))) }

@@ -1,7 +1,6 @@
 ghost use Rattle.std.specs.Prelude.{◌≡◌, ◌≤◌, ℕ, length, true, false};
 ghost use Rattle.brace_pieces.specs.Steps.{steps};
-ghost use Rattle.brace_crew.specs.Members.{asked_of, course_of, HasTold, IsAt};
-ghost use Rattle.brace_crew.specs.inner.Crews.{AreEarly};
+ghost use Rattle.brace_crew.specs.Members.{asked_of, course_of, opening_of, HasTold, IsAt, WasUntold};
 
 use crate::{Desk, Publisher};
 use brace_core::{Actor, Turn};
@@ -26,30 +25,33 @@ impl<'a, P: Publisher> Member<'a, P> {
         }
     }
 
-    /// Whether it is a part, or the desk and put its Halt to all.
-    pub(crate) fn has_told(&self) -> bool
-        ensures told { result ≡ true → HasTold self.now }
-        ensures left { result ≡ false → (n : ℕ) → n ≤ length (steps (course_of self.now).setting)
-            → IsAt n self.now → AreEarly (course_of self.now).setting n }
+    /// Whether its run may end here: it is a part, or the desk and put its Halt to all.
+    pub(crate) fn ends_here(&mut self) -> bool
+        ensures told { result ≡ true → HasTold self.new }
+        ensures untold { result ≡ false → (n : ℕ) → n ≤ length (steps (course_of self.old).setting)
+            → IsAt n self.old → WasUntold (course_of self.old).setting n self.new }
+        ensures same { result ≡ true → self.new ≡ self.old }
+        ensures course { course_of self.new ≡ course_of self.old }
+        ensures opening { opening_of self.new ≡ opening_of self.old }
     {
         match self {
             Member::Part(_) => true,
-            Member::Desk(desk) => desk.has_told(),
+            Member::Desk(desk) => desk.ends_here(),
         }
     }
 }
 
 impl<'a, P: Publisher> Actor<Piece> for Member<'a, P> {
     ghost use Rattle.brace_pieces.specs.Courses.{past_of};
-    ghost use Rattle.brace_crew.specs.Members.{course_of, opening_of};
+    ghost use Rattle.brace_crew.specs.Members.{course_of, kept_of};
 
-    type Opening = Option<P>;
+    type Opening = Option<(P, u64)>;
 
     ghost setting = { λ m. (course_of m).setting };
 
     ghost number = { λ m. (course_of m).actor };
 
-    ghost opening = { opening_of };
+    ghost opening = { kept_of };
 
     ghost past = { λ m. past_of (course_of m) };
 

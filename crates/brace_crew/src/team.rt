@@ -9,10 +9,10 @@ ghost use Rattle.brace_pieces.specs.Settings.{LawfulSetting, parts};
 ghost use Rattle.brace_pieces.specs.Steps.{steps};
 ghost use Rattle.brace_crew.specs.Calls.{CameTo};
 ghost use Rattle.brace_crew.specs.Benches.{OnBench, IsSameBench};
-ghost use Rattle.brace_crew.specs.Members.{course_of, HasTold, IsAt, IsLast};
+ghost use Rattle.brace_crew.specs.Members.{HasTold, IsAt, IsLast, WasUntold};
 ghost use Rattle.brace_crew.specs.Workers.{AreLeft};
-ghost use Rattle.brace_crew.specs.inner.Crews.{AreMembers, AreEarly, IsReached, all_numbers};
-ghost use Rattle.brace_crew.specs.inner.Teams.{AreRosters, IsTeam, HasCome, StaysWithin, AreLater, seat_of};
+ghost use Rattle.brace_crew.specs.inner.Crews.{AreMembers, all_numbers};
+ghost use Rattle.brace_crew.specs.inner.Teams.{AreRosters, IsTeam, HasCome, HaveEnded, StaysWithin, AreLater, AreStill, seat_of};
 
 use crate::crew::concluded;
 use crate::crowd::Crowd;
@@ -43,19 +43,22 @@ fn are_complete<P: Publisher>(benches: &[Bench<P>], steps: u64) -> bool
     true
 }
 
-/// Whether no member of benches is a desk that is still to put its Halt to all.
-fn have_told<P: Publisher>(benches: &[Bench<P>]) -> bool
-    ensures told { result ≡ true → All (λ b. All HasTold b.members) benches.now }
-    ensures left { result ≡ false → (s : Setting) (n : ℕ) → n ≤ length (steps s)
-        → All (λ b. All (λ m. (course_of m).setting ≡ s) b.members) benches.now
-        → All (λ b. All (IsAt n) b.members) benches.now → AreEarly s n }
+/// Whether a run on benches may end here: its desk put its Halt to all.
+fn end_here<P: Publisher>(setting: &Setting, benches: &mut [Bench<P>]) -> bool
+    requires lawful { LawfulSetting setting.now }
+    requires some_bench { 0 < length benches.old }
+    requires team { (publisher : P) × ((workers : ℕ) × IsTeam setting.now publisher workers
+        (all_numbers setting.now) benches.old) }
+    ensures told { result ≡ true → All (λ b. All HasTold b.members) benches.new }
+    ensures untold { result ≡ false → (n : ℕ) → n ≤ length (steps setting.now)
+        → All (λ b. All (IsAt n) b.members) benches.old
+        → All (λ b. All (WasUntold setting.now n) b.members) benches.new }
+    ensures same { result ≡ true → benches.new ≡ benches.old }
+    ensures still { AreStill benches.old benches.new }
+    ensures come { (n : ℕ) → All (HasCome n) benches.old → All (HasCome n) benches.new }
 {
-    for bench in benches {
-        if !bench.has_told() {
-            return false;
-        }
-    }
-    true
+    let worker = setting.parts() as usize % benches.len();
+    benches[worker].ends_here()
 }
 
 /// Whether a thread can be made now.
@@ -187,14 +190,13 @@ fn drive_through<R: Threads + Wait + Sync, P: Publisher + Send, G: Gate + Sync>(
     requires team { (publisher : P) × ((workers : ℕ) × IsTeam setting.now publisher workers
         (all_numbers setting.now) benches.old) }
     requires start { All (HasCome 0) benches.old }
-    ensures same { AreLater benches.old benches.new }
-    ensures come { (n : ℕ) × (IsReached setting.now n × All (HasCome n) benches.new
-        × All (λ b. All (IsLast n) b.members) benches.new) }
+    ensures still { AreStill benches.old benches.new }
+    ensures ended { (n : ℕ) × HaveEnded setting.now n benches.new }
 {
     let mut fronts = Fronts::of(setting);
     while let Some(end) = fronts.next() {
         drive_to(rt, benches, gate, end);
-        if have_told(benches) {
+        if end_here(setting, benches) {
             return;
         }
     }
@@ -258,8 +260,9 @@ fn take_in_turn<'a, P: Publisher>(
     ensures members { (s : Setting) (publisher : P) → count ≡ parts s + 1
         → AreRosters s publisher (length lists.old) (all_numbers s) (map into_iter_items lists.old)
         → AreMembers s publisher (all_numbers s) members.new.items }
-    ensures last { (n : ℕ) → All (λ list. All (IsLast n) (into_iter_items list)) lists.old
-        → All (IsLast n) members.new.items }
+    ensures last { (s : Setting) (before n : ℕ)
+        → All (λ list. All (IsLast s before n) (into_iter_items list)) lists.old
+        → All (IsLast s before n) members.new.items }
 {
     let workers = lists.len();
     for number in 0..count {
@@ -286,7 +289,8 @@ fn run_on<'a, R: Threads + Wait + Sync, P: Publisher + Send, G: Gate + Sync>(
     requires seats { seats.items
         ≡ new_seats lanes.now setting.now (parts setting.now + 1) workers workers }
     ensures came { CameTo P.Publisher setting.now publisher result.0 result.2 }
-    ensures left { AreLeft setting.now workers result.2 result.1.items }
+    ensures left { AreLeft P.Publisher setting.now workers publisher result.0 result.2
+        result.1.items }
 {
     let count = setting.parts() as usize + 1;
     let Ok(mut room) = Room::make(alloc, workers as usize, count) else {
@@ -350,7 +354,8 @@ pub fn crew_run<R: Threads + Wait + Sync, P: Publisher + Send, G: Gate + Sync>(
     requires few_workers { workers ≤ 16 }
     ensures came { CameTo P.Publisher setting.now publisher result.0 result.2 }
     ensures alone { workers ≡ 1 → result.1.items ≡ [] }
-    ensures left { 2 ≤ workers → AreLeft setting.now workers result.2 result.1.items }
+    ensures left { 2 ≤ workers → AreLeft P.Publisher setting.now workers publisher result.0
+        result.2 result.1.items }
 {
     if workers == 1 {
         let (publisher, answer) = crew_run_on_one(alloc, setting, order, publisher);

@@ -1,5 +1,5 @@
 -- The members of a crew before a run and behind it. Only the crate's own functions cite this.
-use Rattle.std.specs.Prelude.{◌≡◌, ℕ, suc, ◌+◌, ◌-◌, ◌%◌, ◌<◌, ◌≤◌, ◌==◌, List, [], ◌∷◌, length, map, filter, if◌then◌else◌, Option, Some, None, IfSome}
+use Rattle.std.specs.Prelude.{◌≡◌, ℕ, suc, ◌+◌, ◌%◌, ◌<◌, ◌==◌, List, [], ◌∷◌, length, map, filter, slice_index_or, if◌then◌else◌, Option, Some, None, IfSome}
 use Rattle.std.specs.List.{All, Contains, range_with_len}
 use Rattle.brace_model.specs.declared.fault.Fault.{Fault}
 use Rattle.brace_pieces.specs.declared.setting.Setting.{Setting}
@@ -7,15 +7,14 @@ use Rattle.brace_pieces.specs.declared.piece.Cause.{Cause}
 use Rattle.brace_pieces.specs.declared.piece.Cause.TheVariants as cause
 use Rattle.brace_pieces.specs.declared.piece.Shown.{Shown}
 use Rattle.brace_pieces.specs.Settings.{parts}
-use Rattle.brace_pieces.specs.Steps.{steps}
 use Rattle.brace_pieces.specs.Fronts.{steps_to}
 use Rattle.brace_pieces.specs.Right.{IsRightCause}
 use Rattle.brace_pieces.specs.Courses.{OnCourse, IsCourse, past_of}
 use Rattle.brace_part.specs.Parts.{IsCauseOfAll}
-use Rattle.brace_crew.specs.Desks.{OnDesk, AreFaultless, ends_before}
+use Rattle.brace_crew.specs.Desks.{OnDesk}
 use Rattle.brace_crew.specs.declared.member.Member.{Member}
 use Rattle.brace_crew.specs.declared.member.Member.TheVariants as member
-use Rattle.brace_crew.specs.Members.{course_of, opening_of, IsAt, IsLast}
+use Rattle.brace_crew.specs.Members.{course_of, opening_of, IsLast}
 use Rattle.brace_crew.specs.inner.Lots.{world_of}
 
 -- all parts of a run, by rising number
@@ -50,30 +49,29 @@ part_numbers s = range_with_len 0 (parts s)
 abbrev pub served : ℕ → ℕ → List ℕ → List ℕ
 served workers worker numbers = filter (λ a. a % workers == worker) numbers
 
--- no part found a fault before the ends that the first steps show, so many, but the last of these
-abbrev pub AreEarly : Setting → ℕ → Type 0
-AreEarly s n = AreFaultless s (ends_before s n - 1)
-
--- the same of the run of members that stand at the end of the first steps
-abbrev pub AreEarlyFor : {P : Type 0} → List (Member P) → Type 0
-AreEarlyFor members = (s : Setting) (n : ℕ) → n ≤ length (steps s)
-    → All (λ m. (course_of m).setting ≡ s) members → All (IsAt n) members → AreEarly s n
-
--- a run was driven from end to end, and so to the end of its first steps, so many
+-- a run was driven from end to end, to that of its first steps, so many, and before that to one
+-- behind which it was to go on; where none was left that is the same
 pub record IsReached (s : Setting) (n : ℕ) : Type 0 where
+  pub before : ℕ
   pub count : ℕ
-  pub is : n ≡ steps_to s count
-  pub goes_on : (k : ℕ) → count ≡ suc k → (steps_to s k < n) × AreEarly s (steps_to s k)
+  pub was : before ≡ steps_to s count
+  pub is : n ≡ steps_to s (suc count)
 
 -- members stand where their run ends, behind so many steps
 pub record AreEnded {P : Type 0} (s : Setting) (n : ℕ) (members : List (Member P)) : Type 0 where
   pub reached : IsReached s n
-  pub last : All (IsLast n) members
+  pub last : All (IsLast s reached.before n) members
 
 -- the desk of a run that ends there
 pub record IsDeskOf {P : Type 0} (s : Setting) (n : ℕ) (d : OnDesk P) : Type 0 where
   pub setting_is : d.course.setting ≡ s
-  pub last : IsLast n (member.Desk d)
+  pub reached : IsReached s n
+  pub last : IsLast s reached.before n (member.Desk d)
+
+-- all members but the last are parts
+pub record HaveDeskLast {P : Type 0} (members : List (Member P)) : Type 0 where
+  pub are_parts : (i : ℕ) (d : Member P) → i + 1 < length members
+      → opening_of (slice_index_or members i d) ≡ None
 
 -- the fault that a part tells, if it tells one
 abbrev pub fault_in : Option Cause → List Fault

@@ -13,7 +13,7 @@ use Rattle.brace_pieces.specs.declared.setting.Setting.{Setting}
 use Rattle.brace_pieces.specs.Steps.{schedule}
 use Rattle.brace_pieces.specs.Courses.{past_of}
 use Rattle.brace_crew.specs.declared.member.Member.{Member}
-use Rattle.brace_crew.specs.Members.{course_of, opening_of, IsDone}
+use Rattle.brace_crew.specs.Members.{course_of, kept_of, IsDone}
 use Rattle.brace_crew.specs.Benches.{OnBench, Waits, served_by}
 
 -- a seat is of a member's setting, serves it, and counts what its turns so far put and took
@@ -43,7 +43,7 @@ turns_left m =
 pub record AreSame {P : Type 0} (ms ns : List (Member P)) : Type 0 where
   pub settings : map (λ m. (course_of m).setting) ns ≡ map (λ m. (course_of m).setting) ms
   pub numbers : map (λ m. (course_of m).actor) ns ≡ map (λ m. (course_of m).actor) ms
-  pub openings : map opening_of ns ≡ map opening_of ms
+  pub kept : map kept_of ns ≡ map kept_of ms
 
 -- how the first members of a bench went on: one at least by a turn; none, and one at least waits;
 -- or none, and all are Done

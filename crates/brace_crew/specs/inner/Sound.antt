@@ -52,6 +52,7 @@ pub record IsOpen {P : Type 0} (of : publisher.Ghosts P) (d : OnDesk P) : Type 0
   pub few : length d.lots ≤ d.course.made - length (others_of d.course)
   pub halting : HalfHalted d.course d.stop
   pub untold : d.told ≡ false
+  pub seen : ends_before d.course.setting d.untold ≤ ends_before d.course.setting d.course.number
 
 -- why a desk was closed
 abbrev pub IsClosedBy : {P : Type 0} → publisher.Ghosts P → OnDesk P → Option Stop → Type 0

@@ -1,4 +1,4 @@
-use Rattle.std.proofs.Common.{◌∙◌, refl, sym, subst, arith}
+use Rattle.std.proofs.Common.{◌∙◌, refl, sym, subst, arith, inl, inr}
 use Rattle.brace_core.proofs.Starts.{no_names}
 use Rattle.brace_pieces.specs.Steps.{schedule}
 use Rattle.brace_crew.specs.inner.Crews.{AreMembers, AreNew, all_numbers}
@@ -37,7 +37,10 @@ pub returns-clause-used : goal.returns-clause-used
 returns-clause-used g c =
     let ran = c.run_through.ensures in
     let (n, (ended, used)) = ran.ended in
-    (n, (c.concluded.ensures.ends n (ended_back c.in-Ok.members.items c.deref_mut.result.now c.run_through.new.members _ _ c.deref_mut.ensures.value c.deref_mut.ensures.len ran.same_settings c.args.setting.now n ended), used))
+    let members = members_back c.in-Ok.members.items c.deref_mut.result.now c.run_through.new.members _ _ c.deref_mut.ensures.value c.deref_mut.ensures.len ran.same_settings
+    c.args.setting.now c.args.publisher (all_numbers c.args.setting.now) c.in-Ok.ensures.members ran.same_numbers ran.same_openings in
+    let last = ended_back c.in-Ok.members.items c.deref_mut.result.now c.run_through.new.members _ _ c.deref_mut.ensures.value c.deref_mut.ensures.len ran.same_settings c.args.setting.now n ended in
+    (n, (inl (c.concluded.ensures.ends c.args.publisher n members last), used))
 
 -- where the members found no memory nothing was used
 pub returns-in-Err-clause-used : goal.returns-in-Err-clause-used
@@ -45,7 +48,7 @@ returns-in-Err-clause-used g c =
     let s = c.args.setting.now in (
       0,
       (
-        (0, refl),
+        inr (record { no_memory = refl; same = c.in-Err.ensures.back }, refl),
         record {
           all_put = λ p q. c.requires.nothing_put p q ∙ sym (no_names (schedule s) p q);
           all_taken = λ p q. (let none = c.requires.nothing_put p q in omega (arith, none, no_names (schedule s) p q));

@@ -43,7 +43,9 @@ pub returns-in-Ok-run_through-clause-used : goal.returns-in-Ok-run_through-claus
 returns-in-Ok-run_through-clause-used g c tells =
     let ran = c.run_through.ensures in
     let (n, (ended, used, received)) = c.in-Ok-run_through.ensures.ended in
-    (n, (c.concluded.ensures.ends n (ended_back c.in-Ok.members.items c.deref_mut.result.now c.run_through.new.members _ _ c.deref_mut.ensures.value c.deref_mut.ensures.len ran.same_settings c.args.setting.now n ended), used, received))
+    let members = members_back c.in-Ok.members.items c.deref_mut.result.now c.run_through.new.members _ _ c.deref_mut.ensures.value c.deref_mut.ensures.len ran.same_settings
+    c.args.setting.now c.args.publisher (all_numbers c.args.setting.now) c.in-Ok.ensures.members ran.same_numbers ran.same_openings in
+    (n, (c.concluded.ensures.ends c.args.publisher n members (ended_back c.in-Ok.members.items c.deref_mut.result.now c.run_through.new.members _ _ c.deref_mut.ensures.value c.deref_mut.ensures.len ran.same_settings c.args.setting.now n ended), used, received))
 
 pub returns-in-Err-run_through-clause-came : goal.returns-in-Err-run_through-clause-came
 returns-in-Err-run_through-clause-came g c =

@@ -1,4 +1,4 @@
-use Rattle.std.proofs.Common.{◌≡◌, ◌∙◌, refl, sym, ap, subst, ◌+◌, ◌<◌, ◌≤◌, map, drop, length, All, arith}
+use Rattle.std.proofs.Common.{◌≡◌, ◌∙◌, refl, sym, ap, subst, ◌+◌, ◌≤◌, map, drop, length, All, arith}
 use Rattle.brace_pieces.specs.declared.setting.Setting.{Setting}
 use Rattle.brace_pieces.specs.Settings.{parts}
 use Rattle.brace_pieces.specs.Steps.{steps}
@@ -8,7 +8,8 @@ use Rattle.brace_wire.specs.Stands.{StandsOn}
 use Rattle.brace_wire.proofs.RunLemmas.{stands_new}
 use Rattle.brace_crew.specs.Members.{course_of}
 use Rattle.brace_crew.specs.inner.Crews.{all_numbers}
-use Rattle.brace_crew.proofs.FrontEnds.{IsBetween, first_pasts, between_first, still, goes_between, ends_told, used_there, ends_last, used_last}
+use Rattle.brace_crew.proofs.FrontEnds.{IsBetween, first_pasts, between_first, still, has_desk_last, goes_between, ends_told, used_there, ends_last, used_last}
+use Rattle.brace_crew.proofs.RunMembers.{same_of, same_openings}
 use Rattle.brace_crew.proofs.linked.run_through.Goals as goal
 
 pub loop-end-init : goal.loop-end-init
@@ -64,6 +65,25 @@ loop-end-smaller g c =
 place_of : (f h : OnFronts) (s : Setting) → f.setting ≡ s → h.number ≡ f.number + to_show (drop f.number (steps f.setting)) → h.number ≡ f.number + to_show (drop f.number (steps s))
 place_of f h s of place = place ∙ ap (λ r. f.number + to_show (drop f.number (steps r))) of
 
+pub end_here-requires : goal.end_here-requires
+end_here-requires g c =
+    let s = c.args.setting.now in
+    let so = c.loop-end.invariant in
+    let ran = c.run_over_links.ensures in
+    let (publisher, are) = c.requires.members in
+    let before = c.loop-end.fronts in
+    let after = c.next.new.self in
+    let lanes = so.lanes_setting ∙ c.requires.lanes_setting in
+    let (is, up) = c.in-Some.ensures.on in
+    let ok = c.in_ok-run_over_links.ensures in
+    let stands = subst (λ k. StandsOn s k (map (λ m. past_of (course_of m)) c.run_over_links.new.actors) c.run_over_links.new.lanes) is
+    (subst (λ r. StandsOn r c.in-Some.end (map (λ m. past_of (course_of m)) c.run_over_links.new.actors) c.run_over_links.new.lanes) lanes ok.stands) in
+    record {
+      desk_last = has_desk_last s publisher c.args.members.now are before.number after.number c.loop-end.members c.run_over_links.new.actors so.between
+          (place_of before after s so.of c.next.ensures.place) (omega (arith, c.next.ensures.within, ap (λ r. length (steps r)) so.of))
+          ran.same_settings ran.same_numbers ran.same_openings _ _ stands.stands;
+    }
+
 pub loop-end-preserved : goal.loop-end-preserved
 loop-end-preserved g c =
     let s = c.args.setting.now in
@@ -80,15 +100,15 @@ loop-end-preserved g c =
     record {
       of = c.next.ensures.same ∙ so.of;
       between = goes_between s publisher c.args.members.now are before.number after.number c.loop-end.members c.run_over_links.new.actors so.between
-          (place_of before after s so.of c.next.ensures.place) (omega (arith, is, up)) (omega (arith, c.next.ensures.within, ap (λ r. length (steps r)) so.of))
-          ran.same_settings ran.same_numbers ran.same_openings _ _ stands.stands (c.have_told.ensures.left c.if-have_told.false);
-      stands = stands;
+          (place_of before after s so.of c.next.ensures.place) (omega (arith, c.next.ensures.within, ap (λ r. length (steps r)) so.of))
+          ran.same_settings ran.same_numbers ran.same_openings _ _ stands.stands c.end_here.new.members c.end_here.ensures.courses c.end_here.ensures.openings (c.end_here.ensures.untold c.if-end_here.false);
+      stands = subst (λ pasts. StandsOn s after.number pasts c.run_over_links.new.lanes) (sym (same_of course_of past_of c.run_over_links.new.actors c.end_here.new.members c.end_here.ensures.courses)) stands;
       lanes_setting = ran.lanes_setting ∙ so.lanes_setting;
       lanes_actors = ran.lanes_actors ∙ so.lanes_actors;
     }
 
-pub returns-then-have_told : goal.returns-then-have_told
-returns-then-have_told g c =
+pub returns-then-end_here : goal.returns-then-end_here
+returns-then-end_here g c =
     let s = c.args.setting.now in
     let so = c.loop-end.invariant in
     let ran = c.run_over_links.ensures in
@@ -101,18 +121,18 @@ returns-then-have_told g c =
     let stands = subst (λ k. StandsOn s k (map (λ m. past_of (course_of m)) c.run_over_links.new.actors) c.run_over_links.new.lanes) is
     (subst (λ r. StandsOn r c.in-Some.end (map (λ m. past_of (course_of m)) c.run_over_links.new.actors) c.run_over_links.new.lanes) lanes ok.stands) in
     let place = place_of before after s so.of c.next.ensures.place in
-    let on : before.number < after.number = omega (arith, is, up) in
     let within : after.number ≤ length (steps s) = omega (arith, c.next.ensures.within, ap (λ r. length (steps r)) so.of) in
+    let (settings, numbers, openings, ended) = ends_told s publisher c.args.members.now are before.number after.number c.loop-end.members c.run_over_links.new.actors so.between place within
+    ran.same_settings ran.same_numbers ran.same_openings _ _ stands.stands c.end_here.new.members (c.end_here.ensures.same c.if-end_here.true) (c.end_here.ensures.told c.if-end_here.true) in
     record {
-      same_settings = ran.same_settings ∙ so.between.same_settings;
-      same_numbers = ran.same_numbers ∙ so.between.same_numbers;
-      same_openings = ran.same_openings ∙ so.between.same_openings;
+      same_settings = settings;
+      same_numbers = numbers;
+      same_openings = openings;
       ended = (
         after.number,
         (
-          ends_told s publisher c.args.members.now are before.number after.number c.loop-end.members c.run_over_links.new.actors so.between place on within
-              ran.same_settings ran.same_numbers ran.same_openings _ _ stands.stands (c.have_told.ensures.told c.if-have_told.true),
-          used_there s publisher c.args.members.now are before.number after.number c.loop-end.members c.run_over_links.new.actors so.between place on within
+          ended,
+          used_there s publisher c.args.members.now are before.number after.number c.loop-end.members c.run_over_links.new.actors so.between place within
               ran.same_settings ran.same_numbers ran.same_openings _ _ stands.stands,
           stands.all_received,
         ),
@@ -120,6 +140,11 @@ returns-then-have_told g c =
       lanes_setting = ran.lanes_setting ∙ so.lanes_setting;
       lanes_actors = ran.lanes_actors ∙ so.lanes_actors;
     }
+
+-- a call that found no memory
+pub returns-in_err-run_over_links-clause-same_openings : goal.returns-in_err-run_over_links-clause-same_openings
+returns-in_err-run_over_links-clause-same_openings g c =
+    same_openings c.loop-end.members c.run_over_links.new.actors c.run_over_links.ensures.same_openings ∙ c.loop-end.invariant.between.same_openings
 
 pub returns : goal.returns
 returns g c =

@@ -18,4 +18,4 @@ make-requires-clause-short g c = schedule_short c.args.setting.now c.requires.la
 
 -- where the lanes found no memory there is no seat
 pub returns-in-Err-clause-left : goal.returns-in-Err-clause-left
-returns-in-Err-clause-left g c two = inr (refl, c.new-in-Err.ensures.items)
+returns-in-Err-clause-left g c two = inr (record { no_memory = refl; same = refl }, c.new-in-Err.ensures.items)

@@ -38,10 +38,10 @@ loop-number-preserved g c =
                 (subst (IsTaking s publisher workers c.args.count (i + 1) (set (map into_iter_items lists) k (into_iter_items new))) (sym all)
                 (taking_more s publisher workers c.args.count i (map into_iter_items lists) c.loop-number.members.items c.loop-number-test.true (so.taking s publisher is are) few []
                 (into_iter_items old) (list_here into_iter_items lists k old new low at) m (into_iter_items new) (length-map lists into_iter_items ∙ long) opened));
-            last = λ n all_last.
-                let before = so.last n all_last in
-                let after = kept_more into_iter_items lists k old new low at (IsLast n) (Some m) opened before.0 in
-                (after.0, subst (All (IsLast n)) (sym all) (All-append (IsLast n) c.loop-number.members.items (m ∷ []) before.1 after.1));
+            last = λ s before_end n all_last.
+                let before = so.last s before_end n all_last in
+                let after = kept_more into_iter_items lists k old new low at (IsLast s before_end n) (Some m) opened before.0 in
+                (after.0, subst (All (IsLast s before_end n)) (sym all) (All-append (IsLast s before_end n) c.loop-number.members.items (m ∷ []) before.1 after.1));
           }
       | in_default w ↦
           let nothing : into_iter_items old ≡ [] = nil_from_length (into_iter_items old) (search rules) in
@@ -53,10 +53,10 @@ loop-number-preserved g c =
             taking = λ s publisher is are.
                 absurd (some_taken s publisher workers c.args.count i (map into_iter_items lists) c.loop-number.members.items c.loop-number-test.true (so.taking s publisher is are) few []
                 (into_iter_items old) (list_here into_iter_items lists k old new low at) nothing);
-            last = λ n all_last.
-                let before = so.last n all_last in
+            last = λ s before_end n all_last.
+                let before = so.last s before_end n all_last in
                 let same : c.loop-number.members.items ≡ c.match-next.members.items = ap (λ v. v.items) (sym w.members-is) in
-                ((kept_more into_iter_items lists k old new low at (IsLast n) None (ap into_iter_items at ∙ w.in_default.ensures.items) before.0).0, subst (All (IsLast n)) same before.1);
+                ((kept_more into_iter_items lists k old new low at (IsLast s before_end n) None (ap into_iter_items at ∙ w.in_default.ensures.items) before.0).0, subst (All (IsLast s before_end n)) same before.1);
           }
     ]
 
@@ -67,4 +67,4 @@ returns-clause-members g c s publisher is are =
     (omega (arith, c.loop-number-test.false, so.within)) (so.taking s publisher is are)
 
 pub returns-clause-last : goal.returns-clause-last
-returns-clause-last g c n all = (c.loop-number.invariant.last n all).1
+returns-clause-last g c s before n all = (c.loop-number.invariant.last s before n all).1

@@ -17,5 +17,6 @@ invariant-loop-number g l = record {
   room : vec_capacity l.members ≡ vec_capacity l.initial.members;
   taking : (s : Setting) (publisher : _) → l.count ≡ parts s + 1 → AreRosters s publisher (length l.initial.lists) (all_numbers s) (map into_iter_items l.initial.lists)
       → IsTaking s publisher (length l.initial.lists) l.count l.number (map into_iter_items l.lists) l.members.items;
-  last : (n : ℕ) → All (λ list. All (IsLast n) (into_iter_items list)) l.initial.lists → All (λ list. All (IsLast n) (into_iter_items list)) l.lists × All (IsLast n) l.members.items;
+  last : (s : Setting) (before n : ℕ) → All (λ list. All (IsLast s before n) (into_iter_items list)) l.initial.lists
+      → All (λ list. All (IsLast s before n) (into_iter_items list)) l.lists × All (IsLast s before n) l.members.items;
 }

@@ -41,7 +41,7 @@ invariant_of-self-then-eq g c =
     elim c.if-is_none.branch [
       | then-is_none+in-Err w ↦
           subst (λ (x : Inside g.row.P.Denot).
-          IsDesk g.P.Publisher (record { course = x.course; opening = x.opening.value; publisher = x.publisher; stop = x.stop; lots = x.lots.items; closed = closed; told = x.told }) (vec_capacity x.lots)) (sym w.self-inside-is)
+          IsDesk g.P.Publisher (record { course = x.course; opening = x.opening.value; publisher = x.publisher; stop = x.stop; lots = x.lots.items; closed = closed; told = x.told; untold = x.untold.value.number }) (vec_capacity x.lots)) (sym w.self-inside-is)
           (work_refused g.P.Publisher _ (vec_capacity c.self.inside.lots) c.self.invariant _ c.self.view_is c.requires
           c.go_on.new.self c.go_on.ensures.place c.if-self.false at stands shows w.setting.result.now (w.setting.ensures.setting ∙ c.go_on.ensures.same_setting)
           (not_some c.self.inside.stop (c.is_none.ensures ∙ ap not w.if-is_none.true)) w.publish-shown.new.publisher w.clear.new.self.items w.clear.ensures.items
@@ -50,7 +50,7 @@ invariant_of-self-then-eq g c =
           w.in-Err.stop w.in-Err.is (c.is_some-self-inside.ensures ∙ ap (λ (x : Inside g.row.P.Denot). is_some x.stop) w.self-inside-is))
       | then-is_none+in_default-shown w ↦
           subst (λ (x : Inside g.row.P.Denot).
-          IsDesk g.P.Publisher (record { course = x.course; opening = x.opening.value; publisher = x.publisher; stop = x.stop; lots = x.lots.items; closed = closed; told = x.told }) (vec_capacity x.lots)) (sym w.self-inside-is)
+          IsDesk g.P.Publisher (record { course = x.course; opening = x.opening.value; publisher = x.publisher; stop = x.stop; lots = x.lots.items; closed = closed; told = x.told; untold = x.untold.value.number }) (vec_capacity x.lots)) (sym w.self-inside-is)
           (work_shown g.P.Publisher _ (vec_capacity c.self.inside.lots) c.self.invariant _ c.self.view_is c.requires
           c.go_on.new.self c.go_on.ensures.place c.if-self.false at stands shows w.setting.result.now (w.setting.ensures.setting ∙ c.go_on.ensures.same_setting)
           (not_some c.self.inside.stop (c.is_none.ensures ∙ ap not w.if-is_none.true)) w.publish-shown.new.publisher w.clear.new.self.items w.clear.ensures.items
@@ -58,7 +58,7 @@ invariant_of-self-then-eq g c =
           (c.is_some-self-inside.ensures ∙ ap (λ (x : Inside g.row.P.Denot). is_some x.stop) w.self-inside-is) w.in_default-shown.ensures.done)
       | else-is_none w ↦
           subst (λ (x : Inside g.row.P.Denot).
-          IsDesk g.P.Publisher (record { course = x.course; opening = x.opening.value; publisher = x.publisher; stop = x.stop; lots = x.lots.items; closed = closed; told = x.told }) (vec_capacity x.lots)) (sym w.self-inside-is)
+          IsDesk g.P.Publisher (record { course = x.course; opening = x.opening.value; publisher = x.publisher; stop = x.stop; lots = x.lots.items; closed = closed; told = x.told; untold = x.untold.value.number }) (vec_capacity x.lots)) (sym w.self-inside-is)
           (work_stopped g.P.Publisher _ (vec_capacity c.self.inside.lots) c.self.invariant _ c.self.view_is c.requires
           c.go_on.new.self c.go_on.ensures.place c.if-self.false at stands shows c.self.inside.course.setting refl closed
           (some_left c.self.inside.stop (c.is_none.ensures ∙ ap not w.if-is_none.false))
