@@ -158,7 +158,8 @@ impl Drawer {
         second: &mut [i64],
     )
         requires tick { tick ≤ 2 ^ 32 }
-        requires places { (length first.old ≡ length ids.now) × (length second.old ≡ length ids.now) }
+        requires places { (length first.old ≡ length ids.now)
+            × (length second.old ≡ length ids.now) }
         ensures first { first.new
             ≡ map (λ id. pos (draw_value self.now.seed tick id sites.0)) ids.now }
         ensures second { second.new

@@ -69,34 +69,44 @@ sum_more type words i total next plain low before is =
     total-more Sum type words i total next (typed type word) low refl before
     (is ∙ ap (λ n. total +ℤ n) (sym (kept type word plain)))
 
--- a count of words
-pub counted : (type : Ty) (words : List ℤ) (count : ℕ) → count ≡ length words
-    → pos count ≡ total_of Count (map (typed type) words)
-counted type words count is =
-    let many = fold-counted (pos 0) (map (typed type) words) in
-    let long = length-map words (typed type) in
-    omega (arith, ints, many, long, is)
+-- a count of the words from a place up to another
+pub counted : (type : Ty) (words : List ℤ) (from next n : ℕ) → next ≤ n → length words ≡ n
+    → pos (next - from) ≡ total_of Count (map (typed type) (between from next words))
+counted type words from next n low is =
+    let part = between from next words in
+    let many = fold-counted (pos 0) (map (typed type) part) in
+    let same = length-map part (typed type) in
+    let long = between-long from next words (subst (λ n. next ≤ n) (sym is) low) in
+    omega (arith, ints, many, same, long)
 
 -- words were joined to the sum of an effect of the agent of a row
-pub hears-words : (scene : Scene) (ear : Ear) (row count : ℕ) (words : List ℤ) (number : ℤ) (before after : Table) (a : Agent) → IsScene scene → IsEar scene ear
-    → IsOfClass (rows scene) ear.class row → slice_get (rows scene) row ≡ Some a
-    → number ≡ total_of ear.comb (map (typed ear.ty) words) → count ≡ length words → after.rows ≡ before.rows → row < before.rows
+pub hears-words : (scene : Scene) (ear : Ear) (comb : Comb) (type : Ty) (row count : ℕ)
+    (words : List ℤ) (number : ℤ) (before after : Table) (a : Agent)
+    → IsScene scene → IsEar scene ear → comb ≡ ear.comb → IsOfClass (rows scene) ear.class row
+    → slice_get (rows scene) row ≡ Some a → number ≡ total_of comb (map (typed type) words)
+    → count ≡ length words → after.rows ≡ before.rows → row < before.rows
     → sum_place before.rows ear.effect row < length before.sums.items
-    → after.sums.items ≡ set before.sums.items (sum_place before.rows ear.effect row) (summed ear.comb (sum_at before ear.effect row) number count)
-    → Hears scene.program.now (rows scene) (told_at a ear.effect ear.ty words) before after
-hears-words scene ear row count words number before after a scene_is hears (b, had, of) found is many same_rows low inside sums =
+    → after.sums.items ≡ set before.sums.items (sum_place before.rows ear.effect row)
+    (summed comb (sum_at before ear.effect row) number count)
+    → Hears scene.program.now (rows scene) (told_at a ear.effect type words) before after
+hears-words scene ear comb type row count words number before after a scene_is hears same
+    (b, had, of) found is many same_rows low inside sums =
     let program = scene.program.now in
-    let values = map (typed ear.ty) words in
+    let values = map (typed type) words in
     let one : Value → Saying = λ v. record { target = a.id; field = ear.effect; value = v } in
-    let own : a.class ≡ ear.class = ap (λ (x : Agent). x.class) (same_Some a b (sym found ∙ had)) ∙ of in
+    let own : a.class ≡ ear.class =
+    ap (λ (x : Agent). x.class) (same_Some a b (sym found ∙ had)) ∙ of in
     let has : slice_get (effects_in (class_of program a)) ear.effect ≡ Some hears.effect =
     ap (λ n. slice_get (effects_in (slice_get program.classes n)) ear.effect) own
     ∙ ap (λ o. slice_get (effects_in o) ear.effect) hears.has ∙ hears.there in
     let apart = apart_moved (world scene) (rows scene) scene_is.rises scene_is.moved in
-    subst (λ l. Hears program (rows scene) l before after) (mapped (typed ear.ty) one words)
-    (hears-sum program (rows scene) before after row ear.effect count number a hears.effect values apart found has
-    (is ∙ ap (λ (c : Comb). total_of c values) hears.comb) (many ∙ sym (length-map words (typed ear.ty))) same_rows low inside
-    (sums ∙ ap (λ (c : Comb). set before.sums.items (sum_place before.rows ear.effect row) (summed c (sum_at before ear.effect row) number count)) hears.comb))
+    let joins : comb ≡ hears.effect.comb = same ∙ hears.comb in
+    subst (λ l. Hears program (rows scene) l before after) (mapped (typed type) one words)
+    (hears-sum program (rows scene) before after row ear.effect count number a hears.effect values
+    apart found has (is ∙ ap (λ (c : Comb). total_of c values) joins)
+    (many ∙ sym (length-map words (typed type))) same_rows low inside
+    (sums ∙ ap (λ (c : Comb). set before.sums.items (sum_place before.rows ear.effect row)
+    (summed c (sum_at before ear.effect row) number count)) joins))
 
 -- the agent that a name stands for stands in its row
 pub agent-there : (scene : Scene) (depth : Depth) (who : Who) (lane : Lane) (s : Scope) → IsLane scene depth lane s → is_there depth who ≡ true
@@ -164,17 +174,16 @@ are-told scene crowd who all scopes stands same there = record {
 
 -- what the scopes up to another place say to one agent
 pub says-more : (scene : Scene) (who : Who) (effect : ℕ) (type : Ty) (scopes : List Scope)
-    (words these : List ℤ) (from next : ℕ) (all : List ℕ) (place : ℕ) (a b c : Table)
+    (words : List ℤ) (from next : ℕ) (all : List ℕ) (place : ℕ) (a b c : Table)
     → AreTold scene who all scopes
     → length words ≡ length scopes → from < next → next ≤ length all → place ≡ get_or all from 0
     → ((k : ℕ) → from + 1 ≤ k → k < next → get_or all k 0 ≡ place)
-    → these ≡ between from next words
     → ((x : Agent) → slice_get (rows scene) place ≡ Some x
-    → Hears scene.program.now (rows scene) (told_at x effect type these) b c)
+    → Hears scene.program.now (rows scene) (told_at x effect type (between from next words)) b c)
     → Hears scene.program.now (rows scene) (told_by who effect type (take from scopes) (take from words)) a b
     → Hears scene.program.now (rows scene) (told_by who effect type (take next scopes) (take next words)) a c
-says-more scene who effect type scopes words these from next all place a b c heard_by long less
-    most place_is run these_are one before =
+says-more scene who effect type scopes words from next all place a b c heard_by long less
+    most place_is run one before =
     subst (λ l. Hears scene.program.now (rows scene) l a c) (told-between who effect type scopes words from next (omega (arith, less)) long)
     (hears-more scene.program.now (rows scene) _ _ a b c before now)
   where
@@ -203,8 +212,7 @@ says-more scene who effect type scopes words these from next all place a b c hea
 
     now : Hears scene.program.now (rows scene) (told_by who effect type (between from next scopes) (between from next words)) b c
     now = subst (λ l. Hears scene.program.now (rows scene) l b c)
-        (ap (told_at x effect type) these_are
-        ∙ told-one who effect type x (between from next scopes) (between from next words)
+        (told-one who effect type x (between from next scopes) (between from next words)
         (between-long from next words (subst (λ n. next ≤ n) (sym long) last) ∙ sym (between-long from next scopes last)) alone)
         (one x (agent_at from (omega arith) less))
 

@@ -33,6 +33,10 @@ abbrev pub sum_at : Table → ℕ → ℕ → Sum
 sum_at table effect row =
     slice_index_or table.sums.items (sum_place table.rows effect row) no_sum
 
+-- the total whose sum this is; of no value, the one that is given
+abbrev pub total_in : ℤ → Sum → ℤ
+total_in none sum = if sum.count == 0 then none else sum.number
+
 -- a sum joins these values
 pub record IsSum (comb : Comb) (values : List Value) (sum : Sum) : Type 0 where
   pub many : sum.count ≡ length values

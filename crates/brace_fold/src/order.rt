@@ -1,4 +1,4 @@
-ghost use Rattle.std.specs.Prelude.{◌≡◌, ◌<◌, ◌++◌, [], ◌∷◌, ℕ, List, Some, filter, if◌then◌else◌, length, map, nat_lt, replicate, slice_get, IfOk, IfSome, OnOk};
+ghost use Rattle.std.specs.Prelude.{◌≡◌, ◌<◌, ◌≤◌, ◌++◌, [], ◌∷◌, ℕ, List, Some, filter, if◌then◌else◌, length, map, nat_lt, replicate, slice_get, slice_index_or, IfOk, IfSome, IsTrue, OnOk};
 ghost use Rattle.std.specs.List.{All, range_with_len};
 ghost use Rattle.brace_model.specs.declared.program.Program.{Program};
 ghost use Rattle.brace_model.specs.declared.world.Agent.{Agent};
@@ -63,7 +63,7 @@ pub fn places_at(
 }
 
 /// Adds a row that is wanted.
-pub fn add_row(rows: &mut Vec<u32>, row: u32, wanted: bool) -> Result<(), Redo>
+fn add_row(rows: &mut Vec<u32>, row: u32, wanted: bool) -> Result<(), Redo>
     ensures { OnOk result (rows.new.items ≡ rows.old.items ++ (if wanted then row ∷ [] else [])) }
 {
     if wanted {
@@ -155,16 +155,43 @@ fn picks_of<'a>(alloc: Global, rows: &'a [u32]) -> Result<Picks<'a>, Redo>
     }
 }
 
+/// The highest of some rows; 0 where there is none.
+fn highest(rows: &[u32]) -> u32
+    ensures { (k : ℕ) → k < length rows.now → slice_index_or rows.now k 0 ≤ result }
+{
+    let mut highest = 0;
+    for row in rows {
+        highest = highest.max(*row);
+    }
+    highest
+}
+
+/// Whether each of some rows is one of so many.
+pub fn are_within(rows: &[u32], count: usize) -> bool
+    ensures { IsTrue result → (k : ℕ) → k < length rows.now
+        → slice_index_or rows.now k 0 < count }
+{
+    rows.is_empty() || (highest(rows) as usize) < count
+}
+
+/// What a column has in a row that is within.
+pub fn item_within<T: Copy>(column: &[T], row: u32) -> T
+    requires { row < length column.now }
+    ensures { slice_get column.now row ≡ Some result }
+{
+    column[row as usize]
+}
+
 /// What a column has in some rows.
 fn picked_each<T: Copy>(alloc: Global, column: &[T], rows: &[u32]) -> Result<Vec<T>, Redo>
     ensures { IfOk result (λ out. IsPicked rows.now column.now out.items) }
 {
+    if !are_within(rows, column.len()) {
+        return Err(Redo);
+    }
     let mut out = Vec::with_capacity(alloc, rows.len())?;
     for row in rows {
-        let Some(item) = item_at(column, *row) else {
-            return Err(Redo);
-        };
-        out.push_reserved(item);
+        out.push_reserved(item_within(column, *row));
     }
     Ok(out)
 }

@@ -1,21 +1,19 @@
-ghost use Rattle.std.specs.Prelude.{◌≡◌, ◌<◌, ◌≤◌, ◌+◌, ℕ, List, IfOk, IfSome, OnOk, length, map, slice_get, slice_index_or, Some, false, true};
+ghost use Rattle.std.specs.Prelude.{◌≡◌, ◌<◌, ◌≤◌, ◌+◌, ℕ, ℤ, List, IfOk, IfSome, OnOk, length, map, slice_get, slice_index_or, Some, true};
 ghost use Rattle.brace_code.specs.Lanes.{words_of};
+ghost use Rattle.brace_model.specs.declared.program.Ty.{Ty};
 ghost use Rattle.brace_model.specs.declared.world.Agent.{Agent};
 ghost use Rattle.brace_model.specs.Value.{Scope, typed};
 ghost use Rattle.brace_fold.specs.inner.Crowds.{IsScene, Stands, rows, spread};
 ghost use Rattle.brace_fold.specs.declared.scene.Scene.{Scene};
-ghost use Rattle.brace_model.specs.declared.program.Comb.TheVariants as combs;
-ghost use Rattle.brace_model.specs.declared.program.Ty.TheVariants as types;
 ghost use Rattle.brace_model.specs.Total.{total_of};
-ghost use Rattle.brace_model.specs.Typing.{same_type};
 ghost use Rattle.brace_fold.specs.inner.Ears.{AreHeard, IsEar, hearing, row_of, is_there, told_at, told_by};
 ghost use Rattle.brace_fold.specs.Hears.{Hears};
 
 use crate::crowd::{Crowd, Depth, Stretch, has_inner, has_outer};
 use crate::scene::Scene;
-use crate::table::{Table, narrow};
+use crate::spoken::{Counted, Joined, Spoken, Summed, SummedAt, SummedSame};
+use crate::table::Table;
 use brace_code::{Lanes, Redo, Row, View};
-use brace_comb::{identity, joined};
 use brace_model::{Comb, Ty, Value, Who};
 
 /// A word as a value of a type.
@@ -118,53 +116,6 @@ fn behind(from: usize, count: u32) -> Option<usize>
     Some(next)
 }
 
-/// The total of words of a type that lanes read; None where 128 bits do not hold it.
-// Inlined where the combinator is known, so that its loop does not ask for it.
-#[inline(always)]
-fn total_of(comb: Comb, ty: Ty, words: View, count: usize) -> Option<i128>
-    requires { length (words_of count words) ≡ count }
-    ensures { IfSome result (λ n. n ≡ total_of comb (map (typed ty) (words_of count words.entry))) }
-{
-    let mut total = identity(comb);
-    for k in 0..count {
-        let word = words.word(k)?;
-        total = joined(comb, total, typed(ty, word))?;
-    }
-    Some(total)
-}
-
-/// The sum of words of a type that is no flag; None where 64 bits do not hold one on the way.
-// Inlined where it is known where the words stand, so that its loop does not ask for it.
-#[inline(always)]
-fn sum_of(ty: Ty, words: View, count: usize) -> Option<i128>
-    requires plain { same_type ty types.Bool ≡ false }
-    requires long { length (words_of count words) ≡ count }
-    ensures { IfSome result (λ n.
-        n ≡ total_of combs.Sum (map (typed ty) (words_of count words.entry))) }
-{
-    let mut total = 0i64;
-    for k in 0..count {
-        let word = words.word(k)?;
-        total = total.checked_add(word)?;
-    }
-    Some(i128::from(total))
-}
-
-/// The sum of words of a type that is no flag; None where 64 bits do not hold one on the way.
-#[inline(always)]
-fn sum(ty: Ty, words: View, count: usize) -> Option<i128>
-    requires plain { same_type ty types.Bool ≡ false }
-    requires long { length (words_of count words) ≡ count }
-    ensures { IfSome result (λ n.
-        n ≡ total_of combs.Sum (map (typed ty) (words_of count words.entry))) }
-{
-    match words {
-        View::Same(word) => sum_of(ty, View::Same(word), count),
-        View::Each(words) => sum_of(ty, View::Each(words), count),
-        View::At(column, rows) => sum_of(ty, View::At(column, rows), count),
-    }
-}
-
 /// How many words there are, in 32 bits.
 fn narrow_count(count: usize) -> Result<u32, Redo>
     ensures { IfOk result (λ n. n ≡ count) }
@@ -175,41 +126,19 @@ fn narrow_count(count: usize) -> Result<u32, Redo>
     }
 }
 
-/// The total of words of a type that lanes read; None where it is not made, as where 128 bits do
-/// not hold it.
-#[inline(always)]
-#[tactic(auto, using(crate::proofs::Sayings::counted))]
-fn total(comb: Comb, ty: Ty, words: View, count: usize) -> Option<i128>
-    requires { length (words_of count words) ≡ count }
-    ensures { IfSome result (λ n. n ≡ total_of comb (map (typed ty) (words_of count words.entry))) }
-{
-    match comb {
-        Comb::Sum => match ty {
-            Ty::Int | Ty::Fixed => sum(ty, words, count),
-            Ty::Bool => total_of(Comb::Sum, ty, words, count),
-        },
-        Comb::Min => total_of(Comb::Min, ty, words, count),
-        Comb::Max => total_of(Comb::Max, ty, words, count),
-        Comb::Count => Some(i128::from(narrow_count(count).ok()?)),
-        Comb::Or => total_of(Comb::Or, ty, words, count),
-    }
-}
-
-/// An effect of a class, to which words of a type are said.
+/// An effect of a class.
 #[derive(Debug, Clone, Copy)]
 pub struct Ear {
     pub class: u32,
     pub effect: u32,
     pub comb: Comb,
-    pub ty: Ty,
 }
 
 impl<'a> Scene<'a> {
     /// The ear of the agent of a row.
-    fn ear(&self, row: u32, effect: u32, ty: Ty) -> Result<Ear, Redo>
+    fn ear(&self, row: u32, effect: u32) -> Result<Ear, Redo>
         ensures ear { IfOk result (λ ear. IsEar self.now ear) }
         ensures effect { IfOk result (λ ear. ear.effect ≡ effect) }
-        ensures of_type { IfOk result (λ ear. ear.ty ≡ ty) }
     {
         let Some(number) = self.class_at(row) else {
             return Err(Redo);
@@ -224,112 +153,108 @@ impl<'a> Scene<'a> {
             class: number,
             effect,
             comb: target.comb,
-            ty,
         })
     }
 
-    /// Joins so many words said to the agent of a row.
-    // Inlined, as all that it calls, where the combinator and the kind of view are known.
+    /// Joins the total of so many words said to the agent of a row.
+    // Inlined where the combinator is known, so that no run asks for it.
     #[inline(always)]
     fn say_to(
         &self,
         ear: &Ear,
+        comb: Comb,
         row: u32,
-        words: View,
+        number: i64,
         count: usize,
         heard: &mut Table,
     ) -> Result<(), Redo>
         requires scene { IsScene self.now }
         requires ear { IsEar self.now ear.now }
-        requires long { length (words_of count words) ≡ count }
-        ensures { OnOk result ((a : Agent) → slice_get (rows self.now) row ≡ Some a
+        requires comb { comb ≡ ear.now.comb }
+        ensures { OnOk result ((a : Agent) (type : Ty) (words : List ℤ)
+            → slice_get (rows self.now) row ≡ Some a → count ≡ length words
+            → number ≡ total_of comb (map (typed type) words)
             → Hears self.now.program.now (rows self.now)
-            (told_at a ear.now.effect ear.now.ty (words_of count words.entry))
-            heard.old heard.new) }
+            (told_at a ear.now.effect type words) heard.old heard.new) }
     {
         self.expect_class(row, ear.class)?;
-        let Some(number) = total(ear.comb, ear.ty, words, count) else {
-            return Err(Redo);
-        };
-        let number = narrow(number)?;
         let count = narrow_count(count)?;
-        heard.join(ear.effect, row, ear.comb, number, count)?;
+        heard.join(ear.effect, row, comb, number, count)?;
         Ok(())
     }
 
-    /// Joins the words that lanes say to the agents of rows, run by run of one row.
-    // Inlined where the combinator and the kind of view are known, so that no run asks for them.
-    #[inline(always)]
-    fn say_runs(
+    /// Joins what lanes say to the agents of rows, run by run of one row.
+    fn say_runs<S: Spoken>(
         &self,
         ear: &Ear,
         hearers: &[u32],
-        words: View,
+        spoken: &S,
         heard: &mut Table,
     ) -> Result<(), Redo>
         requires scene { IsScene self.now }
         requires ear { IsEar self.now ear.now }
-        ensures { OnOk result (AreHeard self.now ear.now.effect ear.now.ty hearers.now
-            words.entry heard.old heard.new) }
+        requires comb { S.joins spoken.now ≡ ear.now.comb }
+        ensures { OnOk result (AreHeard self.now ear.now.effect (S.type_of spoken.now) hearers.now
+            (S.reads spoken.now) heard.old heard.new) }
     {
         let mut at = 0;
         while at < hearers.len() {
             let row = hearers[at];
             let next = run_end(row, hearers, at + 1);
-            let Some(these) = words.part(at, next) else {
+            let Some(number) = spoken.total(at, next) else {
                 return Err(Redo);
             };
-            self.say_to(ear, row, these, next - at, heard)?;
+            self.say_to(ear, spoken.comb(), row, number, next - at, heard)?;
             at = next;
         }
         Ok(())
     }
 
-    /// Joins the words that lanes say to the agents of stretches.
-    #[inline(always)]
-    fn say_stretches(
+    /// Joins what lanes say to the agents of stretches.
+    fn say_stretches<S: Spoken>(
         &self,
         ear: &Ear,
         stretches: &[Stretch],
-        words: View,
+        spoken: &S,
         heard: &mut Table,
     ) -> Result<(), Redo>
         requires scene { IsScene self.now }
         requires ear { IsEar self.now ear.now }
-        ensures { OnOk result (AreHeard self.now ear.now.effect ear.now.ty (spread stretches.now)
-            words.entry heard.old heard.new) }
+        requires comb { S.joins spoken.now ≡ ear.now.comb }
+        ensures { OnOk result (AreHeard self.now ear.now.effect (S.type_of spoken.now)
+            (spread stretches.now) (S.reads spoken.now) heard.old heard.new) }
     {
         let mut at = 0usize;
         for stretch in stretches {
             let Some(next) = behind(at, stretch.count) else {
                 return Err(Redo);
             };
-            let Some(these) = words.part(at, next) else {
+            let Some(number) = spoken.total(at, next) else {
                 return Err(Redo);
             };
-            self.say_to(ear, stretch.row, these, next - at, heard)?;
+            self.say_to(ear, spoken.comb(), stretch.row, number, next - at, heard)?;
             at = next;
         }
         Ok(())
     }
 
-    /// Joins the words that lanes say to those who hear them.
-    #[inline(always)]
-    fn say_all(
+    /// Joins what lanes say to those who hear them.
+    fn say_all<S: Spoken>(
         &self,
         ear: &Ear,
         hearers: Hearers,
-        words: View,
+        spoken: &S,
         heard: &mut Table,
     ) -> Result<(), Redo>
         requires scene { IsScene self.now }
         requires ear { IsEar self.now ear.now }
-        ensures { OnOk result (AreHeard self.now ear.now.effect ear.now.ty (hearing hearers.entry)
-            words.entry heard.old heard.new) }
+        requires comb { S.joins spoken.now ≡ ear.now.comb }
+        ensures { OnOk result (AreHeard self.now ear.now.effect (S.type_of spoken.now)
+            (hearing hearers.entry) (S.reads spoken.now) heard.old heard.new) }
     {
         match hearers {
-            Hearers::Each(rows) => self.say_runs(ear, rows, words, heard),
-            Hearers::Stretches(stretches) => self.say_stretches(ear, stretches, words, heard),
+            Hearers::Each(rows) => self.say_runs(ear, rows, spoken, heard),
+            Hearers::Stretches(stretches) => self.say_stretches(ear, stretches, spoken, heard),
         }
     }
 
@@ -338,36 +263,36 @@ impl<'a> Scene<'a> {
         &self,
         ear: &Ear,
         hearers: Hearers,
+        ty: Ty,
         words: View,
         heard: &mut Table,
     ) -> Result<(), Redo>
         requires scene { IsScene self.now }
         requires ear { IsEar self.now ear.now }
-        ensures { OnOk result (AreHeard self.now ear.now.effect ear.now.ty (hearing hearers.entry)
+        ensures { OnOk result (AreHeard self.now ear.now.effect ty (hearing hearers.entry)
             words.entry heard.old heard.new) }
     {
-        match (ear.comb, ear.ty) {
-            (Comb::Count, _) => {
-                let ear = Ear {
-                    comb: Comb::Count,
-                    ..*ear
-                };
-                self.say_all(&ear, hearers, words, heard)
+        match (ear.comb, ty, words) {
+            (Comb::Count, _, _) => {
+                let spoken = Counted { ty, words };
+                self.say_all(ear, hearers, &spoken, heard)
             }
-            (Comb::Sum, Ty::Int | Ty::Fixed) => {
-                let ear = Ear {
-                    comb: Comb::Sum,
-                    ..*ear
-                };
-                match words {
-                    View::Same(word) => self.say_all(&ear, hearers, View::Same(word), heard),
-                    View::Each(words) => self.say_all(&ear, hearers, View::Each(words), heard),
-                    View::At(column, rows) => {
-                        self.say_all(&ear, hearers, View::At(column, rows), heard)
-                    }
-                }
+            (Comb::Sum, Ty::Int | Ty::Fixed, View::Same(word)) => {
+                let spoken = SummedSame { ty, word };
+                self.say_all(ear, hearers, &spoken, heard)
             }
-            _ => self.say_all(ear, hearers, words, heard),
+            (Comb::Sum, Ty::Int | Ty::Fixed, View::Each(words)) => {
+                let spoken = Summed { ty, words };
+                self.say_all(ear, hearers, &spoken, heard)
+            }
+            (Comb::Sum, Ty::Int | Ty::Fixed, View::At(column, rows)) => {
+                let spoken = SummedAt { ty, column, rows };
+                self.say_all(ear, hearers, &spoken, heard)
+            }
+            (comb, _, _) => {
+                let spoken = Joined { comb, ty, words };
+                self.say_all(ear, hearers, &spoken, heard)
+            }
         }
     }
 
@@ -395,8 +320,8 @@ impl<'a> Scene<'a> {
         let Some(first) = hearers.first() else {
             return Err(Redo);
         };
-        let ear = self.ear(first, effect, ty)?;
-        self.say_hearers(&ear, hearers, words, heard)?;
+        let ear = self.ear(first, effect)?;
+        self.say_hearers(&ear, hearers, ty, words, heard)?;
         Ok(())
     }
 }

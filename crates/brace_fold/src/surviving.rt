@@ -336,7 +336,11 @@ fn moved_at(class: &Class, old: &[i64], new: &[i64], row: usize) -> i64
     requires { pos 0 ≤ℤ class.now.reach }
     ensures { result ≡ moved_at class.now old.now new.now row }
 {
-    clamp(item_or(old, row, 0), item_or(new, row, 0), class.reach)
+    let (old, new) = (item_or(old, row, 0), item_or(new, row, 0));
+    if new.abs_diff(old) <= class.reach.unsigned_abs() {
+        return new;
+    }
+    clamp(old, new, class.reach)
 }
 
 /// Adds the new numbers of a coordinate in rows.
@@ -417,8 +421,8 @@ fn ruled<'a>(rule: &'a Option<Column>, old: &Words<'a>) -> Words<'a>
     }
 }
 
-/// Adds a state of those agents that live on, which are of a class, by what its rules came to; 0 where it
-/// has no such state.
+/// Adds a state of those agents that live on, which are of a class, by what its rules came to; 0
+/// where it has no such state.
 fn push_state(
     alloc: Global,
     own: &Class,

@@ -1,58 +1,57 @@
-ghost use Rattle.std.specs.Prelude.{◌≡◌, ◌<◌, ℕ, ℤ, List, Some, pos, map, slice_get, slice_index_or, IfOk};
+ghost use Rattle.std.specs.Prelude.{◌≡◌, ◌<◌, ℕ, ℤ, List, Some, pos, length, map, slice_get, slice_index_or, IfOk, IfSome};
 ghost use Rattle.std.specs.List.{All};
-ghost use Rattle.brace_model.specs.declared.program.Effect.{Effect};
 ghost use Rattle.brace_model.specs.declared.program.Program.{Program};
 ghost use Rattle.brace_model.specs.declared.world.Agent.{Agent};
 ghost use Rattle.brace_model.specs.Query.{Saying};
-ghost use Rattle.brace_model.specs.Total.{said_to, total_of};
+ghost use Rattle.brace_model.specs.Total.{identity};
 ghost use Rattle.brace_model.specs.World.{class_of};
-ghost use Rattle.brace_eval.specs.Heard.{effects_in, row_of};
+ghost use Rattle.brace_eval.specs.Heard.{row_of};
 ghost use Rattle.brace_fold.specs.Asked.{by_row};
-ghost use Rattle.brace_fold.specs.Sums.{AreSummed};
+ghost use Rattle.brace_fold.specs.Sums.{AreSummed, no_sum, sum_at, total_in};
 
-use crate::table::{Table, narrow};
+use crate::order::{are_within, item_within};
+use crate::table::{Sum, Table, narrow};
 use brace_code::Redo;
 use brace_comb::identity;
 use brace_model::{Class, Comb};
 use brace_num::List;
 use std::alloc::Global;
 
-/// The total of an effect of a row, where 64 bits hold it.
-fn total_at(comb: Comb, said: &Table, effect: u32, row: u32) -> Result<i64, Redo>
-    ensures within { IfOk result (λ _. row < said.now.rows) }
-    ensures word { IfOk result (λ word. (program : Program) (rows : List Agent) (a : Agent)
-        (e : Effect) (more : List Saying) → AreSummed program rows more said.now
-        → slice_get rows row ≡ Some a
-        → slice_get (effects_in (class_of program a)) effect ≡ Some e → e.comb ≡ comb
-        → word ≡ total_of e.comb (said_to a.id effect more)) }
+/// The sums of an effect, row by row.
+fn sums_of<'a>(said: &'a Table, effect: usize) -> Option<&'a [Sum]>
+    ensures rows { IfSome result (λ sums. length sums.now ≡ said.now.rows) }
+    ensures sums { IfSome result (λ sums. (row : ℕ) → row < said.now.rows
+        → slice_index_or sums.now row no_sum ≡ sum_at said.now effect row) }
 {
-    let Some(sum) = said.sum(effect, row) else {
-        return Err(Redo);
-    };
-    if sum.count == 0 {
-        return narrow(identity(comb));
+    let first = effect.checked_mul(said.rows)?;
+    let end = first.checked_add(said.rows)?;
+    if said.sums.len() < end {
+        return None;
     }
-    Ok(sum.number)
+    Some(&said.sums[first..end])
 }
 
-/// The totals of an effect of a class in some rows.
-fn total_column(
-    alloc: Global,
-    comb: Comb,
-    said: &Table,
-    effect: u32,
-    rows: &[u32],
-) -> Result<List<i64>, Redo>
-    ensures { IfOk result (λ words. (program : Program) (agents : List Agent) (e : Effect)
-        (more : List Saying) → AreSummed program agents more said.now → e.comb ≡ comb
-        → All (λ a. slice_get (effects_in (class_of program a)) effect ≡ Some e)
-        (by_row agents rows.now)
-        → words ≡ map (λ a. total_of e.comb (said_to a.id effect more)) (by_row agents rows.now)) }
+/// The total whose sum this is; of no value, the one that is given.
+fn total_in(none: i64, sum: Sum) -> i64
+    ensures { result ≡ total_in none sum }
 {
+    if sum.count == 0 { none } else { sum.number }
+}
+
+/// The totals of a combinator in some rows, by the sums of all.
+fn total_column(alloc: Global, comb: Comb, sums: &[Sum], rows: &[u32]) -> Result<List<i64>, Redo>
+    ensures words { IfOk result (λ words. words
+        ≡ map (λ row. total_in (identity comb) (slice_index_or sums.now row no_sum)) rows.now) }
+    ensures within { IfOk result (λ _. (k : ℕ) → k < length rows.now
+        → slice_index_or rows.now k 0 < length sums.now) }
+{
+    let none = narrow(identity(comb))?;
+    if !are_within(rows, sums.len()) {
+        return Err(Redo);
+    }
     let mut words = Vec::with_capacity(alloc, rows.len())?;
     for row in rows {
-        let word = total_at(comb, said, effect, *row)?;
-        words.push_reserved(word);
+        words.push_reserved(total_in(none, item_within(sums, *row)));
     }
     Ok(List::from_vec(words))
 }
@@ -74,13 +73,13 @@ pub fn told_columns(
     let effects = own.effects.as_slice();
     let mut columns = Vec::with_capacity(alloc, effects.len())?;
     for k in 0..effects.len() {
-        let Ok(number) = u32::try_from(k) else {
-            return Err(Redo);
-        };
         let Some(effect) = effects.get(k) else {
             return Err(Redo);
         };
-        let column = total_column(alloc, effect.comb, said, number, rows)?;
+        let Some(sums) = sums_of(said, k) else {
+            return Err(Redo);
+        };
+        let column = total_column(alloc, effect.comb, sums, rows)?;
         columns.push(column)?;
     }
     Ok(columns)

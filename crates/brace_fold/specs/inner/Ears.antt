@@ -1,6 +1,7 @@
 -- To whom lanes say values. Only the crate's own functions cite this.
-use Rattle.std.specs.Prelude.{◌≡◌, ◌<◌, ℕ, ℤ, Bool, true, List, [], ◌∷◌, length, map, Some, slice_get, slice_index_or}
+use Rattle.std.specs.Prelude.{◌≡◌, ◌<◌, ◌≤◌, ◌-◌, ℕ, ℤ, Bool, true, List, [], ◌∷◌, drop, length, map, take, Some, slice_get, slice_index_or}
 use Rattle.brace_model.specs.declared.program.Class.{Class}
+use Rattle.brace_model.specs.declared.program.Comb.{Comb}
 use Rattle.brace_model.specs.declared.program.Effect.{Effect}
 use Rattle.brace_model.specs.declared.program.Ty.{Ty}
 use Rattle.brace_model.specs.declared.program.Who.{Who}
@@ -8,6 +9,7 @@ use Rattle.brace_model.specs.declared.program.Who.TheVariants.{This, Outer, Inne
 use Rattle.brace_model.specs.declared.world.Agent.{Agent}
 use Rattle.brace_model.specs.Value.{Scope, agent_of, typed}
 use Rattle.brace_model.specs.Query.{Saying}
+use Rattle.brace_model.specs.Total.{total_of}
 use Rattle.brace_code.specs.declared.lane.Lane.{Lane}
 use Rattle.brace_code.specs.declared.view.View.{View}
 use Rattle.brace_code.specs.Lanes.{words_of}
@@ -52,6 +54,11 @@ pub record AreTold (scene : Scene) (who : Who) (hearers : List ℕ) (scopes : Li
   pub each : (k : ℕ) (s : Scope) → k < length scopes
       → slice_get (rows scene) (slice_index_or hearers k 0)
       ≡ Some (agent_of (slice_index_or scopes k s) who)
+
+-- a number is the total of the words from a place up to another
+abbrev pub IsTotal : Comb → Ty → View → ℕ → ℕ → ℤ → Type 0
+IsTotal comb type view from next number = (n : ℕ) → next ≤ n → length (words_of n view) ≡ n
+    → number ≡ total_of comb (map (typed type) (take (next - from) (drop from (words_of n view))))
 
 -- what a scope says with a word
 abbrev pub told : Who → ℕ → Ty → Scope → ℤ → Saying

@@ -1,10 +1,8 @@
-use Rattle.std.proofs.Common.{◌≡◌, ◌∙◌, ap, ap₂, Option, refl, rules, sym, get_or, map, pos, List, Some, slice_get}
+use Rattle.std.proofs.Common.{◌≡◌, ◌∙◌, ap, refl, rules, sym, get_or, map, pos, List, Some, slice_get}
 use Rattle.std.proofs.lemmas.Option.{slice_get_read}
-use Rattle.brace_model.specs.declared.program.Class.{Class}
 use Rattle.brace_model.specs.declared.program.Effect.{Effect}
 use Rattle.brace_model.specs.declared.world.Agent.{Agent}
-use Rattle.brace_model.specs.Total.{said_to, total_of}
-use Rattle.brace_eval.specs.Heard.{effects_in, row_of}
+use Rattle.brace_eval.specs.Heard.{row_of}
 use Rattle.brace_fold.specs.Asked.{by_row}
 use Rattle.brace_fold.proofs.ColumnLemmas.{columns-more}
 use Rattle.brace_fold.proofs.Tellings.{effect-totals}
@@ -16,7 +14,6 @@ loop-k-preserved c =
     let own = c.args.own.now in
     let effects = c.as_slice-effects.result.now in
     let effect = c.in-Some.effect.now in
-    let at : c.in-Ok.number ≡ k = search rules in
     let there : slice_get effects k ≡ Some effect =
     slice_get_read effects _ k effect refl c.in-Some.ensures.lookup.3.0
     c.in-Some.ensures.lookup.1 in
@@ -26,12 +23,11 @@ loop-k-preserved c =
       long = search rules;
       each = λ program agents more are all.
           let these = by_row agents c.args.rows.now in
-          let column = c.in_ok-column.ensures program agents effect more are refl
-          (λ j d low. ap₂ (λ (o : Option Class) n. slice_get (effects_in o) n) (all j d low) at
-          ∙ has) in
-          let is = column ∙ ap (λ n. map (λ (a : Agent). total_of effect.comb (said_to a.id n more))
-          these) at
-          ∙ effect-totals program more own k effect these has all
+          let sums = c.in-Some-sums_of.ensures in
+          let is = c.in_ok-column.ensures.words
+          ∙ effect-totals program agents more c.args.said.now own k effect
+          c.in-Some-sums_of.sums.now c.args.rows.now are has sums.rows sums.sums
+          c.in_ok-column.ensures.within all
           ∙ ap (λ n. map (λ (a : Agent). get_or (row_of program more a) n (pos 0)) these)
           (sym c.loop-k.invariant.long) in
           rw c.in_ok-push.ensures.items (columns-more (λ i. map (λ (a : Agent). get_or

@@ -8,15 +8,15 @@ use Rattle.brace_fold.specs.Hears.{Hears}
 use Rattle.brace_fold.proofs.scene.Scene.say_runs.Given as goal
 
 abbrev pub invariant-loop-at : goal.invariant-loop-at
-invariant-loop-at l = record {
+invariant-loop-at g l = record {
   within : l.at ≤ length l.hearers;
   said : (who : Who) (scopes : List Scope) → AreTold l.self who l.hearers scopes
-      → length (words_of (length scopes) l.words) ≡ length scopes
+      → length (words_of (length scopes) (g.S.Spoken.reads l.spoken)) ≡ length scopes
       → Hears l.self.program.now (rows l.self)
-      (told_by who l.ear.effect l.ear.ty (take l.at scopes)
-      (take l.at (words_of (length scopes) l.words)))
+      (told_by who l.ear.effect (g.S.Spoken.type_of l.spoken) (take l.at scopes)
+      (take l.at (words_of (length scopes) (g.S.Spoken.reads l.spoken))))
       l.fn.heard l.heard;
 }
 
 abbrev pub decreases-loop-at : goal.decreases-loop-at
-decreases-loop-at l = length l.hearers - l.at
+decreases-loop-at g l = length l.hearers - l.at

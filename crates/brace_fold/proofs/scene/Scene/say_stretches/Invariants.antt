@@ -8,12 +8,12 @@ use Rattle.brace_fold.specs.Hears.{Hears}
 use Rattle.brace_fold.proofs.scene.Scene.say_stretches.Given as goal
 
 abbrev pub invariant-loop-stretch : goal.invariant-loop-stretch
-invariant-loop-stretch l = record {
+invariant-loop-stretch g l = record {
   at : l.at ≡ length (spread (take l.stretch-index l.stretches));
   said : (who : Who) (scopes : List Scope) → AreTold l.self who (spread l.stretches) scopes
-      → length (words_of (length scopes) l.words) ≡ length scopes
+      → length (words_of (length scopes) (g.S.Spoken.reads l.spoken)) ≡ length scopes
       → Hears l.self.program.now (rows l.self)
-      (told_by who l.ear.effect l.ear.ty (take l.at scopes)
-      (take l.at (words_of (length scopes) l.words)))
+      (told_by who l.ear.effect (g.S.Spoken.type_of l.spoken) (take l.at scopes)
+      (take l.at (words_of (length scopes) (g.S.Spoken.reads l.spoken))))
       l.fn.heard l.heard;
 }

@@ -3,7 +3,7 @@ use Rattle.std.specs.Int.{w128}
 use Rattle.brace_model.specs.Value.{typed}
 use Rattle.brace_code.specs.Lanes.{words_of}
 use Rattle.brace_fold.proofs.Sayings.{total-more}
-use Rattle.brace_fold.proofs.saying.total_of.Goals as goal
+use Rattle.brace_fold.proofs.spoken.total_of.Goals as goal
 
 pub loop-k-preserved : goal.loop-k-preserved
 loop-k-preserved c =

@@ -1,0 +1,17 @@
+use Rattle.std.proofs.Common.{◌≡◌, ◌∙◌, ◌-◌, ap, map, refl, rules, w64, to_z, of_z}
+use Rattle.brace_model.specs.declared.program.Comb.TheVariants.{Sum}
+use Rattle.brace_model.specs.Total.{total_of}
+use Rattle.brace_model.specs.Value.{typed}
+use Rattle.brace_code.proofs.ViewLemmas.{rows_part}
+use Rattle.brace_fold.specs.inner.Deeds.{between}
+use Rattle.brace_fold.proofs.spoken.SummedAtSpoken.total.Goals as goal
+
+pub returns : goal.returns
+returns c = λ n low long.
+    let me = c.args.self.now in
+    let part : c.in_ok-rows.rows.now ≡ between c.args.from c.args.next me.rows.now =
+    search rules in
+    let kept : to_z w64 (of_z w64 c.in_ok-total.total) ≡ c.in_ok-total.total = search rules in
+    kept ∙ c.in_ok-total.ensures ∙ ap (λ words. total_of Sum (map (typed me.ty) words))
+    (rows_part me.column.now me.column.now me.rows.now c.in_ok-rows.rows.now
+    (c.args.next - c.args.from) c.args.from refl part)
