@@ -46,10 +46,11 @@ pub record HasLast (s : Setting) (k p q : ℕ) (others : List ℕ) (all : List P
   pub piece : Piece
   pub same : all ≡ pieces ++ piece ∷ []
   pub right : IsRight s (name k p q) piece
+  pub goes : GoesOn piece
   pub rest : AreOut s k p others pieces
 
 out_last : (s : Setting) (k p q : ℕ) (others : List ℕ) (all : List Piece) → AreOut s k p (q ∷ others) all → HasLast s k p q others all
-out_last s k p q others all (more_out q' others' piece pieces right goes rest) = record { pieces = pieces; piece = piece; same = refl; right = right; rest = rest }
+out_last s k p q others all (more_out q' others' piece pieces right goes rest) = record { pieces = pieces; piece = piece; same = refl; right = right; goes = goes; rest = rest }
 
 snoc_same : (xs ys : List Piece) (x y : Piece) → xs ++ x ∷ [] ≡ ys ++ y ∷ [] → (xs ≡ ys) × (x ≡ y)
 snoc_same [] [] x y e = (refl, cc)
@@ -66,13 +67,13 @@ module _ (s : Setting) (k p : ℕ) (others : List ℕ) where
   next_of : (made : ℕ) → made < length others → drop made others ≡ get_or others made 0 ∷ drop (made + 1) others
   next_of made low = let one : suc made ≡ made + 1 = omega arith in drop-cons others made 0 low ∙ ap (λ n. get_or others made 0 ∷ drop n others) one
 
-  -- the piece that is put next, and those that are left
+  -- the piece that is put next, which is no Halt, and those that are left
   pub puts_last : (made q : ℕ) (left : List Piece) (piece : Piece) → made < length others → get_or others made 0 ≡ q
-      → AreOut s k p (drop made others) (left ++ piece ∷ []) → IsRight s (name k p q) piece × AreOut s k p (drop (made + 1) others) left
+      → AreOut s k p (drop made others) (left ++ piece ∷ []) → IsRight s (name k p q) piece × (GoesOn piece × AreOut s k p (drop (made + 1) others) left)
   puts_last made q left piece low is out =
       let has = out_last s k p (get_or others made 0) (drop (made + 1) others) (left ++ piece ∷ []) (subst (λ qs. AreOut s k p qs (left ++ piece ∷ [])) (next_of made low) out) in
       let (same, last) = snoc_same left has.pieces piece has.piece has.same in
-      (subst (λ r. IsRight s (name k p r) piece) is (subst (IsRight s (name k p (get_or others made 0))) (sym last) has.right), subst (AreOut s k p (drop (made + 1) others)) (sym same) has.rest)
+      (subst (λ r. IsRight s (name k p r) piece) is (subst (IsRight s (name k p (get_or others made 0))) (sym last) has.right), (subst GoesOn (sym last) has.goes, subst (AreOut s k p (drop (made + 1) others)) (sym same) has.rest))
 
   no_out : (all : List Piece) → AreOut s k p [] all → all ≡ []
   no_out all none_out = refl

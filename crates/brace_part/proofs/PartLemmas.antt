@@ -1,10 +1,9 @@
 -- What holds of a part where it prepared a step.
-use Rattle.std.proofs.Common.{◌≡◌, ◌∙◌, refl, sym, ap, ap₂, subst, ℕ, zero, suc, ◌+◌, ◌-◌, ◌<◌, ◌≤◌, ◌⊎◌, List, [], ◌∷◌, ◌++◌, filter, take, drop, length, Bool, true, false, cond, not, ◌&&◌, Some, None, ◌==◌, arith, inl, inr, true≢false}
+use Rattle.std.proofs.Common.{◌≡◌, ◌∙◌, refl, sym, ap, ap₂, subst, ℕ, zero, suc, ◌+◌, ◌-◌, ◌<◌, ◌≤◌, List, [], ◌∷◌, ◌++◌, filter, take, drop, length, Bool, true, false, cond, not, ◌&&◌, Some, None, ◌==◌, arith, true≢false}
 use Rattle.std.specs.Prelude.{slice_get, nat_lt, if◌then◌else◌, fold}
 use Rattle.std.specs.List.{range_with_len}
 use Rattle.std.proofs.lemmas.Bool.{ne_eqb, and_right}
 use Rattle.std.proofs.lemmas.Bool.Decides.{nat_tests}
-use Rattle.std.proofs.lemmas.List.Elements.{All-nil}
 use Rattle.brace_pieces.specs.declared.setting.Setting.{Setting}
 use Rattle.brace_pieces.specs.declared.setting.Stage.{Stage}
 use Rattle.brace_pieces.specs.declared.setting.Stage.TheVariants as stage
@@ -19,13 +18,13 @@ use Rattle.brace_pieces.specs.Right.{IsRightAt}
 use Rattle.brace_pieces.specs.Courses.{OnCourse, met_in, step_of, others_of}
 use Rattle.brace_pieces.proofs.CourseLemmas.{kept_more}
 use Rattle.brace_part.specs.declared.standing.Standing.{Standing}
-use Rattle.brace_part.specs.Parts.{kept_at, keeps_at, keeps_before}
+use Rattle.brace_part.specs.Parts.{keeps_at, keeps_before, brings_to, brings_at}
 use Rattle.brace_part.specs.declared.counts.Counts.{Counts}
 use Rattle.brace_part.specs.Given.{counts_behind, counts_up_to}
 use Rattle.brace_part.specs.inner.Pieces.{counted, AreOut, AreTaken}
 use Rattle.brace_part.specs.inner.Pieces.AreOut.{none_out, more_out}
 use Rattle.brace_part.specs.inner.Pieces.AreTaken.{none_taken}
-use Rattle.brace_part.specs.inner.Ready.{IsReady, IsNextAt, IsFaultlessAt, IsFaultlessBefore, brings_to, brings_at, AreKept}
+use Rattle.brace_part.specs.inner.Ready.{IsReady, IsNextAt, IsFaultlessAt, IsFaultlessBefore}
 use Rattle.brace_part.specs.inner.Sound.{GoesOn}
 use Rattle.brace_part.proofs.StepLemmas.{of_run}
 use Rattle.brace_part.proofs.OutLemmas.{right_in}
@@ -145,7 +144,3 @@ goes_exchanging c standing at is nothing_shown start ready number faultless brin
 pub out_same : (s r : Setting) (k j p q : ℕ) (qs rs : List ℕ) (out : List Piece) → r ≡ s → j ≡ k → q ≡ p → rs ≡ qs → AreOut r j q rs out → AreOut s k p qs out
 out_same s r k j p q qs rs out a b c d h =
     subst (λ s. AreOut s k p qs out) a (subst (λ k. AreOut r k p qs out) b (subst (λ p. AreOut r j p qs out) c (subst (λ qs. AreOut r j q qs out) d h)))
-
-pub kept_or_gone : (s : Setting) (p : ℕ) (old new : List Shown) → (new ≡ old) ⊎ (new ≡ []) → AreKept s p old → AreKept s p new
-kept_or_gone s p old new (inl same) kept = subst (AreKept s p) (sym same) kept
-kept_or_gone s p old new (inr gone) kept = subst (AreKept s p) (sym gone) (All-nil (λ w. w ≡ kept_at s p w.tick))

@@ -58,22 +58,25 @@ module _ (c : OnCourse) (old new : Standing) (h : GoesOn c old) (stance : new.st
   others = others_of c
 
   -- behind a put
-  pub put_goes : (n : Name) → PutsNext c n → (piece : Piece) → old.out.items ≡ new.out.items ++ piece ∷ [] → new.taken.items ≡ old.taken.items → IsRight c.setting n piece × GoesOn (one_on c) new
+  pub put_goes : (n : Name) → PutsNext c n → (piece : Piece) → old.out.items ≡ new.out.items ++ piece ∷ [] → new.taken.items ≡ old.taken.items → IsRight c.setting n piece × (pieces.GoesOn piece × GoesOn (one_on c) new)
   put_goes n turn piece out taken =
       let low = turn.low in
       let q : ℕ = get_or others c.made 0 in
-      let (right, left) = puts_last c.setting c.number c.actor others c.made q new.out.items piece low refl (subst (AreOut c.setting c.number c.actor (drop c.made others)) out h.puts) in
+      let (right, (goes, left)) = puts_last c.setting c.number c.actor others c.made q new.out.items piece low refl (subst (AreOut c.setting c.number c.actor (drop c.made others)) out h.puts) in
       let none : c.made - length others ≡ c.made + 1 - length others = omega (arith, low) in (
         subst (λ m. IsRight c.setting m piece) (sym turn.same) right,
-        record {
-          ready = subst (IsReady c.setting c.actor (step_of c)) (sym stance) h.ready;
-          next_is = subst (IsNextAt c.setting (step_of c)) (sym (ap (λ x. x.2) kept)) h.next_is;
-          faultless = h.faultless;
-          puts = left;
-          took = subst (λ m. AreTaken c.setting c.number c.actor (take m others) new.taken.items) none (subst (AreTaken c.setting c.number c.actor (take (c.made - length others) others)) (sym taken) h.took);
-          keeps = ap (λ x. x.0) kept ∙ h.keeps;
-          counted = ap (λ x. x.1) kept ∙ h.counted;
-        },
+        (
+          goes,
+          record {
+            ready = subst (IsReady c.setting c.actor (step_of c)) (sym stance) h.ready;
+            next_is = subst (IsNextAt c.setting (step_of c)) (sym (ap (λ x. x.2) kept)) h.next_is;
+            faultless = h.faultless;
+            puts = left;
+            took = subst (λ m. AreTaken c.setting c.number c.actor (take m others) new.taken.items) none (subst (AreTaken c.setting c.number c.actor (take (c.made - length others) others)) (sym taken) h.took);
+            keeps = ap (λ x. x.0) kept ∙ h.keeps;
+            counted = ap (λ x. x.1) kept ∙ h.counted;
+          },
+        ),
       )
 
   -- behind a take

@@ -17,7 +17,7 @@ use Rattle.brace_pieces.specs.declared.piece.Cause.TheVariants as cause
 use Rattle.brace_pieces.specs.declared.piece.Piece.{Piece}
 use Rattle.brace_pieces.specs.declared.piece.Piece.TheVariants.{Halt}
 use Rattle.brace_pieces.specs.declared.piece.Shown.{Shown}
-use Rattle.brace_pieces.specs.Settings.{cuts_of, cuts_shown, is_end, shown_from}
+use Rattle.brace_pieces.specs.Settings.{cuts_of, cuts_shown, is_end, shown_from, shown_ticks}
 use Rattle.brace_pieces.specs.Steps.{steps}
 use Rattle.brace_pieces.specs.Continued.{on, birth_faults}
 use Rattle.brace_pieces.specs.Owned.{owned}
@@ -96,6 +96,22 @@ keeps_before s p _ tick = if is_end s tick then [] else map (kept_at s p) (noted
 abbrev pub keeps_at : Setting → ℕ → Option Step → List Shown
 keeps_at s p (Some at) = keeps_before s p at.stage at.tick
 keeps_at s p None = []
+
+-- what a part keeps to be shown before it prepares a step: where all is shown all that it shows
+abbrev pub brings_to : Setting → ℕ → Stage → ℕ → List Shown
+brings_to s p Show tick = map (kept_at s p) (shown_ticks s tick)
+brings_to s p at tick = keeps_before s p at tick
+
+abbrev pub brings_at : Setting → ℕ → Option Step → List Shown
+brings_at s p (Some at) = brings_to s p at.stage at.tick
+brings_at s p None = []
+
+-- behind a work a part keeps to be shown what it kept before or, where it had no cause before, all
+-- that it brings to the next step
+abbrev pub StillShows : OnPart → OnPart → Type 0
+StillShows old new = (new.shown ≡ old.shown)
+    ⊎ ((old.cause ≡ None)
+    × (new.shown ≡ brings_at new.course.setting new.course.actor (step_of new.course)))
 
 -- the faults that a part finds in the work of a step
 abbrev pub found_in_work : Setting → ℕ → Stage → ℕ → List Fault

@@ -16,7 +16,7 @@ ghost use Rattle.brace_pieces.specs.Settings.{LawfulSetting, parts, is_end, cuts
 ghost use Rattle.brace_pieces.specs.Steps.{schedule};
 ghost use Rattle.brace_pieces.specs.Right.{IsRight, IsRightCause};
 ghost use Rattle.brace_pieces.specs.Courses.{OnCourse, IsCourse, at_start, step_of, gone_on, past_of};
-ghost use Rattle.brace_part.specs.Parts.{own_under, own_at, IsSettled, keeps_at, found_in_work, IsCauseOf, IsCauseOfAll, cause_of, cause_behind, asks_next};
+ghost use Rattle.brace_part.specs.Parts.{own_under, own_at, IsSettled, keeps_at, found_in_work, IsCauseOf, IsCauseOfAll, cause_of, cause_behind, asks_next, brings_at, StillShows};
 ghost use Rattle.brace_part.specs.Given.{counts_up_to};
 ghost use Rattle.brace_part.specs.inner.Ready.{AreKept, next_behind};
 ghost use Rattle.brace_part.specs.inner.Sound.{IsPartOf, IsAtWork, ComesTo, GoesOn, owns_in};
@@ -188,6 +188,8 @@ fn prepare(
     ensures goes_on { IfOk result (λ _. GoesOn course.now standing.new) }
     ensures kept { AreKept course.now.setting course.now.actor standing.old.shown
         → AreKept course.now.setting course.now.actor standing.new.shown }
+    ensures still { IfErr result (λ _. standing.new.shown
+        ≡ brings_at course.now.setting course.now.actor (step_of course.now)) }
     ensures taken { standing.new.taken ≡ standing.old.taken }
 {
     standing.out.clear();
@@ -231,6 +233,9 @@ fn advance(
     ensures faulted { IfErr result (IsCauseOf (found_in_work course.now.setting
         course.now.actor at.stage at.tick)) }
     ensures kept { AreKept course.now.setting course.now.actor standing.new.shown }
+    ensures still { IfErr result (λ _. (standing.new.shown ≡ standing.old.shown)
+        ⊎ (standing.new.shown
+        ≡ brings_at course.now.setting course.now.actor (step_of course.now))) }
     ensures places { vec_capacity standing.new.taken ≡ vec_capacity standing.old.taken }
 {
     let worker = Worker {
@@ -324,7 +329,8 @@ impl<'a> Part<'a> {
         self.standing.counts
     }
 
-    /// Its agents of the shown ticks since the last end.
+    /// Its agents of the shown ticks since the last end. Where it goes no further these stay as
+    /// they were in the work in which it came to that, or as the next step was to show them.
     pub fn shown(&self) -> &[Shown]
         ensures same { result.now ≡ self.now.shown }
         ensures right { AreKept self.now.course.setting self.now.course.actor self.now.shown }
@@ -394,6 +400,7 @@ impl<'a> Actor<Piece> for Part<'a> {
         ensures cause { self.new.cause ≡ self.old.cause }
         ensures counts { self.new.counts ≡ self.old.counts }
         ensures halts { (c : Cause) → self.old.cause ≡ Some c → result ≡ piece.Halt c }
+        ensures tells { self.old.cause ≡ None → (c : Cause) → result ≡ piece.Halt c → ⊥ }
     {
         self.course.go_on();
         match self.cause {
@@ -442,6 +449,7 @@ impl<'a> Actor<Piece> for Part<'a> {
         ensures finds { (at : Step) → self.old.cause ≡ None → step_of self.old.course ≡ Some at
             → (self.new.cause ≡ cause_of (least (found_in_work self.old.course.setting
             self.old.course.actor at.stage at.tick))) ⊎ (self.new.cause ≡ Some cause.NoMemory) }
+        ensures still { (c : Cause) → self.new.cause ≡ Some c → StillShows self.old self.new }
     {
         let at = self.course.step();
         let number = self.course.number();

@@ -1,4 +1,4 @@
-ghost use Rattle.std.specs.Prelude.{◌≡◌, ◌⊎◌, [], ◌∷◌, map, fold, IfOk};
+ghost use Rattle.std.specs.Prelude.{◌≡◌, [], ◌∷◌, fold, IfOk, IfErr};
 ghost use Rattle.brace_core.specs.Schedule.{name};
 ghost use Rattle.brace_pieces.specs.declared.piece.Piece.TheVariants as piece;
 ghost use Rattle.brace_pieces.specs.Right.{IsRight};
@@ -86,9 +86,9 @@ pub fn prepared(
 pub fn prepared_show(alloc: Global, shown: &mut List<Shown>) -> Result<Vec<Piece>, NoMemory>
     ensures out { IfOk result (λ pieces. pieces.items ≡ piece.Show shown.old ∷ []) }
     ensures shown { IfOk result (λ _. shown.new ≡ []) }
-    ensures kept { (shown.new ≡ shown.old) ⊎ (shown.new ≡ []) }
+    ensures kept { IfErr result (λ _. shown.new ≡ shown.old) }
 {
     let mut pieces = Vec::with_capacity(alloc, 1)?;
-    pieces.push(Piece::Show(std::mem::replace(shown, List::new(alloc))))?;
+    pieces.push_reserved(Piece::Show(std::mem::replace(shown, List::new(alloc))));
     Ok(pieces)
 }

@@ -1,5 +1,5 @@
 -- What a part has when it comes to a step. Only the crate's own functions cite this.
-use Rattle.std.specs.Prelude.{◌≡◌, ℕ, ◌+◌, List, [], map, false, if◌then◌else◌, Option, Some, None}
+use Rattle.std.specs.Prelude.{◌≡◌, ℕ, ◌+◌, List, [], false, if◌then◌else◌, Option, Some, None}
 use Rattle.std.specs.List.{All, Contains}
 use Rattle.brace_model.specs.declared.fault.Fault.{Fault}
 use Rattle.brace_model.specs.declared.world.Agent.{Agent}
@@ -13,7 +13,7 @@ use Rattle.brace_pieces.specs.declared.setting.Stage.{Stage}
 use Rattle.brace_pieces.specs.declared.setting.Stage.TheVariants.{Hand, Border, Effects, Census, Move, Show}
 use Rattle.brace_pieces.specs.declared.setting.Step.{Step}
 use Rattle.brace_pieces.specs.declared.piece.Shown.{Shown}
-use Rattle.brace_pieces.specs.Settings.{cuts_of, shown_ticks}
+use Rattle.brace_pieces.specs.Settings.{cuts_of}
 use Rattle.brace_pieces.specs.Continued.{said, becomes, on}
 use Rattle.brace_pieces.specs.Together.{left_of, children_of, born_of}
 use Rattle.brace_pieces.specs.Heard.{own, near}
@@ -21,7 +21,7 @@ use Rattle.brace_pieces.specs.Finds.{queries_found, updates_found}
 use Rattle.brace_pieces.specs.Right.{IsFaultless}
 use Rattle.brace_part.specs.declared.standing.Stance.{Stance}
 use Rattle.brace_part.specs.declared.standing.Stance.TheVariants.{Owns, Hears, Holds, Leaves}
-use Rattle.brace_part.specs.Parts.{own_under, own_before, kept_at, keeps_before}
+use Rattle.brace_part.specs.Parts.{own_under, own_before, kept_at}
 use Rattle.brace_part.specs.inner.Holding.{HoldsAsked}
 use Rattle.brace_part.specs.inner.Tables.{said_over, faults_over}
 
@@ -128,15 +128,6 @@ IsNextAt s None next = Unit {0}
 abbrev pub next_behind : Stage → Stance → ℕ → ℕ
 next_behind Move (Leaves left born next) old = next
 next_behind at stance old = old
-
--- what a part keeps to be shown before it prepares a step: where all is shown all that it shows
-abbrev pub brings_to : Setting → ℕ → Stage → ℕ → List Shown
-brings_to s p Show tick = map (kept_at s p) (shown_ticks s tick)
-brings_to s p at tick = keeps_before s p at tick
-
-abbrev pub brings_at : Setting → ℕ → Option Step → List Shown
-brings_at s p (Some at) = brings_to s p at.stage at.tick
-brings_at s p None = []
 
 -- each world that a part keeps is its part of that world
 abbrev pub AreKept : Setting → ℕ → List Shown → Type 0

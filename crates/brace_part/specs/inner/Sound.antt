@@ -23,10 +23,10 @@ use Rattle.brace_part.specs.declared.standing.Stance.{Stance}
 use Rattle.brace_part.specs.declared.standing.Stance.TheVariants.{Owns, Hears, Holds, Leaves}
 use Rattle.brace_part.specs.declared.standing.Standing.{Standing}
 use Rattle.brace_part.specs.declared.work.Worker.{Worker}
-use Rattle.brace_part.specs.Parts.{keeps_at, IsCauseOfAll}
+use Rattle.brace_part.specs.Parts.{keeps_at, brings_at, IsCauseOfAll}
 use Rattle.brace_part.specs.Given.{counts_behind, counts_up_to}
 use Rattle.brace_part.specs.inner.Pieces.{AreOut, AreTaken}
-use Rattle.brace_part.specs.inner.Ready.{IsReady, IsReadyFor, IsNextAt, IsFaultlessAt, IsFaultlessBefore, AreKept, brings_at}
+use Rattle.brace_part.specs.inner.Ready.{IsReady, IsReadyFor, IsNextAt, IsFaultlessAt, IsFaultlessBefore, AreKept}
 
 -- the queries that a part asks in a run, which stand for their programs
 abbrev pub AreQueriesOf : Setting → Queries → Type 0

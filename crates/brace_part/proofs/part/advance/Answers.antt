@@ -1,4 +1,4 @@
-use Rattle.std.proofs.Common.{◌≡◌, ◌+◌, ◌++◌, refl, sym, subst, ℕ, List, [], ◌∷◌, None, arith, if◌then◌else◌}
+use Rattle.std.proofs.Common.{rules, ◌≡◌, ◌⊎◌, ◌+◌, ◌++◌, refl, sym, subst, ℕ, List, [], ◌∷◌, None, inl, inr, arith, if◌then◌else◌}
 use Rattle.std.specs.Prelude.{slice_get}
 use Rattle.brace_model.specs.FaultOrder.{least}
 use Rattle.brace_pieces.specs.declared.setting.Stage.TheVariants as stage
@@ -7,7 +7,8 @@ use Rattle.brace_pieces.specs.Steps.{steps}
 use Rattle.brace_pieces.specs.declared.piece.Shown.{Shown}
 use Rattle.brace_part.specs.declared.standing.Stance.{Stance}
 use Rattle.brace_part.specs.declared.standing.Standing.{Standing}
-use Rattle.brace_part.specs.Parts.{found_in_work}
+use Rattle.brace_pieces.specs.Courses.{step_of}
+use Rattle.brace_part.specs.Parts.{found_in_work, brings_at}
 use Rattle.brace_part.specs.inner.Ready.{IsReadyBehind, AreKept}
 use Rattle.brace_part.specs.inner.Sound.{ComesTo}
 use Rattle.brace_part.proofs.StepLemmas.{of_run}
@@ -62,6 +63,20 @@ returns-clause-kept c =
     (kept_there c.args.course.now.setting c.args.course.now.actor c.args.queries.now c.requires.part c.args.number c.args.at c.args.standing.now c.requires.work c.requires.kept
     c.setting.result.now c.setting-2.result.now c.actor.result c.in_ok-standing.field-0 c.note_next.new.shown c.setting.ensures.setting c.setting-2.ensures.setting c.actor.ensures.actor
     c.in_ok-standing.ensures.ready (λ m. noted_by c.args.at.tick c.setting-2.result.now c.args.standing.now.shown c.note_next.new.shown c.in_ok-standing.field-0 _ _ c.next_behind-standing.ensures (c.in_ok-note_next.ensures.moved m)) c.in_ok-note_next.ensures.stays)
+
+pub returns-in_err-note_next-clause-still : goal.returns-in_err-note_next-clause-still
+returns-in_err-note_next-clause-still c =
+    let new = c.note_next.new.shown in
+    let k = c.args.course.now in
+    let still : (new ≡ c.args.standing.now.shown) ⊎ (new ≡ brings_at k.setting k.actor (step_of k)) = inl c.in_err-note_next.ensures.kept in
+    search (still, c.from_residual-in_err-note_next.ensures, rules)
+
+pub returns-in_err-prepare-clause-still : goal.returns-in_err-prepare-clause-still
+returns-in_err-prepare-clause-still c =
+    let new = c.prepare.new.standing.shown in
+    let k = c.args.course.now in
+    let still : (new ≡ c.args.standing.now.shown) ⊎ (new ≡ brings_at k.setting k.actor (step_of k)) = inr c.in_err-prepare.ensures.still in
+    search (still, c.from_residual-in_err-prepare.ensures, rules)
 
 pub returns-in_err-note_next-clause-kept : goal.returns-in_err-note_next-clause-kept
 returns-in_err-note_next-clause-kept c = subst (AreKept c.args.course.now.setting c.args.course.now.actor) (sym c.in_err-note_next.ensures.kept) c.requires.kept

@@ -3,7 +3,8 @@ use Rattle.std.proofs.lemmas.List.Elements.{All-contains_itself}
 use Rattle.brace_pieces.specs.declared.setting.Stage.TheVariants as stage
 use Rattle.brace_pieces.specs.Steps.{met, is_show}
 use Rattle.brace_pieces.specs.Courses.{met_in, step_of, others_of}
-use Rattle.brace_part.proofs.PartLemmas.{goes_nowhere, goes_showing, goes_exchanging, out_same, kept_or_gone}
+use Rattle.brace_part.proofs.PartLemmas.{goes_nowhere, goes_showing, goes_exchanging, out_same}
+use Rattle.brace_part.specs.inner.Ready.{AreKept}
 use Rattle.brace_part.proofs.part.prepare.Goals as goal
 
 pub returns-in_default-clause-goes_on : goal.returns-in_default-clause-goes_on
@@ -14,8 +15,13 @@ returns-in_default-clause-goes_on c =
     goes_nowhere c.args.course.now _ none c.requires.start comes.ready comes.next_is comes.faultless comes.brings empty c.requires.nothing_taken comes.counted
 
 pub returns-in_err-standing-clause-kept : goal.returns-in_err-standing-clause-kept
-returns-in_err-standing-clause-kept c =
-    kept_or_gone c.args.course.now.setting c.args.course.now.actor c.args.standing.now.shown c.prepared_show.new.shown c.prepared_show.ensures.kept
+returns-in_err-standing-clause-kept c kept =
+    subst (AreKept c.args.course.now.setting c.args.course.now.actor) (sym c.in_err-standing.ensures.kept) kept
+
+pub returns-in_err-standing-clause-still : goal.returns-in_err-standing-clause-still
+returns-in_err-standing-clause-still c =
+    let still = c.in_err-standing.ensures.kept ∙ c.requires.comes.brings in
+    search (still, c.from_residual.ensures, rules)
 
 pub returns-then-eq-clause-goes_on : goal.returns-then-eq-clause-goes_on
 returns-then-eq-clause-goes_on c =

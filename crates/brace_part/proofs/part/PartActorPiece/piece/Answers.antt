@@ -1,4 +1,4 @@
-use Rattle.std.proofs.Common.{rules, ◌≡◌, refl, sym, ap, subst, [], arith}
+use Rattle.std.proofs.Common.{rules, ◌≡◌, ◌∙◌, refl, sym, ap, subst, [], arith}
 use Rattle.std.specs.Prelude.{is_some}
 use Rattle.std.specs.Vec.{vec_capacity}
 use Rattle.brace_core.specs.declared.name.Name.{Name}
@@ -11,6 +11,7 @@ use Rattle.brace_pieces.specs.Right.{IsRight}
 use Rattle.brace_pieces.specs.Courses.{OnCourse, past_of}
 use Rattle.brace_part.specs.declared.standing.Standing.{Standing}
 use Rattle.brace_part.specs.Parts.{OnPart}
+use Rattle.brace_part.specs.inner.Pieces.{GoesOn}
 use Rattle.brace_part.specs.inner.Sound.{IsHalted, IsSound}
 use Rattle.brace_part.proofs.TurnLemmas.{put_due, put_named, some_put}
 use Rattle.brace_part.proofs.SoundLemmas.{sound_within, put_goes}
@@ -50,7 +51,7 @@ invariant_of-self-in-None c =
     let new : Standing = record { stance = i.standing.stance; next = i.standing.next; out = c.pop.new.self; taken = i.standing.taken; shown = i.standing.shown; counts = i.standing.counts } in
     subst (λ (d : OnCourse). IsSound d i.queries new i.cause room) (sym c.go_on.ensures.place)
     (sound_within i.course i.queries i.standing new i.cause i.cause room room c.self.invariant (omega (arith, low))
-    (λ none. (put_goes i.course i.standing new (c.self.invariant.goes_on none) refl refl next.0 next.1 c.in-Some-pop.piece c.in-Some-pop.ensures.items refl).1) c.self.invariant.halted c.self.invariant.found refl refl)
+    (λ none. (put_goes i.course i.standing new (c.self.invariant.goes_on none) refl refl next.0 next.1 c.in-Some-pop.piece c.in-Some-pop.ensures.items refl).1.1) c.self.invariant.halted c.self.invariant.found refl refl)
 
 pub returns-in-Some-clause-right : goal.returns-in-Some-clause-right
 returns-in-Some-clause-right c =
@@ -64,3 +65,14 @@ returns-in-Some-pop-clause-right c =
     let new : Standing = record { stance = i.standing.stance; next = i.standing.next; out = c.pop.new.self; taken = i.standing.taken; shown = i.standing.shown; counts = i.standing.counts } in
     subst (λ (v : OnPart). (m : Name) → turn_at (schedule v.course.setting) v.course.actor (past_of v.course) ≡ turn.Put m → IsRight v.course.setting m c.in-Some-pop.piece) c.self.view_is
     (λ m e. (put_goes i.course i.standing new (c.self.invariant.goes_on c.in-None.is) refl refl m (put_named i.course c.self.invariant.course m e) c.in-Some-pop.piece c.in-Some-pop.ensures.items refl).0)
+
+pub returns-in-Some-clause-tells : goal.returns-in-Some-clause-tells
+returns-in-Some-clause-tells c none x is = no_cause c.self.inside.cause (ap is_some c.in-Some.is) (ap (λ (v : OnPart). v.cause) c.self.view_is ∙ none)
+
+pub returns-in-Some-pop-clause-tells : goal.returns-in-Some-pop-clause-tells
+returns-in-Some-pop-clause-tells c none x is =
+    let i = c.self.inside in
+    let put = subst (λ (v : OnPart). IsPut (turn_at (schedule v.course.setting) v.course.actor (past_of v.course))) (sym c.self.view_is) c.requires.turn in
+    let next = some_put i.course c.self.invariant.course put in
+    let new : Standing = record { stance = i.standing.stance; next = i.standing.next; out = c.pop.new.self; taken = i.standing.taken; shown = i.standing.shown; counts = i.standing.counts } in
+    subst GoesOn is (put_goes i.course i.standing new (c.self.invariant.goes_on c.in-None.is) refl refl next.0 next.1 c.in-Some-pop.piece c.in-Some-pop.ensures.items refl).1.0
