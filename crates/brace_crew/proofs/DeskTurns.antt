@@ -21,7 +21,7 @@ use Rattle.brace_crew.specs.declared.publisher.Publisher as publisher
 use Rattle.brace_crew.specs.declared.desk.Lot.{Lot}
 use Rattle.brace_crew.specs.declared.desk.Stop.{Stop}
 use Rattle.brace_crew.specs.declared.desk.Stop.TheVariants as stop
-use Rattle.brace_crew.specs.Desks.{OnDesk, StoppedAt, HasShown, HasHalted, HasRefused, ends_before}
+use Rattle.brace_crew.specs.Desks.{OnDesk, put_by, StoppedAt, HasShown, HasHalted, HasRefused, ends_before}
 use Rattle.brace_crew.specs.inner.Sound.{HalfHalted, IsOpen, IsClosedBy, IsAsItStands, IsDesk}
 use Rattle.brace_crew.proofs.DeskCourses.{ack_right, takes_shown, takes_from, shown_taken, nothing_else}
 use Rattle.brace_crew.proofs.DeskKept.{desk_at, desk_on, desk_within, closed_kept, stopped_same, halt_told, nothing_yet, open_put, open_halt, open_again, open_lot, has_place}
@@ -161,18 +161,31 @@ module _ {P : Type 0} (of : publisher.Ghosts P) (d : OnDesk P) (room : ℕ) (h :
     right_put : (x : Piece) → ((n : Name) → PutsNext d.course n → IsRight d.course.setting n x) → IsRightPut x
     right_put x right = subst (λ (v : OnDesk P). (n : Name) → turn_due v ≡ Put n → IsRight v.course.setting n x) view (λ n is. right n (put_named d.course h.on_course n is))
 
-    pub put_ack : IsRightPut piece.Ack
+    put_ack : IsRightPut piece.Ack
     put_ack = right_put piece.Ack (λ n turn. ack_right d.course h.is_last n turn)
 
-    pub put_cause : (x : Cause) → d.stop ≡ Some (stop.Halt x) → IsRightPut (piece.Halt x)
+    put_cause : (x : Cause) → d.stop ≡ Some (stop.Halt x) → IsRightPut (piece.Halt x)
     put_cause x is = right_put (piece.Halt x) (λ n turn. by_closed n turn d.closed h.stands)
       where
         by_closed : (n : Name) → PutsNext d.course n → (b : Bool) → IsAsItStands of d b → IsRight d.course.setting n (piece.Halt x)
         by_closed n turn true by = put_halt d.course n x turn (halt_told of d d.stop x by is)
         by_closed n turn false goes = absurd (some_none d.stop (stop.Halt x) is (nothing_yet of d goes (omega (arith, turn.low))))
 
-    pub put_closed : IsRightPut (piece.Halt cause.Closed)
+    put_memory : IsRightPut (piece.Halt cause.NoMemory)
+    put_memory = right_put (piece.Halt cause.NoMemory) (λ n turn. put_halt d.course n cause.NoMemory turn tt)
+
+    put_closed : IsRightPut (piece.Halt cause.Closed)
     put_closed = right_put (piece.Halt cause.Closed) (λ n turn. put_halt d.course n cause.Closed turn tt)
+
+    pub put_right : IsRightPut (put_by d.stop)
+    put_right = by_stop d.stop refl
+      where
+        by_stop : (o : Option Stop) → d.stop ≡ o → IsRightPut (put_by o)
+        by_stop None is = put_ack
+        by_stop (Some (stop.Halt (cause.Fault f))) is = put_cause (cause.Fault f) is
+        by_stop (Some (stop.Halt cause.NoMemory)) is = put_memory
+        by_stop (Some (stop.Halt cause.Closed)) is = put_memory
+        by_stop (Some (stop.Refusal x)) is = put_closed
 
     -- ---- a take
 

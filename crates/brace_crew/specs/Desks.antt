@@ -1,10 +1,13 @@
 -- The desk of a run as contracts see it: what its publisher got of the continued worlds, and why it
 -- gets no more.
-use Rattle.std.specs.Prelude.{◌≡◌, ℕ, ◌+◌, ◌<◌, ◌≤◌, List, map, filter, take, length, Bool, true, false, Option, Some, slice_get}
+use Rattle.std.specs.Prelude.{◌≡◌, ℕ, ◌+◌, ◌<◌, ◌≤◌, List, [], ◌∷◌, ◌++◌, map, filter, take, length, Bool, true, false, Option, Some, None, slice_get}
 use Rattle.std.specs.List.{All}
 use Rattle.brace_pieces.specs.declared.setting.Setting.{Setting}
 use Rattle.brace_pieces.specs.declared.setting.Stage.TheVariants.{Show}
 use Rattle.brace_pieces.specs.declared.piece.Cause.{Cause}
+use Rattle.brace_pieces.specs.declared.piece.Cause.TheVariants as cause
+use Rattle.brace_pieces.specs.declared.piece.Piece.{Piece}
+use Rattle.brace_pieces.specs.declared.piece.Piece.TheVariants as piece
 use Rattle.brace_pieces.specs.declared.piece.Shown.{Shown}
 use Rattle.brace_pieces.specs.Settings.{parts, shown_ticks, ends}
 use Rattle.brace_pieces.specs.Steps.{step, steps, is_show}
@@ -15,6 +18,7 @@ use Rattle.brace_crew.specs.declared.publisher.PubFault.{PubFault}
 use Rattle.brace_crew.specs.declared.publisher.Publisher as publisher
 use Rattle.brace_crew.specs.declared.desk.Lot.{Lot}
 use Rattle.brace_crew.specs.declared.desk.Stop.{Stop}
+use Rattle.brace_crew.specs.declared.desk.Stop.TheVariants as stop
 use Rattle.brace_crew.specs.Calls.{Call, behind, IsCut}
 
 -- a desk: where it stands in the schedule of its setting, what its publisher was when it was made
@@ -29,6 +33,37 @@ pub record OnDesk (P : Type 0) : Type 0 where
   pub closed : Bool
   pub told : Bool
   pub untold : ℕ
+
+-- what no turn of a desk changes: what its publisher was when it was made, and in which step it was
+-- seen last not to have put its Halt to all
+abbrev pub fixed_of : {P : Type 0} → OnDesk P → P × ℕ
+fixed_of d = (d.opening, d.untold)
+
+-- what a desk puts: that it goes on, or why it does not; that all is closed exactly where its
+-- publisher refused. A part that told Closed, though nothing was refused, is taken for one without
+-- memory
+abbrev pub put_by : Option Stop → Piece
+put_by None = piece.Ack
+put_by (Some (stop.Halt (cause.Fault f))) = piece.Halt (cause.Fault f)
+put_by (Some (stop.Halt cause.NoMemory)) = piece.Halt cause.NoMemory
+put_by (Some (stop.Halt cause.Closed)) = piece.Halt cause.NoMemory
+put_by (Some (stop.Refusal x)) = piece.Halt cause.Closed
+
+-- why it publishes nothing any more behind a piece that it took: for the first cause
+abbrev pub stopped_by : Option Stop → Piece → Option Stop
+stopped_by (Some why) taken = Some why
+stopped_by None (piece.Halt c) = Some (stop.Halt c)
+stopped_by None _ = None
+
+-- what parts brought, with a piece that came of one
+abbrev pub lots_with : List Lot → ℕ → Piece → List Lot
+lots_with lots p (piece.Show worlds) = lots ++ record { part = p; worlds = worlds } ∷ []
+lots_with lots p _ = lots
+
+-- a desk that went on stops in a work for a refusal, or for want of memory, and for nothing else
+abbrev pub IsOwnStop : Option Stop → Type 0
+IsOwnStop (Some (stop.Halt c)) = c ≡ cause.NoMemory
+IsOwnStop _ = Unit {0}
 
 -- the whole continued world of a tick
 abbrev pub whole_at : Setting → ℕ → Shown

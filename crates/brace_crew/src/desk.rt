@@ -1,18 +1,24 @@
-ghost use Rattle.std.specs.Prelude.{◌≡◌, ℕ, map, IfOk, IfErr, Err, Some, None, true, false};
+ghost use Rattle.std.specs.Prelude.{◌≡◌, ℕ, ◌+◌, map, IfOk, IfErr, Err, Some, None, true, false};
 ghost use Rattle.std.specs.List.{range_with_len};
 ghost use Rattle.std.specs.Vec.{vec_capacity};
 ghost use Rattle.brace_io.specs.Counts.{Rose};
+ghost use Rattle.brace_core.specs.declared.name.Name.{Name};
+ghost use Rattle.brace_core.specs.declared.name.Turn.TheVariants as turn;
+ghost use Rattle.brace_core.specs.Exchanges.{due, IsPut, IsTake};
 ghost use Rattle.brace_pieces.specs.declared.piece.Cause.{Cause};
 ghost use Rattle.brace_pieces.specs.declared.piece.Cause.TheVariants as cause;
 ghost use Rattle.brace_pieces.specs.Settings.{LawfulSetting, parts, shown_ticks};
 ghost use Rattle.brace_pieces.specs.Numbers.{NumbersFit};
-ghost use Rattle.brace_pieces.specs.Courses.{IsCourse, at_start};
+ghost use Rattle.brace_pieces.specs.Steps.{schedule};
+ghost use Rattle.brace_pieces.specs.Right.{IsRight};
+ghost use Rattle.brace_pieces.specs.Courses.{IsCourse, at_start, gone_on, past_of, turn_of};
 ghost use Rattle.brace_crew.specs.declared.publisher.PubFault.{PubFault};
 ghost use Rattle.brace_crew.specs.declared.publisher.PubFault.TheVariants as fault;
+ghost use Rattle.brace_crew.specs.declared.desk.Stop.{Stop};
 ghost use Rattle.brace_crew.specs.declared.desk.Stop.TheVariants as stop;
 ghost use Rattle.brace_crew.specs.Calls.{Rises};
 ghost use Rattle.brace_crew.specs.Refusals.{tick_of};
-ghost use Rattle.brace_crew.specs.Desks.{whole_at, ends_before, HasShown, HasHalted, HasRefused};
+ghost use Rattle.brace_crew.specs.Desks.{fixed_of, put_by, stopped_by, lots_with, IsOwnStop, whole_at, ends_before, HasShown, HasHalted, HasRefused};
 ghost use Rattle.brace_crew.specs.inner.Lots.{tick_shown, brought};
 ghost use Rattle.brace_crew.specs.inner.Sound.{shows_in};
 
@@ -176,7 +182,8 @@ impl<'a, P: Publisher> Desk<'a, P> {
         self.told
     }
 
-    /// What came in the step in which the first part halted, by rising part.
+    /// What came in the step in which the first part halted, by rising part: all that parts showed
+    /// there, before its Halt and behind it.
     pub fn kept(&self) -> &[Lot]
         ensures { result.now ≡ self.now.lots }
     {
@@ -233,6 +240,18 @@ fn publish<P: Publisher>(
     }
 }
 
+/// What a desk puts by why it publishes nothing any more.
+fn put_by(stop: Option<Stop>) -> Piece
+    ensures { result ≡ put_by stop }
+{
+    match stop {
+        None => Piece::Ack,
+        Some(Stop::Halt(Cause::Fault(fault))) => Piece::Halt(Cause::Fault(fault)),
+        Some(Stop::Halt(Cause::NoMemory | Cause::Closed)) => Piece::Halt(Cause::NoMemory),
+        Some(Stop::Refusal(_)) => Piece::Halt(Cause::Closed),
+    }
+}
+
 impl<'a, P: Publisher> Actor<Piece> for Desk<'a, P> {
     ghost use Rattle.brace_pieces.specs.Courses.{past_of};
 
@@ -250,16 +269,40 @@ impl<'a, P: Publisher> Actor<Piece> for Desk<'a, P> {
         self.course.turn_to(end)
     }
 
-    fn piece(&mut self) -> Piece {
+    fn piece(&mut self) -> Piece
+        requires { IsPut (due schedule self.old.course.setting self.old.course.actor
+            (past_of self.old.course)) }
+        ensures right { (name : Name) → due schedule self.old.course.setting
+            self.old.course.actor (past_of self.old.course) ≡ turn.Put name
+            → IsRight self.old.course.setting name result }
+        ensures goes_on { past_of self.new.course ≡ past_of self.old.course + 1 }
+        ensures same_setting { self.new.course.setting ≡ self.old.course.setting }
+        ensures same_number { self.new.course.actor ≡ self.old.course.actor }
+        ensures same_opening { fixed_of self.new ≡ fixed_of self.old }
+        ensures put { result ≡ put_by self.old.stop }
+        ensures same { self.new ≡ record self.old { course = gone_on self.old.course } }
+    {
         self.course.go_on();
-        match self.stop {
-            None => Piece::Ack,
-            Some(Stop::Halt(cause)) => Piece::Halt(cause),
-            Some(Stop::Refusal(_)) => Piece::Halt(Cause::Closed),
-        }
+        put_by(self.stop)
     }
 
-    fn give(&mut self, piece: Piece) {
+    fn give(&mut self, piece: Piece)
+        requires turn { IsTake (due schedule self.old.course.setting self.old.course.actor
+            (past_of self.old.course)) }
+        requires right { (name : Name) → due schedule self.old.course.setting
+            self.old.course.actor (past_of self.old.course) ≡ turn.Take name
+            → IsRight self.old.course.setting name piece }
+        ensures goes_on { past_of self.new.course ≡ past_of self.old.course + 1 }
+        ensures same_setting { self.new.course.setting ≡ self.old.course.setting }
+        ensures same_number { self.new.course.actor ≡ self.old.course.actor }
+        ensures same_opening { fixed_of self.new ≡ fixed_of self.old }
+        ensures closed { self.old.closed ≡ true
+            → self.new ≡ record self.old { course = gone_on self.old.course } }
+        ensures stop { self.old.closed ≡ false → self.new.stop ≡ stopped_by self.old.stop piece }
+        ensures lots { (name : Name) → self.old.closed ≡ false
+            → turn_of self.old.course ≡ turn.Take name
+            → self.new.lots ≡ lots_with self.old.lots name.from piece }
+    {
         let turn = self.course.turn();
         self.course.go_on();
         if self.closed {
@@ -281,7 +324,17 @@ impl<'a, P: Publisher> Actor<Piece> for Desk<'a, P> {
         }
     }
 
-    fn work(&mut self) {
+    fn work(&mut self)
+        requires { due schedule self.old.course.setting self.old.course.actor
+            (past_of self.old.course) ≡ turn.Work }
+        ensures goes_on { past_of self.new.course ≡ past_of self.old.course + 1 }
+        ensures same_setting { self.new.course.setting ≡ self.old.course.setting }
+        ensures same_number { self.new.course.actor ≡ self.old.course.actor }
+        ensures same_opening { fixed_of self.new ≡ fixed_of self.old }
+        ensures stays { (why : Stop) → self.old.stop ≡ Some why → self.new.stop ≡ Some why }
+        ensures kept { (why : Stop) → self.old.stop ≡ Some why → self.new.lots ≡ self.old.lots }
+        ensures own { self.old.stop ≡ None → IsOwnStop self.new.stop }
+    {
         let at = self.course.step();
         self.course.go_on();
         if self.closed {
