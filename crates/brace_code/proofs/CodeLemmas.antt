@@ -5,14 +5,16 @@ use Rattle.brace_model.specs.declared.program.UnOp.{UnOp}
 use Rattle.brace_model.specs.declared.program.BinOp.{BinOp}
 use Rattle.brace_model.specs.Value.{Scope}
 use Rattle.brace_code.specs.declared.code.Operand.{Operand}
+use Rattle.brace_code.specs.declared.code.Source.{Source}
+use Rattle.brace_code.specs.declared.code.Source.TheVariants.{One}
 use Rattle.brace_code.specs.declared.code.Instr.{Instr}
 use Rattle.brace_code.specs.declared.code.Instr.TheVariants.{Push, Unary, Binary, With, Choice, rolls-Push, rolls-Unary, rolls-Binary, rolls-With, rolls-Choice}
 use Rattle.brace_code.specs.declared.code.Instr.TheOpen as layer
 use Rattle.brace_code.specs.declared.code.Instr.TheFolds.{fold-roll-Instr}
 use Rattle.brace_code.specs.inner.Runs.{Left, Deed, onward, deed_step, deed, run}
 
-pub deed-Push : (o : Operand) → deed (Push o) ≡ deed_step (layer.Push o)
-deed-Push o = ap deed (sym (rolls-Push o)) ∙ fold-roll-Instr Deed deed_step (layer.Push o)
+pub deed-Push : (s : Source) → deed (Push s) ≡ deed_step (layer.Push s)
+deed-Push s = ap deed (sym (rolls-Push s)) ∙ fold-roll-Instr Deed deed_step (layer.Push s)
 
 pub deed-Unary : (op : UnOp) (site : ℕ) → deed (Unary op site) ≡ deed_step (layer.Unary op site)
 deed-Unary op site = ap deed (sym (rolls-Unary op site)) ∙ fold-roll-Instr Deed deed_step (layer.Unary op site)
@@ -53,7 +55,7 @@ run-push code i room scope stack =
 
 -- code that is an operand alone
 pub operand_alone : (code rest : List Instr) (first : Instr) (o p : Operand) → code ≡ first ∷ rest
-    → first ≡ Push o → length rest ≡ 0 → p ≡ o → code ≡ Push p ∷ []
+    → first ≡ Push (One o) → length rest ≡ 0 → p ≡ o → code ≡ Push (One p) ∷ []
 operand_alone code [] first o p is f none same =
-    is ∙ ap (λ (i : Instr). i ∷ []) (f ∙ ap (λ (x : Operand). Push x) (sym same))
+    is ∙ ap (λ (i : Instr). i ∷ []) (f ∙ ap (λ (x : Operand). Push (One x)) (sym same))
 operand_alone code (next ∷ rest) first o p is f none same = absurd (omega (arith, none))

@@ -25,14 +25,18 @@ use Rattle.brace_model.proofs.TypeLemmas.{Passed, passed, some_is, only_true, on
 use Rattle.brace_model.proofs.ValueEquations.{value-Lit, value-Field, value-Total, value-Local, value-Unary, value-Binary, value-Choice, value-Rand}
 use Rattle.brace_code.specs.declared.code.Operand.{Operand}
 use Rattle.brace_code.specs.declared.code.Operand.TheVariants as operand
+use Rattle.brace_code.specs.declared.code.Source.{Source}
+use Rattle.brace_code.specs.declared.code.Source.TheVariants as source
+use Rattle.brace_code.specs.declared.code.Source.TheVariants.{One}
 use Rattle.brace_code.specs.declared.code.Instr.{Instr}
 use Rattle.brace_code.specs.declared.code.Instr.TheVariants.{Push, Unary, Binary, With, Choice}
 use Rattle.brace_code.specs.declared.compiling.Leaf.{Leaf}
+use Rattle.brace_code.specs.declared.compiling.Two.{Two}
 use Rattle.brace_code.specs.declared.compiling.Part.{Part}
 use Rattle.brace_code.specs.Codes.{Computes}
-use Rattle.brace_code.specs.inner.Words.{Outcome, word_of, value_of, made_word, with_word, binary_word, choose_word, operand_word}
+use Rattle.brace_code.specs.inner.Words.{Outcome, word_of, value_of, made_word, with_word, binary_word, choose_word, operand_word, source_word}
 use Rattle.brace_code.specs.inner.Runs.{Left, Deed, onward, pushed, put, top, run}
-use Rattle.brace_code.specs.inner.Appended.{Does, Appends, IsLeaf}
+use Rattle.brace_code.specs.inner.Appended.{Does, Appends, IsLeaf, IsTwo}
 use Rattle.brace_code.proofs.WordLemmas.{unary_is, strict_is, choose_is, worth_is}
 use Rattle.brace_code.proofs.CodeLemmas.{deed-Push, deed-Unary, deed-Binary, deed-With, deed-Choice, run-append, run-one}
 
@@ -153,10 +157,12 @@ put_pushed room stack w h = fits (nat_lt (length stack) room) (grind (arith, nat
     fits b e = rw e refl
 
 module _ (names : Names) (e : Expr) (part : Part) (before after : List Instr) where
-  -- an expression that is an operand
-  operand_appends : (o : Operand) (t : Ty) → part ≡ record { ty = t; depth = 1 } → after ≡ before ++ Push o ∷ []
-      → ((s : Ty) → type_of e names ≡ Some s → t ≡ s) → ((scope : Scope) → operand_word scope o ≡ word_of (value e scope)) → Appends names e part before after
-  operand_appends o t p is types words = record {
+  -- an expression that is read of a source
+  source_appends : (o : Source) (t : Ty) → part ≡ record { ty = t; depth = 1 }
+      → after ≡ before ++ Push o ∷ [] → ((s : Ty) → type_of e names ≡ Some s → t ≡ s)
+      → ((s : Ty) → type_of e names ≡ Some s → (scope : Scope) → Fits names scope
+      → source_word scope o ≡ word_of (value e scope)) → Appends names e part before after
+  source_appends o t p is types words = record {
     added = Push o ∷ [];
     is = is;
     does = λ s h. (
@@ -164,10 +170,23 @@ module _ (names : Names) (e : Expr) (part : Part) (before after : List Instr) wh
       record {
         each = λ scope fits room stack k.
             run-one (Push o) room scope stack ∙ ap (λ (d : Deed). d room scope stack) (deed-Push o)
-            ∙ put_pushed room stack (operand_word scope o) (rw (ap (λ (x : Part). x.depth) p) at k) ∙ ap (pushed stack) (words scope);
+            ∙ put_pushed room stack (source_word scope o) (rw (ap (λ (x : Part). x.depth) p) at k)
+            ∙ ap (pushed stack) (words s h scope fits);
       },
     );
   }
+
+  leaf_appends : (leaf : Leaf) → IsLeaf names e leaf → part ≡ record { ty = leaf.ty; depth = 1 }
+      → after ≡ before ++ Push (One leaf.operand) ∷ [] → Appends names e part before after
+  leaf_appends leaf p part added =
+      source_appends (One leaf.operand) leaf.ty part added p.type (λ s h scope fits. p.word scope)
+
+  pub two_appends : (two : Two) (x : Expr) → x ≡ e → IsTwo names x two
+      → part ≡ record { ty = two.ty; depth = 1 } → after ≡ before ++ Push two.source ∷ []
+      → Appends names e part before after
+  two_appends two x is p part added =
+      let q = subst (λ (y : Expr). IsTwo names y two) is p in
+      source_appends two.source two.ty part added q.type q.word
 
   pub lit_leaf : (v : Value) → e ≡ expr.Lit v → IsLeaf names e (record { ty = type_of_value v; operand = operand.Word (number v) })
   lit_leaf v is = record {
@@ -201,30 +220,25 @@ module _ (names : Names) (e : Expr) (part : Part) (before after : List Instr) wh
     word = λ scope. ap word_of (sym (ap (λ (x : Expr). value x scope) is ∙ value-Total effect t site scope));
   }
 
-  pub lit_appends : (v : Value) → e ≡ expr.Lit v → part ≡ record { ty = type_of_value v; depth = 1 } → after ≡ before ++ Push (operand.Word (number v)) ∷ []
+  pub lit_appends : (v : Value) → e ≡ expr.Lit v → part ≡ record { ty = type_of_value v; depth = 1 } → after ≡ before ++ Push (One (operand.Word (number v))) ∷ []
       → Appends names e part before after
-  lit_appends v is p added = operand_appends (operand.Word (number v)) (type_of_value v) p added
-      (λ s h. some_is (type_of_value v) s (sym (type-Lit v names) ∙ (rw is at h))) (λ scope. ap word_of (sym (ap (λ (x : Expr). value x scope) is ∙ value-Lit v scope)))
+  lit_appends v is = leaf_appends _ (lit_leaf v is)
 
   pub field_appends : (who : Who) (i : ℕ) (t : Ty) → e ≡ expr.Field who i → ((s : Ty) → state_type names who i ≡ Some s → t ≡ s)
-      → part ≡ record { ty = t; depth = 1 } → after ≡ before ++ Push (operand.Field who i) ∷ [] → Appends names e part before after
-  field_appends who i t is types p added = operand_appends (operand.Field who i) t p added
-      (λ s h. types s (sym (type-Field who i names) ∙ (rw is at h))) (λ scope. ap word_of (sym (ap (λ (x : Expr). value x scope) is ∙ value-Field who i scope)))
+      → part ≡ record { ty = t; depth = 1 } → after ≡ before ++ Push (One (operand.Field who i)) ∷ [] → Appends names e part before after
+  field_appends who i t is types = leaf_appends _ (field_leaf who i t is types)
 
   pub local_appends : (n : ℕ) (t : Ty) → e ≡ expr.Local n → ((s : Ty) → constant_type names.known n ≡ Some s → t ≡ s)
-      → part ≡ record { ty = t; depth = 1 } → after ≡ before ++ Push (operand.Local n) ∷ [] → Appends names e part before after
-  local_appends n t is types p added = operand_appends (operand.Local n) t p added
-      (λ s h. types s (sym (type-Local n names) ∙ (rw is at h))) (λ scope. ap word_of (sym (ap (λ (x : Expr). value x scope) is ∙ value-Local n scope)))
+      → part ≡ record { ty = t; depth = 1 } → after ≡ before ++ Push (One (operand.Local n)) ∷ [] → Appends names e part before after
+  local_appends n t is types = leaf_appends _ (local_leaf n t is types)
 
-  pub rand_appends : (site : ℕ) → e ≡ expr.Rand site → part ≡ record { ty = ty.Fixed; depth = 1 } → after ≡ before ++ Push (operand.Rand site) ∷ []
+  pub rand_appends : (site : ℕ) → e ≡ expr.Rand site → part ≡ record { ty = ty.Fixed; depth = 1 } → after ≡ before ++ Push (One (operand.Rand site)) ∷ []
       → Appends names e part before after
-  rand_appends site is p added = operand_appends (operand.Rand site) ty.Fixed p added
-      (λ s h. some_is ty.Fixed s (sym (type-Rand site names) ∙ (rw is at h))) (λ scope. ap word_of (sym (ap (λ (x : Expr). value x scope) is ∙ value-Rand site scope)))
+  rand_appends site is = leaf_appends _ (rand_leaf site is)
 
   pub total_appends : (effect : ℕ) (t : Ty) (site : Option ℕ) → e ≡ expr.Total effect t site → part ≡ record { ty = t; depth = 1 }
-      → after ≡ before ++ Push (operand.Total effect t site) ∷ [] → Appends names e part before after
-  total_appends effect t site is p added = operand_appends (operand.Total effect t site) t p added
-      (λ s h. total_type names effect t site s (sym (type-Total effect t site names) ∙ (rw is at h))) (λ scope. ap word_of (sym (ap (λ (x : Expr). value x scope) is ∙ value-Total effect t site scope)))
+      → after ≡ before ++ Push (One (operand.Total effect t site)) ∷ [] → Appends names e part before after
+  total_appends effect t site is = leaf_appends _ (total_leaf effect t site is)
 
 -- ---- operations
 
@@ -317,6 +331,46 @@ module _ (names : Names) where
           ∙ ap (λ (r : Ty). pushed stack (made_word (unwrap_or site 0) (binary_word op r (number x) (number y)))) (sym (is x refl))
           ∙ ap (pushed stack) (strict_is op site x y t (ap (operation_type op) (is x refl) ∙ gives))
 
+  -- an operation on two operands
+  pub two_is : (a b : Expr) (op : BinOp) (site : Option ℕ) (n : ℕ) (first second : Leaf) (t : Ty)
+      → IsStrict op → IsLeaf names a first → IsLeaf names b second → n ≡ unwrap_or site 0
+      → ((s : Ty) → operation_type op first.ty ≡ Some s → t ≡ s)
+      → IsTwo names (expr.Binary op site a b)
+      (record { ty = t; source = source.Two op first.ty n first.operand second.operand })
+  two_is a b op site n first second t strictly p q numbered types = record {
+    type = λ s h. let u = binary_typed names a b op site s h in
+        types s (ap (operation_type op) (p.type u.first u.first_is) ∙ u.gives);
+    word = λ s h scope fits. let u = binary_typed names a b op site s h in
+        go s u.first scope (value a scope) (value b scope) (p.type u.first u.first_is)
+        (sound a names scope fits u.first u.first_is) u.gives (p.word scope) (q.word scope)
+        ∙ ap word_of (sym (strictly.is site (value a scope) (value b scope))
+        ∙ sym (value-Binary op site a b scope));
+  }
+    where
+      made : ℤ → ℤ → Outcome
+      made x y = made_word n (binary_word op first.ty x y)
+
+      second_read : (w : Outcome) (x : ℤ) → Outcome
+      second_read w x = with_word w (made x)
+
+      first_read : Scope → Outcome → Outcome
+      first_read scope w = with_word w (second_read (operand_word scope second.operand))
+
+      go : (s r : Ty) (scope : Scope) (v w : Worth) → first.ty ≡ r → IsOf r v
+          → operation_type op r ≡ Some s → operand_word scope first.operand ≡ word_of v
+          → operand_word scope second.operand ≡ word_of w
+          → source_word scope (source.Two op first.ty n first.operand second.operand)
+          ≡ word_of (with_value v (λ x. with_value w (strict op site x)))
+      go s r scope (Err stop) w same is gives e f = ap (first_read scope) e
+      go s r scope (Ok x) (Err stop) same is gives e f =
+          ap (first_read scope) e ∙ ap (λ (w : Outcome). second_read w (number x)) f
+      go s r scope (Ok x) (Ok y) same is gives e f =
+          ap (first_read scope) e ∙ ap (λ (w : Outcome). second_read w (number x)) f
+          ∙ ap (λ (m : ℕ). made_word m (binary_word op first.ty (number x) (number y))) numbered
+          ∙ ap (λ (q : Ty). made_word (unwrap_or site 0) (binary_word op q (number x) (number y)))
+          (same ∙ sym (is x refl))
+          ∙ strict_is op site x y s (ap (operation_type op) (is x refl) ∙ gives)
+
   pub with_appends : (e a b : Expr) (op : BinOp) (site : Option ℕ) (n : ℕ) (first : Part) (leaf : Leaf) (c0 c1 c2 : List Instr) (t : Ty)
       → e ≡ expr.Binary op site a b → IsStrict op → Appends names a first c0 c1 → IsLeaf names b leaf → n ≡ unwrap_or site 0
       → c2 ≡ c1 ++ With op first.ty n leaf.operand ∷ [] → ((s : Ty) → operation_type op first.ty ≡ Some s → t ≡ s)
@@ -402,10 +456,10 @@ module _ (names : Names) where
   -- a branch that is a flag
   flag_runs : (b : Bool) (depth : ℕ) → 1 ≤ depth
       → (scope : Scope) → Fits names scope → (room : ℕ) → depth ≤ room
-      → run (Push (operand.Word (number (Flag b))) ∷ []) room scope [] ≡ pushed [] (word_of (Ok (Flag b)))
+      → run (Push (One (operand.Word (number (Flag b)))) ∷ []) room scope [] ≡ pushed [] (word_of (Ok (Flag b)))
   flag_runs b depth deep scope fits room k =
-      run-one (Push (operand.Word (number (Flag b)))) room scope []
-      ∙ ap (λ (d : Deed). d room scope []) (deed-Push (operand.Word (number (Flag b))))
+      run-one (Push (One (operand.Word (number (Flag b))))) room scope []
+      ∙ ap (λ (d : Deed). d room scope []) (deed-Push (One (operand.Word (number (Flag b)))))
       ∙ put_pushed room [] (Ok (number (Flag b))) (omega arith)
 
   pub choice_appends : (e c a b : Expr) (test first second : Part) (c0 c1 c2 set unset : List Instr) (depth : ℕ) → e ≡ expr.Choice c a b
@@ -427,7 +481,7 @@ module _ (names : Names) where
 
   -- `&&` and `||`: one branch is a flag
   pub and_appends : (e a b : Expr) (site : Option ℕ) (test second : Part) (c0 c1 c2 set unset : List Instr) (depth : ℕ) → e ≡ expr.Binary bin.And site a b
-      → Appends names a test c0 c1 → Appends names b second [] set → unset ≡ Push (operand.Word (pos 0)) ∷ [] → c2 ≡ c1 ++ Choice set unset ∷ []
+      → Appends names a test c0 c1 → Appends names b second [] set → unset ≡ Push (One (operand.Word (pos 0))) ∷ [] → c2 ≡ c1 ++ Choice set unset ∷ []
       → test.depth ≤ depth → second.depth ≤ depth → 1 ≤ depth → Appends names e (record { ty = ty.Bool; depth = depth }) c0 c2
   and_appends e a b site test second c0 c1 c2 set unset depth is p q w added deep second_deep high = record {
     added = p.added ++ Choice set unset ∷ [];
@@ -443,7 +497,7 @@ module _ (names : Names) where
   }
 
   pub or_appends : (e a b : Expr) (site : Option ℕ) (test second : Part) (c0 c1 c2 set unset : List Instr) (depth : ℕ) → e ≡ expr.Binary bin.Or site a b
-      → Appends names a test c0 c1 → Appends names b second [] unset → set ≡ Push (operand.Word (pos 1)) ∷ [] → c2 ≡ c1 ++ Choice set unset ∷ []
+      → Appends names a test c0 c1 → Appends names b second [] unset → set ≡ Push (One (operand.Word (pos 1))) ∷ [] → c2 ≡ c1 ++ Choice set unset ∷ []
       → test.depth ≤ depth → second.depth ≤ depth → 1 ≤ depth → Appends names e (record { ty = ty.Bool; depth = depth }) c0 c2
   or_appends e a b site test second c0 c1 c2 set unset depth is p q w added deep second_deep high = record {
     added = p.added ++ Choice set unset ∷ [];
@@ -478,4 +532,6 @@ module _ (names : Names) where
 
 pub ruleset leaf_rules = (lit_leaf, field_leaf, local_leaf, rand_leaf, total_leaf)
 
-pub ruleset compile_rules = (lit_appends, field_appends, local_appends, rand_appends, total_appends)
+pub ruleset two_rules = (two_is, strictly)
+
+pub ruleset compile_rules = (two_appends, lit_appends, field_appends, local_appends, rand_appends, total_appends)

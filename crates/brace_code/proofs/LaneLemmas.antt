@@ -6,7 +6,7 @@ use Rattle.std.specs.Prelude.{not}
 use Rattle.std.specs.Ordering.{int_eq}
 use Rattle.brace_code.specs.declared.splitting.SideWords.{SideWords}
 use Rattle.brace_code.specs.declared.splitting.SideWords.TheVariants.{Same, Each}
-use Rattle.brace_code.specs.Columns.{AreMerged, AreNumbers, ArePut, HasWord, IsSide, Puts, same_word, side}
+use Rattle.brace_code.specs.Columns.{AreMerged, AreNumbers, ArePut, HasWord, IsSame, IsSide, Puts, side}
 
 -- a number written at the end of the front, and kept or not
 pub put_kept : (out : List ℕ) (place number : ℕ) (keeps : Bool) → place < length out
@@ -157,36 +157,34 @@ module _ (on : Bool) (ts : List ℤ) (s : SideWords) (old new : List ℤ) (k : �
 
   -- where it is, the word is the side's
   pub held : k < length ts → IsSide on ts s → Puts s old new → Here true
-      → slice_index_or old k (pos 0) ≡ same_word s → HasWord s k (slice_index_or new k (pos 0))
+      → IsSame s (slice_index_or old k (pos 0)) → HasWord s k (slice_index_or new k (pos 0))
   held low = by s
     where
       by : (x : SideWords) → IsSide on ts x → Puts x old new → Here true
-          → slice_index_or old k (pos 0) ≡ same_word x → HasWord x k (slice_index_or new k (pos 0))
+          → IsSame x (slice_index_or old k (pos 0)) → HasWord x k (slice_index_or new k (pos 0))
       by (Same word) is p here same = ap (λ (l : List ℤ). slice_index_or l k (pos 0)) p ∙ same
       by (Each numbers words) is p here same =
           let (i, inside, at) = is.all k low here in
           subst (λ (m : ℕ). HasWord (Each numbers words) m (slice_index_or new m (pos 0))) at
           (p.put i inside)
 
--- one of two words in each lane, and then the words of the sides in the places of their lanes
-pub sides_merged : (ts base mid words : List ℤ) (ys ns : SideWords) (y n : ℤ)
-    → length base ≡ length ts
-    → ((k : ℕ) → k < length ts → slice_index_or base k (pos 0)
-    ≡ (if side true (slice_index_or ts k (pos 0)) then y else n))
-    → y ≡ same_word ys → n ≡ same_word ns → IsSide true ts ys → IsSide false ts ns
-    → Puts ys base mid → Puts ns mid words → AreMerged ts ys ns words
-sides_merged ts base mid words ys ns y n long each first second left right p q = record {
+-- words that all lanes of a side have, and then the others in the places of their lanes
+pub sides_merged : (ts base mid words : List ℤ) (ys ns : SideWords) → length base ≡ length ts
+    → ((k : ℕ) → k < length ts → side true (slice_index_or ts k (pos 0)) ≡ true
+    → IsSame ys (slice_index_or base k (pos 0)))
+    → ((k : ℕ) → k < length ts → side false (slice_index_or ts k (pos 0)) ≡ true
+    → IsSame ns (slice_index_or base k (pos 0)))
+    → IsSide true ts ys → IsSide false ts ns → Puts ys base mid → Puts ns mid words
+    → AreMerged ts ys ns words
+sides_merged ts base mid words ys ns long first second left right p q = record {
   long = puts-long ns mid words q ∙ puts-long ys base mid p ∙ long;
   set = λ k low on.
       let off = off-other true (slice_index_or ts k (pos 0)) on in
-      let here : slice_index_or base k (pos 0) ≡ y =
-      each k low ∙ ap (λ (b : Bool). if b then y else n) on in
       subst (λ (w : ℤ). HasWord ys k w) (sym (kept false ts ns mid words k right q off))
-      (held true ts ys base mid k low left p on (here ∙ first));
+      (held true ts ys base mid k low left p on (first k low on));
   unset = λ k low on.
       let off = off-other false (slice_index_or ts k (pos 0)) on in
-      let here : slice_index_or mid k (pos 0) ≡ n =
-      kept true ts ys base mid k left p off ∙ each k low
-      ∙ ap (λ (b : Bool). if b then y else n) off in
-      held false ts ns mid words k low right q on (here ∙ second);
+      let here = subst (IsSame ns) (sym (kept true ts ys base mid k left p off))
+      (second k low on) in
+      held false ts ns mid words k low right q on here;
 }

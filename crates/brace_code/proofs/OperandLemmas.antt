@@ -4,6 +4,7 @@ use Rattle.std.specs.Prelude.{◌==◌, replicate}
 use Rattle.std.proofs.lemmas.List.{get_or-map, get_or-replicate, length-map, length-replicate}
 use Rattle.brace_num.specs.declared.kinds.Kind.{Kind}
 use Rattle.brace_model.specs.declared.program.Ty.{Ty}
+use Rattle.brace_model.specs.declared.program.BinOp.{BinOp}
 use Rattle.brace_model.specs.Value.{Scope, total_read}
 use Rattle.brace_code.specs.declared.code.Operand.{Operand}
 use Rattle.brace_code.specs.declared.code.Operand.TheVariants.{Word, Field, Total, Local, Rand}
@@ -11,10 +12,13 @@ use Rattle.brace_code.specs.declared.lane.Lane.{Lane}
 use Rattle.brace_code.specs.declared.lane.Frame.{Frame}
 use Rattle.brace_code.specs.declared.lane.Draws.{Draws}
 use Rattle.brace_code.specs.Lanes.{draws_at, number_in, words_of}
-use Rattle.brace_code.specs.inner.Words.{Outcome, word_of, operand_word}
+use Rattle.brace_code.specs.inner.Words.{Outcome, word_of, made_word, with_word, binary_word, operand_word, source_word}
 use Rattle.brace_code.specs.declared.view.View.{View}
 use Rattle.brace_code.specs.declared.view.View.TheVariants.{Same, Each, At}
-use Rattle.brace_code.specs.Columns.{Joins, Numbers, Pairs, Sees, Words, seen}
+use Rattle.brace_code.specs.declared.code.Source.{Source}
+use Rattle.brace_code.specs.declared.code.Source.TheVariants.{One, Two}
+use Rattle.brace_code.specs.declared.kernels.First.{First}
+use Rattle.brace_code.specs.Columns.{Joins, HasFirst, Numbers, Pairs, Sees, Words, firsts, seen}
 
 pub draws_more : (draws : List Draws) (k site : ℕ) (d : Draws) → k < length draws
     → draws_at (drop k draws) site ≡ (if (get_or draws k d).site == site then Some (get_or draws k d).words.now else draws_at (drop (k + 1) draws) site)
@@ -116,3 +120,47 @@ module _ (frame : Frame) (o : Operand) (op : ℤ → ℤ → Result ℤ Kind) (l
       (word_words frame o lanes (words_of (length lanes) view) n is
       (ap (words_of (length lanes)) same))
       (λ k low. subst (λ (v : View). Sees v k) (sym same) tt) p
+
+-- ---- what is read of a source
+
+-- the words of an operand that stand where a view reads them, where there are such rows
+pub first_words : (frame : Frame) (o : Operand) (lanes : List Lane) (view : View) (f : First)
+    → ((effect : ℕ) (t : Ty) (site : Option ℕ) → o ≢ Total effect t site)
+    → firsts f ≡ words_of (length lanes) view
+    → ((k : ℕ) → k < length lanes → HasFirst f k → Sees view k)
+    → (((k : ℕ) → k < length lanes → Sees view k)
+    → Numbers frame o lanes (words_of (length lanes) view))
+    → ((k : ℕ) → k < length lanes → HasFirst f k)
+    → Words frame (λ scope. operand_word scope o) lanes (firsts f)
+first_words frame o lanes view f plain is sees numbers has =
+    plain_words frame o lanes (firsts f) plain
+    (subst (Numbers frame o lanes) (sym is) (numbers (λ k low. sees k low (has k low))))
+
+pub one_words : (frame : Frame) (s : Source) (lanes : List Lane) (words : List ℤ) (o : Operand)
+    → s ≡ One o → Words frame (λ scope. operand_word scope o) lanes words
+    → Words frame (λ scope. source_word scope s) lanes words
+one_words frame s lanes words o is p =
+    subst (λ (x : Source). Words frame (λ scope. source_word scope x) lanes words) (sym is) p
+
+pub two_words : (frame : Frame) (s : Source) (lanes : List Lane) (words : List ℤ) (op : BinOp)
+    (t : Ty) (site : ℕ) (o p : Operand) (f : First) → s ≡ Two op t site o p
+    → (((k : ℕ) → k < length lanes → HasFirst f k)
+    → Words frame (λ scope. operand_word scope o) lanes (firsts f))
+    → ((k : ℕ) → k < length lanes → HasFirst f k)
+    → length (firsts f) ≡ length lanes
+    → Joins frame (λ scope. operand_word scope p) (binary_word op t) lanes (firsts f) words
+    → Words frame (λ scope. source_word scope s) lanes words
+two_words frame s lanes words op t site o p f is first_read has long q =
+    let first_is = first_read has in
+    subst (λ (x : Source). Words frame (λ scope. source_word scope x) lanes words) (sym is)
+    (record {
+      long = q.long ∙ long;
+      each = λ scope shows k d l.
+          let at = scope (slice_index_or lanes k d) in
+          let a = slice_index_or (firsts f) k (pos 0) in
+          let (b, read, made) = q.each scope shows k d l in
+          ap (λ (w : Outcome). with_word w (λ x. with_word (operand_word at p)
+          (λ y. made_word site (binary_word op t x y)))) (first_is.each scope shows k d l)
+          ∙ ap (λ (w : Outcome). with_word w (λ y. made_word site (binary_word op t a y))) read
+          ∙ ap (made_word site) made;
+    })

@@ -11,6 +11,8 @@ use Rattle.brace_model.specs.Value.{Scope}
 use Rattle.brace_code.specs.declared.code.Code.{Code}
 use Rattle.brace_code.specs.declared.code.Operand.{Operand}
 use Rattle.brace_code.specs.declared.code.Operand.TheVariants.{Word}
+use Rattle.brace_code.specs.declared.code.Source.{Source}
+use Rattle.brace_code.specs.declared.code.Source.TheVariants.{One}
 use Rattle.brace_code.specs.declared.code.Instr.{Instr}
 use Rattle.brace_code.specs.declared.code.Instr.TheVariants.{Push, Unary, Binary, With, Choice}
 use Rattle.brace_code.specs.declared.lane.Lane.{Lane}
@@ -18,7 +20,7 @@ use Rattle.brace_code.specs.declared.lane.Frame.{Frame}
 use Rattle.brace_code.specs.declared.splitting.SideWords.{SideWords}
 use Rattle.brace_code.specs.declared.splitting.SideWords.TheVariants as sides
 use Rattle.brace_code.specs.Lanes.{Shows, Gives}
-use Rattle.brace_code.specs.inner.Words.{Outcome, value_of, made_word, with_word, unary_word, binary_word, choose_word, operand_word}
+use Rattle.brace_code.specs.inner.Words.{Outcome, value_of, made_word, with_word, unary_word, binary_word, choose_word, operand_word, source_word}
 use Rattle.brace_code.specs.inner.Runs.{Left, onward, pushed, top, deed, run, outcome}
 use Rattle.brace_code.specs.Columns.{AreMerged, ArePicked, Joins, Words, Maps, Pairs, Leads, Serves, stack_at}
 use Rattle.brace_code.proofs.CodeLemmas.{run-one, run-push}
@@ -36,10 +38,10 @@ module _ (frame : Frame) (lanes : List Lane) (room : ℕ) (before after : List (
       → Leads (deed i) room frame lanes before after
   puts rest h each = record { each = λ scope shows k d l. each scope shows k d l ∙ ap (λ (s : List (List ℤ)). let r : Left = Ok (stack_at s k) in r) (sym h) }
 
-  pub push_leads : (o : Operand) → i ≡ Push o → length before < room → Words frame (λ scope. operand_word scope o) lanes words → after ≡ words ∷ before
+  pub push_leads : (s : Source) → i ≡ Push s → length before < room → Words frame (λ scope. source_word scope s) lanes words → after ≡ words ∷ before
       → Leads (deed i) room frame lanes before after
-  push_leads o is below p h = puts before h (λ scope shows k d l.
-      push_does i room (scope (slice_index_or lanes k d)) (stack_at before k) o is (rw high below) ∙ ap (pushed (stack_at before k)) (p.each scope shows k d l))
+  push_leads s is below p h = puts before h (λ scope shows k d l.
+      push_does i room (scope (slice_index_or lanes k d)) (stack_at before k) s is (rw high below) ∙ ap (pushed (stack_at before k)) (p.each scope shows k d l))
 
   pub unary_leads : (op : UnOp) (site : ℕ) (a : List ℤ) (rest : List (List ℤ)) → i ≡ Unary op site → before ≡ a ∷ rest → length a ≡ length lanes
       → Maps (unary_word op) a words → after ≡ words ∷ rest → Leads (deed i) room frame lanes before after
@@ -91,14 +93,14 @@ module _ (frame : Frame) (lanes : List Lane) (room : ℕ) (before after : List (
 
 -- code that is a word serves any lanes
 pub same_serves : (frame : Frame) (lanes : List Lane) (code : List Instr) (room : ℕ) (w v : ℤ)
-    → code ≡ Push (Word w) ∷ [] → 0 < room → v ≡ w
+    → code ≡ Push (One (Word w)) ∷ [] → 0 < room → v ≡ w
     → Serves frame (outcome code room) lanes (sides.Same v)
 same_serves frame lanes code room w v is some word = record {
   each = λ scope shows k d x low has.
       let at = scope (slice_index_or lanes k d) in
       ap (λ (c : List Instr). outcome c room at) is
-      ∙ ap top (run-one (Push (Word w)) room at []
-      ∙ push_does (Push (Word w)) room at [] (Word w) refl some)
+      ∙ ap top (run-one (Push (One (Word w))) room at []
+      ∙ push_does (Push (One (Word w))) room at [] (One (Word w)) refl some)
       ∙ ap (λ (n : ℤ). let r : Outcome = Ok n in r) (sym (has ∙ word));
 }
 

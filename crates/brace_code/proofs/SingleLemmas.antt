@@ -13,10 +13,12 @@ use Rattle.brace_model.specs.declared.job.Env.{Env}
 use Rattle.brace_model.specs.Scopes.{scope_of}
 use Rattle.brace_model.specs.Value.{Scope}
 use Rattle.brace_code.specs.declared.code.Operand.{Operand}
+use Rattle.brace_code.specs.declared.code.Source.{Source}
+use Rattle.brace_code.specs.declared.code.Source.TheVariants.{One, Two}
 use Rattle.brace_code.specs.declared.code.Instr.{Instr}
 use Rattle.brace_code.specs.declared.code.Instr.TheVariants.{Push, Unary, Binary, With, Choice}
 use Rattle.brace_code.specs.declared.code.Instr.TheOpen as layer
-use Rattle.brace_code.specs.inner.Words.{Outcome, made_word, with_word, unary_word, binary_word, choose_word, operand_word}
+use Rattle.brace_code.specs.inner.Words.{Outcome, made_word, with_word, unary_word, binary_word, choose_word, operand_word, source_word}
 use Rattle.brace_code.specs.inner.Runs.{Left, Deed, onward, pushed, put, stuck, top, deed, deed_step, run, outcome, stack_of}
 use Rattle.brace_code.proofs.CodeLemmas.{deed-Push, deed-Unary, deed-Binary, deed-With, deed-Choice}
 
@@ -43,16 +45,16 @@ module _ (i : Instr) (room : ℕ) (scope : Scope) (stack : List ℤ) where
   at : (f : Deed) → deed i ≡ f → deed i room scope stack ≡ f room scope stack
   at f e = ap (λ (x : Deed). x room scope stack) e
 
-  pub push_does : (o : Operand) → i ≡ Push o → length stack < room → deed i room scope stack ≡ pushed stack (operand_word scope o)
-  push_does o is h = at (deed_step (layer.Push o)) (ap deed is ∙ deed-Push o) ∙ go (grind (arith, nat_tests))
+  pub push_does : (s : Source) → i ≡ Push s → length stack < room → deed i room scope stack ≡ pushed stack (source_word scope s)
+  push_does s is h = at (deed_step (layer.Push s)) (ap deed is ∙ deed-Push s) ∙ go (grind (arith, nat_tests))
     where
-      go : nat_lt (length stack) room ≡ true → put room stack (operand_word scope o) ≡ pushed stack (operand_word scope o)
+      go : nat_lt (length stack) room ≡ true → put room stack (source_word scope s) ≡ pushed stack (source_word scope s)
       go e = rw e refl
 
-  pub push_lacks : (o : Operand) → i ≡ Push o → room ≤ length stack → deed i room scope stack ≡ Err stuck
-  push_lacks o is h = at (deed_step (layer.Push o)) (ap deed is ∙ deed-Push o) ∙ go (grind (arith, nat_tests))
+  pub push_lacks : (s : Source) → i ≡ Push s → room ≤ length stack → deed i room scope stack ≡ Err stuck
+  push_lacks s is h = at (deed_step (layer.Push s)) (ap deed is ∙ deed-Push s) ∙ go (grind (arith, nat_tests))
     where
-      go : nat_lt (length stack) room ≡ false → put room stack (operand_word scope o) ≡ Err stuck
+      go : nat_lt (length stack) room ≡ false → put room stack (source_word scope s) ≡ Err stuck
       go e = rw e refl
 
   pub unary_does : (op : UnOp) (site : ℕ) (a : ℤ) (rest : List ℤ) → i ≡ Unary op site → stack ≡ a ∷ rest → deed i room scope stack ≡ pushed rest (made_word site (unary_word op a))
@@ -100,6 +102,34 @@ run_more code at e room scope stack h = rw (add-one, drop-cons code at e) refl
 pub same_scope : (env : Env) (d e : Drawer) → d.seed ≡ e.seed → scope_of env d ≡ scope_of env e
 same_scope env d e p = rw p refl
 
+-- the word of what is read of one operand, or of two in turn
+pub one_read : (scope : Scope) (s : Source) (o : Operand) (w : Outcome) → s ≡ One o
+    → w ≡ operand_word scope o → w ≡ source_word scope s
+one_read scope s o w is e = e ∙ ap (source_word scope) (sym is)
+
+pub two_read : (env : Env) (d e : Drawer) (s : Source) (op : BinOp) (t : Ty) (site : ℕ)
+    (o p : Operand) (a b w : Outcome) (x : ℤ) → s ≡ Two op t site o p
+    → e.seed ≡ d.seed → a ≡ operand_word (scope_of env d) o → a ≡ Ok x
+    → b ≡ operand_word (scope_of env e) p
+    → w ≡ with_word b (λ y. made_word site (binary_word op t x y))
+    → w ≡ source_word (scope_of env d) s
+two_read env d e s op t site o p a b w x is same first word second made =
+    let f : ℤ → Outcome → Outcome =
+    λ v r. with_word r (λ y. made_word site (binary_word op t v y)) in
+    made ∙ ap (f x) (second ∙ ap (λ (c : Scope). operand_word c p) (same_scope env e d same))
+    ∙ ap (λ (r : Outcome). with_word r (λ v. f v (operand_word (scope_of env d) p)))
+    (sym word ∙ first) ∙ ap (source_word (scope_of env d)) (sym is)
+
+pub two_fails : (scope : Scope) (s : Source) (op : BinOp) (t : Ty) (site : ℕ) (o p : Operand)
+    (a w : Outcome) (stop : Stop) → s ≡ Two op t site o p
+    → a ≡ operand_word scope o → a ≡ Err stop → w ≡ Err stop → w ≡ source_word scope s
+two_fails scope s op t site o p a w stop is first fault made =
+    made ∙ ap (λ (r : Outcome). with_word r (λ x. with_word (operand_word scope p)
+    (λ y. made_word site (binary_word op t x y)))) (sym fault ∙ first)
+    ∙ ap (source_word scope) (sym is)
+
+pub ruleset read_rules = (one_read, two_read, two_fails)
+
 -- a loop's step, its end at a fault, and its end
 module _ (code : List Instr) (at : ℕ) (room : ℕ) (scope : Scope) (stack : List ℤ) (all : Left) where
   pub goes_on : (e : Instr) (more : List ℤ) → at < length code → deed (get_or code at e) room scope stack ≡ Ok more
@@ -115,23 +145,23 @@ module _ (code : List Instr) (at : ℕ) (room : ℕ) (scope : Scope) (stack : Li
 
 -- ---- what is done to a stack of a top above the first words
 
-pub start_push : (i : Instr) (room : ℕ) (scope : Scope) (o : Operand) (w : Outcome) → i ≡ Push o → 0 < room → w ≡ operand_word scope o → deed i room scope [] ≡ pushed [] w
-start_push i room scope o w is h e = push_does i room scope [] o is h ∙ ap (pushed []) (sym e)
+pub start_push : (i : Instr) (room : ℕ) (scope : Scope) (s : Source) (w : Outcome) → i ≡ Push s → 0 < room → w ≡ source_word scope s → deed i room scope [] ≡ pushed [] w
+start_push i room scope s w is h e = push_does i room scope [] s is h ∙ ap (pushed []) (sym e)
 
 pub ruleset start_rules = (start_push, push_lacks, unary_lacks, binary_lacks_two, with_lacks, choice_lacks)
 
 module _ (i : Instr) (scope : Scope) (words : List ℤ) (first : ℤ) (below : ℕ) where
-  pub push_did : (o : Operand) (word : ℤ) (w : Outcome) → i ≡ Push o → below + 1 < length words → word ≡ first → w ≡ operand_word scope o
+  pub push_did : (s : Source) (word : ℤ) (w : Outcome) → i ≡ Push s → below + 1 < length words → word ≡ first → w ≡ source_word scope s
       → deed i (length words) scope (first ∷ stack_of words below) ≡ pushed (stack_of (set words below word) (below + 1)) w
-  push_did o word w is h s e =
+  push_did s word w is h same e =
       let low : below ≤ length words = omega arith in
-      push_does i (length words) scope (first ∷ stack_of words below) o is (omega (arith, high words below low))
-      ∙ ap (pushed (first ∷ stack_of words below)) (sym e) ∙ ap (λ (x : List ℤ). pushed x w) (sym (written words below first (omega arith)) ∙ ap (λ (x : ℤ). stack_of (set words below x) (below + 1)) (sym s))
+      push_does i (length words) scope (first ∷ stack_of words below) s is (omega (arith, high words below low))
+      ∙ ap (pushed (first ∷ stack_of words below)) (sym e) ∙ ap (λ (x : List ℤ). pushed x w) (sym (written words below first (omega arith)) ∙ ap (λ (x : ℤ). stack_of (set words below x) (below + 1)) (sym same))
 
-  pub push_full : (o : Operand) → i ≡ Push o → below < length words → length words - below < 2 → deed i (length words) scope (first ∷ stack_of words below) ≡ Err stuck
-  push_full o is low h =
+  pub push_full : (s : Source) → i ≡ Push s → below < length words → length words - below < 2 → deed i (length words) scope (first ∷ stack_of words below) ≡ Err stuck
+  push_full s is low h =
       let under : below ≤ length words = omega arith in
-      push_lacks i (length words) scope (first ∷ stack_of words below) o is (omega (arith, high words below under))
+      push_lacks i (length words) scope (first ∷ stack_of words below) s is (omega (arith, high words below under))
 
   pub unary_did : (op : UnOp) (site : ℕ) (w : Outcome) → i ≡ Unary op site → w ≡ made_word site (unary_word op first)
       → deed i (length words) scope (first ∷ stack_of words below) ≡ pushed (stack_of words below) w

@@ -6,6 +6,7 @@ use Rattle.brace_code.specs.declared.code.Code.{Code}
 use Rattle.brace_code.specs.declared.code.Instr.{Instr}
 use Rattle.brace_code.specs.declared.code.Instr.TheVariants.{Push}
 use Rattle.brace_code.specs.declared.code.Operand.{Operand}
+use Rattle.brace_code.specs.declared.code.Source.TheVariants.{One}
 use Rattle.brace_code.specs.declared.lane.Lane.{Lane}
 use Rattle.brace_code.specs.declared.lane.Row.{Row}
 use Rattle.brace_code.specs.declared.lane.Frame.{Frame}
@@ -70,13 +71,13 @@ pub ruleset operand_rules = (word_words, plain_words)
 
 -- code that is an operand gives its words
 pub operand_gives : (code : Code) (frame : Frame) (lanes : List Lane) (o : Operand)
-    (words : List ℤ) → code.instrs ≡ Push o ∷ [] → 0 < code.depth
+    (words : List ℤ) → code.instrs ≡ Push (One o) ∷ [] → 0 < code.depth
     → Words frame (λ scope. operand_word scope o) lanes words → Gives code frame lanes words
 operand_gives code frame lanes o words is some p = code_gives code frame lanes words (record {
   long = p.long;
   each = λ scope shows k d l.
       let at = scope (slice_index_or lanes k d) in
       ap (λ (c : List Instr). outcome c code.depth at) is
-      ∙ ap top (run-one (Push o) code.depth at [] ∙ push_does (Push o) code.depth at [] o refl some)
+      ∙ ap top (run-one (Push (One o)) code.depth at [] ∙ push_does (Push (One o)) code.depth at [] (One o) refl some)
       ∙ ap (λ (w : Outcome). top (pushed [] w)) (p.each scope shows k d l);
 })

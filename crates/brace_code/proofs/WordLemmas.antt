@@ -1,14 +1,14 @@
 -- Words of values, operation by operation.
-use Rattle.std.proofs.Common.{◌≡◌, ◌∙◌, refl, sym, ap, ℕ, zero, suc, ◌*◌, ◌/◌, ◌<◌, ℤ, pos, negsuc, neg_ℤ, ◌+ℤ◌, ◌*ℤ◌, int_div, unsigned_abs, Bool, true, false, Option, Some, Result, Ok, Err, arith}
+use Rattle.std.proofs.Common.{◌≡◌, ◌∙◌, refl, sym, ap, subst, ℕ, zero, suc, ◌*◌, ◌/◌, ◌<◌, ℤ, pos, negsuc, neg_ℤ, ◌+ℤ◌, ◌-ℤ◌, ◌*ℤ◌, int_div, unsigned_abs, Bool, true, false, Option, Some, Result, Ok, Err, arith}
 use Rattle.std.proofs.Math.Nat.{zero-div, zero-mul, mul-pos, mul-div-mul_right}
-use Rattle.std.proofs.Math.IntN.{negsuc-*ℤ-pos, +ℤ_idr}
-use Rattle.std.proofs.lemmas.Int.{quot-rem, unsigned_abs-mul}
+use Rattle.std.proofs.Math.IntN.{negsuc-*ℤ-pos, +ℤ_idr, +ℤ_comm, -ℤ-+ℤ_cancel, +ℤ-neg_ℤ_cancel}
+use Rattle.std.proofs.lemmas.Int.{quot-rem, unsigned_abs-mul, int_wrap_fits, int_wrap-add_right, wrapping_sub_is, SFits-int_wrap}
 use Rattle.std.proofs.lemmas.Bool.Decides.{nat_tests}
 use Rattle.std.specs.Prelude.{FitsSigned, unwrap_or, int_rem, ◌==◌, if◌then◌else◌}
-use Rattle.std.specs.Int.{w32, w64}
+use Rattle.std.specs.Int.{w32, w64, int_wrap, int_wrapping_sub}
 use Rattle.brace_num.specs.declared.kinds.Kind.{Kind}
 use Rattle.brace_num.specs.declared.kinds.Kind.TheVariants.{DivZero}
-use Rattle.brace_num.specs.Exact.{fits, fitting, is_zero, exact_int_div, exact_int_rem, exact_fixed_div, exact_trunc}
+use Rattle.brace_num.specs.Exact.{fits, fitting, is_zero, exact_int_div, exact_int_rem, exact_fixed_div, exact_sub, exact_trunc}
 use Rattle.brace_model.specs.declared.program.Ty.{Ty}
 use Rattle.brace_model.specs.declared.program.Ty.TheVariants as ty
 use Rattle.brace_model.specs.declared.program.Value.{Value}
@@ -28,6 +28,20 @@ fits_so z f = grind (arith, f)
 
 pub short_fits : (z : ℤ) → FitsSigned w32 z → fits z ≡ true
 short_fits z f = grind (arith, f)
+
+-- a difference that gives the first word back with the second
+pub rest_fits : (a b rest : ℤ) → FitsSigned w64 a → FitsSigned w64 b
+    → rest ≡ int_wrapping_sub w64 a b → FitsSigned w64 (b +ℤ rest) → exact_sub a b ≡ Ok rest
+rest_fits a b rest f g is whole =
+    let left : rest ≡ int_wrap w64 (a -ℤ b) = is ∙ wrapping_sub_is w64 a b f g in
+    let back : b +ℤ (a -ℤ b) ≡ a = +ℤ_comm b (a -ℤ b) ∙ -ℤ-+ℤ_cancel a b in
+    let all : b +ℤ rest ≡ a = sym (int_wrap_fits w64 (b +ℤ rest) whole)
+    ∙ ap (λ (x : ℤ). int_wrap w64 (b +ℤ x)) left ∙ int_wrap-add_right w64 b (a -ℤ b)
+    ∙ ap (int_wrap w64) back ∙ int_wrap_fits w64 a f in
+    let same : a -ℤ b ≡ rest = ap (λ (x : ℤ). x -ℤ b) (sym all ∙ +ℤ_comm b rest)
+    ∙ +ℤ-neg_ℤ_cancel rest b in
+    let inside = subst (FitsSigned w64) (sym left) (SFits-int_wrap w64 (a -ℤ b)) in
+    ap fitting same ∙ rw (fits_so rest inside) refl
 
 -- ---- quotients by whole numbers
 

@@ -8,6 +8,8 @@ use Rattle.brace_code.specs.declared.lane.Frame.{Frame}
 use Rattle.brace_code.specs.declared.code.Operand.{Operand}
 use Rattle.brace_code.specs.declared.view.View.{View}
 use Rattle.brace_code.specs.declared.view.View.TheVariants.{Same, Each, At}
+use Rattle.brace_code.specs.declared.kernels.First.{First}
+use Rattle.brace_code.specs.declared.kernels.First.TheVariants as first
 use Rattle.brace_code.specs.declared.splitting.SideWords.{SideWords}
 use Rattle.brace_code.specs.declared.splitting.SideWords.TheVariants as sides
 use Rattle.brace_code.specs.Lanes.{Shows, number_in}
@@ -51,6 +53,16 @@ Sees (Each words) k = k < length words.now
 Sees (At column rows) k =
     (k < length rows.now) × (slice_index_or rows.now k 0 < length column.now)
 
+-- the words that an operation has before those that it reads
+abbrev pub firsts : First → List ℤ
+firsts (first.Own words) = words
+firsts (first.At column rows) = map (λ row. slice_index_or column.now row (pos 0)) rows.now
+
+-- an operation has a first word for the lane of a number
+abbrev pub HasFirst : First → ℕ → Type 0
+HasFirst (first.Own words) k = ⊤
+HasFirst (first.At column rows) k = slice_index_or rows.now k 0 < length column.now
+
 -- an operation on the words of a column and on others, pairwise
 pub record Pairs (op : ℤ → ℤ → Result ℤ Kind) (a : List ℤ) (b : ℕ → ℤ) (c : List ℤ)
     : Type 0 where
@@ -88,10 +100,10 @@ pub record ArePicked (lanes : List Lane) (numbers : List ℕ) (part : List Lane)
   pub each : (i : ℕ) (d : Lane) → i < length numbers → (slice_index_or numbers i 0 < length lanes)
       × (slice_index_or part i d ≡ slice_index_or lanes (slice_index_or numbers i 0) d)
 
--- the word that all lanes of a side have; 0 where each has its own
-abbrev pub same_word : SideWords → ℤ
-same_word (sides.Same word) = word
-same_word (sides.Each numbers words) = pos 0
+-- a word is the one that all lanes of a side have, if they have one
+abbrev pub IsSame : SideWords → ℤ → Type 0
+IsSame (sides.Same word) w = w ≡ word
+IsSame (sides.Each numbers words) w = ⊤
 
 -- a side of a test has a word for the lane of a number
 abbrev pub HasWord : SideWords → ℕ → ℤ → Type 0

@@ -1,12 +1,13 @@
 ghost use Rattle.std.specs.Prelude.{◌≡◌, ◌∷◌, [], IfSome};
 ghost use Rattle.brace_code.specs.declared.code.Instr.TheVariants as instr;
+ghost use Rattle.brace_code.specs.declared.code.Source.TheVariants as source;
 ghost use Rattle.brace_code.specs.Codes.{depth_of, type_given};
 
 use brace_model::{BinOp, Ty, UnOp, Who};
 use brace_num::List;
 
 /// A word that an instruction reads.
-#[derive(Debug, Clone, Copy, Drop)]
+#[derive(Clone, Copy, Drop)]
 pub enum Operand {
     Word(i64),
     /// The state of an agent, by its place in the class's states.
@@ -19,12 +20,20 @@ pub enum Operand {
     Rand(u32),
 }
 
+/// What a word that is put on a stack is read of.
+#[derive(Clone, Copy, Drop)]
+pub enum Source {
+    One(Operand),
+    /// What an operation gives of two operands of a type, whose faults stand at a site.
+    Two(BinOp, Ty, u32, Operand, Operand),
+}
+
 /// An instruction over a stack of words, each a value whose type is known: a fixed number counts
 /// millionths, and a flag is 0 or 1.
-#[derive(Debug, Drop)]
+#[derive(Drop)]
 pub enum Instr {
-    /// Puts an operand on the stack.
-    Push(Operand),
+    /// Puts a word on the stack.
+    Push(Source),
     /// Replaces the top by what an operation gives, whose faults stand at a site.
     Unary(UnOp, u32),
     /// Replaces the two words on top, of one type, by what an operation gives.
@@ -37,7 +46,7 @@ pub enum Instr {
 }
 
 /// The postfix code of an expression.
-#[derive(Debug, Drop)]
+#[derive(Drop)]
 pub struct Code {
     pub(crate) instrs: List<Instr>,
     pub(crate) ty: Ty,
@@ -63,11 +72,11 @@ impl Code {
 /// The operand that code is, if it is nothing else.
 #[tactic(auto, using(crate::proofs::CodeLemmas::operand_alone))]
 pub fn operand_in(code: &List<Instr>) -> Option<Operand>
-    ensures { IfSome result (λ operand. code.now ≡ instr.Push operand ∷ []) }
+    ensures { IfSome result (λ operand. code.now ≡ instr.Push (source.One operand) ∷ []) }
 {
     let (first, rest) = code.as_slice().split_first()?;
     match first {
-        Instr::Push(operand) if rest.is_empty() => Some(*operand),
+        Instr::Push(Source::One(operand)) if rest.is_empty() => Some(*operand),
         _ => None,
     }
 }

@@ -4,10 +4,11 @@ ghost use Rattle.brace_model.specs.declared.program.Expr.TheVariants as expr;
 ghost use Rattle.brace_model.specs.Typing.{type_of, type_of_value};
 ghost use Rattle.brace_code.specs.declared.code.Instr.TheVariants as instr;
 ghost use Rattle.brace_code.specs.declared.code.Operand.TheVariants as operand;
+ghost use Rattle.brace_code.specs.declared.code.Source.TheVariants as source;
 ghost use Rattle.brace_code.specs.Codes.{Computes, names_of};
-ghost use Rattle.brace_code.specs.inner.Appended.{Appends, IsLeaf};
+ghost use Rattle.brace_code.specs.inner.Appended.{Appends, IsLeaf, IsTwo};
 
-use crate::code::{Code, Instr, Operand};
+use crate::code::{Code, Instr, Operand, Source};
 use crate::names::Known;
 use crate::operations::{operation_type, unary_type};
 use brace_model::{BinOp, Expr, Ty, Value, number};
@@ -15,24 +16,31 @@ use brace_num::{List, NoMemory};
 use std::alloc::Global;
 
 /// Of an expression's code: the type of its value, and how many words it puts on a stack at most.
-#[derive(Debug, Clone, Copy, Drop)]
+#[derive(Clone, Copy, Drop)]
 pub struct Part {
     pub ty: Ty,
     pub depth: usize,
 }
 
 /// An expression's code alone.
-#[derive(Debug, Drop)]
+#[derive(Drop)]
 pub struct Branch {
     pub part: Part,
     pub code: List<Instr>,
 }
 
 /// An expression that is an operand.
-#[derive(Debug, Clone, Copy, Drop)]
+#[derive(Clone, Copy, Drop)]
 pub struct Leaf {
     pub ty: Ty,
     pub operand: Operand,
+}
+
+/// An expression that is an operation on two operands.
+#[derive(Clone, Copy, Drop)]
+pub struct Two {
+    pub ty: Ty,
+    pub source: Source,
 }
 
 fn type_of_value(value: Value) -> Ty
@@ -64,18 +72,19 @@ fn one_more(depth: usize) -> Result<usize, NoMemory>
 /// Appends an instruction that reads an operand.
 fn push(code: &mut List<Instr>, ty: Ty, operand: Operand) -> Result<Part, NoMemory>
     ensures part { IfOk result (λ part. part ≡ record { ty = ty; depth = 1 }) }
-    ensures code { IfOk result (λ _. code.new ≡ code.old ++ instr.Push operand ∷ []) }
+    ensures code { IfOk result (λ _. code.new
+        ≡ code.old ++ instr.Push (source.One operand) ∷ []) }
 {
-    code.push(Instr::Push(operand))?;
+    code.push(Instr::Push(Source::One(operand)))?;
     Ok(Part { ty, depth: 1 })
 }
 
 /// The code of a word.
 fn word(alloc: Global, word: i64) -> Result<List<Instr>, NoMemory>
-    ensures { IfOk result (λ code. code ≡ instr.Push (operand.Word word) ∷ []) }
+    ensures { IfOk result (λ code. code ≡ instr.Push (source.One (operand.Word word)) ∷ []) }
 {
     let mut code = List::new(alloc);
-    code.push(Instr::Push(Operand::Word(word)))?;
+    code.push(Instr::Push(Source::One(Operand::Word(word))))?;
     Ok(code)
 }
 
@@ -109,6 +118,25 @@ fn leaf_of(known: &Known, e: &Expr) -> Option<Leaf>
     }
 }
 
+/// An operation on two operands, if it is one that looks at both.
+#[tactic(auto, using(crate::proofs::CompileLemmas::two_rules))]
+fn two_of(known: &Known, op: BinOp, site: Option<u32>, a: &Expr, b: &Expr) -> Option<Two>
+    ensures { IfSome result
+        (IsTwo (names_of known.now) (expr.Binary op site a.now b.now)) }
+{
+    match op {
+        BinOp::And | BinOp::Or => None,
+        _ => {
+            let a = leaf_of(known, a)?;
+            let b = leaf_of(known, b)?;
+            Some(Two {
+                ty: operation_type(op, a.ty),
+                source: Source::Two(op, a.ty, site_number(site), a.operand, b.operand),
+            })
+        }
+    }
+}
+
 /// Appends an expression's code.
 #[tactic(auto, using(crate::proofs::CompileLemmas::compile_rules))]
 #[cycle(compiling)]
@@ -137,6 +165,13 @@ fn append(alloc: Global, known: &Known, e: &Expr, code: &mut List<Instr>) -> Res
             })
         }
         Expr::Binary(op, site, a, b) => {
+            if let Some(two) = two_of(known, *op, *site, a.get(), b.get()) {
+                code.push(Instr::Push(two.source))?;
+                return Ok(Part {
+                    ty: two.ty,
+                    depth: 1,
+                });
+            }
             let a = append(alloc, known, a.get(), code)?;
             match op {
                 BinOp::And => {

@@ -8,14 +8,22 @@ ghost use Rattle.brace_model.specs.Typing.{same_type};
 ghost use Rattle.brace_model.specs.Value.{total_read};
 ghost use Rattle.brace_code.specs.inner.Words.{word_of, flag, unary_word, binary_word, product_word, quotient_word};
 ghost use Rattle.brace_code.specs.Lanes.{words_of};
-ghost use Rattle.brace_code.specs.Columns.{seen, Sees, Maps, Pairs};
+ghost use Rattle.brace_code.specs.Columns.{firsts, seen, HasFirst, Sees, Maps, Pairs};
 
 use crate::lane::Redo;
 use crate::operations::{fixed_product, fixed_quotient, flag, short_quotient};
 use crate::view::{View, are_within};
 use brace_model::{BinOp, Ty, UnOp};
-use brace_num::{Kind, List, int_rem, sqrt, to_fixed, trunc};
+use brace_num::{Kind, List, int_rem, sqrt, trunc};
 use std::alloc::Global;
+
+/// The words that an operation has in lanes before those that it reads: a column, which what it
+/// gives replaces, or the words of another at some rows.
+#[derive(Drop)]
+pub enum First<'a> {
+    Own(List<i64>),
+    At(&'a [i64], &'a [u32]),
+}
 
 /// Replaces each word of a column by what an operation gives of it; `Redo` where one failed.
 fn each<F: Fn(i64) -> (i64, bool)>(a: &mut [i64], op: F) -> Result<(), Redo>
@@ -75,39 +83,6 @@ fn same_pairs<F: Fn(i64, i64) -> (i64, bool)>(a: &mut [i64], b: i64, op: F) -> R
     Ok(())
 }
 
-/// Replaces each word of a column by what an operation gives of it and of another column's word at
-/// its row; `Redo` where one failed or there is no such row.
-fn row_pairs<F: Fn(i64, i64) -> (i64, bool)>(
-    a: &mut [i64],
-    column: &[i64],
-    rows: &[u32],
-    op: F,
-) -> Result<(), Redo>
-    requires callable { F.IsAlwaysCallable op }
-    requires long { length rows.now ≡ length a.old }
-    ensures sees { OnOk result ((k : ℕ) → k < length a.old
-        → slice_index_or rows.now k 0 < length column.now) }
-    ensures each { OnOk result ((k : ℕ) → k < length a.old
-        → F.post op (slice_index_or a.old k (pos 0))
-        (slice_index_or column.now (slice_index_or rows.now k 0) (pos 0))
-        (slice_index_or a.new k (pos 0), false)) }
-{
-    if !are_within(rows, column.len()) {
-        return Err(Redo);
-    }
-    let mut failed = false;
-    for (k, x) in a.iter_mut().enumerate() {
-        let other = column[rows[k] as usize];
-        let (word, fails) = op(*x, other);
-        *x = word;
-        failed |= fails;
-    }
-    if failed {
-        return Err(Redo);
-    }
-    Ok(())
-}
-
 /// A column of what an operation gives of each word of a column.
 fn mapped<F: Fn(i64) -> (i64, bool)>(a: List<i64>, op: F) -> Result<List<i64>, Redo>
     requires { F.IsAlwaysCallable op }
@@ -122,7 +97,12 @@ fn mapped<F: Fn(i64) -> (i64, bool)>(a: List<i64>, op: F) -> Result<List<i64>, R
 
 /// Replaces each word of a column by what an operation gives of it and of what lanes read; `Redo`
 /// where one failed or has nothing to read.
-fn view_pairs<F: Fn(i64, i64) -> (i64, bool)>(a: &mut [i64], b: &View, op: F) -> Result<(), Redo>
+fn view_pairs<F: Fn(i64, i64) -> (i64, bool)>(
+    alloc: Global,
+    a: &mut [i64],
+    b: &View,
+    op: F,
+) -> Result<(), Redo>
     requires { F.IsAlwaysCallable op }
     ensures sees { OnOk result ((k : ℕ) → k < length a.old → Sees b.now k) }
     ensures each { OnOk result ((k : ℕ) → k < length a.old
@@ -137,17 +117,58 @@ fn view_pairs<F: Fn(i64, i64) -> (i64, bool)>(a: &mut [i64], b: &View, op: F) ->
             }
             pairs(a, words, op)
         }
-        View::At(column, rows) => {
-            if rows.len() != a.len() {
-                return Err(Redo);
-            }
-            row_pairs(a, column, rows, op)
+        View::At(_, _) => {
+            let words = column_of(alloc, *b, a.len())?;
+            pairs(a, words.as_slice(), op)
         }
     }
 }
 
+/// A column of what an operation gives of the words of two columns at some rows; `Redo` where one
+/// failed or there is no such row.
+fn row_words<F: Fn(i64, i64) -> (i64, bool)>(
+    alloc: Global,
+    column: &[i64],
+    rows: &[u32],
+    other: &[i64],
+    others: &[u32],
+    op: F,
+) -> Result<List<i64>, Redo>
+    requires callable { F.IsAlwaysCallable op }
+    requires long { length others.now ≡ length rows.now }
+    ensures long { IfOk result (λ c. length c ≡ length rows.now) }
+    ensures within { IfOk result (λ _. (k : ℕ) → k < length rows.now
+        → slice_index_or rows.now k 0 < length column.now) }
+    ensures sees { IfOk result (λ _. (k : ℕ) → k < length rows.now
+        → slice_index_or others.now k 0 < length other.now) }
+    ensures each { IfOk result (λ c. (k : ℕ) → k < length rows.now
+        → F.post op (slice_index_or column.now (slice_index_or rows.now k 0) (pos 0))
+        (slice_index_or other.now (slice_index_or others.now k 0) (pos 0))
+        (slice_index_or c k (pos 0), false)) }
+{
+    if !are_within(rows, column.len()) || !are_within(others, other.len()) {
+        return Err(Redo);
+    }
+    let mut words = Vec::with_capacity(alloc, rows.len())?;
+    let mut failed = false;
+    for k in 0..rows.len() {
+        let (word, fails) = op(column[rows[k] as usize], other[others[k] as usize]);
+        words.push_reserved(word);
+        failed |= fails;
+    }
+    if failed {
+        return Err(Redo);
+    }
+    Ok(List::from_vec(words))
+}
+
 /// A column of what an operation gives of the words of a column and of what lanes read.
-fn joined<F: Fn(i64, i64) -> (i64, bool)>(a: List<i64>, b: &View, op: F) -> Result<List<i64>, Redo>
+fn own_joined<F: Fn(i64, i64) -> (i64, bool)>(
+    alloc: Global,
+    a: List<i64>,
+    b: &View,
+    op: F,
+) -> Result<List<i64>, Redo>
     requires { F.IsAlwaysCallable op }
     ensures long { IfOk result (λ c. length c ≡ length a) }
     ensures sees { IfOk result (λ _. (k : ℕ) → k < length a → Sees b.now k) }
@@ -156,8 +177,39 @@ fn joined<F: Fn(i64, i64) -> (i64, bool)>(a: List<i64>, b: &View, op: F) -> Resu
         (slice_index_or c k (pos 0), false)) }
 {
     let mut a = a.into_vec();
-    view_pairs(&mut a, b, op)?;
+    view_pairs(alloc, &mut a, b, op)?;
     Ok(List::from_vec(a))
+}
+
+/// A column of what an operation gives of an operation's first words and of what lanes read.
+fn joined<F: Fn(i64, i64) -> (i64, bool)>(
+    alloc: Global,
+    a: First,
+    b: &View,
+    op: F,
+) -> Result<List<i64>, Redo>
+    requires { F.IsAlwaysCallable op }
+    ensures long { IfOk result (λ c. length c ≡ length (firsts a.entry)) }
+    ensures firsts { IfOk result (λ _. (k : ℕ) → k < length (firsts a.entry)
+        → HasFirst a.entry k) }
+    ensures sees { IfOk result (λ _. (k : ℕ) → k < length (firsts a.entry) → Sees b.now k) }
+    ensures each { IfOk result (λ c. (k : ℕ) → k < length (firsts a.entry)
+        → F.post op (slice_index_or (firsts a.entry) k (pos 0)) (seen b.now k)
+        (slice_index_or c k (pos 0), false)) }
+{
+    match (a, *b) {
+        (First::Own(words), _) => own_joined(alloc, words, b, op),
+        (First::At(column, rows), View::At(other, others)) => {
+            if others.len() != rows.len() {
+                return Err(Redo);
+            }
+            row_words(alloc, column, rows, other, others, op)
+        }
+        (First::At(column, rows), _) => {
+            let words = gather(alloc, column, rows)?;
+            own_joined(alloc, words, b, op)
+        }
+    }
 }
 
 /// A word, and whether there is none.
@@ -194,10 +246,16 @@ fn root(a: i64) -> (i64, bool)
     flagged(sqrt(a))
 }
 
+// In vectors a comparison is cheap, and a product that tells whether it fits is not.
+#[tactic(auto, using(crate::proofs::WordLemmas::fits_so))]
 fn scaled(a: i64) -> (i64, bool)
     ensures { IsFalse result.1 → exact_to_fixed a ≡ Ok result.0 }
 {
-    flagged(to_fixed(a))
+    if -9_223_372_036_854 <= a && a <= 9_223_372_036_854 {
+        (a * 1_000_000, false)
+    } else {
+        (0, true)
+    }
 }
 
 fn whole(a: i64) -> (i64, bool)
@@ -252,10 +310,15 @@ fn sum(a: i64, b: i64) -> (i64, bool)
     a.overflowing_add(b)
 }
 
+// What is asked of the sum that gives the first word back, `a < b` and `rest < 0`, the subtraction
+// itself answers.
+#[tactic(auto, using(crate::proofs::WordLemmas::rest_fits))]
 fn difference(a: i64, b: i64) -> (i64, bool)
     ensures { IsFalse result.1 → exact_sub a b ≡ Ok result.0 }
 {
-    a.overflowing_sub(b)
+    let rest = a.wrapping_sub(b);
+    let (_, fails) = b.overflowing_add(rest);
+    (rest, fails)
 }
 
 fn int_product(a: i64, b: i64) -> (i64, bool)
@@ -342,47 +405,52 @@ fn second(_a: i64, b: i64) -> (i64, bool)
     (b, false)
 }
 
-fn products(ty: Ty, a: List<i64>, b: &View) -> Result<List<i64>, Redo>
-    ensures sees { IfOk result (λ _. (k : ℕ) → k < length a → Sees b.now k) }
-    ensures each { IfOk result (λ c. Pairs (product_word ty) a (seen b.now) c) }
+fn products(alloc: Global, ty: Ty, a: First, b: &View) -> Result<List<i64>, Redo>
+    ensures firsts { IfOk result (λ _. (k : ℕ) → k < length (firsts a.entry)
+        → HasFirst a.entry k) }
+    ensures sees { IfOk result (λ _. (k : ℕ) → k < length (firsts a.entry) → Sees b.now k) }
+    ensures each { IfOk result (λ c. Pairs (product_word ty) (firsts a.entry) (seen b.now) c) }
 {
     match ty {
-        Ty::Int => joined(a, b, int_product),
-        _ => joined(a, b, product),
+        Ty::Int => joined(alloc, a, b, int_product),
+        _ => joined(alloc, a, b, product),
     }
 }
 
-fn quotients(ty: Ty, a: List<i64>, b: &View) -> Result<List<i64>, Redo>
-    ensures sees { IfOk result (λ _. (k : ℕ) → k < length a → Sees b.now k) }
-    ensures each { IfOk result (λ c. Pairs (quotient_word ty) a (seen b.now) c) }
+fn quotients(alloc: Global, ty: Ty, a: First, b: &View) -> Result<List<i64>, Redo>
+    ensures firsts { IfOk result (λ _. (k : ℕ) → k < length (firsts a.entry)
+        → HasFirst a.entry k) }
+    ensures sees { IfOk result (λ _. (k : ℕ) → k < length (firsts a.entry) → Sees b.now k) }
+    ensures each { IfOk result (λ c. Pairs (quotient_word ty) (firsts a.entry) (seen b.now) c) }
 {
     match ty {
-        Ty::Int => joined(a, b, int_quotient),
-        _ => joined(a, b, quotient),
+        Ty::Int => joined(alloc, a, b, int_quotient),
+        _ => joined(alloc, a, b, quotient),
     }
 }
 
-/// A column of what an operation gives of the words of a column and of what lanes read, all of a
-/// type.
-pub fn binary_each(op: BinOp, ty: Ty, a: List<i64>, b: &View) -> Result<List<i64>, Redo>
-    ensures sees { IfOk result (λ _. (k : ℕ) → k < length a → Sees b.now k) }
-    ensures each { IfOk result (λ c. Pairs (binary_word op ty) a (seen b.now) c) }
+/// A column of what an operation gives of its first words and of what lanes read, all of a type.
+pub fn binary_each(alloc: Global, op: BinOp, ty: Ty, a: First, b: &View) -> Result<List<i64>, Redo>
+    ensures firsts { IfOk result (λ _. (k : ℕ) → k < length (firsts a.entry)
+        → HasFirst a.entry k) }
+    ensures sees { IfOk result (λ _. (k : ℕ) → k < length (firsts a.entry) → Sees b.now k) }
+    ensures each { IfOk result (λ c. Pairs (binary_word op ty) (firsts a.entry) (seen b.now) c) }
 {
     match op {
-        BinOp::Add => joined(a, b, sum),
-        BinOp::Sub => joined(a, b, difference),
-        BinOp::Mul => products(ty, a, b),
-        BinOp::Div => quotients(ty, a, b),
-        BinOp::Rem => joined(a, b, remainder),
-        BinOp::Lt => joined(a, b, less),
-        BinOp::Le => joined(a, b, at_most),
-        BinOp::Gt => joined(a, b, greater),
-        BinOp::Ge => joined(a, b, at_least),
-        BinOp::Eq => joined(a, b, equal),
-        BinOp::Ne => joined(a, b, unequal),
-        BinOp::Min => joined(a, b, lesser),
-        BinOp::Max => joined(a, b, greatest),
-        BinOp::And | BinOp::Or => joined(a, b, second),
+        BinOp::Add => joined(alloc, a, b, sum),
+        BinOp::Sub => joined(alloc, a, b, difference),
+        BinOp::Mul => products(alloc, ty, a, b),
+        BinOp::Div => quotients(alloc, ty, a, b),
+        BinOp::Rem => joined(alloc, a, b, remainder),
+        BinOp::Lt => joined(alloc, a, b, less),
+        BinOp::Le => joined(alloc, a, b, at_most),
+        BinOp::Gt => joined(alloc, a, b, greater),
+        BinOp::Ge => joined(alloc, a, b, at_least),
+        BinOp::Eq => joined(alloc, a, b, equal),
+        BinOp::Ne => joined(alloc, a, b, unequal),
+        BinOp::Min => joined(alloc, a, b, lesser),
+        BinOp::Max => joined(alloc, a, b, greatest),
+        BinOp::And | BinOp::Or => joined(alloc, a, b, second),
     }
 }
 
@@ -414,8 +482,15 @@ fn gather(alloc: Global, column: &[i64], rows: &[u32]) -> Result<List<i64>, Redo
         return Err(Redo);
     }
     let mut words = Vec::with_capacity(alloc, rows.len())?;
-    for row in rows {
-        words.push_reserved(column[*row as usize]);
+    let fours = rows.len() / 4;
+    for four in 0..fours {
+        // Four in turn, since a row takes less time than the look at whether it is the last.
+        for k in 4 * four..4 * four + 4 {
+            words.push_reserved(column[rows[k] as usize]);
+        }
+    }
+    for k in 4 * fours..rows.len() {
+        words.push_reserved(column[rows[k] as usize]);
     }
     Ok(List::from_vec(words))
 }

@@ -30,7 +30,7 @@ impl From<NoMemory> for Redo {
 }
 
 /// The rows at which a lane finds its agents and its constants.
-#[derive(Debug, Clone, Copy, PartialEq, Eq, Drop)]
+#[derive(Clone, Copy, PartialEq, Eq, Drop)]
 pub struct Lane {
     pub this: u32,
     pub outer: u32,
@@ -40,7 +40,7 @@ pub struct Lane {
 }
 
 /// Which row of a lane is meant.
-#[derive(Debug, Clone, Copy, PartialEq, Eq, Drop)]
+#[derive(Clone, Copy, PartialEq, Eq, Drop)]
 pub enum Row {
     This,
     Outer,
@@ -49,14 +49,14 @@ pub enum Row {
 }
 
 /// The draws of a site, one for each agent that asks.
-#[derive(Debug, Clone, Copy)]
+#[derive(Clone, Copy)]
 pub struct Draws<'a> {
     pub site: u32,
     pub words: &'a [i64],
 }
 
 /// The columns of words that lanes read: fixed numbers in millionths, flags as 0 or 1.
-#[derive(Debug, Clone, Copy)]
+#[derive(Clone, Copy)]
 pub struct Frame<'a> {
     /// A column for each state of the agents that ask, read at a lane's row `this`.
     pub this: &'a [&'a [i64]],

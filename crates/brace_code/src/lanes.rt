@@ -10,7 +10,7 @@ use std::alloc::Global;
 use std::marker::Model;
 
 /// The rows of lanes: the number of each, the same of all, or those of a list.
-#[derive(Debug, Drop)]
+#[derive(Drop)]
 pub enum Rows {
     Number,
     Same(u32),
@@ -75,7 +75,7 @@ impl Rows {
 }
 
 /// Lanes by their rows. Contracts see the list of them.
-#[derive(Debug, Drop)]
+#[derive(Drop)]
 pub struct Lanes {
     count: usize,
     this: Rows,

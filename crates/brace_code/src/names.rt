@@ -6,7 +6,7 @@ ghost use Rattle.brace_code.specs.Codes.{names_of};
 use brace_model::{Class, Ty, Who};
 
 /// What an expression may name, with types.
-#[derive(Debug, Clone, Copy)]
+#[derive(Clone, Copy)]
 pub struct Known<'a> {
     pub classes: &'a [Class],
     /// The class of `this`, by number.

@@ -1,14 +1,15 @@
-ghost use Rattle.std.specs.Prelude.{◌≡◌, ◌∷◌, [], IfOk, IfSome, OnOk, length};
+ghost use Rattle.std.specs.Prelude.{◌≡◌, ◌<◌, ◌∷◌, ℕ, [], IfOk, IfSome, OnOk, length};
 ghost use Rattle.brace_code.specs.declared.code.Instr.TheVariants as instr;
 ghost use Rattle.brace_code.specs.declared.code.Operand.TheVariants as operand;
+ghost use Rattle.brace_code.specs.declared.code.Source.TheVariants as source;
 ghost use Rattle.brace_code.specs.Lanes.{Gives};
-ghost use Rattle.brace_code.specs.inner.Words.{binary_word, operand_word};
+ghost use Rattle.brace_code.specs.inner.Words.{binary_word, operand_word, source_word};
 ghost use Rattle.brace_code.specs.inner.Runs.{deed, outcome};
-ghost use Rattle.brace_code.specs.Columns.{IsSide, Joins, Leads, Numbers, Serves, Words};
+ghost use Rattle.brace_code.specs.Columns.{firsts, HasFirst, IsSide, Joins, Leads, Numbers, Serves, Words};
 
-use crate::code::{Code, Instr, Operand, operand_in};
+use crate::code::{Code, Instr, Operand, Source, operand_in};
 use crate::columns::Columns;
-use crate::kernels::{binary_each, column_of, total_each, unary_each};
+use crate::kernels::{First, binary_each, column_of, total_each, unary_each};
 use crate::lane::{Frame, Redo};
 use crate::lanes::Lanes;
 use crate::splitting::{SideWords, merged, numbers};
@@ -51,35 +52,102 @@ fn operand_column(
     }
 }
 
-/// What an operation gives of a word and of an operand in each lane. No column is made of an
-/// operand whose word is its number.
+/// The words of an operand at some rows, where they stand; None where they do not, or are not its
+/// numbers.
+fn first_at<'a>(operand: Operand, frame: &Frame<'a>, lanes: &'a Lanes) -> Option<First<'a>>
+    ensures long { IfSome result (λ first. length (firsts first) ≡ length lanes.now) }
+    ensures words { IfSome result (λ first.
+        ((k : ℕ) → k < length lanes.now → HasFirst first k)
+        → Words frame.now (λ scope. operand_word scope operand) lanes.now (firsts first)) }
+{
+    if let Operand::Total(_, _, _) = operand {
+        return None;
+    }
+    let Ok(view) = read(operand, frame, lanes) else {
+        return None;
+    };
+    let View::At(column, rows) = view else {
+        return None;
+    };
+    if rows.len() != lanes.len() {
+        return None;
+    }
+    Some(First::At(column, rows))
+}
+
+/// The words of an operand in each lane. No column is made of words that stand at some rows.
+fn first_of<'a>(
+    alloc: Global,
+    operand: Operand,
+    frame: &Frame<'a>,
+    lanes: &'a Lanes,
+) -> Result<First<'a>, Redo>
+    ensures long { IfOk result (λ first. length (firsts first) ≡ length lanes.now) }
+    ensures words { IfOk result (λ first.
+        ((k : ℕ) → k < length lanes.now → HasFirst first k)
+        → Words frame.now (λ scope. operand_word scope operand) lanes.now (firsts first)) }
+{
+    if let Some(first) = first_at(operand, frame, lanes) {
+        return Ok(first);
+    }
+    let words = operand_column(alloc, operand, frame, lanes)?;
+    Ok(First::Own(words))
+}
+
+/// What an operation gives of its first words and of an operand in each lane. No column is made of
+/// an operand whose word is its number.
 #[tactic(auto, using(crate::proofs::OperandLemmas::join_word))]
 fn with_operand(
     alloc: Global,
     op: BinOp,
     ty: Ty,
-    a: List<i64>,
+    a: First,
     operand: Operand,
     frame: &Frame,
     lanes: &Lanes,
 ) -> Result<List<i64>, Redo>
-    requires { length a ≡ length lanes.now }
-    ensures { IfOk result (λ words. Joins frame.now (λ scope. operand_word scope operand)
-        (binary_word op ty) lanes.now a words) }
+    requires { length (firsts a) ≡ length lanes.now }
+    ensures firsts { IfOk result (λ _. (k : ℕ) → k < length lanes.now → HasFirst a.entry k) }
+    ensures joins { IfOk result (λ words. Joins frame.now (λ scope. operand_word scope operand)
+        (binary_word op ty) lanes.now (firsts a.entry) words) }
 {
     match operand {
         Operand::Word(word) => {
-            let words = binary_each(op, ty, a, &View::Same(word))?;
+            let words = binary_each(alloc, op, ty, a, &View::Same(word))?;
             Ok(words)
         }
         Operand::Total(_, _, _) => {
             let b = operand_column(alloc, operand, frame, lanes)?;
-            let words = binary_each(op, ty, a, &View::Each(b.as_slice()))?;
+            let words = binary_each(alloc, op, ty, a, &View::Each(b.as_slice()))?;
             Ok(words)
         }
         Operand::Field(_, _) | Operand::Local(_) | Operand::Rand(_) => {
             let view = read(operand, frame, lanes)?;
-            let words = binary_each(op, ty, a, &view)?;
+            let words = binary_each(alloc, op, ty, a, &view)?;
+            Ok(words)
+        }
+    }
+}
+
+/// The word of a source in each lane.
+#[tactic(auto, using(crate::proofs::OperandLemmas::one_words))]
+fn source_column(
+    alloc: Global,
+    source: Source,
+    frame: &Frame,
+    lanes: &Lanes,
+) -> Result<List<i64>, Redo>
+    ensures { IfOk result (λ words.
+        Words frame.now (λ scope. source_word scope source) lanes.now words) }
+{
+    match source {
+        Source::One(operand) => {
+            let words = operand_column(alloc, operand, frame, lanes)?;
+            Ok(words)
+        }
+        Source::Two(op, ty, _, first, second) => {
+            let first = first_of(alloc, first, frame, lanes)?;
+            let words = with_operand(alloc, op, ty, first, second, frame, lanes)?;
             Ok(words)
         }
     }
@@ -100,11 +168,11 @@ fn step(
         (Leads (deed instr.now) room frame.now lanes.now stack.old stack.new) }
 {
     match instr {
-        Instr::Push(operand) => {
+        Instr::Push(source) => {
             if stack.height() >= room {
                 return Err(Redo);
             }
-            let words = operand_column(alloc, *operand, frame, lanes)?;
+            let words = source_column(alloc, *source, frame, lanes)?;
             stack.push(words)?;
         }
         Instr::Unary(op, _) => {
@@ -115,12 +183,12 @@ fn step(
         Instr::Binary(op, ty, _) => {
             let b = taken(stack, lanes)?;
             let a = taken(stack, lanes)?;
-            let words = binary_each(*op, *ty, a, &View::Each(b.as_slice()))?;
+            let words = binary_each(alloc, *op, *ty, First::Own(a), &View::Each(b.as_slice()))?;
             stack.push(words)?;
         }
         Instr::With(op, ty, _, operand) => {
             let a = taken(stack, lanes)?;
-            let words = with_operand(alloc, *op, *ty, a, *operand, frame, lanes)?;
+            let words = with_operand(alloc, *op, *ty, First::Own(a), *operand, frame, lanes)?;
             stack.push(words)?;
         }
         Instr::Choice(set, unset) => {
@@ -154,7 +222,8 @@ fn taken(stack: &mut Columns, lanes: &Lanes) -> Result<List<i64>, Redo>
 
 /// The word that code is, if it is nothing else.
 fn word_in(code: &List<Instr>) -> Option<i64>
-    ensures { IfSome result (λ word. code.now ≡ instr.Push (operand.Word word) ∷ []) }
+    ensures { IfSome result (λ word. code.now
+        ≡ instr.Push (source.One (operand.Word word)) ∷ []) }
 {
     match operand_in(code)? {
         Operand::Word(word) => Some(word),

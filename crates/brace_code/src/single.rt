@@ -2,10 +2,10 @@ ghost use Rattle.std.specs.Prelude.{◌≡◌, ◌<◌, ◌≤◌, ◌-◌, ◌^
 ghost use Rattle.brace_model.specs.Scopes.{scope_of};
 ghost use Rattle.brace_model.specs.Value.{agent_of, total_read, typed};
 ghost use Rattle.brace_code.specs.Codes.{depth_of, gives};
-ghost use Rattle.brace_code.specs.inner.Words.{word_of, made_word, with_word, binary_word, choose_word, operand_word};
+ghost use Rattle.brace_code.specs.inner.Words.{word_of, made_word, with_word, binary_word, choose_word, operand_word, source_word};
 ghost use Rattle.brace_code.specs.inner.Runs.{deed, outcome, ended, pushed, stack_of};
 
-use crate::code::{Code, Instr, Operand};
+use crate::code::{Code, Instr, Operand, Source};
 use crate::operations::{binary, flag, unary};
 use crate::stack::Stack;
 use brace_draw::Drawer;
@@ -100,6 +100,26 @@ fn with(site: u32, op: BinOp, ty: Ty, a: i64, read: Result<i64, Stop>) -> Result
     }
 }
 
+/// The word of a source.
+#[tactic(auto, using(crate::proofs::SingleLemmas::read_rules))]
+#[inline(always)]
+fn read_source(source: &Source, env: &Env, drawer: &mut Drawer) -> Result<i64, Stop>
+    requires { env.now.tick ≤ 2 ^ 32 }
+    ensures word { result ≡ source_word (scope_of env.now drawer.old) source.now }
+    ensures seed { drawer.new.seed ≡ drawer.old.seed }
+{
+    match source {
+        Source::One(operand) => read(*operand, env, drawer),
+        Source::Two(op, ty, site, first, second) => match read(*first, env, drawer) {
+            Ok(a) => {
+                let b = read(*second, env, drawer);
+                with(*site, *op, *ty, a, b)
+            }
+            Err(stop) => Err(stop),
+        },
+    }
+}
+
 /// The code that a word chooses.
 fn chosen<'a>(word: i64, set: &'a List<Instr>, unset: &'a List<Instr>) -> &'a [Instr]
     ensures { result.now ≡ choose_word word set.now unset.now }
@@ -121,11 +141,11 @@ fn start(instr: &Instr, env: &Env, drawer: &mut Drawer, room: usize) -> Result<i
     ensures seed { drawer.new.seed ≡ drawer.old.seed }
 {
     match instr {
-        Instr::Push(operand) => {
+        Instr::Push(source) => {
             if room == 0 {
                 return Err(STUCK);
             }
-            match read(*operand, env, drawer) {
+            match read_source(source, env, drawer) {
                 Ok(word) => Ok(word),
                 Err(stop) => Err(stop),
             }
@@ -169,13 +189,13 @@ fn step(
     ensures seed { drawer.new.seed ≡ drawer.old.seed }
 {
     match instr {
-        Instr::Push(operand) => {
+        Instr::Push(source) => {
             if words.len() - *below < 2 {
                 return Err(STUCK);
             }
             words[*below] = top;
             *below += 1;
-            read(*operand, env, drawer)
+            read_source(source, env, drawer)
         }
         Instr::Unary(op, site) => made(*site, unary(*op, top)),
         Instr::Binary(op, ty, site) => {

@@ -1,5 +1,5 @@
 ghost use Rattle.std.specs.Prelude.{◌≡◌, ◌<◌, ◌≤◌, ◌+◌, ◌∷◌, ◌++◌, ℕ, [], pos, length, take, true, false, if◌then◌else◌, IfOk, OnOk, slice_index_or};
-ghost use Rattle.brace_code.specs.Columns.{AreMerged, AreNumbers, ArePut, IsSide, Puts, same_word, side};
+ghost use Rattle.brace_code.specs.Columns.{AreMerged, AreNumbers, ArePut, IsSame, IsSide, Puts, side};
 
 use crate::lane::Redo;
 use crate::view::are_within;
@@ -95,16 +95,6 @@ fn put(out: &mut [i64], side: &SideWords) -> Result<(), Redo>
     }
 }
 
-/// The word that all lanes of a side have; 0 where each has its own.
-fn same_word(side: &SideWords) -> i64
-    ensures { result ≡ same_word side.now }
-{
-    match side {
-        SideWords::Same(word) => *word,
-        SideWords::Each(_, _) => 0,
-    }
-}
-
 /// One of two words.
 fn chosen(first: bool, a: i64, b: i64) -> i64
     ensures { result ≡ (if first then a else b) }
@@ -123,13 +113,34 @@ fn choose(words: &mut [i64], set: i64, unset: i64)
     }
 }
 
+/// Puts a word that all lanes of a side have in their places; what is put in the places of others
+/// is left open.
+fn begin(words: &mut [i64], ys: &SideWords, ns: &SideWords)
+    ensures long { length words.new ≡ length words.old }
+    ensures set { (k : ℕ) → k < length words.old
+        → side true (slice_index_or words.old k (pos 0)) ≡ true
+        → IsSame ys.now (slice_index_or words.new k (pos 0)) }
+    ensures unset { (k : ℕ) → k < length words.old
+        → side false (slice_index_or words.old k (pos 0)) ≡ true
+        → IsSame ns.now (slice_index_or words.new k (pos 0)) }
+{
+    match (ys, ns) {
+        (SideWords::Same(set), SideWords::Same(unset)) => choose(words, *set, *unset),
+        (SideWords::Same(word), SideWords::Each(_, _)) => words.fill(*word),
+        // Stands there already.
+        (SideWords::Each(_, _), SideWords::Same(0)) => (),
+        (SideWords::Each(_, _), SideWords::Same(word)) => words.fill(*word),
+        (SideWords::Each(_, _), SideWords::Each(_, _)) => (),
+    }
+}
+
 /// Puts the words of both sides in the place of the words of their test.
 fn merge(words: &mut [i64], ys: &SideWords, ns: &SideWords) -> Result<(), Redo>
     requires set { IsSide true words.old ys.now }
     requires unset { IsSide false words.old ns.now }
     ensures { OnOk result (AreMerged words.old ys.now ns.now words.new) }
 {
-    choose(words, same_word(ys), same_word(ns));
+    begin(words, ys, ns);
     put(words, ys)?;
     put(words, ns)?;
     Ok(())

@@ -6,7 +6,7 @@ use std::marker::Model;
 
 /// A stack for the words of code, made once for many runs. Contracts see how many words it has room
 /// for.
-#[derive(Debug, Drop)]
+#[derive(Drop)]
 pub struct Stack {
     pub(crate) words: Vec<i64>,
 }

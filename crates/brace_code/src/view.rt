@@ -10,7 +10,7 @@ use brace_num::List;
 
 /// What lanes read: the same word, the words of a column in turn, or those of a column at some
 /// rows.
-#[derive(Debug, Clone, Copy)]
+#[derive(Clone, Copy)]
 pub enum View<'a> {
     Same(i64),
     Each(&'a [i64]),

@@ -7,7 +7,7 @@ use Rattle.brace_code.specs.declared.code.Instr.{Instr}
 use Rattle.brace_code.specs.declared.code.Instr.TheOpen.{Instr-F, Push, Unary, Binary, With, Choice}
 use Rattle.brace_code.specs.declared.code.Instr.TheFolds.{fold-Instr}
 use Rattle.brace_code.specs.declared.single.Ended.{Ended}
-use Rattle.brace_code.specs.inner.Words.{Outcome, made_word, with_word, unary_word, binary_word, choose_word, operand_word}
+use Rattle.brace_code.specs.inner.Words.{Outcome, made_word, with_word, unary_word, binary_word, choose_word, operand_word, source_word}
 
 -- the stack that is left, its top first, or a fault
 abbrev pub Left : Type 0
@@ -48,7 +48,7 @@ in_turn (deed ∷ deeds) room scope stack = onward (deed room scope stack) (in_t
 
 -- one instruction, whose branches are deeds on a stack of their own above the rest
 abbrev pub deed_step : Instr-F Deed → Deed
-deed_step (Push operand) room scope stack = put room stack (operand_word scope operand)
+deed_step (Push source) room scope stack = put room stack (source_word scope source)
 deed_step (Unary op site) room scope [] = Err stuck
 deed_step (Unary op site) room scope (a ∷ stack) =
     pushed stack (made_word site (unary_word op a))

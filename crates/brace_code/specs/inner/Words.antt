@@ -16,6 +16,8 @@ use Rattle.brace_model.specs.World.{number, value_at}
 use Rattle.brace_model.specs.Value.{Scope, Worth, agent_of, typed, total_read}
 use Rattle.brace_code.specs.declared.code.Operand.{Operand}
 use Rattle.brace_code.specs.declared.code.Operand.TheVariants.{Word, Field, Total, Local, Rand}
+use Rattle.brace_code.specs.declared.code.Source.{Source}
+use Rattle.brace_code.specs.declared.code.Source.TheVariants.{One, Two}
 
 -- a word, or the site and kind of a fault
 abbrev pub Outcome : Type 0
@@ -94,3 +96,10 @@ operand_word scope (Total effect type site) =
 operand_word scope (Local n) = Ok (number (value_at scope.locals n))
 operand_word scope (Rand site) =
     Ok (pos (draw_value scope.seed scope.tick scope.this.id site))
+
+-- the word of a source in a scope
+abbrev pub source_word : Scope → Source → Outcome
+source_word scope (One operand) = operand_word scope operand
+source_word scope (Two op type site first second) =
+    with_word (operand_word scope first) (λ a. with_word (operand_word scope second)
+    (λ b. made_word site (binary_word op type a b)))

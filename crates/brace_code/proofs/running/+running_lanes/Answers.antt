@@ -5,7 +5,7 @@ use Rattle.brace_code.proofs.running.+running_lanes.Goals as goal
 pub step-returns-in_ok-push-in-With : goal.step-returns-in_ok-push-in-With
 step-returns-in_ok-push-in-With t c =
     with_leads _ _ _ _ _ _ _ c.in-With.op c.in-With.ty c.in-With.field-2 c.in-With.operand c.in_ok-a-in-With.a _ c.in-With.is c.in_ok-a-in-With.ensures.top
-    c.in_ok-a-in-With.ensures.long c.in_ok-words-in-With.ensures c.in_ok-push-in-With.ensures
+    c.in_ok-a-in-With.ensures.long c.in_ok-words-in-With.ensures.joins c.in_ok-push-in-With.ensures
 
 pub step-returns-in_ok-push-in-Choice : goal.step-returns-in_ok-push-in-Choice
 step-returns-in_ok-push-in-Choice t c =
