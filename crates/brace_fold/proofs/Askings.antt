@@ -1,13 +1,13 @@
 -- What agents that ask say, all together.
-use Rattle.std.proofs.Common.{◌≡◌, ◌∙◌, sym, ap, ap₂, subst, ℕ, ◌<◌, take, drop, take-append-drop, List, [], ◌∷◌, ◌++◌, refl, map, flat_map, length, get_or, true, None, Some, slice_get}
+use Rattle.std.proofs.Common.{◌≡◌, ◌∙◌, sym, ap, ap₂, subst, ℕ, ◌<◌, List, [], ◌∷◌, ◌++◌, refl, map, flat_map, length, get_or, true, Some, slice_get}
 use Rattle.std.specs.List.{All, list_all}
 use Rattle.std.specs.List.Sorted.{IsPermutation}
-use Rattle.std.proofs.lemmas.List.{get_or_default, map-append}
+use Rattle.std.proofs.lemmas.List.{get_or_default}
 use Rattle.std.proofs.lemmas.List.Sums.{AllPass-from_list_all}
 use Rattle.std.proofs.lemmas.List.Elements.{All-nil, All-append, All-map}
 use Rattle.std.proofs.lemmas.List.Sorted.{All-permutation}
 use Rattle.std.proofs.lemmas.Grind.{flat_map-append}
-use Rattle.std.proofs.lemmas.Option.{get_or_from_slice_get, none-some, slice_get_within}
+use Rattle.std.proofs.lemmas.Option.{get_or_from_slice_get, slice_get_within}
 use Rattle.brace_model.specs.declared.program.Program.{Program}
 use Rattle.brace_model.specs.declared.world.Agent.{Agent}
 use Rattle.brace_model.specs.Lawful.{is_lawful_agent}
@@ -16,13 +16,12 @@ use Rattle.brace_model.specs.Query.{Deed, Saying, query_of}
 use Rattle.brace_plan.specs.declared.action.Action.{Action}
 use Rattle.brace_plan.specs.Planning.{IsPlanned, opening_of}
 use Rattle.brace_eval.specs.Heard.{said_by, faults_by}
-use Rattle.brace_fold.specs.declared.askers.Asker.{Asker}
 use Rattle.brace_fold.specs.declared.scene.Scene.{Scene}
 use Rattle.brace_fold.specs.declared.table.Table.{Table}
 use Rattle.brace_fold.specs.Asked.{agents_at, no_agent}
 use Rattle.brace_fold.specs.Rows.{by_id}
 use Rattle.brace_fold.specs.Sums.{AreSummed}
-use Rattle.brace_fold.specs.inner.Asks.{Asks, AsksIn, asked, asked_in, openings, rows_of}
+use Rattle.brace_fold.specs.inner.Asks.{Asks, AsksIn, asked, asked_in, openings}
 use Rattle.brace_fold.specs.inner.Crowds.{IsOfClass, rows, world}
 use Rattle.brace_fold.specs.inner.Deeds.{Does, IsQuiet, done_by}
 use Rattle.brace_fold.specs.Hears.{Hears}
@@ -36,11 +35,6 @@ asks-none scene d heard = record {
   quiet = All-nil (λ row. (asked scene d row).faults ≡ []);
   hears = hears-none scene.program.now (rows scene) heard;
 }
-
-pub asks-nobody : (scene : Scene) (d : Agent) (asking : List Asker) (heard : Table) → slice_get asking 0 ≡ None
-    → Asks scene d (rows_of asking) heard heard
-asks-nobody scene d [] heard e = asks-none scene d heard
-asks-nobody scene d (x ∷ asking) heard e = absurd (none-some x (sym e))
 
 -- some ask, and then others
 pub asks-more : (scene : Scene) (d : Agent) (xs ys : List ℕ) (a b c : Table) → Asks scene d xs a b → Asks scene d ys b c → Asks scene d (xs ++ ys) a c
@@ -83,14 +77,6 @@ module _ (scene : Scene) (class constants : ℕ) (actions : List Action) (d : Ag
             ∙ same-said (λ place. (does (opens place)).said) (λ row. (asked scene d row).said) places (λ k e low. ap (λ (x : Deed). x.said) (same k e low)))
             h.hears;
       }
-
--- those who ask, in two parts
-pub rows-split : (asking these rest : List Asker) (n : ℕ) → these ≡ take n asking → rest ≡ drop n asking
-    → rows_of these ++ rows_of rest ≡ rows_of asking
-rows-split asking these rest n front back =
-    ap₂ (λ xs ys. rows_of xs ++ rows_of ys) front back
-    ∙ sym (map-append (λ (one : Asker). one.row) (take n asking) (drop n asking))
-    ∙ ap rows_of (take-append-drop n asking)
 
 -- those who ask in another order
 pub asks-moved : (program : Program) (seed tick : ℕ) (rows : List Agent) (d : Agent)

@@ -1,10 +1,9 @@
 -- Crowds: their parts, and a constant that is set.
-use Rattle.std.proofs.Common.{◌≡◌, ◌∙◌, refl, sym, ap, ap₂, subst, ℕ, zero, suc, ◌+◌, ◌<◌, ◌≤◌, ℤ, pos, List, [], ◌∷◌, ◌++◌, append_assoc, map, length, take, drop, replicate, get_or, set, Bool, true, false, Some, None, arith, slice_get, Option, ⊎_elim}
+use Rattle.std.proofs.Common.{◌≡◌, ◌∙◌, refl, sym, ap, ap₂, subst, ℕ, zero, suc, ◌+◌, ◌<◌, ◌≤◌, ℤ, pos, List, [], ◌∷◌, ◌++◌, append_assoc, map, length, drop, replicate, get_or, set, Bool, true, false, Some, None, arith, slice_get, Option, ⊎_elim}
 use Rattle.std.specs.Prelude.{if◌then◌else◌}
 use Rattle.std.specs.List.{All}
 use Rattle.std.proofs.lemmas.Bool.{cases_eq}
-use Rattle.std.proofs.lemmas.List.{ext_get_or, length-map, length-set, length-replicate, length_push, map-append, drop_more, take_more, get_or_default, get_or-set_same, get_or-set_other}
-use Rattle.std.proofs.lemmas.List.Elements.{All-append, All-cons, All-nil}
+use Rattle.std.proofs.lemmas.List.{ext_get_or, length-map, length-set, length-replicate, length_push, map-append, drop_more, get_or_default, get_or-set_same, get_or-set_other}
 use Rattle.std.proofs.lemmas.Option.{none-some, same_Some, get_or_from_slice_get, unwrap_or-slice_get}
 use Rattle.brace_model.specs.declared.program.Ty.{Ty}
 use Rattle.brace_model.specs.declared.program.Ty.TheVariants as ty
@@ -23,13 +22,12 @@ use Rattle.brace_code.specs.Lanes.{words_at, words_of}
 use Rattle.brace_code.specs.RowLists.{lanes_of, row_in}
 use Rattle.brace_code.proofs.RowLemmas.{lane_at, long}
 use Rattle.brace_plan.specs.Planning.{opening_of}
-use Rattle.brace_fold.specs.declared.askers.Asker.{Asker}
 use Rattle.brace_fold.specs.declared.crowd.Crowd.{Crowd}
 use Rattle.brace_fold.specs.declared.crowd.Depth.{Depth}
 use Rattle.brace_fold.specs.declared.crowd.Stretch.{Stretch}
 use Rattle.brace_fold.specs.declared.crowd.Depth.TheVariants.{Outside}
 use Rattle.brace_fold.specs.declared.scene.Scene.{Scene}
-use Rattle.brace_fold.specs.inner.Asks.{openings, rows_of}
+use Rattle.brace_fold.specs.inner.Asks.{openings}
 use Rattle.brace_fold.specs.inner.Crowds.{Stands, AreStretches, IsLane, IsLocal, IsOf, AreOf, IsGathered, AreGathered, AreNumbered, IsOfClass, asking_at, placed_at, bound_to, chosen, rows}
 use Rattle.brace_fold.proofs.Evals.{at-mapped}
 
@@ -372,18 +370,6 @@ none-set zero n column e = absurd (none-some column e)
 none-set (suc count) zero column e = sym (same_Some [] column e)
 none-set (suc count) (suc n) column e = none-set count n column e
 
-rows-more : (asking : List Asker) (i : ℕ) (d : Asker) → i < length asking
-    → rows_of (take i asking) ++ (get_or asking i d).row ∷ [] ≡ rows_of (take (i + 1) asking)
-rows-more asking i d low =
-    sym (map-append (λ (one : Asker). one.row) (take i asking) (get_or asking i d ∷ [])) ∙ ap rows_of (sym (take_more asking i d low))
-
--- one more who asks
-pub asking-more : (asking : List Asker) (i : ℕ) (d : Asker) (these : List ℕ) → i < length asking
-    → these ≡ rows_of (take i asking)
-    → these ++ (get_or asking i d).row ∷ [] ≡ rows_of (take (i + 1) asking)
-asking-more asking i d these low before =
-    ap (λ l. l ++ (get_or asking i d).row ∷ []) before ∙ rows-more asking i d low
-
 -- lanes of those who ask
 pub asking-lanes : (rows : Rows) (asking : List ℕ) (count : ℕ) → count ≡ length asking
     → ((k : ℕ) → row_in rows k ≡ get_or asking k 0)
@@ -396,14 +382,6 @@ asking-lanes rows asking count many is = record {
       ∙ ap (λ row. placed_at k (asking_at row)) (is k)
       ∙ ap (placed_at k) (sym (got-mapped asking_at asking k 0 l within));
 }
-
-pub of-class-more : (agents : List Agent) (class : ℕ) (asking : List Asker) (i : ℕ) (d : Asker) → i < length asking
-    → IsOfClass agents class (get_or asking i d).row → All (IsOfClass agents class) (rows_of (take i asking))
-    → All (IsOfClass agents class) (rows_of (take (i + 1) asking))
-of-class-more agents class asking i d low here before =
-    let P : ℕ → Type 0 = IsOfClass agents class in
-    subst (All P) (rows-more asking i d low)
-    (All-append P (rows_of (take i asking)) ((get_or asking i d).row ∷ []) before (All-cons P (get_or asking i d).row [] here (All-nil P)))
 
 pub opening-stands : (scene : Scene) (crowd : Crowd) (class constants : ℕ) (places : List ℕ)
     (d : Agent)

@@ -1,23 +1,22 @@
 -- What agents of rows leave, those of one class at once.
-use Rattle.std.proofs.Common.{◌≡◌, ◌∙◌, refl, sym, ap, subst, ℕ, ◌<◌, ℤ, List, [], ◌∷◌, ◌++◌, append-nil, append_assoc, map, length, get_or, slice_get, Some, None}
+use Rattle.std.proofs.Common.{◌≡◌, ◌∙◌, refl, sym, ap, subst, ℕ, ◌<◌, ℤ, List, [], ◌∷◌, ◌++◌, append-nil, append_assoc, map, length, get_or, slice_get, Some}
 use Rattle.std.specs.List.{All}
 use Rattle.std.specs.List.Sorted.{IsPermutation}
 use Rattle.std.proofs.lemmas.List.{map-append}
 use Rattle.std.proofs.lemmas.List.Elements.{All-head, All-nil, All-cons, All-tail}
-use Rattle.std.proofs.lemmas.Option.{none-some}
 use Rattle.brace_model.specs.declared.program.Class.{Class}
 use Rattle.brace_model.specs.declared.program.Program.{Program}
 use Rattle.brace_model.specs.declared.world.Agent.{Agent}
 use Rattle.brace_model.specs.Query.{Saying}
 use Rattle.brace_model.specs.World.{class_of}
 use Rattle.brace_eval.specs.Heard.{row_of}
-use Rattle.brace_fold.specs.declared.askers.Asker.{Asker}
+use Rattle.brace_fold.specs.declared.columns.Columns.{Columns}
+use Rattle.brace_fold.specs.declared.renewal.Ground.{Ground}
 use Rattle.brace_fold.specs.declared.renewal.Renewed.{Renewed}
 use Rattle.brace_fold.specs.Asked.{by_row, no_agent}
 use Rattle.brace_fold.specs.Becoming.{AreLeft}
-use Rattle.brace_fold.specs.Rows.{AreMoved}
-use Rattle.brace_fold.specs.inner.Asks.{rows_of}
-use Rattle.brace_fold.specs.inner.Renewals.{LeavesSome, Renews}
+use Rattle.brace_fold.specs.Rows.{AreMoved, rows_in}
+use Rattle.brace_fold.specs.inner.Renewals.{LeavesRows, LeavesSome, Renews}
 use Rattle.brace_fold.proofs.RenewLemmas.{born-of, left-of, quiet-of, renews-more, renews-none}
 
 -- what holds of all agents holds of those of some rows
@@ -50,18 +49,12 @@ classes-by program own agents number has all = λ k d low.
 -- ---- some agents, and then others
 
 module _ (program : Program) (seed tick : ℕ) (said : List Saying) where
-  pub leaves-none : (renewed : Renewed) → LeavesSome program seed tick said [] renewed renewed
+  leaves-none : (renewed : Renewed) → LeavesSome program seed tick said [] renewed renewed
   leaves-none renewed = record {
     left = [];
     renews = renews-none program seed tick (row_of program said) renewed.born.items;
     kept = λ before is. subst (λ l. AreMoved l renewed.left) (sym (append-nil before)) is;
   }
-
-  pub leaves-nobody : (agents : List Agent) (asking : List Asker) (renewed : Renewed)
-      → slice_get asking 0 ≡ None
-      → LeavesSome program seed tick said (by_row agents (rows_of asking)) renewed renewed
-  leaves-nobody agents [] renewed e = leaves-none renewed
-  leaves-nobody agents (x ∷ asking) renewed e = absurd (none-some x (sym e))
 
   leaves-more : (xs ys : List Agent) (a b c : Renewed) → LeavesSome program seed tick said xs a b
       → LeavesSome program seed tick said ys b c → LeavesSome program seed tick said (xs ++ ys) a c
@@ -74,7 +67,7 @@ module _ (program : Program) (seed tick : ℕ) (said : List Saying) where
         (k.kept (before ++ h.left) (h.kept before is));
   }
 
-  pub leaves-on : (agents : List Agent) (these rest all : List ℕ) (a b c : Renewed)
+  leaves-on : (agents : List Agent) (these rest all : List ℕ) (a b c : Renewed)
       → these ++ rest ≡ all
       → LeavesSome program seed tick said (by_row agents these) a b
       → LeavesSome program seed tick said (by_row agents rest) b c
@@ -103,3 +96,18 @@ module _ (program : Program) (seed tick : ℕ) (said : List Saying) where
         born = born-of program seed tick totals those h.left new.born.items nexts;
         quiet = quiet-of program seed tick totals those h.left new.born.items nexts;
       }
+
+module _ (ground : Ground) (columns : Columns) where
+  pub rows-none : (rows : List ℕ) (renewed : Renewed) → rows ≡ []
+      → LeavesRows ground columns rows renewed renewed
+  rows-none rows renewed none said are =
+      subst (λ l. LeavesSome ground.plans.now ground.seed ground.tick said
+      (by_row (rows_in ground.plans.now columns) l) renewed renewed) (sym none)
+      (leaves-none ground.plans.now ground.seed ground.tick said renewed)
+
+  pub rows-on : (these rest all : List ℕ) (a b c : Renewed) → these ++ rest ≡ all
+      → LeavesRows ground columns these a b → LeavesRows ground columns rest b c
+      → LeavesRows ground columns all a c
+  rows-on these rest all a b c split h k said are =
+      leaves-on ground.plans.now ground.seed ground.tick said (rows_in ground.plans.now columns)
+      these rest all a b c split (h said are) (k said are)

@@ -5,7 +5,7 @@ use Rattle.std.specs.List.{cons_option, range_with_len}
 use Rattle.std.proofs.lemmas.Bool.{cases_eq, cases_lt, leb-false}
 use Rattle.std.proofs.lemmas.Int.{ints, clamps}
 use Rattle.std.proofs.lemmas.List.{get_or_append_left, get_or-append_right, length-map, length-set, map-append}
-use Rattle.std.proofs.lemmas.List.Elements.{All-nil, All-cons, All-append}
+use Rattle.std.proofs.lemmas.List.Elements.{All-filter}
 use Rattle.std.proofs.lemmas.List.FromFn.{filter_of_map_range_with_len_more, get_or-map-range_with_len, length-map-range_with_len, map-range_with_len_more}
 use Rattle.std.proofs.lemmas.Option.{get_or_from_slice_get, none-some, same_Some, slice_get-get_or, slice_get-map, slice_get_past, slice_get_within, unwrap_or-slice_get}
 use Rattle.brace_num.specs.Exact.{clamped}
@@ -19,7 +19,7 @@ use Rattle.brace_model.specs.declared.program.Value.TheVariants as val
 use Rattle.brace_model.specs.declared.world.Agent.{Agent}
 use Rattle.brace_model.specs.Next.{changed, moved, within_reach}
 use Rattle.brace_model.specs.Value.{typed}
-use Rattle.brace_model.specs.World.{no_value, number, value_at}
+use Rattle.brace_model.specs.World.{class_of, no_value, number, value_at}
 use Rattle.brace_code.specs.declared.lane.Lane.{Lane}
 use Rattle.brace_plan.specs.Leaving.{survivor}
 use Rattle.brace_fold.specs.declared.columns.Columns.{Columns}
@@ -30,6 +30,7 @@ use Rattle.brace_fold.specs.Rows.{AreMoved, row_in, rows_in, types_of, value_in,
 use Rattle.brace_fold.specs.inner.Rulings.{agent_at, child_of, is_set, living_from, new_number, new_states, rows_left}
 use Rattle.brace_fold.specs.inner.Rulings as ruling
 use Rattle.brace_fold.proofs.Crowdings.{value-other, value-set}
+use Rattle.brace_fold.proofs.Doings.{All-back}
 use denote.Ref.{Bor}
 
 -- ---- one agent
@@ -173,11 +174,6 @@ left-dead die k rows new are dies same =
     same ∙ are
     ∙ sym (left-more die k ∙ ap (λ b. rows_left die k ++ cond (not b) (k ∷ []) []) dies
     ∙ append-nil (rows_left die k))
-
-pub alike-more : (P : ℕ → Type 0) (rows new : List ℕ) (k : ℕ) → All P rows → P k
-    → new ≡ rows ++ k ∷ [] → All P new
-alike-more P rows new k all here more =
-    subst (All P) (sym more) (All-append P rows (k ∷ []) all (All-cons P k [] here (All-nil P)))
 
 -- an agent with the values of a row
 abbrev leaf : Class → Outcome → (ℕ → Agent) → ℕ → Agent
@@ -404,11 +400,10 @@ rows-have f g agent P same (row ∷ rows) all =
     ap₂ (λ x xs. x ∷ xs) (same row (all zero row (omega arith)))
     (rows-have f g agent P same rows (λ k d low. all (suc k) d (omega (arith, low))))
 
-pub rows-more : (program : Program) (own class : Class) (number_is : ℕ) (out : Outcome)
-    (columns : Columns) (rows : List ℕ) (agents : List Agent) (old new : Moved)
-    → slice_get program.classes number_is ≡ Some own
+pub rows-more : (program : Program) (own class : Class) (out : Outcome) (columns : Columns)
+    (rows : List ℕ) (agents : List Agent) (old new : Moved)
     → rows ≡ rows_left out.die (length columns.ids.now)
-    → All (λ row. slice_get columns.classes.now row ≡ Some number_is) rows
+    → All (λ a. class_of program a ≡ Some own) (rows_in program columns)
     → AreMoved agents old
     → new.classes.items ≡ old.classes.items ++ map (λ row. get_or columns.classes.now row 0) rows
     → new.ids.items ≡ old.ids.items ++ map (λ row. get_or columns.ids.now row 0) rows
@@ -416,8 +411,8 @@ pub rows-more : (program : Program) (own class : Class) (number_is : ℕ) (out :
     → ((k : ℕ) (c : List ℤ) → k < length old.states.items → get_or new.states.items k c
     ≡ get_or old.states.items k c ++ map (new_number own class out columns k) rows)
     → AreMoved (agents ++ living_from class out 0 (rows_in program columns)) new
-rows-more program own class number_is out columns rows agents old new has are alike is classes
-    ids_are long each =
+rows-more program own class out columns rows agents old new are alike is classes ids_are long
+    each =
     subst (λ l. AreMoved (agents ++ l) new) (sym living)
     (agents-more agents old new (map agent rows) is
     (classes ∙ ap (λ l. old.classes.items ++ l) (by (λ row. get_or columns.classes.now row 0)
@@ -431,7 +426,13 @@ rows-more program own class number_is out columns rows agents old new has are al
     (new_states out.states.items row values)) k)) (values row of)))))
   where
     IsOf : ℕ → Type 0
-    IsOf row = slice_get columns.classes.now row ≡ Some number_is
+    IsOf row = class_of program (row_in program columns row) ≡ Some own
+
+    all : All IsOf rows
+    all =
+        let every = range_with_len 0 (length columns.ids.now) in
+        subst (All IsOf) (sym are) (All-filter (λ row. not (is_set out.die row)) IsOf every
+        (All-back (row_in program columns) (λ a. class_of program a ≡ Some own) every alike))
 
     agent : ℕ → Agent
     agent = leaf class out (row_in program columns)
@@ -443,14 +444,10 @@ rows-more program own class number_is out columns rows agents old new has are al
 
     by : {B : Type 0} (f : ℕ → B) (g : Agent → B)
         → ((row : ℕ) → IsOf row → f row ≡ g (agent row)) → map f rows ≡ map g (map agent rows)
-    by f g same = rows-have f g agent IsOf same rows alike
+    by f g same = rows-have f g agent IsOf same rows all
 
     values : (row : ℕ) → IsOf row
         → values_in (map (λ (s : State). s.ty) own.states) (words_of columns) row
         ≡ (row_in program columns row).states
     values row of =
-        let number_there : get_or columns.classes.now row 0 ≡ number_is =
-        get_or_from_slice_get columns.classes.now row number_is 0 of in
-        let found : Some own ≡ slice_get program.classes (get_or columns.classes.now row 0) =
-        sym has ∙ ap (slice_get program.classes) (sym number_there) in
-        ap (λ (o : Option Class). values_in (types_of o) (words_of columns) row) found
+        ap (λ (o : Option Class). values_in (types_of o) (words_of columns) row) (sym of)

@@ -23,7 +23,7 @@ use std::alloc::Global;
 const UNIT: i64 = 1_000_000;
 
 /// Agents in the order of square cells, in which queries are asked.
-#[derive(Debug, Drop)]
+#[derive(Drop)]
 pub struct Arranged {
     /// The row from which the agent at each place came.
     pub order: Vec<u32>,

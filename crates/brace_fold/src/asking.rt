@@ -3,15 +3,15 @@ ghost use Rattle.std.specs.List.{list_all};
 ghost use Rattle.brace_model.specs.declared.world.Agent.{Agent};
 ghost use Rattle.brace_model.specs.Lawful.{is_lawful_agent};
 ghost use Rattle.brace_fold.specs.Rows.{AreRows, rows_in};
-ghost use Rattle.brace_fold.specs.inner.Asks.{Asks, AsksIn, rows_of};
+ghost use Rattle.brace_fold.specs.inner.Asks.{Asks, AsksIn};
 ghost use Rattle.brace_fold.specs.inner.Crowds.{IsScene, world};
 ghost use Rattle.brace_fold.specs.inner.Sights.{AreCells};
 
-use crate::askers::{Asker, askers, of_class, sort_by_class};
 use crate::cells::Cells;
 use crate::columns::Columns;
 use crate::crowd::opening;
 use crate::drawn::{all_drawn, lent};
+use crate::groups::{by_class, first_group};
 use crate::scene::Scene;
 use crate::table::Table;
 use crate::walk::block;
@@ -25,14 +25,13 @@ fn ask(
     scene: &Scene,
     plans: &Plans,
     class: u32,
-    asking: &[Asker],
+    asking: &[u32],
     heard: &mut Table,
 ) -> Result<(), Redo>
     requires scene { IsScene scene.now }
     requires program { scene.now.program.now ≡ plans.now }
     requires lawful { IsTrue (list_all (is_lawful_agent plans.now) (world scene.now)) }
-    ensures { OnOk result ((d : Agent) → Asks scene.now d (rows_of asking.now)
-        heard.old heard.new) }
+    ensures { OnOk result ((d : Agent) → Asks scene.now d asking.now heard.old heard.new) }
 {
     let Some(told) = plans.told(class) else {
         return Err(Redo);
@@ -42,23 +41,17 @@ fn ask(
     Ok(())
 }
 
-/// Asks all who ask, class by class.
-fn ask_all(scene: &Scene, plans: &Plans, asking: &[Asker], heard: &mut Table) -> Result<(), Redo>
+/// Asks the agents of rows, those that stand together and are of one class at once.
+fn ask_all(scene: &Scene, plans: &Plans, asking: &[u32], heard: &mut Table) -> Result<(), Redo>
     requires scene { IsScene scene.now }
     requires program { scene.now.program.now ≡ plans.now }
     requires lawful { IsTrue (list_all (is_lawful_agent plans.now) (world scene.now)) }
-    ensures { OnOk result ((d : Agent) → Asks scene.now d (rows_of asking.now)
-        heard.old heard.new) }
+    ensures { OnOk result ((d : Agent) → Asks scene.now d asking.now heard.old heard.new) }
 {
     let mut left = asking;
-    while let Some(first) = left.first() {
-        let count = of_class(left, first.class);
-        if count == 0 {
-            return Err(Redo);
-        }
-        let (these, rest) = left.split_at(count);
-        ask(scene, plans, first.class, these, heard)?;
-        left = rest;
+    while let Some(group) = first_group(scene.classes, left) {
+        ask(scene, plans, group.class, group.rows, heard)?;
+        left = group.rest;
     }
     Ok(())
 }
@@ -95,7 +88,6 @@ pub fn ask_sorted(
         draws: &draws,
         cells,
     };
-    let mut asking = askers(alloc, columns.classes, asking)?;
-    sort_by_class(&mut asking);
+    let asking = by_class(alloc, columns.classes, asking)?;
     ask_all(&scene, plans, &asking, said)
 }

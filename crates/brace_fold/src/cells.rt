@@ -17,7 +17,7 @@ const HEIGHT: i64 = 524_288;
 
 /// Where an agent stands, the number of the cell that it is in, its class, and its row: first that
 /// of the columns, and then its place among the spots.
-#[derive(Debug, Clone, Copy, Drop)]
+#[derive(Clone, Copy, Drop)]
 pub struct Spot {
     pub x: i64,
     pub y: i64,
@@ -28,14 +28,14 @@ pub struct Spot {
 
 /// Agents in the order of square cells, column by column, one in each row. Cells far apart may
 /// share a number.
-#[derive(Debug, Drop)]
+#[derive(Drop)]
 pub struct Cells {
     /// Where the agents stand, by rising cell.
     pub spots: Vec<Spot>,
 }
 
 /// The agents of rows in cells.
-#[derive(Debug, Drop)]
+#[derive(Drop)]
 pub struct Sorted {
     pub cells: Cells,
     /// The row from which that of each spot came.
@@ -143,14 +143,14 @@ pub fn rank(spots: &[Spot], hint: usize, cell: i64) -> usize
 }
 
 /// A run of spots by rising cell.
-#[derive(Debug, Clone, Copy, Drop)]
+#[derive(Clone, Copy, Drop)]
 pub struct Run {
     pub start: usize,
     pub end: usize,
 }
 
 /// The runs of the spots in and around a cell.
-#[derive(Debug, Clone, Copy, Drop)]
+#[derive(Clone, Copy, Drop)]
 pub struct Runs {
     pub cell: Option<i64>,
     pub west: Run,

@@ -9,7 +9,7 @@ use brace_num::List;
 use std::alloc::Global;
 
 /// Agents in columns of words, one in each row.
-#[derive(Debug, Clone, Copy)]
+#[derive(Clone, Copy)]
 pub struct Columns<'a> {
     /// The number of the class of each.
     pub classes: &'a [u32],

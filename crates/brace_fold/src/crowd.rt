@@ -7,10 +7,9 @@ ghost use Rattle.brace_model.specs.Value.{Scope, typed};
 ghost use Rattle.brace_code.specs.declared.lane.Lane.{Lane};
 ghost use Rattle.brace_code.specs.Columns.{taking, side};
 ghost use Rattle.brace_fold.specs.declared.scene.Scene.{Scene};
-ghost use Rattle.brace_fold.specs.inner.Asks.{rows_of, openings};
+ghost use Rattle.brace_fold.specs.inner.Asks.{openings};
 ghost use Rattle.brace_fold.specs.inner.Crowds.{Stands, AreOf, AreGathered, AreNumbered, AreStretches, IsGathered, IsOfClass, asking_at, bound_to, chosen, has_outer, has_inner, IsScene, rows};
 
-use crate::askers::Asker;
 use crate::scene::Scene;
 use brace_code::{Lanes, Redo, Row, Rows, column_of};
 use brace_model::Ty;
@@ -18,7 +17,7 @@ use brace_num::List;
 use std::alloc::Global;
 
 /// In how many loops lanes stand.
-#[derive(Debug, Clone, Copy, PartialEq, Eq, Drop)]
+#[derive(Clone, Copy, PartialEq, Eq, Drop)]
 pub enum Depth {
     Outside,
     Once,
@@ -46,14 +45,14 @@ pub fn has_inner(depth: Depth) -> bool
 }
 
 /// Lanes in turn that have the agent of one row as This.
-#[derive(Debug, Clone, Copy, Drop)]
+#[derive(Clone, Copy, Drop)]
 pub struct Stretch {
     pub row: u32,
     pub count: u32,
 }
 
 /// Lanes that do a block together. They are numbered: the place of each is its own in the list.
-#[derive(Debug, Drop)]
+#[derive(Drop)]
 pub struct Crowd {
     pub depth: Depth,
     pub lanes: Lanes,
@@ -198,28 +197,28 @@ impl Crowd {
 }
 
 /// A lane for each agent that asks, all of which are of one class.
-fn asking_lanes(scene: &Scene, class: u32, asking: &[Asker]) -> Result<Lanes, Redo>
+fn asking_lanes(scene: &Scene, class: u32, asking: &[u32]) -> Result<Lanes, Redo>
     requires { IsScene scene.now }
-    ensures lanes { IfOk result (AreNumbered (map asking_at (rows_of asking.now))) }
+    ensures lanes { IfOk result (AreNumbered (map asking_at asking.now)) }
     ensures of_class { IfOk result (λ _.
-        All (IsOfClass (rows scene.now) class) (rows_of asking.now)) }
+        All (IsOfClass (rows scene.now) class) asking.now) }
 {
-    let mut rows = Vec::with_capacity(scene.alloc, asking.len())?;
-    for one in asking {
-        scene.expect_class(one.row, class)?;
-        rows.push(one.row)?;
+    for row in asking {
+        scene.expect_class(*row, class)?;
     }
+    let mut rows = Vec::with_capacity(scene.alloc, asking.len())?;
+    rows.extend_from_slice(asking)?;
     let (this, place) = (Rows::Each(rows), Rows::Number);
     Ok(Lanes::of(asking.len(), this, Rows::Same(0), Rows::Same(0), place))
 }
 
 /// The crowd of agents of a class that ask, none of whose constants is set.
-pub fn opening(scene: &Scene, class: u32, asking: &[Asker], constants: usize) -> Result<Crowd, Redo>
+pub fn opening(scene: &Scene, class: u32, asking: &[u32], constants: usize) -> Result<Crowd, Redo>
     requires { IsScene scene.now }
     ensures of_class { IfOk result (λ _.
-        All (IsOfClass (rows scene.now) class) (rows_of asking.now)) }
+        All (IsOfClass (rows scene.now) class) asking.now) }
     ensures stands { IfOk result (λ crowd. (d : Agent) → Stands scene.now crowd
-        (openings scene.now constants d (rows_of asking.now))) }
+        (openings scene.now constants d asking.now)) }
 {
     let lanes = asking_lanes(scene, class, asking)?;
     let locals = unset(scene.alloc, constants)?;

@@ -13,7 +13,7 @@ use brace_num::List;
 use std::alloc::Global;
 
 /// The draws of a site.
-#[derive(Debug, Drop)]
+#[derive(Drop)]
 pub struct Drawn {
     pub site: u32,
     pub words: List<i64>,

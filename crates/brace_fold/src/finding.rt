@@ -21,7 +21,7 @@ use brace_plan::{Bound, Limit};
 use std::alloc::Global;
 
 /// What is used again from agent to agent of a loop.
-#[derive(Debug, Drop)]
+#[derive(Drop)]
 pub struct Room {
     pub runs: Runs,
     pub cuts: Vec<Cut>,
@@ -40,7 +40,7 @@ impl Room {
 }
 
 /// What a loop looks for: agents of a class within bounds. A glance shows all there are.
-#[derive(Debug, Clone, Copy)]
+#[derive(Clone, Copy)]
 pub struct Sought<'a> {
     pub class: u32,
     pub bounds: &'a List<Bound>,

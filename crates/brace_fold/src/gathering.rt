@@ -22,7 +22,7 @@ const MANY: usize = 4096;
 const ROOM: usize = MANY + 512;
 
 /// A part of a loop's lanes, and the place of the first lane whose agents are not yet in it.
-#[derive(Debug, Drop)]
+#[derive(Drop)]
 pub struct Part {
     pub inside: Crowd,
     pub next: usize,
@@ -41,7 +41,7 @@ fn deeper(depth: Depth) -> Depth
 /// Rows of lanes inside a loop: those of its agents, of the agents that ask and of constants, and
 /// inside two loops those of the agents of the outer one. There are so many; the list of those of
 /// the agents may be longer.
-#[derive(Debug, Drop)]
+#[derive(Drop)]
 struct Entered {
     count: usize,
     near: Vec<u32>,

@@ -12,7 +12,7 @@ use brace_code::Redo;
 use std::simd::prelude::*;
 
 /// Where agents of one class stand, row by row, and how far each of them sees.
-#[derive(Debug, Clone, Copy)]
+#[derive(Clone, Copy)]
 pub struct Glance<'a> {
     pub xs: &'a [i64],
     pub ys: &'a [i64],
@@ -34,7 +34,7 @@ fn width(run: &Run, rows: usize) -> Result<usize, Redo>
 
 /// Words from the least one on. The base lies half of all words above the least, so that signed
 /// words less the base, which wrap, are in the order of their distance to the least.
-#[derive(Debug, Clone, Copy, Drop)]
+#[derive(Clone, Copy, Drop)]
 struct Span {
     base: i64,
     reach: i64,
@@ -61,7 +61,7 @@ fn is_outside(span: &Span, v: i64) -> bool
 }
 
 /// What an agent looks for, and the words of the square that it sees along each axis.
-#[derive(Debug, Clone, Copy, Drop)]
+#[derive(Clone, Copy, Drop)]
 struct Square {
     eye: Eye,
     across: Span,

@@ -3,7 +3,6 @@
 #![tactic(auto)]
 
 mod arranged;
-mod askers;
 mod asking;
 mod bringing;
 mod cells;
@@ -14,6 +13,7 @@ mod finding;
 mod folding;
 mod gathering;
 mod glancing;
+mod groups;
 mod joining;
 mod leaving;
 mod lists;

@@ -111,14 +111,14 @@ pub fn rows_from(alloc: Global, first: usize, count: usize) -> Result<Vec<u32>, 
 const LONG: usize = 8;
 
 /// Rows in turn: from one on, up to another.
-#[derive(Debug, Clone, Copy, Drop)]
+#[derive(Clone, Copy, Drop)]
 struct Slice {
     from: usize,
     to: usize,
 }
 
 /// Rows of columns: each by itself, or in long slices, of which there are so many rows.
-#[derive(Debug, Drop)]
+#[derive(Drop)]
 enum Picks<'a> {
     Each(&'a [u32]),
     Slices(Vec<Slice>, usize),
@@ -259,7 +259,7 @@ fn empty(alloc: Global, columns: usize, rows: usize) -> Result<Vec<List<i64>>, R
 }
 
 /// Columns whose rows stand in another order.
-#[derive(Debug, Drop)]
+#[derive(Drop)]
 pub struct Moved {
     pub classes: Vec<u32>,
     pub ids: Vec<u64>,

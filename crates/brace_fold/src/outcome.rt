@@ -11,7 +11,7 @@ use brace_plan::Rules;
 use std::alloc::Global;
 
 /// What code gives in each lane: words of a type.
-#[derive(Debug, Drop)]
+#[derive(Drop)]
 pub struct Column {
     pub ty: Ty,
     pub words: List<i64>,
@@ -19,7 +19,7 @@ pub struct Column {
 
 /// What the rules of states and the conditions of `die` and `spawn` come to in each lane, where
 /// they are written.
-#[derive(Debug, Drop)]
+#[derive(Drop)]
 pub struct Outcome {
     pub states: Vec<Option<Column>>,
     pub die: Option<Column>,

@@ -10,13 +10,12 @@ ghost use Rattle.brace_fold.specs.Asked.{by_row};
 ghost use Rattle.brace_fold.specs.Becoming.{AreLeft};
 ghost use Rattle.brace_fold.specs.Rows.{AreRows, rows_in};
 ghost use Rattle.brace_fold.specs.Sums.{AreSummed};
-ghost use Rattle.brace_fold.specs.inner.Asks.{rows_of};
-ghost use Rattle.brace_fold.specs.inner.Renewals.{LeavesSome};
+ghost use Rattle.brace_fold.specs.inner.Renewals.{LeavesRows};
 ghost use Rattle.brace_fold.specs.inner.Rulings.{AreLanes, Leaves};
 
-use crate::askers::{Asker, askers, of_class, rows_of, sort_by_class};
-use crate::columns::{Columns, expect_wide, item_at, views};
+use crate::columns::{Columns, expect_wide, views};
 use crate::drawn::{drawn_of, lent};
+use crate::groups::{by_class, first_group};
 use crate::leaving::lanes_set;
 use crate::order::Moved;
 use crate::outcome::{Outcome, run_all, run_gifts};
@@ -32,14 +31,14 @@ use brace_plan::{Plans, Ruled};
 use std::alloc::Global;
 
 /// What is left of agents in columns: those that live on, and the children.
-#[derive(Debug, Drop)]
+#[derive(Drop)]
 pub struct Renewed {
     pub left: Moved,
     pub born: Vec<Agent>,
 }
 
 /// By what agents of a tick are renewed.
-#[derive(Debug, Clone, Copy)]
+#[derive(Clone, Copy)]
 struct Ground<'a> {
     alloc: Global,
     plans: &'a Plans,
@@ -88,11 +87,8 @@ fn renew_some(
 ) -> Result<(), Redo>
     requires rows { AreRows ground.now.plans.now columns.now }
     requires ticks { ground.now.tick ≤ 2 ^ 32 }
-    ensures leaves { OnOk result ((said : List Saying)
-        → AreSummed ground.now.plans.now (rows_in ground.now.plans.now columns.now) said
-        ground.now.said.now
-        → LeavesSome ground.now.plans.now ground.now.seed ground.now.tick said
-        (by_row (rows_in ground.now.plans.now columns.now) rows.now) renewed.old renewed.new) }
+    ensures leaves { OnOk result
+        (LeavesRows ground.now columns.now rows.now renewed.old renewed.new) }
     ensures wide { OnOk result
         (length renewed.new.left.states.items ≡ length renewed.old.left.states.items) }
 {
@@ -125,15 +121,7 @@ fn renew_some(
         &these,
         &mut renewed.born,
     )?;
-    keep_rows(
-        alloc,
-        own,
-        number,
-        ruled.class,
-        &out,
-        &these,
-        &mut renewed.left,
-    )
+    keep_rows(alloc, own, ruled.class, &out, &these, &mut renewed.left)
 }
 
 /// Tells Redo where not all agents are of a class.
@@ -153,74 +141,22 @@ fn expect_alike(classes: &[u32], number: u32) -> Result<(), Redo>
 fn renew_all(
     ground: &Ground,
     columns: &Columns,
-    these: &[Asker],
-    renewed: &mut Renewed,
-) -> Result<(), Redo>
-    requires rows { AreRows ground.now.plans.now columns.now }
-    requires ticks { ground.now.tick ≤ 2 ^ 32 }
-    ensures leaves { OnOk result ((said : List Saying)
-        → AreSummed ground.now.plans.now (rows_in ground.now.plans.now columns.now) said
-        ground.now.said.now
-        → LeavesSome ground.now.plans.now ground.now.seed ground.now.tick said
-        (by_row (rows_in ground.now.plans.now columns.now) (rows_of these.now))
-        renewed.old renewed.new) }
-    ensures wide { OnOk result
-        (length renewed.new.left.states.items ≡ length renewed.old.left.states.items) }
-{
-    let mut left = these;
-    while let Some(first) = left.first() {
-        let count = of_class(left, first.class);
-        if count == 0 {
-            return Err(Redo);
-        }
-        let (some, rest) = left.split_at(count);
-        let rows = rows_of(ground.alloc, some)?;
-        renew_some(ground, columns, first.class, &rows, renewed)?;
-        left = rest;
-    }
-    Ok(())
-}
-
-/// How many agents are renewed at once.
-const MANY: usize = 2048;
-
-/// Renews the agents of some rows, which are of one class of a number, many at once: those that
-/// live on and the children are added.
-fn renew_alike(
-    ground: &Ground,
-    columns: &Columns,
-    number: u32,
     rows: &[u32],
     renewed: &mut Renewed,
 ) -> Result<(), Redo>
     requires rows { AreRows ground.now.plans.now columns.now }
     requires ticks { ground.now.tick ≤ 2 ^ 32 }
-    ensures leaves { OnOk result ((said : List Saying)
-        → AreSummed ground.now.plans.now (rows_in ground.now.plans.now columns.now) said
-        ground.now.said.now
-        → LeavesSome ground.now.plans.now ground.now.seed ground.now.tick said
-        (by_row (rows_in ground.now.plans.now columns.now) rows.now) renewed.old renewed.new) }
+    ensures leaves { OnOk result
+        (LeavesRows ground.now columns.now rows.now renewed.old renewed.new) }
     ensures wide { OnOk result
         (length renewed.new.left.states.items ≡ length renewed.old.left.states.items) }
 {
     let mut left = rows;
-    while !left.is_empty() {
-        let (some, rest) = left.split_at(left.len().min(MANY));
-        renew_some(ground, columns, number, some, renewed)?;
-        left = rest;
+    while let Some(group) = first_group(columns.classes, left) {
+        renew_some(ground, columns, group.class, group.rows, renewed)?;
+        left = group.rest;
     }
     Ok(())
-}
-
-/// The number of the class of all agents of some rows, where it is one.
-fn only_class(classes: &[u32], rows: &[u32]) -> Option<u32> {
-    let first = item_at(classes, *rows.first()?)?;
-    for row in rows {
-        if item_at(classes, *row) != Some(first) {
-            return None;
-        }
-    }
-    Some(first)
 }
 
 /// So many rows and some more, as guests come behind a part's own agents.
@@ -263,12 +199,7 @@ pub fn renew_rows(
         left: none,
         born: Vec::new(alloc),
     };
-    if let Some(number) = only_class(columns.classes, rows) {
-        renew_alike(&ground, columns, number, rows, &mut renewed)?;
-        return Ok(renewed);
-    }
-    let mut these = askers(alloc, columns.classes, rows)?;
-    sort_by_class(&mut these);
+    let these = by_class(alloc, columns.classes, rows)?;
     renew_all(&ground, columns, &these, &mut renewed)?;
     Ok(renewed)
 }

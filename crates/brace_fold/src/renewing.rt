@@ -28,7 +28,7 @@ use std::mem;
 const FEW: usize = 16;
 
 /// By what agents of a tick are renewed.
-#[derive(Debug, Clone, Copy)]
+#[derive(Clone, Copy)]
 struct Ground<'a> {
     alloc: Global,
     plans: &'a Plans,
@@ -37,7 +37,7 @@ struct Ground<'a> {
 }
 
 /// What the rules of a class came to for so many of its agents, in a row each.
-#[derive(Debug, Drop)]
+#[derive(Drop)]
 struct Batch<'a> {
     class: &'a Class,
     count: usize,

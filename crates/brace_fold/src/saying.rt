@@ -39,7 +39,7 @@ fn rows_of<'a>(who: Who, lanes: &'a Lanes) -> Option<&'a [u32]>
 }
 
 /// Those who hear what lanes say: an agent for each lane, or for each stretch of lanes.
-#[derive(Debug, Clone, Copy)]
+#[derive(Clone, Copy)]
 pub enum Hearers<'a> {
     Each(&'a [u32]),
     Stretches(&'a [Stretch]),
@@ -127,7 +127,7 @@ fn narrow_count(count: usize) -> Result<u32, Redo>
 }
 
 /// An effect of a class.
-#[derive(Debug, Clone, Copy)]
+#[derive(Clone, Copy)]
 pub struct Ear {
     pub class: u32,
     pub effect: u32,

@@ -12,7 +12,7 @@ use brace_num::List;
 use std::alloc::Global;
 
 /// What queries are asked over, in columns by the rows of the agents.
-#[derive(Debug, Clone, Copy)]
+#[derive(Clone, Copy)]
 pub struct Scene<'a> {
     pub alloc: Global,
     pub program: &'a Program,

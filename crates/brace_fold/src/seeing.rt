@@ -8,7 +8,7 @@ use brace_code::Redo;
 use brace_plan::{Axis, Side};
 
 /// A bound whose limit is known.
-#[derive(Debug, Clone, Copy, Drop)]
+#[derive(Clone, Copy, Drop)]
 pub struct Cut {
     pub axis: Axis,
     pub side: Side,
@@ -16,7 +16,7 @@ pub struct Cut {
 }
 
 /// What an agent looks for: agents of a class within a range of it, but not itself.
-#[derive(Debug, Clone, Copy, Drop)]
+#[derive(Clone, Copy, Drop)]
 pub struct Eye {
     pub x: i64,
     pub y: i64,

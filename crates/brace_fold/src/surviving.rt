@@ -3,7 +3,7 @@ ghost use Rattle.std.specs.Bool.{OnTrue};
 ghost use Rattle.std.specs.List.{All, range_with_len};
 ghost use Rattle.brace_model.specs.declared.program.Program.{Program};
 ghost use Rattle.brace_model.specs.declared.world.Agent.{Agent};
-ghost use Rattle.brace_model.specs.World.{number, value_at};
+ghost use Rattle.brace_model.specs.World.{class_of, number, value_at};
 ghost use Rattle.brace_model.specs.Value.{typed};
 ghost use Rattle.brace_fold.specs.Rows.{AreMoved, row_in, rows_in, values_in, words_of};
 ghost use Rattle.brace_fold.specs.inner.Rulings.{AreBorn, living_from, moved_at, moved_in, new_number, number_in, rows_left, rows_of, value_in};
@@ -129,69 +129,45 @@ pub fn push_agent(left: &mut Moved, a: &Agent) -> Result<(), Redo>
 }
 
 /// The rows whose agents live on: the first, so many, or some.
-#[derive(Debug, Drop)]
+#[derive(Drop)]
 enum Living {
     First(usize),
     These(Vec<usize>),
 }
 
-/// Whether all agents are of a class of a number and live on, by what its rules came to.
-fn all_live(number: u32, out: &Outcome, columns: &Columns) -> bool
-    ensures rows { OnTrue result (range_with_len 0 (length columns.now.ids.now)
-        ≡ rows_left out.now.die (length columns.now.ids.now)) }
-    ensures alike { OnTrue result
-        (All (λ row. slice_get columns.now.classes.now row ≡ Some number)
-        (range_with_len 0 (length columns.now.ids.now))) }
+/// Whether the agents of so many rows all live on.
+fn all_live(die: &Option<Column>, count: usize) -> bool
+    ensures { OnTrue result (range_with_len 0 count ≡ rows_left die.now count) }
 {
-    for row in 0..columns.ids.len() {
-        let Some(class) = columns.classes.get(row) else {
-            return false;
-        };
-        if *class != number || is_set(&out.die, row) {
+    for row in 0..count {
+        if is_set(die, row) {
             return false;
         }
     }
     true
 }
 
-/// The rows of those agents of a class of a number that live on, one by one.
-fn some_living(
-    alloc: Global,
-    number: u32,
-    out: &Outcome,
-    columns: &Columns,
-) -> Result<Vec<usize>, Redo>
-    ensures rows { IfOk result (λ rows.
-        rows.items ≡ rows_left out.now.die (length columns.now.ids.now)) }
-    ensures alike { IfOk result (λ rows.
-        All (λ row. slice_get columns.now.classes.now row ≡ Some number) rows.items) }
+/// Those of so many rows whose agents live on, one by one.
+fn some_living(alloc: Global, die: &Option<Column>, count: usize) -> Result<Vec<usize>, Redo>
+    ensures { IfOk result (λ rows. rows.items ≡ rows_left die.now count) }
 {
-    let mut rows = Vec::with_capacity(alloc, columns.ids.len())?;
-    for row in 0..columns.ids.len() {
-        let Some(class) = columns.classes.get(row) else {
-            return Err(Redo);
-        };
-        if *class != number {
-            return Err(Redo);
-        }
-        if !is_set(&out.die, row) {
+    let mut rows = Vec::with_capacity(alloc, count)?;
+    for row in 0..count {
+        if !is_set(die, row) {
             rows.push(row)?;
         }
     }
     Ok(rows)
 }
 
-/// The rows of those agents of a class of a number that live on, by what its rules came to.
-fn living_rows(alloc: Global, number: u32, out: &Outcome, columns: &Columns) -> Result<Living, Redo>
-    ensures rows { IfOk result (λ living.
-        rows_of living ≡ rows_left out.now.die (length columns.now.ids.now)) }
-    ensures alike { IfOk result (λ living.
-        All (λ row. slice_get columns.now.classes.now row ≡ Some number) (rows_of living)) }
+/// Those of so many rows whose agents live on.
+fn living_rows(alloc: Global, die: &Option<Column>, count: usize) -> Result<Living, Redo>
+    ensures { IfOk result (λ living. rows_of living ≡ rows_left die.now count) }
 {
-    if all_live(number, out, columns) {
-        return Ok(Living::First(columns.ids.len()));
+    if all_live(die, count) {
+        return Ok(Living::First(count));
     }
-    let rows = some_living(alloc, number, out, columns)?;
+    let rows = some_living(alloc, die, count)?;
     Ok(Living::These(rows))
 }
 
@@ -257,7 +233,7 @@ fn push_rows<T: Copy>(
 }
 
 /// Words of a type, one in each row.
-#[derive(Debug, Clone, Copy)]
+#[derive(Clone, Copy)]
 struct Words<'a> {
     ty: Ty,
     words: &'a [i64],
@@ -486,11 +462,10 @@ fn push_states(
     Ok(())
 }
 
-/// Adds those agents of a class of a number that live on to columns, by what its rules came to.
+/// Adds those agents of a class that live on to columns, by what its rules came to.
 pub fn keep_rows(
     alloc: Global,
     own: &Class,
-    number: u32,
     class: &Class,
     out: &Outcome,
     columns: &Columns,
@@ -498,13 +473,14 @@ pub fn keep_rows(
 ) -> Result<(), Redo>
     requires { pos 0 ≤ℤ class.now.reach }
     ensures kept { OnOk result ((program : Program) (agents : List Agent)
-        → slice_get program.classes number ≡ Some own.now → AreMoved agents left.old
+        → All (λ a. class_of program a ≡ Some own.now) (rows_in program columns.now)
+        → AreMoved agents left.old
         → AreMoved (agents ++ living_from class.now out.now 0 (rows_in program columns.now))
         left.new) }
     ensures wide { OnOk result
         (length left.new.states.items ≡ length left.old.states.items) }
 {
-    let living = living_rows(alloc, number, out, columns)?;
+    let living = living_rows(alloc, &out.die, columns.ids.len())?;
     push_rows(columns.classes, 0, &living, &mut left.classes)?;
     push_rows(columns.ids, 0, &living, &mut left.ids)?;
     push_states(alloc, own, class, out, columns, &living, &mut left.states)

@@ -9,14 +9,14 @@ use brace_model::Comb;
 use std::alloc::Global;
 
 /// The number of a total of values, and how many they are; of none the number stands for nothing.
-#[derive(Debug, Clone, Copy, Drop)]
+#[derive(Clone, Copy, Drop)]
 pub struct Sum {
     pub number: i64,
     pub count: u32,
 }
 
 /// What was said to agents, row by row: a column of sums for each effect.
-#[derive(Debug, Drop)]
+#[derive(Drop)]
 pub struct Table {
     /// How many rows there are.
     pub rows: usize,

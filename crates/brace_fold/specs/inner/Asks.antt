@@ -9,7 +9,6 @@ use Rattle.brace_model.specs.Value.{Scope}
 use Rattle.brace_code.specs.declared.lane.Draws.{Draws}
 use Rattle.brace_plan.specs.Planning.{opening_of}
 use Rattle.brace_fold.specs.Rows.{by_id}
-use Rattle.brace_fold.specs.declared.askers.Asker.{Asker}
 use Rattle.brace_fold.specs.declared.drawn.Drawn.{Drawn}
 use Rattle.brace_fold.specs.declared.scene.Scene.{Scene}
 use Rattle.brace_fold.specs.declared.table.Table.{Table}
@@ -40,10 +39,6 @@ Asks scene = AsksIn scene.program.now scene.seed scene.tick (rows scene)
 abbrev pub openings : Scene → ℕ → Agent → List ℕ → List Scope
 openings scene constants d asking = map (λ row. opening_of constants scene.seed scene.tick
     (slice_index_or (rows scene) row d)) asking
-
--- the rows of those who ask
-abbrev pub rows_of : List Asker → List ℕ
-rows_of asking = map (λ one. one.row) asking
 
 -- the draws of a site are those of agents
 abbrev pub AreDrawn : ℕ → ℕ → List Agent → Drawn → Type 0

@@ -3,7 +3,7 @@ use Rattle.std.specs.List.{list_all}
 use Rattle.brace_model.specs.declared.program.Program.{Program}
 use Rattle.brace_model.specs.Lawful.{is_lawful_agent}
 use Rattle.brace_plan.specs.Planning.{IsPlanned}
-use Rattle.brace_fold.specs.inner.Asks.{openings, rows_of}
+use Rattle.brace_fold.specs.inner.Asks.{openings}
 use Rattle.brace_fold.specs.inner.Crowds.{world}
 use Rattle.brace_fold.proofs.Askings.{asks-of}
 use Rattle.brace_fold.proofs.asking.ask.Goals as goal
@@ -12,7 +12,7 @@ pub returns : goal.returns
 returns c = λ d.
     let scene = c.args.scene.now in
     let told = c.in-Some.told in
-    let asking = rows_of c.args.asking.now in
+    let asking = c.args.asking.now in
     let plan : IsPlanned scene.program.now c.args.class told.actions.now told.constants =
     subst (λ (p : Program). IsPlanned p c.args.class told.actions.now told.constants) (sym c.requires.program) c.in-Some.ensures in
     let lawful : list_all (is_lawful_agent scene.program.now) (world scene) ≡ true =

@@ -1,14 +1,13 @@
 use Rattle.std.proofs.Common.{◌≡◌, ◌∙◌, refl, sym, ap, subst, map, ℕ, List, true}
 use Rattle.std.specs.List.{list_all}
 use Rattle.std.specs.List.Sorted.{IsPermutation}
-use Rattle.std.proofs.lemmas.List.Sorted.{IsPermutation-map, IsPermutation-sym}
+use Rattle.std.proofs.lemmas.List.Sorted.{IsPermutation-sym}
 use Rattle.brace_num.proofs.Orders.{by_key_keeps, by_key_rises}
 use Rattle.brace_model.specs.declared.program.Program.{Program}
 use Rattle.brace_model.specs.declared.world.Agent.{Agent}
 use Rattle.brace_model.specs.Lawful.{is_lawful_agent}
-use Rattle.brace_fold.specs.declared.askers.Asker.{Asker}
 use Rattle.brace_fold.specs.Rows.{rows_in}
-use Rattle.brace_fold.specs.inner.Asks.{lent, made, rows_of}
+use Rattle.brace_fold.specs.inner.Asks.{lent, made}
 use Rattle.brace_fold.proofs.Askings.{asks-moved}
 use Rattle.brace_fold.proofs.ColumnLemmas.{copied-view}
 use Rattle.brace_fold.proofs.Drawings.{draws-of}
@@ -45,12 +44,9 @@ ask_all-requires-clause-lawful c =
 pub returns : goal.returns
 returns c = on_ok c.ask_all.result _ _ (λ h d.
     let rows = rows_in c.args.program.now c.args.columns.now in
-    let sorted = rows_of c.deref-3.result.now in
+    let sorted = c.deref-3.result.now in
     let moved : IsPermutation sorted c.args.asking.now =
-    subst (λ (l : List Asker). IsPermutation (rows_of l) c.args.asking.now)
-    (sym c.deref-3.ensures.value)
-    (subst (IsPermutation (rows_of c.sort_by_class.new.all.items)) c.in_ok-asking.ensures
-    (IsPermutation-sym _ _
-    (IsPermutation-map (λ (one : Asker). one.row) _ _ c.sort_by_class.ensures))) in
+    subst (λ (l : List ℕ). IsPermutation l c.args.asking.now) (sym c.deref-3.ensures.value)
+    (IsPermutation-sym _ _ c.in_ok-asking.ensures) in
     asks-moved c.args.program.now c.args.seed c.args.tick rows d sorted c.args.asking.now
     c.args.said.now c.ask_all.new.heard moved (h d)) c.ask_all.ensures

@@ -1,23 +1,14 @@
-use Rattle.std.proofs.Common.{◌≡◌, List, length}
-use Rattle.brace_model.specs.Query.{Saying}
+use Rattle.std.proofs.Common.{◌≡◌, length}
 use Rattle.brace_fold.specs.declared.renewal.Renewed.{Renewed}
-use Rattle.brace_fold.specs.Asked.{by_row}
-use Rattle.brace_fold.specs.Rows.{rows_in}
-use Rattle.brace_fold.specs.Sums.{AreSummed}
-use Rattle.brace_fold.specs.inner.Asks.{rows_of}
-use Rattle.brace_fold.specs.inner.Renewals.{LeavesSome}
+use Rattle.brace_fold.specs.inner.Renewals.{LeavesRows}
 use Rattle.brace_fold.proofs.renewal.renew_all.Given as goal
 
-abbrev pub invariant-loop-first : goal.invariant-loop-first
-invariant-loop-first l = record {
+abbrev pub invariant-loop-group : goal.invariant-loop-group
+invariant-loop-group l = record {
   wide : length l.renewed.left.states.items ≡ length l.fn.renewed.left.states.items;
-  leaves : (said : List Saying) (end : Renewed)
-      → AreSummed l.ground.plans.now (rows_in l.ground.plans.now l.columns) said l.ground.said.now
-      → LeavesSome l.ground.plans.now l.ground.seed l.ground.tick said
-      (by_row (rows_in l.ground.plans.now l.columns) (rows_of l.left)) l.renewed end
-      → LeavesSome l.ground.plans.now l.ground.seed l.ground.tick said
-      (by_row (rows_in l.ground.plans.now l.columns) (rows_of l.these)) l.fn.renewed end;
+  leaves : (end : Renewed) → LeavesRows l.ground l.columns l.left l.renewed end
+      → LeavesRows l.ground l.columns l.rows l.fn.renewed end;
 }
 
-abbrev pub decreases-loop-first : goal.decreases-loop-first
-decreases-loop-first l = length l.left
+abbrev pub decreases-loop-group : goal.decreases-loop-group
+decreases-loop-group l = length l.left

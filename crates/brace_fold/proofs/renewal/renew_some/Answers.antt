@@ -7,6 +7,7 @@ use Rattle.brace_model.specs.declared.program.Class.{Class}
 use Rattle.brace_model.specs.declared.program.Program.{Program}
 use Rattle.brace_model.specs.declared.world.Agent.{Agent}
 use Rattle.brace_model.specs.Lawful.{is_lawful_agent}
+use Rattle.brace_model.specs.World.{class_of}
 use Rattle.brace_eval.specs.Heard.{row_of}
 use Rattle.brace_fold.specs.Asked.{by_row}
 use Rattle.brace_fold.specs.Rows.{AreMoved, IsWide, rows_in}
@@ -57,6 +58,7 @@ returns-clause-leaves c = on_ok c.keep_rows.result _ _ (λ keeps more are.
     let has : slice_get program.classes number ≡ Some own =
     ap (λ (p : Program). slice_get p.classes number) (sym c.program-program.ensures)
     ∙ ap (λ (l : List Class). slice_get l number) (sym c.as_slice.ensures) ∙ read in
+    let of = classes-by program own xs number has alike in
     let ruled = c.in-Some-ruled.ruled in
     let totals = row_of program more in
     let nobody : Agent = record { class = 0; id = 0; states = [] } in
@@ -69,8 +71,7 @@ returns-clause-leaves c = on_ok c.keep_rows.result _ _ (λ keeps more are.
     refl part.states
     (ap (map (λ v. v.now)) c.deref-6.ensures.value ∙ c.in_ok-totals.ensures
     ∙ c.deref-3.ensures.value)
-    (λ i column e. c.in_ok-sums.ensures program rows more are
-    (classes-by program own xs number has alike) i column e)
+    (λ i column e. c.in_ok-sums.ensures program rows more are of i column e)
     (ap (map lent) c.deref-7.ensures.value ∙ c.in_ok-draws.ensures ∙ ap
     (map made) c.deref-5.ensures.value)
     (c.in_ok-drawn.ensures xs part.ids_are) in
@@ -92,5 +93,6 @@ returns-clause-leaves c = on_ok c.keep_rows.result _ _ (λ keeps more are.
           c.in-Some-ruled.ensures all alike all_lanes out c.args.renewed.now.born.items _ leave;
       kept = λ agents before.
           subst (λ l. AreMoved (agents ++ living_from class out 0 l) c.keep_rows.new.left) same
-          (keeps program agents has before);
+          (keeps program agents (subst (All (λ a. class_of program a ≡ Some own)) (sym same) of)
+          before);
     }) c.keep_rows.ensures.kept
