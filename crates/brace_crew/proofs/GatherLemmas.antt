@@ -186,6 +186,10 @@ module _ {P A : Type 0} (f : A → List (Member P)) (s : Setting) (publisher : P
           let b : OnBench P = record { number = 0; members = []; lanes = d.lanes; seat = d.view } in
           let here : get_or seats k d ≡ seat_of (get_or after k b) = ap (λ l. get_or l k d) is ∙ get_or-map seat_of after k b d (omega (arith, low, long)) in
           subst (λ (seat : OnSeat Setting). IsSeatOf s workers k seat.view) (sym here) (team_now.seats k b low);
+      one_lanes = (
+        team_now.one_lanes.0,
+        subst (All (λ seat. seat.lanes ≡ team_now.one_lanes.0)) (sym is) (All-map (λ seat. seat.lanes ≡ team_now.one_lanes.0) seat_of after team_now.one_lanes.1),
+      );
       used_to = subst (All (λ seat. IsUsedTo end seat.view)) (sym is) (All-map (λ seat. IsUsedTo end seat.view) seat_of after (λ k d low. (come k d low).used_to));
     }
       where

@@ -1,5 +1,6 @@
 -- The members of each worker of a run before their first turns.
 use Rattle.std.proofs.Common.{◌≡◌, ◌∙◌, refl, sym, ap, subst, ℕ, zero, suc, ◌+◌, ◌-◌, ◌*◌, ◌%◌, ◌<◌, Bool, true, false, cond, ◌&&◌, nat_lt, List, [], ◌∷◌, ◌++◌, length, map, replicate, get_or, set, slice_index, append-nil, arith, inl, inr}
+use Rattle.std.specs.List.{All}
 use Rattle.std.proofs.Math.ListN.{get_or-append}
 use Rattle.std.proofs.Math.Seq.{get_or-append_seam}
 use Rattle.std.proofs.lemmas.Bool.{cases_eq, cases_lt}
@@ -126,10 +127,11 @@ module _ {P : Type 0} (s : Setting) (publisher : P) (w : ℕ) (rosters : List (L
 
   pub team_is : (lanes : TableId) (benches : List (OnBench P)) (left : List (List (Member P))) (seats : List (OnSeat Setting)) → 0 < w
       → map (λ b. b.members) benches ++ left ≡ rosters → map (λ b. b.seat) benches ≡ map (λ x. x.view) seats → seats ≡ new_seats lanes s (parts s + 1) w w
-      → IsTeam s publisher w (all_numbers s) benches
-  team_is lanes benches left seats some all same new = record {
+      → All (λ b. b.lanes ≡ lanes) benches → IsTeam s publisher w (all_numbers s) benches
+  team_is lanes benches left seats some all same new there = record {
     rosters = subst (AreRosters s publisher w (all_numbers s)) (sym (none_left (map (λ b. b.members) benches) left all (length-map benches (λ b. b.members) ∙ long))) are;
     seats = each;
+    one_lanes = (lanes, there);
   }
     where
       long : length benches ≡ w

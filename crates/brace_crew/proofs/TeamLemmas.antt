@@ -64,6 +64,12 @@ module _ {P : Type 0} where
   team_later s publisher workers numbers xs ys team later = record {
     rosters = record { one_each = many; each = each };
     seats = λ k d low. seat_later s workers k (get_or xs k d) (get_or ys k d) (later.each k d (omega (arith, low, before))) (team.seats k d low);
+    one_lanes = (
+      team.one_lanes.0,
+      λ k d low.
+          let in_xs : k < length xs = omega (arith, low, later.one_each) in
+          (later.each k d in_xs).lanes ∙ team.one_lanes.1 k d in_xs,
+    );
   }
     where
       before : length xs ≡ workers
@@ -85,7 +91,7 @@ module _ {P : Type 0} where
   -- ---- a later time, and a time behind it
 
   bench_still : (b : OnBench P) → IsStill b b
-  bench_still b = record { settings = refl; numbers = refl; openings = refl; seat = same_seat b.seat }
+  bench_still b = record { settings = refl; numbers = refl; openings = refl; lanes = refl; seat = same_seat b.seat }
 
   pub all_still : (xs : List (OnBench P)) → AreStill xs xs
   all_still xs = record { one_each = refl; each = λ k d low. bench_still (get_or xs k d) }
@@ -95,6 +101,7 @@ module _ {P : Type 0} where
     settings = two.settings ∙ one.settings;
     numbers = two.numbers ∙ one.numbers;
     openings = same_openings b.members c.members two.kept ∙ one.openings;
+    lanes = two.lanes ∙ one.lanes;
     seat = record {
       setting = two.seat.setting ∙ one.seat.setting;
       actors = two.seat.actors ∙ one.seat.actors;
@@ -114,6 +121,7 @@ module _ {P : Type 0} where
     settings = two.settings ∙ one.settings;
     numbers = two.numbers ∙ one.numbers;
     openings = two.openings ∙ one.openings;
+    lanes = two.lanes ∙ one.lanes;
     seat = record {
       setting = two.seat.setting ∙ one.seat.setting;
       actors = two.seat.actors ∙ one.seat.actors;
@@ -207,14 +215,15 @@ module _ {P : Type 0} where
   desk_bench s publisher workers xs team d low = served_desk_last s publisher workers (get_or xs (parts s % workers) d).members (bench_members s publisher workers xs team (parts s % workers) d low)
 
   module _ (xs : List (OnBench P)) (w : ℕ) (a b : OnBench P) (low : w < length xs) (at : a ≡ get_or xs w a) where
-    pub set_still : map course_of b.members ≡ map course_of a.members → map opening_of b.members ≡ map opening_of a.members → b.seat ≡ a.seat → AreStill xs (set xs w b)
-    set_still courses openings seat = record { one_each = length-set xs w b; each = each }
+    pub set_still : map course_of b.members ≡ map course_of a.members → map opening_of b.members ≡ map opening_of a.members → b.lanes ≡ a.lanes → b.seat ≡ a.seat → AreStill xs (set xs w b)
+    set_still courses openings lanes seat = record { one_each = length-set xs w b; each = each }
       where
         still : IsStill a b
         still = record {
           settings = same_of course_of (λ c. c.setting) a.members b.members courses;
           numbers = same_of course_of (λ c. c.actor) a.members b.members courses;
           openings = openings;
+          lanes = lanes;
           seat = subst (IsSameSeat a.seat) (sym seat) (same_seat a.seat);
         }
 

@@ -1,6 +1,7 @@
 -- Behind how many steps a run ends, and what of its lanes was used by then.
 use Rattle.std.specs.Prelude.{◌≡◌, ◌⊎◌, ℕ, ◌+◌, ◌<◌, nat_le, List, [], filter, length, slice_index_or, Result, Ok, Err}
 use Rattle.std.specs.List.{All}
+use Rattle.atomic_table.specs.Seated.{TableId}
 use Rattle.brace_core.specs.Schedule.{front, lane}
 use Rattle.brace_lanes.specs.declared.table.View.{View}
 use Rattle.brace_lanes.specs.Seats.{OnSeat}
@@ -63,11 +64,13 @@ pub record IsSeatOf (s : Setting) (workers number : ℕ) (v : View Setting) : Ty
   pub seats_are : v.seats ≡ workers
   pub number_is : v.number ≡ number
 
--- one seat a worker, by rising number, and all are used to the end of the first steps, so many
+-- one seat a worker, by rising number, all of one lanes and used to the end of the first steps, so
+-- many
 pub record AreSeatsTo (s : Setting) (n workers : ℕ) (seats : List (OnSeat Setting)) : Type 0 where
   pub one_each : length seats ≡ workers
   pub by_number : (k : ℕ) (d : OnSeat Setting) → k < workers →
       IsSeatOf s workers k (slice_index_or seats k d).view
+  pub one_lanes : (lanes : TableId) × All (λ seat. seat.lanes ≡ lanes) seats
   pub used_to : All (λ seat. IsUsedTo n seat.view) seats
 
 -- the seats behind a run: used to where it ended; none, where it did not begin

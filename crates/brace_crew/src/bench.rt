@@ -37,7 +37,7 @@ const NAP: u64 = 100;
 const NAPS: u64 = 256;
 
 /// What driving a bench came to.
-#[derive(Debug, Clone, Copy, PartialEq, Eq, Drop)]
+#[derive(Clone, Copy, PartialEq, Eq, Drop)]
 pub enum Drive {
     /// All members are Done.
     Complete,
@@ -216,6 +216,7 @@ impl<'a, P: Publisher> Bench<'a, P> {
         ensures same { result ≡ true → self.new ≡ self.old }
         ensures courses { map course_of self.new.members ≡ map course_of self.old.members }
         ensures openings { map opening_of self.new.members ≡ map opening_of self.old.members }
+        ensures lanes { self.new.lanes ≡ self.old.lanes }
         ensures seat { self.new.seat ≡ self.old.seat }
     {
         end_here(&mut self.members)

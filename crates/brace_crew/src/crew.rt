@@ -34,7 +34,7 @@ use brace_pieces::{Cause, Fronts, Piece, Setting, Shown, moves_of};
 use std::alloc::Global;
 
 /// Why a run did not come to its last tick, or not all of it was published.
-#[derive(Debug, Clone, Copy, PartialEq, Eq, Drop)]
+#[derive(Clone, Copy, PartialEq, Eq, Drop)]
 pub enum CrewFault {
     /// The run's first fault; all up to its tick was published.
     Fault(Fault),

@@ -32,14 +32,14 @@ use std::marker::Model;
 use std::snapshot::Snapshot;
 
 /// What a part brings where all is shown.
-#[derive(Debug, Drop)]
+#[derive(Drop)]
 pub struct Lot {
     pub part: u32,
     pub worlds: List<Shown>,
 }
 
 /// Why a desk publishes nothing any more.
-#[derive(Debug, Clone, Copy, PartialEq, Eq, Drop)]
+#[derive(Clone, Copy, PartialEq, Eq, Drop)]
 pub enum Stop {
     /// A part goes no further, or the desk had no memory.
     Halt(Cause),

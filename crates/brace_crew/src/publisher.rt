@@ -10,7 +10,7 @@ use brace_pieces::{Setting, Shown};
 use std::alloc::Global;
 
 /// Why a publisher did not take what it was shown.
-#[derive(Debug, Clone, Copy, PartialEq, Eq, Drop)]
+#[derive(Clone, Copy, PartialEq, Eq, Drop)]
 pub enum PubFault {
     /// The output failed.
     Write,

@@ -2,6 +2,7 @@
 -- cite this.
 use Rattle.std.specs.Prelude.{◌≡◌, ℕ, ◌<◌, List, map, length, slice_index_or}
 use Rattle.std.specs.List.{All}
+use Rattle.atomic_table.specs.Seated.{TableId}
 use Rattle.brace_lanes.specs.Seats.{OnSeat, IsSameSeat}
 use Rattle.brace_pieces.specs.declared.setting.Setting.{Setting}
 use Rattle.brace_crew.specs.declared.member.Member.{Member}
@@ -17,12 +18,13 @@ pub record AreRosters {P : Type 0} (s : Setting) (publisher : P) (workers : ℕ)
   pub each : (k : ℕ) (d : List (Member P)) → k < workers →
       AreMembers s publisher (served workers k numbers) (slice_index_or rosters k d)
 
--- the benches of a run, one a worker, by rising worker
+-- the benches of a run, one a worker, by rising worker, at one lanes
 pub record IsTeam {P : Type 0} (s : Setting) (publisher : P) (workers : ℕ) (numbers : List ℕ)
     (benches : List (OnBench P)) : Type 0 where
   pub rosters : AreRosters s publisher workers numbers (map (λ b. b.members) benches)
   pub seats : (k : ℕ) (d : OnBench P) → k < workers →
       IsSeatOf s workers k (slice_index_or benches k d).seat
+  pub one_lanes : (lanes : TableId) × All (λ b. b.lanes ≡ lanes) benches
 
 -- all members of a bench stand at the end of the first steps, so many, and its seat is used to it
 pub record HasCome {P : Type 0} (end : ℕ) (b : OnBench P) : Type 0 where
@@ -52,6 +54,7 @@ pub record IsStill {P : Type 0} (a b : OnBench P) : Type 0 where
   pub numbers : map (λ m. (course_of m).actor) b.members
       ≡ map (λ m. (course_of m).actor) a.members
   pub openings : map opening_of b.members ≡ map opening_of a.members
+  pub lanes : b.lanes ≡ a.lanes
   pub seat : IsSameSeat a.seat b.seat
 
 -- benches that serve the same members

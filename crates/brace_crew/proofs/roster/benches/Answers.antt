@@ -23,6 +23,7 @@ loop-seat-init g c =
       many_lists = (let long : vec_len c.in_ok-rosters.field-0 ≡ length c.in_ok-rosters.field-0.items = search rules in r.ensures.len ∙ long ∙ ap length (sym r.ensures.rest));
       new = subst (All (λ v. AreNew v.items)) (sym r.ensures.rest) c.in_ok-rosters.ensures.first_turns;
       seats_so_far = ap (map (λ b. b.seat)) none.items;
+      lanes_so_far = subst (All (λ b. b.lanes ≡ c.args.lanes.now)) (sym none.items) (All-nil (λ b. b.lanes ≡ c.args.lanes.now));
       start = subst (All (HasCome 0)) (sym none.items) (All-nil (HasCome 0));
       room = omega (arith, none.capacity);
     }
@@ -91,6 +92,8 @@ loop-seat-preserved-in-Some-next g c =
     let before = map (λ b. b.members) at.all.items in
     let bench = c.make.result in
     let more = c.push_reserved.ensures.items in
+    let (low, (made, is)) = seat_next c.args.lanes.now c.args.setting.now (parts c.args.setting.now + 1) c.args.workers c.requires.some_worker
+    at.yielded (into_iter_items at.seat-iterator) (into_iter_items c.next.new.self) x (so.seats_left ∙ c.requires.seats) seats in
     record {
       seats_left = append_assoc at.yielded (x ∷ []) _ ∙ ap (λ l. at.yielded ++ l) (sym seats) ∙ so.seats_left;
       many_seats = (let gone = c.in-Some.ensures.steps.1 in omega (arith, so.many_seats, gone, ap length seats));
@@ -103,6 +106,8 @@ loop-seat-preserved-in-Some-next g c =
       new = All-tail (λ v. AreNew v.items) one left (subst (All (λ v. AreNew v.items)) lists so.new);
       seats_so_far = ap (map (λ b. b.seat)) more ∙ map-append (λ b. b.seat) at.all.items (bench ∷ [])
           ∙ ap₂ (λ l v. l ++ v ∷ []) so.seats_so_far c.make.ensures.seat ∙ sym (map-append (λ y. y.view) at.yielded (x ∷ []));
+      lanes_so_far = subst (All (λ b. b.lanes ≡ c.args.lanes.now)) (sym more)
+          (All-push (λ b. b.lanes ≡ c.args.lanes.now) at.all.items bench so.lanes_so_far (c.make.ensures.lanes ∙ ap (λ x. x.lanes) is));
       start = subst (All (HasCome 0)) (sym more) (All-push (HasCome 0) at.all.items bench so.start c.make.ensures.start);
       room = omega (arith, so.room, c.push_reserved.ensures.capacity);
     }
@@ -132,7 +137,7 @@ returns-clause-team g c =
     let none : into_iter_items at.seat-iterator ≡ [] = nil_from_length _ (sym so.many_seats ∙ c.in-None.ensures.steps.0) in
     let whole = sym (append-nil at.yielded) ∙ ap (λ l. at.yielded ++ l) (sym none) ∙ so.seats_left ∙ c.requires.seats in
     team_is c.args.setting.now c.args.publisher c.args.workers (map (λ v. v.items) c.in_ok-rosters.field-0.items) c.in_ok-rosters.ensures.rosters
-    c.args.lanes.now at.all.items (map (λ v. v.items) (into_iter_items at.rosters)) at.yielded c.requires.some_worker (so.lists_left ∙ lists) so.seats_so_far whole
+    c.args.lanes.now at.all.items (map (λ v. v.items) (into_iter_items at.rosters)) at.yielded c.requires.some_worker (so.lists_left ∙ lists) so.seats_so_far whole so.lanes_so_far
 
 pub returns-clause-start : goal.returns-clause-start
 returns-clause-start g c = c.loop-seat.invariant.start

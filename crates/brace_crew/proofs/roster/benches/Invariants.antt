@@ -14,6 +14,7 @@ invariant-loop-seat g l = record {
   many_lists : into_iter_len l.rosters ≡ length (into_iter_items l.rosters);
   new : All (λ v. AreNew v.items) (into_iter_items l.rosters);
   seats_so_far : map (λ b. b.seat) l.all.items ≡ map (λ x. x.view) l.yielded;
+  lanes_so_far : All (λ b. b.lanes ≡ l.fn.lanes) l.all.items;
   start : All (HasCome 0) l.all.items;
   room : l.fn.workers ≤ vec_capacity l.all;
 }

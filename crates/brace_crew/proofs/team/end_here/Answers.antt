@@ -54,7 +54,7 @@ returns-clause-still g c =
     let w : ℕ = c.parts.result % length xs in
     let asked = c.ends_here.ensures in
     set_still xs w (get_or xs w c.index-benches-worker.result) c.ends_here.new.self (mod_below c.parts.result (length xs) c.requires.some_bench) (ap (get_or xs w) c.index-benches-worker.is)
-    asked.courses asked.openings asked.seat
+    asked.courses asked.openings asked.lanes asked.seat
 
 pub returns-clause-come : goal.returns-clause-come
 returns-clause-come g c n come =

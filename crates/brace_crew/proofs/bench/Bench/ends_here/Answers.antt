@@ -44,5 +44,6 @@ returns g c =
           ∙ c.self.view_is;
       courses = ap (map course_of) back ∙ asked.courses ∙ ap (map course_of) value ∙ ap (λ (b : OnBench g.row.P.Denot). map course_of b.members) c.self.view_is;
       openings = ap (map opening_of) back ∙ asked.openings ∙ ap (map opening_of) value ∙ ap (λ (b : OnBench g.row.P.Denot). map opening_of b.members) c.self.view_is;
+      lanes = ap (λ (b : OnBench g.row.P.Denot). b.lanes) c.self.view_is;
       seat = ap (λ (b : OnBench g.row.P.Denot). b.seat) c.self.view_is;
     }
