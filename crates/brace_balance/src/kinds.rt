@@ -2,7 +2,7 @@ use brace_num::List;
 
 /// Why no cuts into so many strips have a lower load: there are no numbers; so many of them are one
 /// number, in millionths; or so many stand between each post, in millionths, and the next.
-#[derive(Debug, Drop)]
+#[derive(Drop)]
 pub enum Proof {
     Empty,
     Stack(i64),
@@ -11,7 +11,7 @@ pub enum Proof {
 
 /// Cuts in millionths, the greatest number of numbers in one of their strips, and why no cuts have
 /// a lower one.
-#[derive(Debug, Drop)]
+#[derive(Drop)]
 pub struct Balance {
     pub cuts: List<i64>,
     pub load: u32,

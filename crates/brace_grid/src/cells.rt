@@ -6,7 +6,7 @@ use brace_num::NoMemory;
 use std::alloc::Global;
 
 /// Where an agent stands, in millionths, its index, and the numbers of its cell along x and y.
-#[derive(Debug, Clone, Copy, Drop)]
+#[derive(Clone, Copy, Drop)]
 pub struct Spot {
     pub column: i64,
     pub row: i64,
@@ -16,7 +16,7 @@ pub struct Spot {
 }
 
 /// A cell by its numbers along x and y, and the place of its first spot.
-#[derive(Debug, Clone, Copy, Drop)]
+#[derive(Clone, Copy, Drop)]
 pub struct Cell {
     pub column: i64,
     pub row: i64,
@@ -24,7 +24,7 @@ pub struct Cell {
 }
 
 /// Spots by rising cell, and the cells that hold one.
-#[derive(Debug, Drop)]
+#[derive(Drop)]
 pub struct Layout {
     pub spots: Looks<Spot>,
     pub cells: Looks<Cell>,

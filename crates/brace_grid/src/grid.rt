@@ -12,7 +12,7 @@ use std::marker::Model;
 use std::sync::ledger::Ledger;
 
 /// Agents by the square cells that they stand in. Cells that hold no agent cost nothing.
-#[derive(Debug, Drop)]
+#[derive(Drop)]
 pub struct Grid {
     side: i64,
     layout: Layout,

@@ -5,7 +5,7 @@ use std::marker::Model;
 use std::sync::ledger::Ledger;
 
 /// A list that is read one element at a time, each for one step.
-#[derive(Debug, Drop)]
+#[derive(Drop)]
 pub struct Looks<T> {
     items: Vec<T>,
 }

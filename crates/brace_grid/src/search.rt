@@ -10,7 +10,7 @@ use brace_num::{Area, NoMemory, Steps};
 use std::sync::ledger::Ledger;
 
 /// Cells by their least and greatest numbers along x and along y.
-#[derive(Debug, Drop)]
+#[derive(Drop)]
 pub struct Block {
     west: i64,
     east: i64,

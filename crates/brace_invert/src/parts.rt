@@ -9,13 +9,13 @@ use brace_num::{List, NoMemory};
 use std::alloc::Global;
 
 /// A program whose agents say values to themselves alone.
-#[derive(Debug, Drop)]
+#[derive(Drop)]
 pub struct Forward {
     pub program: Program,
 }
 
 /// A program whose agents say values to the agents of their loops alone.
-#[derive(Debug, Drop)]
+#[derive(Drop)]
 pub struct Inverse {
     pub program: Program,
 }

@@ -17,7 +17,7 @@ use brace_plan::{Answer, Plans, Room, Said, greatest_visible};
 use std::alloc::Global;
 
 /// The agents that a part holds in a tick, over which queries are asked, and a grid of them.
-#[derive(Debug, Drop)]
+#[derive(Drop)]
 pub struct Scene<'a> {
     alloc: Global,
     /// The script, of which are the agents.
@@ -30,7 +30,7 @@ pub struct Scene<'a> {
 
 /// An agent that is to be asked: its place among those that are held, and the numbers of the cell
 /// that it stands in.
-#[derive(Debug, Clone, Copy, Drop)]
+#[derive(Clone, Copy, Drop)]
 pub struct Asked {
     column: i64,
     row: i64,
@@ -38,7 +38,7 @@ pub struct Asked {
 }
 
 /// What was heard so far, and what queries need while they are asked.
-#[derive(Debug, Drop)]
+#[derive(Drop)]
 pub struct Hearing {
     pub heard: Heard,
     pub room: Room,

@@ -7,7 +7,7 @@ use brace_num::NoMemory;
 use brace_pieces::Piece;
 
 /// How much a part gave to others so far.
-#[derive(Debug, Clone, Copy, PartialEq, Eq, Drop)]
+#[derive(Clone, Copy, PartialEq, Eq, Drop)]
 pub struct Counts {
     /// Agents shown to parts that do not own them, once for each part and tick.
     pub border: u128,

@@ -30,7 +30,7 @@ use std::alloc::Global;
 
 /// The agents that a part holds in a tick, its own ones and those of others, in columns in the
 /// order of cells; and what was said to them.
-#[derive(Debug, Drop)]
+#[derive(Drop)]
 pub struct Held {
     /// The places of its own agents.
     pub own: Vec<u32>,

@@ -20,7 +20,7 @@ use brace_pieces::Piece;
 use std::alloc::Global;
 
 /// The id of an agent, and the row where it stands.
-#[derive(Debug, Clone, Copy, Drop)]
+#[derive(Clone, Copy, Drop)]
 pub struct Named {
     pub id: u64,
     pub row: u32,

@@ -25,7 +25,7 @@ use brace_num::{List, NoMemory};
 use std::alloc::Global;
 
 /// Where the agents of a class stand, in millionths: columns of x and of y.
-#[derive(Debug, Clone, Copy)]
+#[derive(Clone, Copy)]
 pub struct Axes<'a> {
     pub class: u32,
     pub xs: &'a [i64],

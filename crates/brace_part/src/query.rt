@@ -18,7 +18,7 @@ use std::alloc::Global;
 
 /// The queries that a part asks: those of the script, or those of the forward and of the inverse
 /// program of its inversion.
-#[derive(Debug, Drop)]
+#[derive(Drop)]
 pub enum Queries {
     Script(Plans),
     Inverted(Plans, Plans),

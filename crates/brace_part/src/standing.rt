@@ -7,7 +7,7 @@ use brace_num::List;
 use brace_pieces::{Piece, Shown};
 
 /// What a part has between two of its works.
-#[derive(Debug, Drop)]
+#[derive(Drop)]
 pub enum Stance {
     /// The agents that it owns, in columns.
     Owns(Moved),
@@ -22,7 +22,7 @@ pub enum Stance {
 }
 
 /// What a part has, and what it exchanges in its step.
-#[derive(Debug, Drop)]
+#[derive(Drop)]
 pub struct Standing {
     pub stance: Stance,
     /// The next free id of the world of its tick.

@@ -3,14 +3,14 @@ use brace_model::Who;
 use brace_num::List;
 
 /// A coordinate of an agent.
-#[derive(Debug, Clone, Copy, PartialEq, Eq, Drop)]
+#[derive(Clone, Copy, PartialEq, Eq, Drop)]
 pub enum Axis {
     X,
     Y,
 }
 
 /// How a coordinate has to stand to a limit.
-#[derive(Debug, Clone, Copy, PartialEq, Eq, Drop)]
+#[derive(Clone, Copy, PartialEq, Eq, Drop)]
 pub enum Side {
     Below,
     AtMost,
@@ -20,7 +20,7 @@ pub enum Side {
 }
 
 /// A number that is known when a loop begins, in millionths.
-#[derive(Debug, Clone, Copy, PartialEq, Eq, Drop)]
+#[derive(Clone, Copy, PartialEq, Eq, Drop)]
 pub enum Limit {
     Number(i64),
     /// A state of `this`, by its place in the class's states.
@@ -30,7 +30,7 @@ pub enum Limit {
 }
 
 /// A condition on where a loop's agent stands.
-#[derive(Debug, Clone, Copy, PartialEq, Eq, Drop)]
+#[derive(Clone, Copy, PartialEq, Eq, Drop)]
 pub struct Bound {
     pub axis: Axis,
     pub side: Side,
@@ -38,7 +38,7 @@ pub struct Bound {
 }
 
 /// A statement of a query, compiled.
-#[derive(Debug, Drop)]
+#[derive(Drop)]
 pub enum Action {
     Const(u32, Code),
     If(Code, List<Action>, List<Action>),

@@ -2,7 +2,7 @@ use brace_model::{Fault, Value};
 use std::alloc::Global;
 
 /// A value said to an effect of an agent, which is told by its place in a list of agents.
-#[derive(Debug, Clone, Copy, Drop)]
+#[derive(Clone, Copy, Drop)]
 pub struct Said {
     pub place: u32,
     pub field: u32,
@@ -10,7 +10,7 @@ pub struct Said {
 }
 
 /// What the query of an agent says, in the order in which it is said, and its least fault.
-#[derive(Debug, Drop)]
+#[derive(Drop)]
 pub struct Answer {
     pub said: Vec<Said>,
     pub fault: Option<Fault>,

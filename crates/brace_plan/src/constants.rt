@@ -6,7 +6,7 @@ use std::alloc::Global;
 use std::marker::Model;
 
 /// The constants in scope, with their types. Contracts see them as a list, the latest first.
-#[derive(Debug, Drop)]
+#[derive(Drop)]
 pub struct Constants {
     /// Filled from its end on.
     room: Vec<(u32, Ty)>,

@@ -12,14 +12,14 @@ use brace_num::NoMemory;
 use std::alloc::Global;
 
 /// A constant that was set, and its value before.
-#[derive(Debug, Clone, Copy, Drop)]
+#[derive(Clone, Copy, Drop)]
 pub struct Former {
     pub place: usize,
     pub before: Value,
 }
 
 /// What a walk over a query needs beside the constants' values.
-#[derive(Debug, Drop)]
+#[derive(Drop)]
 pub struct Desk {
     pub drawer: Drawer,
     pub stack: Stack,

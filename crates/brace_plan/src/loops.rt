@@ -5,7 +5,7 @@ use crate::action::Action;
 use brace_num::{List, NoMemory};
 
 /// A loop of a program.
-#[derive(Debug, Clone, Copy, PartialEq, Eq, Drop)]
+#[derive(Clone, Copy, PartialEq, Eq, Drop)]
 pub struct Loop {
     /// The byte offset of the statement.
     pub at: u32,

@@ -8,7 +8,7 @@ use brace_num::{List, NoMemory};
 use std::alloc::Global;
 
 /// What an expression in a loop's condition is to that loop.
-#[derive(Debug, Drop)]
+#[derive(Drop)]
 pub struct Sense {
     /// It has no site, so that it can't fault.
     pub clear: bool,

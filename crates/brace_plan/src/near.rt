@@ -114,7 +114,7 @@ pub fn is_taken(
 }
 
 /// A part of an axis, with both ends.
-#[derive(Debug, Clone, Copy, Drop)]
+#[derive(Clone, Copy, Drop)]
 pub struct Span {
     low: i64,
     high: i64,

@@ -16,14 +16,14 @@ use std::alloc::Global;
 use std::marker::Model;
 
 /// The query of a class, compiled, and how many constants it has.
-#[derive(Debug, Drop)]
+#[derive(Drop)]
 pub struct Planned {
     pub actions: List<Action>,
     pub constants: usize,
 }
 
 /// The queries and the rules of a program, compiled, class by class. Contracts see the program.
-#[derive(Debug, Drop)]
+#[derive(Drop)]
 pub struct Plans {
     pub(crate) program: Program,
     pub(crate) queries: List<Planned>,

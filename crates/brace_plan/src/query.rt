@@ -15,7 +15,7 @@ use brace_num::{List, NoMemory};
 use std::alloc::Global;
 
 /// A value said to an effect of an agent, which is told by its id.
-#[derive(Debug, Clone, Copy, Drop)]
+#[derive(Clone, Copy, Drop)]
 pub struct Saying {
     pub target: u64,
     pub field: u32,
@@ -23,7 +23,7 @@ pub struct Saying {
 }
 
 /// What the query of an agent says, in the order in which it is said, and its least fault.
-#[derive(Debug, Drop)]
+#[derive(Drop)]
 pub struct Query {
     pub said: List<Saying>,
     pub fault: Option<Fault>,

@@ -10,7 +10,7 @@ use std::marker::Model;
 
 /// What queries need while they are asked: their draws, and room that they use again. Contracts see
 /// the seed of the draws.
-#[derive(Debug, Drop)]
+#[derive(Drop)]
 pub struct Room {
     pub(crate) desk: Desk,
     pub(crate) locals: Vec<Value>,

@@ -12,7 +12,7 @@ use brace_num::{List, NoMemory};
 use std::alloc::Global;
 
 /// The rules of a class, compiled, with the conditions of its `die` and its `spawn`.
-#[derive(Debug, Drop)]
+#[derive(Drop)]
 pub struct Rules {
     /// A place for each state, whether it has a rule or not.
     pub states: List<Option<Code>>,

@@ -10,7 +10,7 @@ use brace_grid::Grid;
 use brace_model::{Agent, Env, Fault, Phase, Program, Stop, Value, Who};
 
 /// What a query is asked over.
-#[derive(Debug, Clone, Copy)]
+#[derive(Clone, Copy)]
 pub struct Scene<'a> {
     pub program: &'a Program,
     pub agents: &'a [Agent],
@@ -19,14 +19,14 @@ pub struct Scene<'a> {
 }
 
 /// An agent, and its place in the list of agents.
-#[derive(Debug, Clone, Copy)]
+#[derive(Clone, Copy)]
 pub struct Placed<'a> {
     pub place: u32,
     pub agent: &'a Agent,
 }
 
 /// Where the walk over a query stands.
-#[derive(Debug, Clone, Copy)]
+#[derive(Clone, Copy)]
 pub struct Seat<'a> {
     pub this: Placed<'a>,
     pub outer: Option<Placed<'a>>,

@@ -9,14 +9,14 @@ use brace_model::{Class, Program};
 use brace_num::List;
 
 /// The query of a class as actions, and how many constants they set.
-#[derive(Debug, Clone, Copy)]
+#[derive(Clone, Copy)]
 pub struct Told<'a> {
     pub actions: &'a List<Action>,
     pub constants: usize,
 }
 
 /// A class and its compiled rules.
-#[derive(Debug, Clone, Copy)]
+#[derive(Clone, Copy)]
 pub struct Ruled<'a> {
     pub class: &'a Class,
     pub rules: &'a Rules,

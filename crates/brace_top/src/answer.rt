@@ -10,14 +10,14 @@ use brace_num::NoMemory;
 use std::alloc::Global;
 
 /// What a command answers: its status, and the message on standard error.
-#[derive(Debug, Drop)]
+#[derive(Drop)]
 pub struct Answer {
     pub status: Status,
     pub message: Vec<u8>,
 }
 
 /// Why a command goes no further.
-#[derive(Debug, Drop)]
+#[derive(Drop)]
 pub enum Stopped {
     /// The words ask for no command.
     Usage,

@@ -8,7 +8,7 @@ use brace_num::Text;
 use brace_words::{Line, LineFault, Mode};
 
 /// How a run is worked. Only the counts depend on it: no row and no checkpoint does.
-#[derive(Debug, Clone, Copy)]
+#[derive(Clone, Copy)]
 pub struct Manner {
     /// How many ticks an epoch has, 1 to 16.
     pub epoch: u64,
@@ -21,7 +21,7 @@ pub struct Manner {
 }
 
 /// Where a run begins.
-#[derive(Debug, Clone, Copy)]
+#[derive(Clone, Copy)]
 pub enum Start<'a> {
     /// At tick 0, with the agents of the file of this name and this seed of all draws.
     Anew(&'a str, u64),
@@ -30,7 +30,7 @@ pub enum Start<'a> {
 }
 
 /// A run up to a last tick, at most 2^32.
-#[derive(Debug, Clone, Copy)]
+#[derive(Clone, Copy)]
 pub struct RunCommand<'a> {
     pub script: &'a str,
     pub start: Start<'a>,
@@ -50,7 +50,7 @@ pub struct RunCommand<'a> {
 }
 
 /// A run of the program's own script up to a last tick, at most 2^32.
-#[derive(Debug, Clone, Copy)]
+#[derive(Clone, Copy)]
 pub struct TrialCommand {
     /// How many agents are made, at most 2^20.
     pub count: u32,
@@ -61,7 +61,7 @@ pub struct TrialCommand {
 }
 
 /// Cuts of the plane into strips over the agents of a file.
-#[derive(Debug, Clone, Copy)]
+#[derive(Clone, Copy)]
 pub struct BalanceCommand<'a> {
     pub script: &'a str,
     pub agents: &'a str,
@@ -70,7 +70,7 @@ pub struct BalanceCommand<'a> {
 }
 
 /// The question whether a file is what a run publishes that begins anew.
-#[derive(Debug, Clone, Copy)]
+#[derive(Clone, Copy)]
 pub struct AuditCommand<'a> {
     pub script: &'a str,
     pub agents: &'a str,
@@ -85,7 +85,7 @@ pub struct AuditCommand<'a> {
 }
 
 /// What the words of a command ask for.
-#[derive(Debug, Clone, Copy)]
+#[derive(Clone, Copy)]
 pub enum Command<'a> {
     /// A run.
     Run(RunCommand<'a>),

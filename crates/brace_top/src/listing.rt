@@ -7,14 +7,14 @@ use brace_num::{List, NoMemory};
 use std::alloc::Global;
 
 /// The loops that stand around a statement: the class of the outer one, and of the inner one.
-#[derive(Debug, Clone, Copy)]
+#[derive(Clone, Copy)]
 pub struct Around {
     pub outer: Option<u32>,
     pub inner: Option<u32>,
 }
 
 /// An assignment to a loop's agent.
-#[derive(Debug, Clone, Copy, Drop)]
+#[derive(Clone, Copy, Drop)]
 pub struct Remote {
     /// The byte offset of the statement.
     pub at: u32,

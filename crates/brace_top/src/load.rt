@@ -132,7 +132,7 @@ pub fn load_tree<S: Shelf>(alloc: Global, shelf: &mut S, name: &str) -> Result<T
 }
 
 /// A script that is accepted: its text, and the program that it means.
-#[derive(Debug, Drop)]
+#[derive(Drop)]
 pub struct Script {
     pub source: Vec<u8>,
     pub program: Program,

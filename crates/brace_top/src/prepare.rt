@@ -36,7 +36,7 @@ use brace_watch::Watch;
 use std::alloc::Global;
 
 /// What is left of a command whose files are read.
-#[derive(Debug, Drop)]
+#[derive(Drop)]
 pub enum Work<'a> {
     /// Nothing: its text is written.
     Told(Answer),

@@ -8,7 +8,7 @@ use brace_syntax::SynFault;
 use brace_tok::TokFault;
 
 /// What is found where a script has no tree or no program, in the order in which it is tried.
-#[derive(Debug, Clone, Copy, PartialEq, Eq, Drop)]
+#[derive(Clone, Copy, PartialEq, Eq, Drop)]
 pub enum ScriptKind {
     BadByte,
     OpenComment,
@@ -35,7 +35,7 @@ pub enum ScriptKind {
 }
 
 /// Why a script has no tree or no program.
-#[derive(Debug, Clone, Copy, PartialEq, Eq, Drop)]
+#[derive(Clone, Copy, PartialEq, Eq, Drop)]
 pub enum ScriptFault {
     /// It is refused at this offset.
     Refused(ScriptKind, u32),

@@ -11,7 +11,7 @@ use brace_num::NoMemory;
 use std::alloc::Global;
 
 /// What is told of balanced strips.
-#[derive(Debug, Drop)]
+#[derive(Drop)]
 pub struct Strips {
     /// The line of the cut plan.
     pub plan: Vec<u8>,

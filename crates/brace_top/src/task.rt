@@ -18,7 +18,7 @@ use brace_watch::Watch;
 use std::alloc::Global;
 
 /// A run that can begin, or a trial.
-#[derive(Debug, Drop)]
+#[derive(Drop)]
 pub struct Task<'a> {
     pub setting: Setting,
     /// The number that draws the order of the parts' work.

@@ -15,7 +15,7 @@ use std::thread::Threads;
 const ROOM: u64 = 4000;
 
 /// What a command finds that its lines do not say.
-#[derive(Debug, Clone, Copy, Drop)]
+#[derive(Clone, Copy, Drop)]
 pub enum Found<'a> {
     Nothing,
     /// Other bytes in file a.

@@ -3,21 +3,21 @@ use crate::unfit::Unfit;
 use std::alloc::Global;
 
 /// A file that has to be held behind a command with these bytes, or not to be held.
-#[derive(Debug, Drop)]
+#[derive(Drop)]
 pub struct Held<'a> {
     pub name: &'a str,
     pub bytes: Option<Vec<u8>>,
 }
 
 /// Whose calls fail: those of the shelf, or those of the sink of rows.
-#[derive(Debug, Clone, Copy, Drop)]
+#[derive(Clone, Copy, Drop)]
 pub enum Failing {
     Shelf,
     Sink,
 }
 
 /// What is varied of a command that is given more than once.
-#[derive(Debug, Clone, Copy, Drop)]
+#[derive(Clone, Copy, Drop)]
 pub enum Variation {
     None,
     /// File a is cut off at each place.
@@ -27,7 +27,7 @@ pub enum Variation {
 }
 
 /// A command, what it finds, how it is varied, and what comes of it.
-#[derive(Debug, Drop)]
+#[derive(Drop)]
 pub struct Case<'a> {
     pub words: &'a str,
     pub script: Vec<u8>,

@@ -15,7 +15,7 @@ const LINKS: [&str; 3] = [" --link llld", " --link ta", " --link d"];
 
 /// What was read so far: the texts, the group, its command that is still being read, and how many
 /// commands of the group were given.
-#[derive(Debug, Drop)]
+#[derive(Drop)]
 pub struct Sheet<'a> {
     texts: Vec<Text<'a>>,
     group: &'a str,

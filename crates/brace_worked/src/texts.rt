@@ -3,7 +3,7 @@ use crate::unfit::Unfit;
 use std::alloc::Global;
 
 /// A text with a name.
-#[derive(Debug, Drop)]
+#[derive(Drop)]
 pub struct Text<'a> {
     pub name: &'a str,
     pub bytes: Vec<u8>,

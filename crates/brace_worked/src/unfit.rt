@@ -4,7 +4,7 @@ use std::alloc::{AllocError, AllocFailed};
 use std::str::Utf8Error;
 
 /// Why the commands can't be given.
-#[derive(Debug, Drop)]
+#[derive(Drop)]
 pub enum Unfit {
     /// Their file can't be read, or is no text.
     Unread,
