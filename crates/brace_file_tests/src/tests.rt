@@ -5,3 +5,4 @@ mod plans;
 mod rows;
 mod shelves;
 mod sinks;
+mod watches;

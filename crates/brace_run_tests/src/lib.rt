@@ -1,4 +1,5 @@
-//! Runs worked by hand: parts that exchange pieces, publishers, and crews of several workers.
+//! Runs worked by hand: frames, parts that exchange pieces, publishers, and crews of several
+//! workers.
 #![tactic(auto)]
 
 #[cfg(test)]

@@ -14,6 +14,3 @@ pub use count::figures;
 pub use file::read_watch;
 pub use kinds::{Figures, Watch, WatchFault, WatchKind};
 pub use print::print_watched;
-
-#[cfg(test)]
-mod tests;

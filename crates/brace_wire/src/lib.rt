@@ -27,6 +27,3 @@ pub use frame::Frame;
 pub use kept::Kept;
 pub use run::run_over_links;
 pub use wire_lanes::WireLanes;
-
-#[cfg(test)]
-mod tests;

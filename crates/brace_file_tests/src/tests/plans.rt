@@ -2,7 +2,7 @@ ghost use Rattle.std.specs.Prelude.{IfOk};
 ghost use Rattle.brace_cuts.specs.Space.{LawfulCuts};
 
 use brace_cuts::{CutPlan, Cuts, PlanFault, PlanKind, read_plan};
-use brace_num::{Area, List};
+use brace_num::List;
 use std::alloc::Global;
 use std::test::Fail;
 
@@ -146,8 +146,8 @@ fn reads_plans(rt: HostRuntime) -> Result<(), Fail> {
     let alloc = rt.alloc();
     for (text, epoch, wanted) in PLANS {
         let plan = plan_of(alloc, text, epoch)?.ok().ok_or("a plan")?;
-        assert!(rt; is_plan(&plan, wanted));
-        assert!(rt; is_plan(&plan.copy(alloc)?, wanted));
+        let copy = plan.copy(alloc)?;
+        assert!(rt; is_plan(&plan, wanted) && is_plan(&copy, wanted));
     }
     Ok(())
 }
@@ -180,18 +180,21 @@ fn line_with(alloc: Global, xs: usize, ys: usize) -> Result<String, Fail> {
     Ok(text)
 }
 
+// How many cuts along x and along y, and the fault of the line that has them.
+const SIZES: [(usize, usize, Option<PlanFault>); 7] = [
+    (63, 0, None),
+    (0, 63, None),
+    (7, 7, None),
+    (2, 20, None),
+    (64, 0, Some(PlanFault::Bad(1, PlanKind::TooMany))),
+    (0, 64, Some(PlanFault::Bad(1, PlanKind::TooMany))),
+    (4, 12, Some(PlanFault::Bad(1, PlanKind::TooMany))),
+];
+
 #[test]
 fn makes_at_most_64_parts(rt: HostRuntime) -> Result<(), Fail> {
     let alloc = rt.alloc();
-    for (xs, ys, wanted) in [
-        (63, 0, None),
-        (0, 63, None),
-        (7, 7, None),
-        (2, 20, None),
-        (64, 0, Some(PlanFault::Bad(1, PlanKind::TooMany))),
-        (0, 64, Some(PlanFault::Bad(1, PlanKind::TooMany))),
-        (4, 12, Some(PlanFault::Bad(1, PlanKind::TooMany))),
-    ] {
+    for (xs, ys, wanted) in SIZES {
         let text = line_with(alloc, xs, ys)?;
         let fault = read_plan(alloc, text.as_bytes(), 1).err();
         assert_eq!(rt; fault, wanted, "{xs} by {ys}");
@@ -237,38 +240,40 @@ fn a_point_on_a_cut_is_on_its_higher_side(rt: HostRuntime) -> Result<(), Fail> {
     Ok(())
 }
 
-fn area(x0: i64, x1: i64, y0: i64, y1: i64) -> Area {
-    Area { x0, x1, y0, y1 }
-}
-
-fn area_of(cuts: &Cuts, p: u32) -> Option<Area> {
+// The bounds of a part, as they are told: the least x, the greatest, the least y and the greatest.
+fn bounds_of(cuts: &Cuts, p: u32) -> Option<[i64; 4]> {
     if cuts.are_lawful() && p < cuts.parts() {
-        Some(cuts.area(p))
+        let area = cuts.area(p);
+        Some([area.x0, area.x1, area.y0, area.y1])
     } else {
         None
     }
 }
 
+const LOW: i64 = i64::MIN;
+
+const HIGH: i64 = i64::MAX;
+
+// Cuts along x and along y, a part, and its bounds.
+const BOUNDS: [(&[i64], &[i64], u32, [i64; 4]); 10] = [
+    (&[-5, 7], &[10], 0, [LOW, -6, LOW, 9]),
+    (&[-5, 7], &[10], 1, [-5, 6, LOW, 9]),
+    (&[-5, 7], &[10], 2, [7, HIGH, LOW, 9]),
+    (&[-5, 7], &[10], 3, [LOW, -6, 10, HIGH]),
+    (&[-5, 7], &[10], 4, [-5, 6, 10, HIGH]),
+    (&[-5, 7], &[10], 5, [7, HIGH, 10, HIGH]),
+    (&[-HIGH, HIGH], &[], 0, [LOW, LOW, LOW, HIGH]),
+    (&[-HIGH, HIGH], &[], 1, [-HIGH, HIGH - 1, LOW, HIGH]),
+    (&[-HIGH, HIGH], &[], 2, [HIGH, HIGH, LOW, HIGH]),
+    (&[], &[], 0, [LOW, HIGH, LOW, HIGH]),
+];
+
 #[test]
 fn areas_include_their_ends(rt: HostRuntime) -> Result<(), Fail> {
     let alloc = rt.alloc();
-    let (low, high) = (i64::MIN, i64::MAX);
-    let cuts = cuts_of(alloc, &[-5, 7], &[10])?;
-    let ends = cuts_of(alloc, &[-high, high], &[])?;
-    let whole = cuts_of(alloc, &[], &[])?;
-    for (cuts, p, wanted) in [
-        (&cuts, 0, area(low, -6, low, 9)),
-        (&cuts, 1, area(-5, 6, low, 9)),
-        (&cuts, 2, area(7, high, low, 9)),
-        (&cuts, 3, area(low, -6, 10, high)),
-        (&cuts, 4, area(-5, 6, 10, high)),
-        (&cuts, 5, area(7, high, 10, high)),
-        (&ends, 0, area(low, low, low, high)),
-        (&ends, 1, area(-high, high - 1, low, high)),
-        (&ends, 2, area(high, high, low, high)),
-        (&whole, 0, area(low, high, low, high)),
-    ] {
-        assert_eq!(rt; area_of(cuts, p), Some(wanted), "part {p}");
+    for (xs, ys, p, wanted) in BOUNDS {
+        let cuts = cuts_of(alloc, xs, ys)?;
+        assert_eq!(rt; bounds_of(&cuts, p), Some(wanted), "part {p}");
     }
     Ok(())
 }
@@ -282,38 +287,53 @@ fn gap_of(cuts: &Cuts, p: u32, q: u32, d: i64) -> Option<(u64, bool)> {
     }
 }
 
-// Two parts, their gap, a distance, and whether they are near at it.
-const GAPS: [(u32, u32, u64, i64, bool); 13] = [
-    (5, 5, 0, 0, true),
-    (5, 5, 0, -1, false),
-    (0, 1, 1, 0, false),
-    (0, 1, 1, 1, true),
-    (1, 0, 1, i64::MAX, true),
-    (0, 5, 1, 1, true),
-    (1, 3, 14, 13, false),
-    (1, 3, 14, 14, true),
-    (0, 3, 26, 26, true),
-    (3, 0, 26, 25, false),
-    (1, 9, 91, 90, false),
-    (0, 11, 91, 91, true),
-    (3, 4, 26, 26, true),
+const XS: &[i64] = &[-5, 7, 20];
+
+const YS: &[i64] = &[10, 100];
+
+// Cuts along x and along y, two parts, their gap, a distance, and whether they are near at it.
+const GAPS: [(&[i64], &[i64], u32, u32, u64, i64, bool); 14] = [
+    (XS, YS, 5, 5, 0, 0, true),
+    (XS, YS, 5, 5, 0, -1, false),
+    (XS, YS, 0, 1, 1, 0, false),
+    (XS, YS, 0, 1, 1, 1, true),
+    (XS, YS, 1, 0, 1, HIGH, true),
+    (XS, YS, 0, 5, 1, 1, true),
+    (XS, YS, 1, 3, 14, 13, false),
+    (XS, YS, 1, 3, 14, 14, true),
+    (XS, YS, 0, 3, 26, 26, true),
+    (XS, YS, 3, 0, 26, 25, false),
+    (XS, YS, 1, 9, 91, 90, false),
+    (XS, YS, 0, 11, 91, 91, true),
+    (XS, YS, 3, 4, 26, 26, true),
+    (&[-HIGH, HIGH], &[], 2, 0, u64::MAX, HIGH, false),
 ];
 
 #[test]
 fn gaps_are_those_of_the_nearest_points(rt: HostRuntime) -> Result<(), Fail> {
     let alloc = rt.alloc();
-    let cuts = cuts_of(alloc, &[-5, 7, 20], &[10, 100])?;
-    for (p, q, gap, d, near) in GAPS {
+    for (xs, ys, p, q, gap, d, near) in GAPS {
+        let cuts = cuts_of(alloc, xs, ys)?;
         assert_eq!(rt;
             gap_of(&cuts, p, q, d),
             Some((gap, near)),
             "{p}, {q} at {d}"
         );
     }
-    let ends = cuts_of(alloc, &[-i64::MAX, i64::MAX], &[])?;
-    assert_eq!(rt; gap_of(&ends, 2, 0, i64::MAX), Some((u64::MAX, false)));
     Ok(())
 }
+
+// Ticks, and the cuts that hold then.
+const HELD: [(u64, &[i64]); 8] = [
+    (0, &[1_000_000]),
+    (1, &[1_000_000]),
+    (2, &[-1_000_000]),
+    (3, &[-1_000_000]),
+    (7, &[-1_000_000]),
+    (8, &[3_000_000]),
+    (4_294_967_296, &[3_000_000]),
+    (u64::MAX, &[3_000_000]),
+];
 
 #[test]
 fn cuts_hold_from_the_tick_of_their_line_on(rt: HostRuntime) -> Result<(), Fail> {
@@ -321,21 +341,8 @@ fn cuts_hold_from_the_tick_of_their_line_on(rt: HostRuntime) -> Result<(), Fail>
     let Ok(plan) = read_plan(alloc, b"at 0 x 1 y\nat 2 x -1 y\nat 8 x 3 y", 2) else {
         return Err("no plan".into());
     };
-    for (tick, wanted) in [
-        (0, 1_000_000),
-        (1, 1_000_000),
-        (2, -1_000_000),
-        (3, -1_000_000),
-        (7, -1_000_000),
-        (8, 3_000_000),
-        (4_294_967_296, 3_000_000),
-        (u64::MAX, 3_000_000),
-    ] {
-        assert_eq!(rt;
-            plan.cuts_at(tick).xs.as_slice(),
-            [wanted].as_slice(),
-            "tick {tick}"
-        );
+    for (tick, wanted) in HELD {
+        assert_eq!(rt; plan.cuts_at(tick).xs.as_slice(), wanted, "tick {tick}");
     }
     Ok(())
 }

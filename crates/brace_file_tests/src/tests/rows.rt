@@ -52,23 +52,36 @@ fn agent_of(alloc: Global, class: u32, id: u64, values: &[Value]) -> Result<Agen
     })
 }
 
+// Classes, ids and values of agents.
+const AGENTS: [(u32, u64, &[Value]); 3] = [
+    (0, 0, &[Value::Fixed(3_000_000), Value::Fixed(-1)]),
+    (
+        1,
+        7,
+        &[
+            Value::Fixed(1_000_000),
+            Value::Fixed(i64::MAX),
+            Value::Int(8),
+            Value::Int(-3),
+        ],
+    ),
+    (
+        0,
+        9_223_372_036_854_775_807,
+        &[Value::Flag(true), Value::Flag(false), Value::Int(i64::MIN)],
+    ),
+];
+
 const ROWS: &[u8] = b"3,P,0,3.000000,-0.000001\n3,Quail,7,1.000000,9223372036854.775807,8,-3\n3,P,\
  9223372036854775807,true,false,-9223372036854775808\n";
 
 #[test]
 fn prints_rows_of_ints_fixed_numbers_and_flags(rt: HostRuntime) -> Result<(), Fail> {
     let alloc = rt.alloc();
-    let numbers = [
-        Value::Fixed(1_000_000),
-        Value::Fixed(i64::MAX),
-        Value::Int(8),
-        Value::Int(-3),
-    ];
-    let flags = [Value::Flag(true), Value::Flag(false), Value::Int(i64::MIN)];
     let mut agents = Vec::new(alloc);
-    agents.push(agent_of(alloc, 0, 0, &[Value::Fixed(3_000_000), Value::Fixed(-1)])?)?;
-    agents.push(agent_of(alloc, 1, 7, &numbers)?)?;
-    agents.push(agent_of(alloc, 0, i64::MAX as u64, &flags)?)?;
+    for (class, id, values) in AGENTS {
+        agents.push(agent_of(alloc, class, id, values)?)?;
+    }
     let world = World::from_rising(agents).ok_or("the ids rise")?;
     let mut out = Vec::new(alloc);
     print_tick(&mut out, &program_of(alloc)?, 3, &world)?;
@@ -76,16 +89,20 @@ fn prints_rows_of_ints_fixed_numbers_and_flags(rt: HostRuntime) -> Result<(), Fa
     Ok(())
 }
 
+const VALUES: &[Value] = &[Value::Int(-3), Value::Fixed(500_000), Value::Flag(true)];
+
+// The fields of an agent of a class.
+const FIELDS: [(u32, &[u8]); 2] = [
+    (1, b"> Quail,7,-3,0.500000,true"),
+    (2, b"> ,7,-3,0.500000,true"),
+];
+
 #[test]
 fn prints_the_fields_of_an_agent(rt: HostRuntime) -> Result<(), Fail> {
     let alloc = rt.alloc();
     let program = program_of(alloc)?;
-    let values = [Value::Int(-3), Value::Fixed(500_000), Value::Flag(true)];
-    for (class, wanted) in [
-        (1, b"> Quail,7,-3,0.500000,true".as_slice()),
-        (2, b"> ,7,-3,0.500000,true".as_slice()),
-    ] {
-        let agent = agent_of(alloc, class, 7, &values)?;
+    for (class, wanted) in FIELDS {
+        let agent = agent_of(alloc, class, 7, VALUES)?;
         let mut out = Vec::from_slice(alloc, b"> ")?;
         print_agent(&mut out, &program, &agent)?;
         assert_eq!(rt; out.as_slice(), wanted, "class {class}");
@@ -93,168 +110,265 @@ fn prints_the_fields_of_an_agent(rt: HostRuntime) -> Result<(), Fail> {
     Ok(())
 }
 
-// What csv makes of odd bytes, and each kind of fault at its bounds.
-const FILES: [(&[u8], Result<&str, RowFault>); 52] = [
-    (b"", Ok("")),
-    (b"P,7,0,0", Ok("0,P,7,0.000000,0.000000\n")),
-    (b"\"P\",7,\"0\",0\r\n", Ok("0,P,7,0.000000,0.000000\n")),
+// What csv makes of odd bytes, and each kind of fault at its bounds: files, their agents' rows and
+// their faults.
+const FILES: [(&[u8], &[u8], Option<RowFault>); 52] = [
+    (b"", b"", None),
+    (b"P,7,0,0", b"0,P,7,0.000000,0.000000\n", None),
+    (b"\"P\",7,\"0\",0\r\n", b"0,P,7,0.000000,0.000000\n", None),
     (
         b"P,7,0,0\rP,8,0,0\r",
-        Ok("0,P,7,0.000000,0.000000\n0,P,8,0.000000,0.000000\n"),
+        b"0,P,7,0.000000,0.000000\n0,P,8,0.000000,0.000000\n",
+        None,
     ),
-    (b"\xEF\xBB\xBFP,7,0,0\n", Ok("0,P,7,0.000000,0.000000\n")),
+    (b"\xEF\xBB\xBFP,7,0,0\n", b"0,P,7,0.000000,0.000000\n", None),
     (
         b"P,7,0,0\n\xEF\xBB\xBFP,8,0,0\n",
-        Err(RowFault::Bad(2, RowKind::UnknownClass)),
+        b"",
+        Some(RowFault::Bad(2, RowKind::UnknownClass)),
     ),
-    (b"\n\r\nP,7,0,0\n\n\n", Ok("0,P,7,0.000000,0.000000\n")),
+    (b"\n\r\nP,7,0,0\n\n\n", b"0,P,7,0.000000,0.000000\n", None),
     (
         b"\n\nP,7,0,0\n\nR,8,0,0\n",
-        Err(RowFault::Bad(2, RowKind::UnknownClass)),
+        b"",
+        Some(RowFault::Bad(2, RowKind::UnknownClass)),
     ),
-    (b"  \n", Err(RowFault::Bad(1, RowKind::UnknownClass))),
+    (b"  \n", b"", Some(RowFault::Bad(1, RowKind::UnknownClass))),
     (
         b"\"\"\nP,7,0,0\n",
-        Err(RowFault::Bad(1, RowKind::UnknownClass)),
+        b"",
+        Some(RowFault::Bad(1, RowKind::UnknownClass)),
     ),
     (
         b"class,id,x,y\nP,7,0,0\n",
-        Err(RowFault::Bad(1, RowKind::UnknownClass)),
+        b"",
+        Some(RowFault::Bad(1, RowKind::UnknownClass)),
     ),
-    (b"\"P,7,0,0\n", Err(RowFault::Bad(1, RowKind::UnknownClass))),
+    (
+        b"\"P,7,0,0\n",
+        b"",
+        Some(RowFault::Bad(1, RowKind::UnknownClass)),
+    ),
     (
         b"P,7,0,\"0\nP,8,0,0\n",
-        Err(RowFault::Bad(1, RowKind::BadValue(3))),
+        b"",
+        Some(RowFault::Bad(1, RowKind::BadValue(3))),
     ),
     (
         b"P\"x,7,0,0\n",
-        Err(RowFault::Bad(1, RowKind::UnknownClass)),
+        b"",
+        Some(RowFault::Bad(1, RowKind::UnknownClass)),
     ),
     (
         b"\"P\"x,7,0,0\n",
-        Err(RowFault::Bad(1, RowKind::UnknownClass)),
+        b"",
+        Some(RowFault::Bad(1, RowKind::UnknownClass)),
     ),
-    (b"\0", Err(RowFault::Bad(1, RowKind::UnknownClass))),
-    (b"P,7,0,0\0\n", Err(RowFault::Bad(1, RowKind::BadValue(3)))),
+    (b"\0", b"", Some(RowFault::Bad(1, RowKind::UnknownClass))),
+    (
+        b"P,7,0,0\0\n",
+        b"",
+        Some(RowFault::Bad(1, RowKind::BadValue(3))),
+    ),
     (
         b"\xFF,7,0,0\n",
-        Err(RowFault::Bad(1, RowKind::UnknownClass)),
+        b"",
+        Some(RowFault::Bad(1, RowKind::UnknownClass)),
     ),
-    (b"P,\xC3,0,0\n", Err(RowFault::Bad(1, RowKind::BadValue(1)))),
-    (b"P,7,\xFF,0\n", Err(RowFault::Bad(1, RowKind::BadValue(2)))),
+    (
+        b"P,\xC3,0,0\n",
+        b"",
+        Some(RowFault::Bad(1, RowKind::BadValue(1))),
+    ),
+    (
+        b"P,7,\xFF,0\n",
+        b"",
+        Some(RowFault::Bad(1, RowKind::BadValue(2))),
+    ),
     (
         b"P,9223372036854775807,0,0\n",
-        Ok("0,P,9223372036854775807,0.000000,0.000000\n"),
+        b"0,P,9223372036854775807,0.000000,0.000000\n",
+        None,
     ),
     (
         b"P,9223372036854775808,0,0\n",
-        Err(RowFault::Bad(1, RowKind::BadValue(1))),
+        b"",
+        Some(RowFault::Bad(1, RowKind::BadValue(1))),
     ),
     (
         b"P,18446744073709551616,0,0\n",
-        Err(RowFault::Bad(1, RowKind::BadValue(1))),
+        b"",
+        Some(RowFault::Bad(1, RowKind::BadValue(1))),
     ),
-    (b"P,-1,0,0\n", Err(RowFault::Bad(1, RowKind::BadValue(1)))),
-    (b"P,,0,0\n", Err(RowFault::Bad(1, RowKind::BadValue(1)))),
-    (b"P, 7,0,0\n", Err(RowFault::Bad(1, RowKind::BadValue(1)))),
+    (
+        b"P,-1,0,0\n",
+        b"",
+        Some(RowFault::Bad(1, RowKind::BadValue(1))),
+    ),
+    (
+        b"P,,0,0\n",
+        b"",
+        Some(RowFault::Bad(1, RowKind::BadValue(1))),
+    ),
+    (
+        b"P, 7,0,0\n",
+        b"",
+        Some(RowFault::Bad(1, RowKind::BadValue(1))),
+    ),
     (
         b"Quail,1,9223372036854.775807,9223372036854775807,true\n",
-        Ok("0,Quail,1,9223372036854.775807,9223372036854775807,true\n"),
+        b"0,Quail,1,9223372036854.775807,9223372036854775807,true\n",
+        None,
     ),
     (
         b"Quail,1,-9223372036854.775808,-9223372036854775808,false\n",
-        Ok("0,Quail,1,-9223372036854.775808,-9223372036854775808,false\n"),
+        b"0,Quail,1,-9223372036854.775808,-9223372036854775808,false\n",
+        None,
     ),
     (
         b"Quail,1,9223372036854.775808,0,true\n",
-        Err(RowFault::Bad(1, RowKind::BadValue(2))),
+        b"",
+        Some(RowFault::Bad(1, RowKind::BadValue(2))),
     ),
     (
         b"Quail,1,-9223372036854.775809,0,true\n",
-        Err(RowFault::Bad(1, RowKind::BadValue(2))),
+        b"",
+        Some(RowFault::Bad(1, RowKind::BadValue(2))),
     ),
     (
         b"Quail,1,0,9223372036854775808,true\n",
-        Err(RowFault::Bad(1, RowKind::BadValue(3))),
+        b"",
+        Some(RowFault::Bad(1, RowKind::BadValue(3))),
     ),
     (
         b"Quail,1,0,-9223372036854775809,true\n",
-        Err(RowFault::Bad(1, RowKind::BadValue(3))),
+        b"",
+        Some(RowFault::Bad(1, RowKind::BadValue(3))),
     ),
     (
         b"Quail,1,0,18446744073709551616,true\n",
-        Err(RowFault::Bad(1, RowKind::BadValue(3))),
+        b"",
+        Some(RowFault::Bad(1, RowKind::BadValue(3))),
     ),
     (
         b"Quail,1,0,1.0,true\n",
-        Err(RowFault::Bad(1, RowKind::BadValue(3))),
+        b"",
+        Some(RowFault::Bad(1, RowKind::BadValue(3))),
     ),
     (
         b"Quail,1,0,0,True\n",
-        Err(RowFault::Bad(1, RowKind::BadValue(4))),
+        b"",
+        Some(RowFault::Bad(1, RowKind::BadValue(4))),
     ),
     (
         b"P,7,0.0000000,0\n",
-        Err(RowFault::Bad(1, RowKind::BadValue(2))),
+        b"",
+        Some(RowFault::Bad(1, RowKind::BadValue(2))),
     ),
-    (b"P,7,0,0\t\n", Err(RowFault::Bad(1, RowKind::BadValue(3)))),
-    (b"R\n", Err(RowFault::Bad(1, RowKind::UnknownClass))),
-    (b"P\n", Err(RowFault::Bad(1, RowKind::WrongLength))),
-    (b"P,7,0\n", Err(RowFault::Bad(1, RowKind::WrongLength))),
-    (b"P,x,y,z,\n", Err(RowFault::Bad(1, RowKind::WrongLength))),
-    (b"P,x,y,z\n", Err(RowFault::Bad(1, RowKind::BadValue(1)))),
-    (b"P,7,y,z\n", Err(RowFault::Bad(1, RowKind::BadValue(2)))),
+    (
+        b"P,7,0,0\t\n",
+        b"",
+        Some(RowFault::Bad(1, RowKind::BadValue(3))),
+    ),
+    (b"R\n", b"", Some(RowFault::Bad(1, RowKind::UnknownClass))),
+    (b"P\n", b"", Some(RowFault::Bad(1, RowKind::WrongLength))),
+    (
+        b"P,7,0\n",
+        b"",
+        Some(RowFault::Bad(1, RowKind::WrongLength)),
+    ),
+    (
+        b"P,x,y,z,\n",
+        b"",
+        Some(RowFault::Bad(1, RowKind::WrongLength)),
+    ),
+    (
+        b"P,x,y,z\n",
+        b"",
+        Some(RowFault::Bad(1, RowKind::BadValue(1))),
+    ),
+    (
+        b"P,7,y,z\n",
+        b"",
+        Some(RowFault::Bad(1, RowKind::BadValue(2))),
+    ),
     (
         b"P,7,0,0\nP,7,0,0\n",
-        Err(RowFault::Bad(2, RowKind::DuplicateId)),
+        b"",
+        Some(RowFault::Bad(2, RowKind::DuplicateId)),
     ),
     (
         b"P,8,0,0\nP,7,0,0\nQuail,008,0,0,true\n",
-        Err(RowFault::Bad(3, RowKind::DuplicateId)),
+        b"",
+        Some(RowFault::Bad(3, RowKind::DuplicateId)),
     ),
     (
         b"P,7,0,0\nP,7,y,0\n",
-        Err(RowFault::Bad(2, RowKind::BadValue(2))),
+        b"",
+        Some(RowFault::Bad(2, RowKind::BadValue(2))),
     ),
     (
         b"P,7,0,0\nR\nP,7,0,0\n",
-        Err(RowFault::Bad(2, RowKind::UnknownClass)),
+        b"",
+        Some(RowFault::Bad(2, RowKind::UnknownClass)),
     ),
-    (b"P,7,0\nR\n", Err(RowFault::Bad(1, RowKind::WrongLength))),
+    (
+        b"P,7,0\nR\n",
+        b"",
+        Some(RowFault::Bad(1, RowKind::WrongLength)),
+    ),
     (
         b"P,7,0,0\nP,9,x,0\nP,7,0,0\nR",
-        Err(RowFault::Bad(2, RowKind::BadValue(2))),
+        b"",
+        Some(RowFault::Bad(2, RowKind::BadValue(2))),
     ),
-    (b"P,007,-0,00.50\n", Ok("0,P,7,0.000000,0.500000\n")),
+    (b"P,007,-0,00.50\n", b"0,P,7,0.000000,0.500000\n", None),
     (
         b"P,7,0,0\nQuail,2,2.5,-3,true\nP,0,1,-2\n",
-        Ok("0,P,0,1.000000,-2.000000\n0,Quail,2,2.500000,-3,true\n0,P,7,0.000000,0.000000\n"),
+        b"0,P,0,1.000000,-2.000000\n0,Quail,2,2.500000,-3,true\n0,P,7,0.000000,0.000000\n",
+        None,
     ),
     (
         b"P,2,0,0\nP,1,0,0\n",
-        Ok("0,P,1,0.000000,0.000000\n0,P,2,0.000000,0.000000\n"),
+        b"0,P,1,0.000000,0.000000\n0,P,2,0.000000,0.000000\n",
+        None,
     ),
 ];
+
+// The rows of the agents that a file holds, or its fault.
+fn told(
+    alloc: Global,
+    program: &Program,
+    file: &[u8],
+) -> Result<(Vec<u8>, Option<RowFault>), NoMemory> {
+    let mut out = Vec::new(alloc);
+    match read_agents(alloc, program, file) {
+        Ok(world) => {
+            print_tick(&mut out, program, 0, &world)?;
+            Ok((out, None))
+        }
+        Err(fault) => Ok((out, Some(fault))),
+    }
+}
+
+// A file whose second record has 10000 fields.
+fn wide_file(alloc: Global) -> Result<Vec<u8>, NoMemory> {
+    let mut wide = Vec::from_slice(alloc, b"P,7,0,0\nP")?;
+    for _ in 1..10_000 {
+        wide.extend_from_slice(b",0")?;
+    }
+    Ok(wide)
+}
 
 #[test]
 fn reads_hostile_files_as_csv_defines_them(rt: HostRuntime) -> Result<(), Fail> {
     let alloc = rt.alloc();
     let program = program_of(alloc)?;
-    for (file, wanted) in FILES {
-        match read_agents(alloc, &program, file) {
-            Ok(world) => {
-                let mut out = Vec::new(alloc);
-                print_tick(&mut out, &program, 0, &world)?;
-                let rows = wanted.ok().ok_or("an unwanted world")?;
-                assert_eq!(rt; out.as_slice(), rows.as_bytes(), "{file:?}");
-            }
-            Err(fault) => assert_eq!(rt; Some(fault), wanted.err(), "{file:?}"),
-        }
+    for (file, rows, fault) in FILES {
+        let (out, found) = told(alloc, &program, file)?;
+        assert_eq!(rt; (out.as_slice(), found), (rows, fault), "{file:?}");
     }
-    let mut wide = Vec::from_slice(alloc, b"P,7,0,0\nP")?;
-    for _ in 1..10_000 {
-        wide.extend_from_slice(b",0")?;
-    }
+    let wide = wide_file(alloc)?;
     let fault = read_agents(alloc, &program, wide.as_slice()).err();
     assert_eq!(rt; fault, Some(RowFault::Bad(2, RowKind::WrongLength)));
     Ok(())
@@ -272,8 +386,7 @@ fn makes_agents_at_drawn_places(rt: HostRuntime) -> Result<(), Fail> {
         let world = make_agents(alloc, seed, 2)?;
         let mut out = Vec::new(alloc);
         print_tick(&mut out, &program_of(alloc)?, 0, &world)?;
-        assert_eq!(rt; out.as_slice(), MADE);
-        assert_eq!(rt; world.next(), 2);
+        assert_eq!(rt; (out.as_slice(), world.next()), (MADE, 2));
     }
     Ok(())
 }

@@ -1,8 +1,8 @@
-// What no clause says: files and texts worked by hand, and that calls answer where memory is ample.
-use crate::{WatchFault, WatchKind, print_watched, read_watch};
+// Files of watched figures and their texts, worked by hand.
 use brace_cuts::Cuts;
 use brace_model::{Agent, Class, Program, State, Ty, Value};
 use brace_num::{List, Text};
+use brace_watch::{WatchFault, WatchKind, print_watched, read_watch};
 use std::alloc::Global;
 use std::test::Fail;
 
@@ -21,13 +21,19 @@ fn state(alloc: Global, name: &str, ty: Ty) -> Result<State, Fail> {
     })
 }
 
-// A class `F` with the states x, y, n and b.
+const STATES: [(&str, Ty); 4] = [
+    ("x", Ty::Fixed),
+    ("y", Ty::Fixed),
+    ("n", Ty::Int),
+    ("b", Ty::Bool),
+];
+
+// A class `F` with these states.
 fn program(alloc: Global) -> Result<Program, Fail> {
     let mut states = List::new(alloc);
-    states.push(state(alloc, "x", Ty::Fixed)?)?;
-    states.push(state(alloc, "y", Ty::Fixed)?)?;
-    states.push(state(alloc, "n", Ty::Int)?)?;
-    states.push(state(alloc, "b", Ty::Bool)?)?;
+    for (name, ty) in STATES {
+        states.push(state(alloc, name, ty)?)?;
+    }
     let mut classes = List::new(alloc);
     classes.push(Class {
         name: text(alloc, "F")?,
@@ -47,18 +53,25 @@ fn program(alloc: Global) -> Result<Program, Fail> {
     })
 }
 
-// An agent on the line y = 0.
-fn agent(alloc: Global, id: u64, x: i64, n: i64, b: bool) -> Result<Agent, Fail> {
-    let mut states = List::new(alloc);
-    states.push(Value::Fixed(x))?;
-    states.push(Value::Fixed(0))?;
-    states.push(Value::Int(n))?;
-    states.push(Value::Flag(b))?;
-    Ok(Agent {
-        class: 0,
-        id,
-        states,
-    })
+// The id, x, n and b of an agent on the line y = 0.
+type Row = (u64, i64, i64, bool);
+
+fn agents(alloc: Global, rows: &[Row]) -> Result<Vec<Agent>, Fail> {
+    let mut agents = Vec::new(alloc);
+    for (id, x, n, b) in rows {
+        let values = [
+            Value::Fixed(*x),
+            Value::Fixed(0),
+            Value::Int(*n),
+            Value::Flag(*b),
+        ];
+        agents.push(Agent {
+            class: 0,
+            id: *id,
+            states: List::from_vec(Vec::from_slice(alloc, &values)?),
+        })?;
+    }
+    Ok(agents)
 }
 
 // The plane cut at x = 2.
@@ -72,7 +85,8 @@ fn cuts(alloc: Global) -> Result<Cuts, Fail> {
 }
 
 // The text of what a file watches, at a tick, over some agents.
-fn told(alloc: Global, file: &[u8], tick: u64, agents: &[Agent]) -> Result<Vec<u8>, Fail> {
+fn told(alloc: Global, file: &[u8], tick: u64, rows: &[Row]) -> Result<Vec<u8>, Fail> {
+    let agents = agents(alloc, rows)?;
     let program = program(alloc)?;
     let Ok(watches) = read_watch(alloc, &program, file) else {
         return Err("a watch file is refused".into());
@@ -89,55 +103,58 @@ fn told(alloc: Global, file: &[u8], tick: u64, agents: &[Agent]) -> Result<Vec<u
         watches.as_slice(),
         &cuts,
         tick,
-        agents,
+        agents.as_slice(),
     )?;
     Ok(out)
 }
 
-// Files and the texts that they ask for.
-const TOLD: [(&[u8], &[u8]); 8] = [
+const NEAR: &[Row] = &[
+    (1, 0, 1, true),
+    (2, 2_000_000, 2, false),
+    (3, 2_000_001, 1, true),
+];
+
+const FAR: &[Row] = &[(1, i64::MAX, i64::MIN, true), (2, i64::MAX, i64::MIN, true)];
+
+// Files, ticks and agents, and the texts that they ask for.
+const TOLD: [(&[u8], u64, &[Row], &[u8]); 9] = [
     (
         b"count F\nsum F x\nmax F n where n < 2\n",
+        1,
+        NEAR,
         b"1,1,3,1,2\n1,2,4.000001,0.000000,4.000001\n1,3,1,1,1\n",
     ),
-    (b"", b""),
-    (b"min F x where n >= 3", b"1,1,none,none,none\n"),
-    (b"count F where b == true", b"1,1,2,1,1\n"),
-    (b"count F where x == 2", b"1,1,1,0,1\n"),
+    (b"", 1, NEAR, b""),
+    (b"min F x where n >= 3", 1, NEAR, b"1,1,none,none,none\n"),
+    (b"count F where b == true", 1, NEAR, b"1,1,2,1,1\n"),
+    (b"count F where x == 2", 1, NEAR, b"1,1,1,0,1\n"),
     (
         b"min F x where x > 2\nmax F x where x <= 2.0",
+        1,
+        NEAR,
         b"1,1,2.000001,none,2.000001\n1,2,2.000000,0.000000,2.000000\n",
     ),
-    (b"sum F n where n > 5\n", b"1,1,0,0,0\n"),
-    (b"sum F n\n", b"1,1,4,1,3\n"),
+    (b"sum F n where n > 5\n", 1, NEAR, b"1,1,0,0,0\n"),
+    (b"sum F n\n", 1, NEAR, b"1,1,4,1,3\n"),
+    // Sums go past 64 bits.
+    (
+        b"sum F x\nsum F n\nmin F n\n",
+        0,
+        FAR,
+        b"0,1,18446744073709.551614,0.000000,18446744073709.551614
+0,2,-18446744073709551616,0,-18446744073709551616
+0,3,-9223372036854775808,none,-9223372036854775808
+",
+    ),
 ];
 
 #[test]
 fn figures_are_told_by_box(rt: HostRuntime) -> Result<(), Fail> {
     let alloc = rt.alloc();
-    let mut agents = Vec::new(alloc);
-    agents.push(agent(alloc, 1, 0, 1, true)?)?;
-    agents.push(agent(alloc, 2, 2_000_000, 2, false)?)?;
-    agents.push(agent(alloc, 3, 2_000_001, 1, true)?)?;
-    for (file, text) in TOLD {
-        let out = told(alloc, file, 1, agents.as_slice())?;
+    for (file, tick, rows, text) in TOLD {
+        let out = told(alloc, file, tick, rows)?;
         assert_eq!(rt; out.as_slice(), text);
     }
-    Ok(())
-}
-
-#[test]
-fn sums_go_past_64_bits(rt: HostRuntime) -> Result<(), Fail> {
-    let alloc = rt.alloc();
-    let mut agents = Vec::new(alloc);
-    agents.push(agent(alloc, 1, i64::MAX, i64::MIN, true)?)?;
-    agents.push(agent(alloc, 2, i64::MAX, i64::MIN, true)?)?;
-    let out = told(alloc, b"sum F x\nsum F n\nmin F n\n", 0, agents.as_slice())?;
-    let text: &[u8] = b"0,1,18446744073709.551614,0.000000,18446744073709.551614
-0,2,-18446744073709551616,0,-18446744073709551616
-0,3,-9223372036854775808,none,-9223372036854775808
-";
-    assert_eq!(rt; out.as_slice(), text);
     Ok(())
 }
 
@@ -173,13 +190,19 @@ const REFUSED: [(&[u8], u64, WatchKind); 28] = [
     (b"sum F x where where < 3", 1, WatchKind::UnknownField),
 ];
 
+// How many figures a file asks for, or its fault.
+fn count(alloc: Global, program: &Program, file: &[u8]) -> Result<usize, WatchFault> {
+    let watches = read_watch(alloc, program, file)?;
+    Ok(watches.len())
+}
+
 #[test]
 fn files_are_refused_at_their_first_fault(rt: HostRuntime) -> Result<(), Fail> {
     let alloc = rt.alloc();
     let program = program(alloc)?;
     for (file, line, kind) in REFUSED {
-        let found = read_watch(alloc, &program, file);
-        assert_eq!(rt; found.err(), Some(WatchFault::Bad(line, kind)));
+        let found = count(alloc, &program, file);
+        assert_eq!(rt; found, Err(WatchFault::Bad(line, kind)));
     }
     Ok(())
 }
@@ -194,23 +217,23 @@ fn lines(alloc: Global, many: u32, last: &[u8]) -> Result<Vec<u8>, Fail> {
     Ok(file)
 }
 
+// What stands behind 64 lines, and what the file asks for, or its fault.
+const LAST: [(&[u8], Result<usize, WatchFault>); 3] = [
+    (b"", Ok(64)),
+    (b"count F", Err(WatchFault::Bad(65, WatchKind::TooMany))),
+    (
+        b"count G",
+        Err(WatchFault::Bad(65, WatchKind::UnknownClass)),
+    ),
+];
+
 #[test]
 fn a_file_has_at_most_64_lines(rt: HostRuntime) -> Result<(), Fail> {
     let alloc = rt.alloc();
     let program = program(alloc)?;
-    let full = lines(alloc, 64, b"")?;
-    let Ok(watches) = read_watch(alloc, &program, full.as_slice()) else {
-        return Err("64 lines are refused".into());
-    };
-    assert_eq!(rt; watches.len(), 64);
-    let more = lines(alloc, 64, b"count F")?;
-    let found = read_watch(alloc, &program, more.as_slice());
-    assert_eq!(rt; found.err(), Some(WatchFault::Bad(65, WatchKind::TooMany)));
-    let bad = lines(alloc, 64, b"count G")?;
-    let found = read_watch(alloc, &program, bad.as_slice());
-    assert_eq!(rt;
-        found.err(),
-        Some(WatchFault::Bad(65, WatchKind::UnknownClass))
-    );
+    for (last, wanted) in LAST {
+        let file = lines(alloc, 64, last)?;
+        assert_eq!(rt; count(alloc, &program, file.as_slice()), wanted);
+    }
     Ok(())
 }

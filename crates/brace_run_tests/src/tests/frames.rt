@@ -1,9 +1,9 @@
-// What no clause says: bytes of frames worked by hand, and that calls answer where memory is ample.
-use crate::{Decoder, Frame, WireFault, encode};
+// Bytes of frames worked by hand.
 use brace_comb::{Entry, Total};
 use brace_model::{Agent, Census, Class, Fault, Parent, Phase, Program, State, Ty, Value};
 use brace_num::{Kind, List, NoMemory, Text};
 use brace_pieces::{Cause, Piece, Shown};
+use brace_wire::{Decoder, Frame, WireFault, encode};
 use std::alloc::Global;
 use std::test::Fail;
 
