@@ -241,6 +241,7 @@ module _ (s : Setting) where
             call = cut.call;
             is_next = sym (get_front m (calls s)) ∙ ap (λ all. slice_get all m) same ∙ get_front m (end_calls s) ∙ cut.is_next;
             is_cut = subst (λ made. of.cut (behind of s opening made) s cut.call.tick cut.call.worlds x (of.state now)) (sym (take_front m (end_calls s)) ∙ ap (take m) (sym same) ∙ take_front m (calls s)) cut.is_cut;
+            found_memory = cut.found_memory;
             is_named = cut.is_named;
             written = cut.written;
             saved = cut.saved;

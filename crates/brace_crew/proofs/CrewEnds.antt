@@ -32,7 +32,7 @@ use Rattle.brace_crew.specs.declared.publisher.PubFault.TheVariants as refusal
 use Rattle.brace_crew.specs.declared.crew.CrewFault.TheVariants as fault
 use Rattle.brace_crew.specs.declared.desk.Lot.{Lot}
 use Rattle.brace_crew.specs.Refusals.{tick_of}
-use Rattle.brace_crew.specs.Calls.{Call, ticks_left, call_of, calls_to, calls, call_at, behind, IsCut, IsFront, HasRun, Rises, CameTo}
+use Rattle.brace_crew.specs.Calls.{Call, ticks_left, call_of, calls_to, calls, call_at, behind, IsCut, IsFront, HasRun, Rises, refused_by, CameBy, CameTo}
 use Rattle.brace_crew.specs.Desks.{OnDesk, whole_at, end_calls, ends_before, AreFaultless, StoppedAt, HasShown, HasHalted, HasRefused}
 use Rattle.brace_crew.specs.declared.member.Member.TheVariants as member
 use Rattle.brace_crew.specs.Members.{IsAt, WasUntold}
@@ -147,9 +147,12 @@ module _ {P : Type 0} (of : publisher.Ghosts P) (s : Setting) (run : IsRun s) (o
           ∙ sym (ap (behind of s opening) (rest_is ∙ ap (λ cs. published ++ cs) (one_call x xs is))
           ∙ fold-append (λ v c. of.after v s c.tick c.worlds) (of.state opening) published (record { tick = g.tick; worlds = worlds } ∷ []))
 
-      pub rest_cut : (x : Shown) (xs : List Shown) → worlds ≡ x ∷ xs → Rises of opening now → (last : P) (y : PubFault) → of.cut (of.state now) s g.tick worlds y (of.state last) → ((k : ℕ) → tick_of y ≡ Some k → (k ≡ g.tick) × Rose (of.saves now) (of.saves last))
+      pub rest_cut : (x : Shown) (xs : List Shown) → worlds ≡ x ∷ xs → Rises of opening now
+          → (last : P) (y : PubFault) → of.cut (of.state now) s g.tick worlds y (of.state last)
+          → (y ≡ refusal.NoMemory → ⊥)
+          → ((k : ℕ) → tick_of y ≡ Some k → (k ≡ g.tick) × Rose (of.saves now) (of.saves last))
           → (y ≡ refusal.Write → Rose (of.writes now) (of.writes last)) → (cut : IsCut of s opening last (calls s) y) × (cut.made ≡ ends_before s h.number)
-      rest_cut x xs is rises last y cut saved written =
+      rest_cut x xs is rises last y cut found saved written =
           let all = rest_is ∙ ap (λ cs. published ++ cs) (one_call x xs is) in
           let writes = rises.writes_rise in
           let saves = rises.saves_rise in
@@ -159,6 +162,7 @@ module _ {P : Type 0} (of : publisher.Ghosts P) (s : Setting) (run : IsRun s) (o
               call = record { tick = g.tick; worlds = worlds };
               is_next = ap (λ cs. slice_get cs (length published)) all ∙ made.0;
               is_cut = subst (λ v. of.cut v s g.tick worlds y (of.state last)) (h.is_behind ∙ ap (behind of s opening) (sym (ap (take (length published)) all ∙ made.1))) cut;
+              found_memory = found;
               is_named = λ k named. (saved k named).0;
               written = λ named. rose_from _ _ _ writes (written named);
               saved = λ k named. rose_from _ _ _ saves (saved k named).1;
@@ -380,6 +384,14 @@ none_of : (ws : List Shown) → length ws ≡ 0 → ws ≡ []
 none_of [] e = refl
 none_of (w ∷ ws) e = absurd (omega (arith, e))
 
+-- a publisher refused for want of memory, or the answer tells for what
+told_as : (y : PubFault) → (y ≡ refusal.NoMemory)
+    ⊎ ((y ≡ refusal.NoMemory → ⊥) × (refused_by y ≡ fault.Publish y))
+told_as refusal.NoMemory = inl refl
+told_as refusal.Write = inr ((λ e. cc), refl)
+told_as (refusal.Save k) = inr ((λ e. cc), refl)
+told_as (refusal.Watch k) = inr ((λ e. cc), refl)
+
 some_of : (ws : List Shown) → (length ws ≡ 0 → ⊥) → (x : Shown) × ((xs : List Shown) × (ws ≡ x ∷ xs))
 some_of [] e = absurd (e refl)
 some_of (w ∷ ws) e = (w, (ws, refl))
@@ -427,19 +439,54 @@ module _ {P : Type 0} (of : publisher.Ghosts P) (s : Setting) (run : IsRun s) (d
             rises = then_rises of d.opening v last rises_there more;
           }
 
-      pub rest_was_refused : (y : PubFault) → of.cut (of.state v) s f.tick worlds y (of.state last) → ((k : ℕ) → tick_of y ≡ Some k → (k ≡ f.tick) × Rose (of.saves v) (of.saves last)) → (y ≡ refusal.Write → Rose (of.writes v) (of.writes last))
-          → CameTo of s d.opening last (Err (fault.Publish y))
-      rest_was_refused y cut saved written =
-          let (x, (xs, filled)) = some_of worlds some in
-          record {
-            came = (rest_cut of s run d.opening v d.lots halted.0 f halts e worlds are x xs filled rises_there last y cut saved written).0;
-            rises = then_rises of d.opening v last rises_there more;
-          }
+      module _ (y : PubFault) (cut : of.cut (of.state v) s f.tick worlds y (of.state last))
+          (unmoved : y ≡ refusal.NoMemory → of.state last ≡ of.state v)
+          (saved : (k : ℕ) → tick_of y ≡ Some k
+          → (k ≡ f.tick) × Rose (of.saves v) (of.saves last))
+          (written : y ≡ refusal.Write → Rose (of.writes v) (of.writes last)) where
+        abbrev count : ℕ
+        count = ends_before s halts.number
 
-      -- and there it ends where it ends for all that was shown in full
-      pub rest_ends : (n : ℕ) → n ≡ steps_to s (ends_before d.course.setting halted.1.number + 2) → (y : PubFault) → of.cut (of.state v) s f.tick worlds y (of.state last) → ((k : ℕ) → tick_of y ≡ Some k → (k ≡ f.tick) × Rose (of.saves v) (of.saves last))
-          → (y ≡ refusal.Write → Rose (of.writes v) (of.writes last)) → EndsBehind of s d.opening last n (Err (fault.Publish y))
-      rest_ends n is y cut saved written =
-          let (x, (xs, filled)) = some_of worlds some in
-          let (refused, made) = rest_cut of s run d.opening v d.lots halted.0 f halts e worlds are x xs filled rises_there last y cut saved written in
-          (refused, is ∙ ap (λ k. steps_to s (k + 2)) (halts_so.1 ∙ sym made))
+        refused_there : (y ≡ refusal.NoMemory → ⊥)
+            → (cut : IsCut of s d.opening last (calls s) y) × (cut.made ≡ count)
+        refused_there found =
+            let (x, (xs, filled)) = some_of worlds some in
+            rest_cut of s run d.opening v d.lots halted.0 f halts e worlds are x xs filled
+            rises_there last y cut found saved written
+
+        -- without memory it is as it was
+        still_there : y ≡ refusal.NoMemory
+            → (front : IsFront of s d.opening last (calls s)) × (front.made ≡ count)
+        still_there none =
+            let (front, made) = made_first of s run d.opening last count halts.faultless
+            (unmoved none ∙ halts.is_behind) in
+            let there = end_there s halts.number halts.end halts.stands in
+            (front, made ∙ all_taken (ends s) count halts.end there)
+
+        pub rest_was_refused : CameTo of s d.opening last (Err (refused_by y))
+        rest_was_refused = record {
+          came = elim (told_as y) [
+            | inl none ↦
+                subst (λ z. CameBy of s d.opening last (Err (refused_by z))) (sym none)
+                (still_there none).0
+            | inr other ↦
+                subst (λ x. CameBy of s d.opening last (Err x)) (sym other.1)
+                (refused_there other.0).0
+          ];
+          rises = then_rises of d.opening v last rises_there more;
+        }
+
+        -- and there it ends where it ends for all that was shown in full
+        pub rest_ends : (n : ℕ)
+            → n ≡ steps_to s (ends_before d.course.setting halted.1.number + 2)
+            → EndsBehind of s d.opening last n (Err (refused_by y))
+        rest_ends n at = elim (told_as y) [
+          | inl none ↦
+              let (front, made) = still_there none in
+              subst (λ z. EndsBehind of s d.opening last n (Err (refused_by z))) (sym none)
+              (front, at ∙ ap (λ k. steps_to s (k + 2)) (halts_so.1 ∙ sym made))
+          | inr other ↦
+              let (refused, made) = refused_there other.0 in
+              subst (λ x. EndsBehind of s d.opening last n (Err x)) (sym other.1)
+              (refused, at ∙ ap (λ k. steps_to s (k + 2)) (halts_so.1 ∙ sym made))
+        ]

@@ -341,15 +341,18 @@ module _ {P : Type 0} (of : publisher.Ghosts P) (d : OnDesk P) where
 
           -- it refused
           pub refused_shown : (now : P) (x : PubFault) (lots : List Lot) (o : Option Stop) (closed : Bool) → Rises of d.opening d.publisher
-              → of.cut (of.state d.publisher) s t (map (whole_at s) (shown_ticks s t)) x (of.state now) → ((k : ℕ) → tick_of x ≡ Some k → k ≡ t)
+              → of.cut (of.state d.publisher) s t (map (whole_at s) (shown_ticks s t)) x
+              (of.state now) → (x ≡ fault.NoMemory → ⊥)
+              → ((k : ℕ) → tick_of x ≡ Some k → k ≡ t)
               → (x ≡ fault.Write → Rose (of.writes d.publisher) (of.writes now)) → ((k : ℕ) → tick_of x ≡ Some k → Rose (of.saves d.publisher) (of.saves now))
               → IsClosedBy of (behind_work now lots o closed) (Some (stop.Refusal x))
-          refused_shown now x lots o closed rises cut named written saved = record {
+          refused_shown now x lots o closed rises cut found named written saved = record {
             cut_there = record {
               made = ends_before s n;
               call = whole_call s t;
               is_next = call_there s n t is;
               is_cut = subst (λ b. of.cut b s t (map (whole_at s) (shown_ticks s t)) x (of.state now)) h.shown.is_behind cut;
+              found_memory = found;
               is_named = named;
               written = λ e. rose_from _ _ _ rises.writes_rise (written e);
               saved = λ k e. rose_from _ _ _ rises.saves_rise (saved k e);
@@ -359,17 +362,19 @@ module _ {P : Type 0} (of : publisher.Ghosts P) (d : OnDesk P) where
           }
 
         -- a part told a cause there, or memory was refused
-        pub halted_shown : (x : Cause) (lots : List Lot) (o : Option Stop) (closed : Bool) → All (λ lot. IsShown s t lot.part lot.worlds) lots → IsRightCause s n x
-            → IsClosedBy of (behind_work d.publisher lots o closed) (Some (stop.Halt x))
-        halted_shown x lots o closed brought right = (
+        pub halted_shown : (x : Cause) (now : P) (lots : List Lot) (o : Option Stop)
+            (closed : Bool) → of.state now ≡ of.state d.publisher
+            → All (λ lot. IsShown s t lot.part lot.worlds) lots → IsRightCause s n x
+            → IsClosedBy of (behind_work now lots o closed) (Some (stop.Halt x))
+        halted_shown x now lots o closed same brought right = (
           record {
             number = n;
             end = t;
             stands = is;
-            shown = shown_kept (n + 1) 0 lots o closed d.told (ends_before s n) h.shown;
+            shown = record { is_behind = same ∙ h.shown.is_behind; faultless = h.shown.faultless };
             right = right;
             brought = brought;
-            stopped = stopped_there d.publisher t is h.untold h.seen lots o closed;
+            stopped = stopped_there now t is h.untold h.seen lots o closed;
           },
           right_later s n (n + 1) x (omega arith) right,
         )
@@ -382,4 +387,4 @@ module _ {P : Type 0} (of : publisher.Ghosts P) (d : OnDesk P) where
             by_stop None is half = absurd (some is)
             by_stop (Some x) is half =
                 subst (λ y. IsClosedBy of (behind_work d.publisher d.lots o closed) (Some y)) (sym half.halts)
-                (halted_shown half.cause d.lots o closed are_shown half.right)
+                (halted_shown half.cause d.publisher d.lots o closed refl are_shown half.right)

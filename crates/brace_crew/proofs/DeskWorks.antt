@@ -103,21 +103,25 @@ module _ {P : Type 0} (of : publisher.Ghosts P) (d : OnDesk P) (room : ℕ) (h :
           -- it refused, or memory was refused
           module _ {U : Type 0} (r : Result U Stop)
               (refused : (x : PubFault) → r ≡ Err (stop.Refusal x) → of.cut (of.state d.publisher) s t (map (whole_at s) (shown_ticks s t)) x (of.state p))
+              (found : (x : PubFault) → r ≡ Err (stop.Refusal x) → x ≡ fault.NoMemory → ⊥)
               (named : (x : PubFault) (k : ℕ) → r ≡ Err (stop.Refusal x) → tick_of x ≡ Some k → k ≡ t)
-              (halted : (c : Cause) → r ≡ Err (stop.Halt c) → (c ≡ cause.NoMemory) × (p ≡ d.publisher))
+              (halted : (c : Cause) → r ≡ Err (stop.Halt c)
+              → (c ≡ cause.NoMemory) × (of.state p ≡ of.state d.publisher))
               (written : r ≡ Err (stop.Refusal fault.Write) → Rose (of.writes d.publisher) (of.writes p))
               (saved : (x : PubFault) (k : ℕ) → r ≡ Err (stop.Refusal x) → tick_of x ≡ Some k → Rose (of.saves d.publisher) (of.saves p)) where
             closed_so : (y : Stop) → r ≡ Err y → IsClosedBy of (worked p lots (Some y) closed d.told) (Some y)
             closed_so (stop.Halt c) e =
                 let (memory, kept) = halted c e in
-                subst (λ q. IsClosedBy of (worked q lots (Some (stop.Halt c)) closed d.told) (Some (stop.Halt c))) (sym kept)
-                (halted_shown of d goes next_work h.is_last h.on_course.before_work t is c lots (Some (stop.Halt c)) closed
+                halted_shown of d goes next_work h.is_last h.on_course.before_work t is c p lots
+                (Some (stop.Halt c)) closed kept
                 (subst (All (λ lot. IsShown d.course.setting t lot.part lot.worlds)) (sym none) (All-nil (λ lot. IsShown d.course.setting t lot.part lot.worlds)))
-                (subst (IsRightCause d.course.setting d.course.number) (sym memory) tt))
+                (subst (IsRightCause d.course.setting d.course.number) (sym memory) tt)
             closed_so (stop.Refusal x) e =
                 refused_shown of d goes next_work h.is_last h.on_course.before_work t is went p x lots (Some (stop.Refusal x)) closed h.rises
                 (subst (λ (r : Setting). of.cut (of.state d.publisher) r t (map (whole_at r) (shown_ticks r t)) x (of.state p)) same_setting (refused x e))
-                (λ k is. named x k e is) (λ same. written (e ∙ ap (λ z. Err (stop.Refusal z)) same)) (λ k is. saved x k e is)
+                (found x e) (λ k is. named x k e is)
+                (λ same. written (e ∙ ap (λ z. Err (stop.Refusal z)) same))
+                (λ k is. saved x k e is)
 
             pub work_refused : (y : Stop) → r ≡ Err y → closed ≡ is_some (Some y) → IsDesk of (desk_on of d course p lots (Some y) closed d.told) places
             work_refused y e ends =

@@ -22,6 +22,5 @@ pub mod RosterLemmas
 pub mod GatherLemmas
 pub mod BenchSends
 pub mod TeamLemmas
-pub mod WatchLemmas
 pub mod LinkedEnds
 pub mod BytesLemmas

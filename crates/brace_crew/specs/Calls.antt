@@ -64,13 +64,15 @@ calls s = calls_to s (first_fault s.job)
 abbrev pub behind : {P : Type 0} (of : publisher.Ghosts P) → Setting → P → List Call → of.State
 behind of s opening made = fold (λ x c. of.after x s c.tick c.worlds) (of.state opening) made
 
--- a publisher answered the first of some calls by Ok and refused the next; its counts tell of it
+-- a publisher answered the first of some calls by Ok and refused the next, and not for want of
+-- memory; its counts tell of it
 pub record IsCut {P : Type 0} (of : publisher.Ghosts P) (s : Setting) (opening now : P)
     (all : List Call) (x : PubFault) : Type 0 where
   pub made : ℕ
   pub call : Call
   pub is_next : slice_get all made ≡ Some call
   pub is_cut : of.cut (behind of s opening (take made all)) s call.tick call.worlds x (of.state now)
+  pub found_memory : x ≡ fault.NoMemory → ⊥
   pub is_named : (k : ℕ) → tick_of x ≡ Some k → k ≡ call.tick
   pub written : x ≡ fault.Write → Rose (of.writes opening) (of.writes now)
   pub saved : (k : ℕ) → tick_of x ≡ Some k → Rose (of.saves opening) (of.saves now)
@@ -96,6 +98,13 @@ pub record HasFaulted {P : Type 0} (of : publisher.Ghosts P) (s : Setting) (open
     (f : Fault) : Type 0 where
   pub is_first : first_fault s.job ≡ Some f
   pub is_behind : of.state now ≡ behind of s opening (calls s)
+
+-- what a run answers whose publisher refused: want of memory is no refusal
+abbrev pub refused_by : PubFault → CrewFault
+refused_by fault.NoMemory = crew.NoMemory
+refused_by fault.Write = crew.Publish fault.Write
+refused_by (fault.Save k) = crew.Publish (fault.Save k)
+refused_by (fault.Watch k) = crew.Publish (fault.Watch k)
 
 -- what a run came to by its answer
 abbrev pub CameBy : {P : Type 0} → publisher.Ghosts P → Setting → P → P

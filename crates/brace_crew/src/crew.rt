@@ -15,7 +15,7 @@ ghost use Rattle.brace_part.specs.declared.counts.Counts.{Counts};
 ghost use Rattle.brace_part.specs.Given.{all_given};
 ghost use Rattle.brace_crew.specs.declared.publisher.PubFault.{PubFault};
 ghost use Rattle.brace_crew.specs.declared.publisher.PubFault.TheVariants as refusal;
-ghost use Rattle.brace_crew.specs.Calls.{ticks_left, Rises, CameTo};
+ghost use Rattle.brace_crew.specs.Calls.{ticks_left, refused_by, Rises, CameTo};
 ghost use Rattle.brace_crew.specs.Desks.{whole_at, HasHalted};
 ghost use Rattle.brace_crew.specs.Members.{course_of, opening_of, HasTold, IsAt, WasUntold};
 ghost use Rattle.brace_crew.specs.Workers.{AreUsedTo, EndsBehind, HasEnded};
@@ -38,9 +38,9 @@ use std::alloc::Global;
 pub enum CrewFault {
     /// The run's first fault; all up to its tick was published.
     Fault(Fault),
-    /// The publisher refused.
+    /// The publisher refused, and not for want of memory.
     Publish(PubFault),
-    /// Memory was refused.
+    /// Memory was refused, to the crew or to the publisher.
     NoMemory,
 }
 
@@ -304,6 +304,16 @@ pub(crate) fn end_here<P: Publisher>(members: &mut [Member<P>]) -> bool
     members[last].ends_here()
 }
 
+/// What a run answers whose publisher refused.
+fn refused_by(refusal: PubFault) -> CrewFault
+    ensures { result ≡ refused_by refusal }
+{
+    match refusal {
+        PubFault::NoMemory => CrewFault::NoMemory,
+        PubFault::Write | PubFault::Save(_) | PubFault::Watch(_) => CrewFault::Publish(refusal),
+    }
+}
+
 /// What a run comes to whose parts met faults: the least of these, where all up to its tick is
 /// published.
 fn ended<P: Publisher>(
@@ -335,7 +345,7 @@ fn ended<P: Publisher>(
     };
     if !worlds.is_empty() {
         if let Err(refusal) = publisher.epoch(alloc, setting, fault.tick, &worlds) {
-            return (publisher, CrewFault::Publish(refusal));
+            return (publisher, refused_by(refusal));
         }
     }
     (publisher, CrewFault::Fault(fault))

@@ -41,7 +41,7 @@ pub struct Lot {
 /// Why a desk publishes nothing any more.
 #[derive(Clone, Copy, PartialEq, Eq, Drop)]
 pub enum Stop {
-    /// A part goes no further, or the desk had no memory.
+    /// A part goes no further, or the desk or its publisher had no memory.
     Halt(Cause),
     /// The publisher refused.
     Refusal(PubFault),
@@ -221,8 +221,9 @@ fn publish<P: Publisher>(
         (map (whole_at setting.now) (shown_ticks setting.now end)) x (P.state publisher.new) }
     ensures named { (x : PubFault) (k : ℕ) → result ≡ Err (stop.Refusal x) → tick_of x ≡ Some k
         → k ≡ end }
+    ensures found_memory { (x : PubFault) → result ≡ Err (stop.Refusal x) → x ≡ fault.NoMemory → ⊥ }
     ensures halted { (c : Cause) → result ≡ Err (stop.Halt c)
-        → (c ≡ cause.NoMemory) × (publisher.new ≡ publisher.old) }
+        → (c ≡ cause.NoMemory) × (P.state publisher.new ≡ P.state publisher.old) }
     ensures written { result ≡ Err (stop.Refusal fault.Write)
         → Rose (P.writes publisher.old) (P.writes publisher.new) }
     ensures saved { (x : PubFault) (k : ℕ) → result ≡ Err (stop.Refusal x) → tick_of x ≡ Some k
@@ -236,6 +237,7 @@ fn publish<P: Publisher>(
     };
     match publisher.epoch(alloc, setting, end, &worlds) {
         Ok(()) => Ok(()),
+        Err(PubFault::NoMemory) => Err(Stop::Halt(Cause::NoMemory)),
         Err(fault) => Err(Stop::Refusal(fault)),
     }
 }

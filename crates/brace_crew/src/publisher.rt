@@ -75,7 +75,8 @@ pub trait Publisher: Drop {
     ghost fits: { Self → Program → Type 0 };
 
     /// Takes the whole worlds of the ticks that are shown at an end of a run, or behind its fault;
-    /// `tick` is that end, or the fault's. The run is lawful.
+    /// `tick` is that end, or the fault's. The run is lawful. Where memory is refused its state is
+    /// what it was.
     fn epoch(
         &mut self,
         alloc: Global,
@@ -89,6 +90,7 @@ pub trait Publisher: Drop {
             (λ _. state self.new ≡ after (state self.old) setting.now tick shown.now) }
         ensures cut { IfErr result
             (λ fault. cut (state self.old) setting.now tick shown.now fault (state self.new)) }
+        ensures unmoved { result ≡ Err PubFault.NoMemory → state self.new ≡ state self.old }
         ensures written { result ≡ Err PubFault.Write → Rose (writes self.old) (writes self.new) }
         ensures saved { IfErr result (λ fault. (k : ℕ) → tick_of fault ≡ Some k
             → (k ≡ tick) × Rose (saves self.old) (saves self.new)) }

@@ -6,9 +6,10 @@ pub mod Ends
 pub mod Feeds
 pub mod Fitting
 pub mod Headings
-pub mod Laws
 pub mod ReadBack
 pub mod Rises
 pub mod Runs
+pub mod Sizes
+pub mod TextsRead
 pub mod Written
 pub mod Starts

@@ -7,7 +7,7 @@ use Rattle.brace_model.specs.World.{world_with}
 use Rattle.brace_model.specs.Published.{agent_text}
 use Rattle.brace_save.specs.Texts.{Moment, class_line, end_line, heading, lines, text}
 
-text_both : (a b : List (List ℕ)) → text (a ++ b) ≡ text a ++ text b
+pub text_both : (a b : List (List ℕ)) → text (a ++ b) ≡ text a ++ text b
 text_both [] b = refl
 text_both (l ∷ a) b = ap (λ t. (l ++ 10 ∷ []) ++ t) (text_both a b) ∙ sym (append_assoc (l ++ 10 ∷ []) (text a) (text b))
 

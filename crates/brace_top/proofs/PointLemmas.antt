@@ -10,7 +10,7 @@ use Rattle.brace_save.specs.declared.kinds.PointFault.TheVariants as point_fault
 use Rattle.brace_save.specs.Lines.{AreAll, Begin, IsFirstBad, IsRead, read, bad, cut, fault_of, whole_lines, unfinished}
 use Rattle.brace_save.specs.Texts.{Moment}
 use Rattle.brace_save.proofs.Begins.{front_begins}
-use Rattle.brace_save.proofs.Laws.{text_read, read_text}
+use Rattle.brace_save.proofs.TextsRead.{text_read, read_text}
 use Rattle.brace_top.specs.declared.answer.Stopped.{Stopped}
 use Rattle.brace_top.specs.Limits.{checkpoint_limit}
 use Rattle.brace_top.specs.declared.status.Status.TheVariants.{Checkpoint}

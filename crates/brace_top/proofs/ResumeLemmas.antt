@@ -13,11 +13,15 @@ use Rattle.brace_model.specs.World.{World}
 use Rattle.brace_save.specs.Lines.{IsRead, IsText, read, unfinished, whole_lines}
 use Rattle.brace_save.specs.Texts.{Moment, lines}
 use Rattle.brace_save.proofs.Feeds.{lines_one, none_unfinished, whole_text}
+use Rattle.brace_save.proofs.Sizes.{text_short}
+use Rattle.brace_top.specs.Limits.{checkpoint_limit}
+use Rattle.brace_top.specs.declared.status.Status.TheVariants.{Checkpoint}
 use Rattle.brace_top.specs.Commands.{Run, RunCommand, Start, is_anew}
 use Rattle.brace_top.specs.Messages.{fault_message}
-use Rattle.brace_top.specs.Outcome.{BeginsAt, CommandOutcome, ComesTo, FollowedBy, Follows, Outcome, ProgramOf, Refusal, RunFrom, RunOutcome, RunOver, end_message, end_status, plan_of, ran, saves_of, setting_of, source_of, stands_for, watches_of}
+use Rattle.brace_top.specs.Outcome.{BeginsAt, CommandOutcome, ComesTo, FollowedBy, Follows, Outcome, ProgramOf, Refusal, RunFrom, RunOutcome, RunOver, end_message, end_status, loaded, plan_of, ran, saves_of, setting_of, source_of, stands_for, watches_of}
 use Rattle.brace_top.specs.Restarts.{GoesOn, from_tick, told_world}
 use Rattle.brace_top.specs.Scripts.{Means, Refuses}
+use Rattle.brace_top.proofs.AnswerLemmas.{file_loaded}
 use Rattle.brace_top.proofs.NextLemmas.{first_fault_told, published_told, started}
 use Rattle.brace_top.proofs.OneOutcome.{one_program_found}
 use Rattle.brace_top.proofs.PointLemmas.{one_beginning, point_read}
@@ -69,11 +73,20 @@ module _ (files : Files) (job : Job) (tick : ℕ) (world : World) (run : RunComm
   abbrev resumed : Job
   resumed = started later told
 
+  lawful_job : LawfulProgram job.program
+  lawful_job = lawful_of run.script (source_of files run.script) job.program goes_on.means
+
+  -- a checkpoint is within its limit
+  loads : loaded Checkpoint checkpoint_limit goes_on.name (files goes_on.name) ≡ Ok goes_on.bytes
+  loads =
+      file_loaded (Some files) files Checkpoint checkpoint_limit goes_on.name goes_on.bytes refl
+      (λ told. goes_on.held) (text_short job.program moment_ goes_on.bytes lawful_job goes_on.tells)
+
   begins : BeginsAt files job.program run.start (Ok moment_)
   begins =
       subst (λ (start : Start). BeginsAt files job.program start (Ok moment_)) (sym goes_on.begins)
-      (point_read job.program files goes_on.name goes_on.bytes moment_ goes_on.held
-      (is_read job.program moment_ goes_on.bytes (lawful_of run.script (source_of files run.script) job.program goes_on.means) goes_on.tells))
+      (point_read job.program files goes_on.name goes_on.bytes moment_ loads
+      (is_read job.program moment_ goes_on.bytes lawful_job goes_on.tells))
 
   job_is : (setting_of run job.program moment_ goes_on.plan).job ≡ resumed
   job_is =

@@ -1,5 +1,5 @@
 -- A run that is begun anew from one of its own worlds.
-use Rattle.std.specs.Prelude.{◌≡◌, ℕ, List, if◌then◌else◌, Ok}
+use Rattle.std.specs.Prelude.{◌≡◌, ℕ, List, if◌then◌else◌, Some, Ok}
 use Rattle.brace_io.specs.Shelves.{Files}
 use Rattle.brace_cuts.specs.declared.plan.CutPlan.{CutPlan}
 use Rattle.brace_model.specs.declared.job.Job.{Job}
@@ -8,10 +8,8 @@ use Rattle.brace_model.specs.Next.{has_births}
 use Rattle.brace_model.specs.World.{World, world_of}
 use Rattle.brace_save.specs.Lines.{IsText}
 use Rattle.brace_watch.specs.declared.kinds.Watch.{Watch}
-use Rattle.brace_top.specs.Limits.{checkpoint_limit}
-use Rattle.brace_top.specs.declared.status.Status.TheVariants.{Checkpoint}
 use Rattle.brace_top.specs.Commands.{RunCommand, Resumed}
-use Rattle.brace_top.specs.Outcome.{ProgramOf, loaded, plan_of, watches_of}
+use Rattle.brace_top.specs.Outcome.{ProgramOf, plan_of, watches_of}
 
 -- the same run from the world of a tick on
 abbrev pub from_tick : Job → ℕ → World → Job
@@ -30,7 +28,7 @@ pub record GoesOn (files : Files) (job : Job) (tick : ℕ) (world : World) (run 
     pub name : List ℕ
     pub begins : run.start ≡ Resumed name
     pub bytes : List ℕ
-    pub held : loaded Checkpoint checkpoint_limit name (files name) ≡ Ok bytes
+    pub held : files name ≡ Some bytes
     pub tells : IsText job.program (record {
       tick = tick;
       seed = job.seed;

@@ -15,7 +15,7 @@ ghost use Rattle.brace_top.specs.Commands.{Format, Run, RunCommand};
 ghost use Rattle.brace_top.specs.Messages.{fault_message};
 ghost use Rattle.brace_top.specs.Outcome.{Outcome, CommandOutcome, HasOutcome, end_status};
 ghost use Rattle.brace_top.specs.Restarts.{from_tick, told_world, GoesOn};
-ghost use Rattle.brace_top.specs.Limits.{script_limit};
+ghost use Rattle.brace_top.specs.Limits.{script_limit, checkpoint_limit};
 ghost use Rattle.brace_top.specs.declared.status.Status.TheVariants.{Done};
 
 /// A command over files has at most one outcome: one status, one text, one message and one list of
@@ -59,9 +59,10 @@ pub fn runs_may_be_begun_anew()
 {}
 
 /// The file that a run saves at a tick is a checkpoint: it tells the tick, the seed and the tick's
-/// world; where no class bears children, the agents of that world alone.
+/// world; where no class bears children, the agents of that world alone. It is not too long to be
+/// read.
 pub fn saved_files_tell_their_worlds()
-    ensures { (s : Setting) (name : List ℕ) (tick : ℕ) (world : World) → LawfulSetting s
+    ensures tells { (s : Setting) (name : List ℕ) (tick : ℕ) (world : World) → LawfulSetting s
         → NumbersFit s → s.job.seed < 2 ^ 64 → s.job.first ≤ tick → tick ≤ s.job.last
         → world_after s.job (tick - s.job.first) ≡ Ok world
         → IsText s.job.program (record {
@@ -69,6 +70,10 @@ pub fn saved_files_tell_their_worlds()
           seed = s.job.seed;
           world = told_world s.job.program world;
         }) (checkpoint_file name s tick world).1 }
+    ensures within { (s : Setting) (name : List ℕ) (tick : ℕ) (world : World) → LawfulSetting s
+        → NumbersFit s → s.job.seed < 2 ^ 64 → s.job.first ≤ tick → tick ≤ s.job.last
+        → world_after s.job (tick - s.job.first) ≡ Ok world
+        → length (checkpoint_file name s tick world).1 ≤ checkpoint_limit }
 {}
 
 /// A run that is resumed from a checkpoint goes on as the first one does, from the tick that the

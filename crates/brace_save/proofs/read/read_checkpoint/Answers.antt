@@ -1,5 +1,5 @@
 use Rattle.brace_save.specs.Lines.{moment_told}
-use Rattle.brace_save.proofs.Laws.{front_incomplete, incomplete_told, judged, read_text, text_read}
+use Rattle.brace_save.proofs.TextsRead.{front_incomplete, incomplete_told, judged, read_text, text_read}
 use Rattle.brace_save.proofs.read.read_checkpoint.Goals as goal
 
 pub returns-clause-judged : goal.returns-clause-judged

@@ -46,7 +46,10 @@ invariant_of-self-then-eq g c =
           c.go_on.new.self c.go_on.ensures.place c.if-self.false at stands shows w.setting.result.now (w.setting.ensures.setting ∙ c.go_on.ensures.same_setting)
           (not_some c.self.inside.stop (c.is_none.ensures ∙ ap not w.if-is_none.true)) w.publish-shown.new.publisher w.clear.new.self.items w.clear.ensures.items
           (vec_capacity w.clear.new.self) (w.clear.ensures.capacity ∙ w.publish-shown.ensures.places) w.publish-shown.ensures.rises closed
-          w.publish-shown.result w.publish-shown.ensures.refused w.publish-shown.ensures.named w.publish-shown.ensures.halted w.publish-shown.ensures.written w.publish-shown.ensures.saved
+          w.publish-shown.result w.publish-shown.ensures.refused
+          w.publish-shown.ensures.found_memory w.publish-shown.ensures.named
+          w.publish-shown.ensures.halted w.publish-shown.ensures.written
+          w.publish-shown.ensures.saved
           w.in-Err.stop w.in-Err.is (c.is_some-self-inside.ensures ∙ ap (λ (x : Inside g.row.P.Denot). is_some x.stop) w.self-inside-is))
       | then-is_none+in_default-shown w ↦
           subst (λ (x : Inside g.row.P.Denot).
