@@ -90,12 +90,6 @@ block-stopped (h ∷ fs) gs scope e =
 
 -- ---- ledgers
 
-keeps-append-nil : (scene : Scene) (xs : List Saying) (fs : List Fault) (l : Ledger)
-    → Keeps scene (xs ++ []) (fs ++ []) l → Keeps scene xs fs l
-keeps-append-nil scene xs fs l k =
-    subst (λ (ys : List Saying). Keeps scene ys fs l) (append-nil xs)
-    (subst (λ (gs : List Fault). Keeps scene (xs ++ []) gs l) (append-nil fs) k)
-
 -- what was noted before and what is noted then
 pub notes-then : (scene : Scene) (said more : List Saying) (faults further : List Fault) (a b c : Ledger)
     → Notes scene said faults a b → Notes scene more further b c
@@ -149,35 +143,10 @@ heard-found program agents said faults met fault before after is same k =
       starts = k.starts;
     })
 
--- a fault is noted
-pub notes-fault : (scene : Scene) (fault : Fault) (a b : Ledger)
-    → b.heard ≡ record a.heard { least = Some (with_earlier a.heard.least fault) } → Notes scene [] (fault ∷ []) a b
-notes-fault scene fault a b same xs fs k =
-    let kept : IsHeard scene.program.now scene.agents.now xs (fs ++ fault ∷ []) (record a.heard { least = Some (with_earlier a.heard.least fault) }) = record {
-      totals = k.totals;
-      counts = k.counts;
-      least = ap (λ (o : Option Fault). Some (with_earlier o fault)) k.least ∙ sym (least-snoc fs fault);
-      each_starts = k.each_starts;
-      starts = k.starts;
-    } in
-    subst (λ (ys : List Saying). Keeps scene ys (fs ++ fault ∷ []) b) (sym (append-nil xs))
-    (subst (λ (h : Heard). IsHeard scene.program.now scene.agents.now xs (fs ++ fault ∷ []) h) (sym same) kept)
-
--- a value is noted
-pub notes-said : (scene : Scene) (s : Saying) (a b : Ledger)
-    → ((xs : List Saying) (fs : List Fault) → Keeps scene xs fs a → Keeps scene (xs ++ s ∷ []) fs b)
-    → Notes scene (s ∷ []) [] a b
-notes-said scene s a b joins xs fs k =
-    subst (λ (gs : List Fault). Keeps scene (xs ++ s ∷ []) gs b) (sym (append-nil fs)) (joins xs fs k)
-
 -- a fault comes to the same, whatever follows a value
 pub deed-stopped : (scope : Scope) (w : Worth) (f g : Value → Deed) → result_ok w ≡ None → deed_of scope w f ≡ deed_of scope w g
 deed-stopped scope (Ok v) f g e = absurd (cc)
 deed-stopped scope (Err stop) f g e = refl
-
-pub deed-value : (scope : Scope) (w : Worth) (f : Value → Deed) (v : Value) → result_ok w ≡ Some v → deed_of scope w f ≡ f v
-deed-value scope (Ok u) f v e = ap f (cc)
-deed-value scope (Err stop) f v e = absurd (cc)
 
 -- what is noted with a value, and then what is done with it
 pub worth-then : (scene : Scene) (scope : Scope) (w : Worth) (f : Value → Deed) (v : Value) (a b c : Ledger)

@@ -288,6 +288,16 @@ stands-at agents place a is =
     let here = get_or_from_slice_get agents place a a is in
     (le, id_at agents place a le ∙ ap (λ (b : Agent). b.id) here, here)
 
+-- the effects of the agent at a place
+pub effects-at : (program : Program) (agents : List Agent) (place : ℕ) (a x : Agent)
+    (effects : List Effect) → slice_get agents place ≡ Some a → slice_get agents place ≡ Some x
+    → effects ≡ effects_in (class_of program x)
+    → effects_in (class_of program (get_or agents place a)) ≡ effects
+effects-at program agents place a x effects is found of =
+    let (le, id, here) = stands-at agents place a is in
+    let same : x ≡ a = let both = sym found ∙ is in cc in
+    ap (λ (b : Agent). effects_in (class_of program b)) (here ∙ sym same) ∙ sym of
+
 -- where an id stands, an agent has it
 pub stands-one : (agents : List Agent) (place id : ℕ) → place < length agents → get_or (ids agents) place 0 ≡ id
     → (a : Agent) × (slice_get agents place ≡ Some a) × (a.id ≡ id)

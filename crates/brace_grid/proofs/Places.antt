@@ -108,6 +108,13 @@ some_place (s ∷ spots) rise column row =
 pub up_to_same : (column north c r : ℤ) (s : Spot) (b : Bool) → c ≡ column → r ≡ north → is_up_to c r s ≡ b → is_up_to column north s ≡ b
 up_to_same column north c r s b e f h = subst (λ z. is_up_to column z s ≡ b) f (subst (λ z. is_up_to z r s ≡ b) e h)
 
+-- so are those that a walk came past
+pub walked_same : (column north c r : ℤ) (spots : List Spot) (start i : ℕ) → c ≡ column → r ≡ north
+    → ((k : ℕ) (d : Spot) → start ≤ k → k < i → is_up_to c r (get_or spots k d) ≡ true)
+    → (k : ℕ) (d : Spot) → start ≤ k → k < i → is_up_to column north (get_or spots k d) ≡ true
+walked_same column north c r spots start i e f walked k d more less =
+    up_to_same column north c r (get_or spots k d) true e f (walked k d more less)
+
 -- one more spot that is up to a row
 pub walked_more : (spots : List Spot) (column north : ℤ) (start i : ℕ) (s : Spot) → ((d : Spot) → s ≡ get_or spots i d) → is_up_to column north s ≡ true
     → ((k : ℕ) (d : Spot) → start ≤ k → k < i → is_up_to column north (get_or spots k d) ≡ true)

@@ -143,12 +143,6 @@ module _ (c : OnCourse) (d : OnCourse) (place : d ≡ gone_on c) (turn : WorksNe
   pub none_made : d.made ≡ 0
   none_made = ap (λ x. x.made) place_is
 
-  pub setting_on : d.setting ≡ c.setting
-  setting_on = ap (λ x. x.setting) place_is
-
-  pub actor_on : d.actor ≡ c.actor
-  actor_on = ap (λ x. x.actor) place_is
-
   pub work_on : (k : ℕ) (at : Step) (standing : Standing) → k ≡ c.number → step_of c ≡ Some at → GoesOn c standing → IsAtWork d.setting d.actor k at standing
   work_on k at standing number is h =
       let same : turn.at ≡ at = step_same turn.at at (sym turn.stands ∙ is) in

@@ -75,20 +75,6 @@ module _ (s : Setting) (k p : ℕ) (others : List ℕ) where
       let (same, last) = snoc_same left has.pieces piece has.piece has.same in
       (subst (λ r. IsRight s (name k p r) piece) is (subst (IsRight s (name k p (get_or others made 0))) (sym last) has.right), (subst GoesOn (sym last) has.goes, subst (AreOut s k p (drop (made + 1) others)) (sym same) has.rest))
 
-  no_out : (all : List Piece) → AreOut s k p [] all → all ≡ []
-  no_out all none_out = refl
-
-  some_out : (q : ℕ) (qs : List ℕ) (all : List Piece) → AreOut s k p (q ∷ qs) all → all ≡ [] → ⊥
-  some_out q qs all out e = let has = out_last s k p q qs all out in nothing has.pieces has.piece (sym has.same ∙ e)
-    where
-      nothing : (xs : List Piece) (x : Piece) → xs ++ x ∷ [] ≡ [] → ⊥
-      nothing [] x e = cc
-      nothing (y ∷ xs) x e = cc
-
-  -- a part that has a piece to put has one left
-  pub has_piece : (made : ℕ) → made < length others → AreOut s k p (drop made others) [] → ⊥
-  has_piece made low out = some_out (get_or others made 0) (drop (made + 1) others) [] (subst (λ qs. AreOut s k p qs []) (next_of made low) out) refl
-
   -- one more piece that it prepares
   pub one_prepared : (i : ℕ) (q : ℕ) (pieces : List Piece) (piece : Piece) → i < length others → get_or others (length others - 1 - i) 0 ≡ q → IsRight s (name k p q) piece → GoesOn piece
       → AreOut s k p (drop (length others - i) others) pieces → AreOut s k p (drop (length others - (i + 1)) others) (pieces ++ piece ∷ [])

@@ -1,14 +1,23 @@
 -- What is summed of the queries that a part asks of agents in rows.
-use Rattle.std.proofs.Common.{◌≡◌, ◌∙◌, sym, ap, subst, ℕ, List, [], ◌++◌, length, Bool, true, false, if◌then◌else◌, Some, slice_get, arith}
+use Rattle.std.proofs.Common.{◌≡◌, ◌∙◌, sym, ap, subst, ℕ, List, [], ◌++◌, length, get_or, Bool, true, false, if◌then◌else◌, Some, slice_get, arith}
+use Rattle.std.specs.List.{range_with_len}
 use Rattle.std.specs.List.Sorted.{IsPermutation}
-use Rattle.std.proofs.lemmas.List.Sorted.{IsPermutation-keeps}
+use Rattle.std.proofs.lemmas.List.{length-map}
+use Rattle.std.proofs.lemmas.List.Sorted.{IsPermutation-keeps, IsPermutation-sym, IsPermutation-trans}
+use Rattle.brace_num.proofs.Orders.{by_key_keeps}
 use Rattle.brace_model.specs.declared.program.Program.{Program}
 use Rattle.brace_model.specs.declared.fault.Fault.{Fault}
 use Rattle.brace_model.specs.declared.world.Agent.{Agent}
 use Rattle.brace_model.specs.Query.{Saying, query_of}
 use Rattle.brace_eval.specs.Heard.{said_by, faults_by}
+use Rattle.brace_fold.specs.declared.arranged.Arranged.{Arranged}
 use Rattle.brace_fold.specs.declared.table.Table.{Table}
+use Rattle.brace_fold.specs.Arranged.{AreArranged, in_places}
+use Rattle.brace_fold.specs.Asked.{by_row, no_agent}
+use Rattle.brace_fold.specs.Rows.{by_id}
 use Rattle.brace_fold.specs.Sums.{AreSummed}
+use Rattle.brace_fold.proofs.ArrangedLemmas.{in-order}
+use Rattle.brace_fold.proofs.MoveLemmas.{rows-all}
 use Rattle.brace_fold.proofs.Alikes.{alike-append, alike-permuted, alike-refl, summed-alike}
 use Rattle.brace_invert.specs.Split.{forward_program, inverse_program}
 use Rattle.brace_pieces.specs.declared.setting.Setting.{Setting}
@@ -36,6 +45,21 @@ says_too m p same rows said more before after adds is =
     (adds (summed_too p m (λ a. sym (same a)) rows said before is))
 
 -- ---- in another order
+
+-- where all rows ask, all agents of the world do
+pub all_rows_ask : (m : Program) (agents : List Agent) (arranged : Arranged) (places : List ℕ)
+    → AreArranged m agents arranged → places ≡ range_with_len 0 (length arranged.order.items)
+    → IsPermutation (by_row (in_places agents arranged) places) (by_id agents)
+all_rows_ask m agents arranged places so is =
+    let rows = in_places agents arranged in
+    let reads = λ (row : ℕ). get_or agents row no_agent in
+    let every : by_row rows places ≡ rows =
+    ap (by_row rows) (is ∙ ap (range_with_len 0)
+    (sym (length-map arranged.order.items reads))) ∙ rows-all rows in
+    subst (λ l. IsPermutation l (by_id agents)) (sym every)
+    (IsPermutation-trans rows agents (by_id agents)
+    (IsPermutation-sym _ _ (in-order m agents arranged so))
+    (by_key_keeps (λ (a : Agent). a.id) agents))
 
 pub nothing_moved : {A : Type 0} (xs ys : List A) → IsPermutation xs ys → xs ≡ [] → ys ≡ []
 nothing_moved {A = A} xs ys moved none =

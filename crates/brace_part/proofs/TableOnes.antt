@@ -40,12 +40,6 @@ module _ (agents : List Agent) (rises : RisesById agents) where
       let same : place ≡ k = one_place place k low high (at ∙ sym named ∙ sym there) in
       slice_get_read agents (length agents) place a refl low (sym (ap (λ (n : ℕ). get_or agents n a) same ∙ is))
 
-  pub has_id : (a : Agent) (target : ℕ) → Contains agents a → a.id ≡ target
-      → (k : ℕ) × (k < length (ids agents)) × (get_or (ids agents) k 0 ≡ target)
-  has_id a target (k, high, is) named =
-      let long : length (ids agents) ≡ length agents = length-map agents (λ (b : Agent). b.id) in
-      (k, omega (arith, high, long), id_at agents k a high ∙ ap (λ (b : Agent). b.id) is ∙ named)
-
   no_falls : (i j : ℕ) (d : Agent) → (i ≡ j) ⊎ (i < j) → j < length agents → (get_or agents i d).id ≤ (get_or agents j d).id
   no_falls i j d (inl same) within = let one = ap (λ (k : ℕ). (get_or agents k d).id) same in omega (arith, one)
   no_falls i j d (inr lt) within = let up = rises_by_keys (λ (a : Agent). a.id) agents rises i j d lt within in omega (arith, up)

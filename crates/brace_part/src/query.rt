@@ -53,7 +53,8 @@ impl Queries {
 
     /// What the queries of a part say to the agents that it holds, and their least fault: those of
     /// its own agents, which stand at some places; with inversion those of the forward program of
-    /// its own agents, and of the inverse program of all that it holds.
+    /// its own agents, and of the inverse program of all that it holds. They are asked in lanes, and
+    /// where that can't be, agent by agent.
     pub fn heard(
         &self,
         alloc: Global,
@@ -65,10 +66,25 @@ impl Queries {
         requires { CanHear setting.now self.now tick places.now held.now }
         ensures { IfOk result (HearsOver setting.now tick places.now held.now) }
     {
-        match self.heard_in_lanes(alloc, setting, tick, places, held) {
-            Ok(heard) => Ok(heard),
-            Err(Redo) => self.heard_in_turn(alloc, setting, tick, places, held),
+        if let Ok(heard) = self.heard_in_lanes(alloc, setting, tick, places, held) {
+            return Ok(heard);
         }
+        let job = &setting.job;
+        let scene = Scene::open(alloc, &job.program, tick, held)?;
+        let mut hearing = Hearing {
+            heard: Heard::nothing(alloc, &job.program, held)?,
+            room: Room::make(alloc, job.seed)?,
+            answer: Answer::none(alloc),
+        };
+        match self {
+            Queries::Script(plans) => scene.ask_some(plans, places, &mut hearing)?,
+            Queries::Inverted(forward, inverse) => {
+                let all = all_places(alloc, held)?;
+                scene.ask_some(forward, places, &mut hearing)?;
+                scene.ask_some(inverse, &all, &mut hearing)?;
+            }
+        }
+        Ok(hearing.heard)
     }
 
     /// What the queries of a part say, asked in lanes; `Redo` where they are to be asked in turn.
@@ -95,35 +111,5 @@ impl Queries {
             }
         }
         Ok(heard)
-    }
-
-    /// What the queries of a part say, and their least fault, asked agent by agent.
-    fn heard_in_turn(
-        &self,
-        alloc: Global,
-        setting: &Setting,
-        tick: u64,
-        places: &[u32],
-        held: &[Agent],
-    ) -> Result<Heard, NoMemory>
-        requires { CanHear setting.now self.now tick places.now held.now }
-        ensures { IfOk result (HearsOver setting.now tick places.now held.now) }
-    {
-        let job = &setting.job;
-        let scene = Scene::open(alloc, &job.program, tick, held)?;
-        let mut hearing = Hearing {
-            heard: Heard::nothing(alloc, &job.program, held)?,
-            room: Room::make(alloc, job.seed)?,
-            answer: Answer::none(alloc),
-        };
-        match self {
-            Queries::Script(plans) => scene.ask_some(plans, places, &mut hearing)?,
-            Queries::Inverted(forward, inverse) => {
-                let all = all_places(alloc, held)?;
-                scene.ask_some(forward, places, &mut hearing)?;
-                scene.ask_some(inverse, &all, &mut hearing)?;
-            }
-        }
-        Ok(hearing.heard)
     }
 }

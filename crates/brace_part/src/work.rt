@@ -1,4 +1,4 @@
-ghost use Rattle.std.specs.Prelude.{◌≡◌, ◌≤◌, ◌+◌, ◌^◌, ◌++◌, [], List, IsTrue, true, false, None, IfOk, IfErr};
+ghost use Rattle.std.specs.Prelude.{◌≡◌, ◌≤◌, ◌+◌, ◌^◌, ◌++◌, [], List, IsTrue, false, None, IfOk, IfErr};
 ghost use Rattle.std.specs.List.{list_all};
 ghost use Rattle.std.specs.List.Sorted.{IsPermutation};
 ghost use Rattle.std.specs.Vec.{vec_capacity};
@@ -17,7 +17,7 @@ ghost use Rattle.brace_pieces.specs.declared.piece.Cause.TheVariants as cause;
 ghost use Rattle.brace_part.specs.Parts.{own_under, own_before, found_in_work, IsCauseOf};
 ghost use Rattle.brace_part.specs.inner.Holding.{AreHeld, HoldsAll, HoldsAsked, LeavesRows};
 ghost use Rattle.brace_part.specs.inner.Ready.{HearsAll, HearsAsked, IsReadyFor, IsReadyBehind, HasLeft, left_in, born_in, updates_in};
-ghost use Rattle.brace_part.specs.inner.Sound.{IsWorker, IsWork};
+ghost use Rattle.brace_part.specs.inner.Sound.{IsWorker, IsWork, IsReadyTo, IsBehind, finds};
 
 use crate::census::{census_of, first_too_far, joined, numbered};
 use crate::gather::{gathered, kept, sorted};
@@ -117,12 +117,9 @@ impl<'a> Worker<'a> {
         requires held { AreHeld self.now.setting.now self.now.part tick rows.now }
         requires ticks { tick ≤ 2 ^ 32 }
         requires next { self.now.next ≡ (on self.now.setting.now tick).next }
-        ensures ready { IfOk result
-            (IsReadyBehind self.now.setting.now self.now.part stage.Border tick) }
-        ensures passes { IfOk result (λ _. least
-            (found_in_work self.now.setting.now self.now.part stage.Border tick) ≡ None) }
-        ensures faulted { IfErr result (IsCauseOf
-            (found_in_work self.now.setting.now self.now.part stage.Border tick)) }
+        ensures ready { IfOk result (IsBehind self.now stage.Border tick) }
+        ensures passes { IfOk result (λ _. least (finds self.now stage.Border tick) ≡ None) }
+        ensures faulted { IfErr result (IsCauseOf (finds self.now stage.Border tick)) }
     {
         let (held, heard) = self.query(tick, rows)?;
         if let Some(fault) = heard.least {
@@ -140,12 +137,9 @@ impl<'a> Worker<'a> {
         requires work { IsWork self.now stage.Border tick taken.old.items }
         requires own { AreStored self.now.setting.now.job.program
             (own_before self.now.setting.now self.now.part stage.Border tick) own }
-        ensures ready { IfOk result
-            (IsReadyBehind self.now.setting.now self.now.part stage.Border tick) }
-        ensures passes { IfOk result (λ _. least
-            (found_in_work self.now.setting.now self.now.part stage.Border tick) ≡ None) }
-        ensures faulted { IfErr result (IsCauseOf
-            (found_in_work self.now.setting.now self.now.part stage.Border tick)) }
+        ensures ready { IfOk result (IsBehind self.now stage.Border tick) }
+        ensures passes { IfOk result (λ _. least (finds self.now stage.Border tick) ≡ None) }
+        ensures faulted { IfErr result (IsCauseOf (finds self.now stage.Border tick)) }
         ensures places { vec_capacity taken.new ≡ vec_capacity taken.old }
     {
         let guests = gathered(Vec::new(self.alloc), taken)?;
@@ -180,35 +174,13 @@ impl<'a> Worker<'a> {
             (on self.now.setting.now tick).agents ≡ [] }
         requires ticks { tick ≤ 2 ^ 32 }
         requires next { self.now.next ≡ (on self.now.setting.now tick).next }
-        ensures ready { IfOk result
-            (IsReadyBehind self.now.setting.now self.now.part stage.Border tick) }
-        ensures passes { IfOk result (λ _. least
-            (found_in_work self.now.setting.now self.now.part stage.Border tick) ≡ None) }
-        ensures faulted { IfErr result (IsCauseOf
-            (found_in_work self.now.setting.now self.now.part stage.Border tick)) }
+        ensures ready { IfOk result (IsBehind self.now stage.Border tick) }
+        ensures passes { IfOk result (λ _. least (finds self.now stage.Border tick) ≡ None) }
+        ensures faulted { IfErr result (IsCauseOf (finds self.now stage.Border tick)) }
     {
-        if self.setting.invert {
-            return self.behind_all(tick, held);
+        if !self.setting.invert {
+            return Ok(Stance::Holds(held));
         }
-        Ok(Stance::Holds(held))
-    }
-
-    /// The same with inversion, where all is said then.
-    fn behind_all(&self, tick: u64, held: Held) -> Result<Stance, Cause>
-        requires worker { IsWorker self.now }
-        requires inverted { self.now.setting.now.invert ≡ true }
-        requires held { HoldsAsked self.now.setting.now self.now.part tick held }
-        requires quiet { queries_found self.now.setting.now tick self.now.part
-            (on self.now.setting.now tick).agents ≡ [] }
-        requires ticks { tick ≤ 2 ^ 32 }
-        requires next { self.now.next ≡ (on self.now.setting.now tick).next }
-        ensures ready { IfOk result
-            (IsReadyBehind self.now.setting.now self.now.part stage.Border tick) }
-        ensures passes { IfOk result (λ _. least
-            (found_in_work self.now.setting.now self.now.part stage.Border tick) ≡ None) }
-        ensures faulted { IfErr result (IsCauseOf
-            (found_in_work self.now.setting.now self.now.part stage.Border tick)) }
-    {
         match self.renewed(tick, &held) {
             Ok(renewed) => self.leaves(tick, renewed),
             Err(Redo) => self.behind_lists(tick, &held.rows),
@@ -238,8 +210,7 @@ impl<'a> Worker<'a> {
         requires worker { IsWorker self.now }
         requires leaves { LeavesRows self.now.setting.now self.now.part tick renewed }
         requires next { self.now.next ≡ (on self.now.setting.now tick).next }
-        ensures ready { IfOk result
-            (IsReadyFor self.now.setting.now self.now.part stage.Census tick) }
+        ensures ready { IfOk result (IsReadyTo self.now stage.Census tick) }
         ensures faulted { IfErr result (λ c. c ≡ cause.NoMemory) }
     {
         let Renewed { left, born } = renewed;
@@ -256,8 +227,7 @@ impl<'a> Worker<'a> {
         requires heard { HearsAll self.now.setting.now self.now.part tick held.items heard.now }
         requires ticks { tick ≤ 2 ^ 32 }
         requires next { self.now.next ≡ (on self.now.setting.now tick).next }
-        ensures ready { IfOk result
-            (IsReadyFor self.now.setting.now self.now.part stage.Census tick) }
+        ensures ready { IfOk result (IsReadyTo self.now stage.Census tick) }
         ensures passes { IfOk result (λ _. least
             (updates_in self.now.setting.now self.now.part tick) ≡ None) }
         ensures faulted { IfErr result (IsCauseOf
@@ -291,12 +261,9 @@ impl<'a> Worker<'a> {
         requires work { IsWork self.now stage.Effects tick taken.now }
         requires plain { self.now.setting.now.invert ≡ false }
         requires heard { HearsAsked self.now.setting.now self.now.part tick held.items heard }
-        ensures ready { IfOk result
-            (IsReadyFor self.now.setting.now self.now.part stage.Census tick) }
-        ensures passes { IfOk result (λ _. least
-            (found_in_work self.now.setting.now self.now.part stage.Effects tick) ≡ None) }
-        ensures faulted { IfErr result (IsCauseOf
-            (found_in_work self.now.setting.now self.now.part stage.Effects tick)) }
+        ensures ready { IfOk result (IsReadyTo self.now stage.Census tick) }
+        ensures passes { IfOk result (λ _. least (finds self.now stage.Effects tick) ≡ None) }
+        ensures faulted { IfErr result (IsCauseOf (finds self.now stage.Effects tick)) }
     {
         join_told(&self.setting.job.program, &held, &mut heard, taken)?;
         self.update(tick, held, &heard)
@@ -325,12 +292,9 @@ impl<'a> Worker<'a> {
         requires work { IsWork self.now stage.Effects tick taken.now }
         requires plain { self.now.setting.now.invert ≡ false }
         requires held { HoldsAsked self.now.setting.now self.now.part tick held }
-        ensures ready { IfOk result
-            (IsReadyFor self.now.setting.now self.now.part stage.Census tick) }
-        ensures passes { IfOk result (λ _. least
-            (found_in_work self.now.setting.now self.now.part stage.Effects tick) ≡ None) }
-        ensures faulted { IfErr result (IsCauseOf
-            (found_in_work self.now.setting.now self.now.part stage.Effects tick)) }
+        ensures ready { IfOk result (IsReadyTo self.now stage.Census tick) }
+        ensures passes { IfOk result (λ _. least (finds self.now stage.Effects tick) ≡ None) }
+        ensures faulted { IfErr result (IsCauseOf (finds self.now stage.Effects tick)) }
     {
         match self.renewed_told(tick, &mut held, taken) {
             Ok(renewed) => self.leaves(tick, renewed),
@@ -354,12 +318,9 @@ impl<'a> Worker<'a> {
         requires work { IsWork self.now stage.Census tick taken.old.items }
         requires left { HasLeft self.now.setting.now self.now.part tick left born.items
             self.now.next }
-        ensures ready { IfOk result
-            (IsReadyFor self.now.setting.now self.now.part stage.Move tick) }
-        ensures passes { IfOk result (λ _. least
-            (found_in_work self.now.setting.now self.now.part stage.Census tick) ≡ None) }
-        ensures faulted { IfErr result (IsCauseOf
-            (found_in_work self.now.setting.now self.now.part stage.Census tick)) }
+        ensures ready { IfOk result (IsReadyTo self.now stage.Move tick) }
+        ensures passes { IfOk result (λ _. least (finds self.now stage.Census tick) ≡ None) }
+        ensures faulted { IfErr result (IsCauseOf (finds self.now stage.Census tick)) }
         ensures places { vec_capacity taken.new ≡ vec_capacity taken.old }
     {
         let program = &self.setting.job.program;

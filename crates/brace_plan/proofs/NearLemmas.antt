@@ -16,7 +16,7 @@ use Rattle.brace_model.specs.declared.program.Program.{Program}
 use Rattle.brace_model.specs.declared.world.Agent.{Agent}
 use Rattle.brace_model.specs.World.{class_of, x_of, y_of, is_within, reaches_to, sees}
 use Rattle.brace_model.specs.Value.{Scope}
-use Rattle.brace_grid.specs.Grids.{Point, OnGrid, grid_of, place_of, place_at, is_between, is_inside, origin}
+use Rattle.brace_grid.specs.Grids.{Point, OnGrid, place_of, place_at, is_between, is_inside, origin}
 use Rattle.brace_grid.specs.Grids as grids
 use Rattle.brace_plan.specs.declared.action.Bound.{Bound}
 use Rattle.brace_plan.specs.declared.seat.Scene.{Scene}

@@ -4,6 +4,7 @@ use Rattle.std.specs.List.{All, Contains}
 use Rattle.brace_invert.specs.Split.{forward_program, inverse_program}
 use Rattle.brace_fold.specs.Listed.{agents_in}
 use Rattle.brace_fold.specs.Rows.{by_id}
+use Rattle.brace_model.specs.declared.fault.Fault.{Fault}
 use Rattle.brace_model.specs.declared.program.Program.{Program}
 use Rattle.brace_model.specs.declared.world.Agent.{Agent}
 use Rattle.brace_pieces.specs.declared.setting.Setting.{Setting}
@@ -23,10 +24,10 @@ use Rattle.brace_part.specs.declared.standing.Stance.{Stance}
 use Rattle.brace_part.specs.declared.standing.Stance.TheVariants.{Owns, Hears, Holds, Leaves}
 use Rattle.brace_part.specs.declared.standing.Standing.{Standing}
 use Rattle.brace_part.specs.declared.work.Worker.{Worker}
-use Rattle.brace_part.specs.Parts.{keeps_at, brings_at, IsCauseOfAll}
+use Rattle.brace_part.specs.Parts.{found_in_work, keeps_at, brings_at, IsCauseOfAll}
 use Rattle.brace_part.specs.Given.{counts_behind, counts_up_to}
 use Rattle.brace_part.specs.inner.Pieces.{AreOut, AreTaken}
-use Rattle.brace_part.specs.inner.Ready.{IsReady, IsReadyFor, IsNextAt, IsFaultlessAt, IsFaultlessBefore, AreKept}
+use Rattle.brace_part.specs.inner.Ready.{IsReady, IsReadyFor, IsReadyBehind, IsNextAt, IsFaultlessAt, IsFaultlessBefore, AreKept}
 
 -- the queries that a part asks in a run, which stand for their programs
 abbrev pub AreQueriesOf : Setting → Queries → Type 0
@@ -52,6 +53,17 @@ pub record IsWork (w : Worker) (at : Stage) (tick : ℕ) (taken : List Piece) : 
   pub stands : slice_get (steps w.setting.now) w.number ≡ Some (step at tick)
   pub took : AreTaken w.setting.now w.number w.part (met w.setting.now (step at tick) w.part) taken
   pub next_is : w.next ≡ (on w.setting.now tick).next
+
+-- what a worker has is what a step needs, and what it has behind its work there
+abbrev pub IsReadyTo : Worker → Stage → ℕ → Stance → Type 0
+IsReadyTo w at tick = IsReadyFor w.setting.now w.part at tick
+
+abbrev pub IsBehind : Worker → Stage → ℕ → Stance → Type 0
+IsBehind w at tick = IsReadyBehind w.setting.now w.part at tick
+
+-- the faults that it finds there
+abbrev pub finds : Worker → Stage → ℕ → List Fault
+finds w at tick = found_in_work w.setting.now w.part at tick
 
 -- a step of the run that shows nothing to the publisher is the one of the worker's number
 pub record IsNext (w : Worker) (at : Step) : Type 0 where

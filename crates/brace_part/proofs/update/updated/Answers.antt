@@ -4,7 +4,9 @@ use Rattle.std.specs.Result.{result_ok, result_err}
 use Rattle.brace_model.specs.FaultOrder.{least}
 use Rattle.brace_model.specs.Lawful.{is_lawful_agent}
 use Rattle.brace_model.specs.Step.{living, children}
+use Rattle.brace_model.specs.declared.fault.Fault.{Fault}
 use Rattle.brace_model.specs.declared.world.Agent.{Agent}
+use Rattle.brace_model.specs.Query.{Saying}
 use Rattle.brace_eval.specs.Heard.{IsHeard, row_of}
 use Rattle.brace_cuts.specs.Space.{LawfulCuts}
 use Rattle.brace_cuts.specs.declared.space.Cuts.{Cuts}
@@ -33,50 +35,31 @@ renew-requires-clause-lawful c =
     lawful_too s p c.requires.rules own
     (own_lawful s p c.requires.rules (owns s.job.program c.cuts_at-cuts.result.now c.args.part) c.args.held.items own c.kept-own.ensures c.requires.agents)
 
-pub returns-in-Ok-clause-left : goal.returns-in-Ok-clause-left
-returns-in-Ok-clause-left c = λ said faults heard.
+pub returns-in-Ok : goal.returns-in-Ok
+returns-in-Ok c =
     let s = c.args.setting.now in
     let m = s.job.program in
     let cuts = c.cuts_at-cuts.result.now in
     let part = c.args.part in
     let held = c.args.held.items in
     let own = c.kept-own.result.items in
-    let rows = ap (map (λ (r : Bor (List ℤ)). r.now)) c.deref-2.ensures.value
+    let kept = c.kept-own.ensures ∙ ap (λ (x : Cuts). owned m x part held) c.cuts_at-cuts.ensures in
+    let rows = λ (said : List Saying) (faults : List Fault) (heard : IsHeard m held said faults c.args.heard.now).
+    ap (map (λ (r : Bor (List ℤ)). r.now)) c.deref-2.ensures.value
     ∙ c.in_ok-rows.ensures.totals said faults (subst (λ (l : List Agent). IsHeard m l said faults c.args.heard.now) (sym c.deref.ensures.value) heard)
     ∙ ap (λ (l : List Agent). map (row_of m said) (owned m cuts part l)) c.deref.ensures.value ∙ ap (map (row_of m said)) (sym c.kept-own.ensures) in
-    by_script s c.args.plans.now c.requires.rules c.args.tick said own (owned m (cuts_of s c.args.tick) part held)
-    (c.kept-own.ensures ∙ ap (λ (x : Cuts). owned m x part held) c.cuts_at-cuts.ensures)
-    (λ rs. c.renew.new.agents.items ≡ living (filter_map result_ok rs)) (c.in-Ok.ensures.left (row_of m said) rows)
-
-pub returns-in-Ok-clause-born : goal.returns-in-Ok-clause-born
-returns-in-Ok-clause-born c = λ said faults heard.
-    let s = c.args.setting.now in
-    let m = s.job.program in
-    let cuts = c.cuts_at-cuts.result.now in
-    let part = c.args.part in
-    let held = c.args.held.items in
-    let own = c.kept-own.result.items in
-    let rows = ap (map (λ (r : Bor (List ℤ)). r.now)) c.deref-2.ensures.value
-    ∙ c.in_ok-rows.ensures.totals said faults (subst (λ (l : List Agent). IsHeard m l said faults c.args.heard.now) (sym c.deref.ensures.value) heard)
-    ∙ ap (λ (l : List Agent). map (row_of m said) (owned m cuts part l)) c.deref.ensures.value ∙ ap (map (row_of m said)) (sym c.kept-own.ensures) in
-    by_script s c.args.plans.now c.requires.rules c.args.tick said own (owned m (cuts_of s c.args.tick) part held)
-    (c.kept-own.ensures ∙ ap (λ (x : Cuts). owned m x part held) c.cuts_at-cuts.ensures)
-    (λ rs. c.in-Ok.born.items ≡ children (filter_map result_ok rs)) (c.in-Ok.ensures.born (row_of m said) rows)
-
-pub returns-in-Ok-clause-passes : goal.returns-in-Ok-clause-passes
-returns-in-Ok-clause-passes c = λ said faults heard.
-    let s = c.args.setting.now in
-    let m = s.job.program in
-    let cuts = c.cuts_at-cuts.result.now in
-    let part = c.args.part in
-    let held = c.args.held.items in
-    let own = c.kept-own.result.items in
-    let rows = ap (map (λ (r : Bor (List ℤ)). r.now)) c.deref-2.ensures.value
-    ∙ c.in_ok-rows.ensures.totals said faults (subst (λ (l : List Agent). IsHeard m l said faults c.args.heard.now) (sym c.deref.ensures.value) heard)
-    ∙ ap (λ (l : List Agent). map (row_of m said) (owned m cuts part l)) c.deref.ensures.value ∙ ap (map (row_of m said)) (sym c.kept-own.ensures) in
-    by_script s c.args.plans.now c.requires.rules c.args.tick said own (owned m (cuts_of s c.args.tick) part held)
-    (c.kept-own.ensures ∙ ap (λ (x : Cuts). owned m x part held) c.cuts_at-cuts.ensures)
-    (λ rs. least (filter_map result_err rs) ≡ None) (ap least (c.in-Ok.ensures.quiet (row_of m said) rows))
+    record {
+      left = λ said faults heard.
+          by_script s c.args.plans.now c.requires.rules c.args.tick said own (owned m (cuts_of s c.args.tick) part held) kept
+          (λ rs. c.renew.new.agents.items ≡ living (filter_map result_ok rs)) (c.in-Ok.ensures.left (row_of m said) (rows said faults heard));
+      born = λ said faults heard.
+          by_script s c.args.plans.now c.requires.rules c.args.tick said own (owned m (cuts_of s c.args.tick) part held) kept
+          (λ rs. c.in-Ok.born.items ≡ children (filter_map result_ok rs)) (c.in-Ok.ensures.born (row_of m said) (rows said faults heard));
+      passes = λ said faults heard.
+          by_script s c.args.plans.now c.requires.rules c.args.tick said own (owned m (cuts_of s c.args.tick) part held) kept
+          (λ rs. least (filter_map result_err rs) ≡ None) (ap least (c.in-Ok.ensures.quiet (row_of m said) (rows said faults heard)));
+      faulted = tt;
+    }
 
 pub updated_in_turn-requires-clause-agents : goal.updated_in_turn-requires-clause-agents
 updated_in_turn-requires-clause-agents c =

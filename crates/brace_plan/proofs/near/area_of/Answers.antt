@@ -6,10 +6,13 @@ use Rattle.brace_grid.specs.Grids.{is_between}
 use Rattle.brace_plan.proofs.NearLemmas.{seen_inside, in_sight, part_inside, visible-most}
 use Rattle.brace_plan.proofs.near.area_of.Goals as goal
 
-pub returns-clause-holds : goal.returns-clause-holds
-returns-clause-holds c seed b seen met =
+pub returns : goal.returns
+returns c =
+    let program = c.args.scene.now.program.now in
     let class = c.in_ok-class.class.now in
     let this = c.args.seat.now.this.agent.now in
+    let is = sym c.in_ok-class.ensures in
+    let most = visible-most program this.class class is in
     let visible : FitsSigned w64 class.visible = search rules in
     let px : FitsSigned w64 c.x_of.result = search rules in
     let py : FitsSigned w64 c.y_of.result = search rules in
@@ -17,41 +20,25 @@ returns-clause-holds c seed b seen met =
     let xh : FitsSigned w64 c.in_ok-x.x.high = search rules in
     let yl : FitsSigned w64 c.in_ok-y.y.low = search rules in
     let yh : FitsSigned w64 c.in_ok-y.y.high = search rules in
-    let one = simp to_z-of_z at c.in_ok-x.ensures.holds in
-    let two = simp to_z-of_z at c.in_ok-y.ensures.holds in
-    let all = simp to_z-of_z at c.narrowed.ensures.holds in
-    let x : (v : ℤ) → is_within class.visible (x_of class this) v ≡ true → is_between c.in_ok-x.x.low c.in_ok-x.x.high v ≡ true =
-    λ v h. one v (subst (λ q. is_within class.visible q v ≡ true) (sym c.x_of.ensures) h) in
-    let y : (v : ℤ) → is_within class.visible (y_of class this) v ≡ true → is_between c.in_ok-y.y.low c.in_ok-y.y.high v ≡ true =
-    λ v h. two v (subst (λ q. is_within class.visible q v ≡ true) (sym c.y_of.ensures) h) in
-    all seed _ met (seen_inside c.args.scene.now.program.now this b class _ (sym c.in_ok-class.ensures) x y seen)
-
-pub returns-clause-sight : goal.returns-clause-sight
-returns-clause-sight c b there =
-    let class = c.in_ok-class.class.now in
-    let this = c.args.seat.now.this.agent.now in
-    let visible : FitsSigned w64 class.visible = search rules in
-    let px : FitsSigned w64 c.x_of.result = search rules in
-    let py : FitsSigned w64 c.y_of.result = search rules in
-    let xl : FitsSigned w64 c.in_ok-x.x.low = search rules in
-    let xh : FitsSigned w64 c.in_ok-x.x.high = search rules in
-    let yl : FitsSigned w64 c.in_ok-y.y.low = search rules in
-    let yh : FitsSigned w64 c.in_ok-y.y.high = search rules in
-    let one = simp to_z-of_z at c.in_ok-x.ensures.within in
-    let two = simp to_z-of_z at c.in_ok-y.ensures.within in
-    let part = simp to_z-of_z at c.narrowed.ensures.part in
-    let x : (v : ℤ) → is_between c.in_ok-x.x.low c.in_ok-x.x.high v ≡ true → is_within class.visible (x_of class this) v ≡ true =
-    λ v h. subst (λ q. is_within class.visible q v ≡ true) c.x_of.ensures (one v h) in
-    let y : (v : ℤ) → is_between c.in_ok-y.y.low c.in_ok-y.y.high v ≡ true → is_within class.visible (y_of class this) v ≡ true =
-    λ v h. subst (λ q. is_within class.visible q v ≡ true) c.y_of.ensures (two v h) in
-    in_sight c.args.scene.now.program.now this b class _ (sym c.in_ok-class.ensures) x y (part_inside _ _ _ part there)
-
-pub returns-clause-wide : goal.returns-clause-wide
-returns-clause-wide c =
-    let most = visible-most c.args.scene.now.program.now c.args.seat.now.this.agent.now.class c.in_ok-class.class.now (sym c.in_ok-class.ensures) in
-    omega (arith, ints, most, c.requires.wide, c.narrowed.ensures.part.x0, c.narrowed.ensures.part.x1, c.in_ok-x.ensures.low, c.in_ok-x.ensures.high)
-
-pub returns-clause-high : goal.returns-clause-high
-returns-clause-high c =
-    let most = visible-most c.args.scene.now.program.now c.args.seat.now.this.agent.now.class c.in_ok-class.class.now (sym c.in_ok-class.ensures) in
-    omega (arith, ints, most, c.requires.wide, c.narrowed.ensures.part.y0, c.narrowed.ensures.part.y1, c.in_ok-y.ensures.low, c.in_ok-y.ensures.high)
+    record {
+      holds = λ seed b seen met.
+          let one = simp to_z-of_z at c.in_ok-x.ensures.holds in
+          let two = simp to_z-of_z at c.in_ok-y.ensures.holds in
+          let all = simp to_z-of_z at c.narrowed.ensures.holds in
+          let x : (v : ℤ) → is_within class.visible (x_of class this) v ≡ true → is_between c.in_ok-x.x.low c.in_ok-x.x.high v ≡ true =
+          λ v h. one v (subst (λ q. is_within class.visible q v ≡ true) (sym c.x_of.ensures) h) in
+          let y : (v : ℤ) → is_within class.visible (y_of class this) v ≡ true → is_between c.in_ok-y.y.low c.in_ok-y.y.high v ≡ true =
+          λ v h. two v (subst (λ q. is_within class.visible q v ≡ true) (sym c.y_of.ensures) h) in
+          all seed _ met (seen_inside program this b class _ is x y seen);
+      sight = λ b there.
+          let one = simp to_z-of_z at c.in_ok-x.ensures.within in
+          let two = simp to_z-of_z at c.in_ok-y.ensures.within in
+          let part = simp to_z-of_z at c.narrowed.ensures.part in
+          let x : (v : ℤ) → is_between c.in_ok-x.x.low c.in_ok-x.x.high v ≡ true → is_within class.visible (x_of class this) v ≡ true =
+          λ v h. subst (λ q. is_within class.visible q v ≡ true) c.x_of.ensures (one v h) in
+          let y : (v : ℤ) → is_between c.in_ok-y.y.low c.in_ok-y.y.high v ≡ true → is_within class.visible (y_of class this) v ≡ true =
+          λ v h. subst (λ q. is_within class.visible q v ≡ true) c.y_of.ensures (two v h) in
+          in_sight program this b class _ is x y (part_inside _ _ _ part there);
+      wide = omega (arith, ints, most, c.requires.wide, c.narrowed.ensures.part.x0, c.narrowed.ensures.part.x1, c.in_ok-x.ensures.low, c.in_ok-x.ensures.high);
+      high = omega (arith, ints, most, c.requires.wide, c.narrowed.ensures.part.y0, c.narrowed.ensures.part.y1, c.in_ok-y.ensures.low, c.in_ok-y.ensures.high);
+    }

@@ -72,12 +72,8 @@ action-returns-in_ok-push-in-Some-3-clause-added t c =
     (adds-saying scene here (agent_of here c.in-Assign.who) c.named.result.place c.in-Assign.effect c.in-Some-3.value c.worth-in-Assign.new.answer last
     at c.in_ok-push-in-Some-3.ensures.items refl))
 
-pub actions-returns-then-branch-clause-set : goal.actions-returns-then-branch-clause-set
-actions-returns-then-branch-clause-set t c =
-    sets-then _ _ _ _ _ _ c.loop-item.invariant.set c.in_ok-action.ensures.set
-
-pub actions-returns-then-branch-clause-added : goal.actions-returns-then-branch-clause-added
-actions-returns-then-branch-clause-added t c =
+pub actions-returns-then-branch : goal.actions-returns-then-branch
+actions-returns-then-branch t c =
     let scene = c.args.scene.now in
     let seed = c.args.desk.now.drawer.seed in
     let here = scope_at scene c.args.seat.now seed c.loop-item.locals in
@@ -85,20 +81,14 @@ actions-returns-then-branch-clause-added t c =
     let same : scope_at scene c.args.seat.now c.loop-item.desk.drawer.seed c.loop-item.locals ≡ here = ap (λ (n : ℕ). scope_at scene c.args.seat.now n c.loop-item.locals) c.loop-item.invariant.seed in
     let cut : (act_in scene s here).stopped ≡ true = ap (λ (p : Scope). (act_in scene s p).stopped) (sym same) ∙ sym c.in_ok-action.ensures.stopped ∙ c.if-branch.true in
     let whole = halts scene _ c.args.body.now c.loop-item.item-index s c.as_slice-item-items.ensures c.loop-item-test.true c.item-item.is here cut in
-    c.loop-item.invariant.rest c.action.new.answer
-    (subst (λ (d : Deed). Adds scene d c.loop-item.answer c.action.new.answer) (sym whole)
-    (subst (λ (p : Scope). Adds scene (act_in scene s p) c.loop-item.answer c.action.new.answer) same c.in_ok-action.ensures.added))
-
-pub actions-returns-then-branch-clause-stopped : goal.actions-returns-then-branch-clause-stopped
-actions-returns-then-branch-clause-stopped t c =
-    let scene = c.args.scene.now in
-    let seed = c.args.desk.now.drawer.seed in
-    let here = scope_at scene c.args.seat.now seed c.loop-item.locals in
-    let s = c.item-item.result in
-    let same : scope_at scene c.args.seat.now c.loop-item.desk.drawer.seed c.loop-item.locals ≡ here = ap (λ (n : ℕ). scope_at scene c.args.seat.now n c.loop-item.locals) c.loop-item.invariant.seed in
-    let cut : (act_in scene s here).stopped ≡ true = ap (λ (p : Scope). (act_in scene s p).stopped) (sym same) ∙ sym c.in_ok-action.ensures.stopped ∙ c.if-branch.true in
-    let whole = halts scene _ c.args.body.now c.loop-item.item-index s c.as_slice-item-items.ensures c.loop-item-test.true c.item-item.is here cut in
-    sym (sym c.loop-item.invariant.stopped ∙ ap (λ (d : Deed). d.stopped) whole ∙ cut)
+    record {
+      added = c.loop-item.invariant.rest c.action.new.answer
+          (subst (λ (d : Deed). Adds scene d c.loop-item.answer c.action.new.answer) (sym whole)
+          (subst (λ (p : Scope). Adds scene (act_in scene s p) c.loop-item.answer c.action.new.answer) same c.in_ok-action.ensures.added));
+      stopped = sym (sym c.loop-item.invariant.stopped ∙ ap (λ (d : Deed). d.stopped) whole ∙ cut);
+      set = sets-then _ _ _ _ _ _ c.loop-item.invariant.set c.in_ok-action.ensures.set;
+      seed = c.in_ok-action.ensures.seed ∙ c.loop-item.invariant.seed;
+    }
 
 pub actions-loop-item-preserved : goal.actions-loop-item-preserved
 actions-loop-item-preserved t c =

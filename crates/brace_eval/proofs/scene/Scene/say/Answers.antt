@@ -1,4 +1,4 @@
-use Rattle.std.proofs.Common.{◌≡◌, ◌∙◌, subst, sym, [], ◌∷◌, ◌++◌, ℕ, List, get_or, Err}
+use Rattle.std.proofs.Common.{◌∙◌, subst, [], ◌∷◌, ◌++◌, ℕ, List, Err}
 use Rattle.std.specs.List.Sorted.{IsBinarySearchResult}
 use Rattle.std.specs.Ordering.{nat_cmp}
 use Rattle.brace_model.specs.Query.{Saying}

@@ -1,23 +1,18 @@
-use Rattle.std.proofs.Common.{◌≡◌, ◌∙◌, [], ℕ, sym, ap, subst, length, get_or, rules}
-use Rattle.std.specs.List.{range_with_len}
-use Rattle.std.specs.List.Sorted.{IsPermutation}
+use Rattle.std.proofs.Common.{◌≡◌, ◌∙◌, [], ℕ, sym, subst, length, get_or, rules}
 use Rattle.std.proofs.lemmas.List.{length-map}
-use Rattle.std.proofs.lemmas.List.Sorted.{IsPermutation-sym, IsPermutation-trans}
-use Rattle.brace_num.proofs.Orders.{by_key_keeps}
+use Rattle.std.proofs.lemmas.List.Sorted.{IsPermutation-sym}
 use Rattle.brace_model.specs.declared.program.Program.{Program}
-use Rattle.brace_model.specs.declared.world.Agent.{Agent}
 use Rattle.brace_eval.specs.Heard.{said_by}
 use Rattle.brace_fold.specs.Arranged.{AreArranged, in_places}
 use Rattle.brace_fold.specs.Asked.{by_row, no_agent}
 use Rattle.brace_fold.specs.Rows.{by_id}
 use Rattle.brace_fold.specs.Sums.{AreSummed}
-use Rattle.brace_fold.proofs.ArrangedLemmas.{arranged-alike, in-order}
-use Rattle.brace_fold.proofs.MoveLemmas.{rows-all}
+use Rattle.brace_fold.proofs.ArrangedLemmas.{arranged-alike}
 use Rattle.brace_invert.specs.Split.{forward_query, inverse_query}
 use Rattle.brace_part.specs.inner.Sound.{AreQueriesOf}
 use Rattle.brace_part.specs.inner.Tables.{said_over}
 use Rattle.brace_part.proofs.AskLemmas.{sees_same}
-use Rattle.brace_part.proofs.SumsLemmas.{quiet_both, quiet_moved, quiet_script, said_both, said_moved, said_script, says_too}
+use Rattle.brace_part.proofs.SumsLemmas.{all_rows_ask, quiet_both, quiet_moved, quiet_script, said_both, said_moved, said_script, says_too}
 use Rattle.brace_part.proofs.LaneLemmas.{effects_same, own_effects}
 use Rattle.brace_part.proofs.query.Queries.said_to.Goals as goal
 use Rattle.brace_part.proofs.query.Queries.said_to.Goals.{in-Script+in_ok-ask-in-Script, in-Inverted+in_ok-all-in-Inverted+in_ok-ask-in-Inverted+in_ok-ask-in-Inverted-2}
@@ -96,14 +91,8 @@ returns-clause-said c agents mine can perm =
           let two = arranged-alike m q agents arranged (sees_same inverse_query m q inverse)
           can.arranged_so in
           let places = w.deref.result.now in
-          let every : by_row rows places ≡ rows =
-          ap (by_row rows) (w.deref.ensures.value ∙ w.in_ok-all-in-Inverted.ensures
-          ∙ ap (range_with_len 0) (sym (length-map order reads))) ∙ rows-all rows in
-          let all : IsPermutation (by_row rows places) world =
-          subst (λ l. IsPermutation l world) (sym every)
-          (IsPermutation-trans rows agents world
-          (IsPermutation-sym _ _ (in-order m agents arranged can.arranged_so))
-          (by_key_keeps (λ (a : Agent). a.id) agents)) in
+          let all = all_rows_ask m agents arranged places can.arranged_so
+          (w.deref.ensures.value ∙ w.in_ok-all-in-Inverted.ensures) in
           let before = said_by p seed tick world mine in
           let first = said_moved p seed tick world asking mine back m rows [] between
           (says_too m p (effects_same forward_query m p forward) rows []
@@ -125,11 +114,9 @@ returns-clause-quiet c agents mine can perm =
     let seed = s.job.seed in
     let tick = c.args.tick in
     let arranged = c.args.arranged.now in
-    let order = arranged.order.items in
     let rows = in_places agents arranged in
     let world = by_id agents in
     let asking = by_row rows c.args.own.now in
-    let reads = λ (row : ℕ). get_or agents row no_agent in
     let back = IsPermutation-sym mine asking perm in
     elim c.match-self.branch [
       | in-Script+in_ok-ask-in-Script w ↦
@@ -150,14 +137,8 @@ returns-clause-quiet c agents mine can perm =
           let two = arranged-alike m q agents arranged (sees_same inverse_query m q inverse)
           can.arranged_so in
           let places = w.deref.result.now in
-          let every : by_row rows places ≡ rows =
-          ap (by_row rows) (w.deref.ensures.value ∙ w.in_ok-all-in-Inverted.ensures
-          ∙ ap (range_with_len 0) (sym (length-map order reads))) ∙ rows-all rows in
-          let all : IsPermutation (by_row rows places) world =
-          subst (λ l. IsPermutation l world) (sym every)
-          (IsPermutation-trans rows agents world
-          (IsPermutation-sym _ _ (in-order m agents arranged can.arranged_so))
-          (by_key_keeps (λ (a : Agent). a.id) agents)) in
+          let all = all_rows_ask m agents arranged places can.arranged_so
+          (w.deref.ensures.value ∙ w.in_ok-all-in-Inverted.ensures) in
           quiet_both s tick mine world p q inverts forward inverse
           (quiet_moved p seed tick world asking mine back
           (w.in_ok-ask-in-Inverted.ensures.quiet agents one))

@@ -1,52 +1,66 @@
-use Rattle.std.proofs.Common.{◌≡◌, ◌∙◌, ◌++◌, [], ℕ, List, sym, ap, subst, map, length, rules}
+use Rattle.std.proofs.Common.{◌≡◌, ◌∙◌, ◌++◌, [], ℕ, List, true, sym, ap, subst, map, length, rules}
 use Rattle.std.specs.Prelude.{filter, nat_lt}
-use Rattle.std.specs.List.{range_with_len}
+use Rattle.std.specs.List.{list_all, range_with_len}
 use Rattle.std.specs.List.Sorted.{IsPermutation}
 use Rattle.std.proofs.lemmas.List.Sorted.{IsPermutation-trans}
 use Rattle.brace_num.proofs.Orders.{distinct_moved}
 use Rattle.brace_model.specs.declared.world.Agent.{Agent}
+use Rattle.brace_model.specs.Lawful.{is_lawful_agent}
 use Rattle.brace_fold.specs.Arranged.{AreArranged, in_places}
 use Rattle.brace_fold.specs.Asked.{by_row}
-use Rattle.brace_fold.specs.Rows.{IsPicked}
+use Rattle.brace_fold.specs.Rows.{AreColumns, IsPicked, rows_in}
 use Rattle.brace_fold.specs.Sums.{AreSummed}
 use Rattle.brace_fold.proofs.ArrangedLemmas.{in-order}
 use Rattle.brace_fold.proofs.MoveLemmas.{picked-by, rows-back}
 use Rattle.brace_fold.proofs.Ownings.{picked-row}
 use Rattle.brace_fold.proofs.RowLemmas.{all_lawful, are_rows, by_id_moved, lawful_moved, rows_are}
 use Rattle.brace_part.specs.inner.Asked.{ArePlaces}
-use Rattle.brace_part.specs.inner.Hearing.{CanSay}
+use Rattle.brace_part.specs.inner.Hearing.{CanSay, CanSum}
 use Rattle.brace_part.specs.inner.Tables.{faults_over, said_over}
 use Rattle.brace_part.proofs.CellLemmas.{both_moved, first_moved}
+use Rattle.brace_part.proofs.query.Queries.summed.Goals.{In_ok-expect_wide}
 use Rattle.brace_part.proofs.query.Queries.summed.Goals as goal
+
+-- those that it is given are lawful, and stand in columns
+stand : (c : In_ok-expect_wide)
+    → (can : CanSum c.args.setting.now c.args.self.now c.args.tick c.args.count
+    c.args.guests.items c.args.rows.now)
+    → AreColumns (can.those ++ c.args.guests.items) c.as_columns-columns.result
+    × (list_all (is_lawful_agent c.args.setting.now.job.program)
+    (can.those ++ c.args.guests.items) ≡ true)
+    × (rows_in c.args.setting.now.job.program c.as_columns-columns.result
+    ≡ can.those ++ c.args.guests.items)
+stand c can =
+    let m = c.args.setting.now.job.program in
+    let guests = c.args.guests.items in
+    let agents = can.those ++ guests in
+    let are = c.as_columns-columns.ensures.are (ap (map (λ v. v.now)) c.deref-2.ensures.value
+    ∙ c.in_ok-states.ensures ∙ c.deref.ensures.value) agents can.moved in
+    let lawful = lawful_moved m (can.own ++ guests) agents
+    (both_moved can.own can.those guests can.same) can.lawful in (
+      are,
+      lawful,
+      rows_are m agents c.as_columns-columns.result are c.in_ok-expect_wide.ensures
+          (all_lawful m agents lawful),
+    )
 
 pub of-requires : goal.of-requires
 of-requires c =
     let can = c.requires in
-    let m = c.args.setting.now.job.program in
     let guests = c.args.guests.items in
-    let agents = can.those ++ guests in
-    let both = both_moved can.own can.those guests can.same in
-    let lent = ap (map (λ v. v.now)) c.deref-2.ensures.value ∙ c.in_ok-states.ensures
-    ∙ c.deref.ensures.value in
-    are_rows m agents c.as_columns-columns.result
-    (c.as_columns-columns.ensures.are lent agents can.moved) c.in_ok-expect_wide.ensures
-    (lawful_moved m (can.own ++ guests) agents both can.lawful)
-    (distinct_moved (λ (a : Agent). a.id) (can.own ++ guests) agents both can.apart)
+    let (are, lawful, same) = stand (goal.at.of-requires c).In_ok-expect_wide can in
+    are_rows c.args.setting.now.job.program (can.those ++ guests) c.as_columns-columns.result are
+    c.in_ok-expect_wide.ensures lawful
+    (distinct_moved (λ (a : Agent). a.id) (can.own ++ guests) (can.those ++ guests)
+    (both_moved can.own can.those guests can.same) can.apart)
 
 pub said_to-requires-clause-can : goal.said_to-requires-clause-can
 said_to-requires-clause-can c =
     let can = c.requires in
     let m = c.args.setting.now.job.program in
-    let guests = c.args.guests.items in
-    let agents = can.those ++ guests in
-    let both = both_moved can.own can.those guests can.same in
-    let lent = ap (map (λ v. v.now)) c.deref-2.ensures.value ∙ c.in_ok-states.ensures
-    ∙ c.deref.ensures.value in
-    let lawful = lawful_moved m (can.own ++ guests) agents both can.lawful in
-    let same = rows_are m agents c.as_columns-columns.result
-    (c.as_columns-columns.ensures.are lent agents can.moved) c.in_ok-expect_wide.ensures
-    (all_lawful m agents lawful) in (
-      agents,
+    let (are, lawful, same) =
+    stand (goal.at.said_to-requires-clause-can c).In_ok-expect_wide can in (
+      can.those ++ c.args.guests.items,
       record {
         queries = can.queries;
         arranged_so = subst (λ l. AreArranged m l c.in_ok-arranged.arranged) same
@@ -62,12 +76,7 @@ returns-clause-summed c can =
     let guests = c.args.guests.items in
     let agents = can.those ++ guests in
     let both = both_moved can.own can.those guests can.same in
-    let lent = ap (map (λ v. v.now)) c.deref-2.ensures.value ∙ c.in_ok-states.ensures
-    ∙ c.deref.ensures.value in
-    let lawful = lawful_moved m (can.own ++ guests) agents both can.lawful in
-    let same = rows_are m agents c.as_columns-columns.result
-    (c.as_columns-columns.ensures.are lent agents can.moved) c.in_ok-expect_wide.ensures
-    (all_lawful m agents lawful) in
+    let (are, lawful, same) = stand (goal.at.returns-clause-summed c).In_ok-expect_wide can in
     let arranged = c.in_ok-arranged.arranged in
     let is = subst (λ l. AreArranged m l arranged) same c.in_ok-arranged.ensures in
     let order = arranged.order.items in

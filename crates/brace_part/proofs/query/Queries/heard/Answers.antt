@@ -9,8 +9,8 @@ use Rattle.brace_part.specs.inner.Tables.{said_over, faults_over}
 use Rattle.brace_part.proofs.TableHeard.{over_script, over_both}
 use Rattle.brace_part.proofs.AskLemmas.{can_ask_too, grew_over}
 use Rattle.brace_part.proofs.LaneLemmas.{places_within}
-use Rattle.brace_part.proofs.query.Queries.heard_in_turn.Goals as goal
-use Rattle.brace_part.proofs.query.Queries.heard_in_turn.Goals.{in-Script+in_ok-ask_some-in-Script, in-Inverted+in_ok-all-in-Inverted+in_ok-ask_some-in-Inverted+in_ok-ask_some-in-Inverted-2}
+use Rattle.brace_part.proofs.query.Queries.heard.Goals as goal
+use Rattle.brace_part.proofs.query.Queries.heard.Goals.{in-Script+in_ok-ask_some-in-Script, in-Inverted+in_ok-all-in-Inverted+in_ok-ask_some-in-Inverted+in_ok-ask_some-in-Inverted-2}
 
 abbrev WithinScene : List ℕ → List Agent → Type 0
 WithinScene places held = All (λ (place : ℕ). place < length held) places
