@@ -1,14 +1,14 @@
 -- Words of values, operation by operation.
 use Rattle.std.proofs.Common.{◌≡◌, ◌∙◌, refl, sym, ap, subst, ℕ, zero, suc, ◌*◌, ◌/◌, ◌<◌, ℤ, pos, negsuc, neg_ℤ, ◌+ℤ◌, ◌-ℤ◌, ◌*ℤ◌, int_div, unsigned_abs, Bool, true, false, Option, Some, Result, Ok, Err, arith}
 use Rattle.std.proofs.Math.Nat.{zero-div, zero-mul, mul-pos, mul-div-mul_right}
-use Rattle.std.proofs.Math.IntN.{negsuc-*ℤ-pos, +ℤ_idr, +ℤ_comm, -ℤ-+ℤ_cancel, +ℤ-neg_ℤ_cancel}
-use Rattle.std.proofs.lemmas.Int.{quot-rem, unsigned_abs-mul, int_wrap_fits, int_wrap-add_right, wrapping_sub_is, SFits-int_wrap}
+use Rattle.std.proofs.Math.IntN.{negsuc-*ℤ-pos, +ℤ_comm, -ℤ-+ℤ_cancel, +ℤ-neg_ℤ_cancel}
+use Rattle.std.proofs.lemmas.Int.{unsigned_abs-mul, int_wrap_fits, int_wrap-add_right, wrapping_sub_is, SFits-int_wrap}
 use Rattle.std.proofs.lemmas.Bool.Decides.{nat_tests}
-use Rattle.std.specs.Prelude.{FitsSigned, unwrap_or, int_rem, ◌==◌, if◌then◌else◌}
+use Rattle.std.specs.Prelude.{FitsSigned, unwrap_or, ◌==◌, if◌then◌else◌}
 use Rattle.std.specs.Int.{w32, w64, int_wrap, int_wrapping_sub}
 use Rattle.brace_num.specs.declared.kinds.Kind.{Kind}
 use Rattle.brace_num.specs.declared.kinds.Kind.TheVariants.{DivZero}
-use Rattle.brace_num.specs.Exact.{fits, fitting, is_zero, exact_int_div, exact_int_rem, exact_fixed_div, exact_sub, exact_trunc}
+use Rattle.brace_num.specs.Exact.{fits, fitting, is_zero, exact_int_div, exact_fixed_div, exact_sub}
 use Rattle.brace_model.specs.declared.program.Ty.{Ty}
 use Rattle.brace_model.specs.declared.program.Ty.TheVariants as ty
 use Rattle.brace_model.specs.declared.program.Value.{Value}
@@ -79,18 +79,10 @@ no_more (suc m) k h = above (suc m * k) (mul-pos (omega arith) h) ∙ sym (above
 by_multiple : (a b n : ℤ) (k : ℕ) → 0 < k → b ≡ n *ℤ pos k → exact_int_div a n ≡ (if is_zero b then Err DivZero else fitting (int_div (a *ℤ pos k) b))
 by_multiple a b n k h e = rw (e, unsigned_abs-mul n (pos k), no_more (unsigned_abs n) k h, multiples a n k h) refl
 
-rest_of : Result ℤ Kind → ℤ
-rest_of (Ok n) = n
-rest_of (Err kind) = pos 0
-
 -- a quotient of fixed numbers whose divisor is a whole number is that of an int
-pub whole_quotient : (a b n : ℤ) (q rest : Result ℤ Kind) → rest ≡ exact_int_rem b (pos 1000000) → rest ≡ Ok (pos 0) → n ≡ exact_trunc b → q ≡ exact_int_div a n
-    → q ≡ exact_fixed_div a b
-unfolding rest_of
-whole_quotient a b n q rest r o t e =
-    let none : int_rem b (pos 1000000) ≡ pos 0 = ap rest_of (sym r ∙ o) in
-    e ∙ ap (exact_int_div a) t ∙ by_multiple a b (int_div b (pos 1000000)) 1000000 (omega arith)
-    (sym (quot-rem b (pos 1000000)) ∙ ap (λ (x : ℤ). int_div b (pos 1000000) *ℤ pos 1000000 +ℤ x) none ∙ +ℤ_idr (int_div b (pos 1000000) *ℤ pos 1000000))
+pub whole_quotient : (a b n : ℤ) (q : Result ℤ Kind) → b ≡ n *ℤ pos 1000000
+    → q ≡ exact_int_div a n → q ≡ exact_fixed_div a b
+whole_quotient a b n q whole e = e ∙ by_multiple a b n 1000000 (omega arith) whole
 
 -- ---- numbers of values
 

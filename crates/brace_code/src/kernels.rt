@@ -151,7 +151,16 @@ fn row_words<F: Fn(i64, i64) -> (i64, bool)>(
     }
     let mut words = Vec::with_capacity(alloc, rows.len())?;
     let mut failed = false;
-    for k in 0..rows.len() {
+    let fours = rows.len() / 4;
+    for four in 0..fours {
+        // Four in turn, since a row takes less time than the look at whether it is the last.
+        for k in 4 * four..4 * four + 4 {
+            let (word, fails) = op(column[rows[k] as usize], other[others[k] as usize]);
+            words.push_reserved(word);
+            failed |= fails;
+        }
+    }
+    for k in 4 * fours..rows.len() {
         let (word, fails) = op(column[rows[k] as usize], other[others[k] as usize]);
         words.push_reserved(word);
         failed |= fails;
@@ -484,7 +493,7 @@ fn gather(alloc: Global, column: &[i64], rows: &[u32]) -> Result<List<i64>, Redo
     let mut words = Vec::with_capacity(alloc, rows.len())?;
     let fours = rows.len() / 4;
     for four in 0..fours {
-        // Four in turn, since a row takes less time than the look at whether it is the last.
+        // Four in turn, as above.
         for k in 4 * four..4 * four + 4 {
             words.push_reserved(column[rows[k] as usize]);
         }

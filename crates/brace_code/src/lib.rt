@@ -24,4 +24,4 @@ pub use lanes::{Lanes, Rows};
 pub use laws::{lanes_and_single_runs_agree, lanes_have_the_values_of_expressions};
 pub use names::Known;
 pub use stack::Stack;
-pub use view::View;
+pub use view::{View, are_within};

@@ -1,4 +1,4 @@
-ghost use Rattle.std.specs.Prelude.{◌≡◌, Some, Ok, pos, int_div};
+ghost use Rattle.std.specs.Prelude.{◌≡◌, ◌*ℤ◌, IsTrue, Some, Ok, pos, int_div};
 ghost use Rattle.brace_model.specs.declared.program.Ty.{Ty};
 ghost use Rattle.brace_model.specs.Typing.{unary_type, operation_type};
 ghost use Rattle.brace_num.specs.Exact.{fitting, exact_int_div, exact_fixed_mul, exact_fixed_div};
@@ -86,13 +86,24 @@ pub fn short_quotient(a: i64, b: i64) -> Result<i64, Kind>
     }
 }
 
+/// Whether a fixed number is that of a whole one.
+fn is_whole(b: i64, whole: i64) -> bool
+    ensures { IsTrue result → b ≡ whole *ℤ pos 1000000 }
+{
+    match whole.checked_mul(1_000_000) {
+        Some(z) => z == b,
+        None => false,
+    }
+}
+
 /// The quotient of two fixed numbers: by a whole number that of ints, else by a division of 64 bits
 /// where that is enough.
 pub fn fixed_quotient(a: i64, b: i64) -> Result<i64, Kind>
     ensures { result ≡ exact_fixed_div a b }
 {
-    if let Ok(0) = int_rem(b, 1_000_000) {
-        return short_quotient(a, trunc(b));
+    let whole = trunc(b);
+    if is_whole(b, whole) {
+        return short_quotient(a, whole);
     }
     match a.checked_mul(1_000_000) {
         Some(z) => int_div(z, b),

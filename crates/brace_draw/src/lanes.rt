@@ -76,6 +76,35 @@ fn diagonal_round(x: [u32x4; 16]) -> [u32x4; 16]
     ]
 }
 
+// One word of the states after a diagonal round: no more of the round is computed than it takes.
+#[inline(always)]
+#[tactic(auto, unfolding(rand_chacha::specs::Block::diagonal_round))]
+fn diagonal_word(x: [u32x4; 16], k: usize) -> u32x4
+    requires { k < 16 }
+    ensures { (j : ℕ) → j < 4
+        → slice_index result j ≡ slice_index (diagonal_round (lane j x)) k }
+{
+    match k {
+        0 => quarter_round(x[0], x[5], x[10], x[15]).0,
+        1 => quarter_round(x[1], x[6], x[11], x[12]).0,
+        2 => quarter_round(x[2], x[7], x[8], x[13]).0,
+        3 => quarter_round(x[3], x[4], x[9], x[14]).0,
+        4 => quarter_round(x[3], x[4], x[9], x[14]).1,
+        5 => quarter_round(x[0], x[5], x[10], x[15]).1,
+        6 => quarter_round(x[1], x[6], x[11], x[12]).1,
+        7 => quarter_round(x[2], x[7], x[8], x[13]).1,
+        8 => quarter_round(x[2], x[7], x[8], x[13]).2,
+        9 => quarter_round(x[3], x[4], x[9], x[14]).2,
+        10 => quarter_round(x[0], x[5], x[10], x[15]).2,
+        11 => quarter_round(x[1], x[6], x[11], x[12]).2,
+        12 => quarter_round(x[1], x[6], x[11], x[12]).3,
+        13 => quarter_round(x[2], x[7], x[8], x[13]).3,
+        14 => quarter_round(x[3], x[4], x[9], x[14]).3,
+        15 => quarter_round(x[0], x[5], x[10], x[15]).3,
+        _ => diagonal_round(x)[k],
+    }
+}
+
 #[inline(always)]
 fn low(x: u64) -> u32
     ensures { result ≡ x % 2 ^ 32 }
@@ -116,26 +145,31 @@ fn initial_states(key: &[u32; 8], block: u64, streams: [u64; 4]) -> [u32x4; 16]
     ]
 }
 
-// The states of four streams after the rounds.
+// The states of four streams before the last round.
 #[inline(always)]
 fn rounds(first: [u32x4; 16]) -> [u32x4; 16]
-    ensures { (j : ℕ) → j < 4 → lane j result ≡ double_rounds 4 (lane j first) }
+    ensures { (j : ℕ) → j < 4
+        → lane j result ≡ column_round (double_rounds 3 (lane j first)) }
 {
     let mut x = first;
-    'rounds: for _round in 0..4u32 {
+    'rounds: for _round in 0..3u32 {
         x = diagonal_round(column_round(x));
     }
-    x
+    let last = column_round(x);
+    last
 }
 
-// One word of a block of four streams, of which the states before and after the rounds are given.
+// One word of a block of four streams, of which the states before the rounds and before the last
+// one are given.
 #[inline(always)]
-fn word(first: &[u32x4; 16], last: &[u32x4; 16], k: usize) -> [u32; 4]
+fn word(first: &[u32x4; 16], before: [u32x4; 16], k: usize) -> [u32; 4]
     requires { k < 16 }
     ensures { (j : ℕ) → j < 4 → slice_index result j
-        ≡ add32 (slice_index (lane j last.now) k) (slice_index (lane j first.now) k) }
+        ≡ add32 (slice_index (diagonal_round (lane j before)) k)
+        (slice_index (lane j first.now) k) }
 {
-    add(last[k], first[k]).to_array()
+    let last = diagonal_word(before, k);
+    add(last, first[k]).to_array()
 }
 
 /// The words of four streams at one place.
@@ -144,8 +178,8 @@ pub fn words(key: &[u32; 8], place: u64, streams: [u64; 4]) -> [u32; 4]
         → slice_index result j ≡ word_at 4 key.now (slice_index streams j) place }
 {
     let first = initial_states(key, place / 16, streams);
-    let last = rounds(first);
-    word(&first, &last, (place % 16) as usize)
+    let before = rounds(first);
+    word(&first, before, (place % 16) as usize)
 }
 
 /// The words of four streams at two places. Those of one block take one computation.
@@ -160,9 +194,9 @@ pub fn pairs(key: &[u32; 8], places: (u64, u64), streams: [u64; 4]) -> ([u32; 4]
         return (words(key, one, streams), words(key, other, streams));
     }
     let first = initial_states(key, one / 16, streams);
-    let last = rounds(first);
+    let before = rounds(first);
     (
-        word(&first, &last, (one % 16) as usize),
-        word(&first, &last, (other % 16) as usize),
+        word(&first, before, (one % 16) as usize),
+        word(&first, before, (other % 16) as usize),
     )
 }

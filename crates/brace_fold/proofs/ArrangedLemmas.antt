@@ -64,6 +64,7 @@ cells-alike program other agents cells sees are = record {
         } in spot) (sees.places (get_or agents k a)));
   };
   rise = are.rise;
+  halves = are.halves;
 }
 
 pub arranged-alike : (program other : Program) (agents : List Agent) (arranged : Arranged)

@@ -6,7 +6,7 @@ use Rattle.std.proofs.lemmas.Int.{ints}
 use Rattle.std.proofs.lemmas.Nat.{div_below, le-div}
 use Rattle.std.proofs.Math.Nat.{div-mul-le_self, mul-le-mul_right, add-mul}
 use Rattle.brace_grid.specs.Grids as grids
-use Rattle.brace_fold.specs.inner.Sights.{cell_number, height}
+use Rattle.brace_fold.specs.inner.Sights.{IsLow, cell_number, height}
 
 -- one number is below another one, or not
 int_cases : (x y : ℤ) → (x <ℤ y) ⊎ (y ≤ℤ x)
@@ -62,6 +62,92 @@ number_near (pos n) some v w h = near v w h
     near (negsuc a) (negsuc b) h =
         omega (arith, ints, div_far b a n positive (omega (arith, ints, h)))
     near (pos a) (negsuc b) h = omega (arith, ints)
+
+div_near : (a b n : ℕ) → 0 < n → b / n ≤ a / n + 1 → b < a + n + n
+div_near a b n some h =
+    ⊎_elim
+    (λ (less : b < a + n + n). less)
+    (λ (more : a + n + n ≤ b). absurd (omega (
+      arith,
+      h,
+      le-div (a / n + 2) b n some
+          (omega (arith, more, div-mul-le_self a n, add-mul (a / n) 2 n)),
+    )))
+    (cases_lt b (a + n + n))
+
+div_none : (a n : ℕ) → 0 < n → a / n ≤ 0 → a < n
+div_none a n some h =
+    ⊎_elim
+    (λ (less : a < n). less)
+    (λ (more : n ≤ a). absurd (omega (arith, h, le-div 1 a n some (omega (arith, more)))))
+    (cases_lt a n)
+
+-- coordinates at most a cell apart are less than two sides apart
+pub number_apart : (side : ℤ) → pos 0 <ℤ side → (v w : ℤ)
+    → grids.cell_number side w ≤ℤ (grids.cell_number side v +ℤ pos 1)
+    → (w -ℤ v) <ℤ (side +ℤ side)
+number_apart (negsuc n) some v w h = absurd (omega (arith, ints, some))
+number_apart (pos n) some v w h = apart v w h
+  where
+    positive : 0 < n
+    positive = omega (arith, ints, some)
+
+    apart : (v w : ℤ) → grids.cell_number (pos n) w ≤ℤ (grids.cell_number (pos n) v +ℤ pos 1)
+        → (w -ℤ v) <ℤ (pos n +ℤ pos n)
+    apart (pos a) (pos b) h =
+        omega (arith, ints, div_near a b n positive (omega (arith, ints, h)))
+    apart (negsuc a) (pos b) h = omega (
+      arith,
+      ints,
+      div_none a n positive (omega (arith, ints, h)),
+      div_none b n positive (omega (arith, ints, h)),
+    )
+    apart (negsuc a) (negsuc b) h =
+        omega (arith, ints, div_near b a n positive (omega (arith, ints, h)))
+    apart (pos a) (negsuc b) h = omega (arith, ints, positive)
+
+-- a coordinate so low is in one of the cells around 0
+pub number_low : (side : ℤ) → pos 0 <ℤ side → (v : ℤ) → IsLow side v
+    → (negsuc 262141 ≤ℤ grids.cell_number side v) × (grids.cell_number side v <ℤ pos 262142)
+number_low (negsuc n) some v is = absurd (omega (arith, ints, some))
+number_low (pos n) some (pos a) is = (
+  omega (arith, ints),
+  omega (
+    arith,
+    ints,
+    div_below a n 262142 (omega (arith, ints, some)) (omega (arith, ints, is.below)),
+  ),
+)
+number_low (pos n) some (negsuc a) is = (
+  omega (
+    arith,
+    ints,
+    div_below a n 262142 (omega (arith, ints, some)) (omega (arith, ints, is.above)),
+  ),
+  omega (arith, ints),
+)
+
+-- no multiple of the height but 0 makes up for so little
+no_height : (d e : ℤ) → negsuc 0 ≤ℤ ((d *ℤ pos 524288) +ℤ e)
+    → ((d *ℤ pos 524288) +ℤ e) ≤ℤ pos 1 → negsuc 524282 ≤ℤ e → e ≤ℤ pos 524283
+    → (pos 0 ≤ℤ d) × (d ≤ℤ pos 0)
+no_height d e low high above below =
+    (omega (arith, ints, low, below), omega (arith, ints, high, above))
+
+-- cells around 0 in one run are beside one another
+pub run_beside : (a b r s t : ℤ) → negsuc 0 ≤ℤ t → t ≤ℤ pos 1
+    → negsuc 262141 ≤ℤ r → r <ℤ pos 262142 → negsuc 262141 ≤ℤ s → s <ℤ pos 262142
+    → ((((a *ℤ height) +ℤ r) +ℤ (t *ℤ height)) -ℤ pos 1) ≤ℤ ((b *ℤ height) +ℤ s)
+    → ((b *ℤ height) +ℤ s) <ℤ ((((a *ℤ height) +ℤ r) +ℤ (t *ℤ height)) +ℤ pos 2)
+    → ((b ≤ℤ (a +ℤ pos 1)) × (a ≤ℤ (b +ℤ pos 1)))
+    × ((s ≤ℤ (r +ℤ pos 1)) × (r ≤ℤ (s +ℤ pos 1)))
+run_beside a b r s t west east r_low r_high s_low s_high low high =
+    let d : ℤ = (b -ℤ a) -ℤ t in
+    let none = no_height d (s -ℤ r) (omega (arith, ints, low)) (omega (arith, ints, high))
+    (omega (arith, ints, r_high, s_low)) (omega (arith, ints, r_low, s_high)) in (
+      (omega (arith, ints, none, east), omega (arith, ints, none, west)),
+      (omega (arith, ints, none, high), omega (arith, ints, none, low)),
+    )
 
 -- ---- the run that a number is in
 

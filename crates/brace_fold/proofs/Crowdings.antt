@@ -1,9 +1,9 @@
 -- Crowds: their parts, and a constant that is set.
-use Rattle.std.proofs.Common.{◌≡◌, ◌∙◌, refl, sym, ap, ap₂, subst, ℕ, zero, suc, ◌+◌, ◌<◌, ◌≤◌, ℤ, pos, List, [], ◌∷◌, ◌++◌, append_assoc, map, length, drop, replicate, get_or, set, Bool, true, false, Some, None, arith, slice_get, Option, ⊎_elim}
+use Rattle.std.proofs.Common.{◌≡◌, ◌∙◌, refl, sym, ap, ap₂, subst, ℕ, zero, suc, ◌+◌, ◌-◌, ◌<◌, ◌≤◌, ℤ, pos, List, [], ◌∷◌, ◌++◌, append-nil, append_assoc, map, length, drop, replicate, get_or, set, Bool, true, false, Some, None, arith, slice_get, Option, ⊎_elim}
 use Rattle.std.specs.Prelude.{if◌then◌else◌}
 use Rattle.std.specs.List.{All}
-use Rattle.std.proofs.lemmas.Bool.{cases_eq}
-use Rattle.std.proofs.lemmas.List.{ext_get_or, length-map, length-set, length-replicate, length_push, map-append, drop_more, get_or_default, get_or-set_same, get_or-set_other}
+use Rattle.std.proofs.lemmas.Bool.{cases_eq, cases_lt}
+use Rattle.std.proofs.lemmas.List.{ext_get_or, length-map, length-set, length-replicate, length_push, map-append, drop_all, drop_more, get_or_default, get_or-set_same, get_or-set_other}
 use Rattle.std.proofs.lemmas.Option.{none-some, same_Some, get_or_from_slice_get, unwrap_or-slice_get}
 use Rattle.brace_model.specs.declared.program.Ty.{Ty}
 use Rattle.brace_model.specs.declared.program.Ty.TheVariants as ty
@@ -28,7 +28,8 @@ use Rattle.brace_fold.specs.declared.crowd.Stretch.{Stretch}
 use Rattle.brace_fold.specs.declared.crowd.Depth.TheVariants.{Outside}
 use Rattle.brace_fold.specs.declared.scene.Scene.{Scene}
 use Rattle.brace_fold.specs.inner.Asks.{openings}
-use Rattle.brace_fold.specs.inner.Crowds.{Stands, AreStretches, IsLane, IsLocal, IsOf, AreOf, IsGathered, AreGathered, AreNumbered, IsOfClass, asking_at, placed_at, bound_to, chosen, rows}
+use Rattle.brace_fold.specs.inner.Crowds.{Stands, AreStretches, IsLane, IsLocal, IsOf, AreOf, IsGathered, AreGathered, AreNumbered, AreOfClass, AreTaken, IsNoneOnSide, IsOfClass, IsScene, asking_at, placed_at, bound_to, chosen, rows}
+use Rattle.brace_fold.proofs.ColumnLemmas.{class-of}
 use Rattle.brace_fold.proofs.Evals.{at-mapped}
 
 pub got-mapped : {A B : Type 0} (f : A → B) (xs : List A) (p : ℕ) (d : A) (e : B) → p < length xs → get_or (map f xs) p e ≡ f (get_or xs p d)
@@ -383,6 +384,14 @@ asking-lanes rows asking count many is = record {
       ∙ ap (placed_at k) (sym (got-mapped asking_at asking k 0 l within));
 }
 
+-- the agents of rows are of a class, as the scene's column of classes has it
+pub all-of-class : (scene : Scene) (class : ℕ) (places : List ℕ) → IsScene scene
+    → AreOfClass scene.classes.now class places → All (IsOfClass (rows scene) class) places
+all-of-class scene class places is all = λ k d low.
+    let place = get_or places k d in
+    class-of (rows scene) place class class
+    (ap (λ (l : List ℕ). slice_get l place) (sym is.classes) ∙ all k d low) refl
+
 pub opening-stands : (scene : Scene) (crowd : Crowd) (class constants : ℕ) (places : List ℕ)
     (d : Agent)
     → crowd.depth ≡ Outside → AreNumbered (map asking_at places) crowd.lanes
@@ -424,3 +433,41 @@ opening-stands scene crowd class constants places d depth numbered locals unknow
           ∙ sym (ap length locals ∙ length-replicate {A = List ℤ} constants []);
       stretches = subst (AreStretches crowd.lanes) (sym unknown) tt;
     }
+
+-- one word more that is not on the side
+pub none-more : (set : Bool) (words : List ℤ) (from k : ℕ) → IsNoneOnSide set words from k
+    → side set (get_or words k (pos 0)) ≡ false → IsNoneOnSide set words from (k + 1)
+none-more set words from k none here j le low =
+    ⊎_elim (λ (less : j < k). none j le less)
+    (λ (more : k ≤ j). let same : j ≡ k = omega (arith, low, more) in
+    ap (λ n. side set (get_or words n (pos 0))) same ∙ here)
+    (cases_lt j k)
+
+-- lanes none of which is on the side
+pub taken-none : (set : Bool) (words : List ℤ) (numbers : List ℕ) (from next : ℕ) → from ≤ next
+    → next ≤ length words → IsNoneOnSide set words from next → AreTaken set words from numbers
+    → AreTaken set words next numbers
+taken-none set words numbers from next le within none taken =
+    subst (λ m. AreTaken set words m numbers) (omega (arith, le))
+    (go (next - from) (omega (arith, le)))
+  where
+    go : (n : ℕ) → from + n ≤ next → AreTaken set words (from + n) numbers
+    go zero low = subst (λ m. AreTaken set words m numbers) (omega arith) taken
+    go (suc n) low = λ lanes d long.
+        subst (λ m. map (λ i. get_or lanes i d) numbers
+        ++ taking set (drop m lanes) (drop m words) ≡ taking set lanes words) (omega arith)
+        (taken-more set lanes (taking set lanes words) numbers numbers words (from + n) d false
+        (omega (arith, low, within)) long (none (from + n) (omega arith) (omega (arith, low)))
+        (sym (append-nil numbers)) (go n (omega (arith, low)) lanes d long))
+
+-- all lanes on the side
+pub taken-all : (set : Bool) (words : List ℤ) (numbers : List ℕ) (count : ℕ) (lanes : List Lane)
+    (d : Lane) → count ≡ length words → length words ≡ length lanes
+    → AreTaken set words count numbers
+    → map (λ n. get_or lanes n d) numbers ≡ taking set lanes words
+taken-all set words numbers count lanes d all long taken =
+    let at : List Lane = map (λ n. get_or lanes n d) numbers in
+    sym (append-nil at)
+    ∙ ap (λ (l : List Lane). at ++ taking set l (drop count words))
+    (sym (drop_all count lanes (omega (arith, all, long))))
+    ∙ taken lanes d long

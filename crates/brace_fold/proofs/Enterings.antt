@@ -1,9 +1,9 @@
 -- Lanes of a loop, at the agents that it takes.
-use Rattle.std.proofs.Common.{◌≡◌, ◌∙◌, refl, sym, ap, ap₂, subst, ℕ, ◌+◌, ◌-◌, ◌<◌, ◌≤◌, List, [], ◌∷◌, ◌++◌, append-nil, map, flat_map, length, take, drop, get_or, Bool, true, false, Option, Some, None, arith, slice_get, ⊎_elim}
+use Rattle.std.proofs.Common.{◌≡◌, ◌∙◌, refl, sym, ap, ap₂, subst, ℕ, ◌+◌, ◌-◌, ◌*◌, ◌<◌, ◌≤◌, List, [], ◌∷◌, ◌++◌, append-nil, append_assoc, map, flat_map, length, take, drop, get_or, Bool, true, false, Option, Some, None, arith, slice_get, ⊎_elim}
 use Rattle.std.specs.Prelude.{is_none, if◌then◌else◌, replicate}
 use Rattle.std.proofs.lemmas.Bool.{cases_lt}
 use Rattle.std.proofs.lemmas.Grind.{flat_map-append}
-use Rattle.std.proofs.lemmas.List.{get_or_append_left, get_or-append_right, get_or_default, get_or-drop, get_or-map, get_or-replicate, get_or-take, length-append, length-drop, length-map, length-replicate, length-take-le, map-append, take_all, take_more}
+use Rattle.std.proofs.lemmas.List.{get_or_append_left, get_or-append_right, get_or_default, get_or-drop, get_or-map, get_or-replicate, get_or-take, length-append, length-drop, length-map, length-replicate, length-take-le, map-append, replicate-append-replicate, take_all, take_at, take_more}
 use Rattle.std.proofs.lemmas.List.FromFn.{fill_by_all}
 use Rattle.std.proofs.lemmas.Option.{get_or_from_slice_get, slice_get_within}
 use Rattle.brace_model.specs.declared.world.Agent.{Agent}
@@ -208,20 +208,54 @@ appended old more new count is had = record {
   back = λ k l m. ap (λ r. get_or r k 0) is ∙ get_or-append_right old more count k 0 had l;
 }
 
-pub repeated : (old new : List ℕ) (n len count more row : ℕ)
-    → new ≡ take n old ++ replicate (n - len) row → len ≡ length old → length old ≡ count
-    → n ≡ count + more → Grows count more (λ j. row) old new
-repeated old new n len count more row is len_is had all =
-    let many : n - len ≡ more = omega (arith, len_is, had, all) in
-    let same : new ≡ old ++ replicate more row =
-    is ∙ ap₂ (λ l m. l ++ replicate m row) (take_all n old (omega (arith, had, all))) many in
-    let grown = appended old (replicate more row) new count same had in
+-- how long a list is that goes on with one row
+pub grown_to : (old new : List ℕ) (count more row : ℕ) → new ≡ old ++ replicate more row
+    → count ≡ length old + more → length new ≡ count
+grown_to old new count more row is all =
+    ap length is ∙ length-append old (replicate more row)
+    ∙ ap (λ n. length old + n) (length-replicate more row) ∙ sym all
+
+-- a list that goes on with one row, by four more of it
+pub filled : (old before new : List ℕ) (row four : ℕ)
+    → before ≡ old ++ replicate (4 * four) row → new ≡ before ++ replicate 4 row
+    → new ≡ old ++ replicate (4 * (four + 1)) row
+filled old before new row four is more =
+    more ∙ ap (λ l. l ++ replicate 4 row) is
+    ∙ append_assoc old (replicate (4 * four) row) (replicate 4 row)
+    ∙ ap (λ l. old ++ l) (replicate-append-replicate (4 * four) 4 row)
+    ∙ ap (λ n. old ++ replicate n row)
+    (let e : 4 * four + 4 ≡ 4 * (four + 1) = omega arith in e)
+
+-- such a list, cut to so many
+pub filled_to : (old before : List ℕ) (row more count n : ℕ)
+    → before ≡ old ++ replicate n row → count ≡ length old + more → more ≤ n
+    → take count before ≡ old ++ replicate more row
+filled_to old before row more count n is all low =
+    ap (take count) (is ∙ ap (λ l. old ++ l)
+    (ap (λ m. replicate m row) (let e : n ≡ more + (n - more) = omega (arith, low) in e)
+    ∙ sym (replicate-append-replicate more (n - more) row)))
+    ∙ ap (take count) (sym (append_assoc old (replicate more row) (replicate (n - more) row)))
+    ∙ take_at (old ++ replicate more row) (replicate (n - more) row) count
+    (grown_to old (old ++ replicate more row) count more row refl all)
+
+pub repeated : (old new : List ℕ) (count more row : ℕ) → new ≡ old ++ replicate more row
+    → length old ≡ count → Grows count more (λ j. row) old new
+repeated old new count more row is had =
+    let grown = appended old (replicate more row) new count is had in
     record {
       front = grown.front;
       back = λ k l m.
           grown.back k l (omega (arith, m, length-replicate more row))
           ∙ get_or-replicate more (k - count) row 0 (omega (arith, l, m));
     }
+
+-- a list that is filled up to so many
+pub resized : (old new : List ℕ) (n len count more row : ℕ)
+    → new ≡ take n old ++ replicate (n - len) row → len ≡ length old → length old ≡ count
+    → n ≡ count + more → new ≡ old ++ replicate more row
+resized old new n len count more row is len_is had all =
+    is ∙ ap₂ (λ l m. l ++ replicate m row) (take_all n old (omega (arith, had, all)))
+    (let e : n - len ≡ more = omega (arith, len_is, had, all) in e)
 
 abbrev lane-with : ℕ → ℕ → ℕ → ℕ → Lane
 lane-with this outer inner place =

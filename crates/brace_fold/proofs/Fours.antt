@@ -1,5 +1,5 @@
 -- Four rows at once.
-use Rattle.std.proofs.Common.{◌≡◌, ◌∙◌, refl, sym, ap, arith, ℕ, ◌+◌, ◌-◌, ◌≤◌, Bool, true, false, cond, not, ◌&&◌, List, [], ◌∷◌, ◌++◌, append_assoc, length, take, drop, get_or, bit_or}
+use Rattle.std.proofs.Common.{◌≡◌, ◌∙◌, refl, sym, ap, arith, ℕ, ◌+◌, ◌-◌, ◌≤◌, Bool, true, false, cond, not, ◌||◌, List, [], ◌∷◌, ◌++◌, append_assoc, length, take, drop, get_or, bit_or}
 use Rattle.std.proofs.lemmas.List.{length-append, length-take-le, take-append-drop, take-take, take_at}
 use Rattle.std.proofs.lemmas.Simd.{take_more_put_chunk}
 use lib.Count.{ones}
@@ -8,24 +8,27 @@ use Rattle.brace_fold.specs.inner.Glances.{kept}
 
 -- all bits of a lane, or none
 abbrev pub lane : Bool → ℕ
-lane b = cond b 18446744073709551615 0
+lane b = cond b 4294967295 0
 
--- a lane's top bit tells whether one of three tests holds
-either : (x y o : Bool)
-    → top 63 (bit_or (bit_or (lane (not x)) (lane (not y))) (lane o)) ≡ not ((x && y) && not o)
-either true true true = refl
-either true true false = refl
-either true false true = refl
-either true false false = refl
-either false true true = refl
-either false true false = refl
-either false false true = refl
-either false false false = refl
-
-pub either_of : (x y o far high : Bool) → far ≡ not x → high ≡ not y
-    → top 63 (bit_or (bit_or (lane far) (lane high)) (lane o)) ≡ not ((x && y) && not o)
-either_of x y o far high far_is high_is =
-    (λ i. top 63 (bit_or (bit_or (lane (far_is i)) (lane (high_is i))) (lane o))) ∙ either x y o
+-- a lane's top bit tells whether one of four tests holds
+pub either : (a b c d : Bool)
+    → top 31 (bit_or (bit_or (lane a) (lane b)) (bit_or (lane c) (lane d))) ≡ (a || b) || (c || d)
+either true true true true = refl
+either true true true false = refl
+either true true false true = refl
+either true true false false = refl
+either true false true true = refl
+either true false true false = refl
+either true false false true = refl
+either true false false false = refl
+either false true true true = refl
+either false true true false = refl
+either false true false true = refl
+either false true false false = refl
+either false false true true = refl
+either false false true false = refl
+either false false false true = refl
+either false false false false = refl
 
 -- which of four are kept, by the mask of those that are not
 abbrev table : List (List ℕ)

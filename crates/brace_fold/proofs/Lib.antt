@@ -6,6 +6,7 @@ pub mod Evals
 pub mod Crowdings
 pub mod Summings
 pub mod Sayings
+pub mod Halved
 pub mod Joinings
 pub mod Enterings
 pub mod Actions
@@ -19,7 +20,6 @@ pub mod Risings
 pub mod Looks
 pub mod Fours
 pub mod Glances
-pub mod Spans
 pub mod Taking
 pub mod Readings
 pub mod Askings

@@ -21,7 +21,7 @@ joined a b c d = append_assoc (a ++ b) c d ∙ append_assoc a b (c ++ d)
 
 module _ (eye : Eye) (cuts : List Cut) where
   -- one spot more
-  found-append : (spots : List Spot) (s : Spot)
+  pub found-append : (spots : List Spot) (s : Spot)
       → found_in eye cuts (spots ++ s ∷ []) ≡ found_in eye cuts spots ++ (if is_found eye cuts s then s.place ∷ [] else [])
   found-append [] s = one (is_found eye cuts s)
     where

@@ -1,9 +1,10 @@
 -- What agents of rows leave, those of one class at once.
-use Rattle.std.proofs.Common.{◌≡◌, ◌∙◌, refl, sym, ap, subst, ℕ, ◌<◌, ℤ, List, [], ◌∷◌, ◌++◌, append-nil, append_assoc, map, length, get_or, slice_get, Some}
+use Rattle.std.proofs.Common.{◌≡◌, ◌∙◌, refl, sym, ap, subst, ℕ, ◌<◌, ℤ, List, [], ◌∷◌, ◌++◌, append-nil, append_assoc, map, length, get_or, slice_get, Some, arith}
 use Rattle.std.specs.List.{All}
 use Rattle.std.specs.List.Sorted.{IsPermutation}
-use Rattle.std.proofs.lemmas.List.{map-append}
+use Rattle.std.proofs.lemmas.List.{get_or-map, length-map, map-append}
 use Rattle.std.proofs.lemmas.List.Elements.{All-head, All-nil, All-cons, All-tail}
+use Rattle.std.proofs.lemmas.Option.{get_or_from_slice_get}
 use Rattle.brace_model.specs.declared.program.Class.{Class}
 use Rattle.brace_model.specs.declared.program.Program.{Program}
 use Rattle.brace_model.specs.declared.world.Agent.{Agent}
@@ -16,7 +17,9 @@ use Rattle.brace_fold.specs.declared.renewal.Renewed.{Renewed}
 use Rattle.brace_fold.specs.Asked.{by_row, no_agent}
 use Rattle.brace_fold.specs.Becoming.{AreLeft}
 use Rattle.brace_fold.specs.Rows.{AreMoved, rows_in}
+use Rattle.brace_fold.specs.inner.Crowds.{AreOfClass}
 use Rattle.brace_fold.specs.inner.Renewals.{LeavesRows, LeavesSome, Renews}
+use Rattle.brace_fold.proofs.ColumnLemmas.{class-of}
 use Rattle.brace_fold.proofs.RenewLemmas.{born-of, left-of, quiet-of, renews-more, renews-none}
 
 -- what holds of all agents holds of those of some rows
@@ -28,17 +31,18 @@ all-picked P agents (r ∷ rows) all inside =
     (all r no_agent (All-head (λ row. row < length agents) r rows inside))
     (all-picked P agents rows all (All-tail (λ row. row < length agents) r rows inside))
 
--- agents whose classes are one number
-pub alike-by : (agents : List Agent) (number : ℕ) (classes : List ℕ)
-    → classes ≡ map (λ (a : Agent). a.class) agents → All (λ n. n ≡ number) classes
-    → All (λ (a : Agent). a.class ≡ number) agents
-alike-by [] number classes same all = All-nil (λ (a : Agent). a.class ≡ number)
-alike-by (a ∷ agents) number classes same all =
-    let these = subst (All (λ n. n ≡ number)) same all in
-    All-cons (λ (a : Agent). a.class ≡ number) a agents
-    (All-head (λ n. n ≡ number) a.class (map (λ (a : Agent). a.class) agents) these)
-    (alike-by agents number (map (λ (a : Agent). a.class) agents) refl
-    (All-tail (λ n. n ≡ number) a.class (map (λ (a : Agent). a.class) agents) these))
+-- the agents of rows of a class
+pub alike-by : (agents : List Agent) (classes rows : List ℕ) (number : ℕ)
+    → classes ≡ map (λ (a : Agent). a.class) agents → AreOfClass classes number rows
+    → All (λ (a : Agent). a.class ≡ number) (by_row agents rows)
+alike-by agents classes rows number same all = λ k d low.
+    let at : ℕ → Agent = λ row. get_or agents row no_agent in
+    let row = get_or rows k 0 in
+    let inside : k < length rows = omega (arith, low, length-map rows at) in
+    let (a, got, of) = class-of agents row number number
+    (ap (λ (l : List ℕ). slice_get l row) (sym same) ∙ all k 0 inside) refl in
+    ap (λ (x : Agent). x.class) (get_or-map at rows k 0 d inside
+    ∙ get_or_from_slice_get agents row a no_agent got) ∙ of
 
 pub classes-by : (program : Program) (own : Class) (agents : List Agent) (number : ℕ)
     → slice_get program.classes number ≡ Some own → All (λ (a : Agent). a.class ≡ number) agents

@@ -1,5 +1,5 @@
 -- What was said to agents, row by row.
-use Rattle.std.specs.Prelude.{◌≡◌, ◌==◌, if◌then◌else◌, ℕ, ℤ, ◌+◌, ◌*◌, ◌<◌, pos, List, length, slice_get, slice_index_or, Some}
+use Rattle.std.specs.Prelude.{◌≡◌, ◌==◌, if◌then◌else◌, ℕ, ℤ, ◌+◌, ◌*◌, ◌<◌, ◌≤◌, pos, List, length, slice_get, slice_index_or, Some}
 use Rattle.brace_model.specs.declared.program.Comb.{Comb}
 use Rattle.brace_model.specs.declared.program.Effect.{Effect}
 use Rattle.brace_model.specs.declared.program.Program.{Program}
@@ -32,6 +32,11 @@ summed comb sum number count = record {
 abbrev pub sum_at : Table → ℕ → ℕ → Sum
 sum_at table effect row =
     slice_index_or table.sums.items (sum_place table.rows effect row) no_sum
+
+-- the sums of an effect begin at a place of a table, one for each row
+pub record HasSums (table : Table) (effect first : ℕ) : Type 0 where
+  pub place : first ≡ effect * table.rows
+  pub within : first + table.rows ≤ length table.sums.items
 
 -- the total whose sum this is; of no value, the one that is given
 abbrev pub total_in : ℤ → Sum → ℤ

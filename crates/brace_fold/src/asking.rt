@@ -4,7 +4,7 @@ ghost use Rattle.brace_model.specs.declared.world.Agent.{Agent};
 ghost use Rattle.brace_model.specs.Lawful.{is_lawful_agent};
 ghost use Rattle.brace_fold.specs.Rows.{AreRows, rows_in};
 ghost use Rattle.brace_fold.specs.inner.Asks.{Asks, AsksIn};
-ghost use Rattle.brace_fold.specs.inner.Crowds.{IsScene, world};
+ghost use Rattle.brace_fold.specs.inner.Crowds.{AreOfClass, IsScene, world};
 ghost use Rattle.brace_fold.specs.inner.Sights.{AreCells};
 
 use crate::cells::Cells;
@@ -31,6 +31,7 @@ fn ask(
     requires scene { IsScene scene.now }
     requires program { scene.now.program.now ≡ plans.now }
     requires lawful { IsTrue (list_all (is_lawful_agent plans.now) (world scene.now)) }
+    requires of_class { AreOfClass scene.now.classes.now class asking.now }
     ensures { OnOk result ((d : Agent) → Asks scene.now d asking.now heard.old heard.new) }
 {
     let Some(told) = plans.told(class) else {
@@ -49,7 +50,8 @@ fn ask_all(scene: &Scene, plans: &Plans, asking: &[u32], heard: &mut Table) -> R
     ensures { OnOk result ((d : Agent) → Asks scene.now d asking.now heard.old heard.new) }
 {
     let mut left = asking;
-    while let Some(group) = first_group(scene.classes, left) {
+    while !left.is_empty() {
+        let group = first_group(scene.classes, left)?;
         ask(scene, plans, group.class, group.rows, heard)?;
         left = group.rest;
     }

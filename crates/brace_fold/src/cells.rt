@@ -1,4 +1,4 @@
-ghost use Rattle.std.specs.Prelude.{◌≡◌, ◌<◌, ◌≤◌, ℕ, ℤ, List, pos, ◌<ℤ◌, ◌≤ℤ◌, true, length, map, slice_get, slice_index_or, Some, IfOk, IfSome, OnOk};
+ghost use Rattle.std.specs.Prelude.{◌≡◌, ◌<◌, ◌≤◌, ◌+◌, ℕ, ℤ, List, pos, ◌<ℤ◌, ◌≤ℤ◌, true, length, map, slice_get, slice_index_or, Some, IfOk, IfSome, OnOk};
 ghost use Rattle.brace_model.specs.declared.world.Agent.{Agent};
 ghost use Rattle.brace_plan.specs.Answers.{greatest_visible};
 ghost use Rattle.brace_fold.specs.declared.cells.Cells.{Cells};
@@ -6,6 +6,7 @@ ghost use Rattle.brace_fold.specs.Rows.{AreColumns};
 ghost use Rattle.brace_fold.specs.inner.Sights.{AreLed, AreSorted, CellsRise, IsAround, IsRank, IsRun, cell_number, in_row};
 
 use crate::columns::Columns;
+use crate::halves::Halves;
 use crate::sorting::sort_by_cell;
 use crate::spotting::spots_in;
 use brace_code::Redo;
@@ -32,6 +33,7 @@ pub struct Spot {
 pub struct Cells {
     /// Where the agents stand, by rising cell.
     pub spots: Vec<Spot>,
+    pub halves: Option<Halves>,
 }
 
 /// The agents of rows in cells.
@@ -95,14 +97,16 @@ impl Sorted {
         sort_by_cell(alloc, &mut spots)?;
         let order = order_of(alloc, &spots)?;
         number_rows(&mut spots)?;
+        let halves = Halves::of(alloc, &spots, side)?;
         Ok(Sorted {
-            cells: Cells { spots },
+            cells: Cells { spots, halves },
             order,
         })
     }
 }
 
 /// Whether a place may be looked on from: all spots before it come before a cell, and some do.
+#[inline(always)]
 fn is_hint(spots: &[Spot], hint: usize, cell: i64) -> bool
     requires { CellsRise spots.now }
     ensures within { result ≡ true → hint ≤ length spots.now }
@@ -115,7 +119,19 @@ fn is_hint(spots: &[Spot], hint: usize, cell: i64) -> bool
     last < spots.len() && spots[last].cell < cell
 }
 
+/// How many spots come before a cell, found by halving.
+#[inline(never)]
+fn halved(spots: &[Spot], cell: i64) -> usize
+    requires { CellsRise spots.now }
+    ensures within { result ≤ length spots.now }
+    ensures front { (k : ℕ) (d : Spot) → k < result
+        → (slice_index_or spots.now k d).cell <ℤ cell }
+{
+    spots.partition_point(|spot: &Spot| spot.cell < cell)
+}
+
 /// How many spots come before a cell, if need be found by halving.
+#[inline(always)]
 fn start_of(spots: &[Spot], hint: usize, cell: i64) -> usize
     requires { CellsRise spots.now }
     ensures within { result ≤ length spots.now }
@@ -125,21 +141,55 @@ fn start_of(spots: &[Spot], hint: usize, cell: i64) -> usize
     if is_hint(spots, hint, cell) {
         hint
     } else {
-        spots.partition_point(|spot: &Spot| spot.cell < cell)
+        halved(spots, cell)
     }
 }
 
-/// How many spots come before a cell, looked for from a place on that may be near.
-pub fn rank(spots: &[Spot], hint: usize, cell: i64) -> usize
-    requires { CellsRise spots.now }
+/// How many spots come before a cell, where all before a place do, and not all of the four from it
+/// on: told without a branch, since it is as likely to be one of them as another.
+#[inline(always)]
+fn rank_in_four(spots: &[Spot], at: usize, cell: i64) -> usize
+    requires rise { CellsRise spots.now }
+    requires four { at + 4 ≤ length spots.now }
+    requires front { (k : ℕ) (d : Spot) → k < at → (slice_index_or spots.now k d).cell <ℤ cell }
+    requires last { (d : Spot) → cell ≤ℤ (slice_index_or spots.now (at + 3) d).cell }
     ensures { IsRank spots.now cell result }
 {
-    for at in start_of(spots, hint, cell)..spots.len() {
+    let pair = at + 2 * usize::from(spots[at + 1].cell < cell);
+    pair + usize::from(spots[pair].cell < cell)
+}
+
+/// How many spots come before a cell, looked for one by one from a place on before which all do.
+#[inline(never)]
+fn rank_from(spots: &[Spot], from: usize, cell: i64) -> usize
+    requires rise { CellsRise spots.now }
+    requires within { from ≤ length spots.now }
+    requires front { (k : ℕ) (d : Spot) → k < from
+        → (slice_index_or spots.now k d).cell <ℤ cell }
+    ensures { IsRank spots.now cell result }
+{
+    for at in from..spots.len() {
         if cell <= spots[at].cell {
             return at;
         }
     }
     spots.len()
+}
+
+/// How many spots come before a cell, looked for four by four from a place on that may be near.
+#[inline(always)]
+pub fn rank(spots: &[Spot], hint: usize, cell: i64) -> usize
+    requires { CellsRise spots.now }
+    ensures { IsRank spots.now cell result }
+{
+    let mut at = start_of(spots, hint, cell);
+    while at + 4 <= spots.len() {
+        if cell <= spots[at + 3].cell {
+            return rank_in_four(spots, at, cell);
+        }
+        at += 4;
+    }
+    rank_from(spots, at, cell)
 }
 
 /// A run of spots by rising cell.
@@ -174,6 +224,7 @@ impl Runs {
 }
 
 /// The run of a cell and of those below and above it, looked for from another run on.
+#[inline(always)]
 fn run_from(spots: &[Spot], near: &Run, cell: i64) -> Result<Run, Redo>
     requires { CellsRise spots.now }
     ensures { IfOk result (IsRun spots.now cell) }
@@ -210,6 +261,7 @@ impl Cells {
     pub fn lead(&self, runs: &mut Runs, row: u32) -> Result<(), Redo>
         requires rise { CellsRise self.now.spots.items }
         requires led { AreLed self.now runs.old }
+        ensures there { OnOk result (row < length self.now.spots.items) }
         ensures led { OnOk result (AreLed self.now runs.new) }
         ensures around { OnOk result ((spot : Spot)
             → slice_get self.now.spots.items row ≡ Some spot

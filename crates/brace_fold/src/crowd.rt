@@ -1,5 +1,4 @@
-ghost use Rattle.std.specs.Prelude.{◌≡◌, List, [], length, map, replicate, slice_index_or, IfOk, OnOk};
-ghost use Rattle.std.specs.List.{All};
+ghost use Rattle.std.specs.Prelude.{◌≡◌, ◌≤◌, List, [], length, map, replicate, slice_index_or, IfOk, IsFalse, OnOk};
 ghost use Rattle.brace_model.specs.declared.program.Ty.TheVariants as ty;
 ghost use Rattle.brace_model.specs.declared.world.Agent.{Agent};
 ghost use Rattle.brace_model.specs.World.{number};
@@ -8,7 +7,7 @@ ghost use Rattle.brace_code.specs.declared.lane.Lane.{Lane};
 ghost use Rattle.brace_code.specs.Columns.{taking, side};
 ghost use Rattle.brace_fold.specs.declared.scene.Scene.{Scene};
 ghost use Rattle.brace_fold.specs.inner.Asks.{openings};
-ghost use Rattle.brace_fold.specs.inner.Crowds.{Stands, AreOf, AreGathered, AreNumbered, AreStretches, IsGathered, IsOfClass, asking_at, bound_to, chosen, has_outer, has_inner, IsScene, rows};
+ghost use Rattle.brace_fold.specs.inner.Crowds.{Stands, AreOf, AreGathered, AreNumbered, AreOfClass, AreStretches, AreTaken, IsGathered, IsNoneOnSide, asking_at, bound_to, chosen, has_outer, has_inner, IsScene};
 
 use crate::scene::Scene;
 use brace_code::{Lanes, Redo, Row, Rows, column_of};
@@ -127,6 +126,81 @@ fn is_on_side(set: bool, word: i64) -> bool
     (word != 0) == set
 }
 
+/// Whether a word from a place up to another is on a side.
+#[inline(always)]
+fn any_on_side(set: bool, words: &[i64], from: u32, next: u32) -> bool
+    requires { next ≤ length words.now }
+    ensures { IsFalse result → IsNoneOnSide set words.now from next }
+{
+    let mut found = false;
+    for k in from..next {
+        found |= is_on_side(set, words[k as usize]);
+    }
+    found
+}
+
+/// Adds the numbers of the lanes from a place up to another whose words are on a side.
+#[inline(always)]
+fn take_between(
+    set: bool,
+    words: &[i64],
+    from: u32,
+    next: u32,
+    numbers: &mut Vec<u32>,
+) -> Result<(), Redo>
+    requires rises { from ≤ next }
+    requires within { next ≤ length words.now }
+    ensures { OnOk result (AreTaken set words.now from numbers.old.items
+        → AreTaken set words.now next numbers.new.items) }
+{
+    for k in from..next {
+        if is_on_side(set, words[k as usize]) {
+            numbers.push(k)?;
+        }
+    }
+    Ok(())
+}
+
+/// Adds the numbers of the lanes from a place up to another whose words are on a side. The lanes
+/// are looked at one by one only where there is such a word.
+#[inline(always)]
+fn take_few(
+    set: bool,
+    words: &[i64],
+    from: u32,
+    next: u32,
+    numbers: &mut Vec<u32>,
+) -> Result<(), Redo>
+    requires rises { from ≤ next }
+    requires within { next ≤ length words.now }
+    ensures { OnOk result (AreTaken set words.now from numbers.old.items
+        → AreTaken set words.now next numbers.new.items) }
+{
+    if !any_on_side(set, words, from, next) {
+        return Ok(());
+    }
+    take_between(set, words, from, next, numbers)
+}
+
+/// The numbers of so many lanes whose words are on a side.
+// Inlined where the side is known. Eight lanes in turn, since few are set where a query looks at
+// agents more closely.
+#[inline(always)]
+fn taken_on(alloc: Global, set: bool, words: &[i64], count: u32) -> Result<Vec<u32>, Redo>
+    requires { count ≡ length words.now }
+    ensures { IfOk result (λ numbers. (lanes : List Lane) (d : Lane)
+        → length words.now ≡ length lanes
+        → map (λ n. slice_index_or lanes n d) numbers.items ≡ taking set lanes words.now) }
+{
+    let mut numbers = Vec::with_capacity(alloc, words.len())?;
+    let eights = count / 8;
+    for eight in 0..eights {
+        take_few(set, words, 8 * eight, 8 * eight + 8, &mut numbers)?;
+    }
+    take_between(set, words, 8 * eights, count, &mut numbers)?;
+    Ok(numbers)
+}
+
 /// The numbers of the lanes whose word is set, or of those whose word is 0.
 fn taken(alloc: Global, set: bool, words: &[i64]) -> Result<Vec<u32>, Redo>
     ensures { IfOk result (λ numbers. (lanes : List Lane) (d : Lane)
@@ -136,13 +210,11 @@ fn taken(alloc: Global, set: bool, words: &[i64]) -> Result<Vec<u32>, Redo>
     let Ok(count) = u32::try_from(words.len()) else {
         return Err(Redo);
     };
-    let mut numbers = Vec::with_capacity(alloc, words.len())?;
-    for k in 0..count {
-        if is_on_side(set, words[k as usize]) {
-            numbers.push(k)?;
-        }
+    if set {
+        taken_on(alloc, true, words, count)
+    } else {
+        taken_on(alloc, false, words, count)
     }
-    Ok(numbers)
 }
 
 impl Crowd {
@@ -196,17 +268,11 @@ impl Crowd {
     }
 }
 
-/// A lane for each agent that asks, all of which are of one class.
-fn asking_lanes(scene: &Scene, class: u32, asking: &[u32]) -> Result<Lanes, Redo>
-    requires { IsScene scene.now }
-    ensures lanes { IfOk result (AreNumbered (map asking_at asking.now)) }
-    ensures of_class { IfOk result (λ _.
-        All (IsOfClass (rows scene.now) class) asking.now) }
+/// A lane for each agent that asks.
+fn asking_lanes(alloc: Global, asking: &[u32]) -> Result<Lanes, Redo>
+    ensures { IfOk result (AreNumbered (map asking_at asking.now)) }
 {
-    for row in asking {
-        scene.expect_class(*row, class)?;
-    }
-    let mut rows = Vec::with_capacity(scene.alloc, asking.len())?;
+    let mut rows = Vec::with_capacity(alloc, asking.len())?;
     rows.extend_from_slice(asking)?;
     let (this, place) = (Rows::Each(rows), Rows::Number);
     Ok(Lanes::of(asking.len(), this, Rows::Same(0), Rows::Same(0), place))
@@ -214,13 +280,12 @@ fn asking_lanes(scene: &Scene, class: u32, asking: &[u32]) -> Result<Lanes, Redo
 
 /// The crowd of agents of a class that ask, none of whose constants is set.
 pub fn opening(scene: &Scene, class: u32, asking: &[u32], constants: usize) -> Result<Crowd, Redo>
-    requires { IsScene scene.now }
-    ensures of_class { IfOk result (λ _.
-        All (IsOfClass (rows scene.now) class) asking.now) }
-    ensures stands { IfOk result (λ crowd. (d : Agent) → Stands scene.now crowd
+    requires scene { IsScene scene.now }
+    requires of_class { AreOfClass scene.now.classes.now class asking.now }
+    ensures { IfOk result (λ crowd. (d : Agent) → Stands scene.now crowd
         (openings scene.now constants d asking.now)) }
 {
-    let lanes = asking_lanes(scene, class, asking)?;
+    let lanes = asking_lanes(scene.alloc, asking)?;
     let locals = unset(scene.alloc, constants)?;
     Ok(Crowd {
         depth: Depth::Outside,

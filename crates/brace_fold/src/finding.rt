@@ -47,9 +47,6 @@ pub struct Sought<'a> {
     pub glance: Option<Glance<'a>>,
 }
 
-/// As many rows as 32 bits number.
-const MOST_ROWS: usize = 4_294_967_295;
-
 /// How far agents of a class see.
 fn range_of(class: &Class) -> Result<u64, Redo>
     ensures { IfOk result (λ range. pos range ≡ class.now.visible) }
@@ -135,7 +132,7 @@ impl<'a> Scene<'a> {
         })
     }
 
-    /// Where all agents stand, if all are of a class.
+    /// Where all agents stand, if all are of a class and their lower halves tell it.
     fn glance(&self, class: u32) -> Option<Glance<'a>>
         requires { IsScene self.now }
         ensures { IfSome result (IsGlance self.now class) }
@@ -144,24 +141,16 @@ impl<'a> Scene<'a> {
         if class != 0 || classes.len() != 1 {
             return None;
         }
-        let own = &classes[0];
-        let Ok(range) = range_of(own) else {
+        let (Ok(visible), Some(halves)) = (range_of(&classes[0]), self.cells.halves.as_ref()) else {
             return None;
         };
-        let (Some(xs), Some(ys)) = (
-            self.states.get(own.x as usize),
-            self.states.get(own.y as usize),
-        ) else {
+        let Ok(range) = i32::try_from(visible) else {
             return None;
         };
-        if ys.len() != xs.len() || xs.len() > MOST_ROWS {
-            return None;
-        }
         Some(Glance {
-            xs: *xs,
-            ys: *ys,
+            xs: halves.xs.as_slice(),
+            ys: halves.ys.as_slice(),
             range,
-            class,
         })
     }
 

@@ -1,5 +1,5 @@
-ghost use Rattle.std.specs.Prelude.{◌≡◌, ◌<◌, ◌≤◌, ◌-◌, ◌++◌, [], List, true, length, map, flat_map, replicate, take, IfOk, OnOk};
-ghost use Rattle.std.specs.Vec.{vec_len};
+ghost use Rattle.std.specs.Prelude.{◌≡◌, ◌<◌, ◌≤◌, ◌+◌, ◌-◌, ◌++◌, [], List, true, length, map, flat_map, replicate, take, IfOk, OnOk};
+ghost use Rattle.std.specs.Vec.{vec_capacity, vec_len};
 ghost use Rattle.brace_model.specs.Value.{Scope};
 ghost use Rattle.brace_fold.specs.declared.crowd.Depth.{Depth};
 ghost use Rattle.brace_fold.specs.inner.Crowds.{IsFull, IsScene, Stands, deeper, entered, has_outer, lanes_inside, spread};
@@ -64,6 +64,40 @@ fn none_entered(alloc: Global, room: usize) -> Result<Entered, Redo>
     })
 }
 
+/// Appends a row four times, where there is room.
+#[inline(always)]
+fn push_four(rows: &mut Vec<u32>, row: u32)
+    requires { vec_len rows.old + 4 ≤ vec_capacity rows.old }
+    ensures items { rows.new.items ≡ rows.old.items ++ replicate 4 row }
+    ensures len { vec_len rows.new ≡ vec_len rows.old + 4 }
+    ensures capacity { vec_capacity rows.new ≡ vec_capacity rows.old }
+{
+    rows.push_reserved(row);
+    rows.push_reserved(row);
+    rows.push_reserved(row);
+    rows.push_reserved(row);
+}
+
+/// Appends the row of the agent that asks in a lane, and the lane's place, so often, by fours, of
+/// which the last is cut.
+#[inline(always)]
+fn repeat(lane: Lane, more: u32, this: &mut Vec<u32>, place: &mut Vec<u32>) -> Result<(), Redo>
+    ensures this { OnOk result (this.new.items ≡ this.old.items ++ replicate more lane.this) }
+    ensures place { OnOk result (place.new.items ≡ place.old.items ++ replicate more lane.place) }
+{
+    let fours = more as usize / 4 + 1;
+    this.reserve(4 * fours)?;
+    place.reserve(4 * fours)?;
+    let (count, places) = (this.len() + more as usize, place.len() + more as usize);
+    for four in 0..fours {
+        push_four(this, lane.this);
+        push_four(place, lane.place);
+    }
+    this.truncate(count);
+    place.truncate(places);
+    Ok(())
+}
+
 /// Fills rows up to so many with one, where lanes of a depth have an agent of the outer loop.
 fn fill_outer(depth: Depth, row: u32, count: usize, rows: &mut Vec<u32>) -> Result<(), Redo>
     ensures items { OnOk result (has_outer depth ≡ true → rows.new.items
@@ -87,8 +121,10 @@ fn enter(depth: Depth, lane: Lane, count: usize, lanes: &mut Entered) -> Result<
     ensures lanes { OnOk result (lanes_inside depth lanes.new ≡ lanes_inside depth lanes.old
         ++ map (entered depth lane) (between lanes.old.count count lanes.old.near.items)) }
 {
-    lanes.this.resize(count, lane.this)?;
-    lanes.place.resize(count, lane.place)?;
+    let Ok(more) = u32::try_from(count - lanes.count) else {
+        return Err(Redo);
+    };
+    repeat(lane, more, &mut lanes.this, &mut lanes.place)?;
     fill_outer(depth, lane.outer, count, &mut lanes.outer)?;
     lanes.count = count;
     Ok(())

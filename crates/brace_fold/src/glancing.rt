@@ -1,101 +1,77 @@
-ghost use Rattle.std.specs.Prelude.{◌≡◌, ◌<◌, ◌≤◌, ◌+◌, ◌-◌, ◌++◌, ◌∷◌, not, ℕ, ℤ, Bool, List, pos, [], length, take, IfOk};
+ghost use Rattle.std.specs.Prelude.{◌≡◌, ◌<◌, ◌≤◌, ◌+◌, ◌*◌, ◌++◌, ◌∷◌, not, ℕ, ℤ, pos, Bool, List, [], length, take, IfOk};
+ghost use Rattle.std.specs.Int.{int_wrap, w32};
 ghost use Rattle.std.specs.Simd.Lanes.{mask_l};
-ghost use Rattle.brace_model.specs.World.{is_within};
 ghost use Rattle.brace_fold.specs.declared.cells.Spot.{Spot};
+ghost use Rattle.brace_fold.specs.declared.seeing.Eye.{Eye};
 ghost use Rattle.brace_fold.specs.inner.Sights.{Appended, found_around, found_in, spots_along};
-ghost use Rattle.brace_fold.specs.inner.Glances.{AreShown, HasRows, IsAround, IsSquare, eye_at, kept, near, near_at};
+ghost use Rattle.brace_fold.specs.inner.Glances.{AreClear, AreClearAround, HasRows, IsLooked, IsSquare, base, kept, sees_at};
 
 use crate::cells::{Run, Runs};
-use crate::columns::read;
-use crate::seeing::{Eye, make_room, past_all, put_kept};
+use crate::columns::item_at;
+use crate::seeing::{make_room, past_all};
 use brace_code::Redo;
 use std::simd::prelude::*;
 
-/// Where agents of one class stand, row by row, and how far each of them sees.
+/// The lower halves of where agents of one class stand, row by row, and how far each of them sees.
 #[derive(Clone, Copy)]
 pub struct Glance<'a> {
-    pub xs: &'a [i64],
-    pub ys: &'a [i64],
-    pub range: u64,
-    pub class: u32,
+    pub xs: &'a [i32],
+    pub ys: &'a [i32],
+    pub range: i32,
 }
 
-/// How many rows a run has, of so many.
-fn width(run: &Run, rows: usize) -> Result<usize, Redo>
-    ensures width { IfOk result (λ n. n ≡ run.now.end - run.now.start) }
+/// How many fours of rows reach to the end of a run, of so many rows and four more.
+fn fours(run: &Run, rows: usize) -> Result<usize, Redo>
     ensures rises { IfOk result (λ n. run.now.start ≤ run.now.end) }
-    ensures within { IfOk result (λ n. run.now.end ≤ rows) }
+    ensures reach { IfOk result (λ n. run.now.end ≤ run.now.start + 4 * n) }
+    ensures within { IfOk result (λ n. run.now.start + 4 * n ≤ rows) }
 {
-    if run.start > run.end || run.end > rows {
+    if run.start > run.end || rows < 4 || run.end > rows - 4 {
         return Err(Redo);
     }
-    Ok(run.end - run.start)
+    Ok((run.end - run.start + 3) / 4)
 }
 
-/// Words from the least one on. The base lies half of all words above the least, so that signed
-/// words less the base, which wrap, are in the order of their distance to the least.
-#[derive(Clone, Copy, Drop)]
-struct Span {
-    base: i64,
-    reach: i64,
-}
-
-/// The words within a range of one.
-fn span_of(v: i64, range: u64) -> Span
-    ensures { IsAround v range result }
-{
-    let least = v.saturating_sub_unsigned(range);
-    let greatest = v.saturating_add_unsigned(range);
-    Span {
-        base: least.wrapping_add(i64::MIN),
-        reach: greatest.wrapping_sub(least).wrapping_add(i64::MIN),
-    }
-}
-
-/// Whether a word is outside of a span, told by one comparison.
-fn is_outside(span: &Span, v: i64) -> bool
-    ensures { (p : ℤ) (range : ℕ) → IsAround p range span.now
-        → result ≡ not (is_within (pos range) p v) }
-{
-    v.wrapping_sub(span.base) > span.reach
-}
-
-/// What an agent looks for, and the words of the square that it sees along each axis.
+/// What an agent looks for: along each axis halves from a base on, which wrap, up to a reach, and
+/// not those of its own row. Signed halves less the base, which lies half of all halves above the
+/// least one seen, are in the order of their distance to that one.
 #[derive(Clone, Copy, Drop)]
 struct Square {
-    eye: Eye,
-    across: Span,
-    along: Span,
+    across: i32,
+    along: i32,
+    reach: i32,
+    place: u32,
 }
 
-/// Whether an agent at a point is not looked for, told without a branch.
-fn is_far(square: &Square, row: u32, x: i64, y: i64) -> bool
-    requires { IsSquare square.now }
-    ensures { result ≡ not (near square.now.eye x y row) }
+/// Half of all halves above the least one within a range of one.
+fn base_of(v: i32, range: i32) -> i32
+    ensures { (p : ℤ) (r : ℕ) → v ≡ int_wrap w32 p → range ≡ pos r → result ≡ base p r }
 {
-    is_outside(&square.across, x) | is_outside(&square.along, y) | (row == square.eye.place)
+    v.wrapping_sub(range).wrapping_add(i32::MIN)
 }
 
-/// A bit for each of four rows from one on: whether its agent is not looked for.
+/// A bit for each of four rows from one on: whether its agent is not looked for, or stands behind
+/// the end of a run.
 #[inline(always)]
-fn far_of_four(square: &Square, xs: &[i64], ys: &[i64], row: usize) -> u64
-    requires square { IsSquare square.now }
+fn far_of_four(square: &Square, xs: &[i32], ys: &[i32], row: usize, end: u32) -> u64
     requires across { row + 4 ≤ length xs.now }
     requires along { row + 4 ≤ length ys.now }
+    requires few { row + 4 ≤ 4294967295 }
     ensures few { result < 16 }
-    ensures bits { result ≡ mask_l (
-        not (near_at square.now.eye xs.now ys.now (row + 0))
-        ∷ not (near_at square.now.eye xs.now ys.now (row + 1))
-        ∷ not (near_at square.now.eye xs.now ys.now (row + 2))
-        ∷ not (near_at square.now.eye xs.now ys.now (row + 3)) ∷ []) }
+    ensures bits { (spots : List Spot) (eye : Eye) (d : Spot) → IsSquare eye square.now
+        → AreClear eye xs.now ys.now row end spots
+        → result ≡ mask_l (
+        not (sees_at eye end spots d (row + 0)) ∷ not (sees_at eye end spots d (row + 1))
+        ∷ not (sees_at eye end spots d (row + 2)) ∷ not (sees_at eye end spots d (row + 3))
+        ∷ []) }
 {
-    let x = i64x4::from_array([xs[row], xs[row + 1], xs[row + 2], xs[row + 3]]);
-    let y = i64x4::from_array([ys[row], ys[row + 1], ys[row + 2], ys[row + 3]]);
-    let far = (x - i64x4::splat(square.across.base)).simd_gt(i64x4::splat(square.across.reach))
-        | (y - i64x4::splat(square.along.base)).simd_gt(i64x4::splat(square.along.reach));
-    let rows = u64x4::splat(row as u64).strict_add(u64x4::from_array([0, 1, 2, 3]));
-    let own = rows.simd_eq(u64x4::splat(square.eye.place as u64));
-    (far | own).to_bitmask()
+    let x = i32x4::from_array([xs[row], xs[row + 1], xs[row + 2], xs[row + 3]]);
+    let y = i32x4::from_array([ys[row], ys[row + 1], ys[row + 2], ys[row + 3]]);
+    let far = (x - i32x4::splat(square.across)).simd_gt(i32x4::splat(square.reach))
+        | (y - i32x4::splat(square.along)).simd_gt(i32x4::splat(square.reach));
+    let rows = u32x4::splat(row as u32).strict_add(u32x4::from_array([0, 1, 2, 3]));
+    let out = rows.simd_ge(u32x4::splat(end)) | rows.simd_eq(u32x4::splat(square.place));
+    (far | out).to_bitmask()
 }
 
 /// Which of four rows are kept, first of all, by the bits of those that are not.
@@ -138,47 +114,44 @@ fn put_four(out: &mut [u32], at: usize, row: u32, far: u64) -> usize
 impl<'a> Glance<'a> {
     /// What the agent of a row looks for.
     fn square(&self, row: u32) -> Result<Square, Redo>
-        ensures eye { IfOk result (λ square. square.eye ≡ eye_at self.now row) }
-        ensures is { IfOk result IsSquare }
+        ensures { IfOk result (λ square. (eye : Eye) → IsLooked self.now row eye
+            → IsSquare eye square) }
     {
-        let (x, y) = (read(self.xs, row)?, read(self.ys, row)?);
+        let (Some(x), Some(y)) = (item_at(self.xs, row), item_at(self.ys, row)) else {
+            return Err(Redo);
+        };
         Ok(Square {
-            eye: Eye {
-                x,
-                y,
-                range: self.range,
-                class: self.class,
-                place: row,
-            },
-            across: span_of(x, self.range),
-            along: span_of(y, self.range),
+            across: base_of(x, self.range),
+            along: base_of(y, self.range),
+            reach: self.range.wrapping_add(self.range).wrapping_add(i32::MIN),
+            place: row,
         })
     }
 
-    /// Writes the rows of a run whose agents are looked for from a count of rows on, and gives the
-    /// count of rows behind them.
-    fn scan(&self, run: Run, square: &Square, out: &mut [u32], from: usize) -> usize
+    /// Writes the rows of a run whose agents are looked for from a count of rows on, by so many
+    /// fours that reach to its end, and gives the count of rows behind them.
+    fn scan(&self, run: Run, fours: usize, square: &Square, out: &mut [u32], from: usize) -> usize
         requires rows { HasRows self.now }
-        requires square { IsSquare square.now }
         requires rises { run.start ≤ run.end }
-        requires within { run.end ≤ length self.now.xs.now }
-        requires room { from + (run.end - run.start) ≤ length out.old }
-        ensures within { result ≤ from + (run.end - run.start) }
-        ensures found { (spots : List Spot)
-            → AreShown square.now.eye.class self.now.xs.now self.now.ys.now spots
+        requires reach { run.end ≤ run.start + 4 * fours }
+        requires within { run.start + 4 * fours ≤ length self.now.xs.now }
+        requires room { from + 4 * fours ≤ length out.old }
+        ensures within { result ≤ from + 4 * fours }
+        ensures found { (spots : List Spot) (eye : Eye) → IsSquare eye square.now
+            → AreClear eye self.now.xs.now self.now.ys.now run.start run.end spots
             → take result out.new
-            ≡ take from out.old ++ found_in square.now.eye [] (spots_along run spots) }
+            ≡ take from out.old ++ found_in eye [] (spots_along run spots) }
     {
-        let (xs, ys, square) = (self.xs, self.ys, *square);
-        let fours = (run.end - run.start) / 4;
+        let (xs, ys, square, end) = (self.xs, self.ys, *square, run.end as u32);
         let mut count = from;
         for four in 0..fours {
             let row = run.start + 4 * four;
-            count = put_four(out, count, row as u32, far_of_four(&square, xs, ys, row));
-        }
-        for row in run.start + 4 * fours..run.end {
-            let far = is_far(&square, row as u32, xs[row], ys[row]);
-            count = put_kept(out, count, row as u32, !far);
+            count = put_four(
+                out,
+                count,
+                row as u32,
+                far_of_four(&square, xs, ys, row, end),
+            );
         }
         count
     }
@@ -194,18 +167,18 @@ impl<'a> Glance<'a> {
     ) -> Result<usize, Redo>
         requires rows { HasRows self.now }
         requires from { from ≤ length near.old.items }
-        ensures { IfOk result (λ count. (spots : List Spot)
-            → AreShown self.now.class self.now.xs.now self.now.ys.now spots
+        ensures { IfOk result (λ count. (spots : List Spot) (eye : Eye)
+            → IsLooked self.now row eye → AreClearAround eye self.now runs.now spots
             → Appended from count near.old.items near.new.items
-            (found_around (eye_at self.now row) [] spots runs.now)) }
+            (found_around eye [] spots runs.now)) }
     {
         let square = self.square(row)?;
-        let west = width(&runs.west, self.xs.len())?;
-        let middle = width(&runs.middle, self.xs.len())?;
-        let east = width(&runs.east, self.xs.len())?;
-        make_room(near, past_all(from, west, middle, east)?)?;
-        let first = self.scan(runs.west, &square, near, from);
-        let second = self.scan(runs.middle, &square, near, first);
-        Ok(self.scan(runs.east, &square, near, second))
+        let west = fours(&runs.west, self.xs.len())?;
+        let middle = fours(&runs.middle, self.xs.len())?;
+        let east = fours(&runs.east, self.xs.len())?;
+        make_room(near, past_all(from, 4 * west, 4 * middle, 4 * east)?)?;
+        let first = self.scan(runs.west, west, &square, near, from);
+        let second = self.scan(runs.middle, middle, &square, near, first);
+        Ok(self.scan(runs.east, east, &square, near, second))
     }
 }

@@ -1,7 +1,9 @@
-ghost use Rattle.std.specs.Prelude.{◌≡◌, ◌<◌, ◌++◌, [], length, IfOk, IfSome, MatchOption};
+ghost use Rattle.std.specs.Prelude.{◌≡◌, ◌<◌, ◌≤◌, ◌++◌, length, take, IfOk, IsTrue};
 ghost use Rattle.std.specs.List.Sorted.{IsPermutation};
+ghost use Rattle.brace_fold.specs.inner.Crowds.{AreOfClass};
 
-use brace_code::Redo;
+use crate::columns::item_at;
+use brace_code::{Redo, are_within};
 use std::alloc::Global;
 
 /// How many agents are asked, or renewed, at once.
@@ -21,20 +23,37 @@ fn class_or(classes: &[u32], row: u32) -> u32 {
     classes.get(row as usize).copied().unwrap_or(0)
 }
 
+/// Whether rows rise.
+fn rise(rows: &[u32]) -> bool {
+    let mut falls = false;
+    let mut last = 0;
+    for row in rows {
+        falls |= *row < last;
+        last = *row;
+    }
+    !falls
+}
+
+/// Whether the agents of some rows are all of a class.
+fn are_of_class(classes: &[u32], rows: &[u32], class: u32) -> bool
+    ensures { IsTrue result → AreOfClass classes.now class rows.now }
+{
+    if !are_within(rows, classes.len()) {
+        return false;
+    }
+    let mut others = false;
+    for row in rows {
+        others |= classes[*row as usize] != class;
+    }
+    !others
+}
+
 /// Whether rows rise, and are all of one class.
 fn are_alike(classes: &[u32], rows: &[u32]) -> bool {
     let Some(first) = rows.first() else {
         return true;
     };
-    let class = class_or(classes, *first);
-    let mut last = *first;
-    for row in rows {
-        if *row < last || class_or(classes, *row) != class {
-            return false;
-        }
-        last = *row;
-    }
-    true
+    rise(rows) && are_of_class(classes, rows, class_or(classes, *first))
 }
 
 /// Rows in the order of their classes, and of each other.
@@ -49,17 +68,40 @@ pub fn by_class(alloc: Global, classes: &[u32], rows: &[u32]) -> Result<Vec<u32>
     Ok(sorted)
 }
 
-/// The first rows that are of one class, no more of them than are asked at once.
-pub fn first_group<'a>(classes: &[u32], rows: &'a [u32]) -> Option<Group<'a>>
-    ensures rows { MatchOption result (rows.now ≡ [])
-        (λ group. group.rows.now ++ group.rest.now ≡ rows.now) }
-    ensures fewer { IfSome result (λ group. length group.rest.now < length rows.now) }
+/// How many of the first of some rows are of a class.
+fn class_end(classes: &[u32], rows: &[u32], class: u32) -> usize
+    ensures within { result ≤ length rows.now }
+    ensures of_class { AreOfClass classes.now class (take result rows.now) }
 {
-    let class = class_or(classes, *rows.first()?);
-    let mut count = 1;
-    while count < rows.len() && count < MANY && class_or(classes, rows[count]) == class {
+    if are_of_class(classes, rows, class) {
+        return rows.len();
+    }
+    let mut count = 0;
+    while count < rows.len() && item_at(classes, rows[count]) == Some(class) {
         count += 1;
     }
+    count
+}
+
+/// The first rows that are of one class, no more of them than are asked at once; Redo where there
+/// is no row.
+pub fn first_group<'a>(classes: &[u32], rows: &'a [u32]) -> Result<Group<'a>, Redo>
+    ensures rows { IfOk result (λ group. group.rows.now ++ group.rest.now ≡ rows.now) }
+    ensures fewer { IfOk result (λ group. length group.rest.now < length rows.now) }
+    ensures of_class { IfOk result (λ group.
+        AreOfClass classes.now group.class group.rows.now) }
+{
+    let Some(first) = rows.first() else {
+        return Err(Redo);
+    };
+    let Some(class) = item_at(classes, *first) else {
+        return Err(Redo);
+    };
+    let (most, _) = rows.split_at(rows.len().min(MANY));
+    let count = class_end(classes, most, class);
+    if count == 0 {
+        return Err(Redo);
+    }
     let (rows, rest) = rows.split_at(count);
-    Some(Group { class, rows, rest })
+    Ok(Group { class, rows, rest })
 }

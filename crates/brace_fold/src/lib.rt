@@ -14,6 +14,7 @@ mod folding;
 mod gathering;
 mod glancing;
 mod groups;
+mod halves;
 mod joining;
 mod leaving;
 mod lists;

@@ -1,4 +1,4 @@
-ghost use Rattle.std.specs.Prelude.{◌≡◌, ◌<◌, ◌≤◌, ◌++◌, [], ◌∷◌, ℕ, List, Some, filter, if◌then◌else◌, length, map, nat_lt, replicate, slice_get, slice_index_or, IfOk, IfSome, IsTrue, OnOk};
+ghost use Rattle.std.specs.Prelude.{◌≡◌, ◌<◌, ◌++◌, [], ◌∷◌, ℕ, List, Some, filter, if◌then◌else◌, length, map, nat_lt, replicate, slice_get, IfOk, IfSome, OnOk};
 ghost use Rattle.std.specs.List.{All, range_with_len};
 ghost use Rattle.brace_model.specs.declared.program.Program.{Program};
 ghost use Rattle.brace_model.specs.declared.world.Agent.{Agent};
@@ -8,18 +8,18 @@ ghost use Rattle.brace_fold.specs.Rows.{AreColumns, AreMoved, IsPicked, rows_in}
 ghost use Rattle.brace_fold.specs.inner.Picks.{rows_along, rows_between, rows_picked};
 
 use crate::columns::{Columns, item_at};
-use brace_code::Redo;
+use brace_code::{Redo, are_within};
 use brace_num::List;
 use std::alloc::Global;
 
 /// The place of each row from one on, as far as an order of rows has it.
 pub fn places_from(alloc: Global, order: &[u32], first: usize) -> Result<Vec<u32>, Redo> {
+    let Ok(end) = u32::try_from(order.len()) else {
+        return Err(Redo);
+    };
     let mut places = vec![in alloc; 0u32; order.len().saturating_sub(first)]?;
-    for k in 0..order.len() {
-        let Ok(place) = u32::try_from(k) else {
-            return Err(Redo);
-        };
-        if let Some(at) = (order[k] as usize).checked_sub(first) {
+    for place in 0..end {
+        if let Some(at) = (order[place as usize] as usize).checked_sub(first) {
             if at >= places.len() {
                 return Err(Redo);
             }
@@ -77,14 +77,12 @@ pub fn places_before(alloc: Global, order: &[u32], count: usize) -> Result<Vec<u
     ensures { IfOk result (λ places.
         IsPicked places.items order.now (filter (λ row. nat_lt row count) order.now)) }
 {
+    let Ok(end) = u32::try_from(order.len()) else {
+        return Err(Redo);
+    };
     let mut places = Vec::with_capacity(alloc, count)?;
-    for k in 0..order.len() {
-        let Ok(place) = u32::try_from(k) else {
-            return Err(Redo);
-        };
-        let Some(row) = item_at(order, place) else {
-            return Err(Redo);
-        };
+    for place in 0..end {
+        let row = order[place as usize];
         add_row(&mut places, place, (row as usize) < count)?;
     }
     Ok(places)
@@ -153,25 +151,6 @@ fn picks_of<'a>(alloc: Global, rows: &'a [u32]) -> Result<Picks<'a>, Redo>
         Some(all) => Ok(Picks::Slices(all, rows.len())),
         None => Ok(Picks::Each(rows)),
     }
-}
-
-/// The highest of some rows; 0 where there is none.
-fn highest(rows: &[u32]) -> u32
-    ensures { (k : ℕ) → k < length rows.now → slice_index_or rows.now k 0 ≤ result }
-{
-    let mut highest = 0;
-    for row in rows {
-        highest = highest.max(*row);
-    }
-    highest
-}
-
-/// Whether each of some rows is one of so many.
-pub fn are_within(rows: &[u32], count: usize) -> bool
-    ensures { IsTrue result → (k : ℕ) → k < length rows.now
-        → slice_index_or rows.now k 0 < count }
-{
-    rows.is_empty() || (highest(rows) as usize) < count
 }
 
 /// What a column has in a row that is within.

@@ -24,7 +24,8 @@ fn agent_at(alloc: Global, program: &Program, columns: &Columns, row: u32) -> Re
     let Some(class) = program.classes.as_slice().get(number as usize) else {
         return Err(Redo);
     };
-    let agent = agent_in(class, number, columns, row, Vec::new(alloc))?;
+    let values = Vec::with_capacity(alloc, class.states.as_slice().len())?;
+    let agent = agent_in(class, number, columns, row, values)?;
     Ok(agent)
 }
 

@@ -1,5 +1,4 @@
 ghost use Rattle.std.specs.Prelude.{◌≡◌, ◌≤◌, ◌^◌, List, Some, pos, ◌≤ℤ◌, length, slice_get, IfOk, OnOk};
-ghost use Rattle.std.specs.List.{All};
 ghost use Rattle.brace_model.specs.declared.program.Program.{Program};
 ghost use Rattle.brace_model.specs.declared.world.Agent.{Agent};
 ghost use Rattle.brace_model.specs.Query.{Saying};
@@ -10,6 +9,7 @@ ghost use Rattle.brace_fold.specs.Asked.{by_row};
 ghost use Rattle.brace_fold.specs.Becoming.{AreLeft};
 ghost use Rattle.brace_fold.specs.Rows.{AreRows, rows_in};
 ghost use Rattle.brace_fold.specs.Sums.{AreSummed};
+ghost use Rattle.brace_fold.specs.inner.Crowds.{AreOfClass};
 ghost use Rattle.brace_fold.specs.inner.Renewals.{LeavesRows};
 ghost use Rattle.brace_fold.specs.inner.Rulings.{AreLanes, Leaves};
 
@@ -87,6 +87,7 @@ fn renew_some(
 ) -> Result<(), Redo>
     requires rows { AreRows ground.now.plans.now columns.now }
     requires ticks { ground.now.tick ≤ 2 ^ 32 }
+    requires of_class { AreOfClass columns.now.classes.now number rows.now }
     ensures leaves { OnOk result
         (LeavesRows ground.now columns.now rows.now renewed.old renewed.new) }
     ensures wide { OnOk result
@@ -104,7 +105,6 @@ fn renew_some(
     let states = views(alloc, &picked.states)?;
     let these = picked.as_columns(&states);
     expect_wide(program, &these)?;
-    expect_alike(these.classes, number)?;
     let sums = told_columns(alloc, own, ground.said, rows)?;
     let totals = views(alloc, &sums)?;
     let mut sites = Vec::new(alloc);
@@ -124,18 +124,6 @@ fn renew_some(
     keep_rows(alloc, own, ruled.class, &out, &these, &mut renewed.left)
 }
 
-/// Tells Redo where not all agents are of a class.
-fn expect_alike(classes: &[u32], number: u32) -> Result<(), Redo>
-    ensures { OnOk result (All (λ class. class ≡ number) classes.now) }
-{
-    for class in classes {
-        if *class != number {
-            return Err(Redo);
-        }
-    }
-    Ok(())
-}
-
 /// Renews the agents of some rows, those that stand together and are of one class at once: those
 /// that live on and the children are added.
 fn renew_all(
@@ -152,7 +140,8 @@ fn renew_all(
         (length renewed.new.left.states.items ≡ length renewed.old.left.states.items) }
 {
     let mut left = rows;
-    while let Some(group) = first_group(columns.classes, left) {
+    while !left.is_empty() {
+        let group = first_group(columns.classes, left)?;
         renew_some(ground, columns, group.class, group.rows, renewed)?;
         left = group.rest;
     }

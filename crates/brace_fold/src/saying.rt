@@ -8,12 +8,13 @@ ghost use Rattle.brace_fold.specs.declared.scene.Scene.{Scene};
 ghost use Rattle.brace_model.specs.Total.{total_of};
 ghost use Rattle.brace_fold.specs.inner.Ears.{AreHeard, IsEar, hearing, row_of, is_there, told_at, told_by};
 ghost use Rattle.brace_fold.specs.Hears.{Hears};
+ghost use Rattle.brace_fold.specs.Sums.{HasSums};
 
 use crate::crowd::{Crowd, Depth, Stretch, has_inner, has_outer};
 use crate::scene::Scene;
 use crate::spoken::{Counted, Joined, Spoken, Summed, SummedAt, SummedSame};
 use crate::table::Table;
-use brace_code::{Lanes, Redo, Row, View};
+use brace_code::{Lanes, Redo, Row, View, are_within};
 use brace_model::{Comb, Ty, Value, Who};
 
 /// A word as a value of a type.
@@ -132,13 +133,16 @@ pub struct Ear {
     pub class: u32,
     pub effect: u32,
     pub comb: Comb,
+    /// Where its sums begin in the table that hears.
+    pub first: usize,
 }
 
 impl<'a> Scene<'a> {
     /// The ear of the agent of a row.
-    fn ear(&self, row: u32, effect: u32) -> Result<Ear, Redo>
+    fn ear(&self, row: u32, effect: u32, heard: &Table) -> Result<Ear, Redo>
         ensures ear { IfOk result (λ ear. IsEar self.now ear) }
         ensures effect { IfOk result (λ ear. ear.effect ≡ effect) }
+        ensures sums { IfOk result (λ ear. HasSums heard.now ear.effect ear.first) }
     {
         let Some(number) = self.class_at(row) else {
             return Err(Redo);
@@ -149,10 +153,14 @@ impl<'a> Scene<'a> {
         let Some(target) = class.effects.as_slice().get(effect as usize) else {
             return Err(Redo);
         };
+        let Some(first) = heard.first_of(effect as usize) else {
+            return Err(Redo);
+        };
         Ok(Ear {
             class: number,
             effect,
             comb: target.comb,
+            first,
         })
     }
 
@@ -165,21 +173,22 @@ impl<'a> Scene<'a> {
         comb: Comb,
         row: u32,
         number: i64,
-        count: usize,
+        count: u32,
         heard: &mut Table,
     ) -> Result<(), Redo>
         requires scene { IsScene self.now }
         requires ear { IsEar self.now ear.now }
+        requires sums { HasSums heard.old ear.now.effect ear.now.first }
         requires comb { comb ≡ ear.now.comb }
-        ensures { OnOk result ((a : Agent) (type : Ty) (words : List ℤ)
+        ensures sums { OnOk result (HasSums heard.new ear.now.effect ear.now.first) }
+        ensures hears { OnOk result ((a : Agent) (type : Ty) (words : List ℤ)
             → slice_get (rows self.now) row ≡ Some a → count ≡ length words
             → number ≡ total_of comb (map (typed type) words)
             → Hears self.now.program.now (rows self.now)
             (told_at a ear.now.effect type words) heard.old heard.new) }
     {
         self.expect_class(row, ear.class)?;
-        let count = narrow_count(count)?;
-        heard.join(ear.effect, row, comb, number, count)?;
+        heard.join_at(ear.first, row, comb, number, count)?;
         Ok(())
     }
 
@@ -193,6 +202,7 @@ impl<'a> Scene<'a> {
     ) -> Result<(), Redo>
         requires scene { IsScene self.now }
         requires ear { IsEar self.now ear.now }
+        requires sums { HasSums heard.old ear.now.effect ear.now.first }
         requires comb { S.joins spoken.now ≡ ear.now.comb }
         ensures { OnOk result (AreHeard self.now ear.now.effect (S.type_of spoken.now) hearers.now
             (S.reads spoken.now) heard.old heard.new) }
@@ -204,7 +214,8 @@ impl<'a> Scene<'a> {
             let Some(number) = spoken.total(at, next) else {
                 return Err(Redo);
             };
-            self.say_to(ear, spoken.comb(), row, number, next - at, heard)?;
+            let count = narrow_count(next - at)?;
+            self.say_to(ear, spoken.comb(), row, number, count, heard)?;
             at = next;
         }
         Ok(())
@@ -220,6 +231,7 @@ impl<'a> Scene<'a> {
     ) -> Result<(), Redo>
         requires scene { IsScene self.now }
         requires ear { IsEar self.now ear.now }
+        requires sums { HasSums heard.old ear.now.effect ear.now.first }
         requires comb { S.joins spoken.now ≡ ear.now.comb }
         ensures { OnOk result (AreHeard self.now ear.now.effect (S.type_of spoken.now)
             (spread stretches.now) (S.reads spoken.now) heard.old heard.new) }
@@ -232,7 +244,14 @@ impl<'a> Scene<'a> {
             let Some(number) = spoken.total(at, next) else {
                 return Err(Redo);
             };
-            self.say_to(ear, spoken.comb(), stretch.row, number, next - at, heard)?;
+            self.say_to(
+                ear,
+                spoken.comb(),
+                stretch.row,
+                number,
+                stretch.count,
+                heard,
+            )?;
             at = next;
         }
         Ok(())
@@ -248,6 +267,7 @@ impl<'a> Scene<'a> {
     ) -> Result<(), Redo>
         requires scene { IsScene self.now }
         requires ear { IsEar self.now ear.now }
+        requires sums { HasSums heard.old ear.now.effect ear.now.first }
         requires comb { S.joins spoken.now ≡ ear.now.comb }
         ensures { OnOk result (AreHeard self.now ear.now.effect (S.type_of spoken.now)
             (hearing hearers.entry) (S.reads spoken.now) heard.old heard.new) }
@@ -269,6 +289,7 @@ impl<'a> Scene<'a> {
     ) -> Result<(), Redo>
         requires scene { IsScene self.now }
         requires ear { IsEar self.now ear.now }
+        requires sums { HasSums heard.old ear.now.effect ear.now.first }
         ensures { OnOk result (AreHeard self.now ear.now.effect ty (hearing hearers.entry)
             words.entry heard.old heard.new) }
     {
@@ -285,7 +306,8 @@ impl<'a> Scene<'a> {
                 let spoken = Summed { ty, words };
                 self.say_all(ear, hearers, &spoken, heard)
             }
-            (Comb::Sum, Ty::Int | Ty::Fixed, View::At(column, rows)) => {
+            (Comb::Sum, Ty::Int | Ty::Fixed, View::At(column, rows))
+                if are_within(rows, column.len()) => {
                 let spoken = SummedAt { ty, column, rows };
                 self.say_all(ear, hearers, &spoken, heard)
             }
@@ -320,7 +342,7 @@ impl<'a> Scene<'a> {
         let Some(first) = hearers.first() else {
             return Err(Redo);
         };
-        let ear = self.ear(first, effect)?;
+        let ear = self.ear(first, effect, &*heard)?;
         self.say_hearers(&ear, hearers, ty, words, heard)?;
         Ok(())
     }

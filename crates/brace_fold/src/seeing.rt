@@ -85,7 +85,7 @@ fn is_sought(eye: &Eye, spot: &Spot) -> bool
 
 // Writes a row at a place, and goes on from the next place if it is kept: no branch depends on it.
 #[tactic(auto, using(crate::proofs::Looks::put_kept))]
-pub fn put_kept(out: &mut [u32], at: usize, row: u32, keeps: bool) -> usize
+fn put_kept(out: &mut [u32], at: usize, row: u32, keeps: bool) -> usize
     requires { at < length out.old }
     ensures front { take result out.new ≡ take at out.old ++ (if keeps then row ∷ [] else []) }
     ensures next { result ≤ at + 1 }

@@ -1,4 +1,4 @@
-ghost use Rattle.std.specs.Prelude.{◌≡◌, ◌≤◌, IfSome, false, length, map, pos, replicate, slice_index_or};
+ghost use Rattle.std.specs.Prelude.{◌≡◌, ◌<◌, ◌≤◌, ℕ, IfSome, false, length, map, pos, replicate, slice_index_or};
 ghost use Rattle.brace_code.specs.Lanes.{words_of};
 ghost use Rattle.brace_code.specs.declared.view.View.TheVariants as views;
 ghost use Rattle.brace_model.specs.Value.{typed};
@@ -68,17 +68,18 @@ fn sum_of(ty: Ty, words: &[i64]) -> Option<i64>
     narrow(total).ok()
 }
 
-/// The sum of the words of a column at some rows, of a type that is no flag; None where there is no
-/// such row, or 64 bits do not hold it.
+/// The sum of the words of a column at some rows, of a type that is no flag; None where 64 bits do
+/// not hold it.
 fn sum_at(ty: Ty, column: &[i64], rows: &[u32]) -> Option<i64>
-    requires { same_type ty types.Bool ≡ false }
+    requires plain { same_type ty types.Bool ≡ false }
+    requires within { (k : ℕ) → k < length rows.now
+        → slice_index_or rows.now k 0 < length column.now }
     ensures { IfSome result (λ n. n ≡ total_of combs.Sum (map (typed ty)
         (map (λ row. slice_index_or column.now row (pos 0)) rows.now))) }
 {
     let mut total = 0i128;
     for row in rows {
-        let word = column.get(*row as usize)?;
-        total += i128::from(*word);
+        total += i128::from(column[*row as usize]);
     }
     narrow(total).ok()
 }
@@ -191,13 +192,15 @@ impl<'a> Spoken for Summed<'a> {
     }
 }
 
-/// Words of a column at some rows that are summed, of a type that is no flag.
+/// Words of a column at some of its rows that are summed, of a type that is no flag.
 #[derive(Drop)]
 pub struct SummedAt<'a> {
     pub ty: Ty,
     pub column: &'a [i64],
     pub rows: &'a [u32],
     ghost plain: { same_type ty types.Bool ≡ false },
+    ghost within: { (k : ℕ) → k < length rows.now
+        → slice_index_or rows.now k 0 < length column.now },
 }
 
 impl<'a> Spoken for SummedAt<'a> {

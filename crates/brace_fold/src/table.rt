@@ -1,8 +1,8 @@
-ghost use Rattle.std.specs.Prelude.{◌≡◌, ◌<◌, [], length, slice_set, IfOk, IfSome, OnOk, List};
+ghost use Rattle.std.specs.Prelude.{◌≡◌, ◌<◌, ◌≤◌, ◌+◌, [], length, slice_index_or, slice_set, IfOk, IfSome, OnOk, List};
 ghost use Rattle.brace_model.specs.declared.program.Program.{Program};
 ghost use Rattle.brace_model.specs.declared.world.Agent.{Agent};
 ghost use Rattle.brace_comb.specs.Totals.{merged};
-ghost use Rattle.brace_fold.specs.Sums.{AreSummed, sum_at, sum_place, summed};
+ghost use Rattle.brace_fold.specs.Sums.{AreSummed, HasSums, no_sum, sum_at, sum_place, summed};
 
 use brace_code::Redo;
 use brace_model::Comb;
@@ -81,23 +81,16 @@ impl Table {
         Ok(Table { rows, sums })
     }
 
-    /// Where the sum of an effect of a row stands.
-    #[inline(always)]
-    fn place_of(&self, effect: u32, row: u32) -> Option<usize>
-        ensures at { IfSome result (λ at. at ≡ sum_place self.now.rows effect row) }
-        ensures row { IfSome result (λ _. row < self.now.rows) }
-        ensures within { IfSome result (λ at. at < length self.now.sums.items) }
+    /// Where the sums of an effect begin; None where they are not in the table.
+    pub fn first_of(&self, effect: usize) -> Option<usize>
+        ensures { IfSome result (HasSums self.now effect) }
     {
-        let row = row as usize;
-        if row >= self.rows {
+        let first = effect.checked_mul(self.rows)?;
+        let end = first.checked_add(self.rows)?;
+        if self.sums.len() < end {
             return None;
         }
-        let first = (effect as usize).checked_mul(self.rows)?;
-        let at = first.checked_add(row)?;
-        if at >= self.sums.len() {
-            return None;
-        }
-        Some(at)
+        Some(first)
     }
 
     /// The sum of an effect of a row.
@@ -105,12 +98,42 @@ impl Table {
         ensures sum { IfSome result (λ sum. sum ≡ sum_at self.now effect row) }
         ensures row { IfSome result (λ _. row < self.now.rows) }
     {
-        let at = self.place_of(effect, row)?;
-        Some(self.sums[at])
+        let first = self.first_of(effect as usize)?;
+        let row = row as usize;
+        if row >= self.rows {
+            return None;
+        }
+        Some(self.sums[first + row])
+    }
+
+    /// Joins the total of so many values to an effect, whose sums begin at a place, of a row.
+    #[inline(always)]
+    pub fn join_at(
+        &mut self,
+        first: usize,
+        row: u32,
+        comb: Comb,
+        number: i64,
+        count: u32,
+    ) -> Result<(), Redo>
+        requires { first + self.old.rows ≤ length self.old.sums.items }
+        ensures rows { self.new.rows ≡ self.old.rows }
+        ensures row { OnOk result (row < self.old.rows) }
+        ensures sums { OnOk result (self.new.sums.items ≡ slice_set self.old.sums.items
+            (first + row)
+            (summed comb (slice_index_or self.old.sums.items (first + row) no_sum)
+            number count)) }
+    {
+        let row = row as usize;
+        if row >= self.rows {
+            return Err(Redo);
+        }
+        let at = first + row;
+        self.sums[at] = summed(comb, self.sums[at], number, count)?;
+        Ok(())
     }
 
     /// Joins the total of so many values to an effect of a row.
-    #[inline(always)]
     pub fn join(
         &mut self,
         effect: u32,
@@ -127,10 +150,9 @@ impl Table {
             (sum_place self.old.rows effect row)
             (summed comb (sum_at self.old effect row) number count)) }
     {
-        let Some(at) = self.place_of(effect, row) else {
+        let Some(first) = self.first_of(effect as usize) else {
             return Err(Redo);
         };
-        self.sums[at] = summed(comb, self.sums[at], number, count)?;
-        Ok(())
+        self.join_at(first, row, comb, number, count)
     }
 }

@@ -9,9 +9,9 @@ ghost use Rattle.brace_eval.specs.Heard.{row_of};
 ghost use Rattle.brace_fold.specs.Asked.{by_row};
 ghost use Rattle.brace_fold.specs.Sums.{AreSummed, no_sum, sum_at, total_in};
 
-use crate::order::{are_within, item_within};
+use crate::order::item_within;
 use crate::table::{Sum, Table, narrow};
-use brace_code::Redo;
+use brace_code::{Redo, are_within};
 use brace_comb::identity;
 use brace_model::{Class, Comb};
 use brace_num::List;
@@ -23,12 +23,8 @@ fn sums_of<'a>(said: &'a Table, effect: usize) -> Option<&'a [Sum]>
     ensures sums { IfSome result (λ sums. (row : ℕ) → row < said.now.rows
         → slice_index_or sums.now row no_sum ≡ sum_at said.now effect row) }
 {
-    let first = effect.checked_mul(said.rows)?;
-    let end = first.checked_add(said.rows)?;
-    if said.sums.len() < end {
-        return None;
-    }
-    Some(&said.sums[first..end])
+    let first = said.first_of(effect)?;
+    Some(&said.sums[first..first + said.rows])
 }
 
 /// The total whose sum this is; of no value, the one that is given.

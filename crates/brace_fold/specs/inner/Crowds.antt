@@ -1,5 +1,6 @@
 -- Crowds: the scopes that lanes stand for. Only the crate's own functions cite this.
-use Rattle.std.specs.Prelude.{◌≡◌, ℕ, ◌<◌, ◌≤◌, ℤ, pos, Bool, false, true, Option, None, Some, List, map, flat_map, replicate, [], ◌∷◌, ◌++◌, if◌then◌else◌, ⊤, IfSome, length, slice_get, slice_index_or, option_copied}
+use Rattle.std.specs.Prelude.{◌≡◌, ℕ, ◌<◌, ◌≤◌, ℤ, pos, Bool, false, true, Option, None, Some, List, map, flat_map, replicate, [], ◌∷◌, ◌++◌, if◌then◌else◌, ⊤, IfSome, drop, length, slice_get, slice_index_or, option_copied}
+use Rattle.std.specs.List.{All}
 use Rattle.std.specs.List.Sorted.{IsPermutation}
 use Rattle.brace_draw.specs.Draw.{draw_value}
 use Rattle.brace_model.specs.declared.world.Agent.{Agent}
@@ -12,7 +13,7 @@ use Rattle.brace_code.specs.declared.lanes.Rows.{Rows}
 use Rattle.brace_code.specs.declared.lanes.Rows.TheVariants.{Same, Each}
 use Rattle.brace_code.specs.RowLists.{lanes_of}
 use Rattle.brace_code.specs.Lanes.{draws_at}
-use Rattle.brace_code.specs.Columns.{side}
+use Rattle.brace_code.specs.Columns.{side, taking}
 use Rattle.brace_fold.specs.declared.crowd.Crowd.{Crowd}
 use Rattle.brace_fold.specs.declared.crowd.Depth.{Depth}
 use Rattle.brace_fold.specs.declared.crowd.Stretch.{Stretch}
@@ -151,6 +152,10 @@ abbrev pub IsOfClass : List Agent → ℕ → ℕ → Type 0
 IsOfClass agents class row =
     (a : Agent) × (slice_get agents row ≡ Some a) × (a.class ≡ class)
 
+-- the agents of some rows are of a class, by a column of classes
+abbrev pub AreOfClass : List ℕ → ℕ → List ℕ → Type 0
+AreOfClass classes class rows = All (λ row. slice_get classes row ≡ Some class) rows
+
 -- the lane of an agent that asks
 abbrev pub asking_at : ℕ → Lane
 asking_at row = record { this = row; outer = 0; inner = 0; place = 0 }
@@ -187,6 +192,17 @@ pub record IsFull (depth : Depth) (lanes : Entered) : Type 0 where
   pub this : length lanes.this.items ≡ lanes.count
   pub place : length lanes.place.items ≡ lanes.count
   pub outer : has_outer depth ≡ true → length lanes.outer.items ≡ lanes.count
+
+-- no word from a place up to another is on a side
+abbrev pub IsNoneOnSide : Bool → List ℤ → ℕ → ℕ → Type 0
+IsNoneOnSide set words from next = (k : ℕ) → from ≤ k → k < next
+    → side set (slice_index_or words k (pos 0)) ≡ false
+
+-- of lanes, so many as words, those of some numbers are those on a side before a place
+abbrev pub AreTaken : Bool → List ℤ → ℕ → List ℕ → Type 0
+AreTaken set words next numbers = (lanes : List Lane) (d : Lane) → length words ≡ length lanes
+    → map (λ n. slice_index_or lanes n d) numbers ++ taking set (drop next lanes) (drop next words)
+    ≡ taking set lanes words
 
 -- the scopes whose word is set, or those whose word is 0
 abbrev pub chosen : Bool → List Scope → List ℤ → List Scope

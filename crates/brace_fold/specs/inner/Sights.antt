@@ -1,6 +1,7 @@
 -- Agents in cells, the runs of the cells around one, and which agents are found there. Only the
 -- crate's own functions cite this.
-use Rattle.std.specs.Prelude.{◌≡◌, ℕ, ◌-◌, ◌<◌, ◌≤◌, ℤ, pos, ◌+ℤ◌, ◌-ℤ◌, ◌*ℤ◌, ◌<ℤ◌, ◌≤ℤ◌, Bool, true, not, ◌&&◌, ◌==◌, List, ◌++◌, map, filter, take, drop, length, slice_index_or, Some, is_some}
+use Rattle.std.specs.Prelude.{◌≡◌, ℕ, ◌-◌, ◌<◌, ◌≤◌, ℤ, pos, ◌+ℤ◌, ◌-ℤ◌, ◌*ℤ◌, ◌<ℤ◌, ◌≤ℤ◌, Bool, true, not, ◌&&◌, ◌==◌, List, ◌++◌, map, filter, take, drop, length, replicate, slice_index_or, Some, is_some}
+use Rattle.std.specs.Int.{int_wrap, w32}
 use Rattle.std.specs.List.{All, list_all, range_with_len}
 use Rattle.std.specs.List.Sorted.{IsPermutation}
 use Rattle.brace_model.specs.declared.program.Class.{Class}
@@ -19,6 +20,7 @@ use Rattle.brace_fold.specs.declared.cells.Sorted.{Sorted}
 use Rattle.brace_fold.specs.declared.cells.Run.{Run}
 use Rattle.brace_fold.specs.declared.cells.Runs.{Runs}
 use Rattle.brace_fold.specs.declared.cells.Spot.{Spot}
+use Rattle.brace_fold.specs.declared.halves.Halves.{Halves}
 use Rattle.brace_fold.specs.declared.seeing.Cut.{Cut}
 use Rattle.brace_fold.specs.declared.seeing.Eye.{Eye}
 
@@ -58,6 +60,20 @@ pub record CellsRise (spots : List Spot) : Type 0 where
   pub rise : (i j : ℕ) (d : Spot) → i ≤ j → j < length spots
       → (slice_index_or spots i d).cell ≤ℤ (slice_index_or spots j d).cell
 
+-- a coordinate is in one of the cells, half as many as their numbers are apart, around 0
+pub record IsLow (side v : ℤ) : Type 0 where
+  pub above : (pos 0 -ℤ (pos 262142 *ℤ side)) ≤ℤ v
+  pub below : v <ℤ (pos 262142 *ℤ side)
+
+-- the lower halves of where spots in cells of a side stand, and of four places more; they tell how
+-- far apart those are that stand in cells beside one another
+pub record AreHalves (side : ℤ) (spots : List Spot) (xs ys : List ℤ) : Type 0 where
+  pub small : side ≤ℤ pos 1073741824
+  pub few : length spots ≤ 4294967291
+  pub across : xs ≡ map (λ s. int_wrap w32 s.x) spots ++ replicate 4 (pos 0)
+  pub along : ys ≡ map (λ s. int_wrap w32 s.y) spots ++ replicate 4 (pos 0)
+  pub low : (k : ℕ) (d : Spot) → k < length spots → IsLow side (slice_index_or spots k d).y
+
 -- agents, row by row, are in cells of a side no less than any class sees, in the order of these
 pub record AreCells (program : Program) (agents : List Agent) (cells : Cells) : Type 0 where
   pub side : ℤ
@@ -65,6 +81,8 @@ pub record AreCells (program : Program) (agents : List Agent) (cells : Cells) : 
   pub wide : greatest_visible program ≤ℤ side
   pub theirs : AreSpots program side agents cells.spots.items
   pub rise : CellsRise cells.spots.items
+  pub halves : (h : Halves) → cells.halves ≡ Some h
+      → AreHalves side cells.spots.items h.xs.items h.ys.items
 
 -- cells of the agents of a list, each of which has a row in their order
 pub record AreSorted (program : Program) (agents : List Agent) (sorted : Sorted) : Type 0 where

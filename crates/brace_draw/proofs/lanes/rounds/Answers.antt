@@ -14,5 +14,5 @@ rounds-preserved c j h =
 
 pub returns : goal.returns
 returns c j h =
-    let done : c.rounds._round ≡ 4 = omega arith in
-    rw done at (c.rounds.invariant j h)
+    let done : c.rounds._round ≡ 3 = omega arith in
+    c.column_round-last.ensures j h ∙ ap column_round (rw done at (c.rounds.invariant j h))

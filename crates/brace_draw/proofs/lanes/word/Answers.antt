@@ -7,5 +7,5 @@ pub returns : goal.returns
 returns c j lane =
     let k = c.args.k in
     c.add.ensures j lane
-    ∙ ap₂ add32 (sym (slice_index-lane c.args.last.now j k c.requires))
+    ∙ ap₂ add32 (c.diagonal_word-last.ensures j lane)
     (sym (slice_index-lane c.args.first.now j k c.requires))

@@ -6,6 +6,7 @@ use Rattle.brace_plan.specs.Planning.{IsPlanned}
 use Rattle.brace_fold.specs.inner.Asks.{openings}
 use Rattle.brace_fold.specs.inner.Crowds.{world}
 use Rattle.brace_fold.proofs.Askings.{asks-of}
+use Rattle.brace_fold.proofs.Crowdings.{all-of-class}
 use Rattle.brace_fold.proofs.asking.ask.Goals as goal
 
 pub returns : goal.returns
@@ -19,5 +20,6 @@ returns c = λ d.
     subst (λ (p : Program). list_all (is_lawful_agent p) (world scene) ≡ true)
     (sym c.requires.program) c.requires.lawful in
     asks-of scene c.args.class told.constants told.actions.now d plan lawful c.requires.scene.moved
-    asking c.args.heard.now c.block.new.heard c.in_ok-crowd.ensures.of_class
-    (c.in_ok-block.ensures (openings scene told.constants d asking) (c.in_ok-crowd.ensures.stands d))
+    asking c.args.heard.now c.block.new.heard
+    (all-of-class scene c.args.class asking c.requires.scene c.requires.of_class)
+    (c.in_ok-block.ensures (openings scene told.constants d asking) (c.in_ok-crowd.ensures d))

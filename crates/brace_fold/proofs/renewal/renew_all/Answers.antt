@@ -1,29 +1,33 @@
-use Rattle.std.proofs.Common.{◌∙◌, refl}
+use Rattle.std.proofs.Common.{◌≡◌, ◌∙◌, [], length, refl, rules}
+use Rattle.brace_num.proofs.Lists.{none_long}
 use Rattle.brace_fold.proofs.RenewalLemmas.{rows-none, rows-on}
 use Rattle.brace_fold.proofs.renewal.renew_all.Goals as goal
 
-pub loop-group-init : goal.loop-group-init
-loop-group-init c = record {
+pub loop-left-init : goal.loop-left-init
+loop-left-init c = record {
   wide = refl;
   leaves = λ end h. h;
 }
 
-pub loop-group-preserved : goal.loop-group-preserved
-loop-group-preserved c =
-    let group = c.in-Some.group in
+pub loop-left-preserved : goal.loop-left-preserved
+loop-left-preserved c =
+    let group = c.in_ok-group.group in
     record {
-      wide = c.in_ok-renew_some.ensures.wide ∙ c.loop-group.invariant.wide;
+      wide = c.in_ok-renew_some.ensures.wide ∙ c.loop-left.invariant.wide;
       leaves = λ end h.
-          c.loop-group.invariant.leaves end
+          c.loop-left.invariant.leaves end
           (rows-on c.args.ground.now c.args.columns.now group.rows.now group.rest.now
-          c.loop-group.left.now c.loop-group.renewed c.renew_some.new.renewed end
-          c.in-Some.ensures.rows c.in_ok-renew_some.ensures.leaves h);
+          c.loop-left.left.now c.loop-left.renewed c.renew_some.new.renewed end
+          c.in_ok-group.ensures.rows c.in_ok-renew_some.ensures.leaves h);
     }
 
 pub returns-clause-leaves : goal.returns-clause-leaves
 returns-clause-leaves c =
-    c.loop-group.invariant.leaves c.loop-group.renewed (rows-none c.args.ground.now
-    c.args.columns.now c.loop-group.left.now c.loop-group.renewed c.in_default.ensures.rows)
+    let left = c.loop-left.left.now in
+    let empty : length left ≡ 0 = search rules in
+    let none : left ≡ [] = none_long left empty in
+    c.loop-left.invariant.leaves c.loop-left.renewed (rows-none c.args.ground.now
+    c.args.columns.now left c.loop-left.renewed none)
 
 pub returns-clause-wide : goal.returns-clause-wide
-returns-clause-wide c = c.loop-group.invariant.wide
+returns-clause-wide c = c.loop-left.invariant.wide

@@ -3,12 +3,12 @@ use Rattle.brace_fold.specs.declared.renewal.Renewed.{Renewed}
 use Rattle.brace_fold.specs.inner.Renewals.{LeavesRows}
 use Rattle.brace_fold.proofs.renewal.renew_all.Given as goal
 
-abbrev pub invariant-loop-group : goal.invariant-loop-group
-invariant-loop-group l = record {
+abbrev pub invariant-loop-left : goal.invariant-loop-left
+invariant-loop-left l = record {
   wide : length l.renewed.left.states.items ≡ length l.fn.renewed.left.states.items;
   leaves : (end : Renewed) → LeavesRows l.ground l.columns l.left l.renewed end
       → LeavesRows l.ground l.columns l.rows l.fn.renewed end;
 }
 
-abbrev pub decreases-loop-group : goal.decreases-loop-group
-decreases-loop-group l = length l.left
+abbrev pub decreases-loop-left : goal.decreases-loop-left
+decreases-loop-left l = length l.left

@@ -50,7 +50,8 @@ returns-clause-leaves c = on_ok c.keep_rows.result _ _ (λ keeps more are.
     let wide = subst (λ (p : Program). IsWide p these) c.program-program.ensures
     c.in_ok-expect_wide.ensures in
     let same = rows_are program xs these part wide lawful in
-    let alike = alike-by xs number these.classes.now part.classes c.in_ok-expect_alike.ensures in
+    let alike = alike-by rows columns.classes.now order number given.are.classes
+    c.requires.of_class in
     let own = c.in-Some.own.now in
     let read : slice_get c.as_slice.result.now number ≡ Some own =
     slice_get_read c.as_slice.result.now _ number own refl c.in-Some.ensures.lookup.3.0

@@ -1,4 +1,4 @@
-use Rattle.std.proofs.Common.{◌≡◌, ◌<◌, ◌^◌, length, map, pos, get_or, slice_index_or, refl, arith, rules, FitsSigned, w64, ℕ, ℤ}
+use Rattle.std.proofs.Common.{◌<◌, ◌^◌, length, map, pos, get_or, slice_index_or, refl, arith, rules, FitsSigned, w64, ℕ, ℤ}
 use Rattle.std.proofs.lemmas.Int.{ints}
 use Rattle.std.proofs.lemmas.List.{get_or-map, length-map}
 use Rattle.brace_fold.proofs.Sayings.{sum_more}
@@ -10,14 +10,13 @@ loop-row-preserved c =
     let few : i < 2 ^ 64 = search rules in
     let rows = c.args.rows.now in
     let at : ℕ → ℤ = λ row. slice_index_or c.args.column.now row (pos 0) in
-    let fits : FitsSigned w64 c.in_ok-word.word.now = search rules in
+    let fits : FitsSigned w64 (at (get_or rows i 0)) = search rules in
     let low : i < length (map at rows) = omega (arith, length-map rows at, c.loop-row-test.true) in
-    let more = sum_more c.args.ty (map at rows) i _ _ c.requires low refl refl in
+    let more = sum_more c.args.ty (map at rows) i _ _ c.requires.plain low refl refl in
     let here = get_or-map at rows i 0 (pos 0) c.loop-row-test.true in
-    let read : c.in_ok-word.word.now ≡ at (get_or rows i 0) = search rules in
     let sum = c.loop-row.invariant.sum in
     let bound = c.loop-row.invariant.bound in
     record {
-      sum = omega (arith, ints, few, fits, more, here, read, sum, bound, c.from-total.ensures);
+      sum = omega (arith, ints, few, fits, more, here, sum, bound, c.from-total.ensures);
       bound = omega (arith, ints, few, fits, bound, c.from-total.ensures);
     }

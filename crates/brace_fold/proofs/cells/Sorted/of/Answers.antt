@@ -1,10 +1,12 @@
 use Rattle.std.proofs.Common.{◌≡◌, ◌∙◌, ◌<◌, sym, ap, subst, get_or, length, map, ℕ, List, w64}
+use Rattle.std.specs.Prelude.{IfSome}
 use Rattle.std.specs.Vec.{with_items}
 use Rattle.std.specs.List.Sorted.{IsPermutation}
 use Rattle.std.proofs.lemmas.Int.{to_z-of_z}
 use Rattle.std.proofs.lemmas.List.{with_items_is}
 use Rattle.brace_fold.specs.declared.cells.Spot.{Spot}
-use Rattle.brace_fold.specs.inner.Sights.{AreSpots, CellsRise, in_row}
+use Rattle.brace_fold.specs.declared.halves.Halves.{Halves}
+use Rattle.brace_fold.specs.inner.Sights.{AreHalves, AreSpots, CellsRise, in_row}
 use Rattle.brace_fold.proofs.Sortings.{rows_are, rows_moved, rows_places, rows_rise, rows_within}
 use Rattle.brace_fold.proofs.cells.Sorted.of.Goals as goal
 
@@ -39,6 +41,13 @@ returns c = λ agents columns.
         theirs = rows_are program side agents spots sorted new order are perm order_is long each;
         rise = rows_rise program side agents spots sorted new order are perm order_is long each
             (subst CellsRise same c.in_ok-sort_by_cell.ensures.rise);
+        halves = λ h there.
+            subst (λ o. IfSome o (λ (k : Halves). AreHalves side new k.xs.items k.ys.items)) there
+            (subst (λ l. IfSome c.in_ok-halves.halves (λ (k : Halves).
+            AreHalves side l k.xs.items k.ys.items)) c.deref-2.ensures.value
+            (subst (λ z. IfSome c.in_ok-halves.halves (λ (k : Halves).
+            AreHalves z c.deref-2.result.now k.xs.items k.ys.items))
+            (to_z-of_z w64 side c.ranges.side) c.in_ok-halves.ensures));
       };
       places = rows_places program side agents spots sorted new order are perm order_is long each;
       moved = rows_moved program side agents spots sorted new order are perm order_is long each;

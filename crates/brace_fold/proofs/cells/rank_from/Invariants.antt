@@ -1,0 +1,9 @@
+use Rattle.std.proofs.Common.{◌<◌, ◌≤◌, ℕ, ◌<ℤ◌, length, get_or}
+use Rattle.brace_fold.specs.declared.cells.Spot.{Spot}
+use Rattle.brace_fold.proofs.cells.rank_from.Given as goal
+
+abbrev pub invariant-loop-at : goal.invariant-loop-at
+invariant-loop-at l = record {
+  within : l.at ≤ length l.spots;
+  front : (k : ℕ) (d : Spot) → k < l.at → (get_or l.spots k d).cell <ℤ l.cell;
+}
