@@ -1,7 +1,7 @@
 #!/usr/bin/env bash
-# Runs bench/fish.brasil, the script of the trial, over squares of 5,000 to 80,000 fish of one density
-# (as many in sight as in the trial with 20,000), in one part on one worker and in four strips on four,
-# and writes seconds a tick, and how many times the world of half as many took, into
+# Runs bench/fish.brasil, the script of the trial, over squares of 15,625 to 1,000,000 fish of one
+# density (as many in sight as in the trial with 20,000), in one part on one worker and in four
+# strips on four, and writes seconds a tick, and how many times the world of half as many took, into
 # docs/PERFORMANCE.md.
 set -eu
 top=$(cd "$(dirname "$0")/.." && pwd)
@@ -21,8 +21,17 @@ import time
 from measure import written
 
 program, script = sys.argv[1:]
-ROUNDS, TICKS = 9, 20
-COUNTS = 5_000, 10_000, 20_000, 40_000, 80_000
+TICKS = 10
+# How many fish, and how often they are run.
+ROUNDS = {
+    15_625: 9,
+    31_250: 9,
+    62_500: 9,
+    125_000: 5,
+    250_000: 3,
+    500_000: 2,
+    1_000_000: 2,
+}
 draw = random.Random(7).random
 
 
@@ -34,7 +43,7 @@ def seconds(words):
 
 def worlds(folder):
     """The words of a run for each world: in one part on one worker, and in four strips on four."""
-    for count in COUNTS:
+    for count in ROUNDS:
         side = 1000 * math.sqrt(count / 20_000)
         agents, plan = (os.path.join(folder, f"{kind}{count}") for kind in "ak")
         with open(agents, "w") as file:
@@ -51,8 +60,10 @@ def worlds(folder):
 least = collections.defaultdict(lambda: math.inf)
 with tempfile.TemporaryDirectory() as folder:
     runs = list(worlds(folder))
-    for _ in range(ROUNDS):
+    for turn in range(max(ROUNDS.values())):
         for count, pair in runs:
+            if turn >= ROUNDS[count]:
+                continue
             for way, words in enumerate(pair):
                 for ticks in (0, TICKS):
                     key = count, way, ticks
@@ -60,10 +71,11 @@ with tempfile.TemporaryDirectory() as folder:
 
 lines = ["| agents | one part | x | four strips, four workers | x |", "|---|---|---|---|---|"]
 before = None
-for count in COUNTS:
+for count in ROUNDS:
     now = [(least[count, way, TICKS] - least[count, way, 0]) / TICKS for way in (0, 1)]
     times = [f"{b / a:.2f}" for a, b in zip(before, now)] if before else ["", ""]
     lines.append(f"| {count:,} | {now[0]:.4f} | {times[0]} | {now[1]:.4f} | {times[1]} |")
     before = now
-written("Growth at one density", lines, f"least of {ROUNDS} runs of {TICKS} ticks, the worlds in turn")
+how = f"least of 9 to 2 runs of {TICKS} ticks, the worlds in turn"
+written("Growth at one density", lines, how)
 P
