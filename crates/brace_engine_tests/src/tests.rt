@@ -2,6 +2,7 @@
 mod audits;
 mod codes;
 mod draws;
+mod exprs;
 mod folds;
 mod grids;
 mod inversion;

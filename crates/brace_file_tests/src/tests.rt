@@ -2,6 +2,7 @@
 mod checkpoints;
 mod numbers;
 mod plans;
+mod programs;
 mod rows;
 mod shelves;
 mod sinks;

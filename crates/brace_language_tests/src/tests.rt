@@ -3,5 +3,6 @@ mod canonical;
 mod checks;
 mod lines;
 mod names;
+mod scripts;
 mod tokens;
 mod trees;

@@ -4,18 +4,39 @@ ghost use Rattle.brace_model.specs.Lawful.{LawfulJob};
 use brace_audit::{AuditFault, audit};
 use brace_io::MemShelf;
 use brace_model::{Fault, Job, Phase};
-use brace_num::Kind;
+use brace_num::{Kind, NoMemory};
 use brace_test_runs::{Run, setting};
 use std::alloc::Global;
 use std::test::Fail;
 
-/// What an audit of a file answers where the call of the shelf with this number fails.
-fn audited(alloc: Global, job: &Job, file: &[u8], call: u64) -> Result<Result<(), AuditFault>, Fail>
+/// What an audit of a name answers where `p` is a file, and where the call of the shelf with this
+/// number fails.
+fn audited(
+    alloc: Global,
+    job: &Job,
+    name: &str,
+    file: &[u8],
+    call: u64,
+) -> Result<Result<(), AuditFault>, Fail>
     requires { LawfulJob job.now }
 {
     let mut shelf = MemShelf::make(alloc, vec![in alloc; call]?);
     shelf.hold("p", file)?;
-    Ok(audit(alloc, job, &mut shelf, "p"))
+    Ok(audit(alloc, job, &mut shelf, name))
+}
+
+/// The same of `p`, where its file is the lines of a front and those behind it.
+fn audited_behind(
+    alloc: Global,
+    job: &Job,
+    front: &str,
+    rest: &str,
+    call: u64,
+) -> Result<Result<(), AuditFault>, Fail>
+    requires { LawfulJob job.now }
+{
+    let file = format!(in alloc; "{front}{rest}")?;
+    audited(alloc, job, "p", file.as_bytes(), call)
 }
 
 /// The lines of a file behind the front that all have, the number of the call that fails, and what
@@ -97,19 +118,20 @@ const FALLING_CASES: [Case; 4] = [
     ("", 0, Err(AuditFault::Differs(3))),
 ];
 
+/// Runs, the front of their files, and their cases.
+const RUNS: [(Run, &str, &[Case]); 2] = [
+    (GOING, GOING_FRONT, &GOING_CASES),
+    (FALLING, FALLING_FRONT, &FALLING_CASES),
+];
+
 #[test]
 fn audits_name_the_first_other_line(rt: HostRuntime) -> Result<(), Fail> {
     let alloc = rt.alloc();
-    let runs = [
-        (GOING, GOING_FRONT, GOING_CASES.as_slice()),
-        (FALLING, FALLING_FRONT, FALLING_CASES.as_slice()),
-    ];
-    for (run, front, cases) in runs {
+    for &(run, front, cases) in &RUNS {
         let setting = setting(alloc, &run)?;
-        for (rest, call, want) in cases {
-            let file = format!(in alloc; "{front}{rest}")?;
-            let answer = audited(alloc, &setting.job, file.as_bytes(), *call)?;
-            assert!(rt; answer == *want, "{rest} and call {call}: {answer:?}");
+        for &(rest, call, want) in cases {
+            let answer = audited_behind(alloc, &setting.job, front, rest, call)?;
+            assert!(rt; answer == want, "{rest} and call {call}: {answer:?}");
         }
     }
     Ok(())
@@ -119,34 +141,44 @@ fn audits_name_the_first_other_line(rt: HostRuntime) -> Result<(), Fail> {
 fn audits_miss_a_name_that_is_not_held(rt: HostRuntime) -> Result<(), Fail> {
     let alloc = rt.alloc();
     let setting = setting(alloc, &GOING)?;
-    let mut shelf = MemShelf::make(alloc, Vec::new(alloc));
-    shelf.hold("p", GOING_FRONT.as_bytes())?;
-    let answer = audit(alloc, &setting.job, &mut shelf, "q");
+    let answer = audited(alloc, &setting.job, "q", GOING_FRONT.as_bytes(), 0)?;
     assert!(rt; answer == Err(AuditFault::Absent));
     Ok(())
 }
 
-/// Every second tick and the last one are published.
-#[test]
-fn audits_read_on_where_a_file_is_long(rt: HostRuntime) -> Result<(), Fail> {
-    let alloc = rt.alloc();
-    let run = Run {
-        script: "class A{public state fixed x;public state fixed y;}",
-        ticks: (0, 6001),
-        every: 2,
-        ..GOING
-    };
-    let setting = setting(alloc, &run)?;
+/// An agent rests. Every second tick and the last one are published.
+const RESTING: Run = Run {
+    script: "class A{public state fixed x;public state fixed y;}",
+    ticks: (0, 6001),
+    every: 2,
+    ..GOING
+};
+
+/// The text of that run.
+fn long_text(alloc: Global) -> Result<String, NoMemory> {
     let mut text = String::new(alloc);
     for tick in 0..6002u64 {
         if tick % 2 == 0 || tick == 6001 {
             text.push_str(format!(in alloc; "{tick},A,7,0.000000,0.000000\n")?.as_str())?;
         }
     }
-    assert!(rt; text.len() > 65_536);
-    assert!(rt; audited(alloc, &setting.job, text.as_bytes(), 0)? == Ok(()));
-    text.push_str("6002")?;
-    let answer = audited(alloc, &setting.job, text.as_bytes(), 0)?;
-    assert!(rt; answer == Err(AuditFault::Differs(3003)));
+    Ok(text)
+}
+
+/// What is behind a text of more than 65,536 bytes, and what an audit answers.
+const BEHIND: [(&str, Result<(), AuditFault>); 2] = [
+    ("", Ok(())),
+    ("6002", Err(AuditFault::Differs(3003))),
+];
+
+#[test]
+fn audits_read_on_where_a_file_is_long(rt: HostRuntime) -> Result<(), Fail> {
+    let alloc = rt.alloc();
+    let setting = setting(alloc, &RESTING)?;
+    let text = long_text(alloc)?;
+    for &(rest, want) in &BEHIND {
+        let answer = audited_behind(alloc, &setting.job, text.as_str(), rest, 0)?;
+        assert!(rt; text.len() > 65_536 && answer == want, "{rest}: {answer:?}");
+    }
     Ok(())
 }

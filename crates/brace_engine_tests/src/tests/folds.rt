@@ -1,9 +1,17 @@
 // Many agents asked at once.
+ghost use Rattle.std.specs.Prelude.{IsTrue};
+ghost use Rattle.std.specs.List.{list_all};
+ghost use Rattle.brace_model.specs.Lawful.{LawfulProgram, is_lawful_agent};
+ghost use Rattle.brace_model.specs.World.{RisesById};
+
 use brace_eval::Heard;
 use brace_fold::fold;
+use brace_model::{Agent, Program};
+use brace_num::NoMemory;
 use brace_plan::plan;
 use brace_rows::read_agents;
 use brace_test_runs::program;
+use std::alloc::Global;
 use std::test::Fail;
 
 /// Constants and a draw, a loop in a loop, a condition, and what is said to each.
@@ -14,6 +22,25 @@ const TALKING: &str = "class A{#visible[2];public state fixed x;public state fix
 
 const ROWS: &str = "A,2,0,0\nA,3,1,0\nA,5,1.5,1\nA,8,2.5,-1\nA,9,40,0\n";
 
+/// Whether agents asked at once say what a plain walk hears, some more than two values, and whether
+/// an agent that is not there is told.
+fn is_folded(alloc: Global, program: &Program, agents: &[Agent]) -> Result<bool, NoMemory>
+    requires lawful { LawfulProgram program.now }
+    requires agents { IsTrue (list_all (is_lawful_agent program.now) agents.now) }
+    requires rises { RisesById agents.now }
+{
+    let plans = plan(alloc, program)?;
+    let mut heard = Heard::nothing(alloc, program, agents)?;
+    heard.hear(alloc, program, 5, 3, agents, agents)?;
+    let mut folded = Heard::nothing(alloc, program, agents)?;
+    let goes_on = fold(alloc, &plans, 5, 3, agents, &[4, 0, 3, 1, 2], &mut folded).is_ok();
+    let totals_are = folded.totals.as_slice() == heard.totals.as_slice();
+    let counts_are = folded.counts.as_slice() == heard.counts.as_slice();
+    let several = heard.counts.iter().any(|count| *count > 2);
+    let stops = fold(alloc, &plans, 5, 3, agents, &[5], &mut folded).is_err();
+    Ok(goes_on && totals_are && counts_are && several && stops)
+}
+
 #[test]
 fn folds_what_a_plain_walk_hears(rt: HostRuntime) -> Result<(), Fail> {
     let alloc = rt.alloc();
@@ -21,16 +48,6 @@ fn folds_what_a_plain_walk_hears(rt: HostRuntime) -> Result<(), Fail> {
     let Ok(world) = read_agents(alloc, &program, ROWS.as_bytes()) else {
         return Err("no agents".into());
     };
-    let agents = world.agents();
-    let plans = plan(alloc, &program)?;
-    let mut heard = Heard::nothing(alloc, &program, agents)?;
-    heard.hear(alloc, &program, 5, 3, agents, agents)?;
-    let mut folded = Heard::nothing(alloc, &program, agents)?;
-    let asking = [4, 0, 3, 1, 2];
-    assert!(rt; fold(alloc, &plans, 5, 3, agents, &asking, &mut folded).is_ok());
-    assert!(rt; folded.totals.as_slice() == heard.totals.as_slice());
-    assert!(rt; folded.counts.as_slice() == heard.counts.as_slice());
-    assert!(rt; heard.counts.iter().any(|count| *count > 2));
-    assert!(rt; fold(alloc, &plans, 5, 3, agents, &[5], &mut folded).is_err());
+    assert!(rt; is_folded(alloc, &program, world.agents())?);
     Ok(())
 }

@@ -3,7 +3,7 @@ ghost use Rattle.std.specs.Prelude.{◌≡◌, ◌<◌, pos, IfOk};
 
 use brace_grid::Grid;
 use brace_model::Value;
-use brace_num::{Area, Steps};
+use brace_num::{Area, NoMemory, Steps};
 use brace_test_runs::{agent, program};
 use std::alloc::Global;
 use std::marker::Brand;
@@ -97,45 +97,44 @@ const PROBES: Probes = &[
     (i64::MAX, i64::MIN, i64::MAX, i64::MIN, &[]),
 ];
 
+/// Places, and probes of their grid. An empty grid holds nothing.
+const GRIDS: [(&[(i64, i64)], Probes); 2] = [
+    (&PLACES, PROBES),
+    (&[], &[(-UNIT, UNIT, -UNIT, UNIT, &[])]),
+];
+
 #[test]
 fn agents_on_bounds_and_borders_are_found(rt: HostRuntime) -> Result<(), Fail> {
     let alloc = rt.alloc();
-    let grid = grid_at(alloc, &PLACES)?;
-    for (x0, x1, y0, y1, wanted) in PROBES {
-        let area = Area {
-            x0: *x0,
-            x1: *x1,
-            y0: *y0,
-            y1: *y1,
-        };
-        let out = probed(alloc, &grid, &area)?;
-        assert_eq!(rt; out.as_slice(), *wanted, "{x0} {x1} {y0} {y1}");
+    for &(places, probes) in &GRIDS {
+        let grid = grid_at(alloc, places)?;
+        for (x0, x1, y0, y1, wanted) in probes {
+            let area = Area {
+                x0: *x0,
+                x1: *x1,
+                y0: *y0,
+                y1: *y1,
+            };
+            let out = probed(alloc, &grid, &area)?;
+            assert_eq!(rt; out.as_slice(), *wanted, "{x0} {x1} {y0} {y1}");
+        }
     }
     Ok(())
 }
 
-#[test]
-fn an_empty_grid_holds_nothing(rt: HostRuntime) -> Result<(), Fail> {
-    let alloc = rt.alloc();
-    let grid = grid_at(alloc, &[])?;
-    let area = Area {
-        x0: -UNIT,
-        x1: UNIT,
-        y0: -UNIT,
-        y1: UNIT,
-    };
-    let out = probed(alloc, &grid, &area)?;
-    assert!(rt; out.is_empty());
-    Ok(())
+/// 10,000 places along x, 10 units from each to the next.
+fn far_apart(alloc: Global) -> Result<Vec<(i64, i64)>, NoMemory> {
+    let mut places = Vec::new(alloc);
+    for i in 0..10_000u32 {
+        places.push((i64::from(i) * 10_000_000, 0))?;
+    }
+    Ok(places)
 }
 
 #[test]
 fn one_of_many_in_cells_of_their_own_is_found(rt: HostRuntime) -> Result<(), Fail> {
     let alloc = rt.alloc();
-    let mut places = Vec::new(alloc);
-    for i in 0..10_000u32 {
-        places.push((i64::from(i) * 10_000_000, 0))?;
-    }
+    let places = far_apart(alloc)?;
     let grid = grid_at(alloc, places.as_slice())?;
     let area = Area {
         x0: -UNIT / 2,

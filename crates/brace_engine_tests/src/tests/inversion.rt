@@ -70,12 +70,12 @@ fn queries(alloc: Global, program: &Program) -> Result<(String, String), NoMemor
 
 #[test]
 fn splits_loops_constants_and_conditions(rt: HostRuntime) -> Result<(), Fail> {
-    for (script, forward, inverse, ranges) in CASES {
+    for &(script, forward, inverse, ranges) in &CASES {
         let program = program(rt.alloc(), script)?;
         let (one, other) = queries(rt.alloc(), &program)?;
-        assert_eq!(rt; one.as_str(), forward);
-        assert_eq!(rt; other.as_str(), inverse);
-        assert_eq!(rt; (range(&program, false), range(&program, true)), ranges);
+        let queries_are = one.as_str() == forward && other.as_str() == inverse;
+        let found = (range(&program, false), range(&program, true));
+        assert!(rt; queries_are && found == ranges, "{one}\n{other}\n{found:?}");
     }
     Ok(())
 }

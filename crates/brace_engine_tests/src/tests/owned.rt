@@ -1,34 +1,42 @@
 // Agents in columns that are owned: as lists, with more behind, and some of them.
 use brace_fold::{Redo, columns_of};
 use brace_model::{Agent, Program};
+use brace_num::NoMemory;
 use brace_rows::read_agents;
 use brace_test_runs::program;
 use std::alloc::Global;
 use std::test::Fail;
 
-/// The ids of agents, and how many values they have.
-fn told(alloc: Global, agents: &[Agent]) -> Result<String, Redo> {
-    let mut ids = Vec::new(alloc);
+/// Tells the ids of agents, and how many values each has.
+fn tell(alloc: Global, agents: &[Agent], text: &mut String) -> Result<(), NoMemory> {
     for agent in agents {
-        ids.push((agent.id, agent.states.as_slice().len()))?;
+        let count = agent.states.as_slice().len();
+        text.push_str(format!(in alloc; "{} {count}, ", agent.id)?.as_str())?;
     }
-    Ok(format!(in alloc; "{:?}", ids)?)
+    text.push_str("/ ")?;
+    Ok(())
+}
+
+/// The ids of the agents of three lists, and how many values they have.
+fn told(alloc: Global, lists: [&[Agent]; 3]) -> Result<String, NoMemory> {
+    let mut text = String::new(alloc);
+    for agents in lists {
+        tell(alloc, agents, &mut text)?;
+    }
+    Ok(text)
 }
 
 /// Of agents in columns those of some rows, as a list and in columns, and all with them behind.
-fn each_way(
-    alloc: Global,
-    program: &Program,
-    agents: &[Agent],
-) -> Result<(String, String, String), Redo> {
+fn each_way(alloc: Global, program: &Program, agents: &[Agent]) -> Result<String, Redo> {
     let mut rows = columns_of(alloc, program, agents, &[])?;
-    let some = rows.agents_at(alloc, program, &[4, 0, 2])?;
+    let mut used = rows.agents(alloc, program)?;
+    let some = rows.agents_at(alloc, program, &[4, 0, 2], &mut used)?;
     let picked = rows.picked(alloc, &[2, 0, 4])?;
     rows.add(&some)?;
     rows.expect_listed(alloc, program)?;
     let few = picked.agents(alloc, program)?;
     let all = rows.agents(alloc, program)?;
-    Ok((told(alloc, &some)?, told(alloc, &few)?, told(alloc, &all)?))
+    Ok(told(alloc, [some.as_slice(), few.as_slice(), all.as_slice()])?)
 }
 
 /// A class of three states and one of two.
@@ -37,6 +45,8 @@ const SCRIPT: &str = "class P{#visible[4];#reach[1];public state fixed x;public 
 
 const ROWS: &str = "P,1,0,0,3\nP,2,1,2,4\nQ,4,2,2\nP,5,1,1,10\nQ,6,0,0\n";
 
+const PICKED: &str = "6 2, 1 3, 4 2, / 4 2, 1 3, 6 2, / 1 3, 2 3, 4 2, 5 3, 6 2, 6 2, 1 3, 4 2, / ";
+
 #[test]
 fn picks_agents_of_rows(rt: HostRuntime) -> Result<(), Fail> {
     let alloc = rt.alloc();
@@ -44,14 +54,9 @@ fn picks_agents_of_rows(rt: HostRuntime) -> Result<(), Fail> {
     let Ok(world) = read_agents(alloc, &program, ROWS.as_bytes()) else {
         return Err("no agents".into());
     };
-    let Ok((some, few, all)) = each_way(alloc, &program, world.agents()) else {
+    let Ok(found) = each_way(alloc, &program, world.agents()) else {
         return Err("no columns".into());
     };
-    assert_eq!(rt; some.as_str(), "[(6, 2), (1, 3), (4, 2)]");
-    assert_eq!(rt; few.as_str(), "[(4, 2), (1, 3), (6, 2)]");
-    assert_eq!(rt;
-        all.as_str(),
-        "[(1, 3), (2, 3), (4, 2), (5, 3), (6, 2), (6, 2), (1, 3), (4, 2)]"
-    );
+    assert_eq!(rt; found.as_str(), PICKED);
     Ok(())
 }

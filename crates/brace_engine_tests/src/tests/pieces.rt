@@ -5,7 +5,7 @@ ghost use Rattle.brace_pieces.specs.Settings.{LawfulSetting, parts};
 use brace_core::Turn;
 use brace_model::{Agent, Value};
 use brace_num::{List, NoMemory};
-use brace_pieces::{Course, Setting, border_of, hand_of, moves_of};
+use brace_pieces::{Course, Setting, border_of, moves_of};
 use brace_test_runs::{Run, agent, setting};
 use std::alloc::Global;
 use std::test::Fail;
@@ -36,18 +36,37 @@ fn cut_by(alloc: Global, plan: &str) -> Result<Setting, &'static str>
     setting(alloc, &run)
 }
 
-/// The numbers of agents.
-fn told(alloc: Global, agents: &List<Agent>) -> Result<String, NoMemory> {
+/// The numbers of the agents of two lists.
+fn told(alloc: Global, lists: [&List<Agent>; 2]) -> Result<String, NoMemory> {
     let mut text = String::new(alloc);
-    for agent in agents.as_slice() {
-        text.push_str(format!(in alloc; "{} ", agent.id)?.as_str())?;
+    for agents in lists {
+        for agent in agents.as_slice() {
+            text.push_str(format!(in alloc; "{} ", agent.id)?.as_str())?;
+        }
+        text.push_str("/ ")?;
     }
     Ok(text)
 }
 
-/// A plan, a tick, a part, agents along x, and which of these are shown to the part, and belong to
+/// Which agents are shown to a part at a tick, and which belong to it.
+fn gone_to(
+    alloc: Global,
+    setting: &Setting,
+    tick: u64,
+    agents: &[Agent],
+    to: u32,
+) -> Result<String, NoMemory>
+    requires lawful { LawfulSetting setting.now }
+    requires is_part { to < parts setting.now }
+{
+    let border = border_of(alloc, setting, tick, agents, to)?;
+    let moves = moves_of(alloc, setting, tick, agents, to)?;
+    told(alloc, [&border, &moves])
+}
+
+/// A plan, a tick, a part, agents along x, and which of these are shown to the part and belong to
 /// it.
-type Case<'a> = (&'a str, u64, u32, &'a [i64], &'a str, &'a str);
+type Case<'a> = (&'a str, u64, u32, &'a [i64], &'a str);
 
 const CASES: [Case; 7] = [
     // An agent on the cut belongs to its higher side; one exactly 2.0 away is shown.
@@ -56,16 +75,14 @@ const CASES: [Case; 7] = [
         0,
         1,
         &[0, -1, 2_000_000, 2_000_001],
-        "0 2 3 ",
-        "2 3 ",
+        "0 2 3 / 2 3 / ",
     ),
     (
         "at 0 x 2.0 y\n",
         0,
         0,
         &[0, 1_999_999, 2_000_000, 4_000_000],
-        "0 1 2 ",
-        "0 1 ",
+        "0 1 2 / 0 1 / ",
     ),
     // Grid points on both sides of a cut are one millionth apart.
     (
@@ -73,8 +90,7 @@ const CASES: [Case; 7] = [
         0,
         0,
         &[3_999_999, 4_000_000, 2_000_000],
-        "0 2 ",
-        "",
+        "0 2 / / ",
     ),
     // Other cuts hold from tick 2 on.
     (
@@ -82,45 +98,38 @@ const CASES: [Case; 7] = [
         1,
         0,
         &[0, -1_000_000],
-        "0 1 ",
-        "0 1 ",
+        "0 1 / 0 1 / ",
     ),
     (
         "at 0 x 1 y\nat 2 x -1 y\n",
         2,
         0,
         &[0, -1_000_000],
-        "0 1 ",
-        "",
+        "0 1 / / ",
     ),
     (
         "at 0 x 1 y\nat 2 x -1 y\n",
         3,
         1,
         &[0, -1_000_000],
-        "0 1 ",
-        "0 1 ",
+        "0 1 / 0 1 / ",
     ),
     // The ends of 64 bits.
-    ("at 0 x y 0\n", 0, 0, &[i64::MIN, i64::MAX], "0 1 ", ""),
+    ("at 0 x y 0\n", 0, 0, &[i64::MIN, i64::MAX], "0 1 / / "),
 ];
 
 #[test]
 fn agents_go_to_their_parts(rt: HostRuntime) -> Result<(), Fail> {
     let alloc = rt.alloc();
-    for (plan, tick, to, xs, near, theirs) in CASES {
+    for &(plan, tick, to, xs, want) in &CASES {
         let setting = cut_by(alloc, plan)?;
         setting.numbers_fit();
         if to >= setting.parts() {
             return Err("no part".into());
         }
         let agents = agents_at(alloc, xs)?;
-        let border = border_of(alloc, &setting, tick, agents.as_slice(), to)?;
-        let moves = moves_of(alloc, &setting, tick, agents.as_slice(), to)?;
-        let handed = hand_of(alloc, &setting, tick, agents.as_slice(), to)?;
-        assert_eq!(rt; told(alloc, &border)?.as_str(), near);
-        assert_eq!(rt; told(alloc, &moves)?.as_str(), theirs);
-        assert_eq!(rt; told(alloc, &handed)?.as_str(), theirs);
+        let found = gone_to(alloc, &setting, tick, agents.as_slice(), to)?;
+        assert_eq!(rt; found.as_str(), want);
     }
     Ok(())
 }
@@ -189,7 +198,7 @@ fn turns_of(alloc: Global, setting: &Setting, actor: u32) -> Result<Vec<u32>, No
 #[test]
 fn actors_make_their_turns(rt: HostRuntime) -> Result<(), Fail> {
     let alloc = rt.alloc();
-    for (plan, actor, wanted) in WALKS {
+    for &(plan, actor, wanted) in &WALKS {
         let setting = cut_by(alloc, plan)?;
         if actor > setting.parts() {
             return Err("no actor".into());

@@ -12,9 +12,9 @@ use brace_fold::{
     Arranged, Columns, Redo, Renewed, Table, columns_of, expect_wide, most_effects, renew,
     renew_rows, views,
 };
-use brace_model::{Agent, Program};
+use brace_model::{Agent, Left, Program};
 use brace_num::NoMemory;
-use brace_plan::{Left, Plans, Room, plan};
+use brace_plan::{Plans, Room, plan};
 use brace_rows::read_agents;
 use brace_test_runs::program;
 use std::alloc::Global;
@@ -106,6 +106,15 @@ fn arranged(alloc: Global, plans: &Plans, columns: &Columns) -> Result<Arranged,
     Ok(arranged)
 }
 
+/// The agents that live on and those that are born, each by rising id.
+fn by_id(alloc: Global, program: &Program, renewed: Renewed) -> Result<String, Redo> {
+    let mut left = renewed.left.agents(alloc, program)?;
+    let mut born = renewed.born;
+    left.sort_by_key(|a| a.id)?;
+    born.sort_by_key(|a| a.id)?;
+    Ok(format!(in alloc; "{:?} {:?}", left, born)?)
+}
+
 /// The same as each leaves, of all in columns, by rising id.
 fn in_columns(alloc: Global, plans: &Plans, agents: &[Agent]) -> Result<String, Redo>
     requires lawful { IsTrue (list_all (is_lawful_agent plans.now) agents.now) }
@@ -118,19 +127,29 @@ fn in_columns(alloc: Global, plans: &Plans, agents: &[Agent]) -> Result<String, 
     expect_wide(program, &columns)?;
     let arranged = arranged(alloc, plans, &columns)?;
     let renewed = renewed(alloc, plans, &arranged)?;
-    let mut left = renewed.left.agents(alloc, program)?;
-    let mut born = renewed.born;
-    left.sort_by_key(|a| a.id)?;
-    born.sort_by_key(|a| a.id)?;
-    Ok(format!(in alloc; "{:?} {:?}", left, born)?)
+    by_id(alloc, program, renewed)
 }
 
-/// What was heard of all agents, and what each leaves, all at once, and all in columns.
-fn each_way(
+/// Whether agents leave the same one by one, all at once, and in columns, and whether they leave
+/// a next world.
+fn leave_alike(
     alloc: Global,
-    program: &Program,
+    plans: &Plans,
     agents: &[Agent],
-) -> Result<(Option<String>, Option<String>, Option<String>), NoMemory>
+    heard: &Heard,
+) -> Result<(bool, bool), NoMemory>
+    requires lawful { IsTrue (list_all (is_lawful_agent plans.now) agents.now) }
+    requires rises { RisesById agents.now }
+{
+    let one_by_one = one_by_one(alloc, plans, agents, heard)?;
+    let at_once = at_once(alloc, plans, agents, heard)?;
+    let in_columns = in_columns(alloc, plans, agents).ok();
+    let are_alike = one_by_one == at_once && one_by_one == in_columns;
+    Ok((are_alike, one_by_one.is_some()))
+}
+
+/// The same, by what is heard of all of them.
+fn each_way(alloc: Global, program: &Program, agents: &[Agent]) -> Result<(bool, bool), NoMemory>
     requires lawful { LawfulProgram program.now }
     requires agents { IsTrue (list_all (is_lawful_agent program.now) agents.now) }
     requires rises { RisesById agents.now }
@@ -138,10 +157,7 @@ fn each_way(
     let plans = plan(alloc, program)?;
     let mut heard = Heard::nothing(alloc, program, agents)?;
     heard.hear(alloc, program, 7, 4, agents, agents)?;
-    let one_by_one = one_by_one(alloc, &plans, agents, &heard)?;
-    let at_once = at_once(alloc, &plans, agents, &heard)?;
-    let in_columns = in_columns(alloc, &plans, agents).ok();
-    Ok((one_by_one, at_once, in_columns))
+    leave_alike(alloc, &plans, agents, &heard)
 }
 
 /// Two classes whose rules draw and read totals; deaths, and children with gifts.
@@ -159,20 +175,18 @@ const ROWS: &str =
 /// One of the gifts stops.
 const STOPS: &str = "P,1,0,0,7,true\nP,2,0,0,7,false\nP,3,1,1,7,true\n";
 
+/// Agents, and whether they leave a next world.
+const CASES: [(&str, bool); 2] = [(ROWS, true), (STOPS, false)];
+
 #[test]
 fn renews_all_as_each(rt: HostRuntime) -> Result<(), Fail> {
     let alloc = rt.alloc();
     let program = program(alloc, GROWING)?;
-    let Ok(world) = read_agents(alloc, &program, ROWS.as_bytes()) else {
-        return Err("no agents".into());
-    };
-    let (one_by_one, at_once, in_columns) = each_way(alloc, &program, world.agents())?;
-    assert!(rt; one_by_one.is_some());
-    assert!(rt; one_by_one == at_once && one_by_one == in_columns);
-    let Ok(world) = read_agents(alloc, &program, STOPS.as_bytes()) else {
-        return Err("no agents".into());
-    };
-    let (one_by_one, at_once, in_columns) = each_way(alloc, &program, world.agents())?;
-    assert!(rt; one_by_one.is_none() && at_once.is_none() && in_columns.is_none());
+    for &(rows, goes_on) in &CASES {
+        let Ok(world) = read_agents(alloc, &program, rows.as_bytes()) else {
+            return Err("no agents".into());
+        };
+        assert!(rt; each_way(alloc, &program, world.agents())? == (true, goes_on));
+    }
     Ok(())
 }

@@ -1,20 +1,27 @@
 // Expressions, what agents hear, and ticks with deaths and births.
+ghost use Rattle.std.specs.Prelude.{IfOk};
 ghost use Rattle.brace_model.specs.Lawful.{LawfulProgram};
 
+use super::exprs::{binary, int};
 use brace_draw::Drawer;
 use brace_eval::{Heard, eval, plain_step};
 use brace_model::{Agent, BinOp, Env, Expr, Job, Program, Stop, Value, Who, World};
-use brace_num::{Boxed, Kind, NoMemory};
+use brace_num::{Kind, NoMemory};
 use brace_test_runs::{agent, program};
 use std::alloc::Global;
 use std::test::Fail;
 
+const DIV_ZERO: Stop = Stop {
+    site: 3,
+    kind: Kind::DivZero,
+};
+
 /// A dividend, the place of the state that divides it, and the quotient.
-const QUOTIENTS: [(i64, u32, Option<i64>); 4] = [
-    (7, 0, Some(-3)),
-    (i64::MIN, 0, Some(4_611_686_018_427_387_904)),
-    (7, 9, None),
-    (i64::MIN, 9, None),
+const QUOTIENTS: [(i64, u32, Result<Value, Stop>); 4] = [
+    (7, 0, Ok(Value::Int(-3))),
+    (i64::MIN, 0, Ok(Value::Int(4_611_686_018_427_387_904))),
+    (7, 9, Err(DIV_ZERO)),
+    (i64::MIN, 9, Err(DIV_ZERO)),
 ];
 
 #[test]
@@ -29,16 +36,11 @@ fn divides_by_a_state(rt: HostRuntime) -> Result<(), Fail> {
         locals: &[],
         totals: &[],
     };
-    let stop = Stop {
-        site: 3,
-        kind: Kind::DivZero,
-    };
     let mut drawer = Drawer::make(0);
-    for (dividend, place, quotient) in QUOTIENTS {
-        let a = Boxed::new(alloc, Expr::Lit(Value::Int(dividend)))?;
-        let b = Boxed::new(alloc, Expr::Field(Who::This, place))?;
-        let answer = eval(&Expr::Binary(BinOp::Div, Some(3), a, b), &env, &mut drawer);
-        assert!(rt; answer == quotient.map(Value::Int).ok_or(stop));
+    for &(dividend, place, quotient) in &QUOTIENTS {
+        let state = Expr::Field(Who::This, place);
+        let e = binary(alloc, BinOp::Div, int(dividend), state)?;
+        assert!(rt; eval(&e, &env, &mut drawer) == quotient);
     }
     Ok(())
 }
@@ -55,36 +57,46 @@ fn agents_of(alloc: Global, rows: &[Row]) -> Result<Vec<Agent>, NoMemory> {
     Ok(agents)
 }
 
-/// The rows of the next world with its next free id, or the fault.
-fn stepped(alloc: Global, program: Program, rows: &[Row], next: u64) -> Result<String, Fail>
+/// The rows of a world with its next free id.
+fn rows_of(alloc: Global, world: &World) -> Result<String, NoMemory> {
+    let mut text = String::new(alloc);
+    for a in world.agents() {
+        text.push_str(format!(in alloc; "{} {:?}, ", a.id, a.states.as_slice())?.as_str())?;
+    }
+    text.push_str(format!(in alloc; "next {}", world.next())?.as_str())?;
+    Ok(text)
+}
+
+/// A run of one tick without agents.
+fn job_of(alloc: Global, program: Program) -> Result<Job, Fail>
     requires { LawfulProgram program }
+    ensures { IfOk result (λ job. LawfulProgram job.program) }
 {
-    let agents = agents_of(alloc, rows)?;
-    let (Some(start), Some(world)) = (
-        World::from_rising(Vec::new(alloc)),
-        World::with_next(agents, next),
-    ) else {
+    let Some(start) = World::from_rising(Vec::new(alloc)) else {
         return Err("no world".into());
     };
-    let job = Job {
+    Ok(Job {
         program,
         seed: 0,
         first: 0,
         last: 1,
         every: 1,
         start,
+    })
+}
+
+/// The rows of the next world, or the fault.
+fn stepped(alloc: Global, program: Program, rows: &[Row], next: u64) -> Result<String, Fail>
+    requires { LawfulProgram program }
+{
+    let job = job_of(alloc, program)?;
+    let Some(world) = World::with_next(agents_of(alloc, rows)?, next) else {
+        return Err("no world".into());
     };
-    let mut text = String::new(alloc);
     match plain_step(alloc, &job, 0, &world) {
-        Ok(next) => {
-            for a in next.agents() {
-                text.push_str(format!(in alloc; "{} {:?}, ", a.id, a.states.as_slice())?.as_str())?;
-            }
-            text.push_str(format!(in alloc; "next {}", next.next())?.as_str())?;
-        }
-        Err(e) => text.push_str(format!(in alloc; "{:?}", e)?.as_str())?,
+        Ok(next) => Ok(rows_of(alloc, &next)?),
+        Err(e) => Ok(format!(in alloc; "{:?}", e)?),
     }
-    Ok(text)
 }
 
 /// An agent counts ticks, and dies at a count of 2.
@@ -163,7 +175,7 @@ const STEPS: [Step; 9] = [
 #[test]
 fn steps_over_deaths_and_births(rt: HostRuntime) -> Result<(), Fail> {
     let alloc = rt.alloc();
-    for (script, rows, next, want) in STEPS {
+    for &(script, rows, next, want) in &STEPS {
         let text = stepped(alloc, program(alloc, script)?, rows, next)?;
         assert_eq!(rt; text.as_str(), want);
     }
@@ -174,25 +186,31 @@ fn steps_over_deaths_and_births(rt: HostRuntime) -> Result<(), Fail> {
 const SPEAKING: &str = "class B{#visible[1];public state fixed x;public state fixed y;public state \
  int a;public effect int s:sum;public void run(){foreach(B p:Extent<B>){p.s<-3;}}}";
 
-#[test]
-fn hears_some_agents(rt: HostRuntime) -> Result<(), Fail> {
-    let alloc = rt.alloc();
-    let program = program(alloc, SPEAKING)?;
-    let rows = [(4, 0, 0), (9, 500_000, 0), (12, 1_100_000, 0)];
-    let Some(world) = World::from_rising(agents_of(alloc, &rows)?) else {
-        return Err("no world".into());
-    };
+const SPEAKERS: [Row; 3] = [(4, 0, 0), (9, 500_000, 0), (12, 1_100_000, 0)];
+
+/// What all agents hear of all but the first, and what the second has then heard, once 9 is joined
+/// to it as two values.
+fn heard_in(alloc: Global, program: &Program, world: &World) -> Result<String, Fail> {
     let agents = world.agents();
     let Some((_, asking)) = agents.split_first() else {
         return Err("no agents".into());
     };
-    let mut heard = Heard::nothing(alloc, &program, agents)?;
-    heard.hear(alloc, &program, 0, 0, agents, asking)?;
-    let text = format!(in alloc; "{:?} {:?}", heard.totals, heard.counts)?;
-    assert_eq!(rt; text.as_str(), "[3, 3, 3] [1, 1, 1]");
-    heard.join(&program, agents, 1, 0, 9, 2)?;
-    let (totals, counts) = heard.row(&program, agents, 1);
-    let text = format!(in alloc; "{:?} {:?}", totals, counts)?;
-    assert_eq!(rt; text.as_str(), "[12] [3]");
+    let mut heard = Heard::nothing(alloc, program, agents)?;
+    heard.hear(alloc, program, 0, 0, agents, asking)?;
+    let mut text = format!(in alloc; "{:?} {:?}", heard.totals, heard.counts)?;
+    heard.join(program, agents, 1, 0, 9, 2)?;
+    let (totals, counts) = heard.row(program, agents, 1);
+    text.push_str(format!(in alloc; ", then {totals:?} {counts:?}")?.as_str())?;
+    Ok(text)
+}
+
+#[test]
+fn hears_some_agents(rt: HostRuntime) -> Result<(), Fail> {
+    let program = program(rt.alloc(), SPEAKING)?;
+    let Some(world) = World::from_rising(agents_of(rt.alloc(), &SPEAKERS)?) else {
+        return Err("no world".into());
+    };
+    let found = heard_in(rt.alloc(), &program, &world)?;
+    assert_eq!(rt; found.as_str(), "[3, 3, 3] [1, 1, 1], then [12] [3]");
     Ok(())
 }

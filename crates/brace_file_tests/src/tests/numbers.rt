@@ -563,7 +563,7 @@ const SPELLINGS: [(&str, Option<i64>, Option<u64>, Option<i64>); 34] = [
 
 #[test]
 fn one_operand_at_the_ends_and_about_zero(rt: HostRuntime) {
-    for (a, results, whole) in OF_ONE {
+    for &(a, results, whole) in &OF_ONE {
         assert_eq!(rt;
             ([neg(a), abs(a), to_fixed(a), sqrt(a)], trunc(a)),
             (results, whole)
@@ -571,27 +571,28 @@ fn one_operand_at_the_ends_and_about_zero(rt: HostRuntime) {
     }
 }
 
+fn of_two(a: i64, b: i64) -> [Result<i64, Kind>; 7] {
+    [
+        add(a, b),
+        sub(a, b),
+        int_mul(a, b),
+        int_div(a, b),
+        int_rem(a, b),
+        fixed_mul(a, b),
+        fixed_div(a, b),
+    ]
+}
+
 #[test]
 fn two_operands_at_the_ends_and_about_zero(rt: HostRuntime) {
-    for (a, b, results) in OF_TWO {
-        assert_eq!(rt;
-            [
-                add(a, b),
-                sub(a, b),
-                int_mul(a, b),
-                int_div(a, b),
-                int_rem(a, b),
-                fixed_mul(a, b),
-                fixed_div(a, b),
-            ],
-            results
-        );
+    for &(a, b, results) in &OF_TWO {
+        assert_eq!(rt; of_two(a, b), results);
     }
 }
 
 #[test]
 fn clamps_at_the_ends_and_about_zero(rt: HostRuntime) {
-    for (old, new, results) in CLAMPED {
+    for &(old, new, results) in &CLAMPED {
         assert_eq!(rt;
             [
                 clamp(old, new, 0),
@@ -606,7 +607,7 @@ fn clamps_at_the_ends_and_about_zero(rt: HostRuntime) {
 
 #[test]
 fn reads_spellings(rt: HostRuntime) {
-    for (text, int, count, fixed) in SPELLINGS {
+    for &(text, int, count, fixed) in &SPELLINGS {
         let bytes = text.as_bytes();
         assert_eq!(rt;
             (read_int(bytes), read_count(bytes), read_fixed(bytes)),
@@ -637,7 +638,7 @@ fn print_all(alloc: Global, v: i64, n: u64) -> Result<Vec<u8>, NoMemory> {
 
 #[test]
 fn prints_the_ends_and_about_zero(rt: HostRuntime) -> Result<(), Fail> {
-    for (v, n, text) in PRINTED {
+    for &(v, n, text) in &PRINTED {
         let out = print_all(rt.alloc(), v, n)?;
         assert_eq!(rt; out.as_slice(), text);
     }

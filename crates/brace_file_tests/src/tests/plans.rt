@@ -6,7 +6,8 @@ use brace_num::List;
 use std::alloc::Global;
 use std::test::Fail;
 
-fn cuts_of(alloc: Global, xs: &[i64], ys: &[i64]) -> Result<Cuts, Fail>
+/// Lawful cuts.
+pub fn cuts_of(alloc: Global, xs: &[i64], ys: &[i64]) -> Result<Cuts, Fail>
     ensures { IfOk result LawfulCuts }
 {
     let cuts = Cuts {
@@ -144,7 +145,7 @@ const REFUSALS: [(&[u8], u64, u64, PlanKind); 44] = [
 #[test]
 fn reads_plans(rt: HostRuntime) -> Result<(), Fail> {
     let alloc = rt.alloc();
-    for (text, epoch, wanted) in PLANS {
+    for &(text, epoch, wanted) in &PLANS {
         let plan = plan_of(alloc, text, epoch)?.ok().ok_or("a plan")?;
         let copy = plan.copy(alloc)?;
         assert!(rt; is_plan(&plan, wanted) && is_plan(&copy, wanted));
@@ -155,7 +156,7 @@ fn reads_plans(rt: HostRuntime) -> Result<(), Fail> {
 #[test]
 fn answers_the_first_fault_of_the_first_faulty_line(rt: HostRuntime) -> Result<(), Fail> {
     let alloc = rt.alloc();
-    for (text, epoch, line, kind) in REFUSALS {
+    for &(text, epoch, line, kind) in &REFUSALS {
         let fault = plan_of(alloc, text, epoch)?.err();
         assert_eq!(rt;
             fault,
@@ -166,17 +167,20 @@ fn answers_the_first_fault_of_the_first_faulty_line(rt: HostRuntime) -> Result<(
     Ok(())
 }
 
+fn push_numbers(alloc: Global, text: &mut String, count: usize) -> Result<(), Fail> {
+    for i in 0..count {
+        text.push_str(format!(in alloc; " {i}")?.as_str())?;
+    }
+    Ok(())
+}
+
 // A line from tick 0 on, with so many cuts along x and along y.
 fn line_with(alloc: Global, xs: usize, ys: usize) -> Result<String, Fail> {
     let mut text = String::new(alloc);
     text.push_str("at 0 x")?;
-    for i in 0..xs {
-        text.push_str(format!(in alloc; " {i}")?.as_str())?;
-    }
+    push_numbers(alloc, &mut text, xs)?;
     text.push_str(" y")?;
-    for i in 0..ys {
-        text.push_str(format!(in alloc; " {i}")?.as_str())?;
-    }
+    push_numbers(alloc, &mut text, ys)?;
     Ok(text)
 }
 
@@ -194,7 +198,7 @@ const SIZES: [(usize, usize, Option<PlanFault>); 7] = [
 #[test]
 fn makes_at_most_64_parts(rt: HostRuntime) -> Result<(), Fail> {
     let alloc = rt.alloc();
-    for (xs, ys, wanted) in SIZES {
+    for &(xs, ys, wanted) in &SIZES {
         let text = line_with(alloc, xs, ys)?;
         let fault = read_plan(alloc, text.as_bytes(), 1).err();
         assert_eq!(rt; fault, wanted, "{xs} by {ys}");
@@ -233,7 +237,7 @@ const OWNERS: [(&[i64], &[i64], i64, i64, u32); 24] = [
 #[test]
 fn a_point_on_a_cut_is_on_its_higher_side(rt: HostRuntime) -> Result<(), Fail> {
     let alloc = rt.alloc();
-    for (xs, ys, x, y, wanted) in OWNERS {
+    for &(xs, ys, x, y, wanted) in &OWNERS {
         let cuts = cuts_of(alloc, xs, ys)?;
         assert_eq!(rt; cuts.owner(x, y), wanted, "{x}, {y}");
     }
@@ -271,7 +275,7 @@ const BOUNDS: [(&[i64], &[i64], u32, [i64; 4]); 10] = [
 #[test]
 fn areas_include_their_ends(rt: HostRuntime) -> Result<(), Fail> {
     let alloc = rt.alloc();
-    for (xs, ys, p, wanted) in BOUNDS {
+    for &(xs, ys, p, wanted) in &BOUNDS {
         let cuts = cuts_of(alloc, xs, ys)?;
         assert_eq!(rt; bounds_of(&cuts, p), Some(wanted), "part {p}");
     }
@@ -312,7 +316,7 @@ const GAPS: [(&[i64], &[i64], u32, u32, u64, i64, bool); 14] = [
 #[test]
 fn gaps_are_those_of_the_nearest_points(rt: HostRuntime) -> Result<(), Fail> {
     let alloc = rt.alloc();
-    for (xs, ys, p, q, gap, d, near) in GAPS {
+    for &(xs, ys, p, q, gap, d, near) in &GAPS {
         let cuts = cuts_of(alloc, xs, ys)?;
         assert_eq!(rt;
             gap_of(&cuts, p, q, d),
@@ -341,7 +345,7 @@ fn cuts_hold_from_the_tick_of_their_line_on(rt: HostRuntime) -> Result<(), Fail>
     let Ok(plan) = read_plan(alloc, b"at 0 x 1 y\nat 2 x -1 y\nat 8 x 3 y", 2) else {
         return Err("no plan".into());
     };
-    for (tick, wanted) in HELD {
+    for &(tick, wanted) in &HELD {
         assert_eq!(rt; plan.cuts_at(tick).xs.as_slice(), wanted, "tick {tick}");
     }
     Ok(())

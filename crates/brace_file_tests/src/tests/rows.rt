@@ -1,56 +1,18 @@
-use brace_model::{Agent, Class, Program, State, Ty, Value, World};
-use brace_num::{List, NoMemory, Text};
+use crate::tests::programs::{agent_of, program_of};
+use brace_model::{Agent, Ty, Value, World};
+use brace_num::NoMemory;
 use brace_rows::{RowFault, RowKind, make_agents, print_agent, print_tick, read_agents};
 use std::alloc::Global;
 use std::test::Fail;
 
-fn text_of(alloc: Global, name: &str) -> Result<Text, NoMemory> {
-    let mut string = String::new(alloc);
-    string.push_str(name)?;
-    Ok(Text::from_string(string))
-}
-
-fn class_of(alloc: Global, name: &str, types: &[Ty]) -> Result<Class, NoMemory> {
-    let mut states = List::new(alloc);
-    for ty in types {
-        states.push(State {
-            name: text_of(alloc, "s")?,
-            ty: *ty,
-            shared: true,
-            rule: None,
-        })?;
-    }
-    Ok(Class {
-        name: text_of(alloc, name)?,
-        visible: 0,
-        reach: 0,
-        x: 0,
-        y: 1,
-        states,
-        effects: List::new(alloc),
-        query: List::new(alloc),
-        die: None,
-        spawn: None,
-    })
-}
-
-fn program_of(alloc: Global) -> Result<Program, NoMemory> {
-    let mut classes = List::new(alloc);
-    classes.push(class_of(alloc, "P", &[Ty::Fixed, Ty::Fixed])?)?;
-    classes.push(class_of(alloc, "Quail", &[Ty::Fixed, Ty::Int, Ty::Bool])?)?;
-    Ok(Program {
-        classes,
-        sites: List::new(alloc),
-    })
-}
-
-fn agent_of(alloc: Global, class: u32, id: u64, values: &[Value]) -> Result<Agent, NoMemory> {
-    Ok(Agent {
-        class,
-        id,
-        states: List::from_vec(Vec::from_slice(alloc, values)?),
-    })
-}
+// The names of classes, and their states.
+const CLASSES: &[(&str, &[(&str, Ty)])] = &[
+    ("P", &[("s", Ty::Fixed), ("s", Ty::Fixed)]),
+    (
+        "Quail",
+        &[("s", Ty::Fixed), ("s", Ty::Int), ("s", Ty::Bool)],
+    ),
+];
 
 // Classes, ids and values of agents.
 const AGENTS: [(u32, u64, &[Value]); 3] = [
@@ -75,36 +37,50 @@ const AGENTS: [(u32, u64, &[Value]); 3] = [
 const ROWS: &[u8] = b"3,P,0,3.000000,-0.000001\n3,Quail,7,1.000000,9223372036854.775807,8,-3\n3,P,\
  9223372036854775807,true,false,-9223372036854775808\n";
 
-#[test]
-fn prints_rows_of_ints_fixed_numbers_and_flags(rt: HostRuntime) -> Result<(), Fail> {
-    let alloc = rt.alloc();
+fn agents(alloc: Global) -> Result<Vec<Agent>, NoMemory> {
     let mut agents = Vec::new(alloc);
-    for (class, id, values) in AGENTS {
+    for &(class, id, values) in &AGENTS {
         agents.push(agent_of(alloc, class, id, values)?)?;
     }
-    let world = World::from_rising(agents).ok_or("the ids rise")?;
+    Ok(agents)
+}
+
+fn rows_of(alloc: Global, tick: u64, world: &World) -> Result<Vec<u8>, NoMemory> {
+    let program = program_of(alloc, CLASSES)?;
     let mut out = Vec::new(alloc);
-    print_tick(&mut out, &program_of(alloc)?, 3, &world)?;
+    print_tick(&mut out, &program, tick, world)?;
+    Ok(out)
+}
+
+#[test]
+fn prints_rows_of_ints_fixed_numbers_and_flags(rt: HostRuntime) -> Result<(), Fail> {
+    let world = World::from_rising(agents(rt.alloc())?).ok_or("the ids rise")?;
+    let out = rows_of(rt.alloc(), 3, &world)?;
     assert_eq!(rt; out.as_slice(), ROWS);
     Ok(())
 }
 
 const VALUES: &[Value] = &[Value::Int(-3), Value::Fixed(500_000), Value::Flag(true)];
 
-// The fields of an agent of a class.
+// Classes, and what is printed of an agent of each behind a mark.
 const FIELDS: [(u32, &[u8]); 2] = [
     (1, b"> Quail,7,-3,0.500000,true"),
     (2, b"> ,7,-3,0.500000,true"),
 ];
 
+// The fields of an agent, behind a mark.
+fn fields_of(alloc: Global, class: u32) -> Result<Vec<u8>, NoMemory> {
+    let program = program_of(alloc, CLASSES)?;
+    let agent = agent_of(alloc, class, 7, VALUES)?;
+    let mut out = Vec::from_slice(alloc, b"> ")?;
+    print_agent(&mut out, &program, &agent)?;
+    Ok(out)
+}
+
 #[test]
 fn prints_the_fields_of_an_agent(rt: HostRuntime) -> Result<(), Fail> {
-    let alloc = rt.alloc();
-    let program = program_of(alloc)?;
-    for (class, wanted) in FIELDS {
-        let agent = agent_of(alloc, class, 7, VALUES)?;
-        let mut out = Vec::from_slice(alloc, b"> ")?;
-        print_agent(&mut out, &program, &agent)?;
+    for &(class, wanted) in &FIELDS {
+        let out = fields_of(rt.alloc(), class)?;
         assert_eq!(rt; out.as_slice(), wanted, "class {class}");
     }
     Ok(())
@@ -336,18 +312,11 @@ const FILES: [(&[u8], &[u8], Option<RowFault>); 52] = [
 ];
 
 // The rows of the agents that a file holds, or its fault.
-fn told(
-    alloc: Global,
-    program: &Program,
-    file: &[u8],
-) -> Result<(Vec<u8>, Option<RowFault>), NoMemory> {
-    let mut out = Vec::new(alloc);
-    match read_agents(alloc, program, file) {
-        Ok(world) => {
-            print_tick(&mut out, program, 0, &world)?;
-            Ok((out, None))
-        }
-        Err(fault) => Ok((out, Some(fault))),
+fn told(alloc: Global, file: &[u8]) -> Result<(Vec<u8>, Option<RowFault>), NoMemory> {
+    let program = program_of(alloc, CLASSES)?;
+    match read_agents(alloc, &program, file) {
+        Ok(world) => Ok((rows_of(alloc, 0, &world)?, None)),
+        Err(fault) => Ok((Vec::new(alloc), Some(fault))),
     }
 }
 
@@ -362,14 +331,17 @@ fn wide_file(alloc: Global) -> Result<Vec<u8>, NoMemory> {
 
 #[test]
 fn reads_hostile_files_as_csv_defines_them(rt: HostRuntime) -> Result<(), Fail> {
-    let alloc = rt.alloc();
-    let program = program_of(alloc)?;
-    for (file, rows, fault) in FILES {
-        let (out, found) = told(alloc, &program, file)?;
+    for &(file, rows, fault) in &FILES {
+        let (out, found) = told(rt.alloc(), file)?;
         assert_eq!(rt; (out.as_slice(), found), (rows, fault), "{file:?}");
     }
-    let wide = wide_file(alloc)?;
-    let fault = read_agents(alloc, &program, wide.as_slice()).err();
+    Ok(())
+}
+
+#[test]
+fn refuses_a_wide_record(rt: HostRuntime) -> Result<(), Fail> {
+    let file = wide_file(rt.alloc())?;
+    let (_, fault) = told(rt.alloc(), file.as_slice())?;
     assert_eq!(rt; fault, Some(RowFault::Bad(2, RowKind::WrongLength)));
     Ok(())
 }
@@ -381,11 +353,9 @@ const MADE: &[u8] = b"0,P,0,236.067972,278.566908,0.000000,0.000000\n0,P,1,819.5
 // 2868466484; of a seed the low 32 bits count.
 #[test]
 fn makes_agents_at_drawn_places(rt: HostRuntime) -> Result<(), Fail> {
-    let alloc = rt.alloc();
     for seed in [0, 4_294_967_296] {
-        let world = make_agents(alloc, seed, 2)?;
-        let mut out = Vec::new(alloc);
-        print_tick(&mut out, &program_of(alloc)?, 0, &world)?;
+        let world = make_agents(rt.alloc(), seed, 2)?;
+        let out = rows_of(rt.alloc(), 0, &world)?;
         assert_eq!(rt; (out.as_slice(), world.next()), (MADE, 2));
     }
     Ok(())

@@ -3,11 +3,12 @@ use brace_io::{ErrSink, Failed, Gate, HostSink, MemSink, OpenGate, OutSink, Sink
 use std::io::{self, Read};
 use std::test::Fail;
 
-/// A room, the number of the call that fails, and what stands of two pieces after a failure.
+// A room, the number of the call that fails, and what stands of two pieces after a failure.
+const SPENT: [(u64, u64, &[u8]); 2] = [(3, 0, b"abc"), (9, 2, b"ab")];
+
 #[test]
 fn writes_until_the_room_is_spent_or_a_call_fails(rt: HostRuntime) -> Result<(), Fail> {
-    let cases = [(3, 0, b"abc".as_slice()), (9, 2, b"ab".as_slice())];
-    for (room, number, written) in cases {
+    for &(room, number, written) in &SPENT {
         let mut sink = MemSink::make(rt.alloc(), room, vec![in rt.alloc(); number]?)?;
         write_whole(&mut sink, b"ab")?;
         assert!(rt; write_whole(&mut sink, b"cd") == Err(Failed));

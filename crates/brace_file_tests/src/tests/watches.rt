@@ -1,57 +1,21 @@
 // Files of watched figures and their texts, worked by hand.
-use brace_cuts::Cuts;
-use brace_model::{Agent, Class, Program, State, Ty, Value};
-use brace_num::{List, Text};
+use crate::tests::plans::cuts_of;
+use crate::tests::programs::{agent_of, program_of};
+use brace_model::{Agent, Ty, Value};
 use brace_watch::{WatchFault, WatchKind, print_watched, read_watch};
 use std::alloc::Global;
 use std::test::Fail;
 
-fn text(alloc: Global, name: &str) -> Result<Text, Fail> {
-    let mut string = String::new(alloc);
-    string.push_str(name)?;
-    Ok(Text::from_string(string))
-}
-
-fn state(alloc: Global, name: &str, ty: Ty) -> Result<State, Fail> {
-    Ok(State {
-        name: text(alloc, name)?,
-        ty,
-        shared: true,
-        rule: None,
-    })
-}
-
-const STATES: [(&str, Ty); 4] = [
-    ("x", Ty::Fixed),
-    ("y", Ty::Fixed),
-    ("n", Ty::Int),
-    ("b", Ty::Bool),
-];
-
-// A class `F` with these states.
-fn program(alloc: Global) -> Result<Program, Fail> {
-    let mut states = List::new(alloc);
-    for (name, ty) in STATES {
-        states.push(state(alloc, name, ty)?)?;
-    }
-    let mut classes = List::new(alloc);
-    classes.push(Class {
-        name: text(alloc, "F")?,
-        visible: 0,
-        reach: 0,
-        x: 0,
-        y: 1,
-        states,
-        effects: List::new(alloc),
-        query: List::new(alloc),
-        die: None,
-        spawn: None,
-    })?;
-    Ok(Program {
-        classes,
-        sites: List::new(alloc),
-    })
-}
+// The one class, and its states.
+const CLASSES: &[(&str, &[(&str, Ty)])] = &[(
+    "F",
+    &[
+        ("x", Ty::Fixed),
+        ("y", Ty::Fixed),
+        ("n", Ty::Int),
+        ("b", Ty::Bool),
+    ],
+)];
 
 // The id, x, n and b of an agent on the line y = 0.
 type Row = (u64, i64, i64, bool);
@@ -65,36 +29,19 @@ fn agents(alloc: Global, rows: &[Row]) -> Result<Vec<Agent>, Fail> {
             Value::Int(*n),
             Value::Flag(*b),
         ];
-        agents.push(Agent {
-            class: 0,
-            id: *id,
-            states: List::from_vec(Vec::from_slice(alloc, &values)?),
-        })?;
+        agents.push(agent_of(alloc, 0, *id, &values)?)?;
     }
     Ok(agents)
 }
 
-// The plane cut at x = 2.
-fn cuts(alloc: Global) -> Result<Cuts, Fail> {
-    let mut xs = List::new(alloc);
-    xs.push(2_000_000)?;
-    Ok(Cuts {
-        xs,
-        ys: List::new(alloc),
-    })
-}
-
-// The text of what a file watches, at a tick, over some agents.
+// The text of what a file watches, at a tick, over some agents, with the plane cut at x = 2.
 fn told(alloc: Global, file: &[u8], tick: u64, rows: &[Row]) -> Result<Vec<u8>, Fail> {
     let agents = agents(alloc, rows)?;
-    let program = program(alloc)?;
+    let program = program_of(alloc, CLASSES)?;
     let Ok(watches) = read_watch(alloc, &program, file) else {
         return Err("a watch file is refused".into());
     };
-    let cuts = cuts(alloc)?;
-    if !cuts.are_lawful() {
-        return Err("cuts are not lawful".into());
-    }
+    let cuts = cuts_of(alloc, &[2_000_000], &[])?;
     let mut out = Vec::new(alloc);
     print_watched(
         alloc,
@@ -150,9 +97,8 @@ const TOLD: [(&[u8], u64, &[Row], &[u8]); 9] = [
 
 #[test]
 fn figures_are_told_by_box(rt: HostRuntime) -> Result<(), Fail> {
-    let alloc = rt.alloc();
-    for (file, tick, rows, text) in TOLD {
-        let out = told(alloc, file, tick, rows)?;
+    for &(file, tick, rows, text) in &TOLD {
+        let out = told(rt.alloc(), file, tick, rows)?;
         assert_eq!(rt; out.as_slice(), text);
     }
     Ok(())
@@ -191,20 +137,18 @@ const REFUSED: [(&[u8], u64, WatchKind); 28] = [
 ];
 
 // How many figures a file asks for, or its fault.
-fn count(alloc: Global, program: &Program, file: &[u8]) -> Result<usize, WatchFault> {
-    let watches = read_watch(alloc, program, file)?;
+fn count(alloc: Global, file: &[u8]) -> Result<usize, WatchFault> {
+    let program = program_of(alloc, CLASSES)?;
+    let watches = read_watch(alloc, &program, file)?;
     Ok(watches.len())
 }
 
 #[test]
-fn files_are_refused_at_their_first_fault(rt: HostRuntime) -> Result<(), Fail> {
-    let alloc = rt.alloc();
-    let program = program(alloc)?;
-    for (file, line, kind) in REFUSED {
-        let found = count(alloc, &program, file);
+fn files_are_refused_at_their_first_fault(rt: HostRuntime) {
+    for &(file, line, kind) in &REFUSED {
+        let found = count(rt.alloc(), file);
         assert_eq!(rt; found, Err(WatchFault::Bad(line, kind)));
     }
-    Ok(())
 }
 
 // A file of so many good lines, and another one behind them.
@@ -229,11 +173,9 @@ const LAST: [(&[u8], Result<usize, WatchFault>); 3] = [
 
 #[test]
 fn a_file_has_at_most_64_lines(rt: HostRuntime) -> Result<(), Fail> {
-    let alloc = rt.alloc();
-    let program = program(alloc)?;
-    for (last, wanted) in LAST {
-        let file = lines(alloc, 64, last)?;
-        assert_eq!(rt; count(alloc, &program, file.as_slice()), wanted);
+    for &(last, wanted) in &LAST {
+        let file = lines(rt.alloc(), 64, last)?;
+        assert_eq!(rt; count(rt.alloc(), file.as_slice()), wanted);
     }
     Ok(())
 }

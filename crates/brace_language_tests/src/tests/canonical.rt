@@ -1,25 +1,15 @@
 // What no clause says: that the definition of the canonical text is the text that is meant, at
 // scripts laid out by hand.
+use crate::tests::scripts::tree;
 use brace_show::show;
-use brace_syntax::parse;
-use brace_tok::tokens;
 use std::alloc::Global;
 use std::test::Fail;
 
 fn shown(alloc: Global, source: &[u8]) -> Result<Vec<u8>, Fail> {
-    if source.len() > 1_048_576 {
-        return Err("too long".into());
-    }
-    let Ok(toks) = tokens(alloc, source) else {
-        return Err("no tokens".into());
-    };
-    let Ok(tree) = parse(alloc, source, toks.as_slice()) else {
+    let Ok(tree) = tree(alloc, source) else {
         return Err("no script".into());
     };
-    match show(alloc, &tree) {
-        Ok(text) => Ok(text),
-        Err(_) => Err("no memory".into()),
-    }
+    Ok(show(alloc, &tree)?)
 }
 
 const SCRIPT: &[u8] =
@@ -80,12 +70,13 @@ class Shoal {
 }
 ";
 
+// The canonical text is its own.
 #[test]
 fn lays_out_every_form(rt: HostRuntime) -> Result<(), Fail> {
-    let text = shown(rt.alloc(), SCRIPT)?;
-    assert_eq!(rt; text.as_slice(), CANONICAL);
-    let again = shown(rt.alloc(), text.as_slice())?;
-    assert_eq!(rt; again.as_slice(), CANONICAL);
+    for source in [SCRIPT, CANONICAL] {
+        let text = shown(rt.alloc(), source)?;
+        assert_eq!(rt; text.as_slice(), CANONICAL);
+    }
     Ok(())
 }
 
@@ -97,47 +88,38 @@ fn ruled(alloc: Global, rule: &[u8]) -> Result<Vec<u8>, Fail> {
     Ok(source)
 }
 
-#[test]
-fn parts_operands_by_level_alone(rt: HostRuntime) -> Result<(), Fail> {
-    let table: [(&[u8], &[u8]); 16] = [
-        (b"a-(b-c)", b"a - (b - c)"),
-        (b"((a-b)-c)", b"a - b - c"),
-        (b"a*(b*c)/(d%e)", b"a * (b * c) / (d % e)"),
-        (b"(a+b)*c+(d*e)", b"(a + b) * c + d * e"),
-        (b"(a<b)==(c!=d)", b"(a < b) == (c != d)"),
-        (b"(a||b)&&(c||d&&e)", b"(a || b) && (c || d && e)"),
-        (b"a||(b||c)||(d&&(e&&f))", b"a || (b || c) || d && (e && f)"),
-        (b"(a<=b)&&(c>=d)||(e>f)", b"a <= b && c >= d || e > f"),
-        (b"-(-x)", b"--x"),
-        (b"!(!(a&&b))", b"!!(a && b)"),
-        (b"-(a+b)*-(c)", b"-(a + b) * -c"),
-        (b"(c?a:b)?d:e", b"(c ? a : b) ? d : e"),
-        (b"c?(a?b:d):(e?f:g)", b"c ? a ? b : d : e ? f : g"),
-        (b"(a||b)?(c+d):(-e)", b"a || b ? c + d : -e"),
-        (b"max((a?b:c),(d||e))", b"max(a ? b : c, d || e)"),
-        (b"abs((a?b:c))+(min(a,b))", b"abs(a ? b : c) + min(a, b)"),
-    ];
-    for (rule, canonical) in table {
-        let text = shown(rt.alloc(), ruled(rt.alloc(), rule)?.as_slice())?;
-        assert_eq!(rt; text.as_slice(), ruled(rt.alloc(), canonical)?.as_slice());
-    }
-    Ok(())
-}
+// Rules and their canonical texts: operands are parted by level alone, and literals are short.
+const RULES: [(&[u8], &[u8]); 25] = [
+    (b"a-(b-c)", b"a - (b - c)"),
+    (b"((a-b)-c)", b"a - b - c"),
+    (b"a*(b*c)/(d%e)", b"a * (b * c) / (d % e)"),
+    (b"(a+b)*c+(d*e)", b"(a + b) * c + d * e"),
+    (b"(a<b)==(c!=d)", b"(a < b) == (c != d)"),
+    (b"(a||b)&&(c||d&&e)", b"(a || b) && (c || d && e)"),
+    (b"a||(b||c)||(d&&(e&&f))", b"a || (b || c) || d && (e && f)"),
+    (b"(a<=b)&&(c>=d)||(e>f)", b"a <= b && c >= d || e > f"),
+    (b"-(-x)", b"--x"),
+    (b"!(!(a&&b))", b"!!(a && b)"),
+    (b"-(a+b)*-(c)", b"-(a + b) * -c"),
+    (b"(c?a:b)?d:e", b"(c ? a : b) ? d : e"),
+    (b"c?(a?b:d):(e?f:g)", b"c ? a ? b : d : e ? f : g"),
+    (b"(a||b)?(c+d):(-e)", b"a || b ? c + d : -e"),
+    (b"max((a?b:c),(d||e))", b"max(a ? b : c, d || e)"),
+    (b"abs((a?b:c))+(min(a,b))", b"abs(a ? b : c) + min(a, b)"),
+    (b"0", b"0"),
+    (b"000", b"0"),
+    (b"9223372036854775807", b"9223372036854775807"),
+    (b"0.0", b"0.0"),
+    (b"00.000000", b"0.0"),
+    (b"2.25", b"2.25"),
+    (b"010.500000", b"10.5"),
+    (b"0.000001", b"0.000001"),
+    (b"9223372036854.775807", b"9223372036854.775807"),
+];
 
 #[test]
-fn shortens_literals(rt: HostRuntime) -> Result<(), Fail> {
-    let table: [(&[u8], &[u8]); 9] = [
-        (b"0", b"0"),
-        (b"000", b"0"),
-        (b"9223372036854775807", b"9223372036854775807"),
-        (b"0.0", b"0.0"),
-        (b"00.000000", b"0.0"),
-        (b"2.25", b"2.25"),
-        (b"010.500000", b"10.5"),
-        (b"0.000001", b"0.000001"),
-        (b"9223372036854.775807", b"9223372036854.775807"),
-    ];
-    for (rule, canonical) in table {
+fn parts_operands_by_level_and_shortens_literals(rt: HostRuntime) -> Result<(), Fail> {
+    for &(rule, canonical) in &RULES {
         let text = shown(rt.alloc(), ruled(rt.alloc(), rule)?.as_slice())?;
         assert_eq!(rt; text.as_slice(), ruled(rt.alloc(), canonical)?.as_slice());
     }

@@ -1,14 +1,10 @@
 // What no clause says: the answers of scripts worked by hand.
+use crate::tests::scripts::{marked, tree};
 use brace_check::check;
 use brace_names::{Resolved, resolve};
-use brace_syntax::parse;
-use brace_tok::tokens;
 use std::alloc::{AllocError, Global};
 
-// A place of a script is marked by `@`, which is taken out. `$` stands for the position of a class.
-const POSITION: &str = "public state fixed x;public state fixed y;";
-
-// The texts of a fault's kind, and scripts that have it at the mark.
+// The texts of a fault's kind, and marked scripts that have it at the mark.
 const REFUSED: [(&str, &str); 79] = [
     ("OtherAgentInUpdate", "class A{$public state int n:@q.n;}"),
     (
@@ -216,34 +212,8 @@ const REFUSED: [(&str, &str); 79] = [
     ),
 ];
 
-// The text of a script, without its marks.
-fn text_of(alloc: Global, script: &str) -> Result<String, AllocError> {
-    let mut text = String::new(alloc);
-    for c in script.chars() {
-        match c {
-            '@' => {}
-            '$' => text.push_str(POSITION)?,
-            c => text.push(c)?,
-        }
-    }
-    Ok(text)
-}
-
-// The offset of a script's first mark.
-fn mark_of(alloc: Global, script: &str) -> Result<usize, AllocError> {
-    match script.split_once('@') {
-        Some((front, _)) => Ok(text_of(alloc, front)?.len()),
-        None => Ok(0),
-    }
-}
-
 fn resolved(alloc: Global, text: &str) -> Option<Resolved> {
-    if text.len() > 1_048_576 {
-        return None;
-    }
-    let toks = tokens(alloc, text.as_bytes()).ok()?;
-    let tree = parse(alloc, text.as_bytes(), toks.as_slice()).ok()?;
-    resolve(alloc, tree).ok()
+    resolve(alloc, tree(alloc, text.as_bytes()).ok()?).ok()
 }
 
 // The answer as text: the program or the fault.
@@ -259,9 +229,10 @@ fn answer(alloc: Global, text: &str) -> Result<String, AllocError> {
 
 #[test]
 fn refuses_at_the_mark(rt: HostRuntime) -> Result<(), AllocError> {
-    for (kind, script) in REFUSED {
-        let want = format!(in rt.alloc(); "{kind}({})", mark_of(rt.alloc(), script)?)?;
-        let got = answer(rt.alloc(), text_of(rt.alloc(), script)?.as_str())?;
+    for &(kind, script) in &REFUSED {
+        let marked = marked(rt.alloc(), script)?;
+        let want = format!(in rt.alloc(); "{kind}({})", marked.at)?;
+        let got = answer(rt.alloc(), marked.text.as_str())?;
         assert_eq!(rt; got.as_str(), want.as_str(), "{script}");
     }
     Ok(())
@@ -347,8 +318,9 @@ const GIVEN: [(&str, &str); 4] = [
 
 #[test]
 fn gives_programs(rt: HostRuntime) -> Result<(), AllocError> {
-    for (script, want) in GIVEN {
-        let got = answer(rt.alloc(), text_of(rt.alloc(), script)?.as_str())?;
+    for &(script, want) in &GIVEN {
+        let marked = marked(rt.alloc(), script)?;
+        let got = answer(rt.alloc(), marked.text.as_str())?;
         assert_eq!(rt; got.as_str(), want, "{script}");
     }
     Ok(())

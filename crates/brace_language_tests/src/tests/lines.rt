@@ -1,6 +1,6 @@
 // Command lines worked by hand: what they say, and which are none.
 use brace_num::Text;
-use brace_words::{Line, LineFault, read_line};
+use brace_words::{Line, read_line};
 use std::alloc::{AllocError, Global};
 
 // A line, and what it says: its mode, its names, its numbers and its flags.
@@ -155,17 +155,18 @@ fn words_of(alloc: Global, text: &str) -> Result<Vec<String>, AllocError> {
     Ok(words)
 }
 
-/// What a line says: its mode, its names, its numbers and its flags.
-fn said(alloc: Global, line: &Line) -> Result<String, AllocError> {
-    let mut text = format!(in alloc; "{:?}", line.mode)?;
-    push_name(&mut text, " script ", &line.script)?;
-    push_name(&mut text, " agents ", &line.agents)?;
-    push_name(&mut text, " from ", &line.from)?;
-    push_name(&mut text, " cuts ", &line.cuts)?;
-    push_name(&mut text, " save ", &line.save)?;
-    push_name(&mut text, " link ", &line.link)?;
-    push_name(&mut text, " published ", &line.published)?;
-    push_name(&mut text, " watch ", &line.watch)?;
+fn push_names(text: &mut String, line: &Line) -> Result<(), AllocError> {
+    push_name(text, " script ", &line.script)?;
+    push_name(text, " agents ", &line.agents)?;
+    push_name(text, " from ", &line.from)?;
+    push_name(text, " cuts ", &line.cuts)?;
+    push_name(text, " save ", &line.save)?;
+    push_name(text, " link ", &line.link)?;
+    push_name(text, " published ", &line.published)?;
+    push_name(text, " watch ", &line.watch)
+}
+
+fn push_numbers(alloc: Global, text: &mut String, line: &Line) -> Result<(), AllocError> {
     for (name, number) in [
         ("ticks", line.ticks),
         ("count", line.count.map(u64::from)),
@@ -180,11 +181,20 @@ fn said(alloc: Global, line: &Line) -> Result<String, AllocError> {
             text.push_str(format!(in alloc; " {name} {number}")?.as_str())?;
         }
     }
-    for (name, is_set) in [(" invert", line.invert), (" stats", line.stats)] {
-        if is_set {
-            text.push_str(name)?;
-        }
-    }
+    Ok(())
+}
+
+fn push_flag(text: &mut String, label: &str, is_set: bool) -> Result<(), AllocError> {
+    if is_set { text.push_str(label) } else { Ok(()) }
+}
+
+/// What a line says: its mode, its names, its numbers and its flags.
+fn said(alloc: Global, line: &Line) -> Result<String, AllocError> {
+    let mut text = format!(in alloc; "{:?}", line.mode)?;
+    push_names(&mut text, line)?;
+    push_numbers(alloc, &mut text, line)?;
+    push_flag(&mut text, " invert", line.invert)?;
+    push_flag(&mut text, " stats", line.stats)?;
     Ok(text)
 }
 
@@ -196,19 +206,33 @@ fn push_name(text: &mut String, label: &str, name: &Option<Text>) -> Result<(), 
     Ok(())
 }
 
+/// What words say, or their fault, as text.
+fn told(alloc: Global, words: &[String]) -> Result<String, AllocError> {
+    match read_line(alloc, words) {
+        Ok(line) => said(alloc, &line),
+        Err(fault) => format!(in alloc; "{fault:?}"),
+    }
+}
+
+/// What the words of a text say, or their fault.
+fn answer(alloc: Global, text: &str) -> Result<String, AllocError> {
+    let words = words_of(alloc, text)?;
+    told(alloc, words.as_slice())
+}
+
 #[test]
-fn reads_lines_and_refuses_all_else(rt: HostRuntime) -> Result<(), AllocError> {
-    for (text, want) in LINES {
-        let words = words_of(rt.alloc(), text)?;
-        let line = read_line(rt.alloc(), words.as_slice()).expect(&rt, text);
-        assert_eq!(rt; said(rt.alloc(), &line)?.as_str(), want);
+fn reads_lines(rt: HostRuntime) -> Result<(), AllocError> {
+    for &(text, want) in &LINES {
+        assert_eq!(rt; answer(rt.alloc(), text)?.as_str(), want);
     }
-    for text in REFUSED {
-        let words = words_of(rt.alloc(), text)?;
-        let fault = read_line(rt.alloc(), words.as_slice()).expect_err(&rt, text);
-        assert_eq!(rt; fault, LineFault::Usage, "{text}");
+    Ok(())
+}
+
+#[test]
+fn refuses_all_else(rt: HostRuntime) -> Result<(), AllocError> {
+    for &text in &REFUSED {
+        assert_eq!(rt; answer(rt.alloc(), text)?.as_str(), "Usage", "{text}");
     }
-    let fault = read_line(rt.alloc(), &[]).expect_err(&rt, "no words");
-    assert_eq!(rt; fault, LineFault::Usage);
+    assert_eq!(rt; told(rt.alloc(), &[])?.as_str(), "Usage");
     Ok(())
 }

@@ -1,14 +1,10 @@
 // What no clause says: the answers of scripts worked by hand, and of scripts at the limits and one
 // past them.
-use brace_names::{NameFault, resolve};
-use brace_syntax::{Tree, parse};
-use brace_tok::tokens;
+use crate::tests::scripts::{marked, tree};
+use brace_names::resolve;
 use std::alloc::{AllocError, Global};
 
-// A place of a script is marked by `@`, which is taken out. `$` stands for the position of a class.
-const POSITION: &str = "public state fixed x;public state fixed y;";
-
-// The texts of a fault's kind, and scripts that have it at the mark.
+// The texts of a fault's kind, and marked scripts that have it at the mark.
 const REFUSED: [(&str, &str); 52] = [
     (
         "DuplicateClass(",
@@ -173,56 +169,59 @@ const REFUSED: [(&str, &str); 52] = [
     ),
 ];
 
-#[derive(Drop)]
-struct Script {
-    text: String,
-    at: usize,
-}
-
-fn marked(alloc: Global, script: &str) -> Result<Script, AllocError> {
-    let mut text = String::new(alloc);
-    let mut at = 0;
-    for c in script.chars() {
-        match c {
-            '@' => at = text.len(),
-            '$' => text.push_str(POSITION)?,
-            c => text.push(c)?,
-        }
-    }
-    Ok(Script { text, at })
-}
-
-fn tree(alloc: Global, text: &str) -> Option<Tree> {
-    if text.len() > 1_048_576 {
-        return None;
-    }
-    let toks = tokens(alloc, text.as_bytes()).ok()?;
-    parse(alloc, text.as_bytes(), toks.as_slice()).ok()
-}
-
-// The answer as text: the bindings or the fault.
-fn answer(alloc: Global, text: &str) -> Result<String, AllocError> {
-    match tree(alloc, text) {
-        None => format!(in alloc; "no tree"),
-        Some(tree) => match resolve(alloc, tree) {
-            Ok(resolved) => format!(in alloc; "{:?}", resolved.bindings),
+// The fault as text, which is empty where there is none.
+fn fault_of(alloc: Global, text: &str) -> Result<String, AllocError> {
+    match tree(alloc, text.as_bytes()) {
+        Err(_) => format!(in alloc; "no tree"),
+        Ok(tree) => match resolve(alloc, tree) {
+            Ok(_) => Ok(String::new(alloc)),
             Err(fault) => format!(in alloc; "{fault:?}"),
         },
     }
 }
 
+// The fault of a kind at a mark, as text; of no kind there is none.
+fn fault_at(alloc: Global, kind: &str, at: usize) -> Result<String, AllocError> {
+    if kind.is_empty() {
+        Ok(String::new(alloc))
+    } else {
+        format!(in alloc; "{kind}{at})")
+    }
+}
+
+// The fault that a marked script has, and the one of the kind at its mark.
+fn faults(alloc: Global, kind: &str, script: &str) -> Result<(String, String), AllocError> {
+    let marked = marked(alloc, script)?;
+    let got = fault_of(alloc, marked.text.as_str())?;
+    Ok((got, fault_at(alloc, kind, marked.at)?))
+}
+
 #[test]
 fn refuses_at_the_mark(rt: HostRuntime) -> Result<(), AllocError> {
-    for (kind, script) in REFUSED {
-        let marked = marked(rt.alloc(), script)?;
-        let want = format!(in rt.alloc(); "{kind}{})", marked.at)?;
-        let got = answer(rt.alloc(), marked.text.as_str())?;
+    for &(kind, script) in &REFUSED {
+        let (got, want) = faults(rt.alloc(), kind, script)?;
         assert_eq!(rt; got.as_str(), want.as_str(), "{script}");
     }
     Ok(())
 }
 
-// The piece so many times, with its number for `#`, between a front and a back.
+// The piece with a number for `#`.
+fn push_numbered(
+    alloc: Global,
+    text: &mut String,
+    piece: &str,
+    number: u32,
+) -> Result<(), AllocError> {
+    for c in piece.chars() {
+        match c {
+            '#' => text.push_str(format!(in alloc; "{number}")?.as_str())?,
+            c => text.push(c)?,
+        }
+    }
+    Ok(())
+}
+
+// The piece so many times, each with its number, between a front and a back.
 fn repeated(
     alloc: Global,
     front: &str,
@@ -233,12 +232,7 @@ fn repeated(
     let mut text = String::new(alloc);
     text.push_str(front)?;
     for number in 0..times {
-        for c in piece.chars() {
-            match c {
-                '#' => text.push_str(format!(in alloc; "{number}")?.as_str())?,
-                c => text.push(c)?,
-            }
-        }
+        push_numbered(alloc, &mut text, piece, number)?;
     }
     text.push_str(back)?;
     Ok(text)
@@ -360,21 +354,15 @@ const LIMITS: [(&str, &str, u32, &str, &str); 19] = [
 
 #[test]
 fn counts_to_its_limits(rt: HostRuntime) -> Result<(), AllocError> {
-    for (front, piece, times, back, kind) in LIMITS {
+    for &(front, piece, times, back, kind) in &LIMITS {
         let script = repeated(rt.alloc(), front, piece, times, back)?;
-        let marked = marked(rt.alloc(), script.as_str())?;
-        let got = answer(rt.alloc(), marked.text.as_str())?;
-        if kind.is_empty() {
-            assert!(rt; got.as_str().starts_with("List"), "{back}");
-        } else {
-            let want = format!(in rt.alloc(); "{kind}{})", marked.at)?;
-            assert_eq!(rt; got.as_str(), want.as_str(), "{back}");
-        }
+        let (got, want) = faults(rt.alloc(), kind, script.as_str())?;
+        assert_eq!(rt; got.as_str(), want.as_str(), "{back}");
     }
     Ok(())
 }
 
-// A script whose names have one letter, and each bound name in turn with what it stands for.
+// A script whose names have one letter, and what they stand for.
 const NAMED: &str = "class A{$public state int n:m+this.n;public effect int m:max;die when n<m;\
  spawn when n<0{n<-n;x<-x;}public void run(){const int k=n;if(k<1){const int l=k;m<-l;}else{const \
  int j=k;this.m<-j;}foreach(B q:Extent<B>){foreach(A p:Extent<A>){q.e<-p.n;}}const int i=k;}}class \
@@ -386,21 +374,26 @@ const BOUND: &str =
      Local(2) B Class(1) B Class(1) A Class(0) A Class(0) q Loop(0) e Effect(1) p Loop(1) n \
      State(2) k Local(0) ";
 
-#[test]
-fn tells_what_names_stand_for(rt: HostRuntime) -> Result<(), AllocError> {
-    let marked = marked(rt.alloc(), NAMED)?;
-    let bytes = marked.text.as_str().as_bytes();
-    let mut got = String::new(rt.alloc());
-    if let Some(tree) = tree(rt.alloc(), marked.text.as_str()) {
-        if let Ok(resolved) = resolve(rt.alloc(), tree) {
-            for binding in resolved.bindings.as_slice() {
-                if let Some(byte) = bytes.get(binding.at as usize) {
-                    got.push(*byte as char)?;
-                    got.push_str(format!(in rt.alloc(); " {:?} ", binding.target)?.as_str())?;
-                }
+// Each bound name of a script in turn with what it stands for.
+fn bound(alloc: Global, text: &str) -> Result<String, AllocError> {
+    let mut bound = String::new(alloc);
+    if let Ok(tree) = tree(alloc, text.as_bytes())
+        && let Ok(resolved) = resolve(alloc, tree)
+    {
+        for binding in resolved.bindings.as_slice() {
+            if let Some(byte) = text.as_bytes().get(binding.at as usize) {
+                bound.push(*byte as char)?;
+                bound.push_str(format!(in alloc; " {:?} ", binding.target)?.as_str())?;
             }
         }
     }
+    Ok(bound)
+}
+
+#[test]
+fn tells_what_names_stand_for(rt: HostRuntime) -> Result<(), AllocError> {
+    let marked = marked(rt.alloc(), NAMED)?;
+    let got = bound(rt.alloc(), marked.text.as_str())?;
     assert_eq!(rt; got.as_str(), BOUND);
     Ok(())
 }

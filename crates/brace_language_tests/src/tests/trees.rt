@@ -1,7 +1,7 @@
 // What no clause says: the trees of scripts worked by hand, the places of faults, and how deep a
 // script may nest.
-use brace_syntax::{MemberTree, SynFault, Tree, parse};
-use brace_tok::tokens;
+use crate::tests::scripts::tree;
+use brace_syntax::{MemberTree, SynFault};
 use std::alloc::{AllocError, Global};
 
 const SENDS: &str =
@@ -58,36 +58,17 @@ const ENDS_TREE: &str =
      digits: Int(1), at: 97 }) }, 96) }, Boxed { inner: True(99) }, Boxed { inner: False(104) }, \
      98) }] }, 67)] }, at: 59 }] } }";
 
-#[derive(Drop)]
-enum Found {
-    Script(Tree),
-    Fault(SynFault),
-    NoTokens,
-}
-
-fn read(alloc: Global, text: &str) -> Found {
-    if text.len() > 1_048_576 {
-        return Found::NoTokens;
-    }
-    match tokens(alloc, text.as_bytes()) {
-        Ok(toks) => match parse(alloc, text.as_bytes(), toks.as_slice()) {
-            Ok(tree) => Found::Script(tree),
-            Err(fault) => Found::Fault(fault),
-        },
-        Err(_) => Found::NoTokens,
-    }
-}
-
-fn fault_of(alloc: Global, text: &str) -> Option<SynFault> {
-    match read(alloc, text) {
-        Found::Fault(fault) => Some(fault),
-        _ => None,
+// The answer as text: the tree or the fault.
+fn answer(alloc: Global, text: &str) -> Result<String, AllocError> {
+    match tree(alloc, text.as_bytes()) {
+        Ok(tree) => format!(in alloc; "{tree:?}"),
+        Err(fault) => format!(in alloc; "{fault:?}"),
     }
 }
 
 // The text of the rule of the one member of a class.
 fn rule_of(alloc: Global, text: &str) -> Result<String, AllocError> {
-    if let Found::Script(tree) = read(alloc, text)
+    if let Ok(tree) = tree(alloc, text.as_bytes())
         && let [class] = tree.classes.as_slice()
         && let [MemberTree::State(_, _, _, Some(rule), _)] = class.members.as_slice()
     {
@@ -106,172 +87,170 @@ fn ruled(alloc: Global, expression: &str) -> Result<String, AllocError> {
     Ok(text)
 }
 
-fn repeated(alloc: Global, front: &str, times: u32, back: &str) -> Result<String, AllocError> {
-    let mut text = String::new(alloc);
-    for _ in 0..times {
-        text.push_str(front)?;
-    }
-    text.push_str("1")?;
-    for _ in 0..times {
-        text.push_str(back)?;
-    }
-    ruled(alloc, text.as_str())
-}
+const SCRIPTS: [(&str, &str); 3] = [
+    (SENDS, SENDS_TREE),
+    (CHOOSES, CHOOSES_TREE),
+    (ENDS, ENDS_TREE),
+];
 
 #[test]
 fn reads_scripts(rt: HostRuntime) -> Result<(), AllocError> {
-    for (text, want) in [
-        (SENDS, SENDS_TREE),
-        (CHOOSES, CHOOSES_TREE),
-        (ENDS, ENDS_TREE),
-    ] {
-        match read(rt.alloc(), text) {
-            Found::Script(tree) => {
-                assert_eq!(rt; format!(in rt.alloc(); "{tree:?}")?.as_str(), want);
-            }
-            _ => assert!(rt; false, "{text}"),
-        }
+    for &(text, want) in &SCRIPTS {
+        assert_eq!(rt; answer(rt.alloc(), text)?.as_str(), want);
     }
     Ok(())
 }
 
+// Expressions and their trees.
+const GROUPED: [(&str, &str); 5] = [
+    (
+        "1-2-3",
+        "Binary(Sub, Boxed { inner: Binary(Sub, Boxed { inner: Lit(Number { digits: Int(1), \
+         at: 28 }) }, Boxed { inner: Lit(Number { digits: Int(2), at: 30 }) }, 29) }, Boxed { \
+         inner: Lit(Number { digits: Int(3), at: 32 }) }, 31)",
+    ),
+    (
+        "rand()?true:false?true:false",
+        "Choice(Boxed { inner: Rand(28) }, Boxed { inner: True(35) }, Boxed { inner: \
+         Choice(Boxed { inner: False(40) }, Boxed { inner: True(46) }, Boxed { inner: \
+         False(51) }, 45) }, 34)",
+    ),
+    (
+        "--!true",
+        "Unary(Neg, Boxed { inner: Unary(Neg, Boxed { inner: Unary(Not, Boxed { inner: \
+         True(31) }, 30) }, 29) }, 28)",
+    ),
+    (
+        "true||false&&(true)*-false",
+        "Binary(Or, Boxed { inner: True(28) }, Boxed { inner: Binary(And, Boxed { inner: \
+         False(34) }, Boxed { inner: Binary(Mul, Boxed { inner: True(42) }, Boxed { inner: \
+         Unary(Neg, Boxed { inner: False(49) }, 48) }, 47) }, 39) }, 32)",
+    ),
+    (
+        "true<max(true,false)+sqrt(false)",
+        "Binary(Lt, Boxed { inner: True(28) }, Boxed { inner: Binary(Add, Boxed { inner: \
+         Binary(Max, Boxed { inner: True(37) }, Boxed { inner: False(42) }, 33) }, Boxed { \
+         inner: Unary(Sqrt, Boxed { inner: False(54) }, 49) }, 48) }, 32)",
+    ),
+];
+
 #[test]
 fn groups_operations(rt: HostRuntime) -> Result<(), AllocError> {
-    for (expression, want) in [
-        (
-            "1-2-3",
-            "Binary(Sub, Boxed { inner: Binary(Sub, Boxed { inner: Lit(Number { digits: Int(1), \
-             at: 28 }) }, Boxed { inner: Lit(Number { digits: Int(2), at: 30 }) }, 29) }, Boxed { \
-             inner: Lit(Number { digits: Int(3), at: 32 }) }, 31)",
-        ),
-        (
-            "rand()?true:false?true:false",
-            "Choice(Boxed { inner: Rand(28) }, Boxed { inner: True(35) }, Boxed { inner: \
-             Choice(Boxed { inner: False(40) }, Boxed { inner: True(46) }, Boxed { inner: \
-             False(51) }, 45) }, 34)",
-        ),
-        (
-            "--!true",
-            "Unary(Neg, Boxed { inner: Unary(Neg, Boxed { inner: Unary(Not, Boxed { inner: \
-             True(31) }, 30) }, 29) }, 28)",
-        ),
-        (
-            "true||false&&(true)*-false",
-            "Binary(Or, Boxed { inner: True(28) }, Boxed { inner: Binary(And, Boxed { inner: \
-             False(34) }, Boxed { inner: Binary(Mul, Boxed { inner: True(42) }, Boxed { inner: \
-             Unary(Neg, Boxed { inner: False(49) }, 48) }, 47) }, 39) }, 32)",
-        ),
-        (
-            "true<max(true,false)+sqrt(false)",
-            "Binary(Lt, Boxed { inner: True(28) }, Boxed { inner: Binary(Add, Boxed { inner: \
-             Binary(Max, Boxed { inner: True(37) }, Boxed { inner: False(42) }, 33) }, Boxed { \
-             inner: Unary(Sqrt, Boxed { inner: False(54) }, 49) }, 48) }, 32)",
-        ),
-    ] {
+    for &(expression, want) in &GROUPED {
         let text = ruled(rt.alloc(), expression)?;
         assert_eq!(rt; rule_of(rt.alloc(), text.as_str())?.as_str(), want);
     }
     Ok(())
 }
 
+// Texts that are no script, and the places where none goes on.
+const REFUSED: [(&str, u32); 26] = [
+    ("", 0),
+    (" // no class\n", 13),
+    ("class C{}}", 9),
+    ("class C{}class D{", 17),
+    ("class C{} 1", 10),
+    ("class C{private state int n:1<2<3;}", 31),
+    ("class C{private state int n:1<2==3;}", 31),
+    ("class C{private void run(){}}", 16),
+    ("class C{public void run(){x<-1}}", 30),
+    ("class C{public void run(){else{}}}", 26),
+    ("class count{}", 6),
+    ("class C{public state int n:-;}", 28),
+    ("class C{public void run(){if(x<2)this.x<-1;}}", 33),
+    ("class C{die when true}", 21),
+    ("class C{die when true", 21),
+    ("class C{die n>1;}", 12),
+    ("class C{public die when true;}", 15),
+    ("class C{spawn n==0{}}", 14),
+    ("class C{spawn when true;}", 23),
+    ("class C{spawn when true{q.n<-1;}}", 25),
+    ("class C{spawn when true{n<-1}}", 28),
+    ("class C{spawn when true{n<-1;}", 30),
+    ("class spawn{}", 6),
+    ("class P { public state }", 23),
+    ("class P {", 9),
+    ("class P { public void run() { if (1 < 2 < 3) { } } }", 40),
+];
+
 #[test]
 fn refuses_what_is_no_script(rt: HostRuntime) {
-    for (text, place) in [
-        ("", 0),
-        (" // no class\n", 13),
-        ("class C{}}", 9),
-        ("class C{}class D{", 17),
-        ("class C{} 1", 10),
-        ("class C{private state int n:1<2<3;}", 31),
-        ("class C{private state int n:1<2==3;}", 31),
-        ("class C{private void run(){}}", 16),
-        ("class C{public void run(){x<-1}}", 30),
-        ("class C{public void run(){else{}}}", 26),
-        ("class count{}", 6),
-        ("class C{public state int n:-;}", 28),
-        ("class C{public void run(){if(x<2)this.x<-1;}}", 33),
-        ("class C{die when true}", 21),
-        ("class C{die when true", 21),
-        ("class C{die n>1;}", 12),
-        ("class C{public die when true;}", 15),
-        ("class C{spawn n==0{}}", 14),
-        ("class C{spawn when true;}", 23),
-        ("class C{spawn when true{q.n<-1;}}", 25),
-        ("class C{spawn when true{n<-1}}", 28),
-        ("class C{spawn when true{n<-1;}", 30),
-        ("class spawn{}", 6),
-        ("class P { public state }", 23),
-        ("class P {", 9),
-        ("class P { public void run() { if (1 < 2 < 3) { } } }", 40),
-    ] {
+    for &(text, place) in &REFUSED {
         assert_eq!(rt;
-            fault_of(rt.alloc(), text),
+            tree(rt.alloc(), text.as_bytes()).err(),
             Some(SynFault::NoReading(place)),
             "{text}"
         );
     }
 }
 
-#[test]
-fn nests_to_its_limits(rt: HostRuntime) -> Result<(), AllocError> {
-    for (front, back, most, deep) in [
-        ("(", ")", 63, 91),
-        ("-", "", 256, 284),
-        ("", "-1", 256, 541),
-        ("1?1:", "", 256, 1053),
-    ] {
-        let within = repeated(rt.alloc(), front, most, back)?;
-        assert!(rt;
-            matches!(read(rt.alloc(), within.as_str()), Found::Script(_)),
-            "{front}{back}"
-        );
-        let beyond = repeated(rt.alloc(), front, most + 1, back)?;
-        assert_eq!(rt;
-            fault_of(rt.alloc(), beyond.as_str()),
-            Some(SynFault::TooDeep(deep)),
-            "{front}{back}"
-        );
+fn push_times(text: &mut String, piece: &str, times: u32) -> Result<(), AllocError> {
+    for _ in 0..times {
+        text.push_str(piece)?;
     }
     Ok(())
 }
 
-// A class whose children get a number behind such fronts. A full count of operators stands on
-// both sides of the gift.
-fn given(alloc: Global, front: &str, times: u32, back: &str) -> Result<String, AllocError> {
+// A number between such fronts and backs.
+fn nested(alloc: Global, front: &str, times: u32, back: &str) -> Result<String, AllocError> {
+    let mut text = String::new(alloc);
+    push_times(&mut text, front, times)?;
+    text.push_str("1")?;
+    push_times(&mut text, back, times)?;
+    Ok(text)
+}
+
+// A class whose children get the number. A full count of operators stands on both sides of the
+// gift.
+fn given(alloc: Global, number: &str) -> Result<String, AllocError> {
     let mut text = String::new(alloc);
     text.push_str("class C{spawn when ")?;
-    for _ in 0..256 {
-        text.push_str("!")?;
-    }
+    push_times(&mut text, "!", 256)?;
     text.push_str("true{n<-")?;
-    for _ in 0..times {
-        text.push_str(front)?;
-    }
-    text.push_str("1")?;
-    for _ in 0..times {
-        text.push_str(back)?;
-    }
+    text.push_str(number)?;
     text.push_str(";m<-")?;
-    for _ in 0..256 {
-        text.push_str("-")?;
-    }
+    push_times(&mut text, "-", 256)?;
     text.push_str("1;}die when true;}")?;
     Ok(text)
 }
 
+// The fault of a rule or a gift that nests so often.
+fn fault_of(
+    alloc: Global,
+    is_gift: bool,
+    front: &str,
+    times: u32,
+    back: &str,
+) -> Result<Option<SynFault>, AllocError> {
+    let number = nested(alloc, front, times, back)?;
+    let text = if is_gift {
+        given(alloc, number.as_str())?
+    } else {
+        ruled(alloc, number.as_str())?
+    };
+    Ok(tree(alloc, text.as_str().as_bytes()).err())
+}
+
+// Whether a gift nests or a rule, by which fronts and backs, how often at most, one more, and where
+// that is too deep.
+const NESTS: [(bool, &str, &str, u32, u32, u32); 6] = [
+    (false, "(", ")", 63, 64, 91),
+    (false, "-", "", 256, 257, 284),
+    (false, "", "-1", 256, 257, 541),
+    (false, "1?1:", "", 256, 257, 1053),
+    (true, "(", ")", 62, 63, 345),
+    (true, "-", "", 256, 257, 539),
+];
+
 #[test]
-fn nests_gifts_to_the_limits(rt: HostRuntime) -> Result<(), AllocError> {
-    for (front, back, most, deep) in [("(", ")", 62, 345), ("-", "", 256, 539)] {
-        let within = given(rt.alloc(), front, most, back)?;
-        assert!(rt;
-            matches!(read(rt.alloc(), within.as_str()), Found::Script(_)),
-            "{front}"
-        );
-        let beyond = given(rt.alloc(), front, most + 1, back)?;
+fn nests_to_its_limits(rt: HostRuntime) -> Result<(), AllocError> {
+    for &(is_gift, front, back, most, more, deep) in &NESTS {
+        let within = fault_of(rt.alloc(), is_gift, front, most, back)?;
+        let beyond = fault_of(rt.alloc(), is_gift, front, more, back)?;
         assert_eq!(rt;
-            fault_of(rt.alloc(), beyond.as_str()),
-            Some(SynFault::TooDeep(deep)),
-            "{front}"
+            [within, beyond],
+            [None, Some(SynFault::TooDeep(deep))],
+            "{front}{back}"
         );
     }
     Ok(())

@@ -1,5 +1,6 @@
 // What publishers make of what they are shown, and runs of small crews to their end.
 ghost use Rattle.std.specs.Prelude.{◌≡◌, ◌≤◌, ◌+◌, IfOk};
+ghost use Rattle.brace_io.specs.Shelves.{Idle};
 ghost use Rattle.brace_lanes.specs.Seats.{new_seats};
 ghost use Rattle.brace_pieces.specs.Settings.{LawfulSetting, parts};
 
@@ -20,25 +21,17 @@ use std::sync::Wait;
 use std::test::Fail;
 use std::thread::Threads;
 
-/// Agents rest.
-const RESTING: &str = "class A{public state fixed x;public state fixed y;}";
-
 /// A run of agents that rest, from tick 0 to tick 4 in epochs of three ticks, of which every
 /// second tick is published.
-fn resting_run(alloc: Global) -> Result<Setting, &'static str>
-    ensures { IfOk result LawfulSetting }
-{
-    let run = Run {
-        script: RESTING,
-        agents: "",
-        plan: "at 0 x y\n",
-        ticks: (0, 4),
-        epoch: 3,
-        every: 2,
-        invert: false,
-    };
-    setting(alloc, &run)
-}
+const RESTING: Run = Run {
+    script: "class A{public state fixed x;public state fixed y;}",
+    agents: "",
+    plan: "at 0 x y\n",
+    ticks: (0, 4),
+    epoch: 3,
+    every: 2,
+    invert: false,
+};
 
 /// The worlds of these ticks, each of one agent that stands half a unit for each tick along x.
 fn shown(alloc: Global, ticks: &[u32]) -> Result<Vec<Shown>, NoMemory> {
@@ -140,77 +133,73 @@ fn shown_to<'x, K: Keeper, O: Sink>(
     publisher.epoch(alloc, setting, tick, worlds)
 }
 
+/// A shelf with room for the files of the ticks 3 and 4, and the numbers of its calls that fail.
+fn prepared(alloc: Global, fails: Vec<u64>) -> Result<MemShelf, Fail>
+    ensures { IfOk result (λ shelf. shelf.stage ≡ Idle) }
+{
+    let mut shelf = MemShelf::make(alloc, fails);
+    shelf.prepare("c.3", 999)?;
+    shelf.prepare("c.4", 999)?;
+    Ok(shelf)
+}
+
+/// Whether this comes of what a publisher is asked.
+fn comes(alloc: Global, setting: &Setting, asked: &Asked, came: &Came) -> Result<bool, Fail>
+    requires { LawfulSetting setting.now }
+{
+    let (saves, fresh, tick, ticks, out_fails, shelf_fails) = *asked;
+    let (wanted, rows, at_3, at_4) = *came;
+    let worlds = shown(alloc, ticks)?;
+    let mut out = MemSink::make(alloc, 999, vec![in alloc; out_fails]?)?;
+    let mut shelf = prepared(alloc, vec![in alloc; shelf_fails]?)?;
+    let save = if saves { Some("c") } else { None };
+    let mut keeper = ShelfKeeper { shelf: &mut shelf };
+    let call = (tick, worlds.as_slice());
+    let answer = shown_to(alloc, setting, &mut out, &mut keeper, (&save, fresh), call);
+    let is_told = answer == wanted && out.bytes() == rows;
+    Ok(is_told && shelf.file("c.3") == at_3 && shelf.file("c.4") == at_4)
+}
+
 #[test]
 fn publishes_rows_and_saves_ends(rt: HostRuntime) -> Result<(), Fail> {
-    let alloc = rt.alloc();
-    let setting = resting_run(alloc)?;
+    let setting = setting(rt.alloc(), &RESTING)?;
     for (number, (asked, came)) in CASES.iter().enumerate() {
-        let (saves, fresh, tick, ticks, out_fails, shelf_fails) = *asked;
-        let (wanted, rows, at_3, at_4) = *came;
-        let mut out = MemSink::make(alloc, 999, vec![in alloc; out_fails]?)?;
-        let mut shelf = MemShelf::make(alloc, vec![in alloc; shelf_fails]?);
-        shelf.prepare("c.3", 999)?;
-        shelf.prepare("c.4", 999)?;
-        let worlds = shown(alloc, ticks)?;
-        let save = if saves { Some("c") } else { None };
-        let mut keeper = ShelfKeeper { shelf: &mut shelf };
-        let asked = (tick, worlds.as_slice());
-        let answer = shown_to(
-            alloc,
-            &setting,
-            &mut out,
-            &mut keeper,
-            (&save, fresh),
-            asked,
-        );
-        assert!(rt; answer == wanted, "case {number}");
-        assert_eq!(rt; out.bytes(), rows, "case {number}");
-        assert!(rt; shelf.file("c.3") == at_3, "case {number}");
-        assert!(rt; shelf.file("c.4") == at_4, "case {number}");
+        assert!(rt; comes(rt.alloc(), &setting, asked, came)?, "case {number}");
     }
     Ok(())
 }
 
-/// The sum along x of the world that is shown last, once the worlds of these ticks are shown too.
-const SUMS: [(&[u32], i128); 4] = [
-    (&[], 0),
-    (&[1, 2], 1_000_000),
-    (&[], 1_000_000),
-    (&[3], 1_500_000),
+/// The sums of the world that is shown last, before and once the worlds of these ticks are shown.
+const SUMS: [((i128, i128), &[u32], (i128, i128)); 4] = [
+    ((0, 0), &[], (0, 0)),
+    ((0, 0), &[1, 2], (1_000_000, -1)),
+    ((1_000_000, -1), &[], (1_000_000, -1)),
+    ((1_000_000, -1), &[3], (1_500_000, -1)),
 ];
 
 #[test]
 fn sums_up_the_last_world(rt: HostRuntime) -> Result<(), Fail> {
     let alloc = rt.alloc();
-    let setting = resting_run(alloc)?;
+    let setting = setting(alloc, &RESTING)?;
     let mut publisher = SumPublisher::make();
-    assert!(rt; publisher.sums() == (0, 0));
-    for (ticks, wanted) in SUMS {
+    for &(first, ticks, last) in &SUMS {
         let worlds = shown(alloc, ticks)?;
+        let before = publisher.sums();
         let answer = publisher.epoch(alloc, &setting, 3, worlds.as_slice());
-        let (x, y) = publisher.sums();
-        assert!(rt; answer == Ok(()));
-        assert_eq!(rt; x, wanted);
-        assert_eq!(rt; y, if wanted == 0 { 0 } else { -1 });
+        assert!(rt; (before, answer, publisher.sums()) == (first, Ok(()), last));
     }
     Ok(())
 }
 
 /// A run of four ticks without agents, over a plane in two parts.
-fn empty_run(alloc: Global) -> Result<Setting, &'static str>
-    ensures lawful { IfOk result LawfulSetting }
-{
-    let run = Run {
-        script: RESTING,
-        agents: "",
-        plan: "at 0 x 1 y\nat 3 x 2 y\n",
-        ticks: (0, 4),
-        epoch: 3,
-        every: 2,
-        invert: false,
-    };
-    setting(alloc, &run)
-}
+const EMPTY: Run = Run {
+    plan: "at 0 x 1 y\nat 3 x 2 y\n",
+    ..RESTING
+};
+
+const EMPTY_AT_3: &[u8] = b"brace checkpoint 1\ntick 3\nseed 5\nclass A x:fixed y:fixed\nend 0\n";
+
+const EMPTY_AT_4: &[u8] = b"brace checkpoint 1\ntick 4\nseed 5\nclass A x:fixed y:fixed\nend 0\n";
 
 /// Runs a setting on 1 to 4 workers, and gives its publisher back with how many seats there were
 /// and what it came to.
@@ -233,31 +222,41 @@ fn run<R: Threads + Wait + Sync, P: Publisher + Send>(
     (publisher, seats.len(), came)
 }
 
+/// Whether a run without agents on 1 to 4 workers comes to its end without rows, with the files of
+/// both ends.
+fn comes_to_its_end<R: Threads + Wait + Sync>(
+    rt: &R,
+    alloc: Global,
+    workers: u32,
+) -> Result<bool, Fail>
+    requires some { 1 ≤ workers }
+    requires few { workers ≤ 4 }
+{
+    let setting = setting(alloc, &EMPTY)?;
+    let mut out = MemSink::make(alloc, 999, Vec::new(alloc))?;
+    let mut shelf = prepared(alloc, Vec::new(alloc))?;
+    let save = Some("c");
+    let mut keeper = ShelfKeeper { shelf: &mut shelf };
+    let publisher = FilePublisher {
+        out: &mut out,
+        keeper: &mut keeper,
+        save: &save,
+        fresh: true,
+    };
+    let (_, seats, came) = run(rt, alloc, &setting, workers, publisher);
+    let some = if workers == 1 { 0 } else { workers as usize };
+    let is_run = seats == some && came == Ok(Counts::none()) && out.bytes().is_empty();
+    let is_saved = shelf.file("c.3") == Some(EMPTY_AT_3);
+    Ok(is_run && is_saved && shelf.file("c.4") == Some(EMPTY_AT_4))
+}
+
 #[test]
 fn runs_to_the_end_and_saves_each_end(rt: HostRuntime) -> Result<(), Fail> {
-    let alloc = rt.alloc();
     for workers in 1..5 {
-        let setting = empty_run(alloc)?;
-        let mut out = MemSink::make(alloc, 999, Vec::new(alloc))?;
-        let mut shelf = MemShelf::make(alloc, Vec::new(alloc));
-        shelf.prepare("c.3", 999)?;
-        shelf.prepare("c.4", 999)?;
-        let save = Some("c");
-        let mut keeper = ShelfKeeper { shelf: &mut shelf };
-        let publisher = FilePublisher {
-            out: &mut out,
-            keeper: &mut keeper,
-            save: &save,
-            fresh: true,
-        };
-        let came = run(&rt, alloc, &setting, workers, publisher);
-        assert_eq!(rt; came.1, if workers == 1 { 0 } else { workers as usize });
-        assert!(rt; came.2 == Ok(Counts::none()));
-        assert!(rt; out.bytes().is_empty());
-        let at_3: &[u8] = b"brace checkpoint 1\ntick 3\nseed 5\nclass A x:fixed y:fixed\nend 0\n";
-        let at_4: &[u8] = b"brace checkpoint 1\ntick 4\nseed 5\nclass A x:fixed y:fixed\nend 0\n";
-        assert!(rt; shelf.file("c.3") == Some(at_3));
-        assert!(rt; shelf.file("c.4") == Some(at_4));
+        assert!(rt;
+            comes_to_its_end(&rt, rt.alloc(), workers)?,
+            "{workers} workers"
+        );
     }
     Ok(())
 }
@@ -275,10 +274,9 @@ fn run_linked(alloc: Global, setting: &Setting) -> Result<(Result<Counts, CrewFa
 
 #[test]
 fn runs_to_the_end_over_links_that_lose(rt: HostRuntime) -> Result<(), Fail> {
-    let setting = empty_run(rt.alloc())?;
+    let setting = setting(rt.alloc(), &EMPTY)?;
     let (came, rounds) = run_linked(rt.alloc(), &setting)?;
-    assert!(rt; came == Ok(Counts::none()));
-    assert!(rt; 4 <= rounds);
+    assert!(rt; came == Ok(Counts::none()) && 4 <= rounds);
     Ok(())
 }
 
@@ -321,9 +319,8 @@ fn driven(alloc: Global, setting: &Setting) -> Result<(Drive, bool), Fail>
 
 #[test]
 fn a_bench_alone_runs_dry_and_two_by_turns_end(rt: HostRuntime) -> Result<(), Fail> {
-    let setting = empty_run(rt.alloc())?;
+    let setting = setting(rt.alloc(), &EMPTY)?;
     let (alone, ended) = driven(rt.alloc(), &setting)?;
-    assert!(rt; alone == Drive::Dry);
-    assert!(rt; ended);
+    assert!(rt; alone == Drive::Dry && ended);
     Ok(())
 }

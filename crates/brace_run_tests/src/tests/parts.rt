@@ -1,7 +1,7 @@
 // What parts own and show, and that those which exchange pieces come to the worlds of the plain
 // step.
-ghost use Rattle.std.specs.Prelude.{◌≡◌, IfOk};
-ghost use Rattle.brace_pieces.specs.Settings.{LawfulSetting, cuts_of};
+ghost use Rattle.std.specs.Prelude.{◌≡◌, ◌<◌, IfOk};
+ghost use Rattle.brace_pieces.specs.Settings.{LawfulSetting, cuts_of, parts};
 ghost use Rattle.brace_part.specs.Parts.{own_under};
 
 use brace_core::{Actor, Turn};
@@ -68,46 +68,64 @@ fn own(alloc: Global, setting: &Setting, p: u32) -> Result<Vec<Agent>, NoMemory>
     Ok(moves_of(alloc, setting, setting.job.first, agents, p)?.into_vec())
 }
 
-/// What a part says of itself before its first turn: its agents, its next turn, and what it gave.
-fn told(alloc: Global, part: &Part) -> Result<String, NoMemory> {
-    let mut text = String::new(alloc);
+/// The ids of a part's agents.
+fn ids_of(alloc: Global, part: &Part) -> Result<String, NoMemory> {
     let own = part.owned(alloc)?;
+    let mut text = String::new(alloc);
     for agent in own.as_slice() {
         text.push_str(format!(in alloc; "{} ", agent.id)?.as_str())?;
     }
+    Ok(text)
+}
+
+/// What a part says of itself before its first turn: its agents, its next turn, what it gave, how
+/// many worlds it shows, and whether it goes no further.
+fn told(alloc: Global, part: &Part) -> Result<String, NoMemory> {
     let put = match part.next(u64::MAX) {
         Turn::Put(name) => name.to,
         Turn::Take(_) | Turn::Work | Turn::Done => 99,
     };
-    let border = part.counts().border;
-    text.push_str(format!(in alloc; "to {} gave {}", put, border)?.as_str())?;
-    Ok(text)
+    let (border, shown) = (part.counts().border, part.shown().len());
+    let ends = if part.cause().is_some() {
+        " and ends"
+    } else {
+        ""
+    };
+    let ids = ids_of(alloc, part)?;
+    Ok(format!(in alloc; "{ids}to {put} gave {border} shows {shown}{ends}")?)
+}
+
+/// What a part of a run says of itself.
+fn told_of(alloc: Global, setting: &Setting, p: u32) -> Result<String, NoMemory>
+    requires lawful { LawfulSetting setting.now }
+    requires is_part { p < parts setting.now }
+{
+    let own = own(alloc, setting, p)?;
+    let part = Part::make(alloc, setting, p, own)?;
+    told(alloc, &part)
 }
 
 /// A plan, a part, and what it says of itself.
 const CASES: [(&str, u32, &str); 6] = [
-    ("at 0 x 1 y\n", 0, "1 8 9 to 1 gave 3"),
-    ("at 0 x 1 y\n", 1, "2 3 5 to 0 gave 2"),
-    ("at 0 x 1 y 0\n", 0, "8 to 1 gave 3"),
-    ("at 0 x 1 y 0\n", 1, "3 to 0 gave 3"),
-    ("at 0 x 1 y 0\n", 2, "1 9 to 0 gave 6"),
-    ("at 0 x 1 y 0\n", 3, "2 5 to 0 gave 4"),
+    ("at 0 x 1 y\n", 0, "1 8 9 to 1 gave 3 shows 1"),
+    ("at 0 x 1 y\n", 1, "2 3 5 to 0 gave 2 shows 1"),
+    ("at 0 x 1 y 0\n", 0, "8 to 1 gave 3 shows 1"),
+    ("at 0 x 1 y 0\n", 1, "3 to 0 gave 3 shows 1"),
+    ("at 0 x 1 y 0\n", 2, "1 9 to 0 gave 6 shows 1"),
+    ("at 0 x 1 y 0\n", 3, "2 5 to 0 gave 4 shows 1"),
 ];
 
 #[test]
 fn parts_own_their_agents_and_show_them_to_others(rt: HostRuntime) -> Result<(), Fail> {
     let alloc = rt.alloc();
     for invert in [false, true] {
-        for (plan, p, want) in CASES {
+        for &(plan, p, want) in &CASES {
             let setting = walk(alloc, WALKING, WALKERS, plan, invert)?;
             if p >= setting.parts() {
                 return Err("no part".into());
             }
-            let own = own(alloc, &setting, p)?;
-            let part = Part::make(alloc, &setting, p, own)?;
-            assert_eq!(rt; told(alloc, &part)?.as_str(), want);
-            assert_eq!(rt; part.shown().len(), 1);
-            assert!(rt; part.cause().is_none());
+            let found = told_of(alloc, &setting, p)?;
+            assert_eq!(rt; found.as_str(), want);
         }
     }
     Ok(())
@@ -158,6 +176,16 @@ fn walk_in_parts(
     }
 }
 
+/// Whether the parts of a walk come to the rows of the plain step and to its fault, and there is one
+/// where there is to be one.
+fn is_as_plain(alloc: Global, setting: &Setting, order: u64, ends: bool) -> Result<bool, Fail>
+    requires { LawfulSetting setting.now }
+{
+    let (rows, fault) = walk_in_parts(alloc, setting, order)?;
+    let (wanted, first) = plain_walk(alloc, setting)?;
+    Ok(rows.as_slice() == wanted.as_slice() && fault == first && fault.is_some() == ends)
+}
+
 /// Two parts and four, each cut anew at tick 2.
 const PLANS: [&str; 2] = [
     "at 0 x 1 y\nat 2 x 2.5 y\n",
@@ -175,16 +203,12 @@ const WALKS: [(&str, &str, bool); 3] = [
 #[test]
 fn parts_come_to_the_worlds_of_the_plain_step(rt: HostRuntime) -> Result<(), Fail> {
     let alloc = rt.alloc();
-    for (script, agents, ends) in WALKS {
-        for plan in PLANS {
+    for &(script, agents, ends) in &WALKS {
+        for &plan in &PLANS {
             for invert in [false, true] {
                 for order in [0, 1, 7] {
                     let setting = walk(alloc, script, agents, plan, invert)?;
-                    let (rows, fault) = walk_in_parts(alloc, &setting, order)?;
-                    let (wanted, first) = plain_walk(alloc, &setting)?;
-                    assert_eq!(rt; rows.as_slice(), wanted.as_slice());
-                    assert!(rt; fault == first);
-                    assert!(rt; fault.is_some() == ends);
+                    assert!(rt; is_as_plain(alloc, &setting, order, ends)?);
                 }
             }
         }
